@@ -24,14 +24,13 @@ use Rattle.blk_core.specs.declared.tags.TagState.{TagState}
 use Rattle.blk_core.specs.declared.tags.TagState.TheVariants.{Free, InFlight, Spent}
 use Rattle.blk_core.specs.State.{entered_of, requeued_at, is_of, InFlightAs}
 use Rattle.blk_core.specs.Inside.Ties.{IsTied, flying}
-use Rattle.blk_core.proofs.Pushed.{IsPushed, same_round, released-finished, released-returned}
+use Rattle.blk_core.proofs.Pushed.{IsPushed, released-finished, released-requeued}
 use Rattle.blk_core.proofs.Flights.{opened_reads, opened_writes, opened_requeued, requeued_reads, requeued_writes, requeued_more, seats_set, queues_set, flown_set}
 use Rattle.blk_core.proofs.Held.{AreAs, AreOnce, as_same, once_same, with_one, as_with, once_with, count_with, total_with}
-use Rattle.blk_core.proofs.Returned.{flown_not_requeued, returned-finished, returned-returned}
+use Rattle.blk_core.proofs.Requeued.{flown_not_requeued, requeued-finished, requeued-requeued}
 use Rattle.blk_core.proofs.Flown.{flown_kept}
 use Rattle.blk_core.proofs.Opens.{open_by_dir}
 use Rattle.blk_core.proofs.Ties.{old_known, one_longer, tied_at, seated, pending_is}
-use Rattle.blk_trace.proofs.Words.{OnlyEnds, only_ends}
 use Rattle.blk_trace.proofs.Steady.{seat_ended}
 use Rattle.blk_trace.proofs.Opening.{open_ended, open_positive}
 use Rattle.blk_trace.proofs.TagUses.{by_open}
@@ -42,11 +41,10 @@ pub end_unbroken : {A : Type 0} (setup : Setup) (es : List Happened) (e : Happen
 end_unbroken setup es e m fl held rel tag hw w t lt at allowed none =
     step.allowed-unbroken setup es e t.legal (allowed (seated setup es m fl held rel tag hw w t lt at)) (let l = t.legal.not_too_long in omega arith)
 
--- one pick of the direction fewer is open, and the round is the same
+-- one pick of the direction fewer is open
 record IsClosed (m m' : Meaning) (dir : Dir) : Type 0 where
   reads : m.open_picks.reads ≡ m'.open_picks.reads + cond (same_dir Read dir) 1 0
   writes : m.open_picks.writes ≡ m'.open_picks.writes + cond (same_dir Write dir) 1 0
-  round : m'.round ≡ m.round
   pending : m'.pending ≡ m.pending
 
 -- what the scheduler and the held lists hold then
@@ -55,7 +53,7 @@ record IsLeft (setup : Setup) (fs : List Happened) (m' : Meaning) (held' : List 
   are : AreAs (requeued_at setup fs) held'
   once : AreOnce (requeued_at setup fs) held'
   count : map.len m'.pending + held_total held' ≡ waiting_count fs
-  handed : (d : Dir) → requeued_of d m'.open_picks ≡ held_count (is_of d) held'
+  requeued_picks : (d : Dir) → requeued_of d m'.open_picks ≡ held_count (is_of d) held'
   lists : length held' ≡ setup.hw
 
 tied_end : {A : Type 0} (setup setup' : Setup) (es es' : List Happened) (e : Happened) (m m' : Meaning) (fl : List (TagState A)) (held held' : List (List Waiting)) (rel tag hw : ℕ) (w : Waiting) → IsPushed setup es e setup' es' → ends e ≡ Some tag → released_count (es ++ e ∷ []) ≡ released_count es → ((id : ℕ) (bios : List Bio) → e ≡ Release id bios → ⊥) → IsTied setup es m fl held rel → tag < length fl → get_or fl tag Free ≡ InFlight hw w → IsClosed m m' (dir_of w.bios) → IsLeft setup (es ++ e ∷ []) m' held' → IsTied setup' es' m' (set fl tag (Spent (dir_of w.bios))) held' rel
@@ -81,20 +79,18 @@ tied_end {A} setup setup' es es' e m m' fl held held' rel tag hw w p end more ot
     let few = t.few in
     let some = t.ranges.some_queues in
     let mp = o.pending in
-    let only : OnlyEnds e = only_ends e tag end in
     tied_at setup setup' es es' e m' (set fl tag g) held' rel p
     (record {
       legal = p.legal;
       ranges = t.ranges;
       holds = record {
         pending = s.pending;
-        returned = s.are;
+        requeued = s.are;
         held_once = s.once;
         count = s.count;
         reads = omega arith;
         writes = omega arith;
-        handed = s.handed;
-        round = o.round ∙ t.holds.round ∙ sym (same_round es e only.no_tick);
+        requeued_picks = s.requeued_picks;
       };
       next = omega arith;
       few = omega arith;
@@ -117,21 +113,20 @@ tied_done : {A : Type 0} (setup setup' : Setup) (es es' : List Happened) (m m' :
 tied_done setup setup' es es' m m' fl held rel tag hw w p t lt at m_is =
     let fs : List Happened = es ++ Done tag ∷ [] in
     let mp : m'.pending ≡ m.pending = sym (ap (λ (x : Meaning). x.pending) m_is) in
-    let same : (q : ℕ) → requeued_at setup fs q ≡ requeued_at setup es q = λ q. returned-finished setup es tag q in
+    let same : (q : ℕ) → requeued_at setup fs q ≡ requeued_at setup es q = λ q. requeued-finished setup es tag q in
     let count = step.count-finished setup es tag p.legal in
     tied_end setup setup' es es' (Done tag) m m' fl held held rel tag hw w p refl (released-finished es tag) (λ i b e. cc) t lt at
     (record {
       reads = ap (λ (x : Meaning). x.open_picks.reads) m_is ∙ opened_reads (dir_of w.bios) m'.open_picks;
       writes = ap (λ (x : Meaning). x.open_picks.writes) m_is ∙ opened_writes (dir_of w.bios) m'.open_picks;
-      round = sym (ap (λ (x : Meaning). x.round) m_is);
       pending = mp;
     })
     (record {
       pending = λ q. ap (λ (x : Pending). option_map entered_of (map.get x q)) mp ∙ t.holds.pending q ∙ sym (step.unissued-finished setup es tag p.legal q);
-      are = as_same (requeued_at setup es) (requeued_at setup fs) held same t.holds.returned;
+      are = as_same (requeued_at setup es) (requeued_at setup fs) held same t.holds.requeued;
       once = once_same (requeued_at setup es) (requeued_at setup fs) held same t.holds.held_once;
       count = ap (λ x. map.len x + held_total held) mp ∙ t.holds.count ∙ sym count;
-      handed = λ d. sym (opened_requeued d (dir_of w.bios) m'.open_picks) ∙ sym (ap (λ (x : Meaning). requeued_of d x.open_picks) m_is) ∙ t.holds.handed d;
+      requeued_picks = λ d. sym (opened_requeued d (dir_of w.bios) m'.open_picks) ∙ sym (ap (λ (x : Meaning). requeued_of d x.open_picks) m_is) ∙ t.holds.requeued_picks d;
       lists = t.lists;
     })
 
@@ -150,35 +145,34 @@ tied_back setup setup' es es' m m' fl held held' rel tag hw w dir p t lt at dir_
     let mp : m'.pending ≡ m.pending = ap (λ (x : Meaning). x.pending) back in
     let none = flown_not_requeued setup es tag w.id t.legal f.by in
     let step_is : (q : ℕ) → requeued_at setup fs q ≡ cond (w.id == q) (Some (entered_of w)) (requeued_at setup es q) =
-    λ q. subst (λ x. requeued_at setup fs q ≡ cond (w.id == q) (Some x) (requeued_at setup es q)) (sym f.known) (returned-returned setup es tag w.id t.legal f.by q) in
+    λ q. subst (λ x. requeued_at setup fs q ≡ cond (w.id == q) (Some x) (requeued_at setup es q)) (sym f.known) (requeued-requeued setup es tag w.id t.legal f.by q) in
     let had = t.holds.count in
     let len : map.len m'.pending ≡ map.len m.pending = ap map.len mp in
     let more = total_with held hw w in_lists in
     let count = step.count_requeued setup es tag w.id t.legal f.by in
     subst (λ x. IsTied setup' es' m' (set fl tag (Spent (dir_of w.bios))) x rel) (sym held_is)
-    (tied_end setup setup' es es' (Back tag) m m' fl held (with_one held hw w) rel tag hw w p refl (released-returned es tag) (λ i b e. cc) t lt at
+    (tied_end setup setup' es es' (Back tag) m m' fl held (with_one held hw w) rel tag hw w p refl (released-requeued es tag) (λ i b e. cc) t lt at
     (record {
       reads = sym (requeued_reads (dir_of w.bios) m.open_picks) ∙ sym (ap (λ (x : Meaning). x.open_picks.reads) back) ∙ opened_reads (dir_of w.bios) m'.open_picks;
       writes = sym (requeued_writes (dir_of w.bios) m.open_picks) ∙ sym (ap (λ (x : Meaning). x.open_picks.writes) back) ∙ opened_writes (dir_of w.bios) m'.open_picks;
-      round = ap (λ (x : Meaning). x.round) back;
       pending = mp;
     })
     (record {
       pending = λ q. ap (λ (x : Pending). option_map entered_of (map.get x q)) mp ∙ t.holds.pending q ∙ sym (step.unissued_requeued setup es tag w.id t.legal f.by q);
-      are = as_with (requeued_at setup es) (requeued_at setup fs) held hw w in_lists none step_is t.holds.returned;
+      are = as_with (requeued_at setup es) (requeued_at setup fs) held hw w in_lists none step_is t.holds.requeued;
       once = once_with (requeued_at setup es) (requeued_at setup fs) held hw w in_lists none step_is t.holds.held_once;
       count = omega arith;
-      handed = λ d.
+      requeued_picks = λ d.
           let picks : requeued_of d (opened (dir_of w.bios) m'.open_picks) ≡ requeued_of d (after_requeue (dir_of w.bios) m.open_picks) = ap (λ (x : Meaning). requeued_of d x.open_picks) back in
           let before = opened_requeued d (dir_of w.bios) m'.open_picks in
           let after = requeued_more d (dir_of w.bios) m.open_picks in
           let counts = count_with (is_of d) held hw w in_lists in
-          let was = t.holds.handed d in
+          let was = t.holds.requeued_picks d in
           omega arith;
       lists = length-set held hw (get_or held hw [] ++ w ∷ []) ∙ t.lists;
     }))
 
--- where a command is in flight, one more may be handed back
+-- where a command is in flight, one more may be requeued
 pub few_requeued : {A : Type 0} (setup : Setup) (es : List Happened) (m : Meaning) (fl : List (TagState A)) (held : List (List Waiting)) (rel tag hw : ℕ) (w : Waiting) → IsTied setup es m fl held rel → get_or fl tag Free ≡ InFlight hw w → m.open_picks.requeued_reads + m.open_picks.requeued_writes < MAX_REQUEUED
 few_requeued setup es m fl held rel tag hw w t at =
     let f : InFlightAs setup es tag w = t.flown tag hw w at in

@@ -41,7 +41,7 @@ free_flies (s ∷ tags) zero lt at =
     omega (arith, few_fly tags, sum_by-cons (flying Read) s tags, sum_by-cons (flying Write) s tags)
 free_flies (s ∷ tags) (suc tag) lt at = omega (arith, one_each s, free_flies tags tag (omega arith) at, sum_by-cons (flying Read) s tags, sum_by-cons (flying Write) s tags)
 
--- the counts of picks, with one more that is open or handed back
+-- the counts of picks, with one more that is open or requeued
 pub opened_reads : (d : Dir) (p : OpenPicks) → (opened d p).reads ≡ p.reads + cond (same_dir Read d) 1 0
 opened_reads Read p = refl
 opened_reads Write p = omega arith
@@ -121,6 +121,13 @@ alike (x ∷ xs) (y ∷ ys) e h = let a : x ≡ y = h 0 (omega arith) in let b :
 -- a list of tags that are all free
 pub freed : {A : Type 0} (tags : List (TagState A)) (n : ℕ) → length tags ≡ n → ((k : ℕ) → k < length tags → get_or tags k Free ≡ Free) → tags ≡ replicate n Free
 freed {A} tags n e h = alike tags (replicate n (unused {A = A})) (e ∙ sym (length-replicate n (unused {A = A}))) (λ k l. h k l ∙ sym (all_free A n k))
+
+-- one more of them is freed
+pub one_freed : {A : Type 0} (tags : List (TagState A)) (i : ℕ) → i < length tags → ((k : ℕ) → k < i → get_or tags k Free ≡ Free) → (k : ℕ) → k < i + 1 → get_or (set tags i Free) k Free ≡ Free
+one_freed tags i low before k within = elim (cases_lt k i) [
+  | inl less ↦ get_or-set_other tags i k Free Free (λ (same : k ≡ i). absurd (omega arith)) ∙ before k less
+  | inr more ↦ let same : k ≡ i = omega arith in ap (λ n. get_or (set tags i Free) n Free) same ∙ get_or-set_same tags i Free Free low
+]
 
 -- a slice that is written whole is what its Vec then has
 pub put_back : {X : Type 0} (x : X) (new old : List X) (k n : ℕ) → new ≡ replicate n x → k ≡ n → take k (new ++ drop (length new) old) ≡ replicate n x

@@ -9,7 +9,7 @@ use Rattle.blk_trace.specs.Waits.{waits_at}
 use Rattle.blk_trace.proofs.Pushing.{shorter_legal, obeys}
 use Rattle.blk_trace.proofs.Entering.{IsSame, same_entered, stays_out}
 use Rattle.blk_trace.proofs.Waiting.{IsWaiting, waiting_from}
-use Rattle.blk_trace.proofs.Returns.{entry_of, open_issued}
+use Rattle.blk_trace.proofs.Requeues.{entry_of, open_issued}
 use Rattle.blk_trace.proofs.TagUses.{still_by, now_by}
 use Rattle.blk_sched.specs.Meaning.{Waiting}
 use Rattle.blk_core.specs.State.{entered_of, InFlightAs}

@@ -178,10 +178,6 @@ as_without R V held hw w rest lt is step are once q k v at =
 abbrev nothing : List Waiting
 nothing = []
 
-past_lists : (held : List (List Waiting)) (hw : ℕ) → length held ≡ 0 → get_or held hw [] ≡ []
-past_lists [] hw h = refl
-past_lists (l ∷ held) hw h = absurd (omega arith)
-
 pub empty_list : (n hw : ℕ) → get_or (replicate n nothing) hw [] ≡ []
 empty_list zero hw = refl
 empty_list (suc n) zero = refl

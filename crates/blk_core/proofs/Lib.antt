@@ -2,7 +2,7 @@ mod Pushed
 mod Waits
 mod Flights
 mod Held
-mod Returned
+mod Requeued
 mod Flown
 mod Ties
 mod Sent

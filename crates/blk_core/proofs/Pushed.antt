@@ -1,6 +1,5 @@
 -- A trace to which an event was added, and what that leaves of its list.
-use Rattle.std.proofs.lemmas.List.Sums.{sum_by_push}
-use Rattle.std.proofs.Common.{◌≡◌, ◌∙◌, sym, ap, subst, refl, inl, inr, false, cond, ℕ, ◌+◌, ◌≤◌, zero, suc, arith, List, [], ◌∷◌, ◌++◌, length, Some, None, ◌⊎◌}
+use Rattle.std.proofs.Common.{◌≡◌, ◌∙◌, sym, ap, subst, refl, inl, inr, ℕ, ◌+◌, ◌≤◌, zero, suc, arith, List, [], ◌∷◌, ◌++◌, length, Some, None, ◌⊎◌}
 use Rattle.std.specs.List.{slice_get}
 use Rattle.blk_bio.specs.Bios.{Bio}
 use Rattle.blk_trace.specs.declared.trace.Prepared.{Prepared}
@@ -9,7 +8,7 @@ use Rattle.blk_trace.specs.Happened.{Happened}
 use Rattle.blk_trace.specs.declared.event.Event.TheVariants.{Tick, Release, Join, Issue, Done, Back, Depth}
 use Rattle.blk_trace.specs.declared.trace.TheConstants.{MAX_EVENTS}
 use Rattle.blk_trace.specs.Rules.{IsUnbroken}
-use Rattle.blk_trace.specs.Events.{open_count, round_of, is_tick}
+use Rattle.blk_trace.specs.Events.{open_count}
 use Rattle.blk_trace.specs.Legal.{IsLegalTrace}
 use Rattle.blk_trace.specs.Meaning.{released_ids}
 use Rattle.blk_trace.specs.Waits.{released_count}
@@ -53,14 +52,6 @@ get_more [] y (suc k) x h = absurd (let e : None ≡ Some x = h in cc)
 get_more (z ∷ xs) y zero x h = inl h
 get_more (z ∷ xs) y (suc k) x h = elim (get_more xs y k x h) [ inl a ↦ inl a | inr b ↦ inr ((let e = b.0 in omega arith), b.1) ]
 
--- the round after one more event
-pub round_more : (es : List Happened) (e : Happened) → round_of (es ++ e ∷ []) ≡ round_of es + cond (is_tick e) 1 0
-unfolding round_of
-round_more es e = sum_by_push (λ x. cond (is_tick x) 1 0) es e
-
-pub same_round : (es : List Happened) (e : Happened) → is_tick e ≡ false → round_of (es ++ e ∷ []) ≡ round_of es
-same_round es e other = round_more es e ∙ ap (λ b. round_of es + cond b 1 0) other ∙ omega arith
-
 -- how many were released
 pub released_more : (es : List Happened) (e : Happened) → released_count (es ++ e ∷ []) ≡ released_count es + released_count (e ∷ [])
 unfolding released_ids
@@ -84,9 +75,9 @@ pub released-finished : (es : List Happened) (tag : ℕ) → released_count (es 
 unfolding released_ids
 released-finished es tag = let h = released_more es (Done tag) in omega arith
 
-pub released-returned : (es : List Happened) (tag : ℕ) → released_count (es ++ Back tag ∷ []) ≡ released_count es
+pub released-requeued : (es : List Happened) (tag : ℕ) → released_count (es ++ Back tag ∷ []) ≡ released_count es
 unfolding released_ids
-released-returned es tag = let h = released_more es (Back tag) in omega arith
+released-requeued es tag = let h = released_more es (Back tag) in omega arith
 
 pub released-set : (es : List Happened) (depth : ℕ) → released_count (es ++ Depth depth ∷ []) ≡ released_count es
 unfolding released_ids

@@ -1,5 +1,5 @@
 -- What goes to the device, chosen or held: the core is tied after its Issue.
-use Rattle.std.proofs.Common.{◌≡◌, ◌∙◌, sym, ap, subst, refl, ℕ, ◌+◌, ◌<◌, arith, Bool, cond, List, [], ◌∷◌, ◌++◌, length, Some, None, get_or, set, ◌==◌}
+use Rattle.std.proofs.Common.{◌≡◌, ◌∙◌, sym, ap, subst, ℕ, ◌+◌, ◌<◌, arith, Bool, cond, List, [], ◌∷◌, ◌++◌, length, Some, None, get_or, set, ◌==◌}
 use Rattle.std.proofs.lemmas.List.{length-set}
 use Rattle.std.proofs.lemmas.List.Sums.{sum_by-set}
 use Rattle.std.specs.Option.{option_map}
@@ -24,21 +24,20 @@ use Rattle.blk_sched.specs.Policies.{Choice}
 use Rattle.blk_core.specs.Calls.{SendsFrom}
 use Rattle.blk_core.specs.State.{entered_of, requeued_at, is_of, InFlightAs}
 use Rattle.blk_core.specs.Inside.Ties.{IsTied, seat_of, flying}
-use Rattle.blk_core.proofs.Pushed.{IsPushed, same_round, released-issued}
+use Rattle.blk_core.proofs.Pushed.{IsPushed, released-issued}
 use Rattle.blk_core.proofs.Waits.{agree_taken, len_taken, still_none}
 use Rattle.blk_core.proofs.Flights.{opened_reads, opened_writes, opened_requeued, requeued_reads, requeued_writes, requeued_more, seats_set, queues_set, flown_set}
 use Rattle.blk_core.proofs.Held.{AreAs, AreOnce, as_same, once_same, none_gone, as_without, once_without, count_without, total_without, first_stands}
-use Rattle.blk_core.proofs.Returned.{requeued_from, unissued_not_requeued, requeued_not_unissued, returned-issued}
+use Rattle.blk_core.proofs.Requeued.{requeued_from, unissued_not_requeued, requeued_not_unissued, requeued-issued}
 use Rattle.blk_core.proofs.Flown.{flown_kept, flown_issued}
 use Rattle.blk_core.proofs.Opens.{open_by_dir}
 use Rattle.blk_core.proofs.Ties.{old_known, one_longer, tied_at, never_issued, waits_there}
 use Rattle.blk_trace.proofs.Steps as step
 
--- one more pick of the direction is open, and the round is the same
+-- one more pick of the direction is open
 record IsOpened (m m' : Meaning) (dir : Dir) : Type 0 where
   reads : m'.open_picks.reads ≡ m.open_picks.reads + cond (same_dir Read dir) 1 0
   writes : m'.open_picks.writes ≡ m.open_picks.writes + cond (same_dir Write dir) 1 0
-  round : m'.round ≡ m.round
 
 -- what the scheduler and the held lists hold once the request went
 record IsSent (setup : Setup) (es fs : List Happened) (m' : Meaning) (held' : List (List Waiting)) (rel : ℕ) : Type 0 where
@@ -47,7 +46,7 @@ record IsSent (setup : Setup) (es fs : List Happened) (m' : Meaning) (held' : Li
   are : AreAs (requeued_at setup fs) held'
   once : AreOnce (requeued_at setup fs) held'
   count : map.len m'.pending + held_total held' + 1 ≡ waiting_count es
-  handed : (d : Dir) → requeued_of d m'.open_picks ≡ held_count (is_of d) held'
+  requeued_picks : (d : Dir) → requeued_of d m'.open_picks ≡ held_count (is_of d) held'
   lists : length held' ≡ setup.hw
 
 tied_sent : {A : Type 0} (setup setup' : Setup) (es es' : List Happened) (m m' : Meaning) (fl : List (TagState A)) (held held' : List (List Waiting)) (rel hw tag : ℕ) (w : Waiting) → IsPushed setup es (Issue w.id tag) setup' es' → IsTied setup es m fl held rel → waits_at setup es w.id ≡ Some (entered_of w) → IsOpened m m' (dir_of w.bios) → IsSent setup es (es ++ Issue w.id tag ∷ []) m' held' rel → tag < length fl → get_or fl tag Free ≡ Free → hw < setup.hw → IsTied setup' es' m' (set fl tag (InFlight hw w)) held' rel
@@ -78,13 +77,12 @@ tied_sent {A} setup setup' es es' m m' fl held held' rel hw tag w p t waits o s 
       ranges = t.ranges;
       holds = record {
         pending = s.pending;
-        returned = s.are;
+        requeued = s.are;
         held_once = s.once;
         count = omega arith;
         reads = omega arith;
         writes = omega arith;
-        handed = s.handed;
-        round = o.round ∙ t.holds.round ∙ sym (same_round es (Issue w.id tag) refl);
+        requeued_picks = s.requeued_picks;
       };
       next = omega arith;
       few = omega arith;
@@ -107,22 +105,22 @@ tied_sent {A} setup setup' es es' m m' fl held held' rel hw tag w p t waits o s 
 
 -- the scheduler's choice goes
 picked_goes : {A : Type 0} (setup : Setup) (es : List Happened) (m m' : Meaning) (fl : List (TagState A)) (held : List (List Waiting)) (rel hw tag : ℕ) (serves : ℕ → Waiting → Bool) (w : Waiting) → (let fs : List Happened = es ++ Issue w.id tag ∷ [] in (q : ℕ) → unissued_at setup fs q ≡ cond (w.id == q) None (unissued_at setup es q)) → (let fs : List Happened = es ++ Issue w.id tag ∷ [] in (q : ℕ) → requeued_at setup fs q ≡ cond (w.id == q) None (requeued_at setup es q)) → IsTied setup es m fl held rel → Picks serves hw m w m' → IsSent setup es (es ++ Issue w.id tag ∷ []) m' held rel
-picked_goes setup es m m' fl held rel hw tag serves w unissued returned t picks =
+picked_goes setup es m m' fl held rel hw tag serves w unissued requeued t picks =
     let fs : List Happened = es ++ Issue w.id tag ∷ [] in
     let mp : m'.pending ≡ map.remove m.pending w.id = ap (λ (x : Meaning). x.pending) picks.2 in
     let mo : m'.open_picks ≡ opened (dir_of w.bios) m.open_picks = ap (λ (x : Meaning). x.open_picks) picks.2 in
     let none : requeued_at setup es w.id ≡ None = unissued_not_requeued setup es w.id (entered_of w) (never_issued setup es m fl held rel w.id w t picks.0) in
-    let same : (q : ℕ) → requeued_at setup fs q ≡ requeued_at setup es q = none_gone (requeued_at setup es) (requeued_at setup fs) w.id none returned in
+    let same : (q : ℕ) → requeued_at setup fs q ≡ requeued_at setup es q = none_gone (requeued_at setup es) (requeued_at setup fs) w.id none requeued in
     let had = t.holds.count in
     let len = len_taken m.pending w.id w picks.0 in
     let now : map.len m'.pending ≡ map.len (map.remove m.pending w.id) = ap map.len mp in
     record {
       pending = λ q. ap (λ (x : Pending). option_map entered_of (map.get x q)) mp ∙ agree_taken m.pending (unissued_at setup es) (unissued_at setup fs) w.id t.holds.pending unissued q;
       fresh = λ q h. ap (λ (x : Pending). map.get x q) mp ∙ still_none m.pending w.id q (t.fresh q (omega arith));
-      are = as_same (requeued_at setup es) (requeued_at setup fs) held same t.holds.returned;
+      are = as_same (requeued_at setup es) (requeued_at setup fs) held same t.holds.requeued;
       once = once_same (requeued_at setup es) (requeued_at setup fs) held same t.holds.held_once;
       count = omega arith;
-      handed = λ d. ap (requeued_of d) mo ∙ opened_requeued d (dir_of w.bios) m.open_picks ∙ t.holds.handed d;
+      requeued_picks = λ d. ap (requeued_of d) mo ∙ opened_requeued d (dir_of w.bios) m.open_picks ∙ t.holds.requeued_picks d;
       lists = t.lists;
     }
 
@@ -130,15 +128,14 @@ picked_opened : (serves : ℕ → Waiting → Bool) (hw : ℕ) (m m' : Meaning) 
 picked_opened serves hw m m' w picks = record {
   reads = ap (λ (x : Meaning). x.open_picks.reads) picks.2 ∙ opened_reads (dir_of w.bios) m.open_picks;
   writes = ap (λ (x : Meaning). x.open_picks.writes) picks.2 ∙ opened_writes (dir_of w.bios) m.open_picks;
-  round = ap (λ (x : Meaning). x.round) picks.2;
 }
 
 -- the first of a held list goes
 again_goes : {A : Type 0} (setup : Setup) (es : List Happened) (m m' : Meaning) (fl : List (TagState A)) (held : List (List Waiting)) (rel hw tag : ℕ) (w : Waiting) (rest : List Waiting) → (let fs : List Happened = es ++ Issue w.id tag ∷ [] in (q : ℕ) → unissued_at setup fs q ≡ cond (w.id == q) None (unissued_at setup es q)) → (let fs : List Happened = es ++ Issue w.id tag ∷ [] in (q : ℕ) → requeued_at setup fs q ≡ cond (w.id == q) None (requeued_at setup es q)) → IsTied setup es m fl held rel → hw < length held → get_or held hw [] ≡ w ∷ rest → RequeuesPick (dir_of w.bios) m' m → IsSent setup es (es ++ Issue w.id tag ∷ []) m' (set held hw rest) rel
-again_goes setup es m m' fl held rel hw tag w rest unissued returned t lt is back =
+again_goes setup es m m' fl held rel hw tag w rest unissued requeued t lt is back =
     let fs : List Happened = es ++ Issue w.id tag ∷ [] in
     let mp : m'.pending ≡ m.pending = sym (ap (λ (x : Meaning). x.pending) back) in
-    let stands : requeued_at setup es w.id ≡ Some (entered_of w) = t.holds.returned hw 0 w (first_stands held hw w rest is) in
+    let stands : requeued_at setup es w.id ≡ Some (entered_of w) = t.holds.requeued hw 0 w (first_stands held hw w rest is) in
     let same : (q : ℕ) → unissued_at setup fs q ≡ unissued_at setup es q = none_gone (unissued_at setup es) (unissued_at setup fs) w.id (requeued_not_unissued setup es w.id (entered_of w) stands) unissued in
     let had = t.holds.count in
     let len : map.len m'.pending ≡ map.len m.pending = ap map.len mp in
@@ -146,15 +143,15 @@ again_goes setup es m m' fl held rel hw tag w rest unissued returned t lt is bac
     record {
       pending = λ q. ap (λ (x : Pending). option_map entered_of (map.get x q)) mp ∙ t.holds.pending q ∙ sym (same q);
       fresh = λ q h. ap (λ (x : Pending). map.get x q) mp ∙ t.fresh q (omega arith);
-      are = as_without (requeued_at setup es) (requeued_at setup fs) held hw w rest lt is returned t.holds.returned t.holds.held_once;
-      once = once_without (requeued_at setup es) (requeued_at setup fs) held hw w rest lt is returned t.holds.returned t.holds.held_once;
+      are = as_without (requeued_at setup es) (requeued_at setup fs) held hw w rest lt is requeued t.holds.requeued t.holds.held_once;
+      once = once_without (requeued_at setup es) (requeued_at setup fs) held hw w rest lt is requeued t.holds.requeued t.holds.held_once;
       count = omega arith;
-      handed = λ d.
+      requeued_picks = λ d.
           let picks : requeued_of d (opened (dir_of w.bios) m.open_picks) ≡ requeued_of d (after_requeue (dir_of w.bios) m'.open_picks) = ap (λ (x : Meaning). requeued_of d x.open_picks) back in
           let before = opened_requeued d (dir_of w.bios) m.open_picks in
           let after = requeued_more d (dir_of w.bios) m'.open_picks in
           let counts = count_without (is_of d) held hw w rest lt is in
-          let was = t.holds.handed d in
+          let was = t.holds.requeued_picks d in
           omega arith;
       lists = length-set held hw rest ∙ t.lists;
     }
@@ -163,14 +160,13 @@ again_opened : (m m' : Meaning) (dir : Dir) → RequeuesPick dir m' m → IsOpen
 again_opened m m' dir back = record {
   reads = sym (requeued_reads dir m'.open_picks) ∙ sym (ap (λ (x : Meaning). x.open_picks.reads) back) ∙ opened_reads dir m.open_picks;
   writes = sym (requeued_writes dir m'.open_picks) ∙ sym (ap (λ (x : Meaning). x.open_picks.writes) back) ∙ opened_writes dir m.open_picks;
-  round = sym (ap (λ (x : Meaning). x.round) back);
 }
 
 -- a request that goes waits in the trace
 pub sent_waits : {A : Type 0} (setup : Setup) (es : List Happened) (m m' : Meaning) (fl : List (TagState A)) (held held' : List (List Waiting)) (rel : ℕ) (serves : ℕ → Waiting → Bool) (chooses : Choice) (kept kept' : List ℕ) (hw round : ℕ) (w : Waiting) (own : List Waiting) → IsTied setup es m fl held rel → get_or held hw [] ≡ own → SendsFrom serves chooses hw round own m kept held w m' kept' held' → waits_at setup es w.id ≡ Some (entered_of w)
 sent_waits setup es m m' fl held held' rel serves chooses kept kept' hw round w [] t is sends = waits_there setup es m fl held rel w.id w t sends.0.0
 sent_waits setup es m m' fl held held' rel serves chooses kept kept' hw round w (first ∷ rest) t is sends =
-    (requeued_from setup es w.id (entered_of w) (t.holds.returned hw 0 w (first_stands held hw w rest (is ∙ ap (λ x. x ∷ rest) sends.0)))).1
+    (requeued_from setup es w.id (entered_of w) (t.holds.requeued hw 0 w (first_stands held hw w rest (is ∙ ap (λ x. x ∷ rest) sends.0)))).1
 
 -- after an issue the core is tied
 pub tied_issue : {A : Type 0} (setup setup' : Setup) (es es' : List Happened) (m m' : Meaning) (fl : List (TagState A)) (held held' : List (List Waiting)) (rel : ℕ) (serves : ℕ → Waiting → Bool) (chooses : Choice) (kept kept' : List ℕ) (hw round tag : ℕ) (w : Waiting) (own : List Waiting) → IsPushed setup es (Issue w.id tag) setup' es' → IsTied setup es m fl held rel → get_or held hw [] ≡ own → SendsFrom serves chooses hw round own m kept held w m' kept' held' → tag < length fl → get_or fl tag Free ≡ Free → hw < setup.hw → IsTied setup' es' m' (set fl tag (InFlight hw w)) held' rel
@@ -178,13 +174,13 @@ tied_issue {A} setup setup' es es' m m' fl held held' rel serves chooses kept ke
     let waits = sent_waits setup es m m' fl held held' rel serves chooses kept kept' hw round w [] t is sends in
     subst (λ x. IsTied setup' es' m' (set fl tag (InFlight hw w)) x rel) (sym sends.2)
     (tied_sent setup setup' es es' m m' fl held held rel hw tag w p t waits (picked_opened serves hw m m' w sends.0)
-    (picked_goes setup es m m' fl held rel hw tag serves w (step.unissued-issued setup es w.id tag p.legal) (returned-issued setup es w.id tag p.legal) t sends.0) lt none small)
+    (picked_goes setup es m m' fl held rel hw tag serves w (step.unissued-issued setup es w.id tag p.legal) (requeued-issued setup es w.id tag p.legal) t sends.0) lt none small)
 tied_issue {A} setup setup' es es' m m' fl held held' rel serves chooses kept kept' hw round tag w (first ∷ rest) p t is sends lt none small =
     let waits = sent_waits setup es m m' fl held held' rel serves chooses kept kept' hw round w (first ∷ rest) t is sends in
     let lists = t.lists in
     subst (λ x. IsTied setup' es' m' (set fl tag (InFlight hw w)) x rel) (sym sends.3)
     (tied_sent setup setup' es es' m m' fl held (set held hw rest) rel hw tag w p t waits (again_opened m m' (dir_of w.bios) sends.1)
-    (again_goes setup es m m' fl held rel hw tag w rest (step.unissued-issued setup es w.id tag p.legal) (returned-issued setup es w.id tag p.legal) t (omega arith) (is ∙ ap (λ x. x ∷ rest) sends.0) sends.1) lt none small)
+    (again_goes setup es m m' fl held rel hw tag w rest (step.unissued-issued setup es w.id tag p.legal) (requeued-issued setup es w.id tag p.legal) t (omega arith) (is ∙ ap (λ x. x ∷ rest) sends.0) sends.1) lt none small)
 
 -- what goes is an Issue that the trace allows
 pub issue_allowed : {A : Type 0} (setup : Setup) (es : List Happened) (m : Meaning) (fl : List (TagState A)) (held : List (List Waiting)) (rel tag : ℕ) (w : Waiting) → IsTied setup es m fl held rel → waits_at setup es w.id ≡ Some (entered_of w) → tag < depth_now setup es → tag < length fl → get_or fl tag Free ≡ Free → IsAllowed setup es (Issue w.id tag)

@@ -35,11 +35,11 @@ use Rattle.blk_core.specs.declared.tags.TagState.TheVariants.{Free, InFlight, Sp
 use Rattle.blk_core.specs.State.{Flight, CoreState, entered_of, requeued_at, is_of, is_named, InFlightAs}
 use Rattle.blk_core.specs.Opens.{open_issues, open_issues_of}
 use Rattle.blk_core.specs.Inside.Ties.{IsTied, flight_of, seat_of, queue_of, flying}
-use Rattle.blk_core.proofs.Pushed.{IsPushed, get_more, same_round, round_more, released-released, released-joined, released-ticked, released-set}
+use Rattle.blk_core.proofs.Pushed.{IsPushed, get_more, released-released, released-joined, released-ticked, released-set}
 use Rattle.blk_core.proofs.Waits.{agree_given, len_new, len_given, still_absent, joined_up}
 use Rattle.blk_core.proofs.Flights.{free_flies, all_free, any_default, unused, none_flies}
 use Rattle.blk_core.proofs.Held.{by_dirs, as_same, once_same, empty_list, none_counted, none_held}
-use Rattle.blk_core.proofs.Returned.{returned-released, returned-joined, returned-ticked, returned-set}
+use Rattle.blk_core.proofs.Requeued.{requeued-released, requeued-joined, requeued-ticked, requeued-set}
 use Rattle.blk_core.proofs.Flown.{flown_kept}
 use Rattle.blk_core.proofs.Opens.{open_by_dir}
 use Rattle.blk_trace.proofs.Counting.{waiting_is, count_kept}
@@ -94,7 +94,7 @@ tied_release setup setup' es es' m m' fl held rel bios w p t is m_is =
     let more = released-released es rel bios in
     let next = t.next in
     let few = t.few in
-    let same : (q : ℕ) → requeued_at setup fs q ≡ requeued_at setup es q = λ q. returned-released setup es rel bios p.legal q in
+    let same : (q : ℕ) → requeued_at setup fs q ≡ requeued_at setup es q = λ q. requeued-released setup es rel bios p.legal q in
     tied_at setup setup' es es' (Release rel bios) m' fl held (rel + 1) p
     (subst (λ x. IsTied setup fs x fl held (rel + 1)) (sym m_is)
     (record {
@@ -103,13 +103,12 @@ tied_release setup setup' es es' m m' fl held rel bios w p t is m_is =
       holds = record {
         pending = agree_given m.pending (unissued_at setup es) (unissued_at setup fs) rel w t.holds.pending
             (λ q. subst (λ x. unissued_at setup fs q ≡ cond (rel == q) (Some x) (unissued_at setup es q)) (sym is) (step.unissued-released setup es rel bios p.legal q));
-        returned = as_same (requeued_at setup es) (requeued_at setup fs) held same t.holds.returned;
+        requeued = as_same (requeued_at setup es) (requeued_at setup fs) held same t.holds.requeued;
         held_once = once_same (requeued_at setup es) (requeued_at setup fs) held same t.holds.held_once;
         count = omega arith;
         reads = opens_same setup es fs Read m.open_picks.reads t.legal p.legal (step.open-released setup es rel bios p.legal Read) t.holds.reads;
         writes = opens_same setup es fs Write m.open_picks.writes t.legal p.legal (step.open-released setup es rel bios p.legal Write) t.holds.writes;
-        handed = t.holds.handed;
-        round = t.holds.round ∙ sym (same_round es (Release rel bios) refl);
+        requeued_picks = t.holds.requeued_picks;
       };
       next = omega arith;
       few = omega arith;
@@ -141,7 +140,7 @@ tied_join setup setup' es es' m m' fl held rel serves hw now bios id side p t no
     let more = released-joined es id bios in
     let next = t.next in
     let few = t.few in
-    let same : (q : ℕ) → requeued_at setup fs q ≡ requeued_at setup es q = λ q. returned-joined setup es id bios p.legal (entered_of w) waits q in
+    let same : (q : ℕ) → requeued_at setup fs q ≡ requeued_at setup es q = λ q. requeued-joined setup es id bios p.legal (entered_of w) waits q in
     tied_at setup setup' es es' (Join id bios) m' fl held rel p
     (subst (λ x. IsTied setup fs x fl held rel) (sym joins.2)
     (record {
@@ -150,13 +149,12 @@ tied_join setup setup' es es' m m' fl held rel serves hw now bios id side p t no
       holds = record {
         pending = agree_given m.pending (unissued_at setup es) (unissued_at setup fs) id new t.holds.pending
             (λ q. subst (λ x. unissued_at setup fs q ≡ cond (id == q) (Some x) (unissued_at setup es q)) (sym is) (step.unissued-joined setup es id bios p.legal (entered_of w) waits q));
-        returned = as_same (requeued_at setup es) (requeued_at setup fs) held same t.holds.returned;
+        requeued = as_same (requeued_at setup es) (requeued_at setup fs) held same t.holds.requeued;
         held_once = once_same (requeued_at setup es) (requeued_at setup fs) held same t.holds.held_once;
         count = omega arith;
         reads = opens_same setup es fs Read m.open_picks.reads t.legal p.legal (step.open-joined setup es id bios p.legal Read) t.holds.reads;
         writes = opens_same setup es fs Write m.open_picks.writes t.legal p.legal (step.open-joined setup es id bios p.legal Write) t.holds.writes;
-        handed = t.holds.handed;
-        round = t.holds.round ∙ sym (same_round es (Join id bios) refl);
+        requeued_picks = t.holds.requeued_picks;
       };
       next = omega arith;
       few = omega arith;
@@ -204,8 +202,8 @@ none_flown : {A : Type 0} (P : Type 0) (s : TagState A) (hw : ℕ) (w : Waiting)
 none_flown P s hw w is at = absurd (cc)
 
 -- after a tick the core is tied
-pub tied_tick : {A : Type 0} (setup setup' : Setup) (es es' : List Happened) (m m' : Meaning) (fl fl' : List (TagState A)) (held : List (List Waiting)) (rel now : ℕ) → IsPushed setup es Tick setup' es' → IsTied setup es m fl held rel → m' ≡ record m { round = now } → now ≡ round_of es' → fl' ≡ replicate (length fl) Free → IsTied setup' es' m' fl' held rel
-tied_tick {A} setup setup' es es' m m' fl fl' held rel now p t m_is now_is fl_is =
+pub tied_tick : {A : Type 0} (setup setup' : Setup) (es es' : List Happened) (m m' : Meaning) (fl fl' : List (TagState A)) (held : List (List Waiting)) (rel : ℕ) → IsPushed setup es Tick setup' es' → IsTied setup es m fl held rel → m' ≡ m → fl' ≡ replicate (length fl) Free → IsTied setup' es' m' fl' held rel
+tied_tick {A} setup setup' es es' m m' fl fl' held rel p t m_is fl_is =
     let fs : List Happened = es ++ Tick ∷ [] in
     let n : ℕ = length fl in
     let l : length (replicate n (unused {A = A})) ≡ n = length-replicate n (unused {A = A}) in
@@ -223,22 +221,21 @@ tied_tick {A} setup setup' es es' m m' fl fl' held rel now p t m_is now_is fl_is
     let more = released-ticked es in
     let next = t.next in
     let few = t.few in
-    let same : (q : ℕ) → requeued_at setup fs q ≡ requeued_at setup es q = λ q. returned-ticked setup es q in
+    let same : (q : ℕ) → requeued_at setup fs q ≡ requeued_at setup es q = λ q. requeued-ticked setup es q in
     tied_at setup setup' es es' Tick m' fl' held rel p
     (subst (λ x. IsTied setup fs x fl' held rel) (sym m_is)
-    (subst (λ x. IsTied setup fs (record m { round = now }) x held rel) (sym fl_is)
+    (subst (λ x. IsTied setup fs m x held rel) (sym fl_is)
     (record {
       legal = p.legal;
       ranges = t.ranges;
       holds = record {
         pending = λ q. t.holds.pending q ∙ sym (step.unissued-ticked setup es p.legal q);
-        returned = as_same (requeued_at setup es) (requeued_at setup fs) held same t.holds.returned;
+        requeued = as_same (requeued_at setup es) (requeued_at setup fs) held same t.holds.requeued;
         held_once = once_same (requeued_at setup es) (requeued_at setup fs) held same t.holds.held_once;
         count = t.holds.count ∙ sym count;
         reads = omega arith;
         writes = omega arith;
-        handed = t.holds.handed;
-        round = now_is ∙ ap round_of p.added;
+        requeued_picks = t.holds.requeued_picks;
       };
       next = omega arith;
       few = omega arith;
@@ -263,20 +260,19 @@ tied_set setup setup' es es' m fl held rel depth p t =
     let more = released-set es depth in
     let next = t.next in
     let few = t.few in
-    let same : (q : ℕ) → requeued_at setup fs q ≡ requeued_at setup es q = λ q. returned-set setup es depth q in
+    let same : (q : ℕ) → requeued_at setup fs q ≡ requeued_at setup es q = λ q. requeued-set setup es depth q in
     tied_at setup setup' es es' e m fl held rel p
     (record {
       legal = p.legal;
       ranges = t.ranges;
       holds = record {
         pending = λ q. t.holds.pending q ∙ sym (unissued_kept setup es e refl refl refl refl q);
-        returned = as_same (requeued_at setup es) (requeued_at setup fs) held same t.holds.returned;
+        requeued = as_same (requeued_at setup es) (requeued_at setup fs) held same t.holds.requeued;
         held_once = once_same (requeued_at setup es) (requeued_at setup fs) held same t.holds.held_once;
         count = t.holds.count ∙ sym count;
         reads = opens_same setup es fs Read m.open_picks.reads t.legal p.legal (open_kept setup es e p.legal refl refl refl Read) t.holds.reads;
         writes = opens_same setup es fs Write m.open_picks.writes t.legal p.legal (open_kept setup es e p.legal refl refl refl Write) t.holds.writes;
-        handed = t.holds.handed;
-        round = t.holds.round ∙ sym (same_round es e refl);
+        requeued_picks = t.holds.requeued_picks;
       };
       next = omega arith;
       few = omega arith;
@@ -316,20 +312,16 @@ none_released : released_count [] ≡ 0
 unfolding released_ids
 none_released = refl
 
-no_round : round_of [] ≡ 0
-unfolding round_of
-no_round = refl
-
 -- what a scheduler means at its start
-start_parts : (m : Meaning) → m ≡ at_start m.front → (m.pending ≡ map.empty) × (m.open_picks ≡ no_picks) × (m.round ≡ 0)
-start_parts m is = (ap (λ (x : Meaning). x.pending) is, ap (λ (x : Meaning). x.open_picks) is, ap (λ (x : Meaning). x.round) is)
+start_parts : (m : Meaning) → m ≡ at_start m.front → (m.pending ≡ map.empty) × (m.open_picks ≡ no_picks)
+start_parts m is = (ap (λ (x : Meaning). x.pending) is, ap (λ (x : Meaning). x.open_picks) is)
 
 abbrev nothing : List Waiting
 nothing = []
 
-handed_first : (d : Dir) (p : OpenPicks) → p ≡ no_picks → requeued_of d p ≡ 0
-handed_first Read p is = ap (λ (x : OpenPicks). x.requeued_reads) is
-handed_first Write p is = ap (λ (x : OpenPicks). x.requeued_writes) is
+no_requeued_picks : (d : Dir) (p : OpenPicks) → p ≡ no_picks → requeued_of d p ≡ 0
+no_requeued_picks Read p is = ap (λ (x : OpenPicks). x.requeued_reads) is
+no_requeued_picks Write p is = ap (λ (x : OpenPicks). x.requeued_writes) is
 
 at_first : {A : Type 0} (setup : Setup) (m : Meaning) (n k : ℕ) → m ≡ at_start m.front → IsSetup setup → n ≡ setup.depth → k ≡ setup.hw → IsTied setup [] m (replicate n (unused {A = A})) (replicate k nothing) 0
 at_first {A} setup m n k start ranges d h_is =
@@ -346,13 +338,12 @@ at_first {A} setup m n k start ranges d h_is =
       ranges = ranges;
       holds = record {
         pending = λ q. ap (λ (x : Pending). option_map entered_of (map.get x q)) parts.0 ∙ ap (option_map entered_of) (map.get-empty nat_cmp q) ∙ sym (no_waits setup q);
-        returned = λ hw j v at. absurd (let e : ◌≡◌ {A = Option Waiting} None (Some v) = ap (λ l. slice_get l j) (sym (empty_list k hw)) ∙ at in cc);
+        requeued = λ hw j v at. absurd (let e : ◌≡◌ {A = Option Waiting} None (Some v) = ap (λ l. slice_get l j) (sym (empty_list k hw)) ∙ at in cc);
         held_once = λ q. none_counted (is_named q) k ∙ sym (ap (λ o. cond (is_some o) 1 0) (none_requeued setup q));
         count = omega arith;
         reads = r ∙ sym (none_open Read);
         writes = w ∙ sym (none_open Write);
-        handed = λ dir. handed_first dir m.open_picks parts.1 ∙ sym (none_counted (is_of dir) k);
-        round = parts.2 ∙ sym no_round;
+        requeued_picks = λ dir. no_requeued_picks dir m.open_picks parts.1 ∙ sym (none_counted (is_of dir) k);
       };
       next = sym none_released;
       few = omega arith;
@@ -394,13 +385,6 @@ tag_there setup es m fl held rel tag t below =
 pub few_open : {A : Type 0} (setup : Setup) (es : List Happened) (m : Meaning) (fl : List (TagState A)) (held : List (List Waiting)) (rel tag : ℕ) → IsTied setup es m fl held rel → tag < length fl → get_or fl tag Free ≡ Free → m.open_picks.reads + m.open_picks.writes < MAX_OPEN
 few_open setup es m fl held rel tag t lt none = let a = free_flies fl tag lt none in let b = t.reads in let c = t.writes in let d = t.room in let e = t.ranges.few_tags in omega arith
 
--- the scheduler's round is the trace's, and the next one is later
-pub round_is : {A : Type 0} (setup : Setup) (es : List Happened) (m : Meaning) (fl : List (TagState A)) (held : List (List Waiting)) (rel now : ℕ) → IsTied setup es m fl held rel → now ≡ round_of es → now ≡ m.round
-round_is setup es m fl held rel now t is = is ∙ sym t.holds.round
-
-pub round_next : {A : Type 0} (setup setup' : Setup) (es es' : List Happened) (m : Meaning) (fl : List (TagState A)) (held : List (List Waiting)) (rel now : ℕ) → IsTied setup es m fl held rel → IsPushed setup es Tick setup' es' → now ≡ round_of es' → m.round < now
-round_next setup setup' es es' m fl held rel now t p is = let was = t.holds.round in let one = ap round_of p.added ∙ round_more es Tick in omega arith
-
 -- a tag that wasn't issued in the round is free
 pub free_slot : {A : Type 0} (setup : Setup) (es : List Happened) (m : Meaning) (fl : List (TagState A)) (held : List (List Waiting)) (rel tag : ℕ) → IsTied setup es m fl held rel → tag < length fl → (IsUsed es tag → ⊥) → get_or fl tag Free ≡ Free
 free_slot {A} setup es m fl held rel tag t lt free = by_state (get_or fl tag Free) (t.seats tag lt ∙ (free_unused es tag).1 free)
@@ -410,9 +394,9 @@ free_slot {A} setup es m fl held rel tag t lt free = by_state (get_or fl tag Fre
     by_state (InFlight hw w) e = absurd (cc)
     by_state (Spent d) e = absurd (cc)
 
--- the requests that were handed back are those that are held, and as many wait
+-- the requeued requests are those that are held, and as many wait
 pub all_requeued : {A : Type 0} (setup : Setup) (es : List Happened) (m : Meaning) (fl : List (TagState A)) (held : List (List Waiting)) (rel : ℕ) → IsTied setup es m fl held rel → m.open_picks.requeued_reads + m.open_picks.requeued_writes ≡ held_total held
-all_requeued setup es m fl held rel t = let r = t.holds.handed Read in let w = t.holds.handed Write in let all = by_dirs held in omega arith
+all_requeued setup es m fl held rel t = let r = t.holds.requeued_picks Read in let w = t.holds.requeued_picks Write in let all = by_dirs held in omega arith
 
 -- no more wait than were released
 few_wait : (es : List Happened) → waiting_count es ≤ released_count es
@@ -424,7 +408,7 @@ pending_is setup es m fl held rel pending reads writes t p r w =
     let all = all_requeued setup es m fl held rel t in let count = t.holds.count in let few = few_wait es in let next = t.next in let known = t.few in
     (omega arith, omega arith)
 
--- a pick is open where an Issue is, and handed back where a request is held
+-- a pick is open where an Issue is, and requeued where a request is held
 pub open_issue : {A : Type 0} (setup : Setup) (es : List Happened) (m : Meaning) (fl : List (TagState A)) (held : List (List Waiting)) (rel : ℕ) (P : Type 0) → IsTied setup es m fl held rel → (0 < unfinished m.open_picks) ⊎ P → (0 < open_count es) ⊎ (0 < held_total held) ⊎ P
 open_issue setup es m fl held rel P t h =
     let both = step.open-both setup es t.legal in let r = t.holds.reads in let w = t.holds.writes in let all = all_requeued setup es m fl held rel t in

@@ -91,8 +91,8 @@ Completes told old tag new =
 abbrev pub HandsOut : CoreState → ℕ → List Bio → Type 0
 HandsOut c tag bios = (f : Flight) × (slice_get c.flights tag ≡ Some (Some f)) × (f.request.bios ≡ bios)
 
--- what a Back does: a Back of the command in flight under the tag, whose pick is then handed back; its request is held, as it was
--- picked, behind those that came back before from the hardware queue that it was issued for
+-- what a Back does: a Back of the command in flight under the tag, whose pick is then requeued; its request is held, as it was
+-- picked, behind those requeued before from the hardware queue that it was issued for
 abbrev pub RequeuesTag : CoreState → ℕ → ℕ → CoreState → Type 0
 RequeuesTag old tag id new =
     (f : Flight) × (slice_get old.flights tag ≡ Some (Some f))
@@ -104,11 +104,11 @@ RequeuesTag old tag id new =
     × (new.flights ≡ slice_set old.flights tag None)
     × (new.held ≡ slice_set old.held f.hw (held_in old.held f.hw ++ f.request ∷ []))
 
--- what the end of a round does: a Tick, of which the scheduler is told, once
+-- what the end of a round does: a Tick; the scheduler is told, once, of the round that begins
 abbrev pub Ends : OfTick → CoreState → CoreState → Type 0
 Ends told old new =
     AddsEvent old Tick new
-    × (new.meaning ≡ record old.meaning { round = round_of new.events })
+    × (new.meaning ≡ old.meaning)
     × told (round_of new.events) old.kept new.kept
     × (new.flights ≡ old.flights)
     × (new.held ≡ old.held)

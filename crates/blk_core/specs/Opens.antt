@@ -1,5 +1,5 @@
 -- The Issues that are open.
-use Rattle.std.specs.Prelude.{ℕ, cond, List, [], ◌∷◌, count_by}
+use Rattle.std.specs.Prelude.{ℕ, ◌≡◌, cond, List, [], ◌∷◌, Some, count_by, slice_get}
 use Rattle.std.specs.List.{list_any}
 use Rattle.blk_bio.specs.declared.bio.Dir.{Dir}
 use Rattle.blk_bio.specs.Requests.{dir_of}
@@ -7,7 +7,8 @@ use Rattle.blk_trace.specs.Happened.{Happened}
 use Rattle.blk_trace.specs.declared.event.Event.TheVariants.{Issue}
 use Rattle.blk_trace.specs.Events.{request_of}
 use Rattle.blk_trace.specs.Kinds.{is_done_of}
-use Rattle.blk_trace.specs.Setups.{same_dir}
+use Rattle.blk_trace.specs.Setups.{Setup, same_dir}
+use Rattle.blk_trace.specs.Legal.{IsLegalTrace}
 
 -- the id and the tag of each Issue whose tag no event after it ends, in their order
 unfoldable pub open_issues : List Happened → List (ℕ × ℕ)
@@ -18,3 +19,11 @@ open_issues (_ ∷ es) = open_issues es
 -- how many of them are of requests of the direction
 abbrev pub open_issues_of : List Happened → Dir → ℕ
 open_issues_of events dir = count_by (λ issue. same_dir dir (dir_of (request_of events issue.0))) (open_issues events)
+
+-- an id and a tag are among them
+abbrev pub IsListed : List Happened → ℕ → ℕ → Type 0
+IsListed events id tag = (k : ℕ) × (slice_get (open_issues events) k ≡ Some (id, tag))
+
+-- it is so in each legal trace
+abbrev pub InEachLegalTrace : (Setup → List Happened → Type 0) → Type 0
+InEachLegalTrace P = (setup : Setup) → (events : List Happened) → IsLegalTrace setup events → P setup events

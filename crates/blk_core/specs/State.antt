@@ -10,7 +10,7 @@ use Rattle.blk_bio.specs.Codes.{limits_code}
 use Rattle.blk_bio.specs.Requests.{dir_of}
 use Rattle.blk_trace.specs.Setups.{Setup}
 use Rattle.blk_trace.specs.Happened.{Happened, happened_code}
-use Rattle.blk_trace.specs.Events.{round_of, request_of, IsOpenBy}
+use Rattle.blk_trace.specs.Events.{request_of, open_count, IsOpenBy}
 use Rattle.blk_trace.specs.Meaning.{release_of, due_of}
 use Rattle.blk_trace.specs.Waits.{Entered, waits_at, was_issued, unissued_at, waiting_count}
 use Rattle.blk_trace.specs.Setups.{same_dir}
@@ -75,12 +75,16 @@ pub record HoldsWhatWaits (setup : Setup) (events : List Happened) (m : Meaning)
   -- the scheduler has what was never issued
   pub pending : (id : ℕ) → option_map entered_of (map.get m.pending id) ≡ unissued_at setup events id
   -- the held lists have what was requeued, and each such request once
-  pub returned : (hw place : ℕ) (w : Waiting) → slice_get (held_in held hw) place ≡ Some w → requeued_at setup events w.id ≡ Some (entered_of w)
+  pub requeued : (hw place : ℕ) (w : Waiting) → slice_get (held_in held hw) place ≡ Some w → requeued_at setup events w.id ≡ Some (entered_of w)
   pub held_once : (id : ℕ) → held_count (is_named id) held ≡ cond (is_some (requeued_at setup events id)) 1 0
   pub count : map.len m.pending + held_total held ≡ waiting_count events
-  -- the scheduler's open picks are the open Issues, and the picks that were handed back to it are the held requests
+  -- the scheduler's open picks are the open Issues, and its requeued picks are the held requests
   pub reads : m.open_picks.reads ≡ open_issues_of events Read
   pub writes : m.open_picks.writes ≡ open_issues_of events Write
-  pub handed : (dir : Dir) → requeued_of dir m.open_picks ≡ held_count (is_of dir) held
-  -- its round is the trace's
-  pub round : m.round ≡ round_of events
+  pub requeued_picks : (dir : Dir) → requeued_of dir m.open_picks ≡ held_count (is_of dir) held
+
+-- whoever holds what waits has as many picks open as there are open Issues
+abbrev pub PicksAreOpenIssues : Setup → List Happened → Type 0
+PicksAreOpenIssues setup events =
+    (m : Meaning) → (held : List (List Waiting)) → HoldsWhatWaits setup events m held
+    → m.open_picks.reads + m.open_picks.writes ≡ open_count events

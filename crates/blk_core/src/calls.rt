@@ -76,8 +76,8 @@ impl<S: Scheduler> Core<S> {
     ghost use Rattle.blk_core.specs.Calls.{Places, Issues, Completes, HandsOut, RequeuesTag, Ends, SetsDepth};
     ghost use Rattle.blk_sched.specs.Meaning.{HasCandidate, HasNoCandidate, at_start};
 
-    /// A core without events, over a scheduler in which nothing waits and no pick is open or handed back, in round 0.
-    /// Fails only when memory runs out, and hands the scheduler back then.
+    /// A core without events, over a scheduler in which nothing waits and no pick is open or requeued. Fails only when
+    /// memory runs out, and hands the scheduler back then.
     pub fn new(alloc: S::A, setup: Setup, scheduler: S) -> Result<Core<S>, (S, AllocError)>
         requires start { S.meaning scheduler ≡ at_start (S.meaning scheduler).front }
         ensures ok { IfOk result (λ c. c ≡ new_core setup (S.meaning scheduler) (S.kept scheduler)) }
@@ -504,9 +504,8 @@ fn dispatch<S: Scheduler>(
 ) -> Option<Queued<S::A>>
     requires queue { hw < MAX_QUEUES }
     requires list { hw < length held.old }
-    requires round { now ≡ (S.meaning scheduler.old).round }
     requires few { (S.meaning scheduler.old).open_picks.reads + (S.meaning scheduler.old).open_picks.writes < MAX_OPEN }
-    requires handed { (dir : Way) → requeued_of dir (S.meaning scheduler.old).open_picks ≡ held_count (is_of dir) held.old }
+    requires requeued { (dir : Way) → requeued_of dir (S.meaning scheduler.old).open_picks ≡ held_count (is_of dir) held.old }
     ensures some { IfSome result (λ w. SendsFrom S.policy.serves S.policy.chooses hw now (held_in held.old hw)
         (S.meaning scheduler.old) (S.kept scheduler.old) held.old w (S.meaning scheduler.new) (S.kept scheduler.new) held.new) }
     ensures none { IfNone result (held_in held.old hw ≡ []) }

@@ -1,11 +1,11 @@
-//! A busy device: commands that are handed back, and issued again from the queue that issued them.
+//! A busy device: commands that are requeued, and issued again from the queue that issued them.
 
 use crate::given::{command, follows, lifo_follows, setup};
 use crate::listed::Call;
 use blk_bio::Side;
 use blk_core::{BackFault, IssueFault, NotIssued, Placed, TickFault};
 
-/// What was handed back goes out before what never went, under another tag; a tag stays used in its round, and the round
+/// What was requeued goes out before what never went, under another tag; a tag stays used in its round, and the round
 /// of a command is that of its last issue.
 #[test]
 fn handed_back_and_issued_again(rt: HostRuntime) {

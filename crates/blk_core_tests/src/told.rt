@@ -11,7 +11,7 @@ use std::cell::Cell;
 use std::process::Abort;
 
 /// The last pick's hardware queue and round, the last done's hardware queue, direction and wait, the direction that
-/// was last handed back, and that which last went out again, and the last tick's round.
+/// was last requeued, and that which last went out again, and the last tick's round.
 #[derive(Drop)]
 struct Told {
     pick: Cell<Option<(u8, u64)>>,
@@ -143,7 +143,7 @@ fn write_goes_out(rt: &impl Abort, alloc: Global, core: &mut Heard<'_>) {
     follow(rt, &alloc, core, &calls);
 }
 
-/// A read of round 5 is handed back then, and issued again in round 6, so its wait is 1; the scheduler isn't asked for it.
+/// A read of round 5 is requeued then, and issued again in round 6, so its wait is 1; the scheduler isn't asked for it.
 /// It entered at queue 0 and goes out for queue 1.
 fn read_comes_back(rt: &impl Abort, alloc: Global, core: &mut Heard<'_>) {
     let calls = [

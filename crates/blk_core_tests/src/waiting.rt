@@ -72,7 +72,7 @@ fn least_id_is_first(rt: HostRuntime) {
     assert!(rt; index.first().is_none());
 }
 
-/// One read waits, is picked in round 1, handed back, picked again and done.
+/// One read waits, is picked in round 1, requeued, issued again and done.
 #[test]
 fn picks_are_counted(rt: HostRuntime) {
     let alloc = rt.alloc();

@@ -81,11 +81,11 @@ if_none (Some x) h f = tt
 
 -- ---- the pick
 
-pub picks : (m new : Pending) (front : Bool) (round hw id : ℕ) (p q : OpenPicks) (w : Waiting) → ((k : ℕ) (v : Waiting) → map.get m k ≡ Some v → v.id ≡ k) → map.get m id ≡ Some w → new ≡ map.remove m id → q ≡ opened (dir_of w.bios) p → Picks serves_all hw (meaning_with m p front round) w (meaning_with new q front round)
-picks m new front round hw id p q w named there removed opens =
+pub picks : (m new : Pending) (front : Bool) (hw id : ℕ) (p q : OpenPicks) (w : Waiting) → ((k : ℕ) (v : Waiting) → map.get m k ≡ Some v → v.id ≡ k) → map.get m id ≡ Some w → new ≡ map.remove m id → q ≡ opened (dir_of w.bios) p → Picks serves_all hw (meaning_with m p front) w (meaning_with new q front)
+picks m new front hw id p q w named there removed opens =
     let own : w.id ≡ id = named id w there in (
       ap (map.get m) own ∙ there,
       refl,
-      ap (λ (x : Pending). meaning_with x q front round) (removed ∙ ap (map.remove m) (sym own))
-          ∙ ap (λ (y : OpenPicks). let n : Meaning = record { pending = map.remove m w.id; open_picks = y; front = front; round = round } in n) opens,
+      ap (λ (x : Pending). meaning_with x q front) (removed ∙ ap (map.remove m) (sym own))
+          ∙ ap (λ (y : OpenPicks). let n : Meaning = record { pending = map.remove m w.id; open_picks = y; front = front } in n) opens,
     )

@@ -95,8 +95,8 @@ batch_after batch None = batch
 batch_after batch (Some x) = x.1
 
 -- a meaning of these parts
-abbrev pub meaning_with : Pending → OpenPicks → Bool → ℕ → Meaning
-meaning_with pending open_picks front round = record { pending = pending; open_picks = open_picks; front = front; round = round }
+abbrev pub meaning_with : Pending → OpenPicks → Bool → Meaning
+meaning_with pending open_picks front = record { pending = pending; open_picks = open_picks; front = front }
 
 -- what it keeps beside its meaning, as numbers: the settings, the batch, how often reads went first, and the last position
 abbrev pub number_of : Bool → ℕ

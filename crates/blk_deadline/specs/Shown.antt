@@ -22,7 +22,7 @@ module _ {A : Type 0} where
 
   -- what it means as a scheduler
   abbrev pub meaning_of : Deadline A → Meaning
-  meaning_of s = record { pending = s.index; open_picks = s.open_picks; front = s.tunables.front_merges; round = s.round }
+  meaning_of s = record { pending = s.index; open_picks = s.open_picks; front = s.tunables.front_merges }
 
   -- what it keeps beside that
   abbrev pub kept_in : Deadline A → List ℕ

@@ -73,12 +73,11 @@ pub struct Deadline<A: Allocator = Global> {
     tunables: Tunables,
     batch: BatchState,
     open_picks: OpenPicks,
-    round: u64,
 }
 
 impl<A: Allocator + Clone> Deadline<A> {
-    /// A scheduler in which nothing waits and no pick is open, in round 0. Refused as `ZeroBatch` for a batch of no
-    /// request, and as `Memory` where memory runs out.
+    /// A scheduler in which nothing waits and no pick is open. Refused as `ZeroBatch` for a batch of no request, and as
+    /// `Memory` where memory runs out.
     pub fn new(alloc: A, tunables: Tunables) -> Result<Deadline<A>, DeadlineFault>
         ensures zero { (tunables.fifo_batch ≡ 0) ↔ (result ≡ Err DeadlineFault.ZeroBatch) }
         ensures ok { IfOk result (λ s. meaning_of s ≡ at_start tunables.front_merges) }
@@ -103,7 +102,6 @@ impl<A: Allocator + Clone> Deadline<A> {
                 starved: 0,
             },
             open_picks: OpenPicks::none(),
-            round: 0,
         })
     }
 
@@ -266,7 +264,6 @@ impl<A: Allocator + Clone> Scheduler for Deadline<A> {
     #[inline(always)]
     fn pick(&mut self, hw: u8, now: u64) -> Option<Queued<A>>
         requires hw { hw < MAX_QUEUES }
-        requires round { now ≡ (meaning_of self.old).round }
         requires few { (meaning_of self.old).open_picks.reads + (meaning_of self.old).open_picks.writes < MAX_OPEN }
         ensures chosen { deadline_chooses (kept_in self.old) (meaning_of self.old) hw now result (kept_in self.new) }
         ensures choice { result ≡ chosen (choice_at self.old now) }
@@ -325,12 +322,9 @@ impl<A: Allocator + Clone> Scheduler for Deadline<A> {
 
     /// Begins a round; the batch and the tunables stay.
     fn on_tick(&mut self, now: u64)
-        requires { (meaning_of self.old).round < now }
-        ensures round { meaning_of self.new ≡ record (meaning_of self.old) { round = now } }
-        ensures batch { batch_of self.new ≡ batch_of self.old }
-        ensures tunables { tunables_of self.new ≡ tunables_of self.old }
+        ensures same { self.new ≡ self.old }
     {
-        self.round = now;
+        let _ = now;
     }
 
     fn pending(&self) -> u64 {

@@ -124,10 +124,6 @@ or_more true true b = refl
 or_more true false b = refl
 or_more false e b = refl
 
-more_or : (a e b : Bool) → (cond e true a || b) ≡ cond e true (a || b)
-more_or a true b = refl
-more_or a false b = refl
-
 pub push_listed : (ps : List Pair) (p : Pair) → PairAdded (listed ps) p (listed (ps ++ p ∷ []))
 push_listed [] p q = ap (λ b. b || false) (flip p q) ∙ or_none (eq_by_cmp pair_cmp p q)
 push_listed (x ∷ xs) p q = ap (λ b. is_eq (pair_cmp q x) || b) (push_listed xs p q) ∙ or_more (is_eq (pair_cmp q x)) (eq_by_cmp pair_cmp p q) (listed xs q)
@@ -334,14 +330,8 @@ both_less : (a e b : Bool) → (cond e false a || cond e false b) ≡ cond e fal
 both_less a true b = refl
 both_less a false b = refl
 
-pub added_first : (one now other : Pairs) (p : Pair) → PairAdded one p now → PairAdded (either one other) p (either now other)
-added_first one now other p added q = ap (λ b. b || other q) (added q) ∙ more_or (one q) (eq_by_cmp pair_cmp p q) (other q)
-
 pub added_second : (other one now : Pairs) (p : Pair) → PairAdded one p now → PairAdded (either other one) p (either other now)
 added_second other one now p added q = ap (λ b. other q || b) (added q) ∙ or_more (other q) (eq_by_cmp pair_cmp p q) (one q)
-
-pub kept_first : (one now other : Pairs) → PairsKept one now → PairsKept (either one other) (either now other)
-kept_first one now other kept q = ap (λ b. b || other q) (kept q)
 
 pub kept_second : (other one now : Pairs) → PairsKept one now → PairsKept (either other one) (either other now)
 kept_second other one now kept q = ap (λ b. other q || b) (kept q)

@@ -36,11 +36,11 @@ joins m new hw now limits newcomer id side candidate join =
 
 -- ---- the pick
 
-pub picks : (m new : Pending) (round hw id : ℕ) (p q : OpenPicks) (w : Waiting) → ((k : ℕ) (v : Waiting) → map.get m k ≡ Some v → v.id ≡ k) → map.get m id ≡ Some w → new ≡ map.remove m id → q ≡ opened (dir_of w.bios) p → Picks serves_all hw (meaning_with m p round) w (meaning_with new q round)
-picks m new round hw id p q w named there removed opens =
+pub picks : (m new : Pending) (hw id : ℕ) (p q : OpenPicks) (w : Waiting) → ((k : ℕ) (v : Waiting) → map.get m k ≡ Some v → v.id ≡ k) → map.get m id ≡ Some w → new ≡ map.remove m id → q ≡ opened (dir_of w.bios) p → Picks serves_all hw (meaning_with m p) w (meaning_with new q)
+picks m new hw id p q w named there removed opens =
     let own : w.id ≡ id = named id w there in (
       ap (map.get m) own ∙ there,
       refl,
-      ap (λ (x : Pending). meaning_with x q round) (removed ∙ ap (map.remove m) (sym own))
-          ∙ ap (λ (y : OpenPicks). let n : Meaning = record { pending = map.remove m w.id; open_picks = y; front = true; round = round } in n) opens,
+      ap (λ (x : Pending). meaning_with x q) (removed ∙ ap (map.remove m) (sym own))
+          ∙ ap (λ (y : OpenPicks). let n : Meaning = record { pending = map.remove m w.id; open_picks = y; front = true } in n) opens,
     )

@@ -48,8 +48,8 @@ pub record IsFirstMeetable (now : ℕ) (ws : List Waiting) (w : Waiting) : Type 
   pub late : w.due < now → All (λ v. (v.due < now) × IsNoLater w v) ws
 
 -- a meaning of these parts
-abbrev pub meaning_with : Pending → OpenPicks → ℕ → Meaning
-meaning_with pending open_picks round = record { pending = pending; open_picks = open_picks; front = true; round = round }
+abbrev pub meaning_with : Pending → OpenPicks → Meaning
+meaning_with pending open_picks = record { pending = pending; open_picks = open_picks; front = true }
 
 -- what it keeps beside its meaning, as a number: the setting
 abbrev pub number_of : Bool → ℕ

@@ -14,4 +14,4 @@ module _ {A : Type 0} where
 
   -- what it means as a scheduler
   abbrev pub meaning_of : Earliest A → Meaning
-  meaning_of s = record { pending = s.waiting; open_picks = s.open_picks; front = true; round = s.round }
+  meaning_of s = record { pending = s.waiting; open_picks = s.open_picks; front = true }

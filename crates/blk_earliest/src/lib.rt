@@ -23,12 +23,11 @@ pub struct Earliest<A: Allocator = Global> {
     waiting: ByDue<A>,
     late_last: bool,
     open_picks: OpenPicks,
-    round: u64,
 }
 
 impl<A: Allocator + Clone> Earliest<A> {
-    /// A scheduler in which nothing waits and no pick is open, in round 0. With `late_last` a request whose due round is
-    /// past waits until none is there that can still be met. It fails only when out of memory.
+    /// A scheduler in which nothing waits and no pick is open. With `late_last` a request whose due round is past waits
+    /// until none is there that can still be met. It fails only when out of memory.
     pub fn new(alloc: A, late_last: bool) -> Result<Earliest<A>, AllocError>
         ensures ok { IfOk result (λ s. meaning_of s ≡ at_start true) }
         ensures setting { IfOk result (λ s. late_last_of s ≡ late_last) }
@@ -37,7 +36,6 @@ impl<A: Allocator + Clone> Earliest<A> {
             waiting: ByDue::new(alloc)?,
             late_last,
             open_picks: OpenPicks::none(),
-            round: 0,
         })
     }
 
@@ -144,7 +142,6 @@ impl<A: Allocator + Clone> Scheduler for Earliest<A> {
     #[inline(always)]
     fn pick(&mut self, hw: u8, now: u64) -> Option<Queued<A>>
         requires hw { hw < MAX_QUEUES }
-        requires round { now ≡ (meaning_of self.old).round }
         requires few { (meaning_of self.old).open_picks.reads + (meaning_of self.old).open_picks.writes < MAX_OPEN }
         ensures chosen { earliest_chooses (kept_of (late_last_of self.old)) (meaning_of self.old) hw now result (kept_of (late_last_of self.new)) }
         ensures choice { result ≡ earliest_choice (late_last_of self.old) now (map.values (pending_of self.old)) }
@@ -179,7 +176,7 @@ impl<A: Allocator + Clone> Scheduler for Earliest<A> {
     }
 
     fn on_tick(&mut self, now: u64) {
-        self.round = now;
+        let _ = now;
     }
 
     fn pending(&self) -> u64 {

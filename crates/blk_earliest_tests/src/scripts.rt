@@ -149,7 +149,7 @@ flush,0,,,,
 run,2,,,,
 ";
 
-/// A request that is handed back goes out again before a more urgent one.
+/// A request that is requeued goes out again before a more urgent one.
 const BACK: &str = "blk-script,2,1,1,1,1
 setup,0,9,256,128,
 bio,0,0,W,0,8

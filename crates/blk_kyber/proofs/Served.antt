@@ -75,10 +75,10 @@ flying : (picks : OpenPicks) (dir : Dir) → 0 < in_flight dir picks → 0 < unf
 flying picks Read h = omega (arith, h)
 flying picks Write h = omega (arith, h)
 
-both_idle : (m : Pending) (picks : OpenPicks) (round hw : ℕ) → IsIdle m hw picks Read → IsIdle m hw picks Write → (0 < unfinished picks) ⊎ ServesNothing serves_own hw (meaning_with m picks round)
-both_idle m picks round hw (inl h) writes = inl (flying picks Read h)
-both_idle m picks round hw (inr reads) (inl h) = inl (flying picks Write h)
-both_idle m picks round hw (inr reads) (inr writes) = inr (λ id w there.
+both_idle : (m : Pending) (picks : OpenPicks) (hw : ℕ) → IsIdle m hw picks Read → IsIdle m hw picks Write → (0 < unfinished picks) ⊎ ServesNothing serves_own hw (meaning_with m picks)
+both_idle m picks hw (inl h) writes = inl (flying picks Read h)
+both_idle m picks hw (inr reads) (inl h) = inl (flying picks Write h)
+both_idle m picks hw (inr reads) (inr writes) = inr (λ id w there.
     elim (serves_own hw w) as (λ b. serves_own hw w ≡ b → b ≡ false) [
       | true ↦ λ own.
           let waits = served_there hw (map.get m id) w there own in
@@ -89,11 +89,11 @@ both_idle m picks round hw (inr reads) (inr writes) = inr (λ id w there.
       | false ↦ λ _. refl
     ] refl)
 
-pub idle : (m : Pending) (picks : OpenPicks) (round hw : ℕ) (dir rest : Dir) → rest ≡ other_of dir → IsIdle m hw picks dir → IsIdle m hw picks rest → (0 < unfinished picks) ⊎ ServesNothing serves_own hw (meaning_with m picks round)
-idle m picks round hw Read Write e own other = both_idle m picks round hw own other
-idle m picks round hw Write Read e own other = both_idle m picks round hw other own
-idle m picks round hw Read Read e own other = absurd (cc)
-idle m picks round hw Write Write e own other = absurd (cc)
+pub idle : (m : Pending) (picks : OpenPicks) (hw : ℕ) (dir rest : Dir) → rest ≡ other_of dir → IsIdle m hw picks dir → IsIdle m hw picks rest → (0 < unfinished picks) ⊎ ServesNothing serves_own hw (meaning_with m picks)
+idle m picks hw Read Write e own other = both_idle m picks hw own other
+idle m picks hw Write Read e own other = both_idle m picks hw other own
+idle m picks hw Read Read e own other = absurd (cc)
+idle m picks hw Write Write e own other = absurd (cc)
 
 -- ---- what is kept, as numbers
 

@@ -36,7 +36,7 @@ turn_by turn false false = None
 abbrev pub oldest_of : ℕ → Dir → List Waiting → Option Waiting
 oldest_of hw dir ws = find (λ w. serves_own hw w && is_same (dir_of w.bios) dir) ws
 
--- how many requests of a direction are in flight: picked and not done, the ones handed back among them
+-- how many requests of a direction are in flight: picked and not done, the requeued ones among them
 abbrev pub in_flight : Dir → OpenPicks → ℕ
 in_flight dir picks = open_of dir picks + requeued_of dir picks
 

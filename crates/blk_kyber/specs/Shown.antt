@@ -7,7 +7,7 @@ use Rattle.blk_kyber.specs.State.{KyberState}
 module _ {A : Type 0} where
   -- what it means as a scheduler: a newcomer may always join at the front
   abbrev pub meaning_of : Kyber A → Meaning
-  meaning_of s = record { pending = s.queues; open_picks = s.open_picks; front = true; round = s.round }
+  meaning_of s = record { pending = s.queues; open_picks = s.open_picks; front = true }
 
   -- what it keeps beside that
   abbrev pub state_of : Kyber A → KyberState

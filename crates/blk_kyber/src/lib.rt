@@ -69,12 +69,11 @@ pub struct Kyber<A: Allocator = Global> {
     limits: DomainLimits,
     turns: [Turn; MAX_QUEUES as usize],
     open_picks: OpenPicks,
-    round: u64,
 }
 
 impl<A: Allocator + Clone> Kyber<A> {
-    /// A scheduler for the hardware queues 0 to 15, in which nothing waits and no pick is open, in round 0, with both limits
-    /// at the depth. Refused as `ZeroTarget` where a target is 0, and as `Memory` where memory runs out.
+    /// A scheduler for the hardware queues 0 to 15, in which nothing waits and no pick is open, with both limits at the
+    /// depth. Refused as `ZeroTarget` where a target is 0, and as `Memory` where memory runs out.
     pub fn new(alloc: A, targets: Targets, depth: u64) -> Result<Kyber<A>, KyberFault>
         requires least { 1 ≤ depth }
         requires most { depth ≤ MAX_OPEN }
@@ -95,7 +94,6 @@ impl<A: Allocator + Clone> Kyber<A> {
             limits: DomainLimits::new(depth),
             turns: [Turn::first(); MAX_QUEUES as usize],
             open_picks: OpenPicks::none(),
-            round: 0,
         })
     }
 
@@ -199,7 +197,6 @@ impl<A: Allocator + Clone> Scheduler for Kyber<A> {
     /// Hands out the request that the turn and the limits choose; then the turn is as they say.
     fn pick(&mut self, hw: u8, now: u64) -> Option<Queued<A>>
         requires hw { hw < MAX_QUEUES }
-        requires round { now ≡ (meaning_of self.old).round }
         requires few { (meaning_of self.old).open_picks.reads + (meaning_of self.old).open_picks.writes < MAX_OPEN }
         ensures choice { result ≡ chosen (choice_for hw (state_of self.old) (meaning_of self.old)) }
         ensures turn { state_of self.new ≡ after_pick hw (state_of self.old) (choice_for hw (state_of self.old) (meaning_of self.old)) }
@@ -262,13 +259,11 @@ impl<A: Allocator + Clone> Scheduler for Kyber<A> {
 
     /// Begins a round. Every [`ROUNDS_BETWEEN`] rounds the limits are set anew.
     fn on_tick(&mut self, now: u64)
-        requires { (meaning_of self.old).round < now }
         ensures limits { state_of self.new ≡ told (Tick now) (state_of self.old) }
         ensures reported { Follows (Tick now) (state_of self.old) (state_of self.new) }
-        ensures round { meaning_of self.new ≡ record (meaning_of self.old) { round = now } }
+        ensures same { meaning_of self.new ≡ meaning_of self.old }
         ensures told { Told (Tick now) (numbers_of (state_of self.old)) (numbers_of (state_of self.new)) }
     {
-        self.round = now;
         if now % ROUNDS_BETWEEN == 0 {
             self.limits.set_anew();
         }

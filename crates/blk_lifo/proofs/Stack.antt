@@ -1,7 +1,7 @@
 -- What the calls do to the list, as what waits.
-use Rattle.std.proofs.Common.{◌≡◌, ◌<◌, ◌+◌, ◌++◌, ◌∙◌, sym, ap, subst, refl, true, false, Bool, cond, ℕ, Some, None, Option, List, [], ◌∷◌, length, arith, inl, inr}
+use Rattle.std.proofs.Common.{◌≡◌, ◌<◌, ◌+◌, ◌++◌, ◌∙◌, sym, ap, subst, refl, true, false, Bool, cond, ℕ, Some, None, Option, List, [], ◌∷◌, length, arith, inl, inr, get_or}
 use Rattle.std.specs.Prelude.{◌⊎◌, slice_get, slice_set, map as each, is_some, IsSome, ◌≤◌, Result, Ok, Err, OnOk, OnErr}
-use Rattle.std.proofs.lemmas.Option.{slice_get_within}
+use Rattle.std.proofs.lemmas.Option.{slice_get_within, slice_get_read}
 use Rattle.std.specs.Ordering.{nat_cmp}
 use Rattle.std.specs.Cmp.{nat_cmp_total}
 use Rattle.std.specs.FinMap as map
@@ -18,21 +18,21 @@ use Rattle.std.specs.BTreeMap.{is_at}
 use Rattle.blk_sched.specs.Maps.{same_number}
 use Rattle.blk_lifo.proofs.Lists.{itself, found_pushed, distinct_popped, found_at, place_of, found_changed, distinct_changed}
 
-abbrev pub view : List Waiting → OpenPicks → ℕ → Meaning
-view ws p at = record { pending = by_id ws; open_picks = p; front = true; round = at }
+abbrev pub view : List Waiting → OpenPicks → Meaning
+view ws p = record { pending = by_id ws; open_picks = p; front = true }
 
 -- what waits is what is found
-got : (ws : List Waiting) (p : OpenPicks) (at : ℕ) (self : Meaning) → view ws p at ≡ self → (k : ℕ) → found ws k ≡ map.get self.pending k
-got ws p at self v k = sym (get_waiting (each named ws) k) ∙ ap (λ (m : Meaning). map.get m.pending k) v
+got : (ws : List Waiting) (p : OpenPicks) (self : Meaning) → view ws p ≡ self → (k : ℕ) → found ws k ≡ map.get self.pending k
+got ws p self v k = sym (get_waiting (each named ws) k) ∙ ap (λ (m : Meaning). map.get m.pending k) v
 
 -- ---- entering
 
-pub new_id : (ws : List Waiting) (p : OpenPicks) (at : ℕ) (self : Meaning) (w : Waiting) → view ws p at ≡ self → map.get self.pending w.id ≡ None → found ws w.id ≡ None
-new_id ws p at self w v new = got ws p at self v w.id ∙ new
+pub new_id : (ws : List Waiting) (p : OpenPicks) (self : Meaning) (w : Waiting) → view ws p ≡ self → map.get self.pending w.id ≡ None → found ws w.id ≡ None
+new_id ws p self w v new = got ws p self v w.id ∙ new
 
-pub entered : (ws : List Waiting) (p : OpenPicks) (at : ℕ) (self : Meaning) (w : Waiting) → view ws p at ≡ self → map.get self.pending w.id ≡ None → view (ws ++ w ∷ []) p at ≡ record self { pending = map.insert self.pending w.id w }
-entered ws p at self w v new =
-    ap (λ (x : Pending). let m : Meaning = record { pending = x; open_picks = p; front = true; round = at } in m) (one_given (each named ws) (each named (ws ++ w ∷ [])) w.id w (λ k. found_pushed ws w k (new_id ws p at self w v new)))
+pub entered : (ws : List Waiting) (p : OpenPicks) (self : Meaning) (w : Waiting) → view ws p ≡ self → map.get self.pending w.id ≡ None → view (ws ++ w ∷ []) p ≡ record self { pending = map.insert self.pending w.id w }
+entered ws p self w v new =
+    ap (λ (x : Pending). let m : Meaning = record { pending = x; open_picks = p; front = true } in m) (one_given (each named ws) (each named (ws ++ w ∷ [])) w.id w (λ k. found_pushed ws w k (new_id ws p self w v new)))
     ∙ ap (λ (m : Meaning). let n : Meaning = record m { pending = map.insert m.pending w.id w } in n) v
 
 -- ---- counting
@@ -45,8 +45,8 @@ len_is (w ∷ ws) d =
     ∙ ap (λ o. cond (is_some o) (map.len (by_id ws)) (map.len (by_id ws) + 1)) (get_waiting (each named ws) w.id ∙ d.0)
     ∙ (let rest : map.len (by_id ws) ≡ length ws = len_is ws d.1 in omega arith)
 
-pub count_is : (ws : List Waiting) (p : OpenPicks) (at : ℕ) (self : Meaning) → view ws p at ≡ self → AreDistinct ws → length ws ≡ map.len self.pending
-count_is ws p at self v d = sym (len_is ws d) ∙ ap (λ (m : Meaning). map.len m.pending) v
+pub count_is : (ws : List Waiting) (p : OpenPicks) (self : Meaning) → view ws p ≡ self → AreDistinct ws → length ws ≡ map.len self.pending
+count_is ws p self v d = sym (len_is ws d) ∙ ap (λ (m : Meaning). map.len m.pending) v
 
 -- ---- picking
 
@@ -54,22 +54,22 @@ taken : (b : Bool) (w : Waiting) (old : Option Waiting) → (b ≡ true → old 
 taken true w old none = none refl
 taken false w old none = refl
 
-pub picked : (ws rest : List Waiting) (p : OpenPicks) (at : ℕ) (self new : Meaning) (hw : ℕ) (w : Waiting) → view ws p at ≡ self → AreDistinct ws → ws ≡ rest ++ w ∷ [] → new ≡ view rest (opened (dir_of w.bios) p) at → Picks serves_all hw self w new
-picked ws rest p at self new hw w v d is after =
+pub picked : (ws rest : List Waiting) (p : OpenPicks) (self new : Meaning) (hw : ℕ) (w : Waiting) → view ws p ≡ self → AreDistinct ws → ws ≡ rest ++ w ∷ [] → new ≡ view rest (opened (dir_of w.bios) p) → Picks serves_all hw self w new
+picked ws rest p self new hw w v d is after =
     let last = distinct_popped rest w (subst AreDistinct is d) in
     let there : (k : ℕ) → found ws k ≡ cond (is_at (nat_cmp w.id) k) (Some w) (found rest k) = λ k. ap (λ l. found l k) is ∙ found_pushed rest w k last.1 in
     subst (λ (m : Meaning). Picks serves_all hw m w new) v (
       get_waiting (each named ws) w.id ∙ there w.id ∙ ap (λ b. cond b (Some w) (found rest w.id)) (itself w.id),
       refl,
-      after ∙ ap (λ x. let m : Meaning = record { pending = x; open_picks = opened (dir_of w.bios) p; front = true; round = at } in m)
+      after ∙ ap (λ x. let m : Meaning = record { pending = x; open_picks = opened (dir_of w.bios) p; front = true } in m)
           (one_taken (each named ws) (each named rest) w.id (λ k.
           taken (is_at (nat_cmp w.id) k) w (found rest k) (λ e. ap (found rest) (same_number w.id k e) ∙ last.1)
           ∙ ap (cond (is_at (nat_cmp w.id) k) None) (sym (there k)))),
     )
 
-pub none_left : (ws : List Waiting) (p : OpenPicks) (at : ℕ) (self : Meaning) (hw : ℕ) → view ws p at ≡ self → length ws ≡ 0 → ServesNothing serves_all hw self
-none_left [] p at self hw v e id w there = let a : None ≡ Some w = got [] p at self v id ∙ there in cc
-none_left (x ∷ ws) p at self hw v e id w there = absurd (omega arith)
+pub none_left : (ws : List Waiting) (p : OpenPicks) (self : Meaning) (hw : ℕ) → view ws p ≡ self → length ws ≡ 0 → ServesNothing serves_all hw self
+none_left [] p self hw v e id w there = let a : None ≡ Some w = got [] p self v id ∙ there in cc
+none_left (x ∷ ws) p self hw v e id w there = absurd (omega arith)
 
 -- ---- joining
 
@@ -79,8 +79,8 @@ tried Back = tt
 tried Front = refl
 
 -- the newest of the list is the candidate
-pub candidate_of : (ws : List Waiting) (p : OpenPicks) (at : ℕ) (self : Meaning) (limits : Limits) (newcomer : List Bio) (hw place id : ℕ) (side : Side) → view ws p at ≡ self → AreDistinct ws → IsNewest limits newcomer ws (length ws) place → IsFitAt limits newcomer ws place id side → HasCandidate serves_all hw limits newcomer self id side
-candidate_of ws p at self limits newcomer hw place id side v d best fit =
+pub candidate_of : (ws : List Waiting) (p : OpenPicks) (self : Meaning) (limits : Limits) (newcomer : List Bio) (hw place id : ℕ) (side : Side) → view ws p ≡ self → AreDistinct ws → IsNewest limits newcomer ws (length ws) place → IsFitAt limits newcomer ws place id side → HasCandidate serves_all hw limits newcomer self id side
+candidate_of ws p self limits newcomer hw place id side v d best fit =
     let w = fit.0 in
     let one : Some best.waiting ≡ Some w = sym best.stands ∙ fit.1 in
     let same : best.waiting ≡ w = cc in
@@ -101,28 +101,28 @@ candidate_of ws p at self limits newcomer hw place id side v d best fit =
     )
 
 -- the candidate is found, and a request of its id is the one
-pub candidate_found : (ws : List Waiting) (p : OpenPicks) (at : ℕ) (self : Meaning) (limits : Limits) (newcomer : List Bio) (hw id : ℕ) (side : Side) → view ws p at ≡ self → (is : HasCandidate serves_all hw limits newcomer self id side) → found ws id ≡ Some is.0
-candidate_found ws p at self limits newcomer hw id side v is = got ws p at self v id ∙ is.1.pending
+pub candidate_found : (ws : List Waiting) (p : OpenPicks) (self : Meaning) (limits : Limits) (newcomer : List Bio) (hw id : ℕ) (side : Side) → view ws p ≡ self → (is : HasCandidate serves_all hw limits newcomer self id side) → found ws id ≡ Some is.0
+candidate_found ws p self limits newcomer hw id side v is = got ws p self v id ∙ is.1.pending
 
-pub is_found : (ws : List Waiting) (p : OpenPicks) (at : ℕ) (self : Meaning) (limits : Limits) (newcomer : List Bio) (hw id : ℕ) (side : Side) → view ws p at ≡ self → HasCandidate serves_all hw limits newcomer self id side → IsSome (found ws id)
-is_found ws p at self limits newcomer hw id side v is = subst IsSome (sym (candidate_found ws p at self limits newcomer hw id side v is)) refl
+pub is_found : (ws : List Waiting) (p : OpenPicks) (self : Meaning) (limits : Limits) (newcomer : List Bio) (hw id : ℕ) (side : Side) → view ws p ≡ self → HasCandidate serves_all hw limits newcomer self id side → IsSome (found ws id)
+is_found ws p self limits newcomer hw id side v is = subst IsSome (sym (candidate_found ws p self limits newcomer hw id side v is)) refl
 
 -- a join at the place of the candidate
-pub joins : (ws read new : List Waiting) (p : OpenPicks) (at : ℕ) (self : Meaning) (limits : Limits) (newcomer : List Bio) (hw now place id : ℕ) (side : Side) → view ws p at ≡ self → AreDistinct ws → read ≡ ws → HasCandidate serves_all hw limits newcomer self id side → IsPlaceOf read id place → JoinsPlace limits now newcomer ws place new → Joins serves_all hw now limits newcomer self id side (view new p at)
-joins ws read new p at self limits newcomer hw now place id side v d same is there came =
+pub joins : (ws read new : List Waiting) (p : OpenPicks) (self : Meaning) (limits : Limits) (newcomer : List Bio) (hw now place id : ℕ) (side : Side) → view ws p ≡ self → AreDistinct ws → read ≡ ws → HasCandidate serves_all hw limits newcomer self id side → IsPlaceOf read id place → JoinsPlace limits now newcomer ws place new → Joins serves_all hw now limits newcomer self id side (view new p)
+joins ws read new p self limits newcomer hw now place id side v d same is there came =
     let x = is.0 in
     let w = came.waiting in
     let here : IsPlaceOf ws id place = subst (λ l. IsPlaceOf l id place) same there in
     let one : Some here.0 ≡ Some w = sym here.1 ∙ came.stands in
     let own : w.id ≡ id = (let e : here.0 ≡ w = cc in ap (λ (u : Waiting). u.id) (sym e) ∙ here.2) in
-    let two : Some w ≡ Some x = sym (found_at ws place w d came.stands) ∙ ap (found ws) own ∙ candidate_found ws p at self limits newcomer hw id side v is in
+    let two : Some w ≡ Some x = sym (found_at ws place w d came.stands) ∙ ap (found ws) own ∙ candidate_found ws p self limits newcomer hw id side v is in
     let met : w ≡ x = cc in
     let at_side : came.side ≡ side = sym (came.only side (subst (λ (u : Waiting). Fits limits u.bios newcomer side) (sym met) is.1.fits)) in
     let changed : new ≡ slice_set ws place (joined_waiting side now newcomer w) = came.changed ∙ ap (λ s. slice_set ws place (joined_waiting s now newcomer w)) at_side in (
       x,
       is.1,
-      ap (λ (l : List Waiting). view l p at) changed
-          ∙ ap (λ (y : Pending). let m : Meaning = record { pending = y; open_picks = p; front = true; round = at } in m) (one_given (each named ws) (each named (slice_set ws place (joined_waiting side now newcomer w))) w.id (joined_waiting side now newcomer w) (λ k. found_changed ws place w (joined_waiting side now newcomer w) k d came.stands refl))
+      ap (λ (l : List Waiting). view l p) changed
+          ∙ ap (λ (y : Pending). let m : Meaning = record { pending = y; open_picks = p; front = true } in m) (one_given (each named ws) (each named (slice_set ws place (joined_waiting side now newcomer w))) w.id (joined_waiting side now newcomer w) (λ k. found_changed ws place w (joined_waiting side now newcomer w) k d came.stands refl))
           ∙ ap (λ (m : Meaning). let n : Meaning = record m { pending = map.insert m.pending w.id (joined_waiting side now newcomer w) } in n) v
           ∙ ap (λ (k : ℕ). let n : Meaning = record self { pending = map.insert self.pending k (joined_waiting side now newcomer w) } in n) own
           ∙ ap (λ (u : Waiting). let n : Meaning = record self { pending = map.insert self.pending id (joined_waiting side now newcomer u) } in n) met,
@@ -132,9 +132,9 @@ pub distinct_joined : (ws new : List Waiting) (limits : Limits) (newcomer : List
 distinct_joined ws new limits newcomer now place d came =
     subst AreDistinct (sym came.changed) (distinct_changed ws place came.waiting (joined_waiting came.side now newcomer came.waiting) d came.stands refl)
 
-pub no_candidate : (ws read : List Waiting) (p : OpenPicks) (at : ℕ) (self : Meaning) (limits : Limits) (newcomer : List Bio) (hw : ℕ) → view ws p at ≡ self → read ≡ ws → FitsNoneOf limits newcomer read (length read) → HasNoCandidate serves_all hw limits newcomer self
-no_candidate ws read p at self limits newcomer hw v same none id w s there served tried fits =
-    let at = place_of ws id w (got ws p at self v id ∙ there) in
+pub no_candidate : (ws read : List Waiting) (p : OpenPicks) (self : Meaning) (limits : Limits) (newcomer : List Bio) (hw : ℕ) → view ws p ≡ self → read ≡ ws → FitsNoneOf limits newcomer read (length read) → HasNoCandidate serves_all hw limits newcomer self
+no_candidate ws read p self limits newcomer hw v same none id w s there served tried fits =
+    let at = place_of ws id w (got ws p self v id ∙ there) in
     (subst (λ l. FitsNoneOf limits newcomer l (length l)) same none) at.0 w s at.1 at.2 fits
 
 pub then_ok : {X E P Q : Type 0} (r : Result X E) → OnOk r P → (P → Q) → OnOk r Q
@@ -168,6 +168,13 @@ split ws place k w v at there below =
           let both : Some v ≡ Some w = sym there ∙ ap (slice_get ws) same ∙ at in
           inr (cc)
     ]
+
+-- nor has the next one the id, where it is another's
+pub not_the_next : (ws : List Waiting) (id place : ℕ) (q : Waiting) → place < length ws → q ≡ get_or ws place q → (q.id ≡ id → ⊥) → IsNotBefore ws id place → IsNotBefore ws id (place + 1)
+not_the_next ws id place q low read other before k w within at is = elim (split ws place k q w (slice_get_read ws (length ws) place q refl low read) at within) [
+  | inl less ↦ before k w less at is
+  | inr same ↦ other (ap (λ (v : Waiting). v.id) (sym same) ∙ is)
+]
 
 -- one place further, where the request there doesn't fit
 pub passed_by : (limits : Limits) (newcomer : List Bio) (ws : List Waiting) (place : ℕ) (newest : Option ℕ) (w : Waiting) → slice_get ws place ≡ Some w → ((s : Side) → Fits limits w.bios newcomer s → ⊥) → IsNewestOf limits newcomer ws place newest → IsNewestOf limits newcomer ws (place + 1) newest

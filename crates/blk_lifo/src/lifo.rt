@@ -13,12 +13,11 @@ use blk_sched::{OpenPicks, Queued, Scheduler};
 use std::alloc::{AllocError, Allocator, Global};
 use std::marker::Model;
 
-/// Requests in the order in which they entered, how many picks of each direction are open, and the round.
+/// Requests in the order in which they entered, and how many picks of each direction are open.
 #[derive(Drop)]
 pub struct Lifo<A: Allocator = Global> {
     requests: Vec<Queued<A>, A>,
     open_picks: OpenPicks,
-    round: u64,
 }
 
 impl<A: Allocator> Model for Lifo<A> {
@@ -34,7 +33,6 @@ impl<A: Allocator> Model for Lifo<A> {
       pending = by_id s.requests.items;
       open_picks = s.open_picks;
       front = true;
-      round = s.round;
     } };
 
     ghost invariant = { λ s. AreDistinct s.requests.items };
@@ -43,14 +41,13 @@ impl<A: Allocator> Model for Lifo<A> {
 impl<A: Allocator + Clone> Lifo<A> {
     ghost use Rattle.std.specs.Prelude.{true};
 
-    /// A scheduler in which nothing waits and no pick is open, in round 0.
+    /// A scheduler in which nothing waits and no pick is open.
     pub fn new(alloc: A) -> Lifo<A>
         ensures { result ≡ at_start true }
     {
         Lifo {
             requests: Vec::new(alloc),
             open_picks: OpenPicks::none(),
-            round: 0,
         }
     }
 
@@ -169,7 +166,7 @@ impl<A: Allocator + Clone> Scheduler for Lifo<A> {
     }
 
     fn on_tick(&mut self, now: u64) {
-        self.round = now;
+        let _ = now;
     }
 
     fn pending(&self) -> u64 {

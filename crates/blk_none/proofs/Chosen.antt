@@ -25,7 +25,7 @@ chosen m hw id w best there =
 nothing_served : (m : Meaning) (hw : ℕ) → FindsNothing (served_of hw m.pending) → ServesNothing serves_own hw m
 nothing_served m hw none k v waits = not_served m.pending hw k v waits (none k)
 
-module _ (queues : Pending) (picks : OpenPicks) (round hw : ℕ) (self : Meaning) (v : meaning_with queues picks round ≡ self) where
+module _ (queues : Pending) (picks : OpenPicks) (hw : ℕ) (self : Meaning) (v : meaning_with queues picks ≡ self) where
   pub none_served : FindsNothing (served_of hw queues) → ServesNothing serves_own hw self
   none_served none = nothing_served self hw (subst (λ (m : Meaning). FindsNothing (served_of hw m.pending)) v none)
 
@@ -37,12 +37,12 @@ module _ (queues : Pending) (picks : OpenPicks) (round hw : ℕ) (self : Meaning
       (subst (λ (m : Meaning). IsFirst (served_of hw m.pending) id) v best)
       (sym (there ∙ ap (λ (m : Meaning). served_of hw m.pending id) v)))
 
-  pub picked : (left : Pending) (then : OpenPicks) (id : ℕ) (w : Waiting) → Some w ≡ served_of hw queues id → w.id ≡ id → left ≡ map.remove queues id → then ≡ opened (dir_of w.bios) picks → Picks serves_own hw self w (meaning_with left then round)
+  pub picked : (left : Pending) (then : OpenPicks) (id : ℕ) (w : Waiting) → Some w ≡ served_of hw queues id → w.id ≡ id → left ≡ map.remove queues id → then ≡ opened (dir_of w.bios) picks → Picks serves_own hw self w (meaning_with left then)
   picked left then id w there named removed opens =
       let f = serves_it hw (map.get queues id) w (sym there) in (
         ap (λ (m : Meaning). map.get m.pending w.id) (sym v) ∙ ap (map.get queues) named ∙ f.0,
         eq-eqb w.hw hw f.1,
-        ap (λ (x : Pending). meaning_with x then round) (removed ∙ ap (map.remove queues) (sym named))
-            ∙ ap (λ (p : OpenPicks). meaning_with (map.remove queues w.id) p round) opens
-            ∙ ap (λ (m : Meaning). let n : Meaning = record { pending = map.remove m.pending w.id; open_picks = opened (dir_of w.bios) m.open_picks; front = m.front; round = m.round } in n) v,
+        ap (λ (x : Pending). meaning_with x then) (removed ∙ ap (map.remove queues) (sym named))
+            ∙ ap (λ (p : OpenPicks). meaning_with (map.remove queues w.id) p) opens
+            ∙ ap (λ (m : Meaning). let n : Meaning = record { pending = map.remove m.pending w.id; open_picks = opened (dir_of w.bios) m.open_picks; front = m.front } in n) v,
       )

@@ -17,7 +17,6 @@ use std::marker::Model;
 pub struct NoneSched<A: Allocator = Global> {
     queues: Queues<A>,
     open_picks: OpenPicks,
-    round: u64,
 }
 
 impl<A: Allocator> Model for NoneSched<A> {
@@ -32,20 +31,18 @@ impl<A: Allocator> Model for NoneSched<A> {
       pending = s.queues;
       open_picks = s.open_picks;
       front = true;
-      round = s.round;
     } };
 }
 
 impl<A: Allocator + Clone> NoneSched<A> {
-    /// A scheduler for all hardware queues, in which nothing waits and no pick is open, in round 0. It is refused only
-    /// when out of memory.
+    /// A scheduler for all hardware queues, in which nothing waits and no pick is open. It is refused only when out of
+    /// memory.
     pub fn new(alloc: A) -> Result<NoneSched<A>, AllocError>
         ensures { IfOk result (λ s. s ≡ at_start true) }
     {
         Ok(NoneSched {
             queues: Queues::new(alloc)?,
             open_picks: OpenPicks::none(),
-            round: 0,
         })
     }
 }
@@ -101,7 +98,6 @@ impl<A: Allocator + Clone> Scheduler for NoneSched<A> {
     #[inline(always)]
     fn pick(&mut self, hw: u8, now: u64) -> Option<Queued<A>>
         requires hw { hw < MAX_QUEUES }
-        requires round { now ≡ self.old.round }
         requires few { self.old.open_picks.reads + self.old.open_picks.writes < MAX_OPEN }
         ensures chosen { none_chooses [] self.old hw now result [] }
         ensures choice { result ≡ none_choice hw self.old.pending }
@@ -135,7 +131,7 @@ impl<A: Allocator + Clone> Scheduler for NoneSched<A> {
     }
 
     fn on_tick(&mut self, now: u64) {
-        self.round = now;
+        let _ = now;
     }
 
     fn pending(&self) -> u64 {

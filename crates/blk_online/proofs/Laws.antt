@@ -14,7 +14,7 @@ use Rattle.blk_trace.specs.Depths.{depth_now, capacity_of}
 use Rattle.blk_trace.specs.Legal.{IsLegalTrace}
 use Rattle.blk_trace.specs.Meaning.{served, issued_ids, commands_of, rounds_of, release_of, due_of, command_of}
 use Rattle.blk_trace.proofs.Newness.{get_at}
-use Rattle.blk_trace.proofs.Returns.{map_length}
+use Rattle.blk_trace.proofs.Requeues.{map_length}
 use Rattle.blk_trace.proofs.Scheduling.{legal-schedule}
 use Rattle.blk_trace.proofs.Bounds.{bounded}
 use Rattle.blk_online.specs.Meetable.{IsMeetableFirst}

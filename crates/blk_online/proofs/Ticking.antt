@@ -18,7 +18,7 @@ use Rattle.blk_trace.specs.Waits.{has_id, waits_at}
 use Rattle.blk_trace.proofs.Newness.{in_either, get_at}
 use Rattle.blk_trace.proofs.Ids.{released_has, released_first, has_issued}
 use Rattle.blk_trace.proofs.Counting.{count-cons}
-use Rattle.blk_trace.proofs.Returning.{distinct, absent}
+use Rattle.blk_trace.proofs.Requeuing.{distinct, absent}
 use Rattle.blk_trace.proofs.Waiting.{waits_from}
 use Rattle.blk_trace.proofs.Entering.{same_entered, has_released_same}
 use Rattle.blk_trace.proofs.Commands.{same_command}

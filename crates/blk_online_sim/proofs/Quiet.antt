@@ -52,14 +52,6 @@ used_before es e tag none quiet used =
       | inr last ↦ absurd (issues_not e quiet used.id tag last.1)
     ]
 
--- of an Issue
-pub used_then : (es : List Happened) (id tag t : ℕ) → IsUsed (es ++ Issue id tag ∷ []) t → (IsUsed es t → ⊥) → t ≡ tag
-used_then es id tag t used fresh =
-    elim (split es (Issue id tag) used.place (Issue used.id t) used.issued) [
-      | inl old ↦ absurd (fresh (record { place = used.place; id = used.id; issued = old; now = sym (round_old es (Issue id tag) (Issue used.id t) used.place old) ∙ used.now ∙ same_round es (Issue id tag) refl }))
-      | inr last ↦ let same : ◌≡◌ {A = Happened} (Issue id tag) (Issue used.id t) = last.1 in cc
-    ]
-
 pub used_or : (es : List Happened) (id tag t n : ℕ) → ((u : ℕ) → IsUsed es u → u < n) → tag < n → IsUsed (es ++ Issue id tag ∷ []) t → t < n
 used_or es id tag t n below low used =
     elim (split es (Issue id tag) used.place (Issue used.id t) used.issued) [

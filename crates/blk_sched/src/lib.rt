@@ -78,13 +78,13 @@ pub enum JoinRefusal {
 }
 
 /// A scheduler: requests that wait, which it hands out one by one, in the way of Linux blk-mq's elevators.
-/// Its laws are the clauses of its methods. Every hardware queue is below `MAX_QUEUES`, and times are in rounds.
+/// Its laws are the clauses of its methods. Every hardware queue is below `MAX_QUEUES`, and times are in rounds: as `now` a
+/// core passes its round, which rises from tick to tick.
 pub trait Scheduler: Drop {
     /// What its requests are allocated by.
     type A: Allocator + Clone;
 
-    /// What waits, how many picks of each direction are open or requeued, whether a newcomer may join at the front, and
-    /// the round.
+    /// What waits, how many picks of each direction are open or requeued, and whether a newcomer may join at the front.
     ghost meaning: { Self → Meaning };
 
     /// What it does by its own rules: which requests a pick may take, which it chooses, and what it keeps after a
@@ -140,7 +140,6 @@ pub trait Scheduler: Drop {
         slot: &mut Option<Request<Self::A>>,
     ) -> Result<(), AllocError>
         requires hw { hw < MAX_QUEUES }
-        requires round { now ≡ (meaning self.old).round }
         requires some { IsSome slot.old }
         requires stands { IfSome slot.old (λ newcomer. HasCandidate policy.serves hw limits.now newcomer (meaning self.old) id side) }
         ensures joined { OnOk result (IfSome slot.old (JoinsBy policy.serves hw now limits.now (meaning self.old) id side (meaning self.new))) }
@@ -148,7 +147,7 @@ pub trait Scheduler: Drop {
         ensures err { OnErr result (slot.new ≡ slot.old) }
         ensures same { OnErr result (self.new ≡ self.old) };
 
-    /// Joins a newcomer to the request of an id at a side, which must be its candidate: `now`, which is the round,
+    /// Joins a newcomer to the request of an id at a side, which must be its candidate: `now`, the core's round,
     /// becomes that request's release; its id, hardware queue and due round stay. It fails only when out of memory:
     /// nothing is changed then, and the newcomer comes back.
     final fn join(
@@ -161,7 +160,6 @@ pub trait Scheduler: Drop {
         newcomer: Request<Self::A>,
     ) -> Result<(), (Request<Self::A>, AllocError)>
         requires hw { hw < MAX_QUEUES }
-        requires round { now ≡ (meaning self.old).round }
         requires stands { HasCandidate policy.serves hw limits.now newcomer (meaning self.old) id side }
         ensures joined { OnOk result (Joins policy.serves hw now limits.now newcomer (meaning self.old) id side (meaning self.new)) }
         ensures kept { OnOk result (Self.kept self.new ≡ Self.kept self.old) }
@@ -175,7 +173,7 @@ pub trait Scheduler: Drop {
         }
     }
 
-    /// Joins a newcomer to the newest request served for the hardware queue that it fits: `now`, which is the round,
+    /// Joins a newcomer to the newest request served for the hardware queue that it fits: `now`, the core's round,
     /// becomes that request's release; its id, hardware queue and due round stay. Answers the request's id and the side.
     ///
     /// Refused as `NoFit` exactly where it fits none of them, at the back or, where the scheduler allows it, at the
@@ -189,7 +187,6 @@ pub trait Scheduler: Drop {
         newcomer: Request<Self::A>,
     ) -> Result<(u64, Side), (Request<Self::A>, JoinRefusal)>
         requires hw { hw < MAX_QUEUES }
-        requires round { now ≡ (meaning self.old).round }
         ensures joined { IfOk result (λ r. Joins policy.serves hw now limits.now newcomer (meaning self.old) r.0 r.1 (meaning self.new)) }
         ensures kept { OnOk result (Self.kept self.new ≡ Self.kept self.old) }
         ensures no_fit { IfErr result (λ e. (e.1 ≡ JoinRefusal.NoFit) ↔ HasNoCandidate policy.serves hw limits.now newcomer (meaning self.old)) }
@@ -207,11 +204,10 @@ pub trait Scheduler: Drop {
 
     /// Takes out one request that is served for the hardware queue and opens one pick of its direction: the one that the
     /// scheduler chooses. None only where a pick is open or requeued, of either direction, or no served request waits.
-    /// Each request is served for the hardware queue that it entered at, at least. `now` must be the round, and fewer
-    /// than [`MAX_OPEN`] picks be open.
+    /// Each request is served for the hardware queue that it entered at, at least. `now` is the core's round, and fewer
+    /// than [`MAX_OPEN`] picks may be open.
     fn pick(&mut self, hw: u8, now: u64) -> Option<Queued<Self::A>>
         requires hw { hw < MAX_QUEUES }
-        requires round { now ≡ (meaning self.old).round }
         requires few { (meaning self.old).open_picks.reads + (meaning self.old).open_picks.writes < MAX_OPEN }
         ensures chosen { policy.chooses (Self.kept self.old) (meaning self.old) hw now result (Self.kept self.new) }
         ensures picked { IfSome result (λ w. Picks policy.serves hw (meaning self.old) w (meaning self.new)) }
@@ -244,10 +240,9 @@ pub trait Scheduler: Drop {
         ensures again { RequeuesPick dir (meaning self.new) (meaning self.old) }
         ensures kept { Self.kept self.new ≡ Self.kept self.old };
 
-    /// Begins the round `now`, which must be a later one.
+    /// Begins the round `now`: the core's, which rises from tick to tick. What waits and the picks stay as they are.
     fn on_tick(&mut self, now: u64)
-        requires { (meaning self.old).round < now }
-        ensures round { meaning self.new ≡ record (meaning self.old) { round = now } }
+        ensures same { meaning self.new ≡ meaning self.old }
         ensures told { policy.told_tick now (Self.kept self.old) (Self.kept self.new) };
 
     /// How many requests wait.

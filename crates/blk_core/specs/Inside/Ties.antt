@@ -47,7 +47,7 @@ abbrev pub Requeues : {A : Type 0} → TagState A → List (List Waiting) → Ta
 Requeues old held new new_held =
     IfInFlight old (λ hw w. (new ≡ Spent (dir_of w.bios)) × (new_held ≡ slice_set held hw (held_in held hw ++ w ∷ [])))
 
--- a scheduler may pick none for a hardware queue: a pick is open or was handed back, or it serves nothing for this one
+-- a scheduler may pick none for a hardware queue: a pick is open or requeued, or it serves nothing for this one
 abbrev pub MayPickNone : (ℕ → Waiting → Bool) → ℕ → Meaning → Type 0
 MayPickNone serves hw m = (0 < unfinished m.open_picks) ⊎ ServesNothing serves hw m
 

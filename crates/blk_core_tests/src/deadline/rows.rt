@@ -125,7 +125,7 @@ fn later_than_none(rt: HostRuntime) {
     follows(&rt, rt.alloc(), 1, 0, tuned(16, 2, true), &calls);
 }
 
-/// What is handed back goes out first, and the batch goes on from where it was.
+/// What is requeued goes out first, and the batch goes on from where it was.
 #[test]
 fn handed_back_in_a_batch(rt: HostRuntime) {
     let calls = [

@@ -123,7 +123,7 @@ fn constructors_refuse(rt: HostRuntime) {
     assert!(rt; Kyber::new(rt.alloc(), targets(1, 1), 1).is_ok());
 }
 
-/// What is handed back counts as in flight: under a limit of one another queue's read stays, until it is done.
+/// What is requeued counts as in flight: under a limit of one another queue's read stays, until it is done.
 #[test]
 fn handed_back_before_another_queue(rt: HostRuntime) {
     let calls = [

@@ -1,6 +1,9 @@
 use Rattle.std.proofs.Common.{rules, length, arith}
-use Rattle.blk_core.proofs.Flights.{freed}
+use Rattle.blk_core.proofs.Flights.{freed, one_freed}
 use Rattle.blk_core.proofs.tags.clear.Goals as goal
+
+pub loop-tag-preserved : goal.loop-tag-preserved
+loop-tag-preserved g c = one_freed c.loop-tag.tags c.loop-tag.tag-index (omega (arith, c.loop-tag-test.true, c.loop-tag.auto.tags)) c.loop-tag.invariant
 
 pub returns : goal.returns
 returns g c = freed c.loop-tag.tags (length c.args.tags.now) (search rules) (λ k h. c.loop-tag.invariant k (omega (arith, c.loop-tag-test.false)))

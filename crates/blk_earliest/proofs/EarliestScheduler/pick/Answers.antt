@@ -6,6 +6,6 @@ use Rattle.blk_earliest.proofs.EarliestScheduler.pick.Goals as goal
 
 pub returns-clause-picked : goal.returns-clause-picked
 returns-clause-picked g c =
-    picks c.args.self.now.waiting c.remove.new.self c.args.self.now.round c.args.hw c.in-Some.id c.args.self.now.open_picks c.open.new.self c.in-Some-remove.queued
+    picks c.args.self.now.waiting c.remove.new.self c.args.hw c.in-Some.id c.args.self.now.open_picks c.open.new.self c.in-Some-remove.queued
     c.remove.ensures.named (sym c.remove.ensures.value ∙ c.in-Some-remove.is) c.remove.ensures.removed
     (c.open.ensures ∙ ap (λ d. opened d c.args.self.now.open_picks) (c.dir.ensures ∙ ap (λ (x : Waiting). dir_of x.bios) c.queued.view_is))

@@ -2,19 +2,15 @@ use Rattle.std.proofs.Common.{refl, ℕ, ◌≡◌, ◌∙◌, sym, ap, subst, a
 use Rattle.std.proofs.Math.ListN.{replicate}
 use Rattle.blk_trace.specs.declared.event.Event.TheVariants.{Tick}
 use Rattle.blk_trace.specs.Events.{open_count, round_of}
-use Rattle.blk_sched.specs.Meaning.{Meaning}
 use Rattle.blk_core.specs.Inside.Ties.{flight_of}
 use Rattle.blk_sched.specs.Policies.{OfTick}
 use Rattle.blk_core.specs.declared.tags.TagState.TheVariants.{Free}
 use Rattle.blk_core.proofs.Pushed.{IsPushed, pushed, unbroken, ready_for}
-use Rattle.blk_core.proofs.Ties.{tied_tick, tick_allowed, round_next, none_in_flight}
+use Rattle.blk_core.proofs.Ties.{tied_tick, tick_allowed, none_in_flight}
 use Rattle.blk_core.proofs.Flights.{put_back, free_flights}
 use Rattle.blk_core.proofs.calls.Core.tick.Goals as goal
 
 -- what is said of the code's round is said of the trace's
-ticked_at : (old new : Meaning) (now round : ℕ) → now ≡ round → new ≡ record old { round = now } → new ≡ record old { round = round }
-ticked_at old new now round is h = subst (λ n. new ≡ record old { round = n }) is h
-
 told_at : (told : OfTick) (now round : ℕ) (kept then : List ℕ) → now ≡ round → told now kept then → told round kept then
 told_at told now round kept then is h = subst (λ n. told n kept then) is h
 
@@ -28,17 +24,11 @@ add-requires-clause-unbroken g c =
 pub add-requires-clause-prepared : goal.add-requires-clause-prepared
 add-requires-clause-prepared g c = ready_for c.self.inside.trace.setup c.self.inside.trace.events c.prepare.new.trace _ Tick c.in-Ok.ensures.ok tt
 
-pub on_tick-requires : goal.on_tick-requires
-on_tick-requires g c =
-    round_next c.self.inside.trace.setup c.add.new.self.setup c.self.inside.trace.events c.add.new.self.events (g.S.Scheduler.meaning c.self.inside.scheduler) c.self.inside.tags.items c.self.inside.held c.self.inside.released c.round-now.result c.self.invariant
-    (pushed c.self.inside.trace.setup c.self.inside.trace.events c.prepare.new.trace c.add.new.self Tick _ _ c.in-Ok.ensures.ok c.add.ensures.added c.add.ensures.legal)
-    c.round-now.ensures.value
-
 pub invariant_of-self-2 : goal.invariant_of-self-2
 invariant_of-self-2 g c =
-    tied_tick c.self.inside.trace.setup c.add.new.self.setup c.self.inside.trace.events c.add.new.self.events (g.S.Scheduler.meaning c.self.inside.scheduler) (g.S.Scheduler.meaning c.on_tick.new.self) c.self.inside.tags.items _ c.self.inside.held c.self.inside.released c.round-now.result
+    tied_tick c.self.inside.trace.setup c.add.new.self.setup c.self.inside.trace.events c.add.new.self.events (g.S.Scheduler.meaning c.self.inside.scheduler) (g.S.Scheduler.meaning c.on_tick.new.self) c.self.inside.tags.items _ c.self.inside.held c.self.inside.released
     (pushed c.self.inside.trace.setup c.self.inside.trace.events c.prepare.new.trace c.add.new.self Tick _ _ c.in-Ok.ensures.ok c.add.ensures.added c.add.ensures.legal)
-    c.self.invariant c.on_tick.ensures.round c.round-now.ensures.value
+    c.self.invariant c.on_tick.ensures.same
     (put_back Free c.clear.new.tags c.self.inside.tags.items c.self.inside.tags.len (length c.self.inside.tags.items) (c.clear.ensures ∙ ap (λ x. replicate (length x) Free) c.deref_mut.ensures.value) (sym c.deref_mut.ensures.len ∙ ap length c.deref_mut.ensures.value))
 
 pub returns-clause-ended : goal.returns-clause-ended
@@ -47,7 +37,7 @@ returns-clause-ended g c =
     let p : IsPushed c.self.inside.trace.setup c.self.inside.trace.events Tick c.add.new.self.setup c.add.new.self.events = pushed c.self.inside.trace.setup c.self.inside.trace.events c.prepare.new.trace c.add.new.self Tick _ _ c.in-Ok.ensures.ok c.add.ensures.added c.add.ensures.legal in
     rw (← c.self.view_is) (
       (p.same, p.added),
-      ticked_at (g.S.Scheduler.meaning c.self.inside.scheduler) (g.S.Scheduler.meaning c.on_tick.new.self) c.round-now.result (round_of c.add.new.self.events) c.round-now.ensures.value c.on_tick.ensures.round,
+      c.on_tick.ensures.same,
       told_at g.S.Scheduler.policy.told_tick c.round-now.result (round_of c.add.new.self.events) (g.S.Scheduler.kept c.self.inside.scheduler) (g.S.Scheduler.kept c.on_tick.new.self) c.round-now.ensures.value c.on_tick.ensures.told,
       ap (map flight_of) (put_back Free c.clear.new.tags c.self.inside.tags.items c.self.inside.tags.len (length c.self.inside.tags.items) (c.clear.ensures ∙ ap (λ x. replicate (length x) Free) c.deref_mut.ensures.value) (sym c.deref_mut.ensures.len ∙ ap length c.deref_mut.ensures.value))
           ∙ free_flights _ (length c.self.inside.tags.items)

@@ -10,7 +10,7 @@ invariant_of-self g c =
     elim c.match-push.branch [
       | in-Ok w ↦
           let items : c.push.new.self.items ≡ c.self.inside.requests.items ++ c.args.queued ∷ [] = search rules in
-          subst AreDistinct (sym items) (distinct_pushed c.self.inside.requests.items c.args.queued c.self.invariant (new_id c.self.inside.requests.items c.self.inside.open_picks c.self.inside.round c.args.self.now c.args.queued c.self.view_is c.requires))
+          subst AreDistinct (sym items) (distinct_pushed c.self.inside.requests.items c.args.queued c.self.invariant (new_id c.self.inside.requests.items c.self.inside.open_picks c.args.self.now c.args.queued c.self.view_is c.requires))
       | in-Err w ↦
           let items : c.push.new.self.items ≡ c.self.inside.requests.items = search rules in
           subst AreDistinct (sym items) c.self.invariant
@@ -21,6 +21,6 @@ returns-clause-ok g c =
     elim c.match-push.branch [
       | in-Ok w ↦
           let items : c.push.new.self.items ≡ c.self.inside.requests.items ++ c.args.queued ∷ [] = search rules in
-          rw w.result-is (ap (λ l. view l c.self.inside.open_picks c.self.inside.round) items ∙ entered c.self.inside.requests.items c.self.inside.open_picks c.self.inside.round c.args.self.now c.args.queued c.self.view_is c.requires)
+          rw w.result-is (ap (λ l. view l c.self.inside.open_picks) items ∙ entered c.self.inside.requests.items c.self.inside.open_picks c.args.self.now c.args.queued c.self.view_is c.requires)
       | in-Err w ↦ rw w.result-is tt
     ]

@@ -8,7 +8,7 @@ use Rattle.blk_lifo.proofs.lifo.Lifo.join.Goals as goal
 pub place_of-place-requires : goal.place_of-place-requires
 place_of-place-requires g c =
     subst (λ (l : List Waiting). IsSome (found l c.args.id)) (sym c.as_slice.ensures.value)
-    (is_found c.self.inside.requests.items c.self.inside.open_picks c.self.inside.round c.args.self.now c.args.limits.now c.args.newcomer c.args.hw c.args.id c.args.side c.self.view_is c.requires)
+    (is_found c.self.inside.requests.items c.self.inside.open_picks c.args.self.now c.args.limits.now c.args.newcomer c.args.hw c.args.id c.args.side c.self.view_is c.requires)
 
 pub join_place-requires : goal.join_place-requires
 join_place-requires g c = place_within c.self.inside.requests.items c.as_slice.result.now c.args.id c.place_of-place.result c.as_slice.ensures.value c.place_of-place.ensures
@@ -20,4 +20,4 @@ invariant_of-self g c =
 pub returns-clause-joined : goal.returns-clause-joined
 returns-clause-joined g c =
     then_ok c.join_place.result c.join_place.ensures.ok
-    (joins c.self.inside.requests.items c.as_slice.result.now c.join_place.new.requests.items c.self.inside.open_picks c.self.inside.round c.args.self.now c.args.limits.now c.args.newcomer c.args.hw c.args.now c.place_of-place.result c.args.id c.args.side c.self.view_is c.self.invariant c.as_slice.ensures.value c.requires c.place_of-place.ensures)
+    (joins c.self.inside.requests.items c.as_slice.result.now c.join_place.new.requests.items c.self.inside.open_picks c.args.self.now c.args.limits.now c.args.newcomer c.args.hw c.args.now c.place_of-place.result c.args.id c.args.side c.self.view_is c.self.invariant c.as_slice.ensures.value c.requires c.place_of-place.ensures)

@@ -5,4 +5,4 @@ use Rattle.blk_lifo.proofs.lifo.LifoScheduler.pending.Goals as goal
 pub returns : goal.returns
 returns g c =
     let counted : c.len.result ≡ length c.self.inside.requests.items = search rules in
-    counted ∙ count_is c.self.inside.requests.items c.self.inside.open_picks c.self.inside.round c.args.self.now c.self.view_is c.self.invariant
+    counted ∙ count_is c.self.inside.requests.items c.self.inside.open_picks c.args.self.now c.self.view_is c.self.invariant
