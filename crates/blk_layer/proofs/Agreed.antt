@@ -1,10 +1,13 @@
--- What keys say of the bios and the commands whose keys they are.
-use Rattle.std.proofs.Common.{◌≡◌, ◌∙◌, ◌+◌, ◌<◌, ◌≤◌, ◌≢◌, cond, ℕ, zero, suc, sym, ap, refl, subst, arith, inl, true, List, [], ◌∷◌, ◌++◌, Option, Some, None, length, take, drop, get_or, count_by, map, IsPermutation, append_assoc, Contains}
-use Rattle.std.specs.Prelude.{slice_get, IfNone, IfSome, OnOk, Result, Ok, Err}
+-- What counts say of the bios and the commands that are counted.
+use Rattle.std.proofs.Common.{◌==◌, ◌&&◌, ◌≡◌, ◌∙◌, ◌<◌, ◌≢◌, Bool, true, false, ℕ, sym, ap, refl, subst, arith, inl, List, ◌++◌, Option, Some, None, length, take, drop, get_or, count_by, map, IsPermutation, append_assoc, Contains}
+use Rattle.std.specs.Prelude.{IfNone, IfSome, OnOk, Result, Ok, Err}
+use Rattle.std.proofs.lemmas.Bool.{eqb-true, eq-eqb}
 use Rattle.std.proofs.lemmas.List.{take-append-le, take_all}
+use Rattle.std.proofs.lemmas.Option.{get_or_from_slice_get, slice_get_within}
 use Rattle.std.proofs.lemmas.List.Sorted.{IsPermutation-refl, IsPermutation-sym, IsPermutation-trans, IsPermutation-append, IsPermutation-append_comm}
 use Rattle.edd_commands.specs.declared.Command.{Command}
 use Rattle.blk_bio.specs.Bios.{Bio}
+use Rattle.blk_bio.specs.contracts.bio.BioPartialEq.TheImpl as equality
 use Rattle.blk_bio.specs.declared.bio.Dir.{Dir}
 use Rattle.blk_bio.specs.declared.bio.Dir.TheVariants.{Read, Write}
 use Rattle.blk_trace.specs.Happened.{Happened}
@@ -14,12 +17,10 @@ use Rattle.blk_trace.specs.Laws.{IsAccounted}
 use Rattle.blk_trace.specs.Meaning.{command_of, waiting_of}
 use Rattle.blk_trace.specs.Waits.{has_id}
 use Rattle.blk_layer.specs.Closing.{way_of, is_bio_of, is_command, issued_bios, done_ids, done_commands, all_accepted, all_ran, AreAllThere, AreSettled, AreCounted, IsBioOf, DiffersAsCommand, Disagrees}
-use Rattle.blk_layer.specs.declared.closing.Key.{Key}
-use Rattle.blk_layer.specs.Inside.Closing.{is_key, times, bio_key, command_key, IsExtra}
+use Rattle.blk_layer.specs.Inside.Closing.{IsExact, times, IsExtra, HasEach}
 use Rattle.blk_bio.specs.declared.bio.BioId.{BioId}
 use Rattle.blk_layer.specs.Seats.{SubmitterSeat, WorkerSeat}
-use Rattle.blk_layer.proofs.Times.{key_is, key_self}
-use Rattle.blk_layer.proofs.Same.{no_rest, each_as_many, count_moved, count_cons}
+use Rattle.blk_layer.proofs.Same.{no_rest, each_as_many, count_moved}
 use Rattle.blk_layer.proofs.Gathered.{done_map, mapped_at, mapped_length, id_there, own_default}
 
 way_is : (x y : Dir) → way_of x ≡ way_of y → x ≡ y
@@ -28,88 +29,85 @@ way_is Read Write e = absurd (omega (arith, e))
 way_is Write Read e = absurd (omega (arith, e))
 way_is Write Write e = refl
 
-pub bio_is : (x y : Bio) → is_bio_of x y ≡ true → x ≡ y
+-- both parts of a test
+both : (a b : Bool) → (a && b) ≡ true → (a ≡ true) × (b ≡ true)
+both true b e = (refl, e)
+both false b e = let n : false ≡ true = e in absurd (cc)
+
+eqb_self : (n : ℕ) → (n == n) ≡ true
+eqb_self n = eq-eqb n n refl
+
+-- the test of two bios holds just of one and the same, and that of two commands
+bio_is : (x y : Bio) → is_bio_of x y ≡ true → x ≡ y
 bio_is x y e =
-    let l : bio_key x ≡ bio_key y = key_is (bio_key x) (bio_key y) e in
-    let o : x.id.submitter ≡ y.id.submitter = ap (λ (z : Key). z.owner) l in
-    let n : x.id.serial ≡ y.id.serial = ap (λ (z : Key). z.number) l in
-    let w : x.dir ≡ y.dir = way_is x.dir y.dir (ap (λ (z : Key). z.way) l) in
-    let f : x.first ≡ y.first = ap (λ (z : Key). z.from) l in
-    let t : x.sectors ≡ y.sectors = ap (λ (z : Key). z.to) l in
+    let a = both ((x.id.submitter == y.id.submitter) && (x.id.serial == y.id.serial)) ((way_of x.dir == way_of y.dir) && ((x.first == y.first) && (x.sectors == y.sectors))) e in
+    let b = both (x.id.submitter == y.id.submitter) (x.id.serial == y.id.serial) a.0 in
+    let c = both (way_of x.dir == way_of y.dir) ((x.first == y.first) && (x.sectors == y.sectors)) a.1 in
+    let d = both (x.first == y.first) (x.sectors == y.sectors) c.1 in
+    let o : x.id.submitter ≡ y.id.submitter = eqb-true x.id.submitter y.id.submitter b.0 in
+    let n : x.id.serial ≡ y.id.serial = eqb-true x.id.serial y.id.serial b.1 in
+    let w : x.dir ≡ y.dir = way_is x.dir y.dir (eqb-true (way_of x.dir) (way_of y.dir) c.0) in
+    let f : x.first ≡ y.first = eqb-true x.first y.first d.0 in
+    let t : x.sectors ≡ y.sectors = eqb-true x.sectors y.sectors d.1 in
     λ i. record { id = record { submitter = o i; serial = n i }; dir = w i; first = f i; sectors = t i }
 
-pub bio_self : (x : Bio) → is_bio_of x x ≡ true
-bio_self x = key_self (bio_key x)
+bio_exact : IsExact is_bio_of
+bio_exact = record {
+  only = bio_is;
+  self = λ x. rw (eqb_self x.id.submitter, eqb_self x.id.serial, eqb_self (way_of x.dir), eqb_self x.first, eqb_self x.sectors) refl;
+}
 
-pub command_is : (x y : Command) → is_command x y ≡ true → x ≡ y
+-- what `==` computes of two bios is that test
+abbrev pub bio_equal : Bio → Bio → Bool
+bio_equal = (equality.ghosts).eq
+
+by_parts : (i j : BioId) (v w : Dir) (f g s t : ℕ) → bio_equal (record { id = i; dir = v; first = f; sectors = s }) (record { id = j; dir = w; first = g; sectors = t })
+    ≡ is_bio_of (record { id = i; dir = v; first = f; sectors = s }) (record { id = j; dir = w; first = g; sectors = t })
+by_parts i j Read Read f g s t = refl
+by_parts i j Read Write f g s t = refl
+by_parts i j Write Read f g s t = refl
+by_parts i j Write Write f g s t = refl
+
+bio_like : bio_equal ≡ is_bio_of
+bio_like = λ k x y. by_parts x.id y.id x.dir y.dir x.first y.first x.sectors y.sectors k
+
+pub equal_exact : IsExact bio_equal
+equal_exact = subst (λ (same : Bio → Bio → Bool). IsExact same) (sym bio_like) bio_exact
+
+pub bio_extra : (xs ys : List Bio) (place : ℕ) → IsExtra bio_equal xs ys place → IsExtra is_bio_of xs ys place
+bio_extra xs ys place = subst (λ (same : Bio → Bio → Bool). IsExtra same xs ys place) bio_like
+
+command_is : (x y : Command) → is_command x y ≡ true → x ≡ y
 command_is x y e =
-    let l : command_key x ≡ command_key y = key_is (command_key x) (command_key y) e in
-    let n : x.id ≡ y.id = ap (λ (z : Key). z.number) l in
-    let f : x.release ≡ y.release = ap (λ (z : Key). z.from) l in
-    let t : x.due ≡ y.due = ap (λ (z : Key). z.to) l in
+    let a = both (x.id == y.id) ((x.release == y.release) && (x.due == y.due)) e in
+    let b = both (x.release == y.release) (x.due == y.due) a.1 in
+    let n : x.id ≡ y.id = eqb-true x.id y.id a.0 in
+    let f : x.release ≡ y.release = eqb-true x.release y.release b.0 in
+    let t : x.due ≡ y.due = eqb-true x.due y.due b.1 in
     λ i. record { id = n i; release = f i; due = t i }
 
-pub command_self : (x : Command) → is_command x x ≡ true
-command_self x = key_self (command_key x)
+pub command_exact : IsExact is_command
+command_exact = record { only = command_is; self = λ x. rw (eqb_self x.id, eqb_self x.release, eqb_self x.due) refl }
 
--- a key stands as many times as what it is the key of
-times_bios : (b : Bio) (bios : List Bio) → times (bio_key b) (map bio_key bios) ≡ count_by (is_bio_of b) bios
-unfolding times
-times_bios b [] = refl
-times_bios b (c ∷ bios) = count_cons (is_key (bio_key b)) (bio_key c) (map bio_key bios) ∙ ap (λ n. cond (is_bio_of b c) 1 0 + n) (times_bios b bios) ∙ sym (count_cons (is_bio_of b) c bios)
+module _ {X : Type 0} (same : X → X → Bool) where
+  -- the element at the place stands more times in the one list
+  pub extra_low : (xs ys : List X) (place : ℕ) → IsExtra same xs ys place → place < length xs
+  extra_low xs ys place extra = slice_get_within xs place extra.0 extra.1
 
-times_commands : (b : Command) (commands : List Command) → times (command_key b) (map command_key commands) ≡ count_by (is_command b) commands
-unfolding times
-times_commands b [] = refl
-times_commands b (c ∷ commands) = count_cons (is_key (command_key b)) (command_key c) (map command_key commands) ∙ ap (λ n. cond (is_command b c) 1 0 + n) (times_commands b commands) ∙ sym (count_cons (is_command b) c commands)
+  pub extra_at : (xs ys : List X) (place : ℕ) (x : X) → IsExtra same xs ys place → x ≡ get_or xs place x → count_by (same x) ys < count_by (same x) xs
+  unfolding times
+  extra_at xs ys place x extra is =
+      let here : x ≡ extra.0 = is ∙ get_or_from_slice_get xs place extra.0 x extra.1 in
+      subst (λ (z : X). count_by (same z) ys < count_by (same z) xs) (sym here) extra.2
 
--- the element of a mapped list that stands at a place
-picked : {X Y : Type 0} (f : X → Y) (xs : List X) (place : ℕ) (y : Y) → slice_get (map f xs) place ≡ Some y → (place < length xs) × ((d : X) → f (get_or xs place d) ≡ y)
-picked f [] place y at = absurd (cc)
-picked f (x ∷ xs) zero y at = (omega arith, λ d. cc)
-picked f (x ∷ xs) (suc place) y at = let r = picked f xs place y at in (omega (arith, r.0), r.1)
+  -- lists that have each element at least as many times as the other, and lists of one length of which the one does
+  pub agree : IsExact same → (xs ys : List X) → HasEach same ys xs → HasEach same xs ys → IsPermutation xs ys
+  unfolding times
+  agree exact xs ys le ge = each_as_many same exact.only exact.self xs ys le ge
 
--- the bio at the place stands more times in the one list
-pub bio_extra : (xs ys : List Bio) (ls ms : List Key) (place : ℕ) → ls ≡ map bio_key xs → ms ≡ map bio_key ys → IsExtra ls ms place
-    → (place < length xs) × ((d : Bio) → count_by (is_bio_of (get_or xs place d)) ys < count_by (is_bio_of (get_or xs place d)) xs)
-bio_extra xs ys ls ms place one two extra =
-    let p = picked bio_key xs place extra.0 (ap (λ l. slice_get l place) (sym one) ∙ extra.1) in (
-      p.0,
-      λ d.
-          let b : Bio = get_or xs place d in
-          let here : times (bio_key b) ls ≡ count_by (is_bio_of b) xs = ap (times (bio_key b)) one ∙ times_bios b xs in
-          let there : times (bio_key b) ms ≡ count_by (is_bio_of b) ys = ap (times (bio_key b)) two ∙ times_bios b ys in
-          let more : times (bio_key b) ms < times (bio_key b) ls = subst (λ (l : Key). times l ms < times l ls) (sym (p.1 d)) extra.2 in
-          omega (arith, here, there, more),
-    )
-
--- the command at the place stands more times in the one list
-pub command_extra : (xs ys : List Command) (ls ms : List Key) (place : ℕ) → ls ≡ map command_key xs → ms ≡ map command_key ys → IsExtra ls ms place
-    → (place < length xs) × ((d : Command) → count_by (is_command (get_or xs place d)) ys < count_by (is_command (get_or xs place d)) xs)
-command_extra xs ys ls ms place one two extra =
-    let p = picked command_key xs place extra.0 (ap (λ l. slice_get l place) (sym one) ∙ extra.1) in (
-      p.0,
-      λ d.
-          let b : Command = get_or xs place d in
-          let here : times (command_key b) ls ≡ count_by (is_command b) xs = ap (times (command_key b)) one ∙ times_commands b xs in
-          let there : times (command_key b) ms ≡ count_by (is_command b) ys = ap (times (command_key b)) two ∙ times_commands b ys in
-          let more : times (command_key b) ms < times (command_key b) ls = subst (λ (l : Key). times l ms < times l ls) (sym (p.1 d)) extra.2 in
-          omega (arith, here, there, more),
-    )
-
--- lists of bios whose keys stand as many times
-pub bios_agree : (xs ys : List Bio) (ls ms : List Key) → ls ≡ map bio_key xs → ms ≡ map bio_key ys → ((l : Key) → times l ls ≤ times l ms) → ((l : Key) → times l ms ≤ times l ls) → IsPermutation xs ys
-bios_agree xs ys ls ms one two le ge =
-    let here : (b : Bio) → times (bio_key b) ls ≡ count_by (is_bio_of b) xs = λ b. ap (times (bio_key b)) one ∙ times_bios b xs in
-    let there : (b : Bio) → times (bio_key b) ms ≡ count_by (is_bio_of b) ys = λ b. ap (times (bio_key b)) two ∙ times_bios b ys in
-    each_as_many is_bio_of bio_is bio_self xs ys (λ b. omega (arith, here b, there b, le (bio_key b))) (λ b. omega (arith, here b, there b, ge (bio_key b)))
-
--- lists of as many commands, of which the one has each key at least as many times
-pub commands_agree : (done ran : List Command) (ls ms : List Key) → ls ≡ map command_key done → ms ≡ map command_key ran → ((l : Key) → times l ls ≤ times l ms) → length ran ≡ length done → IsPermutation ran done
-commands_agree done ran ls ms one two le as_many =
-    let here : (b : Command) → times (command_key b) ls ≡ count_by (is_command b) done = λ b. ap (times (command_key b)) one ∙ times_commands b done in
-    let there : (b : Command) → times (command_key b) ms ≡ count_by (is_command b) ran = λ b. ap (times (command_key b)) two ∙ times_commands b ran in
-    IsPermutation-sym done ran (no_rest is_command command_is command_self done ran (λ b. omega (arith, here b, there b, le (command_key b))) (omega (arith, as_many)))
+  pub agree_long : IsExact same → (xs ys : List X) → HasEach same ys xs → length ys ≡ length xs → IsPermutation ys xs
+  unfolding times
+  agree_long exact xs ys le as_many = IsPermutation-sym xs ys (no_rest same exact.only exact.self xs ys le (omega (arith, as_many)))
 
 -- the bios that entered and those of the queues are those that were issued and those left
 pub stored_is : (es : List Happened) (queued : List Bio) → IsAccounted es → IsPermutation (entered es ++ queued) (issued_bios es ++ (queued ++ waiting_of es))
@@ -170,10 +168,6 @@ some_of None P x e h = absurd (cc)
 some_of (Some y) P x e h =
     let is : y ≡ x = cc in
     subst P is h
-
--- the bio and the command that stand at the place
-pub bio_extra_at : (xs ys : List Bio) (ls ms : List Key) (place : ℕ) (x : Bio) → ls ≡ map bio_key xs → ms ≡ map bio_key ys → IsExtra ls ms place → x ≡ get_or xs place x → count_by (is_bio_of x) ys < count_by (is_bio_of x) xs
-bio_extra_at xs ys ls ms place x one two extra is = subst (λ (b : Bio). count_by (is_bio_of b) ys < count_by (is_bio_of b) xs) (sym is) ((bio_extra xs ys ls ms place one two extra).1 x)
 
 -- what is said of a value that is there
 pub some_map : {X : Type 0} (o : Option X) (P Q : X → Type 0) → ((x : X) → P x → Q x) → IfSome o P → IfSome o Q

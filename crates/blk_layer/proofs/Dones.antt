@@ -20,7 +20,7 @@ use Rattle.blk_trace.specs.Waits.{has_id}
 use Rattle.blk_trace.specs.Inside.Seats.{issued_by}
 use Rattle.blk_trace.proofs.Places.{split, keep, last, before_last}
 use Rattle.blk_trace.proofs.Ids.{by_events, by_legal, served_has, has_issued, released_first}
-use Rattle.blk_trace.proofs.Returning.{issued_by_is}
+use Rattle.blk_trace.proofs.Requeuing.{issued_by_is}
 use Rattle.blk_trace.proofs.More.{more_of}
 use Rattle.blk_layer.specs.Closing.{done_count, is_done, last_under, done_by, done_after, done_ids}
 use Rattle.blk_layer.proofs.Moving.{not_done}

@@ -1,5 +1,5 @@
 -- A worker that ends one command and is issued the next.
-use Rattle.std.proofs.Common.{◌≡◌, ℕ, refl, inl, inr, Option, Some, None, Result, Ok, Err, IfOk, OnErr}
+use Rattle.std.proofs.Common.{◌≡◌, ℕ, refl, subst, inl, inr, Option, Some, None, Result, Ok, Err, IfOk, IfErr}
 use Rattle.edd_commands.specs.declared.Command.{Command}
 use Rattle.blk_layer.specs.declared.serving.Ran.{Ran}
 use Rattle.blk_layer.specs.declared.serving.Ran.TheVariants.{Done, Busy}
@@ -26,6 +26,19 @@ not_ended old tag ran new e = inl (refl, e)
 pub none_next : (old : WorkerSeat) (tag : ℕ) (ran : Ran) (between : WorkerSeat) (why : WorkFault) (new : WorkerSeat) → IsEndedAs ran old tag between → IsPassRefusal why → new ≡ between
     → IsTurnFault old tag ran why new
 none_next old tag ran between why new ended is e = rw e (inr (is, ended))
+
+-- the same by the answer of the call that issues the next one, where room was made before, which changes nothing
+pub turned_next : (old : WorkerSeat) (tag : ℕ) (ran : Ran) (made between : WorkerSeat) (r : Result (Option Issued) WorkFault) (new : WorkerSeat) → made ≡ old → IsEndedAs ran made tag between
+    → IfOk r (λ found. IsIssueAnswer between found new) → IfOk r (λ found. IsTurned old tag ran found new)
+turned_next old tag ran made between (Ok found) new e ended answer =
+    turned old tag ran between found new (subst (λ (s : WorkerSeat). IsEndedAs ran s tag between) e ended) answer
+turned_next old tag ran made between (Err why) new e ended answer = tt
+
+pub turn_fault : (old : WorkerSeat) (tag : ℕ) (ran : Ran) (made between : WorkerSeat) (r : Result (Option Issued) WorkFault) (new : WorkerSeat) → made ≡ old → IsEndedAs ran made tag between
+    → IfErr r (λ why. IsPassRefusal why × (new ≡ between)) → IfErr r (λ why. IsTurnFault old tag ran why new)
+turn_fault old tag ran made between (Ok found) new e ended fault = tt
+turn_fault old tag ran made between (Err why) new e ended fault =
+    none_next old tag ran between why new (subst (λ (s : WorkerSeat). IsEndedAs ran s tag between) e ended) fault.0 fault.1
 
 -- what a worker ran so far, and the command that it has in its hands
 pub record IsServing (old : WorkerSeat) (tag : ℕ) (command : Command) (new : WorkerSeat) : Type 0 where
@@ -69,12 +82,3 @@ last_refused old tag command now why new is e f = faulted_on old is.before why n
 -- a refusal before anything was issued
 pub begin_refused : (old : WorkerSeat) (why : WorkFault) (new : WorkerSeat) → IsPassRefusal why → new ≡ old → IsWorkFault old why new
 begin_refused old why new is e = of_refusal old why new is (none_ran old new e)
-
--- what a worker is told that was issued nothing
-pub none_told : {E : Type 0} (r : Result (Option Issued) E) (old new : WorkerSeat) → IfOk r (λ found. found ≡ None) → new ≡ old → IfOk r (λ found. IsIssueAnswer old found new)
-none_told (Ok found) old new h e = rw h e
-none_told (Err why) old new h e = tt
-
-pub whatever : {X E : Type 0} (r : Result X E) (P : Type 0) → P → OnErr r P
-whatever (Ok x) P h = tt
-whatever (Err e) P h = h

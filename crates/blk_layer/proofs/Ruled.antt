@@ -12,6 +12,8 @@ use Rattle.blk_sched.specs.Policies.{Policy}
 use Rattle.blk_core.specs.Calls.{Places, Issues, Completes, RequeuesTag, Ends, SetsDepth}
 use Rattle.blk_policy.specs.Runs.{Steps, Runs}
 use Rattle.blk_policy.proofs.More.{run_on}
+use Rattle.blk_core.specs.declared.refusals.IssueFault.{IssueFault}
+use Rattle.blk_layer.proofs.Moving.{Stays, stays_either, issue_stays}
 use Rattle.blk_layer.specs.Submitting.{MovesSome, MovesFirst, IsMoveAllAnswer}
 use Rattle.blk_layer.specs.declared.submitting.DrainFault.{DrainFault}
 use Rattle.blk_layer.specs.declared.serving.NoneIssued.{NoneIssued}
@@ -93,3 +95,11 @@ pub tried : (policy : Policy) (start old : CoreState) (hw tag : ℕ) (new : Core
     → Goes policy start old → Goes policy start new
 tried policy start old hw tag new (Ok command) ok fault runs = issued policy start old hw tag new (Some command) ok runs
 tried policy start old hw tag new (Err why) ok fault runs = none_tried policy start old hw tag why new fault runs
+
+-- what the core is after it was asked for a command
+pub asked : (policy : Policy) (start old : CoreState) (hw tag : ℕ) (new : CoreState) (r : Result (Option Command) IssueFault)
+    → IfOk r (λ found. Issues policy.serves policy.chooses old hw tag found new) → OnErr r (new ≡ old) → Stays old new × (Goes policy start old → Goes policy start new)
+asked policy start old hw tag new r ok err = (
+  stays_either (λ found. Issues policy.serves policy.chooses old hw tag found new) old new r (issue_stays policy.serves policy.chooses old hw tag new) ok err,
+  either (λ found. Issues policy.serves policy.chooses old hw tag found new) policy start old new r (issued policy start old hw tag new) ok err,
+)

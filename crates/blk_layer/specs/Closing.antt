@@ -86,7 +86,7 @@ pub record AreSettled (setup : Setup) (events : List Happened) (left : List Bio)
 
 -- whether a bio is the one, and whether a command is, in all that they say
 abbrev pub is_bio_of : Bio → Bio → Bool
-is_bio_of b c = (b.id.submitter == c.id.submitter) && ((b.id.serial == c.id.serial) && ((way_of b.dir == way_of c.dir) && ((b.first == c.first) && (b.sectors == c.sectors))))
+is_bio_of b c = ((b.id.submitter == c.id.submitter) && (b.id.serial == c.id.serial)) && ((way_of b.dir == way_of c.dir) && ((b.first == c.first) && (b.sectors == c.sectors)))
 
 abbrev pub is_command : Command → Command → Bool
 is_command c d = (c.id == d.id) && ((c.release == d.release) && (c.due == d.due))

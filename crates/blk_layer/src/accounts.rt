@@ -1,10 +1,10 @@
 //! The account of a submitter.
 
-ghost use Rattle.std.specs.Prelude.{◌≡◌, ◌≤◌, ◌+◌, ◌++◌, ◌||◌, ◌↔◌, [], IsTrue, IfOk, OnOk, OnErr, IfSome, IfNone, length};
+ghost use Rattle.std.specs.Prelude.{◌≡◌, ◌≤◌, ◌+◌, ◌++◌, ◌↔◌, [], IsTrue, IfOk, OnOk, OnErr, IfSome, IfNone, length};
 ghost use Rattle.std.specs.HashSet as hash_set;
-ghost use Rattle.blk_bio.specs.declared.bio.BioId.{BioId as Name};
 ghost use Rattle.blk_trace.specs.Events.{AreOnce, HasId, IsFirstRepeatedBio};
-ghost use Rattle.blk_trace.specs.Inside.Kept.{is_bio, has_bio_id};
+ghost use Rattle.blk_trace.specs.Inside.Kept.{is_bio};
+ghost use Rattle.blk_layer.specs.Inside.Seats.{AddsIds};
 
 use blk_bio::{Bio, BioId};
 use std::alloc::{AllocError, Allocator, Global};
@@ -106,7 +106,7 @@ fn stands_in(bios: &[Bio], id: BioId) -> bool
 /// Adds the ids of the bios, for which there is room.
 fn insert_ids<A: Allocator + Clone>(ids: &mut HashSet<BioId, Hashing, A>, bios: &[Bio])
     requires { length bios.now ≤ hash_set.spare ids.old }
-    ensures { (id : Name) → hash_set.contains is_bio ids.new id ≡ hash_set.contains is_bio ids.old id || has_bio_id bios.now id }
+    ensures { AddsIds (hash_set.contains is_bio ids.old) bios.now (hash_set.contains is_bio ids.new) }
 {
     for bio in bios {
         if ids.insert(bio.id()).is_err() {

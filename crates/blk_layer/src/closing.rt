@@ -1,6 +1,6 @@
 //! How a layer is closed: its accounts are settled, once and for all.
 
-ghost use Rattle.std.specs.Prelude.{ℕ, ◌≡◌, ◌≤◌, ◌<◌, ◌++◌, ◌↔◌, [], List, IsTrue, IfOk, IfErr, OnOk, IfSome, IfNone, Some, IsPermutation, length, map, nat_eq, slice_get, unwrap_or};
+ghost use Rattle.std.specs.Prelude.{ℕ, ◌≡◌, ◌<◌, ◌++◌, ◌↔◌, [], List, IsTrue, IfOk, IfErr, OnOk, IfSome, IfNone, Some, IsPermutation, length, nat_eq, slice_get, unwrap_or};
 ghost use Rattle.std.specs.List.{cons_option};
 ghost use Rattle.std.specs.HashMap as hash;
 ghost use Rattle.blk_bio.specs.Bios.{Bio as Transfer};
@@ -10,14 +10,13 @@ ghost use Rattle.blk_policy.specs.Runs.{IsRunFrom};
 ghost use Rattle.blk_layer.specs.Seats.{SubmitterSeat};
 ghost use Rattle.blk_layer.specs.Closing.{AreAllThere, HasNumber, all_accepted, all_ran, issued_bios, done_by, done_ids, done_commands, done_count, AreSettled, AreCounted, IsBioOf, DiffersAsCommand, Disagrees, IsCloseRefusal};
 ghost use Rattle.blk_layer.specs.Inside.Closing.{IsAccountOf};
-ghost use Rattle.blk_layer.specs.Inside.Closing.{AreDistinct, is_key, times, bio_key, command_key, IsExtra, DiffersIn, DiffersInCommand, KnowsIssued, NotesLast};
-ghost use Rattle.blk_layer.specs.declared.closing.Key.{Key as Numbers};
+ghost use Rattle.blk_layer.specs.Inside.Closing.{AreDistinct, IsExact, IsExtra, Counts, HasEach, DiffersIn, DiffersInCommand, KnowsIssued, NotesLast};
 
 use crate::accounts::Hashing;
 use crate::layer::{Layer, MAX_WORKERS, Named};
 use crate::locked::LockedQueue;
 use crate::seats::{Submitter, Worker};
-use blk_bio::{Bio, BioId, Dir, Request};
+use blk_bio::{Bio, BioId, Request};
 use blk_core::Core;
 use blk_sched::Scheduler;
 use blk_soft::SoftQueue;
@@ -25,6 +24,7 @@ use blk_trace::{Event, Trace};
 use edd_commands::Command;
 use std::alloc::{AllocError, Allocator, Global};
 use std::collections::HashMap;
+use std::hash::Hash;
 use std::sync::Mutex;
 
 /// Why a layer is not closed, in the order in which the reasons are looked for.
@@ -457,12 +457,10 @@ fn differing_bio<A: Allocator + Clone>(
     ensures some { IfOk result (λ found. IfSome found (DiffersIn accepted.now stored.now)) }
     ensures none { IfOk result (λ found. IfNone found (IsPermutation accepted.now stored.now)) }
 {
-    let keys = bio_keys(alloc.clone()?, accepted)?;
-    let other = bio_keys(alloc.clone()?, stored)?;
-    if let Some(place) = first_extra(alloc.clone()?, keys.as_slice(), other.as_slice())? {
+    if let Some(place) = first_extra(alloc.clone()?, accepted, stored)? {
         return Ok(Some(accepted[place].id()));
     }
-    match first_extra(alloc.clone()?, other.as_slice(), keys.as_slice())? {
+    match first_extra(alloc.clone()?, stored, accepted)? {
         Some(place) => Ok(Some(stored[place].id())),
         None => Ok(None),
     }
@@ -479,92 +477,25 @@ fn differing_command<A: Allocator + Clone>(
     ensures some { IfOk result (λ found. IfSome found (DiffersInCommand done.now ran.now)) }
     ensures none { IfOk result (λ found. IfNone found (IsPermutation ran.now done.now)) }
 {
-    let keys = command_keys(alloc.clone()?, done)?;
-    let other = command_keys(alloc.clone()?, ran)?;
-    match first_extra(alloc.clone()?, keys.as_slice(), other.as_slice())? {
+    match first_extra(alloc.clone()?, done, ran)? {
         Some(place) => Ok(Some(done[place])),
         None => Ok(None),
     }
 }
 
-/// All that a bio or a command says, as numbers, since neither hashes itself.
-#[derive(Clone, Copy, Debug, PartialEq, Eq, Hash)]
-struct Key {
-    /// Who submitted a bio.
-    owner: u64,
-    /// The number of a bio among its submitter's, or of a command.
-    number: u64,
-    /// Which way a bio's data goes.
-    way: u64,
-    /// A bio's first sector, or a command's release.
-    from: u64,
-    /// A bio's sectors, or a command's due round.
-    to: u64,
-}
-
-/// The keys of bios, in their order.
-fn bio_keys<A: Allocator>(alloc: A, bios: &[Bio]) -> Result<Vec<Key, A>, AllocError>
-    ensures { IfOk result (λ v. v.items ≡ map bio_key bios.now) }
-{
-    let mut keys = Vec::with_capacity(alloc, bios.len())?;
-    for bio in bios {
-        keys.push(bio_key(bio))?;
-    }
-    Ok(keys)
-}
-
-/// The key of a bio.
-fn bio_key(bio: &Bio) -> Key
-    ensures { result ≡ bio_key bio.now }
-{
-    let id = bio.id();
-    Key {
-        owner: u64::from(id.submitter),
-        number: id.serial,
-        way: match bio.dir() {
-            Dir::Read => 0,
-            Dir::Write => 1,
-        },
-        from: bio.first(),
-        to: bio.sectors(),
-    }
-}
-
-/// The keys of commands, in their order.
-fn command_keys<A: Allocator>(alloc: A, commands: &[Command]) -> Result<Vec<Key, A>, AllocError>
-    ensures { IfOk result (λ v. v.items ≡ map command_key commands.now) }
-{
-    let mut keys = Vec::with_capacity(alloc, commands.len())?;
-    for command in commands {
-        keys.push(command_key(command))?;
-    }
-    Ok(keys)
-}
-
-/// The key of a command.
-fn command_key(command: &Command) -> Key
-    ensures { result ≡ command_key command.now }
-{
-    Key {
-        owner: 0,
-        number: command.id,
-        way: 0,
-        from: command.release,
-        to: command.due,
-    }
-}
-
-/// The place of the first key that stands more times in the list, up to there, than in the other. Fails only when memory runs out.
-fn first_extra<A: Allocator + Clone>(
+/// The place of the first element that stands more times in the list, up to there, than in the other. Fails only when memory
+/// runs out.
+fn first_extra<T: Copy + Eq + Hash + Drop, A: Allocator + Clone>(
     alloc: A,
-    keys: &[Key],
-    other: &[Key],
+    list: &[T],
+    other: &[T],
 ) -> Result<Option<usize>, AllocError>
-    ensures some { IfOk result (λ found. IfSome found (IsExtra keys.now other.now)) }
-    ensures none { IfOk result (λ found. IfNone found ((key : Numbers) → times key keys.now ≤ times key other.now)) }
+    requires { IsExact T.eq }
+    ensures some { IfOk result (λ found. IfSome found (IsExtra T.eq list.now other.now)) }
+    ensures none { IfOk result (λ found. IfNone found (HasEach T.eq other.now list.now)) }
 {
     let mut left = tallied(alloc, other)?;
-    for (place, key) in keys.iter().enumerate() {
+    for (place, key) in list.iter().enumerate() {
         let count = count(&left, key);
         if count == 0 {
             return Ok(Some(place));
@@ -576,15 +507,16 @@ fn first_extra<A: Allocator + Clone>(
     Ok(None)
 }
 
-/// How many times each key stands in the list.
-fn tallied<A: Allocator + Clone>(
+/// How many times each element stands in the list.
+fn tallied<T: Copy + Eq + Hash + Drop, A: Allocator + Clone>(
     alloc: A,
-    keys: &[Key],
-) -> Result<HashMap<Key, u64, Hashing, A>, AllocError>
-    ensures { IfOk result (λ m. (key : Numbers) → unwrap_or (hash.get is_key m key) 0 ≡ times key keys.now) }
+    list: &[T],
+) -> Result<HashMap<T, u64, Hashing, A>, AllocError>
+    requires { IsExact T.eq }
+    ensures { IfOk result (λ m. Counts T.eq (hash.get T.eq m) list.now) }
 {
     let mut counts = HashMap::new(alloc);
-    for key in keys {
+    for key in list {
         let count = count(&counts, key);
         let Ok(_) = counts.insert(*key, count + 1) else {
             return Err(AllocError);
@@ -593,9 +525,12 @@ fn tallied<A: Allocator + Clone>(
     Ok(counts)
 }
 
-/// How many times a key was counted.
-fn count<A: Allocator + Clone>(counts: &HashMap<Key, u64, Hashing, A>, key: &Key) -> u64
-    ensures { result ≡ unwrap_or (hash.get is_key counts.now key.now) 0 }
+/// How many times an element was counted.
+fn count<T: Copy + Eq + Hash + Drop, A: Allocator + Clone>(
+    counts: &HashMap<T, u64, Hashing, A>,
+    key: &T,
+) -> u64
+    ensures { result ≡ unwrap_or (hash.get T.eq counts.now key.now) 0 }
 {
     match counts.get(key) {
         Some(count) => *count,

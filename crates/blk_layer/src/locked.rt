@@ -1,9 +1,9 @@
 //! What lies under the locks: the core, and each software queue.
 
-ghost use Rattle.std.specs.Prelude.{◌≡◌, ◌≢◌, ◌≤◌, ◌+◌, ◌<◌, [], IfOk, IfErr, OnOk, OnErr, Some, length, vec_len};
+ghost use Rattle.std.specs.Prelude.{◌≡◌, ◌≢◌, ◌≤◌, ◌+◌, ◌<◌, [], IfOk, IfErr, OnOk, OnErr, length, vec_len};
 ghost use Rattle.blk_soft.specs.Queues.{greatest_depth};
 ghost use Rattle.blk_core.specs.Faults.{IsTickFault};
-ghost use Rattle.blk_core.specs.Calls.{Issues, Completes, RequeuesTag, Ends, SetsDepth};
+ghost use Rattle.blk_core.specs.Calls.{Ends, SetsDepth};
 ghost use Rattle.blk_policy.specs.Runs.{Runs, IsRunFrom};
 ghost use Rattle.blk_layer.specs.Submitting.{AreOfFirst, IsMoveAllAnswer};
 ghost use Rattle.blk_layer.specs.Serving.{IsTickAnswer, IsDepthAnswer};
@@ -12,14 +12,12 @@ ghost use Rattle.blk_layer.specs.declared.layer.TheConstants.{MAX_WORKERS};
 
 use crate::layer::{Layer, Named};
 use crate::seats::{Worker, audit};
-use crate::serving::{NoneIssued, of_core};
 use crate::submitting::DrainFault;
-use blk_bio::{Limits, Request};
-use blk_core::{BackFault, Core, CoreFault, DepthFault, NotIssued, TickFault};
+use blk_bio::Limits;
+use blk_core::{Core, CoreFault, DepthFault, TickFault};
 use blk_sched::Scheduler;
 use blk_soft::SoftQueue;
 use blk_trace::Trace;
-use edd_commands::Command;
 use std::alloc::{AllocError, Allocator};
 use std::marker::PhantomData;
 use std::sync::Mutex;
@@ -32,11 +30,11 @@ pub(crate) struct LockedCore<S: Scheduler, L: Named> {
     /// The core.
     pub(crate) core: Core<S>,
     /// Its total is how many commands are done.
-    book: Book<L>,
+    pub(crate) book: Book<L>,
     /// The parts of the ledger that no worker has.
     rest: Share<L>,
     /// The tag after the last one that `work` issued: those before it are mostly used up in the round.
-    next_tag: u16,
+    pub(crate) next_tag: u16,
     ghost named: { core.setup ≡ L.setup },
     ghost ran: { ∥ Runs S.policy L.start core.events core ∥₁ },
     ghost counted: { book.total ≡ done_count core.events },
@@ -61,81 +59,6 @@ impl<S: Scheduler, L: Named> LockedCore<S, L> {
             rest,
             next_tag: 0,
         }
-    }
-
-    /// The tag with which the next try for a command begins.
-    pub(crate) fn next_tag(&self) -> u16 {
-        self.next_tag
-    }
-
-    /// Issues for a hardware queue under a tag, as the core does.
-    fn issue(&mut self, hw: u8, tag: u16) -> Result<Command, NoneIssued>
-        requires { hw < L.setup.hw }
-        ensures { IfOk result (λ command. Issues S.policy.serves S.policy.chooses self.old.core hw tag (Some command) self.new.core) }
-    {
-        match self.core.issue(hw, tag) {
-            Ok(Some(command)) => Ok(command),
-            Ok(None) => Err(NoneIssued::Nothing),
-            Err(why) => Err(of_core(why)),
-        }
-    }
-
-    /// Issues for a hardware queue under a tag, or ends a round that is full, as [`Layer::try_issue`] does.
-    fn try_issue(&mut self, hw: u8, tag: u16) -> Result<Command, NoneIssued>
-        requires queue { hw < L.setup.hw }
-        requires range { tag < L.setup.depth }
-        ensures { IfOk result (λ command. Issues S.policy.serves S.policy.chooses self.old.core hw tag (Some command) self.new.core) }
-    {
-        match Layer::<S, L>::try_issue(&mut self.core, hw, tag) {
-            Ok(command) => {
-                self.next_tag = tag.saturating_add(1);
-                Ok(command)
-            }
-            Err(why) => Err(why),
-        }
-    }
-
-    /// Issues for a hardware queue under a tag; a round that is full is ended where it may be.
-    pub(crate) fn dispatch(
-        &mut self,
-        hw: u8,
-        tag: u16,
-        may_end: bool,
-    ) -> Result<Command, NoneIssued>
-        requires queue { hw < L.setup.hw }
-        requires range { tag < L.setup.depth }
-        ensures { IfOk result (λ command. Issues S.policy.serves S.policy.chooses self.old.core hw tag (Some command) self.new.core) }
-    {
-        if may_end {
-            self.try_issue(hw, tag)
-        } else {
-            self.issue(hw, tag)
-        }
-    }
-
-    /// Completes the command in flight under a tag, counts it in a worker's part of the ledger, and hands its request out.
-    pub(crate) fn done(
-        &mut self,
-        share: &mut Share<L>,
-        tag: u16,
-    ) -> Result<Request<S::A>, NotIssued>
-        requires { 0 < share.old.parts }
-        ensures done { OnOk result (Completes S.policy.told_done self.old.core tag self.new.core) }
-        ensures counted { OnOk result (share.new.amount ≡ share.old.amount + 1) }
-        ensures parts { share.new.parts ≡ share.old.parts }
-        ensures same { OnErr result ((self.new.core ≡ self.old.core) × (share.new.amount ≡ share.old.amount)) }
-    {
-        let request = self.core.complete(tag)?;
-        self.book.add(share, 1);
-        Ok(request)
-    }
-
-    /// Requeues the command in flight under a tag, and answers its id.
-    pub(crate) fn back(&mut self, tag: u16) -> Result<u64, BackFault>
-        ensures back { IfOk result (λ id. RequeuesTag self.old.core tag id self.new.core) }
-        ensures same { OnErr result (self.new.core ≡ self.old.core) }
-    {
-        self.core.back(tag)
     }
 
     /// Ends the round, and answers the number of the next one.

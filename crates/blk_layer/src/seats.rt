@@ -9,12 +9,12 @@ ghost use Rattle.blk_layer.specs.Submitting.{CanAccept, IsFlushReason};
 ghost use Rattle.blk_layer.specs.Serving.{TakesInHand, AccountsFor, LetsGo, IsInHand, IsIssueAnswer};
 ghost use Rattle.blk_layer.specs.Closing.{all_ran};
 ghost use Rattle.blk_layer.specs.Inside.Submitting.{IsOfBios};
-ghost use Rattle.blk_layer.specs.Inside.Serving.{IssuesTo, IsEndedAs, IsPassRefusal, IsTurnFault, IsTurned};
+ghost use Rattle.blk_layer.specs.Inside.Serving.{IssuesTo, IssuesAsTold, IsEndedAs, IsPassRefusal};
 
 use crate::accounts::Account;
-use crate::layer::Named;
+use crate::layer::{Layer, Named};
 use crate::locked::LockedCore;
-use crate::serving::{Issued, NoCommand, NoneIssued, Ran, WorkFault};
+use crate::serving::{Issued, LayerIssueFault, NoCommand, NoneIssued, Ran, WorkFault, of_core};
 use crate::submitting::{FlushWhy, first_foreign};
 use blk_bio::{Bio, Request};
 use blk_core::{BackFault, NotIssued};
@@ -190,12 +190,6 @@ impl<L: Named, A: Allocator + Clone> Worker<L, A> {
         self.hw
     }
 
-    /// The tag after the last one that it took.
-    pub(crate) fn after_last(&self) -> u16 {
-        let _ = self.hw;
-        self.seat.next()
-    }
-
     /// Makes room in its account for the commands that it may have in its hands. Fails only when memory runs out.
     pub(crate) fn make_room(&mut self) -> Result<(), AllocError>
         ensures { self.new ≡ self.old }
@@ -203,29 +197,62 @@ impl<L: Named, A: Allocator + Clone> Worker<L, A> {
         self.ran.reserve(self.hands.len())
     }
 
-    /// Issues a command to it out of the core, under the first free tag in rising order from the given one, which goes on at 0 after
-    /// the greatest. Without a command the tag is given back. A round that is full is ended where it may be.
+    /// Issues a command to it out of the core, as `Layer::issue` says. Without a command the tag is given back.
     pub(crate) fn issue<S: Scheduler<A = A>>(
         &mut self,
         core: &mut LockedCore<S, L>,
         tags: &TagSet<A>,
+    ) -> Result<Option<Issued>, LayerIssueFault>
+        requires { self.old.tag_set ≡ tags.now }
+        ensures issued { IfOk result (λ found. IsIssueAnswer self.old found self.new) }
+        ensures core { IfOk result (λ found. IssuesAsTold S.policy core.old.core self.old.hw found core.new.core) }
+        ensures same { OnErr result (self.new ≡ self.old) }
+    {
+        let Some(tag) = tags.get(&mut self.seat) else {
+            return Err(LayerIssueFault::NoTag);
+        };
+        if self.ran.reserve(self.hands.len()).is_err() {
+            tags.give(&mut self.seat, tag);
+            return Err(LayerIssueFault::Memory);
+        }
+        match core.core.issue(self.hw, tag) {
+            Ok(Some(command)) => {
+                self.hands[usize::from(tag)] = Some(command);
+                Ok(Some(Issued { command, tag }))
+            }
+            Ok(None) => {
+                tags.give(&mut self.seat, tag);
+                Ok(None)
+            }
+            Err(why) => {
+                tags.give(&mut self.seat, tag);
+                Err(of_core(why))
+            }
+        }
+    }
+
+    /// Tries to issue a command to it out of the core, as [`Layer::try_issue`] does, under the first free tag in rising order from the
+    /// given one, which goes on at 0 after the greatest. Without a command the tag is given back.
+    fn try_issue<S: Scheduler<A = A>>(
+        &mut self,
+        core: &mut LockedCore<S, L>,
+        tags: &TagSet<A>,
         from: u16,
-        may_end: bool,
     ) -> Result<Issued, NoCommand>
         requires { self.old.tag_set ≡ tags.now }
         ensures issued { IfOk result (λ issued. TakesInHand self.old issued.tag issued.command self.new) }
         ensures core { IfOk result (λ issued. IssuesTo S.policy core.old.core self.old.hw issued core.new.core) }
         ensures same { OnErr result (self.new ≡ self.old) }
     {
+        if self.ran.reserve(self.hands.len()).is_err() {
+            return Err(NoCommand::Tried(NoneIssued::Memory));
+        }
         let Some(tag) = tags.get_from(&mut self.seat, from) else {
             return Err(NoCommand::NoTag);
         };
-        if self.ran.reserve(self.hands.len()).is_err() {
-            tags.give(&mut self.seat, tag);
-            return Err(NoCommand::Tried(NoneIssued::Memory));
-        }
-        match core.dispatch(self.hw, tag, may_end) {
+        match Layer::<S, L>::try_issue(&mut core.core, self.hw, tag) {
             Ok(command) => {
+                core.next_tag = tag.saturating_add(1);
                 self.hands[usize::from(tag)] = Some(command);
                 Ok(Issued { command, tag })
             }
@@ -263,7 +290,8 @@ impl<L: Named, A: Allocator + Clone> Worker<L, A> {
         let Some(command) = self.in_hand(tag) else {
             return Err(NotIssued);
         };
-        let request = core.done(&mut self.share, tag)?;
+        let request = core.core.complete(tag)?;
+        core.book.add(&mut self.share, 1);
         self.hands[usize::from(tag)] = None;
         self.ran.push_reserved(command);
         tags.give(&mut self.seat, tag);
@@ -286,7 +314,7 @@ impl<L: Named, A: Allocator + Clone> Worker<L, A> {
         let Some(command) = self.in_hand(tag) else {
             return Err(BackFault::NotIssued);
         };
-        core.back(tag)?;
+        core.core.back(tag)?;
         self.hands[usize::from(tag)] = None;
         tags.give(&mut self.seat, tag);
         Ok(command.id)
@@ -331,9 +359,9 @@ impl<L: Named, A: Allocator + Clone> Worker<L, A> {
         ensures issued { IfOk result (λ found. IsIssueAnswer self.old found self.new) }
         ensures fault { IfErr result (λ why. IsPassRefusal why × (self.new ≡ self.old)) }
     {
-        let mut from = core.next_tag();
+        let mut from = core.next_tag;
         for _ in 0..tags.depth() {
-            match self.issue(core, tags, from, true) {
+            match self.try_issue(core, tags, from) {
                 Ok(issued) => return Ok(Some(issued)),
                 Err(NoCommand::Tried(NoneIssued::TagRange | NoneIssued::SlotUsed)) => {}
                 Err(NoCommand::Tried(NoneIssued::TraceFull)) => return Err(WorkFault::TraceFull),
@@ -344,34 +372,9 @@ impl<L: Named, A: Allocator + Clone> Worker<L, A> {
                         return Ok(None);
                     }
             }
-            from = self.after_last();
+            from = self.seat.next();
         }
         Ok(None)
-    }
-
-    /// Reports what became of the command in its hands under a tag, as `end` does, and then has the next one issued to it, if its
-    /// account has room for that.
-    #[tactic(auto, using(crate::proofs::Ending::turned, crate::proofs::Ending::not_ended, crate::proofs::Ending::none_next))]
-    pub(crate) fn end_and_next<S: Scheduler<A = A>>(
-        &mut self,
-        core: &mut LockedCore<S, L>,
-        tags: &TagSet<A>,
-        tag: u16,
-        ran: Ran,
-        has_room: bool,
-        freed: &mut Option<Request<A>>,
-    ) -> Result<Option<Issued>, WorkFault>
-        requires { self.old.tag_set ≡ tags.now }
-        ensures turned { IfOk result (λ found. IsTurned self.old tag ran found self.new) }
-        ensures fault { IfErr result (λ why. IsTurnFault self.old tag ran why self.new) }
-    {
-        if !self.end(core, tags, tag, ran, freed) {
-            return Err(WorkFault::Memory);
-        }
-        if !has_room {
-            return Err(WorkFault::Memory);
-        }
-        self.next(core, tags)
     }
 }
 

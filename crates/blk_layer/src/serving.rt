@@ -167,11 +167,7 @@ impl<S: Scheduler, L: Named> Layer<S, L> {
         ensures same { OnErr result (worker.new ≡ worker.old) }
     {
         let mut core = self.core.lock(rt);
-        let from = worker.after_last();
-        match worker.issue(&mut *core, &self.tags, from, false) {
-            Ok(issued) => Ok(Some(issued)),
-            Err(why) => issue_answer(why),
-        }
+        worker.issue(&mut *core, &self.tags)
     }
 
     /// Issues for a hardware queue under a tag, as `Core::issue` does; but where the tag is used up in its round and that is full,
@@ -407,6 +403,7 @@ impl<S: Scheduler, L: Named> Layer<S, L> {
 
     /// Reports what became of the command in the worker's hands under a tag, and answers the next one, both under one hold of the core's
     /// lock. Room in the account is made before the lock is taken, and the request of a command that is done is freed after it is released.
+    #[tactic(auto, using(crate::proofs::Ending::turned, crate::proofs::Ending::not_ended, crate::proofs::Ending::none_next))]
     fn end_and_next<R: Wait>(
         &self,
         rt: &R,
@@ -421,9 +418,13 @@ impl<S: Scheduler, L: Named> Layer<S, L> {
         let has_room = worker.make_room().is_ok();
         let mut freed = None;
         let mut core = self.lock_core(rt);
-        let next = worker.end_and_next(&mut *core, &self.tags, tag, ran, has_room, &mut freed);
-        drop(core);
-        next
+        if !worker.end(&mut *core, &self.tags, tag, ran, &mut freed) {
+            return Err(WorkFault::Memory);
+        }
+        if !has_room {
+            return Err(WorkFault::Memory);
+        }
+        worker.next(&mut *core, &self.tags)
     }
 
     /// Lets the device run a command in the worker's hands, and reports what became of it, without issuing another one.
@@ -451,32 +452,16 @@ impl<S: Scheduler, L: Named> Layer<S, L> {
     }
 }
 
-/// Why the core issues nothing, as the answer of a try that ends no round. The hardware queue is there.
-pub(crate) fn of_core(why: IssueFault) -> NoneIssued
+/// Why the core issues nothing, as the answer of `Layer::issue`. The hardware queue is there.
+pub(crate) fn of_core(why: IssueFault) -> LayerIssueFault
     requires { why ≢ IssueFault.NoQueue }
 {
     match why {
         IssueFault::NoQueue => unreachable!(),
-        IssueFault::TagRange => NoneIssued::TagRange,
-        IssueFault::SlotUsed => NoneIssued::SlotUsed,
-        IssueFault::TraceFull => NoneIssued::TraceFull,
-        IssueFault::Memory => NoneIssued::Memory,
-    }
-}
-
-/// What `Layer::issue`, which ends no round, answers where nothing was issued.
-fn issue_answer(why: NoCommand) -> Result<Option<Issued>, LayerIssueFault>
-    ensures { IfOk result (λ found. found ≡ None) }
-{
-    match why {
-        NoCommand::Tried(NoneIssued::Nothing) => Ok(None),
-        NoCommand::NoTag => Err(LayerIssueFault::NoTag),
-        NoCommand::Tried(NoneIssued::TagRange) => Err(LayerIssueFault::TagRange),
-        NoCommand::Tried(NoneIssued::SlotUsed | NoneIssued::Full | NoneIssued::Ended) => {
-            Err(LayerIssueFault::SlotUsed)
-        }
-        NoCommand::Tried(NoneIssued::TraceFull) => Err(LayerIssueFault::TraceFull),
-        NoCommand::Tried(NoneIssued::Memory) => Err(LayerIssueFault::Memory),
+        IssueFault::TagRange => LayerIssueFault::TagRange,
+        IssueFault::SlotUsed => LayerIssueFault::SlotUsed,
+        IssueFault::TraceFull => LayerIssueFault::TraceFull,
+        IssueFault::Memory => LayerIssueFault::Memory,
     }
 }
 

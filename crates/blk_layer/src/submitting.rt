@@ -5,7 +5,7 @@ ghost use Rattle.blk_bio.specs.Bios.{Bio as Transfer};
 ghost use Rattle.blk_plug.specs.Plugs.{bios_plugged};
 ghost use Rattle.blk_layer.specs.Seats.{AreOwn};
 ghost use Rattle.blk_layer.specs.Submitting.{Flushes, FlushesInto, HasRoom, IsFirstForeign, IsLeft, IsFirstRoomReason, AreOfFirst, IsMoveAnswer, IsMoveAllAnswer};
-ghost use Rattle.blk_layer.specs.Inside.Submitting.{LosesFirst, GetsFirst};
+ghost use Rattle.blk_layer.specs.Inside.Submitting.{LosesFirst, GetsFirst, bios_of_both};
 
 use crate::layer::{Layer, Named};
 use crate::seats::{Submitter, Worker};
@@ -293,7 +293,7 @@ fn flush_first<L: Named, A: Allocator + Clone>(
     requires some { 0 < length plug.old.requests }
     ensures moved { FlushesInto queue.old submitter.old plug.old queue.new submitter.new plug.new }
     ensures fewer { OnOk result (length plug.new.requests < length plug.old.requests) }
-    ensures counted { queue.new.bios_in + length (bios_plugged plug.new) ≡ queue.old.bios_in + length (bios_plugged plug.old) }
+    ensures counted { bios_of_both queue.new plug.new ≡ bios_of_both queue.old plug.old }
     ensures limits { queue.new.limits ≡ queue.old.limits }
     ensures fault { IfErr result (IsLeft submitter.new plug.new) }
     ensures room { IfErr result (IsFirstRoomReason queue.new plug.new) }

@@ -137,7 +137,7 @@ fn done<R: Abort + Wait, L: Named>(
     of_done(&answer)
 }
 
-/// A tag's command is handed back.
+/// A tag's command is requeued.
 fn back<R: Abort + Wait, L: Named>(
     rt: &R,
     layer: &Layer<NoneSched, L>,

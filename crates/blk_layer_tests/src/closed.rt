@@ -22,7 +22,7 @@ use std::sync::ledger::Blank;
 /// An allocator once more.
 fn again<A: Allocator + Clone>(rt: &impl Abort, alloc: &A) -> A {
     let Ok(alloc) = alloc.clone() else {
-        panic!(rt; "want of memory");
+        panic!(rt; "out of memory");
     };
     alloc
 }
@@ -196,6 +196,6 @@ pub fn other_than<R: Abort + Wait>(
         rt, &alloc, core, map, soft_depth, queues, limits, calls, left, events,
     ) {
         Ok(other) => other,
-        Err(_) => panic!(rt; "want of memory"),
+        Err(_) => panic!(rt; "out of memory"),
     }
 }

@@ -29,7 +29,7 @@ fn scheduler<A: Allocator + Clone>(rt: &impl Abort, alloc: A) -> NoneSched<A>
 {
     match NoneSched::new(alloc) {
         Ok(scheduler) => scheduler,
-        Err(_) => panic!(rt; "want of memory"),
+        Err(_) => panic!(rt; "out of memory"),
     }
 }
 
@@ -39,11 +39,11 @@ pub fn core<A: Allocator + Clone>(rt: &impl Abort, alloc: A, setup: Setup) -> Co
     ensures empty { result.events ≡ [] }
 {
     let Ok(other) = alloc.clone() else {
-        panic!(rt; "want of memory");
+        panic!(rt; "out of memory");
     };
     match Core::new(alloc, setup, scheduler(rt, other)) {
         Ok(core) => core,
-        Err(_) => panic!(rt; "want of memory"),
+        Err(_) => panic!(rt; "out of memory"),
     }
 }
 
@@ -57,6 +57,6 @@ pub fn bio(rt: &impl Abort, submitter: u8, serial: u64, first: u64) -> Bio {
 pub fn alone(rt: &impl Abort, alloc: Global, bio: Bio) -> Request {
     match Request::of(alloc, bio) {
         Ok(request) => request,
-        Err(_) => panic!(rt; "want of memory"),
+        Err(_) => panic!(rt; "out of memory"),
     }
 }

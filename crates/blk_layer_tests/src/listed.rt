@@ -1,4 +1,4 @@
-//! Calls of a layer as plain values, each with the answer that it has to give. A call that is refused for want of memory is made once
+//! Calls of a layer as plain values, each with the answer that it has to give. A call that runs out of memory is made once
 //! more.
 
 ghost use Rattle.std.specs.Prelude.{◌≡◌, ◌<◌, length};

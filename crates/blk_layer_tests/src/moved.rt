@@ -95,7 +95,7 @@ fn all_copied_of(
     (answer, queue.len(), core.pending(), copies.len())
 }
 
-// The same with copies that are made ahead: those of what is left stay. What has none is refused for want of memory.
+// The same with copies that are made ahead: those of what is left stay. What has none is refused as out of memory.
 #[test]
 fn move_all_copied_or_to_the_first_refused(rt: HostRuntime) {
     let alloc = rt.alloc();

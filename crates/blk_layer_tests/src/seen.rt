@@ -32,9 +32,9 @@ pub enum Seen {
     Done,
     /// A tag that the worker doesn't hold was reported done.
     NotDone,
-    /// A command was handed back.
+    /// A command was requeued.
     Back,
-    /// A tag that the worker doesn't hold was handed back.
+    /// A command under a tag that the worker doesn't hold was to be requeued.
     NotBack,
     /// A round ended.
     Ticked,
@@ -104,7 +104,7 @@ pub fn of_done(answer: &Result<(), NotIssued>) -> Seen {
     }
 }
 
-/// What came of a command handed back.
+/// What came of a command that was to be requeued.
 pub fn of_back(answer: &Result<u64, BackFault>) -> Seen {
     match answer {
         Ok(_) => Seen::Back,

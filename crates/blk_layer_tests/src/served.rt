@@ -46,7 +46,7 @@ fn layer_two_workers_two_queues(rt: HostRuntime) {
     assert_eq!(rt; other, None);
 }
 
-// A command that the device hands back goes out first; a depth is in force from the next round on, which carries one command then.
+// A command that is requeued goes out first; a depth is in force from the next round on, which carries one command then.
 #[test]
 fn layer_back_and_depth(rt: HostRuntime) {
     let calls = [

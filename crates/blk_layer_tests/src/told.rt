@@ -1,4 +1,4 @@
-//! Want of memory inside a call is told: each allocation of a drain, of an issue and of a worker's work is refused in turn.
+//! That memory ran out inside a call is told: each allocation of a drain, of an issue and of a worker's work is refused in turn.
 
 ghost use Rattle.std.specs.Prelude.{◌≡◌, ◌<◌, [], length, vec_len};
 
@@ -182,7 +182,7 @@ fn all_told<R: Abort + Wait>(rt: &R, alloc: Global, made: Made) -> u64 {
 }
 
 #[test]
-fn want_of_memory_is_told(rt: HostRuntime) {
+fn out_of_memory_is_told(rt: HostRuntime) {
     let alloc = rt.alloc();
     assert!(rt; all_told(&rt, alloc, Made::Drain) > 3);
     assert!(rt; all_told(&rt, alloc, Made::Issue) > 0);

@@ -1,8 +1,8 @@
--- Bios and commands as keys, how many times a key stands in a list, and what is gathered from a trace.
-use Rattle.std.specs.Prelude.{ℕ, ◌≡◌, ◌<◌, ◌==◌, ◌&&◌, Bool, List, count_by, slice_get, Some, ◌≢◌, Option, Contains, true}
+-- How many times an element stands in a list, and what is gathered from a trace.
+use Rattle.std.specs.Prelude.{ℕ, ◌≡◌, ◌<◌, ◌≤◌, ◌+◌, Bool, List, unwrap_or, count_by, slice_get, Some, ◌≢◌, Option, Contains, true}
 use Rattle.edd_commands.specs.declared.Command.{Command}
 use Rattle.blk_bio.specs.Bios.{Bio}
-use Rattle.blk_layer.specs.Closing.{way_of, is_bio_of, is_command}
+use Rattle.blk_layer.specs.Closing.{is_bio_of, is_command}
 use Rattle.std.specs.Option.{option_or}
 use Rattle.blk_bio.specs.declared.bio.BioId.{BioId}
 use Rattle.blk_trace.specs.Happened.{Happened}
@@ -11,27 +11,32 @@ use Rattle.blk_trace.specs.Meaning.{command_of, issued_ids}
 use Rattle.blk_trace.specs.Inside.Seats.{issued_by}
 use Rattle.blk_layer.specs.Seats.{SubmitterSeat, AreOwn}
 use Rattle.blk_trace.specs.Events.{AreOnce}
-use Rattle.blk_layer.specs.declared.closing.Key.{Key}
 use Rattle.blk_trace.specs.Waits.{has_id}
 
--- whether two keys are one
-abbrev pub is_key : Key → Key → Bool
-is_key x y = (x.owner == y.owner) && ((x.number == y.number) && ((x.way == y.way) && ((x.from == y.from) && (x.to == y.to))))
+-- the test holds just of one and the same
+pub record IsExact {X : Type 0} (same : X → X → Bool) : Type 0 where
+  pub only : (x y : X) → same x y ≡ true → x ≡ y
+  pub self : (x : X) → same x x ≡ true
 
--- how many times a key stands in a list
-unfoldable pub times : Key → List Key → ℕ
-times key keys = count_by (is_key key) keys
+-- how many times an element stands in a list
+unfoldable pub times : {X : Type 0} → (X → X → Bool) → X → List X → ℕ
+times same x xs = count_by (same x) xs
 
--- the key of a bio, and that of a command
-abbrev pub bio_key : Bio → Key
-bio_key b = record { owner = b.id.submitter; number = b.id.serial; way = way_of b.dir; from = b.first; to = b.sectors }
+-- so many times each element stands in the list
+abbrev pub Counts : {X : Type 0} → (X → X → Bool) → (X → Option ℕ) → List X → Type 0
+Counts {X} same got xs = (x : X) → unwrap_or (got x) 0 ≡ times same x xs
 
-abbrev pub command_key : Command → Key
-command_key c = record { owner = 0; number = c.id; way = 0; from = c.release; to = c.due }
+-- so many times more each element stands in the other list
+abbrev pub CountsMore : {X : Type 0} → (X → X → Bool) → (X → Option ℕ) → List X → List X → Type 0
+CountsMore {X} same got xs other = (x : X) → unwrap_or (got x) 0 + times same x xs ≡ times same x other
 
--- the key at the place stands more times in the one list than in the other
-abbrev pub IsExtra : List Key → List Key → ℕ → Type 0
-IsExtra keys other place = (key : Key) × (slice_get keys place ≡ Some key) × (times key other < times key keys)
+-- each element of the list stands in the other one at least as many times
+abbrev pub HasEach : {X : Type 0} → (X → X → Bool) → List X → List X → Type 0
+HasEach {X} same other xs = (x : X) → times same x xs ≤ times same x other
+
+-- the element at the place stands more times in the one list than in the other
+abbrev pub IsExtra : {X : Type 0} → (X → X → Bool) → List X → List X → ℕ → Type 0
+IsExtra {X} same xs other place = (x : X) × (slice_get xs place ≡ Some x) × (times same x other < times same x xs)
 
 -- what a submitter accepted is its own, and no two of one id
 abbrev pub IsAccountOf : SubmitterSeat → Type 0

@@ -1,5 +1,5 @@
 -- What seats keep beside what their callers see.
-use Rattle.std.specs.Prelude.{ℕ, ◌≡◌, ◌+◌, ◌<◌, ◌≤◌, Bool, List, Option, is_some, map, length, count_by}
+use Rattle.std.specs.Prelude.{ℕ, ◌||◌, ◌≡◌, ◌+◌, ◌<◌, ◌≤◌, Bool, List, Option, is_some, map, length, count_by}
 use Rattle.edd_commands.specs.declared.Command.{Command}
 use Rattle.blk_bio.specs.Bios.{Bio}
 use Rattle.blk_bio.specs.declared.bio.BioId.{BioId}
@@ -12,6 +12,10 @@ use Rattle.blk_tags.specs.Inside.{Marks}
 pub record IsAccount (bios : List Bio) (ids : BioId → Bool) : Type 0 where
   pub once : AreOnce bios
   pub ids_are : (id : BioId) → ids id ≡ has_bio_id bios id
+
+-- ids to which those of the bios were added
+abbrev pub AddsIds : (BioId → Bool) → List Bio → (BioId → Bool) → Type 0
+AddsIds old bios new = (id : BioId) → new id ≡ old id || has_bio_id bios id
 
 -- the tags that a worker holds are those of the commands in its hands, its account has room for these commands, and its part of
 -- the ledger has an amount of as many as its account has

@@ -24,6 +24,11 @@ use Rattle.blk_core.specs.declared.refusals.CoreFault.TheVariants as core
 abbrev pub IssuesTo : Policy → CoreState → ℕ → Issued → CoreState → Type 0
 IssuesTo policy old hw issued new = Issues policy.serves policy.chooses old hw issued.tag (Some issued.command) new
 
+-- what an answer of an issue says of the core
+abbrev pub IssuesAsTold : Policy → CoreState → ℕ → Option Issued → CoreState → Type 0
+IssuesAsTold policy old hw None new = new ≡ old
+IssuesAsTold policy old hw (Some issued) new = IssuesTo policy old hw issued new
+
 -- the command in the hands of a worker under a tag was done, or was requeued
 abbrev pub IsEnded : WorkerSeat → ℕ → WorkerSeat → Type 0
 IsEnded old tag new = AccountsFor old tag new ⊎ ((id : ℕ) × LetsGo old tag id new)

@@ -1,7 +1,7 @@
 -- How the first request of a plug gets into a software queue.
-use Rattle.std.specs.Prelude.{◌≡◌, ⊤, List, Some, slice_get, ◌∷◌}
+use Rattle.std.specs.Prelude.{ℕ, ◌≡◌, ◌+◌, ⊤, length, List, Some, slice_get, ◌∷◌}
 use Rattle.blk_bio.specs.Bios.{Bio}
-use Rattle.blk_plug.specs.Plugs.{Plug}
+use Rattle.blk_plug.specs.Plugs.{Plug, bios_plugged}
 use Rattle.blk_soft.specs.Queues.{Queue, with_last}
 use Rattle.blk_layer.specs.declared.submitting.FlushWhy.{FlushWhy}
 use Rattle.blk_layer.specs.declared.submitting.FlushWhy.TheVariants.{Foreign, Repeated, SoftFull, Memory}
@@ -12,6 +12,10 @@ IsOfBios (Foreign id) = ⊤
 IsOfBios (Repeated id) = ⊤
 IsOfBios SoftFull = ⊥
 IsOfBios Memory = ⊥
+
+-- how many bios came into a software queue, and are in a plug yet
+abbrev pub bios_of_both : Queue → Plug → ℕ
+bios_of_both queue plug = queue.bios_in + length (bios_plugged plug)
 
 -- a plug loses its first request, and a software queue gets it at the back
 abbrev pub LosesFirst : Plug → Plug → Type 0

@@ -1,0 +1,103 @@
+use Rattle.std.proofs.Common.{◌≡◌, ◌∙◌, ◌+◌, ◌<◌, ◌≤◌, Some, length, vec_len, refl, sym, ap, subst, arith}
+use Rattle.std.proofs.Math.Logic.{∥∥₁_map}
+use Rattle.std.specs.Prelude.{slice_set}
+use Rattle.std.specs.Vec.{vec_capacity}
+use Rattle.blk_trace.proofs.Keeping.{on_ok}
+use Rattle.blk_tags.specs.Tags.{Set, Seat as TagSeat}
+use Rattle.blk_layer.specs.Seats.{WorkerSeat}
+use Rattle.blk_layer.specs.Serving.{TakesInHand}
+use Rattle.blk_layer.proofs.Moving.{tried_stays}
+use Rattle.blk_layer.proofs.Ruled.{tried}
+use Rattle.blk_layer.proofs.InHand.{given_back, more_room, same_seat, one_more, takes}
+use Rattle.blk_layer.proofs.seats.Worker.try_issue.Goals as goal
+
+pub returns-in_default-clause-same : goal.returns-in_default-clause-same
+returns-in_default-clause-same g c =
+    let own = c.self.inside in
+    let stays = c.in_default.ensures.none in
+    same_seat own.seat.of_set c.get_from.new.seat.of_set own.hw own.seat.tags c.get_from.new.seat.tags own.hands.items own.ran.items c.reserve.new.self.items (ap (λ (s : TagSeat). s.of_set) stays) (ap (λ (s : TagSeat). s.tags) stays) c.reserve.ensures.items ∙ c.self.view_is
+
+pub index_mut-requires : goal.index_mut-requires
+index_mut-requires g c =
+    let own = c.self.inside in
+    let set : own.seat.of_set ≡ c.args.tags.now = ap (λ (s : WorkerSeat). s.tag_set) c.self.view_is ∙ c.requires in
+    let below : c.in-Some.tag < own.seat.of_set.depth = subst (λ (s : Set). c.in-Some.tag < s.depth) (sym set) c.in-Some.ensures.below in
+    omega (arith, below, c.from.ensures, c.self.invariant.places)
+
+pub invariant_of-self-in-Ok : goal.invariant_of-self-in-Ok
+invariant_of-self-in-Ok g c =
+    let own = c.self.inside in
+    let got = c.in-Some.ensures.some in
+    let set : own.seat.of_set ≡ c.args.tags.now = ap (λ (s : WorkerSeat). s.tag_set) c.self.view_is ∙ c.requires in
+    let below : c.in-Some.tag < own.seat.of_set.depth = subst (λ (s : Set). c.in-Some.tag < s.depth) (sym set) c.in-Some.ensures.below in
+    let room : vec_len c.reserve.new.self + c.len.result ≤ vec_capacity c.reserve.new.self = on_ok c.reserve.result (vec_len c.reserve.new.self + c.len.result ≤ vec_capacity c.reserve.new.self) (sym c.is_err.ensures.value ∙ c.if-is_err.false) c.reserve.ensures.ok in
+    let enough : length c.reserve.new.self.items + length own.hands.items ≤ vec_capacity c.reserve.new.self = omega (arith, room, c.len.ensures) in
+    one_more g.L.Named.setup own.hw own.seat.of_set.depth c.get_from.new.seat.of_set.depth own.seat.tags c.get_from.new.seat.tags own.hands.items (length own.ran.items) (length c.reserve.new.self.items) (vec_capacity own.ran) (vec_capacity c.reserve.new.self) own.share.parts own.share.amount c.from.result c.in-Some.tag c.in-Ok.command c.self.invariant (ap (λ (s : TagSeat). s.of_set.depth) got) (ap length c.reserve.ensures.items) enough below c.in-Some.ensures.free (ap (λ (s : TagSeat). s.tags) got) c.from.ensures
+
+pub give-requires-clause-of_set : goal.give-requires-clause-of_set
+give-requires-clause-of_set g c =
+    ap (λ (s : TagSeat). s.of_set) c.in-Some.ensures.some ∙ ap (λ (s : WorkerSeat). s.tag_set) c.self.view_is ∙ c.requires
+
+pub invariant_of-self-in-Err : goal.invariant_of-self-in-Err
+invariant_of-self-in-Err g c =
+    let back = given_back c.self.inside.seat c.get_from.new.seat c.give.new.seat c.in-Some.tag (Some c.in-Some.tag) c.get_from.new.seat.last c.in-Some.ensures.some c.give.ensures c.in-Some.ensures.free in
+    let own = c.self.inside in
+    more_room g.L.Named.setup own.hw own.seat.of_set.depth c.give.new.seat.of_set.depth own.seat.tags c.give.new.seat.tags own.hands.items (length own.ran.items) (length c.reserve.new.self.items) (vec_capacity own.ran) (vec_capacity c.reserve.new.self) own.share.parts own.share.amount c.self.invariant (ap (λ (s : Set). s.depth) back.0) back.1 (ap length c.reserve.ensures.items) c.reserve.ensures.capacity
+
+pub returns-in-Ok-clause-issued : goal.returns-in-Ok-clause-issued
+returns-in-Ok-clause-issued g c =
+    let own = c.self.inside in
+    let got = c.in-Some.ensures.some in
+    let set : own.seat.of_set ≡ c.args.tags.now = ap (λ (s : WorkerSeat). s.tag_set) c.self.view_is ∙ c.requires in
+    let below : c.in-Some.tag < own.seat.of_set.depth = subst (λ (s : Set). c.in-Some.tag < s.depth) (sym set) c.in-Some.ensures.below in
+    let new : WorkerSeat = record { tag_set = c.get_from.new.seat.of_set; hw = own.hw; tags = c.get_from.new.seat.tags; hands = slice_set own.hands.items c.from.result (Some c.in-Ok.command); ran = c.reserve.new.self.items } in
+    subst (λ (old : WorkerSeat). TakesInHand old c.in-Some.tag c.in-Ok.command new) c.self.view_is
+    (takes own.seat.of_set c.get_from.new.seat.of_set own.hw own.seat.tags c.get_from.new.seat.tags own.hands.items own.ran.items c.reserve.new.self.items c.from.result c.in-Some.tag c.in-Ok.command (ap (λ (s : TagSeat). s.of_set) got) (ap (λ (s : TagSeat). s.tags) got) c.reserve.ensures.items c.from.ensures c.self.invariant.marks c.self.invariant.places below c.in-Some.ensures.free)
+
+pub returns-in-Err-clause-same : goal.returns-in-Err-clause-same
+returns-in-Err-clause-same g c =
+    let back = given_back c.self.inside.seat c.get_from.new.seat c.give.new.seat c.in-Some.tag (Some c.in-Some.tag) c.get_from.new.seat.last c.in-Some.ensures.some c.give.ensures c.in-Some.ensures.free in
+    let own = c.self.inside in
+    same_seat own.seat.of_set c.give.new.seat.of_set own.hw own.seat.tags c.give.new.seat.tags own.hands.items own.ran.items c.reserve.new.self.items back.0 back.1 c.reserve.ensures.items ∙ c.self.view_is
+
+pub invariant_of-self : goal.invariant_of-self
+invariant_of-self g c =
+    let own = c.self.inside in
+    more_room g.L.Named.setup own.hw own.seat.of_set.depth own.seat.of_set.depth own.seat.tags own.seat.tags own.hands.items (length own.ran.items) (length c.reserve.new.self.items) (vec_capacity own.ran) (vec_capacity c.reserve.new.self) own.share.parts own.share.amount c.self.invariant refl refl (ap length c.reserve.ensures.items) c.reserve.ensures.capacity
+
+pub returns-then-is_err-clause-same : goal.returns-then-is_err-clause-same
+returns-then-is_err-clause-same g c =
+    let own = c.self.inside in
+    same_seat own.seat.of_set own.seat.of_set own.hw own.seat.tags own.seat.tags own.hands.items own.ran.items c.reserve.new.self.items refl refl c.reserve.ensures.items ∙ c.self.view_is
+
+pub invariant_of-self-in_default : goal.invariant_of-self-in_default
+invariant_of-self-in_default g c =
+    let own = c.self.inside in
+    let stays = c.in_default.ensures.none in
+    more_room g.L.Named.setup own.hw own.seat.of_set.depth c.get_from.new.seat.of_set.depth own.seat.tags c.get_from.new.seat.tags own.hands.items (length own.ran.items) (length c.reserve.new.self.items) (vec_capacity own.ran) (vec_capacity c.reserve.new.self) own.share.parts own.share.amount c.self.invariant (ap (λ (s : TagSeat). s.of_set.depth) stays) (ap (λ (s : TagSeat). s.tags) stays) (ap length c.reserve.ensures.items) c.reserve.ensures.capacity
+
+pub invariant_of-core : goal.invariant_of-core
+invariant_of-core g c =
+    let locked = c.args.core.now in
+    let S = g.S.Scheduler in
+    let stays = tried_stays S.policy.serves S.policy.chooses S.policy.told_tick locked.core c.self.inside.hw c.in-Some.tag c.try_issue.new.core c.try_issue.result c.try_issue.ensures.issued c.try_issue.ensures.fault in
+    record {
+      named = stays.setup ∙ locked.named;
+      counted = locked.counted ∙ sym stays.dones;
+      all_out = locked.all_out;
+      none = locked.none;
+      ran = ∥∥₁_map locked.ran (tried S.policy g.L.Named.start locked.core c.self.inside.hw c.in-Some.tag c.try_issue.new.core c.try_issue.result c.try_issue.ensures.issued c.try_issue.ensures.fault);
+    }
+
+pub invariant_of-core-in-Err-1 : goal.invariant_of-core-in-Err-1
+invariant_of-core-in-Err-1 g c =
+    let locked = c.args.core.now in
+    let S = g.S.Scheduler in
+    let stays = tried_stays S.policy.serves S.policy.chooses S.policy.told_tick locked.core c.self.inside.hw c.in-Some.tag c.try_issue.new.core c.try_issue.result c.try_issue.ensures.issued c.try_issue.ensures.fault in
+    record {
+      named = stays.setup ∙ locked.named;
+      counted = locked.counted ∙ sym stays.dones;
+      all_out = locked.all_out;
+      none = locked.none;
+      ran = ∥∥₁_map locked.ran (tried S.policy g.L.Named.start locked.core c.self.inside.hw c.in-Some.tag c.try_issue.new.core c.try_issue.result c.try_issue.ensures.issued c.try_issue.ensures.fault);
+    }
