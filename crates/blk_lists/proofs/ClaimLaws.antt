@@ -25,7 +25,8 @@ use Rattle.blk_lists.specs.declared.fields.Slot.TheVariants as slot
 use Rattle.blk_lists.proofs.Decimals.{no_minus}
 use Rattle.parts.specs.declared.Repeats.TheVariants as repeats
 use Rattle.parts.specs.Parts.{Begins, NextWrong, Spells, all_rows, by_word}
-use Rattle.parts.specs.Laws.{Tells, Either, Decides}
+use Rattle.parts.specs.Laws.{Tells}
+use Rattle.parts.specs.Inside.Laws.{Either, Decides}
 use Rattle.parts.proofs.Then.{record_tells, record_decides, by_word_tells, by_word_decides, seen_tells, seen_decides, then_tells, then_decides}
 use Rattle.blk_lists.proofs.Lists.{head_of, tail_of, all_cons, cons_same}
 use Rattle.blk_lists.proofs.Lacking.{both, same_number, same_row, no_word_lacks, word_decided}

@@ -14,7 +14,8 @@ use Rattle.blk_lists.specs.declared.fault.Why.{Why}
 use Rattle.blk_lists.specs.declared.fault.Why.TheVariants as why
 use Rattle.parts.specs.declared.Repeats.TheVariants as repeats
 use Rattle.parts.specs.Parts.{Begins, Spells}
-use Rattle.parts.specs.Laws.{Tells, Decides}
+use Rattle.parts.specs.Laws.{Tells}
+use Rattle.parts.specs.Inside.Laws.{Decides}
 use Rattle.parts.proofs.Then.{then_tells, then_decides, record_decides}
 use Rattle.blk_lists.proofs.TableLaws.{IsTable, table_tells, table_decides, title_part, title_decides}
 use Rattle.blk_lists.proofs.Each.{rows_map, all_fit, each_tells, each_decides, one_record, one_version}

@@ -2,7 +2,7 @@
 use Rattle.std.proofs.Common.{ℕ, List, refl, arith}
 use Rattle.blk_lists.specs.Reads.{IsOne}
 use Rattle.blk_lists.specs.Titles.{counted_cells, IsCounted, counted_title}
-use Rattle.parts.specs.Laws.{Decides}
+use Rattle.parts.specs.Inside.Laws.{Decides}
 use Rattle.blk_lists.proofs.TableLaws.{IsTable, title_part, title_decides}
 
 title_table : (version : ℕ) → IsTable (counted_cells version) IsCounted

@@ -9,7 +9,8 @@ use Rattle.blk_lists.specs.Tables.{IsVersion}
 use Rattle.blk_lists.specs.declared.fault.Why.{Why}
 use Rattle.parts.specs.Parts.{Part, record_of, all_rows, AllFit}
 use Rattle.parts.specs.declared.Repeats.{Repeats}
-use Rattle.parts.specs.Laws.{Tells, TellsRecord, Decides}
+use Rattle.parts.specs.Laws.{Tells}
+use Rattle.parts.specs.Inside.Laws.{TellsRecord, Decides}
 use Rattle.parts.proofs.Then.{record_tells}
 use Rattle.parts.proofs.Many.{HasRows, many_tells, many_decides, ended_tells, ended_decides}
 use Rattle.blk_lists.proofs.Reading.{lines_halt, many_halt}
@@ -63,7 +64,3 @@ one_record row_of Fits gone Lacks t = record { tells = record_tells row_of Fits 
 
 pub one_version : (version : ℕ) → IsVersion 1 version → version ≡ 1
 one_version version h = let high = h.1 in let low = h.0 in omega (arith, low, high)
-
--- the text of version 1
-pub first_version : decimal 1 ≡ codes "1"
-first_version = decimal_digit 1 (omega arith)

@@ -20,7 +20,8 @@ use Rattle.blk_lists.specs.declared.fault.Why.{Why}
 use Rattle.blk_lists.specs.declared.fault.Why.TheVariants as why
 use Rattle.parts.specs.declared.Repeats.TheVariants as repeats
 use Rattle.parts.specs.Parts.{Begins, Spells, all_rows}
-use Rattle.parts.specs.Laws.{Tells, Decides}
+use Rattle.parts.specs.Laws.{Tells}
+use Rattle.parts.specs.Inside.Laws.{Decides}
 use Rattle.parts.proofs.Then.{record_decides, then_tells, then_decides}
 use Rattle.blk_lists.proofs.TableLaws.{IsTable, word_tells, word_decides}
 use Rattle.blk_lists.proofs.Each.{size_is, rows_map, all_fit, repeated_tells, repeated_decides, one_record, one_version}

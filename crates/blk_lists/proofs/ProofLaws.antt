@@ -13,7 +13,8 @@ use Rattle.blk_lists.specs.declared.proof.ProofKind.TheVariants as kind
 use Rattle.blk_lists.specs.declared.fault.Why.{Why}
 use Rattle.blk_lists.specs.declared.fault.Why.TheVariants as why
 use Rattle.parts.specs.Parts.{Begins, GetsTo}
-use Rattle.parts.specs.Laws.{Tells, Decides}
+use Rattle.parts.specs.Laws.{Tells}
+use Rattle.parts.specs.Inside.Laws.{Decides}
 use Rattle.parts.proofs.Then.{reached_first, by_word_tells, kind_reached, kinds_reached}
 use Rattle.blk_lists.proofs.Lacking.{word_decided}
 use Rattle.blk_lists.proofs.TableLaws.{next_starts, next_same}
@@ -74,18 +75,11 @@ title_line k row t h = λ rest. record { fits = (h rest).fits; made = (h rest).m
 pub title_wrong : (k : ProofKind) (row : Row) (w : Why) → StartsWith (proof_name k) row → IsWrongLine (counted_title (proof_name k)) row w → IsWrongLine proof_title row w
 title_wrong k row w s h = λ rest. inl (k, s, h rest)
 
-pub title_unnamed : (row : Row) → ¬ StartsWith (codes "blk-certificate") row → ¬ StartsWith (codes "blk-met") row → IsWrongLine proof_title row why.Title
-title_unnamed row n m = λ rest. inr (refl, neither row rest n m, refl)
-
 -- both forms
 
 forms_tell : (k : ProofKind) → Tells (form_of k)
 forms_tell kind.Lateness = claim.claim_tells
 forms_tell kind.OnTime = met.on_time_tells
-
-forms_decide : (k : ProofKind) → Decides (form_of k)
-forms_decide kind.Lateness = claim.claim_decides
-forms_decide kind.OnTime = met.on_time_decides
 
 pub proof_tells : Tells proof_form
 proof_tells = by_word_tells Shown StartsAs form_of IsUnnamed forms_tell one_name forms_start (λ rows w x a b. a ∙ sym b)

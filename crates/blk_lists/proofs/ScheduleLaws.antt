@@ -26,7 +26,8 @@ use Rattle.blk_lists.specs.declared.fault.Why.{Why}
 use Rattle.blk_lists.specs.declared.fault.Why.TheVariants as why
 use Rattle.parts.specs.declared.Repeats.TheVariants as repeats
 use Rattle.parts.specs.Parts.{Begins, Spells, AllFit, all_rows, over}
-use Rattle.parts.specs.Laws.{Tells, Decides}
+use Rattle.parts.specs.Laws.{Tells}
+use Rattle.parts.specs.Inside.Laws.{Decides}
 use Rattle.parts.proofs.Then.{then_tells, then_decides, tested_tells, tested_plain, tested_decides}
 use Rattle.parts.proofs.Many.{HasRows, ended_tells, ended_decides}
 use Rattle.blk_lists.proofs.Lists.{head_of, tail_of, all_cons}

@@ -17,7 +17,8 @@ use Rattle.blk_lists.specs.declared.fault.Why.TheVariants as why
 use Rattle.blk_lists.proofs.Lists.{cons_same}
 use Rattle.blk_lists.proofs.Lacking.{Good, Goods, Dec, both, same_as, at_most, same_text, number_decided, sized_once, lacks_once, goods_lack, goods_or_lacks, no_word_once, no_word_lacks, word_decided, starts_same, word_once}
 use Rattle.parts.specs.Parts.{Part, NextWrong}
-use Rattle.parts.specs.Laws.{Tells, TellsRecord, Decides, DecidesRecord}
+use Rattle.parts.specs.Laws.{Tells}
+use Rattle.parts.specs.Inside.Laws.{TellsRecord, Decides, DecidesRecord}
 use Rattle.parts.proofs.Then.{record_tells, record_decides, by_word_tells, by_word_decides}
 use Rattle.blk_lists.specs.Tables.{Cell, Blank, Direction, Number, Signed, slot_of, field_of, row_by, slots_by, FitsCell, FitsCells, IsUpTo, IsTitled, IsVersion, title_by, TitleLacks, title_record, table_record, word_record, kinds_record}
 

@@ -37,7 +37,9 @@ impl<const L: usize, const N: usize> Kind<L, N> {
     pub fn is(&self, field: &[u8], version: u64) -> bool
         ensures { IsTrue result ↔ (StandsFrom self.now.since version × (field.now ≡ self.now.word)) }
     {
-        stands(self.since, version) && field == self.word.as_slice()
+        // The word is copied, so that of a constant row only the word is built for the comparison, and not all its slots.
+        let word = self.word;
+        stands(self.since, version) && field == word.as_slice()
     }
 
     /// Its slots, but its first number lies below a count.
@@ -63,6 +65,7 @@ impl<const L: usize, const N: usize> Kind<L, N> {
         requires few { length numbers.now < N }
         ensures text { OnOk result (AddsRecord draft.old draft.new self.now.word numbers.now (N - 1)) }
     {
-        push_row(draft, self.word.as_slice(), numbers, N - 1 - numbers.len())
+        let word = self.word;
+        push_row(draft, word.as_slice(), numbers, N - 1 - numbers.len())
     }
 }

@@ -27,7 +27,8 @@ use Rattle.blk_text.specs.declared.heads.TraceTitle.{TraceTitle}
 use Rattle.parts.specs.declared.Repeats.TheVariants as repeats
 use Rattle.parts.specs.Parts.{Part, Begins}
 use Rattle.parts.specs.Parts.{then as in_turn}
-use Rattle.parts.specs.Laws.{Tells, Decides, IsPlain}
+use Rattle.parts.specs.Laws.{Tells, IsPlain}
+use Rattle.parts.specs.Inside.Laws.{Decides}
 use Rattle.parts.proofs.Then.{seen_tells, seen_decides, then_tells, then_decides, tested_tells, tested_decides, both_begin}
 use Rattle.parts.proofs.Many.{HasRows, ended_tells, ended_decides}
 use Rattle.blk_lists.proofs.Reading.{outside_fails, many_fails, many_ends, full_ends, past_wrong, full_stopped}
@@ -200,11 +201,6 @@ alone_line version limits (head.Release id bios) e row is l = absurd (cc is)
 alone_line version limits (head.Join id bios) e row is l = absurd (cc is)
 alone_line version limits h e row is l = subst (λ z. IsRowOf (plain_event version limits) row z) (some_same _ _ is) (λ rest. record { fits = ((l rest).fits, (tt, refl)); made = (l rest).made; follows = (tt, refl) })
 
-pub alone_size : (version : ℕ) (limits : Limits) (h : Head) (e : Happened) → alone h ≡ Some e → length ((plain_event version limits).rows_of e) ≡ 1
-alone_size version limits (head.Release id bios) e is = absurd (cc is)
-alone_size version limits (head.Join id bios) e is = absurd (cc is)
-alone_size version limits h e is = subst (λ z. length ((plain_event version limits).rows_of z) ≡ 1) (some_same _ _ is) refl
-
 -- of a group: its first record and its bios
 abbrev grouped : ℕ → Limits → Part Row Why (Head × List Bio)
 grouped version limits = in_turn (first_record version) (λ h. group version limits (bios_after h))
@@ -258,11 +254,6 @@ group_fails version limits h failed (Some rows) row start middle at w e l f = el
 
 -- an event that breaks no rule, and one that breaks one
 
-pub event_reads : (version : ℕ) (setup : Setup) (before : List Happened) (left new : Option (List Row)) (row : Row) (e : Happened) → HandReads (plain_event version setup.limits) left row new e → IsUnbroken setup before e
-    → HandReads (event version setup before) left row new e
-event_reads version setup before None new row e h u = tt
-event_reads version setup before (Some rows) new row e h u = (h.0, h.1, record { fits = (h.2.fits, u); made = h.2.made; follows = h.2.follows })
-
 pub event_fails : (version : ℕ) (setup : Setup) (before : List Happened) (failed : Bool) (left : Option (List Row)) (row : Row) (start at : ℕ) (w : Why) → HandFails failed (plain_event version setup.limits) left row start at w
     → HandFails failed (event version setup before) left row start at w
 event_fails version setup before failed None row start at w f = tt
@@ -313,9 +304,6 @@ pub refused_fails : (version : ℕ) (setup own : Setup) (before : List Happened)
     → HandReads (plain_event version setup.limits) left row new e → IsRefused own before e w → at ≡ start → HandFails failed (event version setup before) left row start at w
 refused_fails version setup own before failed left new row e start at w same h (inl m) is = hand_outside failed (event version setup before) left row start at w (inr m)
 refused_fails version setup own before failed left new row e start at w same h (inr b) is = rw b.1 (rule_fails version setup before failed left new row e start at b.0 h (rw same at b.2) is)
-
-pub memory_fails : (version : ℕ) (setup : Setup) (before : List Happened) (failed : Bool) (left : Option (List Row)) (row : Row) (start at : ℕ) (w : Why) → w ≡ why.Memory → HandFails failed (event version setup before) left row start at w
-memory_fails version setup before failed left row start at w m = hand_outside failed (event version setup before) left row start at w (inr m)
 
 pub past_refused : (version : ℕ) (setup own : Setup) (before : List Happened) (row : Row) (h : Head) (e : Happened) (w : Why) → own ≡ setup → alone h ≡ Some e → IsRowOf (first_record version) row h → IsRefused own before e w
     → (w ≡ why.Memory) ⊎ IsPast version setup before row w

@@ -16,7 +16,8 @@ use Rattle.blk_lists.specs.declared.fault.Why.TheVariants as why
 use Rattle.blk_text.specs.TraceForm.{Head}
 use Rattle.parts.specs.declared.Repeats.TheVariants as repeats
 use Rattle.parts.specs.Parts.{Part, by_word, all_rows}
-use Rattle.parts.specs.Laws.{Tells, Decides, IsPlain}
+use Rattle.parts.specs.Laws.{Tells, IsPlain}
+use Rattle.parts.specs.Inside.Laws.{Decides}
 use Rattle.parts.proofs.Then.{record_tells, record_decides, by_word_tells, by_word_decides, seen_tells, seen_decides, tested_tells, tested_decides, over_tells}
 use Rattle.parts.proofs.Many.{HasRows, many_tells, many_decides, many_plain}
 use Rattle.blk_lists.proofs.Lacking.{Dec, word_decided}
@@ -113,9 +114,6 @@ group_tells version limits count = many_tells (repeats.Exactly count) (group_bio
 pub group_decides : (version : ℕ) (limits : Limits) (count : ℕ) → Decides (group version limits count)
 group_decides version limits count = many_decides (repeats.Exactly count) (group_bio version limits) with_next (bio_decides version limits) []
 
-pub group_plain : (version : ℕ) (limits : Limits) (count : ℕ) → IsPlain (group version limits count)
-group_plain version limits count = many_plain count (group_bio version limits) with_next []
-
 -- a group has a record for each bio
 sizes : (version : ℕ) (limits : Limits) (before bios : List Bio) → length (all_rows (group_bio version limits) with_next before bios) ≡ length bios
 sizes version limits before [] = refl
@@ -123,9 +121,6 @@ sizes version limits before (b ∷ bs) = ap suc (sizes version limits (with_next
 
 pub group_size : (version : ℕ) (limits : Limits) (count : ℕ) (bios : List Bio) → length ((group version limits count).rows_of bios) ≡ length bios
 group_size version limits count bios = sizes version limits [] bios
-
-pub bio_gone : (version : ℕ) (limits : Limits) (before : List Bio) → (group_bio version limits before).Wrong [] 1 why.Count
-bio_gone version limits before = inl (inl (inr (refl, (λ i s. s), refl)))
 
 -- what was read of a record
 

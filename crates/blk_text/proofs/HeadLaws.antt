@@ -15,7 +15,8 @@ use Rattle.blk_lists.specs.declared.fault.Why.TheVariants as why
 use Rattle.blk_lists.specs.declared.fields.Slot.TheVariants as slot
 use Rattle.blk_trace.specs.declared.event.Event.TheVariants as head
 use Rattle.parts.specs.Parts.{Part}
-use Rattle.parts.specs.Laws.{Tells, Decides}
+use Rattle.parts.specs.Laws.{Tells}
+use Rattle.parts.specs.Inside.Laws.{Decides}
 use Rattle.parts.proofs.Then.{seen_tells, seen_decides}
 use Rattle.blk_lists.proofs.Lacking.{Dec, at_most}
 use Rattle.blk_lists.proofs.TableLaws.{IsTable, IsBy, first_is, word_line, kinds_tell, kinds_decide, words_tell, word_picked}

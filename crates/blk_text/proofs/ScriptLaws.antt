@@ -26,7 +26,8 @@ use Rattle.blk_lists.specs.declared.fault.Why.TheVariants as why
 use Rattle.blk_lists.specs.declared.fields.Slot.TheVariants as slot
 use Rattle.parts.specs.declared.Repeats.TheVariants as repeats
 use Rattle.parts.specs.Parts.{Part, Begins, Spells}
-use Rattle.parts.specs.Laws.{Tells, Decides}
+use Rattle.parts.specs.Laws.{Tells}
+use Rattle.parts.specs.Inside.Laws.{Decides}
 use Rattle.parts.proofs.Then.{record_decides, then_tells, then_decides, tested_tells, tested_decides, seen_tells, seen_decides}
 use Rattle.blk_text.specs.declared.script.Line.{Line}
 use Rattle.blk_text.specs.declared.script.Line.TheVariants as line

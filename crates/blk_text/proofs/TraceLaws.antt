@@ -309,29 +309,7 @@ spelled_or_wrong rows = elim (trace_decides rows) [
   | inr f ↦ inr f
 ]
 
-pub trace_read : (left mid next : Option (List Row)) (t : Traced) (v : ℕ × TraceTitle) (s : Setup) → Reads title left mid v → Reads (setup v.1.depth v.1.hw) mid next s
-    → IfSome next (λ rows. Begins (events_of v.0 s v.1.count) rows t.events []) → t.setup ≡ s → FitsSetup v.1.depth v.1.hw s → length t.events ≡ v.1.count → IfSome left (λ rows. SpellsTrace rows t)
-trace_read None mid next t v s h k a e f c = tt
-trace_read (Some rows) mid next t v s h k a e f c = (
-  v.0,
-  subst (λ (x : (ℕ × TraceTitle) × (Setup × List Happened)). Begins trace_form rows x []) (value_is t v s e f c)
-      (then_reads title trace_body (Some rows) mid v (s, t.events) h (then_reads (setup v.1.depth v.1.hw) (λ s. events_of v.0 s v.1.count) mid next s t.events k a)),
-)
-
--- the same of one that began without events, for a setup that is this one
-pub trace_read_of : (left mid next : Option (List Row)) (t : Traced) (v : ℕ × TraceTitle) (n s : Setup) → n ≡ s → Reads title left mid v → Reads (setup v.1.depth v.1.hw) mid next s
-    → IfSome next (λ rows. Begins (events_of v.0 n v.1.count) rows t.events []) → t.setup ≡ n → FitsSetup v.1.depth v.1.hw s → length t.events ≡ v.1.count → IfSome left (λ rows. SpellsTrace rows t)
-trace_read_of left mid next t v n s is h k a e f c = trace_read left mid next t v s h k (rw is at a) (e ∙ is) f c
-
 -- where reading stops
-
-pub title_halts : (failed : Bool) (left : Option (List Row)) (start at : ℕ) (w : Why) → start ≡ 0 → Halts failed title left start at w → Halts failed trace_form left 0 at w
-title_halts failed left start at w e h = first_halts failed title trace_body left 0 at w (λ t fit. body_tells t fit.1) (rw e at h)
-
-pub setup_halts : (failed : Bool) (left mid : Option (List Row)) (t : ℕ × TraceTitle) (middle at : ℕ) (w : Why) → middle ≡ 1 → IsTraceTitle t.0 t.1 → Reads title left mid t → Halts failed (setup t.1.depth t.1.hw) mid middle at w → Halts failed trace_form left 0 at w
-setup_halts failed left mid t middle at w e i r h =
-    second_halts failed title trace_body left mid t 0 middle at w title_one.tells r (omega (arith, e))
-    (first_halts failed (setup t.1.depth t.1.hw) (λ s. events_of t.0 s t.1.count) mid middle at w (λ s fit. events_tell t.0 s t.1.count) h)
 
 pub events_fail : (failed : Bool) (left mid next : Option (List Row)) (t : ℕ × TraceTitle) (s : Setup) (middle at : ℕ) (w : Why) → middle ≡ 1 → Reads title left mid t → Reads (setup t.1.depth t.1.hw) mid next s
     → Fails failed (events_of t.0 s t.1.count) next 2 at w → Fails failed trace_form left 0 at w
@@ -345,10 +323,6 @@ fails_err failed (Some rows) at w f = elim f [
   | inl o ↦ inl o
   | inr k ↦ (let is = k.1 in let same : k.0 ≡ at = omega (arith, is) in inr (rw same at k.2))
 ]
-
-pub halts_held : (failed : Bool) (left : Option (List Row)) (at last : ℕ) (w : Why) → Halts failed trace_form left 0 at w → at ≡ last → IsHeldAt trace_form left MAX_SEGMENTS at last
-halts_held failed None at last w h e = (at, omega arith, omega (arith, e), omega (arith, e), tt)
-halts_held failed (Some rows) at last w h e = let is = h.1 in (h.0, omega (arith, is), omega (arith, e), omega (arith, is, e), h.2)
 
 -- no memory for a trace without events
 pub none_held : (left mid : Option (List Row)) (t : ℕ × TraceTitle) (at last : ℕ) → IsTraceTitle t.0 t.1 → Reads title left mid t → at ≡ 2 → last ≡ 2 → IsHeldAt trace_form left MAX_SEGMENTS at last

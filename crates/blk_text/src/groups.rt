@@ -47,17 +47,14 @@ fn tiles(request: &Request, bio: &Bio, limits: &Limits) -> bool
 }
 
 /// Joins a bio to a request at the back.
-fn append(alloc: Global, request: &mut Request, bio: Bio, limits: &Limits) -> Result<(), AllocError>
+fn append(request: &mut Request, bio: Bio, limits: &Limits) -> Result<(), AllocError>
     requires { Fits limits.now request.old (bio ∷ []) Side.Back }
     ensures { OnOk result (request.new ≡ request.old ++ bio ∷ []) }
 {
-    let Ok(newcomer) = Request::of(alloc, bio) else {
-        return Err(AllocError);
-    };
-    let Ok(_) = request.join(newcomer, limits) else {
-        return Err(AllocError);
-    };
-    Ok(())
+    match request.push_bio(bio, limits) {
+        Ok(()) => Ok(()),
+        Err(_) => Err(AllocError),
+    }
 }
 
 /// The bios of a group of a version, under limits.
@@ -110,7 +107,7 @@ impl ItemForm for GroupForm {
                 if !tiles(request, &bio, &self.limits) {
                     return Err(records.fault(Why::Tile));
                 }
-                match append(alloc, request, bio, &self.limits) {
+                match append(request, bio, &self.limits) {
                     Ok(()) => Ok(()),
                     Err(AllocError) => Err(records.fault(Why::Memory)),
                 }
