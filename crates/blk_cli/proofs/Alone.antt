@@ -13,18 +13,9 @@ use Rattle.blk_cli.specs.Ends.{Answers, AskForTexts, EndsPut, status_with}
 -- a job that answers a text alone
 alone : (words : List (List ℕ)) (j : Job) (input : Option (List Row)) (bytes : Option (List ℕ)) (s : Said) → AnswersText j → Gives words j input bytes s → IsAlone s
 alone words job.Version input bytes s answers g = g.1
-alone words (job.Sim x) input bytes s answers g = g.1
-alone words (job.Compare x y) input bytes s answers g = g.1
-alone words (job.Pictures x) input bytes s answers g = g.1
-alone words job.Migrate input bytes s answers g = g.1
-alone words job.Commands input bytes s answers g = g.1
-alone words (job.Late x) input bytes s answers g = g.1
-alone words (job.Misses x) input bytes s answers g = g.1
-alone words (job.Spread x) input bytes s answers g = g.1
-alone words job.Picture input bytes s answers g = g.1
-alone words job.Oracle input bytes s answers g = g.1
-alone words job.OnTime input bytes s answers g = g.1
-alone words (job.Report x) input bytes s answers g = g.1
+alone words (job.OfScript x) input bytes s answers g = g.1
+alone words (job.OfTrace x) input bytes s answers g = g.1
+alone words (job.OfList x) input bytes s answers g = g.1
 alone words (job.Check x) input bytes s answers g = g.1
 alone words (job.Import x) input bytes s answers g = absurd answers
 alone words (job.Refuse x) input bytes s answers g = g.1
@@ -36,18 +27,9 @@ alone words (job.Load x y z) input bytes s answers g = g.1
 -- what a job answers that gives a text alone
 pub gives_text : (words : List (List ℕ)) (j : Job) (input : Option (List Row)) (bytes : Option (List ℕ)) (text : List ℕ) → GivesText j input text → Gives words j input bytes (only text)
 gives_text words job.Version input bytes text g = (g, (refl, refl))
-gives_text words (job.Sim x) input bytes text g = (g, (refl, refl))
-gives_text words (job.Compare x y) input bytes text g = (g, (refl, refl))
-gives_text words (job.Pictures x) input bytes text g = (g, (refl, refl))
-gives_text words job.Migrate input bytes text g = (g, (refl, refl))
-gives_text words job.Commands input bytes text g = (g, (refl, refl))
-gives_text words (job.Late x) input bytes text g = (g, (refl, refl))
-gives_text words (job.Misses x) input bytes text g = (g, (refl, refl))
-gives_text words (job.Spread x) input bytes text g = (g, (refl, refl))
-gives_text words job.Picture input bytes text g = (g, (refl, refl))
-gives_text words job.Oracle input bytes text g = (g, (refl, refl))
-gives_text words job.OnTime input bytes text g = (g, (refl, refl))
-gives_text words (job.Report x) input bytes text g = (g, (refl, refl))
+gives_text words (job.OfScript x) input bytes text g = (g, (refl, refl))
+gives_text words (job.OfTrace x) input bytes text g = (g, (refl, refl))
+gives_text words (job.OfList x) input bytes text g = (g, (refl, refl))
 gives_text words (job.Check x) input bytes text g = (g, (refl, refl))
 gives_text words (job.Import x) input bytes text g = absurd g
 gives_text words (job.Refuse x) input bytes text g = (g, (refl, refl))
@@ -59,18 +41,9 @@ gives_text words (job.Load x y z) input bytes text g = (g, (refl, refl))
 -- why it gives none
 pub fails_text : (words : List (List ℕ)) (j : Job) (input : Option (List Row)) (failed : Bool) (f : Failure) → HasNoText j input failed f → Fails words j input failed f
 fails_text words job.Version input failed f h = h
-fails_text words (job.Sim x) input failed f h = h
-fails_text words (job.Compare x y) input failed f h = h
-fails_text words (job.Pictures x) input failed f h = h
-fails_text words job.Migrate input failed f h = h
-fails_text words job.Commands input failed f h = h
-fails_text words (job.Late x) input failed f h = h
-fails_text words (job.Misses x) input failed f h = h
-fails_text words (job.Spread x) input failed f h = h
-fails_text words job.Picture input failed f h = h
-fails_text words job.Oracle input failed f h = h
-fails_text words job.OnTime input failed f h = h
-fails_text words (job.Report x) input failed f h = h
+fails_text words (job.OfScript x) input failed f h = h
+fails_text words (job.OfTrace x) input failed f h = h
+fails_text words (job.OfList x) input failed f h = h
 fails_text words (job.Check x) input failed f h = h
 fails_text words (job.Import x) input failed f h = h
 fails_text words (job.Refuse x) input failed f h = h

@@ -24,7 +24,7 @@ pub rounds_of : (s : Ran) → IsRan s → (rounds : List ℕ) → rounds ≡ s.r
 rounds_of s r rounds e = subst RoundsInRange (sym e) r.rounds
 
 module _ (s : Ran) (commands : List Command) (rounds : List ℕ) (steps : List Step) (e : commands ≡ s.commands) (f : rounds ≡ s.rounds) (g : steps ≡ fixed s.depth) where
-  -- what is told under other names is told of it
+  -- what holds of lists that are those of the schedule holds of its own
   pub told_of : (P : List Command → List ℕ → List Step → Type 0) → P commands rounds steps → P s.commands s.rounds (fixed s.depth)
   told_of P h = subst (λ (x : List Step). P s.commands s.rounds x) g (subst (λ (x : List ℕ). P s.commands x steps) f (subst (λ (x : List Command). P x rounds steps) e h))
 

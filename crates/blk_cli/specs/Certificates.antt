@@ -9,7 +9,7 @@ use Rattle.edd_check.specs.declared.on_time.OnTimeFault.{OnTimeFault}
 use Rattle.edd_check.specs.declared.Window.{Window}
 use Rattle.edd_commands.specs.Capacity.{fixed}
 use Rattle.edd_check.specs.Check.{IsAnswer, IsCrowding}
-use Rattle.edd_check.specs.CheckOnTime.{IsOnTimeAnswer, IsBound}
+use Rattle.edd_check.specs.CheckOnTime.{IsOnTimeAnswer, IsCoverBound}
 use Rattle.edd_check.specs.OnTime.{carried_by, outside_of}
 use Rattle.edd_commands.specs.Schedule.{IsLegal, IsGreatestLateness, IsLeastLateness}
 use Rattle.edd_check.specs.Window.{IsCrowded, load_of, rounds_between}
@@ -26,8 +26,8 @@ use Rattle.blk_words.specs.declared.words.Form.{Form}
 use Rattle.blk_words.specs.declared.words.Form.TheVariants as form
 use Rattle.blk_cli.specs.declared.failure.Failure.{Failure}
 use Rattle.blk_cli.specs.declared.failure.Failure.TheVariants as failure
-use Rattle.blk_cli.specs.declared.lists.Solving.{Solving}
-use Rattle.blk_cli.specs.declared.lists.Solving.TheVariants as solving
+use Rattle.blk_words.specs.declared.inputs.Solving.{Solving}
+use Rattle.blk_words.specs.declared.inputs.Solving.TheVariants as solving
 
 -- the schedule is legal, its greatest lateness is the one stated, the window is crowded at it, and it is least
 pub record IsProof (commands : List Command) (depth : ℕ) (rounds : List ℕ) (late : ℤ) (window : Window) : Type 0 where
@@ -104,7 +104,7 @@ IsCrowdingOf claim (Some b) (Some c) = IsCrowding claim.commands (fixed claim.de
 
 -- the bound of the windows of one
 abbrev pub IsBoundOf : OnTimeClaim → Bound → Type 0
-IsBoundOf claim b = IsBound claim.commands (fixed claim.depth) claim.cover b
+IsBoundOf claim b = IsCoverBound claim.commands (fixed claim.depth) claim.cover b
 
 -- the check refuses the certificate that was read, which has a bound
 abbrev pub IsRefusedBound : Claim → CheckFault → Option (ℤ × Window) → Type 0

@@ -7,6 +7,8 @@ use Rattle.blk_report.specs.Shortfall.{IsReport}
 use Rattle.blk_report.specs.Table.{IsTable}
 use Rattle.blk_picture.specs.Pictures.{IsPictures}
 use Rattle.blk_json.specs.Tables.{IsTableJson}
+use Rattle.blk_words.specs.declared.inputs.Running.{Running}
+use Rattle.blk_words.specs.declared.inputs.Running.TheVariants as running
 use Rattle.blk_words.specs.declared.words.Form.{Form}
 use Rattle.blk_words.specs.declared.words.Form.TheVariants as form
 use Rattle.blk_runs.specs.Runs.{IsTraceOfScript}
@@ -16,8 +18,6 @@ use Rattle.blk_settings.specs.declared.sched.Sched.{Sched}
 use Rattle.blk_settings.specs.Rows.{name_of, in_turn}
 use Rattle.blk_cli.specs.declared.failure.Failure.{Failure}
 use Rattle.blk_cli.specs.declared.failure.Failure.TheVariants as failure
-use Rattle.blk_cli.specs.declared.scripts.Running.{Running}
-use Rattle.blk_cli.specs.declared.scripts.Running.TheVariants as running
 use Rattle.blk_cli.specs.Scripts.{IsSimText, IsUnrun}
 
 -- the report of the trace of the script under a scheduler

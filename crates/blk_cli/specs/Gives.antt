@@ -1,4 +1,4 @@
--- The jobs, a row for each: what text it gives, and why it fails.
+-- The kinds of jobs, a row for each: what text it gives, and why it fails.
 use Rattle.std.specs.Prelude.{◌≡◌, ◌++◌, ◌∷◌, ⊤, ℕ, Bool, List, [], Option, codes}
 use Rattle.blk_lists.specs.Sources.{Row}
 use Rattle.blk_lists.specs.Commands.{CommandsFault}
@@ -11,9 +11,6 @@ use Rattle.blk_words.specs.declared.words.Job.{Job}
 use Rattle.blk_words.specs.declared.words.Job.TheVariants as job
 use Rattle.blk_cli.specs.declared.failure.Failure.{Failure}
 use Rattle.blk_cli.specs.declared.failure.Failure.TheVariants as failure
-use Rattle.blk_cli.specs.declared.scripts.Running.TheVariants as running
-use Rattle.blk_cli.specs.declared.traces.Telling.TheVariants as telling
-use Rattle.blk_cli.specs.declared.lists.Solving.TheVariants as solving
 use Rattle.blk_cli.specs.Said.{Said, IsAlone}
 use Rattle.blk_cli.specs.Inputs.{Of, FailsOver}
 use Rattle.blk_cli.specs.Comparing.{IsRunText, HasNoRunText}
@@ -44,18 +41,9 @@ version_line = codes "blk 1.0.0" ++ 10 ∷ []
 -- the text that a job gives of the records of its input, where these are known; that of a trial turns on its words too
 abbrev pub GivesText : Job → Option (List Row) → List ℕ → Type 0
 GivesText job.Version input text = text ≡ version_line
-GivesText (job.Sim s) input text = Of SpellsScript (IsRunText (running.One s)) input text
-GivesText (job.Compare l o) input text = Of SpellsScript (IsRunText (running.Each l o)) input text
-GivesText (job.Pictures l) input text = Of SpellsScript (IsRunText (running.Drawn l)) input text
-GivesText job.Migrate input text = Of SpellsTrace (IsTold telling.Whole) input text
-GivesText job.Commands input text = Of SpellsTrace (IsTold telling.Commands) input text
-GivesText (job.Late o) input text = Of SpellsTrace (IsTold (telling.Late o)) input text
-GivesText (job.Misses o) input text = Of SpellsTrace (IsTold (telling.Misses o)) input text
-GivesText (job.Spread o) input text = Of SpellsTrace (IsTold (telling.Spread o)) input text
-GivesText (job.Report o) input text = Of SpellsTrace (IsTold (telling.Report o)) input text
-GivesText job.Picture input text = Of SpellsTrace (IsTold telling.Picture) input text
-GivesText job.Oracle input text = Of SpellsList (IsSolved solving.Least) input text
-GivesText job.OnTime input text = Of SpellsList (IsSolved solving.Most) input text
+GivesText (job.OfScript r) input text = Of SpellsScript (IsRunText r) input text
+GivesText (job.OfTrace t) input text = Of SpellsTrace (IsTold t) input text
+GivesText (job.OfList s) input text = Of SpellsList (IsSolved s) input text
 GivesText (job.Check o) input text = Of SpellsProof (IsVerdict o) input text
 GivesText (job.Import i) input text = ⊥
 GivesText (job.Refuse r) input text = ⊥
@@ -74,18 +62,9 @@ Gives words j input bytes s = GivesText j input s.text × IsAlone s
 -- why it gives no text, where the reader has failed or hasn't; of a trial this turns on its words too
 abbrev pub HasNoText : Job → Option (List Row) → Bool → Failure → Type 0
 HasNoText job.Version input failed f = f ≡ failure.Memory
-HasNoText (job.Sim s) input failed f = FailsOver SpellsScript ScriptFault (HasNoRunText (running.One s)) input failed f
-HasNoText (job.Compare l o) input failed f = FailsOver SpellsScript ScriptFault (HasNoRunText (running.Each l o)) input failed f
-HasNoText (job.Pictures l) input failed f = FailsOver SpellsScript ScriptFault (HasNoRunText (running.Drawn l)) input failed f
-HasNoText job.Migrate input failed f = FailsOver SpellsTrace TraceFault (IsUntold telling.Whole) input failed f
-HasNoText job.Commands input failed f = FailsOver SpellsTrace TraceFault (IsUntold telling.Commands) input failed f
-HasNoText (job.Late o) input failed f = FailsOver SpellsTrace TraceFault (IsUntold (telling.Late o)) input failed f
-HasNoText (job.Misses o) input failed f = FailsOver SpellsTrace TraceFault (IsUntold (telling.Misses o)) input failed f
-HasNoText (job.Spread o) input failed f = FailsOver SpellsTrace TraceFault (IsUntold (telling.Spread o)) input failed f
-HasNoText (job.Report o) input failed f = FailsOver SpellsTrace TraceFault (IsUntold (telling.Report o)) input failed f
-HasNoText job.Picture input failed f = FailsOver SpellsTrace TraceFault (IsUntold telling.Picture) input failed f
-HasNoText job.Oracle input failed f = FailsOver SpellsList CommandsFault IsUnsolved input failed f
-HasNoText job.OnTime input failed f = FailsOver SpellsList CommandsFault IsUnsolved input failed f
+HasNoText (job.OfScript r) input failed f = FailsOver SpellsScript ScriptFault (HasNoRunText r) input failed f
+HasNoText (job.OfTrace t) input failed f = FailsOver SpellsTrace TraceFault (IsUntold t) input failed f
+HasNoText (job.OfList s) input failed f = FailsOver SpellsList CommandsFault IsUnsolved input failed f
 HasNoText (job.Check o) input failed f = FailsOver SpellsProof ProofFault IsBad input failed f
 HasNoText (job.Import i) input failed f = FailsOver SpellsCapture CaptureTextFault (IsUnimported i) input failed f
 HasNoText (job.Refuse r) input failed f = f ≡ failure.Words r

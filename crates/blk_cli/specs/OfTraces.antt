@@ -28,12 +28,13 @@ use Rattle.blk_json.specs.Missing.{misses_json}
 use Rattle.blk_json.specs.Reports.{report_json}
 use Rattle.blk_json.specs.Spreading.{spread_json}
 use Rattle.blk_picture.specs.Pictures.{IsPicture}
+use Rattle.blk_words.specs.declared.inputs.Figures.TheVariants as figures
+use Rattle.blk_words.specs.declared.inputs.Telling.{Telling}
+use Rattle.blk_words.specs.declared.inputs.Telling.TheVariants as telling
 use Rattle.blk_words.specs.declared.words.Form.{Form}
 use Rattle.blk_words.specs.declared.words.Form.TheVariants as form
 use Rattle.blk_cli.specs.declared.failure.Failure.{Failure}
 use Rattle.blk_cli.specs.declared.failure.Failure.TheVariants as failure
-use Rattle.blk_cli.specs.declared.traces.Telling.{Telling}
-use Rattle.blk_cli.specs.declared.traces.Telling.TheVariants as telling
 use Rattle.blk_cli.specs.Inputs.{IsMemory}
 
 -- figures of a trace in a form
@@ -93,11 +94,11 @@ pub record IsMissesText (f : Form) (trace : Traced) (text : List ℕ) : Type 0 w
 abbrev pub IsTold : Telling → Traced → List ℕ → Type 0
 IsTold telling.Whole trace text = IsTraceText trace text
 IsTold telling.Commands trace text = IsCommandsText trace text
-IsTold (telling.Late f) trace text = IsLateText f trace text
-IsTold (telling.Misses f) trace text = IsMissesText f trace text
-IsTold (telling.Spread f) trace text = IsSpreadText f trace text
-IsTold (telling.Report f) trace text = IsReportText f trace text
 IsTold telling.Picture trace text = IsPicture trace text
+IsTold (telling.Figures figures.Late f) trace text = IsLateText f trace text
+IsTold (telling.Figures figures.Misses f) trace text = IsMissesText f trace text
+IsTold (telling.Figures figures.Spread f) trace text = IsSpreadText f trace text
+IsTold (telling.Figures figures.Report f) trace text = IsReportText f trace text
 
 -- why a trace has no command list: an event sets a depth
 abbrev pub IsUnlisted : Traced → Failure → Type 0

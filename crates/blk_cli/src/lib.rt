@@ -25,10 +25,10 @@ use crate::explaining::over_bytes;
 pub use crate::failure::Failure;
 use crate::importing::over_capture;
 use crate::judging::over_schedule;
-use crate::lists::{Solving, over_list};
+use crate::lists::over_list;
 use crate::loading::run_load;
-use crate::scripts::{Running, over_script};
-use crate::traces::{Telling, over_trace};
+use crate::scripts::over_script;
+use crate::traces::over_trace;
 use crate::tuning::over_trial;
 use blk_lists::Records;
 use blk_settings::Loads;
@@ -167,7 +167,7 @@ fn version(alloc: Global) -> Result<Vec<u8>, Failure>
     }
 }
 
-/// The text of a job that answers its text alone and starts no threads. Such a job is a row here: what it reads, and what is made of that.
+/// The text of a job that answers its text alone and starts no threads. Each kind of such a job is a row here: what it reads.
 pub fn work<R: Read + Drop>(
     alloc: Global,
     job: Job,
@@ -181,18 +181,9 @@ pub fn work<R: Read + Drop>(
 {
     match job {
         Job::Version => version(alloc),
-        Job::Sim(sched) => over_script(alloc, Running::One(sched), records),
-        Job::Compare(lineup, form) => over_script(alloc, Running::Each(lineup, form), records),
-        Job::Pictures(lineup) => over_script(alloc, Running::Drawn(lineup), records),
-        Job::Migrate => over_trace(alloc, Telling::Whole, records),
-        Job::Commands => over_trace(alloc, Telling::Commands, records),
-        Job::Late(form) => over_trace(alloc, Telling::Late(form), records),
-        Job::Misses(form) => over_trace(alloc, Telling::Misses(form), records),
-        Job::Spread(form) => over_trace(alloc, Telling::Spread(form), records),
-        Job::Report(form) => over_trace(alloc, Telling::Report(form), records),
-        Job::Picture => over_trace(alloc, Telling::Picture, records),
-        Job::Oracle => over_list(alloc, Solving::Least, records),
-        Job::OnTime => over_list(alloc, Solving::Most, records),
+        Job::OfScript(running) => over_script(alloc, running, records),
+        Job::OfTrace(telling) => over_trace(alloc, telling, records),
+        Job::OfList(solving) => over_list(alloc, solving, records),
         Job::Check(form) => over_proof(alloc, form, records),
         Job::Judge { each } => over_schedule(alloc, each, records),
         Job::Refuse(refusal) => Err(Failure::Words(refusal)),

@@ -11,19 +11,11 @@ use crate::failure::Failure;
 use blk_lists::{
     Certificate, OnTimeCertificate, Records, certificate_text, on_time_text, read_commands,
 };
+use blk_words::Solving;
 use edd_commands::{Capacity, Command};
 use edd_oracle::{most_on_time, solve};
 use std::alloc::Global;
 use std::io::Read;
-
-/// What is asked of a command list.
-#[derive(Clone, Copy, Debug, PartialEq, Eq)]
-pub enum Solving {
-    /// How late the latest of its commands has to be.
-    Least,
-    /// How many of its commands can be met.
-    Most,
-}
 
 /// The certificate of the least schedule of commands.
 fn certify(alloc: Global, depth: u64, commands: Vec<Command>) -> Result<Certificate, Failure>

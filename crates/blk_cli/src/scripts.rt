@@ -11,22 +11,11 @@ use crate::failure::Failure;
 use crate::picturing::pictures_of;
 use blk_lists::Records;
 use blk_runs::traced;
-use blk_settings::{Lineup, Sched};
+use blk_settings::Sched;
 use blk_text::{Script, read_script, trace_text};
-use blk_words::Form;
+use blk_words::Running;
 use std::alloc::Global;
 use std::io::Read;
-
-/// What runs a script.
-#[derive(Clone, Copy, Debug, PartialEq, Eq)]
-pub enum Running {
-    /// One scheduler: its trace is written.
-    One(Sched),
-    /// Some schedulers in turn: the table of their reports is written, in this form.
-    Each(Lineup, Form),
-    /// The same: the pictures of its traces under them are written as one.
-    Drawn(Lineup),
-}
 
 /// The text of the trace of a script under a scheduler.
 fn simulated(alloc: Global, sched: Sched, script: &Script) -> Result<Vec<u8>, Failure>

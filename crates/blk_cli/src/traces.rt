@@ -16,28 +16,9 @@ use blk_report::{
 };
 use blk_text::{read_trace, trace_text};
 use blk_trace::Trace;
-use blk_words::Form;
+use blk_words::{Figures, Form, Telling};
 use std::alloc::{AllocError, Global};
 use std::io::Read;
-
-/// What is said about a trace.
-#[derive(Clone, Copy, Debug, PartialEq, Eq)]
-pub enum Telling {
-    /// The trace itself, in the latest version.
-    Whole,
-    /// Its command list.
-    Commands,
-    /// Which of its commands were late, and what the rounds that they waited went to.
-    Late(Form),
-    /// How many were late, and how many had to be.
-    Misses(Form),
-    /// How long its commands waited and how late they were, by quantiles.
-    Spread(Form),
-    /// How far it fell short.
-    Report(Form),
-    /// Its picture.
-    Picture,
-}
 
 /// The command list of a trace, which has one where no event sets a depth.
 fn list_of(alloc: Global, trace: &Trace) -> Result<Vec<u8>, Failure>
@@ -82,8 +63,8 @@ fn late_text(alloc: Global, form: Form, late: &[LateCommand]) -> Result<Vec<u8>,
 
 /// Which commands of a trace were late.
 fn late_of(alloc: Global, form: Form, trace: &Trace) -> Result<Vec<u8>, Failure>
-    ensures text { IfOk result (λ text. IsTold (Telling.Late form) trace.now text.items) }
-    ensures untold { IfErr result (IsUntold (Telling.Late form) trace.now) }
+    ensures text { IfOk result (λ text. IsTold (Telling.Figures Figures.Late form) trace.now text.items) }
+    ensures untold { IfErr result (IsUntold (Telling.Figures Figures.Late form) trace.now) }
 {
     let Ok(late) = late(trace) else {
         return Err(Failure::Memory);
@@ -106,8 +87,8 @@ fn misses_text(alloc: Global, form: Form, misses: &Missed<Global>) -> Result<Vec
 
 /// How many commands of a trace were late.
 fn misses_of(alloc: Global, form: Form, trace: &Trace) -> Result<Vec<u8>, Failure>
-    ensures text { IfOk result (λ text. IsTold (Telling.Misses form) trace.now text.items) }
-    ensures untold { IfErr result (IsUntold (Telling.Misses form) trace.now) }
+    ensures text { IfOk result (λ text. IsTold (Telling.Figures Figures.Misses form) trace.now text.items) }
+    ensures untold { IfErr result (IsUntold (Telling.Figures Figures.Misses form) trace.now) }
 {
     let Ok(missed) = misses(trace) else {
         return Err(Failure::Memory);
@@ -130,8 +111,8 @@ fn spread_text(alloc: Global, form: Form, spread: &Spreads) -> Result<Vec<u8>, A
 
 /// How long the commands of a trace waited, and how late they were.
 fn spread_of(alloc: Global, form: Form, trace: &Trace) -> Result<Vec<u8>, Failure>
-    ensures text { IfOk result (λ text. IsTold (Telling.Spread form) trace.now text.items) }
-    ensures untold { IfErr result (IsUntold (Telling.Spread form) trace.now) }
+    ensures text { IfOk result (λ text. IsTold (Telling.Figures Figures.Spread form) trace.now text.items) }
+    ensures untold { IfErr result (IsUntold (Telling.Figures Figures.Spread form) trace.now) }
 {
     let Ok(services) = services(trace) else {
         return Err(Failure::Memory);
@@ -157,8 +138,8 @@ fn report_text(alloc: Global, form: Form, report: &Report) -> Result<Vec<u8>, Al
 
 /// How far a trace fell short.
 fn report_of(alloc: Global, form: Form, trace: &Trace) -> Result<Vec<u8>, Failure>
-    ensures text { IfOk result (λ text. IsTold (Telling.Report form) trace.now text.items) }
-    ensures untold { IfErr result (IsUntold (Telling.Report form) trace.now) }
+    ensures text { IfOk result (λ text. IsTold (Telling.Figures Figures.Report form) trace.now text.items) }
+    ensures untold { IfErr result (IsUntold (Telling.Figures Figures.Report form) trace.now) }
 {
     let Ok(report) = report(trace) else {
         return Err(Failure::Memory);
@@ -189,11 +170,11 @@ fn told_of(alloc: Global, telling: Telling, trace: &Trace) -> Result<Vec<u8>, Fa
     match telling {
         Telling::Whole => whole_of(alloc, trace),
         Telling::Commands => list_of(alloc, trace),
-        Telling::Late(form) => late_of(alloc, form, trace),
-        Telling::Misses(form) => misses_of(alloc, form, trace),
-        Telling::Spread(form) => spread_of(alloc, form, trace),
-        Telling::Report(form) => report_of(alloc, form, trace),
         Telling::Picture => picture_of(alloc, trace),
+        Telling::Figures(Figures::Late, form) => late_of(alloc, form, trace),
+        Telling::Figures(Figures::Misses, form) => misses_of(alloc, form, trace),
+        Telling::Figures(Figures::Spread, form) => spread_of(alloc, form, trace),
+        Telling::Figures(Figures::Report, form) => report_of(alloc, form, trace),
     }
 }
 

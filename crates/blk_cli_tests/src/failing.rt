@@ -61,7 +61,7 @@ fn good_runs<'a>() -> [Run<'a>; 10] {
     ]
 }
 
-/// A reader of a text that fails after so many reads.
+/// A reader of a text that fails after this number of reads.
 fn failing(text: &str, reads_left: u64, kind: ErrorKind) -> Failing<'_> {
     Failing {
         text: text.as_bytes(),
@@ -90,7 +90,7 @@ fn failing_reads(rt: HostRuntime) {
     }
 }
 
-/// Whatever a reader failed with, its want of memory among it, it is the reader's fault and not the program's.
+/// Whatever a reader failed with, being out of memory too, it is the reader's fault and not the program's.
 #[test]
 fn each_kind_of_read_fault(rt: HostRuntime) {
     let kinds = [

@@ -12,7 +12,7 @@ use std::process::Abort;
 use std::sync::Wait;
 use std::thread::Threads;
 
-/// A reader that gives its text byte by byte, and fails in this way after so many reads.
+/// A reader that gives its text byte by byte, and fails in this way after this number of reads.
 #[derive(Drop)]
 pub struct Failing<'a> {
     /// What it has left to give.
@@ -43,7 +43,7 @@ impl<'a> Read for Failing<'a> {
     }
 }
 
-/// A writer that takes a byte at each write, and fails after so many writes.
+/// A writer that takes a byte at each write, and fails after this number of writes.
 #[derive(Drop)]
 pub struct Choking {
     /// How many writes go well.

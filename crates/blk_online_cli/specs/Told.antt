@@ -7,8 +7,13 @@ use Rattle.edd_figures.specs.Figures.{shortfall_in}
 use Rattle.blk_trace.specs.Traces.{Traced}
 use Rattle.blk_text.specs.Script.{Scripted, SpellsScript}
 use Rattle.blk_text.specs.TraceForm.{SpellsTrace}
+use Rattle.blk_settings.specs.declared.sched.Sched.TheVariants as sched
+use Rattle.blk_words.specs.declared.inputs.Figures.{Figures}
+use Rattle.blk_words.specs.declared.inputs.Running.TheVariants as running
+use Rattle.blk_words.specs.declared.inputs.Telling.TheVariants as telling
 use Rattle.blk_words.specs.declared.words.Form.TheVariants as form
 use Rattle.blk_words.specs.declared.words.Job.{Job}
+use Rattle.blk_words.specs.declared.words.Job.TheVariants as job
 use Rattle.blk_words.specs.Asked.{Asks}
 use Rattle.blk_cli.specs.declared.Ended.{Ended}
 use Rattle.blk_cli.specs.Ends.{RunEnds}
@@ -23,9 +28,16 @@ rows_in bytes = records default_config (strip_bom bytes)
 abbrev pub SpellByRounds : List ℕ → Type 0
 SpellByRounds bytes = (script : Scripted) × SpellsScript (rows_in bytes) script × All IsByRounds script.lines
 
+-- the run of a script under `earliest`, late last or not, and figures of a trace in lines
+abbrev pub earliest_run : Bool → Job
+earliest_run late_last = job.OfScript (running.One (sched.Earliest late_last))
+
+abbrev pub figures_in_lines : Figures → Job
+figures_in_lines k = job.OfTrace (telling.Figures k form.Lines)
+
 -- the words ask for this job, and for no other
 abbrev pub AskAlone : List (List ℕ) → Job → Type 0
-AskAlone words job = (j : Job) → Asks words j ↔ (j ≡ job)
+AskAlone words only = (j : Job) → Asks words j ↔ (j ≡ only)
 
 -- a run of the program on these words, which reads these bytes, ended with status 0, and left its output so
 pub record EndsWell (words : List (List ℕ)) (bytes : List ℕ) (old new : Stream) : Type 0 where

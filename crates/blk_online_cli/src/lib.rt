@@ -4,15 +4,15 @@
 
 ghost use Rattle.std.specs.Prelude.{◌≡◌, false, true, IfOk, map, string_bytes};
 ghost use Rattle.drafts.specs.Outputs.{stream_of};
-ghost use Rattle.blk_online_cli.specs.Told.{ReportsNoShortfall, CountsNoneAvoidable, OfTwoRuns, OfItsTrace};
+ghost use Rattle.blk_online_cli.specs.Told.{ReportsNoShortfall, CountsNoneAvoidable, OfTwoRuns, OfItsTrace, earliest_run, figures_in_lines};
 ghost use Rattle.blk_online_cli.specs.Inside.Words.{sim_words, report_words, misses_words};
 
 use blk_cli::{Ended, answer, run};
 use blk_lists::Records;
-use blk_settings::{Loads, Sched};
+use blk_settings::Loads;
 use blk_tune::Quiet;
+use blk_words::Figures;
 use blk_words::asking::plain_lines;
-use blk_words::{Form, Job};
 use drafts::Output;
 use std::alloc::{AllocError, Global};
 use std::io::{Read, Write};
@@ -25,14 +25,14 @@ use std::thread::Threads;
 ///
 /// A law of [`run`]: it does nothing when it runs, and a caller has its clause.
 pub fn law_of_reports()
-    ensures { OfTwoRuns (Job.Sim (Sched.Earliest false)) (Job.Report Form.Lines) ReportsNoShortfall }
+    ensures { OfTwoRuns (earliest_run false) (figures_in_lines Figures.Report) ReportsNoShortfall }
 {}
 
 /// What `sim --sched earliest --late-last` writes of such a script is a trace of which `misses` says that none is avoidable.
 ///
 /// A law of [`run`]: it does nothing when it runs, and a caller has its clause.
 pub fn law_of_misses()
-    ensures { OfTwoRuns (Job.Sim (Sched.Earliest true)) (Job.Misses Form.Lines) CountsNoneAvoidable }
+    ensures { OfTwoRuns (earliest_run true) (figures_in_lines Figures.Misses) CountsNoneAvoidable }
 {}
 
 /// The words for a simulation under `earliest`, with `--late-last` or without it.

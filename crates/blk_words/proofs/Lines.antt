@@ -49,16 +49,9 @@ both : (o : Option (Text × List Row)) (name : Text) (rows : List Row) → Some 
 both None name rows e f = cc e
 both (Some p) name rows e f = let a : name ≡ p.0 = cc e in let b : rows ≡ p.1 = cc f in rw (a, b) refl
 
-neither : (o : Option (Text × List Row)) → None ≡ option_map (λ p. p.0) o → o ≡ None
-neither None e = refl
-neither (Some p) e = cc e
-
 -- the subcommand that was read, by its name and its rows; and where there is none
 pub subcommand_read : (m : ArgMatches) (name : Text) (rows : List Row) → Some name ≡ subcommand_name_of m → Some rows ≡ option_map (λ p. p.1) (subcommand_rows_of m) → subcommand_rows_of m ≡ Some (name, rows)
 subcommand_read m name rows e f = both (subcommand_rows_of m) name rows (e ∙ named m) f
-
-pub nothing_read : (m : ArgMatches) → None ≡ subcommand_name_of m → subcommand_rows_of m ≡ None
-nothing_read m e = neither (subcommand_rows_of m) (e ∙ named m)
 
 -- words that were parsed ask for the job that they name, and are refused where they name none
 pub asks_by : (names : Names) (a : App) (words : List Text) (m : ArgMatches) (j : Job) → AreSchedulers names → a ≡ blk_app names → HasMatchesOf a words m

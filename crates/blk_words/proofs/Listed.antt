@@ -72,14 +72,6 @@ listed_more ns n e =
     let apart : are_distinct (ns ++ n ∷ []) ≡ not (list_any (λ y. y == n) ns) = distinct_more ns n ∙ ap (λ (b : Bool). b && not (list_any (λ y. y == n) ns)) h.1 in
     ap (λ (b : Bool). b && are_distinct (ns ++ n ∷ [])) fits ∙ ap (λ (b : Bool). nat_lt (length ns) MAX_LISTED && b) apart
 
--- then there was room for it
-pub has_room : (ns : List ℕ) (n : ℕ) → is_listed (ns ++ n ∷ []) ≡ true → length ns < MAX_LISTED
-has_room ns n e =
-    let h = both (nat_le (length (ns ++ n ∷ [])) MAX_LISTED) (are_distinct (ns ++ n ∷ [])) e in
-    let few : length (ns ++ n ∷ []) ≤ MAX_LISTED = leb-true (length (ns ++ n ∷ [])) MAX_LISTED h.0 in
-    let more : length (ns ++ n ∷ []) ≡ length ns + 1 = length-append ns (n ∷ []) in
-    omega (arith, few, more)
-
 -- the numbers so far, and those of the texts that are left, each looked at as it comes
 abbrev pub gathered : ℕ → List ℕ → List Text → Option (List ℕ)
 gathered most so_far [] = Some so_far
@@ -179,9 +171,6 @@ not_spelled most text true e wrong =
 pub misspelled : (most : ℕ) (text : Text) → (Parses 64 text → ⊥) → number_in most text ≡ None
 misspelled most text wrong =
     ap (λ (b : Bool). if b then Some (digits_value 10 (without_leading_plus text)) else None) (not_spelled most text (accepts false (vp.Unsigned 0 most) text) refl wrong)
-
-pub past : (most n : ℕ) → most < n → nat_le n most ≡ false
-past most n lt = grind (arith, nat_tests)
 
 -- schedulers of names that come
 pub takes_name : (t : Tried) (texts : List Text) (k : ℕ) (text : Text) (o : Option Tried) → (k < length texts) × (text ≡ get_or texts k text) → o ≡ with_name t text

@@ -1,5 +1,5 @@
 -- What the command line reads of words that are written out.
-use Rattle.std.proofs.Common.{◌≡◌, ◌∙◌, ◌∷◌, [], ℕ, List, Some, None, map, sym, refl, subst, codes, true, false, inl, inr}
+use Rattle.std.proofs.Common.{◌≡◌, ◌∙◌, ◌∷◌, [], ℕ, zero, suc, List, Some, None, map, ap, sym, refl, subst, codes, true, false, inl, inr}
 use Rattle.std.specs.Prelude.{◌↔◌}
 use Rattle.std.specs.Borrow.{Bor}
 use Prim.Native.String.{String}
@@ -7,60 +7,62 @@ use Rattle.clap.specs.Words.{Text, fault_of}
 use Rattle.clap.proofs.OnLiterals.{clap_on_literals}
 use Rattle.blk_settings.specs.declared.sched.Sched.TheVariants as sched
 use Rattle.blk_words.specs.declared.words.Job.{Job}
+use Rattle.blk_words.specs.declared.inputs.Figures.TheVariants as figures
+use Rattle.blk_words.specs.declared.inputs.Running.TheVariants as running
+use Rattle.blk_words.specs.declared.inputs.Solving.TheVariants as solving
+use Rattle.blk_words.specs.declared.inputs.Telling.TheVariants as telling
 use Rattle.blk_words.specs.declared.words.Job.TheVariants as job
 use Rattle.blk_words.specs.declared.words.Form.TheVariants as form
 use Rattle.blk_words.specs.declared.words.Shown.TheVariants as shown
 use Rattle.blk_words.specs.declared.words.Refusal.TheVariants as refusal
 use Rattle.blk_words.specs.declared.words.Written.TheVariants as written
-use Rattle.blk_words.specs.CommandLine.{Names, AreSchedulers, blk_app}
+use Rattle.blk_words.specs.CommandLine.{Names, AreSchedulers, sched_names, blk_app}
 use Rattle.blk_grid.specs.Rows.{Gridded, whole}
 use Rattle.blk_words.specs.Asked.{Asks, AsksGrid, grid_read, job_read}
 use Rattle.blk_words.specs.Plain.{words_in, AsksFor, AsksForGrid, AsksForNothing, default_tunables, default_targets, default_lineup, with_earliest, in_batches, default_trial, five_by_lateness, own_grid, whole_import, hundred_queued, default_load}
 
--- the names of the schedulers, at some places
-abbrev at_places : ℕ × ℕ → ℕ × ℕ → ℕ × ℕ → ℕ × ℕ → ℕ × ℕ → Names
-at_places p q r s t =
-    record { ref_ptr = p; now = record { ref_ptr = q; now = codes "none" } ∷ record { ref_ptr = r; now = codes "deadline" } ∷ record { ref_ptr = s; now = codes "kyber" } ∷ record { ref_ptr = t; now = codes "earliest" } ∷ [] }
+-- texts at some places
+abbrev placed : (ℕ → ℕ × ℕ) → List Text → List (Bor Text)
+placed f [] = []
+placed f (t ∷ ts) = record { ref_ptr = f 0; now = t } ∷ placed (λ n. f (suc n)) ts
 
-go : (P : Names → Type 0) → ((p q r s t : ℕ × ℕ) → P (at_places p q r s t)) → (p : ℕ × ℕ) (xs : List (Bor Text)) → map (λ (x : Bor Text). x.now) xs ≡ codes "none" ∷ codes "deadline" ∷ codes "kyber" ∷ codes "earliest" ∷ []
-    → P (record { ref_ptr = p; now = xs })
-go P h p [] e = cc e
-go P h p (a ∷ []) e = cc e
-go P h p (a ∷ b ∷ []) e = cc e
-go P h p (a ∷ b ∷ c ∷ []) e = cc e
-go P h p (a ∷ b ∷ c ∷ d ∷ x ∷ xs) e = cc e
-go P h p (a ∷ b ∷ c ∷ d ∷ []) e =
-    let ea : a.now ≡ codes "none" = cc e in
-    let eb : b.now ≡ codes "deadline" = cc e in
-    let ec : c.now ≡ codes "kyber" = cc e in
-    let ed : d.now ≡ codes "earliest" = cc e in
-    let A : Text → Type 0 = λ t. P (record { ref_ptr = p; now = record { ref_ptr = a.ref_ptr; now = t } ∷ b ∷ c ∷ d ∷ [] }) in
-    let B : Text → Type 0 = λ t. P (record { ref_ptr = p; now = record { ref_ptr = a.ref_ptr; now = codes "none" } ∷ record { ref_ptr = b.ref_ptr; now = t } ∷ c ∷ d ∷ [] }) in
-    let C : Text → Type 0 = λ t. P (record { ref_ptr = p; now = record { ref_ptr = a.ref_ptr; now = codes "none" } ∷ record { ref_ptr = b.ref_ptr; now = codes "deadline" } ∷ record { ref_ptr = c.ref_ptr; now = t } ∷ d ∷ [] }) in
-    let D : Text → Type 0 = λ t. P (record { ref_ptr = p; now = record { ref_ptr = a.ref_ptr; now = codes "none" } ∷ record { ref_ptr = b.ref_ptr; now = codes "deadline" } ∷ record { ref_ptr = c.ref_ptr; now = codes "kyber" } ∷ record { ref_ptr = d.ref_ptr; now = t } ∷ [] }) in
-    subst A (sym ea) (subst B (sym eb) (subst C (sym ec) (subst D (sym ed) (h p a.ref_ptr b.ref_ptr c.ref_ptr d.ref_ptr))))
+-- the names of the schedulers, at some places
+abbrev at_places : ℕ × ℕ → (ℕ → ℕ × ℕ) → Names
+at_places p f = record { ref_ptr = p; now = placed f sched_names }
+
+-- each list of texts behind references is one at some places
+abbrev place_in : List (Bor Text) → ℕ → ℕ × ℕ
+place_in [] n = (0, 0)
+place_in (x ∷ xs) zero = x.ref_ptr
+place_in (x ∷ xs) (suc n) = place_in xs n
+
+placed_so : (xs : List (Bor Text)) → placed (place_in xs) (map (λ (x : Bor Text). x.now) xs) ≡ xs
+placed_so [] = refl
+placed_so (x ∷ xs) = ap (λ (ys : List (Bor Text)). x ∷ ys) (placed_so xs)
 
 -- what holds of them there holds of them all
-any_names : (P : Names → Type 0) → ((p q r s t : ℕ × ℕ) → P (at_places p q r s t)) → (names : Names) → AreSchedulers names → P names
-any_names P h names are = go P h names.ref_ptr names.now are
+any_names : (P : Names → Type 0) → ((p : ℕ × ℕ) (f : ℕ → ℕ × ℕ) → P (at_places p f)) → (names : Names) → AreSchedulers names → P names
+any_names P h names are =
+    let own : placed (place_in names.now) sched_names ≡ names.now = ap (placed (place_in names.now)) (sym are) ∙ placed_so names.now in
+    subst (λ (xs : List (Bor Text)). P (record { ref_ptr = names.ref_ptr; now = xs })) own (h names.ref_ptr (place_in names.now))
 
 -- a line is read as a job, whatever the places
 abbrev pub IsReadAs : List Text → Job → Names → Type 0
 IsReadAs words j names = (fault_of (blk_app names) words ≡ []) × (job_read names words ≡ Some j)
 
 -- then it asks for that job alone
-pub asks_alone : (words : List Text) (k : Job) → ((p q r s t : ℕ × ℕ) → IsReadAs words k (at_places p q r s t)) → (j : Job) → Asks words j ↔ (j ≡ k)
+pub asks_alone : (words : List Text) (k : Job) → ((p : ℕ × ℕ) (f : ℕ → ℕ × ℕ) → IsReadAs words k (at_places p f)) → (j : Job) → Asks words j ↔ (j ≡ k)
 asks_alone words k h j = (
   λ a. let g = any_names (IsReadAs words k) h a.0 a.1 in
       elim a.2 [ inl x ↦ let e : Some j ≡ Some k = sym x.1 ∙ g.1 in cc e | inr x ↦ absurd (rw g.0 at x.0) ],
-  λ e. let z : ℕ × ℕ = (0, 0) in let g = h z z z z z in (at_places z z z z z, refl, inl (g.0, rw e g.1)),
+  λ e. let z : ℕ × ℕ = (0, 0) in let g = h z (λ n. z) in (at_places z (λ n. z), refl, inl (g.0, rw e g.1)),
 )
 
 -- a line is read as no job, whatever the places; then it asks for none
 abbrev pub IsReadAsNothing : List Text → Names → Type 0
 IsReadAsNothing words names = (fault_of (blk_app names) words ≡ []) × (job_read names words ≡ None)
 
-pub asks_nothing : (words : List Text) → ((p q r s t : ℕ × ℕ) → IsReadAsNothing words (at_places p q r s t)) → (j : Job) → Asks words j → ⊥
+pub asks_nothing : (words : List Text) → ((p : ℕ × ℕ) (f : ℕ → ℕ × ℕ) → IsReadAsNothing words (at_places p f)) → (j : Job) → Asks words j → ⊥
 asks_nothing words h j a =
     let g = any_names (IsReadAsNothing words) h a.0 a.1 in
     elim a.2 [ inl x ↦ let e : Some j ≡ None = sym x.1 ∙ g.1 in cc e | inr x ↦ absurd (rw g.0 at x.0) ]
@@ -69,21 +71,21 @@ asks_nothing words h j a =
 abbrev pub IsReadAsGrid : List Text → Gridded → Names → Type 0
 IsReadAsGrid words g names = (fault_of (blk_app names) words ≡ []) × (grid_read names words ≡ Some g)
 
-pub asks_grid_alone : (words : List Text) (k : Gridded) → ((p q r s t : ℕ × ℕ) → IsReadAsGrid words k (at_places p q r s t)) → (g : Gridded) → AsksGrid words g ↔ (g ≡ k)
+pub asks_grid_alone : (words : List Text) (k : Gridded) → ((p : ℕ × ℕ) (f : ℕ → ℕ × ℕ) → IsReadAsGrid words k (at_places p f)) → (g : Gridded) → AsksGrid words g ↔ (g ≡ k)
 asks_grid_alone words k h g = (
   λ a. let f = any_names (IsReadAsGrid words k) h a.0 a.1 in let e : Some g ≡ Some k = sym a.3 ∙ f.1 in cc e,
-  λ e. let z : ℕ × ℕ = (0, 0) in let f = h z z z z z in (at_places z z z z z, refl, f.0, rw e f.1),
+  λ e. let z : ℕ × ℕ = (0, 0) in let f = h z (λ n. z) in (at_places z (λ n. z), refl, f.0, rw e f.1),
 )
 
 -- a line as a person types it is read so, whatever the program's name and the places; then it asks for that job, for that grid, or for nothing
 abbrev pub IsReadSo : String → Job → Type 0
-IsReadSo line j = (name : Text) (p q r s t : ℕ × ℕ) → IsReadAs (name ∷ words_in line) j (at_places p q r s t)
+IsReadSo line j = (name : Text) (p : ℕ × ℕ) (f : ℕ → ℕ × ℕ) → IsReadAs (name ∷ words_in line) j (at_places p f)
 
 abbrev pub IsReadAsGridSo : String → Gridded → Type 0
-IsReadAsGridSo line g = (name : Text) (p q r s t : ℕ × ℕ) → IsReadAsGrid (name ∷ words_in line) g (at_places p q r s t)
+IsReadAsGridSo line g = (name : Text) (p : ℕ × ℕ) (f : ℕ → ℕ × ℕ) → IsReadAsGrid (name ∷ words_in line) g (at_places p f)
 
 abbrev pub IsReadAsNothingSo : String → Type 0
-IsReadAsNothingSo line = (name : Text) (p q r s t : ℕ × ℕ) → IsReadAsNothing (name ∷ words_in line) (at_places p q r s t)
+IsReadAsNothingSo line = (name : Text) (p : ℕ × ℕ) (f : ℕ → ℕ × ℕ) → IsReadAsNothing (name ∷ words_in line) (at_places p f)
 
 pub asks_for : (line : String) (k : Job) → IsReadSo line k → AsksFor line k
 asks_for line k h name = asks_alone (name ∷ words_in line) k (h name)
@@ -94,230 +96,230 @@ asks_for_grid line k h name = asks_grid_alone (name ∷ words_in line) k (h name
 pub asks_for_nothing : (line : String) → IsReadAsNothingSo line → AsksForNothing line
 asks_for_nothing line h name = asks_nothing (name ∷ words_in line) (h name)
 
-pub sim_line : IsReadSo "sim" (job.Sim sched.None)
+pub sim_line : IsReadSo "sim" (job.OfScript (running.One sched.None))
 unfolding clap_on_literals
-sim_line name p q r s t = (refl, refl)
+sim_line name p f = (refl, refl)
 
-pub none_line : IsReadSo "sim --sched none" (job.Sim sched.None)
+pub none_line : IsReadSo "sim --sched none" (job.OfScript (running.One sched.None))
 unfolding clap_on_literals
-none_line name p q r s t = (refl, refl)
+none_line name p f = (refl, refl)
 
-pub deadline_line : IsReadSo "sim --sched deadline" (job.Sim (sched.Deadline default_tunables))
+pub deadline_line : IsReadSo "sim --sched deadline" (job.OfScript (running.One (sched.Deadline default_tunables)))
 unfolding clap_on_literals
-deadline_line name p q r s t = (refl, refl)
+deadline_line name p f = (refl, refl)
 
-pub kyber_line : IsReadSo "sim --sched kyber" (job.Sim (sched.Kyber default_targets))
+pub kyber_line : IsReadSo "sim --sched kyber" (job.OfScript (running.One (sched.Kyber default_targets)))
 unfolding clap_on_literals
-kyber_line name p q r s t = (refl, refl)
+kyber_line name p f = (refl, refl)
 
-pub earliest_line : IsReadSo "sim --sched earliest" (job.Sim (sched.Earliest false))
+pub earliest_line : IsReadSo "sim --sched earliest" (job.OfScript (running.One (sched.Earliest false)))
 unfolding clap_on_literals
-earliest_line name p q r s t = (refl, refl)
+earliest_line name p f = (refl, refl)
 
-pub late_last_line : IsReadSo "sim --sched earliest --late-last" (job.Sim (sched.Earliest true))
+pub late_last_line : IsReadSo "sim --sched earliest --late-last" (job.OfScript (running.One (sched.Earliest true)))
 unfolding clap_on_literals
-late_last_line name p q r s t = (refl, refl)
+late_last_line name p f = (refl, refl)
 
-pub batch_line : IsReadSo "sim --sched deadline --fifo-batch 1" (job.Sim (sched.Deadline (record default_tunables { fifo_batch = 1 })))
+pub batch_line : IsReadSo "sim --sched deadline --fifo-batch 1" (job.OfScript (running.One (sched.Deadline (record default_tunables { fifo_batch = 1 }))))
 unfolding clap_on_literals
-batch_line name p q r s t = (refl, refl)
+batch_line name p f = (refl, refl)
 
-pub target_line : IsReadSo "sim --sched kyber --read-target 1000000" (job.Sim (sched.Kyber (record default_targets { read = 1_000_000 })))
+pub target_line : IsReadSo "sim --sched kyber --read-target 1000000" (job.OfScript (running.One (sched.Kyber (record default_targets { read = 1_000_000 }))))
 unfolding clap_on_literals
-target_line name p q r s t = (refl, refl)
+target_line name p f = (refl, refl)
 
-pub compare_line : IsReadSo "compare" (job.Compare default_lineup form.Lines)
+pub compare_line : IsReadSo "compare" (job.OfScript (running.Each default_lineup form.Lines))
 unfolding clap_on_literals
-compare_line name p q r s t = (refl, refl)
+compare_line name p f = (refl, refl)
 
-pub compare_earliest_line : IsReadSo "compare --earliest" (job.Compare (with_earliest false) form.Lines)
+pub compare_earliest_line : IsReadSo "compare --earliest" (job.OfScript (running.Each (with_earliest false) form.Lines))
 unfolding clap_on_literals
-compare_earliest_line name p q r s t = (refl, refl)
+compare_earliest_line name p f = (refl, refl)
 
-pub compare_late_last_line : IsReadSo "compare --earliest --late-last" (job.Compare (with_earliest true) form.Lines)
+pub compare_late_last_line : IsReadSo "compare --earliest --late-last" (job.OfScript (running.Each (with_earliest true) form.Lines))
 unfolding clap_on_literals
-compare_late_last_line name p q r s t = (refl, refl)
+compare_late_last_line name p f = (refl, refl)
 
-pub compare_json_line : IsReadSo "compare --json" (job.Compare default_lineup form.Json)
+pub compare_json_line : IsReadSo "compare --json" (job.OfScript (running.Each default_lineup form.Json))
 unfolding clap_on_literals
-compare_json_line name p q r s t = (refl, refl)
+compare_json_line name p f = (refl, refl)
 
 pub tune_line : IsReadSo "tune" (default_trial form.Lines)
 unfolding clap_on_literals
-tune_line name p q r s t = (refl, refl)
+tune_line name p f = (refl, refl)
 
 pub tune_so_line : IsReadSo "tune --sched deadline,none --fifo-batch 16,1 --by lateness --top 5 --threads 4" five_by_lateness
 unfolding clap_on_literals
-tune_so_line name p q r s t = (refl, refl)
+tune_so_line name p f = (refl, refl)
 
 pub tune_json_line : IsReadSo "tune --json" (default_trial form.Json)
 unfolding clap_on_literals
-tune_json_line name p q r s t = (refl, refl)
+tune_json_line name p f = (refl, refl)
 
 pub tune_unknown_line : IsReadSo "tune --sched none,cfq" (job.Refuse refusal.Scheds)
 unfolding clap_on_literals
-tune_unknown_line name p q r s t = (refl, refl)
+tune_unknown_line name p f = (refl, refl)
 
 pub tune_no_list_line : IsReadSo "tune --fifo-batch 1,x" (job.Refuse refusal.FifoBatch)
 unfolding clap_on_literals
-tune_no_list_line name p q r s t = (refl, refl)
+tune_no_list_line name p f = (refl, refl)
 
 pub tune_twice_line : IsReadSo "tune --read-target 2,5,2" (job.Refuse refusal.ReadTarget)
 unfolding clap_on_literals
-tune_twice_line name p q r s t = (refl, refl)
+tune_twice_line name p f = (refl, refl)
 
 pub tune_by_what_line : IsReadSo "tune --by wait" (job.Refuse refusal.By)
 unfolding clap_on_literals
-tune_by_what_line name p q r s t = (refl, refl)
+tune_by_what_line name p f = (refl, refl)
 
 pub whole_grid_line : IsReadAsGridSo "tune" whole
 unfolding clap_on_literals
-whole_grid_line name p q r s t = (refl, refl)
+whole_grid_line name p f = (refl, refl)
 
 pub own_grid_line : IsReadAsGridSo "tune --sched deadline,none --fifo-batch 16,1 --writes-starved 3 --write-target 7,0" own_grid
 unfolding clap_on_literals
-own_grid_line name p q r s t = (refl, refl)
+own_grid_line name p f = (refl, refl)
 
-pub migrate_line : IsReadSo "migrate" job.Migrate
+pub migrate_line : IsReadSo "migrate" (job.OfTrace telling.Whole)
 unfolding clap_on_literals
-migrate_line name p q r s t = (refl, refl)
+migrate_line name p f = (refl, refl)
 
-pub commands_line : IsReadSo "commands" job.Commands
+pub commands_line : IsReadSo "commands" (job.OfTrace telling.Commands)
 unfolding clap_on_literals
-commands_line name p q r s t = (refl, refl)
+commands_line name p f = (refl, refl)
 
-pub late_line : IsReadSo "late" (job.Late form.Lines)
+pub late_line : IsReadSo "late" (job.OfTrace (telling.Figures figures.Late form.Lines))
 unfolding clap_on_literals
-late_line name p q r s t = (refl, refl)
+late_line name p f = (refl, refl)
 
-pub late_json_line : IsReadSo "late --json" (job.Late form.Json)
+pub late_json_line : IsReadSo "late --json" (job.OfTrace (telling.Figures figures.Late form.Json))
 unfolding clap_on_literals
-late_json_line name p q r s t = (refl, refl)
+late_json_line name p f = (refl, refl)
 
-pub misses_line : IsReadSo "misses" (job.Misses form.Lines)
+pub misses_line : IsReadSo "misses" (job.OfTrace (telling.Figures figures.Misses form.Lines))
 unfolding clap_on_literals
-misses_line name p q r s t = (refl, refl)
+misses_line name p f = (refl, refl)
 
-pub misses_json_line : IsReadSo "misses --json" (job.Misses form.Json)
+pub misses_json_line : IsReadSo "misses --json" (job.OfTrace (telling.Figures figures.Misses form.Json))
 unfolding clap_on_literals
-misses_json_line name p q r s t = (refl, refl)
+misses_json_line name p f = (refl, refl)
 
-pub spread_line : IsReadSo "spread" (job.Spread form.Lines)
+pub spread_line : IsReadSo "spread" (job.OfTrace (telling.Figures figures.Spread form.Lines))
 unfolding clap_on_literals
-spread_line name p q r s t = (refl, refl)
+spread_line name p f = (refl, refl)
 
-pub spread_json_line : IsReadSo "spread --json" (job.Spread form.Json)
+pub spread_json_line : IsReadSo "spread --json" (job.OfTrace (telling.Figures figures.Spread form.Json))
 unfolding clap_on_literals
-spread_json_line name p q r s t = (refl, refl)
+spread_json_line name p f = (refl, refl)
 
-pub picture_line : IsReadSo "picture" job.Picture
+pub picture_line : IsReadSo "picture" (job.OfTrace telling.Picture)
 unfolding clap_on_literals
-picture_line name p q r s t = (refl, refl)
+picture_line name p f = (refl, refl)
 
-pub pictures_line : IsReadSo "picture --script --earliest --fifo-batch 1" (job.Pictures (in_batches 1 (with_earliest false)))
+pub pictures_line : IsReadSo "picture --script --earliest --fifo-batch 1" (job.OfScript (running.Drawn (in_batches 1 (with_earliest false))))
 unfolding clap_on_literals
-pictures_line name p q r s t = (refl, refl)
+pictures_line name p f = (refl, refl)
 
-pub oracle_line : IsReadSo "oracle" job.Oracle
+pub oracle_line : IsReadSo "oracle" (job.OfList solving.Least)
 unfolding clap_on_literals
-oracle_line name p q r s t = (refl, refl)
+oracle_line name p f = (refl, refl)
 
-pub report_line : IsReadSo "oracle --trace" (job.Report form.Lines)
+pub report_line : IsReadSo "oracle --trace" (job.OfTrace (telling.Figures figures.Report form.Lines))
 unfolding clap_on_literals
-report_line name p q r s t = (refl, refl)
+report_line name p f = (refl, refl)
 
-pub report_json_line : IsReadSo "oracle --trace --json" (job.Report form.Json)
+pub report_json_line : IsReadSo "oracle --trace --json" (job.OfTrace (telling.Figures figures.Report form.Json))
 unfolding clap_on_literals
-report_json_line name p q r s t = (refl, refl)
+report_json_line name p f = (refl, refl)
 
-pub on_time_line : IsReadSo "oracle --met" job.OnTime
+pub on_time_line : IsReadSo "oracle --met" (job.OfList solving.Most)
 unfolding clap_on_literals
-on_time_line name p q r s t = (refl, refl)
+on_time_line name p f = (refl, refl)
 
 pub report_and_on_time_line : IsReadAsNothingSo "oracle --trace --met"
 unfolding clap_on_literals
-report_and_on_time_line name p q r s t = (refl, refl)
+report_and_on_time_line name p f = (refl, refl)
 
 pub certificate_json_line : IsReadSo "oracle --met --json" (job.Refuse refusal.JsonAlone)
 unfolding clap_on_literals
-certificate_json_line name p q r s t = (refl, refl)
+certificate_json_line name p f = (refl, refl)
 
 pub check_line : IsReadSo "check" (job.Check form.Lines)
 unfolding clap_on_literals
-check_line name p q r s t = (refl, refl)
+check_line name p f = (refl, refl)
 
 pub check_json_line : IsReadSo "check --json" (job.Check form.Json)
 unfolding clap_on_literals
-check_json_line name p q r s t = (refl, refl)
+check_json_line name p f = (refl, refl)
 
 pub import_line : IsReadSo "import" (job.Import (whole_import written.Schedule))
 unfolding clap_on_literals
-import_line name p q r s t = (refl, refl)
+import_line name p f = (refl, refl)
 
 pub import_so_line : IsReadSo "import --read-expire 150us --from queue --skip 2ms --first 100 --table" (job.Import hundred_queued)
 unfolding clap_on_literals
-import_so_line name p q r s t = (refl, refl)
+import_so_line name p f = (refl, refl)
 
 pub summary_line : IsReadSo "import --write-expire 8ns --summary" (job.Import (record (whole_import written.Summary) { write_expire = 8 }))
 unfolding clap_on_literals
-summary_line name p q r s t = (refl, refl)
+summary_line name p f = (refl, refl)
 
 pub no_time_line : IsReadSo "import --skip 2" (job.Refuse refusal.Skip)
 unfolding clap_on_literals
-no_time_line name p q r s t = (refl, refl)
+no_time_line name p f = (refl, refl)
 
 pub no_entry_line : IsReadSo "import --from issue" (job.Refuse refusal.From)
 unfolding clap_on_literals
-no_entry_line name p q r s t = (refl, refl)
+no_entry_line name p f = (refl, refl)
 
 pub table_and_summary_line : IsReadSo "import --table --summary" (job.Refuse refusal.TableAndSummary)
 unfolding clap_on_literals
-table_and_summary_line name p q r s t = (refl, refl)
+table_and_summary_line name p f = (refl, refl)
 
 pub script_line : IsReadSo "import --script --round 1ms" (job.Import (whole_import (written.Script 1_000_000 None)))
 unfolding clap_on_literals
-script_line name p q r s t = (refl, refl)
+script_line name p f = (refl, refl)
 
 pub script_alone_line : IsReadSo "import --script" (job.Refuse refusal.NoRound)
 unfolding clap_on_literals
-script_alone_line name p q r s t = (refl, refl)
+script_alone_line name p f = (refl, refl)
 
 pub depth_alone_line : IsReadSo "import --depth 8" (job.Refuse refusal.NoScript)
 unfolding clap_on_literals
-depth_alone_line name p q r s t = (refl, refl)
+depth_alone_line name p f = (refl, refl)
 
 pub judge_line : IsReadSo "judge" (job.Judge false)
 unfolding clap_on_literals
-judge_line name p q r s t = (refl, refl)
+judge_line name p f = (refl, refl)
 
 pub judge_each_line : IsReadSo "judge --each" (job.Judge true)
 unfolding clap_on_literals
-judge_each_line name p q r s t = (refl, refl)
+judge_each_line name p f = (refl, refl)
 
 pub explain_line : IsReadSo "explain" job.Explain
 unfolding clap_on_literals
-explain_line name p q r s t = (refl, refl)
+explain_line name p f = (refl, refl)
 
 pub load_line : IsReadSo "load" (job.Load sched.None default_load (shown.Account form.Lines))
 unfolding clap_on_literals
-load_line name p q r s t = (refl, refl)
+load_line name p f = (refl, refl)
 
 pub load_json_line : IsReadSo "load --json" (job.Load sched.None default_load (shown.Account form.Json))
 unfolding clap_on_literals
-load_json_line name p q r s t = (refl, refl)
+load_json_line name p f = (refl, refl)
 
 pub busy_line : IsReadSo "load --busy 3" (job.Load sched.None (record default_load { busy = Some 3 }) (shown.Account form.Lines))
 unfolding clap_on_literals
-busy_line name p q r s t = (refl, refl)
+busy_line name p f = (refl, refl)
 
 pub traced_line : IsReadSo "load --trace --service 100" (job.Load sched.None (record default_load { service = 100 }) shown.Trace)
 unfolding clap_on_literals
-traced_line name p q r s t = (refl, refl)
+traced_line name p f = (refl, refl)
 
 pub traced_json_line : IsReadSo "load --trace --json" (job.Refuse refusal.TraceAndJson)
 unfolding clap_on_literals
-traced_json_line name p q r s t = (refl, refl)
+traced_json_line name p f = (refl, refl)
 
 pub version_line : (name : Text) → Asks (name ∷ codes "--version" ∷ []) job.Version
 unfolding clap_on_literals
-version_line name = let z : ℕ × ℕ = (0, 0) in (at_places z z z z z, refl, inr (inl refl, refl))
+version_line name = let z : ℕ × ℕ = (0, 0) in (at_places z (λ n. z), refl, inr (inl refl, refl))

@@ -23,6 +23,10 @@ use Rattle.blk_words.specs.declared.words.Form.{Form}
 use Rattle.blk_words.specs.declared.words.Form.TheVariants as form
 use Rattle.blk_words.specs.declared.words.Shown.{Shown}
 use Rattle.blk_words.specs.declared.words.Shown.TheVariants as shown
+use Rattle.blk_words.specs.declared.inputs.Figures.TheVariants as figures
+use Rattle.blk_words.specs.declared.inputs.Running.TheVariants as running
+use Rattle.blk_words.specs.declared.inputs.Solving.TheVariants as solving
+use Rattle.blk_words.specs.declared.inputs.Telling.TheVariants as telling
 use Rattle.blk_words.specs.declared.words.Import.{Import}
 use Rattle.blk_words.specs.declared.words.Refusal.{Refusal}
 use Rattle.blk_words.specs.declared.words.Refusal.TheVariants as refusal
@@ -99,10 +103,10 @@ abbrev pub lineup_given : List Row → Option Lineup
 lineup_given rows = lineup_of (tunables_of rows) (targets_of rows) (earliest_given rows)
 
 abbrev pub compared : Form → Option Lineup → Option Job
-compared f lineup = option_map (λ l. job.Compare l f) lineup
+compared f lineup = option_map (λ l. job.OfScript (running.Each l f)) lineup
 
 abbrev pub pictured : Bool → Option Lineup → Option Job
-pictured script lineup = if script then option_map job.Pictures lineup else Some job.Picture
+pictured script lineup = if script then option_map (λ l. job.OfScript (running.Drawn l)) lineup else Some (job.OfTrace telling.Picture)
 
 -- a load of these numbers, whose devices may be busy and take time, under this scheduler, and what is written of it
 abbrev pub amounts : Option ℕ → Option ℕ → Option ℕ → Option ℕ → Option ℕ → Option ℕ → Option Load
@@ -232,9 +236,9 @@ tune_job rows = tune_by (grid_given rows) (by_given rows) (number_given (codes "
 abbrev pub oracle_job : Bool → Bool → Bool → Option Job
 oracle_job trace met json =
     if trace && met then None
-    else (if trace then Some (job.Report (form_of json))
+    else (if trace then Some (job.OfTrace (telling.Figures figures.Report (form_of json)))
     else (if json then Some (job.Refuse refusal.JsonAlone)
-    else (if met then Some job.OnTime else Some job.Oracle)))
+    else (if met then Some (job.OfList solving.Most) else Some (job.OfList solving.Least))))
 
 abbrev pub oracle_given : List Row → Option Job
 oracle_given rows = oracle_job (is_flagged (codes "trace") rows) (is_flagged (codes "met") rows) (is_flagged (codes "json") rows)
@@ -242,12 +246,10 @@ oracle_given rows = oracle_job (is_flagged (codes "trace") rows) (is_flagged (co
 -- the job that a subcommand makes of what its options are given
 abbrev pub job_made : Makes → List Row → Option Job
 job_made (makes.Plain j) rows = Some j
-job_made makes.Sim rows = option_map job.Sim (sched_of rows)
+job_made (makes.Formed k) rows = Some (job.OfTrace (telling.Figures k (form_asked rows)))
+job_made makes.Sim rows = option_map (λ s. job.OfScript (running.One s)) (sched_of rows)
 job_made makes.Compare rows = compared (form_asked rows) (lineup_given rows)
 job_made makes.Tune rows = Some (tune_job rows)
-job_made makes.Late rows = Some (job.Late (form_asked rows))
-job_made makes.Misses rows = Some (job.Misses (form_asked rows))
-job_made makes.Spread rows = Some (job.Spread (form_asked rows))
 job_made makes.Picture rows = pictured (is_flagged (codes "script") rows) (lineup_given rows)
 job_made makes.Oracle rows = oracle_given rows
 job_made makes.Check rows = Some (job.Check (form_asked rows))

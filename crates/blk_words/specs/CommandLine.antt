@@ -6,6 +6,9 @@ use Rattle.clap.specs.declared.builder.ArgAction.TheVariants.{Set, SetTrue}
 use Rattle.clap.specs.declared.builder.value_parser.ValueParser.{ValueParser}
 use Rattle.clap.specs.declared.builder.value_parser.ValueParser.TheVariants as vp
 use Rattle.blk_settings.specs.declared.numbers.TheConstants.{MAX_SUBMITTERS, MAX_LOAD_WORKERS, MAX_LOAD_BIOS, MAX_LOAD_DEPTH, MAX_LOAD_SERVICE}
+use Rattle.blk_words.specs.declared.inputs.Figures.{Figures}
+use Rattle.blk_words.specs.declared.inputs.Figures.TheVariants as figures
+use Rattle.blk_words.specs.declared.inputs.Telling.TheVariants as telling
 use Rattle.blk_words.specs.declared.words.Job.{Job}
 use Rattle.blk_words.specs.declared.words.Job.TheVariants as job
 use Rattle.blk_words.specs.declared.table.TheConstants.{MAX_TARGET, MAX_BUSY, MAX_FIRST, MAX_TOP, MAX_THREADS, MAX_DEPTH}
@@ -16,9 +19,13 @@ use Rattle.blk_words.specs.declared.table.Makes.TheVariants as makes
 abbrev pub Names : Type 0
 Names = Bor (List (Bor Text))
 
--- they are those of the schedulers
+-- the names of the schedulers
+abbrev pub sched_names : List Text
+sched_names = codes "none" ∷ codes "deadline" ∷ codes "kyber" ∷ codes "earliest" ∷ []
+
+-- they are these
 abbrev pub AreSchedulers : Names → Type 0
-AreSchedulers names = map (λ name. name.now) names.now ≡ codes "none" ∷ codes "deadline" ∷ codes "kyber" ∷ codes "earliest" ∷ []
+AreSchedulers names = map (λ name. name.now) names.now ≡ sched_names
 
 -- an option that takes one of these names, by default none
 abbrev pub sched_rule : Text → Names → Rule
@@ -64,12 +71,12 @@ pub record Subcommand : Type 0 where
 abbrev pub plain : Text → Job → Subcommand
 plain name j = record { name = name; rules = []; makes = makes.Plain j }
 
--- the flag that asks for JSON, and a subcommand with that alone
+-- the flag that asks for JSON, and a subcommand over a trace with that alone
 abbrev pub json : Rule
 json = flag_rule (codes "json")
 
-abbrev pub formed : Text → Makes → Subcommand
-formed name m = record { name = name; rules = json ∷ []; makes = m }
+abbrev pub formed : Text → Figures → Subcommand
+formed name k = record { name = name; rules = json ∷ []; makes = makes.Formed k }
 
 -- what is tried, by what the best is found, how much is written and how many runs go side by side
 abbrev pub trying : List Rule
@@ -99,11 +106,11 @@ run_table names =
     record { name = codes "sim"; rules = sched_rule (codes "sched") names ∷ tuning; makes = makes.Sim }
     ∷ record { name = codes "compare"; rules = flag_rule (codes "earliest") ∷ json ∷ tuning; makes = makes.Compare }
     ∷ record { name = codes "tune"; rules = trying; makes = makes.Tune }
-    ∷ plain (codes "migrate") job.Migrate
-    ∷ plain (codes "commands") job.Commands
-    ∷ formed (codes "late") makes.Late
-    ∷ formed (codes "misses") makes.Misses
-    ∷ formed (codes "spread") makes.Spread
+    ∷ plain (codes "migrate") (job.OfTrace telling.Whole)
+    ∷ plain (codes "commands") (job.OfTrace telling.Commands)
+    ∷ formed (codes "late") figures.Late
+    ∷ formed (codes "misses") figures.Misses
+    ∷ formed (codes "spread") figures.Spread
     ∷ record { name = codes "picture"; rules = flag_rule (codes "script") ∷ flag_rule (codes "earliest") ∷ tuning; makes = makes.Picture }
     ∷ []
 
@@ -111,7 +118,7 @@ run_table names =
 abbrev pub other_table : Names → List Subcommand
 other_table names =
     record { name = codes "oracle"; rules = flag_rule (codes "trace") ∷ flag_rule (codes "met") ∷ json ∷ []; makes = makes.Oracle }
-    ∷ formed (codes "check") makes.Check
+    ∷ record { name = codes "check"; rules = json ∷ []; makes = makes.Check }
     ∷ record { name = codes "import"; rules = importing; makes = makes.Import }
     ∷ record { name = codes "judge"; rules = flag_rule (codes "each") ∷ []; makes = makes.Judge }
     ∷ plain (codes "explain") job.Explain

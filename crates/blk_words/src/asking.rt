@@ -6,24 +6,25 @@ ghost use Rattle.blk_grid.specs.Rows.{whole};
 ghost use Rattle.blk_words.specs.Asked.{Asks};
 ghost use Rattle.blk_words.specs.Plain.{AsksFor, AsksForGrid, AsksForNothing, default_tunables, default_targets, default_lineup, with_earliest, in_batches, default_trial, five_by_lateness, own_grid, whole_import, hundred_queued, default_load};
 
+use crate::inputs::{Figures, Running, Solving, Telling};
 use crate::words::{Form, Job, Refusal, Shown, Written};
 use blk_settings::Sched;
 
 /// Each of these lines asks for its job and, all but `--version`, for no other; `oracle --trace --met` asks for none. `tune` asks for the
 /// whole grid, or for that of its lists, and for no other.
 pub fn plain_lines()
-    ensures sim { AsksFor "sim" (Job.Sim Sched.None) }
-    ensures none { AsksFor "sim --sched none" (Job.Sim Sched.None) }
-    ensures deadline { AsksFor "sim --sched deadline" (Job.Sim (Sched.Deadline default_tunables)) }
-    ensures kyber { AsksFor "sim --sched kyber" (Job.Sim (Sched.Kyber default_targets)) }
-    ensures earliest { AsksFor "sim --sched earliest" (Job.Sim (Sched.Earliest false)) }
-    ensures late_last { AsksFor "sim --sched earliest --late-last" (Job.Sim (Sched.Earliest true)) }
-    ensures batch { AsksFor "sim --sched deadline --fifo-batch 1" (Job.Sim (Sched.Deadline (record default_tunables { fifo_batch = 1 }))) }
-    ensures target { AsksFor "sim --sched kyber --read-target 1000000" (Job.Sim (Sched.Kyber (record default_targets { read = 1_000_000 }))) }
-    ensures compare { AsksFor "compare" (Job.Compare default_lineup Form.Lines) }
-    ensures compare_earliest { AsksFor "compare --earliest" (Job.Compare (with_earliest false) Form.Lines) }
-    ensures compare_late_last { AsksFor "compare --earliest --late-last" (Job.Compare (with_earliest true) Form.Lines) }
-    ensures compare_json { AsksFor "compare --json" (Job.Compare default_lineup Form.Json) }
+    ensures sim { AsksFor "sim" (Job.OfScript (Running.One Sched.None)) }
+    ensures none { AsksFor "sim --sched none" (Job.OfScript (Running.One Sched.None)) }
+    ensures deadline { AsksFor "sim --sched deadline" (Job.OfScript (Running.One (Sched.Deadline default_tunables))) }
+    ensures kyber { AsksFor "sim --sched kyber" (Job.OfScript (Running.One (Sched.Kyber default_targets))) }
+    ensures earliest { AsksFor "sim --sched earliest" (Job.OfScript (Running.One (Sched.Earliest false))) }
+    ensures late_last { AsksFor "sim --sched earliest --late-last" (Job.OfScript (Running.One (Sched.Earliest true))) }
+    ensures batch { AsksFor "sim --sched deadline --fifo-batch 1" (Job.OfScript (Running.One (Sched.Deadline (record default_tunables { fifo_batch = 1 })))) }
+    ensures target { AsksFor "sim --sched kyber --read-target 1000000" (Job.OfScript (Running.One (Sched.Kyber (record default_targets { read = 1_000_000 })))) }
+    ensures compare { AsksFor "compare" (Job.OfScript (Running.Each default_lineup Form.Lines)) }
+    ensures compare_earliest { AsksFor "compare --earliest" (Job.OfScript (Running.Each (with_earliest false) Form.Lines)) }
+    ensures compare_late_last { AsksFor "compare --earliest --late-last" (Job.OfScript (Running.Each (with_earliest true) Form.Lines)) }
+    ensures compare_json { AsksFor "compare --json" (Job.OfScript (Running.Each default_lineup Form.Json)) }
     ensures tune { AsksFor "tune" (default_trial Form.Lines) }
     ensures tune_so { AsksFor "tune --sched deadline,none --fifo-batch 16,1 --by lateness --top 5 --threads 4" five_by_lateness }
     ensures tune_json { AsksFor "tune --json" (default_trial Form.Json) }
@@ -33,20 +34,20 @@ pub fn plain_lines()
     ensures tune_by_what { AsksFor "tune --by wait" (Job.Refuse Refusal.By) }
     ensures whole_grid { AsksForGrid "tune" whole }
     ensures own_grid { AsksForGrid "tune --sched deadline,none --fifo-batch 16,1 --writes-starved 3 --write-target 7,0" own_grid }
-    ensures migrate { AsksFor "migrate" Job.Migrate }
-    ensures commands { AsksFor "commands" Job.Commands }
-    ensures late { AsksFor "late" (Job.Late Form.Lines) }
-    ensures late_json { AsksFor "late --json" (Job.Late Form.Json) }
-    ensures misses { AsksFor "misses" (Job.Misses Form.Lines) }
-    ensures misses_json { AsksFor "misses --json" (Job.Misses Form.Json) }
-    ensures spread { AsksFor "spread" (Job.Spread Form.Lines) }
-    ensures spread_json { AsksFor "spread --json" (Job.Spread Form.Json) }
-    ensures picture { AsksFor "picture" Job.Picture }
-    ensures pictures { AsksFor "picture --script --earliest --fifo-batch 1" (Job.Pictures (in_batches 1 (with_earliest false))) }
-    ensures oracle { AsksFor "oracle" Job.Oracle }
-    ensures report { AsksFor "oracle --trace" (Job.Report Form.Lines) }
-    ensures report_json { AsksFor "oracle --trace --json" (Job.Report Form.Json) }
-    ensures met { AsksFor "oracle --met" Job.OnTime }
+    ensures migrate { AsksFor "migrate" (Job.OfTrace Telling.Whole) }
+    ensures commands { AsksFor "commands" (Job.OfTrace Telling.Commands) }
+    ensures late { AsksFor "late" (Job.OfTrace (Telling.Figures Figures.Late Form.Lines)) }
+    ensures late_json { AsksFor "late --json" (Job.OfTrace (Telling.Figures Figures.Late Form.Json)) }
+    ensures misses { AsksFor "misses" (Job.OfTrace (Telling.Figures Figures.Misses Form.Lines)) }
+    ensures misses_json { AsksFor "misses --json" (Job.OfTrace (Telling.Figures Figures.Misses Form.Json)) }
+    ensures spread { AsksFor "spread" (Job.OfTrace (Telling.Figures Figures.Spread Form.Lines)) }
+    ensures spread_json { AsksFor "spread --json" (Job.OfTrace (Telling.Figures Figures.Spread Form.Json)) }
+    ensures picture { AsksFor "picture" (Job.OfTrace Telling.Picture) }
+    ensures pictures { AsksFor "picture --script --earliest --fifo-batch 1" (Job.OfScript (Running.Drawn (in_batches 1 (with_earliest false)))) }
+    ensures oracle { AsksFor "oracle" (Job.OfList Solving.Least) }
+    ensures report { AsksFor "oracle --trace" (Job.OfTrace (Telling.Figures Figures.Report Form.Lines)) }
+    ensures report_json { AsksFor "oracle --trace --json" (Job.OfTrace (Telling.Figures Figures.Report Form.Json)) }
+    ensures met { AsksFor "oracle --met" (Job.OfList Solving.Most) }
     ensures report_and_on_time { AsksForNothing "oracle --trace --met" }
     ensures certificate_json { AsksFor "oracle --met --json" (Job.Refuse Refusal.JsonAlone) }
     ensures check { AsksFor "check" (Job.Check Form.Lines) }

@@ -4,11 +4,13 @@
 
 pub mod asking;
 mod command;
+pub mod inputs;
 mod lists;
 pub mod table;
 mod times;
 pub mod words;
 
+pub use crate::inputs::{Figures, Running, Solving, Telling};
 pub use crate::words::{
     Form, Import, Job, NoJob, Refusal, Shown, Tuning, VERSION, Written, choose, grid_asked,
 };

@@ -1,5 +1,6 @@
 //! The command line, as a table: a row for each subcommand, with its options and what these make.
 
+use crate::inputs::{Figures, Telling};
 use crate::words::Job;
 use blk_settings::numbers::{
     MAX_LOAD_BIOS, MAX_LOAD_DEPTH, MAX_LOAD_SERVICE, MAX_LOAD_WORKERS, MAX_SUBMITTERS,
@@ -58,18 +59,14 @@ pub struct OptionRow {
 pub enum Makes {
     /// This one: there are none.
     Plain(Job),
+    /// These figures of a trace, in the form that is asked for: the flag of JSON is the one option.
+    Formed(Figures),
     /// A script's run under the scheduler that they name.
     Sim,
     /// The comparison of schedulers of their settings.
     Compare,
     /// The trial of the settings of their lists, if these are lists.
     Tune,
-    /// The late commands of a trace, in the form that is asked for.
-    Late,
-    /// Its misses, in that form.
-    Misses,
-    /// Its spread, in that form.
-    Spread,
     /// The picture of a trace, or of a script under schedulers of their settings.
     Picture,
     /// What `oracle` is asked by its flags.
@@ -227,35 +224,35 @@ pub static RUN_COMMANDS: [CommandRow; 9] = [
         about: "Writes a trace in the latest version",
         options: &[],
         is_tuned: false,
-        makes: Makes::Plain(Job::Migrate),
+        makes: Makes::Plain(Job::OfTrace(Telling::Whole)),
     },
     CommandRow {
         name: "commands",
         about: "Writes the command list of a trace",
         options: &[],
         is_tuned: false,
-        makes: Makes::Plain(Job::Commands),
+        makes: Makes::Plain(Job::OfTrace(Telling::Commands)),
     },
     CommandRow {
         name: "late",
         about: "Writes which commands of a trace were late, and what went before them",
         options: &[JSON],
         is_tuned: false,
-        makes: Makes::Late,
+        makes: Makes::Formed(Figures::Late),
     },
     CommandRow {
         name: "misses",
         about: "Writes how many commands of a trace were late, and how many had to be",
         options: &[JSON],
         is_tuned: false,
-        makes: Makes::Misses,
+        makes: Makes::Formed(Figures::Misses),
     },
     CommandRow {
         name: "spread",
         about: "Writes how long the commands of a trace waited and how late they were, by quantiles",
         options: &[JSON],
         is_tuned: false,
-        makes: Makes::Spread,
+        makes: Makes::Formed(Figures::Spread),
     },
     CommandRow {
         name: "picture",

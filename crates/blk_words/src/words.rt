@@ -13,6 +13,7 @@ ghost use Rattle.blk_words.specs.Asked.{Asks, AsksGrid, IsNoJob, list_given, tri
 ghost use Rattle.blk_words.specs.Inside.Options.{given};
 
 use crate::command::{blk_command, other_commands, run_commands};
+use crate::inputs::{Figures, Running, Solving, Telling};
 use crate::lists::{Lists, MAX_SHORT, Numbers, Tried, numbers_of, tried_of};
 use crate::table::{CommandRow, MAX_TARGET, Makes};
 use crate::times::time_of;
@@ -27,37 +28,19 @@ use std::alloc::{AllocError, Global};
 /// The version of the program.
 pub const VERSION: &str = "1.0.0";
 
-/// What the program is asked to do.
+/// What the program is asked to do: a row for each kind of job.
 #[derive(Clone, Copy, Debug, PartialEq, Eq)]
 pub enum Job {
     /// Write the program's name and version.
     Version,
-    /// Run a script under a scheduler, and write its trace.
-    Sim(Sched),
-    /// Run a script under each of these schedulers in turn, and write the table of the reports.
-    Compare(Lineup, Form),
+    /// Run a script, and write what is asked of it.
+    OfScript(Running),
     /// Run a script under each setting of the grid that the words ask for ([`grid_asked`]), and write the table of how well each did.
     Tune(Tuning),
-    /// Write a trace in the latest version.
-    Migrate,
-    /// Write the command list of a trace.
-    Commands,
-    /// Write which commands of a trace were late, and what went before them.
-    Late(Form),
-    /// Write how many commands of a trace were late, and how many had to be.
-    Misses(Form),
-    /// Write how long the commands of a trace waited, and how late they were, by quantiles.
-    Spread(Form),
-    /// Write the picture of a trace.
-    Picture,
-    /// Run a script under each of these schedulers in turn, and write the pictures of its traces as one.
-    Pictures(Lineup),
-    /// Write the certificate of a command list.
-    Oracle,
-    /// Write how many commands of a list can be met, with its certificate.
-    OnTime,
-    /// Write the report of a trace.
-    Report(Form),
+    /// Write what is asked of a trace.
+    OfTrace(Telling),
+    /// Write what is asked of a command list.
+    OfList(Solving),
     /// Check a certificate, and write what it proves.
     Check(Form),
     /// Import a capture.
@@ -323,7 +306,7 @@ fn compare_of(options: &ArgMatches<'_>) -> Option<Job>
 {
     let form = form_asked(options);
     let lineup = lineup_of(options)?;
-    Some(Job::Compare(lineup, form))
+    Some(Job::OfScript(Running::Each(lineup, form)))
 }
 
 /// The picture of a trace, or with the flag `--script` those of a script under these.
@@ -332,9 +315,9 @@ fn picture_of(options: &ArgMatches<'_>) -> Option<Job>
 {
     if is_flagged(options, "script") {
         let lineup = lineup_of(options)?;
-        Some(Job::Pictures(lineup))
+        Some(Job::OfScript(Running::Drawn(lineup)))
     } else {
-        Some(Job::Picture)
+        Some(Job::OfTrace(Telling::Picture))
     }
 }
 
@@ -647,13 +630,13 @@ fn oracle_job(options: &ArgMatches<'_>) -> Option<Job>
     if trace && met {
         None
     } else if trace {
-        Some(Job::Report(form_of(json)))
+        Some(Job::OfTrace(Telling::Figures(Figures::Report, form_of(json))))
     } else if json {
         Some(Job::Refuse(Refusal::JsonAlone))
     } else if met {
-        Some(Job::OnTime)
+        Some(Job::OfList(Solving::Most))
     } else {
-        Some(Job::Oracle)
+        Some(Job::OfList(Solving::Least))
     }
 }
 
@@ -663,16 +646,17 @@ fn job_made(makes: Makes, options: &ArgMatches<'_>) -> Option<Job>
 {
     match makes {
         Makes::Plain(job) => Some(job),
+        Makes::Formed(figures) => {
+            let form = form_asked(options);
+            Some(Job::OfTrace(Telling::Figures(figures, form)))
+        }
         Makes::Sim => {
             let sched = sched_of(options)?;
-            Some(Job::Sim(sched))
+            Some(Job::OfScript(Running::One(sched)))
         }
         Makes::Compare => compare_of(options),
         Makes::Tune => Some(tune_job(options)),
         Makes::Picture => picture_of(options),
-        Makes::Late => Some(Job::Late(form_asked(options))),
-        Makes::Misses => Some(Job::Misses(form_asked(options))),
-        Makes::Spread => Some(Job::Spread(form_asked(options))),
         Makes::Check => Some(Job::Check(form_asked(options))),
         Makes::Oracle => oracle_job(options),
         Makes::Import => Some(import_job(options)),

@@ -1,5 +1,9 @@
 use Rattle.std.proofs.Common.{None, Some, true, false}
 use Rattle.blk_settings.specs.declared.sched.Sched.TheVariants as sched
+use Rattle.blk_words.specs.declared.inputs.Figures.TheVariants as figures
+use Rattle.blk_words.specs.declared.inputs.Running.TheVariants as running
+use Rattle.blk_words.specs.declared.inputs.Solving.TheVariants as solving
+use Rattle.blk_words.specs.declared.inputs.Telling.TheVariants as telling
 use Rattle.blk_words.specs.declared.words.Job.TheVariants as job
 use Rattle.blk_words.specs.declared.words.Form.TheVariants as form
 use Rattle.blk_words.specs.declared.words.Shown.TheVariants as shown
@@ -12,18 +16,18 @@ use Rattle.blk_words.proofs.asking.plain_lines.Goals as goal
 
 pub returns : goal.returns
 returns c = record {
-  sim = asks_for "sim" (job.Sim sched.None) sim_line;
-  none = asks_for "sim --sched none" (job.Sim sched.None) none_line;
-  deadline = asks_for "sim --sched deadline" (job.Sim (sched.Deadline default_tunables)) deadline_line;
-  kyber = asks_for "sim --sched kyber" (job.Sim (sched.Kyber default_targets)) kyber_line;
-  earliest = asks_for "sim --sched earliest" (job.Sim (sched.Earliest false)) earliest_line;
-  late_last = asks_for "sim --sched earliest --late-last" (job.Sim (sched.Earliest true)) late_last_line;
-  batch = asks_for "sim --sched deadline --fifo-batch 1" (job.Sim (sched.Deadline (record default_tunables { fifo_batch = 1 }))) batch_line;
-  target = asks_for "sim --sched kyber --read-target 1000000" (job.Sim (sched.Kyber (record default_targets { read = 1_000_000 }))) target_line;
-  compare = asks_for "compare" (job.Compare default_lineup form.Lines) compare_line;
-  compare_earliest = asks_for "compare --earliest" (job.Compare (with_earliest false) form.Lines) compare_earliest_line;
-  compare_late_last = asks_for "compare --earliest --late-last" (job.Compare (with_earliest true) form.Lines) compare_late_last_line;
-  compare_json = asks_for "compare --json" (job.Compare default_lineup form.Json) compare_json_line;
+  sim = asks_for "sim" (job.OfScript (running.One sched.None)) sim_line;
+  none = asks_for "sim --sched none" (job.OfScript (running.One sched.None)) none_line;
+  deadline = asks_for "sim --sched deadline" (job.OfScript (running.One (sched.Deadline default_tunables))) deadline_line;
+  kyber = asks_for "sim --sched kyber" (job.OfScript (running.One (sched.Kyber default_targets))) kyber_line;
+  earliest = asks_for "sim --sched earliest" (job.OfScript (running.One (sched.Earliest false))) earliest_line;
+  late_last = asks_for "sim --sched earliest --late-last" (job.OfScript (running.One (sched.Earliest true))) late_last_line;
+  batch = asks_for "sim --sched deadline --fifo-batch 1" (job.OfScript (running.One (sched.Deadline (record default_tunables { fifo_batch = 1 })))) batch_line;
+  target = asks_for "sim --sched kyber --read-target 1000000" (job.OfScript (running.One (sched.Kyber (record default_targets { read = 1_000_000 })))) target_line;
+  compare = asks_for "compare" (job.OfScript (running.Each default_lineup form.Lines)) compare_line;
+  compare_earliest = asks_for "compare --earliest" (job.OfScript (running.Each (with_earliest false) form.Lines)) compare_earliest_line;
+  compare_late_last = asks_for "compare --earliest --late-last" (job.OfScript (running.Each (with_earliest true) form.Lines)) compare_late_last_line;
+  compare_json = asks_for "compare --json" (job.OfScript (running.Each default_lineup form.Json)) compare_json_line;
   tune = asks_for "tune" (default_trial form.Lines) tune_line;
   tune_so = asks_for "tune --sched deadline,none --fifo-batch 16,1 --by lateness --top 5 --threads 4" five_by_lateness tune_so_line;
   tune_json = asks_for "tune --json" (default_trial form.Json) tune_json_line;
@@ -33,20 +37,20 @@ returns c = record {
   tune_by_what = asks_for "tune --by wait" (job.Refuse refusal.By) tune_by_what_line;
   whole_grid = asks_for_grid "tune" whole whole_grid_line;
   own_grid = asks_for_grid "tune --sched deadline,none --fifo-batch 16,1 --writes-starved 3 --write-target 7,0" own_grid own_grid_line;
-  migrate = asks_for "migrate" job.Migrate migrate_line;
-  commands = asks_for "commands" job.Commands commands_line;
-  late = asks_for "late" (job.Late form.Lines) late_line;
-  late_json = asks_for "late --json" (job.Late form.Json) late_json_line;
-  misses = asks_for "misses" (job.Misses form.Lines) misses_line;
-  misses_json = asks_for "misses --json" (job.Misses form.Json) misses_json_line;
-  spread = asks_for "spread" (job.Spread form.Lines) spread_line;
-  spread_json = asks_for "spread --json" (job.Spread form.Json) spread_json_line;
-  picture = asks_for "picture" job.Picture picture_line;
-  pictures = asks_for "picture --script --earliest --fifo-batch 1" (job.Pictures (in_batches 1 (with_earliest false))) pictures_line;
-  oracle = asks_for "oracle" job.Oracle oracle_line;
-  report = asks_for "oracle --trace" (job.Report form.Lines) report_line;
-  report_json = asks_for "oracle --trace --json" (job.Report form.Json) report_json_line;
-  met = asks_for "oracle --met" job.OnTime on_time_line;
+  migrate = asks_for "migrate" (job.OfTrace telling.Whole) migrate_line;
+  commands = asks_for "commands" (job.OfTrace telling.Commands) commands_line;
+  late = asks_for "late" (job.OfTrace (telling.Figures figures.Late form.Lines)) late_line;
+  late_json = asks_for "late --json" (job.OfTrace (telling.Figures figures.Late form.Json)) late_json_line;
+  misses = asks_for "misses" (job.OfTrace (telling.Figures figures.Misses form.Lines)) misses_line;
+  misses_json = asks_for "misses --json" (job.OfTrace (telling.Figures figures.Misses form.Json)) misses_json_line;
+  spread = asks_for "spread" (job.OfTrace (telling.Figures figures.Spread form.Lines)) spread_line;
+  spread_json = asks_for "spread --json" (job.OfTrace (telling.Figures figures.Spread form.Json)) spread_json_line;
+  picture = asks_for "picture" (job.OfTrace telling.Picture) picture_line;
+  pictures = asks_for "picture --script --earliest --fifo-batch 1" (job.OfScript (running.Drawn (in_batches 1 (with_earliest false)))) pictures_line;
+  oracle = asks_for "oracle" (job.OfList solving.Least) oracle_line;
+  report = asks_for "oracle --trace" (job.OfTrace (telling.Figures figures.Report form.Lines)) report_line;
+  report_json = asks_for "oracle --trace --json" (job.OfTrace (telling.Figures figures.Report form.Json)) report_json_line;
+  met = asks_for "oracle --met" (job.OfList solving.Most) on_time_line;
   report_and_on_time = asks_for_nothing "oracle --trace --met" report_and_on_time_line;
   certificate_json = asks_for "oracle --met --json" (job.Refuse refusal.JsonAlone) certificate_json_line;
   check = asks_for "check" (job.Check form.Lines) check_line;

@@ -1,0 +1,50 @@
+//! What is asked of an input: of a script, of a trace, of a command list.
+
+use crate::words::Form;
+use blk_settings::{Lineup, Sched};
+
+/// What is asked of a script.
+#[derive(Clone, Copy, Debug, PartialEq, Eq)]
+pub enum Running {
+    /// Its trace under a scheduler.
+    One(Sched),
+    /// The table of the reports under each of these schedulers, which run it in turn, in this form.
+    Each(Lineup, Form),
+    /// The same: the pictures of its traces under them, as one.
+    Drawn(Lineup),
+}
+
+/// What is asked of a trace.
+#[derive(Clone, Copy, Debug, PartialEq, Eq)]
+pub enum Telling {
+    /// The trace itself, in the latest version.
+    Whole,
+    /// Its command list.
+    Commands,
+    /// Its picture.
+    Picture,
+    /// Figures of it, in this form.
+    Figures(Figures, Form),
+}
+
+/// Figures of a trace.
+#[derive(Clone, Copy, Debug, PartialEq, Eq)]
+pub enum Figures {
+    /// Which of its commands were late, and what the rounds that they waited went to.
+    Late,
+    /// How many were late, and how many had to be.
+    Misses,
+    /// How long its commands waited and how late they were, by quantiles.
+    Spread,
+    /// How far it fell short.
+    Report,
+}
+
+/// What is asked of a command list.
+#[derive(Clone, Copy, Debug, PartialEq, Eq)]
+pub enum Solving {
+    /// How late the latest of its commands has to be, with the certificate.
+    Least,
+    /// How many of its commands can be met, with the certificate.
+    Most,
+}
