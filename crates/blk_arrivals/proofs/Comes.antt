@@ -76,16 +76,7 @@ gone r is h = gone_by r.action r.op r.first r.sectors is h
 
 -- submitters
 
-pub processes_told : (records : List Record) → AreFew (keys_of by.Process records) → told_by records ≡ by.Process
-processes_told records few = rw (le-leb (length (keys_of by.Process records)) MAX_SOFT_QUEUES few) refl
-
-pub processors_told : (records : List Record) → MAX_SOFT_QUEUES < length (keys_of by.Process records) → told_by records ≡ by.Processor
-processors_told records many = rw (lt-leb (length (keys_of by.Process records)) MAX_SOFT_QUEUES many) refl
-
 -- deeds
 
 pub place_below : (keys : List ℕ) (key s : ℕ) → number_of keys key ≡ Some s → s < length keys
 place_below keys key s h = (position-Some (λ k. k == key) keys s 0 h).0
-
-pub deed_is : (told : By) (keys : List ℕ) (r : Record) (number : Option ℕ) (a : Action) (way : Option Dir) → number_of keys (key_of told r) ≡ number → r.action ≡ a → way_of r ≡ way → deed_of told keys r ≡ deed_by number a way
-deed_is told keys r number a way n e w = λ i. deed_by (n i) (e i) (w i)

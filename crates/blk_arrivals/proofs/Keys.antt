@@ -54,9 +54,6 @@ all_seen told keys records i past rest = sym (ap (keys_after told keys) (drop_of
 
 -- a key that is among them stays among them
 
-or_true : (b : Bool) → (true || b) ≡ true
-or_true b = refl
-
 or_last : (b : Bool) → (b || true) ≡ true
 or_last true = refl
 or_last false = refl

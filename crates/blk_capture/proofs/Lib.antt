@@ -7,4 +7,4 @@ pub mod Telling
 pub mod Counted
 pub mod Flying
 pub mod Parted
-pub mod Spotting
+pub mod LookupKeys

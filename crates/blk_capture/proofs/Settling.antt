@@ -1,14 +1,14 @@
-use Rattle.std.proofs.Common.{ℕ, ◌≡◌, ◌<◌, ◌≤◌, ◌+◌, ◌++◌, ◌∙◌, List, [], ◌∷◌, length, get_or, map, Option, None, Some, inl, inr, refl, arith, ap, sym, subst, lit<}
+use Rattle.std.proofs.Common.{ℕ, ◌≡◌, ◌<◌, ◌≤◌, ◌∙◌, List, length, get_or, map, Option, None, Some, inl, inr, refl, arith, ap, sym, subst, lit<}
 use Rattle.std.specs.List.{All}
 use Rattle.std.specs.Prelude.{IfSome}
 use Rattle.std.proofs.lemmas.Bool.{cases_lt}
-use Rattle.std.proofs.lemmas.List.{get_or_append_left, get_or_push, get_or_past, get_or_default, get_or-map, length_push, length-map}
+use Rattle.std.proofs.lemmas.List.{get_or_past, get_or-map, length-map}
 use Rattle.edd_commands.specs.declared.Command.{Command}
 use Rattle.blk_bio.specs.declared.bio.Dir.TheVariants.{Read}
 use Rattle.blk_capture.specs.Counting.{AreServed, AreLateByClock}
 use Rattle.blk_capture.specs.Inside.Members.{AreOpened}
 use Rattle.blk_capture.specs.Requests.{served_of, AreTimed, HaveBios, AreLate, IsDue}
-use Rattle.blk_capture.specs.Inside.Taken.{IsOwn, ArePlaced, ArePlacedBios, IsTalliedFrom}
+use Rattle.blk_capture.specs.Inside.Taken.{ArePlaced, ArePlacedBios, IsTalliedFrom}
 use Rattle.blk_capture.specs.declared.counting.Served.{Served}
 use Rattle.blk_capture.specs.declared.members.Queued.{Queued}
 use Rattle.blk_capture.specs.declared.requests.Bio.{Bio}
@@ -63,28 +63,6 @@ tallied_timed old new bios timed tallied = record {
       λ k d h.
       let back : IfSome (get_or old k d).completed (λ t. (get_or old k d).dispatched ≤ t) = timed.came_back k d (omega (arith, h, tallied.each)) in
       subst (λ (q : Request). IfSome q.completed (λ t. q.dispatched ≤ t)) (sym (tallied.rest k d)) back;
-}
-
--- one more bio with its place
-pub placed_bios_more : (lives : List Life) (places : List (Option ℕ)) (queued : List Queued) (n : ℕ) (bios : List Bio) (x : Queued) (b : Bio)
-    → ArePlacedBios lives places queued n bios → n < length queued → x ≡ get_or queued n x
-    → ((r : ℕ) → x.request ≡ Some r → IsOwn lives r → r < length places → b.request ≡ get_or places r None)
-    → ArePlacedBios lives places queued (n + 1) (bios ++ b ∷ [])
-placed_bios_more lives places queued n bios x b old here is place = record {
-  each = length_push bios b ∙ ap (λ m. m + 1) old.each;
-  place =
-      λ c r d e low went own there.
-      elim (cases_lt c n) [
-        | inl before ↦
-            ap (λ (y : Bio). y.request) (get_or_append_left bios (b ∷ []) e c (omega (arith, before, old.each)))
-            ∙ old.place c r d e before went own there
-        | inr past ↦
-            let last : n ≡ c = omega (arith, low, past) in
-            let same : x.request ≡ (get_or queued n d).request = ap (λ (y : Queued). y.request) (is ∙ get_or_default queued n x d here) in
-            let at : (get_or queued n d).request ≡ (get_or queued c d).request = ap (λ m. (get_or queued m d).request) last in
-            ap (λ (y : Bio). y.request) (get_or_push bios b e c (old.each ∙ last))
-            ∙ place r (same ∙ at ∙ went) own there
-      ];
 }
 
 pub map_served : (requests : List Request) → AreTimed requests → AreServed (map served_of requests)

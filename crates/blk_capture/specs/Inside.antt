@@ -1,7 +1,8 @@
 -- What private functions and proofs alone need: where requests wait, what records are of, and how those that are taken are found.
 pub mod Members
-pub mod Spots
-pub mod Edges
+pub mod LookupKeys
+pub mod MergeIndex
 pub mod Roles
+pub mod Matchings
 pub mod Taken
 pub mod Tallies

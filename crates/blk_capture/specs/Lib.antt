@@ -5,4 +5,5 @@ pub mod Passing
 pub mod Parting
 pub mod Tables
 pub mod Summaries
+pub mod Matched
 pub mod Inside

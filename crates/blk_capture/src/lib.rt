@@ -8,12 +8,12 @@
 mod clock;
 mod counting;
 mod fates;
+mod lookup;
 mod matching;
 mod members;
 mod part;
 mod record;
 mod requests;
-mod spots;
 mod summary;
 mod table;
 

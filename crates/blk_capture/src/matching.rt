@@ -2,14 +2,15 @@
 
 ghost use Rattle.std.specs.Prelude.{◌≡◌, ◌+◌, IfOk, IfSome, IfNone, None, length, is_some};
 ghost use Rattle.blk_capture.specs.Passing.{passed_over};
-ghost use Rattle.blk_capture.specs.Inside.Edges.{on_time_spot, facing, by_range, whole_spot, TakesAbutting, TakesGoing};
-ghost use Rattle.blk_capture.specs.Inside.Spots.{IsEmptyAt};
-ghost use Rattle.blk_capture.specs.Inside.Roles.{is_known, opens_role, makes_role, passed_role, GrowsIf};
+ghost use Rattle.blk_capture.specs.Inside.MergeIndex.{abutting_key, facing, by_range, whole_key, TakesAbutting, TakesGoing};
+ghost use Rattle.blk_capture.specs.Inside.LookupKeys.{IsEmptyAt};
+ghost use Rattle.blk_capture.specs.Inside.Roles.{is_known, opens_role, makes_role, passed_role};
+ghost use Rattle.blk_capture.specs.Inside.Matchings.{OpensIf, MakesIf};
 
 use crate::clock::Clock;
+use crate::lookup::{KeyIndex, LookupKey, MergeIndex};
 use crate::members::{Members, Queued};
 use crate::record::{Action, Passed, Range, Record};
-use crate::spots::{Edges, Spot, Spots};
 use blk_bio::Side;
 use std::alloc::{AllocError, Allocator, Global};
 
@@ -114,15 +115,15 @@ pub(crate) struct Matching<A: Allocator = Global> {
     /// Whether requests go out without being inserted, since the capture has no insertion.
     direct: bool,
     /// Bios that were queued and went nowhere yet.
-    waiting: Spots<A>,
+    waiting: KeyIndex<A>,
     /// Requests that were opened and not inserted, by who opened them.
-    opened: Edges<A>,
+    opened: MergeIndex<A>,
     /// The same by where they begin, whoever opened them.
-    starts: Spots<A>,
-    /// Requests that were inserted and did not go out, or were handed back.
-    inserted: Edges<A>,
+    starts: KeyIndex<A>,
+    /// Requests that were inserted and did not go out, or were requeued.
+    inserted: MergeIndex<A>,
     /// Requests at the device, by what of them was not completed yet.
-    in_flight: Spots<A>,
+    in_flight: KeyIndex<A>,
 }
 
 impl<A: Allocator + Clone> Matching<A> {
@@ -137,19 +138,19 @@ impl<A: Allocator + Clone> Matching<A> {
             requests: Vec::new(alloc.clone()?),
             absorptions: Vec::new(alloc.clone()?),
             direct,
-            waiting: Spots::new(alloc.clone()?),
-            opened: Edges::new(alloc.clone()?)?,
-            starts: Spots::new(alloc.clone()?),
-            inserted: Edges::new(alloc.clone()?)?,
-            in_flight: Spots::new(alloc),
+            waiting: KeyIndex::new(alloc.clone()?),
+            opened: MergeIndex::new(alloc.clone()?)?,
+            starts: KeyIndex::new(alloc.clone()?),
+            inserted: MergeIndex::new(alloc.clone()?)?,
+            in_flight: KeyIndex::new(alloc),
         })
     }
 
     /// Takes in a record, the one of a number, at the time of the clock.
     #[tactic(auto, using(crate::proofs::Telling::opened_none, crate::proofs::Telling::made_none))]
     pub(crate) fn take(&mut self, number: u64, record: &Record) -> Result<Role, AllocError>
-        ensures opens { IfOk result (λ r. GrowsIf (opens_role «record».now.action r) self.old.requests.items self.new.requests.items) }
-        ensures makes { IfOk result (λ r. GrowsIf (makes_role «record».now.action r) self.old.members.bios.items self.new.members.bios.items) }
+        ensures opens { IfOk result (λ r. OpensIf (opens_role «record».now.action r) self.old self.new) }
+        ensures makes { IfOk result (λ r. MakesIf (makes_role «record».now.action r) self.old self.new) }
         ensures passed { IfOk result (λ r. passed_role r ≡ passed_over «record».now) }
     {
         let range = match Range::of(record) {
@@ -174,7 +175,7 @@ impl<A: Allocator + Clone> Matching<A> {
     /// A bio is queued. Of one range the first queued goes first.
     fn queue(&mut self, number: u64, pid: u64, range: Range) -> Result<Option<usize>, AllocError>
         ensures same { length self.new.requests.items ≡ length self.old.requests.items }
-        ensures bios { IfOk result (λ bio. GrowsIf (is_some bio) self.old.members.bios.items self.new.members.bios.items) }
+        ensures bios { IfOk result (λ bio. MakesIf (is_some bio) self.old self.new) }
     {
         let place = self.members.queue(Queued {
             range,
@@ -183,7 +184,7 @@ impl<A: Allocator + Clone> Matching<A> {
             age: number,
             request: None,
         })?;
-        self.waiting.put(Spot::whole(range), number, place)?;
+        self.waiting.put(LookupKey::whole(range), number, place)?;
         Ok(Some(place))
     }
 
@@ -192,15 +193,15 @@ impl<A: Allocator + Clone> Matching<A> {
         ensures same { length self.new.requests.items ≡ length self.old.requests.items }
         ensures bios { length self.new.members.bios.items ≡ length self.old.members.bios.items }
     {
-        let place = self.waiting.oldest(Spot::whole(range))?;
+        let place = self.waiting.oldest(LookupKey::whole(range))?;
         let bio = self.members.bios.get(place).copied()?;
-        self.waiting.take(Spot::whole(range), bio.age);
+        self.waiting.take(LookupKey::whole(range), bio.age);
         Some(place)
     }
 
     /// A request is opened for the oldest waiting bio of the range.
     fn get(&mut self, number: u64, pid: u64, range: Range) -> Result<Option<usize>, AllocError>
-        ensures same { IfOk result (λ request. GrowsIf (is_some request) self.old.requests.items self.new.requests.items) }
+        ensures same { IfOk result (λ request. OpensIf (is_some request) self.old self.new) }
         ensures bios { length self.new.members.bios.items ≡ length self.old.members.bios.items }
     {
         let Some(place) = self.unqueue(range) else {
@@ -237,7 +238,7 @@ impl<A: Allocator + Clone> Matching<A> {
         };
         match opened.stage {
             Stage::Opened => {
-                let start = Spot::edge(opened.left, opened.left.first, 0);
+                let start = LookupKey::edge(opened.left, opened.left.first, 0);
                 self.starts.put(start, opened.age, request)?;
                 self.opened
                     .insert(opened.left, opened.pid, opened.age, request)
@@ -245,7 +246,7 @@ impl<A: Allocator + Clone> Matching<A> {
             Stage::Inserted => self.inserted.insert(opened.left, 0, opened.age, request),
             Stage::InFlight(_) => {
                 self.in_flight
-                    .put(Spot::whole(opened.left), opened.age, request)
+                    .put(LookupKey::whole(opened.left), opened.age, request)
             }
             Stage::Completed(_) | Stage::Absorbed => Ok(()),
         }
@@ -259,12 +260,14 @@ impl<A: Allocator + Clone> Matching<A> {
         let opened = self.requests.get(request).copied()?;
         match opened.stage {
             Stage::Opened => {
-                let start = Spot::edge(opened.left, opened.left.first, 0);
+                let start = LookupKey::edge(opened.left, opened.left.first, 0);
                 self.starts.take(start, opened.age);
                 self.opened.remove(opened.left, opened.pid, opened.age);
             }
             Stage::Inserted => self.inserted.remove(opened.left, 0, opened.age),
-            Stage::InFlight(_) => self.in_flight.take(Spot::whole(opened.left), opened.age),
+            Stage::InFlight(_) => self
+                .in_flight
+                .take(LookupKey::whole(opened.left), opened.age),
             Stage::Completed(_) | Stage::Absorbed => {}
         }
         Some(opened)
@@ -287,7 +290,7 @@ impl<A: Allocator + Clone> Matching<A> {
     /// and did not go out.
     fn abutting(&self, pid: u64, range: Range, side: Side) -> Option<usize>
         ensures some { IfSome result (TakesAbutting self.now.opened self.now.inserted range side pid) }
-        ensures none { IfNone result (IsEmptyAt (facing side self.now.inserted) (on_time_spot range side 0)) }
+        ensures none { IfNone result (IsEmptyAt (facing side self.now.inserted) (abutting_key range side 0)) }
     {
         match self.opened.newest(range, side, pid) {
             Some(request) => Some(request),
@@ -322,7 +325,7 @@ impl<A: Allocator + Clone> Matching<A> {
         ensures same { length self.new.requests.items ≡ length self.old.requests.items }
         ensures bios { length self.new.members.bios.items ≡ length self.old.members.bios.items }
     {
-        let whole = Spot::whole(range);
+        let whole = LookupKey::whole(range);
         let found = match self.inserted.wholes.oldest(whole) {
             Some(request) => Some(request),
             None => self.opened.wholes.oldest(whole),
@@ -351,7 +354,7 @@ impl<A: Allocator + Clone> Matching<A> {
         let Some(opened) = self.unplace(request) else {
             return Ok(None);
         };
-        // of one that was handed back after a part was done, the rest goes out, and grows
+        // of one that was requeued after a part was done, the rest goes out, and grows
         let left = opened.left.grown(range, side);
         let range = opened.range.grown(range, side);
         self.replace(
@@ -369,9 +372,9 @@ impl<A: Allocator + Clone> Matching<A> {
         ensures same { length self.new.requests.items ≡ length self.old.requests.items }
         ensures bios { length self.new.members.bios.items ≡ length self.old.members.bios.items }
     {
-        let found = match self.opened.wholes.oldest(Spot::whole(range)) {
+        let found = match self.opened.wholes.oldest(LookupKey::whole(range)) {
             Some(request) => Some(request),
-            None => self.starts.oldest(Spot::edge(range, range.first, 0)),
+            None => self.starts.oldest(LookupKey::edge(range, range.first, 0)),
         };
         let Some(request) = found else {
             return Ok(None);
@@ -394,9 +397,9 @@ impl<A: Allocator + Clone> Matching<A> {
     /// oldest that was opened.
     fn going(&self, range: Range) -> Option<usize>
         ensures some { IfSome result (TakesGoing self.now.direct self.now.opened self.now.inserted range) }
-        ensures none { IfNone result (IsEmptyAt (by_range self.now.inserted) (whole_spot range)) }
+        ensures none { IfNone result (IsEmptyAt (by_range self.now.inserted) (whole_key range)) }
     {
-        let whole = Spot::whole(range);
+        let whole = LookupKey::whole(range);
         match self.inserted.wholes.oldest(whole) {
             Some(request) => Some(request),
             None => {
@@ -429,7 +432,7 @@ impl<A: Allocator + Clone> Matching<A> {
         ensures same { length self.new.requests.items ≡ length self.old.requests.items }
         ensures bios { length self.new.members.bios.items ≡ length self.old.members.bios.items }
     {
-        let found = match self.in_flight.oldest(Spot::whole(range)) {
+        let found = match self.in_flight.oldest(LookupKey::whole(range)) {
             Some(request) => Some(request),
             None => self.in_flight.longer(range),
         };
@@ -454,12 +457,12 @@ impl<A: Allocator + Clone> Matching<A> {
         self.replace(request, done)
     }
 
-    /// The oldest request at the device of which just the range is left is handed back, to where it waited before.
+    /// The oldest request at the device of which just the range is left is requeued, to where it waited before.
     fn requeue(&mut self, range: Range) -> Result<Option<usize>, AllocError>
         ensures same { length self.new.requests.items ≡ length self.old.requests.items }
         ensures bios { length self.new.members.bios.items ≡ length self.old.members.bios.items }
     {
-        let Some(request) = self.in_flight.oldest(Spot::whole(range)) else {
+        let Some(request) = self.in_flight.oldest(LookupKey::whole(range)) else {
             return Ok(None);
         };
         let Some(opened) = self.unplace(request) else {
@@ -476,7 +479,7 @@ impl<A: Allocator + Clone> Matching<A> {
     /// A waiting bio is cut where the range ends, of which it is the beginning. Both parts wait since the bio was queued.
     fn split(&mut self, range: Range) -> Result<Option<usize>, AllocError>
         ensures same { length self.new.requests.items ≡ length self.old.requests.items }
-        ensures bios { IfOk result (λ bio. GrowsIf (is_some bio) self.old.members.bios.items self.new.members.bios.items) }
+        ensures bios { IfOk result (λ bio. MakesIf (is_some bio) self.old self.new) }
     {
         let Some(place) = self.waiting.longer(range) else {
             return Ok(None);
@@ -487,11 +490,11 @@ impl<A: Allocator + Clone> Matching<A> {
         let Some(rest) = Range::new(range.dir, range.end, bio.range.end) else {
             return Ok(None);
         };
-        self.waiting.take(Spot::whole(bio.range), bio.age);
+        self.waiting.take(LookupKey::whole(bio.range), bio.age);
         self.members.cut(place, range);
         let second = self.members.queue(Queued { range: rest, ..bio })?;
-        self.waiting.put(Spot::whole(range), bio.age, place)?;
-        self.waiting.put(Spot::whole(rest), bio.age, second)?;
+        self.waiting.put(LookupKey::whole(range), bio.age, place)?;
+        self.waiting.put(LookupKey::whole(rest), bio.age, second)?;
         Ok(Some(second))
     }
 }

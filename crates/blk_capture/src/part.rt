@@ -3,6 +3,7 @@
 ghost use Rattle.std.specs.Prelude.{◌≡◌, ◌≤◌, ◌<◌, ◌+◌, ◌^◌, IfOk, length, map, take, drop};
 ghost use Rattle.blk_capture.specs.Requests.{AreTimed};
 ghost use Rattle.blk_capture.specs.Parting.{before, part, place_in, bio_in, fate_in, part_bios, part_fates};
+ghost use Rattle.blk_capture.specs.Matched.{all_unmerged};
 
 use crate::fates::Fate;
 use crate::requests::{Bio, Matched, Request};
@@ -107,7 +108,7 @@ pub fn part_of<A: Allocator + Clone>(
     ensures bios { IfOk result (λ m. m.bios.items ≡ part_bios begin (length m.requests.items) matched.now) }
     ensures fates { IfOk result (λ m. m.fates.items ≡ part_fates begin (length m.requests.items) matched.now) }
     ensures absorbed { IfOk result (λ m. m.absorbed ≡ matched.now.absorbed) }
-    ensures left_out { IfOk result (λ m. m.left_out + length m.requests.items ≡ matched.now.left_out + length matched.now.requests.items) }
+    ensures left_out { IfOk result (λ m. all_unmerged m ≡ all_unmerged matched.now) }
     ensures timed { IfOk result (λ m. AreTimed m.requests.items) }
 {
     let whole = matched.requests.as_slice();

@@ -2,7 +2,7 @@
 
 ghost use Rattle.std.specs.Prelude.{◌≡◌, ◌<◌, None, Some, IfErr, IfOk};
 ghost use Rattle.blk_capture.specs.Passing.{place_of, kind_place, passed_action, passed_op, passed_over, dir_of, op_by, action_by, letter_action};
-ghost use Rattle.blk_capture.specs.Inside.Spots.{writes};
+ghost use Rattle.blk_capture.specs.Inside.LookupKeys.{writes};
 
 use blk_bio::{Dir, MAX_END, Side};
 
@@ -23,7 +23,7 @@ pub enum Action {
     Issue,
     /// C: a request, or its first part, was completed.
     Complete,
-    /// R: a request that had gone out was handed back.
+    /// R: a request that had gone out was requeued.
     Requeue,
     /// X: a bio was cut in two.
     Split,

@@ -1,6 +1,6 @@
 //! The requests of a capture that went out to the device, with their bios.
 
-ghost use Rattle.std.specs.Prelude.{◌≡◌, ◌≤◌, ◌<◌, ◌+◌, ℕ, true, count_by, is_some, None, Some, All, IfOk, IfErr, IfSome, IfNone, OnOk, length, map, slice_index_or};
+ghost use Rattle.std.specs.Prelude.{◌≡◌, ◌≤◌, ◌<◌, ◌+◌, ℕ, true, count_by, is_some, None, Some, All, IfOk, IfErr, IfSome, IfNone, OnOk, length, map};
 ghost use Rattle.edd_commands.specs.Capacity.{fixed};
 ghost use Rattle.edd_commands.specs.Limits.{most_commands};
 ghost use Rattle.edd_commands.specs.Schedule.{IsLegal, RoundsInRange};
@@ -8,8 +8,9 @@ ghost use Rattle.blk_capture.specs.Counting.{AreSolvable, IsCounted};
 ghost use Rattle.blk_capture.specs.Fates.{opens, makes, told, is_matched, passed_by, IsBelow, AreOfTaken, ArePassed};
 ghost use Rattle.blk_capture.specs.Inside.Roles.{is_known, passed_role};
 ghost use Rattle.blk_capture.specs.Requests.{served_of, AreTimed, HaveBios, AreTallied, AreGone, AreInOrder, IsFirstFall, AreLate, entry_by, expire_of, sooner_of, deadline_of, IsDue, IsCaptureFault};
-ghost use Rattle.blk_capture.specs.Inside.Taken.{IsOwn, IsRequestOf, ArePlaced, Puts, ArePlacedBios, IsTalliedFrom, AreWithin};
+ghost use Rattle.blk_capture.specs.Inside.Taken.{IsRequestOf, Puts, ArePlacedBios, IsTalliedFrom, AreWithin, ArePlacedIn, IsPlaceOfOwn};
 ghost use Rattle.blk_capture.specs.declared.members.Queued.{Queued};
+ghost use Rattle.blk_capture.specs.Matched.{all_opened};
 
 use crate::clock::Dispatch;
 use crate::counting::{Schedule, Served, count_rounds};
@@ -277,7 +278,7 @@ fn take_requests<A: Allocator + Clone>(
     lives: &[Life],
     options: &Options,
 ) -> Result<Taken<A>, AllocError>
-    ensures placed { IfOk result (λ t. ArePlaced lives.now matching.now.members.openers.items t.places.items t.requests.items) }
+    ensures placed { IfOk result (ArePlacedIn lives.now matching.now.members.openers.items) }
     ensures timed { IfOk result (λ t. AreTimed t.requests.items) }
     ensures untallied { IfOk result (λ t. All (λ q. q.bios ≡ 0) t.requests.items) }
     ensures due { IfOk result (λ t. All (IsDue options.now) t.requests.items) }
@@ -322,7 +323,7 @@ fn count_others(lives: &[Life], places: &[Option<usize>]) -> (u64, u64)
 
 /// The place of the request that a bio went out with, which went into a request at first.
 fn place_of(lives: &[Life], places: &[Option<usize>], request: Option<usize>) -> Option<usize>
-    ensures own { (r : ℕ) → request ≡ Some r → IsOwn lives.now r → r < length places.now → result ≡ slice_index_or places.now r None }
+    ensures own { IsPlaceOfOwn lives.now places.now request result }
     ensures within { (n : ℕ) → AreWithin n places.now → IfSome result (λ k. k < n) }
 {
     let request = request?;
@@ -446,7 +447,7 @@ pub struct Matched<A: Allocator = Global> {
     pub fates: Vec<Fate, A>,
     /// How many requests were opened and then merged into others.
     pub absorbed: u64,
-    /// How many of the others are not taken: they never went out, or were handed back.
+    /// How many of the others are not taken: they never went out, or were requeued.
     pub left_out: u64,
 }
 
@@ -483,7 +484,7 @@ fn settle<A: Allocator + Clone>(
     ensures matched { IfOk result (λ m. map is_matched m.fates.items ≡ map is_known roles.now) }
     ensures passed { IfOk result (λ m. map passed_by m.fates.items ≡ map passed_role roles.now) }
     ensures below { IfOk result (λ m. AreOfTaken (length m.requests.items) m.fates.items) }
-    ensures opened { IfOk result (λ m. length m.requests.items + m.absorbed + m.left_out ≡ length matching.now.requests.items) }
+    ensures opened { IfOk result (λ m. all_opened m ≡ length matching.now.requests.items) }
     ensures made { IfOk result (λ m. length m.bios.items ≡ length matching.now.members.bios.items) }
 {
     let lives = lives(alloc.clone()?, matching, options)?;
@@ -532,7 +533,7 @@ pub fn match_records<A: Allocator + Clone>(
     ensures passed { IfOk result (λ m. ArePassed records.now m.fates.items) }
     ensures below { IfOk result (λ m. AreOfTaken (length m.requests.items) m.fates.items) }
     // each request that a record opened is taken, was merged into another, or is left out
-    ensures opened { IfOk result (λ m. length m.requests.items + m.absorbed + m.left_out ≡ told opens records.now m.fates.items) }
+    ensures opened { IfOk result (λ m. all_opened m ≡ told opens records.now m.fates.items) }
     // each bio was made by a record
     ensures made { IfOk result (λ m. length m.bios.items ≡ told makes records.now m.fates.items) }
     ensures order { OnOk result (AreInOrder records.now (length records.now)) }
@@ -561,7 +562,7 @@ fn match_in_order<A: Allocator + Clone>(
     ensures fates { IfOk result (λ m. length m.fates.items ≡ length records.now) }
     ensures passed { IfOk result (λ m. ArePassed records.now m.fates.items) }
     ensures below { IfOk result (λ m. AreOfTaken (length m.requests.items) m.fates.items) }
-    ensures opened { IfOk result (λ m. length m.requests.items + m.absorbed + m.left_out ≡ told opens records.now m.fates.items) }
+    ensures opened { IfOk result (λ m. all_opened m ≡ told opens records.now m.fates.items) }
     ensures made { IfOk result (λ m. length m.bios.items ≡ told makes records.now m.fates.items) }
 {
     let mut matching = Matching::new(alloc.clone()?, !has_insertion(records))?;

@@ -5,7 +5,8 @@ ghost use Rattle.std.specs.List.{filter_map};
 ghost use Rattle.std.specs.List.Sorted.{IsNonDecreasingBy};
 ghost use Rattle.edd_commands.specs.Limits.{most_commands};
 ghost use Rattle.blk_capture.specs.Requests.{AreTimed};
-ghost use Rattle.blk_capture.specs.Summaries.{is_late, is_gone, wait_by, at_rank, spread_of, IsSpread, IsMostInFlight, IsSummary, in_flight_at, back_by, out_by};
+ghost use Rattle.blk_capture.specs.Summaries.{is_late, is_gone, wait_by, at_rank, spread_of, IsSpread, IsMostInFlight, in_flight_at, back_by, out_by};
+ghost use Rattle.blk_capture.specs.Matched.{IsSummaryOf};
 
 use crate::fates::{Fate, tally_of};
 use crate::record::{Action, Record};
@@ -264,7 +265,7 @@ pub fn summarize<A: Allocator + Clone>(
     requires timed { AreTimed matched.now.requests.items }
     requires few { length matched.now.requests.items ≤ most_commands }
     requires fates { length matched.now.fates.items ≡ length records.now }
-    ensures { IfOk result (IsSummary records.now matched.now.requests.items matched.now.bios.items matched.now.fates.items) }
+    ensures { IfOk result (IsSummaryOf records.now matched.now) }
 {
     let requests = matched.requests.as_slice();
     let fates = matched.fates.as_slice();

@@ -1,5 +1,5 @@
 -- The laws of captures.
-use Rattle.std.proofs.Common.{◌≡◌, ◌+◌, ◌<◌, ◌≤◌, ◌∙◌, ℕ, zero, suc, List, [], ◌∷◌, ◌++◌, length, map, append-nil, Bool, true, false, Option, Some, None, refl, sym, ap, subst, inl, inr, arith, codes, get_or, add-one}
+use Rattle.std.proofs.Common.{◌≡◌, ◌+◌, ◌<◌, ◌≤◌, ◌∙◌, ℕ, zero, suc, List, [], ◌∷◌, ◌++◌, length, map, Bool, true, false, Option, Some, None, refl, sym, ap, subst, inl, inr, arith, codes, get_or, add-one}
 use Rattle.std.specs.Prelude.{IfSome, ◌⊎◌}
 use Rattle.std.proofs.lemmas.List.{length-map, map-append, get_or-map}
 use Rattle.csv.specs.Reading.{default_config, records, strip_bom}
@@ -8,19 +8,20 @@ use Rattle.blk_capture.specs.Requests.{AreInOrder}
 use Rattle.blk_capture.specs.declared.record.Record.{Record}
 use Rattle.blk_lists.specs.Sources.{Row, TakesRecord}
 use Rattle.blk_lists.specs.Texts.{rows_text}
-use Rattle.blk_lists.specs.Reads.{IsOutside, Reads, Halts, Fails, HandFails, IsOne, IsRowOf, IsStopped, AreGathered, with_next, size_of, repeated}
+use Rattle.blk_lists.specs.Reads.{IsOutside, Reads, Halts, Fails, HandFails, IsOne, IsStopped, with_next, size_of, repeated}
 use Rattle.blk_lists.specs.Tables.{IsVersion, title_by}
 use Rattle.blk_lists.specs.declared.fault.Why.{Why}
 use Rattle.blk_lists.specs.declared.fault.Why.TheVariants as why
 use Rattle.parts.specs.declared.Repeats.{Repeats}
 use Rattle.parts.specs.declared.Repeats.TheVariants as repeats
 use Rattle.parts.specs.Parts.{Begins, Spells, AllFit, all_rows, over}
-use Rattle.parts.specs.Laws.{Tells, Decides}
+use Rattle.parts.specs.Laws.{Tells}
+use Rattle.parts.specs.Inside.Laws.{Decides}
 use Rattle.parts.proofs.Then.{then_tells, then_decides, record_decides}
 use Rattle.parts.proofs.Many.{HasRows, ended_tells, ended_decides}
 use Rattle.blk_lists.proofs.TableLaws.{IsTable, title_part, title_decides}
 use Rattle.blk_lists.proofs.Each.{one_record, one_version}
-use Rattle.blk_lists.proofs.Reading.{MadeOf, Fitting, made_more, fit_next, items_wrong, items_over, items_full, few_count, stopped, outside_fails, many_fails, many_ends, full_ends, past_wrong, full_stopped, then_reads, hand_reads, first_halts, second_halts, lines_halt, end_halts}
+use Rattle.blk_lists.proofs.Reading.{MadeOf, Fitting, made_more, fit_next, items_wrong, items_over, items_full, few_count, stopped, outside_fails, many_fails, past_wrong, full_stopped, then_reads, hand_reads, first_halts, second_halts, lines_halt}
 use Rattle.blk_lists.proofs.Texts.{text_back}
 use Rattle.blk_capture_text.specs.Steps.{time_at, record_at, IsStep, StepLacks}
 use Rattle.blk_capture_text.specs.Captures.{title_cells, title, last_time, step_after, steps_body, capture_form, capture_rows, AreCapture, SpellsCapture, CaptureTextFault}
@@ -159,9 +160,6 @@ made_none : (left : Option (List Row)) → MadeOf step_after left [] left
 made_none None = tt
 made_none (Some rows) = (rows, refl, refl)
 
-pub taken_none : (s : Steps) (left : Option (List Row)) → HasSteps s [] → IsTaken s left left 0
-taken_none s left h = record { rows = []; has = h; count = refl; fit = tt; made = made_none left }
-
 pub taken_more : (s t : Steps) (input left mid : Option (List Row)) (n : ℕ) (row : Row) → IsTaken s input left n → TakesRecord left mid row true → IsStep s.last row → t.records.items ≡ s.records.items ++ record_at row ∷ [] → t.last ≡ time_at row
     → IsTaken t input mid (n + 1)
 taken_more s t input left mid n row g taken step items last =
@@ -211,12 +209,6 @@ taken_stopped s input left n start at last g less e same =
     stopped step_after at_most input left g.rows start 0 at last g.made g.fit (omega (arith, c, less)) (omega (arith, e, c, size_steps g.rows)) (omega (arith, same)) (omega (arith, e, c, same, size_steps g.rows))
 
 -- records to the end of the text
-
-pub over_ends : (s : Steps) (left mid : Option (List Row)) (start at : ℕ) (g : AreTaken s left mid start at true) → IfSome left (λ all. Begins steps_body all g.0 [])
-over_ends s left mid start at g = many_ends step_after step_after at_most left g.0 g.2.0
-
-pub full_ends_body : (s : Steps) (left mid new : Option (List Row)) (start at : ℕ) (row : Row) (g : AreTaken s left mid start at false) → TakesRecord mid new row false → IfSome left (λ all. Begins steps_body all g.0 [])
-full_ends_body s left mid new start at row g taken = many_ends step_after step_after at_most left g.0 (full_ends step_after at_most left mid new g.0 row g.2.0 taken)
 
 halted : (failed : Bool) (left : Option (List Row)) (start at last : ℕ) (w : Why) → IsStopped (repeats.AtMost MAX_RECORDS) step_after left start 0 at last → Fails failed steps_body left start at w → Halts failed steps_body left start at w
 halted failed left start at last w = lines_halt failed step_after at_most left start at last w (λ s. (step_one s).tells) (λ s. (step_one s).plain) some_rows

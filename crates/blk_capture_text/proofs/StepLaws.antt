@@ -1,5 +1,5 @@
 -- The laws of a record of a capture.
-use Rattle.std.proofs.Common.{◌≡◌, ◌+◌, ◌-◌, ◌*◌, ◌<◌, ◌≤◌, ◌^◌, ◌∙◌, ℕ, zero, suc, List, [], ◌∷◌, length, get_or, refl, sym, ap, inl, inr, arith, decimal}
+use Rattle.std.proofs.Common.{◌≡◌, ◌-◌, ◌<◌, ◌≤◌, ◌^◌, ◌∙◌, ℕ, zero, suc, List, [], ◌∷◌, length, get_or, refl, sym, ap, inl, inr, arith}
 use Rattle.std.specs.Prelude.{◌⊎◌}
 use Rattle.std.specs.Char.{digit_value}
 use Rattle.std.specs.Str.Parse.{AllDigits, digits_value}
@@ -7,7 +7,6 @@ use Rattle.std.proofs.lemmas.Fmt.{decimal_injective, digits_value-decimal}
 use Rattle.blk_capture.specs.Passing.{action_by, op_by}
 use Rattle.blk_capture.specs.declared.record.Action.{Action}
 use Rattle.blk_capture.specs.declared.record.Op.{Op}
-use Rattle.blk_capture.specs.declared.record.Record.{Record}
 use Rattle.blk_lists.specs.Sources.{Row}
 use Rattle.blk_lists.specs.Fields.{EachField, IsBlank, IsDirection, IsNumber, IsInRange, FieldSpells, FieldsSpell, Lacks}
 use Rattle.blk_lists.specs.declared.fault.Why.{Why}
@@ -15,8 +14,8 @@ use Rattle.blk_lists.specs.declared.fault.Why.TheVariants as why
 use Rattle.blk_lists.specs.declared.fields.Slot.TheVariants as slot
 use Rattle.blk_lists.proofs.Decimals.{own}
 use Rattle.blk_lists.proofs.Lacking.{Dec, both, same_as, at_most, same_number, goods_all, goods_or_lacks, first_once}
-use Rattle.parts.specs.Laws.{TellsRecord}
-use Rattle.blk_capture_text.specs.Steps.{IsNanoseconds, AreNumbers, number_at, time_at, record_at, IsStep, step_rules, StepLacks}
+use Rattle.parts.specs.Inside.Laws.{TellsRecord}
+use Rattle.blk_capture_text.specs.Steps.{IsNanoseconds, number_at, time_at, record_at, IsStep, step_rules, StepLacks}
 use Rattle.blk_capture_text.specs.declared.step.TheConstants.{STEP}
 
 -- no field has to be empty or a direction
@@ -70,9 +69,6 @@ lack_nine last cells w bad none = elim bad [
   ]
 ]
 
-pub lack_number : (last : ℕ) (cells : Row) → Lacks STEP cells why.Range → ¬ IsNanoseconds (get_or cells 1 []) → StepLacks last cells why.Number
-lack_number last cells bad none = let found = lack_nine last cells why.Range bad none in rw (found.1.0 refl) at found.1.1
-
 -- a field that spells a number
 
 spelled_good : (least most n : ℕ) (f : List ℕ) → most < 2 ^ 64 → FieldSpells (slot.Number least most) f n → IsNumber (slot.Number least most) f × IsInRange (slot.Number least most) f
@@ -111,9 +107,6 @@ spelled_step last cells ns s nine order = record {
 pub seconds_is : (cells : Row) (ns : List ℕ) → FieldsSpell STEP cells ns → number_at 0 cells ≡ get_or ns 0 0
 seconds_is cells ns s = spelled_value 0 (2 ^ 34 - 1) (get_or ns 0 0) (get_or cells 0 []) (omega arith) (s.1 0 (omega arith))
 
-pub seconds_few : (cells : Row) (ns : List ℕ) → FieldsSpell STEP cells ns → get_or ns 0 0 < 2 ^ 34
-seconds_few cells ns s = let high = (s.1 0 (omega arith)).3.1 in omega (arith, high)
-
 pub told_record : (cells : Row) (ns : List ℕ) (time : ℕ) (a : Action) (o : Op) → FieldsSpell STEP cells ns → time ≡ time_at cells → a ≡ action_by (get_or cells 3 []) → o ≡ op_by (get_or cells 5 [])
     → record { time = time; cpu = get_or ns 2 0; action = a; pid = get_or ns 4 0; op = o; first = get_or ns 6 0; sectors = get_or ns 7 0 } ≡ record_at cells
 told_record cells ns time a o s e f g i = record {
@@ -131,9 +124,6 @@ told_record cells ns time a o s e f g i = record {
 pub late_step : (last : ℕ) (cells : Row) (ns : List ℕ) → FieldsSpell STEP cells ns → IsNanoseconds (get_or cells 1 []) → time_at cells < last → StepLacks last cells why.Order
 late_step last cells ns s nine order =
     inr (s.0, inr ((spelled_numbers cells ns s, nine), inr ((λ k l. (any_good cells ns s k (omega (arith, l))).1), inl (refl, λ up. omega (arith, up, order)))))
-
-pub no_nine : (last : ℕ) (cells : Row) (ns : List ℕ) → FieldsSpell STEP cells ns → ¬ IsNanoseconds (get_or cells 1 []) → StepLacks last cells why.Number
-no_nine last cells ns s none = inr (s.0, inl (refl, λ n. none n.1))
 
 -- a record is a step's, or it lacks one thing first
 

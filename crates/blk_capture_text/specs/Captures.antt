@@ -28,7 +28,7 @@ last_time (row ∷ next ∷ rows) = last_time (next ∷ rows)
 abbrev pub step_after : List Row → Part Row Why Row
 step_after before = record_of (λ row. row) (IsStep (last_time before)) why.Count (StepLacks (last_time before))
 
--- records to the end of the text, at most so many
+-- records to the end of the text, at most this number
 abbrev pub steps_body : Part Row Why (List Row)
 steps_body = items_of (repeats.AtMost MAX_RECORDS) step_after
 

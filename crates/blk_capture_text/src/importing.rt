@@ -16,7 +16,7 @@ pub struct Asked {
     pub options: Options,
     /// Requests that went out sooner after the first record are left out, in nanoseconds.
     pub skip: u64,
-    /// Of the others only so many are taken, those that went out first.
+    /// The most of the others that are taken, those that went out first.
     pub first: u64,
 }
 

@@ -21,7 +21,7 @@ use csv::ByteRecord;
 use std::alloc::Global;
 use std::io::Read;
 
-/// A capture has at most so many records, beside its title.
+/// The most records of a capture, beside its title.
 pub const MAX_RECORDS: u64 = 16_000_000;
 
 /// The title record: the version, and nothing.

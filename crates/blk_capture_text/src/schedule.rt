@@ -14,7 +14,7 @@ use std::alloc::{AllocError, Global};
 
 /// Requests as a schedule of depth 1, whose rounds are their dispatches, as [`blk_capture::rounds_of`] counts them: legal, with an id
 /// and a round from 1 on by the order of the dispatches, and each late exactly where it went out after its deadline. It may be
-/// written. At most [`edd_commands::MAX_COMMANDS`] requests. Fails for want of memory alone.
+/// written. At most [`edd_commands::MAX_COMMANDS`] requests. Fails only when out of memory.
 pub fn schedule_of(alloc: Global, requests: &[Request]) -> Result<Schedule, AllocError>
     requires timed { AreTimed requests.now }
     requires few { length requests.now ≤ most_commands }

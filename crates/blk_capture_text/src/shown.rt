@@ -62,7 +62,7 @@ fn text_of_summary(
     summary_text(alloc, &summary, matched.left_out, &counts)
 }
 
-/// The text of what is shown of an import, as [`crate::import`] gives it of the records. Fails for want of memory alone.
+/// The text of what is shown of an import, as [`crate::import`] gives it of the records. Fails only when out of memory.
 pub fn shown_text(
     alloc: Global,
     shown: Shown,

@@ -297,7 +297,7 @@ fn laws_hold(rt: HostRuntime) {
     assert!(rt; true);
 }
 
-/// From a time on after the first record, and only so many.
+/// From a time on after the first record, and only this number of them.
 #[test]
 fn a_part_is_taken(rt: HostRuntime) {
     let records = records_of(&rt, rt.alloc(), TEXT);

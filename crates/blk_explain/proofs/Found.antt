@@ -1,27 +1,13 @@
 -- What a reader finds.
-use Rattle.std.proofs.Common.{◌≡◌, ◌∙◌, ◌⊎◌, Bool, List, Option, Some, ap, inl, inr}
+use Rattle.std.proofs.Common.{◌≡◌, ◌∙◌, List, Option, Some, ap}
 use Rattle.std.specs.Prelude.{IfSome, IfOk, Result, Ok, Err}
 use Rattle.blk_lists.specs.Sources.{Row}
-use Rattle.blk_lists.specs.Reads.{IsOutside}
-use Rattle.blk_lists.specs.declared.fault.Why.{Why}
-use Rattle.blk_lists.specs.declared.fault.Why.TheVariants as why
 use Rattle.blk_explain.specs.Forms.{form_name}
 use Rattle.blk_explain.specs.Findings.{name_in, IsFound}
 use Rattle.blk_explain.specs.Inside.Read.{IsRead}
 use Rattle.blk_explain.specs.declared.forms.Form.{Form}
 use Rattle.blk_explain.specs.declared.findings.Finding.{Finding}
 use Rattle.blk_explain.specs.declared.findings.Finding.TheVariants as finding
-
--- a fault that did not come from outside is the form's
-pub own_fault : (P : List Row → Type 0) (left : Option (List Row)) (rows : List Row) (failed : Bool) (w : Why) → left ≡ Some rows → IfSome left (λ rs. IsOutside failed w ⊎ P rs)
-    → ¬ (w ≡ why.Read) → ¬ (w ≡ why.Memory) → P rows
-own_fault P left rows failed w e h r m = elim (rw e at h) [
-  | inl outside ↦ absurd (elim outside [
-    | inl read ↦ r read.0
-    | inr memory ↦ m memory
-  ])
-  | inr own ↦ own
-]
 
 -- what is known of the rows that are left
 pub known : (P : List Row → Type 0) (left : Option (List Row)) (rows : List Row) → left ≡ Some rows → IfSome left P → P rows

@@ -1,7 +1,6 @@
 pub mod Walks
 pub mod Rows
 pub mod Found
-pub mod Shown
 pub mod Adding
 pub mod Following
 pub mod Seeing

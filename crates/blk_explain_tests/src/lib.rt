@@ -1,4 +1,4 @@
-//! Tests of what is told of texts.
+//! Tests of the explanations of texts.
 #![tactic(auto)]
 
 #[cfg(test)]

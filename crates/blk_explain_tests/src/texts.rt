@@ -1,10 +1,10 @@
-//! What is told of texts, good ones and such with a fault.
+//! Explanations of texts, good ones and such with a fault.
 
 use blk_explain::explain;
 use std::alloc::Global;
 use std::process::Abort;
 
-/// The place of the first text of which another thing is told than what stands beside it, if there is one.
+/// The place of the first text whose explanation is another than the one that stands beside it, if there is one.
 fn first_other(
     rt: &impl Abort,
     alloc: Global,

@@ -10,7 +10,7 @@ use blk_tune::Row;
 use edd_check::Window;
 use edd_figures::Figures;
 
-/// A row of two reads: so many are late, and so many of those didn't have to be; how long they waited.
+/// A row of two reads: how many are late, how many of those could have been avoided, and how long they waited.
 fn row(sched: Sched, shortfall: i64, late: u64, avoidable: u64, wait: i64) -> Row {
     Row {
         sched,

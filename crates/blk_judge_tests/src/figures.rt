@@ -1,4 +1,4 @@
-//! What is told of legal schedules, worked by hand.
+//! Judgements of legal schedules, worked by hand.
 
 use crate::made::{command, told};
 use edd_check::{Window, in_range, is_legal};

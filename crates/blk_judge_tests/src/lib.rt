@@ -1,4 +1,4 @@
-//! Tests of what is told of schedules, through the public calls.
+//! Tests of the judgements of schedules, through the public calls.
 #![tactic(auto)]
 
 #[cfg(test)]

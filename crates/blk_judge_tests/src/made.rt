@@ -1,4 +1,4 @@
-//! Schedules that the tests are made of, and what is told of them.
+//! Schedules that the tests are made of, and their judgements.
 
 use blk_judge::{judge, judged_lines, late_lines, late_of};
 use edd_check::{CheckFault, Window, in_range};

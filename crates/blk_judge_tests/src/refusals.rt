@@ -44,7 +44,7 @@ fn of_a_schedule(rt: HostRuntime) {
     assert!(rt; heap.is_armed());
 }
 
-/// A command that runs before its release is told before memory is asked for.
+/// A command that runs before its release is reported before any memory is taken.
 #[test]
 fn before_memory_is_asked_for(rt: HostRuntime) {
     let heap = Refusing::new(rt.alloc());

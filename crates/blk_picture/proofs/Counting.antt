@@ -1,9 +1,9 @@
 -- Counts and sums over rounds.
-use Rattle.std.proofs.Common.{◌≡◌, ◌≢◌, ◌<◌, ◌≤◌, ◌+◌, ◌-◌, ◌++◌, ◌==◌, ◌∙◌, ℕ, zero, suc, List, [], ◌∷◌, length, refl, sym, ap, arith, inl, inr, cond, Bool, true, false, get_or, take, drop, eqb-true, eq-eqb, ne_eqb, append_assoc, append-nil}
-use Rattle.std.specs.Prelude.{count_by, nat_lt, nat_le, min, max, ◌/◌, fold}
+use Rattle.std.proofs.Common.{◌≡◌, ◌≢◌, ◌<◌, ◌≤◌, ◌+◌, ◌-◌, ◌++◌, ◌==◌, ◌∙◌, ℕ, zero, suc, List, [], ◌∷◌, length, refl, sym, ap, arith, inl, inr, cond, true, false, get_or, take, drop, eqb-true, eq-eqb, ne_eqb, append_assoc, append-nil}
+use Rattle.std.specs.Prelude.{count_by, nat_lt, min, max, ◌/◌}
 use Rattle.std.specs.Prelude.{◌⊎◌}
 use Rattle.std.proofs.lemmas.Bool.{cases_Bool, eqb-false, lt-ltb, le-ltb, ltb-true, ltb-false}
-use Rattle.std.proofs.lemmas.List.{take_more, take_min, drop_all, length_push, length-take}
+use Rattle.std.proofs.lemmas.List.{take_more, take_min, drop_all, length-take}
 use Rattle.std.proofs.lemmas.List.Elements.{filter_map-append}
 use Rattle.std.proofs.lemmas.List.Sums.{count_by_more_yes, count_by_more_no, count_by-le-length, fold_push}
 use Rattle.blk_trace.proofs.Counting.{one_if, count-cons}
@@ -17,7 +17,6 @@ use Rattle.blk_trace.specs.Setups.{Setup}
 use Rattle.blk_trace.specs.Depths.{capacity_of}
 use Rattle.blk_picture.specs.declared.boxes.Issued.{Issued}
 use Rattle.blk_picture.specs.declared.scale.Scale.{Scale}
-use Rattle.blk_picture.specs.declared.columns.Column.{Column}
 use Rattle.blk_picture.specs.declared.columns.Kind.{Kind}
 use Rattle.blk_picture.specs.declared.columns.Kind.TheVariants.{Reads, Writes, Lates, Backs, GoneReads, GoneWrites}
 use Rattle.blk_picture.specs.Boxes.{boxes_of}
@@ -82,11 +81,6 @@ unfolding waits_of
 waits_push entered gone r w items new h e is =
     let on : suc r ≡ r + 1 = omega arith in
     e ∙ ap (λ l. l ++ w ∷ []) h ∙ ap (λ x. waits_of entered gone r ++ x ∷ []) is ∙ ap (waits_of entered gone) on
-
-pub waits_length : (entered gone : List ℕ) (n : ℕ) → length (waits_of entered gone n) ≡ n
-unfolding waits_of
-waits_length entered gone zero = refl
-waits_length entered gone (suc n) = omega (arith, length_push (waits_of entered gone n) (before entered (n + 1) - before gone (n + 1)), waits_length entered gone n)
 
 -- the greatest
 pub greatest_more : (xs : List ℕ) (i : ℕ) → i < length xs → greatest (take (i + 1) xs) ≡ max (greatest (take i xs)) (get_or xs i 0)

@@ -2,7 +2,7 @@
 use Rattle.std.proofs.Common.{◌≡◌, ◌<◌, ◌≤◌, ◌+◌, ◌++◌, ◌==◌, ◌∙◌, ℕ, List, [], ◌∷◌, length, refl, sym, ap, subst, arith, inl, inr, Some, None, cond, Bool, true, false, eqb-true}
 use Rattle.std.specs.Option.{option_map_or}
 use Rattle.blk_trace.specs.Kinds.{enters, is_tick}
-use Rattle.std.specs.Prelude.{Option, max, min, fold}
+use Rattle.std.specs.Prelude.{Option, max, min}
 use Rattle.std.proofs.lemmas.Bool.{cases_Bool}
 use Rattle.std.proofs.lemmas.List.{length-append}
 use Rattle.std.proofs.lemmas.List.Sums.{fold_push}
@@ -17,7 +17,7 @@ use Rattle.blk_trace.specs.Meaning.{release_of, due_of, least, timed}
 use Rattle.blk_trace.proofs.More.{dues, due_is, round_more}
 use Rattle.blk_trace.proofs.Entering.{enters_as, same_entered, IsSame, IsEntered, entered_released, entered_joined}
 use Rattle.blk_picture.specs.declared.facts.Facts.{Facts}
-use Rattle.blk_picture.specs.Inside.Facts.{facts_with, new_facts, joined_facts, with_new, facts_or, IsKnown, IsUnknown, Knows}
+use Rattle.blk_picture.specs.Inside.Facts.{facts_with, new_facts, joined_facts, with_new, facts_or, IsUnknown, Knows}
 
 -- of a request with a newcomer
 joined_with : (old new : List Bio) (r s d e : ℕ) → 0 < length old → 0 < length new → joined_facts (facts_with old r d) (facts_with new s e) ≡ facts_with (join_up old new) (max r s) (min d e)
@@ -135,15 +135,6 @@ knows_after setup es e i bios old new h some known is id =
 pub knows_still : (setup : Setup) (es : List Happened) (e : Happened) (old : ℕ → Option Facts) → enters e ≡ None → ((id : ℕ) → Knows setup es id (old id)) → (id : ℕ) → Knows setup (es ++ e ∷ []) id (old id)
 knows_still setup es e old h known id =
     knows_same setup es e id (old id) (ap (λ o. option_map_or (λ (p : ℕ × List Bio). p.0 == id) o false) h) (known id)
-
-pub tick_enters : (e : Happened) → is_tick e ≡ true → enters e ≡ None
-tick_enters Tick h = refl
-tick_enters (Release j q) h = absurd (cc)
-tick_enters (Join j q) h = absurd (cc)
-tick_enters (Issue j k) h = refl
-tick_enters (Done k) h = refl
-tick_enters (Back k) h = refl
-tick_enters (Depth k) h = refl
 
 -- before all events
 pub knows_empty : (setup : Setup) (id : ℕ) (o : Option Facts) → o ≡ None → Knows setup [] id o

@@ -23,7 +23,7 @@ use Rattle.blk_picture.specs.Boxes.{boxes_of}
 abbrev pub is_late : Issued → Bool
 is_late b = nat_lt b.due b.round
 
--- whether it is of the kind: each is a read or a write on time, late, or was handed back
+-- whether it is of the kind: each is a read or a write on time, late, or was requeued
 abbrev pub is_of : Kind → Issued → Bool
 is_of Reads b = (not b.back && not (is_late b)) && same_dir b.dir Read
 is_of Writes b = (not b.back && not (is_late b)) && same_dir b.dir Write

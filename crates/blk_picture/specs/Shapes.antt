@@ -8,7 +8,7 @@ use Rattle.blk_picture.specs.declared.columns.Column.{Column}
 use Rattle.blk_picture.specs.Columns.{is_late}
 use Rattle.blk_picture.specs.Filled.{filled, texts}
 
--- how a box begins: its class is its direction, with a heavy edge where it was late, and hatched where it was handed back
+-- how a box begins: its class is its direction, with a heavy edge where it was late, and hatched where it was requeued
 abbrev pub class_by : Dir → Bool → Bool → List ℕ
 class_by Read true late = codes "<rect class='hr'"
 class_by Write true late = codes "<rect class='hw'"
@@ -63,7 +63,7 @@ tail_text b = filled (tail_words b) (b.first ∷ b.end ∷ b.release ∷ b.due �
 abbrev pub box_text : Scale → Issued → List ℕ
 box_text scale b = (((class_words b ++ place_text scale b) ++ dir_words b.dir) ++ tail_text b) ++ label_text scale b
 
--- a column of several rounds, from the top: reads and writes on time, late ones, those handed back, idle places, and what the rounds
+-- a column of several rounds, from the top: reads and writes on time, late ones, those requeued, idle places, and what the rounds
 -- do not carry. A unit of height is a place
 abbrev pub stack_text : Scale → ℕ → Column → List ℕ
 stack_text scale c n =

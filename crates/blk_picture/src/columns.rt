@@ -27,11 +27,11 @@ pub enum Kind {
     Writes,
     /// Late ones.
     Lates,
-    /// Those that were handed back.
+    /// Those that were requeued.
     Backs,
-    /// Reads that were not handed back.
+    /// Reads that were not requeued.
     GoneReads,
-    /// Writes that were not handed back.
+    /// Writes that were not requeued.
     GoneWrites,
 }
 
@@ -44,7 +44,7 @@ pub struct Column {
     pub writes: u32,
     /// Late ones of both directions.
     pub lates: u32,
-    /// Those that were handed back.
+    /// Those that were requeued.
     pub backs: u32,
     /// How many commands the rounds carry.
     pub room: u64,

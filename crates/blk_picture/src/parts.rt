@@ -77,7 +77,7 @@ fn push_part(
     name: &[u8],
 ) -> Result<(), AllocError>
     requires { 0 < scale.per }
-    ensures { OnOk result ((text : List ℕ) × IsPart scale top name.now trace.now text × (draft.new ≡ draft.old ++ text)) }
+    ensures { OnOk result ((t : List ℕ) × IsPart scale top name.now trace.now t × (draft.new ≡ draft.old ++ t)) }
 {
     let report = report(trace)?;
     let missed = misses(trace)?;

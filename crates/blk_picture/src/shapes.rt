@@ -171,7 +171,7 @@ fn push_each(draft: &mut Draft, scale: &Scale, boxes: &[Issued]) -> Result<(), A
     Ok(())
 }
 
-/// Adds the stack of a column: reads and writes on time, late ones, those that were handed back, and what its rounds do not carry.
+/// Adds the stack of a column: reads and writes on time, late ones, those that were requeued, and what its rounds do not carry.
 fn push_stack(
     draft: &mut Draft,
     scale: &Scale,

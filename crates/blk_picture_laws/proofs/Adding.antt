@@ -264,7 +264,7 @@ some_per : (rounds : ℕ) → 0 < per_of rounds
 unfolding per_of
 some_per rounds = omega arith
 
--- so many columns are enough
+-- this number of columns is enough
 enough : (rounds : ℕ) → rounds ≤ columns_of rounds * per_of rounds
 unfolding columns_of
 enough rounds =

@@ -61,7 +61,7 @@ each_issue setup events round (e ∷ es) =
 pub issues_are : (setup : Setup) (events : List Happened) → map issue_of (boxes_in_order setup events) ≡ filter_map issue_in (timed 0 events)
 issues_are setup events = ap (map issue_of) (in_order setup events) ∙ each_issue setup events 0 events
 
--- ---- those that were not handed back are what was served
+-- ---- those that were not requeued are what was served
 
 abbrev kept : Issued → Bool
 kept b = not b.back

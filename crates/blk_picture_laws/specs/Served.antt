@@ -12,7 +12,7 @@ use Rattle.blk_picture.specs.Boxes.{boxes_of}
 abbrev pub boxes_in_order : Setup → List Happened → List Issued
 boxes_in_order setup events = reverse (boxes_of setup events)
 
--- those that were not handed back
+-- those that were not requeued
 abbrev pub boxes_kept : Setup → List Happened → List Issued
 boxes_kept setup events = filter (λ b. not b.back) (boxes_in_order setup events)
 

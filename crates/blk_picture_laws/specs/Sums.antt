@@ -12,7 +12,7 @@ use Rattle.blk_picture.specs.Filled.{made}
 abbrev pub columns_in : Setup → List Happened → Scale → List Column
 columns_in setup events scale = made (column_of setup events scale) scale.columns
 
--- what was issued in a column: reads and writes on time, late ones, and those handed back
+-- what was issued in a column: reads and writes on time, late ones, and those requeued
 abbrev pub issued_in : Column → ℕ
 issued_in n = n.reads + n.writes + n.lates + n.backs
 

@@ -16,7 +16,7 @@ pub enum Step {
     Issue(u64, u16),
     /// What went out under a tag is done.
     Done(u16),
-    /// What went out under a tag is handed back.
+    /// What went out under a tag is requeued.
     Back(u16),
     /// The rounds to come have another depth.
     Depth(u64),
@@ -34,7 +34,7 @@ fn request(rt: &impl Abort, alloc: Global, id: u64, dir: Dir) -> Request {
     Request::of(alloc, bio).expect(rt, "memory")
 }
 
-/// A trace of so many tags with these events. Reads are due at once, writes after 9 rounds.
+/// A trace of this depth with these events. Reads are due at once, writes after 9 rounds.
 pub fn trace_of(rt: &impl Abort, alloc: Global, depth: u64, steps: &[Step]) -> Trace {
     let limits = Limits::new(256, 128).expect(rt, "limits");
     let setup = Setup::new(depth, 1, 0, 9, limits).expect(rt, "a setup");

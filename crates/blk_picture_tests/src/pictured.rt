@@ -15,7 +15,7 @@ fn a_read_on_time(rt: HostRuntime) {
     assert_eq!(rt; count_of(text.as_slice(), b"<title>request "), 1);
 }
 
-/// A read is handed back in round 0 and goes out a round late. A write waits with it, and stays.
+/// A read is requeued in round 0 and goes out a round late. A write waits with it, and stays.
 #[test]
 fn handed_back_and_late(rt: HostRuntime) {
     let steps = [

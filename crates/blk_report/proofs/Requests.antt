@@ -77,7 +77,7 @@ released_request setup es legal =
     (λ es e new old all ih. requests_more setup es e old all (new.are_requests (length es) e (last es e)) ih)
     es legal
 
--- what was issued and not handed back under an id is one
+-- what was issued and not requeued under an id is one
 issued_request : (setup : Setup) (es : List Happened) (id : ℕ) → IsLegalTrace setup es → has_id (issued_ids es) id ≡ true → IsRequest (request_of es id)
 issued_request setup es id legal h =
     let r = released_first setup es id legal (has_issued es id h) in

@@ -6,7 +6,7 @@ ghost use Rattle.edd_commands.specs.Limits.{round_limit};
 ghost use Rattle.edd_commands.specs.Schedule.{IsLegal};
 ghost use Rattle.edd_verdict.specs.Verdicts.{AreVerdicts};
 ghost use Rattle.blk_trace.specs.declared.trace.TheConstants.{MAX_EVENTS};
-ghost use Rattle.blk_report.specs.Services.{command_in, AreTimed, AreRising};
+ghost use Rattle.blk_report.specs.Services.{command_in, AreTimed, AreRising, issues_in};
 ghost use Rattle.blk_report.specs.Late.{is_late, AreLate, AreLateIn};
 ghost use Rattle.blk_report.specs.Inside.Waited.{IsFrom, AskForAll, AreCarried, CanWait, CanAllWait, late_command, AreLateCommands};
 
@@ -196,8 +196,8 @@ fn delays<A: Allocator + Clone, B: Allocator>(
 ) -> Result<Vec<LateCommand, A>, AllocError>
     requires timed { AreTimed services.now }
     requires rising { AreRising services.now }
-    requires legal { IsLegal (map command_in services.now) (map (λ s. s.issue) services.now) capacity.now }
-    requires judged { AreVerdicts (map command_in services.now) (map (λ s. s.issue) services.now) capacity.now verdicts.now }
+    requires legal { IsLegal (map command_in services.now) (issues_in services.now) capacity.now }
+    requires judged { AreVerdicts (map command_in services.now) (issues_in services.now) capacity.now verdicts.now }
     ensures { IfOk result (λ v. AreLate services.now capacity.now v.items) }
 {
     law_of_verdicts();
@@ -224,7 +224,7 @@ fn delays<A: Allocator + Clone, B: Allocator>(
 /// The commands of a trace that were issued after they were due, in the order of these Issues. Of the places of the rounds from its
 /// release up to but not including that of its Issue, each says how many went to commands due no later than it, how many to commands
 /// due later, and how many to none: together they are what these rounds carry. And each has the one verdict that is right of it,
-/// beside the commands that were on time. Only Issues count that were not handed back. Fails only when out of memory. The time grows
+/// beside the commands that were on time. Only Issues count that were not requeued. Fails only when out of memory. The time grows
 /// as the number of events times its binary digits, or times those of the last due round where these are more.
 pub fn late<A: Allocator + Clone>(trace: &Trace<A>) -> Result<Vec<LateCommand, A>, AllocError>
     ensures { IfOk result (λ v. AreLateIn trace.now.setup trace.now.events v.items) }

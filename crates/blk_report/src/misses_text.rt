@@ -3,7 +3,7 @@
 ghost use Rattle.std.specs.Prelude.{◌≡◌, ◌++◌, IfOk, IfErr, OnOk};
 ghost use Rattle.std.specs.Io.KnownBytes.{Appends};
 ghost use Rattle.drafts.specs.Parts.{AppendsPart};
-ghost use Rattle.blk_report.specs.MissesText.{tally_text, misses_text};
+ghost use Rattle.blk_report.specs.MissesText.{tally_text, missed_text};
 
 use crate::{Missed, Tally};
 use drafts::{Draft, WriteFault, write_whole};
@@ -26,7 +26,7 @@ fn push_tally(draft: &mut Draft, tally: &Tally) -> Result<(), AllocError>
 
 /// All the lines.
 pub fn drafted<A: Allocator>(alloc: Global, missed: &Missed<A>) -> Result<Vec<u8>, AllocError>
-    ensures { IfOk result (λ v. v.items ≡ misses_text missed.now.tally missed.now.windows.items) }
+    ensures { IfOk result (λ v. v.items ≡ missed_text missed.now) }
 {
     let mut draft = Draft::new(alloc);
     push_tally(&mut draft, &missed.tally)?;
@@ -45,12 +45,10 @@ pub fn write_misses<A: Allocator, W: Write>(
     missed: &Missed<A>,
     writer: &mut W,
 ) -> Result<(), WriteFault>
-    ensures ok { OnOk result (Appends (W.contents writer.old) (W.contents writer.new)
-        (misses_text missed.now.tally missed.now.windows.items)) }
+    ensures ok { OnOk result (Appends (W.contents writer.old) (W.contents writer.new) (missed_text missed.now)) }
     ensures memory { IfErr result (λ f. f ≡ WriteFault.Memory → writer.new ≡ writer.old) }
     // whatever the answer
-    ensures part { AppendsPart (W.contents writer.old) (W.contents writer.new)
-        (misses_text missed.now.tally missed.now.windows.items) }
+    ensures part { AppendsPart (W.contents writer.old) (W.contents writer.new) (missed_text missed.now) }
 {
     let Ok(text) = drafted(alloc, missed) else {
         return Err(WriteFault::Memory);

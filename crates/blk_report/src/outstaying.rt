@@ -1,14 +1,13 @@
 //! The bios that wait past the round in which their request is due.
 
-ghost use Rattle.std.specs.Prelude.{ℕ, ◌≡◌, ◌≤◌, ◌==◌, ◌++◌, false, IfOk, OnOk, map};
-ghost use Rattle.std.specs.Option.{option_map_or};
+ghost use Rattle.std.specs.Prelude.{ℕ, ◌≡◌, ◌≤◌, ◌++◌, IfOk, OnOk, map};
 ghost use Rattle.std.specs.List.{flat_map};
 ghost use Rattle.std.specs.List.Sorted.{IsNonDecreasing};
 ghost use Rattle.blk_trace.specs.Meaning.{commands_of, issued_ids};
 ghost use Rattle.blk_trace.specs.Waits.{has_id};
 ghost use Rattle.blk_trace.specs.declared.trace.TheConstants.{MAX_EVENTS as most_events};
 ghost use Rattle.blk_report.specs.Overdue.{is_overdue, bios_under, overdue_of};
-ghost use Rattle.blk_report.specs.Inside.Outstayed.{comes_to_outstay};
+ghost use Rattle.blk_report.specs.Inside.Outstayed.{comes_to_outstay, is_the};
 
 use blk_bio::{Bio, Request};
 use blk_trace::{Event, Setup, Trace};
@@ -50,7 +49,7 @@ fn outstays<A: Allocator + Clone>(
 ) -> Option<u64>
     requires rising { IsNonDecreasing gone.now }
     requires early { round ≤ most_events }
-    ensures { (id : ℕ) → option_map_or (λ i. i == id) result false ≡ comes_to_outstay setup (has_id gone.now) last round event.now id }
+    ensures { (id : ℕ) → is_the result id ≡ comes_to_outstay setup (has_id gone.now) last round event.now id }
 {
     let Some((id, request)) = event.releases() else {
         return None;

@@ -8,7 +8,7 @@ ghost use Rattle.blk_trace.specs.Kinds.{enters};
 ghost use Rattle.blk_trace.specs.Legal.{IsLegalTrace};
 ghost use Rattle.blk_trace.specs.Meaning.{commands_of, rounds_of};
 ghost use Rattle.blk_report.specs.Services.{services_of, command_in, AreTimed, AreRising};
-ghost use Rattle.blk_report.specs.Inside.Ranges.{range_of, joined_range, IsExtended, with_entry};
+ghost use Rattle.blk_report.specs.Inside.Ranges.{range_of, joined_range, IsExtended, EntersUnder};
 
 use blk_bio::{Dir, Request};
 use blk_trace::{Event, Trace};
@@ -16,7 +16,7 @@ use edd_commands::Command;
 use std::alloc::{AllocError, Allocator};
 use std::collections::BTreeMap;
 
-/// A command that was served: its request was issued and not handed back.
+/// A command that was served: its request was issued and not requeued.
 #[derive(Clone, Copy, Debug, PartialEq, Eq)]
 pub struct Service {
     /// The id under which its request was released.
@@ -100,7 +100,7 @@ fn gather<A: Allocator + Clone>(
     ranges: &mut BTreeMap<u64, Range, A>,
     event: &Event<Request<A>>,
 ) -> Result<(), AllocError>
-    ensures { OnOk result ((i : ℕ) → get nat_cmp ranges.new i ≡ with_entry (get nat_cmp ranges.old) (enters event.now) i) }
+    ensures { OnOk result (EntersUnder (get nat_cmp ranges.old) (enters event.now) (get nat_cmp ranges.new)) }
 {
     match event.enters() {
         Some((id, request)) => extend(ranges, id, Range::of(request)),
@@ -157,7 +157,7 @@ fn served<A: Allocator + Clone>(
     Ok(services)
 }
 
-/// The commands of a trace that were issued and not handed back, in the order of these Issues, each with its request as it stood
+/// The commands of a trace that were issued and not requeued, in the order of these Issues, each with its request as it stood
 /// then, with all that joined it. Rounds and sectors are as in the trace. Fails only when out of memory. The time grows as n log n
 /// in the number of events.
 pub fn services<A: Allocator + Clone>(trace: &Trace<A>) -> Result<Vec<Service, A>, AllocError>

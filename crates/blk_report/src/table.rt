@@ -2,7 +2,7 @@
 
 ghost use Rattle.std.specs.Prelude.{◌≡◌, ◌⊎◌, ◌++◌, IfOk, IfErr, IfSome, OnOk, ◌<◌, decimal, length, map};
 ghost use Rattle.edd_figures.specs.Lines.{late_text};
-ghost use Rattle.blk_report.specs.Table.{right_in, row_line, lines_upto, best_line, IsTable, AppendsTable, AppendsTablePart};
+ghost use Rattle.blk_report.specs.Table.{right_in, row_line, best_line, IsTable, AppendsTable, AppendsTablePart, all_lines};
 
 use crate::{Report, compare};
 use drafts::{Draft, WriteFault, write_whole};
@@ -62,7 +62,7 @@ fn push_rows(
     reports: &[Report],
 ) -> Result<(), AllocError>
     requires { length names.now ≡ length reports.now }
-    ensures { OnOk result (draft.new ≡ draft.old ++ lines_upto (map (λ name. name.now) names.now) reports.now (length reports.now)) }
+    ensures { OnOk result (draft.new ≡ draft.old ++ all_lines (map (λ name. name.now) names.now) reports.now) }
 {
     draft.text(b"sched     commands   waiting  greatest     least shortfall\n")?;
     for place in 0..reports.len() {

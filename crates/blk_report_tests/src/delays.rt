@@ -6,7 +6,7 @@ use refusing::Refusing;
 use std::alloc::Global;
 use std::process::Abort;
 
-/// The lines of the late commands of a trace of so many places a round.
+/// The lines of the late commands of a trace of this depth.
 fn lines(rt: &impl Abort, alloc: Global, depth: u64, steps: &[Step]) -> Vec<u8> {
     let heap = Refusing::new(alloc);
     let trace = trace_of(rt, &heap, depth, 9, steps);

@@ -101,7 +101,7 @@ pub enum Step {
     Join(u64, u64, u64),
     /// A request goes out under a tag.
     Issue(u64, u16),
-    /// What went out under a tag is handed back.
+    /// What went out under a tag is requeued.
     Back(u16),
     /// A request goes out and comes back done, and the round ends.
     Serve(u64),
@@ -140,7 +140,7 @@ fn take<'a>(rt: &impl Abort, heap: Heap<'a>, trace: &mut Trace<Heap<'a>>, step: 
     }
 }
 
-/// A trace of one hardware queue with the events of these steps. Reads are due at once, writes after so many rounds.
+/// A trace of one hardware queue with the events of these steps. Reads are due at once, writes after this number of rounds.
 pub fn trace_of<'a>(
     rt: &impl Abort,
     heap: Heap<'a>,

@@ -6,7 +6,7 @@ use refusing::Refusing;
 use std::alloc::Global;
 use std::process::Abort;
 
-/// The report of a trace of so many places a round.
+/// The report of a trace of this depth.
 fn reported(rt: &impl Abort, alloc: Global, depth: u64, steps: &[Step]) -> Report {
     let heap = Refusing::new(alloc);
     let trace = trace_of(rt, &heap, depth, 9, steps);

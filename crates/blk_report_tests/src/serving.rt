@@ -7,7 +7,7 @@ use refusing::Refusing;
 use std::alloc::Global;
 use std::process::Abort;
 
-/// Whether these are the commands of a trace of one place a round, in which writes are due after so many rounds.
+/// Whether these are the commands of a trace of one place a round, in which writes are due after this number of rounds.
 fn are_served(
     rt: &impl Abort,
     alloc: Global,
@@ -52,7 +52,7 @@ fn write_before_read(rt: HostRuntime) {
     assert!(rt; are_served(&rt, rt.alloc(), 9, &steps, &[write, read]));
 }
 
-/// A write that another joined at the front, in the round after its release, is handed back and served a round later.
+/// A write that another joined at the front, in the round after its release, is requeued and served a round later.
 #[test]
 fn joined_and_handed_back(rt: HostRuntime) {
     let steps = [

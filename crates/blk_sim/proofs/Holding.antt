@@ -1,5 +1,5 @@
 -- Plugs and software queues as the steps leave them.
-use Rattle.std.proofs.Common.{arith, ◌≡◌, ◌≢◌, ◌+◌, ◌≤◌, ◌∙◌, ◌++◌, ◌∷◌, ℕ, List, [], Some, length, sym, ap, subst, inl, inr, set, length-append}
+use Rattle.std.proofs.Common.{arith, ◌≡◌, ◌≢◌, ◌+◌, ◌≤◌, ◌∙◌, ◌++◌, ◌∷◌, ℕ, List, [], Some, length, ap, inl, inr, set, length-append}
 use Rattle.std.specs.Prelude.{slice_get, IsPermutation}
 use Rattle.std.proofs.lemmas.Bool.{eqb-true}
 use Rattle.std.proofs.lemmas.List.{length_push}
@@ -54,15 +54,3 @@ come_flushed n plugs queues k p p' q q' at at2 none counted h s x y here there =
     | inr b ↦ h s x y a.1 b.1
   ]
 ]
-
-pub come_drained : (n : ℕ) (plugs : List Plug) (queues queues' : List Queue) (k : ℕ) (q q' : Queue) → queues' ≡ set queues k q' → slice_get queues k ≡ Some q → q'.bios_in ≡ q.bios_in → HaveCome n plugs queues → HaveCome n plugs queues'
-come_drained n plugs queues queues' k q q' write at same h s p y here there = elim (set_cases queues k s q' y (ap (λ l. slice_get l s) (sym write) ∙ there)) [
-  | inl a ↦
-      let e : y.bios_in ≡ q'.bios_in = ap (λ (z : Queue). z.bios_in) a.1 in
-      let was : q.bios_in + length (bios_in p.requests) ≤ n = h s p q here (ap (slice_get queues) (eqb-true s k a.0) ∙ at) in
-      omega (arith, e, same, was)
-  | inr a ↦ h s p y here a.1
-]
-
-pub come_same : (n : ℕ) (plugs : List Plug) (queues queues' : List Queue) → queues' ≡ queues → HaveCome n plugs queues → HaveCome n plugs queues'
-come_same n plugs queues queues' e h = subst (λ l. HaveCome n plugs l) (sym e) h

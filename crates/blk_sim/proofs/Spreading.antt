@@ -41,10 +41,6 @@ no_map_fault hw count entries (Unserved k) some few enough most h e =
 pub spread_along : (hw hw' count count' : ℕ) (entries : List ℕ) → hw' ≡ hw → count' ≡ count → IsSpread hw count entries → IsSpread hw' count' entries
 spread_along hw hw' count count' entries a b h = subst (λ k. IsSpread k count' entries) (sym a) (subst (λ k. IsSpread hw k entries) (sym b) h)
 
--- the same for lists that are equal
-pub spread_same : (hw count : ℕ) (entries entries' : List ℕ) → entries' ≡ entries → IsSpread hw count entries → IsSpread hw count entries'
-spread_same hw count entries entries' e h = subst (λ l. IsSpread hw count l) (sym e) h
-
 -- which hardware queue the map names
 pub named : (hw count : ℕ) (entries : List ℕ) (s found : ℕ) → IsSpread hw count entries → s < count → found ≡ get_or entries s 0 → (s % hw) ≡ found
 named hw count entries s found h lt is = sym (h.spread s 0 lt) ∙ sym is

@@ -20,8 +20,8 @@ use Rattle.blk_trace.specs.Waits.{has_id}
 use Rattle.blk_trace.specs.Laws.{IsAccounted}
 use Rattle.blk_trace.proofs.Pushing.{entered_more}
 use Rattle.blk_trace.proofs.More.{issued_more, released_more}
-use Rattle.blk_trace.proofs.Returning.{IsReturned, returned, IsOut, requeued_ids, open_by}
-use Rattle.blk_trace.proofs.Returns.{open_issued}
+use Rattle.blk_trace.proofs.Requeuing.{LosesIssue, requeued, IsOut, requeued_ids, open_by}
+use Rattle.blk_trace.proofs.Requeues.{open_issued}
 use Rattle.blk_trace.proofs.Ids.{by_legal, all_back, released_has, has_issued, not_released, not_issued, has_issued_more, released_first}
 use Rattle.blk_trace.proofs.Entering.{HasNothing, IsEntered, nothing_before, same_entered, entered_released, entered_joined, stays_out, has_issued_same}
 use Rattle.blk_trace.proofs.Counting.{one_if, count-cons, released_one}
@@ -297,7 +297,7 @@ on_requeued setup es t old all ih =
     let fs : List Happened = es ++ e ∷ [] in
     let o : IsOpen es t = all NotIssued in
     let by : IsOpenBy es t o.id = open_by es t o in
-    let back : IsReturned es fs o.id = returned setup es t o.id old by in
+    let back : LosesIssue es fs o.id = requeued setup es t o.id old by in
     let out : IsOut (issued_ids es) (issued_ids fs) o.id = requeued_ids setup es t o.id old by in
     let f : ℕ → List Bio = request_of fs in
     let g : ℕ → List Bio = request_of es in

@@ -24,7 +24,7 @@ use Rattle.blk_trace.proofs.More.{round_cons, rounds_within}
 use Rattle.blk_trace.proofs.Ids.{has_issued, released_first, released_has}
 use Rattle.blk_trace.proofs.Entering.{release_within, IsDueSoon, soon}
 use Rattle.blk_trace.proofs.Counting.{one_if, count-cons}
-use Rattle.blk_trace.proofs.Returning.{distinct}
+use Rattle.blk_trace.proofs.Requeuing.{distinct}
 
 -- there are no more commands than events
 cons_few : (o : Option (ℕ × ℕ)) (xs : List (ℕ × ℕ)) → length (cons_option o xs) ≤ length xs + 1

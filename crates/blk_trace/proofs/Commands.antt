@@ -3,8 +3,7 @@ use Rattle.std.proofs.Common.{◌≡◌, ◌++◌, ◌==◌, ℕ, List, [], ◌�
 use Rattle.std.specs.List.{cons_option}
 use Rattle.std.proofs.lemmas.List.{map-append}
 use Rattle.std.proofs.lemmas.Bool.{or_left, or_right}
-use Rattle.blk_bio.specs.Bios.{Bio}
-use Rattle.blk_trace.specs.Happened.{Happened, Tick, Release, Join, Issue, Done}
+use Rattle.blk_trace.specs.Happened.{Happened, Issue}
 use Rattle.blk_trace.specs.Kinds.{issues, requeues}
 use Rattle.blk_trace.specs.Setups.{Setup}
 use Rattle.blk_trace.specs.Legal.{IsLegalTrace}
@@ -47,15 +46,6 @@ commands_kept setup events e legal none n =
     ∙ ap (λ o. commands_of setup events ++ map (command_of setup (events ++ e ∷ [])) (cons_option (option_map (λ p. p.0) o) [])) none
     ∙ append-nil _
 
-pub commands-ticked : (setup : Setup) (events : List Happened) → IsLegalTrace setup (events ++ Tick ∷ []) → commands_of setup (events ++ Tick ∷ []) ≡ commands_of setup events
-commands-ticked setup events legal = commands_kept setup events Tick legal refl refl
-
-pub commands-released : (setup : Setup) (events : List Happened) (id : ℕ) (bios : List Bio) → IsLegalTrace setup (events ++ Release id bios ∷ []) → commands_of setup (events ++ Release id bios ∷ []) ≡ commands_of setup events
-commands-released setup events id bios legal = commands_kept setup events (Release id bios) legal refl refl
-
-pub commands-joined : (setup : Setup) (events : List Happened) (id : ℕ) (bios : List Bio) → IsLegalTrace setup (events ++ Join id bios ∷ []) → commands_of setup (events ++ Join id bios ∷ []) ≡ commands_of setup events
-commands-joined setup events id bios legal = commands_kept setup events (Join id bios) legal refl refl
-
 pub commands-issued : (setup : Setup) (events : List Happened) (id tag : ℕ) → IsLegalTrace setup (events ++ Issue id tag ∷ []) → (w : Entered) → waits_at setup events id ≡ Some w → commands_of setup (events ++ Issue id tag ∷ []) ≡ commands_of setup events ++ record { id = id; release = w.release; due = w.due } ∷ []
 unfolding issued_ids
 commands-issued setup events id tag legal w waits =
@@ -65,9 +55,6 @@ commands-issued setup events id tag legal w waits =
     let due : due_of setup (events ++ Issue id tag ∷ []) id ≡ w.due = same.due ∙ sym was.due_is in
     let last : command_of setup (events ++ Issue id tag ∷ []) id ≡ record { id = id; release = w.release; due = w.due } = cc in
     commands_more setup events (Issue id tag) legal refl ∙ ap (λ x. commands_of setup events ++ x ∷ []) last
-
-pub commands-finished : (setup : Setup) (events : List Happened) (tag : ℕ) → IsLegalTrace setup (events ++ Done tag ∷ []) → commands_of setup (events ++ Done tag ∷ []) ≡ commands_of setup events
-commands-finished setup events tag legal = commands_kept setup events (Done tag) legal refl refl
 
 -- the rounds
 pub rounds_kept : (events : List Happened) (e : Happened) → issues e ≡ None → requeues e ≡ None → rounds_of (events ++ e ∷ []) ≡ rounds_of events

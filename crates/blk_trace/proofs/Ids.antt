@@ -6,7 +6,7 @@ use Rattle.std.specs.List.{filter_map, cons_option, list_any}
 use Rattle.std.proofs.lemmas.List.Folds.{list_any-append}
 use Rattle.std.proofs.lemmas.Bool.{cases_Bool, false_from_ne_true, or_cases, or_left, or_right}
 use Rattle.blk_bio.specs.Bios.{Bio}
-use Rattle.blk_trace.specs.Happened.{Happened, Release, Join, Issue}
+use Rattle.blk_trace.specs.Happened.{Happened, Release, Issue}
 use Rattle.blk_trace.specs.Kinds.{releases, issues, requeues, is_tick}
 use Rattle.blk_trace.specs.Setups.{Setup}
 use Rattle.blk_trace.specs.Events.{At, goes_back, IsReleased, IsIssued, AreRequeued}
@@ -89,7 +89,7 @@ has_released es id h =
     let r = release_of_id p.event id p.gives in
     (p.place, (r.0, p.stands ∙ ap Some r.1))
 
--- the Issues that were not handed back, by place
+-- the Issues that were not requeued, by place
 pub record IsServed (es : List Happened) (id : ℕ) : Type 0 where
   pub place : ℕ
   pub tag : ℕ
@@ -149,7 +149,7 @@ served_has es k id tag h g = serves 0 es k id tag h g
 pub has_issued : (es : List Happened) (id : ℕ) → has_id (issued_ids es) id ≡ true → IsIssued es id
 has_issued es id h = let p = has_served es id h in (p.place, (p.tag, p.issued))
 
--- an id whose Issues were all handed back
+-- an id whose Issues were all requeued
 pub all_back : (es : List Happened) (id : ℕ) → AreRequeued es id → has_id (issued_ids es) id ≡ false
 all_back es id back = false_from_ne_true _ (λ t. let p = has_served es id t in let b : goes_back p.tag (drop (suc p.place) es) ≡ true = back p.place p.tag p.issued in let n = p.stays in absurd (cc))
 
@@ -208,9 +208,3 @@ pub released_first : (setup : Setup) (es : List Happened) (id : ℕ) → IsLegal
 released_first setup es id old p =
     let q = old.issue_released p.0 id p.1.0 p.1.1 in
     (q.0, (q.1.0, of_take p.0 es q.0 _ q.1.1))
-
--- an id that was joined was released
-pub joined_after : (setup : Setup) (es : List Happened) (k id : ℕ) (n : List Bio) → IsLegalTrace setup es → At es k (Join id n) → IsReleased es id
-joined_after setup es k id n old h =
-    let q = old.join_released k id n h in
-    (q.0, (q.1.0, of_take k es q.0 _ q.1.1))

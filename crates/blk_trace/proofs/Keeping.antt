@@ -11,7 +11,7 @@ use Rattle.blk_bio.specs.Requests.{IsRequest, Fits, dir_of}
 use Rattle.blk_bio.specs.declared.request.Side.{Side}
 use Rattle.blk_trace.specs.declared.known.Unissued.{Unissued}
 use Rattle.blk_trace.specs.declared.known.Known.{Known}
-use Rattle.blk_trace.specs.declared.known.Known.TheVariants.{Waits, Gone, Handed}
+use Rattle.blk_trace.specs.declared.known.Known.TheVariants.{Waits, Gone, Requeued}
 use Rattle.blk_trace.specs.declared.tags.TagUse.{TagUse}
 use Rattle.blk_trace.specs.declared.tags.TagUse.TheVariants.{Free, Open, Ended}
 use Rattle.blk_trace.specs.declared.trace.Prepared.{Prepared}
@@ -31,7 +31,7 @@ use Rattle.blk_trace.proofs.Pushing.{push_legal, empty_legal}
 use Rattle.blk_trace.proofs.More.{round_more}
 use Rattle.blk_trace.proofs.Room.{open_kept, open_issue, open_end}
 use Rattle.blk_trace.proofs.Newness.{ids_more}
-use Rattle.blk_trace.proofs.Returns.{IsDropped, dropped, there_is, taken_there}
+use Rattle.blk_trace.proofs.Requeues.{IsDropped, dropped, there_is, taken_there}
 use Rattle.blk_trace.proofs.Scheduling.{legal-schedule}
 use Rattle.std.proofs.lemmas.Option.{slice_get_within}
 use Rattle.std.specs.Prelude.{slice_get}
@@ -179,7 +179,7 @@ kept_out setup es tag id place c d cs rs round opened known ids tags k by at is 
 pub kept_back : (setup : Setup) (es zs : List Happened) (tag id : ℕ) (cs ds : List Command) (rs ss : List ℕ) (round opened : ℕ) (known known' : ℕ → Option Known) (ids : BioId → Bool) (tags : List TagUse)
     → IsKeptTrace setup es cs rs round opened known ids tags → IsUnbroken setup es (Back tag) → IsOpenBy es tag id → zs ≡ es ++ Back tag ∷ []
     → ds ≡ commands_of setup (es ++ Back tag ∷ []) → ss ≡ rounds_of (es ++ Back tag ∷ [])
-    → ((q : ℕ) → known' q ≡ cond (id == q) (Some (Handed (release_of es id) (due_of setup es id))) (known q))
+    → ((q : ℕ) → known' q ≡ cond (id == q) (Some (Requeued (release_of es id) (due_of setup es id))) (known q))
     → IsKeptTrace setup zs ds ss round (opened - 1) known' ids (set tags tag Ended)
 kept_back setup es zs tag id cs ds rs ss round opened known known' ids tags k all by hz hd hs hk =
     let new = push_legal setup es (Back tag) k.legal all tt in
@@ -193,7 +193,7 @@ kept_back setup es zs tag id cs ds rs ss round opened known known' ids tags k al
       rounds_are = hs;
       round_is = omega (arith, k.round_is, round_more es (Back tag));
       open_is = omega (arith, k.open_is, open_end es (Back tag) tag refl);
-      known_are = λ q. hk q ∙ ap (λ x. cond (id == q) (Some (Handed (release_of es id) (due_of setup es id))) x) (k.known_are q) ∙ sym (known_requeued_id setup es tag id k.legal by q);
+      known_are = λ q. hk q ∙ ap (λ x. cond (id == q) (Some (Requeued (release_of es id) (due_of setup es id))) x) (k.known_are q) ∙ sym (known_requeued_id setup es tag id k.legal by q);
       requests_are = requests_kept setup es (Back tag) refl refl k.requests_are;
       ids_are = λ b. k.ids_are b ∙ sym (same_ids es (Back tag) b refl);
       tags_are = tags_ended es (Back tag) tags tag refl used.0 k.tags_are;

@@ -6,7 +6,7 @@ use Rattle.blk_bio.specs.Bios.{Bio}
 use Rattle.blk_bio.specs.Requests.{dir_of}
 use Rattle.blk_trace.specs.declared.known.Unissued.{Unissued}
 use Rattle.blk_trace.specs.declared.known.Known.{Known}
-use Rattle.blk_trace.specs.declared.known.Known.TheVariants.{Waits, Gone, Handed}
+use Rattle.blk_trace.specs.declared.known.Known.TheVariants.{Waits, Gone, Requeued}
 use Rattle.blk_bio.specs.declared.rule.TraceRule.TheVariants.{ReleasedTwice, AlreadyIssued}
 use Rattle.blk_trace.specs.Happened.{Happened, Release, Join, Issue, Back}
 use Rattle.blk_trace.specs.Kinds.{releases, joins, issues, requeues}
@@ -19,8 +19,8 @@ use Rattle.blk_trace.specs.Inside.Kept.{summary, known_waiting, known_of, rounds
 use Rattle.blk_trace.proofs.More.{was_issued_more}
 use Rattle.blk_trace.proofs.Entering.{has_issued_same}
 use Rattle.blk_trace.proofs.Unissued.{was_kept}
-use Rattle.blk_trace.proofs.Returning.{IsOut, requeued_ids}
-use Rattle.blk_trace.proofs.Returns.{entry_of, open_issued, waits_requeued}
+use Rattle.blk_trace.proofs.Requeuing.{IsOut, requeued_ids}
+use Rattle.blk_trace.proofs.Requeues.{entry_of, open_issued, waits_requeued}
 use Rattle.blk_trace.proofs.Ids.{released_has, has_released, has_issued, not_issued, all_back, back_all, issued_was, was_is, never_was, has_issued_more, released_first}
 use Rattle.blk_trace.proofs.Pushing.{shorter_legal, obeys}
 use Rattle.blk_trace.proofs.Waiting.{waits_for, waits_kept, waits-released, waits-joined, waits-issued}
@@ -81,12 +81,12 @@ known_issued setup es id tag legal q =
     ∙ goes (id == q) (has_id (issued_ids es) q) (was_issued es q) (waits_at setup es q)
     ∙ ap (λ x. cond (id == q) (Some Gone) x) (sym (known_is setup es q))
 
-comes_back : (b gone was ever : Bool) (x : Entered) (y : Option Entered) → (b ≡ true → gone ≡ false) → (b ≡ true → ever ≡ true) → (b ≡ false → gone ≡ was) → kept_from gone ever (cond b (Some x) y) ≡ cond b (Some (Handed x.release x.due)) (kept_from was ever y)
+comes_back : (b gone was ever : Bool) (x : Entered) (y : Option Entered) → (b ≡ true → gone ≡ false) → (b ≡ true → ever ≡ true) → (b ≡ false → gone ≡ was) → kept_from gone ever (cond b (Some x) y) ≡ cond b (Some (Requeued x.release x.due)) (kept_from was ever y)
 comes_back true gone was ever x y h e n = ap (λ g. kept_from g ever (Some x)) (h refl) ∙ ap (λ g. kept_from false g (Some x)) (e refl)
 comes_back false gone was ever x y h e n = ap (λ g. kept_from g ever y) (n refl)
 
 pub known_requeued_id : (setup : Setup) (es : List Happened) (t id : ℕ) → IsLegalTrace setup es → IsOpenBy es t id → (q : ℕ)
-    → known_of setup (es ++ Back t ∷ []) q ≡ cond (id == q) (Some (Handed (release_of es id) (due_of setup es id))) (known_of setup es q)
+    → known_of setup (es ++ Back t ∷ []) q ≡ cond (id == q) (Some (Requeued (release_of es id) (due_of setup es id))) (known_of setup es q)
 known_requeued_id setup es t id legal o q =
     let fs : List Happened = es ++ Back t ∷ [] in
     let out : IsOut (issued_ids es) (issued_ids fs) id = requeued_ids setup es t id legal o in
@@ -95,7 +95,7 @@ known_requeued_id setup es t id legal o q =
     (λ b. subst (λ n. has_id (issued_ids fs) n ≡ false) (eqb-true id q b) out.gone)
     (λ b. issued_was es q (subst (IsIssued es) (eqb-true id q b) (open_issued es t id o)))
     (λ b. out.other q b)
-    ∙ ap (λ x. cond (id == q) (Some (Handed (release_of es id) (due_of setup es id))) x) (sym (known_is setup es q))
+    ∙ ap (λ x. cond (id == q) (Some (Requeued (release_of es id) (due_of setup es id))) x) (sym (known_is setup es q))
 
 -- what is kept of the request of an open tag
 pub known_open : (setup : Setup) (es : List Happened) (t id : ℕ) → IsLegalTrace setup es → IsOpenBy es t id → known_of setup es id ≡ Some Gone
@@ -172,21 +172,21 @@ gone_is false false (Some w) = refl
 pub is_out : (setup : Setup) (es : List Happened) (id : ℕ) → is_gone (known_of setup es id) ≡ has_id (issued_ids es) id
 is_out setup es id = ap is_gone (known_is setup es id) ∙ gone_is (has_id (issued_ids es) id) (was_issued es id) (waits_at setup es id)
 
-handed_from : (gone ever : Bool) (waits : Option Entered) (r d : ℕ) → kept_from gone ever waits ≡ Some (Handed r d) → (gone ≡ false) × (ever ≡ true) × ((w : Entered) × (waits ≡ Some w))
-handed_from true ever waits r d h = absurd (cc)
-handed_from false ever None r d h = absurd (cc)
-handed_from false true (Some w) r d h = (refl, refl, (w, refl))
-handed_from false false (Some w) r d h = absurd (cc)
+requeued_parts : (gone ever : Bool) (waits : Option Entered) (r d : ℕ) → kept_from gone ever waits ≡ Some (Requeued r d) → (gone ≡ false) × (ever ≡ true) × ((w : Entered) × (waits ≡ Some w))
+requeued_parts true ever waits r d h = absurd (cc)
+requeued_parts false ever None r d h = absurd (cc)
+requeued_parts false true (Some w) r d h = (refl, refl, (w, refl))
+requeued_parts false false (Some w) r d h = absurd (cc)
 
--- a request that was handed back
+-- a request that was requeued
 pub record IsRequeuedId (es : List Happened) (id : ℕ) : Type 0 where
   pub released : IsReleased es id
   pub issued : IsIssued es id
   pub back : AreRequeued es id
 
-pub known_requeued : (setup : Setup) (es : List Happened) (id r d : ℕ) → IsLegalTrace setup es → known_of setup es id ≡ Some (Handed r d) → IsRequeuedId es id
+pub known_requeued : (setup : Setup) (es : List Happened) (id r d : ℕ) → IsLegalTrace setup es → known_of setup es id ≡ Some (Requeued r d) → IsRequeuedId es id
 known_requeued setup es id r d legal h =
-    let p = handed_from _ _ _ r d (sym (known_is setup es id) ∙ h) in
+    let p = requeued_parts _ _ _ r d (sym (known_is setup es id) ∙ h) in
     let was : IsIssued es id = was_is es id p.1 in
     record { released = released_first setup es id legal was; issued = was; back = back_all es id p.0 }
 
@@ -219,14 +219,6 @@ waiting_is setup es id w h never =
       not_issued = λ p. let there : was_issued es id ≡ true = issued_was es id p in absurd (cc);
       bios = ap (λ (x : Entered). x.bios) all.2;
     }
-
--- a request that was released and not issued waits
-pub waiting_when : (setup : Setup) (es : List Happened) (id : ℕ) → IsReleased es id → (IsIssued es id → ⊥) → (w : Entered) × (waits_at setup es id ≡ Some w) × (known_of setup es id ≡ Some (Waits (summary w)))
-waiting_when setup es id p never =
-    let r : has_id (released_ids es) id ≡ true = released_has es p.0 id p.1.0 p.1.1 in
-    let gone : has_id (issued_ids es) id ≡ false = not_issued es id never in
-    let w : waits_at setup es id ≡ Some (entered_at setup es id) = waits_is setup es id ∙ ap (λ x. cond (x && not (has_id (issued_ids es) id)) (Some (entered_at setup es id)) None) r ∙ ap (λ x. cond (true && not x) (Some (entered_at setup es id)) None) gone in
-    (entered_at setup es id, w, known_by setup es id _ _ _ gone (never_was es id never) w)
 
 some_from : (gone ever : Bool) (waits : Option Entered) (k : Known) → kept_from gone ever waits ≡ Some k → (gone ≡ true) ⊎ ((w : Entered) × (waits ≡ Some w))
 some_from true ever waits k h = inl refl

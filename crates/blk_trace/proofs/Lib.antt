@@ -14,8 +14,8 @@ pub mod Seats
 pub mod Steady
 pub mod Counting
 pub mod Opening
-pub mod Returning
-pub mod Returns
+pub mod Requeuing
+pub mod Requeues
 pub mod Allowed
 pub mod Scheduling
 pub mod Accounting

@@ -76,7 +76,7 @@ unfolding goes_back
 goes_back_more t [] e h = no_back (is_done_of t e) (requeues e) h
 goes_back_more t (x ∷ es) e h = ap (λ b. cond (is_done_of t x) (is_some (requeues x)) b) (goes_back_more t es e h)
 
--- the Issues that were not handed back
+-- the Issues that were not requeued
 prepend : {X : Type 0} (o : Option X) (xs ys : List X) → cons_option o (xs ++ ys) ≡ cons_option o xs ++ ys
 prepend None xs ys = refl
 prepend (Some x) xs ys = refl

@@ -75,9 +75,6 @@ once_both xs ys one two apart j k b c h l same =
 pub once_second : (xs ys : List Bio) → AreOnce (xs ++ ys) → AreOnce ys
 once_second xs ys h j k b c p q same = omega (arith, h (length xs + j) (length xs + k) b c (in_second xs ys j b p) (in_second xs ys k c q) same)
 
-pub once_apart : (xs ys : List Bio) → AreOnce (xs ++ ys) → AreApart xs ys
-once_apart xs ys h k b p = false_from_ne_true _ (λ t. let q = at_has xs b.id t in absurd (omega (arith, h q.0 (length xs + k) q.1.0 b (in_first xs ys q.0 q.1.0 q.1.1) (in_second xs ys k b p) q.1.2, slice_get_within xs q.0 q.1.0 q.1.1)))
-
 once_single : (b : Bio) → AreOnce (b ∷ [])
 once_single b zero zero x y h l same = refl
 once_single b zero (suc k) x y h l same = absurd (cc)

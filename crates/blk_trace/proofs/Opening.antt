@@ -9,7 +9,7 @@ use Rattle.blk_bio.specs.declared.bio.Dir.{Dir}
 use Rattle.blk_bio.specs.declared.bio.Dir.TheVariants.{Read, Write}
 use Rattle.blk_bio.specs.Requests.{dir_of}
 use Rattle.blk_bio.specs.declared.rule.TraceRule.TheVariants.{TagUsed, InFlight, Unknown, AlreadyIssued}
-use Rattle.blk_trace.specs.Happened.{Happened, Tick, Release, Join, Issue, Done}
+use Rattle.blk_trace.specs.Happened.{Happened, Tick, Release, Join, Issue}
 use Rattle.blk_trace.specs.Kinds.{issues, ends, is_issue, is_end}
 use Rattle.blk_trace.specs.Setups.{Setup, same_dir}
 use Rattle.blk_trace.specs.Events.{is_tick, open_count, request_of, IsOpen}
@@ -155,9 +155,6 @@ open_ended setup events e tag legal end dir taken_is d =
     let fewer : count_by (flies es d) (tags events) + one_if (same_dir d dir) ≡ count_by (flies events d) (tags events) = count_once (flies es d) (flies events d) tag (one_if (same_dir d dir)) (tags events) other (omega arith) one in
     let now : flying_of es d ≡ count_by (flies es d) (tags events) = open_is es d ∙ ap (count_by (flies es d)) (tags_kept events e only.no_tick (no_tag e only.no_issue)) in
     omega (arith, open_is events d)
-
-pub open-finished : (setup : Setup) (events : List Happened) (tag : ℕ) → IsLegalTrace setup (events ++ Done tag ∷ []) → (dir : Dir) → seat_at events tag ≡ Some (record { dir = dir; in_flight = true }) → (d : Dir) → flying_of (events ++ Done tag ∷ []) d + cond (same_dir d dir) 1 0 ≡ flying_of events d
-open-finished setup events tag legal dir taken_is d = open_ended setup events (Done tag) tag legal refl dir taken_is d
 
 -- both directions, and all commands
 one_dir : (d : Dir) → cond (same_dir Read d) 1 0 + cond (same_dir Write d) 1 0 ≡ 1

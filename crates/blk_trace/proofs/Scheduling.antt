@@ -21,8 +21,8 @@ use Rattle.blk_trace.proofs.Pushing.{shorter_legal, obeys}
 use Rattle.blk_trace.proofs.Ids.{by_legal, all_back}
 use Rattle.blk_trace.proofs.Depths.{depth_past, depth_now_is}
 use Rattle.blk_trace.proofs.Changes.{capacity_depth}
-use Rattle.blk_trace.proofs.Returning.{IsReturned, returned, open_by}
-use Rattle.blk_trace.proofs.Returns.{commands_were, commands_are, map_length}
+use Rattle.blk_trace.proofs.Requeuing.{LosesIssue, requeued, open_by}
+use Rattle.blk_trace.proofs.Requeues.{commands_were, commands_are, map_length}
 use Rattle.blk_trace.proofs.Entering.{release_within}
 use Rattle.blk_trace.proofs.Waiting.{waits_for}
 use Rattle.blk_trace.proofs.Commands.{commands_kept, commands-issued, rounds_kept, rounds-issued}
@@ -80,7 +80,7 @@ starts_step setup es (Issue i t) new all ih =
 starts_step setup es (Back t) new all ih =
     let old = shorter_legal setup es (Back t) new in
     let o : IsOpen es t = all NotIssued in
-    let p : IsReturned es (es ++ Back t ∷ []) o.id = returned setup es t o.id old (open_by es t o) in
+    let p : LosesIssue es (es ++ Back t ∷ []) o.id = requeued setup es t o.id old (open_by es t o) in
     rw (commands_are setup es t o.id p, p.rounds_are)
     (starts_out (map (command_of setup es) p.ids_before) (map (command_of setup es) p.ids_after) (command_of setup es o.id) p.rounds_before p.rounds_after p.round (p.even ∙ sym (map_length (command_of setup es) p.ids_before)) (rw (commands_were setup es (es ++ Back t ∷ []) o.id p, p.rounds_were) at ih))
 starts_step setup es e new all ih = rw (commands_kept setup es e new refl refl, rounds_kept es e refl refl) ih
@@ -220,7 +220,7 @@ fills_requeued setup es t new old =
     let fs : List Happened = es ++ Back t ∷ [] in
     let legal = shorter_legal setup es (Back t) new in
     let o : IsOpen es t = obeys setup es (Back t) new NotIssued in
-    let p : IsReturned es fs o.id = returned setup es t o.id legal (open_by es t o) in
+    let p : LosesIssue es fs o.id = requeued setup es t o.id legal (open_by es t o) in
     let fewer : (x : ℕ) → places_at (rounds_of fs) x ≤ places_at (rounds_of es) x = λ x. rw (p.rounds_are, p.rounds_were) (fewer_places p.rounds_before p.rounds_after p.round x) in
     let round : round_of fs ≡ round_of es = round_kept es (Back t) refl in
     let same : tags fs ≡ tags es = tags_kept es (Back t) refl refl in

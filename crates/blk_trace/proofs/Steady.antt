@@ -6,7 +6,7 @@ use Rattle.blk_bio.specs.Bios.{Bio}
 use Rattle.blk_bio.specs.declared.bio.Dir.{Dir}
 use Rattle.blk_bio.specs.Requests.{dir_of}
 use Rattle.blk_bio.specs.declared.rule.TraceRule.TheVariants.{TagUsed, NotIssued, InFlight}
-use Rattle.blk_trace.specs.Happened.{Happened, Tick, Release, Join, Issue, Done}
+use Rattle.blk_trace.specs.Happened.{Happened, Tick, Release, Join, Issue}
 use Rattle.blk_trace.specs.Kinds.{issues, ends}
 use Rattle.blk_trace.specs.Setups.{Setup}
 use Rattle.blk_trace.specs.Events.{is_tick, request_of, IsOpen, IsUsed}
@@ -207,9 +207,6 @@ seat_ended setup events e tag legal end seat taken t =
       | inr b ↦ seat_kept setup events e t old all only.no_tick (issued_by_none t e only.no_issue) (done_by t e tag end ∙ b) ∙ sym (rw b refl)
     ]
 
-pub seat-finished : (setup : Setup) (events : List Happened) (tag : ℕ) → IsLegalTrace setup (events ++ Done tag ∷ []) → (seat : RoundSeat) → seat_at events tag ≡ Some seat → (t : ℕ) → seat_at (events ++ Done tag ∷ []) t ≡ cond (tag == t) (Some (record { dir = seat.dir; in_flight = false })) (seat_at events t)
-seat-finished setup events tag legal seat taken t = seat_ended setup events (Done tag) tag legal refl seat taken t
-
 -- a taken tag is below the depth
 pub seat-below : (setup : Setup) (events : List Happened) → IsLegalTrace setup events → (t : ℕ) (seat : RoundSeat) → seat_at events t ≡ Some seat → suc t ≤ setup.depth
 seat-below setup events legal t seat h =
@@ -242,6 +239,3 @@ seat_unused events t h u =
 -- what ends an Issue ends an open one
 pub ended_open : (setup : Setup) (events : List Happened) (e : Happened) (tag : ℕ) → IsLegalTrace setup (events ++ e ∷ []) → ends e ≡ Some tag → IsOpen events tag
 ended_open setup events e tag legal end = some_of (ends e) (IsOpen events) tag end (obeys setup events _ legal NotIssued)
-
-pub finished-open : (setup : Setup) (events : List Happened) (tag : ℕ) → IsLegalTrace setup (events ++ Done tag ∷ []) → (dir : Dir) × (seat_at events tag ≡ Some (record { dir = dir; in_flight = true }))
-finished-open setup events tag legal = open_seat setup events tag (shorter_legal setup events _ legal) (ended_open setup events (Done tag) tag legal refl)

@@ -142,12 +142,6 @@ open_found setup es tags legal each h tag o =
     let q = is_open es tag p.0 (h tag p.0 p.1) o in
     (q.0, p.1 ∙ ap Some q.1)
 
--- a tag in use
-pub used_unless_free : (es : List Happened) (tag : ℕ) (u : TagUse) → IsTagUse es tag u → (u ≡ Free → ⊥) → IsUsed es tag
-used_unless_free es tag Free h other = absurd (other refl)
-used_unless_free es tag (Open id) h other = h.0
-used_unless_free es tag Ended h other = h.0
-
 pub tags_empty : (n : ℕ) → TagsAre [] (replicate n Free)
 tags_empty n tag u h = subst (IsTagUse [] tag) (replicate_at n Free tag u h) (λ x. absurd (let p = x.issued in cc), λ x. absurd (let p = x.issued in cc))
 

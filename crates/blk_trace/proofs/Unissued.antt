@@ -1,21 +1,20 @@
 -- Which requests may still be joined after one more event: those that wait and were never issued.
-use Rattle.std.proofs.Common.{◌≡◌, ◌+◌, ◌++◌, ◌==◌, ℕ, zero, suc, List, [], ◌∷◌, drop, is_some, inl, inr, refl, sym, ◌∙◌, ap, subst, Some, None, cond, Bool, true, false, eqb-true}
+use Rattle.std.proofs.Common.{◌≡◌, ◌+◌, ◌++◌, ◌==◌, ℕ, List, [], ◌∷◌, refl, sym, ◌∙◌, ap, subst, Some, None, cond, Bool, true, false, eqb-true}
 use Rattle.std.specs.Prelude.{◌||◌, Option}
 use Rattle.std.specs.Option.{option_map_or}
-use Rattle.std.proofs.lemmas.Bool.{cases_Bool}
 use Rattle.blk_bio.specs.Bios.{Bio}
 use Rattle.blk_bio.specs.Requests.{dir_of}
 use Rattle.blk_bio.specs.declared.rule.TraceRule.TheVariants.{ReleasedTwice, AlreadyIssued}
-use Rattle.blk_trace.specs.Happened.{Happened, Tick, Release, Join, Issue, Done, Back}
-use Rattle.blk_trace.specs.Kinds.{releases, joins, issues, requeues, is_done_of}
+use Rattle.blk_trace.specs.Happened.{Happened, Tick, Release, Join, Issue, Done}
+use Rattle.blk_trace.specs.Kinds.{releases, joins, issues, requeues}
 use Rattle.blk_trace.specs.Setups.{Setup, expire_of}
-use Rattle.blk_trace.specs.Events.{At, round_of, goes_back, join_up}
+use Rattle.blk_trace.specs.Events.{round_of, join_up}
 use Rattle.blk_trace.specs.Legal.{IsLegalTrace}
 use Rattle.blk_trace.specs.Waits.{Entered, waits_at, was_issued, unissued_at}
 use Rattle.blk_trace.proofs.More.{was_issued_more}
 use Rattle.blk_trace.proofs.Pushing.{shorter_legal, obeys}
-use Rattle.blk_trace.proofs.Ids.{never_was, back_all, released_first}
-use Rattle.blk_trace.proofs.Waiting.{IsWaiting, waiting_from, waits_kept, waits-released, waits-joined, waits-issued}
+use Rattle.blk_trace.proofs.Ids.{never_was, released_first}
+use Rattle.blk_trace.proofs.Waiting.{waits_kept, waits-released, waits-joined, waits-issued}
 
 pub unissued_is : (setup : Setup) (es : List Happened) (id : ℕ) (b : Bool) (o : Option Entered) → was_issued es id ≡ b → waits_at setup es id ≡ o → unissued_at setup es id ≡ cond b None o
 unfolding unissued_at
@@ -81,33 +80,3 @@ unissued-ticked setup events legal q = unissued_kept setup events Tick refl refl
 
 pub unissued-finished : (setup : Setup) (events : List Happened) (tag : ℕ) → IsLegalTrace setup (events ++ Done tag ∷ []) → (q : ℕ) → unissued_at setup (events ++ Done tag ∷ []) q ≡ unissued_at setup events q
 unissued-finished setup events tag legal q = unissued_kept setup events (Done tag) refl refl refl refl q
-
--- where nothing was handed back, what waits was never issued
-is_back : (x : Happened) (o : Option ℕ) → requeues x ≡ o → is_some o ≡ true → (tag : ℕ) × (x ≡ Back tag)
-is_back x None h s = absurd (cc)
-is_back (Back t) (Some u) h s = (t, refl)
-is_back x (Some u) h s = absurd (cc)
-
-back_found : (t : ℕ) (es : List Happened) → goes_back t es ≡ true → (k : ℕ) × (tag : ℕ) × At es k (Back tag)
-unfolding goes_back
-back_found t [] h = absurd (cc)
-back_found t (x ∷ es) h =
-    elim (cases_Bool (is_done_of t x)) [
-      | inl b ↦ let p = is_back x (requeues x) refl (sym (ap (λ c. cond c (is_some (requeues x)) (goes_back t es)) b) ∙ h) in (0, p.0, ap Some p.1)
-      | inr b ↦ let p = back_found t es (sym (ap (λ c. cond c (is_some (requeues x)) (goes_back t es)) b) ∙ h) in (suc p.0, p.1, p.2)
-    ]
-
-at_dropped : (n : ℕ) (es : List Happened) (k : ℕ) (e : Happened) → At (drop n es) k e → (j : ℕ) × At es j e
-at_dropped zero es k e h = (k, h)
-at_dropped (suc n) [] k e h = absurd (cc)
-at_dropped (suc n) (x ∷ es) k e h = let p = at_dropped n es k e h in (suc p.0, p.1)
-
-pub unissued_waiting : (setup : Setup) (es : List Happened) (id : ℕ) (w : Entered) → ((k tag : ℕ) → At es k (Back tag) → ⊥) → waits_at setup es id ≡ Some w → unissued_at setup es id ≡ Some w
-unissued_waiting setup es id w none h =
-    let was : IsWaiting setup es id w = waiting_from setup es id w h in
-    let never : was_issued es id ≡ false = never_was es id (λ p.
-    let back = back_all es id was.unissued p.0 p.1.0 p.1.1 in
-    let q = back_found p.1.0 (drop (suc p.0) es) back in
-    let r = at_dropped (suc p.0) es q.0 (Back q.1) q.2 in
-    none r.0 q.1 r.1) in
-    unissued_is setup es id false (Some w) never h

@@ -7,7 +7,7 @@ use Rattle.std.proofs.lemmas.Option.{cond_some}
 use Rattle.blk_bio.specs.Bios.{Bio}
 use Rattle.blk_bio.specs.Requests.{dir_of}
 use Rattle.blk_bio.specs.declared.rule.TraceRule.TheVariants.{ReleasedTwice, Fit}
-use Rattle.blk_trace.specs.Happened.{Happened, Tick, Release, Join, Issue, Done}
+use Rattle.blk_trace.specs.Happened.{Happened, Release, Join, Issue}
 use Rattle.blk_trace.specs.Kinds.{releases, joins, issues, requeues}
 use Rattle.blk_trace.specs.Setups.{Setup, expire_of}
 use Rattle.blk_trace.specs.Events.{round_of, join_up, request_of, IsReleased}
@@ -66,12 +66,6 @@ waits_kept setup events e r j i n q =
     (has_released_same events e q (ap (λ o. has_id (cons_option (option_map (λ p. p.0) o) []) q) r))
     (has_issued_same events e q n (ap (λ o. has_id (cons_option (option_map (λ p. p.0) o) []) q) i))
     (same_entered setup events e q (rw (r, j) refl))
-
-pub waits-ticked : (setup : Setup) (events : List Happened) → IsLegalTrace setup (events ++ Tick ∷ []) → (q : ℕ) → waits_at setup (events ++ Tick ∷ []) q ≡ waits_at setup events q
-waits-ticked setup events legal q = waits_kept setup events Tick refl refl refl refl q
-
-pub waits-finished : (setup : Setup) (events : List Happened) (tag : ℕ) → IsLegalTrace setup (events ++ Done tag ∷ []) → (q : ℕ) → waits_at setup (events ++ Done tag ∷ []) q ≡ waits_at setup events q
-waits-finished setup events tag legal q = waits_kept setup events (Done tag) refl refl refl refl q
 
 released_now : (setup : Setup) (events : List Happened) (id : ℕ) (bios : List Bio) → IsLegalTrace setup events → IsUnbroken setup events (Release id bios) → (q : ℕ) → (id == q) ≡ true → waits_at setup (events ++ Release id bios ∷ []) q ≡ Some (record { release = round_of events; due = round_of events + expire_of setup (dir_of bios); bios = bios })
 unfolding released_ids issued_ids

@@ -4,7 +4,7 @@ use Rattle.std.specs.Prelude.{◌⊎◌, IfSome}
 use Rattle.std.specs.Option.{option_map_or, option_and_then}
 use Rattle.blk_bio.specs.Bios.{Bio}
 use Rattle.blk_trace.specs.Happened.{Happened, Tick, Release, Issue, Done, Back, Depth}
-use Rattle.blk_trace.specs.Kinds.{releases, joins, issues, ends, requeues, sets_depth, is_tick}
+use Rattle.blk_trace.specs.Kinds.{releases, joins, issues, ends, sets_depth, is_tick}
 use Rattle.blk_trace.specs.Events.{EndsAt}
 use Rattle.blk_trace.specs.Kinds.{is_done_of}
 use Rattle.blk_trace.specs.Inside.Seats.{issued_by, issue_tag}
@@ -22,18 +22,9 @@ only_ends (Done t) tag h = record { no_tick = refl; no_release = refl; no_join =
 only_ends (Back t) tag h = record { no_tick = refl; no_release = refl; no_join = refl; no_issue = refl }
 only_ends e tag h = absurd (cc)
 
--- only a Release releases, and only an Issue issues
-pub release_is : (e : Happened) (p : ℕ × List Bio) → releases e ≡ Some p → e ≡ Release p.0 p.1
-release_is (Release i bios) p h = let same : ◌≡◌ {A = ℕ × List Bio} (i, bios) p = cc in ap (λ (x : ℕ × List Bio). Release x.0 x.1) same
-release_is e p h = absurd (cc)
-
 pub release_of_id : (e : Happened) (id : ℕ) → option_map (λ p. p.0) (releases e) ≡ Some id → (bios : List Bio) × (e ≡ Release id bios)
 release_of_id (Release i bios) id h = (bios, let same : i ≡ id = cc in ap (λ n. Release n bios) same)
 release_of_id e id h = absurd (cc)
-
-pub issue_of_id : (e : Happened) (id : ℕ) → option_map (λ p. p.0) (issues e) ≡ Some id → (tag : ℕ) × (e ≡ Issue id tag)
-issue_of_id (Issue i tag) id h = (tag, let same : i ≡ id = cc in ap (λ n. Issue n tag) same)
-issue_of_id e id h = absurd (cc)
 
 pub issue_is : (e : Happened) (p : ℕ × ℕ) → issues e ≡ Some p → e ≡ Issue p.0 p.1
 issue_is (Issue i tag) p h = let same : ◌≡◌ {A = ℕ × ℕ} (i, tag) p = cc in ap (λ (x : ℕ × ℕ). Issue x.0 x.1) same
@@ -47,15 +38,6 @@ tick_is e h = absurd (cc)
 pub depth_is : (e : Happened) (depth : ℕ) → sets_depth e ≡ Some depth → e ≡ Depth depth
 depth_is (Depth d) depth h = let same : d ≡ depth = cc in ap (λ n. Depth n) same
 depth_is e depth h = absurd (cc)
-
--- what ends no Issue hands nothing back
-pub no_back : (e : Happened) → ends e ≡ None → requeues e ≡ None
-no_back (Back t) h = absurd (cc)
-no_back e h = refl
-
-pub back_ends : (e : Happened) (tag : ℕ) → requeues e ≡ Some tag → ends e ≡ Some tag
-back_ends (Back t) tag h = h
-back_ends e tag h = absurd (cc)
 
 -- what an event that issues or ends nothing does to a tag
 pub issued_by_none : (t : ℕ) (e : Happened) → issues e ≡ None → issued_by t e ≡ None

@@ -55,11 +55,11 @@ unfoldable pub goes_back : ℕ → List Happened → Bool
 goes_back tag [] = false
 goes_back tag (e ∷ es) = cond (is_done_of tag e) (is_some (requeues e)) (goes_back tag es)
 
--- the request of the tag's Issue at the place was handed back
+-- the request of the tag's Issue at the place was requeued
 abbrev pub IsRequeued : List Happened → ℕ → ℕ → Type 0
 IsRequeued events k tag = IsTrue (goes_back tag (drop (suc k) events))
 
--- whenever the id was issued, it was handed back
+-- whenever the id was issued, it was requeued
 abbrev pub AreRequeued : List Happened → ℕ → Type 0
 AreRequeued events id = (k tag : ℕ) → At events k (Issue id tag) → IsRequeued events k tag
 

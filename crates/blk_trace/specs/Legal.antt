@@ -16,7 +16,7 @@ pub record IsLegalTrace (setup : Setup) (events : List Happened) : Type 0 where
   -- each Join stands after its id's Release and before its Issues
   pub join_released : (k id : ℕ) (n : List Bio) → At events k (Join id n) → IsReleased (take k events) id
   pub join_unissued : (j k id tag : ℕ) (n : List Bio) → At events j (Join id n) → At events k (Issue id tag) → j < k
-  -- each Issue names an id that was released, and that was handed back where it was issued before, and a tag below the depth
+  -- each Issue names an id that was released, and that was requeued where it was issued before, and a tag below the depth
   -- of its round
   pub issue_released : (k id tag : ℕ) → At events k (Issue id tag) → IsReleased (take k events) id
   pub reissued : (j k id t u : ℕ) → At events j (Issue id t) → At events k (Issue id u) → j < k → IsRequeued (take k events) j t

@@ -48,7 +48,7 @@ command_of setup events id = record { id = id; release = release_of events id; d
 abbrev pub service : ℕ → Happened → List Happened → Option (ℕ × ℕ)
 service round e later = option_and_then (λ p. cond (goes_back p.1 later) None (Some (round, p.0))) (issues e)
 
--- the rounds and ids of the Issues that were not handed back, in their order, where the first event's round is given
+-- the rounds and ids of the Issues that were not requeued, in their order, where the first event's round is given
 unfoldable pub served : ℕ → List Happened → List (ℕ × ℕ)
 served round [] = []
 served round (e ∷ es) = cons_option (service round e es) (served (cond (is_tick e) (round + 1) round) es)
@@ -79,10 +79,10 @@ unfoldable pub rising : List ℕ → List ℕ
 rising [] = []
 rising (x ∷ xs) = put_rising x (rising xs)
 
--- the released ids that were not issued, or were handed back, rising
+-- the released ids that were not issued, or were requeued, rising
 unfoldable pub waiting_ids : List Happened → List ℕ
 waiting_ids events = rising (filter (λ id. not (list_any (λ i. i == id) (issued_ids events))) (released_ids events))
 
--- the bios of the released requests that were not issued, or were handed back, by rising id and in tile order
+-- the bios of the released requests that were not issued, or were requeued, by rising id and in tile order
 unfoldable pub waiting_of : List Happened → List Bio
 waiting_of events = flat_map (request_of events) (waiting_ids events)

@@ -1,5 +1,5 @@
 -- What contracts see of a trace, and what its calls answer.
-use Rattle.std.specs.Prelude.{◌≡◌, ◌++◌, List, [], ◌∷◌, Option, Some, None, length, take, slice_get, Result, Ok, Err, ⊤}
+use Rattle.std.specs.Prelude.{◌≡◌, ◌++◌, List, [], ◌∷◌, Option, Some, None, length, take, slice_get, Result, Ok, Err, IfErr, ⊤}
 use Rattle.std.specs.Option.{option_map_or}
 use Rattle.blk_bio.specs.Bios.{Bio}
 use Rattle.blk_bio.specs.declared.bio.BioId.{BioId}
@@ -26,6 +26,10 @@ pub record Traced : Type 0 where
 abbrev pub extended : Traced → Happened → Traced
 extended t e = record { setup = t.setup; events = t.events ++ e ∷ []; prepared = Nothing }
 
+-- the trace with one event more, which is legal
+abbrev pub IsLegallyExtended : Traced → Happened → Traced → Type 0
+IsLegallyExtended old e new = (new ≡ extended old e) × IsLegalTrace old.setup (old.events ++ e ∷ [])
+
 -- the same trace, prepared for this
 abbrev pub prepared_for : Traced → Prepared → Traced
 prepared_for t p = record { setup = t.setup; events = t.events; prepared = p }
@@ -49,6 +53,10 @@ IsPreparedFor p e = Serves p (needs e)
 abbrev pub wanted : Option (List Bio) → Prepared
 wanted None = AnIssue
 wanted (Some bios) = Bios (length bios)
+
+-- what is refused breaks no rule: it is refused only when out of memory
+abbrev pub LacksOnlyMemory : {X : Type 0} → Result (Unit {0}) (X × PushFault) → Type 0
+LacksOnlyMemory result = IfErr result (λ e. e.1 ≡ push_fault.Memory)
 
 -- what each answer of `push` says of the trace before and after it, whatever comes back with a fault
 abbrev pub IsPushAnswer : {X : Type 0} → Traced → Happened → Traced → Result (Unit {0}) (X × PushFault) → Type 0

@@ -19,14 +19,14 @@ pub record Entered : Type 0 where
 abbrev pub has_id : List ℕ → ℕ → Bool
 has_id ids id = list_any (λ i. i == id) ids
 
--- the request that waits under the id: it was released, and was not issued or was handed back
+-- the request that waits under the id: it was released, and was not issued or was requeued
 unfoldable pub waits_at : Setup → List Happened → ℕ → Option Entered
 waits_at setup events id =
     cond (has_id (released_ids events) id && not (has_id (issued_ids events) id))
     (Some (record { release = release_of events id; due = due_of setup events id; bios = request_of events id }))
     None
 
--- whether the id has an Issue, handed back or not
+-- whether the id has an Issue, requeued or not
 unfoldable pub was_issued : List Happened → ℕ → Bool
 was_issued events id = list_any (λ e. option_map_or (λ p. p.0 == id) (issues e) false) events
 

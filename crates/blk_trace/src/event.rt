@@ -24,7 +24,7 @@ pub enum Event<R> {
     },
     /// The request of the id goes to the device under the tag (an issue, named by blk-mq's tag).
     Issue {
-        /// The id of the request, which waits: it was not issued, or was handed back.
+        /// The id of the request, which waits: it was not issued, or was requeued.
         id: u64,
         /// The tag, below the depth of the round, that no request was issued under in this round.
         tag: u16,

@@ -24,10 +24,10 @@ pub struct Unissued {
 pub enum Known {
     /// The request was released and never issued.
     Waits(Unissued),
-    /// The request was issued, and was not handed back since.
+    /// The request was issued, and was not requeued since.
     Gone,
-    /// The request was issued and handed back, so it waits and nothing joins it.
-    Handed {
+    /// The request was issued and requeued, so it waits and nothing joins it.
+    Requeued {
         /// The round of its command's release.
         release: u64,
         /// The round in which its command is due.

@@ -6,7 +6,7 @@ ghost use Rattle.blk_trace.specs.Legal.{IsLegalTrace};
 ghost use Rattle.blk_trace.specs.Rules.{IsUnbroken};
 ghost use Rattle.blk_trace.specs.Events.{round_of, open_count};
 ghost use Rattle.blk_trace.specs.Depths.{depth_now};
-ghost use Rattle.blk_trace.specs.Traces.{wanted, IsPreparedFor, IsPushAnswer, HasBio, extended, prepared_for};
+ghost use Rattle.blk_trace.specs.Traces.{wanted, IsPreparedFor, IsPushAnswer, IsLegallyExtended, LacksOnlyMemory, HasBio, prepared_for};
 ghost use Rattle.blk_trace.specs.Inside.Kept.{IsReadyFor};
 
 use crate::event::Event;
@@ -47,7 +47,7 @@ pub struct Trace<A: Allocator = Global> {
     setup: Setup,
     /// The events, with places for the ends of the open Issues.
     events: Vec<Event<Request<A>>, A>,
-    /// The command of each Issue that was not handed back.
+    /// The command of each Issue that was not requeued.
     commands: Vec<Command, A>,
     /// The round of each of these Issues.
     rounds: Vec<u64, A>,
@@ -70,23 +70,15 @@ pub struct Trace<A: Allocator = Global> {
 }
 
 impl<A: Allocator> Model for Trace<A> {
-    ghost use Rattle.std.specs.Prelude.{length, vec_capacity};
-    ghost use Rattle.blk_ids.specs.ById as by_id;
-    ghost use Rattle.blk_ids.specs.IdSet as id_set;
     ghost use Rattle.blk_trace.specs.Traces.{Traced};
-    ghost use Rattle.blk_trace.specs.Inside.Kept.{IsKeptTrace, HasRoom, HasDepths, has_named};
 
     ghost Value = { Traced };
 
+    ghost use Rattle.blk_trace.specs.Inside.Fields.{AreKeptFields};
+
     ghost view = { λ t. record { setup = t.setup; events = t.events.items; prepared = t.prepared } };
 
-    ghost invariant = { λ t.
-        IsKeptTrace t.setup t.events.items t.commands.items t.rounds.items t.round t.«open»
-        (by_id.kept_at t.known) (has_named (id_set.has_id t.ids)) t.tags.items
-        × HasRoom t.prepared (length t.events.items) t.«open» (length t.commands.items) (length t.rounds.items)
-        (vec_capacity t.events) (vec_capacity t.commands) (vec_capacity t.rounds)
-        (by_id.spare t.known) (id_set.spare t.ids)
-        × HasDepths t.setup t.events.items t.depth t.next_depth };
+    ghost invariant = { λ t. AreKeptFields t };
 }
 
 impl<A: Allocator + Clone> Trace<A> {
@@ -125,10 +117,10 @@ impl<A: Allocator + Clone> Trace<A> {
     #[inline(always)]
     pub fn push(&mut self, event: Event<Request<A>>) -> Result<(), (Event<Request<A>>, PushFault)>
         ensures answer { IsPushAnswer self.old event self.new result }
-        ensures ok { OnOk result ((self.new ≡ extended self.old event) × IsLegalTrace self.old.setup (self.old.events ++ event ∷ [])) }
+        ensures ok { OnOk result (IsLegallyExtended self.old event self.new) }
         ensures err { IfErr result (λ e. (e.0 ≡ event) × (self.new ≡ self.old)) }
-        ensures accepts { IsUnbroken self.old.setup self.old.events event → IfErr result (λ e. e.1 ≡ PushFault.Memory) }
-        ensures accepts_legal { IsLegalTrace self.old.setup (self.old.events ++ event ∷ []) → IfErr result (λ e. e.1 ≡ PushFault.Memory) }
+        ensures accepts { IsUnbroken self.old.setup self.old.events event → LacksOnlyMemory result }
+        ensures accepts_legal { IsLegalTrace self.old.setup (self.old.events ++ event ∷ []) → LacksOnlyMemory result }
         ensures prepared { IfErr result (λ e. e.1 ≡ PushFault.Memory → IsPreparedFor self.old.prepared event → ⊥) }
     {
         if let Some(rule) = self.first_broken(&event) {

@@ -6,12 +6,12 @@ use blk_trace::{Setup, Trace, TraceFault, TraceRule};
 use refusing::Refusing;
 use std::process::Abort;
 
-/// One hardware queue and so many tags; what enters is due at once.
+/// One hardware queue and this number of tags; what enters is due at once.
 fn of_depth(rt: &impl Abort, depth: u64) -> Setup {
     Setup::new(depth, 1, 0, 0, limits(rt, 256, 128)).expect(rt, "a setup")
 }
 
-/// A trace in which so many reads that don't touch wait, under the ids from 0 on.
+/// A trace in which this number of reads wait, under the ids from 0 on, none next to another.
 fn of_reads<'a>(rt: &impl Abort, heap: Heap<'a>, depth: u64, reads: u8) -> Trace<Heap<'a>> {
     let mut trace = empty(rt, heap, of_depth(rt, depth));
     for read in 0..reads {

@@ -14,7 +14,7 @@ pub type Heap<'a> = &'a Refusing<Global>;
 pub enum Step {
     /// A round ends.
     Tick,
-    /// A read of a first sector and so many sectors enters under an id.
+    /// A read of this first sector and length enters under an id.
     Read(u64, u64, u64),
     /// Such a write does.
     Write(u64, u64, u64),
@@ -26,7 +26,7 @@ pub enum Step {
     Issue(u64, u16),
     /// The command under a tag is done.
     Done(u16),
-    /// The request under a tag is handed back.
+    /// The request under a tag is requeued.
     Back(u16),
     /// A depth is set for the rounds after.
     Depth(u64),
@@ -41,7 +41,7 @@ pub fn bio(dir: Dir, first: u64, sectors: u64) -> Option<Bio> {
     Bio::new(id, dir, first, sectors).ok()
 }
 
-/// Requests of up to so many sectors and bios.
+/// Requests of at most these numbers of sectors and bios.
 pub fn limits(rt: &impl Abort, max_sectors: u64, max_segments: u64) -> Limits {
     Limits::new(max_sectors, max_segments).expect(rt, "limits")
 }

@@ -16,7 +16,7 @@ pub enum Look {
     Stands(u64, u64, u64),
     /// So many bios wait.
     Waiting(usize),
-    /// At the place among them is one of a direction, a first sector and so many sectors.
+    /// At the place among them is one of this direction, first sector and length.
     Waits(usize, Dir, u64, u64),
     /// So many commands went out.
     Commands(usize),
@@ -26,7 +26,7 @@ pub enum Look {
     DepthNow(u64),
     /// Whether no depth was set.
     Fixed(bool),
-    /// The round carries so many commands.
+    /// The round carries this number of commands.
     Carries(u64, u64),
     /// Whether a bio of this serial number stands in the trace.
     HasBio(u64, bool),

@@ -59,7 +59,7 @@ fn each_rule_refuses(rt: HostRuntime) {
     assert_eq!(rt; first_other(&heap, &mut trace, &done), None);
 }
 
-/// A request that is handed back waits, nothing joins it, and it goes out again under another tag.
+/// A request that is requeued waits, nothing joins it, and it goes out again under another tag.
 #[test]
 fn handed_back_and_issued_again(rt: HostRuntime) {
     let heap = Refusing::new(rt.alloc());
@@ -91,7 +91,7 @@ fn handed_back_and_issued_again(rt: HostRuntime) {
     assert_eq!(rt; first_other(&heap, &mut trace, &looks), None);
 }
 
-/// The command of a request that is handed back has the round of its last Issue.
+/// The command of a request that is requeued has the round of its last Issue.
 #[test]
 fn handed_back_in_a_round_before(rt: HostRuntime) {
     let heap = Refusing::new(rt.alloc());

@@ -4,16 +4,16 @@ use std::alloc::Global;
 use std::io::Write;
 use std::time::{Clock, Instant};
 
-/// Whoever is told how far a trial has come.
+/// Something that follows how far a trial has come.
 pub trait Progress {
-    /// So many of all runs are done.
+    /// How many of all runs are done.
     fn done(&mut self, runs: usize, all: usize);
 
-    /// None comes after those, be it that all are done or that the trial was refused.
+    /// No call of `done` comes after this one: all runs are done, or the trial was refused.
     fn over(&mut self);
 }
 
-/// Nobody.
+/// Shows nothing.
 #[derive(Clone, Copy, Debug, PartialEq, Eq)]
 pub struct Quiet;
 

@@ -56,7 +56,7 @@ fn script(rt: &impl Abort, alloc: Global, text: &str) -> Script
 
 ghost use Rattle.blk_text.specs.Script.{IsScript, scripted};
 
-/// What is asked: `none` alone, or with `earliest` and `deadline` beside it, with batches of so many requests.
+/// What is asked: `none` alone, or with `earliest` and `deadline` beside it, with batches of this number of requests.
 fn asked(
     rt: &impl Abort,
     alloc: Global,

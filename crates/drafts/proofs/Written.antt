@@ -4,15 +4,8 @@ use Rattle.std.proofs.Math.Seq.{take-append_seam}
 use Rattle.std.proofs.lemmas.List.{length-append, length-drop, drop_more}
 use Rattle.std.proofs.lemmas.List.Concat.{flat_map-append}
 use Rattle.std.proofs.KnownBytes.{Appends-trans}
-use Rattle.std.specs.Io.KnownBytes.{Appends, Keeps}
+use Rattle.std.specs.Io.KnownBytes.{Appends}
 use Rattle.drafts.specs.Parts.{AppendsLess, AppendsPart}
-
--- nothing more was taken
-pub appends_still : (a b c : Option (List ℕ)) (bs : List ℕ) → Appends a b bs → Keeps b c → Appends a c bs
-appends_still None b c bs p q = tt
-appends_still (Some x) None c bs p q = absurd p
-appends_still (Some x) (Some y) None bs p q = absurd q
-appends_still (Some x) (Some y) (Some z) bs p q = q ∙ p
 
 -- what was taken is a first part
 pub part_taken : (a b : Option (List ℕ)) (all done rest : List ℕ) → all ≡ done ++ rest → Appends a b done → AppendsPart a b all
@@ -29,10 +22,6 @@ nothing_taken a b all e = (0, subst (λ z. Appends a z []) (sym e) (none_taken a
 -- the rest is what comes first of it and what is left then
 pub split_at : (all done rest : List ℕ) (n : ℕ) → all ≡ done ++ rest → all ≡ (done ++ take n rest) ++ drop n rest
 split_at all done rest n e = e ∙ ap (λ l. done ++ l) (sym (take-append-drop n rest)) ∙ sym (append_assoc done (take n rest) (drop n rest))
-
--- a first part of what was left was taken
-pub more_taken : (a b c : Option (List ℕ)) (all done rest : List ℕ) (n : ℕ) → all ≡ done ++ rest → Appends a b done → Appends b c (take n rest) → AppendsPart a c all
-more_taken a b c all done rest n e p q = part_taken a c all (done ++ take n rest) (drop n rest) (split_at all done rest n e) (Appends-trans a b c done (take n rest) p q)
 
 -- a list that is not empty has something
 pub some_left : (rest : List ℕ) → (length rest == 0) ≡ false → 0 < length rest

@@ -186,10 +186,6 @@ outside_last c cover place d is at can some =
           (list_any_at (λ w. lies_in c w) cover (place - 1) d in_list (lies_here c (get_or cover (place - 1) d) can (at.begun (place - 1) d (omega arith)) long))))
     ]
 
-pub outside_not : (c : Command) (cover : List Window) → c.due < c.release → false ≡ (can_be_on_time c && not (list_any (λ w. lies_in c w) cover))
-outside_not c cover late =
-    sym (and_left (nat_le c.release c.due) (not (list_any (λ w. lies_in c w) cover)) (lt-leb c.release c.due late))
-
 -- where windows begin by rising rounds, those that begin by a round come first
 pub begins_parted : (cover : List Window) (x : ℕ) → IsCover cover → IsPartitionedBy (λ w. nat_le w.from x) cover
 begins_parted cover x is i j d le h begins =

@@ -19,13 +19,13 @@ on_time_rules commands steps rounds met cover =
     ∷ (bound_of commands steps cover ≡ met) ∷ []
 
 -- the two parts of the cover's bound
-abbrev pub IsBound : List Command → List Step → List Window → Bound → Type 0
-IsBound commands steps cover b = (b.carries ≡ carried_by steps cover) × (b.outside ≡ outside_of commands cover)
+abbrev pub IsCoverBound : List Command → List Step → List Window → Bound → Type 0
+IsCoverBound commands steps cover b = (b.carries ≡ carried_by steps cover) × (b.outside ≡ outside_of commands cover)
 
 -- what each answer of the check of a greatest number says of the claim; all faults but Memory exclude one another
 abbrev pub IsOnTimeAnswer : List Command → List Step → List ℕ → ℕ → List Window → Result Bound OnTimeFault → Type 0
 IsOnTimeAnswer commands steps rounds met cover (Ok b) =
-    IsLegal commands rounds steps × (number_on_time commands rounds ≡ met) × IsCover cover × (bound_of commands steps cover ≡ met) × IsBound commands steps cover b
+    IsLegal commands rounds steps × (number_on_time commands rounds ≡ met) × IsCover cover × (bound_of commands steps cover ≡ met) × IsCoverBound commands steps cover b
 IsOnTimeAnswer commands steps rounds met cover (Err Length) = BreaksFirst (round_rules commands steps rounds) 0 (length rounds ≢ length commands)
 IsOnTimeAnswer commands steps rounds met cover (Err (BeforeRelease id)) = BreaksFirst (round_rules commands steps rounds) 1 (IsFirstEarly commands rounds id)
 IsOnTimeAnswer commands steps rounds met cover (Err Memory) = AreKept (take 2 (round_rules commands steps rounds))
@@ -36,6 +36,12 @@ IsOnTimeAnswer commands steps rounds met cover (Err (Windows p)) =
     BreaksFirst (on_time_rules commands steps rounds met cover) 2 (IsFirstAstray cover p)
 IsOnTimeAnswer commands steps rounds met cover (Err (Loose bound)) =
     BreaksFirst (on_time_rules commands steps rounds met cover) 3 ((bound_of commands steps cover ≡ bound) × (met < bound))
+
+-- a claim that is good is accepted, unless memory ran out
+abbrev pub AcceptsOnTimeClaim : List Command → List Step → List ℕ → ℕ → List Window → Result Bound OnTimeFault → Type 0
+AcceptsOnTimeClaim commands steps rounds met cover told =
+    IsLegal commands rounds steps → number_on_time commands rounds ≡ met → IsCover cover → bound_of commands steps cover ≡ met
+    → IsOkUnless told Memory
 
 -- the claim passes the check: whatever it answers is Ok, unless memory ran out
 abbrev pub PassesOnTimeCheck : List Command → List Step → List ℕ → ℕ → List Window → Type 0

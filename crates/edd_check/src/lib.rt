@@ -4,14 +4,14 @@
 //! calls go by place in the lists, and don't look at whether ids repeat.
 #![tactic(auto)]
 
-ghost use Rattle.std.specs.Prelude.{◌+◌, ◌*◌, ℕ, ℤ, pos, negsuc, ◌+ℤ◌, ◌≤ℤ◌, ◌<ℤ◌, ◌-◌, IfNone, IfOk, OnOk, IsOkUnless, ◌≡◌, ◌<◌, ◌↔◌, [], length, IsTrue, IsNone, IfSome, ◌≤◌, All};
+ghost use Rattle.std.specs.Prelude.{◌+◌, ◌*◌, ℕ, ℤ, pos, negsuc, ◌+ℤ◌, ◌≤ℤ◌, ◌<ℤ◌, ◌-◌, IfNone, IfOk, OnOk, ◌≡◌, ◌<◌, ◌↔◌, [], length, IsTrue, IsNone, IfSome, ◌≤◌, All};
 ghost use Rattle.edd_check.specs.Names.{check_fault_name};
 ghost use Rattle.edd_commands.specs.Capacity.{depth_at};
 ghost use Rattle.edd_commands.specs.Schedule.{IsLegal, IsGreatestLateness, StartsReleased, IsLeastLateness, IsLowerBound, places_at, CommandsInRange, RoundsInRange};
 ghost use Rattle.edd_check.specs.Rules.{IsFirstEarly, IsLeastOverDeep};
-ghost use Rattle.edd_check.specs.Inside.Blocks.{IsLeastFrom};
+ghost use Rattle.edd_check.specs.Inside.Blocks.{IsLeastFrom, IsWithinDepth};
 ghost use Rattle.edd_check.specs.Window.{load_of, rounds_between, IsCrowded, WindowInRange};
-ghost use Rattle.edd_check.specs.Check.{IsAnswer};
+ghost use Rattle.edd_check.specs.Check.{IsAnswer, AcceptsClaim};
 
 mod on_time;
 
@@ -129,7 +129,7 @@ fn least_from(rounds: &[u64], from: u64) -> Option<u64>
 
 /// Whether each of the [`BLOCK`] rounds from `from` on stands in at most as many places as it carries.
 fn block_stays_within<A: Allocator>(rounds: &[u64], capacity: &Capacity<A>, from: u64) -> bool
-    ensures { IsTrue result ↔ ((k : ℕ) → k < BLOCK → places_at rounds.now (from + k) ≤ depth_at capacity.now (from + k)) }
+    ensures { IsTrue result ↔ ((k : ℕ) → k < BLOCK → IsWithinDepth rounds.now capacity.now (from + k)) }
 {
     let mut counts = [0u64; BLOCK as usize];
     for x in rounds {
@@ -146,7 +146,7 @@ fn block_stays_within<A: Allocator>(rounds: &[u64], capacity: &Capacity<A>, from
 
 /// Whether each round stands in at most as many places as it carries.
 fn stays_within<A: Allocator>(rounds: &[u64], capacity: &Capacity<A>) -> bool
-    ensures { IsTrue result ↔ ((x : ℕ) → places_at rounds.now x ≤ depth_at capacity.now x) }
+    ensures { IsTrue result ↔ ((x : ℕ) → IsWithinDepth rounds.now capacity.now x) }
 {
     let mut from = 0;
     while let Some(least) = least_from(rounds, from) {
@@ -272,10 +272,7 @@ pub fn check<A: Allocator, B: Allocator>(
     requires rounds_in { RoundsInRange rounds.now }
     requires window_in { WindowInRange window }
     ensures answer { IsAnswer commands.now capacity.now lateness rounds.now window result }
-    ensures accepts { IsLegal commands.now rounds.now capacity.now
-        → IsGreatestLateness commands.now rounds.now lateness
-        → IsCrowded commands.now capacity.now lateness window
-        → IsOkUnless result CheckFault.Memory }
+    ensures accepts { AcceptsClaim commands.now capacity.now lateness rounds.now window result }
     // the accepted lateness is least
     ensures least { OnOk result (IsLeastLateness commands.now capacity.now lateness) }
 {

@@ -5,13 +5,12 @@
 //! command that lies in a window runs in it, and so these are at most what its rounds carry (König's cover of a convex
 //! bipartite graph of commands and rounds).
 
-ghost use Rattle.std.specs.Prelude.{◌≡◌, ◌≤◌, ◌<◌, ◌+◌, ◌-◌, ◌*◌, ◌&&◌, ◌↔◌, not, length, IsTrue, IfNone, IfSome, OnOk, IsOkUnless};
+ghost use Rattle.std.specs.Prelude.{◌≡◌, ◌≤◌, ◌<◌, ◌+◌, ◌-◌, ◌*◌, ◌&&◌, ◌↔◌, not, length, IsTrue, IfNone, IfSome, OnOk};
 ghost use Rattle.edd_check.specs.Names.{on_time_fault_name};
 ghost use Rattle.std.specs.List.{list_any};
 ghost use Rattle.edd_commands.specs.Limits.{round_limit};
-ghost use Rattle.edd_commands.specs.Schedule.{IsLegal};
 ghost use Rattle.edd_check.specs.OnTime.{number_on_time, IsOnTimeBound, IsMostOnTime, holds, lies_in, can_be_on_time, inside_of, outside_of, carried_in, carried_by, bound_of, IsCover, IsFirstAstray, CoverInRange};
-ghost use Rattle.edd_check.specs.CheckOnTime.{IsOnTimeAnswer};
+ghost use Rattle.edd_check.specs.CheckOnTime.{IsOnTimeAnswer, AcceptsOnTimeClaim};
 
 use crate::{Window, first_early, least_over_deep};
 use edd_commands::{Capacity, Command, MAX_DEPTH, MAX_ROUNDS};
@@ -181,11 +180,7 @@ pub fn check_on_time<A: Allocator, B: Allocator>(
 ) -> Result<Bound, OnTimeFault>
     requires { CoverInRange cover.now }
     ensures answer { IsOnTimeAnswer commands.now capacity.now rounds.now met cover.now result }
-    ensures accepts { IsLegal commands.now rounds.now capacity.now
-        → number_on_time commands.now rounds.now ≡ met
-        → IsCover cover.now
-        → bound_of commands.now capacity.now cover.now ≡ met
-        → IsOkUnless result OnTimeFault.Memory }
+    ensures accepts { AcceptsOnTimeClaim commands.now capacity.now rounds.now met cover.now result }
     // no legal schedule meets more
     ensures most { OnOk result (IsMostOnTime commands.now capacity.now met) }
 {

@@ -1,12 +1,11 @@
 //! How many commands of a schedule are late, and how many of them had to be.
 
-ghost use Rattle.std.specs.Prelude.{ℕ, ◌≡◌, ◌≤◌, ◌<◌, ◌&&◌, ◌↔◌, IfOk, IfSome, length, map, slice_index_or};
-ghost use Rattle.edd_check.specs.declared.Window.{Window as Span};
+ghost use Rattle.std.specs.Prelude.{◌≡◌, ◌≤◌, ◌<◌, ◌↔◌, IfOk, IfSome, length, map};
 ghost use Rattle.edd_commands.specs.Limits.{most_commands};
 ghost use Rattle.edd_commands.specs.Schedule.{IsLegal};
-ghost use Rattle.edd_check.specs.OnTime.{can_be_on_time, lies_in, inside_of, IsCover, IsMostOnTime, CoverInRange};
+ghost use Rattle.edd_check.specs.OnTime.{inside_of, IsCover, IsMostOnTime, CoverInRange};
 ghost use Rattle.edd_oracle.specs.Input.{IsTaken};
-ghost use Rattle.edd_oracle.specs.OnTime.{IsMostAnswer, IsOnTimeFirst, IsPassedCover};
+ghost use Rattle.edd_oracle.specs.OnTime.{IsOnTimeFirst, IsMostOf, HasPassedCover};
 ghost use Rattle.edd_verdict.specs.Verdicts.{is_spare, spares_in};
 ghost use Rattle.edd_figures.specs.Misses.{crowd_of, number_late, HasMisses, HasSpares};
 ghost use Rattle.edd_figures.specs.Inside.Placed.{IsPlaceOf};
@@ -173,9 +172,9 @@ fn counted<A: Allocator + Clone, B: Allocator, C: Allocator>(
 ) -> Result<Misses<A>, AllocError>
     requires legal { IsLegal commands.now rounds.now capacity.now }
     requires few { length commands.now ≤ most_commands }
-    requires most { IsMostAnswer commands.now capacity.now answer.now.rounds.items answer.now.met answer.now.cover.items }
+    requires most { IsMostOf commands.now capacity.now answer.now }
     requires first { IsOnTimeFirst commands.now answer.now.rounds.items capacity.now }
-    requires passed { IsPassedCover commands.now answer.now.rounds.items capacity.now answer.now.cover.items }
+    requires passed { HasPassedCover commands.now capacity.now answer.now }
     ensures misses { IfOk result (λ m. HasMisses commands.now rounds.now capacity.now m.counts m.windows.items) }
     ensures kept { IfOk result (λ m. m.counts.spare ≡ spare) }
 {

@@ -142,8 +142,3 @@ served_ends served steps due start left depth rising few back some deep is_depth
                 ]
           ]);
     }
-
--- down to round 0
-pub served_to_zero : (served : List Served) (steps : List Step) (due start left : ℕ) → IsServedBack served steps due start left → start ≡ 0 → IsServedStart served steps due start
-served_to_zero served steps due start left back none =
-    record { before = back.before; full = back.full; first = inl none }

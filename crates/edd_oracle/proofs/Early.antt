@@ -74,16 +74,6 @@ pub record IsEarly (commands : List Command) (rounds : List ℕ) (steps : List S
   pub most : (y : ℕ) → due_at commands rounds y due ≤ depth_at steps y
   pub some : (y : ℕ) → 0 < depth_at steps y
 
-pub back_at_x : (commands : List Command) (rounds : List ℕ) (steps : List Step) (x due : ℕ) (early : List ℕ) → IsEarly commands rounds steps x due early → IsBack commands rounds steps x due early x (length early)
-back_at_x commands rounds steps x due early all =
-    record {
-      before = omega arith;
-      within = omega arith;
-      full = λ y low high. absurd (omega arith);
-      lower = all.below;
-      upper = λ k low high. absurd (omega arith);
-    }
-
 -- a full round
 pub back_more : (commands : List Command) (rounds : List ℕ) (steps : List Step) (x due : ℕ) (early : List ℕ) (start left depth : ℕ) → IsEarly commands rounds steps x due early → IsBack commands rounds steps x due early start left → 0 < start → depth ≡ depth_at steps (start - 1) → depth ≤ left → get_or early (left - depth) 0 ≡ start - 1 → IsBack commands rounds steps x due early (start - 1) (left - depth)
 back_more commands rounds steps x due early start left depth all back some is_depth fits at_first =
@@ -151,11 +141,6 @@ back_ends commands rounds steps x due early start left depth all back some is_de
                 ]
           ]);
     }
-
--- down to round 0
-pub back_to_zero : (commands : List Command) (rounds : List ℕ) (steps : List Step) (x due : ℕ) (early : List ℕ) (start left : ℕ) → IsBack commands rounds steps x due early start left → start ≡ 0 → IsWindowStart commands rounds steps x due start
-back_to_zero commands rounds steps x due early start left back none =
-    record { before = back.before; full = back.full; first = inl none }
 
 -- what is due by then at a round is no more than what it carries
 due_within : (commands : List Command) (rounds : List ℕ) (steps : List Step) (y due : ℕ) → IsLegal commands rounds steps → due_at commands rounds y due ≤ depth_at steps y

@@ -10,7 +10,7 @@ use Rattle.edd_commands.specs.Schedule.{IsLegal, RoundsInRange, places_at}
 use Rattle.std.specs.List.{All}
 use Rattle.std.specs.Bool.{IsTrue}
 use Rattle.edd_oracle.specs.Input.{IsSolvable}
-use Rattle.edd_oracle.specs.Plan.{IsWaiting}
+use Rattle.edd_oracle.specs.Inside.Queue.{IsWaiting}
 use Rattle.edd_oracle.specs.Priority.{IsEarliestDueFirst, ComesFirst}
 use Rattle.edd_oracle.specs.Inside.Leave.{IsFirstReleased, IsEarliestDue, has_round, placed_at, has_none, unplaced_count, IsInTime, CouldRun, IsBegun, IsKept, HaveLeft}
 use Rattle.edd_oracle.proofs.Counting.{count_none, count_map, count_some}

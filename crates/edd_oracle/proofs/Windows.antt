@@ -14,20 +14,6 @@ pub record AreWindowsFrom (served : List Served) (steps : List Step) (passed : L
   pub none : length cover ≡ 0 → start ≡ 18446744073709551615
   pub last : (e : Window) → 0 < length cover → (get_or cover (length cover - 1) e).from ≡ start
 
-pub no_windows : (served : List Served) (steps : List Step) (passed : List ℕ) (left : ℕ) (cover : List Window) (start : ℕ) → cover ≡ [] → left ≡ length passed → start ≡ 18446744073709551615 → AreWindowsFrom served steps passed left cover start
-no_windows served steps passed left cover start empty all is_start =
-    let long : length cover ≡ 0 = ap (λ xs. length xs) empty in
-    record {
-      windows = record {
-        each = λ i e h. absurd (omega arith);
-        dues = λ i e h. absurd (omega arith);
-        falls = λ i e h. absurd (omega arith);
-        reached = λ j low high. absurd (omega arith);
-      };
-      none = λ h. is_start;
-      last = λ e h. absurd (omega arith);
-    }
-
 -- the next due round lies in the window made last
 pub same_windows : (served : List Served) (steps : List Step) (passed : List ℕ) (left left' : ℕ) (cover : List Window) (start : ℕ) → IsNonDecreasingBy (λ x. x) passed → AreWindowsFrom served steps passed left cover start → left' + 1 ≡ left → left ≤ length passed → start ≤ get_or passed left' 0 + 1 → get_or passed left' 0 < 2199023255552 → AreWindowsFrom served steps passed left' cover start
 same_windows served steps passed left left' cover start rising so_far next within near small =

@@ -2,3 +2,4 @@
 pub mod Queue
 pub mod Leave
 pub mod Cover
+pub mod Window

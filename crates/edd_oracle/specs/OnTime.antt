@@ -6,6 +6,8 @@ use Rattle.edd_commands.specs.declared.steps.Step.{Step}
 use Rattle.edd_commands.specs.Capacity.{depth_at}
 use Rattle.edd_commands.specs.Schedule.{places_at, IsLegal, RoundsInRange}
 use Rattle.edd_check.specs.OnTime.{number_on_time, bound_of, IsMostOnTime, IsCover, CoverInRange}
+use Rattle.edd_check.specs.CheckOnTime.{PassesOnTimeCheck}
+use Rattle.edd_oracle.specs.declared.MostOnTime.{MostOnTime}
 use Rattle.edd_oracle.specs.Plan.{IsWindowStart}
 use Rattle.edd_oracle.specs.Priority.{ComesFirst}
 
@@ -68,3 +70,15 @@ pub record IsMostAnswer (commands : List Command) (steps : List Step) (rounds : 
   pub most : IsMostOnTime commands steps met
   pub rounds_in : RoundsInRange rounds
   pub cover_in : CoverInRange cover
+
+-- the same of an answer
+abbrev pub IsMostOf : {A : Type 0} → List Command → List Step → MostOnTime A → Type 0
+IsMostOf commands steps a = IsMostAnswer commands steps a.rounds.items a.met a.cover.items
+
+-- its cover is that of the commands that are passed over
+abbrev pub HasPassedCover : {A : Type 0} → List Command → List Step → MostOnTime A → Type 0
+HasPassedCover commands steps a = IsPassedCover commands a.rounds.items steps a.cover.items
+
+-- it passes the separate check
+abbrev pub IsCheckedOnTime : {A : Type 0} → List Command → List Step → MostOnTime A → Type 0
+IsCheckedOnTime commands steps a = PassesOnTimeCheck commands steps a.rounds.items a.met a.cover.items

@@ -1,14 +1,9 @@
-use Rattle.std.specs.Prelude.{ℕ, ◌≡◌, ◌≤◌, ◌<◌, ◌+◌, ◌-◌, ◌==◌, ◌&&◌, ◌⊎◌, List, Option, None, length, count_by, nat_le, slice_index, slice_index_or}
+use Rattle.std.specs.Prelude.{ℕ, ◌≡◌, ◌≤◌, ◌<◌, ◌+◌, ◌-◌, ◌==◌, ◌&&◌, ◌⊎◌, List, length, count_by, nat_le, slice_index, slice_index_or}
 use Rattle.std.specs.List.{zip}
 use Rattle.edd_commands.specs.declared.Command.{Command}
 use Rattle.edd_check.specs.declared.Window.{Window}
 use Rattle.edd_commands.specs.declared.steps.Step.{Step}
 use Rattle.edd_commands.specs.Capacity.{depth_at}
-
--- the command at place k has no round yet
-pub record IsWaiting (rounds : List (Option ℕ)) (k : ℕ) : Type 0 where
-  pub in_list : k < length rounds
-  pub none : slice_index_or rounds k None ≡ None
 
 -- how many commands due by `due` have the round x
 unfoldable pub due_at : List Command → List ℕ → ℕ → ℕ → ℕ

@@ -1,17 +1,15 @@
 //! The windows that show how many commands can be met at most.
 
-ghost use Rattle.std.specs.Prelude.{◌≡◌, ◌≤◌, ◌<◌, ℕ, All, IfOk, OnOk, length, slice_index_or};
+ghost use Rattle.std.specs.Prelude.{◌≡◌, ◌≤◌, ◌<◌, ℕ, All, IfOk, length};
 ghost use Rattle.std.specs.Bool.{OnTrue, OnFalse};
-ghost use Rattle.std.specs.List.{Contains};
 ghost use Rattle.std.specs.List.Sorted.{IsNonDecreasingBy};
 ghost use Rattle.edd_commands.specs.declared.Command.{Command};
 ghost use Rattle.edd_commands.specs.Capacity.{depth_at};
 ghost use Rattle.edd_commands.specs.Limits.{round_limit};
 ghost use Rattle.edd_check.specs.OnTime.{CoverInRange};
 ghost use Rattle.edd_commands.specs.Schedule.{IsLegal, CommandsInRange, places_at};
-ghost use Rattle.edd_oracle.specs.Plan.{due_at};
-ghost use Rattle.edd_oracle.specs.OnTime.{IsOnTimeFirst, IsPassedOver, IsPassedCover};
-ghost use Rattle.edd_oracle.specs.Inside.Cover.{served_at, running_at, IsPassedDue, IsServedStart, AreDue, IsOneOff, AreWindows, HasPassedDues};
+ghost use Rattle.edd_oracle.specs.OnTime.{IsOnTimeFirst, IsPassedCover};
+ghost use Rattle.edd_oracle.specs.Inside.Cover.{running_at, IsPassedDue, IsServedStart, AreDue, IsOneOff, AreWindows, HasPassedDues, RunAlike};
 
 use edd_check::Window;
 use edd_commands::{Capacity, Command};
@@ -69,7 +67,7 @@ fn served_before<A: Allocator>(
     until: u64,
 ) -> Result<Vec<Served, A>, AllocError>
     requires { length rounds.now ≡ length commands.now }
-    ensures same { IfOk result (λ found. (y due : ℕ) → y < until → served_at found.items y due ≡ due_at commands.now rounds.now y due) }
+    ensures same { IfOk result (λ found. RunAlike commands.now rounds.now until found.items) }
     ensures few { IfOk result (λ found. (y : ℕ) → running_at found.items y ≤ places_at rounds.now y) }
     ensures rising { IfOk result (λ found. IsNonDecreasingBy (λ s. s.round) found.items) }
 {

@@ -6,18 +6,15 @@
 //! change from round to round, is proved in this crate.
 #![tactic(auto)]
 
-ghost use Rattle.std.specs.Prelude.{◌≡◌, ◌≤◌, ◌<◌, ◌↔◌, [], length, IfOk, IfErr, IfSome, IsNone, OnOk};
+ghost use Rattle.std.specs.Prelude.{◌≡◌, ◌<◌, ◌↔◌, [], length, IfOk, IfErr, IfSome, IsNone, OnOk};
 ghost use Rattle.edd_commands.specs.Schedule.{IsLegal, CommandsInRange, RoundsInRange};
 ghost use Rattle.edd_check.specs.Window.{WindowInRange};
-ghost use Rattle.edd_check.specs.Check.{PassesCheck};
-ghost use Rattle.edd_check.specs.CheckOnTime.{PassesOnTimeCheck};
 ghost use Rattle.edd_check.specs.OnTime.{CoverInRange};
 ghost use Rattle.edd_oracle.specs.Names.{oracle_fault_name};
 ghost use Rattle.edd_oracle.specs.Input.{IsTaken, IsRefusal, HasDistinctIds};
-ghost use Rattle.edd_oracle.specs.Answer.{IsBest};
 ghost use Rattle.edd_oracle.specs.Priority.{IsEarliestDueFirst};
-ghost use Rattle.edd_oracle.specs.Plan.{IsLatestWindow};
-ghost use Rattle.edd_oracle.specs.OnTime.{IsMostAnswer, IsOnTimeFirst, IsPassedCover};
+ghost use Rattle.edd_oracle.specs.OnTime.{IsOnTimeFirst, IsMostOf, HasPassedCover, IsCheckedOnTime};
+ghost use Rattle.edd_oracle.specs.Answer.{IsBestAnswer, HasDueFirst, HasLatestWindow, IsChecked};
 
 mod cover;
 mod input;
@@ -91,12 +88,9 @@ pub fn solve<A: Allocator + Clone, B: Allocator>(
     ensures taken { OnOk result (IsTaken commands.now) }
     ensures refused { IfErr result (IsRefusal commands.now) }
     ensures none { IfOk result (λ found. IsNone found ↔ (commands.now ≡ [])) }
-    ensures best { IfOk result (λ found. IfSome found (λ answer.
-        IsBest commands.now capacity.now answer.rounds.items answer.lateness answer.window)) }
-    ensures first { IfOk result (λ found. IfSome found (λ answer.
-        IsEarliestDueFirst commands.now answer.rounds.items capacity.now)) }
-    ensures latest { IfOk result (λ found. IfSome found (λ answer.
-        IsLatestWindow commands.now answer.rounds.items capacity.now answer.window)) }
+    ensures best { IfOk result (λ found. IfSome found (IsBestAnswer commands.now capacity.now)) }
+    ensures first { IfOk result (λ found. IfSome found (HasDueFirst commands.now capacity.now)) }
+    ensures latest { IfOk result (λ found. IfSome found (HasLatestWindow commands.now capacity.now)) }
 {
     if let Err(fault) = input::accept(&alloc, commands) {
         return Err(fault);
@@ -132,9 +126,11 @@ pub fn law_of_checks<A: Allocator, B: Allocator>(
     answer: &Answer<B>,
 )
     requires taken { IsTaken commands.now }
-    requires best { IsBest commands.now capacity.now answer.now.rounds.items answer.now.lateness answer.now.window }
-    ensures asked { CommandsInRange commands.now × RoundsInRange answer.now.rounds.items × WindowInRange answer.now.window }
-    ensures passed { PassesCheck commands.now capacity.now answer.now.lateness answer.now.rounds.items answer.now.window }
+    requires best { IsBestAnswer commands.now capacity.now answer.now }
+    ensures commands_in { CommandsInRange commands.now }
+    ensures rounds_in { RoundsInRange answer.now.rounds.items }
+    ensures window_in { WindowInRange answer.now.window }
+    ensures passed { IsChecked commands.now capacity.now answer.now }
 {
     let _ = (commands.len(), capacity.at(0), answer.lateness);
 }
@@ -176,11 +172,9 @@ pub fn most_on_time<A: Allocator + Clone, B: Allocator>(
     ensures taken { OnOk result (IsTaken commands.now) }
     ensures refused { IfErr result (IsRefusal commands.now) }
     // no legal schedule meets more, by the cover
-    ensures most { IfOk result (λ answer.
-        IsMostAnswer commands.now capacity.now answer.rounds.items answer.met answer.cover.items) }
+    ensures most { IfOk result (IsMostOf commands.now capacity.now) }
     ensures first { IfOk result (λ answer. IsOnTimeFirst commands.now answer.rounds.items capacity.now) }
-    ensures cover { IfOk result (λ answer.
-        IsPassedCover commands.now answer.rounds.items capacity.now answer.cover.items) }
+    ensures cover { IfOk result (HasPassedCover commands.now capacity.now) }
 {
     if let Err(fault) = input::accept(&alloc, commands) {
         return Err(fault);
@@ -208,9 +202,9 @@ pub fn law_of_on_time_checks<A: Allocator, B: Allocator>(
     capacity: &Capacity<A>,
     answer: &MostOnTime<B>,
 )
-    requires { IsMostAnswer commands.now capacity.now answer.now.rounds.items answer.now.met answer.now.cover.items }
+    requires { IsMostOf commands.now capacity.now answer.now }
     ensures asked { CoverInRange answer.now.cover.items }
-    ensures passed { PassesOnTimeCheck commands.now capacity.now answer.now.rounds.items answer.now.met answer.now.cover.items }
+    ensures passed { IsCheckedOnTime commands.now capacity.now answer.now }
 {
     let _ = (commands.len(), capacity.at(0), answer.met);
 }

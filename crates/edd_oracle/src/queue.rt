@@ -1,16 +1,15 @@
 //! Earliest due date first, by a heap of the released commands.
 
-ghost use Rattle.std.specs.Prelude.{◌≡◌, ◌≤◌, ◌<◌, ◌+◌, ◌^◌, ℕ, Some, None, length, drop, map, All, IfOk, IfNone, IfSome, OnOk, slice_index_or};
+ghost use Rattle.std.specs.Prelude.{◌≡◌, ◌≤◌, ◌<◌, ◌+◌, ◌^◌, ℕ, Some, None, length, map, All, IfOk, OnOk, slice_index_or};
 ghost use Rattle.std.specs.List.Sorted.{IsNonDecreasingBy};
 ghost use Rattle.std.specs.BinaryHeap.{heap_items, IsHeap};
 ghost use Rattle.edd_commands.specs.Capacity.{depth_at};
 ghost use Rattle.edd_commands.specs.Limits.{most_commands};
 ghost use Rattle.edd_commands.specs.Schedule.{IsLegal, RoundsInRange};
 ghost use Rattle.edd_commands.specs.declared.Command.{Command};
-ghost use Rattle.edd_oracle.specs.Input.{IsSolvable, HasDistinctIds};
-ghost use Rattle.edd_oracle.specs.Plan.{IsWaiting};
-ghost use Rattle.edd_oracle.specs.Inside.Queue.{IsArrival, IsReleasedBy, arrivals_of, held_of, waiting_cmp, IsRest, AreTakenIn};
-ghost use Rattle.edd_oracle.specs.Inside.Leave.{unplaced_at, IsTakenOut, IsBegun, HaveLeft, IsAfter};
+ghost use Rattle.edd_oracle.specs.Input.{IsSolvable};
+ghost use Rattle.edd_oracle.specs.Inside.Queue.{IsWaiting, IsArrival, IsReleasedBy, waiting_cmp, IsRest, AreTakenIn, GrowsUpTo};
+ghost use Rattle.edd_oracle.specs.Inside.Leave.{IsTakenOut, IsBegun, HaveLeft, IsAfter, AreUnplaced};
 ghost use Rattle.edd_oracle.specs.OnTime.{IsOnTimeFirst};
 ghost use Rattle.edd_oracle.specs.Priority.{IsEarliestDueFirst};
 
@@ -46,7 +45,7 @@ fn arrivals<A: Allocator>(
     rounds: &[Option<u64>],
 ) -> Result<Vec<Arrival, A>, AllocError>
     requires { length rounds.now ≡ length commands.now }
-    ensures once { IfOk result (λ found. (k : ℕ) → k < length commands.now → arrivals_of found.items k ≡ unplaced_at rounds.now k) }
+    ensures once { IfOk result (λ found. AreUnplaced rounds.now (length commands.now) found.items) }
     ensures placed { IfOk result (λ found. All (IsArrival commands.now) found.items) }
     ensures rising { IfOk result (λ found. IsNonDecreasingBy (λ a. a.release) found.items) }
 {
@@ -79,14 +78,14 @@ fn release<A: Allocator>(
     requires ordered { IsHeap waiting_cmp (heap_items waiting.old) }
     requires released { All (IsReleasedBy commands.now round) (heap_items waiting.old) }
     ensures within { IfOk result (λ next. next ≤ length arrivals.now) }
-    ensures kept { IfOk result (λ next. AreTakenIn arrivals.now start next (heap_items waiting.old) (heap_items waiting.new)) }
+    ensures kept { IfOk result (AreTakenIn arrivals.now start (heap_items waiting.old) (heap_items waiting.new)) }
     ensures rest { IfOk result (λ next. IsRest arrivals.now next round) }
     ensures ordered { OnOk result (IsHeap waiting_cmp (heap_items waiting.new)) }
     ensures released { OnOk result (All (IsReleasedBy commands.now round) (heap_items waiting.new)) }
     ensures some { OnOk result (length (heap_items waiting.old) ≤ length (heap_items waiting.new)) }
     ensures more { IfOk result (λ next. start < next → 0 < length (heap_items waiting.new)) }
     ensures after { IfOk result (λ next. start ≤ next) }
-    ensures moved { IfOk result (λ next. length (heap_items waiting.new) + start ≡ length (heap_items waiting.old) + next) }
+    ensures moved { IfOk result (GrowsUpTo start (heap_items waiting.old) (heap_items waiting.new)) }
 {
     let mut next = start;
     while next < arrivals.len() && arrivals[next].release <= round {

@@ -1,12 +1,13 @@
 //! The window that shows why a schedule's greatest lateness is least.
 
-ghost use Rattle.std.specs.Prelude.{◌≡◌, ◌≤◌, ◌<◌, ◌+◌, ℕ, All, IfOk, length};
+ghost use Rattle.std.specs.Prelude.{◌≡◌, ◌<◌, ◌+◌, All, IfOk, length};
 ghost use Rattle.std.specs.Bool.{OnTrue, OnFalse};
 ghost use Rattle.edd_commands.specs.Limits.{round_limit};
-ghost use Rattle.edd_commands.specs.Schedule.{CommandsInRange, RoundsInRange, IsLegal, IsGreatestLateness, places_at};
+ghost use Rattle.edd_commands.specs.Schedule.{CommandsInRange, RoundsInRange, IsLegal, IsGreatestLateness};
 ghost use Rattle.edd_check.specs.Window.{IsCrowded, WindowInRange};
-ghost use Rattle.edd_oracle.specs.Plan.{due_at, IsChosen, IsLatest, IsWindowStart, IsLatestWindow};
+ghost use Rattle.edd_oracle.specs.Plan.{IsChosen, IsLatest, IsWindowStart, IsLatestWindow};
 ghost use Rattle.edd_oracle.specs.Priority.{IsEarliestDueFirst};
+ghost use Rattle.edd_oracle.specs.Inside.Window.{HasRoundsBefore};
 
 use edd_check::Window;
 use edd_commands::{Capacity, Command};
@@ -60,7 +61,7 @@ fn rounds_before<A: Allocator>(
 ) -> Result<Vec<u64, A>, AllocError>
     requires { length rounds.now ≡ length commands.now }
     ensures below { IfOk result (λ early. All (λ y. y < x) early.items) }
-    ensures same { IfOk result (λ early. (y : ℕ) → y < x → places_at early.items y ≡ due_at commands.now rounds.now y due) }
+    ensures same { IfOk result (λ early. HasRoundsBefore commands.now rounds.now x due early.items) }
 {
     let mut early = Vec::new(alloc);
     for (i, command) in commands.iter().enumerate() {

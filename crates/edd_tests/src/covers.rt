@@ -9,7 +9,7 @@ use edd_commands::{Capacity, Command};
 use std::alloc::Global;
 use std::process::Abort;
 
-/// The claim is good; its windows carry so many commands, and so many that can be met lie in none of them.
+/// The claim is good: these are the numbers of commands that its windows carry, and of those that can be on time and lie in none of them.
 fn accepted(
     rt: &impl Abort,
     alloc: Global,

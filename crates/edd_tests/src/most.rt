@@ -7,7 +7,7 @@ use edd_oracle::{OracleFault, law_of_on_time_checks, most_on_time, solve};
 use std::alloc::Global;
 use std::process::Abort;
 
-/// The oracle answers these rounds, so many met commands and these windows, and the separate check passes them.
+/// The oracle answers these rounds, this number of commands on time and these windows, and the separate check passes them.
 fn answers(
     rt: &impl Abort,
     alloc: Global,

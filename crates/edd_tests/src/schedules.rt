@@ -30,7 +30,7 @@ fn solved(rt: &impl Abort, alloc: Global, commands: &[Command], capacity: &Capac
     answer
 }
 
-/// The oracle answers these rounds, this lateness and this window, which has so many commands.
+/// The oracle answers these rounds, this lateness and this window, with this number of commands in it.
 fn answers(
     rt: &impl Abort,
     alloc: Global,

@@ -56,14 +56,6 @@ pub record AreFoundUpto (served : List Served) (steps : List Step) (n : ℕ) (fu
   pub hit : (p : ℕ) → p < n → depth_at steps (get_or served p unserved).round ≤ p + 1 → (get_or served (p + 1 - depth_at steps (get_or served p unserved).round) unserved).round ≡ (get_or served p unserved).round → (i : ℕ) × (i < length full) × ((e : Served) → (get_or full i e).round ≡ (get_or served p unserved).round)
   pub rising : AreRising full
 
-pub none_found : (served : List Served) (steps : List Step) (full : List Served) → full ≡ [] → AreFoundUpto served steps 0 full
-none_found served steps full none =
-    subst (λ xs. AreFoundUpto served steps 0 xs) (sym none) record {
-      each = λ i e h. absurd (omega arith);
-      hit = λ p h. absurd (omega arith);
-      rising = λ i j e lt h. absurd (omega arith);
-    }
-
 -- no full round is found here
 pub same_found : (served : List Served) (steps : List Step) (n : ℕ) (full : List Served) → AreFoundUpto served steps n full → (depth_at steps (get_or served n unserved).round ≤ n + 1 → (get_or served (n + 1 - depth_at steps (get_or served n unserved).round) unserved).round ≡ (get_or served n unserved).round → ⊥) → AreFoundUpto served steps (n + 1) full
 same_found served steps n full so_far none =

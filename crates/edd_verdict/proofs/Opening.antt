@@ -13,7 +13,7 @@ use Rattle.edd_verdict.specs.declared.Verdict.TheVariants.{Arrival, Spare, Full}
 use Rattle.edd_verdict.specs.declared.around.Ask.{Ask}
 use Rattle.edd_verdict.specs.Filled.{IsAround}
 use Rattle.edd_verdict.specs.Verdicts.{IsLate, CanBeOnTime}
-use Rattle.edd_verdict.specs.Inside.Open.{EndsRise, EndsFall, IsBeginPlace, AreOpen, IsEntered, IsInnermost, IsAsk, AreAsked, IsJudged, AreJudged, first_verdict_of}
+use Rattle.edd_verdict.specs.Inside.Open.{EndsRise, EndsFall, IsBeginPlace, AreOpen, IsEntered, IsInnermost, IsAsk, AreAsked, IsJudged, first_verdict_of}
 use Rattle.edd_verdict.proofs.Freeing.{nobody}
 use Rattle.edd_verdict.proofs.Sweeping.{pushed_old, pushed_new, pushed_long, taken_long, taken_at}
 
@@ -102,9 +102,6 @@ innermost_here opened round m w ends at some is =
                 ]
           ];
     }
-
-pub none_begun : (opened : List Window) (round m : ℕ) → IsBeginPlace opened (round + 1) m → m ≡ 0 → (j : ℕ) (e : Window) → j < length opened → round < (get_or opened j e).from
-none_begun opened round m at none j e h = omega (arith, at.after j e (omega arith) h)
 
 -- ---- those that are asked for
 
@@ -340,14 +337,3 @@ module _ (commands : List Command) (rounds : List ℕ) (windows : List Window) (
           are = are;
           ready = ready_still;
         }
-
-  pub pending_last : (next left : ℕ) (opened : List Window) (verdicts : List (Option Verdict)) → ArePending commands rounds windows asks next left opened verdicts → next ≡ 0 → AreJudged commands rounds windows verdicts
-  pending_last next left opened verdicts are done =
-      record {
-        one_each = are.one_each;
-        each = λ k h.
-            elim (are.each k h) [
-              | inl judged ↦ judged
-              | inr waits ↦ absurd (omega (arith, waits.1.1))
-            ];
-      }

@@ -294,8 +294,3 @@ pub begins_some : (peaks rest : List Served) (m start : ℕ) → rest ≡ take m
 begins_some peaks rest m start is within some e more =
     let long : length rest ≡ m = ap (λ xs. length xs) is ∙ taken_long peaks m within in
     some e (omega arith) ∙ ap (λ (s : Served). s.round + 1) (left_last peaks rest m e is within more)
-
-pub last_small : (full : List Served) (x m : ℕ) (peaks rest : List Served) → AreBarred full x peaks → x < 2199023255552 → rest ≡ take m peaks → m ≤ length peaks → (e : Served) → 0 < length rest → (get_or rest (length rest - 1) e).round < 2199023255552
-last_small full x m peaks rest barred small is within e some =
-    let long : length rest ≡ m = ap (λ xs. length xs) is ∙ taken_long peaks m within in
-    omega (arith, (barred.barred (m - 1) e (omega arith)).0, ap (λ (s : Served). s.round) (left_last peaks rest m e is within (omega arith)))

@@ -1,12 +1,11 @@
 //! The first filled window around each late command.
 
-ghost use Rattle.std.specs.Prelude.{◌≡◌, ◌≤◌, ◌<◌, ℕ, All, IfOk, IfNone, IfSome, Some, length, map, slice_index_or, slice_set};
+ghost use Rattle.std.specs.Prelude.{◌≡◌, ◌≤◌, ◌<◌, All, IfOk, IfNone, IfSome, Some, length, map, slice_set};
 ghost use Rattle.std.specs.List.{zip};
 ghost use Rattle.std.specs.List.Sorted.{IsNonDecreasingBy};
 ghost use Rattle.edd_commands.specs.Limits.{round_limit};
 ghost use Rattle.edd_commands.specs.Schedule.{CommandsInRange};
-ghost use Rattle.edd_check.specs.declared.Window.{Window as Span};
-ghost use Rattle.edd_verdict.specs.Inside.Open.{EndsRise, BeginsRise, AreFilled, IsBeginPlace, AreOpen, EndsFall, IsInnermost, IsAsk, AreAsked, first_verdict_of, AreJudged, IsEntered};
+ghost use Rattle.edd_verdict.specs.Inside.Open.{EndsRise, BeginsRise, IsBeginPlace, AreOpen, EndsFall, IsInnermost, IsAsk, AreAsked, first_verdict_of, AreJudged, IsEntered, BeginLater};
 
 use crate::Verdict;
 use edd_check::Window;
@@ -120,7 +119,7 @@ fn innermost(opened: &[Window], round: u64) -> Option<Window>
     requires begins { BeginsRise opened.now }
     requires ends { EndsFall opened.now }
     requires small { round < round_limit }
-    ensures none { IfNone result ((j : ℕ) → (e : Span) → j < length opened.now → round < (slice_index_or opened.now j e).from) }
+    ensures none { IfNone result (BeginLater opened.now round) }
     ensures some { IfSome result (IsInnermost opened.now round) }
 {
     let begun = begun_before(opened, round + 1);

@@ -1,15 +1,14 @@
 //! The windows that are filled by commands that are all on time: where earliest due date first leaves no room for one more.
 
-ghost use Rattle.std.specs.Prelude.{◌≡◌, ◌≤◌, ◌<◌, ◌-◌, ℕ, All, ◌+◌, IfOk, OnOk, [], ◌∷◌, length, map, slice_index_or};
+ghost use Rattle.std.specs.Prelude.{◌≡◌, ◌≤◌, ◌<◌, ◌-◌, ℕ, All, ◌+◌, IfOk, OnOk, [], ◌∷◌, length};
 ghost use Rattle.edd_verdict.specs.declared.tight.Served.{Served as Running};
-ghost use Rattle.std.specs.List.{zip};
 ghost use Rattle.std.specs.List.Sorted.{IsNonDecreasingBy, IsPermutation};
 ghost use Rattle.edd_commands.specs.Capacity.{depth_at};
 ghost use Rattle.edd_commands.specs.Limits.{round_limit};
 ghost use Rattle.edd_commands.specs.Schedule.{IsLegal, RoundsInRange};
 ghost use Rattle.edd_oracle.specs.Priority.{IsEarliestDueFirst};
 ghost use Rattle.edd_verdict.specs.Inside.Open.{AreFilled, AreOnTime};
-ghost use Rattle.edd_verdict.specs.Inside.Tight.{served_of, running_at, AreFull, AreRising, AreTight, IsLatestDue, DuesFall, IsDuePlace};
+ghost use Rattle.edd_verdict.specs.Inside.Tight.{running_at, AreFull, AreRising, AreTight, IsLatestDue, DuesFall, IsDuePlace, all_served, room_before, last_or};
 
 use edd_check::Window;
 use edd_commands::{Capacity, Command};
@@ -30,7 +29,7 @@ fn paired<A: Allocator>(
     commands: &[Command],
     rounds: &[u64],
 ) -> Result<Vec<Served, A>, AllocError>
-    ensures { IfOk result (λ found. found.items ≡ map (λ p. served_of p) (zip commands.now rounds.now)) }
+    ensures { IfOk result (λ found. found.items ≡ all_served commands.now rounds.now) }
 {
     commands
         .iter()
@@ -48,7 +47,7 @@ fn by_round<A: Allocator>(
     commands: &[Command],
     rounds: &[u64],
 ) -> Result<Vec<Served, A>, AllocError>
-    ensures moved { IfOk result (λ found. IsPermutation (map (λ p. served_of p) (zip commands.now rounds.now)) found.items) }
+    ensures moved { IfOk result (λ found. IsPermutation (all_served commands.now rounds.now) found.items) }
     ensures rising { IfOk result (λ found. IsNonDecreasingBy (λ s. s.round) found.items) }
 {
     let mut found = paired(alloc, commands, rounds)?;
@@ -111,7 +110,7 @@ fn cross_gap<A: Allocator>(
 ) -> Result<(), AllocError>
     requires { next ≤ round }
     ensures same { next ≡ round → OnOk result (peaks.new.items ≡ peaks.old.items) }
-    ensures gap { next < round → OnOk result (peaks.new.items ≡ record { round = round - 1; due = 18446744073709551615 } ∷ []) }
+    ensures gap { next < round → OnOk result (peaks.new.items ≡ room_before round ∷ []) }
 {
     if next == round {
         return Ok(());
@@ -136,9 +135,9 @@ fn later_than(peaks: &[Served], due: u64) -> usize
 
 /// One more than the round of the last peak, or 0 where there is none.
 fn start_after(peaks: &[Served]) -> u64
-    requires { (e : Running) → 0 < length peaks.now → (slice_index_or peaks.now (length peaks.now - 1) e).round < round_limit }
+    requires { (e : Running) → 0 < length peaks.now → (last_or peaks.now e).round < round_limit }
     ensures none { length peaks.now ≡ 0 → result ≡ 0 }
-    ensures some { (e : Running) → 0 < length peaks.now → result ≡ (slice_index_or peaks.now (length peaks.now - 1) e).round + 1 }
+    ensures some { (e : Running) → 0 < length peaks.now → result ≡ (last_or peaks.now e).round + 1 }
 {
     let count = peaks.len();
     if count == 0 {

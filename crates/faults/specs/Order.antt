@@ -1,5 +1,5 @@
 -- The order of faults. What may be wrong with something is a list of rules, in the order in which they are looked at; a rule's
--- rank is its place in the list, from 0 on; and the fault that is told is that of the first rule that is broken.
+-- rank is its place in the list, from 0 on; and the fault that is reported is that of the first rule that is broken.
 use Rattle.std.specs.Prelude.{zero, suc, ℕ, ◌≡◌, ◌⊎◌, List, [], ◌∷◌}
 
 -- the rules before the rank are kept, and that of the rank is broken in this way

@@ -5,7 +5,8 @@ use Rattle.std.proofs.lemmas.List.{length-append}
 use Rattle.parts.specs.declared.Repeats.{Repeats}
 use Rattle.parts.specs.declared.Repeats.TheVariants as repeats
 use Rattle.parts.specs.Parts.{Part, Begins, GetsTo, after, all_rows, AllFit, IsCount, Stops, GoesOn, GoodBefore, most_of, many, over, ended}
-use Rattle.parts.specs.Laws.{Tells, Either, Decides, IsPlain}
+use Rattle.parts.specs.Laws.{Tells, IsPlain}
+use Rattle.parts.specs.Inside.Laws.{Either, Decides}
 use Rattle.parts.proofs.Then.{then_tells, then_decides, over_tells, over_decides, seen_tells, seen_decides, at_first, seen_reached, reached_first, reached_second, after_all_reached}
 
 -- when the items stop
@@ -147,10 +148,6 @@ all_more q next s (u ∷ vs) v a rows rest e f =
 pub fit_more : {R E S V : Type 0} (q : S → Part R E V) (next : S → V → S) (s : S) (vs : List V) (v : V) → AllFit q next s vs → (q (after next s vs)).Fits v → AllFit q next s (vs ++ v ∷ [])
 fit_more q next s [] v f g = (g, tt)
 fit_more q next s (u ∷ vs) v f g = (f.0, fit_more q next (next s u) vs v f.1 g)
-
-after_more : {S V : Type 0} (next : S → V → S) (s : S) (vs : List V) (v : V) → after next s (vs ++ v ∷ []) ≡ next (after next s vs) v
-after_more next s [] v = refl
-after_more next s (u ∷ vs) v = after_more next (next s u) vs v
 
 -- n more items may come
 abbrev Room : Repeats → ℕ → ℕ → Type 0

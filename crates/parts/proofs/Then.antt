@@ -4,7 +4,8 @@ use Rattle.std.specs.Prelude.{◌⊎◌}
 use mathlib.Core.Path.{path_j}
 use Rattle.std.proofs.lemmas.List.{length-append}
 use Rattle.parts.specs.Parts.{Part, Begins, GetsTo, NextWrong, record_of, then, over, seen_as, tested, by_word}
-use Rattle.parts.specs.Laws.{Tells, TellsRecord, Either, Decides, DecidesRecord, IsPlain}
+use Rattle.parts.specs.Laws.{Tells, IsPlain}
+use Rattle.parts.specs.Inside.Laws.{TellsRecord, Either, Decides, DecidesRecord}
 
 abbrev Same : {K : Type 0} → (V : K → Type 0) → (i : K) × V i → (i : K) × V i → Type 0
 Same V v u = v ≡ u
@@ -29,9 +30,6 @@ record_tells row_of Fits gone Lacks t = record {
   first = λ rows k j w x a b. (a.0 ∙ sym b.0, next_first row_of Fits gone Lacks t rows w x a.1 b.1);
   near = λ rows k w a. (let is = a.0 in (omega (arith, is), omega (arith, is)));
 }
-
-pub record_plain : {R E V : Type 0} (row_of : V → R) (Fits : V → Type 0) (gone : E) (Lacks : R → E → Type 0) → IsPlain (record_of row_of Fits gone Lacks)
-record_plain row_of Fits gone Lacks v rest fit = tt
 
 pub record_decides : {R E V : Type 0} (row_of : V → R) (Fits : V → Type 0) (gone : E) (Lacks : R → E → Type 0) → DecidesRecord row_of Fits Lacks → Decides (record_of row_of Fits gone Lacks)
 record_decides row_of Fits gone Lacks d [] = inr (1, gone, (refl, refl))
@@ -100,9 +98,6 @@ then_near p q t s rows k w (inr f) =
 
 pub then_tells : {R E V W : Type 0} (p : Part R E V) (q : V → Part R E W) → Tells p → ((v : V) → p.Fits v → Tells (q v)) → Tells (then p q)
 then_tells p q t s = record { once = then_once p q t s; apart = then_apart p q t s; first = then_first p q t s; near = then_near p q t s }
-
-pub then_plain : {R E V W : Type 0} (p : Part R E V) (q : V → Part R E W) → IsPlain p → ((v : V) → p.Fits v → IsPlain (q v)) → IsPlain (then p q)
-then_plain p q t s v rest fit = (t v.0 _ fit.0, s v.0 fit.0 v.1 rest fit.1)
 
 pub then_decides : {R E V W : Type 0} (p : Part R E V) (q : V → Part R E W) → Decides p → ((v : V) → p.Fits v → Decides (q v)) → Decides (then p q)
 then_decides {R} {E} {V} {W} p q d s rows = elim (d rows) [
@@ -175,14 +170,6 @@ at_first p t rows = record { far = omega arith; good = λ k w f. (t.near rows k 
 pub seen_reached : {R E V U : Type 0} (g : U → V) (p : Part R E V) (rows : List R) (at : ℕ) → GetsTo p rows at → GetsTo (seen_as g p) rows at
 seen_reached g p rows at r = record { far = r.far; good = r.good; within = λ u rest h. r.within (g u) rest (record { fits = h.fits; made = h.made; follows = h.follows }) }
 
--- the record of a fault is reached
-pub wrong_reached : {R E V : Type 0} (p : Part R E V) → Tells p → (rows : List R) (at : ℕ) (w : E) → p.Wrong rows at w → GetsTo p rows at
-wrong_reached p t rows at w f = record {
-  far = (t.near rows at w f).1;
-  good = λ k x g. (let e = (t.first rows at k w x f g).0 in omega (arith, e));
-  within = λ v rest h. absurd (t.apart rows v rest at w h f);
-}
-
 -- the record after those of a value is reached
 pub after_all_reached : {R E V : Type 0} (p : Part R E V) → Tells p → (rows : List R) (v : V) (rest : List R) → Begins p rows v rest → GetsTo p rows (length (p.rows_of v) + 1)
 after_all_reached p t rows v rest h = record {
@@ -231,9 +218,6 @@ seen_tells {R} {E} {V} {U} g p same t = record {
   where
     seen : (u : U) (rows a : List R) → Begins (seen_as g p) rows u a → Begins p rows (g u) a
     seen u rows a h = record { fits = h.fits; made = h.made; follows = h.follows }
-
-pub seen_plain : {R E V U : Type 0} (g : U → V) (p : Part R E V) → IsPlain p → IsPlain (seen_as g p)
-seen_plain g p t u rest fit = t (g u) rest fit
 
 pub seen_decides : {R E V U : Type 0} (g : U → V) (p : Part R E V) (back : (v : V) → p.Fits v → (u : U) × (g u ≡ v)) → Decides p → Decides (seen_as g p)
 seen_decides g p back d rows = elim (d rows) [
@@ -335,10 +319,6 @@ by_word_decides V StartsWith q NoKind d find rows = elim (find rows) [
   ]
   | inr n ↦ inr (1, n.1.0, inr (refl, n.0, n.1.1))
 ]
-
-pub by_word_plain : {R E K : Type 0} (V : K → Type 0) (StartsWith : K → List R → Type 0) (q : (i : K) → Part R E (V i)) (NoKind : List R → E → Type 0) → ((i : K) → IsPlain (q i))
-    → IsPlain (by_word V StartsWith q NoKind)
-by_word_plain V StartsWith q NoKind t v rest fit = t v.0 v.1 rest fit
 
 -- what is reached in the part of its kind is reached
 pub kind_reached : {R E K : Type 0} (V : K → Type 0) (StartsWith : K → List R → Type 0) (q : (i : K) → Part R E (V i)) (NoKind : List R → E → Type 0)

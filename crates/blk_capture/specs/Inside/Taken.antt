@@ -38,6 +38,14 @@ AreWithin n places = All (λ p. IfSome p (λ k. k < n)) places
 abbrev pub ArePlaced : List Life → List ℕ → List (Option ℕ) → List Request → Type 0
 ArePlaced lives openers places requests = (k : ℕ) → k < length requests → (r : ℕ) × IsPlaced lives openers places requests k r
 
+abbrev pub ArePlacedIn : {A : Type 0} → List Life → List ℕ → Taken A → Type 0
+ArePlacedIn lives openers t = ArePlaced lives openers t.places.items t.requests.items
+
+-- a request that was merged into no other stands at its own place
+abbrev pub IsPlaceOfOwn : List Life → List (Option ℕ) → Option ℕ → Option ℕ → Type 0
+IsPlaceOfOwn lives places request place =
+    (r : ℕ) → request ≡ Some r → IsOwn lives r → r < length places → place ≡ slice_index_or places r None
+
 -- the request of a number is put in last, or was there
 abbrev pub PutsAt : ℕ → Request → List Request → List (Option ℕ) → List Request → List (Option ℕ) → Type 0
 PutsAt number q old_requests old_places new_requests new_places =

@@ -8,7 +8,7 @@ use Rattle.blk_picture.specs.declared.boxes.Issued.{Issued}
 use Rattle.blk_picture.specs.declared.boxes.TheConstants.{TAGS}
 use Rattle.blk_picture.specs.Boxes.{boxes_from}
 
--- the boxes of the events that were walked, the round of the others, and whether the next end of each tag hands back
+-- the boxes of the events that were walked, the round of the others, and whether the next end of each tag is a requeue
 pub record IsWalked (setup : Setup) (events : List Happened) (place round : ℕ) (backs : List Bool) (boxes : List Issued) : Type 0 where
   pub round_is : round ≡ round_of (take place events)
   pub small : round ≤ MAX_EVENTS

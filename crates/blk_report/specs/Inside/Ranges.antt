@@ -28,3 +28,7 @@ IsExtended id newcomer old new = (i : ℕ) → new i ≡ cond (id == i) (joined_
 abbrev pub with_entry : (ℕ → Option Range) → Option (ℕ × List Bio) → ℕ → Option Range
 with_entry f None i = f i
 with_entry f (Some p) i = cond (p.0 == i) (joined_to (f p.0) (range_of p.1)) (f i)
+
+-- what is under each id is what it was, with these bios
+abbrev pub EntersUnder : (ℕ → Option Range) → Option (ℕ × List Bio) → (ℕ → Option Range) → Type 0
+EntersUnder old entry new = (i : ℕ) → new i ≡ with_entry old entry i

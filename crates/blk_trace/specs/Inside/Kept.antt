@@ -8,7 +8,7 @@ use Rattle.blk_bio.specs.Requests.{IsRequest, Fits}
 use Rattle.blk_bio.specs.Extents.{extent_of}
 use Rattle.blk_trace.specs.declared.known.Unissued.{Unissued}
 use Rattle.blk_trace.specs.declared.known.Known.{Known}
-use Rattle.blk_trace.specs.declared.known.Known.TheVariants.{Waits, Gone, Handed}
+use Rattle.blk_trace.specs.declared.known.Known.TheVariants.{Waits, Gone, Requeued}
 use Rattle.blk_trace.specs.declared.tags.TagUse.{TagUse}
 use Rattle.blk_trace.specs.declared.tags.TagUse.TheVariants.{Free, Open, Ended}
 use Rattle.blk_trace.specs.declared.trace.Prepared.{Prepared}
@@ -38,13 +38,17 @@ FitsNowhere limits old newcomer = (w : Entered) → old ≡ summary w → IsRequ
 
 -- what is kept of a request that waits, by whether it was issued before
 abbrev pub known_waiting : Bool → Entered → Known
-known_waiting issued w = cond issued (Handed w.release w.due) (Waits (summary w))
+known_waiting issued w = cond issued (Requeued w.release w.due) (Waits (summary w))
 
 -- what is kept under an id: nothing of one that was not released, no more than that of one that was issued
 unfoldable pub known_of : Setup → List Happened → ℕ → Option Known
 known_of setup events id = cond (has_id (issued_ids events) id) (Some Gone) (option_map (known_waiting (was_issued events id)) (waits_at setup events id))
 
--- whether a request was issued, and not handed back since
+-- what is kept of the request of a command once it is requeued
+abbrev pub requeued_known : Command → Option Known
+requeued_known c = Some (Requeued c.release c.due)
+
+-- whether a request was issued, and not requeued since
 abbrev pub is_gone : Option Known → Bool
 is_gone (Some Gone) = true
 is_gone _ = false
@@ -52,7 +56,7 @@ is_gone _ = false
 -- the rounds of the release and due of a request that may be issued
 abbrev pub rounds_in : Known → Option (ℕ × ℕ)
 rounds_in (Waits w) = Some (w.release, w.due)
-rounds_in (Handed release due) = Some (release, due)
+rounds_in (Requeued release due) = Some (release, due)
 rounds_in Gone = None
 
 -- whether two ids of bios are one

@@ -14,7 +14,7 @@ ghost use Rattle.blk_trace.specs.Legal.{IsLegalTrace};
 ghost use Rattle.blk_trace.specs.Rules.{IsUnbroken};
 ghost use Rattle.blk_trace.specs.Traces.{IsPreparedFor, extended};
 ghost use Rattle.blk_trace.specs.Events.{IsReleased, IsIssued, IsOpen, IsOpenBy};
-ghost use Rattle.blk_trace.specs.Inside.Kept.{known_of, has_named, has_bio_id, rounds_in};
+ghost use Rattle.blk_trace.specs.Inside.Kept.{known_of, requeued_known, has_named, has_bio_id, rounds_in};
 
 use crate::event::Event;
 use crate::known::{Known, Unissued};
@@ -86,7 +86,7 @@ impl<A: Allocator + Clone> Trace<A> {
         match self.known_at(id) {
             Some(Known::Waits(waiting)) => waiting,
             Some(Known::Gone) => unreachable!(),
-            Some(Known::Handed { .. }) => unreachable!(),
+            Some(Known::Requeued { .. }) => unreachable!(),
             None => unreachable!(),
         }
     }
@@ -160,7 +160,7 @@ impl<A: Allocator + Clone> Trace<A> {
         let place = place_of(self.commands.as_slice(), id);
         let command = self.commands.remove(place);
         self.rounds.remove(place);
-        handed(&mut self.known, &command);
+        requeue(&mut self.known, &command);
         self.tags[tag as usize] = TagUse::Ended;
         self.open -= 1;
         append(&mut self.events, Event::Back { tag });
@@ -193,19 +193,19 @@ fn issued<A: Allocator + Clone>(known: &mut ById<Known, A>, id: u64) -> Command
     };
     let (release, due) = match kept {
         Known::Waits(waiting) => (waiting.release, waiting.due),
-        Known::Handed { release, due } => (release, due),
+        Known::Requeued { release, due } => (release, due),
         Known::Gone => unreachable!(),
     };
     known.set(id, Known::Gone);
     Command { id, release, due }
 }
 
-/// Marks the request of a command, which was issued, as handed back.
-fn handed<A: Allocator + Clone>(known: &mut ById<Known, A>, command: &Command)
+/// Marks the request of a command, which was issued, as requeued.
+fn requeue<A: Allocator + Clone>(known: &mut ById<Known, A>, command: &Command)
     requires { kept_at known.old command.now.id ≡ Some Known.Gone }
-    ensures { Gives (kept_at known.old) command.now.id (Some (Known.Handed command.now.release command.now.due)) (kept_at known.new) }
+    ensures { Gives (kept_at known.old) command.now.id (requeued_known command.now) (kept_at known.new) }
 {
-    let back = Known::Handed {
+    let back = Known::Requeued {
         release: command.release,
         due: command.due,
     };
@@ -241,7 +241,7 @@ fn append<T: Drop, A: Allocator>(list: &mut Vec<T, A>, value: T)
 #[inline(always)]
 fn insert_ids<A: Allocator + Clone>(ids: &mut IdSet<A>, bios: &[Bio])
     requires { length bios.now ≤ id_set.spare ids.old }
-    ensures ids { (id : Name) → has_named (has_id ids.new) id ≡ has_named (has_id ids.old) id || has_bio_id bios.now id }
+    ensures ids { (x : Name) → has_named (has_id ids.new) x ≡ has_named (has_id ids.old) x || has_bio_id bios.now x }
     ensures room { id_set.spare ids.old ≤ id_set.spare ids.new + length bios.now }
 {
     for bio in bios {

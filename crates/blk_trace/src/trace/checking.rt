@@ -77,7 +77,7 @@ impl<A: Allocator + Clone> Trace<A> {
         let waiting = match self.known_at(id) {
             None => return Some(TraceRule::Unknown),
             Some(Known::Gone) => return Some(TraceRule::AlreadyIssued),
-            Some(Known::Handed { .. }) => return Some(TraceRule::AlreadyIssued),
+            Some(Known::Requeued { .. }) => return Some(TraceRule::AlreadyIssued),
             Some(Known::Waits(waiting)) => waiting,
         };
         if !self.are_new(request) {
@@ -100,7 +100,7 @@ impl<A: Allocator + Clone> Trace<A> {
             None => Some(TraceRule::Unknown),
             Some(Known::Gone) => Some(TraceRule::AlreadyIssued),
             Some(Known::Waits(_)) => self.broken_tag(id, tag),
-            Some(Known::Handed { .. }) => self.broken_tag(id, tag),
+            Some(Known::Requeued { .. }) => self.broken_tag(id, tag),
         }
     }
 
@@ -211,7 +211,7 @@ impl<A: Allocator + Clone> Trace<A> {
         any_open(self.tags.as_slice())
     }
 
-    /// Whether there are places for so many events more, with an end counted for each open Issue.
+    /// Whether there are places for that number of events more, with an end counted for each open Issue.
     fn has_places(&self, places: u64) -> bool
         requires { places ≤ 2 }
         ensures { IsTrue result ↔ (length self.now.events + open_count self.now.events + places ≤ MAX_EVENTS) }

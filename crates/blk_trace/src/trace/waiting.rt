@@ -1,12 +1,11 @@
 //! The bios that wait, gathered from the events.
 
-ghost use Rattle.std.specs.Prelude.{ℕ, ◌≡◌, ◌==◌, cond, false, not, Some, IfOk, OnOk};
-ghost use Rattle.std.specs.Option.{option_map, option_map_or};
+ghost use Rattle.std.specs.Prelude.{ℕ, ◌≡◌, false, not, Some, IfOk, OnOk};
+ghost use Rattle.std.specs.Option.{option_map_or};
 ghost use Rattle.blk_ids.specs.ById.{kept_at};
 ghost use Rattle.std.specs.List.{flat_map};
 ghost use Rattle.std.specs.Ordering.{nat_cmp};
 ghost use Rattle.std.specs.BTreeMap.{get, values, IsOrdered};
-ghost use Rattle.blk_trace.specs.Events.{join_up};
 ghost use Rattle.blk_trace.specs.Inside.Gathered.{waiting_bios, with_event, TakesJoin, FitsUnder, JoinsUnder};
 ghost use Rattle.blk_trace.specs.Inside.Kept.{known_of, is_gone};
 ghost use Rattle.blk_trace.specs.Kinds.{enters};
@@ -25,7 +24,7 @@ use std::alloc::{AllocError, Allocator};
 use std::collections::BTreeMap;
 
 impl<A: Allocator + Clone> Trace<A> {
-    /// The bios of the released requests that were not issued, or were handed back, by rising id of the requests and then
+    /// The bios of the released requests that were not issued, or were requeued, by rising id of the requests and then
     /// in the order of their sectors. It walks the events once. Fails only when out of memory.
     pub fn waiting(&self) -> Result<Vec<Bio, A>, AllocError>
         ensures waiting { IfOk result (λ v. v.items ≡ waiting_of self.now.events) }
@@ -97,7 +96,7 @@ fn gather<A: Allocator + Clone>(
     limits: &Limits,
 ) -> Result<(), AllocError>
     requires { TakesJoin limits.now (get nat_cmp requests.old) event.now }
-    ensures { OnOk result ((id : ℕ) → get nat_cmp requests.new id ≡ with_event (get nat_cmp requests.old) event.now id) }
+    ensures { OnOk result ((k : ℕ) → get nat_cmp requests.new k ≡ with_event (get nat_cmp requests.old) event.now k) }
 {
     if let Some((id, request)) = event.releases() {
         return put(requests, id, request.copy()?);

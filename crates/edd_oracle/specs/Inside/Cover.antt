@@ -6,6 +6,7 @@ use Rattle.edd_commands.specs.declared.steps.Step.{Step}
 use Rattle.edd_commands.specs.Capacity.{depth_at}
 use Rattle.edd_oracle.specs.declared.cover.Served.{Served}
 use Rattle.edd_oracle.specs.OnTime.{IsPassedOver}
+use Rattle.edd_oracle.specs.Plan.{due_at}
 use Rattle.std.specs.List.{Contains}
 
 -- how many of them due by `due` run in the round y
@@ -15,6 +16,10 @@ served_at served y due = count_by (λ s. nat_le s.due due && s.round == y) serve
 -- how many of them run in the round y
 unfoldable pub running_at : List Served → ℕ → ℕ
 running_at served y = count_by (λ s. s.round == y) served
+
+-- before the round `until` they run as the commands do: as many in each round by each due round
+abbrev pub RunAlike : List Command → List ℕ → ℕ → List Served → Type 0
+RunAlike commands rounds until served = (y due : ℕ) → y < until → served_at served y due ≡ due_at commands rounds y due
 
 -- those at the places from `first` on and before `past` all run in the round x and are due by `due`
 abbrev pub AreDue : List Served → ℕ → ℕ → ℕ → ℕ → Type 0

@@ -5,7 +5,8 @@ use Rattle.edd_commands.specs.declared.steps.Step.{Step}
 use Rattle.edd_commands.specs.Capacity.{depth_at}
 use Rattle.edd_commands.specs.Limits.{release_limit}
 use Rattle.edd_oracle.specs.declared.queue.Released.{Released}
-use Rattle.edd_oracle.specs.Plan.{IsWaiting}
+use Rattle.edd_oracle.specs.declared.queue.Arrival.{Arrival}
+use Rattle.edd_oracle.specs.Inside.Queue.{IsWaiting, arrivals_of}
 use Rattle.edd_oracle.specs.Priority.{ComesFirst}
 
 -- whether this is the round x
@@ -25,6 +26,10 @@ has_none (Some y) = false
 -- one where the command at place k has no round
 abbrev pub unplaced_at : List (Option ℕ) → ℕ → ℕ
 unplaced_at rounds k = cond (has_none (slice_index_or rounds k None)) 1 0
+
+-- of the first n commands those that have no round yet stand among the arrivals, each once
+abbrev pub AreUnplaced : List (Option ℕ) → ℕ → List Arrival → Type 0
+AreUnplaced rounds n arrivals = (k : ℕ) → k < n → arrivals_of arrivals k ≡ unplaced_at rounds k
 
 -- how many commands have no round yet
 unfoldable pub unplaced_count : List (Option ℕ) → ℕ

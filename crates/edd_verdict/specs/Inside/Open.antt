@@ -54,6 +54,10 @@ pub record IsInnermost (opened : List Window) (round : ℕ) (w : Window) : Type 
   pub begins : w.from ≤ round
   pub first : (j : ℕ) (e : Window) → j < length opened → (slice_index_or opened j e).from ≤ round → w.due ≤ (slice_index_or opened j e).due
 
+-- the windows all begin after the round
+abbrev pub BeginLater : List Window → ℕ → Type 0
+BeginLater opened round = (j : ℕ) → (e : Window) → j < length opened → round < (slice_index_or opened j e).from
+
 -- the verdict of a command and its round, where no window is known
 abbrev pub first_verdict_of : Command × ℕ → Option Verdict
 first_verdict_of p = cond (nat_le p.1 p.0.due) None (cond (nat_lt p.0.due p.0.release) (Some Arrival) (Some Spare))

@@ -1,5 +1,6 @@
 -- Full rounds, and the windows that end where all that run in a round are due in it.
-use Rattle.std.specs.Prelude.{ℕ, ◌≡◌, ◌≤◌, ◌<◌, ◌-◌, ◌==◌, ◌&&◌, ◌⊎◌, List, length, count_by, nat_le, slice_index_or}
+use Rattle.std.specs.Prelude.{ℕ, ◌≡◌, ◌≤◌, ◌<◌, ◌-◌, ◌==◌, ◌&&◌, ◌⊎◌, List, length, map, count_by, nat_le, slice_index_or}
+use Rattle.std.specs.List.{zip}
 use Rattle.edd_commands.specs.declared.Command.{Command}
 use Rattle.edd_check.specs.declared.Window.{Window}
 use Rattle.edd_commands.specs.declared.steps.Step.{Step}
@@ -9,6 +10,18 @@ use Rattle.edd_verdict.specs.declared.tight.Served.{Served}
 -- a command that runs in the round p.1
 abbrev pub served_of : Command × ℕ → Served
 served_of p = record { round = p.1; due = p.0.due }
+
+-- each command by its round and its due round
+abbrev pub all_served : List Command → List ℕ → List Served
+all_served commands rounds = map (λ p. served_of p) (zip commands rounds)
+
+-- that there is room before a round: whatever ends later can't hold the round before it
+abbrev pub room_before : ℕ → Served
+room_before round = record { round = round - 1; due = 18446744073709551615 }
+
+-- the last of a list, or else this
+abbrev pub last_or : List Served → Served → Served
+last_or peaks e = slice_index_or peaks (length peaks - 1) e
 
 -- how many of them run in the round y
 unfoldable pub running_at : List Served → ℕ → ℕ

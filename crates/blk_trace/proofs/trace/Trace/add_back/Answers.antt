@@ -2,7 +2,7 @@ use Rattle.std.proofs.Common.{◌≡◌, ◌<◌, ◌+◌, ◌++◌, ◌==◌, �
 use Rattle.std.specs.Prelude.{slice_get}
 use Rattle.blk_ids.specs.ById as by_id
 use Rattle.edd_commands.specs.declared.Command.{Command}
-use Rattle.blk_trace.specs.declared.known.Known.TheVariants.{Handed}
+use Rattle.blk_trace.specs.declared.known.Known.TheVariants.{Requeued}
 use Rattle.blk_bio.specs.declared.rule.TraceRule.TheVariants as rule
 use Rattle.blk_trace.specs.Happened.{Happened, Back}
 use Rattle.blk_trace.specs.Events.{IsOpen, IsOpenBy}
@@ -11,7 +11,7 @@ use Rattle.blk_trace.specs.Rules.{IsUnbroken}
 use Rattle.blk_trace.proofs.Pushing.{push_legal}
 use Rattle.blk_trace.specs.Traces.{Traced}
 use Rattle.blk_trace.proofs.Opening.{open_positive}
-use Rattle.blk_trace.proofs.Returns.{IsDropped, dropped}
+use Rattle.blk_trace.proofs.Requeues.{IsDropped, dropped}
 use Rattle.blk_trace.proofs.Capacities.{tag_below, depths_kept}
 use Rattle.blk_trace.proofs.Keeping.{kept_there, kept_within, kept_out, kept_back, room_after_back}
 use Rattle.blk_trace.proofs.trace.Trace.add_back.Goals as goal
@@ -41,8 +41,8 @@ remove-requires g c =
     let w = kept_within c.self.inside.setup c.self.inside.events.items c.self.inside.commands.items c.self.inside.rounds.items _ _ _ _ _ c.place_of-place.result p.0 c.self.invariant.0 at in
     omega (arith, w.1, c.self.inside.rounds.ok.0)
 
-pub handed-requires : goal.handed-requires
-handed-requires g c =
+pub requeue-requires : goal.requeue-requires
+requeue-requires g c =
     let s = c.self.inside in
     let es : List Happened = c.self.inside.events.items in
     let by : IsOpenBy es c.args.tag c.open_id-id.result = subst (λ (v : Traced). IsOpenBy v.events c.args.tag c.open_id-id.result) (sym c.self.view_is) c.open_id-id.ensures in
@@ -97,7 +97,7 @@ invariant_of-self g c =
     let some : 0 < s.«open» = omega (arith, open_positive s.setup es c.args.tag k.legal o, k.open_is) in
     let hc : length c.remove-command.new.self.items + 1 ≡ length s.commands.items = omega (arith, c.remove-command.ensures.len, s.commands.ok.0, c.remove-command.new.self.ok.0) in
     let hr : length c.remove.new.self.items + 1 ≡ length s.rounds.items = omega (arith, c.remove.ensures.len, s.rounds.ok.0, c.remove.new.self.ok.0) in
-    let hk = λ (q : ℕ). c.handed.ensures q ∙ ap (λ (y : Command). cond (y.id == q) (Some (Handed y.release y.due)) (by_id.kept_at s.known q)) out.0 in
+    let hk = λ (q : ℕ). c.requeue.ensures q ∙ ap (λ (y : Command). cond (y.id == q) (Some (Requeued y.release y.due)) (by_id.kept_at s.known q)) out.0 in
     (kept_back s.setup es _ c.args.tag c.open_id-id.result s.commands.items _ s.rounds.items _ _ _ (by_id.kept_at s.known) _ _ s.tags.items k all by hz (c.remove-command.ensures.by_index.2 ∙ left.commands_left) (c.remove.ensures.by_index.2 ∙ left.rounds_left) hk, room_after_back s.prepared _ _ _ _ _ _ _ _ _ _ _ _ _ _ _ _ some room n c.append.ensures.room hc hr c.remove-command.ensures.capacity c.remove.ensures.capacity, depths_kept s.setup es _ (Back c.args.tag) s.depth s.next_depth c.self.invariant.2 refl refl hz)
 
 pub returns-clause-legal : goal.returns-clause-legal

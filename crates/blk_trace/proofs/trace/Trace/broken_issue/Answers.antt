@@ -22,7 +22,7 @@ broken_tag-requires g c =
     let i = waiting_is c.args.self.now.setup c.args.self.now.events c.args.id p.0 p.1 p.3 in
     record { released = i.released; waits = λ k tag at. absurd (i.not_issued (k, (tag, at))) }
 
-pub broken_tag-requires-in-Some-Handed : goal.broken_tag-requires-in-Some-Handed
-broken_tag-requires-in-Some-Handed g c =
-    let p = known_requeued c.args.self.now.setup c.args.self.now.events c.args.id _ _ c.known_at.ensures.legal (sym c.known_at.ensures.value ∙ c.in-Some-Handed.is ∙ ap Some c.in-Some-Handed.field-0-is) in
+pub broken_tag-requires-in-Some-Requeued : goal.broken_tag-requires-in-Some-Requeued
+broken_tag-requires-in-Some-Requeued g c =
+    let p = known_requeued c.args.self.now.setup c.args.self.now.events c.args.id _ _ c.known_at.ensures.legal (sym c.known_at.ensures.value ∙ c.in-Some-Requeued.is ∙ ap Some c.in-Some-Requeued.field-0-is) in
     record { released = p.released; waits = p.back }

@@ -29,9 +29,9 @@ returns-in-Some-Gone-clause-some g c =
     let p = known_gone c.args.self.now.setup c.args.self.now.events c.args.id e in
     join_already_issued c.args.self.now.setup c.args.self.now.events c.args.id c.args.request.now (released_first c.args.self.now.setup c.args.self.now.events c.args.id c.known_at.ensures.legal p) (λ h. h p)
 
-pub returns-in-Some-Handed-clause-some : goal.returns-in-Some-Handed-clause-some
-returns-in-Some-Handed-clause-some g c =
-    let p = known_requeued c.args.self.now.setup c.args.self.now.events c.args.id _ _ c.known_at.ensures.legal (sym c.known_at.ensures.value ∙ c.in-Some-Handed.is ∙ ap Some c.in-Some-Handed.field-0-is) in
+pub returns-in-Some-Requeued-clause-some : goal.returns-in-Some-Requeued-clause-some
+returns-in-Some-Requeued-clause-some g c =
+    let p = known_requeued c.args.self.now.setup c.args.self.now.events c.args.id _ _ c.known_at.ensures.legal (sym c.known_at.ensures.value ∙ c.in-Some-Requeued.is ∙ ap Some c.in-Some-Requeued.field-0-is) in
     join_already_issued c.args.self.now.setup c.args.self.now.events c.args.id c.args.request.now p.released (λ h. h p.issued)
 
 pub returns-then-not-are_new-clause-some : goal.returns-then-not-are_new-clause-some

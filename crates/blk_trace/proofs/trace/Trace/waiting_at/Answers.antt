@@ -9,9 +9,9 @@ unreachable-requires g c =
     let e : known_of c.args.self.now.setup c.args.self.now.events c.args.id ≡ Some Gone = sym c.known_at.ensures.value ∙ c.in-Some-Gone.is ∙ ap Some c.in-Some-Gone.field-0-is in
     c.requires.waits (known_gone c.args.self.now.setup c.args.self.now.events c.args.id e)
 
-pub unreachable-requires-in-Some-Handed : goal.unreachable-requires-in-Some-Handed
-unreachable-requires-in-Some-Handed g c =
-    c.requires.waits (known_requeued c.args.self.now.setup c.args.self.now.events c.args.id _ _ c.known_at.ensures.legal (sym c.known_at.ensures.value ∙ c.in-Some-Handed.is ∙ ap Some c.in-Some-Handed.field-0-is)).issued
+pub unreachable-requires-in-Some-Requeued : goal.unreachable-requires-in-Some-Requeued
+unreachable-requires-in-Some-Requeued g c =
+    c.requires.waits (known_requeued c.args.self.now.setup c.args.self.now.events c.args.id _ _ c.known_at.ensures.legal (sym c.known_at.ensures.value ∙ c.in-Some-Requeued.is ∙ ap Some c.in-Some-Requeued.field-0-is)).issued
 
 pub unreachable-requires-in-None : goal.unreachable-requires-in-None
 unreachable-requires-in-None g c = known_none c.args.self.now.setup c.args.self.now.events c.args.id (sym c.known_at.ensures.value ∙ c.in-None.is) c.requires.released

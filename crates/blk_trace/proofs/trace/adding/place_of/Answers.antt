@@ -1,5 +1,5 @@
 use Rattle.std.proofs.Common.{arith, ◌-◌}
-use Rattle.blk_trace.proofs.Returns.{found_command, passed_command, beyond_commands}
+use Rattle.blk_trace.proofs.Requeues.{found_command, passed_command, beyond_commands}
 use Rattle.blk_trace.proofs.trace.adding.place_of.Goals as goal
 
 pub loop-place-init : goal.loop-place-init
