@@ -14,13 +14,13 @@ use Rattle.edd_figures.specs.Figures.{HasFigures}
 use Rattle.edd_figures.specs.Misses.{HasMisses, HasSpares}
 
 -- why a schedule isn't judged: the first rule of its rounds that is broken, or running out of memory after the first two
-abbrev pub IsRefused : List Command → List ℕ → List Step → CheckFault → Type 0
-IsRefused commands rounds steps Length = ⊥
-IsRefused commands rounds steps (BeforeRelease id) = BreaksFirst (round_rules commands steps rounds) 1 (IsFirstEarly commands rounds id)
-IsRefused commands rounds steps Memory = AreKept (take 2 (round_rules commands steps rounds))
-IsRefused commands rounds steps (OverDepth x) = BreaksFirst (round_rules commands steps rounds) 2 (IsLeastOverDeep rounds steps x)
-IsRefused commands rounds steps (WrongLateness n) = ⊥
-IsRefused commands rounds steps (NotCrowded n) = ⊥
+abbrev pub IsRefusedSchedule : List Command → List ℕ → List Step → CheckFault → Type 0
+IsRefusedSchedule commands rounds steps Length = ⊥
+IsRefusedSchedule commands rounds steps (BeforeRelease id) = BreaksFirst (round_rules commands steps rounds) 1 (IsFirstEarly commands rounds id)
+IsRefusedSchedule commands rounds steps Memory = AreKept (take 2 (round_rules commands steps rounds))
+IsRefusedSchedule commands rounds steps (OverDepth x) = BreaksFirst (round_rules commands steps rounds) 2 (IsLeastOverDeep rounds steps x)
+IsRefusedSchedule commands rounds steps (WrongLateness n) = ⊥
+IsRefusedSchedule commands rounds steps (NotCrowded n) = ⊥
 
 -- the judgement on a legal schedule: how many of its commands are late and how many had to be, and how late the latest is and had to be
 pub record IsJudgement (commands : List Command) (rounds : List ℕ) (steps : List Step) (c : Counts) (windows : List Crowd) (f : Option Figures) : Type 0 where

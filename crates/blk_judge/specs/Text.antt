@@ -20,5 +20,5 @@ abbrev pub miss_line : Miss → List ℕ
 miss_line m = (((((decimal m.command.id ++ next_field (decimal m.command.release)) ++ next_field (decimal m.command.due)) ++ next_field (decimal m.round)) ++ next_field (decimal m.lateness)) ++ verdict_fields m.verdict) ++ 10 ∷ []
 
 -- the head line, and a record for each
-abbrev pub misses_text : List Miss → List ℕ
-misses_text misses = (codes "id,release,due,round,lateness,verdict,from,until" ++ 10 ∷ []) ++ flat_map miss_line misses
+abbrev pub miss_records : List Miss → List ℕ
+miss_records misses = (codes "id,release,due,round,lateness,verdict,from,until" ++ 10 ∷ []) ++ flat_map miss_line misses

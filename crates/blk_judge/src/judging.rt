@@ -3,7 +3,7 @@
 ghost use Rattle.std.specs.Prelude.{◌≡◌, ◌≤◌, ◌<◌, ◌↔◌, length, IfErr, IfOk};
 ghost use Rattle.edd_commands.specs.Schedule.{RoundsInRange};
 ghost use Rattle.edd_oracle.specs.Input.{IsTaken};
-ghost use Rattle.blk_judge.specs.Judged.{IsRefused, IsJudgement};
+ghost use Rattle.blk_judge.specs.Judged.{IsRefusedSchedule, IsJudgement};
 
 use crate::legality::find_fault;
 use edd_check::CheckFault;
@@ -40,7 +40,7 @@ pub fn judge<A: Allocator + Clone, B: Allocator>(
     // what could have been avoided is no more than what is spare, and is something exactly where something is spare
     ensures at_most { IfOk result (λ j. j.misses.counts.avoidable ≤ j.misses.counts.spare) }
     ensures some { IfOk result (λ j. (0 < j.misses.counts.avoidable) ↔ (0 < j.misses.counts.spare)) }
-    ensures refused { IfErr result (IsRefused commands.now rounds.now capacity.now) }
+    ensures refused { IfErr result (IsRefusedSchedule commands.now rounds.now capacity.now) }
 {
     if let Err(fault) = find_fault(&alloc, commands, rounds, capacity) {
         return Err(fault);

@@ -2,7 +2,7 @@
 
 ghost use Rattle.std.specs.Prelude.{◌≡◌, length, IfErr, OnOk};
 ghost use Rattle.edd_commands.specs.Schedule.{IsLegal, CommandsInRange, RoundsInRange};
-ghost use Rattle.blk_judge.specs.Judged.{IsRefused};
+ghost use Rattle.blk_judge.specs.Judged.{IsRefusedSchedule};
 
 use edd_check::{CheckFault, Window, check};
 use edd_commands::{Capacity, Command};
@@ -20,7 +20,7 @@ pub(crate) fn find_fault<A: Allocator, B: Allocator>(
     requires commands_in { CommandsInRange commands.now }
     requires rounds_in { RoundsInRange rounds.now }
     ensures legal { OnOk result (IsLegal commands.now rounds.now capacity.now) }
-    ensures refused { IfErr result (IsRefused commands.now rounds.now capacity.now) }
+    ensures refused { IfErr result (IsRefusedSchedule commands.now rounds.now capacity.now) }
 {
     let window = Window { from: 0, due: 0 };
     match check(alloc, commands, capacity, 0, rounds, window) {

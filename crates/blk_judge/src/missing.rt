@@ -5,7 +5,7 @@ ghost use Rattle.std.specs.List.{zip, filter_map};
 ghost use Rattle.edd_commands.specs.declared.Command.{Command as ACommand};
 ghost use Rattle.edd_commands.specs.Schedule.{RoundsInRange};
 ghost use Rattle.edd_oracle.specs.Input.{IsTaken};
-ghost use Rattle.blk_judge.specs.Judged.{IsRefused};
+ghost use Rattle.blk_judge.specs.Judged.{IsRefusedSchedule};
 ghost use Rattle.blk_judge.specs.Late.{miss_of, AreMissed};
 
 use crate::legality::find_fault;
@@ -73,12 +73,13 @@ pub fn late_of<A: Allocator + Clone, B: Allocator>(
     requires one_each { length rounds.now ≡ length commands.now }
     requires rounds_in { RoundsInRange rounds.now }
     ensures late { IfOk result (λ v. AreMissed commands.now rounds.now capacity.now v.items) }
-    ensures refused { IfErr result (IsRefused commands.now rounds.now capacity.now) }
+    ensures refused { IfErr result (IsRefusedSchedule commands.now rounds.now capacity.now) }
 {
     if let Err(fault) = find_fault(&alloc, commands, rounds, capacity) {
         return Err(fault);
     }
     law_of_verdicts();
+    // brings the prover the capacity's invariant
     let _ = capacity.at(0);
     let Ok(alloc_verdicts) = alloc.clone() else {
         return Err(CheckFault::Memory);

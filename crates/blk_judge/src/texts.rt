@@ -2,7 +2,7 @@
 
 ghost use Rattle.std.specs.Prelude.{◌≡◌, ◌++◌, IfOk, OnOk};
 ghost use Rattle.std.specs.List.{flat_map};
-ghost use Rattle.blk_judge.specs.Text.{counts_text, judged_text, miss_line, misses_text};
+ghost use Rattle.blk_judge.specs.Text.{counts_text, judged_text, miss_line, miss_records};
 
 use crate::{Judged, Miss};
 use drafts::Draft;
@@ -61,7 +61,7 @@ fn push_misses(draft: &mut Draft, misses: &[Miss]) -> Result<(), AllocError>
 /// The verdict is `arrival` or `spare` before two empty fields, or `full` before the first and the last round of its window. Fails
 /// only when out of memory.
 pub fn late_lines(alloc: Global, misses: &[Miss]) -> Result<Vec<u8>, AllocError>
-    ensures { IfOk result (λ v. v.items ≡ misses_text misses.now) }
+    ensures { IfOk result (λ v. v.items ≡ miss_records misses.now) }
 {
     let mut draft = Draft::new(alloc);
     draft.text(b"id,release,due,round,lateness,verdict,from,until\n")?;

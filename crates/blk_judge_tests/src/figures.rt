@@ -70,10 +70,10 @@ fn falling_depth(rt: HostRuntime) {
     let mut steps = Vec::new(rt.alloc());
     steps
         .push(Step { from: 0, depth: 2 })
-        .expect(&rt, "want of memory");
+        .expect(&rt, "out of memory");
     steps
         .push(Step { from: 1, depth: 1 })
-        .expect(&rt, "want of memory");
+        .expect(&rt, "out of memory");
     let capacity = Capacity::new(steps).expect(&rt, "a capacity");
     let commands = [command(0, 0, 0), command(1, 0, 0), command(2, 0, 0)];
     let rounds = [0, 0, 3];
@@ -82,7 +82,7 @@ fn falling_depth(rt: HostRuntime) {
     assert!(rt; in_range(&commands, &rounds, Window { from: 0, due: 0 }));
     let figures = figures_of(rt.alloc(), &commands, &rounds, &capacity).expect(
         &rt,
-        "want of memory",
+        "out of memory",
     );
     let wanted = Figures {
         greatest: 3,
@@ -92,7 +92,7 @@ fn falling_depth(rt: HostRuntime) {
         load: 3,
     };
     assert_eq!(rt; figures, Some(wanted));
-    let misses = misses_of(rt.alloc(), &commands, &rounds, &capacity).expect(&rt, "want of memory");
+    let misses = misses_of(rt.alloc(), &commands, &rounds, &capacity).expect(&rt, "out of memory");
     let counts = Counts {
         commands: 3,
         late: 1,

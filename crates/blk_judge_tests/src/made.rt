@@ -15,7 +15,7 @@ pub fn command(id: u64, release: u64, due: u64) -> Command {
 /// The same depth in every round.
 pub fn fixed(rt: &impl Abort, alloc: Global, depth: u64) -> Capacity {
     assert!(rt; depth > 0 && depth <= 256);
-    Capacity::fixed(alloc, depth).expect(rt, "want of memory")
+    Capacity::fixed(alloc, depth).expect(rt, "out of memory")
 }
 
 /// The lines that are told of a legal schedule.
@@ -31,7 +31,7 @@ pub fn told(
     assert!(rt; rounds.len() == commands.len());
     assert!(rt; in_range(commands, rounds, Window { from: 0, due: 0 }));
     match judge(alloc, commands, rounds, &capacity) {
-        Ok(judged) => judged_lines(alloc, &judged).expect(rt, "want of memory"),
+        Ok(judged) => judged_lines(alloc, &judged).expect(rt, "out of memory"),
         Err(_) => panic!(rt; "refused"),
     }
 }
@@ -49,7 +49,7 @@ pub fn late(
     assert!(rt; rounds.len() == commands.len());
     assert!(rt; in_range(commands, rounds, Window { from: 0, due: 0 }));
     match late_of(alloc, commands, rounds, &capacity) {
-        Ok(misses) => late_lines(alloc, misses.as_slice()).expect(rt, "want of memory"),
+        Ok(misses) => late_lines(alloc, misses.as_slice()).expect(rt, "out of memory"),
         Err(_) => panic!(rt; "refused"),
     }
 }

@@ -6,7 +6,7 @@ use Rattle.std.proofs.lemmas.List.{get_or-set_same, get_or-set_other, get_or-rep
 use Rattle.edd_commands.specs.declared.steps.Step.{Step}
 use Rattle.edd_commands.specs.Capacity.{depth_at}
 use Rattle.edd_commands.specs.Schedule.{places_at}
-use Rattle.edd_check.specs.Inside.Blocks.{IsLeastFrom}
+use Rattle.edd_check.specs.Inside.Blocks.{IsLeastRoundFrom}
 use Rattle.edd_commands.proofs.Counting.{places_more, places_same, places_take, no_places}
 
 -- the places of the rounds from `start` on among the first i, none of which is above the steps
@@ -59,7 +59,7 @@ one_too_many rounds counts steps start i k so_far within here in_block full =
     omega (arith, so_far.counted k in_block, places_more rounds i (start + k) within (sym here), places_take rounds (i + 1) (start + k))
 
 -- rounds below the next block stay within the steps, where those below the least and those of its block do
-pub next_block : (rounds : List ℕ) (steps : List Step) (start least : ℕ) → ((x : ℕ) → x < start → places_at rounds x ≤ depth_at steps x) → IsLeastFrom rounds start least → ((k : ℕ) → k < 4096 → places_at rounds (least + k) ≤ depth_at steps (least + k)) → (x : ℕ) → x < least + 4096 → places_at rounds x ≤ depth_at steps x
+pub next_block : (rounds : List ℕ) (steps : List Step) (start least : ℕ) → ((x : ℕ) → x < start → places_at rounds x ≤ depth_at steps x) → IsLeastRoundFrom rounds start least → ((k : ℕ) → k < 4096 → places_at rounds (least + k) ≤ depth_at steps (least + k)) → (x : ℕ) → x < least + 4096 → places_at rounds x ≤ depth_at steps x
 next_block rounds steps start least below from_least block x h =
     elim (cases_lt x start) [
       | inl low ↦ below x low
@@ -79,7 +79,7 @@ no_more rounds steps start below all x =
     ]
 
 -- a block that reaches the end of the numbers is the last one
-pub last_block : (rounds : List ℕ) (steps : List Step) (start least bound : ℕ) → ((x : ℕ) → x < start → places_at rounds x ≤ depth_at steps x) → IsLeastFrom rounds start least → ((k : ℕ) → k < 4096 → places_at rounds (least + k) ≤ depth_at steps (least + k)) → ((k : ℕ) → get_or rounds k 0 < bound) → bound ≤ least + 4096 → (x : ℕ) → places_at rounds x ≤ depth_at steps x
+pub last_block : (rounds : List ℕ) (steps : List Step) (start least bound : ℕ) → ((x : ℕ) → x < start → places_at rounds x ≤ depth_at steps x) → IsLeastRoundFrom rounds start least → ((k : ℕ) → k < 4096 → places_at rounds (least + k) ≤ depth_at steps (least + k)) → ((k : ℕ) → get_or rounds k 0 < bound) → bound ≤ least + 4096 → (x : ℕ) → places_at rounds x ≤ depth_at steps x
 last_block rounds steps start least bound below from_least block each end x =
     elim (cases_lt x (least + 4096)) [
       | inl before ↦ next_block rounds steps start least below from_least block x before

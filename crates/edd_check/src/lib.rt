@@ -9,7 +9,7 @@ ghost use Rattle.edd_check.specs.Names.{check_fault_name};
 ghost use Rattle.edd_commands.specs.Capacity.{depth_at};
 ghost use Rattle.edd_commands.specs.Schedule.{IsLegal, IsGreatestLateness, StartsReleased, IsLeastLateness, IsLowerBound, places_at, CommandsInRange, RoundsInRange};
 ghost use Rattle.edd_check.specs.Rules.{IsFirstEarly, IsLeastOverDeep};
-ghost use Rattle.edd_check.specs.Inside.Blocks.{IsLeastFrom, IsWithinDepth};
+ghost use Rattle.edd_check.specs.Inside.Blocks.{IsLeastRoundFrom, IsWithinDepth};
 ghost use Rattle.edd_check.specs.Window.{load_of, rounds_between, IsCrowded, WindowInRange};
 ghost use Rattle.edd_check.specs.Check.{IsAnswer, AcceptsClaim};
 
@@ -112,7 +112,7 @@ fn starts_released(commands: &[Command], rounds: &[u64]) -> bool
 
 /// The least round of the list that is `from` or later.
 fn least_from(rounds: &[u64], from: u64) -> Option<u64>
-    ensures some { IfSome result (λ x. IsLeastFrom rounds.now from x) }
+    ensures some { IfSome result (λ x. IsLeastRoundFrom rounds.now from x) }
     ensures none { IfNone result (All (λ x. x < from) rounds.now) }
 {
     let mut least: Option<u64> = None;
@@ -314,5 +314,6 @@ pub fn law_of_crowded_windows<A: Allocator>(
     requires { IsCrowded commands.now capacity.now lateness window }
     ensures { IsLowerBound commands.now capacity.now lateness }
 {
+    // brings the prover the invariants of what the clause speaks of
     let _ = (commands.len(), capacity.at(0), lateness, window.from);
 }

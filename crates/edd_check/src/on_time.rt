@@ -221,5 +221,6 @@ pub fn check_on_time<A: Allocator, B: Allocator>(
 pub fn law_of_covers<A: Allocator>(commands: &[Command], capacity: &Capacity<A>, cover: &[Window])
     ensures { IsOnTimeBound commands.now capacity.now (bound_of commands.now capacity.now cover.now) }
 {
+    // brings the prover the invariants of what the clause speaks of
     let _ = (commands.len(), capacity.at(0), cover.len());
 }

@@ -43,6 +43,7 @@ fn compared<A: Allocator, B: Allocator>(
     requires latest { IsLatestWindow commands.now answer.now.rounds.items capacity.now answer.now.window }
     ensures { AreFigures commands.now rounds.now capacity.now result }
 {
+    // brings the prover the capacity's invariant
     let _ = capacity.at(0);
     let Some(greatest) = greatest_lateness(commands, rounds) else {
         unreachable!()

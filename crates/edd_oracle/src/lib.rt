@@ -132,6 +132,7 @@ pub fn law_of_checks<A: Allocator, B: Allocator>(
     ensures window_in { WindowInRange answer.now.window }
     ensures passed { IsChecked commands.now capacity.now answer.now }
 {
+    // brings the prover the invariants of what the clauses speak of
     let _ = (commands.len(), capacity.at(0), answer.lateness);
 }
 
@@ -206,6 +207,7 @@ pub fn law_of_on_time_checks<A: Allocator, B: Allocator>(
     ensures asked { CoverInRange answer.now.cover.items }
     ensures passed { IsCheckedOnTime commands.now capacity.now answer.now }
 {
+    // brings the prover the invariants of what the clauses speak of
     let _ = (commands.len(), capacity.at(0), answer.met);
 }
 
@@ -225,5 +227,6 @@ pub fn law_of_one_schedule<A: Allocator>(
     requires other_first { IsEarliestDueFirst commands.now other.now capacity.now }
     ensures { one.now ≡ other.now }
 {
+    // brings the prover the invariants of what the clause speaks of
     let _ = (commands.len(), capacity.at(0), one.len(), other.len());
 }

@@ -18,7 +18,7 @@ pub fn window(from: u64, due: u64) -> Window {
 /// The same depth in every round.
 pub fn fixed(rt: &impl Abort, alloc: Global, depth: u64) -> Capacity {
     assert!(rt; depth > 0 && depth <= 256);
-    Capacity::fixed(alloc, depth).expect(rt, "want of memory")
+    Capacity::fixed(alloc, depth).expect(rt, "out of memory")
 }
 
 /// The capacity of these steps, each a round and the depth from it on.
@@ -29,7 +29,7 @@ pub fn steps(rt: &impl Abort, alloc: Global, list: &[(u64, u64)]) -> Vec<Step> {
             from: *from,
             depth: *depth,
         };
-        steps.push(step).expect(rt, "want of memory");
+        steps.push(step).expect(rt, "out of memory");
     }
     steps
 }

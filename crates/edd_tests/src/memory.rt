@@ -39,7 +39,7 @@ fn of_a_claim(rt: HostRuntime) {
 
 /// Schedules three commands and has the answer checked; whether memory was not refused.
 fn scheduled(rt: &impl Abort, alloc: Global, heap: &Refusing<Global>) -> bool {
-    let one = Capacity::fixed(alloc, 1).expect(rt, "want of memory");
+    let one = Capacity::fixed(alloc, 1).expect(rt, "out of memory");
     // the ids don't rise, so that they are looked at in a set
     let commands = [command(3, 0, 10), command(1, 1, 1), command(2, 1, 1)];
     match solve(heap, &commands, &one) {
@@ -86,7 +86,7 @@ fn of_a_schedule(rt: HostRuntime) {
 
 /// Schedules three commands of which one can't be met and has the answer checked; whether memory was not refused.
 fn met(rt: &impl Abort, alloc: Global, heap: &Refusing<Global>) -> bool {
-    let one = Capacity::fixed(alloc, 1).expect(rt, "want of memory");
+    let one = Capacity::fixed(alloc, 1).expect(rt, "out of memory");
     let commands = [command(2, 0, 0), command(3, 0, 0), command(1, 0, 5)];
     match most_on_time(heap, &commands, &one) {
         Ok(answer) => {
@@ -125,7 +125,7 @@ fn of_a_greatest_number(rt: HostRuntime) {
 
 /// Tells why one command of three is late; whether memory was not refused.
 fn told(rt: &impl Abort, alloc: Global, heap: &Refusing<Global>) -> bool {
-    let one = Capacity::fixed(alloc, 1).expect(rt, "want of memory");
+    let one = Capacity::fixed(alloc, 1).expect(rt, "out of memory");
     let commands = [command(1, 0, 0), command(2, 0, 0), command(3, 0, 5)];
     let wanted = [None, Some(Verdict::Full(window(0, 0))), None];
     says(rt, alloc, heap, &commands, &one, &[0, 2, 1], &wanted)

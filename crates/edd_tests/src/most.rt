@@ -150,7 +150,7 @@ fn all_on_time(
     let mut bits = set;
     for it in commands {
         if bits % 2 == 1 {
-            chosen.push(*it).expect(rt, "want of memory");
+            chosen.push(*it).expect(rt, "out of memory");
         }
         bits /= 2;
     }

@@ -215,7 +215,7 @@ fn one_command_too_many(rt: HostRuntime) {
     let alloc = rt.alloc();
     let one = fixed(&rt, alloc, 1);
     let late = command(7, 1099511627776, 0);
-    let mut commands = vec![in alloc; late; 1_000_001].expect(&rt, "want of memory");
+    let mut commands = vec![in alloc; late; 1_000_001].expect(&rt, "out of memory");
     assert_eq!(rt; commands.len(), 1_000_001);
     let many = solve(alloc, commands.as_slice(), &one);
     assert!(rt; matches!(many, Err(OracleFault::TooMany)));

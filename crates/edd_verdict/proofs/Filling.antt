@@ -9,7 +9,7 @@ use Rattle.edd_commands.specs.Capacity.{depth_at}
 use Rattle.edd_commands.specs.Schedule.{places_at}
 use Rattle.edd_commands.proofs.Counting.{Rises, run_count, run_of}
 use Rattle.edd_verdict.specs.declared.tight.Served.{Served}
-use Rattle.edd_verdict.specs.Inside.Tight.{running_at, served_by, IsLatestDue, AreRising, AreFull}
+use Rattle.edd_verdict.specs.Inside.Tight.{number_running, served_by, IsLatestDue, AreRising, AreFull}
 use Rattle.edd_verdict.proofs.Sweeping.{pushed_old, pushed_new, pushed_long}
 use Rattle.edd_oracle.proofs.Counting.{count_map, count_run, count_wider, count_fewer}
 
@@ -23,8 +23,8 @@ times served = map (λ s. s.round) served
 time_at : (served : List Served) (k : ℕ) → k < length served → get_or (times served) k 0 ≡ (get_or served k unserved).round
 time_at served k h = get_or-map (λ s. s.round) served k unserved 0 h
 
-times_count : (served : List Served) (y : ℕ) → places_at (times served) y ≡ running_at served y
-unfolding places_at running_at
+times_count : (served : List Served) (y : ℕ) → places_at (times served) y ≡ number_running served y
+unfolding places_at number_running
 times_count served y = count_map (λ s. s.round) (λ z. z == y) served
 
 times_rise : (served : List Served) → IsNonDecreasingBy (λ s. s.round) served → Rises (times served)
@@ -69,7 +69,7 @@ same_found served steps n full so_far none =
       rising = so_far.rising;
     }
 
-module _ (served : List Served) (steps : List Step) (rising : IsNonDecreasingBy (λ s. s.round) served) (few : (y : ℕ) → running_at served y ≤ depth_at steps y) (some : (y : ℕ) → 0 < depth_at steps y) where
+module _ (served : List Served) (steps : List Step) (rising : IsNonDecreasingBy (λ s. s.round) served) (few : (y : ℕ) → number_running served y ≤ depth_at steps y) (some : (y : ℕ) → 0 < depth_at steps y) where
   -- a later place has another round
   later_apart : (p n : ℕ) (f : Served) → IsFullAt served steps p f → p < n → n < length served → f.round < (get_or served n unserved).round
   later_apart p n f at lt within =
@@ -129,7 +129,7 @@ module _ (served : List Served) (steps : List Step) (rising : IsNonDecreasingBy 
 
   -- and of none but these
   found_latest : (p b : ℕ) (f : Served) → IsFullAt served steps p f → depth_at steps f.round ≤ served_by served f.round b → f.due ≤ b
-  unfolding served_by running_at
+  unfolding served_by number_running
   found_latest p b f at full =
       elim (cases_lt b f.due) [
         | inr enough ↦ enough
@@ -139,7 +139,7 @@ module _ (served : List Served) (steps : List Step) (rising : IsNonDecreasingBy 
             let q_in : q < length served = omega (arith, at.latest.high, at.within) in
             let up : (get_or served (p + 1 - d) unserved).round ≤ (get_or served q unserved).round = rising (p + 1 - d) q unserved at.latest.low q_in in
             let down : (get_or served q unserved).round ≤ (get_or served p unserved).round = rising q p unserved (omega (arith, at.latest.high)) at.within in
-            let fewer : served_by served f.round b < running_at served f.round =
+            let fewer : served_by served f.round b < number_running served f.round =
             count_fewer (λ s. nat_le s.due b && s.round == f.round) (λ s. s.round == f.round) (λ s both. (and_parts (nat_le s.due b) (s.round == f.round) both).1) served q unserved q_in
             (eq-eqb (get_or served q unserved).round f.round (omega (arith, at.starts unserved, at.here unserved)))
             (and_left (nat_le (get_or served q unserved).due b) ((get_or served q unserved).round == f.round) (lt-leb (get_or served q unserved).due b (omega (arith, at.latest.reached unserved)))) in
@@ -147,12 +147,12 @@ module _ (served : List Served) (steps : List Step) (rising : IsNonDecreasingBy 
       ]
 
   pub found_full : (n : ℕ) (full : List Served) → length served ≤ n → AreFoundUpto served steps n full → AreFull served steps full
-  unfolding served_by running_at
+  unfolding served_by number_running
   found_full n full all found =
       record {
         sound = λ i e h. let at = found.each i e h in found_sound at.0 (get_or full i e) at.2;
         complete = λ y b enough.
-            let more : served_by served y b ≤ running_at served y = count_wider (λ s. nat_le s.due b && s.round == y) (λ s. s.round == y) (λ s both. (and_parts (nat_le s.due b) (s.round == y) both).1) served in
+            let more : served_by served y b ≤ number_running served y = count_wider (λ s. nat_le s.due b && s.round == y) (λ s. s.round == y) (λ s both. (and_parts (nat_le s.due b) (s.round == y) both).1) served in
             let run = run_of y (times served) (times_rise served rising) (depth_at steps y - 1) (omega (arith, more, times_count served y, some y)) in
             let e : ℕ = run.1 in
             let e_in : e < length served = omega (arith, run.3, length-map served (λ s. s.round)) in

@@ -16,27 +16,27 @@ use Rattle.edd_oracle.proofs.Counting.{count_map, count_along, count_wider}
 use Rattle.edd_oracle.proofs.Crowded.{due_from_first}
 use Rattle.edd_oracle.proofs.Pairs.{pair_at, length_pairs}
 use Rattle.edd_verdict.specs.declared.tight.Served.{Served}
-use Rattle.edd_verdict.specs.Inside.Tight.{served_of, running_at, served_by, IsFullBy, AreFull, IsTight, AreTight}
+use Rattle.edd_verdict.specs.Inside.Tight.{served_command, number_running, served_by, IsFullBy, AreFull, IsTight, AreTight}
 use Rattle.edd_verdict.specs.Inside.Open.{AreFilled, AreOnTime}
 use Rattle.edd_verdict.specs.Filled.{held_at, IsFilled}
 use Rattle.edd_verdict.proofs.Holding.{is_held, held_from, held_parts, tested, untested}
 use Rattle.edd_verdict.proofs.Freeing.{nobody}
 
-module _ (commands : List Command) (rounds : List ℕ) (served : List Served) (moved : IsPermutation (map (λ p. served_of p) (zip commands rounds)) served) where
+module _ (commands : List Command) (rounds : List ℕ) (served : List Served) (moved : IsPermutation (map (λ p. served_command p) (zip commands rounds)) served) where
   pub served_due : (y b : ℕ) → served_by served y b ≡ due_at commands rounds y b
   unfolding served_by due_at
   served_due y b =
-      sum_by-IsPermutation (λ s. cond (nat_le s.due b && s.round == y) 1 0) (map (λ p. served_of p) (zip commands rounds)) served moved
-      ∙ count_map (λ p. served_of p) (λ s. nat_le s.due b && s.round == y) (zip commands rounds)
+      sum_by-IsPermutation (λ s. cond (nat_le s.due b && s.round == y) 1 0) (map (λ p. served_command p) (zip commands rounds)) served moved
+      ∙ count_map (λ p. served_command p) (λ s. nat_le s.due b && s.round == y) (zip commands rounds)
 
   module _ (steps : List Step) (legal : IsLegal commands rounds steps) where
-    pub served_few : (y : ℕ) → running_at served y ≤ depth_at steps y
-    unfolding running_at places_at
+    pub served_few : (y : ℕ) → number_running served y ≤ depth_at steps y
+    unfolding number_running places_at
     served_few y =
         let long : length (zip commands rounds) ≡ length commands = length_pairs commands rounds legal.one_each in
-        let same : running_at served y ≡ count_by (λ (p : Command × ℕ). p.1 == y) (zip commands rounds) =
-        sum_by-IsPermutation (λ s. cond (s.round == y) 1 0) (map (λ p. served_of p) (zip commands rounds)) served moved
-        ∙ count_map (λ p. served_of p) (λ s. s.round == y) (zip commands rounds) in
+        let same : number_running served y ≡ count_by (λ (p : Command × ℕ). p.1 == y) (zip commands rounds) =
+        sum_by-IsPermutation (λ s. cond (s.round == y) 1 0) (map (λ p. served_command p) (zip commands rounds)) served moved
+        ∙ count_map (λ p. served_command p) (λ s. s.round == y) (zip commands rounds) in
         let placed : count_by (λ (p : Command × ℕ). p.1 == y) (zip commands rounds) ≤ places_at rounds y =
         count_along (λ (p : Command × ℕ). p.1 == y) (λ z. z == y) (zip commands rounds) rounds (legal.one_each ∙ sym long)
         (λ j q e h passes.
@@ -46,12 +46,12 @@ module _ (commands : List Command) (rounds : List ℕ) (served : List Served) (m
 
     pub served_timely : AreOnTime commands rounds → RoundsInRange rounds → All (λ s. (s.round ≤ s.due) × (s.round < 2199023255552)) served
     served_timely on_time in_range =
-        All-permutation (λ s. (s.round ≤ s.due) × (s.round < 2199023255552)) (map (λ p. served_of p) (zip commands rounds)) served moved
+        All-permutation (λ s. (s.round ≤ s.due) × (s.round < 2199023255552)) (map (λ p. served_command p) (zip commands rounds)) served moved
         (λ i e h.
         let long : length (zip commands rounds) ≡ length commands = length_pairs commands rounds legal.one_each in
-        let i_in : i < length commands = omega (arith, length-map (zip commands rounds) (λ p. served_of p)) in
-        let is : get_or (map (λ p. served_of p) (zip commands rounds)) i e ≡ served_of (get_or commands i nobody, get_or rounds i 0) =
-        get_or-map (λ p. served_of p) (zip commands rounds) i (nobody, 0) e (omega (arith, long)) ∙ ap (λ (p : Command × ℕ). served_of p) (pair_at commands rounds i (nobody, 0) nobody 0 legal.one_each i_in) in
+        let i_in : i < length commands = omega (arith, length-map (zip commands rounds) (λ p. served_command p)) in
+        let is : get_or (map (λ p. served_command p) (zip commands rounds)) i e ≡ served_command (get_or commands i nobody, get_or rounds i 0) =
+        get_or-map (λ p. served_command p) (zip commands rounds) i (nobody, 0) e (omega (arith, long)) ∙ ap (λ (p : Command × ℕ). served_command p) (pair_at commands rounds i (nobody, 0) nobody 0 legal.one_each i_in) in
         subst (λ (s : Served). (s.round ≤ s.due) × (s.round < 2199023255552)) (sym is) (on_time i nobody i_in, in_range i 0 (omega (arith, legal.one_each))))
 
     module _ (full : List Served) (first : IsEarliestDueFirst commands rounds steps) (on_time : AreOnTime commands rounds) (are : AreFull served steps full) where

@@ -1,3 +1,4 @@
 pub mod Filled
 pub mod Verdicts
+pub mod Laws
 pub mod Inside

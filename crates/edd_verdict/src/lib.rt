@@ -6,18 +6,15 @@
 //! way of one more is a window of rounds that are full (Hall's condition in a convex bipartite graph).
 #![tactic(auto)]
 
-ghost use Rattle.std.specs.Prelude.{ℕ, ◌≡◌, ◌≤◌, ◌<◌, ◌+◌, ◌↔◌, List, Option, IfOk, length};
+ghost use Rattle.std.specs.Prelude.{ℕ, ◌≡◌, List, IfOk};
 ghost use Rattle.edd_commands.specs.declared.Command.{Command};
-ghost use Rattle.edd_check.specs.declared.Window.{Window};
 ghost use Rattle.edd_commands.specs.declared.steps.Step.{Step};
 ghost use Rattle.edd_commands.specs.Capacity.{IsCapacity};
 ghost use Rattle.edd_commands.specs.Schedule.{IsLegal};
-ghost use Rattle.edd_check.specs.OnTime.{number_on_time, IsMostOnTime};
 ghost use Rattle.edd_oracle.specs.Input.{IsTaken};
-ghost use Rattle.edd_verdict.specs.declared.Verdict.{Verdict};
 ghost use Rattle.edd_verdict.specs.Inside.Open.{on_time_of, AreFilled};
-ghost use Rattle.edd_verdict.specs.Filled.{IsFilled, IsAround};
-ghost use Rattle.edd_verdict.specs.Verdicts.{IsLate, CanBeOnTime, IsSpare, IsVerdict, AreVerdicts, arrivals_in, fulls_in, spares_in};
+ghost use Rattle.edd_verdict.specs.Verdicts.{AreVerdicts};
+ghost use Rattle.edd_verdict.specs.Laws.{OfEachLate, HasOneVerdict, SpareMeansFree, OfVerdicts, KindsAddUp, SparesBoundMost, SpareMeansMore};
 
 mod around;
 mod tight;
@@ -45,15 +42,11 @@ pub enum Verdict {
 ///
 /// A law: it does nothing when it runs, and a caller has its clauses.
 pub fn law_of_verdicts()
-    ensures one { (commands : List Command) → (rounds : List ℕ) → (steps : List Step) → (k : ℕ)
-        → IsLegal commands rounds steps → IsCapacity steps → k < length commands → IsLate commands rounds k
-        → (verdict : Verdict) × IsVerdict commands rounds steps k verdict
-        × ((other : Verdict) → IsVerdict commands rounds steps k other → other ≡ verdict) }
+    ensures one { (commands : List Command) → (rounds : List ℕ) → (steps : List Step)
+        → OfEachLate HasOneVerdict commands rounds steps }
     // it is spare exactly where it could be on time at all and lies in no filled window
-    ensures spare { (commands : List Command) → (rounds : List ℕ) → (steps : List Step) → (k : ℕ)
-        → IsLegal commands rounds steps → IsCapacity steps → k < length commands → IsLate commands rounds k
-        → IsSpare commands rounds steps k
-        ↔ (CanBeOnTime commands k × ((w : Window) → IsFilled commands rounds steps w → IsAround commands w k → ⊥)) }
+    ensures spare { (commands : List Command) → (rounds : List ℕ) → (steps : List Step)
+        → OfEachLate SpareMeansFree commands rounds steps }
 {}
 
 /// What the verdicts say of how many commands a schedule has late, beside how many any schedule has on time: `most - met` is
@@ -62,17 +55,14 @@ pub fn law_of_verdicts()
 /// A law: it does nothing when it runs, and a caller has its clauses.
 pub fn law_of_spares()
     // the late ones are late on arrival, full or spare
-    ensures kinds { (commands : List Command) → (rounds : List ℕ) → (steps : List Step) → (verdicts : List (Option Verdict))
-        → IsLegal commands rounds steps → AreVerdicts commands rounds steps verdicts
-        → length commands ≡ number_on_time commands rounds + (arrivals_in verdicts + fulls_in verdicts + spares_in verdicts) }
+    ensures kinds { (commands : List Command) → (rounds : List ℕ) → (steps : List Step)
+        → OfVerdicts KindsAddUp commands rounds steps }
     // no more could have been on time than are spare
-    ensures most { (commands : List Command) → (rounds : List ℕ) → (steps : List Step) → (verdicts : List (Option Verdict))
-        → IsLegal commands rounds steps → AreVerdicts commands rounds steps verdicts
-        → (most : ℕ) → IsMostOnTime commands steps most → most ≤ number_on_time commands rounds + spares_in verdicts }
+    ensures most { (commands : List Command) → (rounds : List ℕ) → (steps : List Step)
+        → OfVerdicts SparesBoundMost commands rounds steps }
     // and some could have been where one is
-    ensures some { (commands : List Command) → (rounds : List ℕ) → (steps : List Step) → (verdicts : List (Option Verdict))
-        → IsLegal commands rounds steps → AreVerdicts commands rounds steps verdicts
-        → (most : ℕ) → IsMostOnTime commands steps most → (number_on_time commands rounds < most) ↔ (0 < spares_in verdicts) }
+    ensures some { (commands : List Command) → (rounds : List ℕ) → (steps : List Step)
+        → OfVerdicts SpareMeansMore commands rounds steps }
 {}
 
 /// A capacity carries some commands in each round.
@@ -81,6 +71,7 @@ pub fn law_of_spares()
 fn law_of_capacities<A: Allocator>(capacity: &Capacity<A>)
     ensures { IsCapacity capacity.now }
 {
+    // brings the prover the capacity's invariant
     let _ = capacity.at(0);
 }
 

@@ -8,7 +8,7 @@ ghost use Rattle.edd_commands.specs.Limits.{round_limit};
 ghost use Rattle.edd_commands.specs.Schedule.{IsLegal, RoundsInRange};
 ghost use Rattle.edd_oracle.specs.Priority.{IsEarliestDueFirst};
 ghost use Rattle.edd_verdict.specs.Inside.Open.{AreFilled, AreOnTime};
-ghost use Rattle.edd_verdict.specs.Inside.Tight.{running_at, AreFull, AreRising, AreTight, IsLatestDue, DuesFall, IsDuePlace, all_served, room_before, last_or};
+ghost use Rattle.edd_verdict.specs.Inside.Tight.{number_running, AreFull, AreRising, AreTight, IsLatestDue, DuesFall, IsDuePlace, all_served, room_before, last_or};
 
 use edd_check::Window;
 use edd_commands::{Capacity, Command};
@@ -79,7 +79,7 @@ fn full_rounds<A: Allocator, B: Allocator>(
 ) -> Result<Vec<Served, A>, AllocError>
     requires rising { IsNonDecreasingBy (λ s. s.round) served.now }
     requires some { (y : ℕ) → 0 < depth_at capacity.now y }
-    requires few { (y : ℕ) → running_at served.now y ≤ depth_at capacity.now y }
+    requires few { (y : ℕ) → number_running served.now y ≤ depth_at capacity.now y }
     requires timely { All (λ s. (s.round ≤ s.due) × (s.round < round_limit)) served.now }
     ensures full { IfOk result (λ full. AreFull served.now capacity.now full.items) }
     ensures rising { IfOk result (λ full. AreRising full.items) }

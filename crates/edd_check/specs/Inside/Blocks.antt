@@ -9,6 +9,6 @@ abbrev pub IsWithinDepth : List ℕ → List Step → ℕ → Type 0
 IsWithinDepth rounds steps x = places_at rounds x ≤ depth_at steps x
 
 -- the least round of the list that is `from` or later
-pub record IsLeastFrom (rounds : List ℕ) (start x : ℕ) : Type 0 where
+pub record IsLeastRoundFrom (rounds : List ℕ) (start x : ℕ) : Type 0 where
   pub late : start ≤ x
   pub others : All (λ y. start ≤ y → x ≤ y) rounds

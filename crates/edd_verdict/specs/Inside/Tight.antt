@@ -8,12 +8,12 @@ use Rattle.edd_commands.specs.Capacity.{depth_at}
 use Rattle.edd_verdict.specs.declared.tight.Served.{Served}
 
 -- a command that runs in the round p.1
-abbrev pub served_of : Command × ℕ → Served
-served_of p = record { round = p.1; due = p.0.due }
+abbrev pub served_command : Command × ℕ → Served
+served_command p = record { round = p.1; due = p.0.due }
 
 -- each command by its round and its due round
 abbrev pub all_served : List Command → List ℕ → List Served
-all_served commands rounds = map (λ p. served_of p) (zip commands rounds)
+all_served commands rounds = map (λ p. served_command p) (zip commands rounds)
 
 -- that there is room before a round: whatever ends later can't hold the round before it
 abbrev pub room_before : ℕ → Served
@@ -24,8 +24,8 @@ abbrev pub last_or : List Served → Served → Served
 last_or peaks e = slice_index_or peaks (length peaks - 1) e
 
 -- how many of them run in the round y
-unfoldable pub running_at : List Served → ℕ → ℕ
-running_at served y = count_by (λ s. s.round == y) served
+unfoldable pub number_running : List Served → ℕ → ℕ
+number_running served y = count_by (λ s. s.round == y) served
 
 -- and of those how many are due by b
 unfoldable pub served_by : List Served → ℕ → ℕ → ℕ
