@@ -18,7 +18,7 @@ use Rattle.blk_lists.specs.Commands.{IsCommandInRange}
 use Rattle.blk_lists.specs.Reads.{IsOutside, Reads, Halts, IsWrongLine, IsOne, items_of, with_next}
 use Rattle.blk_lists.specs.Tables.{IsUpTo, IsVersion, FitsCells, row_by, slots_by, title_by}
 use Rattle.blk_lists.specs.Titles.{counted_cells, IsCounted}
-use Rattle.blk_lists.specs.Certificate.{Claim, claim_rows, title, Bounded, NoBound, SomeBound, Bound, TellsBound, bound_kind, kind_of, bound_cells, no_bound_row, last_round, bound, bound_row, served_cells, served_record, IsServed, IsLateness, IsBound, IsClaim, claim_body, claim_told, claim_form, claim_value, SpellsClaim, ClaimFault}
+use Rattle.blk_lists.specs.Certificate.{Claim, claim_rows, certificate_title_part, Bounded, NoBound, SomeBound, Bound, TellsBound, bound_kind, kind_of, bound_cells, no_bound_row, last_round, bound, bound_row, served_cells, served_record, IsServed, IsLateness, IsBound, IsClaim, claim_body, claim_told, claim_form, claim_value, SpellsClaim, ClaimFault}
 use Rattle.blk_lists.specs.declared.fault.Why.{Why}
 use Rattle.blk_lists.specs.declared.fault.Why.TheVariants as why
 use Rattle.blk_lists.specs.declared.fields.Slot.TheVariants as slot
@@ -67,7 +67,7 @@ bound_table count = record {
   fits = λ x f. f;
 }
 
-pub title_one : IsOne title
+pub title_one : IsOne certificate_title_part
 title_one = counted_one (codes "blk-certificate")
 
 pub served_one : IsOne served_record
@@ -181,7 +181,7 @@ pub body_tells : (count : ℕ) → Tells (claim_body count)
 body_tells count = then_tells (bound count) (λ b. items_of (repeats.Exactly count) (λ _. served_record)) (bound_one count).tells (λ b fit. items_tell count)
 
 pub claim_tells : Tells claim_form
-claim_tells = then_tells title (λ t. claim_body t.1.1) title_one.tells (λ t fit. body_tells t.1.1)
+claim_tells = then_tells certificate_title_part (λ t. claim_body t.1.1) title_one.tells (λ t fit. body_tells t.1.1)
 
 pub served_record_decides : Decides served_record
 served_record_decides = record_decides (row_by served_cells) IsServed why.Count (Lacks (slots_by served_cells)) (table_decides served_cells IsServed served_table)
@@ -190,7 +190,7 @@ pub served_decides : (count : ℕ) → Decides (items_of (repeats.Exactly count)
 served_decides count = each_decides served_record served_record_decides (repeats.Exactly count)
 
 pub claim_decides : Decides claim_form
-claim_decides = then_decides title (λ t. claim_body t.1.1) (counted_decides (codes "blk-certificate"))
+claim_decides = then_decides certificate_title_part (λ t. claim_body t.1.1) (counted_decides (codes "blk-certificate"))
     (λ t fit. then_decides (bound t.1.1) (λ b. items_of (repeats.Exactly t.1.1) (λ _. served_record)) (bound_decides t.1.1) (λ b fit. served_decides t.1.1))
 
 pub all_zip : (cs : List Command) (rs : List ℕ) → All IsCommandInRange cs → All (λ x. x < MAX_ROUNDS) rs → All IsServed (zip cs rs)
@@ -318,12 +318,12 @@ body_read left mid count b lines cs rs k e p q =
     rw (p, q) (subst (λ l. IfSome left (λ rows. Begins (claim_body count) rows (b, l) [])) (sym (zipped lines)) (then_reads (bound count) (λ b. items_of (repeats.Exactly count) (λ _. served_record)) left mid b lines k e))
 
 -- a title and what comes after it
-pub claim_whole : (left mid : Option (List Row)) (version depth count : ℕ) (c : Claim) → Reads title left mid (version, (depth, count)) → IsVersion 1 version
+pub claim_whole : (left mid : Option (List Row)) (version depth count : ℕ) (c : Claim) → Reads certificate_title_part left mid (version, (depth, count)) → IsVersion 1 version
     → IfSome mid (λ rows. Begins (claim_body count) rows (claim_told c) []) → c.depth ≡ depth → length c.commands ≡ count → length c.rounds ≡ length c.commands → IfSome left (λ rows. SpellsClaim rows c)
 claim_whole None mid version depth count c t v u d n o = tt
 claim_whole (Some rows) mid version depth count c t v u d n o =
     let one = one_version version v in
-    (o, subst (λ t. Spells claim_form rows (t, claim_told c)) (λ i. (one i, (sym d i, sym n i))) (then_reads title (λ t. claim_body t.1.1) (Some rows) mid (version, (depth, count)) (claim_told c) t u))
+    (o, subst (λ t. Spells claim_form rows (t, claim_told c)) (λ i. (one i, (sym d i, sym n i))) (then_reads certificate_title_part (λ t. claim_body t.1.1) (Some rows) mid (version, (depth, count)) (claim_told c) t u))
 
 -- a size after a minus is that of a number below 0
 pub negative_text : (f ds : List ℕ) (n : ℕ) (z : ℤ) → f ≡ 45 ∷ ds → IsSized f n → n < MAX_ROUNDS → (0 < n → z ≡ negsuc (n - 1)) → f ≡ signed_decimal z
@@ -346,11 +346,11 @@ bound_gone count = inr (refl, no_kinds count, refl)
 
 -- where reading halts
 
-pub title_halts : (failed : Bool) (left : Option (List Row)) (start at : ℕ) (w : Why) → start ≡ 0 → Halts failed title left start at w → Halts failed claim_form left 0 at w
-title_halts failed left start at w e h = first_halts failed title (λ t. claim_body t.1.1) left 0 at w (λ t fit. body_tells t.1.1) (rw e at h)
+pub title_halts : (failed : Bool) (left : Option (List Row)) (start at : ℕ) (w : Why) → start ≡ 0 → Halts failed certificate_title_part left start at w → Halts failed claim_form left 0 at w
+title_halts failed left start at w e h = first_halts failed certificate_title_part (λ t. claim_body t.1.1) left 0 at w (λ t fit. body_tells t.1.1) (rw e at h)
 
-pub body_halts : (failed : Bool) (left mid : Option (List Row)) (t : ℕ × (ℕ × ℕ)) (at : ℕ) (w : Why) → Reads title left mid t → Halts failed (claim_body t.1.1) mid 1 at w → Halts failed claim_form left 0 at w
-body_halts failed left mid t at w r h = second_halts failed title (λ t. claim_body t.1.1) left mid t 0 1 at w title_one.tells r refl h
+pub body_halts : (failed : Bool) (left mid : Option (List Row)) (t : ℕ × (ℕ × ℕ)) (at : ℕ) (w : Why) → Reads certificate_title_part left mid t → Halts failed (claim_body t.1.1) mid 1 at w → Halts failed claim_form left 0 at w
+body_halts failed left mid t at w r h = second_halts failed certificate_title_part (λ t. claim_body t.1.1) left mid t 0 1 at w title_one.tells r refl h
 
 pub bound_halts : (failed : Bool) (left : Option (List Row)) (count start at : ℕ) (w : Why) → start ≡ 1 → Halts failed (bound count) left start at w → Halts failed (claim_body count) left 1 at w
 bound_halts failed left count start at w e h = first_halts failed (bound count) (λ b. items_of (repeats.Exactly count) (λ _. served_record)) left 1 at w (λ b fit. items_tell count) (rw e at h)

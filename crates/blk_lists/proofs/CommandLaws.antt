@@ -9,7 +9,7 @@ use Rattle.blk_lists.specs.Texts.{rows_text}
 use Rattle.blk_lists.specs.Fields.{Lacks}
 use Rattle.blk_lists.specs.Reads.{Reads, Halts, IsOne, items_of}
 use Rattle.blk_lists.specs.Tables.{IsVersion, FitsCells, row_by, slots_by, title_by}
-use Rattle.blk_lists.specs.Commands.{depth_cells, IsDepth, title, command_cells, command, command_list, IsCommandInRange, SpellsCommands, CommandsFault, AreCommands, commands_rows}
+use Rattle.blk_lists.specs.Commands.{depth_cells, IsDepth, commands_title_part, command_cells, command, command_list, IsCommandInRange, SpellsCommands, CommandsFault, AreCommands, commands_rows}
 use Rattle.blk_lists.specs.declared.fault.Why.{Why}
 use Rattle.blk_lists.specs.declared.fault.Why.TheVariants as why
 use Rattle.parts.specs.declared.Repeats.TheVariants as repeats
@@ -39,17 +39,17 @@ command_table = record {
   fits = λ x f. command_fits _ f;
 }
 
-pub title_one : IsOne title
+pub title_one : IsOne commands_title_part
 title_one = record { tells = title_part (codes "blk-commands") 1 depth_cells (λ _. IsDepth) (omega arith) title_table; plain = λ v rest fit. tt; one = λ v. refl }
 
 pub command_one : IsOne command
 command_one = one_record (row_by command_cells) IsCommandInRange why.Count (Lacks (slots_by command_cells)) (table_tells command_cells IsCommandInRange command_table)
 
 pub list_tells : Tells command_list
-list_tells = then_tells title (λ t. items_of (repeats.AtMost MAX_COMMANDS) (λ _. command)) title_one.tells (λ t fit. each_tells command command_one (repeats.AtMost MAX_COMMANDS))
+list_tells = then_tells commands_title_part (λ t. items_of (repeats.AtMost MAX_COMMANDS) (λ _. command)) title_one.tells (λ t fit. each_tells command command_one (repeats.AtMost MAX_COMMANDS))
 
 list_decides : Decides command_list
-list_decides = then_decides title (λ t. items_of (repeats.AtMost MAX_COMMANDS) (λ _. command)) (title_decides (codes "blk-commands") 1 depth_cells (λ _. IsDepth) (omega arith) title_table)
+list_decides = then_decides commands_title_part (λ t. items_of (repeats.AtMost MAX_COMMANDS) (λ _. command)) (title_decides (codes "blk-commands") 1 depth_cells (λ _. IsDepth) (omega arith) title_table)
     (λ t fit. each_decides command (record_decides (row_by command_cells) IsCommandInRange why.Count (Lacks (slots_by command_cells)) (table_decides command_cells IsCommandInRange command_table)) (repeats.AtMost MAX_COMMANDS))
 
 -- records that were taken for a title and commands spell them
@@ -84,18 +84,18 @@ spelled_once rows depth other commands others s t =
 
 -- reading
 
-pub list_read : (left mid : Option (List Row)) (version depth : ℕ) (commands : List Command) → Reads title left mid (version, depth) → IsVersion 1 version
+pub list_read : (left mid : Option (List Row)) (version depth : ℕ) (commands : List Command) → Reads commands_title_part left mid (version, depth) → IsVersion 1 version
     → IfSome mid (λ rows. Begins (items_of (repeats.AtMost MAX_COMMANDS) (λ _. command)) rows commands []) → IfSome left (λ rows. SpellsCommands rows depth commands)
 list_read None mid version depth commands h v k = tt
 list_read (Some rows) mid version depth commands h v k =
-    list_spelled rows version depth commands v (then_reads title (λ t. items_of (repeats.AtMost MAX_COMMANDS) (λ _. command)) (Some rows) mid (version, depth) commands h k)
+    list_spelled rows version depth commands v (then_reads commands_title_part (λ t. items_of (repeats.AtMost MAX_COMMANDS) (λ _. command)) (Some rows) mid (version, depth) commands h k)
 
 -- where reading halts
 
-pub title_halts : (failed : Bool) (left : Option (List Row)) (start at : ℕ) (w : Why) → start ≡ 0 → Halts failed title left start at w → Halts failed command_list left 0 at w
+pub title_halts : (failed : Bool) (left : Option (List Row)) (start at : ℕ) (w : Why) → start ≡ 0 → Halts failed commands_title_part left start at w → Halts failed command_list left 0 at w
 title_halts failed left start at w e h =
-    first_halts failed title (λ t. items_of (repeats.AtMost MAX_COMMANDS) (λ _. command)) left 0 at w (λ t fit. each_tells command command_one (repeats.AtMost MAX_COMMANDS)) (rw e at h)
+    first_halts failed commands_title_part (λ t. items_of (repeats.AtMost MAX_COMMANDS) (λ _. command)) left 0 at w (λ t fit. each_tells command command_one (repeats.AtMost MAX_COMMANDS)) (rw e at h)
 
-pub list_halts : (failed : Bool) (left mid : Option (List Row)) (t : ℕ × ℕ) (middle at : ℕ) (w : Why) → middle ≡ 1 → Reads title left mid t → Halts failed (items_of (repeats.AtMost MAX_COMMANDS) (λ _. command)) mid middle at w
+pub list_halts : (failed : Bool) (left mid : Option (List Row)) (t : ℕ × ℕ) (middle at : ℕ) (w : Why) → middle ≡ 1 → Reads commands_title_part left mid t → Halts failed (items_of (repeats.AtMost MAX_COMMANDS) (λ _. command)) mid middle at w
     → Halts failed command_list left 0 at w
-list_halts failed left mid t middle at w e r h = second_halts failed title (λ t. items_of (repeats.AtMost MAX_COMMANDS) (λ _. command)) left mid t 0 middle at w title_one.tells r (omega (arith, e)) h
+list_halts failed left mid t middle at w e r h = second_halts failed commands_title_part (λ t. items_of (repeats.AtMost MAX_COMMANDS) (λ _. command)) left mid t 0 middle at w title_one.tells r (omega (arith, e)) h

@@ -1,7 +1,6 @@
 -- Items that have one record each and don't depend on those before them.
-use Rattle.std.proofs.Common.{◌≡◌, ℕ, List, [], ◌∷◌, ◌++◌, length, map, refl, ap, arith, decimal, codes, Option, Bool}
+use Rattle.std.proofs.Common.{◌≡◌, ℕ, List, [], ◌∷◌, ◌++◌, length, map, refl, ap, arith, Option, Bool}
 use Rattle.std.specs.Prelude.{All}
-use Rattle.std.proofs.lemmas.Fmt.{decimal_digit}
 use Rattle.std.proofs.lemmas.List.{length-append}
 use Rattle.blk_lists.specs.Sources.{Row}
 use Rattle.blk_lists.specs.Reads.{with_next, size_of, items_of, repeated, beyond_of, IsOne, IsStopped, Fails, Halts}

@@ -8,7 +8,7 @@ use Rattle.std.proofs.lemmas.List.{append-nil}
 use Rattle.csv.specs.Writing.{needs_quotes, needs_byte, default_writer, row_text, fields_text, is_blank}
 use Rattle.blk_lists.specs.Texts.{rows_text}
 use Rattle.blk_lists.specs.Sources.{Row}
-use Rattle.blk_lists.specs.Cells.{line_of}
+use Rattle.blk_lists.specs.Inside.Cells.{line_of}
 
 -- a byte past the comma needs no quotes
 byte_plain : (b : ℕ) → 44 < b → needs_byte default_writer b ≡ false

@@ -4,7 +4,7 @@ use Rattle.std.specs.Prelude.{IfSome, ◌⊎◌, Bool, if◌then◌else◌}
 use Rattle.blk_lists.specs.Sources.{Row}
 use Rattle.blk_lists.specs.Words.{StartsWith, NextStarts}
 use Rattle.blk_lists.specs.Reads.{Reads, Halts, IsOne, IsRowOf, IsWrongLine}
-use Rattle.blk_lists.specs.Certificate.{Claim, title, claim_body, SpellsClaim}
+use Rattle.blk_lists.specs.Certificate.{Claim, certificate_title_part, claim_body, SpellsClaim}
 use Rattle.blk_lists.specs.Titles.{counted_title}
 use Rattle.blk_lists.specs.OnTime.{OnTimeClaim, on_time_title, on_time_body, SpellsOnTime}
 use Rattle.blk_lists.specs.Proof.{ProofClaim, OfLateness, OfOnTime, proof_name, Shown, form_of, StartsAs, IsUnnamed, proof_title, proof_form, SpellsProof, ProofFault}
@@ -14,7 +14,6 @@ use Rattle.blk_lists.specs.declared.fault.Why.{Why}
 use Rattle.blk_lists.specs.declared.fault.Why.TheVariants as why
 use Rattle.parts.specs.Parts.{Begins, GetsTo}
 use Rattle.parts.specs.Laws.{Tells}
-use Rattle.parts.specs.Inside.Laws.{Decides}
 use Rattle.parts.proofs.Then.{reached_first, by_word_tells, kind_reached, kinds_reached}
 use Rattle.blk_lists.proofs.Lacking.{word_decided}
 use Rattle.blk_lists.proofs.TableLaws.{next_starts, next_same}
@@ -151,7 +150,7 @@ named (Some rows) mid k t h = titles_start k rows t h.0 h.2
 -- where reading halts
 
 title_lifts : (k : ProofKind) (rows : List Row) (at : ℕ) → GetsTo (counted_title (proof_name k)) rows at → GetsTo (form_of k) rows at
-title_lifts kind.Lateness rows at r = reached_first title (λ t. claim_body t.1.1) (λ t fit. claim.body_tells t.1.1) rows at r
+title_lifts kind.Lateness rows at r = reached_first certificate_title_part (λ t. claim_body t.1.1) (λ t fit. claim.body_tells t.1.1) rows at r
 title_lifts kind.OnTime rows at r = reached_first on_time_title (λ t. on_time_body t.1.1) (λ t fit. met.body_tells t.1.1) rows at r
 
 wrong_lifts : (k : ProofKind) (rows : List Row) (at : ℕ) (w : Why) → (counted_title (proof_name k)).Wrong rows at w → (form_of k).Wrong rows at w

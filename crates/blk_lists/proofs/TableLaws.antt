@@ -20,7 +20,7 @@ use Rattle.parts.specs.Parts.{Part, NextWrong}
 use Rattle.parts.specs.Laws.{Tells}
 use Rattle.parts.specs.Inside.Laws.{TellsRecord, Decides, DecidesRecord}
 use Rattle.parts.proofs.Then.{record_tells, record_decides, by_word_tells, by_word_decides}
-use Rattle.blk_lists.specs.Tables.{Cell, Blank, Direction, Number, Signed, slot_of, field_of, row_by, slots_by, FitsCell, FitsCells, IsUpTo, IsTitled, IsVersion, title_by, TitleLacks, title_record, table_record, word_record, kinds_record}
+use Rattle.blk_lists.specs.Tables.{Cell, Blank, Direction, Number, Signed, cell_slot, field_of, row_by, slots_by, FitsCell, FitsCells, IsUpTo, IsTitled, IsVersion, title_by, TitleLacks, title_record, table_record, word_record, kinds_record}
 
 -- what a field tells of a value
 abbrev pub Told : {V : Type 0} → Cell V → Type 0
@@ -76,7 +76,7 @@ late_field : (most : ℕ) (z : ℤ) → IsUpTo most z → most < 2 ^ 63 → Good
 late_field most (pos n) h l = late_good most n (decimal n) (omega (arith, h, l)) h (inl refl)
 late_field most (negsuc n) h l = late_good most (suc n) (45 ∷ decimal (suc n)) (omega (arith, h, l)) h (inr (omega arith, refl))
 
-cell_good : {V : Type 0} (c : Cell V) (v : V) → IsSizedCell c → FitsCell v c → Good (slot_of c) (field_of v c)
+cell_good : {V : Type 0} (c : Cell V) (v : V) → IsSizedCell c → FitsCell v c → Good (cell_slot c) (field_of v c)
 cell_good Blank v s f = (refl, tt, tt, tt)
 cell_good (Direction d) v s f = (tt, (d v, refl), tt, tt)
 cell_good (Number least most n) v s f = let high = f.1 in number_good least most (n v) (omega (arith, high, s)) f.0 f.1
@@ -112,7 +112,7 @@ late_told most z f n l (inr m) =
     let up : n ≡ suc (n - 1) = omega (arith, some) in
     (negsuc (n - 1), λ v k. (m.1 ∙ ap (λ (j : ℕ). 45 ∷ decimal j) up ∙ ap signed_decimal (sym k), rw k (omega (arith, l, some))))
 
-cell_told : {V : Type 0} (c : Cell V) (f : List ℕ) → Good (slot_of c) f → CellTold c f
+cell_told : {V : Type 0} (c : Cell V) (f : List ℕ) → Good (cell_slot c) f → CellTold c f
 cell_told Blank f g = (tt, λ v k. (g.0, tt))
 cell_told (Direction d) f g = (g.1.0, λ v k. (g.1.1 ∙ ap direction_text (sym k), tt))
 cell_told (Number least most n) f g = (g.2.0, λ v k. (g.2.2 ∙ ap decimal (sym k), rw k (g.3 g.2.0 g.2.1 g.2.2)))
@@ -353,7 +353,7 @@ title_decides {V} name latest cells Fits l table = record_decides (title_by name
 -- a value has this in a field, which spells this number
 abbrev pub IsByCell : {V : Type 0} → Cell V → V → List ℕ → ℕ → Type 0
 IsByCell Blank v f m = Unit {0}
-IsByCell (Direction d) v f m = f ≡ direction_text (d v)
+IsByCell (Direction d) v f m = m ∷ [] ≡ direction_text (d v)
 IsByCell (Number least most n) v f m = n v ≡ m
 IsByCell (Signed most z) v f m = (f ≡ signed_decimal (z v)) × IsUpTo most (z v)
 
@@ -362,9 +362,9 @@ abbrev pub IsBy : {V : Type 0} → List (Cell V) → V → (ℕ → List ℕ) �
 IsBy [] v field number = Unit {0}
 IsBy (c ∷ cs) v field number = IsByCell c v (field 0) (number 0) × IsBy cs v (λ k. field (suc k)) (λ k. number (suc k))
 
-cell_by : {V : Type 0} (c : Cell V) (v : V) (f : List ℕ) (m : ℕ) → FieldSpells (slot_of c) f m → IsByCell c v f m → (f ≡ field_of v c) × FitsCell v c
+cell_by : {V : Type 0} (c : Cell V) (v : V) (f : List ℕ) (m : ℕ) → FieldSpells (cell_slot c) f m → IsByCell c v f m → (f ≡ field_of v c) × FitsCell v c
 cell_by Blank v f m s b = (s.0, tt)
-cell_by (Direction d) v f m s b = (b, tt)
+cell_by (Direction d) v f m s b = (s.2 ∙ b, tt)
 cell_by (Number least most n) v f m s b = (s.2 ∙ ap decimal (sym b), rw b s.3)
 cell_by (Signed most z) v f m s b = b
 

@@ -5,12 +5,6 @@ use Rattle.std.proofs.Math.ListN.{replicate}
 use Rattle.csv.specs.Writing.{needs_quotes, default_writer}
 use Rattle.blk_lists.specs.Sources.{Row}
 
--- plain fields with commas between them and a line feed at the end
-unfoldable pub line_of : List (List ℕ) → List ℕ
-line_of [] = []
-line_of (f ∷ []) = f ++ (10 ∷ [])
-line_of (f ∷ g ∷ fs) = f ++ (44 ∷ line_of (g ∷ fs))
-
 -- a word that needs no quotes and has at most 20 bytes
 abbrev pub IsPlainWord : List ℕ → Type 0
 IsPlainWord w = (length w ≤ 20) × (needs_quotes default_writer w ≡ false)

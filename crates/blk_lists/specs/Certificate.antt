@@ -106,8 +106,8 @@ abbrev pub kind_of : Option (ℤ × Window) → (k : Bounded) × Bound k
 kind_of None = (NoBound, tt)
 kind_of (Some b) = (SomeBound, b)
 
-abbrev pub title : Part Row Why (ℕ × (ℕ × ℕ))
-title = counted_title (codes "blk-certificate")
+abbrev pub certificate_title_part : Part Row Why (ℕ × (ℕ × ℕ))
+certificate_title_part = counted_title (codes "blk-certificate")
 
 -- the bound of so many commands
 abbrev pub bound : ℕ → Part Row Why (Option (ℤ × Window))
@@ -122,7 +122,7 @@ claim_body count = then (bound count) (λ b. items_of (repeats.Exactly count) (�
 
 -- a title with the depth and the number of commands, a bound, and just so many commands with their rounds
 abbrev pub claim_form : Part Row Why ((ℕ × (ℕ × ℕ)) × (Option (ℤ × Window) × List (Command × ℕ)))
-claim_form = then title (λ t. claim_body t.1.1)
+claim_form = then certificate_title_part (λ t. claim_body t.1.1)
 
 -- what the records of a certificate tell after the title
 abbrev pub claim_told : Claim → Option (ℤ × Window) × List (Command × ℕ)

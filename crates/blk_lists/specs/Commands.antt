@@ -30,15 +30,15 @@ IsDepth depth = (1 ≤ depth) × (depth ≤ MAX_DEPTH)
 abbrev pub IsCommandInRange : Command → Type 0
 IsCommandInRange c = (c.id < 2 ^ 64) × (c.release < MAX_RELEASES) × (c.due < MAX_ROUNDS)
 
-abbrev pub title : Part Row Why (ℕ × ℕ)
-title = title_record (codes "blk-commands") 1 depth_cells (λ _. IsDepth)
+abbrev pub commands_title_part : Part Row Why (ℕ × ℕ)
+commands_title_part = title_record (codes "blk-commands") 1 depth_cells (λ _. IsDepth)
 
 abbrev pub command : Part Row Why Command
 command = table_record why.Count command_cells IsCommandInRange
 
 -- a title with the depth, and commands, at most so many
 abbrev pub command_list : Part Row Why ((ℕ × ℕ) × List Command)
-command_list = then title (λ t. items_of (repeats.AtMost MAX_COMMANDS) (λ _. command))
+command_list = then commands_title_part (λ t. items_of (repeats.AtMost MAX_COMMANDS) (λ _. command))
 
 -- a depth and commands that a command list can spell
 abbrev pub AreCommands : ℕ → List Command → Type 0

@@ -63,10 +63,10 @@ IsInRange (slot.Number least most) f = (n : ℕ) → n < 2 ^ 64 → f ≡ decima
 IsInRange (slot.Lateness most) f = (n : ℕ) → n < 2 ^ 64 → IsSized f n → n ≤ most
 
 -- a field keeps a rule
-abbrev pub Keeps : Rule → Slot → List ℕ → Type 0
-Keeps rule.Blank = IsBlank
-Keeps rule.Direction = IsDirection
-Keeps rule.Number = IsNumber
+abbrev pub KeepsRule : Rule → Slot → List ℕ → Type 0
+KeepsRule rule.Blank = IsBlank
+KeepsRule rule.Direction = IsDirection
+KeepsRule rule.Number = IsNumber
 
 -- a field is all that its slot wants
 abbrev pub IsGood : Slot → List ℕ → Type 0
@@ -92,11 +92,11 @@ record_rules slots row =
 abbrev pub Lacks : List Slot → Row → Why → Type 0
 Lacks slots row = IsFirstFault (record_rules slots row)
 
--- this number is written in a field
+-- this number is written in a field, a direction as its letter
 abbrev pub NumberOf : Slot → List ℕ → ℕ → Type 0
 NumberOf slot.Given f n = Unit {0}
 NumberOf slot.Blank f n = Unit {0}
-NumberOf slot.Direction f n = Unit {0}
+NumberOf slot.Direction f n = f ≡ n ∷ []
 NumberOf (slot.Number least most) f n = f ≡ decimal n
 NumberOf (slot.Lateness most) f n = IsSized f n
 

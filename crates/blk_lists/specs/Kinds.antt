@@ -2,7 +2,7 @@
 use Rattle.std.specs.Prelude.{◌-◌, ◌≤◌, ℕ, zero, suc, ℤ, List, [], ◌∷◌, length, set}
 use Rattle.blk_bio.specs.declared.bio.Dir.{Dir}
 use Rattle.blk_lists.specs.Cells.{number_cells}
-use Rattle.blk_lists.specs.Texts.{Adds}
+use Rattle.blk_lists.specs.Texts.{AddsRows}
 use Rattle.blk_lists.specs.Tables.{Cell, Blank, Direction, Number, Signed}
 use Rattle.blk_lists.specs.declared.fields.Slot.{Slot}
 use Rattle.blk_lists.specs.declared.fields.Slot.TheVariants as slot
@@ -47,4 +47,4 @@ cells_of (slot.Lateness most ∷ ss) told = Signed most (λ v. (told v).0) ∷ c
 
 -- the text got the record of a word, these numbers, and empty fields up to so many after the word
 abbrev pub AddsRecord : Block → Block → List ℕ → List ℕ → ℕ → Type 0
-AddsRecord old new word numbers width = Adds old new ((word ∷ number_cells numbers (width - length numbers)) ∷ [])
+AddsRecord old new word numbers width = AddsRows old new ((word ∷ number_cells numbers (width - length numbers)) ∷ [])

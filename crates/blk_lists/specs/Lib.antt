@@ -15,3 +15,4 @@ pub mod Proof
 pub mod Schedule
 pub mod Names
 pub mod Watching
+pub mod Inside

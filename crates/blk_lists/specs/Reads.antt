@@ -9,13 +9,17 @@ use Rattle.parts.specs.Laws.{Tells, IsPlain}
 use Rattle.parts.specs.declared.Repeats.{Repeats}
 use Rattle.parts.specs.declared.Repeats.TheVariants as repeats
 
--- faults from outside, which may come in place of any other: a read fault where the reader has failed, and want of memory
+-- faults from outside, which may come in place of any other: a read fault where the reader has failed, and out of memory
 abbrev pub IsOutside : Bool → Why → Type 0
 IsOutside failed w = ((w ≡ why.Read) × (failed ≡ true)) ⊎ (w ≡ why.Memory)
 
 -- the records begin with those of this value, and what is left now is what follows them
 abbrev pub Reads : {V : Type 0} → Part Row Why V → Option (List Row) → Option (List Row) → V → Type 0
 Reads p left new v = IfSome left (λ rows. (rest : List Row) × (new ≡ Some rest) × Begins p rows v rest)
+
+-- the records that are left are those of this value, and no more
+abbrev pub ReadsAll : {V : Type 0} → Part Row Why V → Option (List Row) → V → Type 0
+ReadsAll p left v = IfSome left (λ rows. Begins p rows v [])
 
 -- the record in hand and those left begin with the records of this value, and what is left now is what follows them
 abbrev pub HandReads : {V : Type 0} → Part Row Why V → Option (List Row) → Row → Option (List Row) → V → Type 0
@@ -113,6 +117,10 @@ abbrev pub IsHeldAt : {V : Type 0} → Part Row Why V → Option (List Row) → 
 IsHeldAt p left more at last = (place : ℕ) × (place ≤ at) × (at ≤ last) × (last ≤ place + more) × IfSome left (λ rows. GetsTo p rows place)
 
 -- what a call answers of a part, by the records that were left before it and those that are now
+
+-- the fault is the first one of all records that were left, or it came from outside
+abbrev pub FaultsBy : Source → Source → (List Row → ℕ → Why → Type 0) → TextFault → Type 0
+FaultsBy old new Fault f = IfSome old.left (λ rows. IsOutside new.failed f.why ⊎ Fault rows f.at f.why)
 
 abbrev pub FailsBy : {V : Type 0} → Source → Source → Part Row Why V → TextFault → Type 0
 FailsBy old new p f = Fails new.failed p old.left old.at f.at f.why

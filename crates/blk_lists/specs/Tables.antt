@@ -21,11 +21,11 @@ pub data Cell (V : Type 0) : Type 0 where
   Signed : ℕ → (V → ℤ) → Cell V
 
 -- the slot of a field
-abbrev pub slot_of : {V : Type 0} → Cell V → Slot
-slot_of Blank = slot.Blank
-slot_of (Direction f) = slot.Direction
-slot_of (Number least most f) = slot.Number least most
-slot_of (Signed most f) = slot.Lateness most
+abbrev pub cell_slot : {V : Type 0} → Cell V → Slot
+cell_slot Blank = slot.Blank
+cell_slot (Direction f) = slot.Direction
+cell_slot (Number least most f) = slot.Number least most
+cell_slot (Signed most f) = slot.Lateness most
 
 -- the text of a field
 abbrev pub field_of : {V : Type 0} → V → Cell V → List ℕ
@@ -41,7 +41,7 @@ row_by (c ∷ cs) v = field_of v c ∷ row_by cs v
 
 abbrev pub slots_by : {V : Type 0} → List (Cell V) → List Slot
 slots_by [] = []
-slots_by (c ∷ cs) = slot_of c ∷ slots_by cs
+slots_by (c ∷ cs) = cell_slot c ∷ slots_by cs
 
 -- the cells of numbers by the slots of their fields, but for those that are looked at before
 abbrev pub cells_by : {V : Type 0} → List Slot → List (V → ℕ) → List (Cell V)

@@ -11,5 +11,5 @@ rows_text [] = []
 rows_text (row ∷ rows) = row_text default_writer row ++ rows_text rows
 
 -- a text that is made got these records
-abbrev pub Adds : Block → Block → List Row → Type 0
-Adds old new rows = drafted new ≡ drafted old ++ rows_text rows
+abbrev pub AddsRows : Block → Block → List Row → Type 0
+AddsRows old new rows = drafted new ≡ drafted old ++ rows_text rows

@@ -1,17 +1,16 @@
 //! Certificates.
 
-ghost use Rattle.std.specs.Prelude.{◌≡◌, ◌⊎◌, ◌+◌, ◌++◌, ◌≤◌, ◌<◌, ◌-◌, ◌^◌, ◌∷◌, [], IfOk, IfErr, IfSome, OnOk, map, length, codes, None, Some, IsTrue, ◌↔◌};
+ghost use Rattle.std.specs.Prelude.{◌≡◌, ◌+◌, ◌++◌, ◌≤◌, ◌<◌, ◌-◌, ◌∷◌, [], IfOk, IfErr, IfSome, OnOk, map, length, codes, None, Some, IsTrue, ◌↔◌};
 ghost use Rattle.std.specs.Fmt.{signed_decimal};
 ghost use Rattle.std.specs.List.{zip};
 ghost use Rattle.std.specs.Io.KnownBytes.{Appends};
 ghost use Rattle.csv.specs.Records.{fields_of};
-ghost use Rattle.parts.specs.Parts.{Begins};
-ghost use Rattle.blk_lists.specs.Reads.{IsOutside, IsRowOf, IsWrongLine, Halts, Reaches};
+ghost use Rattle.blk_lists.specs.Reads.{FaultsBy, IsRowOf, IsWrongLine, ReadsAll, Halts, Reaches};
 ghost use Rattle.blk_lists.specs.Tables.{IsUpTo, FitsCells, row_by, slots_by};
 ghost use Rattle.blk_lists.specs.Fields.{IsSized, FieldsSpell};
 ghost use Rattle.blk_lists.specs.declared.fields.Slot.TheVariants as slot;
 ghost use Rattle.blk_lists.specs.Words.{StartsWith};
-ghost use Rattle.blk_lists.specs.Texts.{rows_text, Adds};
+ghost use Rattle.blk_lists.specs.Texts.{rows_text, AddsRows};
 ghost use Rattle.drafts.specs.Parts.{AppendsPart};
 ghost use Rattle.drafts.specs.Drafts.{drafted};
 ghost use Rattle.blk_lists.specs.Titles.{IsCounted};
@@ -76,7 +75,7 @@ pub(crate) struct BoundForm {
 impl LineForm for BoundForm {
     ghost use Rattle.blk_lists.specs.Certificate.{bound as bound_part};
 
-    type Line = Option<(i64, Window)>;
+    type Value = Option<(i64, Window)>;
 
     ghost part = { λ f. bound_part f.count };
 
@@ -102,7 +101,7 @@ pub(crate) struct ServedForm;
 impl LineForm for ServedForm {
     ghost use Rattle.blk_lists.specs.Certificate.{served_record};
 
-    type Line = (Command, u64);
+    type Value = (Command, u64);
 
     ghost part = { λ _. served_record };
 
@@ -230,7 +229,7 @@ pub(crate) fn read_claim_body<R: Read + Drop>(
 ) -> Result<Certificate, TextFault>
     requires at { records.old.at ≡ 1 }
     requires counted { IsCounted (depth, count) }
-    ensures ok { IfOk result (λ c. IfSome records.old.left (λ rows. Begins (claim_body count) rows (claim_told (claimed c)) [])) }
+    ensures ok { IfOk result (λ c. ReadsAll (claim_body count) records.old.left (claim_told (claimed c))) }
     ensures told { IfOk result (λ c. (c.depth ≡ depth) × (length c.commands.items ≡ count)) }
     ensures in_range { IfOk result (λ c. IsClaim (claimed c)) }
     ensures last { IfErr result (λ f. f.at ≡ records.new.at) }
@@ -274,8 +273,7 @@ pub fn read_certificate<R: Read + Drop>(
     ensures in_range { IfOk result (λ c. IsClaim (claimed c)) }
     // at the record that was asked for last: none was read past it
     ensures last { IfErr result (λ f. f.at ≡ records.new.at) }
-    ensures err { IfErr result (λ f. IfSome records.old.left (λ rows.
-        IsOutside records.new.failed f.why ⊎ ClaimFault rows f.at f.why)) }
+    ensures err { IfErr result (FaultsBy records.old records.new ClaimFault) }
     // also where it came from outside: at most one past the last record, and no record before it is wrong
     ensures reached { IfErr result (λ f. Reaches claim_form records.old.left 0 f.at) }
     ensures reads { (1 ≤ records.new.at) × (records.new.at ≤ MAX_COMMANDS + 3) }
@@ -334,7 +332,7 @@ pub(crate) fn push_schedule(
     rounds: &[u64],
 ) -> Result<(), AllocError>
     requires { length rounds.now ≡ length commands.now }
-    ensures text { OnOk result (Adds draft.old draft.new (map (row_by served_cells) (zip commands.now rounds.now))) }
+    ensures text { OnOk result (AddsRows draft.old draft.new (map (row_by served_cells) (zip commands.now rounds.now))) }
 {
     for i in 0..commands.len() {
         let command = commands[i];

@@ -1,10 +1,10 @@
 //! Command lists.
 
-ghost use Rattle.std.specs.Prelude.{◌≡◌, ◌⊎◌, ◌+◌, ◌≤◌, ◌<◌, ◌^◌, IfOk, IfErr, IfSome, OnOk, length};
+ghost use Rattle.std.specs.Prelude.{◌≡◌, ◌+◌, ◌≤◌, ◌<◌, ◌^◌, IfOk, IfErr, IfSome, OnOk, length};
 ghost use Rattle.std.specs.Io.KnownBytes.{Appends};
 ghost use Rattle.blk_lists.specs.Texts.{rows_text};
 ghost use Rattle.drafts.specs.Parts.{AppendsPart};
-ghost use Rattle.blk_lists.specs.Reads.{IsOutside, Reaches};
+ghost use Rattle.blk_lists.specs.Reads.{FaultsBy, Reaches};
 ghost use Rattle.blk_lists.specs.Commands.{AreCommands, SpellsCommands, CommandsFault, command_list, commands_rows};
 
 use crate::fault::{TextFault, Why};
@@ -35,11 +35,11 @@ pub const COMMAND: [Slot; 3] = [ANY, RELEASE, ROUND];
 pub(crate) struct TitleForm;
 
 impl LineForm for TitleForm {
-    ghost use Rattle.blk_lists.specs.Commands.{title};
+    ghost use Rattle.blk_lists.specs.Commands.{commands_title_part};
 
-    type Line = (u64, u64);
+    type Value = (u64, u64);
 
-    ghost part = { λ _. title };
+    ghost part = { λ _. commands_title_part };
 
     #[tactic(auto, using(crate::proofs::CommandLaws::title_one))]
     fn gone(&self) -> Why {
@@ -64,7 +64,7 @@ pub(crate) struct CommandForm;
 impl LineForm for CommandForm {
     ghost use Rattle.blk_lists.specs.Commands.{command};
 
-    type Line = Command;
+    type Value = Command;
 
     ghost part = { λ _. command };
 
@@ -101,8 +101,7 @@ pub fn read_commands<R: Read + Drop>(
     ensures in_range { IfOk result (λ v. AreCommands v.0 v.1.items) }
     // at the record that was asked for last: none was read past it
     ensures last { IfErr result (λ f. f.at ≡ records.new.at) }
-    ensures err { IfErr result (λ f. IfSome records.old.left (λ rows.
-        IsOutside records.new.failed f.why ⊎ CommandsFault rows f.at f.why)) }
+    ensures err { IfErr result (FaultsBy records.old records.new CommandsFault) }
     // also where it came from outside: at most one past the last record, and no record before it is wrong
     ensures reached { IfErr result (λ f. Reaches command_list records.old.left 0 f.at) }
     ensures reads { (1 ≤ records.new.at) × (records.new.at ≤ MAX_COMMANDS + 2) }

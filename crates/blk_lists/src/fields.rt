@@ -3,7 +3,7 @@
 ghost use Rattle.std.specs.Prelude.{◌≡◌, ◌≢◌, ◌+◌, ◌*◌, ◌<◌, ◌≤◌, ◌^◌, ◌↔◌, ℕ, [], ◌∷◌, length, get_or, IsTrue, IfOk, IfErr, MatchOption, decimal};
 ghost use Rattle.std.specs.Str.Parse.{AllDigits, digits_value};
 ghost use Rattle.csv.specs.Records.{fields_of};
-ghost use Rattle.blk_lists.specs.Fields.{EachField, IsSized, IsGood, IsWhole, Keeps, Lacks, FieldSpells, FieldsSpell, WritesNumber, canonical};
+ghost use Rattle.blk_lists.specs.Fields.{EachField, IsSized, IsGood, IsWhole, KeepsRule, Lacks, FieldSpells, FieldsSpell, WritesNumber, canonical};
 ghost use Rattle.blk_lists.specs.Tables.{HasNoVersion, IsOfVersion};
 ghost use Rattle.blk_lists.specs.Words.{StartsWith, HasNoWord};
 
@@ -161,7 +161,8 @@ pub fn parse_number(field: &[u8]) -> Option<u64>
     }
 }
 
-/// The same for a field of any length.
+/// The same for a field of any length. A call, so that the pass over a record's slots is short enough to be unrolled.
+#[inline(never)]
 fn parse_digits(field: &[u8]) -> Option<u64>
     ensures { MatchOption result ((n : ℕ) → n < 2 ^ 64 → field.now ≢ decimal n) (λ n. field.now ≡ decimal n) }
 {
@@ -184,7 +185,8 @@ pub fn after_minus(field: &[u8]) -> Option<&[u8]>
     }
 }
 
-/// The size of a signed number.
+/// The size of a signed number. A call, as `parse_digits` is.
+#[inline(never)]
 fn parse_sized(field: &[u8]) -> Option<u64>
     ensures { MatchOption result ((n : ℕ) → n < 2 ^ 64 → ¬ IsSized field.now n) (IsSized field.now) }
 {
@@ -215,7 +217,7 @@ pub(crate) enum Rule {
 
 /// Whether a field keeps a rule.
 fn keeps(rule: Rule, slot: Slot, field: &[u8]) -> bool
-    ensures { IsTrue result ↔ Keeps rule slot field.now }
+    ensures { IsTrue result ↔ KeepsRule rule slot field.now }
 {
     match rule {
         Rule::Blank => match slot {
@@ -236,7 +238,7 @@ fn keeps(rule: Rule, slot: Slot, field: &[u8]) -> bool
 
 /// Whether each field of a record keeps a rule.
 fn all_keep(rule: Rule, row: &ByteRecord, slots: &[Slot]) -> bool
-    ensures { IsTrue result ↔ EachField (Keeps rule) slots.now (fields_of row.now) }
+    ensures { IsTrue result ↔ EachField (KeepsRule rule) slots.now (fields_of row.now) }
 {
     for i in 0..slots.len() {
         if !keeps(rule, slots[i], field(row, i)) {
@@ -265,7 +267,7 @@ fn first_lack(row: &ByteRecord, slots: &[Slot]) -> Why
     Why::Range
 }
 
-/// The number of a field that is what its slot wants, 0 where the slot has none.
+/// The number of a field that is what its slot wants, a direction's letter, 0 where the slot has none.
 #[inline(always)]
 fn spelled(slot: Slot, field: &[u8]) -> Option<u64>
     ensures { MatchOption result (¬ IsGood slot field.now) (FieldSpells slot field.now) }
@@ -274,7 +276,7 @@ fn spelled(slot: Slot, field: &[u8]) -> Option<u64>
         Slot::Given => Some(0),
         Slot::Blank => { if field.is_empty() { Some(0) } else { None } }
         Slot::Direction => match Dir::of_letter(field) {
-            Some(_) => Some(0),
+            Some(dir) => Some(dir.letter() as u64),
             None => None,
         },
         Slot::Number { least, most } => match parse_number(field) {
@@ -313,7 +315,8 @@ fn spelled_numbers<const N: usize>(row: &ByteRecord, slots: &[Slot; N]) -> Optio
     Some(numbers)
 }
 
-/// The numbers of a record's fields by place, 0 where a slot has none, or the first thing that it lacks.
+/// The numbers of a record's fields by place, a direction's letter, 0 where a slot has none, or the first thing that it
+/// lacks.
 #[inline(always)]
 pub fn read_fields<const N: usize>(row: &ByteRecord, slots: &[Slot; N]) -> Result<[u64; N], Why>
     ensures ok { IfOk result (FieldsSpell slots.now (fields_of row.now)) }

@@ -1,11 +1,11 @@
 //! Items of a text, each of which may have some records and depend on those before it.
 
-ghost use Rattle.std.specs.Prelude.{◌≡◌, ◌+◌, ◌-◌, ◌*◌, ◌<◌, ◌≤◌, ◌^◌, ℕ, List, [], length, All, OnOk, OnErr, IfOk, IfErr, IfSome};
+ghost use Rattle.std.specs.Prelude.{◌≡◌, ◌+◌, ◌-◌, ◌*◌, ◌<◌, ◌≤◌, ◌^◌, ℕ, List, [], length, All, OnOk, OnErr, IfOk, IfErr};
 ghost use Rattle.csv.specs.Records.{fields_of};
 ghost use Rattle.blk_lists.specs.Sources.{Row};
 ghost use Rattle.blk_lists.specs.declared.fault.Why.{Why as AWhy};
-ghost use Rattle.parts.specs.Parts.{Part, Begins, IsCount, most_of};
-ghost use Rattle.blk_lists.specs.Reads.{Reads, HandFailsBy, FailsBy, Halts, HaltsBy, GathersBy, AreGatheredBy, IsRowOf, IsWrongLine, IsOne, IsStopped, beyond_of, items_of, repeated};
+ghost use Rattle.parts.specs.Parts.{Part, IsCount, most_of};
+ghost use Rattle.blk_lists.specs.Reads.{Reads, ReadsAll, HandFailsBy, FailsBy, Halts, HaltsBy, GathersBy, AreGatheredBy, IsRowOf, IsWrongLine, IsOne, IsStopped, beyond_of, items_of, repeated};
 
 use crate::fault::{TextFault, Why};
 use crate::source::Records;
@@ -16,17 +16,18 @@ use std::io::Read;
 
 /// A kind of record by itself.
 pub trait LineForm {
-    type Line;
+    /// What a record tells.
+    type Value;
 
-    ghost part: { Self → Part Row AWhy Self.Line };
+    ghost part: { Self → Part Row AWhy Self.Value };
 
     /// The fault where the record never came.
     fn gone(&self) -> Why
         ensures wrong { (part self.now).Wrong [] 1 result }
         ensures one { IsOne (part self.now) };
 
-    /// The line that a record spells, or the first thing that is wrong with it.
-    fn line(&self, row: &ByteRecord) -> Result<Self::Line, Why>
+    /// The value that a record spells, or the first thing that is wrong with it.
+    fn line(&self, row: &ByteRecord) -> Result<Self::Value, Why>
         ensures ok { IfOk result (IsRowOf (part self.now) (fields_of row.now)) }
         ensures err { IfErr result (IsWrongLine (part self.now) (fields_of row.now)) };
 }
@@ -35,7 +36,7 @@ pub trait LineForm {
 pub fn read_line<R: Read + Drop, F: LineForm>(
     records: &mut Records<R>,
     form: &F,
-) -> Result<F::Line, TextFault>
+) -> Result<F::Value, TextFault>
     requires { records.old.at < 2 ^ 64 - 1 }
     ensures at { records.new.at ≡ records.old.at + 1 }
     ensures ok { IfOk result (Reads (F.part form.now) records.old.left records.new.left) }
@@ -139,13 +140,13 @@ pub struct Each<F> {
 
 impl<F: LineForm> ItemForm for Each<F>
 where
-    F::Line: Drop,
+    F::Value: Drop,
 {
     ghost use Rattle.std.specs.Prelude.{List};
 
-    type Items = Vec<F::Line>;
+    type Items = Vec<F::Value>;
 
-    ghost View = { F.Line };
+    ghost View = { F.Value };
 
     ghost seen = { λ v. v.items };
 
@@ -155,7 +156,7 @@ where
 
     ghost more = { 0 };
 
-    fn gone(&self, items: &Vec<F::Line>) -> Why {
+    fn gone(&self, items: &Vec<F::Value>) -> Why {
         let _ = items;
         self.form.gone()
     }
@@ -164,8 +165,9 @@ where
         &self,
         alloc: Global,
         records: &mut Records<R>,
-        items: &mut Vec<F::Line>,
+        items: &mut Vec<F::Value>,
     ) -> Result<(), TextFault> {
+        // `gone` brings the prover which fault the form tells where a line is missing
         let _ = (alloc, self.form.gone());
         match self.form.line(records.row()) {
             Ok(line) => {
@@ -195,12 +197,12 @@ pub fn read_lines<R: Read + Drop, F: LineForm>(
     records: &mut Records<R>,
     form: F,
     repeats: Repeats,
-) -> Result<Vec<F::Line>, TextFault>
+) -> Result<Vec<F::Value>, TextFault>
 where
-    F::Line: Drop,
+    F::Value: Drop,
     F: Drop,
     requires { records.old.at + most_of repeats + 1 < 2 ^ 64 - 1 }
-    ensures ok { IfOk result (λ v. IfSome records.old.left (λ rows. Begins (items_of repeats (λ _. F.part form)) rows v.items [])) }
+    ensures ok { IfOk result (λ v. ReadsAll (items_of repeats (λ _. F.part form)) records.old.left v.items) }
     ensures err { IfErr result (HaltsBy records.old records.new (items_of repeats (λ _. F.part form))) }
     // at the record that was asked for last: none was read past it
     ensures last { IfErr result (λ f. f.at ≡ records.new.at) }
@@ -212,6 +214,7 @@ where
 {
     let each = Each { form };
     let mut lines = Vec::new(alloc);
+    // brings the prover which fault the form tells where a line is missing
     let _ = each.form.gone();
     match gather(alloc, records, &each, repeats, &mut lines) {
         Ok(true) => return Ok(lines),

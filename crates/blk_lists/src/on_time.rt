@@ -1,14 +1,12 @@
 //! Certificates of the greatest number of commands that a schedule can meet.
 
-ghost use Rattle.std.specs.Prelude.{◌≡◌, ◌⊎◌, ◌+◌, ◌*◌, ◌++◌, ◌≤◌, ◌<◌, ◌-◌, ◌^◌, ◌∷◌, [], All, IfOk, IfErr, IfSome, OnOk, map, length, codes};
+ghost use Rattle.std.specs.Prelude.{◌≡◌, ◌+◌, ◌*◌, ◌≤◌, ◌<◌, ◌-◌, ◌^◌, ◌∷◌, All, IfOk, IfErr, IfSome, OnOk, map, length, codes};
 ghost use Rattle.std.specs.Io.KnownBytes.{Appends};
 ghost use Rattle.edd_check.specs.Window.{WindowInRange};
-ghost use Rattle.parts.specs.Parts.{Begins};
-ghost use Rattle.blk_lists.specs.Reads.{IsOutside, Reads, Halts, Reaches};
+ghost use Rattle.blk_lists.specs.Reads.{FaultsBy, Reads, ReadsAll, Halts, Reaches};
 ghost use Rattle.blk_lists.specs.Tables.{row_by};
-ghost use Rattle.blk_lists.specs.Texts.{rows_text, Adds};
+ghost use Rattle.blk_lists.specs.Texts.{rows_text, AddsRows};
 ghost use Rattle.drafts.specs.Parts.{AppendsPart};
-ghost use Rattle.drafts.specs.Drafts.{drafted};
 ghost use Rattle.blk_lists.specs.Titles.{IsCounted};
 ghost use Rattle.blk_lists.specs.OnTime.{on_time_claimed, on_time_form, IsOnTimeClaim, SpellsOnTime, OnTimeClaimFault, on_time_rows, text_of, window_cells, windows, on_time_body, on_time_told};
 
@@ -70,7 +68,7 @@ struct NumbersForm;
 impl LineForm for NumbersForm {
     ghost use Rattle.blk_lists.specs.OnTime.{on_time_numbers};
 
-    type Line = (u64, u64);
+    type Value = (u64, u64);
 
     ghost part = { λ _. on_time_numbers };
 
@@ -97,7 +95,7 @@ struct WindowForm;
 impl LineForm for WindowForm {
     ghost use Rattle.blk_lists.specs.OnTime.{window as window_part};
 
-    type Line = Window;
+    type Value = Window;
 
     ghost part = { λ _. window_part };
 
@@ -152,7 +150,7 @@ pub(crate) fn read_on_time_body<R: Read + Drop>(
 ) -> Result<OnTimeCertificate, TextFault>
     requires at { records.old.at ≡ 1 }
     requires counted { IsCounted (depth, count) }
-    ensures ok { IfOk result (λ c. IfSome records.old.left (λ rows. Begins (on_time_body count) rows (on_time_told (on_time_claimed c)) [])) }
+    ensures ok { IfOk result (λ c. ReadsAll (on_time_body count) records.old.left (on_time_told (on_time_claimed c))) }
     ensures told { IfOk result (λ c. (c.depth ≡ depth) × (length c.commands.items ≡ count)) }
     ensures in_range { IfOk result (λ c. IsOnTimeClaim (on_time_claimed c)) }
     ensures last { IfErr result (λ f. f.at ≡ records.new.at) }
@@ -204,8 +202,7 @@ pub fn read_on_time<R: Read + Drop>(
     ensures in_range { IfOk result (λ c. IsOnTimeClaim (on_time_claimed c)) }
     // at the record that was asked for last: none was read past it
     ensures last { IfErr result (λ f. f.at ≡ records.new.at) }
-    ensures err { IfErr result (λ f. IfSome records.old.left (λ rows.
-        IsOutside records.new.failed f.why ⊎ OnTimeClaimFault rows f.at f.why)) }
+    ensures err { IfErr result (FaultsBy records.old records.new OnTimeClaimFault) }
     // also where it came from outside: at most one past the last record, and no record before it is wrong
     ensures reached { IfErr result (λ f. Reaches on_time_form records.old.left 0 f.at) }
     ensures reads { (1 ≤ records.new.at) × (records.new.at ≤ 2 * MAX_COMMANDS + 3) }
@@ -225,7 +222,7 @@ pub fn read_on_time<R: Read + Drop>(
 
 /// Adds the record of each window.
 fn push_cover(draft: &mut Block, cover: &[Window]) -> Result<(), AllocError>
-    ensures text { OnOk result (Adds draft.old draft.new (map (λ w. codes "window" ∷ row_by window_cells w) cover.now)) }
+    ensures text { OnOk result (AddsRows draft.old draft.new (map (λ w. codes "window" ∷ row_by window_cells w) cover.now)) }
 {
     for i in 0..cover.len() {
         let window = cover[i];

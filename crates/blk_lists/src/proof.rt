@@ -1,7 +1,7 @@
 //! Certificates of either form, told by their titles.
 
-ghost use Rattle.std.specs.Prelude.{◌≡◌, ◌⊎◌, ◌+◌, ◌*◌, ◌≤◌, IfOk, IfErr, IfSome};
-ghost use Rattle.blk_lists.specs.Reads.{IsOutside, Reaches};
+ghost use Rattle.std.specs.Prelude.{◌≡◌, ◌+◌, ◌*◌, ◌≤◌, IfOk, IfErr, IfSome};
+ghost use Rattle.blk_lists.specs.Reads.{FaultsBy, Reaches};
 ghost use Rattle.blk_lists.specs.Proof.{proof_claimed, proof_form, proof_size, IsProofClaim, SpellsProof, ProofFault};
 
 use crate::certificate::{CERTIFICATE, Certificate, read_claim_body};
@@ -39,7 +39,7 @@ struct ProofTitleForm;
 impl LineForm for ProofTitleForm {
     ghost use Rattle.blk_lists.specs.Proof.{proof_title};
 
-    type Line = (ProofKind, (u64, (u64, u64)));
+    type Value = (ProofKind, (u64, (u64, u64)));
 
     ghost part = { λ _. proof_title };
 
@@ -80,8 +80,7 @@ pub fn read_proof<R: Read + Drop>(
     ensures in_range { IfOk result (λ p. IsProofClaim (proof_claimed p)) }
     // at the record that was asked for last: none was read past it
     ensures last { IfErr result (λ f. f.at ≡ records.new.at) }
-    ensures err { IfErr result (λ f. IfSome records.old.left (λ rows.
-        IsOutside records.new.failed f.why ⊎ ProofFault rows f.at f.why)) }
+    ensures err { IfErr result (FaultsBy records.old records.new ProofFault) }
     // also where it came from outside: at most one past the last record, and no record before it is wrong
     ensures reached { IfErr result (λ f. Reaches proof_form records.old.left 0 f.at) }
     ensures reads { (1 ≤ records.new.at) × (records.new.at ≤ 2 * MAX_COMMANDS + 3) }

@@ -1,12 +1,10 @@
 //! Schedules, by whatever scheduler.
 
-ghost use Rattle.std.specs.Prelude.{◌≡◌, ◌⊎◌, ◌+◌, ◌≤◌, ◌<◌, ◌-◌, ◌^◌, ◌++◌, ◌∷◌, [], false, All, List, IfOk, IfErr, IfSome, OnOk, length};
+ghost use Rattle.std.specs.Prelude.{◌≡◌, ◌⊎◌, ◌+◌, ◌≤◌, ◌<◌, ◌-◌, ◌^◌, false, All, IfOk, IfErr, IfSome, OnOk, length};
 ghost use Rattle.std.specs.Bool.{OnTrue};
 ghost use Rattle.std.specs.Io.KnownBytes.{Appends};
 ghost use Rattle.csv.specs.Records.{fields_of};
-ghost use Rattle.parts.specs.Parts.{Begins};
-ghost use Rattle.blk_lists.specs.Sources.{Row};
-ghost use Rattle.blk_lists.specs.Reads.{IsOutside, Halts, Reaches};
+ghost use Rattle.blk_lists.specs.Reads.{FaultsBy, ReadsAll, Halts, Reaches};
 ghost use Rattle.blk_lists.specs.Texts.{rows_text};
 ghost use Rattle.drafts.specs.Parts.{AppendsPart};
 ghost use Rattle.blk_lists.specs.Schedule.{ran_of, ran_form, ran_body, ran_rows, IsPastCommands, IsAdded, AreFit, AreIds, DoRise, HasIds, IsNew, IsRan, SpellsSchedule, ScheduleFault};
@@ -198,7 +196,7 @@ fn read_new<R: Read + Drop>(
     count: u64,
 ) -> Result<Vec<(Command, u64)>, TextFault>
     requires { records.old.at + count + 1 < 2 ^ 64 - 1 }
-    ensures ok { IfOk result (λ v. IfSome records.old.left (λ rows. Begins (ran_body count) rows v.items [])) }
+    ensures ok { IfOk result (λ v. ReadsAll (ran_body count) records.old.left v.items) }
     ensures err { IfErr result (λ f. Halts records.new.failed (ran_body count) records.old.left records.old.at f.at f.why) }
     ensures last { IfErr result (λ f. f.at ≡ records.new.at) }
     ensures fit { IfOk result (λ v. AreFit v.items × (length v.items ≡ count)) }
@@ -247,8 +245,7 @@ pub fn read_schedule<R: Read + Drop>(
     ensures in_range { IfOk result (λ s. IsRan (ran_of s)) }
     // at the record that was asked for last: none was read past it
     ensures last { IfErr result (λ f. f.at ≡ records.new.at) }
-    ensures err { IfErr result (λ f. IfSome records.old.left (λ rows.
-        IsOutside records.new.failed f.why ⊎ ScheduleFault rows f.at f.why)) }
+    ensures err { IfErr result (FaultsBy records.old records.new ScheduleFault) }
     // also where it came from outside: at most one past the last record, and no record before it is wrong
     ensures reached { IfErr result (λ f. Reaches ran_form records.old.left 0 f.at) }
     ensures reads { (1 ≤ records.new.at) × (records.new.at ≤ MAX_COMMANDS + 2) }

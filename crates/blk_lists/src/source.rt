@@ -1,7 +1,7 @@
 //! The records of a reader, one at a time.
 
-ghost use Rattle.std.specs.Prelude.{◌≡◌, ◌+◌, ◌-◌, ◌<◌, ◌^◌, true, false, ℕ, List, [], Option, Some, None, IfOk, IfErr, IfSome, option_map};
-ghost use Rattle.csv.specs.Reading.{default_config, records, strip_bom, reader_source};
+ghost use Rattle.std.specs.Prelude.{◌≡◌, ◌+◌, ◌-◌, ◌<◌, ◌^◌, true, false, IfOk, IfErr, IfSome};
+ghost use Rattle.csv.specs.Reading.{reader_source};
 ghost use Rattle.csv.specs.Records.{fields_of};
 ghost use Rattle.blk_lists.specs.Sources.{Source, TakesRecord, IsPlainReader, input_of, left_of};
 ghost use Rattle.blk_lists.specs.Watching.{left_in, failed_in};

@@ -1,6 +1,6 @@
 //! The titles of forms that give a depth and a number of commands.
 
-ghost use Rattle.std.specs.Prelude.{◌≡◌, ◌<◌, ◌^◌, IfOk, IfErr};
+ghost use Rattle.std.specs.Prelude.{◌≡◌, ◌<◌, IfOk, IfErr};
 ghost use Rattle.csv.specs.Records.{fields_of};
 ghost use Rattle.blk_lists.specs.Reads.{IsRowOf, IsWrongLine};
 ghost use Rattle.blk_lists.specs.Titles.{counted_title as title_part};
@@ -43,7 +43,7 @@ pub struct CountedTitle<const L: usize> {
 impl<const L: usize> LineForm for CountedTitle<L> {
     ghost use Rattle.blk_lists.specs.Titles.{counted_title as title_part};
 
-    type Line = (u64, (u64, u64));
+    type Value = (u64, (u64, u64));
 
     ghost part = { λ f. title_part f.kind.word };
 

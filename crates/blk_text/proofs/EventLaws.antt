@@ -16,7 +16,7 @@ use Rattle.blk_lists.specs.Sources.{Row, TakesRecord}
 use Rattle.blk_lists.specs.Reads.{IsOutside, IsOne, IsRowOf, IsWrongLine, Reads, HandReads, HandFails, Fails, AreGathered, IsStopped, repeated, size_of, with_next}
 use Rattle.blk_text.specs.SetupRecord.{setup}
 use Rattle.blk_lists.specs.Tables.{FitsCells, slots_by}
-use Rattle.blk_text.specs.TraceForm.{first_record, bios_after, group, event_told, plain_event, BreaksRule, event, alone, one_more, IsPast, refusal_of, IsRefused, events_of, trace_cells, IsTraceTitle, title, trace_body, trace_form}
+use Rattle.blk_text.specs.TraceForm.{first_record, bios_after, group, event_told, plain_event, BreaksRule, event, alone, one_more, IsPast, refusal_of, IsRefused, events_of, trace_cells, IsTraceTitle, trace_title_part, trace_body, trace_form}
 use Rattle.blk_text.specs.Versions.{latest, most_tags}
 use Rattle.blk_lists.specs.declared.fault.Why.{Why}
 use Rattle.blk_lists.specs.declared.fault.Why.TheVariants as why
@@ -171,7 +171,7 @@ pub title_slots : (version depth : ℕ) → depth ≡ most_tags version
     → slot.Given ∷ slot.Given ∷ slot.Number 1 depth ∷ slot.Number 1 MAX_QUEUES ∷ slot.Number 0 MAX_EVENTS ∷ slot.Blank ∷ [] ≡ slot.Given ∷ slot.Given ∷ slots_by (trace_cells version)
 title_slots version depth e = ap (λ n. slot.Given ∷ slot.Given ∷ slot.Number 1 n ∷ slot.Number 1 MAX_QUEUES ∷ slot.Number 0 MAX_EVENTS ∷ slot.Blank ∷ []) e
 
-pub title_one : IsOne title
+pub title_one : IsOne trace_title_part
 title_one = record { tells = title_part (codes "blk-trace") latest trace_cells IsTraceTitle (omega arith) title_table; plain = λ t rest f. tt; one = λ t. refl }
 
 -- the depth of a title is one of a setup
@@ -182,10 +182,10 @@ pub body_tells : (t : ℕ × TraceTitle) → IsTraceTitle t.0 t.1 → Tells (tra
 body_tells t i = then_tells (setup t.1.depth t.1.hw) (λ s. events_of t.0 s t.1.count) (setup_one t.1.depth t.1.hw (setup_depth t i) i.hw).tells (λ s fit. events_tell t.0 s t.1.count)
 
 pub trace_tells : Tells trace_form
-trace_tells = then_tells title trace_body title_one.tells (λ t fit. body_tells t fit.1)
+trace_tells = then_tells trace_title_part trace_body title_one.tells (λ t fit. body_tells t fit.1)
 
 pub trace_decides : Decides trace_form
-trace_decides = then_decides title trace_body (title_decides (codes "blk-trace") latest trace_cells IsTraceTitle (omega arith) title_table) (λ t fit. (let i = fit.1 in
+trace_decides = then_decides trace_title_part trace_body (title_decides (codes "blk-trace") latest trace_cells IsTraceTitle (omega arith) title_table) (λ t fit. (let i = fit.1 in
     then_decides (setup t.1.depth t.1.hw) (λ s. events_of t.0 s t.1.count) (setup_decides t.1.depth t.1.hw (setup_depth t i) i.hw) (λ s fit. events_decide t.0 s t.1.count)))
 
 -- what was read of an event

@@ -6,7 +6,7 @@ use Rattle.blk_lists.specs.Words.{StartsWith, HasNoWord}
 use Rattle.blk_lists.specs.Fields.{Lacks, FieldsSpell}
 use Rattle.blk_lists.specs.Reads.{IsRowOf, IsWrongLine, IsOne}
 use Rattle.blk_lists.specs.Tables.{FitsCells, slots_by, kinds_record}
-use Rattle.blk_text.specs.EventKinds.{kind_row, word_of, EventStandsIn, Says, head_cells}
+use Rattle.blk_text.specs.EventKinds.{kind_row, event_word, EventStandsIn, Says, head_cells}
 use Rattle.blk_text.specs.declared.heads.EventKind.{EventKind}
 use Rattle.blk_text.specs.declared.heads.EventKind.TheVariants as kind
 use Rattle.blk_text.specs.TraceForm.{Head, said, first_record}
@@ -33,7 +33,7 @@ kind_at f =
     else if get_or f 1 0 == 101 then kind.Depth
     else kind.Done
 
-kind_is : (k : EventKind) → kind_at (word_of k) ≡ k
+kind_is : (k : EventKind) → kind_at (event_word k) ≡ k
 kind_is kind.Tick = refl
 kind_is k = refl
 
@@ -70,21 +70,21 @@ said_back kind.Tick v = refl
 said_back k v = refl
 
 abbrev kinds : ℕ → Part Row Why ((k : EventKind) × Says k)
-kinds version = kinds_record Says why.Count 6 (EventStandsIn version) word_of head_cells
+kinds version = kinds_record Says why.Count 6 (EventStandsIn version) event_word head_cells
 
 pub head_tells : (version : ℕ) → Tells (first_record version)
 head_tells version = seen_tells said (kinds version) (λ l m e. sym (head_back l) ∙ ap (λ (h : (k : EventKind) × Says k). head_with h.0 h.1) e ∙ head_back m)
-    (kinds_tell Says why.Count 6 (EventStandsIn version) word_of head_cells (words_tell word_of kind_at kind_is) tables)
+    (kinds_tell Says why.Count 6 (EventStandsIn version) event_word head_cells (words_tell event_word kind_at kind_is) tables)
 
 pub head_one : (version : ℕ) → IsOne (first_record version)
 head_one version = record { tells = head_tells version; plain = λ h rest f. tt; one = λ h. refl }
 
 pub head_decides : (version : ℕ) → Decides (first_record version)
-head_decides version = seen_decides said (kinds version) (λ v f. (head_with v.0 v.1, said_back v.0 v.1)) (kinds_decide Says why.Count 6 (EventStandsIn version) word_of head_cells (word_picked word_of kind_at (EventStandsIn version) kind_is (stands_decided version)) tables)
+head_decides version = seen_decides said (kinds version) (λ v f. (head_with v.0 v.1, said_back v.0 v.1)) (kinds_decide Says why.Count 6 (EventStandsIn version) event_word head_cells (word_picked event_word kind_at (EventStandsIn version) kind_is (stands_decided version)) tables)
 
 -- what was read of a first record
 
-pub word_long : (k : EventKind) → 0 < length (word_of k)
+pub word_long : (k : EventKind) → 0 < length (event_word k)
 word_long kind.Tick = omega arith
 word_long k = omega arith
 
@@ -96,19 +96,19 @@ pub head_spells : (k j : EventKind) (row : Row) (ns : List ℕ) → k ≡ j → 
 head_spells k j row ns e s = subst (λ (z : EventKind). FieldsSpell (kind_row z).slots row ns) e s
 
 -- of a kind that was told by its word
-pub head_line : (version : ℕ) (k : EventKind) (h : Head) (row : Row) (ns : List ℕ) → k ≡ (said h).0 → EventStandsIn version k → StartsWith (word_of k) row → FieldsSpell (kind_row k).slots row ns
+pub head_line : (version : ℕ) (k : EventKind) (h : Head) (row : Row) (ns : List ℕ) → k ≡ (said h).0 → EventStandsIn version k → StartsWith (event_word k) row → FieldsSpell (kind_row k).slots row ns
     → IsBy (head_cells (said h).0) (said h).1 (λ i. get_or row (suc i) []) (λ i. get_or ns (suc i) 0) → IsRowOf (first_record version) row h
 head_line version k h row ns e a t s b =
     let j = (said h).0 in
-    let line = word_line why.Count (word_of j) (head_cells j) (λ v. EventStandsIn version j × FitsCells (head_cells j) v) (said h).1 row ns (subst (λ (z : EventKind). StartsWith (word_of z) row) e t)
+    let line = word_line why.Count (event_word j) (head_cells j) (λ v. EventStandsIn version j × FitsCells (head_cells j) v) (said h).1 row ns (subst (λ (z : EventKind). StartsWith (event_word z) row) e t)
     (subst (λ ss. FieldsSpell ss row ns) (slots_are j) (head_spells k j row ns e s)) b (λ f. (subst (EventStandsIn version) e a, f)) in
     λ rest. record { fits = (line rest).fits; made = (line rest).made; follows = tt }
 
-pub head_lacks : (version : ℕ) (k : EventKind) (row : Row) (w : Why) → EventStandsIn version k → StartsWith (word_of k) row → Lacks (kind_row k).slots row w → IsWrongLine (first_record version) row w
+pub head_lacks : (version : ℕ) (k : EventKind) (row : Row) (w : Why) → EventStandsIn version k → StartsWith (event_word k) row → Lacks (kind_row k).slots row w → IsWrongLine (first_record version) row w
 head_lacks version k row w a t l = λ rest. inl (k, (a, t), (refl, inl (t, subst (λ ss. Lacks ss row w) (slots_are k) l)))
 
-pub no_head : (version : ℕ) (cells : Row) (w : Why) → ((k : EventKind) → EventStandsIn version k → ¬ (get_or cells 0 [] ≡ word_of k)) → HasNoWord 6 cells w → IsWrongLine (first_record version) cells w
-no_head version cells w n h = λ rest. inr (refl, (λ k s. n k s.0 (first_is cells (word_of k) s.1)), h)
+pub no_head : (version : ℕ) (cells : Row) (w : Why) → ((k : EventKind) → EventStandsIn version k → ¬ (get_or cells 0 [] ≡ event_word k)) → HasNoWord 6 cells w → IsWrongLine (first_record version) cells w
+no_head version cells w n h = λ rest. inr (refl, (λ k s. n k s.0 (first_is cells (event_word k) s.1)), h)
 
 pub head_gone : (version : ℕ) → (first_record version).Wrong [] 1 why.Count
 head_gone version = inr (refl, (λ k s. s.1), refl)

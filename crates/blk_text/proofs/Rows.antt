@@ -6,7 +6,7 @@ use Rattle.blk_bio.specs.declared.bio.Dir.{Dir}
 use Rattle.blk_bio.specs.declared.bio.Dir.TheVariants as dir
 use Rattle.blk_text.specs.BioRecord.{bio_row}
 use Rattle.blk_bio.specs.Letters.{direction_text}
-use Rattle.blk_lists.specs.Cells.{line_of}
+use Rattle.blk_lists.specs.Inside.Cells.{line_of}
 use Rattle.blk_lists.specs.Texts.{rows_text}
 use Rattle.blk_lists.proofs.PlainRows.{all_plain, decimal_plain, line_is}
 

@@ -16,9 +16,9 @@ use Rattle.blk_lists.specs.Words.{StartsWith, WordLacks}
 use Rattle.blk_lists.specs.Fields.{Lacks, FieldsSpell}
 use Rattle.blk_lists.specs.Reads.{Reads, Halts, IsRowOf, IsWrongLine, IsOne, items_of}
 use Rattle.blk_lists.specs.Tables.{FitsCells, row_by, slots_by, kinds_record}
-use Rattle.blk_text.specs.StepKinds.{StepKind, word_of, StepStandsIn, slots_for, Held, step_cells}
+use Rattle.blk_text.specs.StepKinds.{StepKind, step_word, StepStandsIn, slots_for, StepTold, step_cells}
 use Rattle.blk_text.specs.StepKinds as kind
-use Rattle.blk_text.specs.Script.{step_said, LineFits, IsLineOf, IsRight, HasNoSuchBio, script_cells, IsTitle, IsEnough, TooFew, plain_title, title, plain_step, step, script_body, script_form, script_value, Scripted, title_of, script_rows, IsScript, IsScriptOf, SpellsVersion, SpellsScript, ScriptFault}
+use Rattle.blk_text.specs.Script.{step_said, LineFits, IsLineOf, IsRight, HasNoSuchBio, script_cells, IsTitle, IsEnough, TooFew, plain_title, script_title_part, plain_step, step, script_body, script_form, script_value, Scripted, title_of, script_rows, IsScript, IsScriptOf, SpellsVersion, SpellsScript, ScriptFault}
 use Rattle.blk_text.specs.BioTable.{bio_record}
 use Rattle.blk_text.specs.Versions.{latest, most_tags}
 use Rattle.blk_lists.specs.declared.fault.Why.{Why}
@@ -53,7 +53,7 @@ kind_at f =
     else if get_or f 1 0 == 101 then kind.Depth
     else kind.Done
 
-kind_is : (k : StepKind) → kind_at (word_of k) ≡ k
+kind_is : (k : StepKind) → kind_at (step_word k) ≡ k
 kind_is kind.Bio = refl
 kind_is k = refl
 
@@ -75,7 +75,7 @@ tables : (hw submitters : ℕ) → hw ≤ MAX_QUEUES → submitters ≤ MAX_SOFT
 tables hw submitters g s k = row_table (slots_for hw submitters k) (sized hw submitters g s k)
 
 -- the step of a kind
-abbrev line_with : (hw submitters : ℕ) (k : StepKind) → Held hw submitters k → Line
+abbrev line_with : (hw submitters : ℕ) (k : StepKind) → StepTold hw submitters k → Line
 line_with hw submitters kind.Bio b = line.Bio record { id = record { submitter = b.0; serial = b.1.0 }; dir = b.1.1.0; first = b.1.1.1.0; sectors = b.1.1.1.1.0 }
 line_with hw submitters kind.Flush s = line.Flush s.0
 line_with hw submitters kind.Drain h = line.Drain h.0
@@ -90,12 +90,12 @@ line_back : (hw submitters : ℕ) (l : Line) → line_with hw submitters (step_s
 line_back hw submitters (line.Bio b) = refl
 line_back hw submitters l = refl
 
-held_back : (hw submitters : ℕ) (k : StepKind) (v : Held hw submitters k) → step_said hw submitters (line_with hw submitters k v) ≡ (k, v)
+held_back : (hw submitters : ℕ) (k : StepKind) (v : StepTold hw submitters k) → step_said hw submitters (line_with hw submitters k v) ≡ (k, v)
 held_back hw submitters kind.Bio v = refl
 held_back hw submitters k v = refl
 
-abbrev kinds : (version hw submitters : ℕ) → Part Row Why ((k : StepKind) × Held hw submitters k)
-kinds version hw submitters = kinds_record (Held hw submitters) why.Count 6 (StepStandsIn version) word_of (step_cells hw submitters)
+abbrev kinds : (version hw submitters : ℕ) → Part Row Why ((k : StepKind) × StepTold hw submitters k)
+kinds version hw submitters = kinds_record (StepTold hw submitters) why.Count 6 (StepStandsIn version) step_word (step_cells hw submitters)
 
 one_bio : (b c : Bio) → line.Bio b ≡ line.Bio c → b ≡ c
 one_bio b c e = cc e
@@ -141,8 +141,8 @@ right_or_no_bio l = inl (λ b e. absurd (cc e))
 
 step_tells : (version hw submitters : ℕ) → hw ≤ MAX_QUEUES → submitters ≤ MAX_SOFT_QUEUES → Tells (step version hw submitters)
 step_tells version hw submitters g s = tested_tells (plain_step version hw submitters) IsRight HasNoSuchBio
-    (seen_tells (step_said hw submitters) (kinds version hw submitters) (λ l m e. sym (line_back hw submitters l) ∙ ap (λ (h : (k : StepKind) × Held hw submitters k). line_with hw submitters h.0 h.1) e ∙ line_back hw submitters m)
-    (kinds_tell (Held hw submitters) why.Count 6 (StepStandsIn version) word_of (step_cells hw submitters) (words_tell word_of kind_at kind_is) (tables hw submitters g s)))
+    (seen_tells (step_said hw submitters) (kinds version hw submitters) (λ l m e. sym (line_back hw submitters l) ∙ ap (λ (h : (k : StepKind) × StepTold hw submitters k). line_with hw submitters h.0 h.1) e ∙ line_back hw submitters m)
+    (kinds_tell (StepTold hw submitters) why.Count 6 (StepStandsIn version) step_word (step_cells hw submitters) (words_tell step_word kind_at kind_is) (tables hw submitters g s)))
     (λ l k j w x fit. no_bio_once l k j w x) (λ l k w good n. no_bio_is n.0 n.1 (good n.0 n.2) n.5) (λ l k w n. (let is = n.3 in (omega (arith, is), omega (arith, is))))
 
 pub step_one : (version hw submitters : ℕ) → hw ≤ MAX_QUEUES → submitters ≤ MAX_SOFT_QUEUES → IsOne (step version hw submitters)
@@ -151,7 +151,7 @@ step_one version hw submitters g s = record { tells = step_tells version hw subm
 step_decides : (version hw submitters : ℕ) → hw ≤ MAX_QUEUES → submitters ≤ MAX_SOFT_QUEUES → Decides (step version hw submitters)
 step_decides version hw submitters g s = tested_decides (plain_step version hw submitters) IsRight HasNoSuchBio
     (seen_decides (step_said hw submitters) (kinds version hw submitters) (λ v f. (line_with hw submitters v.0 v.1, held_back hw submitters v.0 v.1))
-    (kinds_decide (Held hw submitters) why.Count 6 (StepStandsIn version) word_of (step_cells hw submitters) (word_picked word_of kind_at (StepStandsIn version) kind_is (stands_decided version)) (tables hw submitters g s)))
+    (kinds_decide (StepTold hw submitters) why.Count 6 (StepStandsIn version) step_word (step_cells hw submitters) (word_picked step_word kind_at (StepStandsIn version) kind_is (stands_decided version)) (tables hw submitters g s)))
     (λ l fit. right_or_no_bio l)
 
 -- the numbers of a step, as its table and as the script say
@@ -181,7 +181,7 @@ fits_step version hw submitters g s (line.Run n) f = f.0.1.0
 
 -- what was read of a step's record whose field is asked for its kind
 
-word_long : (k : StepKind) → 0 < length (word_of k)
+word_long : (k : StepKind) → 0 < length (step_word k)
 word_long kind.Bio = omega arith
 word_long k = omega arith
 
@@ -190,17 +190,17 @@ slots_are hw submitters kind.Bio = refl
 slots_are hw submitters k = refl
 
 abbrev Of : ℕ → List ℕ → StepKind → Type 0
-Of version f k = StepStandsIn version k × (f ≡ word_of k)
+Of version f k = StepStandsIn version k × (f ≡ step_word k)
 
-starts : (version : ℕ) (k : StepKind) (row : Row) (f : List ℕ) → f ≡ get_or row (0) [] → Of version f k → StartsWith (word_of k) row
-starts version k row f at of = begins row (word_of k) (word_long k) (sym at ∙ of.1)
+starts : (version : ℕ) (k : StepKind) (row : Row) (f : List ℕ) → f ≡ get_or row (0) [] → Of version f k → StartsWith (step_word k) row
+starts version k row f at of = begins row (step_word k) (word_long k) (sym at ∙ of.1)
 
 pub step_line : (version hw submitters : ℕ) (l : Line) (row : Row) (f ns : List ℕ) → f ≡ get_or row (0) [] → (true ≡ true → Of version f (step_said hw submitters l).0) → FieldsSpell (slots_for hw submitters (step_said hw submitters l).0) row ns
     → IsBy (step_cells hw submitters (step_said hw submitters l).0) (step_said hw submitters l).1 (λ i. get_or row (suc i) []) (λ i. get_or ns (suc i) 0) → IsRight l → IsRowOf (step version hw submitters) row l
 step_line version hw submitters l row f ns at is s b r =
     let k = (step_said hw submitters l).0 in
     let of = is refl in
-    let h = word_line why.Count (word_of k) (step_cells hw submitters k) (λ v. StepStandsIn version k × FitsCells (step_cells hw submitters k) v) (step_said hw submitters l).1 row ns (starts version k row f at of)
+    let h = word_line why.Count (step_word k) (step_cells hw submitters k) (λ v. StepStandsIn version k × FitsCells (step_cells hw submitters k) v) (step_said hw submitters l).1 row ns (starts version k row f at of)
     (subst (λ ss. FieldsSpell ss row ns) (slots_are hw submitters k) s) b (λ x. (of.0, x)) in
     λ rest. record { fits = ((h rest).fits, r); made = (h rest).made; follows = tt }
 
@@ -252,7 +252,7 @@ pub title_slots : (version depth : ℕ) → depth ≡ most_tags version
     → slot.Given ∷ slot.Given ∷ slot.Number 1 depth ∷ slot.Number 1 MAX_QUEUES ∷ slot.Number 1 MAX_SOFT_DEPTH ∷ slot.Number 1 MAX_SOFT_QUEUES ∷ [] ≡ slot.Given ∷ slot.Given ∷ slots_by (script_cells version)
 title_slots version depth e = ap (λ n. slot.Given ∷ slot.Given ∷ slot.Number 1 n ∷ slot.Number 1 MAX_QUEUES ∷ slot.Number 1 MAX_SOFT_DEPTH ∷ slot.Number 1 MAX_SOFT_QUEUES ∷ []) e
 
-pub title_one : IsOne title
+pub title_one : IsOne script_title_part
 title_one = record {
   tells = tested_tells plain_title IsEnough TooFew (title_part (codes "blk-script") latest script_cells IsTitle (omega arith) title_table)
       (λ t k j w x fit f g. (f.0 ∙ sym g.0, f.1 ∙ sym g.1))
@@ -262,7 +262,7 @@ title_one = record {
   one = λ t. refl;
 }
 
-title_decided : Decides title
+title_decided : Decides script_title_part
 title_decided = tested_decides plain_title IsEnough TooFew (title_decides (codes "blk-script") latest script_cells IsTitle (omega arith) title_table) (λ t fit. elim (at_most t.1.hw t.1.submitters) [
   | inl e ↦ inl e
   | inr n ↦ inr (1, why.Range, (refl, refl, few t.1.hw t.1.submitters n))
@@ -331,10 +331,10 @@ pub body_tells : (t : ℕ × Title) → IsTitle t.0 t.1 → Tells (script_body t
 body_tells t i = then_tells (setup t.1.depth t.1.hw) (λ s. items_of (repeats.AtMost MAX_STEPS) (λ _. step t.0 t.1.hw t.1.submitters)) (setup_one t.1.depth t.1.hw (setup_depth t i) i.hw).tells (λ s fit. steps_tell t i)
 
 script_tells : Tells script_form
-script_tells = then_tells title script_body title_one.tells (λ t fit. body_tells t fit.0.1)
+script_tells = then_tells script_title_part script_body title_one.tells (λ t fit. body_tells t fit.0.1)
 
 script_decides : Decides script_form
-script_decides = then_decides title script_body title_decided (λ t fit. (let i = fit.0.1 in
+script_decides = then_decides script_title_part script_body title_decided (λ t fit. (let i = fit.0.1 in
     then_decides (setup t.1.depth t.1.hw) (λ s. items_of (repeats.AtMost MAX_STEPS) (λ _. step t.0 t.1.hw t.1.submitters))
     (setup_decides t.1.depth t.1.hw (setup_depth t i) i.hw) (λ s fit. each_decides (step t.0 t.1.hw t.1.submitters) (step_decides t.0 t.1.hw t.1.submitters i.hw.1 i.submitters.1) (repeats.AtMost MAX_STEPS))))
 
@@ -407,26 +407,26 @@ script_in t s lines i enough f a short = record {
   short = short;
 }
 
-pub script_read : (left mid after : Option (List Row)) (t : ℕ × Title) (s : Setup) (lines : List Line) → Reads title left mid t → Reads (setup t.1.depth t.1.hw) mid after s
+pub script_read : (left mid after : Option (List Row)) (t : ℕ × Title) (s : Setup) (lines : List Line) → Reads script_title_part left mid t → Reads (setup t.1.depth t.1.hw) mid after s
     → IfSome after (λ rows. Begins (items_of (repeats.AtMost MAX_STEPS) (λ _. step t.0 t.1.hw t.1.submitters)) rows lines []) → FitsSetup t.1.depth t.1.hw s
     → IfSome left (λ rows. SpellsScript rows record { setup = s; soft_depth = t.1.soft_depth; submitters = t.1.submitters; lines = lines })
 script_read None mid after t s lines h k a f = tt
 script_read (Some rows) mid after t s lines h k a f =
-    script_spelled rows t s lines f (then_reads title script_body (Some rows) mid t (s, lines) h
+    script_spelled rows t s lines f (then_reads script_title_part script_body (Some rows) mid t (s, lines) h
     (then_reads (setup t.1.depth t.1.hw) (λ s. items_of (repeats.AtMost MAX_STEPS) (λ _. step t.0 t.1.hw t.1.submitters)) mid after s lines k a))
 
 -- where reading halts
 
-pub title_halts : (failed : Bool) (left : Option (List Row)) (start at : ℕ) (w : Why) → start ≡ 0 → Halts failed title left start at w → Halts failed script_form left 0 at w
-title_halts failed left start at w e h = first_halts failed title script_body left 0 at w (λ t fit. body_tells t fit.0.1) (rw e at h)
+pub title_halts : (failed : Bool) (left : Option (List Row)) (start at : ℕ) (w : Why) → start ≡ 0 → Halts failed script_title_part left start at w → Halts failed script_form left 0 at w
+title_halts failed left start at w e h = first_halts failed script_title_part script_body left 0 at w (λ t fit. body_tells t fit.0.1) (rw e at h)
 
-pub setup_halts : (failed : Bool) (left mid : Option (List Row)) (t : ℕ × Title) (middle at : ℕ) (w : Why) → middle ≡ 1 → IsTitle t.0 t.1 → Reads title left mid t → Halts failed (setup t.1.depth t.1.hw) mid middle at w → Halts failed script_form left 0 at w
+pub setup_halts : (failed : Bool) (left mid : Option (List Row)) (t : ℕ × Title) (middle at : ℕ) (w : Why) → middle ≡ 1 → IsTitle t.0 t.1 → Reads script_title_part left mid t → Halts failed (setup t.1.depth t.1.hw) mid middle at w → Halts failed script_form left 0 at w
 setup_halts failed left mid t middle at w e i r h =
-    second_halts failed title script_body left mid t 0 middle at w title_one.tells r (omega (arith, e))
+    second_halts failed script_title_part script_body left mid t 0 middle at w title_one.tells r (omega (arith, e))
     (first_halts failed (setup t.1.depth t.1.hw) (λ s. items_of (repeats.AtMost MAX_STEPS) (λ _. step t.0 t.1.hw t.1.submitters)) mid middle at w (λ s fit. steps_tell t i) h)
 
-pub steps_halt : (failed : Bool) (left mid after : Option (List Row)) (t : ℕ × Title) (s : Setup) (middle start at : ℕ) (w : Why) → middle ≡ 1 → start ≡ 2 → IsTitle t.0 t.1 → Reads title left mid t → Reads (setup t.1.depth t.1.hw) mid after s
+pub steps_halt : (failed : Bool) (left mid after : Option (List Row)) (t : ℕ × Title) (s : Setup) (middle start at : ℕ) (w : Why) → middle ≡ 1 → start ≡ 2 → IsTitle t.0 t.1 → Reads script_title_part left mid t → Reads (setup t.1.depth t.1.hw) mid after s
     → Halts failed (items_of (repeats.AtMost MAX_STEPS) (λ _. step t.0 t.1.hw t.1.submitters)) after start at w → Halts failed script_form left 0 at w
 steps_halt failed left mid after t s middle start at w e f i r k h =
-    second_halts failed title script_body left mid t 0 middle at w title_one.tells r (omega (arith, e))
+    second_halts failed script_title_part script_body left mid t 0 middle at w title_one.tells r (omega (arith, e))
     (second_halts failed (setup t.1.depth t.1.hw) (λ s. items_of (repeats.AtMost MAX_STEPS) (λ _. step t.0 t.1.hw t.1.submitters)) mid after s middle start at w (setup_one t.1.depth t.1.hw (setup_depth t i) i.hw).tells k (omega (arith, e, f)) h)

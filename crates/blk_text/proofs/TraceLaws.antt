@@ -30,7 +30,7 @@ use Rattle.blk_text.specs.BioRecord.{bio_row}
 use Rattle.blk_text.specs.SetupRecord.{setup_row, setup, FitsSetup, IsWholeSetup}
 use Rattle.blk_lists.specs.Reads.{IsOutside, Reads, Fails, Halts, AreItems, IsStopped, IsHeldAt, with_next, size_of}
 use Rattle.blk_text.specs.TraceRecords.{word_row, event_rows, title_row, trace_rows, BioFits, EventFits, IsTrace}
-use Rattle.blk_text.specs.TraceForm.{Tiles, group_bio, plain_event, event, one_more, events_of, IsTraceTitle, title, trace_body, trace_form, trace_value, IsEventOf, IsTraceOf, SpellsTraceIn, SpellsTrace, TraceFault}
+use Rattle.blk_text.specs.TraceForm.{Tiles, group_bio, plain_event, event, one_more, events_of, IsTraceTitle, trace_title_part, trace_body, trace_form, trace_value, IsEventOf, IsTraceOf, SpellsTraceIn, SpellsTrace, TraceTextFault}
 use Rattle.blk_text.specs.BioTable.{bio_cells}
 use Rattle.blk_lists.specs.Tables.{FitsCells}
 use Rattle.blk_text.specs.Versions.{latest}
@@ -220,10 +220,10 @@ spelled_once rows version other t u p q =
     let e = (trace_tells.once rows (trace_value version t) (trace_value other u) [] [] p q).0 in
     ((λ i. (e i).0.0), (λ i. (e i).1.0), (λ i. (e i).1.1))
 
-pub spelled_apart : (rows : List Row) (t : Traced) (at : ℕ) (w : Why) → SpellsTrace rows t → TraceFault rows at w → ⊥
+pub spelled_apart : (rows : List Row) (t : Traced) (at : ℕ) (w : Why) → SpellsTrace rows t → TraceTextFault rows at w → ⊥
 spelled_apart rows t at w p = trace_tells.apart rows (trace_value p.0 t) [] at w p.1
 
-pub fault_once : (rows : List Row) (at other : ℕ) (w v : Why) → TraceFault rows at w → TraceFault rows other v → (at ≡ other) × (w ≡ v)
+pub fault_once : (rows : List Row) (at other : ℕ) (w v : Why) → TraceTextFault rows at w → TraceTextFault rows other v → (at ≡ other) × (w ≡ v)
 fault_once = trace_tells.first
 
 -- reading
@@ -300,7 +300,7 @@ trace_in t version depth hw count n s d e f a l = record { setup = subst IsWhole
 value_is : (t : Traced) (v : ℕ × TraceTitle) (s : Setup) → t.setup ≡ s → FitsSetup v.1.depth v.1.hw s → length t.events ≡ v.1.count → (v, (s, t.events)) ≡ trace_value v.0 t
 value_is t v s e f c = λ i. ((v.0, record { depth = (sym f.0 ∙ ap (λ (x : Setup). x.depth) (sym e)) i; hw = (sym f.1 ∙ ap (λ (x : Setup). x.hw) (sym e)) i; count = sym c i }), (sym e i, t.events))
 
-pub spelled_or_wrong : (rows : List Row) → ((t : Traced) × SpellsTrace rows t) ⊎ ((at : ℕ) × (w : Why) × TraceFault rows at w)
+pub spelled_or_wrong : (rows : List Row) → ((t : Traced) × SpellsTrace rows t) ⊎ ((at : ℕ) × (w : Why) × TraceTextFault rows at w)
 spelled_or_wrong rows = elim (trace_decides rows) [
   | inl h ↦ (let f = h.2.fits.1 in
       let t : Traced = record { setup = h.0.1.0; events = h.0.1.1; prepared = Nothing } in
@@ -311,13 +311,13 @@ spelled_or_wrong rows = elim (trace_decides rows) [
 
 -- where reading stops
 
-pub events_fail : (failed : Bool) (left mid next : Option (List Row)) (t : ℕ × TraceTitle) (s : Setup) (middle at : ℕ) (w : Why) → middle ≡ 1 → Reads title left mid t → Reads (setup t.1.depth t.1.hw) mid next s
+pub events_fail : (failed : Bool) (left mid next : Option (List Row)) (t : ℕ × TraceTitle) (s : Setup) (middle at : ℕ) (w : Why) → middle ≡ 1 → Reads trace_title_part left mid t → Reads (setup t.1.depth t.1.hw) mid next s
     → Fails failed (events_of t.0 s t.1.count) next 2 at w → Fails failed trace_form left 0 at w
 events_fail failed left mid next t s middle at w e r k h =
-    second_fails failed title trace_body left mid t 0 middle at w r (omega (arith, e))
+    second_fails failed trace_title_part trace_body left mid t 0 middle at w r (omega (arith, e))
     (second_fails failed (setup t.1.depth t.1.hw) (λ s. events_of t.0 s t.1.count) mid next s middle 2 at w k (omega (arith, e)) h)
 
-pub fails_err : (failed : Bool) (left : Option (List Row)) (at : ℕ) (w : Why) → Fails failed trace_form left 0 at w → IfSome left (λ rows. IsOutside failed w ⊎ TraceFault rows at w)
+pub fails_err : (failed : Bool) (left : Option (List Row)) (at : ℕ) (w : Why) → Fails failed trace_form left 0 at w → IfSome left (λ rows. IsOutside failed w ⊎ TraceTextFault rows at w)
 fails_err failed None at w f = tt
 fails_err failed (Some rows) at w f = elim f [
   | inl o ↦ inl o
@@ -325,11 +325,11 @@ fails_err failed (Some rows) at w f = elim f [
 ]
 
 -- no memory for a trace without events
-pub none_held : (left mid : Option (List Row)) (t : ℕ × TraceTitle) (at last : ℕ) → IsTraceTitle t.0 t.1 → Reads title left mid t → at ≡ 2 → last ≡ 2 → IsHeldAt trace_form left MAX_SEGMENTS at last
+pub none_held : (left mid : Option (List Row)) (t : ℕ × TraceTitle) (at last : ℕ) → IsTraceTitle t.0 t.1 → Reads trace_title_part left mid t → at ≡ 2 → last ≡ 2 → IsHeldAt trace_form left MAX_SEGMENTS at last
 none_held None mid t at last i r e f = (2, omega (arith, e), omega (arith, e, f), omega (arith, f), tt)
-none_held (Some rows) mid t at last i r e f = (2, omega (arith, e), omega (arith, e, f), omega (arith, f), reached_second title trace_body title_one.tells rows r.0 t 1 r.2 (at_first (trace_body t) (body_tells t i) r.0))
+none_held (Some rows) mid t at last i r e f = (2, omega (arith, e), omega (arith, e, f), omega (arith, f), reached_second trace_title_part trace_body title_one.tells rows r.0 t 1 r.2 (at_first (trace_body t) (body_tells t i) r.0))
 
-pub events_held : (left mid next : Option (List Row)) (t : ℕ × TraceTitle) (s : Setup) (at last : ℕ) → IsTraceTitle t.0 t.1 → Reads title left mid t → Reads (setup t.1.depth t.1.hw) mid next s
+pub events_held : (left mid next : Option (List Row)) (t : ℕ × TraceTitle) (s : Setup) (at last : ℕ) → IsTraceTitle t.0 t.1 → Reads trace_title_part left mid t → Reads (setup t.1.depth t.1.hw) mid next s
     → IsStopped (repeats.Exactly t.1.count) (event t.0 s) next 2 MAX_SEGMENTS at last → IsHeldAt trace_form left MAX_SEGMENTS at last
 events_held None mid next t s at last i r k h = let low = h.1 in let high = h.3 in (2 + h.0, omega (arith, low), h.2, omega (arith, high), tt)
 events_held (Some rows) mid next t s at last i r k h =
@@ -339,14 +339,14 @@ events_held (Some rows) mid next t s at last i r k h =
     let good = rw second.1 at h.4 in
     let reached = ended_reached (repeats.Exactly t.1.count) why.Count (event t.0 s) (one_more t.0 s) with_next (event_tells t.0 s) (event_plain t.0 s) (some_rows t.0 s) (more_tells t.0 s) [] second.0 h.0 good in
     let in_body = reached_second (setup t.1.depth t.1.hw) (λ s. events_of t.0 s t.1.count) (setup_one t.1.depth t.1.hw (setup_depth t i) i.hw).tells r.0 second.0 s h.0 second.2 reached in
-    (1 + (1 + h.0), omega (arith, low), h.2, omega (arith, high), reached_second title trace_body title_one.tells rows r.0 t (1 + h.0) r.2 in_body)
+    (1 + (1 + h.0), omega (arith, low), h.2, omega (arith, high), reached_second trace_title_part trace_body title_one.tells rows r.0 t (1 + h.0) r.2 in_body)
 
 -- of events that were read into a trace whose setup is this one
 
-pub events_fail_of : (failed : Bool) (left mid next : Option (List Row)) (t : ℕ × TraceTitle) (n s : Setup) (middle at : ℕ) (w : Why) → n ≡ s → middle ≡ 1 → Reads title left mid t → Reads (setup t.1.depth t.1.hw) mid next s
-    → Fails failed (events_of t.0 n t.1.count) next 2 at w → IfSome left (λ rows. IsOutside failed w ⊎ TraceFault rows at w)
+pub events_fail_of : (failed : Bool) (left mid next : Option (List Row)) (t : ℕ × TraceTitle) (n s : Setup) (middle at : ℕ) (w : Why) → n ≡ s → middle ≡ 1 → Reads trace_title_part left mid t → Reads (setup t.1.depth t.1.hw) mid next s
+    → Fails failed (events_of t.0 n t.1.count) next 2 at w → IfSome left (λ rows. IsOutside failed w ⊎ TraceTextFault rows at w)
 events_fail_of failed left mid next t n s middle at w is e r k h = fails_err failed left at w (events_fail failed left mid next t s middle at w e r k (rw is at h))
 
-pub events_held_of : (left mid next : Option (List Row)) (t : ℕ × TraceTitle) (n s : Setup) (at last : ℕ) → n ≡ s → IsTraceTitle t.0 t.1 → Reads title left mid t → Reads (setup t.1.depth t.1.hw) mid next s
+pub events_held_of : (left mid next : Option (List Row)) (t : ℕ × TraceTitle) (n s : Setup) (at last : ℕ) → n ≡ s → IsTraceTitle t.0 t.1 → Reads trace_title_part left mid t → Reads (setup t.1.depth t.1.hw) mid next s
     → IsStopped (repeats.Exactly t.1.count) (event t.0 n) next 2 MAX_SEGMENTS at last → IsHeldAt trace_form left MAX_SEGMENTS at last
 events_held_of left mid next t n s at last is i r k h = events_held left mid next t s at last i r k (rw is at h)

@@ -16,8 +16,8 @@ kind_row Back = row BACK
 kind_row Depth = row DEPTH
 
 -- the word of a kind
-abbrev pub word_of : EventKind → List ℕ
-word_of k = (kind_row k).word
+abbrev pub event_word : EventKind → List ℕ
+event_word k = (kind_row k).word
 
 -- the versions in which it stands
 abbrev pub EventStandsIn : ℕ → EventKind → Type 0
@@ -33,8 +33,8 @@ head_cells k = cells_of (kind_row k).slots (λ s. s)
 
 -- a field is the word of a kind that stands in a version
 abbrev pub IsKind : ℕ → List ℕ → EventKind → Type 0
-IsKind version f k = EventStandsIn version k × (f ≡ word_of k)
+IsKind version f k = EventStandsIn version k × (f ≡ event_word k)
 
 -- and that of none
 abbrev pub IsNoKind : ℕ → List ℕ → Type 0
-IsNoKind version f = (k : EventKind) → EventStandsIn version k → ¬ (f ≡ word_of k)
+IsNoKind version f = (k : EventKind) → EventStandsIn version k → ¬ (f ≡ event_word k)

@@ -17,7 +17,7 @@ use Rattle.blk_lists.specs.declared.fault.Why.TheVariants as why
 use Rattle.parts.specs.declared.Repeats.TheVariants as repeats
 use Rattle.parts.specs.Parts.{Part, then, tested, seen_as, Spells}
 use Rattle.blk_lists.specs.declared.fields.TheConstants.{MAX_TAGS}
-use Rattle.blk_text.specs.StepKinds.{StepKind, word_of, StepStandsIn, Held, step_cells}
+use Rattle.blk_text.specs.StepKinds.{StepKind, step_word, StepStandsIn, StepTold, step_cells}
 use Rattle.blk_text.specs.StepKinds as kind
 use Rattle.blk_text.specs.declared.script.TheConstants.{MAX_RUN, MAX_STEPS}
 use Rattle.blk_text.specs.declared.script.Line.{Line}
@@ -30,7 +30,7 @@ abbrev pub script_cells : ℕ → List (Cell Title)
 script_cells version = Number 1 (most_tags version) (λ t. t.depth) ∷ Number 1 MAX_QUEUES (λ t. t.hw) ∷ Number 1 MAX_SOFT_DEPTH (λ t. t.soft_depth) ∷ Number 1 MAX_SOFT_QUEUES (λ t. t.submitters) ∷ []
 
 -- the kind of a step, and what it says
-abbrev pub step_said : (hw submitters : ℕ) → Line → (k : StepKind) × Held hw submitters k
+abbrev pub step_said : (hw submitters : ℕ) → Line → (k : StepKind) × StepTold hw submitters k
 step_said hw submitters (line.Bio b) = (kind.Bio, (b.id.submitter, (b.id.serial, (b.dir, (b.first, (b.sectors, tt))))))
 step_said hw submitters (line.Flush submitter) = (kind.Flush, (submitter, tt))
 step_said hw submitters (line.Drain h) = (kind.Drain, (h, tt))
@@ -113,12 +113,12 @@ IsEnough t = t.1.hw ≤ t.1.submitters
 abbrev pub TooFew : ℕ × Title → ℕ → Why → Type 0
 TooFew t k w = (k ≡ 1) × (w ≡ why.Range) × (t.1.submitters < t.1.hw)
 
-abbrev pub title : Part Row Why (ℕ × Title)
-title = tested plain_title IsEnough TooFew
+abbrev pub script_title_part : Part Row Why (ℕ × Title)
+script_title_part = tested plain_title IsEnough TooFew
 
 -- a step by its table
 abbrev pub plain_step : ℕ → ℕ → ℕ → Part Row Why Line
-plain_step version hw submitters = seen_as (step_said hw submitters) (kinds_record (Held hw submitters) why.Count 6 (StepStandsIn version) word_of (step_cells hw submitters))
+plain_step version hw submitters = seen_as (step_said hw submitters) (kinds_record (StepTold hw submitters) why.Count 6 (StepStandsIn version) step_word (step_cells hw submitters))
 
 -- a step of a version, for so many hardware queues and submitters
 abbrev pub step : ℕ → ℕ → ℕ → Part Row Why Line
@@ -130,7 +130,7 @@ script_body t = then (setup t.1.depth t.1.hw) (λ s. items_of (repeats.AtMost MA
 
 -- a title, a setup and steps
 abbrev pub script_form : Part Row Why ((ℕ × Title) × (Setup × List Line))
-script_form = then title script_body
+script_form = then script_title_part script_body
 
 -- what the records of a script of a version tell
 abbrev pub script_value : ℕ → Scripted → (ℕ × Title) × (Setup × List Line)

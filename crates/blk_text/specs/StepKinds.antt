@@ -30,8 +30,8 @@ row_of Tick = row TICK
 row_of Run = row RUN
 
 -- the word of a kind
-abbrev pub word_of : StepKind → List ℕ
-word_of k = (row_of k).word
+abbrev pub step_word : StepKind → List ℕ
+step_word k = (row_of k).word
 
 -- the versions in which it stands
 abbrev pub StepStandsIn : ℕ → StepKind → Type 0
@@ -46,9 +46,9 @@ slots_for hw submitters Issue = below hw ISSUE.slots
 slots_for hw submitters k = (row_of k).slots
 
 -- what it says beside its word
-abbrev pub Held : ℕ → ℕ → StepKind → Type 0
-Held hw submitters k = Told (slots_for hw submitters k)
+abbrev pub StepTold : ℕ → ℕ → StepKind → Type 0
+StepTold hw submitters k = Told (slots_for hw submitters k)
 
 -- and in which fields
-abbrev pub step_cells : (hw submitters : ℕ) → (k : StepKind) → List (Cell (Held hw submitters k))
+abbrev pub step_cells : (hw submitters : ℕ) → (k : StepKind) → List (Cell (StepTold hw submitters k))
 step_cells hw submitters k = cells_of (slots_for hw submitters k) (λ s. s)

@@ -30,7 +30,7 @@ use Rattle.blk_text.specs.Versions.{latest, most_tags}
 use Rattle.blk_text.specs.declared.bios.TheConstants.{MAX_SUBMITTERS}
 use Rattle.blk_lists.specs.declared.fault.Why.{Why}
 use Rattle.blk_lists.specs.declared.fault.Why.TheVariants as why
-use Rattle.blk_text.specs.EventKinds.{EventStandsIn, word_of, Says, head_cells}
+use Rattle.blk_text.specs.EventKinds.{EventStandsIn, event_word, Says, head_cells}
 use Rattle.blk_text.specs.declared.heads.EventKind.{EventKind}
 use Rattle.blk_text.specs.declared.heads.EventKind.TheVariants as kind
 use Rattle.blk_text.specs.declared.heads.TraceTitle.{TraceTitle}
@@ -47,8 +47,8 @@ pub record IsTraceTitle (version : ℕ) (t : TraceTitle) : Type 0 where
   pub hw : (1 ≤ t.hw) × (t.hw ≤ MAX_QUEUES)
   pub count : t.count ≤ MAX_EVENTS
 
-abbrev pub title : Part Row Why (ℕ × TraceTitle)
-title = title_record (codes "blk-trace") latest trace_cells IsTraceTitle
+abbrev pub trace_title_part : Part Row Why (ℕ × TraceTitle)
+trace_title_part = title_record (codes "blk-trace") latest trace_cells IsTraceTitle
 
 -- the first record of an event tells it with the number of its bios in place of these
 abbrev pub Head : Type 0
@@ -66,7 +66,7 @@ said (Depth depth) = (kind.Depth, (depth, tt))
 
 -- the first record of an event
 abbrev pub first_record : ℕ → Part Row Why Head
-first_record version = seen_as said (kinds_record Says why.Count 6 (EventStandsIn version) word_of head_cells)
+first_record version = seen_as said (kinds_record Says why.Count 6 (EventStandsIn version) event_word head_cells)
 
 -- what is wrong with a record of a group that does not begin as a bio's: what is wrong with it as the first record of an
 -- event, and else that it came too soon
@@ -131,7 +131,7 @@ abbrev pub refusal_of : PushFault → Why
 refusal_of (push_fault.Rule rule) = why.Rule rule
 refusal_of push_fault.Memory = why.Memory
 
--- an event is refused after these: for want of memory, or for the first rule that it breaks
+-- an event is refused after these: because memory ran out, or for the first rule that it breaks
 abbrev pub IsRefused : Setup → List Happened → Happened → Why → Type 0
 IsRefused setup before e w = (w ≡ why.Memory) ⊎ ((rule : TraceRule) × (w ≡ why.Rule rule) × IsFirstBroken setup before e rule)
 
@@ -161,7 +161,7 @@ trace_body t = then (setup t.1.depth t.1.hw) (λ s. events_of t.0 s t.1.count)
 
 -- a title with the number of events, a setup, and just so many events, each of which breaks no rule after those before it
 abbrev pub trace_form : Part Row Why ((ℕ × TraceTitle) × (Setup × List Happened))
-trace_form = then title trace_body
+trace_form = then trace_title_part trace_body
 
 -- the title of a trace
 abbrev pub trace_title : Traced → TraceTitle
@@ -190,8 +190,8 @@ pub record IsTraceOf (version : ℕ) (t : Traced) : Type 0 where
   pub kinds : All (IsEventOf version) t.events
 
 -- the first fault of a trace
-abbrev pub TraceFault : List Row → ℕ → Why → Type 0
-TraceFault = trace_form.Wrong
+abbrev pub TraceTextFault : List Row → ℕ → Why → Type 0
+TraceTextFault = trace_form.Wrong
 
 -- an event was added to a trace, none of whose rules it breaks
 abbrev pub IsPushed : Traced → Traced → Happened → Type 0

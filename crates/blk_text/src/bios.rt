@@ -1,8 +1,9 @@
 //! The record of a bio, in a script and in a group of a trace.
 
-ghost use Rattle.std.specs.Prelude.{◌≡◌, ◌++◌, ◌∷◌, ◌≤◌, ◌<◌, ◌^◌, [], IfOk, IfErr, IfSome, OnOk, codes};
+ghost use Rattle.std.specs.Prelude.{◌≡◌, ◌++◌, ◌∷◌, ◌≤◌, [], IfOk, IfErr, OnOk, codes};
 ghost use Rattle.csv.specs.Records.{fields_of};
-ghost use Rattle.blk_bio.specs.Bios.{IsBio};
+ghost use Rattle.blk_bio.specs.Letters.{direction_text};
+ghost use Rattle.blk_bio.specs.declared.bio.Dir.{Dir as Direction};
 ghost use Rattle.blk_lists.specs.Reads.{IsRowOf, IsWrongLine};
 ghost use Rattle.blk_lists.specs.Texts.{rows_text};
 ghost use Rattle.blk_lists.specs.Words.{StartsWith};
@@ -14,7 +15,7 @@ ghost use Rattle.drafts.specs.Drafts.{drafted};
 use crate::setup::WIDTH;
 use blk_bio::{Bio, BioId, Dir};
 use blk_lists::fault::Why;
-use blk_lists::fields::{ANY, Slot, field, parse_number, read_fields};
+use blk_lists::fields::{ANY, Slot, read_fields};
 use blk_lists::kinds::Kind;
 use csv::ByteRecord;
 use drafts::Block;
@@ -31,32 +32,16 @@ pub const BIO: Kind<3, WIDTH> = Kind {
 /// A bio of a trace names one of so many submitters.
 pub const MAX_SUBMITTERS: u64 = 1 << 8;
 
-/// The bio of a record that begins with its word, where the record has no fault. Most records of a text spell a bio, so
-/// its fields are read without their slots.
+/// The direction of a letter that a record spells.
 #[inline]
-fn whole_bio(row: &ByteRecord, submitters: u64) -> Option<Bio>
-    requires few { submitters ≤ MAX_SUBMITTERS }
-    requires starts { StartsWith (codes "bio") (fields_of row.now) }
-    ensures { IfSome result (λ b. (fields_of row.now ≡ bio_row b) × (b.id.submitter < submitters) × (b.id.serial < 2 ^ 64) × IsBio b) }
+fn direction_of(letter: u64) -> Dir
+    requires { (dir : Direction) × (letter ∷ [] ≡ direction_text dir) }
+    ensures { letter ∷ [] ≡ direction_text result }
 {
-    if row.len() != WIDTH {
-        return None;
-    }
-    let submitter = parse_number(field(row, 1))?;
-    let serial = parse_number(field(row, 2))?;
-    let dir = Dir::of_letter(field(row, 3))?;
-    let first = parse_number(field(row, 4))?;
-    let sectors = parse_number(field(row, 5))?;
-    if submitter >= submitters {
-        return None;
-    }
-    let id = BioId {
-        submitter: submitter as u8,
-        serial,
-    };
-    match Bio::new(id, dir, first, sectors) {
-        Ok(bio) => Some(bio),
-        Err(_) => None,
+    if letter == b'R' as u64 {
+        Dir::Read
+    } else {
+        Dir::Write
     }
 }
 
@@ -67,22 +52,16 @@ pub fn read_bio(row: &ByteRecord, submitters: u64) -> Result<Bio, Why>
     ensures ok { IfOk result (IsRowOf (bio_record submitters) (fields_of row.now)) }
     ensures err { IfErr result (IsWrongLine (bio_record submitters) (fields_of row.now)) }
 {
-    if let Some(bio) = whole_bio(row, submitters) {
-        return Ok(bio);
-    }
     let slots = BIO.below(submitters);
     let numbers = match read_fields(row, &slots) {
         Ok(numbers) => numbers,
         Err(why) => return Err(why),
     };
-    let Some(dir) = Dir::of_letter(field(row, 3)) else {
-        unreachable!()
-    };
     let id = BioId {
         submitter: numbers[1] as u8,
         serial: numbers[2],
     };
-    match Bio::new(id, dir, numbers[4], numbers[5]) {
+    match Bio::new(id, direction_of(numbers[3]), numbers[4], numbers[5]) {
         Ok(bio) => Ok(bio),
         Err(fault) => Err(Why::Bio(fault)),
     }

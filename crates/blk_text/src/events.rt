@@ -5,8 +5,8 @@ ghost use Rattle.csv.specs.Records.{fields_of};
 ghost use Rattle.parts.specs.declared.Repeats.TheVariants as repeats;
 ghost use Rattle.parts.specs.Parts.{Begins};
 ghost use Rattle.blk_lists.specs.Sources.{Row};
-ghost use Rattle.blk_lists.specs.Reads.{HandReads, HandFailsBy, Fails, IsOutside, AreItems, IsHeldAt, size_of};
-ghost use Rattle.blk_text.specs.TraceForm.{refusal_of, IsRefused, IsPushed, IsStoppedIn, plain_event, event as event_part, IsPast, events_of, trace_form, SpellsTrace, TraceFault};
+ghost use Rattle.blk_lists.specs.Reads.{FaultsBy, HandReads, HandFailsBy, Fails, AreItems, IsHeldAt, size_of};
+ghost use Rattle.blk_text.specs.TraceForm.{refusal_of, IsRefused, IsPushed, IsStoppedIn, plain_event, event as event_part, IsPast, events_of, trace_form, SpellsTrace, TraceTextFault};
 ghost use Rattle.blk_text.specs.TraceRecords.{IsTrace, trace_rows};
 
 use crate::groups::read_group;
@@ -109,6 +109,7 @@ impl ItemForm for EventForm {
 
     #[tactic(auto, using(crate::proofs::EventLaws::event_gone))]
     fn gone(&self, items: &Trace) -> Why {
+        // brings the prover the trace's invariant
         let _ = items.len();
         Why::Count
     }
@@ -157,11 +158,11 @@ fn past_fault(form: &EventForm, row: &ByteRecord, trace: &mut Trace) -> Why
 struct TraceTitleForm;
 
 impl LineForm for TraceTitleForm {
-    ghost use Rattle.blk_text.specs.TraceForm.{title as title_part};
+    ghost use Rattle.blk_text.specs.TraceForm.{trace_title_part};
 
-    type Line = (u64, TraceTitle);
+    type Value = (u64, TraceTitle);
 
-    ghost part = { λ _. title_part };
+    ghost part = { λ _. trace_title_part };
 
     #[tactic(auto, using(crate::proofs::EventLaws::title_one))]
     fn gone(&self) -> Why {
@@ -246,8 +247,7 @@ pub fn read_trace<R: Read + Drop>(
     ensures ok { IfOk result (λ t. IfSome records.old.left (λ rows. SpellsTrace rows t)) }
     // also where the reader's bytes are not known
     ensures in_range { IfOk result IsTrace }
-    ensures err { IfErr result (λ f. IfSome records.old.left (λ rows.
-        IsOutside records.new.failed f.why ⊎ TraceFault rows f.at f.why)) }
+    ensures err { IfErr result (FaultsBy records.old records.new TraceTextFault) }
     // also where it came from outside: nothing before what is being read is wrong, and no record past it was asked for
     ensures before { IfErr result (λ f. IsHeldAt trace_form records.old.left MAX_SEGMENTS f.at records.new.at) }
     ensures reads { (1 ≤ records.new.at) × (records.new.at ≤ MAX_EVENTS * (MAX_SEGMENTS + 1) + 3) }
@@ -271,6 +271,7 @@ pub fn read_trace<R: Read + Drop>(
     };
     match read_events(alloc, records, version, none, title.count) {
         Ok(trace) => {
+            // brings the prover the trace's invariant
             let _ = trace.events();
             Ok(trace)
         }

@@ -38,6 +38,7 @@ fn tiles(request: &Request, bio: &Bio, limits: &Limits) -> bool
     ensures only { Fits limits.now request.now (bio.now ∷ []) Side.Back → IsTrue result }
     ensures some { 0 < length request.now }
 {
+    // brings the prover that a request has a bio
     let _ = request.bios();
     match request.fits_bio(bio, limits) {
         Some(Side::Back) => true,

@@ -5,7 +5,7 @@ ghost use Rattle.csv.specs.Records.{fields_of};
 ghost use Rattle.blk_lists.specs.Fields.{FieldsSpell};
 ghost use Rattle.blk_lists.specs.Reads.{IsRowOf};
 ghost use Rattle.blk_lists.specs.Words.{StartsWith};
-ghost use Rattle.blk_text.specs.EventKinds.{EventStandsIn, IsKind, IsNoKind, kind_row, word_of};
+ghost use Rattle.blk_text.specs.EventKinds.{EventStandsIn, IsKind, IsNoKind, kind_row, event_word};
 ghost use Rattle.blk_text.specs.TraceForm.{first_record};
 
 use crate::setup::{DEPTHS, QUEUES, WIDTH};
@@ -164,7 +164,7 @@ fn row_of(version: u64, field: &[u8]) -> Option<(EventKind, &'static [Slot; WIDT
 /// What a first record says whose fields are right for its kind.
 fn head_of(form: &HeadForm, kind: EventKind, row: &ByteRecord, numbers: &[u64; WIDTH]) -> Event<u64>
     requires stands { EventStandsIn form.now.version kind }
-    requires starts { StartsWith (word_of kind) (fields_of row.now) }
+    requires starts { StartsWith (event_word kind) (fields_of row.now) }
     requires spells { FieldsSpell (kind_row kind).slots (fields_of row.now) numbers.now }
     ensures { IsRowOf (first_record form.now.version) (fields_of row.now) result }
 {
@@ -195,7 +195,7 @@ fn head_of(form: &HeadForm, kind: EventKind, row: &ByteRecord, numbers: &[u64; W
 impl LineForm for HeadForm {
     ghost use Rattle.blk_text.specs.TraceForm.{first_record};
 
-    type Line = Event<u64>;
+    type Value = Event<u64>;
 
     ghost part = { λ f. first_record f.version };
 

@@ -8,7 +8,7 @@ ghost use Rattle.blk_trace.specs.Traces.{Traced};
 ghost use Rattle.blk_lists.specs.Laws.{ValueOrFault, NeverBoth, OneFault};
 ghost use Rattle.blk_text.specs.Script.{Scripted, SpellsScript, ScriptFault, OneScript, ScriptReadsBack};
 ghost use Rattle.blk_text.specs.TraceRecords.{trace_rows, IsTrace};
-ghost use Rattle.blk_text.specs.TraceForm.{SpellsTraceIn, SpellsTrace, TraceFault, OneTrace, TraceReadsBack};
+ghost use Rattle.blk_text.specs.TraceForm.{SpellsTraceIn, SpellsTrace, TraceTextFault, OneTrace, TraceReadsBack};
 ghost use Rattle.blk_text.specs.Versions.{latest};
 
 /// Scripts: records spell one at most, and in one version. The text of one in a version that has its tags and its steps reads
@@ -32,7 +32,7 @@ pub fn traces()
     ensures spell { (t : Traced) → IsTrace t → SpellsTraceIn latest (trace_rows t) t }
     ensures versions { (version : ℕ) → (t : Traced) → TraceReadsBack version t }
     ensures legal { (rows : List Row) → (t : Traced) → SpellsTrace rows t → IsTrace t }
-    ensures decided { ValueOrFault SpellsTrace TraceFault }
-    ensures apart { NeverBoth SpellsTrace TraceFault }
-    ensures first { OneFault TraceFault }
+    ensures decided { ValueOrFault SpellsTrace TraceTextFault }
+    ensures apart { NeverBoth SpellsTrace TraceTextFault }
+    ensures first { OneFault TraceTextFault }
 {}

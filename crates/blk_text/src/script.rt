@@ -1,10 +1,10 @@
 //! Scripts.
 
-ghost use Rattle.std.specs.Prelude.{◌≡◌, ◌⊎◌, ◌+◌, ◌++◌, ◌∷◌, ◌≤◌, [], IfOk, IfErr, IfSome, OnOk, get_or, length};
+ghost use Rattle.std.specs.Prelude.{◌≡◌, ◌+◌, ◌++◌, ◌∷◌, ◌≤◌, [], IfOk, IfErr, IfSome, OnOk, get_or, length};
 ghost use Rattle.csv.specs.Records.{fields_of};
-ghost use Rattle.blk_lists.specs.Reads.{IsOutside, IsRowOf, IsWrongLine, Reaches};
+ghost use Rattle.blk_lists.specs.Reads.{FaultsBy, IsRowOf, IsWrongLine, Reaches};
 ghost use Rattle.blk_lists.specs.Texts.{rows_text};
-ghost use Rattle.blk_text.specs.StepKinds.{word_of};
+ghost use Rattle.blk_text.specs.StepKinds.{step_word};
 ghost use Rattle.blk_text.specs.StepKinds as kind;
 ghost use Rattle.blk_text.specs.Script.{step, IsScript, SpellsScript, ScriptFault, scripted, script_form};
 ghost use Rattle.blk_text.specs.StepRecords.{step_row};
@@ -148,7 +148,7 @@ pub(crate) struct StepForm {
 /// The step of a record that is not a bio's.
 #[inline(never)]
 fn short_line(form: &StepForm, row: &ByteRecord) -> Result<Line, Why>
-    requires other { ¬ (get_or (fields_of row.now) 0 [] ≡ word_of kind.Bio) }
+    requires other { ¬ (get_or (fields_of row.now) 0 [] ≡ step_word kind.Bio) }
     ensures ok { IfOk result (IsRowOf (step form.now.version form.now.hw form.now.submitters) (fields_of row.now)) }
     ensures err { IfErr result (IsWrongLine (step form.now.version form.now.hw form.now.submitters) (fields_of row.now)) }
 {
@@ -196,7 +196,7 @@ fn short_line(form: &StepForm, row: &ByteRecord) -> Result<Line, Why>
 impl LineForm for StepForm {
     ghost use Rattle.blk_text.specs.Script.{step};
 
-    type Line = Line;
+    type Value = Line;
 
     ghost part = { λ f. step f.version f.hw f.submitters };
 
@@ -238,11 +238,11 @@ pub fn push_step(draft: &mut Block, step: &Line) -> Result<(), AllocError>
 pub(crate) struct TitleForm;
 
 impl LineForm for TitleForm {
-    ghost use Rattle.blk_text.specs.Script.{title as script_title};
+    ghost use Rattle.blk_text.specs.Script.{script_title_part};
 
-    type Line = (u64, Title);
+    type Value = (u64, Title);
 
-    ghost part = { λ _. script_title };
+    ghost part = { λ _. script_title_part };
 
     #[tactic(auto, using(crate::proofs::ScriptLaws::title_one))]
     fn gone(&self) -> Why {
@@ -293,8 +293,7 @@ pub fn read_script<R: Read + Drop>(
     ensures in_range { IfOk result (λ s. IsScript (scripted s)) }
     // at the record that was asked for last: none was read past it
     ensures last { IfErr result (λ f. f.at ≡ records.new.at) }
-    ensures err { IfErr result (λ f. IfSome records.old.left (λ rows.
-        IsOutside records.new.failed f.why ⊎ ScriptFault rows f.at f.why)) }
+    ensures err { IfErr result (FaultsBy records.old records.new ScriptFault) }
     // also where it came from outside: at most one past the last record, and no record before it is wrong
     ensures reached { IfErr result (λ f. Reaches script_form records.old.left 0 f.at) }
     ensures reads { (1 ≤ records.new.at) × (records.new.at ≤ MAX_STEPS + 3) }

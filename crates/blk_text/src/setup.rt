@@ -129,7 +129,7 @@ pub(crate) struct SetupForm {
 impl LineForm for SetupForm {
     ghost use Rattle.blk_text.specs.SetupRecord.{setup as setup_part};
 
-    type Line = Setup;
+    type Value = Setup;
 
     ghost part = { λ f. setup_part f.depth f.hw };
 
