@@ -50,6 +50,6 @@ IsPushFault limits bios bio Segments = BreaksFirst (push_rules limits bios bio) 
 IsPushFault limits bios bio Memory = Fits limits bios (bio ∷ []) Back
 
 -- what each answer of such a join says of the request before and after it
-abbrev pub IsPushAnswer : Limits → List Bio → Bio → List Bio → Result (Unit {0}) JoinFault → Type 0
-IsPushAnswer limits old bio new (Ok _) = Fits limits old (bio ∷ []) Back × (new ≡ old ++ bio ∷ [])
-IsPushAnswer limits old bio new (Err why) = (new ≡ old) × IsPushFault limits old bio why
+abbrev pub IsBioPushAnswer : Limits → List Bio → Bio → List Bio → Result (Unit {0}) JoinFault → Type 0
+IsBioPushAnswer limits old bio new (Ok _) = Fits limits old (bio ∷ []) Back × (new ≡ old ++ bio ∷ [])
+IsBioPushAnswer limits old bio new (Err why) = (new ≡ old) × IsPushFault limits old bio why

@@ -6,7 +6,7 @@ ghost use Rattle.blk_bio.specs.declared.request.JoinFault.{JoinFault};
 ghost use Rattle.blk_bio.specs.Bios.{sector_limit};
 ghost use Rattle.blk_bio.specs.Requests.{IsRequest, IsWithin, Abuts, Fits, dir_of, first_of, last_of, sectors_of};
 ghost use Rattle.blk_bio.specs.Extents.{extent_of};
-ghost use Rattle.blk_bio.specs.Answers.{IsJoinAnswer, IsPushAnswer};
+ghost use Rattle.blk_bio.specs.Answers.{IsJoinAnswer, IsBioPushAnswer};
 
 use crate::bio::{Bio, Dir};
 use crate::extent::Extent;
@@ -220,7 +220,7 @@ impl<A: Allocator + Clone> Request<A> {
     /// `Memory` where the growth is refused. This request is then as it was.
     pub fn push_bio(&mut self, bio: Bio, limits: &Limits) -> Result<(), JoinFault>
         // Ok or the fault, and the request as it stands then
-        ensures answer { IsPushAnswer limits.now self.old bio self.new result }
+        ensures answer { IsBioPushAnswer limits.now self.old bio self.new result }
         // what fits at the back is refused only when out of memory
         ensures accepts { Fits limits.now self.old (bio ∷ []) Side.Back → IfErr result (λ why. why ≡ JoinFault.Memory) }
     {

@@ -15,7 +15,7 @@ use Rattle.blk_bio.specs.Requests.{first_of, last_of, joined, IsWithin, Fits}
 use Rattle.blk_trace.specs.Events.{join_up}
 use Rattle.blk_trace.specs.Waits.{Entered}
 use Rattle.blk_sched.specs.Meaning.{Waiting, Pending}
-use Rattle.blk_sched.specs.Maps.{put_back}
+use Rattle.blk_sched.proofs.Maps.{put_back}
 use Rattle.blk_core.specs.State.{entered_of}
 
 flip : (q id : ℕ) → (q == id) ≡ (id == q)

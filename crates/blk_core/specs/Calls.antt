@@ -11,7 +11,7 @@ use Rattle.blk_trace.specs.Events.{round_of, open_count}
 use Rattle.blk_trace.specs.Meaning.{commands_of}
 use Rattle.blk_trace.specs.Waits.{released_count}
 use Rattle.blk_sched.specs.Meaning.{Waiting, Meaning, HasNoCandidate, ServesNothing, Picks, RequeuesPick, Joins, opened}
-use Rattle.blk_sched.specs.Policies.{Choice, OfDone, OfTick}
+use Rattle.blk_sched.specs.Policies.{Choice, OfDone, OfTick, Policy}
 use Rattle.blk_hw.specs.Held.{held_in, held_total}
 use Rattle.blk_core.specs.declared.calls.Placed.{Placed}
 use Rattle.blk_core.specs.declared.calls.Placed.TheVariants.{New, Joined as JoinedTo}
@@ -55,6 +55,11 @@ SendsFrom serves chooses hw round [] m kept held w new_m new_kept new_held =
     Picks serves hw m w new_m × chooses kept m hw round (Some w) new_kept × (new_held ≡ held)
 SendsFrom serves chooses hw round (first ∷ rest) m kept held w new_m new_kept new_held =
     (first ≡ w) × RequeuesPick (dir_of w.bios) new_m m × (new_kept ≡ kept) × (new_held ≡ slice_set held hw rest)
+
+-- the same of a scheduler of a policy, by what it means and what it keeps, before and after
+abbrev pub Dispatches : {S : Type 0} → Policy → (S → Meaning) → (S → List ℕ) → ℕ → ℕ → S → List (List Waiting) → Waiting → S → List (List Waiting) → Type 0
+Dispatches policy meaning kept hw round old held w new new_held =
+    SendsFrom policy.serves policy.chooses hw round (held_in held hw) (meaning old) (kept old) held w (meaning new) (kept new) new_held
 
 abbrev pub Sends : (ℕ → Waiting → Bool) → Choice → CoreState → ℕ → Waiting → CoreState → Type 0
 Sends serves chooses old hw w new =

@@ -6,7 +6,7 @@ ghost use Rattle.blk_bio.specs.declared.bio.Dir.{Dir as Way};
 ghost use Rattle.blk_sched.specs.Meaning.{requeued_of};
 ghost use Rattle.blk_hw.specs.Held.{held_in, held_count};
 ghost use Rattle.blk_core.specs.State.{is_of};
-ghost use Rattle.blk_core.specs.Calls.{SendsFrom};
+ghost use Rattle.blk_core.specs.Calls.{Dispatches};
 ghost use Rattle.blk_core.specs.Inside.Ties.{MayPickNone};
 
 use crate::refusals::{BackFault, CoreFault, DepthFault, IssueFault, NotIssued, TickFault};
@@ -506,8 +506,7 @@ fn dispatch<S: Scheduler>(
     requires list { hw < length held.old }
     requires few { (S.meaning scheduler.old).open_picks.reads + (S.meaning scheduler.old).open_picks.writes < MAX_OPEN }
     requires requeued { (dir : Way) → requeued_of dir (S.meaning scheduler.old).open_picks ≡ held_count (is_of dir) held.old }
-    ensures some { IfSome result (λ w. SendsFrom S.policy.serves S.policy.chooses hw now (held_in held.old hw)
-        (S.meaning scheduler.old) (S.kept scheduler.old) held.old w (S.meaning scheduler.new) (S.kept scheduler.new) held.new) }
+    ensures some { IfSome result (λ w. Dispatches S.policy S.meaning S.kept hw now scheduler.old held.old w scheduler.new held.new) }
     ensures none { IfNone result (held_in held.old hw ≡ []) }
     ensures chosen { IfNone result (S.policy.chooses (S.kept scheduler.old) (S.meaning scheduler.old) hw now None (S.kept scheduler.old)) }
     ensures waits { IfNone result (MayPickNone S.policy.serves hw (S.meaning scheduler.old)) }

@@ -8,7 +8,7 @@ use blk_core::{BackFault, IssueFault, NotIssued, Placed, TickFault};
 /// What was requeued goes out before what never went, under another tag; a tag stays used in its round, and the round
 /// of a command is that of its last issue.
 #[test]
-fn handed_back_and_issued_again(rt: HostRuntime) {
+fn requeued_and_issued_again(rt: HostRuntime) {
     let calls = [
         Call::Read(0, 0, 8, 0, Ok(Placed::New(0))),
         Call::Read(1, 100, 8, 0, Ok(Placed::New(1))),

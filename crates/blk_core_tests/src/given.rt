@@ -35,7 +35,7 @@ pub fn limits(rt: &impl Abort, max_sectors: u64) -> Limits {
 /// An allocator once more.
 pub fn again<A: Allocator + Clone>(rt: &impl Abort, alloc: &A) -> A {
     let Ok(alloc) = alloc.clone() else {
-        panic!(rt; "want of memory");
+        panic!(rt; "out of memory");
     };
     alloc
 }
@@ -58,7 +58,7 @@ fn scheduler<A: Allocator + Clone>(rt: &impl Abort, alloc: &A) -> NoneSched<A>
         Ok(scheduler) => scheduler,
         Err(_) => match NoneSched::new(again(rt, alloc)) {
             Ok(scheduler) => scheduler,
-            Err(_) => panic!(rt; "want of memory"),
+            Err(_) => panic!(rt; "out of memory"),
         },
     }
 }
@@ -71,7 +71,7 @@ pub fn core_over<S: Scheduler>(rt: &impl Abort, alloc: &S::A, setup: Setup, sche
         Ok(core) => core,
         Err((scheduler, _)) => match Core::new(again(rt, alloc), setup, scheduler) {
             Ok(core) => core,
-            Err(_) => panic!(rt; "want of memory"),
+            Err(_) => panic!(rt; "out of memory"),
         },
     }
 }

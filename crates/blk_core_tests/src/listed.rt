@@ -1,5 +1,5 @@
 //! Calls of a core as plain values, each with the answer that it has to give: these tests are lists of them. A call that is refused
-//! for want of memory is made once more. Reads are copied by the release, writes before it.
+//! because memory ran out is made once more. Reads are copied by the release, writes before it.
 
 ghost use Rattle.std.specs.Prelude.{◌≡◌, IfSome};
 

@@ -166,7 +166,7 @@ fn told_the_scheduler(rt: HostRuntime) {
         told: &told,
     };
     let Ok(mut core) = Core::new(alloc, setup(&rt, 2, 2, 5), scheduler) else {
-        panic!(rt; "want of memory");
+        panic!(rt; "out of memory");
     };
     read_goes_out(&rt, alloc, &mut core);
     let read = (Some((1, 4)), Some((1, Dir::Read, 1)), Some(5));

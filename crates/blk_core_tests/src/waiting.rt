@@ -77,7 +77,7 @@ fn least_id_is_first(rt: HostRuntime) {
 fn picks_are_counted(rt: HostRuntime) {
     let alloc = rt.alloc();
     let Ok(mut scheduler) = NoneSched::new(alloc) else {
-        panic!(rt; "want of memory");
+        panic!(rt; "out of memory");
     };
     assert!(rt;
         scheduler

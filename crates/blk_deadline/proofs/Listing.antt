@@ -13,10 +13,10 @@ use Rattle.std.proofs.lemmas.Map.Keys.{sorted_head, sorted_tail}
 use Rattle.blk_bio.specs.declared.bio.Dir.{Dir}
 use Rattle.blk_bio.specs.Requests.{dir_of, first_of}
 use Rattle.blk_sched.specs.Meaning.{Waiting, Pending}
-use Rattle.blk_sched.specs.Maps.{behind, at_front, in_order, looked_up}
+use Rattle.blk_sched.proofs.Maps.{behind, at_front, in_order, looked_up}
 use Rattle.blk_index.specs.Index.{IsNext, NoNext, IsBefore}
 use Rattle.blk_deadline.specs.declared.Last.{Last}
-use Rattle.blk_deadline.specs.Choice.{is_of, comes_before, first_of_two, first_by, next_of}
+use Rattle.blk_deadline.specs.Choice.{has_dir, sorts_before, first_by_sector, first_by, next_of}
 use Rattle.blk_deadline.proofs.Served.{same_is, is_same_dir}
 
 -- ---- tests
@@ -47,18 +47,18 @@ lt_holds a b h = elim (nat_lt a b) as (λ t. nat_lt a b ≡ t → t ≡ true) [
   | false ↦ λ e. let more = ltb-false a b e in absurd (omega arith)
 ] refl
 
-is_before : (f i g j : ℕ) → IsBefore f i g j → comes_before f i g j ≡ true
+is_before : (f i g j : ℕ) → IsBefore f i g j → sorts_before f i g j ≡ true
 is_before f i g j (inl lt) = ap (λ b. b || (f == g && nat_lt i j)) (lt_holds f g lt)
 is_before f i g j (inr (e, lt)) = ap (λ b. nat_lt f g || (b && nat_lt i j)) (eq-eqb f g e) ∙ ap (λ b. nat_lt f g || b) (lt_holds i j lt) ∙ or_true (nat_lt f g)
 
-from_before : (f i g j : ℕ) → comes_before f i g j ≡ true → IsBefore f i g j
+from_before : (f i g j : ℕ) → sorts_before f i g j ≡ true → IsBefore f i g j
 from_before f i g j h = elim (nat_lt f g) as (λ t. nat_lt f g ≡ t → t || (f == g && nat_lt i j) ≡ true → IsBefore f i g j) [
   | true ↦ λ e _. inl (ltb-true f g e)
   | false ↦ λ _ r. inr (eqb-true f g (left (f == g) (nat_lt i j) r), ltb-true i j (right (f == g) (nat_lt i j) r))
 ] refl h
 
 -- of two that differ one comes first
-one_first : (f i g j : ℕ) → (i ≡ j → ⊥) → (comes_before f i g j ≡ true → ⊥) → comes_before g j f i ≡ true
+one_first : (f i g j : ℕ) → (i ≡ j → ⊥) → (sorts_before f i g j ≡ true → ⊥) → sorts_before g j f i ≡ true
 one_first f i g j differ not_before = elim (cases_lt g f) [
   | inl lt ↦ is_before g j f i (inl lt)
   | inr le ↦ elim (cases_eq f g) [
@@ -76,7 +76,7 @@ abbrev Entries : Type 0
 Entries = List (ℕ × Waiting)
 
 abbrev before : Waiting → Waiting → Bool
-before v w = comes_before (first_of v.bios) v.id (first_of w.bios) w.id
+before v w = sorts_before (first_of v.bios) v.id (first_of w.bios) w.id
 
 -- what comes first is there, and passes the test
 came_from : (p : Waiting → Bool) (es : Entries) → IsStrictlySortedBy nat_cmp (keys_of es) → (u : Waiting) → first_by (filter p (values_of es)) ≡ Some u → (k : ℕ) × (lookup (is_at (nat_cmp k)) es ≡ Some u) × (p u ≡ true)
@@ -86,7 +86,7 @@ came_from p (e ∷ es) s u h =
     let shift = (λ (v : Waiting) (c : (k : ℕ) × (lookup (is_at (nat_cmp k)) es ≡ Some v) × (p v ≡ true)). let r : (k : ℕ) × (lookup (is_at (nat_cmp k)) (e ∷ es) ≡ Some v) × (p v ≡ true) = (c.0, behind e es c.0 v (sorted_head nat_cmp e.0 (keys_of es) s) c.1, c.2) in r) in
     elim (p e.1) as (λ b. p e.1 ≡ b → first_by (cond b (e.1 ∷ filter p (values_of es)) (filter p (values_of es))) ≡ Some u → (k : ℕ) × (lookup (is_at (nat_cmp k)) (e ∷ es) ≡ Some u) × (p u ≡ true)) [
       | true ↦ λ passes g.
-          elim (first_by (filter p (values_of es))) as (λ o. first_by (filter p (values_of es)) ≡ o → first_of_two e.1 o ≡ Some u → (k : ℕ) × (lookup (is_at (nat_cmp k)) (e ∷ es) ≡ Some u) × (p u ≡ true)) [
+          elim (first_by (filter p (values_of es))) as (λ o. first_by (filter p (values_of es)) ≡ o → first_by_sector e.1 o ≡ Some u → (k : ℕ) × (lookup (is_at (nat_cmp k)) (e ∷ es) ≡ Some u) × (p u ≡ true)) [
             | None ↦ λ _ r. let same : e.1 ≡ u = cc in (e.0, at_front e es ∙ r, ap p (sym same) ∙ passes)
             | Some v ↦ λ is r. elim (before v e.1) as (λ t. (if t then Some v else Some e.1) ≡ Some u → (k : ℕ) × (lookup (is_at (nat_cmp k)) (e ∷ es) ≡ Some u) × (p u ≡ true)) [
               | true ↦ λ q. shift u (tail u (is ∙ q))
@@ -105,8 +105,8 @@ first_at p (e ∷ es) s named id w f pw least =
       | true ↦ λ _ g.
           let same : e.1 ≡ w = cc in
           ap (λ b. first_by (cond b (e.1 ∷ filter p (values_of es)) (filter p (values_of es)))) (ap p same ∙ pw)
-          ∙ ap (λ (x : Waiting). first_of_two x (first_by (filter p (values_of es)))) same
-          ∙ elim (first_by (filter p (values_of es))) as (λ o. first_by (filter p (values_of es)) ≡ o → first_of_two w o ≡ Some w) [
+          ∙ ap (λ (x : Waiting). first_by_sector x (first_by (filter p (values_of es)))) same
+          ∙ elim (first_by (filter p (values_of es))) as (λ o. first_by (filter p (values_of es)) ≡ o → first_by_sector w o ≡ Some w) [
             | None ↦ λ _. refl
             | Some u ↦ λ is. elim (before u w) as (λ t. before u w ≡ t → (if t then Some u else Some w) ≡ Some w) [
               | true ↦ λ less. absurd (let c = came_from p es tail_sorted u is in least c.0 u (behind e es c.0 u above c.1) c.2 less)
@@ -120,7 +120,7 @@ first_at p (e ∷ es) s named id w f pw least =
                 let own : e.1.id ≡ e.0 = named e.0 e.1 (at_front e es) in
                 let w_own : w.id ≡ id = named id w (behind e es id w above g) in
                 let differ : (e.1.id ≡ w.id → ⊥) = λ same. apart id e.0 other (sym w_own ∙ sym same ∙ own) in
-                ap (first_of_two e.1) rest
+                ap (first_by_sector e.1) rest
                 ∙ ap (λ b. if b then Some w else Some e.1) (one_first (first_of e.1.bios) e.1.id (first_of w.bios) w.id differ (least e.0 e.1 (at_front e es) passes))
             | false ↦ λ _. rest
           ] refl
@@ -129,7 +129,7 @@ first_at p (e ∷ es) s named id w f pw least =
 -- ---- the next one
 
 abbrev test_of : Dir → Last → Waiting → Bool
-test_of dir l w = is_of dir w && comes_before l.first l.id (first_of w.bios) w.id
+test_of dir l w = has_dir dir w && sorts_before l.first l.id (first_of w.bios) w.id
 
 pub next_is : (m : Pending) (dir : Dir) (last : Option Last) (l : Last) (id : ℕ) (o : Option Waiting) → ((k : ℕ) (v : Waiting) → get m k ≡ Some v → v.id ≡ k) → last ≡ Some l → l.dir ≡ dir → o ≡ get m id → IsNext dir l.first l.id (get m) id → o ≡ next_of dir last (values m)
 next_is m dir last l id o named is same read best =
@@ -137,12 +137,12 @@ next_is m dir last l id o named is same read best =
     let own : w.id ≡ id = named id w best.is_found in
     read ∙ best.is_found
     ∙ sym (first_at (test_of dir l) (entries m) (in_order (entries m) (entries_sorted m)) (λ k v h. named k v (looked_up m k ∙ h)) id w (sym (looked_up m id) ∙ best.is_found)
-    (ap (λ b. b && comes_before l.first l.id (first_of w.bios) w.id) (same_is (dir_of w.bios) dir best.same_dir) ∙ is_before l.first l.id (first_of w.bios) w.id (subst (λ (n : ℕ). IsBefore l.first l.id (first_of w.bios) n) (sym own) best.after))
+    (ap (λ b. b && sorts_before l.first l.id (first_of w.bios) w.id) (same_is (dir_of w.bios) dir best.same_dir) ∙ is_before l.first l.id (first_of w.bios) w.id (subst (λ (n : ℕ). IsBefore l.first l.id (first_of w.bios) n) (sym own) best.after))
     (λ k v h pv less.
     let there : get m k ≡ Some v = looked_up m k ∙ h in
     let v_own : v.id ≡ k = named k v there in
-    best.least k v there (is_same_dir (dir_of v.bios) dir (left (is_of dir v) (comes_before l.first l.id (first_of v.bios) v.id) pv))
-    (subst (λ (n : ℕ). IsBefore l.first l.id (first_of v.bios) n) v_own (from_before l.first l.id (first_of v.bios) v.id (right (is_of dir v) (comes_before l.first l.id (first_of v.bios) v.id) pv)))
+    best.least k v there (is_same_dir (dir_of v.bios) dir (left (has_dir dir v) (sorts_before l.first l.id (first_of v.bios) v.id) pv))
+    (subst (λ (n : ℕ). IsBefore l.first l.id (first_of v.bios) n) v_own (from_before l.first l.id (first_of v.bios) v.id (right (has_dir dir v) (sorts_before l.first l.id (first_of v.bios) v.id) pv)))
     (subst (λ (n : ℕ). IsBefore (first_of v.bios) n (first_of w.bios) id) v_own (subst (λ (n : ℕ). IsBefore (first_of v.bios) v.id (first_of w.bios) n) own (from_before (first_of v.bios) v.id (first_of w.bios) w.id less)))))
     ∙ sym (ap (λ (x : Option Last). next_of dir x (values m)) is ∙ ap (λ b. if b then first_by (filter (test_of dir l) (values m)) else None) (same_is l.dir dir same))
 
@@ -153,7 +153,7 @@ none_next m dir last l named is same none =
       | Some u ↦ λ e. absurd (
           let c = came_from (test_of dir l) (entries m) (in_order (entries m) (entries_sorted m)) u e in
           let there : get m c.0 ≡ Some u = looked_up m c.0 ∙ c.1 in
-          none c.0 u there (is_same_dir (dir_of u.bios) dir (left (is_of dir u) (comes_before l.first l.id (first_of u.bios) u.id) c.2))
-          (subst (λ (n : ℕ). IsBefore l.first l.id (first_of u.bios) n) (named c.0 u there) (from_before l.first l.id (first_of u.bios) u.id (right (is_of dir u) (comes_before l.first l.id (first_of u.bios) u.id) c.2))))
+          none c.0 u there (is_same_dir (dir_of u.bios) dir (left (has_dir dir u) (sorts_before l.first l.id (first_of u.bios) u.id) c.2))
+          (subst (λ (n : ℕ). IsBefore l.first l.id (first_of u.bios) n) (named c.0 u there) (from_before l.first l.id (first_of u.bios) u.id (right (has_dir dir u) (sorts_before l.first l.id (first_of u.bios) u.id) c.2))))
     ] refl
     ∙ sym (ap (λ (x : Option Last). next_of dir x (values m)) is ∙ ap (λ b. if b then first_by (filter (test_of dir l) (values m)) else None) (same_is l.dir dir same))

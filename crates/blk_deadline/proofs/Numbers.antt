@@ -7,7 +7,7 @@ use Rattle.blk_sched.specs.Meaning.{is_same}
 use Rattle.blk_deadline.specs.declared.Last.{Last}
 use Rattle.blk_deadline.specs.declared.BatchState.{BatchState}
 use Rattle.blk_deadline.specs.declared.Tunables.{Tunables}
-use Rattle.blk_deadline.specs.Choice.{number_of, last_numbers, kept_of}
+use Rattle.blk_deadline.specs.Choice.{number_of, last_numbers, deadline_kept}
 
 one_bool : (a b : Bool) → number_of a ≡ number_of b → a ≡ b
 one_bool true true h = refl
@@ -44,7 +44,7 @@ one_last (Some a) (Some b) h =
     let id : a.id ≡ b.id = head_of _ _ _ _ (tail_of _ _ _ _ h1) in
     λ i. Some (record { dir = dir i; first = first i; id = id i })
 
-pub one_kept : (t u : BatchState) (s v : Tunables) → kept_of t s ≡ kept_of u v → (t ≡ u) × (s ≡ v)
+pub one_kept : (t u : BatchState) (s v : Tunables) → deadline_kept t s ≡ deadline_kept u v → (t ≡ u) × (s ≡ v)
 one_kept t u s v h =
     let h1 = tail_of _ _ _ _ h in
     let h2 = tail_of _ _ _ _ h1 in

@@ -11,9 +11,10 @@ use Rattle.blk_bio.specs.Limits.{Limits}
 use Rattle.blk_bio.specs.Requests.{dir_of}
 use Rattle.blk_sched.specs.Meaning.{Waiting, Pending, Meaning, HasCandidate, Joins, joined_waiting}
 use Rattle.blk_sched.specs.Fits.{IsNewestFit}
-use Rattle.blk_sched.specs.Maps.{first_found, none_found}
+use Rattle.blk_sched.proofs.Maps.{first_found, none_found}
 use Rattle.blk_index.specs.Index.{IsOldest, NoneOf, IsJoined}
-use Rattle.blk_deadline.specs.Choice.{serves_all, is_same, is_of, oldest_of, meaning_with}
+use Rattle.blk_deadline.specs.Choice.{serves_all, is_same, has_dir, oldest_of}
+use Rattle.blk_deadline.specs.Inside.Parts.{meaning_with}
 use Rattle.blk_sched.specs.Meaning.{Picks, OpenPicks, opened}
 
 pub candidate_of : (m : Meaning) (hw : ℕ) (limits : Limits) (newcomer : List Bio) (id : ℕ) (side : Side) → IsNewestFit limits m.front (map.get m.pending) newcomer id side → HasCandidate serves_all hw limits newcomer m id side
@@ -61,11 +62,11 @@ differ_is Write Write h = absurd (h refl)
 
 pub oldest_is : (m : Pending) (dir : Dir) (id : ℕ) (o : Option Waiting) → o ≡ map.get m id → IsOldest dir (map.get m) id → o ≡ oldest_of dir (map.values m)
 oldest_is m dir id o read best =
-    read ∙ best.is_found ∙ sym (first_found (is_of dir) m id best.waiting best.is_found (same_is (dir_of best.waiting.bios) dir best.same_dir)
+    read ∙ best.is_found ∙ sym (first_found (has_dir dir) m id best.waiting best.is_found (same_is (dir_of best.waiting.bios) dir best.same_dir)
     (λ k v lt there. differ_is (dir_of v.bios) dir (λ same. best.least k v lt there same)))
 
 pub none_oldest : (m : Pending) (dir : Dir) → NoneOf dir (map.get m) → None ≡ oldest_of dir (map.values m)
-none_oldest m dir none = sym (none_found (is_of dir) m (λ k v there. differ_is (dir_of v.bios) dir (λ same. none k v there same)))
+none_oldest m dir none = sym (none_found (has_dir dir) m (λ k v there. differ_is (dir_of v.bios) dir (λ same. none k v there same)))
 
 pub none_waits : (found : ℕ → Option Waiting) → NoneOf Read found → NoneOf Write found → (k : ℕ) (w : Waiting) → found k ≡ Some w → ⊥
 none_waits found reads writes k w there = elim (dir_of w.bios) as (λ d. dir_of w.bios ≡ d → ⊥) [

@@ -6,7 +6,7 @@ use Rattle.std.specs.FinMap as map
 use Rattle.blk_bio.specs.declared.bio.Dir.{Dir}
 use Rattle.blk_bio.specs.declared.bio.Dir.TheVariants.{Read, Write}
 use Rattle.blk_bio.specs.Requests.{dir_of, first_of}
-use Rattle.blk_sched.specs.Meaning.{Waiting, Pending, OpenPicks, Meaning}
+use Rattle.blk_sched.specs.Meaning.{Waiting, Meaning}
 use Rattle.blk_sched.specs.Policies.{Policy, choosing}
 use Rattle.blk_deadline.specs.declared.Last.{Last}
 use Rattle.blk_deadline.specs.declared.BatchState.{BatchState}
@@ -16,31 +16,31 @@ use Rattle.blk_deadline.specs.declared.Tunables.{Tunables}
 abbrev pub serves_all : ℕ → Waiting → Bool
 serves_all hw w = true
 
-abbrev pub is_of : Dir → Waiting → Bool
-is_of dir w = is_same (dir_of w.bios) dir
+abbrev pub has_dir : Dir → Waiting → Bool
+has_dir dir w = is_same (dir_of w.bios) dir
 
 -- by the first sector, and then by the id
-abbrev pub comes_before : ℕ → ℕ → ℕ → ℕ → Bool
-comes_before first id other k = nat_lt first other || (first == other && nat_lt id k)
+abbrev pub sorts_before : ℕ → ℕ → ℕ → ℕ → Bool
+sorts_before first id other k = nat_lt first other || (first == other && nat_lt id k)
 
 -- the first of two by their first sectors and ids, and the first of a list
-abbrev pub first_of_two : Waiting → Option Waiting → Option Waiting
-first_of_two w None = Some w
-first_of_two w (Some v) = if comes_before (first_of v.bios) v.id (first_of w.bios) w.id then Some v else Some w
+abbrev pub first_by_sector : Waiting → Option Waiting → Option Waiting
+first_by_sector w None = Some w
+first_by_sector w (Some v) = if sorts_before (first_of v.bios) v.id (first_of w.bios) w.id then Some v else Some w
 
 abbrev pub first_by : List Waiting → Option Waiting
 first_by [] = None
-first_by (w ∷ ws) = first_of_two w (first_by ws)
+first_by (w ∷ ws) = first_by_sector w (first_by ws)
 
 -- the oldest of a direction
 abbrev pub oldest_of : Dir → List Waiting → Option Waiting
-oldest_of dir ws = find (is_of dir) ws
+oldest_of dir ws = find (has_dir dir) ws
 
 -- the next one of a direction: only where the last pick was in it
 abbrev pub next_of : Dir → Option Last → List Waiting → Option Waiting
 next_of dir None ws = None
 next_of dir (Some l) ws =
-    if is_same l.dir dir then first_by (filter (λ w. is_of dir w && comes_before l.first l.id (first_of w.bios) w.id) ws) else None
+    if is_same l.dir dir then first_by (filter (λ w. has_dir dir w && sorts_before l.first l.id (first_of w.bios) w.id) ws) else None
 
 -- every pick sets the last position
 abbrev pub taken : Waiting → ℕ → ℕ → Waiting × BatchState
@@ -86,17 +86,13 @@ abbrev pub deadline_choice : Tunables → BatchState → ℕ → List Waiting �
 deadline_choice tunables batch now ws = choice_of tunables batch now (λ dir. oldest_of dir ws) (λ dir. next_of dir batch.last ws)
 
 -- what is handed out, and where the scheduler stands after
-abbrev pub chosen : Option (Waiting × BatchState) → Option Waiting
-chosen None = None
-chosen (Some x) = Some x.0
+abbrev pub handed_out : Option (Waiting × BatchState) → Option Waiting
+handed_out None = None
+handed_out (Some x) = Some x.0
 
 abbrev pub batch_after : BatchState → Option (Waiting × BatchState) → BatchState
 batch_after batch None = batch
 batch_after batch (Some x) = x.1
-
--- a meaning of these parts
-abbrev pub meaning_with : Pending → OpenPicks → Bool → Meaning
-meaning_with pending open_picks front = record { pending = pending; open_picks = open_picks; front = front }
 
 -- what it keeps beside its meaning, as numbers: the settings, the batch, how often reads went first, and the last position
 abbrev pub number_of : Bool → ℕ
@@ -107,8 +103,8 @@ abbrev pub last_numbers : Option Last → List ℕ
 last_numbers None = []
 last_numbers (Some last) = number_of (is_same last.dir Write) ∷ last.first ∷ last.id ∷ []
 
-abbrev pub kept_of : BatchState → Tunables → List ℕ
-kept_of batch tunables =
+abbrev pub deadline_kept : BatchState → Tunables → List ℕ
+deadline_kept batch tunables =
     tunables.fifo_batch ∷ tunables.writes_starved ∷ number_of tunables.front_merges
     ∷ batch.batching ∷ batch.starved ∷ last_numbers batch.last
 
@@ -119,9 +115,9 @@ AreKnown numbers = (t u : BatchState) (s v : Tunables) → numbers t s ≡ numbe
 -- its choice by what it keeps: of the settings and the batch that are kept, with the batch that follows
 abbrev pub deadline_chooses : List ℕ → Meaning → ℕ → ℕ → Option Waiting → List ℕ → Type 0
 deadline_chooses kept m hw now answer after =
-    (batch : BatchState) × (tunables : Tunables) × (kept ≡ kept_of batch tunables)
-    × (answer ≡ chosen (deadline_choice tunables batch now (map.values m.pending)))
-    × (after ≡ kept_of (batch_after batch (deadline_choice tunables batch now (map.values m.pending))) tunables)
+    (batch : BatchState) × (tunables : Tunables) × (kept ≡ deadline_kept batch tunables)
+    × (answer ≡ handed_out (deadline_choice tunables batch now (map.values m.pending)))
+    × (after ≡ deadline_kept (batch_after batch (deadline_choice tunables batch now (map.values m.pending))) tunables)
 
 -- its policy
 abbrev pub deadline_policy : Policy

@@ -1,2 +1,2 @@
--- What clauses of parts of a pick alone need.
+-- What clauses of parts of a pick and proofs alone need.
 pub mod Parts

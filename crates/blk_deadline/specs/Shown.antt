@@ -1,17 +1,13 @@
 -- What a deadline scheduler shows.
 use Rattle.std.specs.Prelude.{ℕ, List, Option}
 use Rattle.std.specs.FinMap as map
-use Rattle.blk_sched.specs.Meaning.{Waiting, Pending, OpenPicks, Meaning}
+use Rattle.blk_sched.specs.Meaning.{Waiting, Meaning}
 use Rattle.blk_deadline.specs.declared.Deadline.{Deadline}
 use Rattle.blk_deadline.specs.declared.BatchState.{BatchState}
 use Rattle.blk_deadline.specs.declared.Tunables.{Tunables}
-use Rattle.blk_deadline.specs.Choice.{deadline_choice, kept_of}
+use Rattle.blk_deadline.specs.Choice.{deadline_choice, deadline_kept}
 
 module _ {A : Type 0} where
-  -- the requests that wait, by their ids
-  abbrev pub pending_of : Deadline A → Pending
-  pending_of s = s.index
-
   -- where it stands: the last pick, how many went in the batch, and how often reads went first
   abbrev pub batch_of : Deadline A → BatchState
   batch_of s = s.batch
@@ -26,7 +22,7 @@ module _ {A : Type 0} where
 
   -- what it keeps beside that
   abbrev pub kept_in : Deadline A → List ℕ
-  kept_in s = kept_of s.batch s.tunables
+  kept_in s = deadline_kept s.batch s.tunables
 
   -- its choice
   abbrev pub choice_at : Deadline A → ℕ → Option (Waiting × BatchState)

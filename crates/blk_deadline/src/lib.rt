@@ -6,9 +6,9 @@ ghost use Rattle.std.specs.Option.{OnSome, option_copied};
 ghost use Rattle.std.specs.FinMap as map;
 ghost use Rattle.blk_sched.specs.Meaning.{Waiting, Meaning, HasCandidate, HasNoCandidate, Joins, ServesNothing, Picks, RequeuesPick, opened, open_of, requeued_of, at_start};
 ghost use Rattle.blk_index.specs.Index.{IsIdOf, NoneOf};
-ghost use Rattle.blk_deadline.specs.Choice.{serves_all, oldest_of, due_or_next, taken, chosen, batch_after, kept_of, AreKnown, deadline_chooses, deadline_policy};
+ghost use Rattle.blk_deadline.specs.Choice.{serves_all, oldest_of, due_or_next, taken, handed_out, batch_after, deadline_kept, AreKnown, deadline_chooses, deadline_policy};
 ghost use Rattle.blk_deadline.specs.Shown.{batch_of, tunables_of, kept_in, choice_at, meaning_of};
-ghost use Rattle.blk_deadline.specs.Inside.Parts.{IsChosen, next_in, batch_next};
+ghost use Rattle.blk_deadline.specs.Inside.Parts.{IsBatchChoice, next_in, batch_next};
 
 use blk_bio::{Dir, Limits, MAX_QUEUES, Request, Side};
 use blk_index::Sorted;
@@ -85,7 +85,7 @@ impl<A: Allocator + Clone> Deadline<A> {
         ensures tunables { IfOk result (λ s. tunables_of s ≡ tunables) }
         ensures memory { IfErr result (λ e. 0 < tunables.fifo_batch → e ≡ DeadlineFault.Memory) }
         // the batch and the tunables are known by what the trait says is kept
-        ensures known { AreKnown kept_of }
+        ensures known { AreKnown deadline_kept }
     {
         if tunables.has_zero_batch() {
             return Err(DeadlineFault::ZeroBatch);
@@ -165,7 +165,7 @@ impl<A: Allocator + Clone> Deadline<A> {
     /// The choice, by its id, how many went in the batch then, and how often reads went first.
     #[inline(always)]
     fn choose(&self, now: u64) -> Option<(u64, u16, u16)>
-        ensures some { IfSome result (IsChosen (map.get self.now.index) (choice_at self.now now)) }
+        ensures some { IfSome result (IsBatchChoice (map.get self.now.index) (choice_at self.now now)) }
         ensures none { IfNone result (choice_at self.now now ≡ None) }
         ensures all { IfNone result ((k : ℕ) (w : Waiting) → map.get self.now.index k ≡ Some w → ⊥) }
     {
@@ -215,7 +215,7 @@ impl<A: Allocator + Clone> Scheduler for Deadline<A> {
 
     ghost policy = { deadline_policy };
 
-    ghost kept = { λ s. kept_of s.batch s.tunables };
+    ghost kept = { λ s. deadline_kept s.batch s.tunables };
 
     #[inline(always)]
     fn enter(&mut self, slot: &mut Option<Queued<A>>) -> Result<(), AllocError> {
@@ -266,7 +266,7 @@ impl<A: Allocator + Clone> Scheduler for Deadline<A> {
         requires hw { hw < MAX_QUEUES }
         requires few { (meaning_of self.old).open_picks.reads + (meaning_of self.old).open_picks.writes < MAX_OPEN }
         ensures chosen { deadline_chooses (kept_in self.old) (meaning_of self.old) hw now result (kept_in self.new) }
-        ensures choice { result ≡ chosen (choice_at self.old now) }
+        ensures choice { result ≡ handed_out (choice_at self.old now) }
         ensures batch { batch_of self.new ≡ batch_after (batch_of self.old) (choice_at self.old now) }
         ensures tunables { tunables_of self.new ≡ tunables_of self.old }
         ensures picked { IfSome result (λ w. Picks serves_all hw (meaning_of self.old) w (meaning_of self.new)) }

@@ -5,7 +5,7 @@ use Rattle.std.specs.List.{Contains}
 use Rattle.std.specs.Option.{option_or}
 use Rattle.std.proofs.lemmas.Bool.{cases_lt, cases_eq, leb-true, leb-false}
 use Rattle.blk_sched.specs.Meaning.{Waiting}
-use Rattle.blk_earliest.specs.Choice.{comes_before, first_of_two, first_due, on_time, earliest_choice, IsNoLater, IsFirst, IsFirstMeetable}
+use Rattle.blk_earliest.specs.Choice.{comes_before, first_of_two, first_due, on_time, earliest_choice, IsNoLater, IsEarliest, IsFirstMeetable}
 use Rattle.blk_earliest.proofs.Listing.{is_before, from_before}
 
 itself : (w : Waiting) → IsNoLater w w
@@ -69,10 +69,10 @@ each_of P w ws here rest k = elim k as (λ (j : ℕ). (d : Waiting) → j < leng
   | suc j ↦ λ d lt. rest j d (omega arith)
 ]
 
-first_is : (ws : List Waiting) (u : Waiting) → first_due ws ≡ Some u → IsFirst ws u
+first_is : (ws : List Waiting) (u : Waiting) → first_due ws ≡ Some u → IsEarliest ws u
 first_is [] u h = absurd (cc)
 first_is (w ∷ ws) u h =
-    elim (first_due ws) as (λ o. first_due ws ≡ o → first_of_two w o ≡ Some u → IsFirst (w ∷ ws) u) [
+    elim (first_due ws) as (λ o. first_due ws ≡ o → first_of_two w o ≡ Some u → IsEarliest (w ∷ ws) u) [
       | None ↦ λ e g.
           let same : w ≡ u = cc in
           let empty : length ws ≡ 0 = ap (λ (l : List Waiting). length l) (none_first ws e) in
@@ -81,7 +81,7 @@ first_is (w ∷ ws) u h =
             first = each_of (IsNoLater u) w ws (subst (λ (x : Waiting). IsNoLater x w) same (itself w)) (λ k d lt. absurd (omega arith));
           }
       | Some v ↦ λ e g.
-          let rest : IsFirst ws v = first_is ws v e in
+          let rest : IsEarliest ws v = first_is ws v e in
           let two = two_first w v u g in
           record {
             waits = two.2 (λ x. Contains (w ∷ ws) x) (0, omega arith, refl) (behind w v ws rest.waits);
@@ -135,7 +135,7 @@ first_on now (w ∷ ws) u h =
 
 -- ---- the law
 
-pub choice_first : (now : ℕ) (ws : List Waiting) (w : Waiting) → earliest_choice false now ws ≡ Some w → IsFirst ws w
+pub choice_first : (now : ℕ) (ws : List Waiting) (w : Waiting) → earliest_choice false now ws ≡ Some w → IsEarliest ws w
 choice_first now ws w h = first_is ws w h
 
 pub choice_meetable : (now : ℕ) (ws : List Waiting) (w : Waiting) → earliest_choice true now ws ≡ Some w → IsFirstMeetable now ws w
@@ -146,7 +146,7 @@ choice_meetable now ws w h =
           let on : IsFirstOn now ws w = first_on now ws w (e ∙ g) in
           record { waits = on.waits; on_time = λ k d lt late. (on.met, on.first k d lt late); late = λ past. absurd (omega (arith, on.met)) }
       | None ↦ λ e g.
-          let all : IsFirst ws w = first_is ws w g in
+          let all : IsEarliest ws w = first_is ws w g in
           let past = none_on now ws e in
           record { waits = all.waits; on_time = λ k d lt late. absurd (omega (arith, past k d lt)); late = λ _ k d lt. (past k d lt, all.first k d lt) }
     ] refl h

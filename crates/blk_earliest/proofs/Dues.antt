@@ -10,7 +10,7 @@ use Rattle.std.proofs.lemmas.Bool.{eqb-true, eq-eqb}
 use Rattle.blk_bio.specs.declared.request.Side.{Side}
 use Rattle.blk_bio.specs.Bios.{Bio}
 use Rattle.blk_sched.specs.Meaning.{Waiting, Pending, joined_waiting}
-use Rattle.blk_sched.specs.Maps.{one_test}
+use Rattle.blk_sched.proofs.Maps.{one_test}
 use Rattle.blk_index.specs.Index.{IsBefore, IsJoined}
 use Rattle.blk_index.specs.Inside.Pairs.{pair_cmp}
 use Rattle.blk_index.specs.Inside.SortLists.{PairAdded, PairTaken, PairsKept}

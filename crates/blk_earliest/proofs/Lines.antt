@@ -17,7 +17,7 @@ use Rattle.blk_index.specs.Inside.Pairs.{pair_cmp, pair_total}
 use Rattle.blk_index.specs.Inside.SortLists.{PairAdded, PairTaken, PairsKept}
 use Rattle.blk_index.proofs.Listed.{is_equal}
 use Rattle.blk_earliest.specs.Inside.Dues.{IsFirstPair}
-use Rattle.blk_earliest.specs.Inside.Lines.{listed, either, IsFirstOf, IsFirstOrNone}
+use Rattle.blk_earliest.specs.Inside.Lines.{has_pair, has_either, IsFirstPairFrom, IsFirstOrNone}
 use Rattle.blk_earliest.proofs.Dues.{Pairs}
 
 abbrev Pair : Type 0
@@ -79,17 +79,17 @@ some_at [] k h = absurd (omega arith)
 some_at (x ∷ xs) zero h = (x, refl)
 some_at (x ∷ xs) (suc k) h = some_at xs k (omega arith)
 
-listed_at : (ps : List Pair) (q : Pair) → listed ps q ≡ true → (k : ℕ) × (slice_get ps k ≡ Some q)
+listed_at : (ps : List Pair) (q : Pair) → has_pair ps q ≡ true → (k : ℕ) × (slice_get ps k ≡ Some q)
 listed_at [] q h = absurd (cc)
-listed_at (p ∷ ps) q h = elim (or_cases (is_eq (pair_cmp q p)) (listed ps q) h) [
+listed_at (p ∷ ps) q h = elim (or_cases (is_eq (pair_cmp q p)) (has_pair ps q) h) [
   | inl here ↦ (zero, ap (λ (y : Pair). Some y) (sym (same q p (is_equal (pair_cmp q p) here))))
   | inr there ↦ let r = listed_at ps q there in (suc r.0, r.1)
 ]
 
-at_listed : (ps : List Pair) (k : ℕ) (q : Pair) → slice_get ps k ≡ Some q → listed ps q ≡ true
+at_listed : (ps : List Pair) (k : ℕ) (q : Pair) → slice_get ps k ≡ Some q → has_pair ps q ≡ true
 at_listed [] k q h = absurd (cc)
-at_listed (p ∷ ps) zero q h = let e : p ≡ q = cc in or_left (is_eq (pair_cmp q p)) (listed ps q) (ap (λ (y : Pair). is_eq (pair_cmp q y)) e ∙ ap is_eq (itself q))
-at_listed (p ∷ ps) (suc k) q h = or_right (is_eq (pair_cmp q p)) (listed ps q) (at_listed ps k q h)
+at_listed (p ∷ ps) zero q h = let e : p ≡ q = cc in or_left (is_eq (pair_cmp q p)) (has_pair ps q) (ap (λ (y : Pair). is_eq (pair_cmp q y)) e ∙ ap is_eq (itself q))
+at_listed (p ∷ ps) (suc k) q h = or_right (is_eq (pair_cmp q p)) (has_pair ps q) (at_listed ps k q h)
 
 -- ---- one more at the end
 
@@ -124,9 +124,9 @@ or_more true true b = refl
 or_more true false b = refl
 or_more false e b = refl
 
-pub push_listed : (ps : List Pair) (p : Pair) → PairAdded (listed ps) p (listed (ps ++ p ∷ []))
+pub push_listed : (ps : List Pair) (p : Pair) → PairAdded (has_pair ps) p (has_pair (ps ++ p ∷ []))
 push_listed [] p q = ap (λ b. b || false) (flip p q) ∙ or_none (eq_by_cmp pair_cmp p q)
-push_listed (x ∷ xs) p q = ap (λ b. is_eq (pair_cmp q x) || b) (push_listed xs p q) ∙ or_more (is_eq (pair_cmp q x)) (eq_by_cmp pair_cmp p q) (listed xs q)
+push_listed (x ∷ xs) p q = ap (λ b. is_eq (pair_cmp q x) || b) (push_listed xs p q) ∙ or_more (is_eq (pair_cmp q x)) (eq_by_cmp pair_cmp p q) (has_pair xs q)
 
 -- ---- one less
 
@@ -143,23 +143,23 @@ remove_in_order [] (suc n) up = tt
 remove_in_order (x ∷ xs) zero up = up.1
 remove_in_order (x ∷ xs) (suc n) up = (all_left (λ y. pair_cmp x y ≡ Less) xs n up.0, remove_in_order xs n up.1)
 
-below_all : (p : Pair) (ps : List Pair) → AllByRecursion (λ y. pair_cmp p y ≡ Less) ps → listed ps p ≡ false
+below_all : (p : Pair) (ps : List Pair) → AllByRecursion (λ y. pair_cmp p y ≡ Less) ps → has_pair ps p ≡ false
 below_all p [] h = refl
-below_all p (x ∷ xs) h = or_from (is_eq (pair_cmp p x)) (listed xs p) (ap is_eq h.0) (below_all p xs h.1)
+below_all p (x ∷ xs) h = or_from (is_eq (pair_cmp p x)) (has_pair xs p) (ap is_eq h.0) (below_all p xs h.1)
 
-pub remove_listed : (ps : List Pair) (n : ℕ) (p : Pair) → InOrder ps → slice_get ps n ≡ Some p → PairTaken (listed ps) p (listed (remove ps n))
+pub remove_listed : (ps : List Pair) (n : ℕ) (p : Pair) → InOrder ps → slice_get ps n ≡ Some p → PairTaken (has_pair ps) p (has_pair (remove ps n))
 unfolding IsStrictlySortedBy
 remove_listed [] n p up at q = absurd (cc)
 remove_listed (x ∷ xs) zero p up at q =
     let e : x ≡ p = cc in
     let own : is_eq (pair_cmp q x) ≡ eq_by_cmp pair_cmp p q = ap (λ (y : Pair). is_eq (pair_cmp q y)) e ∙ flip p q in
-    elim (eq_by_cmp pair_cmp p q) as (λ b. eq_by_cmp pair_cmp p q ≡ b → listed xs q ≡ cond b false (is_eq (pair_cmp q x) || listed xs q)) [
-      | true ↦ λ t. subst (λ (y : Pair). listed xs y ≡ false) (e ∙ same p q (is_equal (pair_cmp p q) t)) (below_all x xs up.0)
-      | false ↦ λ f. sym (ap (λ b. b || listed xs q) (own ∙ f))
+    elim (eq_by_cmp pair_cmp p q) as (λ b. eq_by_cmp pair_cmp p q ≡ b → has_pair xs q ≡ cond b false (is_eq (pair_cmp q x) || has_pair xs q)) [
+      | true ↦ λ t. subst (λ (y : Pair). has_pair xs y ≡ false) (e ∙ same p q (is_equal (pair_cmp p q) t)) (below_all x xs up.0)
+      | false ↦ λ f. sym (ap (λ b. b || has_pair xs q) (own ∙ f))
     ] refl
 remove_listed (x ∷ xs) (suc n) p up at q =
     ap (λ b. is_eq (pair_cmp q x) || b) (remove_listed xs n p up.1 at q)
-    ∙ elim (eq_by_cmp pair_cmp p q) as (λ b. eq_by_cmp pair_cmp p q ≡ b → (is_eq (pair_cmp q x) || cond b false (listed xs q)) ≡ cond b false (is_eq (pair_cmp q x) || listed xs q)) [
+    ∙ elim (eq_by_cmp pair_cmp p q) as (λ b. eq_by_cmp pair_cmp p q ≡ b → (is_eq (pair_cmp q x) || cond b false (has_pair xs q)) ≡ cond b false (is_eq (pair_cmp q x) || has_pair xs q)) [
       | true ↦ λ t.
           let e : p ≡ q = same p q (is_equal (pair_cmp p q) t) in
           let less : pair_cmp x q ≡ Less = subst (λ (y : Pair). pair_cmp x y ≡ Less) e (all_at (λ y. pair_cmp x y ≡ Less) xs n p up.0 at) in
@@ -174,8 +174,8 @@ abbrev pub Above : List Pair → ℕ → Pair → Type 0
 Above ps n p = (k : ℕ) (q : Pair) → n ≤ k → slice_get ps k ≡ Some q → is_lt (pair_cmp q p) ≡ false
 
 -- what doesn't stand where it would is not there
-absent : (ps : List Pair) (n : ℕ) (p : Pair) → InOrder ps → Below ps n p → Above ps n p → (slice_get ps n ≡ Some p → ⊥) → listed ps p ≡ false
-absent ps n p up below above not_here = false_from_ne_true (listed ps p) (λ t.
+absent : (ps : List Pair) (n : ℕ) (p : Pair) → InOrder ps → Below ps n p → Above ps n p → (slice_get ps n ≡ Some p → ⊥) → has_pair ps p ≡ false
+absent ps n p up below above not_here = false_from_ne_true (has_pair ps p) (λ t.
     let at = listed_at ps p t in
     let k : ℕ = at.0 in
     elim (cases_lt k n) [
@@ -197,8 +197,8 @@ nothing_taken has p none q =
       | false ↦ λ _. refl
     ] refl
 
-pub absent_taken : (ps : List Pair) (n : ℕ) (p : Pair) → InOrder ps → Below ps n p → Above ps n p → (slice_get ps n ≡ Some p → ⊥) → PairTaken (listed ps) p (listed ps)
-absent_taken ps n p up below above not_here = nothing_taken (listed ps) p (absent ps n p up below above not_here)
+pub absent_taken : (ps : List Pair) (n : ℕ) (p : Pair) → InOrder ps → Below ps n p → Above ps n p → (slice_get ps n ≡ Some p → ⊥) → PairTaken (has_pair ps) p (has_pair ps)
+absent_taken ps n p up below above not_here = nothing_taken (has_pair ps) p (absent ps n p up below above not_here)
 
 -- ---- where one goes
 
@@ -242,7 +242,7 @@ above_here ps p n r up at later k q le there =
 
 -- ---- the first from a due round on
 
-first_at : (ps : List Pair) (n start : ℕ) (p : Pair) → InOrder ps → Below ps n (start, 0) → Above ps n (start, 0) → slice_get ps n ≡ Some p → IsFirstOf (listed ps) start p
+first_at : (ps : List Pair) (n start : ℕ) (p : Pair) → InOrder ps → Below ps n (start, 0) → Above ps n (start, 0) → slice_get ps n ≡ Some p → IsFirstPairFrom (has_pair ps) start p
 first_at ps n start p up below above at = record {
   there = at_listed ps n p at;
   high = turned (start, 0) p ∙ above n p (omega arith) at;
@@ -261,23 +261,23 @@ first_at ps n start p up below above at = record {
       ];
 }
 
-none_at : (ps : List Pair) (n start : ℕ) → Below ps n (start, 0) → length ps ≤ n → (q : Pair) → is_gt (pair_cmp (start, 0) q) ≡ false → listed ps q ≡ false
-none_at ps n start below short q high = false_from_ne_true (listed ps q) (λ t.
+none_at : (ps : List Pair) (n start : ℕ) → Below ps n (start, 0) → length ps ≤ n → (q : Pair) → is_gt (pair_cmp (start, 0) q) ≡ false → has_pair ps q ≡ false
+none_at ps n start below short q high = false_from_ne_true (has_pair ps q) (λ t.
     let found = listed_at ps q t in
     let within = slice_get_within ps found.0 q found.1 in
     let lt : found.0 < n = omega (arith, within, short) in
     both_ways (is_lt (pair_cmp q (start, 0))) (sym (turned (start, 0) q) ∙ high) (below found.0 q lt found.1))
 
-pub first_here : (ps : List Pair) (n start : ℕ) (p : Pair) → InOrder ps → Below ps n (start, 0) → Above ps n (start, 0) → slice_get ps n ≡ Some p → IsFirstOrNone (listed ps) start (Some p)
+pub first_here : (ps : List Pair) (n start : ℕ) (p : Pair) → InOrder ps → Below ps n (start, 0) → Above ps n (start, 0) → slice_get ps n ≡ Some p → IsFirstOrNone (has_pair ps) start (Some p)
 first_here ps n start p up below above at = first_at ps n start p up below above at
 
-pub none_here : (ps : List Pair) (n start : ℕ) → Below ps n (start, 0) → length ps ≤ n → IsFirstOrNone (listed ps) start None
+pub none_here : (ps : List Pair) (n start : ℕ) → Below ps n (start, 0) → length ps ≤ n → IsFirstOrNone (has_pair ps) start None
 none_here ps n start below short = none_at ps n start below short
 
 -- ---- both of two
 
 module _ (one other : Pairs) (start : ℕ) where
-  pub none_first : (o : Option Pair) → IsFirstOrNone one start None → IsFirstOrNone other start o → IsFirstOrNone (either one other) start o
+  pub none_first : (o : Option Pair) → IsFirstOrNone one start None → IsFirstOrNone other start o → IsFirstOrNone (has_either one other) start o
   none_first None a b = λ q high. or_from (one q) (other q) (a q high) (b q high)
   none_first (Some p) a b = record {
     there = or_right (one p) (other p) b.there;
@@ -288,7 +288,7 @@ module _ (one other : Pairs) (start : ℕ) where
     ];
   }
 
-  pub none_second : (o : Option Pair) → IsFirstOrNone one start o → IsFirstOrNone other start None → IsFirstOrNone (either one other) start o
+  pub none_second : (o : Option Pair) → IsFirstOrNone one start o → IsFirstOrNone other start None → IsFirstOrNone (has_either one other) start o
   none_second None a b = λ q high. or_from (one q) (other q) (a q high) (b q high)
   none_second (Some p) a b = record {
     there = or_left (one p) (other p) a.there;
@@ -299,7 +299,7 @@ module _ (one other : Pairs) (start : ℕ) where
     ];
   }
 
-  pub first_stays : (p r : Pair) → is_lt (pair_cmp r p) ≡ false → IsFirstOf one start p → IsFirstOf other start r → IsFirstOf (either one other) start p
+  pub first_stays : (p r : Pair) → is_lt (pair_cmp r p) ≡ false → IsFirstPairFrom one start p → IsFirstPairFrom other start r → IsFirstPairFrom (has_either one other) start p
   first_stays p r later a b = record {
     there = or_left (one p) (other p) a.there;
     high = a.high;
@@ -309,7 +309,7 @@ module _ (one other : Pairs) (start : ℕ) where
     ];
   }
 
-  pub second_first : (p r : Pair) → is_lt (pair_cmp r p) ≡ true → IsFirstOf one start p → IsFirstOf other start r → IsFirstOf (either one other) start r
+  pub second_first : (p r : Pair) → is_lt (pair_cmp r p) ≡ true → IsFirstPairFrom one start p → IsFirstPairFrom other start r → IsFirstPairFrom (has_either one other) start r
   second_first p r sooner a b = record {
     there = or_right (one r) (other r) b.there;
     high = b.high;
@@ -330,24 +330,24 @@ both_less : (a e b : Bool) → (cond e false a || cond e false b) ≡ cond e fal
 both_less a true b = refl
 both_less a false b = refl
 
-pub added_second : (other one now : Pairs) (p : Pair) → PairAdded one p now → PairAdded (either other one) p (either other now)
+pub added_second : (other one now : Pairs) (p : Pair) → PairAdded one p now → PairAdded (has_either other one) p (has_either other now)
 added_second other one now p added q = ap (λ b. other q || b) (added q) ∙ or_more (other q) (eq_by_cmp pair_cmp p q) (one q)
 
-pub kept_second : (other one now : Pairs) → PairsKept one now → PairsKept (either other one) (either other now)
+pub kept_second : (other one now : Pairs) → PairsKept one now → PairsKept (has_either other one) (has_either other now)
 kept_second other one now kept q = ap (λ b. other q || b) (kept q)
 
-pub taken_both : (one now other after : Pairs) (p : Pair) → PairTaken one p now → PairTaken other p after → PairTaken (either one other) p (either now after)
+pub taken_both : (one now other after : Pairs) (p : Pair) → PairTaken one p now → PairTaken other p after → PairTaken (has_either one other) p (has_either now after)
 taken_both one now other after p a b q = ap (λ t. t || after q) (a q) ∙ ap (λ t. cond (eq_by_cmp pair_cmp p q) false (one q) || t) (b q) ∙ both_less (one q) (eq_by_cmp pair_cmp p q) (other q)
 
 -- the first of three and the last change, beside the one between
-pub added_around : (reads writes others now after : Pairs) (p : Pair) → PairAdded (either reads others) p (either now after) → PairAdded (either reads (either writes others)) p (either now (either writes after))
+pub added_around : (reads writes others now after : Pairs) (p : Pair) → PairAdded (has_either reads others) p (has_either now after) → PairAdded (has_either reads (has_either writes others)) p (has_either now (has_either writes after))
 added_around reads writes others now after p added q =
     aside (now q) (writes q) (after q)
     ∙ ap (λ b. writes q || b) (added q)
     ∙ or_more (writes q) (eq_by_cmp pair_cmp p q) (reads q || others q)
     ∙ ap (λ b. cond (eq_by_cmp pair_cmp p q) true b) (aside (writes q) (reads q) (others q))
 
-pub kept_around : (reads writes others now after : Pairs) → PairsKept (either reads others) (either now after) → PairsKept (either reads (either writes others)) (either now (either writes after))
+pub kept_around : (reads writes others now after : Pairs) → PairsKept (has_either reads others) (has_either now after) → PairsKept (has_either reads (has_either writes others)) (has_either now (has_either writes after))
 kept_around reads writes others now after kept q =
     aside (now q) (writes q) (after q) ∙ ap (λ b. writes q || b) (kept q) ∙ aside (writes q) (reads q) (others q)
 
@@ -369,10 +369,10 @@ pub on_not : (b : Bool) (P : Type 0) → (b ≡ false → P) → OnTrue (not b) 
 on_not true P f = tt
 on_not false P f = f refl
 
-pub empty_dues : (reads writes : List Pair) (others : BTreeSet Pair) → reads ≡ [] → writes ≡ [] → IsEmpty others → (q : Pair) → either (listed reads) (either (listed writes) (contains pair_cmp others)) q ≡ false
+pub empty_dues : (reads writes : List Pair) (others : BTreeSet Pair) → reads ≡ [] → writes ≡ [] → IsEmpty others → (q : Pair) → has_either (has_pair reads) (has_either (has_pair writes) (contains pair_cmp others)) q ≡ false
 empty_dues reads writes others r w o q =
-    or_from (listed reads q) (either (listed writes) (contains pair_cmp others) q) (ap (λ ps. listed ps q) r)
-    (or_from (listed writes q) (contains pair_cmp others q) (ap (λ ps. listed ps q) w) (ap (list_any (is_at (pair_cmp q))) o))
+    or_from (has_pair reads q) (has_either (has_pair writes) (contains pair_cmp others) q) (ap (λ ps. has_pair ps q) r)
+    (or_from (has_pair writes q) (contains pair_cmp others q) (ap (λ ps. has_pair ps q) w) (ap (list_any (is_at (pair_cmp q))) o))
 
 pub empty_line : (ps : List Pair) → ps ≡ [] → InOrder ps
 unfolding IsStrictlySortedBy
@@ -382,5 +382,5 @@ pub some_holds : {X : Type 0} (o : Option X) (P : Type 0) → IsSome o → OnSom
 some_holds (Some x) P s h = h
 some_holds None P s h = absurd (cc)
 
-pub first_pair : (has : Pairs) (start due id : ℕ) → IsFirstOf has start (due, id) → IsFirstPair has start id
+pub first_pair : (has : Pairs) (start due id : ℕ) → IsFirstPairFrom has start (due, id) → IsFirstPair has start id
 first_pair has start due id f = record { due = due; there = f.there; high = f.high; least = f.least }

@@ -9,7 +9,8 @@ use Rattle.blk_bio.specs.Requests.{dir_of}
 use Rattle.blk_sched.specs.Meaning.{Waiting, Pending, Meaning, OpenPicks, HasCandidate, Joins, Picks, joined_waiting, opened}
 use Rattle.blk_sched.specs.Fits.{IsNewestFit}
 use Rattle.blk_index.specs.Index.{IsJoined}
-use Rattle.blk_earliest.specs.Choice.{serves_all, meaning_with}
+use Rattle.blk_earliest.specs.Choice.{serves_all}
+use Rattle.blk_earliest.specs.Inside.Meanings.{meaning_with}
 
 pub candidate_of : (m : Meaning) (hw : ℕ) (limits : Limits) (newcomer : List Bio) (id : ℕ) (side : Side) → IsNewestFit limits m.front (map.get m.pending) newcomer id side → HasCandidate serves_all hw limits newcomer m id side
 candidate_of m hw limits newcomer id side best = (

@@ -3,7 +3,7 @@ use Rattle.std.specs.Prelude.{ℕ, ◌==◌, ◌≡◌, ◌<◌, ◌≤◌, ◌�
 use Rattle.std.specs.List.{filter, Contains}
 use Rattle.std.specs.Option.{option_or}
 use Rattle.std.specs.FinMap as map
-use Rattle.blk_sched.specs.Meaning.{Waiting, Pending, OpenPicks, Meaning}
+use Rattle.blk_sched.specs.Meaning.{Waiting, Meaning}
 use Rattle.blk_sched.specs.Policies.{Policy, choosing}
 
 -- it serves every request for every hardware queue
@@ -37,7 +37,7 @@ abbrev pub IsNoLater : Waiting → Waiting → Type 0
 IsNoLater w v = (w.due < v.due) ⊎ ((w.due ≡ v.due) × (w.id ≤ v.id))
 
 -- what the choice is: one that waits, that comes no later than any other
-pub record IsFirst (ws : List Waiting) (w : Waiting) : Type 0 where
+pub record IsEarliest (ws : List Waiting) (w : Waiting) : Type 0 where
   pub waits : Contains ws w
   pub first : All (IsNoLater w) ws
 
@@ -47,22 +47,18 @@ pub record IsFirstMeetable (now : ℕ) (ws : List Waiting) (w : Waiting) : Type 
   pub on_time : All (λ v. now ≤ v.due → (now ≤ w.due) × IsNoLater w v) ws
   pub late : w.due < now → All (λ v. (v.due < now) × IsNoLater w v) ws
 
--- a meaning of these parts
-abbrev pub meaning_with : Pending → OpenPicks → Meaning
-meaning_with pending open_picks = record { pending = pending; open_picks = open_picks; front = true }
-
 -- what it keeps beside its meaning, as a number: the setting
 abbrev pub number_of : Bool → ℕ
 number_of false = 0
 number_of true = 1
 
-abbrev pub kept_of : Bool → List ℕ
-kept_of late_last = number_of late_last ∷ []
+abbrev pub earliest_kept : Bool → List ℕ
+earliest_kept late_last = number_of late_last ∷ []
 
 -- its choice by what it keeps: by the setting, which stays
 abbrev pub earliest_chooses : List ℕ → Meaning → ℕ → ℕ → Option Waiting → List ℕ → Type 0
 earliest_chooses kept m hw now answer after =
-    (late_last : Bool) × (kept ≡ kept_of late_last)
+    (late_last : Bool) × (kept ≡ earliest_kept late_last)
     × (answer ≡ earliest_choice late_last now (map.values m.pending))
     × (after ≡ kept)
 

@@ -5,8 +5,8 @@ ghost use Rattle.std.specs.Prelude.{◌≡◌, ◌<◌, ◌+◌, ℕ, Bool, true
 ghost use Rattle.std.specs.FinMap as map;
 ghost use Rattle.blk_sched.specs.Meaning.{Waiting, Picks, ServesNothing, at_start};
 ghost use Rattle.blk_index.specs.Index.{IsIdOf};
-ghost use Rattle.blk_earliest.specs.Choice.{serves_all, first_due, on_time, earliest_choice, earliest_chooses, earliest_policy, kept_of, IsFirst, IsFirstMeetable};
-ghost use Rattle.blk_earliest.specs.Shown.{pending_of, late_last_of, meaning_of};
+ghost use Rattle.blk_earliest.specs.Choice.{serves_all, first_due, on_time, earliest_choice, earliest_chooses, earliest_policy, earliest_kept, IsEarliest, IsFirstMeetable};
+ghost use Rattle.blk_earliest.specs.Shown.{pending_of, late_last_of, setting_of, meaning_of};
 
 pub mod by_due;
 pub mod due;
@@ -81,7 +81,7 @@ impl<A: Allocator + Clone> Earliest<A> {
 ///
 /// A law: it does nothing when it runs, and a caller has its clauses.
 pub fn law_of_choices()
-    ensures first { (now : ℕ) → (ws : List Waiting) → (w : Waiting) → earliest_choice false now ws ≡ Some w → IsFirst ws w }
+    ensures first { (now : ℕ) → (ws : List Waiting) → (w : Waiting) → earliest_choice false now ws ≡ Some w → IsEarliest ws w }
     ensures meetable { (now : ℕ) → (ws : List Waiting) → (w : Waiting) → earliest_choice true now ws ≡ Some w → IsFirstMeetable now ws w }
     ensures none { (late_last : Bool) → (now : ℕ) → (ws : List Waiting) → earliest_choice late_last now ws ≡ None → ws ≡ [] }
 {}
@@ -93,7 +93,7 @@ impl<A: Allocator + Clone> Scheduler for Earliest<A> {
 
     ghost policy = { earliest_policy };
 
-    ghost kept = { λ s. kept_of s.late_last };
+    ghost kept = { λ s. earliest_kept s.late_last };
 
     #[inline(always)]
     fn enter(&mut self, slot: &mut Option<Queued<A>>) -> Result<(), AllocError> {
@@ -143,7 +143,7 @@ impl<A: Allocator + Clone> Scheduler for Earliest<A> {
     fn pick(&mut self, hw: u8, now: u64) -> Option<Queued<A>>
         requires hw { hw < MAX_QUEUES }
         requires few { (meaning_of self.old).open_picks.reads + (meaning_of self.old).open_picks.writes < MAX_OPEN }
-        ensures chosen { earliest_chooses (kept_of (late_last_of self.old)) (meaning_of self.old) hw now result (kept_of (late_last_of self.new)) }
+        ensures chosen { earliest_chooses (setting_of self.old) (meaning_of self.old) hw now result (setting_of self.new) }
         ensures choice { result ≡ earliest_choice (late_last_of self.old) now (map.values (pending_of self.old)) }
         ensures setting { late_last_of self.new ≡ late_last_of self.old }
         ensures picked { IfSome result (λ w. Picks serves_all hw (meaning_of self.old) w (meaning_of self.new)) }

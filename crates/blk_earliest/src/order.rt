@@ -7,7 +7,7 @@ ghost use Rattle.std.specs.List.Sorted.{IsStrictlySortedBy};
 ghost use Rattle.std.specs.BTreeSet.{contains};
 ghost use Rattle.std.specs.declared.cmp.Ordering.TheVariants.{Less};
 ghost use Rattle.blk_index.specs.Inside.SortLists.{pair_cmp, PairAdded, PairTaken, PairsKept};
-ghost use Rattle.blk_earliest.specs.Inside.Lines.{listed, dues_in, pairs_in, AreLines, IsLeastFrom, IsFirstOrNone, IsFirstOfBoth};
+ghost use Rattle.blk_earliest.specs.Inside.Lines.{has_pair, dues_in, pairs_in, AreLines, IsLeastPairFrom, IsFirstOrNone, IsFirstOfBoth};
 ghost use Rattle.blk_earliest.specs.Inside.Dues.{IsFirstPair, NoPairFrom};
 
 use crate::due::Due;
@@ -153,8 +153,8 @@ fn put_beside<A: Allocator + Clone>(
 fn put_last<A: Allocator + Clone>(line: &mut VecDeque<Due, A>, due: Due) -> Result<(), AllocError>
     requires line { IsStrictlySortedBy pair_cmp line.old.items }
     requires last { (k : ℕ) (q : ℕ × ℕ) → slice_get line.old.items k ≡ Some q → pair_cmp q due ≡ Less }
-    ensures ok { OnOk result (PairAdded (listed line.old.items) due (listed line.new.items)) }
-    ensures same { OnErr result (PairsKept (listed line.old.items) (listed line.new.items)) }
+    ensures ok { OnOk result (PairAdded (has_pair line.old.items) due (has_pair line.new.items)) }
+    ensures same { OnErr result (PairsKept (has_pair line.old.items) (has_pair line.new.items)) }
     ensures line { IsStrictlySortedBy pair_cmp line.new.items }
 {
     match line.push_back(due) {
@@ -179,7 +179,7 @@ fn put_other<A: Allocator + Clone>(
 #[inline(always)]
 fn take_from<A: Allocator + Clone>(line: &mut VecDeque<Due, A>, due: Due)
     requires { IsStrictlySortedBy pair_cmp line.old.items }
-    ensures taken { PairTaken (listed line.old.items) due (listed line.new.items) }
+    ensures taken { PairTaken (has_pair line.old.items) due (has_pair line.new.items) }
     ensures line { IsStrictlySortedBy pair_cmp line.new.items }
 {
     let place = place_of(line, due);
@@ -261,7 +261,7 @@ fn place_among<A: Allocator + Clone>(line: &VecDeque<Due, A>, due: Due) -> usize
 #[inline(always)]
 fn first_in<A: Allocator + Clone>(line: &VecDeque<Due, A>, start: u64) -> Option<Due>
     requires { IsStrictlySortedBy pair_cmp line.now.items }
-    ensures { IsFirstOrNone (listed line.now.items) start result }
+    ensures { IsFirstOrNone (has_pair line.now.items) start result }
 {
     let place = place_of(line, Due { due: start, id: 0 });
     match line.get(place) {
@@ -285,7 +285,7 @@ fn first_other<A: Allocator + Clone>(others: &BTreeSet<Due, A>, start: u64) -> O
 fn least_from<A: Allocator + Clone>(others: &BTreeSet<Due, A>, start: u64) -> Option<Due>
     ensures there { IfSome result (λ p. contains pair_cmp others.now p ≡ true) }
     ensures high { IfSome result (λ p. is_gt (pair_cmp (start, 0) p) ≡ false) }
-    ensures least { IfSome result (IsLeastFrom (contains pair_cmp others.now) start) }
+    ensures least { IfSome result (IsLeastPairFrom (contains pair_cmp others.now) start) }
     ensures none { IfNone result (NoPairFrom (contains pair_cmp others.now) start) }
 {
     let found = others

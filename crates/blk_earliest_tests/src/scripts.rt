@@ -25,7 +25,7 @@ fn order(rt: &impl Abort, alloc: Global, late_last: bool, text: &str) -> Vec<u64
     let trace = run(rt, alloc, late_last, text);
     let commands = trace.commands().expect(rt, "memory");
     let Ok(ids) = commands.iter().map(|c| c.id).collect(alloc) else {
-        panic!(rt; "want of memory");
+        panic!(rt; "out of memory");
     };
     ids
 }

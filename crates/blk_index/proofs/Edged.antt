@@ -8,9 +8,9 @@ use Rattle.blk_bio.specs.declared.extent.Extent.{Extent}
 use Rattle.blk_bio.specs.Requests.{sectors_of}
 use Rattle.blk_bio.specs.Extents.{extent_of}
 use Rattle.blk_sched.specs.Meaning.{Waiting}
-use Rattle.blk_sched.specs.Maps.{same_number}
+use Rattle.blk_sched.proofs.Maps.{same_number}
 use Rattle.blk_index.specs.declared.merge_hash.Bucket.{Bucket}
-use Rattle.blk_index.specs.Inside.Spots.{Place, Spot, Adds, TakesOne, Keeps, AreSpots, is_placed, first_at, end_at}
+use Rattle.blk_index.specs.Inside.Spots.{Place, Spot, Adds, TakesOne, Keeps, AreSpots, first_at, end_at}
 use Rattle.blk_index.specs.Inside.Buckets.{Becomes, is_bucket, spots_of, AtMost, HasBuckets, Lowers, KeepsLeast, IsEdge}
 use Rattle.blk_index.specs.declared.merge_hash.MergeHashes.{MergeHashes}
 use Rattle.blk_index.specs.declared.merge_hash.MergeHash.{MergeHash}
@@ -18,7 +18,7 @@ use Rattle.blk_index.specs.Inside.Edges.{buckets_in, others_in, IsEdges}
 use Rattle.blk_index.proofs.Listed.{undone}
 use Rattle.blk_index.proofs.Indexed.{Found, entered, taken, stayed, kept}
 use Rattle.blk_index.proofs.Order.{standing}
-use Rattle.blk_index.proofs.Spotted.{Buckets, Others, bucket_there, nothing, added_there, most_then, most_of}
+use Rattle.blk_index.proofs.Spotted.{Buckets, Others, bucket_there, added_there, most_then, most_of}
 
 -- the bucket at the place of a request
 pub bucket_at : (at : Extent → Place) (found : Found) (buckets : Buckets) (others : Others) (k : ℕ) (w : Waiting) → IsEdge at found buckets others → found k ≡ Some w → IsSome (buckets (at (extent_of w.bios)))
@@ -135,14 +135,6 @@ module _ (at : Extent → Place) (old new : Found) (id : ℕ) (buckets mid now :
     headed = headed_then (headed edge.headed);
     least = λ k v h there said. others_least k v h (sym (same k) ∙ there) said;
   }
-
--- no requests
-pub edge_empty : (at : Extent → Place) (found : Found) (buckets : Buckets) (others : Others) → ((k : ℕ) → found k ≡ None) → ((k : Place) → buckets k ≡ None) → ((q : Spot) → others q ≡ false) → IsEdge at found buckets others
-edge_empty at found buckets others none no_bucket no_other = record {
-  spots = λ p id. nothing buckets others no_bucket no_other (p, id) ∙ ap (is_placed at p) (sym (none id));
-  headed = λ q there. absurd (let a : true ≡ false = sym there ∙ no_other q in cc);
-  least = λ k w h there said. absurd (let a : None ≡ Some w = sym (none k) ∙ there in cc);
-}
 
 pub edges_kept : {A : Type 0} (old new : Found) (e : MergeHashes A) → IsEdges old e → ((k : ℕ) → new k ≡ old k) → IsEdges new e
 edges_kept old new e edges same = record {

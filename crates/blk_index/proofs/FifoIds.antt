@@ -11,9 +11,9 @@ use Rattle.blk_bio.specs.declared.bio.Dir.{Dir}
 use Rattle.blk_bio.specs.declared.bio.Dir.TheVariants.{Read, Write}
 use Rattle.blk_bio.specs.Requests.{dir_of}
 use Rattle.blk_sched.specs.Meaning.{Waiting}
-use Rattle.blk_sched.specs.Maps.{same_number}
+use Rattle.blk_sched.proofs.Maps.{same_number}
 use Rattle.blk_index.specs.Inside.Buckets.{Becomes}
-use Rattle.blk_index.specs.Inside.Lists.{GoUp, IsListed, WaitsAs, FirstWaits, IsPut, IsCut, IsFifoList}
+use Rattle.blk_index.specs.Inside.Lists.{GoUp, StandsIn, WaitsAs, FirstWaits, IsPut, IsPruned, IsFifoList}
 use Rattle.blk_index.specs.Inside.FifoLists.{AreFifoLists, TakesId, DropsId}
 use Rattle.blk_index.specs.Index.{IsOldest, NoneOf}
 use Rattle.blk_index.specs.declared.fifo.FifoLists.{FifoLists}
@@ -75,13 +75,13 @@ put_rising (y ∷ ys) (suc p) id r low high = (
   put_rising ys p id r.1 (λ k n lt a. low (suc k) n (omega arith) a) (λ k n le a. high (suc k) n (omega arith) a),
 )
 
-put_listed : (ns : List ℕ) (p id : ℕ) → IsListed (insert ns p id) id
+put_listed : (ns : List ℕ) (p id : ℕ) → StandsIn (insert ns p id) id
 put_listed [] zero id = (0, refl)
 put_listed [] (suc p) id = (0, refl)
 put_listed (y ∷ ys) zero id = (0, refl)
 put_listed (y ∷ ys) (suc p) id = let r = put_listed ys p id in (suc r.0, r.1)
 
-put_others : (ns : List ℕ) (p id i k : ℕ) → slice_get ns i ≡ Some k → IsListed (insert ns p id) k
+put_others : (ns : List ℕ) (p id i k : ℕ) → slice_get ns i ≡ Some k → StandsIn (insert ns p id) k
 put_others [] p id i k h = absurd (cc)
 put_others (y ∷ ys) zero id i k h = (suc i, h)
 put_others (y ∷ ys) (suc p) id zero k h = (0, h)
@@ -93,7 +93,7 @@ put_first [] (suc p) id k h = let same : id ≡ k = cc in inl (sym same)
 put_first (y ∷ ys) zero id k h = let same : id ≡ k = cc in inl (sym same)
 put_first (y ∷ ys) (suc p) id k h = inr h
 
-put_only : (ns : List ℕ) (p id k : ℕ) → IsListed (insert ns p id) k → (k ≡ id) ⊎ IsListed ns k
+put_only : (ns : List ℕ) (p id k : ℕ) → StandsIn (insert ns p id) k → (k ≡ id) ⊎ StandsIn ns k
 put_only [] zero id k (zero, h) = let same : id ≡ k = cc in inl (sym same)
 put_only [] zero id k (suc i, h) = absurd (cc)
 put_only [] (suc p) id k (zero, h) = let same : id ≡ k = cc in inl (sym same)
@@ -106,9 +106,9 @@ put_only (y ∷ ys) (suc p) id k (suc i, h) = elim (put_only ys p id k (i, h)) [
 pub is_put : (old new : List ℕ) (p id : ℕ) → new ≡ insert old p id → GoUp old → ((k n : ℕ) → k < p → slice_get old k ≡ Some n → n < id) → ((k n : ℕ) → p ≤ k → slice_get old k ≡ Some n → id < n) → IsPut old id new
 is_put old new p id is up low high = record {
   rising = subst GoUp (sym is) (put_rising old p id up low high);
-  listed = subst (λ (l : List ℕ). IsListed l id) (sym is) (put_listed old p id);
-  others = λ k there. subst (λ (l : List ℕ). IsListed l k) (sym is) (put_others old p id there.0 k there.1);
-  only = λ k there. put_only old p id k (subst (λ (l : List ℕ). IsListed l k) is there);
+  listed = subst (λ (l : List ℕ). StandsIn l id) (sym is) (put_listed old p id);
+  others = λ k there. subst (λ (l : List ℕ). StandsIn l k) (sym is) (put_others old p id there.0 k there.1);
+  only = λ k there. put_only old p id k (subst (λ (l : List ℕ). StandsIn l k) is there);
   first = λ k h. put_first old p id k (ap (λ (l : List ℕ). slice_get l 0) (sym is) ∙ h);
 }
 
@@ -117,7 +117,7 @@ put_ok (Ok x) old new p id is low high = λ up. is_put old new p id is up (low u
 put_ok (Err x) old new p id is low high = tt
 
 -- one that is there already
-pub is_there : (ids : List ℕ) (id : ℕ) → GoUp ids → IsListed ids id → IsPut ids id ids
+pub is_there : (ids : List ℕ) (id : ℕ) → GoUp ids → StandsIn ids id → IsPut ids id ids
 is_there ids id up there = record {
   rising = up;
   listed = there;
@@ -129,28 +129,28 @@ is_there ids id up there = record {
 -- ---- the first taken out
 
 module _ (dir : Dir) (found : Found) where
-  pub cut_none : (ids : List ℕ) → IsCut dir found ids ids
+  pub cut_none : (ids : List ℕ) → IsPruned dir found ids ids
   cut_none ids = record { rising = λ up. up; others = λ k there w. there }
 
   up_after : (n : ℕ) (ns : List ℕ) → GoUp (n ∷ ns) → GoUp ns
   unfolding GoUp
   up_after n ns up = up.1
 
-  listed_after : (n : ℕ) (ns : List ℕ) (i k : ℕ) → slice_get (n ∷ ns) i ≡ Some k → (n ≡ k → ⊥) → IsListed ns k
+  listed_after : (n : ℕ) (ns : List ℕ) (i k : ℕ) → slice_get (n ∷ ns) i ≡ Some k → (n ≡ k → ⊥) → StandsIn ns k
   listed_after n ns zero k h other = let same : n ≡ k = cc in absurd (other same)
   listed_after n ns (suc i) k h other = (i, h)
 
-  cut_first : (n : ℕ) (ns : List ℕ) → (WaitsAs dir found n → ⊥) → IsCut dir found (n ∷ ns) ns
+  cut_first : (n : ℕ) (ns : List ℕ) → (WaitsAs dir found n → ⊥) → IsPruned dir found (n ∷ ns) ns
   cut_first n ns gone = record {
     rising = up_after n ns;
     others = λ k there waits. listed_after n ns there.0 k there.1 (λ same. gone (subst (WaitsAs dir found) (sym same) waits));
   }
 
-  pub cut_more : (old ids new : List ℕ) (n : ℕ) → IsCut dir found old ids → ids ≡ n ∷ new → (WaitsAs dir found n → ⊥) → IsCut dir found old new
+  pub cut_more : (old ids new : List ℕ) (n : ℕ) → IsPruned dir found old ids → ids ≡ n ∷ new → (WaitsAs dir found n → ⊥) → IsPruned dir found old new
   cut_more old ids new n cut is gone =
       let more = cut_first n new gone in record {
         rising = λ up. more.rising (subst GoUp is (cut.rising up));
-        others = λ k there waits. more.others k (subst (λ (l : List ℕ). IsListed l k) is (cut.others k there waits)) waits;
+        others = λ k there waits. more.others k (subst (λ (l : List ℕ). StandsIn l k) is (cut.others k there waits)) waits;
       }
 
 -- the first taken out
@@ -164,11 +164,11 @@ none_at_all (x ∷ xs) k e h = omega arith
 
 -- ---- the least id of a direction
 
-not_before : (ids : List ℕ) (id : ℕ) → GoUp ids → slice_get ids 0 ≡ Some id → (k : ℕ) → IsListed ids k → k < id → ⊥
+not_before : (ids : List ℕ) (id : ℕ) → GoUp ids → slice_get ids 0 ≡ Some id → (k : ℕ) → StandsIn ids k → k < id → ⊥
 not_before ids id up is k (zero, h) lt = let same : Some id ≡ Some k = sym is ∙ h in let one : id ≡ k = cc in omega (arith, one, lt)
 not_before ids id up is k (suc i, h) lt = let more = risen ids 0 (suc i) id k up (omega arith) is h in omega (arith, more, lt)
 
-no_position : (ids : List ℕ) (k : ℕ) → length ids ≡ 0 → IsListed ids k → ⊥
+no_position : (ids : List ℕ) (k : ℕ) → length ids ≡ 0 → StandsIn ids k → ⊥
 no_position [] k e (i, h) = cc
 no_position (x ∷ xs) k e h = omega arith
 
@@ -219,7 +219,7 @@ module _ (old new : Found) (id : ℕ) (w : Waiting) (becomes : Becomes old id (S
   line_entered dir ids now gone line none own put = record {
     rising = put.rising;
     all = λ k waits. elim (waits_then old new id (Some w) becomes dir k waits) [
-      | inl here ↦ subst (IsListed now) (sym here.0) put.listed
+      | inl here ↦ subst (StandsIn now) (sym here.0) put.listed
       | inr before ↦ put.others k (line.all k before)
     ];
     first = λ k is. elim (put.first k is) [
@@ -268,7 +268,7 @@ module _ (old new : Found) (id : ℕ) (w : Waiting) (becomes : Becomes old id (S
 
 -- an id is taken out, as its request went
 module _ (old new : Found) (id : ℕ) (becomes : Becomes old id None new) (dir : Dir) (ids : List ℕ) (gone : Bool) (line : IsFifoList dir old ids gone) where
-  all_there : (k : ℕ) → WaitsAs dir new k → IsListed ids k
+  all_there : (k : ℕ) → WaitsAs dir new k → StandsIn ids k
   all_there k waits = elim (waits_then old new id None becomes dir k waits) [
     | inl here ↦ let none : None ≡ Some here.1.0 = here.1.1 in cc
     | inr before ↦ line.all k before
@@ -297,16 +297,16 @@ module _ (old new : Found) (id : ℕ) (becomes : Becomes old id None new) (dir :
     up : GoUp (first ∷ rest)
     up = subst GoUp is line.rising
 
-    all_after : (k : ℕ) → WaitsAs dir new k → IsListed rest k
+    all_after : (k : ℕ) → WaitsAs dir new k → StandsIn rest k
     all_after k waits =
-        let there : IsListed (first ∷ rest) k = subst (λ (l : List ℕ). IsListed l k) is (all_there k waits) in
+        let there : StandsIn (first ∷ rest) k = subst (λ (l : List ℕ). StandsIn l k) is (all_there k waits) in
         listed_after dir new first rest there.0 k there.1 (λ same. let none : None ≡ Some waits.0 = sym (at_id old new id None becomes k (sym same ∙ own)) ∙ waits.1 in cc)
 
     pub take_first : gone ≡ false → IsFifoList dir new rest false
     take_first all_wait =
-        let after : (k : ℕ) → IsListed rest k → WaitsAs dir new k = λ k there.
+        let after : (k : ℕ) → StandsIn rest k → WaitsAs dir new k = λ k there.
         still_waits old new id None becomes dir k (λ same. let more = risen (first ∷ rest) 0 (suc there.0) first k up (omega arith) refl there.1 in omega (arith, more, same, own))
-        (line.whole all_wait k (subst (λ (l : List ℕ). IsListed l k) (sym is) (suc there.0, there.1))) in
+        (line.whole all_wait k (subst (λ (l : List ℕ). StandsIn l k) (sym is) (suc there.0, there.1))) in
         record {
           rising = up_after dir new first rest up;
           all = all_after;
@@ -314,7 +314,7 @@ module _ (old new : Found) (id : ℕ) (becomes : Becomes old id None new) (dir :
           whole = λ e. after;
         }
 
-    pub take_more : (now : List ℕ) → IsCut dir new rest now → FirstWaits dir new now → IsFifoList dir new now true
+    pub take_more : (now : List ℕ) → IsPruned dir new rest now → FirstWaits dir new now → IsFifoList dir new now true
     take_more now cut waits = record {
       rising = cut.rising (up_after dir new first rest up);
       all = λ k there. cut.others k (all_after k there) there;

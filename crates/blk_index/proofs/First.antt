@@ -2,7 +2,6 @@
 use Rattle.std.proofs.Common.{◌≡◌, ◌<◌, ◌≤◌, ℕ, Bool, true, false, refl, arith, Some, None, Option}
 use Rattle.std.specs.Prelude.{IfSome, IfNone, if◌then◌else◌, nat_lt}
 use borrow.Author.Tests.{ltb-true, ltb-false}
-use Rattle.blk_bio.specs.declared.bio.Dir.{Dir}
 use Rattle.blk_bio.specs.declared.bio.Dir.TheVariants.{Read, Write}
 use Rattle.blk_bio.specs.Requests.{dir_of}
 use Rattle.blk_sched.specs.Meaning.{Waiting}

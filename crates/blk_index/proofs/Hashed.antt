@@ -7,7 +7,7 @@ use Rattle.std.specs.BTreeMap.{is_at}
 use Rattle.std.specs.Map.{lookup}
 use Rattle.std.specs.declared.cmp.Ordering.TheVariants.{Equal}
 use Rattle.std.proofs.lemmas.Bool.{eqb-true, eq-eqb}
-use Rattle.blk_sched.specs.Maps.{same_number}
+use Rattle.blk_sched.proofs.Maps.{same_number}
 
 decided : (b c : Bool) → (b ≡ true → c ≡ true) → (c ≡ true → b ≡ true) → b ≡ c
 decided true true f g = refl
@@ -26,6 +26,3 @@ same_lookup (e ∷ es) q = ap (λ b. cond b (Some e.1) (lookup (nat_eq q) es)) (
 -- what an update leaves, and what is read
 pub same_update : {X : Type 0} (es fs : List (ℕ × X)) (id : ℕ) (x : Option X) → ((q : ℕ) → lookup (nat_eq q) fs ≡ cond (nat_eq id q) x (lookup (nat_eq q) es)) → (q : ℕ) → lookup (is_at (nat_cmp q)) fs ≡ cond (is_at (nat_cmp id) q) x (lookup (is_at (nat_cmp q)) es)
 same_update es fs id x is q = sym (same_lookup fs q) ∙ is q ∙ ap (λ b. cond b x (lookup (nat_eq q) es)) (test_of id q) ∙ ap (cond (is_at (nat_cmp id) q) x) (same_lookup es q)
-
-pub same_read : {X : Type 0} (es : List (ℕ × X)) (q : ℕ) (o : Option X) → o ≡ lookup (nat_eq q) es → lookup (is_at (nat_cmp q)) es ≡ o
-same_read es q o is = sym (same_lookup es q) ∙ sym is

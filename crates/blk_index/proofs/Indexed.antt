@@ -11,7 +11,7 @@ use Rattle.std.specs.declared.cmp.Ordering.TheVariants.{Less, Equal, Greater}
 use Rattle.blk_bio.specs.declared.extent.Extent.{Extent}
 use Rattle.blk_sched.specs.Meaning.{Waiting, Pending}
 use Rattle.blk_bio.specs.Extents.{extent_of}
-use Rattle.blk_sched.specs.Maps.{same_number}
+use Rattle.blk_sched.proofs.Maps.{same_number}
 use Rattle.blk_index.specs.Inside.Spots.{Place, Spot, place_cmp, spot_cmp, Adds, Takes, Keeps, is_placed, AreSpots}
 use Rattle.blk_index.specs.Inside.Buckets.{Becomes}
 use Rattle.blk_index.specs.Inside.Search.{IsNamed}

@@ -116,12 +116,6 @@ spots_moved limits old new has mid now id s at side newcomer v w spot last spots
     (λ same. apart_at limits v.bios newcomer s side fits some range (same ∙ sym place))
     becomes
 
--- the same where the join says its side
-pub spots_joined : (limits : Limits) (old new : Found) (has mid now : Has) (id s at : ℕ) (side other : Side) (newcomer : List Bio) (v w : Waiting) (spot last : Spot) → AreSpots (at_of side) old has → old id ≡ Some v → HasFit limits old newcomer id side → 0 < s → first_of newcomer + s ≡ last_of newcomer → spot ≡ (at_of side (extent_of newcomer), id) → last ≡ (at_of side (extent_of v.bios), id) → ((t : Side) → Fits limits v.bios newcomer t → t ≡ other) → w ≡ joined_waiting other at newcomer v → Adds has spot mid → Takes mid last now → Becomes old id (Some w) new → AreSpots (at_of side) new now
-spots_joined limits old new has mid now id s at side other newcomer v w spot last spots found fit some range is was only join adds takes becomes =
-    spots_moved limits old new has mid now id s at side newcomer v w spot last spots found fit some range is was
-    (join ∙ ap (λ (t : Side). joined_waiting t at newcomer v) (sym (only side (fits_it limits old id side newcomer v found fit)))) adds takes becomes
-
 -- a join at the back leaves where the request begins
 pub firsts_stay : {T E : Type 0} (limits : Limits) (m n : Pending) (id at : ℕ) (side : Side) (newcomer : List Bio) (has : Has) (r : Result T E) → side ≡ Back → AreSpots first_at (map.get m) has → HasFit limits (map.get m) newcomer id side → OnOk r (IsJoined at newcomer m id side n) → OnErr r (n ≡ m) → AreSpots first_at (map.get n) has
 firsts_stay limits m n id at side newcomer has (Ok x) is spots fit join same =

@@ -1,6 +1,5 @@
 -- The oldest request of a direction, and the next one by its first sector.
 use Rattle.std.proofs.Common.{◌≡◌, ◌<◌, inl, inr, ℕ, Bool, true, false, sym, ap, subst, ◌∙◌, refl, arith, Some, None, Option}
-use Rattle.std.specs.Prelude.{IfNone}
 use Rattle.std.specs.Ordering.{nat_cmp, ordering_then, is_eq, is_gt}
 use Rattle.std.specs.Cmp.{nat_cmp_total, ranked, tied_itself}
 use Rattle.std.specs.declared.cmp.Ordering.TheVariants.{Less, Equal, Greater}
@@ -10,7 +9,6 @@ use Rattle.blk_bio.specs.Requests.{dir_of, first_of}
 use Rattle.blk_bio.specs.declared.extent.Extent.{Extent}
 use Rattle.blk_sched.specs.Meaning.{Waiting}
 use Rattle.blk_bio.specs.Extents.{extent_of}
-use mathlib.Core.Bool.{not, beq}
 use Rattle.blk_index.specs.Inside.Spots.{Place, Spot, place_cmp, spot_cmp, is_write, is_placed, AreSpots, first_at}
 use Rattle.blk_index.specs.Index.{IsNext, IsBefore}
 use Rattle.blk_index.proofs.Listed.{same_place, is_equal, place_itself, nat_less, lt_of}
@@ -78,13 +76,3 @@ module _ (found : Found) (has : Has) (dir : Dir) (first last : ℕ) (write : Boo
             let more : spot_cmp ((write, sector), id) ((write, first_of v.bios), k) ≡ Greater = before_greater write (first_of v.bios) sector k id (subst (λ (n : ℕ). IsBefore (first_of v.bios) k n id) start before) in
             let a : true ≡ false = ap is_gt (sym more) ∙ ap (λ b. is_gt (spot_cmp ((b, sector), id) ((write, first_of v.bios), k))) (sym same_way) ∙ not_greater in cc;
       }
-
-pub same_bools : (a b : Bool) → not (beq a b) ≡ false → a ≡ b
-same_bools true true h = refl
-same_bools true false h = cc
-same_bools false true h = cc
-same_bools false false h = refl
-
-pub if_none : {X : Type 0} (r : Option X) (P : Type 0) → P → IfNone r P
-if_none None P h = h
-if_none (Some x) P h = tt

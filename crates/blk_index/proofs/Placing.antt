@@ -6,8 +6,8 @@ use Rattle.std.specs.Cmp.{nat_cmp_total, tied_itself}
 use Rattle.std.specs.BTreeMap.{is_at}
 use Rattle.std.proofs.lemmas.Bool.{cases_lt}
 use Rattle.std.proofs.lemmas.List.{get_or_push}
-use Rattle.blk_sched.specs.Maps.{same_number}
-use Rattle.blk_index.specs.Inside.SlabKeys.{run_of, key_in, run_at, Gives}
+use Rattle.blk_sched.proofs.Maps.{same_number}
+use Rattle.blk_index.specs.Inside.SlabKeys.{run_of, key_in, run_at, GivesKey}
 
 abbrev pub Run : Type 0
 Run = List (Option ℕ)
@@ -72,14 +72,14 @@ pub one_within : (from : ℕ) (os : Run) (k : ℕ) → from ≤ k → get_or os 
 one_within from os k low = sym (within from os (k - from) k (omega arith))
 
 -- an id of none loses nothing
-pub none_taken : (es : Entries) (id : ℕ) → None ≡ key_in es id → Gives (key_in es) id None (key_in es)
+pub none_taken : (es : Entries) (id : ℕ) → None ≡ key_in es id → GivesKey (key_in es) id None (key_in es)
 none_taken es id none k = elim (is_at (nat_cmp id) k) as (λ b. is_at (nat_cmp id) k ≡ b → key_in es k ≡ cond b None (key_in es k)) [
   | true ↦ λ e. ap (key_in es) (same_number id k e) ∙ sym none
   | false ↦ λ _. refl
 ] refl
 
 -- a key is taken away in a run
-pub one_taken : (from : ℕ) (os : Run) (id : ℕ) → from ≤ id → id - from < length os → Gives (run_at from os) id None (run_at from (set os (id - from) None))
+pub one_taken : (from : ℕ) (os : Run) (id : ℕ) → from ≤ id → id - from < length os → GivesKey (run_at from os) id None (run_at from (set os (id - from) None))
 one_taken from os id low short k = elim (is_at (nat_cmp id) k) as (λ b. is_at (nat_cmp id) k ≡ b → run_at from (set os (id - from) None) k ≡ cond b None (run_at from os k)) [
   | true ↦ λ e. let same : k ≡ id = same_number id k e in within from (set os (id - from) None) (id - from) k (omega arith) ∙ get_or-set_same os (id - from) None None short
   | false ↦ λ e. elim (cases_lt k from) [
@@ -98,7 +98,7 @@ elsewhere [] x (suc i) apart = refl
 elsewhere (y ∷ ys) x zero apart = refl
 elsewhere (y ∷ ys) x (suc i) apart = elsewhere ys x i (λ (e : i ≡ length ys). apart (ap suc e))
 
-pub one_put : (from : ℕ) (os : Run) (id p : ℕ) → id ≡ from + length os → Gives (run_at from os) id (Some p) (run_at from (os ++ Some p ∷ []))
+pub one_put : (from : ℕ) (os : Run) (id p : ℕ) → id ≡ from + length os → GivesKey (run_at from os) id (Some p) (run_at from (os ++ Some p ∷ []))
 one_put from os id p is k = elim (is_at (nat_cmp id) k) as (λ b. is_at (nat_cmp id) k ≡ b → run_at from (os ++ Some p ∷ []) k ≡ cond b (Some p) (run_at from os k)) [
   | true ↦ λ e. let same : k ≡ id = same_number id k e in within from (os ++ Some p ∷ []) (length os) k (omega arith) ∙ get_or_push os (Some p) None (length os) refl
   | false ↦ λ e. elim (cases_lt k from) [
@@ -159,7 +159,7 @@ first_none : (o x : Option ℕ) → either o x ≡ None → o ≡ None
 first_none None x h = refl
 first_none (Some p) x h = h
 
-pub first_given : (es gs fs : Entries) (id p : ℕ) → Gives (key_in es) id (Some p) (key_in gs) → Gives (key_in (es ++ fs)) id (Some p) (key_in (gs ++ fs))
+pub first_given : (es gs fs : Entries) (id p : ℕ) → GivesKey (key_in es) id (Some p) (key_in gs) → GivesKey (key_in (es ++ fs)) id (Some p) (key_in (gs ++ fs))
 first_given es gs fs id p gives k =
     joined gs fs k ∙ ap (λ o. either o (key_in fs k)) (gives k)
     ∙ elim (is_at (nat_cmp id) k) as (λ b. either (cond b (Some p) (key_in es k)) (key_in fs k) ≡ cond b (Some p) (key_in (es ++ fs) k)) [
@@ -167,7 +167,7 @@ first_given es gs fs id p gives k =
       | false ↦ sym (joined es fs k)
     ]
 
-pub then_given : (es fs gs : Entries) (id p : ℕ) → key_in (es ++ fs) id ≡ None → Gives (key_in fs) id (Some p) (key_in gs) → Gives (key_in (es ++ fs)) id (Some p) (key_in (es ++ gs))
+pub then_given : (es fs gs : Entries) (id p : ℕ) → key_in (es ++ fs) id ≡ None → GivesKey (key_in fs) id (Some p) (key_in gs) → GivesKey (key_in (es ++ fs)) id (Some p) (key_in (es ++ gs))
 then_given es fs gs id p none gives k =
     joined es gs k ∙ ap (either (key_in es k)) (gives k)
     ∙ elim (is_at (nat_cmp id) k) as (λ b. is_at (nat_cmp id) k ≡ b → either (key_in es k) (cond b (Some p) (key_in fs k)) ≡ cond b (Some p) (key_in (es ++ fs) k)) [
@@ -175,7 +175,7 @@ then_given es fs gs id p none gives k =
       | false ↦ λ _. sym (joined es fs k)
     ] refl
 
-pub both_taken : (es gs fs hs : Entries) (id : ℕ) → Gives (key_in es) id None (key_in gs) → Gives (key_in fs) id None (key_in hs) → Gives (key_in (es ++ fs)) id None (key_in (gs ++ hs))
+pub both_taken : (es gs fs hs : Entries) (id : ℕ) → GivesKey (key_in es) id None (key_in gs) → GivesKey (key_in fs) id None (key_in hs) → GivesKey (key_in (es ++ fs)) id None (key_in (gs ++ hs))
 both_taken es gs fs hs id one other k =
     joined gs hs k ∙ ap (λ o. either o (key_in hs k)) (one k) ∙ ap (either (cond (is_at (nat_cmp id) k) None (key_in es k))) (other k)
     ∙ elim (is_at (nat_cmp id) k) as (λ b. either (cond b None (key_in es k)) (cond b None (key_in fs k)) ≡ cond b None (key_in (es ++ fs) k)) [
@@ -184,10 +184,10 @@ both_taken es gs fs hs id one other k =
     ]
 
 -- the same of equal lists
-pub given_of : (es fs : Entries) (id : ℕ) (o : Option ℕ) (new : ℕ → Option ℕ) → es ≡ fs → Gives (key_in es) id o new → Gives (key_in fs) id o new
+pub given_of : (es fs : Entries) (id : ℕ) (o : Option ℕ) (new : ℕ → Option ℕ) → es ≡ fs → GivesKey (key_in es) id o new → GivesKey (key_in fs) id o new
 given_of es fs id o new same gives k = gives k ∙ ap (λ l. cond (is_at (nat_cmp id) k) o (key_in l k)) same
 
-pub taken_of : (es fs gs : Entries) (id : ℕ) → gs ≡ fs → Gives (key_in es) id None (key_in fs) → Gives (key_in es) id None (key_in gs)
+pub taken_of : (es fs gs : Entries) (id : ℕ) → gs ≡ fs → GivesKey (key_in es) id None (key_in fs) → GivesKey (key_in es) id None (key_in gs)
 taken_of es fs gs id same gives k = ap (λ l. key_in l k) same ∙ gives k
 
 pub on_ok : {E P Q : Type 0} (r : Result (Unit {0}) E) → (P → Q) → OnOk r P → OnOk r Q

@@ -10,7 +10,7 @@ use Rattle.std.specs.Option.{option_or}
 use Rattle.std.specs.FinMap as map
 use Rattle.std.proofs.lemmas.Bool.{eqb-true}
 use Rattle.blk_sched.specs.Meaning.{Waiting, Pending}
-use Rattle.blk_sched.specs.Maps.{one_test, get_waiting, looked_up, no_entries}
+use Rattle.blk_sched.proofs.Maps.{one_test, get_waiting, looked_up, no_entries}
 use Rattle.blk_index.specs.Inside.Queues.{pending_of, queue_at}
 
 abbrev pub Queues : Type 0

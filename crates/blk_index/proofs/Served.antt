@@ -9,10 +9,10 @@ use Rattle.blk_bio.specs.Bios.{Bio}
 use Rattle.blk_bio.specs.Limits.{Limits}
 use Rattle.blk_sched.specs.Meaning.{Waiting, Pending, Meaning, OpenPicks, HasCandidate, HasNoCandidate}
 use Rattle.blk_sched.specs.Fits.{IsNewestFit, FitsNone}
-use Rattle.blk_index.specs.Queues.{serves_own, served, served_of}
+use Rattle.blk_index.specs.Queues.{serves_own, if_served, served_of}
 
 -- a request that a hardware queue serves
-pub serves_it : (hw : ℕ) (o : Option Waiting) (w : Waiting) → served hw o ≡ Some w → (o ≡ Some w) × (w.hw ≡ hw)
+pub serves_it : (hw : ℕ) (o : Option Waiting) (w : Waiting) → if_served hw o ≡ Some w → (o ≡ Some w) × (w.hw ≡ hw)
 serves_it hw None w h = absurd (cc)
 serves_it hw (Some v) w h =
     elim (v.hw == hw) as (λ b. (v.hw == hw) ≡ b → (if b then Some v else None) ≡ Some w → (Some v ≡ Some w) × (w.hw ≡ hw)) [
@@ -21,8 +21,8 @@ serves_it hw (Some v) w h =
     ] refl h
 
 -- one that waits is served for the hardware queue at which it entered
-pub served_there : (hw : ℕ) (o : Option Waiting) (w : Waiting) → o ≡ Some w → serves_own hw w ≡ true → served hw o ≡ Some w
-served_there hw o w is own = ap (served hw) is ∙ ap (λ b. if b then Some w else None) own
+pub served_there : (hw : ℕ) (o : Option Waiting) (w : Waiting) → o ≡ Some w → serves_own hw w ≡ true → if_served hw o ≡ Some w
+served_there hw o w is own = ap (if_served hw) is ∙ ap (λ b. if b then Some w else None) own
 
 -- ---- answers of nothing
 

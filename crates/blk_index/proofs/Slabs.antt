@@ -9,8 +9,8 @@ use Rattle.std.specs.Map.{lookup}
 use Rattle.std.specs.FinMap.{get, insert, remove, from_entries, len}
 use Rattle.std.specs.FinMap as map
 use Rattle.blk_sched.specs.Meaning.{Waiting, Pending}
-use Rattle.blk_sched.specs.Maps.{same_number, get_waiting, one_given, one_taken}
-use Rattle.blk_index.specs.Inside.RequestSlabs.{beside, held, IsSlab}
+use Rattle.blk_sched.proofs.Maps.{same_number, get_waiting, one_given, one_taken}
+use Rattle.blk_index.specs.Inside.RequestSlabs.{entry_before, held, IsSlab}
 
 abbrev pub Laid : Type 0
 Laid = ℕ → Option Waiting
@@ -31,15 +31,15 @@ pub held_found : (at : Laid) (es : SlabKeys) (q : ℕ) → ((p : ℕ) → key_in
 unfolding held
 held_found at [] q there = refl
 held_found at (e ∷ es) q there =
-    elim (is_at (nat_cmp q) e.0) as (λ b. is_at (nat_cmp q) e.0 ≡ b → lookup (is_at (nat_cmp q)) (beside e.0 (at e.1) (held at es)) ≡ lies at (cond b (Some e.1) (key_in q es))) [
+    elim (is_at (nat_cmp q) e.0) as (λ b. is_at (nat_cmp q) e.0 ≡ b → lookup (is_at (nat_cmp q)) (entry_before e.0 (at e.1) (held at es)) ≡ lies at (cond b (Some e.1) (key_in q es))) [
       | true ↦ λ is.
-          elim (at e.1) as (λ o. IsSome o → lookup (is_at (nat_cmp q)) (beside e.0 o (held at es)) ≡ o) [
+          elim (at e.1) as (λ o. IsSome o → lookup (is_at (nat_cmp q)) (entry_before e.0 o (held at es)) ≡ o) [
             | None ↦ λ h. absurd (cc)
             | Some w ↦ λ _. ap (λ b. cond b (Some w) (lookup (is_at (nat_cmp q)) (held at es))) is
           ] (there e.1 (ap (λ b. cond b (Some e.1) (key_in q es)) is))
       | false ↦ λ other.
           let rest = held_found at es q (λ p h. there p (ap (λ b. cond b (Some e.1) (key_in q es)) other ∙ h)) in
-          elim (at e.1) as (λ o. lookup (is_at (nat_cmp q)) (beside e.0 o (held at es)) ≡ lies at (key_in q es)) [
+          elim (at e.1) as (λ o. lookup (is_at (nat_cmp q)) (entry_before e.0 o (held at es)) ≡ lies at (key_in q es)) [
             | None ↦ rest
             | Some w ↦ ap (λ b. cond b (Some w) (lookup (is_at (nat_cmp q)) (held at es))) other ∙ rest
           ]

@@ -15,9 +15,8 @@ use Rattle.blk_bio.specs.Limits.{Limits}
 use Rattle.blk_sched.specs.Meaning.{Waiting, Pending, joined_waiting}
 use Rattle.blk_sched.specs.Fits.{IsNewestFit, FitsNone, HasFit}
 use Rattle.blk_index.specs.Index.{IsJoined, IsOldest, IsFirst, NoneOf, FindsNothing}
-use Rattle.blk_index.specs.Queues.{serves_own}
 use Rattle.blk_index.specs.Inside.Queues.{AreSplit, pending_of, queue_at}
-use Rattle.blk_index.specs.Queues.{served, served_of}
+use Rattle.blk_index.specs.Queues.{if_served, served_of}
 use Rattle.blk_index.proofs.Served.{serves_it}
 use Rattle.blk_index.proofs.Queued.{Queues, swapped, found_in, waiting_in, found_changed, none_pending, got_inserted, got_removed, is_inserted, is_removed, stays_removed}
 
@@ -34,7 +33,7 @@ here queues waiting hw self m split v is k = ap (λ (n : Pending). map.get n k) 
 -- ---- where a request is
 
 -- one of another hardware queue is not served
-not_served : (hw q : ℕ) (o : Option Waiting) → ((w : Waiting) → o ≡ Some w → w.hw ≡ hw) → (q ≡ hw → ⊥) → served q o ≡ None
+not_served : (hw q : ℕ) (o : Option Waiting) → ((w : Waiting) → o ≡ Some w → w.hw ≡ hw) → (q ≡ hw → ⊥) → if_served q o ≡ None
 not_served hw q None own differ = refl
 not_served hw q (Some w) own differ =
     elim (w.hw == q) as (λ b. (w.hw == q) ≡ b → (if b then Some w else None) ≡ None) [
@@ -59,7 +58,7 @@ is_changed queues hw id m x low h q k =
       | false ↦ λ e. ap (λ (l : Pending). map.get l k) (get_or-set_other queues hw q m map.empty (λ same. let a : (q == hw) ≡ true = eq-eqb q hw same in cc))
     ] refl
 
-served_own : (hw q : ℕ) (x : Option Waiting) → ((w : Waiting) → x ≡ Some w → w.hw ≡ hw) → served q x ≡ cond (q == hw) x None
+served_own : (hw q : ℕ) (x : Option Waiting) → ((w : Waiting) → x ≡ Some w → w.hw ≡ hw) → if_served q x ≡ cond (q == hw) x None
 served_own hw q None own = elim (q == hw) as (λ b. ◌≡◌ {A = Option Waiting} None (cond b None None)) [ true ↦ refl | false ↦ refl ]
 served_own hw q (Some w) own = ap (λ b. if b then Some w else None) (ap (λ h. h == q) (own w refl) ∙ swapped hw q)
 
@@ -67,7 +66,7 @@ served_turn : (b : Bool) (x this : Option Waiting) → (b ≡ false → this ≡
 served_turn true x this none = refl
 served_turn false x this none = none refl
 
-change : (hw q : ℕ) (same : Bool) (x old this : Option Waiting) → ((w : Waiting) → x ≡ Some w → w.hw ≡ hw) → (same ≡ true → (q ≡ hw → ⊥) → this ≡ None) → this ≡ served q old → cond ((q == hw) && same) x this ≡ served q (if same then x else old)
+change : (hw q : ℕ) (same : Bool) (x old this : Option Waiting) → ((w : Waiting) → x ≡ Some w → w.hw ≡ hw) → (same ≡ true → (q ≡ hw → ⊥) → this ≡ None) → this ≡ if_served q old → cond ((q == hw) && same) x this ≡ if_served q (if same then x else old)
 change hw q true x old this own others is =
     served_turn (q == hw) x this (λ e. others refl (λ same. let a : (q == hw) ≡ true = eq-eqb q hw same in absurd (cc)))
     ∙ sym (served_own hw q x own)
@@ -94,7 +93,7 @@ module _ (queues : Queues) (waiting hw id : ℕ) (m : Pending) (x : Option Waiti
             ∙ change hw q (k == id) x (found_in queues k) (waiting_in queues q k) t.own_then
             (λ e differ. ap (waiting_in queues q) (eqb-true k id e) ∙ alone queues waiting hw id t.split t.own q differ)
             (t.split.split q k)
-            ∙ ap (served q) (sym (found_then k));
+            ∙ ap (if_served q) (sym (found_then k));
         counted = counted;
       }
 
@@ -144,7 +143,7 @@ module _ (queues : Queues) (waiting hw : ℕ) (self m after : Pending) (w : Wait
       more ∙ ap (λ n. n + 1) split.counted ∙ sym (count_put (pending_of queues) w.id w absent) ∙ ap map.len (sym put_in))
 
 pub not_there : (queues : Queues) (waiting hw : ℕ) (self m : Pending) (id : ℕ) → pending_of queues ≡ self → AreSplit queues waiting → m ≡ queue_at queues hw → map.get self id ≡ None → map.get m id ≡ None
-not_there queues waiting hw self m id v split is none = here queues waiting hw self m split v is id ∙ ap (served hw) none
+not_there queues waiting hw self m id v split is none = here queues waiting hw self m split v is id ∙ ap (if_served hw) none
 
 -- ---- joining
 
@@ -268,6 +267,6 @@ pub empty_split : (queues : Queues) → length queues ≡ MAX_QUEUES → ((q : �
 empty_split queues count none = record {
   count = count;
   split = λ q k. ap (λ (m : Pending). map.get m k) (none q) ∙ map.get-empty nat_cmp k
-      ∙ sym (ap (served q) (ap (λ (m : Pending). map.get m k) (none_pending queues none) ∙ map.get-empty nat_cmp k));
+      ∙ sym (ap (if_served q) (ap (λ (m : Pending). map.get m k) (none_pending queues none) ∙ map.get-empty nat_cmp k));
   counted = sym (ap map.len (none_pending queues none) ∙ map.len-empty nat_cmp Waiting);
 }

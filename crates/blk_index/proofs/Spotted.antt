@@ -1,12 +1,11 @@
 -- MergeHash of which one of each place stands by itself.
-use Rattle.std.proofs.Common.{◌≡◌, ◌<◌, ◌≤◌, ℕ, Bool, true, false, cond, sym, ap, subst, ◌∙◌, refl, arith, min, Some, None, Option}
-use Rattle.std.specs.Prelude.{IfSome, IfNone, IsSome, nat_eq, nat_lt, if◌then◌else◌}
+use Rattle.std.proofs.Common.{◌≡◌, ◌≤◌, ℕ, Bool, true, false, cond, sym, ap, subst, ◌∙◌, refl, arith, min, Some, None, Option}
+use Rattle.std.specs.Prelude.{IfSome, IfNone, IsSome, nat_eq}
 use Rattle.std.specs.Ordering.{nat_cmp, eq_by_cmp, ordering_then, is_eq}
 use Rattle.std.specs.Cmp.{nat_cmp_total, tied_itself, unsigned_tied}
-use Rattle.std.proofs.lemmas.Bool.{eqb-true, eq-eqb}
-use borrow.Author.Tests.{ltb-true, ltb-false}
+use Rattle.std.proofs.lemmas.Bool.{eqb-true}
 use Rattle.blk_index.specs.declared.merge_hash.Bucket.{Bucket}
-use Rattle.blk_index.specs.Inside.Spots.{Place, Spot, place_cmp, spot_cmp, Adds, Takes, TakesOne, IsBelow, IsNewestSpot, NoSpot, greater_of}
+use Rattle.blk_index.specs.Inside.Spots.{Place, Spot, place_cmp, spot_cmp, Adds, Takes, TakesOne}
 use Rattle.blk_index.specs.Inside.Buckets.{is_bucket, spots_of, AtMost, HasBuckets, Lowers, KeepsLeast, Sets}
 use Rattle.blk_index.proofs.Listed.{same_spot, place_itself, place_true, place_eq}
 
@@ -40,12 +39,6 @@ at_place : (s q : Spot) → s.0 ≡ q.0 → eq_by_cmp spot_cmp s q ≡ nat_eq s.
 at_place s q same =
     ap (λ o. is_eq (ordering_then o (nat_cmp s.1 q.1))) (ap (place_cmp s.0) (sym same) ∙ place_itself s.0) ∙ unsigned_tied s.1 q.1
 
-other_id : (a k : ℕ) → (a ≡ k → ⊥) → nat_eq a k ≡ false
-other_id a k differ = elim (nat_eq a k) as (λ b. nat_eq a k ≡ b → b ≡ false) [
-  | true ↦ λ h. absurd (differ (eqb-true a k h))
-  | false ↦ λ _. refl
-] refl
-
 itself : (p : Place) (a : ℕ) → eq_by_cmp spot_cmp (p, a) (p, a) ≡ true
 itself p a = ap (λ o. is_eq (ordering_then o (nat_cmp a a))) (place_itself p) ∙ ap is_eq (tied_itself nat_cmp_total a)
 
@@ -72,9 +65,6 @@ bucket_there buckets others q headed there = elim (buckets q.0) as (λ o. bucket
       subst IsSome e (headed q other)
 ] refl
 
-pub nothing : (buckets : Buckets) (others : Others) → ((k : Place) → buckets k ≡ None) → ((q : Spot) → others q ≡ false) → (q : Spot) → spots_of buckets others q ≡ false
-nothing buckets others none empty q = ap (λ o. cond (is_bucket o q) true (others q)) (none q.0) ∙ empty q
-
 -- ---- a bucket is set at a place, or taken away
 
 -- what is set twice is what is set last
@@ -83,40 +73,12 @@ set_twice old mid now p x y first second k =
     second k ∙ ap (cond (eq_by_cmp place_cmp p k) y) (first k)
     ∙ elim (eq_by_cmp place_cmp p k) as (λ b. cond b y (cond b x (old k)) ≡ cond b y (old k)) [ true ↦ refl | false ↦ refl ]
 
--- and what was there is there again
-pub set_again : (old mid now : Buckets) (p : Place) (x y : Option Bucket) → Sets old p x mid → Sets mid p y now → old p ≡ y → (k : Place) → now k ≡ old k
-set_again old mid now p x y first second was k =
-    set_twice old mid now p x y first second k
-    ∙ elim (eq_by_cmp place_cmp p k) as (λ b. eq_by_cmp place_cmp p k ≡ b → cond b y (old k) ≡ old k) [
-      | true ↦ λ e. sym was ∙ ap old (place_true p k e)
-      | false ↦ λ _. refl
-    ] refl
-
-pub set_there : (old mid : Buckets) (p : Place) (h : Bucket) → Sets old p (Some h) mid → IsSome (mid p)
-set_there old mid p h sets = subst IsSome (sym (sets p ∙ ap (λ b. cond b (Some h) (old p)) (place_eq p p refl))) refl
-
 -- nothing is taken from nothing
 pub taken_none : (has : Others) (s : Spot) → ((q : Spot) → has q ≡ false) → Takes has s has
 taken_none has s none q = none q ∙ elim (eq_by_cmp spot_cmp s q) as (λ b. false ≡ cond b false (has q)) [ true ↦ refl | false ↦ sym (none q) ]
 
 -- a spot more, where its place had none
-module _ (buckets now : Buckets) (others : Others) (s : Spot) (sectors bios : ℕ) (none : buckets s.0 ≡ None) (sets : Sets buckets s.0 (Some (record { id = s.1; least = sectors; fewest = bios })) now) where
-  pub first_adds : Adds (spots_of buckets others) s (spots_of now others)
-  first_adds q =
-      ap (λ o. cond (is_bucket o q) true (others q)) (sets q.0)
-      ∙ elim (eq_by_cmp place_cmp s.0 q.0) as (λ b. eq_by_cmp place_cmp s.0 q.0 ≡ b → cond (is_bucket (cond b (Some (record { id = s.1; least = sectors; fewest = bios })) (buckets q.0)) q) true (others q) ≡ cond (eq_by_cmp spot_cmp s q) true (spots_of buckets others q)) [
-        | true ↦ λ e.
-            let at : buckets q.0 ≡ None = ap buckets (sym (place_true s.0 q.0 e)) ∙ none in
-            ap (λ b. cond b true (others q)) (sym (at_place s q (place_true s.0 q.0 e)))
-            ∙ ap (λ o. cond (eq_by_cmp spot_cmp s q) true (cond (is_bucket o q) true (others q))) (sym at)
-        | false ↦ λ e. ap (λ b. cond b true (spots_of buckets others q)) (sym (other_place s q e))
-      ] refl
-
-  pub first_buckets : HasBuckets buckets others → HasBuckets now others
-  first_buckets headed q there =
-      let was = headed q there in
-      subst IsSome (sym (sets q.0)) (elim (eq_by_cmp place_cmp s.0 q.0) as (λ b. IsSome (cond b (Some (record { id = s.1; least = sectors; fewest = bios })) (buckets q.0))) [ true ↦ refl | false ↦ was ])
-
+module _ (buckets now : Buckets) (s : Spot) (sectors bios : ℕ) (none : buckets s.0 ≡ None) (sets : Sets buckets s.0 (Some (record { id = s.1; least = sectors; fewest = bios })) now) where
   pub first_lowers : Lowers buckets s.0 sectors bios now
   first_lowers k h is =
       elim (eq_by_cmp place_cmp s.0 k) as (λ b. eq_by_cmp place_cmp s.0 k ≡ b → cond b (Some (record { id = s.1; least = sectors; fewest = bios })) (buckets k) ≡ Some h → (k ≡ s.0 → AtMost h sectors bios) × ((g : Bucket) → buckets k ≡ Some g → AtMost h g.least g.fewest)) [
@@ -141,14 +103,6 @@ module _ (buckets now : Buckets) (others more : Others) (s : Spot) (bucket after
 
   pub more_adds : Adds (spots_of buckets others) s (spots_of now more)
   more_adds q = ap (λ b. cond b true (more q)) (same_bucket q) ∙ ap (cond (is_bucket (buckets q.0) q) true) (adds q) ∙ either_way (is_bucket (buckets q.0) q) (eq_by_cmp spot_cmp s q) (others q)
-
-  pub more_buckets : HasBuckets buckets others → HasBuckets now more
-  more_buckets headed q there =
-      subst IsSome (sym (sets q.0))
-      (elim (eq_by_cmp place_cmp s.0 q.0) as (λ b. eq_by_cmp place_cmp s.0 q.0 ≡ b → IsSome (cond b (Some after) (buckets q.0))) [
-        | true ↦ λ _. refl
-        | false ↦ λ e. headed q (sym (adds q ∙ ap (λ b. cond b true (others q)) (other_place s q e)) ∙ there)
-      ] refl)
 
   pub more_lowers : (sectors bios : ℕ) → after.least ≤ sectors → after.fewest ≤ bios → after.least ≤ bucket.least → after.fewest ≤ bucket.fewest → Lowers buckets s.0 sectors bios now
   more_lowers sectors bios under few lower fewer k h is =
@@ -175,27 +129,13 @@ lesser a b m is = (omega (arith, is), omega (arith, is))
 
 -- ---- a spot less
 
--- one of the others alone
+-- what is left of the others was there
 module _ (buckets : Buckets) (others less : Others) (s : Spot) (takes : Takes others s less) where
   still : (q : Spot) → less q ≡ true → others q ≡ true
   still q there = elim (eq_by_cmp spot_cmp s q) as (λ b. cond b false (others q) ≡ true → others q ≡ true) [
     | true ↦ λ h. absurd (cc)
     | false ↦ λ h. h
   ] (sym (takes q) ∙ there)
-
-  pub less_others : is_bucket (buckets s.0) s ≡ false → Takes (spots_of buckets others) s (spots_of buckets less)
-  less_others here q =
-      ap (cond (is_bucket (buckets q.0) q) true) (takes q)
-      ∙ elim (eq_by_cmp spot_cmp s q) as (λ b. eq_by_cmp spot_cmp s q ≡ b → cond (is_bucket (buckets q.0) q) true (cond b false (others q)) ≡ cond b false (spots_of buckets others q)) [
-        | true ↦ λ e. ap (λ (x : Spot). cond (is_bucket (buckets x.0) x) true false) (sym (same_spot s q e)) ∙ ap (λ b. cond b true false) here
-        | false ↦ λ _. refl
-      ] refl
-
-  pub less_buckets : HasBuckets buckets others → HasBuckets buckets less
-  less_buckets headed q there = headed q (still q there)
-
-  pub less_keeps : KeepsLeast buckets buckets
-  less_keeps k h is = (h, is, itself_most h)
 
   -- the bucket, where another takes its place or none is there
   module _ (now : Buckets) (bucket : Bucket) (x : Option Bucket) (own : buckets s.0 ≡ Some bucket) (id_is : bucket.id ≡ s.1) (sets : Sets buckets s.0 x now) (follows : (q : Spot) → q.0 ≡ s.0 → cond (is_bucket x q) true (less q) ≡ less q) (found : IfNone x ((q : Spot) → q.0 ≡ s.0 → less q ≡ false)) (keeps : IfSome x (λ h. AtMost h bucket.least bucket.fewest)) where
@@ -251,15 +191,6 @@ module _ (buckets now : Buckets) (others : Others) (s : Spot) (empty : (q : Spot
     | None ↦ λ _ there. absurd (let a : true ≡ false = sym there ∙ empty s in cc)
   ] refl
 
-  pub only_buckets : HasBuckets buckets others → HasBuckets now others
-  only_buckets headed q there = absurd (let a : true ≡ false = sym there ∙ empty q in cc)
-
-  pub only_keeps : KeepsLeast buckets now
-  only_keeps k h is = elim (eq_by_cmp place_cmp s.0 k) as (λ b. cond b None (buckets k) ≡ Some h → (g : Bucket) × (buckets k ≡ Some g) × AtMost h g.least g.fewest) [
-    | true ↦ λ e. absurd (cc)
-    | false ↦ λ e. (h, e, itself_most h)
-  ] (sym (sets k) ∙ is)
-
 -- a spot that was put in is there, and so are those that were there before
 pub added_there : (has more : Others) (s : Spot) → Adds has s more → more s ≡ true
 added_there has more s adds = adds s ∙ ap (λ b. cond b true (has s)) (itself s.0 s.1)
@@ -276,60 +207,3 @@ follows_other less p next other of_it id_is there q at = elim (nat_eq next.id q.
       sym there ∙ ap (λ (x : Place). less (x, other.1)) place ∙ ap (λ (n : ℕ). less (q.0, n)) id
   | false ↦ λ _. refl
 ] refl
-
--- ---- the newest
-
-module _ (buckets : Buckets) (others : Others) (p : Place) (below : Option ℕ) where
-  abbrev BucketIs : ℕ → Type 0
-  BucketIs a = (h : Bucket) × (buckets p ≡ Some h) × (h.id ≡ a)
-
-  as_bucket : (a k : ℕ) → BucketIs a → is_bucket (buckets p) (p, k) ≡ nat_eq a k
-  as_bucket a k is = ap (λ o. is_bucket o (p, k)) is.1 ∙ ap (λ (n : ℕ). nat_eq n k) is.2
-
-  by_single : (a : ℕ) → BucketIs a → spots_of buckets others (p, a) ≡ true
-  by_single a is = ap (λ b. cond b true (others (p, a))) (as_bucket a a is ∙ eq-eqb a a refl)
-
-  by_others : (b : ℕ) → others (p, b) ≡ true → spots_of buckets others (p, b) ≡ true
-  by_others b is = ap (cond (is_bucket (buckets p) (p, b)) true) is ∙ or_true (is_bucket (buckets p) (p, b))
-
-  by_neither : (k : ℕ) → is_bucket (buckets p) (p, k) ≡ false → others (p, k) ≡ false → spots_of buckets others (p, k) ≡ false
-  by_neither k one other = ap (λ b. cond b true (others (p, k))) one ∙ other
-
-  not_single : (a k : ℕ) → BucketIs a → (a ≡ k → ⊥) → is_bucket (buckets p) (p, k) ≡ false
-  not_single a k is differ = as_bucket a k is ∙ other_id a k differ
-
-  newer_of_two : (a b : ℕ) (less : Bool) → nat_lt a b ≡ less → BucketIs a → IsBelow below a → IsNewestSpot others p below b → IsNewestSpot (spots_of buckets others) p below (if less then b else a)
-  newer_of_two a b true e is low best =
-      let lt : a < b = ltb-true a b e in
-      record {
-        there = by_others b best.there;
-        low = best.low;
-        newest = λ k after under. by_neither k (not_single a k is (λ same. omega (arith, lt, after, same))) (best.newest k after under);
-      }
-  newer_of_two a b false e is low best =
-      let ge : b ≤ a = ltb-false a b e in
-      record {
-        there = by_single a is;
-        low = low;
-        newest = λ k after under. by_neither k (not_single a k is (λ same. omega (arith, after, same))) (best.newest k (omega (arith, ge, after)) under);
-      }
-
-  pub newest_of_both : (one other : Option ℕ) → IfSome one (λ id. BucketIs id) → IfSome one (IsBelow below) → IfNone one ((id : ℕ) → IsBelow below id → is_bucket (buckets p) (p, id) ≡ false) → IfSome other (IsNewestSpot others p below) → IfNone other (NoSpot others p below) → IfSome (greater_of one other) (IsNewestSpot (spots_of buckets others) p below) × IfNone (greater_of one other) (NoSpot (spots_of buckets others) p below)
-  newest_of_both None None is low none best empty = (tt, λ k under. by_neither k (none k under) (empty k under))
-  newest_of_both None (Some b) is low none best empty = (
-    record {
-      there = by_others b best.there;
-      low = best.low;
-      newest = λ k after under. by_neither k (none k under) (best.newest k after under);
-    },
-    tt,
-  )
-  newest_of_both (Some a) None is low none best empty = (
-    record {
-      there = by_single a is;
-      low = low;
-      newest = λ k after under. by_neither k (not_single a k is (λ same. omega (arith, after, same))) (empty k under);
-    },
-    tt,
-  )
-  newest_of_both (Some a) (Some b) is low none best empty = (newer_of_two a b (nat_lt a b) refl is low best, tt)

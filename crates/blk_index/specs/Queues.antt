@@ -5,10 +5,10 @@ use Rattle.std.specs.FinMap.{get}
 use Rattle.blk_sched.specs.Meaning.{Waiting, Pending}
 
 -- a request, if there is one and a hardware queue serves it
-abbrev pub served : ℕ → Option Waiting → Option Waiting
-served hw None = None
-served hw (Some w) = if serves_own hw w then Some w else None
+abbrev pub if_served : ℕ → Option Waiting → Option Waiting
+if_served hw None = None
+if_served hw (Some w) = if serves_own hw w then Some w else None
 
 -- of what waits, what a hardware queue serves
 abbrev pub served_of : ℕ → Pending → ℕ → Option Waiting
-served_of hw pending id = served hw (get pending id)
+served_of hw pending id = if_served hw (get pending id)

@@ -6,7 +6,7 @@ ghost use Rattle.std.specs.List.{insert};
 ghost use Rattle.std.specs.FinMap as map;
 ghost use Rattle.blk_sched.specs.Meaning.{Waiting};
 ghost use Rattle.blk_index.specs.Index.{IsOldest, NoneOf};
-ghost use Rattle.blk_index.specs.Inside.Lists.{GoUp, IsListed, AllUpTo, AllBelow, IsPut, IsCut, WaitsAs, FirstWaits};
+ghost use Rattle.blk_index.specs.Inside.Lists.{GoUp, StandsIn, AllUpTo, AllBelow, IsPut, IsPruned, WaitsAs, FirstWaits};
 ghost use Rattle.blk_index.specs.Inside.FifoLists.{AreFifoLists, TakesId, AddsId, DropsId};
 
 use crate::request_slab::RequestSlab;
@@ -134,7 +134,7 @@ fn put_among<A: Allocator + Clone>(ids: &mut VecDeque<u64, A>, id: u64) -> Resul
 /// Whether an id stands right before a position, where those before it are not greater.
 fn is_before<A: Allocator + Clone>(ids: &VecDeque<u64, A>, position: usize, id: u64) -> bool
     requires { position ≤ length ids.now.items }
-    ensures yes { OnTrue result (IsListed ids.now.items id) }
+    ensures yes { OnTrue result (StandsIn ids.now.items id) }
     ensures no { OnFalse result (GoUp ids.now.items → AllUpTo ids.now.items position id → AllBelow ids.now.items position id) }
 {
     if position == 0 {
@@ -209,7 +209,7 @@ fn take_id<A: Allocator + Clone>(
 
 /// Takes out the first ids of which no request of the direction waits.
 fn drop_gone<A: Allocator + Clone>(ids: &mut VecDeque<u64, A>, waiting: &RequestSlab<A>, dir: Dir)
-    ensures cut { IsCut dir (map.get waiting.now) ids.old.items ids.new.items }
+    ensures cut { IsPruned dir (map.get waiting.now) ids.old.items ids.new.items }
     ensures first { FirstWaits dir (map.get waiting.now) ids.new.items }
 {
     while let Some(first) = first_of(ids) {

@@ -1,15 +1,14 @@
 //! The requests that wait, found by their ids and by where they begin and end.
 
-ghost use Rattle.std.specs.Prelude.{◌≡◌, ◌<◌, ◌≤◌, ◌^◌, ◌+◌, ◌↔◌, length, ℕ, Option, None, Some, true, false, IfOk, OnOk, IfErr, OnErr, IfSome, IfNone, IsSome, IsTrue};
+ghost use Rattle.std.specs.Prelude.{◌≡◌, ◌<◌, ◌≤◌, ◌^◌, ◌+◌, length, ℕ, Option, None, Some, false, IfOk, OnOk, IfErr, OnErr, IfSome, IfNone, IsTrue};
 ghost use Rattle.std.specs.Option.{OnSome, option_copied};
 ghost use Rattle.std.specs.FinMap as map;
 ghost use Rattle.blk_bio.specs.declared.request.Side.{Side};
-ghost use Rattle.blk_sched.specs.Meaning.{Waiting, joined_waiting};
-ghost use Rattle.blk_sched.specs.Fits.{IsNewestFit, FitsNone, HasFit, FitsAt, FitsNowhere};
+ghost use Rattle.blk_sched.specs.Meaning.{Waiting};
+ghost use Rattle.blk_sched.specs.Fits.{IsNewestFit, FitsNone, HasFit};
 ghost use Rattle.blk_bio.specs.Bios.{sector_limit};
 ghost use Rattle.blk_bio.specs.Extents.{extent_of};
 ghost use Rattle.blk_bio.specs.Requests.{Fits, sectors_of};
-ghost use Rattle.std.specs.Prelude.{nat_lt};
 ghost use Rattle.std.specs.Bool.{OnTrue, OnFalse};
 ghost use Rattle.blk_index.specs.Inside.Buckets.{IsEdge};
 ghost use Rattle.blk_index.specs.Inside.Edges.{buckets_in, others_in};

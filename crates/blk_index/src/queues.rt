@@ -2,8 +2,6 @@
 
 ghost use Rattle.std.specs.Prelude.{◌≡◌, ◌<◌, ◌+◌, ℕ, None, Some, true, length, slice_index_or, IfOk, OnOk, IfErr, OnErr, IfSome, IfNone};
 ghost use Rattle.std.specs.FinMap as map;
-ghost use Rattle.blk_bio.specs.Requests.{dir_of};
-ghost use Rattle.blk_sched.specs.Meaning.{Waiting};
 ghost use Rattle.blk_sched.specs.Fits.{IsNewestFit, FitsNone, HasFit};
 ghost use Rattle.blk_index.specs.Index.{IsJoined, IsOldest, IsFirst, NoneOf, FindsNothing};
 ghost use Rattle.blk_index.specs.Queues.{served_of};
@@ -56,6 +54,7 @@ impl<A: Allocator + Clone> Queues<A> {
 
     /// Adds a request whose id isn't there. It fails only when out of memory: nothing is changed then, and the request
     /// comes back.
+    #[inline(always)]
     pub fn insert(&mut self, queued: Queued<A>) -> Result<(), Queued<A>>
         requires new { map.get self.old queued.id ≡ None }
         requires hw { queued.hw < MAX_QUEUES }
@@ -74,6 +73,7 @@ impl<A: Allocator + Clone> Queues<A> {
 
     /// The newest request of a hardware queue that a newcomer fits, and the side. Only requests that the newcomer touches
     /// are looked at.
+    #[inline(always)]
     pub fn candidate(&self, hw: u8, newcomer: &Request<A>, limits: &Limits) -> Option<(u64, Side)>
         requires { hw < MAX_QUEUES }
         ensures some { IfSome result (λ r. IsNewestFit limits.now true (served_of hw self.now) newcomer.now r.0 r.1) }
@@ -123,6 +123,7 @@ impl<A: Allocator + Clone> Queues<A> {
     }
 
     /// Takes out the request of an id at a hardware queue. It takes no memory.
+    #[inline(always)]
     pub fn remove(&mut self, hw: u8, id: u64) -> Option<Queued<A>>
         requires { hw < MAX_QUEUES }
         ensures value { result ≡ served_of hw self.old id }

@@ -1,6 +1,6 @@
 //! The requests that wait, in a slab, found by their ids.
 
-ghost use Rattle.std.specs.Prelude.{◌≡◌, ℕ, None, Some, OnOk, IfErr, OnErr, IfOk, IfSome, IfNone, IsSome};
+ghost use Rattle.std.specs.Prelude.{◌≡◌, ℕ, None, Some, OnOk, IfErr, OnErr, IfOk, IsSome};
 ghost use Rattle.std.specs.Option.{option_copied};
 ghost use Rattle.std.specs.FinMap as map;
 ghost use Rattle.blk_sched.specs.Meaning.{Waiting};
@@ -25,7 +25,7 @@ impl<A: Allocator> Model for RequestSlab<A> {
     ghost use Rattle.std.specs.FinMap.{from_entries, code};
     ghost use Rattle.slab.specs.Slab.{get};
     ghost use Rattle.blk_sched.specs.Meaning.{Pending, waiting_code};
-    ghost use Rattle.blk_index.specs.Inside.RequestSlabs.{held, IsSlab, Counts};
+    ghost use Rattle.blk_index.specs.Inside.RequestSlabs.{held, IsSlab, CountsHeld};
     ghost use Rattle.blk_index.specs.Inside.SlabKeys.{entries_of};
 
     ghost Value = { Pending };
@@ -34,7 +34,7 @@ impl<A: Allocator> Model for RequestSlab<A> {
 
     ghost view = { λ s. from_entries (held (get s.requests) (entries_of s.keys)) };
 
-    ghost invariant = { λ s. IsSlab (entries_of s.keys) (get s.requests) × Counts (entries_of s.keys) s.requests };
+    ghost invariant = { λ s. IsSlab (entries_of s.keys) (get s.requests) × CountsHeld (entries_of s.keys) s.requests };
 }
 
 impl<A: Allocator + Clone> RequestSlab<A> {

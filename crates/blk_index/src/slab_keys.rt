@@ -1,8 +1,8 @@
 //! The slab keys of ids.
 
-ghost use Rattle.std.specs.Prelude.{◌≡◌, ◌+◌, ◌++◌, ◌∷◌, ℕ, [], None, Some, length, slice_get, IfOk, OnOk, OnErr, IfSome};
+ghost use Rattle.std.specs.Prelude.{◌≡◌, ◌+◌, ◌++◌, ◌∷◌, [], None, Some, length, slice_get, IfOk, OnOk, OnErr, IfSome};
 ghost use Rattle.std.specs.Bool.{OnTrue};
-ghost use Rattle.blk_index.specs.Inside.SlabKeys.{run_of, run_at, key_in, entries_of, key_of, Gives};
+ghost use Rattle.blk_index.specs.Inside.SlabKeys.{run_of, run_at, key_in, entries_of, key_of, GivesKey};
 
 use crate::merge_hash::Hashing;
 use std::alloc::{AllocError, Allocator, Global};
@@ -54,7 +54,7 @@ impl<A: Allocator + Clone> SlabKeys<A> {
     #[inline(always)]
     pub fn insert(&mut self, id: u64, key: usize) -> Result<(), AllocError>
         requires { key_of self.old id ≡ None }
-        ensures ok { OnOk result (Gives (key_of self.old) id (Some key) (key_of self.new)) }
+        ensures ok { OnOk result (GivesKey (key_of self.old) id (Some key) (key_of self.new)) }
         ensures same { OnErr result (entries_of self.new ≡ entries_of self.old) }
     {
         self.begin_at(id);
@@ -78,7 +78,7 @@ impl<A: Allocator + Clone> SlabKeys<A> {
     #[inline(always)]
     pub fn remove(&mut self, id: u64) -> Option<usize>
         ensures value { result ≡ key_of self.old id }
-        ensures taken { Gives (key_of self.old) id None (key_of self.new) }
+        ensures taken { GivesKey (key_of self.old) id None (key_of self.new) }
     {
         let found = take_key(&mut self.run, self.from, id);
         let other = take_other(&mut self.others, id);
@@ -189,7 +189,7 @@ fn take_key<A: Allocator + Clone>(
     id: u64,
 ) -> Option<usize>
     ensures value { result ≡ run_at from run.old.items id }
-    ensures taken { Gives (run_at from run.old.items) id None (run_at from run.new.items) }
+    ensures taken { GivesKey (run_at from run.old.items) id None (run_at from run.new.items) }
 {
     if id < from {
         return None;
@@ -226,7 +226,7 @@ fn put_other<A: Allocator + Clone>(
     id: u64,
     key: usize,
 ) -> Result<(), AllocError>
-    ensures ok { OnOk result (Gives (key_in others.old.entries) id (Some key) (key_in others.new.entries)) }
+    ensures ok { OnOk result (GivesKey (key_in others.old.entries) id (Some key) (key_in others.new.entries)) }
     ensures same { OnErr result (others.new.entries ≡ others.old.entries) }
 {
     match others.insert(id, key) {
@@ -242,7 +242,7 @@ fn take_other<A: Allocator + Clone>(
     id: u64,
 ) -> Option<usize>
     ensures value { result ≡ key_in others.old.entries id }
-    ensures taken { Gives (key_in others.old.entries) id None (key_in others.new.entries) }
+    ensures taken { GivesKey (key_in others.old.entries) id None (key_in others.new.entries) }
 {
     if others.is_empty() {
         return None;

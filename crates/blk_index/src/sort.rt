@@ -1,6 +1,6 @@
 //! The sort lists: the requests of each direction by their first sectors.
 
-ghost use Rattle.std.specs.Prelude.{◌≡◌, ◌<◌, ℕ, Option, None, Some, true, false, IfOk, OnOk, OnErr, IfSome, IfNone};
+ghost use Rattle.std.specs.Prelude.{◌≡◌, ◌<◌, Option, Some, true, false, IfOk, OnOk, OnErr, IfSome, IfNone};
 ghost use Rattle.std.specs.BTreeSet.{contains};
 ghost use Rattle.std.specs.declared.cmp.Ordering.TheVariants.{Less};
 ghost use Rattle.blk_index.specs.Inside.Spots.{Spot, Adds, Takes, Keeps};

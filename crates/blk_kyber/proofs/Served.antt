@@ -7,11 +7,11 @@ use Rattle.blk_bio.specs.declared.bio.Dir.{Dir}
 use Rattle.blk_bio.specs.declared.bio.Dir.TheVariants.{Read, Write}
 use Rattle.blk_bio.specs.Requests.{dir_of}
 use Rattle.blk_sched.specs.Meaning.{Waiting, Pending, Meaning, OpenPicks, ServesNothing, unfinished}
-use Rattle.blk_sched.specs.Maps.{first_found, none_found}
+use Rattle.blk_sched.proofs.Maps.{first_found, none_found}
 use Rattle.blk_index.specs.Index.{IsOldest, NoneOf}
-use Rattle.blk_kyber.specs.Limits.{DirLimits, Report, limit_of}
-use Rattle.blk_kyber.specs.Choice.{serves_own, is_same, other_of, oldest_of, in_flight, head_of, chosen}
-use Rattle.blk_kyber.specs.State.{KyberState, choice_for, after_pick, told, numbers_of, Chooses, Told}
+use Rattle.blk_kyber.specs.Limits.{DirLimits, KyberReport, limit_of}
+use Rattle.blk_kyber.specs.Choice.{serves_own, is_same, other_of, oldest_for, in_flight, head_of, chosen}
+use Rattle.blk_kyber.specs.State.{KyberState, choice_for, after_pick, kept_told, numbers_of, Chooses, IsReported}
 use Rattle.blk_index.specs.Queues.{served_of}
 use Rattle.blk_index.proofs.Served.{meaning_with, serves_it, served_there}
 
@@ -49,8 +49,8 @@ fails hw dir w none = elim (serves_own hw w) as (λ b. serves_own hw w ≡ b →
 ] refl
 
 module _ (m : Pending) (hw : ℕ) (limits : DirLimits) (picks : OpenPicks) (dir : Dir) (low : in_flight dir picks < limit_of dir limits) where
-  room : (o : Option Waiting) → oldest_of hw dir (map.values m) ≡ o → head_of hw limits picks (map.values m) dir ≡ o
-  room o is = ap (λ b. if b then oldest_of hw dir (map.values m) else None) (lt_holds (in_flight dir picks) (limit_of dir limits) low) ∙ is
+  room : (o : Option Waiting) → oldest_for hw dir (map.values m) ≡ o → head_of hw limits picks (map.values m) dir ≡ o
+  room o is = ap (λ b. if b then oldest_for hw dir (map.values m) else None) (lt_holds (in_flight dir picks) (limit_of dir limits) low) ∙ is
 
   pub head_is : (id : ℕ) → IsOldest dir (served_of hw m) id → (w : Waiting) × (served_of hw m id ≡ Some w) × (head_of hw limits picks (map.values m) dir ≡ Some w)
   head_is id best =
@@ -100,5 +100,5 @@ idle m picks hw Write Write e own other = absurd (cc)
 pub chooses : (old new : KyberState) (m : Meaning) (hw now : ℕ) (result : Option Waiting) → result ≡ chosen (choice_for hw old m) → new ≡ after_pick hw old (choice_for hw old m) → Chooses (numbers_of old) m hw now result (numbers_of new)
 chooses old new m hw now result choice after = (old, refl, choice, ap numbers_of after)
 
-pub tells : (old new : KyberState) (report : Report) → new ≡ told report old → Told report (numbers_of old) (numbers_of new)
+pub tells : (old new : KyberState) (report : KyberReport) → new ≡ kept_told report old → IsReported report (numbers_of old) (numbers_of new)
 tells old new report is = (old, refl, ap numbers_of is)

@@ -33,8 +33,8 @@ turn_by turn false true = Some (record { dir = other_of turn.dir; taken = 1 })
 turn_by turn false false = None
 
 -- the oldest request of a direction at a hardware queue
-abbrev pub oldest_of : ℕ → Dir → List Waiting → Option Waiting
-oldest_of hw dir ws = find (λ w. serves_own hw w && is_same (dir_of w.bios) dir) ws
+abbrev pub oldest_for : ℕ → Dir → List Waiting → Option Waiting
+oldest_for hw dir ws = find (λ w. serves_own hw w && is_same (dir_of w.bios) dir) ws
 
 -- how many requests of a direction are in flight: picked and not done, the requeued ones among them
 abbrev pub in_flight : Dir → OpenPicks → ℕ
@@ -42,7 +42,7 @@ in_flight dir picks = open_of dir picks + requeued_of dir picks
 
 -- what a pick takes of a direction: its oldest request, while fewer than its limit are in flight
 abbrev pub head_of : ℕ → DirLimits → OpenPicks → List Waiting → Dir → Option Waiting
-head_of hw limits picks ws dir = if nat_lt (in_flight dir picks) (limit_of dir limits) then oldest_of hw dir ws else None
+head_of hw limits picks ws dir = if nat_lt (in_flight dir picks) (limit_of dir limits) then oldest_for hw dir ws else None
 
 -- a request with the turn in which it goes
 abbrev pub taken_in : Turn → Option Waiting → Option (Waiting × Turn)

@@ -56,16 +56,16 @@ set_anew limits = record {
 }
 
 -- what a scheduler is told: a request of a direction was done that had waited so long, or a round began
-pub data Report : Type 0 where
-  Done : (dir : Dir) → (wait : ℕ) → Report
-  Tick : (round : ℕ) → Report
+pub data KyberReport : Type 0 where
+  Done : (dir : Dir) → (wait : ℕ) → KyberReport
+  Tick : (round : ℕ) → KyberReport
 
 -- the limits are set anew every so many rounds
-abbrev pub after_report : Targets → Report → DirLimits → DirLimits
+abbrev pub after_report : Targets → KyberReport → DirLimits → DirLimits
 after_report targets (Done dir wait) limits = if nat_lt (target_of dir targets) wait then missed dir limits else limits
 after_report targets (Tick round) limits = if round % ROUNDS_BETWEEN == 0 then set_anew limits else limits
 
 -- the limits after all that was reported, the latest first
-abbrev pub kyber_limits : Targets → ℕ → List Report → DirLimits
+abbrev pub kyber_limits : Targets → ℕ → List KyberReport → DirLimits
 kyber_limits targets depth [] = first_limits depth
 kyber_limits targets depth (report ∷ earlier) = after_report targets report (kyber_limits targets depth earlier)

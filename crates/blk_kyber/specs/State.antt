@@ -9,7 +9,7 @@ use Rattle.blk_sched.specs.Meaning.{Waiting, Meaning}
 use Rattle.blk_sched.specs.Policies.{Policy}
 use Rattle.blk_kyber.specs.declared.Targets.{Targets}
 use Rattle.blk_kyber.specs.declared.turn.Turn.{Turn}
-use Rattle.blk_kyber.specs.Limits.{DirLimits, Report, Done, Tick, after_report, kyber_limits}
+use Rattle.blk_kyber.specs.Limits.{DirLimits, KyberReport, Done, Tick, after_report, kyber_limits}
 use Rattle.blk_kyber.specs.Choice.{serves_own, first_turn, kyber_choice, chosen}
 
 -- the targets, the limits, and the turn of each hardware queue
@@ -32,13 +32,13 @@ after_pick hw kept None = kept
 after_pick hw kept (Some x) = record kept { turns = slice_set kept.turns hw x.1 }
 
 -- a report changes the limits alone
-abbrev pub told : Report → KyberState → KyberState
-told report kept = record kept { limits = after_report kept.targets report kept.limits }
+abbrev pub kept_told : KyberReport → KyberState → KyberState
+kept_told report kept = record kept { limits = after_report kept.targets report kept.limits }
 
 -- the limits after a report, where they were those of the earlier ones
-abbrev pub Follows : Report → KyberState → KyberState → Type 0
+abbrev pub Follows : KyberReport → KyberState → KyberState → Type 0
 Follows report old new =
-    (depth : ℕ) (earlier : List Report) → old.limits ≡ kyber_limits old.targets depth earlier
+    (depth : ℕ) (earlier : List KyberReport) → old.limits ≡ kyber_limits old.targets depth earlier
     → new.limits ≡ kyber_limits old.targets depth (report ∷ earlier)
 
 -- the same as numbers
@@ -63,14 +63,14 @@ abbrev pub Chooses : List ℕ → Meaning → ℕ → ℕ → Option Waiting →
 Chooses old m hw now picked new =
     (kept : KyberState) × (old ≡ numbers_of kept) × (picked ≡ chosen (choice_for hw kept m)) × (new ≡ numbers_of (after_pick hw kept (choice_for hw kept m)))
 
-abbrev pub Told : Report → List ℕ → List ℕ → Type 0
-Told report old new = (kept : KyberState) × (old ≡ numbers_of kept) × (new ≡ numbers_of (told report kept))
+abbrev pub IsReported : KyberReport → List ℕ → List ℕ → Type 0
+IsReported report old new = (kept : KyberState) × (old ≡ numbers_of kept) × (new ≡ numbers_of (kept_told report kept))
 
 -- its policy
 abbrev pub kyber_policy : Policy
 kyber_policy = record {
   serves = serves_own;
   chooses = Chooses;
-  told_done = λ _ dir wait old new. Told (Done dir wait) old new;
-  told_tick = λ now old new. Told (Tick now) old new;
+  told_done = λ _ dir wait old new. IsReported (Done dir wait) old new;
+  told_tick = λ now old new. IsReported (Tick now) old new;
 }

@@ -5,8 +5,8 @@ use Rattle.std.specs.Ordering.{nat_cmp, is_eq}
 use Rattle.std.specs.Cmp.{nat_cmp_total, eq_by_cmp_equiv, tied_itself}
 use Rattle.std.specs.BTreeMap.{is_at}
 use Rattle.blk_sched.specs.Meaning.{Waiting}
-use Rattle.blk_sched.specs.Maps.{same_number}
-use Rattle.blk_lifo.specs.Stacks.{found, AreDistinct}
+use Rattle.blk_sched.proofs.Maps.{same_number}
+use Rattle.blk_lifo.specs.Stacks.{found, HaveDistinctIds}
 
 -- both tests of two ids
 turned : (k id : ℕ) → is_at (nat_cmp k) id ≡ is_at (nat_cmp id) k
@@ -46,8 +46,8 @@ found_pushed (v ∷ ws) w k new =
     ∙ exchanged (is_at (nat_cmp k) v.id) (is_at (nat_cmp w.id) k) (Some v) (Some w) (found ws k)
     (λ e. ap (λ j. is_at (nat_cmp j) v.id) (same_number w.id k e) ∙ not_here (is_at (nat_cmp w.id) v.id) v (found ws w.id) new)
 
-pub distinct_pushed : (ws : List Waiting) (w : Waiting) → AreDistinct ws → found ws w.id ≡ None → AreDistinct (ws ++ w ∷ [])
-unfolding AreDistinct
+pub distinct_pushed : (ws : List Waiting) (w : Waiting) → HaveDistinctIds ws → found ws w.id ≡ None → HaveDistinctIds (ws ++ w ∷ [])
+unfolding HaveDistinctIds
 distinct_pushed [] w d new = (refl, tt)
 distinct_pushed (v ∷ ws) w d new =
     let behind : found ws w.id ≡ None = not_behind (is_at (nat_cmp w.id) v.id) v (found ws w.id) new in (
@@ -56,11 +56,11 @@ distinct_pushed (v ∷ ws) w d new =
     )
 
 -- the last one taken off
-pub distinct_popped : (ws : List Waiting) (w : Waiting) → AreDistinct (ws ++ w ∷ []) → AreDistinct ws × (found ws w.id ≡ None)
-unfolding AreDistinct
+pub distinct_popped : (ws : List Waiting) (w : Waiting) → HaveDistinctIds (ws ++ w ∷ []) → HaveDistinctIds ws × (found ws w.id ≡ None)
+unfolding HaveDistinctIds
 distinct_popped [] w d = (tt, refl)
 distinct_popped (v ∷ ws) w d =
-    let rest : AreDistinct ws × (found ws w.id ≡ None) = distinct_popped ws w d.1 in
+    let rest : HaveDistinctIds ws × (found ws w.id ≡ None) = distinct_popped ws w d.1 in
     let new : cond (is_at (nat_cmp w.id) v.id) (Some w) (found ws v.id) ≡ None = sym (found_pushed ws w v.id rest.1) ∙ d.0 in (
       (not_behind (is_at (nat_cmp w.id) v.id) w (found ws v.id) new, rest.0),
       passed (is_at (nat_cmp w.id) v.id) v (found ws w.id) (not_here (is_at (nat_cmp w.id) v.id) w (found ws v.id) new) rest.1,
@@ -75,8 +75,8 @@ other_id ws v w new there =
     ] refl
 
 -- what stands at a place is found
-pub found_at : (ws : List Waiting) (p : ℕ) (w : Waiting) → AreDistinct ws → slice_get ws p ≡ Some w → found ws w.id ≡ Some w
-unfolding AreDistinct
+pub found_at : (ws : List Waiting) (p : ℕ) (w : Waiting) → HaveDistinctIds ws → slice_get ws p ≡ Some w → found ws w.id ≡ Some w
+unfolding HaveDistinctIds
 found_at [] p w d at = cc
 found_at (v ∷ ws) zero w d at =
     let same : v ≡ w = cc in
@@ -95,8 +95,8 @@ place_of (v ∷ ws) k w f =
     ] refl f
 
 -- the request at a place changed, its id kept
-pub found_changed : (ws : List Waiting) (p : ℕ) (w new : Waiting) (k : ℕ) → AreDistinct ws → slice_get ws p ≡ Some w → new.id ≡ w.id → found (slice_set ws p new) k ≡ cond (is_at (nat_cmp w.id) k) (Some new) (found ws k)
-unfolding AreDistinct
+pub found_changed : (ws : List Waiting) (p : ℕ) (w new : Waiting) (k : ℕ) → HaveDistinctIds ws → slice_get ws p ≡ Some w → new.id ≡ w.id → found (slice_set ws p new) k ≡ cond (is_at (nat_cmp w.id) k) (Some new) (found ws k)
+unfolding HaveDistinctIds
 found_changed [] p w new k d at name = cc
 found_changed (v ∷ ws) zero w new k d at name =
     let same : v ≡ w = cc in
@@ -109,8 +109,8 @@ found_changed (v ∷ ws) (suc p) w new k d at name =
     ∙ exchanged (is_at (nat_cmp k) v.id) (is_at (nat_cmp w.id) k) (Some v) (Some new) (found ws k)
     (λ e. ap (λ j. is_at (nat_cmp j) v.id) (same_number w.id k e) ∙ other_id ws v w d.0 (found_at ws p w d.1 at))
 
-pub distinct_changed : (ws : List Waiting) (p : ℕ) (w new : Waiting) → AreDistinct ws → slice_get ws p ≡ Some w → new.id ≡ w.id → AreDistinct (slice_set ws p new)
-unfolding AreDistinct
+pub distinct_changed : (ws : List Waiting) (p : ℕ) (w new : Waiting) → HaveDistinctIds ws → slice_get ws p ≡ Some w → new.id ≡ w.id → HaveDistinctIds (slice_set ws p new)
+unfolding HaveDistinctIds
 distinct_changed [] p w new d at name = cc
 distinct_changed (v ∷ ws) zero w new d at name =
     let same : v ≡ w = cc in

@@ -12,10 +12,11 @@ use Rattle.blk_bio.specs.Bios.{Bio}
 use Rattle.blk_bio.specs.Limits.{Limits}
 use Rattle.blk_bio.specs.Requests.{dir_of, Fits, IsTried}
 use Rattle.blk_sched.specs.Meaning.{Waiting, Meaning, Pending, OpenPicks, Picks, Joins, ServesNothing, HasCandidate, HasNoCandidate, joined_waiting, opened}
-use Rattle.blk_sched.specs.Maps.{get_waiting, one_given, one_taken}
-use Rattle.blk_lifo.specs.Stacks.{serves_all, named, by_id, found, AreDistinct, FitsNoneOf, IsNewest, IsNewestOf, IsFitAt, IsPlaceOf, IsNotBefore, JoinsPlace}
+use Rattle.blk_sched.proofs.Maps.{get_waiting, one_given, one_taken}
+use Rattle.blk_lifo.specs.Stacks.{serves_all, named, by_id, found, HaveDistinctIds, FitsNoneOf, IsNewest, IsFitAt, HasIdAt, JoinsPlace}
+use Rattle.blk_lifo.specs.Inside.Stacks.{IsNotBefore}
 use Rattle.std.specs.BTreeMap.{is_at}
-use Rattle.blk_sched.specs.Maps.{same_number}
+use Rattle.blk_sched.proofs.Maps.{same_number}
 use Rattle.blk_lifo.proofs.Lists.{itself, found_pushed, distinct_popped, found_at, place_of, found_changed, distinct_changed}
 
 abbrev pub view : List Waiting → OpenPicks → Meaning
@@ -37,15 +38,15 @@ entered ws p self w v new =
 
 -- ---- counting
 
-len_is : (ws : List Waiting) → AreDistinct ws → map.len (by_id ws) ≡ length ws
-unfolding AreDistinct
+len_is : (ws : List Waiting) → HaveDistinctIds ws → map.len (by_id ws) ≡ length ws
+unfolding HaveDistinctIds
 len_is [] d = map.len-empty nat_cmp Waiting
 len_is (w ∷ ws) d =
     map.len-insert nat_cmp_total (by_id ws) w.id w
     ∙ ap (λ o. cond (is_some o) (map.len (by_id ws)) (map.len (by_id ws) + 1)) (get_waiting (each named ws) w.id ∙ d.0)
     ∙ (let rest : map.len (by_id ws) ≡ length ws = len_is ws d.1 in omega arith)
 
-pub count_is : (ws : List Waiting) (p : OpenPicks) (self : Meaning) → view ws p ≡ self → AreDistinct ws → length ws ≡ map.len self.pending
+pub count_is : (ws : List Waiting) (p : OpenPicks) (self : Meaning) → view ws p ≡ self → HaveDistinctIds ws → length ws ≡ map.len self.pending
 count_is ws p self v d = sym (len_is ws d) ∙ ap (λ (m : Meaning). map.len m.pending) v
 
 -- ---- picking
@@ -54,9 +55,9 @@ taken : (b : Bool) (w : Waiting) (old : Option Waiting) → (b ≡ true → old 
 taken true w old none = none refl
 taken false w old none = refl
 
-pub picked : (ws rest : List Waiting) (p : OpenPicks) (self new : Meaning) (hw : ℕ) (w : Waiting) → view ws p ≡ self → AreDistinct ws → ws ≡ rest ++ w ∷ [] → new ≡ view rest (opened (dir_of w.bios) p) → Picks serves_all hw self w new
+pub picked : (ws rest : List Waiting) (p : OpenPicks) (self new : Meaning) (hw : ℕ) (w : Waiting) → view ws p ≡ self → HaveDistinctIds ws → ws ≡ rest ++ w ∷ [] → new ≡ view rest (opened (dir_of w.bios) p) → Picks serves_all hw self w new
 picked ws rest p self new hw w v d is after =
-    let last = distinct_popped rest w (subst AreDistinct is d) in
+    let last = distinct_popped rest w (subst HaveDistinctIds is d) in
     let there : (k : ℕ) → found ws k ≡ cond (is_at (nat_cmp w.id) k) (Some w) (found rest k) = λ k. ap (λ l. found l k) is ∙ found_pushed rest w k last.1 in
     subst (λ (m : Meaning). Picks serves_all hw m w new) v (
       get_waiting (each named ws) w.id ∙ there w.id ∙ ap (λ b. cond b (Some w) (found rest w.id)) (itself w.id),
@@ -79,7 +80,7 @@ tried Back = tt
 tried Front = refl
 
 -- the newest of the list is the candidate
-pub candidate_of : (ws : List Waiting) (p : OpenPicks) (self : Meaning) (limits : Limits) (newcomer : List Bio) (hw place id : ℕ) (side : Side) → view ws p ≡ self → AreDistinct ws → IsNewest limits newcomer ws (length ws) place → IsFitAt limits newcomer ws place id side → HasCandidate serves_all hw limits newcomer self id side
+pub candidate_of : (ws : List Waiting) (p : OpenPicks) (self : Meaning) (limits : Limits) (newcomer : List Bio) (hw place id : ℕ) (side : Side) → view ws p ≡ self → HaveDistinctIds ws → IsNewest limits newcomer ws (length ws) place → IsFitAt limits newcomer ws place id side → HasCandidate serves_all hw limits newcomer self id side
 candidate_of ws p self limits newcomer hw place id side v d best fit =
     let w = fit.0 in
     let one : Some best.waiting ≡ Some w = sym best.stands ∙ fit.1 in
@@ -108,11 +109,11 @@ pub is_found : (ws : List Waiting) (p : OpenPicks) (self : Meaning) (limits : Li
 is_found ws p self limits newcomer hw id side v is = subst IsSome (sym (candidate_found ws p self limits newcomer hw id side v is)) refl
 
 -- a join at the place of the candidate
-pub joins : (ws read new : List Waiting) (p : OpenPicks) (self : Meaning) (limits : Limits) (newcomer : List Bio) (hw now place id : ℕ) (side : Side) → view ws p ≡ self → AreDistinct ws → read ≡ ws → HasCandidate serves_all hw limits newcomer self id side → IsPlaceOf read id place → JoinsPlace limits now newcomer ws place new → Joins serves_all hw now limits newcomer self id side (view new p)
+pub joins : (ws read new : List Waiting) (p : OpenPicks) (self : Meaning) (limits : Limits) (newcomer : List Bio) (hw now place id : ℕ) (side : Side) → view ws p ≡ self → HaveDistinctIds ws → read ≡ ws → HasCandidate serves_all hw limits newcomer self id side → HasIdAt read id place → JoinsPlace limits now newcomer ws place new → Joins serves_all hw now limits newcomer self id side (view new p)
 joins ws read new p self limits newcomer hw now place id side v d same is there came =
     let x = is.0 in
     let w = came.waiting in
-    let here : IsPlaceOf ws id place = subst (λ l. IsPlaceOf l id place) same there in
+    let here : HasIdAt ws id place = subst (λ l. HasIdAt l id place) same there in
     let one : Some here.0 ≡ Some w = sym here.1 ∙ came.stands in
     let own : w.id ≡ id = (let e : here.0 ≡ w = cc in ap (λ (u : Waiting). u.id) (sym e) ∙ here.2) in
     let two : Some w ≡ Some x = sym (found_at ws place w d came.stands) ∙ ap (found ws) own ∙ candidate_found ws p self limits newcomer hw id side v is in
@@ -128,9 +129,9 @@ joins ws read new p self limits newcomer hw now place id side v d same is there 
           ∙ ap (λ (u : Waiting). let n : Meaning = record self { pending = map.insert self.pending id (joined_waiting side now newcomer u) } in n) met,
     )
 
-pub distinct_joined : (ws new : List Waiting) (limits : Limits) (newcomer : List Bio) (now place : ℕ) → AreDistinct ws → JoinsPlace limits now newcomer ws place new → AreDistinct new
+pub distinct_joined : (ws new : List Waiting) (limits : Limits) (newcomer : List Bio) (now place : ℕ) → HaveDistinctIds ws → JoinsPlace limits now newcomer ws place new → HaveDistinctIds new
 distinct_joined ws new limits newcomer now place d came =
-    subst AreDistinct (sym came.changed) (distinct_changed ws place came.waiting (joined_waiting came.side now newcomer came.waiting) d came.stands refl)
+    subst HaveDistinctIds (sym came.changed) (distinct_changed ws place came.waiting (joined_waiting came.side now newcomer came.waiting) d came.stands refl)
 
 pub no_candidate : (ws read : List Waiting) (p : OpenPicks) (self : Meaning) (limits : Limits) (newcomer : List Bio) (hw : ℕ) → view ws p ≡ self → read ≡ ws → FitsNoneOf limits newcomer read (length read) → HasNoCandidate serves_all hw limits newcomer self
 no_candidate ws read p self limits newcomer hw v same none id w s there served tried fits =
@@ -142,11 +143,11 @@ then_ok (Ok x) p f = f p
 then_ok (Err e) p f = tt
 
 -- what a join at a place leaves, also where it is refused
-pub distinct_then : {X E : Type 0} (r : Result X E) (ws new : List Waiting) (limits : Limits) (newcomer : List Bio) (now place : ℕ) → AreDistinct ws → OnOk r (JoinsPlace limits now newcomer ws place new) → OnErr r (new ≡ ws) → AreDistinct new
+pub distinct_then : {X E : Type 0} (r : Result X E) (ws new : List Waiting) (limits : Limits) (newcomer : List Bio) (now place : ℕ) → HaveDistinctIds ws → OnOk r (JoinsPlace limits now newcomer ws place new) → OnErr r (new ≡ ws) → HaveDistinctIds new
 distinct_then (Ok x) ws new limits newcomer now place d came same = distinct_joined ws new limits newcomer now place d came
-distinct_then (Err e) ws new limits newcomer now place d came same = subst AreDistinct (sym same) d
+distinct_then (Err e) ws new limits newcomer now place d came same = subst HaveDistinctIds (sym same) d
 
-pub place_within : (ws read : List Waiting) (id place : ℕ) → read ≡ ws → IsPlaceOf read id place → place < length ws
+pub place_within : (ws read : List Waiting) (id place : ℕ) → read ≡ ws → HasIdAt read id place → place < length ws
 place_within ws read id place same there = subst (λ (l : List Waiting). place < length l) same (slice_get_within read place there.0 there.1)
 
 -- the id that is looked for was not passed
@@ -175,26 +176,6 @@ not_the_next ws id place q low read other before k w within at is = elim (split 
   | inl less ↦ before k w less at is
   | inr same ↦ other (ap (λ (v : Waiting). v.id) (sym same) ∙ is)
 ]
-
--- one place further, where the request there doesn't fit
-pub passed_by : (limits : Limits) (newcomer : List Bio) (ws : List Waiting) (place : ℕ) (newest : Option ℕ) (w : Waiting) → slice_get ws place ≡ Some w → ((s : Side) → Fits limits w.bios newcomer s → ⊥) → IsNewestOf limits newcomer ws place newest → IsNewestOf limits newcomer ws (place + 1) newest
-passed_by limits newcomer ws place None w at not_here none = λ k v s below there fits.
-    elim (split ws place k w v at there below) [
-      | inl before ↦ none k v s before there fits
-      | inr same ↦ not_here s (subst (λ (u : Waiting). Fits limits u.bios newcomer s) same fits)
-    ]
-passed_by limits newcomer ws place (Some best) w at not_here is = record {
-  waiting = is.waiting;
-  side = is.side;
-  within = is.within;
-  stands = is.stands;
-  fits = is.fits;
-  only = is.only;
-  newest = λ k v s below there above fits. elim (split ws place k w v at there below) [
-    | inl before ↦ is.newest k v s before there above fits
-    | inr same ↦ not_here s (subst (λ (u : Waiting). Fits limits u.bios newcomer s) same fits)
-  ];
-}
 
 -- one place further, where the request there is older
 pub older : (limits : Limits) (newcomer : List Bio) (ws : List Waiting) (place best : ℕ) (w : Waiting) → slice_get ws place ≡ Some w → (is : IsNewest limits newcomer ws place best) → w.id < is.waiting.id → IsNewest limits newcomer ws (place + 1) best

@@ -36,9 +36,9 @@ abbrev pub found : List Waiting → ℕ → Option Waiting
 found requests id = lookup (is_at (nat_cmp id)) (each named requests)
 
 -- no two requests have one id
-unfoldable pub AreDistinct : List Waiting → Type 0
-AreDistinct [] = Unit {0}
-AreDistinct (w ∷ ws) = (found ws w.id ≡ None) × AreDistinct ws
+unfoldable pub HaveDistinctIds : List Waiting → Type 0
+HaveDistinctIds [] = Unit {0}
+HaveDistinctIds (w ∷ ws) = (found ws w.id ≡ None) × HaveDistinctIds ws
 
 -- a newcomer fits none of the requests before a place
 abbrev pub FitsNoneOf : Limits → List Bio → List Waiting → ℕ → Type 0
@@ -66,12 +66,8 @@ IsFitAt limits newcomer requests place id side =
     (w : Waiting) × (slice_get requests place ≡ Some w) × (w.id ≡ id) × Fits limits w.bios newcomer side
 
 -- the request at a place has the id
-abbrev pub IsPlaceOf : List Waiting → ℕ → ℕ → Type 0
-IsPlaceOf requests id place = (w : Waiting) × (slice_get requests place ≡ Some w) × (w.id ≡ id)
-
--- none of the requests before a place has the id
-abbrev pub IsNotBefore : List Waiting → ℕ → ℕ → Type 0
-IsNotBefore requests id until = (k : ℕ) (w : Waiting) → k < until → slice_get requests k ≡ Some w → w.id ≡ id → ⊥
+abbrev pub HasIdAt : List Waiting → ℕ → ℕ → Type 0
+HasIdAt requests id place = (w : Waiting) × (slice_get requests place ≡ Some w) × (w.id ≡ id)
 
 -- the request at a place is joined by a newcomer at the side at which it fits, and the others stay
 pub record JoinsPlace (limits : Limits) (now : ℕ) (newcomer : List Bio) (old : List Waiting) (place : ℕ) (new : List Waiting) : Type 0 where

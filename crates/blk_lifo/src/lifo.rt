@@ -3,10 +3,10 @@
 //! It keeps one plain list and serves every request for every hardware queue. What it must do is said by the clauses of
 //! `Scheduler`; here stand only its own list, and how that list is read as what waits.
 
-ghost use Rattle.std.specs.Prelude.{◌≡◌, ◌<◌, ◌+◌, ◌↔◌, OnOk, IfErr, OnErr, IfSome, IfNone, IsSome, None, length};
+ghost use Rattle.std.specs.Prelude.{◌≡◌, ◌<◌, ◌+◌, OnOk, IfErr, OnErr, IfSome, IfNone, IsSome, None, length};
 ghost use Rattle.std.specs.FinMap as map;
 ghost use Rattle.blk_sched.specs.Meaning.{HasCandidate, HasNoCandidate, Joins, at_start};
-ghost use Rattle.blk_lifo.specs.Stacks.{serves_all, lifo_policy, found, IsNewest, IsNewestOf, IsFitAt, IsPlaceOf, JoinsPlace};
+ghost use Rattle.blk_lifo.specs.Stacks.{serves_all, lifo_policy, found, IsNewest, IsNewestOf, IsFitAt, HasIdAt, JoinsPlace};
 
 use blk_bio::{Dir, Limits, Request, Side};
 use blk_sched::{OpenPicks, Queued, Scheduler};
@@ -23,7 +23,7 @@ pub struct Lifo<A: Allocator = Global> {
 impl<A: Allocator> Model for Lifo<A> {
     ghost use Rattle.std.specs.Prelude.{true};
     ghost use Rattle.blk_sched.specs.Meaning.{Meaning, meaning_code};
-    ghost use Rattle.blk_lifo.specs.Stacks.{by_id, AreDistinct};
+    ghost use Rattle.blk_lifo.specs.Stacks.{by_id, HaveDistinctIds};
 
     ghost Value = { Meaning };
 
@@ -35,7 +35,7 @@ impl<A: Allocator> Model for Lifo<A> {
       front = true;
     } };
 
-    ghost invariant = { λ s. AreDistinct s.requests.items };
+    ghost invariant = { λ s. HaveDistinctIds s.requests.items };
 }
 
 impl<A: Allocator + Clone> Lifo<A> {
@@ -185,7 +185,7 @@ impl<A: Allocator + Clone> Scheduler for Lifo<A> {
 /// The place of the request of an id, which is there.
 fn place_of<A: Allocator + Clone>(requests: &[Queued<A>], id: u64) -> usize
     requires { IsSome (found requests.now id) }
-    ensures { IsPlaceOf requests.now id result }
+    ensures { HasIdAt requests.now id result }
 {
     for place in 0..requests.len() {
         let queued = &requests[place];

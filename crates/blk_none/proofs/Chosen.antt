@@ -4,7 +4,7 @@ use Rattle.std.proofs.lemmas.Bool.{eq-eqb}
 use Rattle.std.specs.FinMap as map
 use Rattle.blk_bio.specs.Requests.{dir_of}
 use Rattle.blk_sched.specs.Meaning.{Waiting, Pending, Meaning, OpenPicks, ServesNothing, Picks, opened}
-use Rattle.blk_sched.specs.Maps.{first_found, none_found}
+use Rattle.blk_sched.proofs.Maps.{first_found, none_found}
 use Rattle.blk_index.specs.Index.{IsFirst, FindsNothing}
 use Rattle.blk_index.specs.Queues.{served_of}
 use Rattle.blk_index.proofs.Served.{meaning_with, serves_it, served_there}

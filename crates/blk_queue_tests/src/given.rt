@@ -33,7 +33,7 @@ pub fn request<'a>(rt: &impl Abort, heap: Heap<'a>, bio: Bio) -> Request<Heap<'a
         Ok(request) => request,
         Err((back, _)) => {
             assert!(rt; armed && !heap.is_armed());
-            Request::of(heap, back).expect(rt, "want of memory")
+            Request::of(heap, back).expect(rt, "out of memory")
         }
     }
 }
@@ -54,7 +54,7 @@ pub fn joined<'a>(
             assert_eq!(rt; why, JoinFault::Memory);
             assert!(rt; armed && !heap.is_armed());
             let Ok(side) = whole.join(newcomer, limits) else {
-                panic!(rt; "want of memory");
+                panic!(rt; "out of memory");
             };
             side
         }

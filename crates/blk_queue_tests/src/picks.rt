@@ -5,7 +5,7 @@ use blk_sched::OpenPicks;
 
 /// A read is picked, requeued, issued again and done; a write is picked meanwhile.
 #[test]
-fn handed_back_and_issued_again(rt: HostRuntime) {
+fn requeued_and_issued_again(rt: HostRuntime) {
     let mut picks = OpenPicks::none();
     picks.open(Dir::Read);
     picks.open(Dir::Write);

@@ -14,7 +14,7 @@ fn queue<'a>(rt: &impl Abort, heap: Heap<'a>) -> SoftQueue<Heap<'a>> {
         Ok(queue) => queue,
         Err(_) => {
             assert!(rt; armed && !heap.is_armed());
-            SoftQueue::new(heap, 2, limits).expect(rt, "want of memory")
+            SoftQueue::new(heap, 2, limits).expect(rt, "out of memory")
         }
     }
 }

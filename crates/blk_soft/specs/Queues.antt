@@ -22,6 +22,10 @@ pub record Queue : Type 0 where
   pub bios_in : ℕ
   pub bios_out : ℕ
 
+-- the queue of this depth, these limits and requests, and these counts of bios that came and went
+abbrev pub soft_queue_of : ℕ → Limits → List (List Bio) → ℕ → ℕ → Queue
+soft_queue_of depth limits requests came went = record { depth = depth; limits = limits; requests = requests; bios_in = came; bios_out = went }
+
 -- a queue with one request more at the back, whose bios came
 abbrev pub with_last : Queue → List Bio → Queue
 with_last queue request = record queue { requests = queue.requests ++ request ∷ []; bios_in = queue.bios_in + length request }

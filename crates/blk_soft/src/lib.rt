@@ -31,25 +31,13 @@ pub struct SoftQueue<A: Allocator = Global> {
 }
 
 impl<A: Allocator> Model for SoftQueue<A> {
-    ghost use Rattle.blk_soft.specs.Queues.{Queue, IsQueue};
+    ghost use Rattle.blk_soft.specs.Queues.{Queue, IsQueue, soft_queue_of};
 
     ghost Value = { Queue };
 
-    ghost view = { λ q. record {
-      depth = q.ring.capacity;
-      limits = q.limits;
-      requests = q.ring.items;
-      bios_in = q.bios_in;
-      bios_out = q.bios_out;
-    } };
+    ghost view = { λ q. soft_queue_of q.ring.capacity q.limits q.ring.items q.bios_in q.bios_out };
 
-    ghost invariant = { λ q. IsQueue record {
-      depth = q.ring.capacity;
-      limits = q.limits;
-      requests = q.ring.items;
-      bios_in = q.bios_in;
-      bios_out = q.bios_out;
-    } };
+    ghost invariant = { λ q. IsQueue (soft_queue_of q.ring.capacity q.limits q.ring.items q.bios_in q.bios_out) };
 }
 
 impl<A: Allocator + Clone> SoftQueue<A> {

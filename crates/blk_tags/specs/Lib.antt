@@ -1,3 +1,4 @@
 pub mod Tags
 pub mod Steps
+pub mod Kinds
 pub mod Inside

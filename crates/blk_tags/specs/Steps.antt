@@ -31,6 +31,16 @@ IsSeatWith views seat tags = get_elem? views seat ≡ some tags
 abbrev pub IsHeldBy : List (List ℕ) → ℕ → ℕ → Type 0
 IsHeldBy views seat t = (tags : List ℕ) × IsSeatWith views seat tags × Contains tags t
 
+-- a tag's bit is set, a seat holds the tag, and no two seats do
+abbrev pub IsBitSet : List ℕ → ℕ → Type 0
+IsBitSet words t = bit_of words t ≡ 1
+
+abbrev pub IsHeld : List (List ℕ) → ℕ → Type 0
+IsHeld views t = (seat : ℕ) × IsHeldBy views seat t
+
+abbrev pub IsOfOneSeat : List (List ℕ) → ℕ → Type 0
+IsOfOneSeat views t = (one other : ℕ) → IsHeldBy views one t → IsHeldBy views other t → one ≡ other
+
 -- the state with a tag's bit set, or cleared, with other tags for one seat, and with one seat more, which holds none
 abbrev pub set_in : {S : Type 0} → State S (List ℕ) → ℕ → State S (List ℕ)
 set_in s t = record { words = slice_set s.words (t / 64) (bit_or (slice_index s.words (t / 64)) (2 ^ (t % 64))); homes = s.homes; views = s.views }

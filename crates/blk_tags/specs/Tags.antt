@@ -1,5 +1,5 @@
 -- A set of tags and the seats at it, as their callers see them.
-use Rattle.std.specs.Prelude.{ℕ, ◌≡◌, ◌+◌, ◌≤◌, ◌<◌, ◌==◌, Bool, not, List, [], ◌∷◌, Option, IfSome, filter, if◌then◌else◌}
+use Rattle.std.specs.Prelude.{ℕ, ◌≡◌, ◌+◌, ◌≤◌, ◌<◌, ◌==◌, Bool, not, List, [], ◌∷◌, Option, IfSome, filter, length, if◌then◌else◌}
 use Rattle.atomic_table.specs.Seated.{TableId}
 use Rattle.blk_tags.specs.declared.TheConstants.{MAX_DEPTH}
 
@@ -13,6 +13,14 @@ pub record Seat : Type 0 where
   pub of_set : Set
   pub tags : List ℕ
   pub last : Option ℕ
+
+-- the set of this name and depth
+abbrev pub tag_set_of : TableId → ℕ → Set
+tag_set_of name depth = record { name = name; depth = depth }
+
+-- the seat of the set of this name that has a mark for each of its tags
+abbrev pub tag_seat_of : TableId → List Bool → List ℕ → Option ℕ → Seat
+tag_seat_of name marks tags last = record { of_set = tag_set_of name (length marks); tags = tags; last = last }
 
 -- 1 where the fact holds, and otherwise 0
 abbrev pub one_if : Bool → ℕ

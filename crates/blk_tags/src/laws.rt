@@ -2,13 +2,11 @@
 //! contract of a function that does nothing. The set takes no other step: its table is made with its first seat, split,
 //! joined with a seat that holds none, taken from by a `fetch_or`, given back to by a `fetch_and`, and closed.
 
-ghost use Rattle.std.specs.Prelude.{ℕ, ◌≡◌, ◌+◌, ◌*◌, ◌/◌, ◌%◌, ◌<◌, ◌≤◌, List, [], ◌∷◌, ◌++◌, Contains, slice_index};
+ghost use Rattle.std.specs.Prelude.{ℕ, ◌≡◌, ◌+◌, ◌*◌, ◌<◌, List, [], ◌∷◌, slice_index};
 ghost use Rattle.std.specs.Int.{bit_at};
 ghost use Rattle.atomic_table.specs.Table.{State, opening};
-ghost use Rattle.blk_tags.specs.Tags.{without};
-ghost use Rattle.blk_tags.specs.Steps.{TagsAreHeldOnce, bit_of, IsSeatWith, IsHeldBy, set_in, cleared_in, with_seat, with_new_seat};
-
-use crate::MAX_DEPTH;
+ghost use Rattle.blk_tags.specs.Steps.{TagsAreHeldOnce, bit_of, IsBitSet, IsHeld, IsOfOneSeat};
+ghost use Rattle.blk_tags.specs.Kinds.{SplitsASeat, JoinsASeat, WinsATake, LosesATake, GivesBack, KeepsTheRule};
 
 /// Each bit of the words is the bit of a tag, and of no other one.
 pub fn each_bit_is_a_tags()
@@ -19,13 +17,13 @@ pub fn each_bit_is_a_tags()
 /// two seats hold one tag.
 pub fn each_tag_is_one_seats()
     ensures below { (depth : ℕ) → (s : State ℕ (List ℕ)) → (tag : ℕ) → TagsAreHeldOnce depth s
-        → bit_of s.words tag ≡ 1 → tag < depth }
+        → IsBitSet s.words tag → tag < depth }
     ensures held { (depth : ℕ) → (s : State ℕ (List ℕ)) → (tag : ℕ) → TagsAreHeldOnce depth s
-        → bit_of s.words tag ≡ 1 → (seat : ℕ) × IsHeldBy s.views seat tag }
-    ensures once { (depth : ℕ) → (s : State ℕ (List ℕ)) → (tag one other : ℕ) → TagsAreHeldOnce depth s
-        → IsHeldBy s.views one tag → IsHeldBy s.views other tag → one ≡ other }
-    ensures set { (depth : ℕ) → (s : State ℕ (List ℕ)) → (tag seat : ℕ) → TagsAreHeldOnce depth s
-        → IsHeldBy s.views seat tag → bit_of s.words tag ≡ 1 }
+        → IsBitSet s.words tag → IsHeld s.views tag }
+    ensures once { (depth : ℕ) → (s : State ℕ (List ℕ)) → (tag : ℕ) → TagsAreHeldOnce depth s
+        → IsOfOneSeat s.views tag }
+    ensures set { (depth : ℕ) → (s : State ℕ (List ℕ)) → (tag : ℕ) → TagsAreHeldOnce depth s
+        → IsHeld s.views tag → IsBitSet s.words tag }
 {}
 
 /// Each kind of step on the words or the seats keeps the rule: the opening of the table with its first seat, the splitting
@@ -33,17 +31,9 @@ pub fn each_tag_is_one_seats()
 /// closing takes the seats away.)
 pub fn each_kind_of_step_keeps_the_rule()
     ensures opening { (depth : ℕ) → TagsAreHeldOnce depth (opening {S = ℕ} (0 ∷ 0 ∷ 0 ∷ 0 ∷ []) [] []) }
-    ensures splitting { (depth : ℕ) → (s : State ℕ (List ℕ)) → TagsAreHeldOnce depth s
-        → TagsAreHeldOnce depth (with_new_seat s) }
-    ensures joining { (depth : ℕ) → (s : State ℕ (List ℕ)) → (other : ℕ) → TagsAreHeldOnce depth s
-        → IsSeatWith s.views other [] → TagsAreHeldOnce depth (with_seat s other []) }
-    ensures winning { (depth : ℕ) → (s : State ℕ (List ℕ)) → (seat tag : ℕ) → (tags : List ℕ) → depth ≤ MAX_DEPTH → TagsAreHeldOnce depth s
-        → IsSeatWith s.views seat tags → tag < depth → bit_of s.words tag ≡ 0
-        → TagsAreHeldOnce depth (with_seat (set_in s tag) seat (tags ++ tag ∷ [])) }
-    ensures losing { (depth : ℕ) → (s : State ℕ (List ℕ)) → (seat tag : ℕ) → (tags : List ℕ) → depth ≤ MAX_DEPTH → TagsAreHeldOnce depth s
-        → IsSeatWith s.views seat tags → tag < depth → bit_of s.words tag ≡ 1
-        → TagsAreHeldOnce depth (with_seat (set_in s tag) seat tags) }
-    ensures giving { (depth : ℕ) → (s : State ℕ (List ℕ)) → (seat tag : ℕ) → (tags : List ℕ) → depth ≤ MAX_DEPTH → TagsAreHeldOnce depth s
-        → IsSeatWith s.views seat tags → tag < depth → Contains tags tag
-        → TagsAreHeldOnce depth (with_seat (cleared_in s tag) seat (without tag tags)) }
+    ensures splitting { (depth : ℕ) → (s after : State ℕ (List ℕ)) → SplitsASeat s after → KeepsTheRule depth s after }
+    ensures joining { (depth : ℕ) → (s after : State ℕ (List ℕ)) → JoinsASeat s after → KeepsTheRule depth s after }
+    ensures winning { (depth : ℕ) → (s after : State ℕ (List ℕ)) → WinsATake depth s after → KeepsTheRule depth s after }
+    ensures losing { (depth : ℕ) → (s after : State ℕ (List ℕ)) → LosesATake depth s after → KeepsTheRule depth s after }
+    ensures giving { (depth : ℕ) → (s after : State ℕ (List ℕ)) → GivesBack depth s after → KeepsTheRule depth s after }
 {}

@@ -80,15 +80,14 @@ pub struct TagSet<A: Allocator = Global> {
 }
 
 impl<A: Allocator> Model for TagSet<A> {
-    ghost use Rattle.std.specs.Prelude.{◌≡◌};
-    ghost use Rattle.blk_tags.specs.Tags.{Set, IsSet};
+    ghost use Rattle.blk_tags.specs.Tags.{Set, tag_set_of};
+    ghost use Rattle.blk_tags.specs.Inside.{IsSetTable};
 
     ghost Value = { Set };
 
-    ghost view = { λ s. record { name = s.table.shared.table_id; depth = s.depth } };
+    ghost view = { λ s. tag_set_of s.table.shared.table_id s.depth };
 
-    ghost invariant = { λ s. IsSet record { name = s.table.shared.table_id; depth = s.depth }
-        × (s.table.shared.table_id.words ≡ 4) × (s.table.shared.key ≡ s.depth) };
+    ghost invariant = { λ s. IsSetTable s.table.shared.table_id s.table.shared.key s.depth };
 }
 
 /// A seat at a set: the tags that it holds, and the one that it took last. One thread at a time takes and gives with it.
@@ -101,23 +100,14 @@ pub struct TagSeat<A: Allocator = Global> {
 }
 
 impl<A: Allocator> Model for TagSeat<A> {
-    ghost use Rattle.std.specs.Prelude.{◌≡◌, [], length};
-    ghost use Rattle.blk_tags.specs.Tags.{Seat as SeatFields, IsSeat};
-    ghost use Rattle.blk_tags.specs.Inside.{Marks};
+    ghost use Rattle.blk_tags.specs.Tags.{Seat as SeatFields, tag_seat_of};
+    ghost use Rattle.blk_tags.specs.Inside.{IsMarkedSeat};
 
     ghost Value = { SeatFields };
 
-    ghost view = { λ s. record {
-      of_set = record { name = s.seat.table_id; depth = length s.marks.items };
-      tags = s.seat.me.0;
-      last = s.last;
-    } };
+    ghost view = { λ s. tag_seat_of s.seat.table_id s.marks.items s.seat.me.0 s.last };
 
-    ghost invariant = { λ s. IsSeat record {
-      of_set = record { name = s.seat.table_id; depth = length s.marks.items };
-      tags = s.seat.me.0;
-      last = s.last;
-    } × Marks s.marks.items s.seat.me.0 × (s.seat.me.1 ≡ []) };
+    ghost invariant = { λ s. IsMarkedSeat s.seat.table_id s.marks.items s.seat.me.0 s.seat.me.1 s.last };
 }
 
 impl<A: Allocator + Clone> TagSet<A> {

@@ -15,7 +15,7 @@ use Rattle.blk_trace.specs.Events.{round_of, join_up, request_of, IsReleased, Is
 use Rattle.blk_trace.specs.Legal.{IsLegalTrace}
 use Rattle.blk_trace.specs.Meaning.{issued_ids, released_ids, release_of, due_of}
 use Rattle.blk_trace.specs.Waits.{Entered, has_id, waits_at, was_issued}
-use Rattle.blk_trace.specs.Inside.Kept.{summary, known_waiting, known_of, rounds_in, is_gone}
+use Rattle.blk_trace.specs.Inside.Kept.{summary, known_waiting, known_of, rounds_known, is_gone}
 use Rattle.blk_trace.proofs.More.{was_issued_more}
 use Rattle.blk_trace.proofs.Entering.{has_issued_same}
 use Rattle.blk_trace.proofs.Unissued.{was_kept}
@@ -102,26 +102,26 @@ pub known_open : (setup : Setup) (es : List Happened) (t id : ℕ) → IsLegalTr
 known_open setup es t id legal o = known_by setup es id true _ _ (requeued_ids setup es t id legal o).was refl refl
 
 -- what is kept of an id that waits
-both_rounds : (b : Bool) (w : Entered) → rounds_in (known_waiting b w) ≡ Some (w.release, w.due)
+both_rounds : (b : Bool) (w : Entered) → rounds_known (known_waiting b w) ≡ Some (w.release, w.due)
 both_rounds true w = refl
 both_rounds false w = refl
 
-pub known_when : (setup : Setup) (es : List Happened) (id : ℕ) → IsReleased es id → AreRequeued es id → (k : Known) × ((x : ℕ × ℕ) × (known_of setup es id ≡ Some k) × (rounds_in k ≡ Some x))
+pub known_when : (setup : Setup) (es : List Happened) (id : ℕ) → IsReleased es id → AreRequeued es id → (k : Known) × ((x : ℕ × ℕ) × (known_of setup es id ≡ Some k) × (rounds_known k ≡ Some x))
 known_when setup es id p n =
     let w : Entered = record { release = release_of es id; due = due_of setup es id; bios = request_of es id } in
     let free : has_id (issued_ids es) id ≡ false = all_back es id n in
     (known_waiting (was_issued es id) w, ((w.release, w.due), known_by setup es id false _ (Some w) free refl (waits_for setup es id p free), both_rounds (was_issued es id) w))
 
-rounds_from : (gone ever : Bool) (waits : Option Entered) (k : Known) (x : ℕ × ℕ) → kept_from gone ever waits ≡ Some k → rounds_in k ≡ Some x → (w : Entered) × (waits ≡ Some w) × (x ≡ (w.release, w.due))
-rounds_from true ever waits k x h r = absurd (let e : Gone ≡ k = cc in let n : rounds_in Gone ≡ Some x = ap rounds_in e ∙ r in cc)
+rounds_from : (gone ever : Bool) (waits : Option Entered) (k : Known) (x : ℕ × ℕ) → kept_from gone ever waits ≡ Some k → rounds_known k ≡ Some x → (w : Entered) × (waits ≡ Some w) × (x ≡ (w.release, w.due))
+rounds_from true ever waits k x h r = absurd (let e : Gone ≡ k = cc in let n : rounds_known Gone ≡ Some x = ap rounds_known e ∙ r in cc)
 rounds_from false ever None k x h r = absurd (cc)
 rounds_from false ever (Some w) k x h r =
     let e : known_waiting ever w ≡ k = cc in
-    let both : Some (w.release, w.due) ≡ Some x = sym (both_rounds ever w) ∙ ap rounds_in e ∙ r in
+    let both : Some (w.release, w.due) ≡ Some x = sym (both_rounds ever w) ∙ ap rounds_known e ∙ r in
     let same : ◌≡◌ {A = ℕ × ℕ} (w.release, w.due) x = cc in
     (w, refl, sym same)
 
-pub known_rounds : (setup : Setup) (es : List Happened) (id : ℕ) (k : Known) (x : ℕ × ℕ) → known_of setup es id ≡ Some k → rounds_in k ≡ Some x → (w : Entered) × (waits_at setup es id ≡ Some w) × (x ≡ (w.release, w.due))
+pub known_rounds : (setup : Setup) (es : List Happened) (id : ℕ) (k : Known) (x : ℕ × ℕ) → known_of setup es id ≡ Some k → rounds_known k ≡ Some x → (w : Entered) × (waits_at setup es id ≡ Some w) × (x ≡ (w.release, w.due))
 known_rounds setup es id k x h r = rounds_from _ _ (waits_at setup es id) k x (sym (known_is setup es id) ∙ h) r
 
 -- what is kept says whether the id was released, and issued

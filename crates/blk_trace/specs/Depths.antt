@@ -57,6 +57,13 @@ pub record IsLastBefore (events : List Happened) (place depth round : ℕ) : Typ
 abbrev pub HasNoneBefore : List Happened → ℕ → Type 0
 HasNoneBefore events round = (k n : ℕ) → At events k (Depth n) → round ≤ round_at events k
 
+-- a round has the depth of the last Depth in a round before it, and the setup's where there is none
+abbrev pub LastDepthIsInForce : Setup → List Happened → Type 0
+LastDepthIsInForce setup events = (place depth round : ℕ) → IsLastBefore events place depth round → depth_in setup events round ≡ depth
+
+abbrev pub SetupDepthIsInForce : Setup → List Happened → Type 0
+SetupDepthIsInForce setup events = (round : ℕ) → HasNoneBefore events round → depth_in setup events round ≡ setup.depth
+
 -- no event sets a depth
 abbrev pub IsFixed : List Happened → Type 0
 IsFixed events = (k depth : ℕ) → At events k (Depth depth) → ⊥

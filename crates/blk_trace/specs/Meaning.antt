@@ -1,5 +1,5 @@
 -- What a trace means: its commands, the rounds in which they ran, and the bios that wait.
-use Rattle.std.specs.Prelude.{ℕ, ◌+◌, ◌==◌, not, cond, List, [], ◌∷◌, Option, Some, None, option_map, min, max, map, fold, filter, nat_le}
+use Rattle.std.specs.Prelude.{ℕ, ◌≡◌, ◌+◌, ◌==◌, not, cond, List, [], ◌∷◌, Option, Some, None, option_map, min, max, map, fold, filter, nat_le, slice_get}
 use Rattle.std.specs.Option.{option_and_then}
 use Rattle.std.specs.List.{flat_map, filter_map, cons_option, list_any}
 use Rattle.blk_bio.specs.Bios.{Bio}
@@ -8,12 +8,20 @@ use Rattle.edd_commands.specs.declared.Command.{Command}
 use Rattle.blk_trace.specs.Happened.{Happened}
 use Rattle.blk_trace.specs.Kinds.{releases, issues, is_tick, enters_under}
 use Rattle.blk_trace.specs.Setups.{Setup, expire_of}
-use Rattle.blk_trace.specs.Events.{goes_back, request_of}
+use Rattle.blk_trace.specs.Events.{At, round_at, goes_back, request_of}
 
 -- each event with its round, where the first one's round is given
 unfoldable pub timed : ℕ → List Happened → List (ℕ × Happened)
 timed round [] = []
 timed round (e ∷ es) = (round, e) ∷ timed (cond (is_tick e) (round + 1) round) es
+
+-- of the events with their rounds the one at place k is e, in this round
+abbrev pub IsTimed : List Happened → ℕ → ℕ → Happened → Type 0
+IsTimed events k round e = slice_get (timed 0 events) k ≡ Some (round, e)
+
+-- e stands at place k, and before it as many Ticks as the round's number
+abbrev pub StandsInRound : List Happened → ℕ → ℕ → Happened → Type 0
+StandsInRound events k round e = At events k e × (round ≡ round_at events k)
 
 -- the greatest of some numbers, 0 without any
 abbrev pub greatest : List ℕ → ℕ

@@ -3,7 +3,7 @@
 ghost use Rattle.std.specs.Prelude.{◌≡◌, ◌<◌, ◌+◌, ◌^◌, IfSome, IfNone};
 ghost use Rattle.blk_bio.specs.Requests.{IsRequest};
 ghost use Rattle.blk_trace.specs.Waits.{Entered};
-ghost use Rattle.blk_trace.specs.Inside.Kept.{summary, JoinsKept, FitsNowhere};
+ghost use Rattle.blk_trace.specs.Inside.Kept.{summary, JoinsKept, FitsNoKept};
 
 use blk_bio::{Extent, Limits, Request};
 use std::alloc::Allocator;
@@ -61,8 +61,9 @@ impl Unissued {
     ) -> Option<Unissued>
         requires { (w : Entered) × (self.now ≡ summary w) × IsRequest w.bios }
         ensures some { IfSome result (JoinsKept limits.now round self.now request.now) }
-        ensures none { IfNone result (FitsNowhere limits.now self.now request.now) }
+        ensures none { IfNone result (FitsNoKept limits.now self.now request.now) }
     {
+        // brings the prover the limits' invariant
         let _ = limits.max_segments();
         let newcomer = request.extent();
         let Some(side) = self.extent.fits(&newcomer, limits) else {

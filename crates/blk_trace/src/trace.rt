@@ -217,6 +217,7 @@ impl<A: Allocator + Clone> Trace<A> {
     pub fn has_bio(&self, id: BioId) -> bool
         ensures { IsTrue result ↔ HasBio self.now.events id }
     {
+        // brings the prover the trace's invariant
         let _ = &self.round;
         self.ids.contains(id.submitter, id.serial)
     }

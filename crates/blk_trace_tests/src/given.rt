@@ -143,7 +143,7 @@ pub fn empty<'a>(rt: &impl Abort, heap: Heap<'a>, setup: Setup) -> Trace<Heap<'a
         Err(_) => {
             assert!(rt; !heap.is_armed());
             let Ok(trace) = Trace::empty(heap, setup) else {
-                panic!(rt; "want of memory");
+                panic!(rt; "out of memory");
             };
             trace
         }

@@ -54,7 +54,7 @@ fn remade<'a>(rt: &impl Abort, heap: Heap<'a>, steps: &[Step]) -> Trace<Heap<'a>
             assert_eq!(rt; fault, TraceFault::Memory);
             assert!(rt; armed && !heap.is_armed());
             let Ok(trace) = made(rt, heap, setup, steps) else {
-                panic!(rt; "want of memory");
+                panic!(rt; "out of memory");
             };
             trace
         }

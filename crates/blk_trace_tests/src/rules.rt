@@ -61,7 +61,7 @@ fn each_rule_refuses(rt: HostRuntime) {
 
 /// A request that is requeued waits, nothing joins it, and it goes out again under another tag.
 #[test]
-fn handed_back_and_issued_again(rt: HostRuntime) {
+fn requeued_and_issued_again(rt: HostRuntime) {
     let heap = Refusing::new(rt.alloc());
     let made = Setup::new(2, 1, 0, 0, limits(&rt, 256, 128)).expect(&rt, "a setup");
     let mut trace = empty(&rt, &heap, made);

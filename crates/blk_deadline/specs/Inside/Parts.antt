@@ -1,15 +1,19 @@
--- The parts of a pick.
-use Rattle.std.specs.Prelude.{ℕ, ◌≡◌, Option, Some}
+-- The parts of a pick, and of a meaning.
+use Rattle.std.specs.Prelude.{ℕ, ◌≡◌, Bool, Option, Some}
 use Rattle.std.specs.FinMap as map
 use Rattle.blk_bio.specs.declared.bio.Dir.{Dir}
-use Rattle.blk_sched.specs.Meaning.{Waiting}
+use Rattle.blk_sched.specs.Meaning.{Waiting, Pending, OpenPicks, Meaning}
 use Rattle.blk_deadline.specs.declared.BatchState.{BatchState}
 use Rattle.blk_deadline.specs.declared.Deadline.{Deadline}
 use Rattle.blk_deadline.specs.Choice.{next_of, in_batch, taken}
 
 -- a choice by the id of its request, how many went in the batch then, and how often reads went first
-abbrev pub IsChosen : (ℕ → Option Waiting) → Option (Waiting × BatchState) → ℕ × ℕ × ℕ → Type 0
-IsChosen found choice r = (w : Waiting) × (found r.0 ≡ Some w) × (choice ≡ Some (taken w r.1 r.2))
+abbrev pub IsBatchChoice : (ℕ → Option Waiting) → Option (Waiting × BatchState) → ℕ × ℕ × ℕ → Type 0
+IsBatchChoice found choice r = (w : Waiting) × (found r.0 ≡ Some w) × (choice ≡ Some (taken w r.1 r.2))
+
+-- a meaning of these parts
+abbrev pub meaning_with : Pending → OpenPicks → Bool → Meaning
+meaning_with pending open_picks front = record { pending = pending; open_picks = open_picks; front = front }
 
 module _ {A : Type 0} where
   -- the next request of a direction, and the next one of the batch

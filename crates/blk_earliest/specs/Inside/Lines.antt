@@ -10,42 +10,42 @@ use Rattle.blk_index.specs.Inside.Pairs.{pair_cmp}
 use Rattle.blk_earliest.specs.declared.order.Dues.{Dues}
 
 -- whether a pair is in the list
-abbrev pub listed : List (ℕ × ℕ) → ℕ × ℕ → Bool
-listed ps q = list_any (is_at (pair_cmp q)) ps
+abbrev pub has_pair : List (ℕ × ℕ) → ℕ × ℕ → Bool
+has_pair ps q = list_any (is_at (pair_cmp q)) ps
 
 -- the pairs of both
-abbrev pub either : (ℕ × ℕ → Bool) → (ℕ × ℕ → Bool) → ℕ × ℕ → Bool
-either one other q = one q || other q
+abbrev pub has_either : (ℕ × ℕ → Bool) → (ℕ × ℕ → Bool) → ℕ × ℕ → Bool
+has_either one other q = one q || other q
 
 module _ {A : Type 0} where
   -- all pairs
   abbrev pub dues_in : Dues A → ℕ × ℕ → Bool
-  dues_in dues = either (listed dues.reads.items) (either (listed dues.writes.items) (contains pair_cmp dues.others))
+  dues_in dues = has_either (has_pair dues.reads.items) (has_either (has_pair dues.writes.items) (contains pair_cmp dues.others))
 
   -- those of one line and the set
   abbrev pub pairs_in : VecDeque (ℕ × ℕ) A → BTreeSet (ℕ × ℕ) → ℕ × ℕ → Bool
-  pairs_in line others = either (listed line.items) (contains pair_cmp others)
+  pairs_in line others = has_either (has_pair line.items) (contains pair_cmp others)
 
   -- each line is in order
   abbrev pub AreLines : Dues A → Type 0
   AreLines dues = IsStrictlySortedBy pair_cmp dues.reads.items × IsStrictlySortedBy pair_cmp dues.writes.items
 
 -- no pair from a due round on is less than this one
-abbrev pub IsLeastFrom : (ℕ × ℕ → Bool) → ℕ → ℕ × ℕ → Type 0
-IsLeastFrom has start p = (q : ℕ × ℕ) → is_gt (pair_cmp (start, 0) q) ≡ false → has q ≡ true → is_gt (pair_cmp p q) ≡ false
+abbrev pub IsLeastPairFrom : (ℕ × ℕ → Bool) → ℕ → ℕ × ℕ → Type 0
+IsLeastPairFrom has start p = (q : ℕ × ℕ) → is_gt (pair_cmp (start, 0) q) ≡ false → has q ≡ true → is_gt (pair_cmp p q) ≡ false
 
 -- the first pair from a due round on
-pub record IsFirstOf (has : ℕ × ℕ → Bool) (start : ℕ) (p : ℕ × ℕ) : Type 0 where
+pub record IsFirstPairFrom (has : ℕ × ℕ → Bool) (start : ℕ) (p : ℕ × ℕ) : Type 0 where
   pub there : has p ≡ true
   pub high : is_gt (pair_cmp (start, 0) p) ≡ false
-  pub least : IsLeastFrom has start p
+  pub least : IsLeastPairFrom has start p
 
 -- it is the first one, or there is none
 abbrev pub IsFirstOrNone : (ℕ × ℕ → Bool) → ℕ → Option (ℕ × ℕ) → Type 0
-IsFirstOrNone has start (Some p) = IsFirstOf has start p
+IsFirstOrNone has start (Some p) = IsFirstPairFrom has start p
 IsFirstOrNone has start None = (q : ℕ × ℕ) → is_gt (pair_cmp (start, 0) q) ≡ false → has q ≡ false
 
 -- the first of two is the first of both
 abbrev pub IsFirstOfBoth : Option (ℕ × ℕ) → Option (ℕ × ℕ) → Option (ℕ × ℕ) → Type 0
 IsFirstOfBoth one other first =
-    (p q : ℕ × ℕ → Bool) → (start : ℕ) → IsFirstOrNone p start one → IsFirstOrNone q start other → IsFirstOrNone (either p q) start first
+    (p q : ℕ × ℕ → Bool) → (start : ℕ) → IsFirstOrNone p start one → IsFirstOrNone q start other → IsFirstOrNone (has_either p q) start first

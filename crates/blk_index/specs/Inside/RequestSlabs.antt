@@ -13,14 +13,14 @@ use Rattle.blk_bio.specs.Requests.{Fits}
 use Rattle.blk_sched.specs.Meaning.{Waiting, Pending, joined_waiting}
 
 -- a request under an id, if there is one, before others
-abbrev pub beside : ℕ → Option Waiting → List (ℕ × Waiting) → List (ℕ × Waiting)
-beside id None rest = rest
-beside id (Some w) rest = (id, w) ∷ rest
+abbrev pub entry_before : ℕ → Option Waiting → List (ℕ × Waiting) → List (ℕ × Waiting)
+entry_before id None rest = rest
+entry_before id (Some w) rest = (id, w) ∷ rest
 
 -- the requests under the ids at whose keys they lie
 unfoldable pub held : (ℕ → Option Waiting) → List (ℕ × ℕ) → List (ℕ × Waiting)
 held at [] = []
-held at (e ∷ es) = beside e.0 (at e.1) (held at es)
+held at (e ∷ es) = entry_before e.0 (at e.1) (held at es)
 
 -- at the key of each id lies a request of that id
 abbrev pub IsSlab : List (ℕ × ℕ) → (ℕ → Option Waiting) → Type 0
@@ -28,8 +28,8 @@ IsSlab keys at =
     (id key : ℕ) → lookup (is_at (nat_cmp id)) keys ≡ Some key → (w : Waiting) × (at key ≡ Some w) × (w.id ≡ id)
 
 -- and so many lie there as are found
-abbrev pub Counts : List (ℕ × ℕ) → Slab Waiting → Type 0
-Counts keys s = slab_len s ≡ map.len (map.from_entries {R = nat_cmp} (held (slab.get s) keys))
+abbrev pub CountsHeld : List (ℕ × ℕ) → Slab Waiting → Type 0
+CountsHeld keys s = slab_len s ≡ map.len (map.from_entries {R = nat_cmp} (held (slab.get s) keys))
 
 -- the request of an id is joined by a newcomer at the side at which it fits, and the others stay
 pub record JoinsOne (limits : Limits) (now : ℕ) (newcomer : List Bio) (old : Pending) (id : ℕ) (side : Side) (new : Pending) : Type 0 where

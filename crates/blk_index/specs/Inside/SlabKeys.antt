@@ -23,8 +23,8 @@ abbrev pub run_at : ℕ → List (Option ℕ) → ℕ → Option ℕ
 run_at from os id = key_in (run_of from os) id
 
 -- an id gets a key, or loses it, and the others keep theirs
-abbrev pub Gives : (ℕ → Option ℕ) → ℕ → Option ℕ → (ℕ → Option ℕ) → Type 0
-Gives old id key new = (k : ℕ) → new k ≡ cond (is_at (nat_cmp id) k) key (old k)
+abbrev pub GivesKey : (ℕ → Option ℕ) → ℕ → Option ℕ → (ℕ → Option ℕ) → Type 0
+GivesKey old id key new = (k : ℕ) → new k ≡ cond (is_at (nat_cmp id) k) key (old k)
 
 module _ {A : Type 0} where
   -- all keys, and that of an id

@@ -8,8 +8,8 @@ use Rattle.blk_kyber.specs.declared.Kyber.{Kyber}
 use Rattle.blk_kyber.specs.Choice.{head_of}
 
 -- a choice by the id of its request and the turn in which it goes
-abbrev pub IsChosen : (ℕ → Option Waiting) → Option (Waiting × Turn) → ℕ × Turn → Type 0
-IsChosen found choice r = (w : Waiting) × (found r.0 ≡ Some w) × (choice ≡ Some (w, r.1))
+abbrev pub IsTurnChoice : (ℕ → Option Waiting) → Option (Waiting × Turn) → ℕ × Turn → Type 0
+IsTurnChoice found choice r = (w : Waiting) × (found r.0 ≡ Some w) × (choice ≡ Some (w, r.1))
 
 module _ {A : Type 0} where
   -- what a pick takes of a direction at a hardware queue

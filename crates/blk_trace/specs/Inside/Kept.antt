@@ -33,8 +33,8 @@ abbrev pub JoinsKept : Limits → ℕ → Unissued → List Bio → Unissued →
 JoinsKept limits round old newcomer new = (w : Entered) → old ≡ summary w → IsRequest w.bios
     → ((s : Side) × Fits limits w.bios newcomer s) × (new ≡ summary record { release = round; due = w.due; bios = join_up w.bios newcomer })
 
-abbrev pub FitsNowhere : Limits → Unissued → List Bio → Type 0
-FitsNowhere limits old newcomer = (w : Entered) → old ≡ summary w → IsRequest w.bios → (s : Side) → Fits limits w.bios newcomer s → ⊥
+abbrev pub FitsNoKept : Limits → Unissued → List Bio → Type 0
+FitsNoKept limits old newcomer = (w : Entered) → old ≡ summary w → IsRequest w.bios → (s : Side) → Fits limits w.bios newcomer s → ⊥
 
 -- what is kept of a request that waits, by whether it was issued before
 abbrev pub known_waiting : Bool → Entered → Known
@@ -54,10 +54,10 @@ is_gone (Some Gone) = true
 is_gone _ = false
 
 -- the rounds of the release and due of a request that may be issued
-abbrev pub rounds_in : Known → Option (ℕ × ℕ)
-rounds_in (Waits w) = Some (w.release, w.due)
-rounds_in (Requeued release due) = Some (release, due)
-rounds_in Gone = None
+abbrev pub rounds_known : Known → Option (ℕ × ℕ)
+rounds_known (Waits w) = Some (w.release, w.due)
+rounds_known (Requeued release due) = Some (release, due)
+rounds_known Gone = None
 
 -- whether two ids of bios are one
 abbrev pub is_bio : BioId → BioId → Bool

@@ -14,7 +14,7 @@ ghost use Rattle.blk_trace.specs.Legal.{IsLegalTrace};
 ghost use Rattle.blk_trace.specs.Rules.{IsUnbroken};
 ghost use Rattle.blk_trace.specs.Traces.{IsPreparedFor, extended};
 ghost use Rattle.blk_trace.specs.Events.{IsReleased, IsIssued, IsOpen, IsOpenBy};
-ghost use Rattle.blk_trace.specs.Inside.Kept.{known_of, requeued_known, has_named, has_bio_id, rounds_in};
+ghost use Rattle.blk_trace.specs.Inside.Kept.{known_of, requeued_known, has_named, has_bio_id, rounds_known};
 
 use crate::event::Event;
 use crate::known::{Known, Unissued};
@@ -35,6 +35,7 @@ impl<A: Allocator + Clone> Trace<A> {
         ensures added { self.new ≡ extended self.old event }
         ensures legal { IsLegalTrace self.old.setup (self.old.events ++ event ∷ []) }
     {
+        // brings the prover the trace's invariant
         let _ = &self.round;
         match event {
             Event::Tick => self.add_tick(),
@@ -142,6 +143,7 @@ impl<A: Allocator + Clone> Trace<A> {
         requires { IsOpen self.now.events tag }
         ensures { IsOpenBy self.now.events tag result }
     {
+        // brings the prover the trace's invariant
         let _ = &self.round;
         match self.tag_use(tag) {
             TagUse::Open(id) => id,
@@ -182,9 +184,9 @@ impl<A: Allocator + Clone> Trace<A> {
 
 /// Marks the request that waits under an id as issued, and hands out its command.
 fn issued<A: Allocator + Clone>(known: &mut ById<Known, A>, id: u64) -> Command
-    requires { (k : Kept) × ((x : ℕ × ℕ) × (kept_at known.old id ≡ Some k) × (rounds_in k ≡ Some x)) }
+    requires { (k : Kept) × ((x : ℕ × ℕ) × (kept_at known.old id ≡ Some k) × (rounds_known k ≡ Some x)) }
     ensures named { result.id ≡ id }
-    ensures was { (k : Kept) × (kept_at known.old id ≡ Some k) × (rounds_in k ≡ Some (result.release, result.due)) }
+    ensures was { (k : Kept) × (kept_at known.old id ≡ Some k) × (rounds_known k ≡ Some (result.release, result.due)) }
     ensures gone { Gives (kept_at known.old) id (Some Known.Gone) (kept_at known.new) }
     ensures room { by_id.spare known.new ≡ by_id.spare known.old }
 {

@@ -25,6 +25,7 @@ impl<A: Allocator + Clone> Trace<A> {
         ensures none { IfNone result (IsUnbroken self.now.setup self.now.events event.now) }
         ensures legal { IsLegalTrace self.now.setup self.now.events }
     {
+        // brings the prover the trace's invariant
         let _ = &self.round;
         match event {
             Event::Tick => self.broken_tick(),
@@ -129,6 +130,7 @@ impl<A: Allocator + Clone> Trace<A> {
         ensures some { IfSome result (IsFirstBroken self.now.setup self.now.events event.now) }
         ensures none { IfNone result (IsUnbroken self.now.setup self.now.events event.now) }
     {
+        // named in the clauses alone
         let _ = event;
         if tag as u64 >= self.depth() {
             Some(TraceRule::NotIssued)
@@ -160,6 +162,7 @@ impl<A: Allocator + Clone> Trace<A> {
         ensures legal { IsLegalTrace self.now.setup self.now.events }
         ensures request { (w : Entered) → waits_at self.now.setup self.now.events id ≡ Some w → IsRequest w.bios }
     {
+        // brings the prover the trace's invariant
         let _ = &self.round;
         self.known.get(id)
     }
@@ -233,6 +236,7 @@ impl<A: Allocator + Clone> Trace<A> {
         ensures some { IfSome result (IsFirstRepeatedBio (entered self.now.events) bios.now) }
         ensures none { IfNone result (AreOnce (entered self.now.events ++ bios.now)) }
     {
+        // brings the prover the trace's invariant
         let _ = &self.round;
         for (place, bio) in bios.iter().enumerate() {
             let id = bio.id();

@@ -2,7 +2,7 @@ use Rattle.std.proofs.Common.{◌≡◌, ◌<◌, ℕ, List, sym, subst, arith}
 use Rattle.std.specs.List.{remove}
 use Rattle.std.proofs.lemmas.Option.{slice_get_within}
 use Rattle.blk_index.specs.Inside.SortLists.{PairTaken}
-use Rattle.blk_earliest.specs.Inside.Lines.{listed}
+use Rattle.blk_earliest.specs.Inside.Lines.{has_pair}
 use Rattle.blk_earliest.proofs.Lines.{InOrder, some_holds, remove_listed, remove_in_order, absent_taken}
 use Rattle.blk_earliest.proofs.order.take_from.Goals as goal
 
@@ -13,7 +13,7 @@ returns-then-stands_at-clause-taken g c =
     let at = c.if-stands_at.ensures.yes in
     let within : place < deque.len = omega (arith, slice_get_within deque.items place c.args.due at, deque.ok) in
     let is : c.remove.new.self.items ≡ remove deque.items place = some_holds c.remove.result _ (c.remove.ensures.variant.1 within) c.remove.ensures.items in
-    subst (λ (l : List (ℕ × ℕ)). PairTaken (listed deque.items) c.args.due (listed l)) (sym is) (remove_listed deque.items place c.args.due c.requires at)
+    subst (λ (l : List (ℕ × ℕ)). PairTaken (has_pair deque.items) c.args.due (has_pair l)) (sym is) (remove_listed deque.items place c.args.due c.requires at)
 
 pub returns-then-stands_at-clause-line : goal.returns-then-stands_at-clause-line
 returns-then-stands_at-clause-line g c =

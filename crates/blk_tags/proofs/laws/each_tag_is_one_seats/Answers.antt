@@ -8,7 +8,7 @@ pub returns-clause-held : goal.returns-clause-held
 returns-clause-held c depth s t h e = bit_held depth s h t e
 
 pub returns-clause-once : goal.returns-clause-once
-returns-clause-once c depth s t i j h a b = one_seat t s.views i j (few_total depth s h t) a b
+returns-clause-once c depth s t h i j a b = one_seat t s.views i j (few_total depth s h t) a b
 
 pub returns-clause-set : goal.returns-clause-set
-returns-clause-set c depth s t id h a = held_bit depth s h t id a
+returns-clause-set c depth s t h a = held_bit depth s h t a.0 a.1

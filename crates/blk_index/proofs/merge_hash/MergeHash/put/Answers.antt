@@ -19,7 +19,7 @@ returns-clause-ok g c =
 
 pub returns-in_default-found-clause-least : goal.returns-in_default-found-clause-least
 returns-in_default-found-clause-least g c =
-    first_lowers (buckets_in c.args.self.now) (table_in c.put.new.self) (others_in c.args.self.now) c.args.spot c.args.sectors c.args.bios
+    first_lowers (buckets_in c.args.self.now) (table_in c.put.new.self) c.args.spot c.args.sectors c.args.bios
     (sym c.in-Ok.ensures.before ∙ c.in_default-found.is) c.in-Ok.ensures.ok
 
 pub returns-clause-least : goal.returns-clause-least

@@ -1,4 +1,4 @@
-use Rattle.std.proofs.Common.{◌≡◌, ◌∙◌, ap, List, Option, ℕ, Some}
+use Rattle.std.proofs.Common.{◌∙◌, ap, List, Option, ℕ, Some}
 use Rattle.std.specs.Prelude.{◌++◌}
 use Rattle.blk_index.specs.Inside.SlabKeys.{run_of, entries_of, key_in}
 use Rattle.blk_index.proofs.Placing.{all_passed, one_put, first_given, then_given, given_of, on_ok, on_err}

@@ -1,7 +1,7 @@
 use Rattle.std.proofs.Common.{rules, ◌≡◌, subst, ap, ◌∙◌, inr, true, refl}
 use Rattle.blk_bio.specs.Requests.{dir_of}
 use Rattle.blk_sched.specs.Meaning.{Waiting, Meaning, OpenPicks, opened}
-use Rattle.blk_lifo.specs.Stacks.{AreDistinct, by_id}
+use Rattle.blk_lifo.specs.Stacks.{HaveDistinctIds, by_id}
 use Rattle.blk_lifo.proofs.Lists.{distinct_popped}
 use Rattle.blk_lifo.proofs.Stack.{picked, none_left}
 use Rattle.blk_lifo.proofs.lifo.LifoScheduler.pick.Goals as goal
@@ -13,7 +13,7 @@ pub returns-in_default-clause-chosen : goal.returns-in_default-clause-chosen
 returns-in_default-clause-chosen g c = (none_left c.self.inside.requests.items c.self.inside.open_picks c.args.self.now c.args.hw c.self.view_is (search rules), refl)
 
 pub invariant_of-self-2 : goal.invariant_of-self-2
-invariant_of-self-2 g c = (distinct_popped c.pop.new.self.items c.in-Some.queued (subst AreDistinct c.in-Some.ensures.items c.self.invariant)).0
+invariant_of-self-2 g c = (distinct_popped c.pop.new.self.items c.in-Some.queued (subst HaveDistinctIds c.in-Some.ensures.items c.self.invariant)).0
 
 pub returns-clause-picked : goal.returns-clause-picked
 returns-clause-picked g c =
