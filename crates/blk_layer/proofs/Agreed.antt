@@ -16,14 +16,14 @@ use Rattle.blk_trace.specs.Events.{entered}
 use Rattle.blk_trace.specs.Laws.{IsAccounted}
 use Rattle.blk_trace.specs.Meaning.{command_of, waiting_of}
 use Rattle.blk_trace.specs.Waits.{has_id}
-use Rattle.blk_layer.specs.Closing.{way_of, is_bio_of, is_command, issued_bios, done_ids, done_commands, all_accepted, all_ran, AreAllThere, AreSettled, AreCounted, IsBioOf, DiffersAsCommand, Disagrees}
+use Rattle.blk_layer.specs.Closing.{way_number, is_bio_of, is_command, issued_bios, done_ids, done_commands, all_accepted, all_ran, AreAllThere, AreSettled, AreCounted, IsBioOf, DiffersAsCommand, Disagrees}
 use Rattle.blk_layer.specs.Inside.Closing.{IsExact, times, IsExtra, HasEach}
 use Rattle.blk_bio.specs.declared.bio.BioId.{BioId}
 use Rattle.blk_layer.specs.Seats.{SubmitterSeat, WorkerSeat}
 use Rattle.blk_layer.proofs.Same.{no_rest, each_as_many, count_moved}
 use Rattle.blk_layer.proofs.Gathered.{done_map, mapped_at, mapped_length, id_there, own_default}
 
-way_is : (x y : Dir) → way_of x ≡ way_of y → x ≡ y
+way_is : (x y : Dir) → way_number x ≡ way_number y → x ≡ y
 way_is Read Read e = refl
 way_is Read Write e = absurd (omega (arith, e))
 way_is Write Read e = absurd (omega (arith, e))
@@ -40,13 +40,13 @@ eqb_self n = eq-eqb n n refl
 -- the test of two bios holds just of one and the same, and that of two commands
 bio_is : (x y : Bio) → is_bio_of x y ≡ true → x ≡ y
 bio_is x y e =
-    let a = both ((x.id.submitter == y.id.submitter) && (x.id.serial == y.id.serial)) ((way_of x.dir == way_of y.dir) && ((x.first == y.first) && (x.sectors == y.sectors))) e in
+    let a = both ((x.id.submitter == y.id.submitter) && (x.id.serial == y.id.serial)) ((way_number x.dir == way_number y.dir) && ((x.first == y.first) && (x.sectors == y.sectors))) e in
     let b = both (x.id.submitter == y.id.submitter) (x.id.serial == y.id.serial) a.0 in
-    let c = both (way_of x.dir == way_of y.dir) ((x.first == y.first) && (x.sectors == y.sectors)) a.1 in
+    let c = both (way_number x.dir == way_number y.dir) ((x.first == y.first) && (x.sectors == y.sectors)) a.1 in
     let d = both (x.first == y.first) (x.sectors == y.sectors) c.1 in
     let o : x.id.submitter ≡ y.id.submitter = eqb-true x.id.submitter y.id.submitter b.0 in
     let n : x.id.serial ≡ y.id.serial = eqb-true x.id.serial y.id.serial b.1 in
-    let w : x.dir ≡ y.dir = way_is x.dir y.dir (eqb-true (way_of x.dir) (way_of y.dir) c.0) in
+    let w : x.dir ≡ y.dir = way_is x.dir y.dir (eqb-true (way_number x.dir) (way_number y.dir) c.0) in
     let f : x.first ≡ y.first = eqb-true x.first y.first d.0 in
     let t : x.sectors ≡ y.sectors = eqb-true x.sectors y.sectors d.1 in
     λ i. record { id = record { submitter = o i; serial = n i }; dir = w i; first = f i; sectors = t i }
@@ -54,7 +54,7 @@ bio_is x y e =
 bio_exact : IsExact is_bio_of
 bio_exact = record {
   only = bio_is;
-  self = λ x. rw (eqb_self x.id.submitter, eqb_self x.id.serial, eqb_self (way_of x.dir), eqb_self x.first, eqb_self x.sectors) refl;
+  self = λ x. rw (eqb_self x.id.submitter, eqb_self x.id.serial, eqb_self (way_number x.dir), eqb_self x.first, eqb_self x.sectors) refl;
 }
 
 -- what `==` computes of two bios is that test

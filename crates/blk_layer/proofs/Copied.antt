@@ -1,5 +1,5 @@
 -- Copies of the first requests of a queue.
-use Rattle.std.proofs.Common.{◌≡◌, ℕ, refl, sym, ap, subst, zero, suc, List, [], ◌∷◌, ◌++◌, Some, None, length, take}
+use Rattle.std.proofs.Common.{◌≡◌, ℕ, refl, sym, ap, subst, List, [], ◌∷◌, ◌++◌, Some, None, length, take}
 use Rattle.std.specs.Prelude.{slice_get}
 use Rattle.blk_bio.specs.Bios.{Bio}
 use Rattle.blk_plug.specs.Plugs.{Plug}

@@ -7,9 +7,9 @@ use Rattle.blk_layer.specs.declared.serving.Issued.{Issued}
 use Rattle.blk_layer.specs.declared.serving.WorkFault.{WorkFault}
 use Rattle.blk_layer.specs.declared.serving.WorkFault.TheVariants.{Memory}
 use Rattle.blk_layer.specs.Seats.{WorkerSeat}
-use Rattle.blk_layer.specs.Serving.{TakesInHand, IsIssueAnswer, Runs, IsWorkFault}
+use Rattle.blk_layer.specs.Serving.{TakesInHand, IsIssueAnswer, RunsMore, IsWorkFault}
 use Rattle.blk_layer.specs.Inside.Serving.{IsEnded, IsEndedAs, IsPassRefusal, IsTurned, IsTurnFault}
-use Rattle.blk_layer.proofs.Running.{none_ran, ran_on, ended_runs, faulted_on, left_in_hand}
+use Rattle.blk_layer.proofs.Running.{ran_on, ended_runs, faulted_on, left_in_hand}
 
 -- by what the device answered, and whatever that was
 pub ended_as : (ran : Ran) (old : WorkerSeat) (tag : ℕ) (new : WorkerSeat) → IsEndedAs ran old tag new → IsEnded old tag new
@@ -43,13 +43,10 @@ turn_fault old tag ran made between (Err why) new e ended fault =
 -- what a worker ran so far, and the command that it has in its hands
 pub record IsServing (old : WorkerSeat) (tag : ℕ) (command : Command) (new : WorkerSeat) : Type 0 where
   pub before : WorkerSeat
-  pub runs : Runs old before
+  pub runs : RunsMore old before
   pub takes : TakesInHand before tag command new
 
-pub first_in_hand : (old : WorkerSeat) (tag : ℕ) (command : Command) (new : WorkerSeat) → TakesInHand old tag command new → IsServing old tag command new
-first_in_hand old tag command new takes = record { before = old; runs = none_ran old old refl; takes = takes }
-
-ran_between : (old : WorkerSeat) (tag : ℕ) (command : Command) (now : WorkerSeat) (ran : Ran) (between : WorkerSeat) → IsServing old tag command now → IsEndedAs ran now tag between → Runs old between
+ran_between : (old : WorkerSeat) (tag : ℕ) (command : Command) (now : WorkerSeat) (ran : Ran) (between : WorkerSeat) → IsServing old tag command now → IsEndedAs ran now tag between → RunsMore old between
 ran_between old tag command now ran between is ended =
     ran_on old is.before between is.runs (ended_runs is.before tag command now between is.takes (ended_as ran now tag between ended))
 
@@ -59,11 +56,11 @@ pub next_in_hand : (old : WorkerSeat) (tag : ℕ) (command : Command) (now : Wor
 next_in_hand old tag command now ran next new is turn =
     record { before = turn.between; runs = ran_between old tag command now ran turn.between is turn.ended; takes = turn.answer }
 
-pub none_in_hand : (old : WorkerSeat) (tag : ℕ) (command : Command) (now : WorkerSeat) (ran : Ran) (new : WorkerSeat) → IsServing old tag command now → IsTurned now tag ran None new → Runs old new
+pub none_in_hand : (old : WorkerSeat) (tag : ℕ) (command : Command) (now : WorkerSeat) (ran : Ran) (new : WorkerSeat) → IsServing old tag command now → IsTurned now tag ran None new → RunsMore old new
 none_in_hand old tag command now ran new is turn = rw turn.answer (ran_between old tag command now ran turn.between is turn.ended)
 
 -- a turn that was refused
-of_refusal : (old : WorkerSeat) (why : WorkFault) (new : WorkerSeat) → IsPassRefusal why → Runs old new → IsWorkFault old why new
+of_refusal : (old : WorkerSeat) (why : WorkFault) (new : WorkerSeat) → IsPassRefusal why → RunsMore old new → IsWorkFault old why new
 of_refusal old why new (inl e) runs = rw e runs
 of_refusal old why new (inr e) runs = rw e (inl runs)
 
@@ -73,12 +70,8 @@ turn_refused old tag command now ran why new is (inl h) = faulted_on old is.befo
 turn_refused old tag command now ran why new is (inr h) = of_refusal old why new h.0 (ran_between old tag command now ran new is h.1)
 
 -- the last command of all, as far as events go
-pub last_ended : (old : WorkerSeat) (tag : ℕ) (command : Command) (now new : WorkerSeat) → IsServing old tag command now → IsEnded now tag new → Runs old new
+pub last_ended : (old : WorkerSeat) (tag : ℕ) (command : Command) (now new : WorkerSeat) → IsServing old tag command now → IsEnded now tag new → RunsMore old new
 last_ended old tag command now new is ended = ran_on old is.before new is.runs (ended_runs is.before tag command now new is.takes ended)
 
 pub last_refused : (old : WorkerSeat) (tag : ℕ) (command : Command) (now : WorkerSeat) (why : WorkFault) (new : WorkerSeat) → IsServing old tag command now → why ≡ Memory → new ≡ now → IsWorkFault old why new
 last_refused old tag command now why new is e f = faulted_on old is.before why new is.runs (left_in_hand is.before tag command now why new is.takes e f)
-
--- a refusal before anything was issued
-pub begin_refused : (old : WorkerSeat) (why : WorkFault) (new : WorkerSeat) → IsPassRefusal why → new ≡ old → IsWorkFault old why new
-begin_refused old why new is e = of_refusal old why new is (none_ran old new e)

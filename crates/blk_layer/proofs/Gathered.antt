@@ -149,10 +149,6 @@ pub done_map : (setup : Setup) (events : List Happened) → done_commands setup 
 unfolding done_commands
 done_map setup events = refl
 
--- no id is among none
-pub none_among : (id : ℕ) → has_id [] id ≡ true → ⊥
-none_among id h = let n : false ≡ true = h in absurd (cc)
-
 -- the commands of ids, with one more
 pub map_up : (f : ℕ → Command) (ids : List ℕ) (i n : ℕ) → i < length ids → n ≡ get_or ids i n → map f (take (i + 1) ids) ≡ map f (take i ids) ++ f n ∷ []
 map_up f ids i n low is = ap (map f) (take_more ids i n low ∙ ap (λ x. take i ids ++ x ∷ []) (sym is)) ∙ map-append f (take i ids) (n ∷ [])

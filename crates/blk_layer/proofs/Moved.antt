@@ -1,10 +1,8 @@
 -- Requests that move one after the other.
-use Rattle.std.proofs.Common.{◌≡◌, ◌≢◌, ◌∙◌, ◌+◌, ◌<◌, ◌≤◌, ℕ, zero, suc, ap, sym, subst, refl, arith, add-one, Bool, true, false, List, [], ◌∷◌, Result, Ok, Err, IfOk, IfErr, length}
-use Rattle.blk_soft.specs.Queues.{Queue, IsQueue, greatest_depth}
+use Rattle.std.proofs.Common.{◌≡◌, ◌∙◌, ◌+◌, ◌≤◌, ℕ, zero, suc, ap, sym, refl, arith, add-one, Bool, true, false, List, [], ◌∷◌, Result, Ok, Err, length}
+use Rattle.blk_soft.specs.Queues.{Queue}
 use Rattle.blk_sched.specs.Meaning.{Waiting}
 use Rattle.blk_core.specs.declared.refusals.CoreFault.{CoreFault}
-use Rattle.blk_core.specs.declared.refusals.CoreFault.TheVariants.{NoQueue}
-use Rattle.blk_core.specs.Faults.{IsReleaseFault}
 use Rattle.blk_core.specs.State.{CoreState}
 use Rattle.blk_layer.specs.Submitting.{MovesSome, IsMoveAnswer, IsMoveAllAnswer}
 use Rattle.blk_layer.specs.declared.submitting.DrainFault.{DrainFault}
@@ -31,13 +29,6 @@ moved_on serves queue core hw n now after new_now new_then (Ok true) is m e = rw
 })
 moved_on serves queue core hw n now after new_now new_then (Ok false) is m e = absurd (let x : Ok false ≡ Ok true = e in cc)
 moved_on serves queue core hw n now after new_now new_then (Err why) is m e = absurd (let x : Err why ≡ Ok true = e in cc)
-
--- a queue that has requests moves one, or the core refuses it
-pub some_move : (serves : ℕ → Waiting → Bool) (queue : Queue) (core : CoreState) (hw n most : ℕ) (now : Queue) (after : CoreState) (new_now : Queue) (new_then : CoreState) (r : Result Bool CoreFault)
-    → IsMoving serves queue core hw n now after → most ≡ length queue.requests → n < most → IsMoveAnswer serves now after hw new_now new_then r → r ≡ Ok false → ⊥
-some_move serves queue core hw n most now after new_now new_then (Ok false) is all less m e = omega (arith, is.count, all, less, ap length m.0)
-some_move serves queue core hw n most now after new_now new_then (Ok true) is all less m e = let x : Ok true ≡ Ok false = e in absurd (cc)
-some_move serves queue core hw n most now after new_now new_then (Err why) is all less m e = let x : Err why ≡ Ok false = e in absurd (cc)
 
 empty : {X : Type 0} (xs : List X) → length xs ≤ 0 → xs ≡ []
 empty [] h = refl
@@ -82,23 +73,3 @@ some_limits serves queue core hw (suc n) now after (between, (before, some, one)
 pub all_limits : (serves : ℕ → Waiting → Bool) (queue : Queue) (core : CoreState) (hw : ℕ) (now : Queue) (after : CoreState) (r : Result ℕ DrainFault) → IsMoveAllAnswer serves queue core hw now after r → now.limits ≡ queue.limits
 all_limits serves queue core hw now after (Ok moved) m = some_limits serves queue core hw moved now after m.0
 all_limits serves queue core hw now after (Err fault) m = some_limits serves queue core hw fault.moved now after m.0
-
--- no more are moved than a queue can hold
-pub few_ok : (serves : ℕ → Waiting → Bool) (queue : Queue) (core : CoreState) (hw : ℕ) (now : Queue) (after : CoreState) (r : Result ℕ DrainFault)
-    → IsQueue queue → IsMoveAllAnswer serves queue core hw now after r → IfOk r (λ moved. moved ≤ greatest_depth)
-few_ok serves queue core hw now after (Ok moved) is m = omega (arith, m.1, is.room, is.few_depth)
-few_ok serves queue core hw now after (Err fault) is m = tt
-
-pub few_err : (serves : ℕ → Waiting → Bool) (queue : Queue) (core : CoreState) (hw : ℕ) (now : Queue) (after : CoreState) (r : Result ℕ DrainFault)
-    → IsQueue queue → IsMoveAllAnswer serves queue core hw now after r → IfErr r (λ fault. fault.moved ≤ greatest_depth)
-few_err serves queue core hw now after (Ok moved) is m = tt
-few_err serves queue core hw now after (Err fault) is m = omega (arith, m.1, is.room, is.few_depth)
-
--- the core has the hardware queue
-pub is_there : (serves : ℕ → Waiting → Bool) (queue : Queue) (core : CoreState) (hw : ℕ) (now : Queue) (after : CoreState) (r : Result ℕ DrainFault)
-    → hw < core.setup.hw → IsMoveAllAnswer serves queue core hw now after r → IfErr r (λ fault. fault.why ≢ NoQueue)
-is_there serves queue core hw now after (Ok moved) low m = tt
-is_there serves queue core hw now after (Err fault) low m = λ e.
-    let stays : Stays core after = some_stay serves queue core hw fault.moved now after m.0 in
-    let broken : IsReleaseFault after m.2.first hw NoQueue = subst (λ why. IsReleaseFault after m.2.first hw why) e m.2.fault in
-    omega (arith, low, broken, ap (λ s. s.hw) stays.setup)

@@ -16,7 +16,7 @@ use Rattle.blk_tags.proofs.Counts.{others_left}
 use Rattle.blk_layer.specs.Seats.{SubmitterSeat, AreOwn}
 use Rattle.blk_layer.specs.Closing.{HasNumber, all_accepted}
 use Rattle.blk_layer.specs.Inside.Closing.{IsAccountOf}
-use Rattle.blk_layer.specs.Inside.Closing.{AreDistinct}
+use Rattle.blk_layer.specs.Inside.Closing.{AllDiffer}
 use Rattle.blk_layer.proofs.Same.{count_cons, count_moved}
 
 -- numbers that are there for each number below a count are at least as many
@@ -55,7 +55,7 @@ number_at : (seats : List SubmitterSeat) (k : ℕ) (s : SubmitterSeat) → slice
 number_at seats k s h = slice_get-map (λ (x : SubmitterSeat). x.number) seats k ∙ ap (option_map (λ (x : SubmitterSeat). x.number)) h
 
 -- where all seats are there, no two have one number
-pub are_distinct : (n : ℕ) (seats : List SubmitterSeat) → length seats ≡ n → ((k : ℕ) → k < n → HasNumber seats k) → AreDistinct seats
+pub are_distinct : (n : ℕ) (seats : List SubmitterSeat) → length seats ≡ n → ((k : ℕ) → k < n → HasNumber seats k) → AllDiffer seats
 are_distinct n seats count all j k a b p q same = elim (cases_Bool (j == k)) [
   | inl y ↦ eqb-true j k y
   | inr differ ↦ absurd (
@@ -89,7 +89,7 @@ owner_of (s ∷ ss) k b each at = elim (in_either s.accepted (flat_map (λ (x : 
   | inr p ↦ let r = owner_of ss p.0 b (λ j t h. each (suc j) t h) p.1.1 in (suc r.0, r.1)
 ]
 
-accounts_once : (seats : List SubmitterSeat) → ((j : ℕ) (s : SubmitterSeat) → slice_get seats j ≡ Some s → IsAccountOf s) → AreDistinct seats → AreOnce (flat_map (λ (s : SubmitterSeat). s.accepted) seats)
+accounts_once : (seats : List SubmitterSeat) → ((j : ℕ) (s : SubmitterSeat) → slice_get seats j ≡ Some s → IsAccountOf s) → AllDiffer seats → AreOnce (flat_map (λ (s : SubmitterSeat). s.accepted) seats)
 accounts_once [] each apart = λ j k b c h l same. absurd (cc)
 accounts_once (s ∷ ss) each apart =
     let rest : List Bio = flat_map (λ (x : SubmitterSeat). x.accepted) ss in
@@ -164,6 +164,6 @@ pub once_moved : (xs ys : List Bio) → IsPermutation xs ys → AreOnce xs → A
 once_moved xs ys moved once = few_once ys (λ id. omega (arith, count_moved (named_as id) xs ys moved, once_few xs once id))
 
 -- the bios of all accounts stand once
-pub all_once : (seats : List SubmitterSeat) → ((j : ℕ) (s : SubmitterSeat) → slice_get seats j ≡ Some s → IsAccountOf s) → AreDistinct seats → AreOnce (all_accepted seats)
+pub all_once : (seats : List SubmitterSeat) → ((j : ℕ) (s : SubmitterSeat) → slice_get seats j ≡ Some s → IsAccountOf s) → AllDiffer seats → AreOnce (all_accepted seats)
 unfolding all_accepted
 all_once seats each apart = accounts_once seats each apart

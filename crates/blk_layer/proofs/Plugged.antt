@@ -1,16 +1,12 @@
 -- What flushes add up to.
-use Rattle.std.proofs.Common.{◌≡◌, ◌∙◌, ◌+◌, ◌<◌, ◌≤◌, ℕ, sym, ap, refl, inl, inr, arith, add-zero, List, [], ◌∷◌, ◌++◌, Some, None, append_assoc, length, get_or}
-use Rattle.std.specs.Prelude.{slice_get}
+use Rattle.std.proofs.Common.{◌≡◌, ◌∙◌, ◌+◌, ◌≤◌, sym, ap, refl, arith, add-zero, List, [], ◌∷◌, ◌++◌, append_assoc, length}
 use Rattle.std.specs.List.{flat_map}
 use Rattle.std.proofs.lemmas.List.{append-nil}
 use Rattle.std.proofs.lemmas.Grind.{flat_map-append}
-use Rattle.std.proofs.lemmas.Bool.{cases_Bool, ltb-true, ltb-false}
-use Rattle.std.proofs.lemmas.Option.{slice_get-get_or}
-use lib.Dec.{ltb}
 use Rattle.blk_bio.specs.Bios.{Bio}
 use Rattle.blk_plug.specs.Plugs.{Plug, bios_plugged}
 use Rattle.blk_soft.specs.Queues.{Queue}
-use Rattle.blk_layer.specs.Seats.{SubmitterSeat, AreOwn}
+use Rattle.blk_layer.specs.Seats.{SubmitterSeat}
 use Rattle.blk_layer.specs.declared.submitting.FlushWhy.{FlushWhy}
 use Rattle.blk_layer.specs.declared.submitting.FlushWhy.TheVariants.{Foreign, Repeated, SoftFull, Memory}
 use Rattle.blk_layer.specs.Submitting.{Flushes, FlushesInto, IsRoomReason}
@@ -88,34 +84,6 @@ none_there (x ∷ xs) h = absurd (omega arith)
 -- a plug without requests has no bios
 pub none_held : (plug : Plug) → length plug.requests ≤ 0 → length (bios_plugged plug) ≡ 0
 none_held plug h = ap (λ (l : List (List Bio)). length (flat_map (λ (x : List Bio). x) l)) (none_there plug.requests h)
-
--- a list that has an element begins with one
-pub some_there : {X : Type 0} (xs : List X) → 0 < length xs → slice_get xs 0 ≡ None → ⊥
-some_there [] h e = absurd (omega arith)
-some_there (x ∷ xs) h e = let n : Some x ≡ None = e in absurd (cc)
-
--- the first of a list
-pub first_is : {X : Type 0} (xs : List X) (x : X) (y : X) (ys : List X) → slice_get xs 0 ≡ Some x → xs ≡ y ∷ ys → x ≡ y
-first_is xs x y ys at e = let s : Some y ≡ Some x = ap (λ l. slice_get l 0) (sym e) ∙ at in (let t : x ≡ y = cc in t)
-
--- how many bios the requests have
-pub counted : (p q : Plug) (first : List Bio) → p ≡ record { limits = q.limits; requests = first ∷ q.requests } → length (bios_plugged p) ≡ length first + length (bios_plugged q)
-counted p q first stood = ap (λ (x : Plug). length (bios_plugged x)) stood ∙ length_both first (bios_plugged q)
-
--- the bios up to a place are the submitter's own
-pub own_more : (number : ℕ) (bios : List Bio) (n : ℕ) (x : Bio) → ((k : ℕ) (b : Bio) → k < n → slice_get bios k ≡ Some b → b.id.submitter ≡ number)
-    → slice_get bios n ≡ Some x → x.id.submitter ≡ number → (k : ℕ) (b : Bio) → k < n + 1 → slice_get bios k ≡ Some b → b.id.submitter ≡ number
-own_more number bios n x own stands is k b less at = elim (cases_Bool (ltb k n)) [
-  | inl y ↦ own k b (ltb-true k n y) at
-  | inr m ↦
-      let here : k ≡ n = omega (arith, less, ltb-false k n m) in
-      let both : Some b ≡ Some x = sym at ∙ ap (slice_get bios) here ∙ stands in
-      let one : b ≡ x = cc in
-      ap (λ (c : Bio). c.id.submitter) one ∙ is
-]
-
-pub own_all : (number : ℕ) (bios : List Bio) (n : ℕ) → length bios ≤ n → ((k : ℕ) (b : Bio) → k < n → slice_get bios k ≡ Some b → b.id.submitter ≡ number) → AreOwn number bios
-own_all number bios n all own = λ k d less. own k (get_or bios k d) (omega (arith, all, less)) (slice_get-get_or bios k d less)
 
 -- what the bios themselves refuse says nothing of the room
 pub room_of : (queue : Queue) (bios : List Bio) (why : FlushWhy) → IsOfBios why → IsRoomReason queue bios why

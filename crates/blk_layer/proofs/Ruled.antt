@@ -1,5 +1,5 @@
 -- A core that goes on under the policy of its scheduler: what each call leads to.
-use Rattle.std.proofs.Common.{◌≡◌, ℕ, zero, suc, ap, sym, subst, Bool, List, [], ◌∷◌, ◌++◌, Result, Ok, Err, Option, Some, None, IfOk, IfErr, OnErr}
+use Rattle.std.proofs.Common.{◌≡◌, ℕ, zero, suc, ap, sym, subst, List, [], ◌∷◌, ◌++◌, Result, Ok, Err, Option, Some, None, IfOk, IfErr, OnErr}
 use Rattle.edd_commands.specs.declared.Command.{Command}
 use Rattle.blk_bio.specs.Bios.{Bio}
 use Rattle.blk_soft.specs.Queues.{Queue}
@@ -10,11 +10,11 @@ use Rattle.blk_core.specs.declared.calls.Placed.TheVariants.{New, Joined as Join
 use Rattle.blk_core.specs.State.{CoreState}
 use Rattle.blk_sched.specs.Policies.{Policy}
 use Rattle.blk_core.specs.Calls.{Places, Issues, Completes, RequeuesTag, Ends, SetsDepth}
-use Rattle.blk_policy.specs.Runs.{Steps, Runs}
+use Rattle.blk_policy.specs.Runs.{MakesCall, MakesCalls}
 use Rattle.blk_policy.proofs.More.{run_on}
 use Rattle.blk_core.specs.declared.refusals.IssueFault.{IssueFault}
 use Rattle.blk_layer.proofs.Moving.{Stays, stays_either, issue_stays}
-use Rattle.blk_layer.specs.Submitting.{MovesSome, MovesFirst, IsMoveAllAnswer}
+use Rattle.blk_layer.specs.Submitting.{MovesSome, IsMoveAllAnswer}
 use Rattle.blk_layer.specs.declared.submitting.DrainFault.{DrainFault}
 use Rattle.blk_layer.specs.declared.serving.NoneIssued.{NoneIssued}
 use Rattle.blk_layer.specs.declared.serving.NoneIssued.TheVariants as none
@@ -22,13 +22,13 @@ use Rattle.blk_layer.specs.Serving.{IsNoneIssued}
 
 -- the calls so far lead from the start to the core
 abbrev pub Goes : Policy → CoreState → CoreState → Type 0
-Goes policy start c = Runs policy start c.events c
+Goes policy start c = MakesCalls policy start c.events c
 
 -- one call more
 one : (policy : Policy) (start old new : CoreState) (e : Happened)
-    → Steps policy old e new → new.events ≡ old.events ++ e ∷ [] → Goes policy start old → Goes policy start new
+    → MakesCall policy old e new → new.events ≡ old.events ++ e ∷ [] → Goes policy start old → Goes policy start new
 one policy start old new e step added runs =
-    subst (λ (es : List Happened). Runs policy start es new) (sym added) (run_on policy start old.events e old new runs step)
+    subst (λ (es : List Happened). MakesCalls policy start es new) (sym added) (run_on policy start old.events e old new runs step)
 
 -- nothing was done
 same : (policy : Policy) (start old new : CoreState) → new ≡ old → Goes policy start old → Goes policy start new

@@ -8,16 +8,16 @@ use Rattle.blk_tags.proofs.Counts.{none_count}
 use Rattle.blk_layer.specs.declared.serving.WorkFault.{WorkFault}
 use Rattle.blk_layer.specs.declared.serving.WorkFault.TheVariants.{TraceFull, Memory, Repeated}
 use Rattle.blk_layer.specs.Seats.{WorkerSeat}
-use Rattle.blk_layer.specs.Serving.{TakesInHand, let_go, Runs, IsWorkFault}
+use Rattle.blk_layer.specs.Serving.{TakesInHand, let_go, RunsMore, IsWorkFault}
 use Rattle.blk_layer.specs.Inside.Serving.{IsEnded}
 use Rattle.blk_layer.proofs.InHand.{pushed_without}
 
 -- nothing ran
-pub none_ran : (old new : WorkerSeat) → new ≡ old → Runs old new
+pub none_ran : (old new : WorkerSeat) → new ≡ old → RunsMore old new
 none_ran old new e = rw e (record { added = []; grown = ap (λ (l : List Command). record old { ran = l }) (sym (append-nil old.ran)) })
 
 -- one run after another
-pub ran_on : (a b c : WorkerSeat) → Runs a b → Runs b c → Runs a c
+pub ran_on : (a b c : WorkerSeat) → RunsMore a b → RunsMore b c → RunsMore a c
 ran_on a b c one two = record {
   added = one.added ++ two.added;
   grown = two.grown ∙ ap (λ (s : WorkerSeat). record s { ran = s.ran ++ two.added }) one.grown
@@ -25,7 +25,7 @@ ran_on a b c one two = record {
 }
 
 -- a run and then a fault
-pub faulted_on : (a b : WorkerSeat) (why : WorkFault) (c : WorkerSeat) → Runs a b → IsWorkFault b why c → IsWorkFault a why c
+pub faulted_on : (a b : WorkerSeat) (why : WorkFault) (c : WorkerSeat) → RunsMore a b → IsWorkFault b why c → IsWorkFault a why c
 faulted_on a b TraceFull c one two = ran_on a b c one two
 faulted_on a b Memory c one (inl two) = inl (ran_on a b c one two)
 faulted_on a b Memory c one (inr two) = inr (two.0, ran_on a b two.0 one two.1, two.2)
@@ -51,7 +51,7 @@ let_go_again a t command b took = rw took.taken (
     rw (tags, hands) refl)
 
 -- a command that was taken in hand and then done, or went back
-pub ended_runs : (a : WorkerSeat) (t : ℕ) (command : Command) (b c : WorkerSeat) → TakesInHand a t command b → IsEnded b t c → Runs a c
+pub ended_runs : (a : WorkerSeat) (t : ℕ) (command : Command) (b c : WorkerSeat) → TakesInHand a t command b → IsEnded b t c → RunsMore a c
 ended_runs a t command b c took (inl done) = record {
   added = done.command ∷ [];
   grown = done.gone ∙ ap (λ (s : WorkerSeat). record s { ran = b.ran ++ done.command ∷ [] }) (let_go_again a t command b took)
@@ -65,7 +65,7 @@ pub left_in_hand : (a : WorkerSeat) (t : ℕ) (command : Command) (b : WorkerSea
 left_in_hand a t command b why c took memory e = rw (memory, e) (inr (a, none_ran a a refl, record { tag = t; command = command; takes = took }))
 
 -- how much longer the account is
-pub ran_count : (a b : WorkerSeat) (runs : Runs a b) → length b.ran ≡ length a.ran + length runs.added
+pub ran_count : (a b : WorkerSeat) (runs : RunsMore a b) → length b.ran ≡ length a.ran + length runs.added
 ran_count a b runs = ap (λ (s : WorkerSeat). length s.ran) runs.grown ∙ count a.ran runs.added
   where
     count : (xs ys : List Command) → length (xs ++ ys) ≡ length xs + length ys

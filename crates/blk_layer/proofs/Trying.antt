@@ -1,18 +1,10 @@
 -- Tries in rounds that may be full.
-use Rattle.std.proofs.Common.{◌≡◌, ◌∙◌, ◌+◌, ◌-◌, ◌<◌, ℕ, ap, sym, refl, arith, Bool, true, false, List, [], ◌∷◌, ◌++◌, take, length, get_or, inl, inr}
+use Rattle.std.proofs.Common.{◌≡◌, ◌∙◌, ◌+◌, ◌-◌, ◌<◌, ℕ, ap, sym, refl, arith, true, false, List, [], ◌∷◌, ◌++◌, take, length, get_or}
 use Rattle.std.proofs.lemmas.List.{take_more}
 use Rattle.std.proofs.lemmas.List.Sums.{fold-append}
-use Rattle.blk_sched.specs.Meaning.{Waiting}
 use Rattle.blk_trace.specs.Happened.{Happened}
 use Rattle.blk_trace.specs.Kinds.{is_tick, is_issue}
-use Rattle.blk_core.specs.State.{CoreState}
-use Rattle.blk_sched.specs.Policies.{Choice, OfTick}
-use Rattle.blk_core.specs.Faults.{IsIssueFault}
-use Rattle.blk_core.specs.declared.refusals.IssueFault.TheVariants as issue
-use Rattle.blk_layer.specs.declared.serving.NoneIssued.{NoneIssued}
-use Rattle.blk_layer.specs.declared.serving.NoneIssued.TheVariants as none
-use Rattle.blk_layer.specs.Serving.{issued_now, issued_after, IsNoneIssued}
-use Rattle.blk_layer.specs.Inside.Serving.{IsFullsEnd}
+use Rattle.blk_layer.specs.Serving.{issued_now, issued_after}
 
 one_more : (es : List Happened) (e : Happened) → issued_now (es ++ e ∷ []) ≡ issued_after (issued_now es) e
 unfolding issued_now
@@ -77,20 +69,3 @@ none_yet = refl
 
 pub at_end : (xs : List Happened) (i count : ℕ) → i ≡ length xs → Counts xs i count → count ≡ issued_now xs
 at_end xs i count all counts = omega (arith, counts 0 (omega arith), none_yet)
-
--- what is told of a tag that was issued in the round, and of one that isn't below its depth
-pub used_told : (serves : ℕ → Waiting → Bool) (chooses : Choice) (told : OfTick) (old : CoreState) (hw tag : ℕ) (why : NoneIssued) (new : CoreState)
-    → IsIssueFault old hw tag issue.SlotUsed → IsFullsEnd told old none.SlotUsed why new → IsNoneIssued serves chooses told old hw tag why new
-used_told serves chooses told old hw tag why new used (inl h) = rw h.0 (used, h.1, h.2)
-used_told serves chooses told old hw tag why new used (inr (inl h)) = rw h.0 (inl used, h.1, h.2)
-used_told serves chooses told old hw tag why new used (inr (inr (inl h))) = rw h.0 (inl used, h.1, h.2, h.3)
-used_told serves chooses told old hw tag why new used (inr (inr (inr (inl h)))) = rw h.0 (inr (inl used, h.1, h.2), h.3)
-used_told serves chooses told old hw tag why new used (inr (inr (inr (inr h)))) = rw h.0 (inr (inl used, h.1, h.2), h.3)
-
-pub range_told : (serves : ℕ → Waiting → Bool) (chooses : Choice) (told : OfTick) (old : CoreState) (hw tag : ℕ) (why : NoneIssued) (new : CoreState)
-    → IsIssueFault old hw tag issue.TagRange → IsFullsEnd told old none.TagRange why new → IsNoneIssued serves chooses told old hw tag why new
-range_told serves chooses told old hw tag why new past (inl h) = rw h.0 (past, h.1, h.2)
-range_told serves chooses told old hw tag why new past (inr (inl h)) = rw h.0 (inr past, h.1, h.2)
-range_told serves chooses told old hw tag why new past (inr (inr (inl h))) = rw h.0 (inr past, h.1, h.2, h.3)
-range_told serves chooses told old hw tag why new past (inr (inr (inr (inl h)))) = rw h.0 (inr (inr past, h.1, h.2), h.3)
-range_told serves chooses told old hw tag why new past (inr (inr (inr (inr h)))) = rw h.0 (inr (inr past, h.1, h.2), h.3)

@@ -21,9 +21,9 @@ use Rattle.blk_layer.specs.declared.closing.CloseFault.{CloseFault}
 use Rattle.blk_layer.specs.declared.closing.CloseFault.TheVariants.{SeatMissing, Memory}
 
 -- a number for each way
-abbrev pub way_of : Dir → ℕ
-way_of Read = 0
-way_of Write = 1
+abbrev pub way_number : Dir → ℕ
+way_number Read = 0
+way_number Write = 1
 
 -- whether an event is a Done
 abbrev pub is_done : Happened → Bool
@@ -86,7 +86,7 @@ pub record AreSettled (setup : Setup) (events : List Happened) (left : List Bio)
 
 -- whether a bio is the one, and whether a command is, in all that they say
 abbrev pub is_bio_of : Bio → Bio → Bool
-is_bio_of b c = ((b.id.submitter == c.id.submitter) && (b.id.serial == c.id.serial)) && ((way_of b.dir == way_of c.dir) && ((b.first == c.first) && (b.sectors == c.sectors)))
+is_bio_of b c = ((b.id.submitter == c.id.submitter) && (b.id.serial == c.id.serial)) && ((way_number b.dir == way_number c.dir) && ((b.first == c.first) && (b.sectors == c.sectors)))
 
 abbrev pub is_command : Command → Command → Bool
 is_command c d = (c.id == d.id) && ((c.release == d.release) && (c.due == d.due))

@@ -95,7 +95,7 @@ IsLastTryFault told old hw tag issue.Memory new =
     (IsIssueFault old hw tag issue.Memory ⊎ (IsUsedUp old hw tag × IsTickFault old tick.Memory)) × (new ≡ old)
 
 -- a worker whose account has commands more, at its end, and which is else as it was
-pub record Runs (old new : WorkerSeat) : Type 0 where
+pub record RunsMore (old new : WorkerSeat) : Type 0 where
   pub added : List Command
   pub grown : new ≡ record old { ran = old.ran ++ added }
 
@@ -109,27 +109,27 @@ pub record IsLeftInHand (old new : WorkerSeat) : Type 0 where
 abbrev pub IsOver : Passed → Type 0
 IsOver p = (p.finishing ≡ true) × (p.moved ≡ 0) × (p.pending ≡ 0)
 
-abbrev pub GoesOn : Passed → Type 0
-GoesOn p = (p.finishing ≡ false) ⊎ (0 < p.pending)
+abbrev pub HasMoreToServe : Passed → Type 0
+HasMoreToServe p = (p.finishing ≡ false) ⊎ (0 < p.pending)
 
-abbrev pub IsAfter : Passed → After → Type 0
-IsAfter p Finish = IsOver p
-IsAfter p Again = (0 < p.moved) ⊎ (GoesOn p × (0 < p.served))
-IsAfter p Yield = GoesOn p × (p.moved ≡ 0) × (p.served ≡ 0)
+abbrev pub IsAfterPass : Passed → After → Type 0
+IsAfterPass p Finish = IsOver p
+IsAfterPass p Again = (0 < p.moved) ⊎ (HasMoreToServe p × (0 < p.served))
+IsAfterPass p Yield = HasMoreToServe p × (p.moved ≡ 0) × (p.served ≡ 0)
 
 -- what work says that it did: at most `turns` passes, and fewer only where it was finished; as many commands as the account has more;
 -- else the seat is as it was
 pub record IsWorked (turns : ℕ) (old : WorkerSeat) (worked : Worked) (new : WorkerSeat) : Type 0 where
   pub few : worked.passes ≤ turns
   pub unfinished : worked.finished ≡ false → worked.passes ≡ turns
-  pub runs : Runs old new
+  pub runs : RunsMore old new
   pub ran : worked.ran ≡ length runs.added
 
 -- what work that was refused leaves: what was done before stands, and only where memory ran out may one command stay in the hands
 abbrev pub IsWorkFault : WorkerSeat → WorkFault → WorkerSeat → Type 0
-IsWorkFault old TraceFull new = Runs old new
-IsWorkFault old Memory new = Runs old new ⊎ ((between : WorkerSeat) × Runs old between × IsLeftInHand between new)
-IsWorkFault old (Repeated id) new = Runs old new
+IsWorkFault old TraceFull new = RunsMore old new
+IsWorkFault old Memory new = RunsMore old new ⊎ ((between : WorkerSeat) × RunsMore old between × IsLeftInHand between new)
+IsWorkFault old (Repeated id) new = RunsMore old new
 
 -- how many commands were issued in the round that is on after an event, by how many were before it
 abbrev pub issued_after : ℕ → Happened → ℕ

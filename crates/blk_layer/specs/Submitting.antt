@@ -63,15 +63,15 @@ pub record FlushesInto (queue : Queue) (seat : SubmitterSeat) (plug : Plug) (new
   pub put : new_queue ≡ record queue { requests = queue.requests ++ flushes.taken; bios_in = queue.bios_in + length (flat_map (λ request. request) flushes.taken) }
 
 -- the software queue has room for a request: for one more, and it takes in no more bios over its life than it may
-abbrev pub HasRoom : Queue → List Bio → Type 0
-HasRoom queue bios = (length queue.requests < queue.depth) × (queue.bios_in + length bios ≤ most_bios)
+abbrev pub QueueHasRoom : Queue → List Bio → Type 0
+QueueHasRoom queue bios = (length queue.requests < queue.depth) × (queue.bios_in + length bios ≤ most_bios)
 
 -- what each reason says of the room for the request: it is looked for before memory is
 abbrev pub IsRoomReason : Queue → List Bio → FlushWhy → Type 0
 IsRoomReason queue bios (Foreign id) = ⊤
 IsRoomReason queue bios (Repeated id) = ⊤
 IsRoomReason queue bios SoftFull = (queue.depth ≤ length queue.requests) ⊎ (most_bios < queue.bios_in + length bios)
-IsRoomReason queue bios Memory = HasRoom queue bios
+IsRoomReason queue bios Memory = QueueHasRoom queue bios
 
 -- the same of the first request of a plug
 abbrev pub IsFirstRoomReason : Queue → Plug → FlushWhy → Type 0

@@ -13,13 +13,13 @@ use std::hash::{BuildHasherDefault, FoldHasher};
 use std::marker::Model;
 
 /// How a layer hashes: by numbers alone, so that it needs no source of randomness.
-pub(crate) type Hashing = BuildHasherDefault<FoldHasher>;
+pub(crate) type LayerHashing = BuildHasherDefault<FoldHasher>;
 
 /// Bios of which no two have one id, in the order in which they came, beside their ids.
 #[derive(Drop)]
 pub(crate) struct Account<A: Allocator = Global> {
     bios: Vec<Bio, A>,
-    ids: HashSet<BioId, Hashing, A>,
+    ids: HashSet<BioId, LayerHashing, A>,
 }
 
 impl<A: Allocator> Model for Account<A> {
@@ -104,7 +104,7 @@ fn stands_in(bios: &[Bio], id: BioId) -> bool
 }
 
 /// Adds the ids of the bios, for which there is room.
-fn insert_ids<A: Allocator + Clone>(ids: &mut HashSet<BioId, Hashing, A>, bios: &[Bio])
+fn insert_ids<A: Allocator + Clone>(ids: &mut HashSet<BioId, LayerHashing, A>, bios: &[Bio])
     requires { length bios.now ≤ hash_set.spare ids.old }
     ensures { AddsIds (hash_set.contains is_bio ids.old) bios.now (hash_set.contains is_bio ids.new) }
 {

@@ -10,9 +10,9 @@ ghost use Rattle.blk_policy.specs.Runs.{IsRunFrom};
 ghost use Rattle.blk_layer.specs.Seats.{SubmitterSeat};
 ghost use Rattle.blk_layer.specs.Closing.{AreAllThere, HasNumber, all_accepted, all_ran, issued_bios, done_by, done_ids, done_commands, done_count, AreSettled, AreCounted, IsBioOf, DiffersAsCommand, Disagrees, IsCloseRefusal};
 ghost use Rattle.blk_layer.specs.Inside.Closing.{IsAccountOf};
-ghost use Rattle.blk_layer.specs.Inside.Closing.{AreDistinct, IsExact, IsExtra, Counts, HasEach, DiffersIn, DiffersInCommand, KnowsIssued, NotesLast};
+ghost use Rattle.blk_layer.specs.Inside.Closing.{AllDiffer, IsExact, IsExtra, CountsEach, HasEach, DiffersIn, DiffersInCommand, KnowsIssued, NotesLast};
 
-use crate::accounts::Hashing;
+use crate::accounts::LayerHashing;
 use crate::layer::{Layer, MAX_WORKERS, Named};
 use crate::locked::LockedQueue;
 use crate::seats::{Submitter, Worker};
@@ -227,7 +227,7 @@ fn settle<S: Scheduler, L: Named>(
     requires counted { length (all_ran workers.now) ≡ done_count core.now.events }
     ensures counted { IfOk result (λ s. AreCounted core.now.events s.left.items workers.now) }
     ensures none { IfOk result (λ s. IfNone s.differs (AreSettled core.now.setup core.now.events s.left.items submitters.now workers.now)) }
-    ensures once { IfOk result (λ s. IfNone s.differs (AreDistinct submitters.now → AreOnce (issued_bios core.now.events ++ s.left.items))) }
+    ensures once { IfOk result (λ s. IfNone s.differs (AllDiffer submitters.now → AreOnce (issued_bios core.now.events ++ s.left.items))) }
     ensures some { IfOk result (λ s. IfSome s.differs (Disagrees core.now.setup core.now.events s.left.items submitters.now workers.now)) }
 {
     let trace = core.trace();
@@ -368,7 +368,7 @@ fn done<A: Allocator + Clone>(alloc: &A, trace: &Trace<A>) -> Result<Vec<Command
 fn by_id<A: Allocator + Clone>(
     alloc: A,
     trace: &Trace<A>,
-) -> Result<HashMap<u64, Command, Hashing, A>, AllocError>
+) -> Result<HashMap<u64, Command, LayerHashing, A>, AllocError>
     ensures { IfOk result (λ m. KnowsIssued trace.now.setup trace.now.events (hash.get nat_eq m)) }
 {
     let commands = trace.commands()?;
@@ -400,7 +400,7 @@ fn done_ids<A: Allocator + Clone>(
 /// Notes one more event: the last id under each tag, and the ids that are done.
 fn note<A: Allocator + Clone>(
     ids: &mut Vec<u64, A>,
-    last: &mut HashMap<u16, u64, Hashing, A>,
+    last: &mut HashMap<u16, u64, LayerHashing, A>,
     event: &Event<Request<A>>,
 ) -> Result<(), AllocError>
     ensures ids { OnOk result (ids.new.items ≡ ids.old.items ++ cons_option (done_by (hash.get nat_eq last.old) event.now) []) }
@@ -511,9 +511,9 @@ fn first_extra<T: Copy + Eq + Hash + Drop, A: Allocator + Clone>(
 fn tallied<T: Copy + Eq + Hash + Drop, A: Allocator + Clone>(
     alloc: A,
     list: &[T],
-) -> Result<HashMap<T, u64, Hashing, A>, AllocError>
+) -> Result<HashMap<T, u64, LayerHashing, A>, AllocError>
     requires { IsExact T.eq }
-    ensures { IfOk result (λ m. Counts T.eq (hash.get T.eq m) list.now) }
+    ensures { IfOk result (λ m. CountsEach T.eq (hash.get T.eq m) list.now) }
 {
     let mut counts = HashMap::new(alloc);
     for key in list {
@@ -527,7 +527,7 @@ fn tallied<T: Copy + Eq + Hash + Drop, A: Allocator + Clone>(
 
 /// How many times an element was counted.
 fn count<T: Copy + Eq + Hash + Drop, A: Allocator + Clone>(
-    counts: &HashMap<T, u64, Hashing, A>,
+    counts: &HashMap<T, u64, LayerHashing, A>,
     key: &T,
 ) -> u64
     ensures { result ≡ unwrap_or (hash.get T.eq counts.now key.now) 0 }

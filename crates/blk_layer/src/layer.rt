@@ -77,16 +77,15 @@ pub struct Layer<S: Scheduler, L: Named> {
 }
 
 impl<S: Scheduler, L: Named> Model for Layer<S, L> {
-    ghost use Rattle.std.specs.Prelude.{◌≡◌, length, vec_len};
-    ghost use Rattle.blk_hw.specs.Maps.{IsHwCount};
+    ghost use Rattle.std.specs.Prelude.{vec_len};
     ghost use Rattle.blk_layer.specs.Seats.{LayerShape};
+    ghost use Rattle.blk_layer.specs.Inside.Seats.{IsLaidOut};
 
     ghost Value = { LayerShape };
 
     ghost view = { λ l. record { map = l.map; workers = l.workers; tag_set = l.tags } };
 
-    ghost invariant = { λ l. (vec_len l.queues ≡ length l.map) × IsHwCount l.map L.setup.hw
-        × (l.tags.depth ≡ L.setup.depth) × (l.workers ≡ L.workers) };
+    ghost invariant = { λ l. IsLaidOut L.setup L.workers (vec_len l.queues) l.map l.tags.depth l.workers };
 }
 
 impl<S: Scheduler, L: Named> Layer<S, L> {

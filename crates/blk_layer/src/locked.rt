@@ -1,20 +1,19 @@
 //! What lies under the locks: the core, and each software queue.
 
-ghost use Rattle.std.specs.Prelude.{◌≡◌, ◌≢◌, ◌≤◌, ◌+◌, ◌<◌, [], IfOk, IfErr, OnOk, OnErr, length, vec_len};
+ghost use Rattle.std.specs.Prelude.{◌≡◌, ◌≤◌, ◌+◌, [], IfOk, IfErr, OnOk, OnErr, length, vec_len};
 ghost use Rattle.blk_soft.specs.Queues.{greatest_depth};
 ghost use Rattle.blk_core.specs.Faults.{IsTickFault};
 ghost use Rattle.blk_core.specs.Calls.{Ends, SetsDepth};
-ghost use Rattle.blk_policy.specs.Runs.{Runs, IsRunFrom};
-ghost use Rattle.blk_layer.specs.Submitting.{AreOfFirst, IsMoveAllAnswer};
+ghost use Rattle.blk_policy.specs.Runs.{MakesCalls, IsRunFrom};
+ghost use Rattle.blk_layer.specs.Submitting.{AreOfFirst};
 ghost use Rattle.blk_layer.specs.Serving.{IsTickAnswer, IsDepthAnswer};
 ghost use Rattle.blk_layer.specs.Closing.{all_ran, done_count};
 ghost use Rattle.blk_layer.specs.declared.layer.TheConstants.{MAX_WORKERS};
 
-use crate::layer::{Layer, Named};
+use crate::layer::Named;
 use crate::seats::{Worker, audit};
-use crate::submitting::DrainFault;
 use blk_bio::Limits;
-use blk_core::{Core, CoreFault, DepthFault, TickFault};
+use blk_core::{Core, DepthFault, TickFault};
 use blk_sched::Scheduler;
 use blk_soft::SoftQueue;
 use blk_trace::Trace;
@@ -36,7 +35,7 @@ pub(crate) struct LockedCore<S: Scheduler, L: Named> {
     /// The tag after the last one that `work` issued: those before it are mostly used up in the round.
     pub(crate) next_tag: u16,
     ghost named: { core.setup ≡ L.setup },
-    ghost ran: { ∥ Runs S.policy L.start core.events core ∥₁ },
+    ghost ran: { ∥ MakesCalls S.policy L.start core.events core ∥₁ },
     ghost counted: { book.total ≡ done_count core.events },
     ghost all_out: { rest.parts + L.workers ≡ MAX_WORKERS },
     ghost none: { rest.amount ≡ 0 },
@@ -127,21 +126,6 @@ impl<L: Named, A: Allocator> LockedQueue<L, A> {
             copies,
             of: PhantomData,
         }
-    }
-}
-
-impl<L: Named, A: Allocator + Clone> LockedQueue<L, A> {
-    /// Moves all requests of the queue into the core, as [`Layer::move_all_copied`] does.
-    pub(crate) fn move_all<S: Scheduler<A = A>>(
-        &mut self,
-        locked: &mut LockedCore<S, L>,
-        hw: u8,
-    ) -> Result<u64, DrainFault>
-        requires { hw < L.setup.hw }
-        ensures moved { IsMoveAllAnswer S.policy.serves self.old.queue locked.old.core hw self.new.queue locked.new.core result }
-        ensures there { IfErr result (λ e. e.why ≢ CoreFault.NoQueue) }
-    {
-        Layer::<S, L>::move_all_copied(&mut self.queue, &mut self.copies, &mut locked.core, hw)
     }
 }
 

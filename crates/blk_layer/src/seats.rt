@@ -1,6 +1,6 @@
 //! The seats of a layer: what a submitter and a worker have for themselves.
 
-ghost use Rattle.std.specs.Prelude.{◌≡◌, ◌++◌, OnErr, IfSome, IfNone, ◌<◌, ◌≤◌, ◌+◌, ◌∷◌, [], ℕ, IfOk, IfErr, OnOk, All, length, map, replicate, vec_len, slice_get, Some, None, Contains};
+ghost use Rattle.std.specs.Prelude.{◌≡◌, ◌++◌, OnErr, IfSome, IfNone, ◌<◌, ◌≤◌, ◌+◌, [], ℕ, IfOk, IfErr, OnOk, All, length, map, replicate, vec_len, slice_get, Some, None, Contains};
 ghost use Rattle.blk_trace.specs.Events.{AreOnce};
 ghost use Rattle.std.specs.Bool.{OnTrue, OnFalse};
 ghost use Rattle.blk_core.specs.Calls.{Completes, RequeuesTag};
@@ -128,9 +128,9 @@ pub struct Worker<L: Named, A: Allocator = Global> {
 }
 
 impl<L: Named, A: Allocator> Model for Worker<L, A> {
-    ghost use Rattle.std.specs.Prelude.{◌≡◌, vec_capacity, length};
+    ghost use Rattle.std.specs.Prelude.{vec_capacity};
     ghost use Rattle.blk_layer.specs.Seats.{WorkerSeat};
-    ghost use Rattle.blk_layer.specs.Inside.Seats.{IsWorking};
+    ghost use Rattle.blk_layer.specs.Inside.Seats.{IsWorkingAt};
 
     ghost Value = { WorkerSeat };
 
@@ -142,8 +142,7 @@ impl<L: Named, A: Allocator> Model for Worker<L, A> {
       ran = w.ran.items;
     } };
 
-    ghost invariant = { λ w. IsWorking L.setup w.hw w.seat.of_set.depth w.seat.tags w.hands.items
-        (length w.ran.items) (vec_capacity w.ran) w.share.parts w.share.amount };
+    ghost invariant = { λ w. IsWorkingAt L.setup w.hw w.seat w.hands.items w.ran.items (vec_capacity w.ran) w.share.parts w.share.amount };
 }
 
 impl<L: Named, A: Allocator + Clone> Worker<L, A> {
@@ -268,6 +267,7 @@ impl<L: Named, A: Allocator + Clone> Worker<L, A> {
         ensures some { IfSome result (λ command. slice_get self.now.hands tag ≡ Some (Some command)) }
         ensures none { IfNone result (¬ Contains self.now.tags tag) }
     {
+        // brings the prover the worker's invariant
         let _ = self.hw;
         if usize::from(tag) >= self.hands.len() {
             return None;

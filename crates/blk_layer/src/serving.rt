@@ -2,7 +2,7 @@
 
 ghost use Rattle.std.specs.Prelude.{◌≡◌, ◌≢◌, ◌<◌, ◌↔◌, IsTrue, OnOk, OnErr, IfOk, IfErr, None, Some};
 ghost use Rattle.blk_core.specs.Calls.{Issues};
-ghost use Rattle.blk_layer.specs.Serving.{IsIssueAnswer, AccountsFor, LetsGo, IsInHand, IsTickAnswer, IsDepthAnswer, IsLastTryFault, IsNoneIssued, IsFull, issued_now, Runs, IsWorked, IsWorkFault, IsAfter};
+ghost use Rattle.blk_layer.specs.Serving.{IsIssueAnswer, AccountsFor, LetsGo, IsInHand, IsTickAnswer, IsDepthAnswer, IsLastTryFault, IsNoneIssued, IsFull, issued_now, RunsMore, IsWorked, IsWorkFault, IsAfterPass};
 ghost use Rattle.blk_layer.specs.Inside.Serving.{IsRoundsEnd, IsFullsEnd, IsEnded, IsTurned, IsTurnFault, IsPassRefusal, work_name};
 
 use crate::layer::{Layer, Named};
@@ -135,7 +135,7 @@ pub enum After {
 /// What a worker does after a pass, by what that found. It is finished where the pass began after [`Layer::finish`], moved
 /// nothing and left nothing waiting; it lets others run first where the pass neither moved nor served anything.
 pub fn after_pass(passed: Passed) -> After
-    ensures { IsAfter passed result }
+    ensures { IsAfterPass passed result }
 {
     if passed.moved > 0 {
         return After::Again;
@@ -335,7 +335,7 @@ impl<S: Scheduler, L: Named> Layer<S, L> {
         device: &mut D,
     ) -> Result<After, WorkFault>
         requires { worker.old.tag_set ≡ self.now.tag_set }
-        ensures runs { IfOk result (λ _. Runs worker.old worker.new) }
+        ensures runs { IfOk result (λ _. RunsMore worker.old worker.new) }
         ensures fault { IfErr result (λ why. IsWorkFault worker.old why worker.new) }
     {
         let finishing = self.finishing.load(Ordering::SeqCst);
@@ -366,7 +366,7 @@ impl<S: Scheduler, L: Named> Layer<S, L> {
         device: &mut D,
     ) -> Result<u64, WorkFault>
         requires { worker.old.tag_set ≡ self.now.tag_set }
-        ensures runs { IfOk result (λ _. Runs worker.old worker.new) }
+        ensures runs { IfOk result (λ _. RunsMore worker.old worker.new) }
         ensures fault { IfErr result (λ why. IsWorkFault worker.old why worker.new) }
     {
         let Some(first) = self.begin(rt, worker)? else {

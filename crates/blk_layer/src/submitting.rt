@@ -4,7 +4,7 @@ ghost use Rattle.std.specs.Prelude.{◌≡◌, ◌≢◌, ◌<◌, ◌≤◌, �
 ghost use Rattle.blk_bio.specs.Bios.{Bio as Transfer};
 ghost use Rattle.blk_plug.specs.Plugs.{bios_plugged};
 ghost use Rattle.blk_layer.specs.Seats.{AreOwn};
-ghost use Rattle.blk_layer.specs.Submitting.{Flushes, FlushesInto, HasRoom, IsFirstForeign, IsLeft, IsFirstRoomReason, AreOfFirst, IsMoveAnswer, IsMoveAllAnswer};
+ghost use Rattle.blk_layer.specs.Submitting.{Flushes, FlushesInto, QueueHasRoom, IsFirstForeign, IsLeft, IsFirstRoomReason, AreOfFirst, IsMoveAnswer, IsMoveAllAnswer};
 ghost use Rattle.blk_layer.specs.Inside.Submitting.{LosesFirst, GetsFirst, bios_of_both};
 
 use crate::layer::{Layer, Named};
@@ -172,7 +172,8 @@ impl<S: Scheduler, L: Named> Layer<S, L> {
             return Ok(0);
         }
         let mut core = self.lock_core(rt);
-        staged.move_all(&mut *core, hw)
+        let locked = &mut *core;
+        Self::move_all_copied(&mut staged.queue, &mut staged.copies, &mut locked.core, hw)
     }
 
     /// Copies the requests of a software queue that have no copy yet, the first first, as long as there is memory, and room
@@ -318,7 +319,7 @@ fn flush_first<L: Named, A: Allocator + Clone>(
 /// Moves the first request of a plug into a software queue, which has room for it.
 fn take_over<A: Allocator + Clone>(queue: &mut SoftQueue<A>, plug: &mut Plug<A>)
     requires limits { plug.old.limits ≡ queue.old.limits }
-    requires room { (first : List Transfer) → slice_get plug.old.requests 0 ≡ Some first → HasRoom queue.old first }
+    requires room { (first : List Transfer) → slice_get plug.old.requests 0 ≡ Some first → QueueHasRoom queue.old first }
     requires some { 0 < length plug.old.requests }
     ensures moved { LosesFirst plug.old plug.new }
     ensures put { GetsFirst queue.old plug.old queue.new }
@@ -334,7 +335,7 @@ fn take_over<A: Allocator + Clone>(queue: &mut SoftQueue<A>, plug: &mut Plug<A>)
 
 /// Whether a software queue has room for a request.
 fn has_room<A: Allocator + Clone>(queue: &SoftQueue<A>, request: &Request<A>) -> bool
-    ensures { IsTrue result ↔ HasRoom queue.now request.now }
+    ensures { IsTrue result ↔ QueueHasRoom queue.now request.now }
 {
     let count = request.bios().len() as u64;
     (queue.len() as u64) < queue.depth() && count <= MAX_BIOS - queue.bios_in()

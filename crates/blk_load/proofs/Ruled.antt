@@ -8,11 +8,11 @@ use Rattle.blk_core.specs.State.{CoreState, new_core}
 use Rattle.blk_policy.specs.Runs.{IsRunFrom, IsRunBy}
 use Rattle.blk_settings.specs.declared.numbers.Load.{Load}
 use Rattle.blk_settings.specs.declared.sched.SchedFault.{SchedFault}
-use Rattle.blk_settings.specs.Settles.{setup_of}
+use Rattle.blk_settings.specs.Settles.{load_setup}
 
 -- the layer's core began as the scheduler did, and the trace has its setup
 pub run_by : (policy : Policy) (start : CoreState) (setup : Setup) (m : Meaning) (k : List ℕ) (l : Load) (trace : Traced)
-    → start ≡ new_core setup m k → setup ≡ setup_of l → trace.setup ≡ setup_of l → IsRunFrom policy start trace.events → IsRunBy policy m k trace
+    → start ≡ new_core setup m k → setup ≡ load_setup l → trace.setup ≡ load_setup l → IsRunFrom policy start trace.events → IsRunBy policy m k trace
 run_by policy start setup m k l trace at mine its runs =
     subst (λ (c : CoreState). IsRunFrom policy c trace.events) (at ∙ ap (λ (s : Setup). new_core s m k) (mine ∙ sym its)) runs
 

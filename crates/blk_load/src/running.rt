@@ -7,7 +7,7 @@ ghost use Rattle.blk_layer.specs.Seats.{CanMake};
 ghost use Rattle.blk_sched.specs.Meaning.{at_start};
 ghost use Rattle.blk_settings.specs.Faults.{IsLoadFault, IsTold};
 ghost use Rattle.blk_settings.specs.Numbers.{IsLoad};
-ghost use Rattle.blk_settings.specs.Settles.{IsSettled, served_bios, setup_of};
+ghost use Rattle.blk_settings.specs.Settles.{IsSettled, served_bios, load_setup};
 ghost use Rattle.blk_trace.specs.Events.{AreOnce};
 ghost use Rattle.blk_load.specs.Inside.Loads.{AreInTurn};
 ghost use Rattle.blk_policy.specs.Runs.{IsRunBy, IsRunFrom};
@@ -124,7 +124,7 @@ fn on_layer<R: Threads + Wait + Sync, S: Scheduler<A = Global> + Send, L: Named 
     requires workers { L.workers ≡ vec_len queues }
     requires empty { core.events ≡ [] }
     requires range { IsLoad load }
-    requires setup_is { L.setup ≡ setup_of load }
+    requires setup_is { L.setup ≡ load_setup load }
     requires can { CanMake core.setup.hw map SOFT_DEPTH queues.items }
     ensures settled { IfOk result (λ l. IsSettled load l.trace l.settled) }
     ensures ran { IfOk result (λ l. IsRunFrom S.policy L.start l.trace.events) }
@@ -193,7 +193,7 @@ fn settle<S: Scheduler<A = Global>, L: Named>(
 ) -> Result<Loaded, LoadFault>
     requires parts { L.parts ≡ MAX_WORKERS }
     requires range { IsLoad load }
-    requires setup { L.setup ≡ setup_of load }
+    requires setup { L.setup ≡ load_setup load }
     ensures settled { IfOk result (λ l. IsSettled load l.trace l.settled) }
     ensures ran { IfOk result (λ l. IsRunFrom S.policy L.start l.trace.events) }
     ensures accepted { IfOk result (λ l. l.settled.accepted ≡ length (all_accepted submitters.items)) }

@@ -2,8 +2,8 @@
 
 ghost use Rattle.std.specs.Prelude.{◌≡◌, ◌≢◌, ◌≤◌, Some};
 ghost use Rattle.blk_settings.specs.declared.fault.LoadFault.TheVariants.{Range};
-ghost use Rattle.blk_settings.specs.declared.numbers.TheConstants.{MAX_LOAD_BIOS, MAX_SUBMITTERS};
-ghost use Rattle.blk_settings.specs.Faults.{IsFirstOf};
+ghost use Rattle.blk_settings.specs.declared.numbers.TheConstants.{MAX_LOAD_BIOS, MAX_LOAD_SUBMITTERS};
+ghost use Rattle.blk_settings.specs.Faults.{IsFirstOfTwo};
 
 use blk_bio::Limits;
 use blk_layer::{Layer, Named};
@@ -25,7 +25,7 @@ impl First {
     /// Keeps a fault that a thread met, unless one is kept that comes before it.
     fn keep(&mut self, fault: LoadFault)
         requires { fault ≢ LoadFault.Range }
-        ensures { IsFirstOf self.old.fault (Some fault) self.new.fault }
+        ensures { IsFirstOfTwo self.old.fault (Some fault) self.new.fault }
     {
         *self = First {
             fault: first_of(self.fault, Some(fault)),
@@ -89,7 +89,7 @@ pub(crate) struct Site<S: Scheduler<A = Global>, L: Named> {
     /// How much load there is.
     pub(crate) load: Load,
     ghost named: { limits ≡ L.setup.limits },
-    ghost few_submitters: { load.submitters ≤ MAX_SUBMITTERS },
+    ghost few_submitters: { load.submitters ≤ MAX_LOAD_SUBMITTERS },
     ghost few_bios: { load.bios ≤ MAX_LOAD_BIOS },
 }
 
@@ -103,7 +103,7 @@ impl<S: Scheduler<A = Global>, L: Named> Site<S, L> {
         load: Load,
     ) -> Site<S, L>
         requires named { limits ≡ L.setup.limits }
-        requires few_submitters { load.submitters ≤ MAX_SUBMITTERS }
+        requires few_submitters { load.submitters ≤ MAX_LOAD_SUBMITTERS }
         requires few_bios { load.bios ≤ MAX_LOAD_BIOS }
         ensures { result.layer ≡ layer }
     {

@@ -1,7 +1,7 @@
 //! What submitters do.
 
 ghost use Rattle.std.specs.Prelude.{◌≡◌, ◌≢◌, ◌<◌, ◌≤◌, All, IfErr, length};
-ghost use Rattle.blk_settings.specs.declared.numbers.TheConstants.{MAX_LOAD_BIOS, MAX_SUBMITTERS};
+ghost use Rattle.blk_settings.specs.declared.numbers.TheConstants.{MAX_LOAD_BIOS, MAX_LOAD_SUBMITTERS};
 ghost use Rattle.blk_load.specs.Inside.Loads.{nth_bio};
 
 use crate::site::Site;
@@ -28,7 +28,7 @@ const STRIDE: u64 = 16;
 
 /// The bio of this number of a submitter. The bios of all submitters lie in turn, and every other one of each is a write.
 fn nth_bio(submitters: u64, submitter: u8, serial: u64) -> Bio
-    requires submitters { submitters ≤ MAX_SUBMITTERS }
+    requires submitters { submitters ≤ MAX_LOAD_SUBMITTERS }
     requires serial { serial < MAX_LOAD_BIOS }
     ensures { result ≡ nth_bio submitters submitter serial }
 {
@@ -47,7 +47,7 @@ fn nth_bio(submitters: u64, submitter: u8, serial: u64) -> Bio
 
 /// Adds bios from this number on to a plug, until it is full or there are no more, and answers the number of the next one.
 fn fill(plug: &mut Plug, load: &Load, submitter: u8, from: u64) -> Result<u64, LoadFault>
-    requires submitters { load.now.submitters ≤ MAX_SUBMITTERS }
+    requires submitters { load.now.submitters ≤ MAX_LOAD_SUBMITTERS }
     requires bios { load.now.bios ≤ MAX_LOAD_BIOS }
     ensures limits { plug.new.limits ≡ plug.old.limits }
     ensures fault { IfErr result (λ f. f ≢ LoadFault.Range) }

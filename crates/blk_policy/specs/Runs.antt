@@ -31,24 +31,24 @@ pub record RequeuesSomeTag (old : CoreState) (tag : ℕ) (new : CoreState) : Typ
   pub taken : RequeuesTag old tag id new
 
 -- what the call that adds an event does: a release, an issue, a completion, a Back, the end of a round, or a new depth
-abbrev pub Steps : Policy → CoreState → Happened → CoreState → Type 0
-Steps policy old (Release id bios) new = Releases policy old bios (New id) new
-Steps policy old (Join id bios) new = (side : Side) × Releases policy old bios (Joined id side) new
-Steps policy old (Issue id tag) new = IssuesOne policy old id tag new
-Steps policy old (Done tag) new = Completes policy.told_done old tag new
-Steps policy old (Back tag) new = RequeuesSomeTag old tag new
-Steps policy old Tick new = Ends policy.told_tick old new
-Steps policy old (Depth n) new = SetsDepth old n new
+abbrev pub MakesCall : Policy → CoreState → Happened → CoreState → Type 0
+MakesCall policy old (Release id bios) new = Releases policy old bios (New id) new
+MakesCall policy old (Join id bios) new = (side : Side) × Releases policy old bios (Joined id side) new
+MakesCall policy old (Issue id tag) new = IssuesOne policy old id tag new
+MakesCall policy old (Done tag) new = Completes policy.told_done old tag new
+MakesCall policy old (Back tag) new = RequeuesSomeTag old tag new
+MakesCall policy old Tick new = Ends policy.told_tick old new
+MakesCall policy old (Depth n) new = SetsDepth old n new
 
 -- these events, one after the other, lead from one core to another
-unfoldable pub Runs : Policy → CoreState → List Happened → CoreState → Type 0
-Runs policy old [] new = new ≡ old
-Runs policy old (e ∷ es) new =
-    (middle : CoreState) × Steps policy old e middle × Runs policy middle es new
+unfoldable pub MakesCalls : Policy → CoreState → List Happened → CoreState → Type 0
+MakesCalls policy old [] new = new ≡ old
+MakesCalls policy old (e ∷ es) new =
+    (middle : CoreState) × MakesCall policy old e middle × MakesCalls policy middle es new
 
 -- they lead from a core to some other
 abbrev pub IsRunFrom : Policy → CoreState → List Happened → Type 0
-IsRunFrom policy start events = ∥ ((end : CoreState) × Runs policy start events end) ∥₁
+IsRunFrom policy start events = ∥ ((end : CoreState) × MakesCalls policy start events end) ∥₁
 
 -- a trace is one that a core makes whose scheduler follows the policy, and means and keeps this before the first call
 abbrev pub IsRunBy : Policy → Meaning → List ℕ → Traced → Type 0

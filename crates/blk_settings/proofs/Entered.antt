@@ -10,7 +10,7 @@ use Rattle.blk_trace.specs.Meaning.{waiting_of}
 use Rattle.blk_trace.proofs.Pushing.{entered_more as entered_with}
 use Rattle.blk_trace.specs.Events.{open_count}
 use Rattle.blk_trace.specs.Traces.{Traced}
-use Rattle.blk_settings.specs.Settles.{served_bios, setup_of, AreEven, IsSettled, IsSettleFault}
+use Rattle.blk_settings.specs.Settles.{served_bios, load_setup, AreEven, IsSettled, IsSettleFault}
 use Rattle.blk_settings.specs.declared.Settled.{Settled}
 use Rattle.blk_settings.specs.declared.fault.LoadFault.{LoadFault}
 use Rattle.blk_settings.specs.declared.fault.LoadFault.TheVariants as fault
@@ -31,7 +31,7 @@ served_count es n w all is waits =
     omega (arith, both, parts, is, waits)
 
 -- numbers that are even settle a load, and numbers that aren't don't
-pub settles : (l : Load) (t : Traced) (accepted served in_flight waits left : ℕ) (s : Settled) → t.setup ≡ setup_of l → s ≡ record { accepted = accepted; served = served; left = left }
+pub settles : (l : Load) (t : Traced) (accepted served in_flight waits left : ℕ) (s : Settled) → t.setup ≡ load_setup l → s ≡ record { accepted = accepted; served = served; left = left }
     → AreEven l accepted served in_flight waits left → served ≡ length (served_bios t.events) → in_flight ≡ open_count t.events → waits ≡ length (waiting_of t.events) → IsSettled l t s
 settles l t accepted served in_flight waits left s setup is even n o w = record {
   setup = setup;

@@ -11,24 +11,24 @@ IsLoadFault l fault.Range = ¬ IsLoad l
 IsLoadFault l f = IsLoad l
 
 -- the place of a fault in their order
-abbrev pub rank : LoadFault → ℕ
-rank fault.Range = 0
-rank fault.Memory = 1
-rank fault.TraceFull = 2
-rank fault.Repeated = 3
-rank fault.Stalled = 4
-rank fault.SeatMissing = 5
-rank fault.Differs = 6
+abbrev pub fault_rank : LoadFault → ℕ
+fault_rank fault.Range = 0
+fault_rank fault.Memory = 1
+fault_rank fault.TraceFull = 2
+fault_rank fault.Repeated = 3
+fault_rank fault.Stalled = 4
+fault_rank fault.SeatMissing = 5
+fault_rank fault.Differs = 6
 
 -- the first of two, where there are some: it is one of them, and neither comes before it
-pub record IsFirstOf (one other found : Option LoadFault) : Type 0 where
+pub record IsFirstOfTwo (one other found : Option LoadFault) : Type 0 where
   pub among : (found ≡ one) ⊎ (found ≡ other)
   pub none : found ≡ None → (one ≡ None) × (other ≡ None)
-  pub before_one : IfSome found (λ f. IfSome one (λ a. rank f ≤ rank a))
-  pub before_other : IfSome found (λ f. IfSome other (λ b. rank f ≤ rank b))
+  pub before_one : IfSome found (λ f. IfSome one (λ a. fault_rank f ≤ fault_rank a))
+  pub before_other : IfSome found (λ f. IfSome other (λ b. fault_rank f ≤ fault_rank b))
 
 -- what is told of a load: what it came to where its threads met no fault and it could be settled, and else the first of the faults
 abbrev pub IsTold : {V : Type 0} → Option LoadFault → Result V LoadFault → Result V LoadFault → Type 0
 IsTold fault settled (Ok v) = (fault ≡ None) × (settled ≡ Ok v)
 IsTold fault (Ok v) (Err told) = fault ≡ Some told
-IsTold fault (Err why) (Err told) = IsFirstOf fault (Some why) (Some told)
+IsTold fault (Err why) (Err told) = IsFirstOfTwo fault (Some why) (Some told)

@@ -29,7 +29,7 @@ HasZeroTarget (sched.Deadline t) = ⊥
 HasZeroTarget (sched.Kyber t) = (t.read ≡ 0) ⊎ (t.write ≡ 0)
 HasZeroTarget (sched.Earliest late_last) = ⊥
 
--- what is wrong with the settings, and why none is made of them: that, or want of memory
+-- what is wrong with the settings, and why none is made of them: that, or out of memory
 abbrev pub HasFault : Sched → SchedFault → Type 0
 HasFault s setting.ZeroBatch = HasZeroBatch s
 HasFault s setting.ZeroTarget = HasZeroTarget s

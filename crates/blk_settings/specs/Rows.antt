@@ -3,9 +3,9 @@ use Rattle.std.specs.Prelude.{ℕ, ◌≡◌, Bool, true, List, [], ◌∷◌, O
 use Rattle.blk_sched.specs.Meaning.{Meaning, at_start}
 use Rattle.blk_sched.specs.Policies.{Policy}
 use Rattle.blk_none.specs.Choice.{none_policy}
-use Rattle.blk_deadline.specs.Choice.{deadline_policy, kept_of as deadline_kept}
+use Rattle.blk_deadline.specs.Choice.{deadline_policy, deadline_kept}
 use Rattle.blk_kyber.specs.State.{state_at_first, numbers_of, kyber_policy}
-use Rattle.blk_earliest.specs.Choice.{earliest_policy, kept_of as earliest_kept}
+use Rattle.blk_earliest.specs.Choice.{earliest_policy, earliest_kept}
 use Rattle.blk_settings.specs.Made.{IsMade}
 use Rattle.blk_settings.specs.declared.sched.Lineup.{Lineup}
 use Rattle.blk_settings.specs.declared.sched.Sched.{Sched}

@@ -15,8 +15,8 @@ use Rattle.blk_settings.specs.declared.settling.TheConstants.{READ_EXPIRE, WRITE
 
 -- what the layer of a load is set up for: the tags of the load, and a hardware queue for each submitter or each worker, whichever are
 -- fewer
-abbrev pub setup_of : Load → Setup
-setup_of l = record {
+abbrev pub load_setup : Load → Setup
+load_setup l = record {
   depth = l.depth;
   hw = min l.submitters l.workers;
   read_expire = READ_EXPIRE;
@@ -43,7 +43,7 @@ AreEvenIn l events accepted left = AreEven l accepted (length (served_bios event
 
 -- what came of a load, by the trace of its layer: served are the bios in the commands, all of which are done
 pub record IsSettled (l : Load) (trace : Traced) (s : Settled) : Type 0 where
-  pub setup : trace.setup ≡ setup_of l
+  pub setup : trace.setup ≡ load_setup l
   pub even : AreEvenIn l trace.events s.accepted s.left
   pub served : s.served ≡ length (served_bios trace.events)
 

@@ -2,7 +2,7 @@
 
 ghost use Rattle.std.specs.Prelude.{◌≡◌};
 ghost use Rattle.blk_settings.specs.Names.{load_fault_name};
-ghost use Rattle.blk_settings.specs.Faults.{rank, IsFirstOf};
+ghost use Rattle.blk_settings.specs.Faults.{fault_rank, IsFirstOfTwo};
 
 /// Why a load fails. Of several reasons the first is reported.
 #[derive(Clone, Copy, Debug, PartialEq, Eq)]
@@ -43,7 +43,7 @@ impl LoadFault {
 impl LoadFault {
     /// Its place in their order.
     fn rank(&self) -> u8
-        ensures { result ≡ rank self.now }
+        ensures { result ≡ fault_rank self.now }
     {
         match self {
             LoadFault::Range => 0,
@@ -59,7 +59,7 @@ impl LoadFault {
 
 /// Which of two faults is reported, where there are any.
 pub fn first_of(one: Option<LoadFault>, other: Option<LoadFault>) -> Option<LoadFault>
-    ensures { IsFirstOf one other result }
+    ensures { IsFirstOfTwo one other result }
 {
     match (one, other) {
         (None, _) => other,

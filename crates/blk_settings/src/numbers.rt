@@ -7,7 +7,7 @@ use blk_bio::MAX_SOFT_QUEUES;
 use blk_trace::MAX_DEPTH;
 
 /// The most submitters: as many as software queues.
-pub const MAX_SUBMITTERS: u64 = MAX_SOFT_QUEUES;
+pub const MAX_LOAD_SUBMITTERS: u64 = MAX_SOFT_QUEUES;
 
 /// The most workers.
 pub const MAX_LOAD_WORKERS: u64 = 16;
@@ -24,7 +24,7 @@ pub const MAX_LOAD_SERVICE: u64 = 1_000_000;
 /// How much load there is, and on what.
 #[derive(Clone, Copy, Debug, PartialEq, Eq)]
 pub struct Load {
-    /// How many submitters there are, 1 to [`MAX_SUBMITTERS`].
+    /// How many submitters there are, 1 to [`MAX_LOAD_SUBMITTERS`].
     pub submitters: u64,
     /// How many workers there are, 1 to [`MAX_LOAD_WORKERS`].
     pub workers: u64,
@@ -44,7 +44,7 @@ impl Load {
         ensures { IsTrue result ↔ IsLoad self.now }
     {
         self.submitters >= 1
-            && self.submitters <= MAX_SUBMITTERS
+            && self.submitters <= MAX_LOAD_SUBMITTERS
             && self.workers >= 1
             && self.workers <= MAX_LOAD_WORKERS
             && self.bios >= 1

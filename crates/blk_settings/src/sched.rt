@@ -5,7 +5,7 @@ ghost use Rattle.blk_deadline.specs.Shown.{meaning_of as deadline_meaning, kept_
 ghost use Rattle.blk_kyber.specs.Shown.{meaning_of as kyber_meaning, state_of};
 ghost use Rattle.blk_kyber.specs.State.{numbers_of};
 ghost use Rattle.blk_earliest.specs.Shown.{meaning_of as earliest_meaning, late_last_of};
-ghost use Rattle.blk_earliest.specs.Choice.{kept_of as earliest_kept};
+ghost use Rattle.blk_earliest.specs.Choice.{earliest_kept};
 ghost use Rattle.blk_settings.specs.Made.{IsMade, IsUnmade, HasFault};
 ghost use Rattle.blk_settings.specs.Rows.{name_of, IsStart, in_turn};
 ghost use Rattle.blk_settings.specs.Names.{sched_fault_name};

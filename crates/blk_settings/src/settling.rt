@@ -3,7 +3,7 @@
 ghost use Rattle.std.specs.Prelude.{◌≡◌, ◌≤◌, IfOk, IfErr, min};
 ghost use Rattle.blk_trace.specs.Events.{entered, bios_of};
 ghost use Rattle.blk_settings.specs.Numbers.{IsLoad};
-ghost use Rattle.blk_settings.specs.Settles.{AreEven, IsSettled, IsSettleFault, setup_of};
+ghost use Rattle.blk_settings.specs.Settles.{AreEven, IsSettled, IsSettleFault, load_setup};
 
 use crate::numbers::MAX_LOAD_WORKERS;
 use crate::{Load, LoadFault, Settled};
@@ -37,7 +37,7 @@ impl Load {
     /// What its layer is set up for.
     pub fn setup(&self) -> Setup
         requires { IsLoad self.now }
-        ensures { result ≡ setup_of self.now }
+        ensures { result ≡ load_setup self.now }
     {
         let Ok(limits) = Limits::new(MAX_REQUEST_SECTORS, MAX_REQUEST_BIOS) else {
             unreachable!()
@@ -62,7 +62,7 @@ impl Load {
         left: u64,
     ) -> Result<Settled, LoadFault>
         requires range { IsLoad self.now }
-        requires setup { trace.now.setup ≡ setup_of self.now }
+        requires setup { trace.now.setup ≡ load_setup self.now }
         ensures settled { IfOk result (IsSettled self.now trace.now) }
         ensures numbers { IfOk result (λ s. (s.accepted ≡ accepted) × (s.left ≡ left)) }
         ensures fault { IfErr result (IsSettleFault self.now trace.now.events accepted left) }

@@ -23,8 +23,8 @@ unfoldable pub times : {X : Type 0} → (X → X → Bool) → X → List X → 
 times same x xs = count_by (same x) xs
 
 -- so many times each element stands in the list
-abbrev pub Counts : {X : Type 0} → (X → X → Bool) → (X → Option ℕ) → List X → Type 0
-Counts {X} same got xs = (x : X) → unwrap_or (got x) 0 ≡ times same x xs
+abbrev pub CountsEach : {X : Type 0} → (X → X → Bool) → (X → Option ℕ) → List X → Type 0
+CountsEach {X} same got xs = (x : X) → unwrap_or (got x) 0 ≡ times same x xs
 
 -- so many times more each element stands in the other list
 abbrev pub CountsMore : {X : Type 0} → (X → X → Bool) → (X → Option ℕ) → List X → List X → Type 0
@@ -43,8 +43,8 @@ abbrev pub IsAccountOf : SubmitterSeat → Type 0
 IsAccountOf s = AreOwn s.number s.accepted × AreOnce s.accepted
 
 -- no two of the submitters have one number
-abbrev pub AreDistinct : List SubmitterSeat → Type 0
-AreDistinct submitters = (j k : ℕ) (s t : SubmitterSeat) → slice_get submitters j ≡ Some s → slice_get submitters k ≡ Some t → s.number ≡ t.number → j ≡ k
+abbrev pub AllDiffer : List SubmitterSeat → Type 0
+AllDiffer submitters = (j k : ℕ) (s t : SubmitterSeat) → slice_get submitters j ≡ Some s → slice_get submitters k ≡ Some t → s.number ≡ t.number → j ≡ k
 
 -- a bio of this id stands another number of times in the one list than in the other
 abbrev pub DiffersIn : List Bio → List Bio → BioId → Type 0

@@ -6,6 +6,8 @@ use Rattle.blk_bio.specs.declared.bio.BioId.{BioId}
 use Rattle.blk_trace.specs.Setups.{Setup}
 use Rattle.blk_trace.specs.Events.{AreOnce}
 use Rattle.blk_trace.specs.Inside.Kept.{has_bio_id}
+use Rattle.blk_hw.specs.Maps.{IsHwCount}
+use Rattle.blk_tags.specs.Tags.{Seat}
 use Rattle.blk_tags.specs.Inside.{Marks}
 
 -- no id stands twice, and the ids are those of the bios
@@ -27,3 +29,12 @@ pub record IsWorking (setup : Setup) (hw depth : ℕ) (tags : List ℕ) (hands :
   pub room_left : ran + count_by is_some hands ≤ room
   pub part : parts ≡ 1
   pub counted : amount ≡ ran
+
+-- a worker at this seat, with this account
+abbrev pub IsWorkingAt : Setup → ℕ → Seat → List (Option Command) → List Command → ℕ → ℕ → ℕ → Type 0
+IsWorkingAt setup hw seat hands ran room parts amount = IsWorking setup hw seat.of_set.depth seat.tags hands (length ran) room parts amount
+
+-- a software queue for each that the map has, whose hardware queues and whose tags are those of the setup; and as many workers as
+-- the layer's name says
+abbrev pub IsLaidOut : Setup → ℕ → ℕ → List ℕ → ℕ → ℕ → Type 0
+IsLaidOut setup named queues map depth workers = (queues ≡ length map) × IsHwCount map setup.hw × (depth ≡ setup.depth) × (workers ≡ named)

@@ -7,7 +7,7 @@ use Rattle.blk_trace.specs.Events.{entered, AreOnce}
 use Rattle.blk_trace.specs.Meaning.{waiting_of}
 use Rattle.blk_trace.proofs.Words.{some_of}
 use Rattle.blk_layer.specs.Closing.{is_bio_of, issued_bios, all_accepted, all_ran, done_commands, AreSettled, DiffersAsCommand, Disagrees}
-use Rattle.blk_layer.specs.Inside.Closing.{AreDistinct}
+use Rattle.blk_layer.specs.Inside.Closing.{AllDiffer}
 use Rattle.blk_layer.proofs.Agreed.{disagree_bio, agree_all, none_of, none_map, some_map}
 use Rattle.blk_layer.proofs.Onces.{once_moved, all_once}
 use Rattle.blk_layer.proofs.closing.settle.Goals as goal
@@ -81,7 +81,7 @@ returns-clause-once g c =
     let same : IsPermutation c.as_slice-3.result.now c.as_slice-4.result.now = none_of c.in_ok-bio.field-0 (IsPermutation c.as_slice-3.result.now c.as_slice-4.result.now) c.in_default.is c.in_ok-bio.ensures.none in
     let trace = c.trace-trace.result.now in
     let list : done_commands trace.setup trace.events ≡ done_commands setup es = ap (λ (s : Setup). done_commands s trace.events) c.trace-trace.ensures.setup ∙ ap (done_commands setup) c.trace-trace.ensures.events in
-    none_map c.in_ok-differs.differs (IsPermutation (all_ran c.args.workers.now) (done_commands trace.setup trace.events)) (AreDistinct c.args.submitters.now → AreOnce (issued_bios es ++ c.extend_from_slice-2.new.self.items))
+    none_map c.in_ok-differs.differs (IsPermutation (all_ran c.args.workers.now) (done_commands trace.setup trace.events)) (AllDiffer c.args.submitters.now → AreOnce (issued_bios es ++ c.extend_from_slice-2.new.self.items))
     (λ commands apart.
     let agreed : AreSettled setup es c.extend_from_slice-2.new.self.items c.args.submitters.now c.args.workers.now = agree_all setup es queued c.extend_from_slice-2.new.self.items c.as_slice-3.result.now c.as_slice-4.result.now c.args.submitters.now c.args.workers.now c.trace-trace.ensures.accounted left accepted stored same (subst (IsPermutation (all_ran c.args.workers.now)) list commands) in
     once_moved (all_accepted c.args.submitters.now) (issued_bios es ++ c.extend_from_slice-2.new.self.items) agreed.bios (all_once c.args.submitters.now c.in_ok-accepted.ensures.each apart))

@@ -3,7 +3,7 @@ use Rattle.blk_layer.specs.Seats.{LayerShape, WorkerSeat}
 use Rattle.blk_layer.specs.Closing.{done_count, AreAllThere, AreSettled, Disagrees, all_ran, issued_bios}
 use Rattle.blk_trace.specs.Happened.{Happened}
 use Rattle.blk_trace.specs.Events.{AreOnce}
-use Rattle.blk_layer.specs.Inside.Closing.{AreDistinct}
+use Rattle.blk_layer.specs.Inside.Closing.{AllDiffer}
 use Rattle.blk_layer.proofs.Onces.{are_distinct}
 use Rattle.blk_layer.proofs.Agreed.{none_of, some_of, same_settled, same_counted, same_disagrees, written_back}
 use Rattle.blk_core.specs.State.{CoreState}
@@ -72,7 +72,7 @@ returns-in-None-clause-once g c =
     let submitters : c.as_slice.result.now ≡ c.args.submitters.items = search rules in
     let none : c.in-Ok.field-0.differs ≡ None = search rules in
     let there : AreAllThere c.args.self.map c.args.self.workers c.args.submitters.items c.args.workers.items = c.requires.there in
-    let apart : AreDistinct c.args.submitters.items = are_distinct (length c.args.self.map) c.args.submitters.items there.submitter_count there.each_submitter in
-    let once : AreDistinct c.as_slice.result.now → AreOnce (issued_bios c.audit.new.self.core.events ++ c.in-Ok.field-0.left.items) =
-    none_of c.in-Ok.field-0.differs (AreDistinct c.as_slice.result.now → AreOnce (issued_bios c.audit.new.self.core.events ++ c.in-Ok.field-0.left.items)) none c.in-Ok.ensures.once in
-    subst (λ (es : List Happened). AreOnce (issued_bios es ++ c.in-Ok.field-0.left.items)) (sym c.into_trace.ensures.events) (once (subst AreDistinct (sym submitters) apart))
+    let apart : AllDiffer c.args.submitters.items = are_distinct (length c.args.self.map) c.args.submitters.items there.submitter_count there.each_submitter in
+    let once : AllDiffer c.as_slice.result.now → AreOnce (issued_bios c.audit.new.self.core.events ++ c.in-Ok.field-0.left.items) =
+    none_of c.in-Ok.field-0.differs (AllDiffer c.as_slice.result.now → AreOnce (issued_bios c.audit.new.self.core.events ++ c.in-Ok.field-0.left.items)) none c.in-Ok.ensures.once in
+    subst (λ (es : List Happened). AreOnce (issued_bios es ++ c.in-Ok.field-0.left.items)) (sym c.into_trace.ensures.events) (once (subst AllDiffer (sym submitters) apart))

@@ -1,6 +1,6 @@
 use Rattle.std.proofs.Common.{◌≡◌, true, false, length, refl, ap, arith}
 use Rattle.std.proofs.lemmas.Result.{err_from_is_err_and}
-use Rattle.blk_layer.specs.Serving.{Runs}
+use Rattle.blk_layer.specs.Serving.{RunsMore}
 use Rattle.blk_layer.proofs.Running.{ran_on, ran_count, faulted_on}
 use Rattle.blk_layer.proofs.layer.Layer.work.Goals as goal
 
@@ -11,7 +11,7 @@ returns-in_err-pass-clause-fault g c =
 
 pub returns-in-Finish-clause-worked : goal.returns-in-Finish-clause-worked
 returns-in-Finish-clause-worked g c =
-    let runs : Runs c.args.worker.now c.pass.new.worker = ran_on c.args.worker.now c.loop-passed.worker c.pass.new.worker c.loop-passed.invariant c.in_ok-pass.ensures.runs in
+    let runs : RunsMore c.args.worker.now c.pass.new.worker = ran_on c.args.worker.now c.loop-passed.worker c.pass.new.worker c.loop-passed.invariant c.in_ok-pass.ensures.runs in
     record {
       few = omega (arith, c.loop-passed-test.true);
       unfinished = λ e. absurd (let f : true ≡ false = e in cc);

@@ -1,5 +1,5 @@
-use Rattle.blk_layer.specs.Serving.{Runs}
+use Rattle.blk_layer.specs.Serving.{RunsMore}
 use Rattle.blk_layer.proofs.layer.Layer.work.Given as goal
 
 abbrev pub invariant-loop-passed : goal.invariant-loop-passed
-invariant-loop-passed g l = Runs l.initial.worker l.worker
+invariant-loop-passed g l = RunsMore l.initial.worker l.worker

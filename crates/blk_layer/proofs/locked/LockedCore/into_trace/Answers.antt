@@ -1,11 +1,11 @@
 use Rattle.std.proofs.Common.{sym, subst, List}
 use Rattle.std.proofs.Math.Logic.{∥∥₁_map}
 use Rattle.blk_trace.specs.Happened.{Happened}
-use Rattle.blk_policy.specs.Runs.{Runs}
+use Rattle.blk_policy.specs.Runs.{MakesCalls}
 use Rattle.blk_layer.proofs.locked.LockedCore.into_trace.Goals as goal
 
 pub returns-clause-ran : goal.returns-clause-ran
 returns-clause-ran g c =
     let locked = c.args.self in
     let S = g.S.Scheduler in
-    ∥∥₁_map locked.ran (λ runs. (locked.core, subst (λ (es : List Happened). Runs S.policy g.L.Named.start es locked.core) (sym c.into_trace.ensures.events) runs))
+    ∥∥₁_map locked.ran (λ runs. (locked.core, subst (λ (es : List Happened). MakesCalls S.policy g.L.Named.start es locked.core) (sym c.into_trace.ensures.events) runs))
