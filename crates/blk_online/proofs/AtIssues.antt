@@ -28,7 +28,7 @@ use Rattle.blk_trace.proofs.Allowed.{allowed-unbroken}
 use Rattle.blk_trace.proofs.Ids.{released_has}
 use Rattle.blk_trace.proofs.Newness.{once_push}
 use Rattle.blk_trace.proofs.Waiting.{waiting_from}
-use Rattle.blk_online.specs.Ticks.{IsFull}
+use Rattle.blk_online.specs.Ticks.{IsRoundFull}
 use Rattle.blk_online.specs.Issues.{IsEarliestAtIssues, IsMeetableAtIssues, one_tag, write, read, read_too_late}
 
 -- ---- the trace is legal
@@ -106,12 +106,12 @@ ticked (suc (suc (suc (suc zero)))) h = omega arith
 ticked (suc (suc (suc (suc (suc zero))))) h = absurd (cc)
 ticked (suc (suc (suc (suc (suc (suc k)))))) h = absurd (cc)
 
-full_here : IsFull one_tag (take 4 read_too_late)
+full_here : IsRoundFull one_tag (take 4 read_too_late)
 unfolding places_at rounds_of served goes_back round_of depth_now depth_in depth_at changes_of timed
 full_here = refl
 
-full_at : (k : ℕ) → At read_too_late k Tick → IsFull one_tag (take k read_too_late)
-full_at k h = subst (λ n. IsFull one_tag (take n read_too_late)) (sym (ticked k h)) full_here
+full_at : (k : ℕ) → At read_too_late k Tick → IsRoundFull one_tag (take k read_too_late)
+full_at k h = subst (λ n. IsRoundFull one_tag (take n read_too_late)) (sym (ticked k h)) full_here
 
 -- of one id, and of two of which the first went out, the last alone is left
 of_one : (id i : ℕ) → has_id (i ∷ []) id ≡ true → id ≡ i

@@ -9,16 +9,16 @@ use Rattle.blk_trace.specs.Setups.{Setup}
 use Rattle.blk_trace.specs.Events.{At, round_of}
 use Rattle.blk_trace.specs.Meaning.{due_of, command_of}
 use Rattle.blk_trace.specs.Waits.{Entered, waits_at}
-use Rattle.blk_online.specs.Ticks.{IsFull}
+use Rattle.blk_online.specs.Ticks.{IsRoundFull}
 
 -- where a request waits as a round ends, the round is full; and each command comes first of all that waits as it goes out
 pub record IsEarliestAtIssues (setup : Setup) (events : List Happened) : Type 0 where
-  pub full : (k id : ℕ) (w : Entered) → At events k Tick → waits_at setup (take k events) id ≡ Some w → IsFull setup (take k events)
+  pub full : (k id : ℕ) (w : Entered) → At events k Tick → waits_at setup (take k events) id ≡ Some w → IsRoundFull setup (take k events)
   pub due_first : (k i tag id : ℕ) (w : Entered) → At events k (Issue i tag) → waits_at setup (take k events) id ≡ Some w → ComesFirst (command_of setup (take k events) i) (command_of setup (take k events) id)
 
 -- the same, where that request is due in the round that is on or later, as the command then is too
 pub record IsMeetableAtIssues (setup : Setup) (events : List Happened) : Type 0 where
-  pub full : (k id : ℕ) (w : Entered) → At events k Tick → waits_at setup (take k events) id ≡ Some w → round_of (take k events) ≤ w.due → IsFull setup (take k events)
+  pub full : (k id : ℕ) (w : Entered) → At events k Tick → waits_at setup (take k events) id ≡ Some w → round_of (take k events) ≤ w.due → IsRoundFull setup (take k events)
   pub due_first : (k i tag id : ℕ) (w : Entered) → At events k (Issue i tag) → waits_at setup (take k events) id ≡ Some w → round_of (take k events) ≤ w.due → (round_of (take k events) ≤ due_of setup (take k events) i) × ComesFirst (command_of setup (take k events) i) (command_of setup (take k events) id)
 
 -- one tag and one hardware queue; reads are due at once, and writes nine rounds on

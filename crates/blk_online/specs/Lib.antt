@@ -1,3 +1,4 @@
 pub mod Meetable
 pub mod Ticks
+pub mod Best
 pub mod Issues

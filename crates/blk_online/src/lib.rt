@@ -6,37 +6,28 @@
 //! release rounds on equal places whose number may change from round to round.
 #![tactic(auto)]
 
-ghost use Rattle.std.specs.Prelude.{◌≡◌, ℕ, ℤ, List};
+ghost use Rattle.std.specs.Prelude.{List};
 ghost use Rattle.edd_commands.specs.declared.Command.{Command};
 ghost use Rattle.edd_commands.specs.declared.steps.Step.{Step};
-ghost use Rattle.edd_commands.specs.Schedule.{IsLegal, IsGreatestLateness, IsLeastLateness};
-ghost use Rattle.edd_check.specs.OnTime.{number_on_time, IsMostOnTime};
-ghost use Rattle.edd_oracle.specs.Priority.{IsEarliestDueFirst};
 ghost use Rattle.blk_trace.specs.Happened.{Happened};
 ghost use Rattle.blk_trace.specs.Setups.{Setup, IsSetup};
-ghost use Rattle.blk_trace.specs.Depths.{capacity_of};
 ghost use Rattle.blk_trace.specs.Legal.{IsLegalTrace};
-ghost use Rattle.blk_trace.specs.Meaning.{commands_of, rounds_of};
-ghost use Rattle.blk_online.specs.Meetable.{IsMeetableFirst};
-ghost use Rattle.blk_online.specs.Ticks.{IsEarliestNow, IsMeetableNow, AtTicks};
+ghost use Rattle.blk_online.specs.Ticks.{IsEarliestTrace, IsMeetableTrace};
+ghost use Rattle.blk_online.specs.Best.{EarliestDueFirstIsLeastLate, MeetableFirstMeetsMost, RunsEarliestFirst, RunsMeetableFirst, IsOneSchedule, HasLeastLateness, IsLaterThanLeast, MeetsMost};
 ghost use Rattle.blk_online.specs.Issues.{IsEarliestAtIssues, IsMeetableAtIssues, one_tag, read_too_late};
 
 /// A legal schedule by earliest due date first is least late.
 ///
 /// A law: it does nothing when it runs, and a caller has its clause.
 pub fn law_of_earliest_due_first()
-    ensures { (commands : List Command) → (steps : List Step) → (rounds : List ℕ) → (late : ℤ)
-        → IsLegal commands rounds steps → IsEarliestDueFirst commands rounds steps
-        → IsGreatestLateness commands rounds late → IsLeastLateness commands steps late }
+    ensures { (commands : List Command) → (steps : List Step) → EarliestDueFirstIsLeastLate commands steps }
 {}
 
 /// A legal schedule that first serves what can still be met meets the most, in whatever order it serves the rest.
 ///
 /// A law: it does nothing when it runs, and a caller has its clause.
 pub fn law_of_meetable_first()
-    ensures { (commands : List Command) → (steps : List Step) → (rounds : List ℕ)
-        → IsLegal commands rounds steps → IsMeetableFirst commands rounds steps
-        → IsMostOnTime commands steps (number_on_time commands rounds) }
+    ensures { (commands : List Command) → (steps : List Step) → MeetableFirstMeetsMost commands steps }
 {}
 
 /// Where, as each round of a legal trace ends, what went out in it comes before all that waits, and the round is full if
@@ -47,20 +38,12 @@ pub fn law_of_meetable_first()
 /// A law: it does nothing when it runs, and a caller has its clauses.
 pub fn law_of_earliest_traces()
     ensures first { (setup : Setup) → (events : List Happened)
-        → IsLegalTrace setup events → AtTicks (IsEarliestNow setup) events
-        → IsEarliestDueFirst (commands_of setup events) (rounds_of events) (capacity_of setup events) }
+        → IsEarliestTrace setup events → RunsEarliestFirst setup events }
     // the oracle's schedule is such a one
     ensures one { (setup : Setup) → (events : List Happened)
-        → IsSetup setup → IsLegalTrace setup events → AtTicks (IsEarliestNow setup) events
-        → (solved : List ℕ)
-        → IsLegal (commands_of setup events) solved (capacity_of setup events)
-        → IsEarliestDueFirst (commands_of setup events) solved (capacity_of setup events)
-        → rounds_of events ≡ solved }
+        → IsSetup setup → IsEarliestTrace setup events → IsOneSchedule setup events }
     ensures least { (setup : Setup) → (events : List Happened)
-        → IsLegalTrace setup events → AtTicks (IsEarliestNow setup) events
-        → (late : ℤ)
-        → IsGreatestLateness (commands_of setup events) (rounds_of events) late
-        → IsLeastLateness (commands_of setup events) (capacity_of setup events) late }
+        → IsEarliestTrace setup events → HasLeastLateness setup events }
 {}
 
 /// Where that holds of what waits and is due in the round or later, with what went out due then too, the trace meets as many
@@ -69,11 +52,9 @@ pub fn law_of_earliest_traces()
 /// A law: it does nothing when it runs, and a caller has its clauses.
 pub fn law_of_late_last_traces()
     ensures first { (setup : Setup) → (events : List Happened)
-        → IsLegalTrace setup events → AtTicks (IsMeetableNow setup) events
-        → IsMeetableFirst (commands_of setup events) (rounds_of events) (capacity_of setup events) }
+        → IsMeetableTrace setup events → RunsMeetableFirst setup events }
     ensures most { (setup : Setup) → (events : List Happened)
-        → IsLegalTrace setup events → AtTicks (IsMeetableNow setup) events
-        → IsMostOnTime (commands_of setup events) (capacity_of setup events) (number_on_time (commands_of setup events) (rounds_of events)) }
+        → IsMeetableTrace setup events → MeetsMost setup events }
 {}
 
 /// Read as each command goes out, and not as its round ends, what waits is too little: both laws would be false. In a legal trace a
@@ -84,9 +65,7 @@ pub fn law_of_late_last_traces()
 pub fn law_of_issues()
     ensures legal { IsSetup one_tag × IsLegalTrace one_tag read_too_late }
     ensures earliest { IsEarliestAtIssues one_tag read_too_late }
-    ensures late { (late : ℤ) → IsGreatestLateness (commands_of one_tag read_too_late) (rounds_of read_too_late) late
-        → IsLeastLateness (commands_of one_tag read_too_late) (capacity_of one_tag read_too_late) late → ⊥ }
+    ensures late { IsLaterThanLeast one_tag read_too_late }
     ensures meetable { IsMeetableAtIssues one_tag read_too_late }
-    ensures missed { IsMostOnTime (commands_of one_tag read_too_late) (capacity_of one_tag read_too_late)
-        (number_on_time (commands_of one_tag read_too_late) (rounds_of read_too_late)) → ⊥ }
+    ensures missed { MeetsMost one_tag read_too_late → ⊥ }
 {}

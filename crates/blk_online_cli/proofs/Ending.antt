@@ -8,7 +8,7 @@ use Rattle.blk_cli.specs.declared.Ended.{Ended}
 use Rattle.blk_cli.specs.declared.NoText.{NoText}
 use Rattle.blk_cli.specs.declared.NoText.TheVariants as none
 use Rattle.blk_cli.specs.Said.{Said}
-use Rattle.blk_cli.specs.Gives.{Gives, GivesText}
+use Rattle.blk_cli.specs.Gives.{GivesAnswer, GivesText}
 use Rattle.blk_cli.specs.Lines.{is_outside, is_of_words}
 use Rattle.blk_cli.specs.Ends.{Answers, RunEnds, status_without}
 use Rattle.blk_online_cli.specs.Told.{rows_in, AskAlone, EndsWell}
@@ -29,11 +29,11 @@ without none.Excluded e = cc e
 
 -- the job answers a text
 abbrev pub IsOfText : Job → Type 0
-IsOfText j = (words : List (List ℕ)) → (input : Option (List Row)) → (bytes : Option (List ℕ)) → (s : Said) → Gives words j input bytes s → GivesText j input s.text
+IsOfText j = (words : List (List ℕ)) → (input : Option (List Row)) → (bytes : Option (List ℕ)) → (s : Said) → GivesAnswer words j input bytes s → GivesText j input s.text
 
 -- the words ask for this job alone, and get its text
 pub gives : (j : Job) (words : List (List ℕ)) (input : Option (List Row)) (bytes : Option (List ℕ)) (s : Said) → IsOfText j → AskAlone words j → Answers words input bytes s → GivesText j input s.text
-gives j words input bytes s is_of alone answer = is_of words input bytes s (subst (λ (k : Job). Gives words k input bytes s) ((alone answer.0).0 answer.1) answer.2)
+gives j words input bytes s is_of alone answer = is_of words input bytes s (subst (λ (k : Job). GivesAnswer words k input bytes s) ((alone answer.0).0 answer.1) answer.2)
 
 -- a run that ended well wrote the text of the job that its words ask for
 pub wrote : (j : Job) → IsOfText j → (words : List (List ℕ)) (bytes : List ℕ) (old new : Stream) → AskAlone words j → EndsWell words bytes old new

@@ -5,7 +5,7 @@ use Rattle.std.specs.Io.KnownBytes.{Appends}
 use Rattle.drafts.specs.Outputs.{Stream, IsWritten}
 use Rattle.blk_lists.specs.Sources.{Row}
 use Rattle.blk_sched.specs.Meaning.{at_start}
-use Rattle.blk_earliest.specs.Choice.{kept_of}
+use Rattle.blk_earliest.specs.Choice.{earliest_kept}
 use Rattle.blk_trace.specs.Happened.{Happened}
 use Rattle.blk_trace.specs.Setups.{Setup, IsSetup}
 use Rattle.edd_figures.specs.Figures.{shortfall_in}
@@ -24,7 +24,7 @@ use Rattle.blk_online_sim.proofs.Telling as telling
 use Rattle.blk_cli.specs.Gives.{GivesText}
 use Rattle.blk_cli.specs.OfTraces.{IsReportText, IsMissesText}
 use Rattle.blk_words.specs.declared.words.Form.TheVariants as form
-use Rattle.blk_words.specs.declared.inputs.Figures.TheVariants as figures
+use Rattle.blk_words.specs.declared.inputs.FiguresAsked.TheVariants as figures
 use Rattle.blk_words.specs.declared.inputs.Running.TheVariants as running
 use Rattle.blk_words.specs.declared.inputs.Telling.TheVariants as tell
 use Rattle.blk_words.specs.declared.words.Job.TheVariants as job
@@ -39,7 +39,7 @@ held late_last bytes traced by g =
     let trace : Traced = g.2.trace in
     let is : IsTrace trace = traces.spelled_legal (trace_rows trace) trace (latest, g.2.is_text.spelled) in
     let whole : IsSetup g.0.setup = subst IsSetup g.2.is_trace.setup is.setup.is_setup in
-    trace_holds late_last g.0 g.0.lines (at_start true) (kept_of late_last) trace.setup trace.events whole refl refl g.2.is_trace.ran.1 g.2.is_trace.setup is.legal steps
+    trace_holds late_last g.0 g.0.lines (at_start true) (earliest_kept late_last) trace.setup trace.events whole refl refl g.2.is_trace.ran.1 g.2.is_trace.setup is.legal steps
 
 -- whatever trace the text of it spells
 pub read_holds : (late_last : Bool) (bytes traced : List ℕ) (u : Traced) → SpellByRounds bytes → GivesText (job.OfScript (running.One (sched.Earliest late_last))) (Some (rows_in bytes)) traced → SpellsTrace (rows_in traced) u → AtTicks (HoldsNow late_last u.setup) u.events

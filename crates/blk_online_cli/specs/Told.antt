@@ -8,7 +8,7 @@ use Rattle.blk_trace.specs.Traces.{Traced}
 use Rattle.blk_text.specs.Script.{Scripted, SpellsScript}
 use Rattle.blk_text.specs.TraceForm.{SpellsTrace}
 use Rattle.blk_settings.specs.declared.sched.Sched.TheVariants as sched
-use Rattle.blk_words.specs.declared.inputs.Figures.{Figures}
+use Rattle.blk_words.specs.declared.inputs.FiguresAsked.{FiguresAsked}
 use Rattle.blk_words.specs.declared.inputs.Running.TheVariants as running
 use Rattle.blk_words.specs.declared.inputs.Telling.TheVariants as telling
 use Rattle.blk_words.specs.declared.words.Form.TheVariants as form
@@ -32,7 +32,7 @@ SpellByRounds bytes = (script : Scripted) × SpellsScript (rows_in bytes) script
 abbrev pub earliest_run : Bool → Job
 earliest_run late_last = job.OfScript (running.One (sched.Earliest late_last))
 
-abbrev pub figures_in_lines : Figures → Job
+abbrev pub figures_in_lines : FiguresAsked → Job
 figures_in_lines k = job.OfTrace (telling.Figures k form.Lines)
 
 -- the words ask for this job, and for no other

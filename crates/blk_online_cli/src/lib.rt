@@ -11,7 +11,7 @@ use blk_cli::{Ended, answer, run};
 use blk_lists::Records;
 use blk_settings::Loads;
 use blk_tune::Quiet;
-use blk_words::Figures;
+use blk_words::FiguresAsked;
 use blk_words::asking::plain_lines;
 use drafts::Output;
 use std::alloc::{AllocError, Global};
@@ -25,14 +25,14 @@ use std::thread::Threads;
 ///
 /// A law of [`run`]: it does nothing when it runs, and a caller has its clause.
 pub fn law_of_reports()
-    ensures { OfTwoRuns (earliest_run false) (figures_in_lines Figures.Report) ReportsNoShortfall }
+    ensures { OfTwoRuns (earliest_run false) (figures_in_lines FiguresAsked.Report) ReportsNoShortfall }
 {}
 
 /// What `sim --sched earliest --late-last` writes of such a script is a trace of which `misses` says that none is avoidable.
 ///
 /// A law of [`run`]: it does nothing when it runs, and a caller has its clause.
 pub fn law_of_misses()
-    ensures { OfTwoRuns (earliest_run true) (figures_in_lines Figures.Misses) CountsNoneAvoidable }
+    ensures { OfTwoRuns (earliest_run true) (figures_in_lines FiguresAsked.Misses) CountsNoneAvoidable }
 {}
 
 /// The words for a simulation under `earliest`, with `--late-last` or without it.

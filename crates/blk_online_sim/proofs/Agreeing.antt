@@ -6,7 +6,7 @@ use Rattle.std.proofs.lemmas.Bool.{cases_Bool}
 use Rattle.blk_bio.specs.Bios.{Bio}
 use Rattle.blk_bio.specs.Requests.{dir_of}
 use Rattle.blk_sched.specs.Meaning.{Waiting, Pending, Meaning, Picks, joined_waiting}
-use Rattle.blk_sched.specs.Maps.{one_test}
+use Rattle.blk_sched.proofs.Maps.{one_test}
 use Rattle.blk_index.proofs.Indexed.{becomes_given, becomes_taken}
 use Rattle.blk_hw.specs.Held.{held_in}
 use Rattle.blk_trace.specs.Happened.{Happened}

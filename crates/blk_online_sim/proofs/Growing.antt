@@ -15,7 +15,7 @@ use Rattle.blk_text.specs.declared.script.Line.{Line}
 use Rattle.blk_text.specs.declared.script.Line.TheVariants as line
 use Rattle.blk_sched.specs.Policies.{Policy}
 use Rattle.blk_sim.specs.Moves.{EnterInTurn, DrainInTurn}
-use Rattle.blk_sim.specs.Rounds.{AsksQueue, Gives, IssueInTurn, CompleteInTurn, Works, Rounds}
+use Rattle.blk_sim.specs.Rounds.{AsksQueue, GivesCommand, IssueInTurn, CompleteInTurn, Works, Rounds}
 use Rattle.blk_sim.specs.State.{SimState}
 use Rattle.blk_sim.specs.Runs.{Steps, Runs}
 
@@ -52,7 +52,7 @@ module _ (policy : Policy) where
   grows_asked hw tag None old new p = grows_none old new p.1.0
   grows_asked hw tag (Some command) old new p = (_, p.1.2.1)
 
-  pub grows_given : (tag : ℕ) (old new : CoreState) → Gives policy tag old new → Grows old new
+  pub grows_given : (tag : ℕ) (old new : CoreState) → GivesCommand policy tag old new → Grows old new
   grows_given tag old new p = grows_asked _ tag (Some p.command) old new p.gave
 
   pub grows_issued : (n : ℕ) (old new : CoreState) → IssueInTurn policy n old new → Grows old new

@@ -10,7 +10,7 @@ use Rattle.std.specs.Map.{lookup, values_of}
 use Rattle.std.proofs.lemmas.List.Sums.{sum_by-append}
 use Rattle.edd_commands.specs.Schedule.{places_at}
 use Rattle.blk_sched.specs.Meaning.{Waiting, Pending, Meaning, Picks}
-use Rattle.blk_sched.specs.Maps.{looked_up}
+use Rattle.blk_sched.proofs.Maps.{looked_up}
 use Rattle.blk_trace.specs.Happened.{Happened}
 use Rattle.blk_trace.specs.declared.event.Event.TheVariants.{Issue}
 use Rattle.blk_trace.specs.Setups.{Setup}
@@ -26,8 +26,8 @@ use Rattle.blk_trace.proofs.Entering.{same_entered}
 use Rattle.blk_trace.proofs.Waiting.{waiting_from}
 use Rattle.blk_core.specs.State.{CoreState}
 use Rattle.blk_core.specs.Calls.{SendsFrom}
-use Rattle.blk_sim.specs.Rounds.{Gives, IssueInTurn, IssuesAll}
-use Rattle.blk_earliest.specs.Choice.{serves_all, earliest_choice, earliest_chooses, kept_of, earliest_policy}
+use Rattle.blk_sim.specs.Rounds.{GivesCommand, IssueInTurn, IssuesAll}
+use Rattle.blk_earliest.specs.Choice.{serves_all, earliest_choice, earliest_chooses, earliest_kept, earliest_policy}
 use Rattle.blk_earliest.proofs.Chosen.{choice_first, choice_meetable, choice_none}
 use Rattle.blk_online.specs.Ticks.{AtTicks, WentOut}
 use Rattle.blk_online_sim.specs.ByRounds.{HoldsNow}
@@ -50,7 +50,7 @@ goes_first : (late_last : Bool) (round : ℕ) (ws : List Waiting) (w : Waiting) 
 goes_first false round ws w h = (choice_first round ws w h).first
 goes_first true round ws w h = (choice_meetable round ws w h).on_time
 
-same_setting : (a b : Bool) → kept_of a ≡ kept_of b → a ≡ b
+same_setting : (a b : Bool) → earliest_kept a ≡ earliest_kept b → a ≡ b
 same_setting true true h = refl
 same_setting false false h = refl
 same_setting true false h = absurd (let e : 1 ≡ 0 = ap (λ (xs : List ℕ). get_or xs 0 0) h in omega arith)
@@ -74,7 +74,7 @@ of_listed Q ws v all there = subst Q there.2 (all there.0 v there.1)
 -- ---- a round
 
 pub record IsIssuing (late_last : Bool) (setup : Setup) (round depth n : ℕ) (c : CoreState) : Type 0 where
-  pub booked : IsBooked setup (kept_of late_last) c
+  pub booked : IsBooked setup (earliest_kept late_last) c
   pub ticks : AtTicks (HoldsNow late_last setup) c.events
   pub round_is : round_of c.events ≡ round
   pub depth_is : depth_now setup c.events ≡ depth
@@ -105,11 +105,11 @@ module _ (late_last : Bool) (setup : Setup) (round depth : ℕ) (old new : CoreS
       sym (ap (λ b. earliest_choice b round (values old.meaning.pending)) own) ∙ sym (ap (λ r. earliest_choice chooses.0 r (values old.meaning.pending)) so_far.round_is) ∙ sym chooses.2 in
       let is : new.meaning.pending ≡ map.remove old.meaning.pending w.id = ap (λ (m : Meaning). m.pending) picks.2 in
       let pushed : served 0 (es ++ Issue w.id n ∷ []) ≡ served 0 es ++ (round_of es, w.id) ∷ [] = served_push es (Issue w.id n) refl in
-      let waits = waits_then setup (kept_of late_last) old w.id w so_far.booked picks.0 in
+      let waits = waits_then setup (earliest_kept late_last) old w.id w so_far.booked picks.0 in
       let due : w.due ≡ due_of setup es w.id = waits.2 ∙ (waiting_from setup es w.id waits.0 waits.1).due_is in
       let still : round_of (es ++ Issue w.id n ∷ []) ≡ round_of es = round_more es (Issue w.id n) ∙ (let z : round_of es + 0 ≡ round_of es = omega arith in z) in
       record {
-        booked = sent_booked setup (kept_of late_last) old new so_far.booked w hw n new.meaning refl setup_same chooses.3 sends.2 more legal picks;
+        booked = sent_booked setup (earliest_kept late_last) old new so_far.booked w hw n new.meaning refl setup_same chooses.3 sends.2 more legal picks;
         ticks = subst (AtTicks (HoldsNow late_last setup)) (sym more) (ticks_kept (HoldsNow late_last setup) es (Issue w.id n) refl so_far.ticks);
         round_is = ap round_of more ∙ still ∙ so_far.round_is;
         depth_is = ap (depth_now setup) more ∙ depth_now_is setup (es ++ Issue w.id n ∷ []) ∙ ap (depth_in setup (es ++ Issue w.id n ∷ [])) still ∙ depth_kept setup es (Issue w.id n) (round_of es) refl ∙ sym (depth_now_is setup es) ∙ so_far.depth_is;
@@ -137,7 +137,7 @@ module _ (late_last : Bool) (setup : Setup) (round depth : ℕ) (old new : CoreS
       only x zero y h = let same : x ≡ y = cc in ap (λ (s : ℕ × ℕ). s.1) (sym same)
       only x (suc k) y h = absurd (cc)
 
-  given : (n : ℕ) → IsIssuing late_last setup round depth n old → IsLegalTrace setup new.events → new.setup ≡ old.setup → Gives earliest_policy n old new → IsIssuing late_last setup round depth (suc n) new
+  given : (n : ℕ) → IsIssuing late_last setup round depth n old → IsLegalTrace setup new.events → new.setup ≡ old.setup → GivesCommand earliest_policy n old new → IsIssuing late_last setup round depth (suc n) new
   given n so_far legal setup_same gave =
       let a = gave.gave.1 in
       let w : Waiting = a.0 in

@@ -15,9 +15,10 @@ use Rattle.blk_text.specs.declared.script.Line.{Line}
 use Rattle.blk_text.specs.declared.script.Line.TheVariants as line
 use Rattle.blk_sim.specs.State.{SimState, start_of}
 use Rattle.blk_sim.specs.Runs.{Steps, Runs}
-use Rattle.blk_earliest.specs.Choice.{kept_of, earliest_policy}
+use Rattle.blk_earliest.specs.Choice.{earliest_kept, earliest_policy}
 use Rattle.blk_online.specs.Ticks.{AtTicks}
-use Rattle.blk_online_sim.specs.ByRounds.{HoldsNow, IsByRounds, IsLeastLate, IsOneSchedule, MeetsMost}
+use Rattle.blk_online_sim.specs.ByRounds.{HoldsNow, IsByRounds}
+use Rattle.blk_online.specs.Best.{HasLeastLateness, IsOneSchedule, MeetsMost}
 use Rattle.blk_online.proofs.Laws.{trace_least, oracle_same, trace_most}
 use Rattle.blk_online_sim.proofs.Growing.{legal_before, grows_run}
 use Rattle.blk_online_sim.proofs.Quiet.{fresh_start}
@@ -32,7 +33,7 @@ nothing_waits : (setup : Setup) (id : ℕ) → waits_at setup [] id ≡ None
 unfolding waits_at released_ids
 nothing_waits setup id = refl
 
-start_track : (late_last : Bool) (script : Scripted) → IsOnTrack late_last script.setup (start_of script (at_start true) (kept_of late_last)).core
+start_track : (late_last : Bool) (script : Scripted) → IsOnTrack late_last script.setup (start_of script (at_start true) (earliest_kept late_last)).core
 start_track late_last script = record {
   booked = record {
     setup_is = refl;
@@ -64,9 +65,9 @@ on_track late_last setup some (l ∷ ls) old new by track legal p =
     on_track late_last setup some ls p.0 new (λ k d h. by (suc k) d (omega arith)) (stepped late_last setup some l old p.0 (by 0 l (omega arith)) track legal' p.1) legal p.2
 
 -- at each Tick of its trace
-pub script_holds : (late_last : Bool) (script : Scripted) (ls : List Line) (end : SimState) → IsSetup script.setup → All IsByRounds ls → Runs earliest_policy ls (start_of script (at_start true) (kept_of late_last)) end → IsLegalTrace script.setup end.core.events → AtTicks (HoldsNow late_last script.setup) end.core.events
+pub script_holds : (late_last : Bool) (script : Scripted) (ls : List Line) (end : SimState) → IsSetup script.setup → All IsByRounds ls → Runs earliest_policy ls (start_of script (at_start true) (earliest_kept late_last)) end → IsLegalTrace script.setup end.core.events → AtTicks (HoldsNow late_last script.setup) end.core.events
 script_holds late_last script ls end is by p legal =
-    (on_track late_last script.setup is.some_queues ls (start_of script (at_start true) (kept_of late_last)) end by (start_track late_last script) legal p).ticks
+    (on_track late_last script.setup is.some_queues ls (start_of script (at_start true) (earliest_kept late_last)) end by (start_track late_last script) legal p).ticks
 
 -- ---- a trace that such a script leaves
 
@@ -75,17 +76,17 @@ abbrev pub Ran : Scripted → List Line → Meaning → List ℕ → Setup → L
 Ran script ls meaning kept setup events =
     (end : SimState) × Runs earliest_policy ls (start_of script meaning kept) end × (setup ≡ end.core.setup) × (events ≡ end.core.events)
 
-pub trace_holds : (late_last : Bool) (script : Scripted) (ls : List Line) (meaning : Meaning) (kept : List ℕ) (setup : Setup) (events : List Happened) → IsSetup script.setup → meaning ≡ at_start true → kept ≡ kept_of late_last → Ran script ls meaning kept setup events → setup ≡ script.setup → IsLegalTrace setup events → All IsByRounds ls → AtTicks (HoldsNow late_last setup) events
+pub trace_holds : (late_last : Bool) (script : Scripted) (ls : List Line) (meaning : Meaning) (kept : List ℕ) (setup : Setup) (events : List Happened) → IsSetup script.setup → meaning ≡ at_start true → kept ≡ earliest_kept late_last → Ran script ls meaning kept setup events → setup ≡ script.setup → IsLegalTrace setup events → All IsByRounds ls → AtTicks (HoldsNow late_last setup) events
 trace_holds late_last script ls meaning kept setup events is meaning_is kept_is ran own legal by =
     let end : SimState = ran.0 in
-    let p : Runs earliest_policy ls (start_of script (at_start true) (kept_of late_last)) end =
-    subst (λ (m : Meaning). Runs earliest_policy ls (start_of script m (kept_of late_last)) end) meaning_is
+    let p : Runs earliest_policy ls (start_of script (at_start true) (earliest_kept late_last)) end =
+    subst (λ (m : Meaning). Runs earliest_policy ls (start_of script m (earliest_kept late_last)) end) meaning_is
     (subst (λ (k : List ℕ). Runs earliest_policy ls (start_of script meaning k) end) kept_is ran.1) in
     let legal' : IsLegalTrace script.setup end.core.events = subst (λ (s : Setup). IsLegalTrace s end.core.events) own (subst (λ l. IsLegalTrace setup l) ran.3 legal) in
     let holds : AtTicks (HoldsNow late_last script.setup) end.core.events = script_holds late_last script ls end is by p legal' in
     subst (λ (s : Setup). AtTicks (HoldsNow late_last s) events) (sym own) (subst (λ l. AtTicks (HoldsNow late_last script.setup) l) (sym ran.3) holds)
 
-pub least_late : (late_last : Bool) (setup : Setup) (events : List Happened) → IsLegalTrace setup events → late_last ≡ false → AtTicks (HoldsNow late_last setup) events → IsLeastLate setup events
+pub least_late : (late_last : Bool) (setup : Setup) (events : List Happened) → IsLegalTrace setup events → late_last ≡ false → AtTicks (HoldsNow late_last setup) events → HasLeastLateness setup events
 least_late late_last setup events legal off holds = trace_least setup events legal (subst (λ (b : Bool). AtTicks (HoldsNow b setup) events) off holds)
 
 pub one_schedule : (late_last : Bool) (setup : Setup) (events : List Happened) → IsSetup setup → IsLegalTrace setup events → late_last ≡ false → AtTicks (HoldsNow late_last setup) events → IsOneSchedule setup events

@@ -19,11 +19,11 @@ use Rattle.edd_figures.specs.Figures.{HasFigures, shortfall_in}
 use Rattle.edd_figures.specs.declared.missing.Crowd.{Crowd}
 use Rattle.blk_report.specs.Shortfall.{IsReport}
 use Rattle.edd_figures.specs.Misses.{number_late, AreMisses}
-use Rattle.blk_online_sim.specs.ByRounds.{IsLeastLate, MeetsMost}
+use Rattle.blk_online.specs.Best.{HasLeastLateness, MeetsMost}
 use Rattle.blk_online_sim.specs.Told.{HasNoShortfall, HasNoneAvoidable}
 
 -- where the greatest is least there is no shortfall
-none_lost : (setup : Setup) (events : List Happened) (f : Option Figures) → IsLeastLate setup events → HasFigures (commands_of setup events) (rounds_of events) (capacity_of setup events) f
+none_lost : (setup : Setup) (events : List Happened) (f : Option Figures) → HasLeastLateness setup events → HasFigures (commands_of setup events) (rounds_of events) (capacity_of setup events) f
     → (commands_of setup events ≡ []) ⊎ (shortfall_in f ≡ Some (pos 0))
 none_lost setup events None least none = inl none
 none_lost setup events (Some t) least are =
@@ -33,7 +33,7 @@ none_lost setup events (Some t) least are =
     let zero_is : (t.greatest -ℤ t.least) ≡ pos 0 = omega (arith, ints, low, high) in
     inr (ap (λ (z : ℤ). Some z) (are.shortfall ∙ zero_is))
 
-pub no_shortfall : (setup : Setup) (events : List Happened) (r : Report) → IsLeastLate setup events → IsReport setup events r → HasNoShortfall setup events r
+pub no_shortfall : (setup : Setup) (events : List Happened) (r : Report) → HasLeastLateness setup events → IsReport setup events r → HasNoShortfall setup events r
 no_shortfall setup events r least report = none_lost setup events r.figures least report.figures
 
 -- each command is met or late

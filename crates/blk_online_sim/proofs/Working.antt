@@ -25,8 +25,8 @@ use Rattle.blk_core.specs.State.{CoreState}
 use Rattle.blk_core.specs.Calls.{Places, Completes, Ends, SetsDepth}
 use Rattle.blk_sim.specs.Moves.{EnterInTurn, DrainInTurn}
 use Rattle.blk_sim.specs.Rounds.{CompleteInTurn, Works, Rounds}
-use Rattle.blk_earliest.specs.Choice.{serves_all, kept_of, earliest_policy}
-use Rattle.blk_online.specs.Ticks.{AtTicks, WentOut, IsFull}
+use Rattle.blk_earliest.specs.Choice.{serves_all, earliest_kept, earliest_policy}
+use Rattle.blk_online.specs.Ticks.{AtTicks, WentOut, IsRoundFull}
 use Rattle.blk_online_sim.specs.ByRounds.{HoldsNow}
 use Rattle.blk_online_sim.proofs.Growing.{Grows, grows_both, legal_before, grows_entered, grows_drained, grows_completed, grows_ended, grows_worked}
 use Rattle.blk_online_sim.proofs.Agreeing.{IsBooked, held_then, placed_booked, done_booked, ticked_booked, deep_booked}
@@ -35,13 +35,13 @@ use Rattle.blk_online_sim.proofs.Issuing.{Goes, IsIssuing, issued_in_turn, all_i
 
 -- between two rounds: what holds at each Tick so far, and nothing went out yet in this round
 pub record IsOnTrack (late_last : Bool) (setup : Setup) (c : CoreState) : Type 0 where
-  pub booked : IsBooked setup (kept_of late_last) c
+  pub booked : IsBooked setup (earliest_kept late_last) c
   pub ticks : AtTicks (HoldsNow late_last setup) c.events
   pub fresh : IsFresh c.events
 
 -- once all went out in a round
 pub record IsRoundDone (late_last : Bool) (setup : Setup) (round depth : ℕ) (c : CoreState) : Type 0 where
-  pub booked : IsBooked setup (kept_of late_last) c
+  pub booked : IsBooked setup (earliest_kept late_last) c
   pub ticks : AtTicks (HoldsNow late_last setup) c.events
   pub round_is : round_of c.events ≡ round
   pub depth_is : depth_now setup c.events ≡ depth
@@ -51,14 +51,14 @@ pub record IsRoundDone (late_last : Bool) (setup : Setup) (round depth : ℕ) (c
 -- ---- what holds as the round ends
 
 module _ (setup : Setup) (round depth : ℕ) (c : CoreState) where
-  full_now : (late_last : Bool) → IsRoundDone late_last setup round depth c → (id : ℕ) (w : Entered) → waits_at setup c.events id ≡ Some w → IsFull setup c.events
+  full_now : (late_last : Bool) → IsRoundDone late_last setup round depth c → (id : ℕ) (w : Entered) → waits_at setup c.events id ≡ Some w → IsRoundFull setup c.events
   full_now late_last done id w waits =
-      let held = held_then setup (kept_of late_last) c id w done.booked waits in
+      let held = held_then setup (earliest_kept late_last) c id w done.booked waits in
       ap (places_at (rounds_of c.events)) done.round_is ∙ done.full id held.0 held.1 ∙ sym done.depth_is
 
   goes_now : (late_last : Bool) → IsRoundDone late_last setup round depth c → (id i : ℕ) (w : Entered) → waits_at setup c.events id ≡ Some w → WentOut c.events (round_of c.events) i → Goes late_last (round_of c.events) (due_of setup c.events i) i (due_of setup c.events id) id
   goes_now late_last done id i w waits out =
-      let held = held_then setup (kept_of late_last) c id w done.booked waits in
+      let held = held_then setup (earliest_kept late_last) c id w done.booked waits in
       let due : held.0.due ≡ due_of setup c.events id = held.2 ∙ (waiting_from setup c.events id w waits).due_is in
       subst (λ r. Goes late_last r (due_of setup c.events i) i (due_of setup c.events id) id) (sym done.round_is)
       (subst (λ e. Goes late_last round (due_of setup c.events i) i e id) due
@@ -85,7 +85,7 @@ module _ (late_last : Bool) (setup : Setup) (round depth : ℕ) where
       let same : new.meaning.pending ≡ old.meaning.pending = ap (λ (m : Meaning). m.pending) (sym p.4) in
       let still : round_of (es ++ Done tag ∷ []) ≡ round_of es = round_more es (Done tag) ∙ (let z : round_of es + 0 ≡ round_of es = omega arith in z) in
       record {
-        booked = done_booked setup (kept_of late_last) old new done.booked tag p;
+        booked = done_booked setup (earliest_kept late_last) old new done.booked tag p;
         ticks = subst (AtTicks (HoldsNow late_last setup)) (sym more) (ticks_kept (HoldsNow late_last setup) es (Done tag) refl done.ticks);
         round_is = ap round_of more ∙ still ∙ done.round_is;
         depth_is = ap (depth_now setup) more ∙ depth_now_is setup (es ++ Done tag ∷ []) ∙ ap (depth_in setup (es ++ Done tag ∷ [])) still ∙ depth_kept setup es (Done tag) (round_of es) refl ∙ sym (depth_now_is setup es) ∙ done.depth_is;
@@ -114,7 +114,7 @@ module _ (late_last : Bool) (setup : Setup) (some : 0 < setup.hw) where
   ended round depth old new done p =
       let more : new.events ≡ old.events ++ Tick ∷ [] = p.0.1 in
       record {
-        booked = ticked_booked setup (kept_of late_last) old new done.booked p;
+        booked = ticked_booked setup (earliest_kept late_last) old new done.booked p;
         ticks = subst (AtTicks (HoldsNow late_last setup)) (sym more) (ticks_more (HoldsNow late_last setup) old.events (holds_now setup round depth old late_last done) done.ticks);
         fresh = subst IsFresh (sym more) (fresh_ticked old.events);
       }
@@ -147,12 +147,12 @@ module _ (late_last : Bool) (setup : Setup) (some : 0 < setup.hw) where
   -- one request comes in
   entered : (old new : CoreState) (bios : List Bio) (hw : ℕ) (placed : Placed) → IsOnTrack late_last setup old → IsLegalTrace setup new.events → Places serves_all old bios hw placed new → IsOnTrack late_last setup new
   entered old new bios hw (New id) track legal p = record {
-    booked = placed_booked setup (kept_of late_last) old new track.booked bios hw (New id) legal p;
+    booked = placed_booked setup (earliest_kept late_last) old new track.booked bios hw (New id) legal p;
     ticks = subst (AtTicks (HoldsNow late_last setup)) (sym p.2.1) (ticks_kept (HoldsNow late_last setup) old.events (Release id bios) refl track.ticks);
     fresh = subst IsFresh (sym p.2.1) (fresh_kept old.events (Release id bios) refl refl refl track.fresh);
   }
   entered old new bios hw (JoinedTo id side) track legal p = record {
-    booked = placed_booked setup (kept_of late_last) old new track.booked bios hw (JoinedTo id side) legal p;
+    booked = placed_booked setup (earliest_kept late_last) old new track.booked bios hw (JoinedTo id side) legal p;
     ticks = subst (AtTicks (HoldsNow late_last setup)) (sym p.1.1) (ticks_kept (HoldsNow late_last setup) old.events (Join id bios) refl track.ticks);
     fresh = subst IsFresh (sym p.1.1) (fresh_kept old.events (Join id bios) refl refl refl track.fresh);
   }
@@ -183,7 +183,7 @@ module _ (late_last : Bool) (setup : Setup) (some : 0 < setup.hw) where
 
   pub deepened : (depth : ℕ) (old new : CoreState) → IsOnTrack late_last setup old → SetsDepth old depth new → IsOnTrack late_last setup new
   deepened depth old new track p = record {
-    booked = deep_booked setup (kept_of late_last) old new track.booked depth p;
+    booked = deep_booked setup (earliest_kept late_last) old new track.booked depth p;
     ticks = subst (AtTicks (HoldsNow late_last setup)) (sym p.0.1) (ticks_kept (HoldsNow late_last setup) old.events (Depth depth) refl track.ticks);
     fresh = subst IsFresh (sym p.0.1) (fresh_kept old.events (Depth depth) refl refl refl track.fresh);
   }

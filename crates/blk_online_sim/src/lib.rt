@@ -10,10 +10,11 @@ ghost use Rattle.blk_text.specs.declared.script.Line.{Line};
 ghost use Rattle.blk_text.specs.Script.{Scripted, IsScript, scripted};
 ghost use Rattle.blk_sim.specs.State.{SimState};
 ghost use Rattle.blk_online.specs.Ticks.{AtTicks};
+ghost use Rattle.blk_online.specs.Best.{HasLeastLateness, IsOneSchedule, MeetsMost};
 ghost use Rattle.blk_report.specs.declared.figures.Report.{Report};
 ghost use Rattle.blk_report.specs.Shortfall.{IsReport};
 ghost use Rattle.blk_online_sim.specs.Told.{HasNoShortfall, HasNoneAvoidable};
-ghost use Rattle.blk_online_sim.specs.ByRounds.{IsByRounds, HoldsNow, HoldsByRounds, IsLeastLate, IsOneSchedule, MeetsMost};
+ghost use Rattle.blk_online_sim.specs.ByRounds.{IsByRounds, HoldsNow, HoldsByRounds};
 
 use blk_earliest::Earliest;
 use blk_sim::{SimFault, SimWhy, simulate};
@@ -36,7 +37,7 @@ pub fn law_of_rounds_under_earliest()
 ///
 /// A law: it does nothing when it runs, and a caller has its clause.
 pub fn law_of_no_shortfall()
-    ensures { (s : Setup) (es : List Happened) (r : Report) → IsLeastLate s es → IsReport s es r → HasNoShortfall s es r }
+    ensures { (s : Setup) (es : List Happened) (r : Report) → HasLeastLateness s es → IsReport s es r → HasNoShortfall s es r }
 {}
 
 /// None of the misses of a legal trace that meets the most is avoidable.
@@ -58,7 +59,7 @@ pub fn simulate_earliest<A: Allocator + Clone>(
     ensures setup { IfOk result (λ trace. trace.setup ≡ script.now.setup) }
     ensures legal { IfOk result (λ trace. IsLegalTrace trace.setup trace.events) }
     ensures rounds { IfOk result (λ t. All IsByRounds script.now.lines.items → AtTicks (HoldsNow late_last t.setup) t.events) }
-    ensures least { IfOk result (λ t. late_last ≡ false → All IsByRounds script.now.lines.items → IsLeastLate t.setup t.events) }
+    ensures least { IfOk result (λ t. late_last ≡ false → All IsByRounds script.now.lines.items → HasLeastLateness t.setup t.events) }
     ensures one { IfOk result (λ t. late_last ≡ false → All IsByRounds script.now.lines.items → IsOneSchedule t.setup t.events) }
     ensures most { IfOk result (λ t. late_last ≡ true → All IsByRounds script.now.lines.items → MeetsMost t.setup t.events) }
 {

@@ -13,7 +13,7 @@ use Rattle.blk_trace.specs.declared.trace.TheConstants.{MAX_EVENTS}
 use Rattle.blk_trace.specs.Events.{round_of, goes_back, request_of}
 use Rattle.blk_trace.specs.Meaning.{release_of, due_of}
 use Rattle.blk_trace.proofs.More.{round_more}
-use Rattle.blk_picture.specs.declared.boxes.Issued.{Issued}
+use Rattle.blk_picture.specs.declared.boxes.IssueBox.{IssueBox}
 use Rattle.blk_picture.specs.declared.boxes.TheConstants.{TAGS}
 use Rattle.blk_picture.specs.declared.facts.Facts.{Facts}
 use Rattle.blk_picture.specs.Inside.Facts.{facts_with, facts_or, Knows}
@@ -64,14 +64,14 @@ end_issues (Back k) t h = refl
 end_issues (Depth k) t h = refl
 
 -- no box is added where nothing is issued
-pub boxes_still : (setup : Setup) (events : List Happened) (old round k : ℕ) (e : Happened) (items : List Issued) → k < length events → get_or events k e ≡ e → issues e ≡ None → old ≡ cond (is_tick e) (round + 1) round → items ≡ boxes_from setup events old (drop (k + 1) events) → items ≡ boxes_from setup events round (drop k events)
+pub boxes_still : (setup : Setup) (events : List Happened) (old round k : ℕ) (e : Happened) (items : List IssueBox) → k < length events → get_or events k e ≡ e → issues e ≡ None → old ≡ cond (is_tick e) (round + 1) round → items ≡ boxes_from setup events old (drop (k + 1) events) → items ≡ boxes_from setup events round (drop k events)
 boxes_still setup events old round k e items l is none was h =
     h
     ∙ ap (λ r. boxes_from setup events r (drop (k + 1) events)) was
     ∙ sym (boxes_back setup events round k e l is ∙ ap (λ o. boxes_from setup events (cond (is_tick e) (round + 1) round) (drop (k + 1) events) ++ cons_option (option_map (box_of setup events round (drop (k + 1) events)) o) []) none ∙ append-nil _)
 
 -- a box is added where something is
-pub boxes_push : (setup : Setup) (events : List Happened) (round k id tag : ℕ) (e : Happened) (items new : List Issued) (b : Issued) → k < length events → get_or events k e ≡ e → is_tick e ≡ false → issues e ≡ Some (id, tag) → items ≡ boxes_from setup events round (drop (k + 1) events) → b ≡ box_of setup events round (drop (k + 1) events) (id, tag) → new ≡ items ++ b ∷ [] → new ≡ boxes_from setup events round (drop k events)
+pub boxes_push : (setup : Setup) (events : List Happened) (round k id tag : ℕ) (e : Happened) (items new : List IssueBox) (b : IssueBox) → k < length events → get_or events k e ≡ e → is_tick e ≡ false → issues e ≡ Some (id, tag) → items ≡ boxes_from setup events round (drop (k + 1) events) → b ≡ box_of setup events round (drop (k + 1) events) (id, tag) → new ≡ items ++ b ∷ [] → new ≡ boxes_from setup events round (drop k events)
 boxes_push setup events round k id tag e items new b l is quiet some h box n =
     n
     ∙ ap (λ x. x ++ b ∷ []) h
@@ -91,7 +91,7 @@ back_ends events tag k t e l is some =
     back_back events tag k e l is ∙ ap (λ o. cond (option_map_or (λ t. t == tag) o false) (is_some (requeues e)) (goes_back tag (drop (k + 1) events))) some
 
 -- over a Tick
-pub walked_tick : (setup : Setup) (events : List Happened) (place round : ℕ) (e : Happened) (backs : List Bool) (boxes : List Issued) → place < length events → e ≡ get_or events place e → is_tick e ≡ true → IsWalked setup events (place + 1) round backs boxes → IsWalked setup events place (round - 1) backs boxes
+pub walked_tick : (setup : Setup) (events : List Happened) (place round : ℕ) (e : Happened) (backs : List Bool) (boxes : List IssueBox) → place < length events → e ≡ get_or events place e → is_tick e ≡ true → IsWalked setup events (place + 1) round backs boxes → IsWalked setup events place (round - 1) backs boxes
 walked_tick setup events place round e backs boxes l here t w =
     let is = sym here in
     let now : round_of (take (place + 1) events) ≡ round_of (take place events) + 1 = round_back events place e l is ∙ ap (λ b. round_of (take place events) + cond b 1 0) t in
@@ -111,7 +111,7 @@ same_round events place round e l is quiet h =
     omega (arith, h, now)
 
 -- over the end of an Issue
-pub walked_end : (setup : Setup) (events : List Happened) (place round t : ℕ) (e : Happened) (b : Bool) (backs new : List Bool) (boxes : List Issued) → place < length events → e ≡ get_or events place e → is_tick e ≡ false → ends e ≡ Some t → t < TAGS → b ≡ is_some (requeues e) → new ≡ set backs t b → IsWalked setup events (place + 1) round backs boxes → IsWalked setup events place round new boxes
+pub walked_end : (setup : Setup) (events : List Happened) (place round t : ℕ) (e : Happened) (b : Bool) (backs new : List Bool) (boxes : List IssueBox) → place < length events → e ≡ get_or events place e → is_tick e ≡ false → ends e ≡ Some t → t < TAGS → b ≡ is_some (requeues e) → new ≡ set backs t b → IsWalked setup events (place + 1) round backs boxes → IsWalked setup events place round new boxes
 walked_end setup events place round t e b backs new boxes l here quiet some low back n w =
     let is = sym here in
     record {
@@ -136,7 +136,7 @@ walked_end setup events place round t e b backs new boxes l here quiet some low 
     }
 
 -- over any other event by which nothing is issued
-pub walked_still : (setup : Setup) (events : List Happened) (place round : ℕ) (e : Happened) (backs : List Bool) (boxes : List Issued) → place < length events → e ≡ get_or events place e → is_tick e ≡ false → ends e ≡ None → issues e ≡ None → IsWalked setup events (place + 1) round backs boxes → IsWalked setup events place round backs boxes
+pub walked_still : (setup : Setup) (events : List Happened) (place round : ℕ) (e : Happened) (backs : List Bool) (boxes : List IssueBox) → place < length events → e ≡ get_or events place e → is_tick e ≡ false → ends e ≡ None → issues e ≡ None → IsWalked setup events (place + 1) round backs boxes → IsWalked setup events place round backs boxes
 walked_still setup events place round e backs boxes l here quiet none nothing w =
     let is = sym here in
     record {
@@ -149,11 +149,11 @@ walked_still setup events place round e backs boxes l here quiet none nothing w 
     }
 
 -- the box of what is known
-abbrev pub box_with : ℕ → ℕ → ℕ → Facts → Bool → Issued
+abbrev pub box_with : ℕ → ℕ → ℕ → Facts → Bool → IssueBox
 box_with id tag round f back = record { id = id; dir = f.dir; first = f.first; end = f.end; release = f.release; due = f.due; round = round; tag = tag; back = back }
 
 -- over an Issue
-pub walked_issue : (setup : Setup) (events : List Happened) (place round id tag : ℕ) (e : Happened) (o : Option Facts) (f : Facts) (back : Bool) (backs : List Bool) (boxes new : List Issued) → place < length events → e ≡ get_or events place e → is_tick e ≡ false → ends e ≡ None → issues e ≡ Some (id, tag) → tag < TAGS → Knows setup events id o → f ≡ facts_or o → back ≡ get_or backs tag false → new ≡ boxes ++ box_with id tag round f back ∷ [] → IsWalked setup events (place + 1) round backs boxes → IsWalked setup events place round backs new
+pub walked_issue : (setup : Setup) (events : List Happened) (place round id tag : ℕ) (e : Happened) (o : Option Facts) (f : Facts) (back : Bool) (backs : List Bool) (boxes new : List IssueBox) → place < length events → e ≡ get_or events place e → is_tick e ≡ false → ends e ≡ None → issues e ≡ Some (id, tag) → tag < TAGS → Knows setup events id o → f ≡ facts_or o → back ≡ get_or backs tag false → new ≡ boxes ++ box_with id tag round f back ∷ [] → IsWalked setup events (place + 1) round backs boxes → IsWalked setup events place round backs new
 walked_issue setup events place round id tag e o f back backs boxes new l here quiet none some low known fact read n w =
     let is = sym here in
     let later : List Happened = drop (place + 1) events in
@@ -170,7 +170,7 @@ walked_issue setup events place round id tag e o f back backs boxes new l here q
     }
 
 -- at the end of the events
-pub walked_none : (setup : Setup) (events : List Happened) (n : ℕ) (backs : List Bool) (boxes : List Issued) → n ≡ length events → round_of events ≤ MAX_EVENTS → backs ≡ replicate TAGS false → boxes ≡ [] → IsWalked setup events n (round_of events) backs boxes
+pub walked_none : (setup : Setup) (events : List Happened) (n : ℕ) (backs : List Bool) (boxes : List IssueBox) → n ≡ length events → round_of events ≤ MAX_EVENTS → backs ≡ replicate TAGS false → boxes ≡ [] → IsWalked setup events n (round_of events) backs boxes
 unfolding boxes_from goes_back
 walked_none setup events n backs boxes all few b none =
     let end : drop n events ≡ [] = drop_all n events (omega (arith, all)) in
@@ -184,7 +184,7 @@ walked_none setup events n backs boxes all few b none =
     }
 
 -- at their start
-pub walked_all : (setup : Setup) (events : List Happened) (round : ℕ) (backs : List Bool) (boxes : List Issued) → IsWalked setup events 0 round backs boxes → boxes ≡ boxes_of setup events
+pub walked_all : (setup : Setup) (events : List Happened) (round : ℕ) (backs : List Bool) (boxes : List IssueBox) → IsWalked setup events 0 round backs boxes → boxes ≡ boxes_of setup events
 unfolding boxes_of round_of
 walked_all setup events round backs boxes w = w.boxes_are ∙ ap (λ r. boxes_from setup events r events) w.round_is
 

@@ -9,10 +9,10 @@ use Rattle.blk_trace.specs.Kinds.{issues, is_tick}
 use Rattle.blk_trace.specs.Setups.{Setup}
 use Rattle.blk_trace.specs.Events.{goes_back, request_of}
 use Rattle.blk_trace.specs.Meaning.{release_of, due_of}
-use Rattle.blk_picture.specs.declared.boxes.Issued.{Issued}
+use Rattle.blk_picture.specs.declared.boxes.IssueBox.{IssueBox}
 
 -- an Issue of an id under a tag in a round, which these events follow: the request that the id's Release and Joins make up
-abbrev pub box_of : Setup → List Happened → ℕ → List Happened → ℕ × ℕ → Issued
+abbrev pub box_of : Setup → List Happened → ℕ → List Happened → ℕ × ℕ → IssueBox
 box_of setup events round later p = record {
   id = p.0;
   dir = dir_of (request_of events p.0);
@@ -26,10 +26,10 @@ box_of setup events round later p = record {
 }
 
 -- the boxes of the Issues among these events, the first of which stands in the round, the last Issue first
-unfoldable pub boxes_from : Setup → List Happened → ℕ → List Happened → List Issued
+unfoldable pub boxes_from : Setup → List Happened → ℕ → List Happened → List IssueBox
 boxes_from setup events round [] = []
 boxes_from setup events round (e ∷ es) = boxes_from setup events (cond (is_tick e) (round + 1) round) es ++ cons_option (option_map (box_of setup events round es) (issues e)) []
 
 -- one box for each Issue of the trace
-unfoldable pub boxes_of : Setup → List Happened → List Issued
+unfoldable pub boxes_of : Setup → List Happened → List IssueBox
 boxes_of setup events = boxes_from setup events 0 events

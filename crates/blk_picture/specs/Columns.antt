@@ -12,32 +12,32 @@ use Rattle.blk_trace.specs.Kinds.{releases}
 use Rattle.blk_trace.specs.Setups.{Setup, same_dir}
 use Rattle.blk_trace.specs.Meaning.{timed, greatest}
 use Rattle.blk_trace.specs.Depths.{capacity_of}
-use Rattle.blk_picture.specs.declared.boxes.Issued.{Issued}
+use Rattle.blk_picture.specs.declared.boxes.IssueBox.{IssueBox}
 use Rattle.blk_picture.specs.declared.scale.Scale.{Scale}
 use Rattle.blk_picture.specs.declared.columns.Column.{Column}
-use Rattle.blk_picture.specs.declared.columns.Kind.{Kind}
-use Rattle.blk_picture.specs.declared.columns.Kind.TheVariants.{Reads, Writes, Lates, Backs, GoneReads, GoneWrites}
+use Rattle.blk_picture.specs.declared.columns.IssueKind.{IssueKind}
+use Rattle.blk_picture.specs.declared.columns.IssueKind.TheVariants.{Reads, Writes, Lates, Backs, GoneReads, GoneWrites}
 use Rattle.blk_picture.specs.Boxes.{boxes_of}
 
 -- whether it was issued after it was due
-abbrev pub is_late : Issued → Bool
+abbrev pub is_late : IssueBox → Bool
 is_late b = nat_lt b.due b.round
 
 -- whether it is of the kind: each is a read or a write on time, late, or was requeued
-abbrev pub is_of : Kind → Issued → Bool
-is_of Reads b = (not b.back && not (is_late b)) && same_dir b.dir Read
-is_of Writes b = (not b.back && not (is_late b)) && same_dir b.dir Write
-is_of Lates b = not b.back && is_late b
-is_of Backs b = b.back
-is_of GoneReads b = not b.back && same_dir b.dir Read
-is_of GoneWrites b = not b.back && same_dir b.dir Write
+abbrev pub counts_as : IssueKind → IssueBox → Bool
+counts_as Reads b = (not b.back && not (is_late b)) && same_dir b.dir Read
+counts_as Writes b = (not b.back && not (is_late b)) && same_dir b.dir Write
+counts_as Lates b = not b.back && is_late b
+counts_as Backs b = b.back
+counts_as GoneReads b = not b.back && same_dir b.dir Read
+counts_as GoneWrites b = not b.back && same_dir b.dir Write
 
 -- its round, if it is of the kind
-abbrev pub round_in : Kind → Issued → Option ℕ
-round_in kind b = cond (is_of kind b) (Some b.round) None
+abbrev pub round_in : IssueKind → IssueBox → Option ℕ
+round_in kind b = cond (counts_as kind b) (Some b.round) None
 
 -- the rounds of those of the kind
-unfoldable pub rounds_in : Kind → List Issued → List ℕ
+unfoldable pub rounds_in : IssueKind → List IssueBox → List ℕ
 rounds_in kind boxes = filter_map (round_in kind) boxes
 
 -- the round, if a request of the direction enters by the event

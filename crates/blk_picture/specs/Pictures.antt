@@ -33,13 +33,13 @@ unfoldable pub most_deep : List Traced → ℕ
 most_deep traces = greatest (map (λ t. t.setup.depth) traces)
 
 -- the round before which what is due in a round has to run, if it is to be less late than this; no later than rounds are counted
-abbrev pub end_of : ℕ → ℤ → ℕ
-end_of due (pos n) = min (due + n) (2 * round_limit - 1)
-end_of due (negsuc n) = min (due - suc n) (2 * round_limit - 1)
+abbrev pub latest_end : ℕ → ℤ → ℕ
+latest_end due (pos n) = min (due + n) (2 * round_limit - 1)
+latest_end due (negsuc n) = min (due - suc n) (2 * round_limit - 1)
 
 -- how many commands the rounds of the crowded window carry, if each is to be less late than the least lateness
 abbrev pub crowded_room : List Step → Option Figures → ℕ
-crowded_room steps (Some f) = carried steps f.window.from (end_of f.window.due f.least - f.window.from)
+crowded_room steps (Some f) = carried steps f.window.from (latest_end f.window.due f.least - f.window.from)
 crowded_room steps None = 0
 
 -- the part that shows a trace under a name, so far from the top: its report and its misses, and all that is drawn of it: its boxes, in

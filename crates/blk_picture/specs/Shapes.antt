@@ -2,7 +2,7 @@
 use Rattle.std.specs.Prelude.{ℕ, zero, suc, ◌+◌, ◌-◌, ◌*◌, ◌/◌, ◌==◌, ◌&&◌, ◌||◌, ◌++◌, ◌∷◌, [], Bool, true, false, not, cond, max, nat_le, nat_lt, List, length, codes, slice_index_or, flat_map, map, fold}
 use Rattle.blk_bio.specs.declared.bio.Dir.{Dir}
 use Rattle.blk_bio.specs.declared.bio.Dir.TheVariants.{Read, Write}
-use Rattle.blk_picture.specs.declared.boxes.Issued.{Issued}
+use Rattle.blk_picture.specs.declared.boxes.IssueBox.{IssueBox}
 use Rattle.blk_picture.specs.declared.scale.Scale.{Scale}
 use Rattle.blk_picture.specs.declared.columns.Column.{Column}
 use Rattle.blk_picture.specs.Columns.{is_late}
@@ -17,7 +17,7 @@ class_by Write false true = codes "<rect class='w l'"
 class_by Read false false = codes "<rect class='r'"
 class_by Write false false = codes "<rect class='w'"
 
-abbrev pub class_words : Issued → List ℕ
+abbrev pub class_words : IssueBox → List ℕ
 class_words b = class_by b.dir b.back (is_late b)
 
 abbrev pub dir_words : Dir → List ℕ
@@ -30,11 +30,11 @@ tail_by true early = codes ", sectors $ to $, released in round $, due $, issued
 tail_by false true = codes ", sectors $ to $, released in round $, due $, issued $, lateness -$</title></rect>\n"
 tail_by false false = codes ", sectors $ to $, released in round $, due $, issued $, lateness $</title></rect>\n"
 
-abbrev pub tail_words : Issued → List ℕ
+abbrev pub tail_words : IssueBox → List ℕ
 tail_words b = tail_by b.back (nat_lt b.round b.due)
 
 -- how far the round of an Issue and its due round are apart
-abbrev pub apart : Issued → ℕ
+abbrev pub apart : IssueBox → ℕ
 apart b = cond (nat_lt b.round b.due) (b.due - b.round) (b.round - b.due)
 
 -- a number of rounds can be written inside a box
@@ -47,20 +47,20 @@ label_words Read = codes "<text class='n o' x='$' y='$'>$</text>\n"
 label_words Write = codes "<text class='n' x='$' y='$'>$</text>\n"
 
 -- the rounds late, inside the box of a late command where they fit
-abbrev pub label_text : Scale → Issued → List ℕ
+abbrev pub label_text : Scale → IssueBox → List ℕ
 label_text scale b =
     cond (b.back || (not (is_late b) || not (fits scale (apart b)))) []
     (filled (label_words b.dir) ((b.round * scale.wide + (64 + scale.wide / 2)) ∷ (b.tag * scale.tall + (182 + scale.tall / 2 + 3)) ∷ apart b ∷ []))
 
 -- where a box lies: in the column of its round and the row of its tag; and how its title begins
-abbrev pub place_text : Scale → Issued → List ℕ
+abbrev pub place_text : Scale → IssueBox → List ℕ
 place_text scale b = filled (codes " x='$' y='$' width='$' height='$'><title>request $, ") ((b.round * scale.wide + 64) ∷ (b.tag * scale.tall + 182) ∷ (scale.wide - 1) ∷ (scale.tall - 1) ∷ b.id ∷ [])
 
-abbrev pub tail_text : Issued → List ℕ
+abbrev pub tail_text : IssueBox → List ℕ
 tail_text b = filled (tail_words b) (b.first ∷ b.end ∷ b.release ∷ b.due ∷ b.round ∷ apart b ∷ [])
 
 -- a box: its class, its place, its title, and the rounds late
-abbrev pub box_text : Scale → Issued → List ℕ
+abbrev pub box_text : Scale → IssueBox → List ℕ
 box_text scale b = (((class_words b ++ place_text scale b) ++ dir_words b.dir) ++ tail_text b) ++ label_text scale b
 
 -- a column of several rounds, from the top: reads and writes on time, late ones, those requeued, idle places, and what the rounds
@@ -91,7 +91,7 @@ abbrev pub border_text : Scale → List ℕ
 border_text scale = filled (codes "<svg x='64' y='182' width='$' height='$' viewBox='0 0 $ $' preserveAspectRatio='none'><rect class='f' width='$' height='$'/>\n") ((scale.columns * scale.wide + 0) ∷ (scale.deep * scale.tall + 0) ∷ scale.columns ∷ (scale.per * scale.deep + 0) ∷ scale.columns ∷ (scale.per * scale.deep + 0) ∷ [])
 
 -- the frame, and the boxes where each column is a round
-abbrev pub frame_text : Scale → List Issued → List Column → List ℕ
+abbrev pub frame_text : Scale → List IssueBox → List Column → List ℕ
 frame_text scale boxes columns =
     ((border_text scale ++ columns_text scale columns (length columns)) ++ codes "</svg>\n") ++ cond (scale.per == 1) (flat_map (box_text scale) boxes) []
 

@@ -19,7 +19,7 @@ const TAGS: usize = 1 << 16;
 
 /// An Issue, with the request as it was issued.
 #[derive(Clone, Copy)]
-pub struct Issued {
+pub struct IssueBox {
     /// The id under which its request was released.
     pub id: u64,
     /// The way that its data goes.
@@ -63,7 +63,7 @@ fn step_back(
     place: usize,
     round: u64,
     backs: &mut Vec<bool>,
-    boxes: &mut Vec<Issued>,
+    boxes: &mut Vec<IssueBox>,
 ) -> Result<u64, AllocError>
     requires facts { (id : ℕ) → Knows trace.now.setup trace.now.events id (get nat_cmp facts.now id) }
     requires within { place < length trace.now.events }
@@ -83,7 +83,7 @@ fn step_back(
     };
     let known = known(facts, id);
     let back = backs[tag as usize];
-    let issued = Issued {
+    let issued = IssueBox {
         id,
         dir: known.dir,
         first: known.first,
@@ -101,10 +101,11 @@ fn step_back(
 }
 
 /// The box of each Issue, the last one first. It walks the events back, so that each tag's end is seen before its Issue.
-pub(crate) fn boxes(alloc: Global, trace: &Trace) -> Result<Vec<Issued>, AllocError>
+pub(crate) fn boxes(alloc: Global, trace: &Trace) -> Result<Vec<IssueBox>, AllocError>
     ensures boxes { IfOk result (λ v. v.items ≡ boxes_of trace.now.setup trace.now.events) }
     ensures few { IfOk result (λ v. length v.items ≤ MAX_EVENTS) }
 {
+    // brings the prover the trace's invariant
     let _ = trace.len();
     let setup = trace.setup();
     let facts = gathered(alloc, &setup, trace.events())?;

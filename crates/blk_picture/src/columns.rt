@@ -9,9 +9,9 @@ ghost use Rattle.blk_trace.specs.Setups.{same_dir};
 ghost use Rattle.blk_picture.specs.Boxes.{boxes_of};
 ghost use Rattle.blk_picture.specs.Filled.{made};
 ghost use Rattle.blk_picture.specs.Columns.{is_late, round_in, rounds_in, entry_in, entered_in, in_column, waits_of, peaks_of, rooms_of, column_at, column_of};
-ghost use Rattle.blk_picture.specs.Inside.Counted.{HasOneMore, AreCounts, most_waits, columns_at};
+ghost use Rattle.blk_picture.specs.Inside.Counted.{HasOneMore, AreCounts, most_waits, by_column};
 
-use crate::boxes::Issued;
+use crate::boxes::IssueBox;
 use crate::scale::Scale;
 use blk_bio::{Dir, Request};
 use blk_trace::{Event, Trace};
@@ -20,7 +20,7 @@ use std::alloc::{AllocError, Global};
 
 /// Which Issues are counted.
 #[derive(Clone, Copy)]
-pub enum Kind {
+pub enum IssueKind {
     /// Reads on time.
     Reads,
     /// Writes on time.
@@ -67,30 +67,30 @@ fn is_same(dir: Dir, other: Dir) -> bool
 }
 
 /// Whether it was issued after it was due.
-pub(crate) fn is_late(issued: &Issued) -> bool
+pub(crate) fn is_late(issued: &IssueBox) -> bool
     ensures { result ≡ is_late issued.now }
 {
     issued.due < u64::from(issued.round)
 }
 
 /// Its round, if it is of the kind.
-fn round_in(kind: Kind, issued: &Issued) -> Option<u32>
+fn round_in(kind: IssueKind, issued: &IssueBox) -> Option<u32>
     ensures { result ≡ round_in kind issued.now }
 {
     let on_time = !issued.back && !is_late(issued);
     let counted = match kind {
-        Kind::Reads => on_time && is_same(issued.dir, Dir::Read),
-        Kind::Writes => on_time && is_same(issued.dir, Dir::Write),
-        Kind::Lates => !issued.back && is_late(issued),
-        Kind::Backs => issued.back,
-        Kind::GoneReads => !issued.back && is_same(issued.dir, Dir::Read),
-        Kind::GoneWrites => !issued.back && is_same(issued.dir, Dir::Write),
+        IssueKind::Reads => on_time && is_same(issued.dir, Dir::Read),
+        IssueKind::Writes => on_time && is_same(issued.dir, Dir::Write),
+        IssueKind::Lates => !issued.back && is_late(issued),
+        IssueKind::Backs => issued.back,
+        IssueKind::GoneReads => !issued.back && is_same(issued.dir, Dir::Read),
+        IssueKind::GoneWrites => !issued.back && is_same(issued.dir, Dir::Write),
     };
     if counted { Some(issued.round) } else { None }
 }
 
 /// The rounds of those of the kind.
-fn rounds_in(alloc: Global, boxes: &[Issued], kind: Kind) -> Result<Vec<u32>, AllocError>
+fn rounds_in(alloc: Global, boxes: &[IssueBox], kind: IssueKind) -> Result<Vec<u32>, AllocError>
     ensures rounds { IfOk result (λ v. v.items ≡ rounds_in kind boxes.now) }
     ensures few { IfOk result (λ v. length v.items ≤ length boxes.now) }
 {
@@ -245,8 +245,8 @@ fn rooms(alloc: Global, capacity: &Capacity, scale: Scale) -> Result<Vec<u64>, A
 /// How many Issues of the kind each column has.
 fn counted(
     alloc: Global,
-    boxes: &[Issued],
-    kind: Kind,
+    boxes: &[IssueBox],
+    kind: IssueKind,
     scale: Scale,
 ) -> Result<Vec<u32>, AllocError>
     requires few { length boxes.now ≤ MAX_EVENTS }
@@ -262,14 +262,15 @@ fn counted(
 fn most_waited(
     alloc: Global,
     trace: &Trace,
-    boxes: &[Issued],
-    kind: Kind,
+    boxes: &[IssueBox],
+    kind: IssueKind,
     dir: Dir,
     scale: Scale,
 ) -> Result<Vec<u32>, AllocError>
     requires few { length boxes.now ≤ MAX_EVENTS }
     ensures { IfOk result (λ v. v.items ≡ most_waits scale dir kind trace.now.events boxes.now) }
 {
+    // brings the prover the trace's invariant
     let _ = trace.len();
     let entered = entered(alloc, trace.events(), dir)?;
     let gone = rounds_in(alloc, boxes, kind)?;
@@ -299,8 +300,7 @@ fn joined(
     requires rooms { length rooms.now ≡ length reads.now }
     requires read_waits { length read_waits.now ≡ length reads.now }
     requires write_waits { length write_waits.now ≡ length reads.now }
-    ensures { IfOk result (λ v. v.items
-        ≡ columns_at reads.now writes.now lates.now backs.now rooms.now read_waits.now write_waits.now) }
+    ensures { IfOk result (λ v. v.items ≡ by_column reads.now writes.now lates.now backs.now rooms.now read_waits.now write_waits.now) }
 {
     let mut columns = Vec::new(alloc);
     for column in 0..reads.len() {
@@ -322,7 +322,7 @@ fn joined(
 pub(crate) fn columns(
     alloc: Global,
     trace: &Trace,
-    boxes: &[Issued],
+    boxes: &[IssueBox],
     scale: Scale,
 ) -> Result<Vec<Column>, AllocError>
     requires boxes { boxes.now ≡ boxes_of trace.now.setup trace.now.events }
@@ -330,14 +330,21 @@ pub(crate) fn columns(
     requires some { 0 < scale.per }
     ensures { IfOk result (λ v. v.items ≡ made (column_of trace.now.setup trace.now.events scale) scale.columns) }
 {
-    let reads = counted(alloc, boxes, Kind::Reads, scale)?;
-    let writes = counted(alloc, boxes, Kind::Writes, scale)?;
-    let lates = counted(alloc, boxes, Kind::Lates, scale)?;
-    let backs = counted(alloc, boxes, Kind::Backs, scale)?;
+    let reads = counted(alloc, boxes, IssueKind::Reads, scale)?;
+    let writes = counted(alloc, boxes, IssueKind::Writes, scale)?;
+    let lates = counted(alloc, boxes, IssueKind::Lates, scale)?;
+    let backs = counted(alloc, boxes, IssueKind::Backs, scale)?;
     let capacity = trace.capacity()?;
     let rooms = rooms(alloc, &capacity, scale)?;
-    let read_waits = most_waited(alloc, trace, boxes, Kind::GoneReads, Dir::Read, scale)?;
-    let write_waits = most_waited(alloc, trace, boxes, Kind::GoneWrites, Dir::Write, scale)?;
+    let read_waits = most_waited(alloc, trace, boxes, IssueKind::GoneReads, Dir::Read, scale)?;
+    let write_waits = most_waited(
+        alloc,
+        trace,
+        boxes,
+        IssueKind::GoneWrites,
+        Dir::Write,
+        scale,
+    )?;
     let columns = joined(
         alloc,
         reads.as_slice(),

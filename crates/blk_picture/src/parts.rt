@@ -6,11 +6,11 @@ ghost use Rattle.blk_trace.specs.declared.setup.TheConstants.{MAX_DEPTH};
 ghost use Rattle.blk_trace.specs.declared.trace.TheConstants.{MAX_EVENTS};
 ghost use Rattle.blk_picture.specs.declared.parts.TheConstants.{MAX_TRACES};
 ghost use Rattle.blk_picture.specs.Scales.{scale_of};
-ghost use Rattle.blk_picture.specs.Pictures.{rounds_shown, most_rounds, most_deep, end_of, crowded_room, IsPart, height_of, style, head_text, IsPicture, IsPictures};
+ghost use Rattle.blk_picture.specs.Pictures.{rounds_shown, most_rounds, most_deep, latest_end, crowded_room, IsPart, height_of, style, head_text, IsPicture, IsPictures};
 ghost use Rattle.blk_picture.specs.Inside.Several.{HasParts};
 
 use crate::around::{push_heading, push_windows};
-use crate::boxes::{Issued, boxes};
+use crate::boxes::{IssueBox, boxes};
 use crate::columns::{Column, columns};
 use crate::filled::fill;
 use crate::scale::{Scale, place};
@@ -44,8 +44,8 @@ fn tags_shown(trace: &Trace) -> u32
 }
 
 /// The round before which what is due in a round has to run, if it is to be less late than this; no later than rounds are counted.
-fn end_of(due: u64, late: i64) -> u64
-    ensures value { result ≡ end_of due late }
+fn latest_end(due: u64, late: i64) -> u64
+    ensures value { result ≡ latest_end due late }
     ensures small { result < 2 * round_limit }
 {
     let end = if late < 0 {
@@ -64,7 +64,7 @@ fn crowded_room(capacity: &Capacity, figures: Option<Figures>) -> u64
         return 0;
     };
     let window = figures.window;
-    capacity.sum(window.from, end_of(window.due, figures.least))
+    capacity.sum(window.from, latest_end(window.due, figures.least))
 }
 
 /// Adds what shows a trace, so far from the top.

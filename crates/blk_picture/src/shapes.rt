@@ -3,7 +3,7 @@
 ghost use Rattle.std.specs.Prelude.{◌≡◌, ◌==◌, ◌++◌, [], cond, OnOk, flat_map, length};
 ghost use Rattle.blk_picture.specs.Shapes.{class_words, dir_words, tail_words, apart, fits, label_text, place_text, tail_text, box_text, stack_text, grey_text, column_text, columns_text, border_text, frame_text, waiting_text, most_waiting, scale_text, waits_text, strip_text};
 
-use crate::boxes::Issued;
+use crate::boxes::IssueBox;
 use crate::columns::{Column, is_late};
 use crate::filled::fill;
 use crate::scale::{Scale, place};
@@ -18,7 +18,7 @@ const LEFT: u32 = 64;
 const TOP: u32 = 182;
 
 /// How a box begins, by its class.
-fn class_words(issued: &Issued) -> &'static [u8]
+fn class_words(issued: &IssueBox) -> &'static [u8]
     ensures { result.now ≡ class_words issued.now }
 {
     match (issued.dir, issued.back, is_late(issued)) {
@@ -42,7 +42,7 @@ fn dir_words(dir: Dir) -> &'static [u8]
 }
 
 /// How the title of a box ends.
-fn tail_words(issued: &Issued) -> &'static [u8]
+fn tail_words(issued: &IssueBox) -> &'static [u8]
     ensures { result.now ≡ tail_words issued.now }
 {
     match (issued.back, u64::from(issued.round) < issued.due) {
@@ -59,7 +59,7 @@ fn tail_words(issued: &Issued) -> &'static [u8]
 }
 
 /// How far the round of an Issue and its due round are apart.
-fn apart(issued: &Issued) -> u64
+fn apart(issued: &IssueBox) -> u64
     ensures { result ≡ apart issued.now }
 {
     let round = u64::from(issued.round);
@@ -85,7 +85,7 @@ fn fits(scale: &Scale, rounds: u64) -> bool
 }
 
 /// Adds how many rounds late it was, inside its box, where it was late and the number fits.
-fn push_label(draft: &mut Draft, scale: &Scale, issued: &Issued) -> Result<(), AllocError>
+fn push_label(draft: &mut Draft, scale: &Scale, issued: &IssueBox) -> Result<(), AllocError>
     ensures { OnOk result (draft.new ≡ draft.old ++ label_text scale.now issued.now) }
 {
     let rounds = apart(issued);
@@ -102,7 +102,7 @@ fn push_label(draft: &mut Draft, scale: &Scale, issued: &Issued) -> Result<(), A
 }
 
 /// Adds where a box lies and how its title begins.
-fn push_place(draft: &mut Draft, scale: &Scale, issued: &Issued) -> Result<(), AllocError>
+fn push_place(draft: &mut Draft, scale: &Scale, issued: &IssueBox) -> Result<(), AllocError>
     ensures { OnOk result (draft.new ≡ draft.old ++ place_text scale.now issued.now) }
 {
     let x = place(issued.round, scale.wide, LEFT);
@@ -117,7 +117,7 @@ fn push_place(draft: &mut Draft, scale: &Scale, issued: &Issued) -> Result<(), A
 }
 
 /// Adds how the title of a box ends.
-fn push_tail(draft: &mut Draft, issued: &Issued) -> Result<(), AllocError>
+fn push_tail(draft: &mut Draft, issued: &IssueBox) -> Result<(), AllocError>
     ensures { OnOk result (draft.new ≡ draft.old ++ tail_text issued.now) }
 {
     let round = u64::from(issued.round);
@@ -137,7 +137,7 @@ fn push_tail(draft: &mut Draft, issued: &Issued) -> Result<(), AllocError>
 }
 
 /// Adds a box.
-fn push_box(draft: &mut Draft, scale: &Scale, issued: &Issued) -> Result<(), AllocError>
+fn push_box(draft: &mut Draft, scale: &Scale, issued: &IssueBox) -> Result<(), AllocError>
     ensures { OnOk result (draft.new ≡ draft.old ++ box_text scale.now issued.now) }
 {
     let class = class_words(issued);
@@ -151,7 +151,7 @@ fn push_box(draft: &mut Draft, scale: &Scale, issued: &Issued) -> Result<(), All
 }
 
 /// Adds the boxes, where each column is a round.
-fn push_boxes(draft: &mut Draft, scale: &Scale, boxes: &[Issued]) -> Result<(), AllocError>
+fn push_boxes(draft: &mut Draft, scale: &Scale, boxes: &[IssueBox]) -> Result<(), AllocError>
     ensures { OnOk result (draft.new ≡ draft.old ++ cond (scale.now.per == 1) (flat_map (box_text scale.now) boxes.now) []) }
 {
     if scale.per == 1 {
@@ -162,7 +162,7 @@ fn push_boxes(draft: &mut Draft, scale: &Scale, boxes: &[Issued]) -> Result<(), 
 }
 
 /// Adds the boxes.
-fn push_each(draft: &mut Draft, scale: &Scale, boxes: &[Issued]) -> Result<(), AllocError>
+fn push_each(draft: &mut Draft, scale: &Scale, boxes: &[IssueBox]) -> Result<(), AllocError>
     ensures { OnOk result (draft.new ≡ draft.old ++ flat_map (box_text scale.now) boxes.now) }
 {
     for issued in boxes {
@@ -281,7 +281,7 @@ fn push_border(draft: &mut Draft, scale: &Scale) -> Result<(), AllocError>
 pub(crate) fn push_frame(
     draft: &mut Draft,
     scale: &Scale,
-    boxes: &[Issued],
+    boxes: &[IssueBox],
     columns: &[Column],
 ) -> Result<(), AllocError>
     ensures { OnOk result (draft.new ≡ draft.old ++ frame_text scale.now boxes.now columns.now) }

@@ -21,13 +21,13 @@ use Rattle.blk_trace.specs.Depths.{capacity_of}
 use Rattle.blk_trace.proofs.Counting.{one_if, count-cons}
 use Rattle.blk_trace.proofs.More.{round_cons}
 use Rattle.blk_report.proofs.Waiting.{carried_split}
-use Rattle.blk_picture.specs.declared.boxes.Issued.{Issued}
+use Rattle.blk_picture.specs.declared.boxes.IssueBox.{IssueBox}
 use Rattle.blk_picture.specs.declared.scale.Scale.{Scale}
 use Rattle.blk_picture.specs.declared.columns.Column.{Column}
-use Rattle.blk_picture.specs.declared.columns.Kind.{Kind}
-use Rattle.blk_picture.specs.declared.columns.Kind.TheVariants.{Reads, Writes, Lates, Backs}
+use Rattle.blk_picture.specs.declared.columns.IssueKind.{IssueKind}
+use Rattle.blk_picture.specs.declared.columns.IssueKind.TheVariants.{Reads, Writes, Lates, Backs}
 use Rattle.blk_picture.specs.Boxes.{box_of, boxes_from, boxes_of}
-use Rattle.blk_picture.specs.Columns.{is_of, is_late, in_column, round_in, rounds_in, column_of, rooms_of}
+use Rattle.blk_picture.specs.Columns.{counts_as, is_late, in_column, round_in, rounds_in, column_of, rooms_of}
 use Rattle.blk_picture.specs.Filled.{made}
 use Rattle.blk_picture.specs.Scales.{per_of, columns_of, scale_of}
 use Rattle.blk_picture.specs.Pictures.{rounds_shown, most_rounds}
@@ -121,59 +121,59 @@ columns_sum g f per m last rounds is some low h =
 
 -- ---- the rounds of boxes
 
-pub one_low : (setup : Setup) (events : List Happened) (round n : ℕ) (later : List Happened) (o : Option (ℕ × ℕ)) → round ≤ n → All (λ (b : Issued). b.round ≤ n) (cons_option (option_map (box_of setup events round later) o) [])
-one_low setup events round n later None h = none_each (λ (b : Issued). b.round ≤ n)
-one_low setup events round n later (Some p) h = more_each (λ (b : Issued). b.round ≤ n) (box_of setup events round later p) [] h (none_each (λ (b : Issued). b.round ≤ n))
+pub one_low : (setup : Setup) (events : List Happened) (round n : ℕ) (later : List Happened) (o : Option (ℕ × ℕ)) → round ≤ n → All (λ (b : IssueBox). b.round ≤ n) (cons_option (option_map (box_of setup events round later) o) [])
+one_low setup events round n later None h = none_each (λ (b : IssueBox). b.round ≤ n)
+one_low setup events round n later (Some p) h = more_each (λ (b : IssueBox). b.round ≤ n) (box_of setup events round later p) [] h (none_each (λ (b : IssueBox). b.round ≤ n))
 
 -- none is later than the last of these events
-boxes_low : (setup : Setup) (events : List Happened) (round : ℕ) (es : List Happened) → All (λ (b : Issued). b.round ≤ round + round_of es) (boxes_from setup events round es)
+boxes_low : (setup : Setup) (events : List Happened) (round : ℕ) (es : List Happened) → All (λ (b : IssueBox). b.round ≤ round + round_of es) (boxes_from setup events round es)
 unfolding boxes_from
-boxes_low setup events round [] = none_each (λ (b : Issued). b.round ≤ round + round_of [])
+boxes_low setup events round [] = none_each (λ (b : IssueBox). b.round ≤ round + round_of [])
 boxes_low setup events round (e ∷ es) =
     let next : ℕ = cond (is_tick e) (round + 1) round in
-    let rest : All (λ (b : Issued). b.round ≤ round + round_of (e ∷ es)) (boxes_from setup events next es) =
-    subst (λ (n : ℕ). All (λ (b : Issued). b.round ≤ n) (boxes_from setup events next es)) (sym (round_cons e es round)) (boxes_low setup events next es) in
-    All-append (λ (b : Issued). b.round ≤ round + round_of (e ∷ es)) (boxes_from setup events next es) (cons_option (option_map (box_of setup events round es) (issues e)) []) rest
+    let rest : All (λ (b : IssueBox). b.round ≤ round + round_of (e ∷ es)) (boxes_from setup events next es) =
+    subst (λ (n : ℕ). All (λ (b : IssueBox). b.round ≤ n) (boxes_from setup events next es)) (sym (round_cons e es round)) (boxes_low setup events next es) in
+    All-append (λ (b : IssueBox). b.round ≤ round + round_of (e ∷ es)) (boxes_from setup events next es) (cons_option (option_map (box_of setup events round es) (issues e)) []) rest
     (one_low setup events round (round + round_of (e ∷ es)) es (issues e) (omega arith))
 
-pub boxes_last : (setup : Setup) (events : List Happened) → All (λ (b : Issued). b.round ≤ round_of events) (boxes_of setup events)
+pub boxes_last : (setup : Setup) (events : List Happened) → All (λ (b : IssueBox). b.round ≤ round_of events) (boxes_of setup events)
 unfolding boxes_of
 boxes_last setup events =
     let same : 0 + round_of events ≡ round_of events = omega arith in
-    subst (λ (n : ℕ). All (λ (b : Issued). b.round ≤ n) (boxes_from setup events 0 events)) same (boxes_low setup events 0 events)
+    subst (λ (n : ℕ). All (λ (b : IssueBox). b.round ≤ n) (boxes_from setup events 0 events)) same (boxes_low setup events 0 events)
 
 -- those of a kind
 some_low : (t : Bool) (r n : ℕ) (rest : List ℕ) → r ≤ n → All (λ x. x ≤ n) rest → All (λ x. x ≤ n) (cons_option (cond t (Some r) None) rest)
 some_low true r n rest l h = more_each (λ x. x ≤ n) r rest l h
 some_low false r n rest l h = h
 
-pub rounds_low : (kind : Kind) (n : ℕ) (boxes : List Issued) → All (λ (b : Issued). b.round ≤ n) boxes → All (λ x. x ≤ n) (rounds_in kind boxes)
+pub rounds_low : (kind : IssueKind) (n : ℕ) (boxes : List IssueBox) → All (λ (b : IssueBox). b.round ≤ n) boxes → All (λ x. x ≤ n) (rounds_in kind boxes)
 unfolding rounds_in
 rounds_low kind n [] h = none_each (λ x. x ≤ n)
-rounds_low kind n (b ∷ boxes) h = some_low (is_of kind b) b.round n (filter_map (round_in kind) boxes) (first_each (λ (b : Issued). b.round ≤ n) b boxes h) (rounds_low kind n boxes (rest_each (λ (b : Issued). b.round ≤ n) b boxes h))
+rounds_low kind n (b ∷ boxes) h = some_low (counts_as kind b) b.round n (filter_map (round_in kind) boxes) (first_each (λ (b : IssueBox). b.round ≤ n) b boxes h) (rounds_low kind n boxes (rest_each (λ (b : IssueBox). b.round ≤ n) b boxes h))
 
 some_long : (t : Bool) (r : ℕ) (rest : List ℕ) → length (cons_option (cond t (Some r) None) rest) ≡ cond t 1 0 + length rest
 some_long true r rest = omega arith
 some_long false r rest = omega arith
 
-pub rounds_long : (kind : Kind) (boxes : List Issued) → length (rounds_in kind boxes) ≡ count_by (is_of kind) boxes
+pub rounds_long : (kind : IssueKind) (boxes : List IssueBox) → length (rounds_in kind boxes) ≡ count_by (counts_as kind) boxes
 unfolding rounds_in
 rounds_long kind [] = refl
 rounds_long kind (b ∷ boxes) =
-    omega (arith, some_long (is_of kind b) b.round (filter_map (round_in kind) boxes), sum_by-cons (λ (x : Issued). cond (is_of kind x) 1 0) b boxes, rounds_long kind boxes)
+    omega (arith, some_long (counts_as kind b) b.round (filter_map (round_in kind) boxes), sum_by-cons (λ (x : IssueBox). cond (counts_as kind x) 1 0) b boxes, rounds_long kind boxes)
 
 -- the rounds of all of them
-unfoldable pub rounds_all : List Issued → List ℕ
-rounds_all boxes = map (λ (b : Issued). b.round) boxes
+unfoldable pub rounds_all : List IssueBox → List ℕ
+rounds_all boxes = map (λ (b : IssueBox). b.round) boxes
 
-pub all_low : (n : ℕ) (boxes : List Issued) → All (λ (b : Issued). b.round ≤ n) boxes → All (λ x. x ≤ n) (rounds_all boxes)
+pub all_low : (n : ℕ) (boxes : List IssueBox) → All (λ (b : IssueBox). b.round ≤ n) boxes → All (λ x. x ≤ n) (rounds_all boxes)
 unfolding rounds_all
 all_low n [] h = none_each (λ x. x ≤ n)
-all_low n (b ∷ boxes) h = more_each (λ x. x ≤ n) b.round (rounds_all boxes) (first_each (λ (b : Issued). b.round ≤ n) b boxes h) (all_low n boxes (rest_each (λ (b : Issued). b.round ≤ n) b boxes h))
+all_low n (b ∷ boxes) h = more_each (λ x. x ≤ n) b.round (rounds_all boxes) (first_each (λ (b : IssueBox). b.round ≤ n) b boxes h) (all_low n boxes (rest_each (λ (b : IssueBox). b.round ≤ n) b boxes h))
 
-pub all_long : (boxes : List Issued) → length (rounds_all boxes) ≡ length boxes
+pub all_long : (boxes : List IssueBox) → length (rounds_all boxes) ≡ length boxes
 unfolding rounds_all
-all_long boxes = length-map boxes (λ (b : Issued). b.round)
+all_long boxes = length-map boxes (λ (b : IssueBox). b.round)
 
 -- each is of one kind of four
 four : (back late : Bool) (dir : Dir) (x : ℕ) → cond ((not back && not late) && same_dir dir Read) x 0 + cond ((not back && not late) && same_dir dir Write) x 0 + cond (not back && late) x 0 + cond back x 0 ≡ x
@@ -191,15 +191,15 @@ unfolding in_column
 in_part per n true r rest = count-cons (λ x. (x / per) == n) r rest
 in_part per n false r rest = omega arith
 
-kind_part : (per n : ℕ) (kind : Kind) (b : Issued) (boxes : List Issued) → in_column per n (rounds_in kind (b ∷ boxes)) ≡ cond (is_of kind b) (one_if ((b.round / per) == n)) 0 + in_column per n (rounds_in kind boxes)
+kind_part : (per n : ℕ) (kind : IssueKind) (b : IssueBox) (boxes : List IssueBox) → in_column per n (rounds_in kind (b ∷ boxes)) ≡ cond (counts_as kind b) (one_if ((b.round / per) == n)) 0 + in_column per n (rounds_in kind boxes)
 unfolding rounds_in
-kind_part per n kind b boxes = in_part per n (is_of kind b) b.round (filter_map (round_in kind) boxes)
+kind_part per n kind b boxes = in_part per n (counts_as kind b) b.round (filter_map (round_in kind) boxes)
 
-all_part : (per n : ℕ) (b : Issued) (boxes : List Issued) → in_column per n (rounds_all (b ∷ boxes)) ≡ one_if ((b.round / per) == n) + in_column per n (rounds_all boxes)
+all_part : (per n : ℕ) (b : IssueBox) (boxes : List IssueBox) → in_column per n (rounds_all (b ∷ boxes)) ≡ one_if ((b.round / per) == n) + in_column per n (rounds_all boxes)
 unfolding rounds_all in_column
-all_part per n b boxes = count-cons (λ x. (x / per) == n) b.round (map (λ (b : Issued). b.round) boxes)
+all_part per n b boxes = count-cons (λ x. (x / per) == n) b.round (map (λ (b : IssueBox). b.round) boxes)
 
-in_none : (per n : ℕ) (kind : Kind) → in_column per n (rounds_in kind []) ≡ 0
+in_none : (per n : ℕ) (kind : IssueKind) → in_column per n (rounds_in kind []) ≡ 0
 unfolding rounds_in in_column
 in_none per n kind = refl
 
@@ -207,7 +207,7 @@ all_none : (per n : ℕ) → in_column per n (rounds_all []) ≡ 0
 unfolding rounds_all in_column
 all_none per n = refl
 
-pub in_kinds : (per n : ℕ) (boxes : List Issued) → in_column per n (rounds_all boxes) ≡ in_column per n (rounds_in Reads boxes) + in_column per n (rounds_in Writes boxes) + in_column per n (rounds_in Lates boxes) + in_column per n (rounds_in Backs boxes)
+pub in_kinds : (per n : ℕ) (boxes : List IssueBox) → in_column per n (rounds_all boxes) ≡ in_column per n (rounds_in Reads boxes) + in_column per n (rounds_in Writes boxes) + in_column per n (rounds_in Lates boxes) + in_column per n (rounds_in Backs boxes)
 in_kinds per n [] = omega (arith, all_none per n, in_none per n Reads, in_none per n Writes, in_none per n Lates, in_none per n Backs)
 in_kinds per n (b ∷ boxes) =
     omega (arith, all_part per n b boxes, kind_part per n Reads b boxes, kind_part per n Writes b boxes, kind_part per n Lates b boxes, kind_part per n Backs b boxes, in_kinds per n boxes, four b.back (is_late b) b.dir (one_if ((b.round / per) == n)))
@@ -302,30 +302,30 @@ several_show traces k deep t h = scales_show t.events (most_rounds traces) deep 
 -- ---- the columns of a trace
 
 module _ (setup : Setup) (events : List Happened) (scale : Scale) (shows : ShowsAll events scale) where
-  abbrev boxes : List Issued
+  abbrev boxes : List IssueBox
   boxes = boxes_of setup events
 
   low : round_of events < scale.columns * scale.per
   low = omega (arith, shows.whole, shows.last)
 
-  of_kind : (kind : Kind) (f : Column → ℕ) → ((n : ℕ) → f (column_of setup events scale n) ≡ in_column scale.per n (rounds_in kind boxes)) → sum_by f (columns_in setup events scale) ≡ count_by (is_of kind) boxes
+  of_kind : (kind : IssueKind) (f : Column → ℕ) → ((n : ℕ) → f (column_of setup events scale n) ≡ in_column scale.per n (rounds_in kind boxes)) → sum_by f (columns_in setup events scale) ≡ count_by (counts_as kind) boxes
   of_kind kind f is =
       columns_sum (column_of setup events scale) f scale.per scale.columns (round_of events) (rounds_in kind boxes) is shows.some low (rounds_low kind (round_of events) boxes (boxes_last setup events))
       ∙ rounds_long kind boxes
 
-  pub reads_sum : sum_by (λ (n : Column). n.reads) (columns_in setup events scale) ≡ count_by (is_of Reads) boxes
+  pub reads_sum : sum_by (λ (n : Column). n.reads) (columns_in setup events scale) ≡ count_by (counts_as Reads) boxes
   unfolding column_of
   reads_sum = of_kind Reads (λ (n : Column). n.reads) (λ n. refl)
 
-  pub writes_sum : sum_by (λ (n : Column). n.writes) (columns_in setup events scale) ≡ count_by (is_of Writes) boxes
+  pub writes_sum : sum_by (λ (n : Column). n.writes) (columns_in setup events scale) ≡ count_by (counts_as Writes) boxes
   unfolding column_of
   writes_sum = of_kind Writes (λ (n : Column). n.writes) (λ n. refl)
 
-  pub lates_sum : sum_by (λ (n : Column). n.lates) (columns_in setup events scale) ≡ count_by (is_of Lates) boxes
+  pub lates_sum : sum_by (λ (n : Column). n.lates) (columns_in setup events scale) ≡ count_by (counts_as Lates) boxes
   unfolding column_of
   lates_sum = of_kind Lates (λ (n : Column). n.lates) (λ n. refl)
 
-  pub backs_sum : sum_by (λ (n : Column). n.backs) (columns_in setup events scale) ≡ count_by (is_of Backs) boxes
+  pub backs_sum : sum_by (λ (n : Column). n.backs) (columns_in setup events scale) ≡ count_by (counts_as Backs) boxes
   unfolding column_of
   backs_sum = of_kind Backs (λ (n : Column). n.backs) (λ n. refl)
 

@@ -25,7 +25,7 @@ use Rattle.blk_trace.proofs.Ids.{by_legal}
 use Rattle.blk_trace.proofs.More.{round_more, timed_part}
 use Rattle.blk_trace.proofs.Opening.{tags, tags_tick, tags_more, tags_kept}
 use Rattle.blk_trace.proofs.Scheduling.{few_tags}
-use Rattle.blk_picture.specs.declared.boxes.Issued.{Issued}
+use Rattle.blk_picture.specs.declared.boxes.IssueBox.{IssueBox}
 use Rattle.blk_picture.specs.declared.scale.Scale.{Scale}
 use Rattle.blk_picture.specs.declared.columns.Column.{Column}
 use Rattle.blk_picture.specs.Boxes.{box_of, boxes_from, boxes_of}
@@ -47,10 +47,10 @@ unfolding places_at rounds_all
 places_part setup events round x later rest None = omega arith
 places_part setup events round x later rest (Some p) = omega (arith, count-cons (λ y. y == x) round [], count-cons (λ y. y == x) round rest)
 
-places_split : (xs ys : List Issued) (x : ℕ) → places_at (rounds_all (xs ++ ys)) x ≡ places_at (rounds_all xs) x + places_at (rounds_all ys) x
+places_split : (xs ys : List IssueBox) (x : ℕ) → places_at (rounds_all (xs ++ ys)) x ≡ places_at (rounds_all xs) x + places_at (rounds_all ys) x
 unfolding places_at rounds_all
 places_split xs ys x =
-    ap (λ l. places_at l x) (map-append (λ (b : Issued). b.round) xs ys) ∙ sum_by-append (λ (y : ℕ). cond (y == x) 1 0) (rounds_all xs) (rounds_all ys)
+    ap (λ l. places_at l x) (map-append (λ (b : IssueBox). b.round) xs ys) ∙ sum_by-append (λ (y : ℕ). cond (y == x) 1 0) (rounds_all xs) (rounds_all ys)
 
 same_places : (setup : Setup) (events : List Happened) (round x : ℕ) (es : List Happened) → places_at (rounds_all (boxes_from setup events round es)) x ≡ places_at (filter_map issue_round (timed round es)) x
 unfolding boxes_from timed places_at rounds_all

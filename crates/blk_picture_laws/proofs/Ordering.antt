@@ -16,16 +16,16 @@ use Rattle.blk_report.specs.declared.serving.Service.{Service}
 use Rattle.blk_report.specs.Services.{service_of, services_of}
 use Rattle.blk_report.specs.Inside.Ranges.{range_of}
 use Rattle.blk_report.proofs.Requests.{range_there, same_range}
-use Rattle.blk_picture.specs.declared.boxes.Issued.{Issued}
+use Rattle.blk_picture.specs.declared.boxes.IssueBox.{IssueBox}
 use Rattle.blk_picture.specs.Boxes.{box_of, boxes_from, boxes_of}
-use Rattle.blk_picture_laws.specs.Served.{boxes_in_order, boxes_kept, command_in, service_in, issue_in, issue_of}
+use Rattle.blk_picture_laws.specs.Served.{boxes_in_order, boxes_kept, boxed_command, service_in, issue_in, issue_of}
 
 -- the boxes of these events, the first Issue first
-unfoldable ahead : Setup → List Happened → ℕ → List Happened → List Issued
+unfoldable ahead : Setup → List Happened → ℕ → List Happened → List IssueBox
 ahead setup events round [] = []
 ahead setup events round (e ∷ es) = cons_option (option_map (box_of setup events round es) (issues e)) (ahead setup events (cond (is_tick e) (round + 1) round) es)
 
-turned : (o : Option Issued) (rest : List Issued) → reverse (cons_option o []) ++ rest ≡ cons_option o rest
+turned : (o : Option IssueBox) (rest : List IssueBox) → reverse (cons_option o []) ++ rest ≡ cons_option o rest
 turned None rest = refl
 turned (Some b) rest = refl
 
@@ -34,7 +34,7 @@ unfolding boxes_from ahead
 reversed setup events round [] = refl
 reversed setup events round (e ∷ es) =
     let next : ℕ = cond (is_tick e) (round + 1) round in
-    let o : Option Issued = option_map (box_of setup events round es) (issues e) in
+    let o : Option IssueBox = option_map (box_of setup events round es) (issues e) in
     reverse-append (boxes_from setup events next es) (cons_option o [])
     ∙ turned o (reverse (boxes_from setup events next es))
     ∙ ap (cons_option o) (reversed setup events next es)
@@ -45,7 +45,7 @@ in_order setup events = reversed setup events 0 events
 
 -- ---- each is one Issue
 
-each_part : (setup : Setup) (events : List Happened) (round : ℕ) (later : List Happened) (o : Option (ℕ × ℕ)) (rest : List Issued)
+each_part : (setup : Setup) (events : List Happened) (round : ℕ) (later : List Happened) (o : Option (ℕ × ℕ)) (rest : List IssueBox)
     → map issue_of (cons_option (option_map (box_of setup events round later) o) rest) ≡ cons_option (option_map (λ p. (round, p)) o) (map issue_of rest)
 each_part setup events round later None rest = refl
 each_part setup events round later (Some p) rest = refl
@@ -63,15 +63,15 @@ issues_are setup events = ap (map issue_of) (in_order setup events) ∙ each_iss
 
 -- ---- those that were not requeued are what was served
 
-abbrev kept : Issued → Bool
+abbrev kept : IssueBox → Bool
 kept b = not b.back
 
-module _ {Y : Type 0} (setup : Setup) (events : List Happened) (f : Issued → Y) (k : ℕ × ℕ → Y) (is : (round : ℕ) (later : List Happened) (p : ℕ × ℕ) → f (box_of setup events round later p) ≡ k (round, p.0)) where
-  by_back : (t : Bool) (b : Issued) (q : ℕ × ℕ) (rest : List Issued) (pairs : List (ℕ × ℕ)) → f b ≡ k q → map f (filter kept rest) ≡ map k pairs → map f (cond (not t) (b ∷ filter kept rest) (filter kept rest)) ≡ map k (cons_option (cond t None (Some q)) pairs)
+module _ {Y : Type 0} (setup : Setup) (events : List Happened) (f : IssueBox → Y) (k : ℕ × ℕ → Y) (is : (round : ℕ) (later : List Happened) (p : ℕ × ℕ) → f (box_of setup events round later p) ≡ k (round, p.0)) where
+  by_back : (t : Bool) (b : IssueBox) (q : ℕ × ℕ) (rest : List IssueBox) (pairs : List (ℕ × ℕ)) → f b ≡ k q → map f (filter kept rest) ≡ map k pairs → map f (cond (not t) (b ∷ filter kept rest) (filter kept rest)) ≡ map k (cons_option (cond t None (Some q)) pairs)
   by_back true b q rest pairs e h = h
   by_back false b q rest pairs e h = ap (λ l. f b ∷ l) h ∙ ap (λ y. y ∷ map k pairs) e
 
-  by_issue : (round : ℕ) (later : List Happened) (o : Option (ℕ × ℕ)) (rest : List Issued) (pairs : List (ℕ × ℕ)) → map f (filter kept rest) ≡ map k pairs
+  by_issue : (round : ℕ) (later : List Happened) (o : Option (ℕ × ℕ)) (rest : List IssueBox) (pairs : List (ℕ × ℕ)) → map f (filter kept rest) ≡ map k pairs
       → map f (filter kept (cons_option (option_map (box_of setup events round later) o) rest)) ≡ map k (cons_option (option_and_then (λ p. cond (goes_back p.1 later) None (Some (round, p.0))) o) pairs)
   by_issue round later None rest pairs h = h
   by_issue round later (Some p) rest pairs h = by_back (goes_back p.1 later) (box_of setup events round later p) (round, p.0) rest pairs (is round later p) h
@@ -91,15 +91,15 @@ maps : {X Y Z : Type 0} (g : Y → Z) (h : X → Y) (xs : List X) → map (λ x.
 maps g h [] = refl
 maps g h (x ∷ xs) = ap (λ l. g (h x) ∷ l) (maps g h xs)
 
-pub commands_are : (setup : Setup) (events : List Happened) → map command_in (boxes_kept setup events) ≡ commands_of setup events
+pub commands_are : (setup : Setup) (events : List Happened) → map boxed_command (boxes_kept setup events) ≡ commands_of setup events
 unfolding commands_of issued_ids
 commands_are setup events =
-    kept_are setup events command_in (λ (s : ℕ × ℕ). command_of setup events s.1) (λ round later p. refl)
+    kept_are setup events boxed_command (λ (s : ℕ × ℕ). command_of setup events s.1) (λ round later p. refl)
     ∙ maps (command_of setup events) (λ (s : ℕ × ℕ). s.1) (served 0 events)
 
-pub rounds_are : (setup : Setup) (events : List Happened) → map (λ (b : Issued). b.round) (boxes_kept setup events) ≡ rounds_of events
+pub rounds_are : (setup : Setup) (events : List Happened) → map (λ (b : IssueBox). b.round) (boxes_kept setup events) ≡ rounds_of events
 unfolding rounds_of
-rounds_are setup events = kept_are setup events (λ (b : Issued). b.round) (λ (s : ℕ × ℕ). s.0) (λ round later p. refl)
+rounds_are setup events = kept_are setup events (λ (b : IssueBox). b.round) (λ (s : ℕ × ℕ). s.0) (λ round later p. refl)
 
 -- ---- and the services of a legal trace
 

@@ -2,10 +2,10 @@
 use Rattle.std.specs.Prelude.{ℕ, ◌≡◌, ◌<◌, ◌+◌, ◌==◌, cond, List, length, slice_index_or}
 use Rattle.blk_bio.specs.declared.bio.Dir.{Dir}
 use Rattle.blk_trace.specs.Happened.{Happened}
-use Rattle.blk_picture.specs.declared.boxes.Issued.{Issued}
+use Rattle.blk_picture.specs.declared.boxes.IssueBox.{IssueBox}
 use Rattle.blk_picture.specs.declared.scale.Scale.{Scale}
 use Rattle.blk_picture.specs.declared.columns.Column.{Column}
-use Rattle.blk_picture.specs.declared.columns.Kind.{Kind}
+use Rattle.blk_picture.specs.declared.columns.IssueKind.{IssueKind}
 use Rattle.blk_picture.specs.Columns.{in_column, rounds_in, entered_in, waits_of, peaks_of, column_at}
 use Rattle.blk_picture.specs.Filled.{made}
 
@@ -19,10 +19,10 @@ abbrev pub AreCounts : ℕ → ℕ → List ℕ → List ℕ → Type 0
 AreCounts per columns rounds counts = (c : ℕ) → c < columns → slice_index_or counts c 0 ≡ in_column per c rounds
 
 -- the most that waited at the end of a round of each column: those of the direction that entered, without those of the kind
-abbrev pub most_waits : Scale → Dir → Kind → List Happened → List Issued → List ℕ
+abbrev pub most_waits : Scale → Dir → IssueKind → List Happened → List IssueBox → List ℕ
 most_waits scale dir kind events boxes =
     peaks_of scale.per scale.columns (waits_of (entered_in dir events) (rounds_in kind boxes) scale.rounds)
 
 -- the columns of these numbers
-abbrev pub columns_at : List ℕ → List ℕ → List ℕ → List ℕ → List ℕ → List ℕ → List ℕ → List Column
-columns_at reads writes lates backs rooms rw ww = made (column_at reads writes lates backs rooms rw ww) (length reads)
+abbrev pub by_column : List ℕ → List ℕ → List ℕ → List ℕ → List ℕ → List ℕ → List ℕ → List Column
+by_column reads writes lates backs rooms rw ww = made (column_at reads writes lates backs rooms rw ww) (length reads)

@@ -4,12 +4,12 @@ use Rattle.blk_trace.specs.declared.trace.TheConstants.{MAX_EVENTS}
 use Rattle.blk_trace.specs.Happened.{Happened}
 use Rattle.blk_trace.specs.Setups.{Setup}
 use Rattle.blk_trace.specs.Events.{round_of, goes_back}
-use Rattle.blk_picture.specs.declared.boxes.Issued.{Issued}
+use Rattle.blk_picture.specs.declared.boxes.IssueBox.{IssueBox}
 use Rattle.blk_picture.specs.declared.boxes.TheConstants.{TAGS}
 use Rattle.blk_picture.specs.Boxes.{boxes_from}
 
 -- the boxes of the events that were walked, the round of the others, and whether the next end of each tag is a requeue
-pub record IsWalked (setup : Setup) (events : List Happened) (place round : ℕ) (backs : List Bool) (boxes : List Issued) : Type 0 where
+pub record IsWalked (setup : Setup) (events : List Happened) (place round : ℕ) (backs : List Bool) (boxes : List IssueBox) : Type 0 where
   pub round_is : round ≡ round_of (take place events)
   pub small : round ≤ MAX_EVENTS
   pub few : length boxes + place ≤ length events

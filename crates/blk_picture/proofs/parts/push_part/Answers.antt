@@ -1,7 +1,7 @@
 use Rattle.std.proofs.Common.{◌++◌, ◌∷◌, [], ◌∙◌, ℕ, List, refl, ap}
 use Rattle.std.specs.Prelude.{codes}
 use Rattle.blk_trace.specs.Depths.{capacity_of}
-use Rattle.blk_picture.specs.declared.boxes.Issued.{Issued}
+use Rattle.blk_picture.specs.declared.boxes.IssueBox.{IssueBox}
 use Rattle.blk_picture.specs.declared.columns.Column.{Column}
 use Rattle.blk_picture.specs.Boxes.{boxes_of}
 use Rattle.blk_picture.specs.Columns.{column_of}
@@ -19,7 +19,7 @@ returns c =
     let report = c.in_ok-report.report in
     let windows = c.in_ok-missed.missed.windows.items in
     let columns : List Column = made (column_of t.setup t.events scale) scale.columns in
-    let boxes : List Issued = boxes_of t.setup t.events in
+    let boxes : List IssueBox = boxes_of t.setup t.events in
     let room : ℕ = crowded_room (capacity_of t.setup t.events) report.figures in
     let first : List ℕ = filled (codes "<g transform='translate(0,$)'>\n") (c.args.top ∷ []) in
     let heading : List ℕ = heading_text scale c.args.name.now report c.in_ok-missed.missed.tally in (
@@ -36,7 +36,7 @@ returns c =
           c.in_ok-fill.ensures
           c.in_ok-push_heading.ensures
           (c.in_ok-push_strip.ensures ∙ ap (λ (l : List Column). c.push_heading.new.draft ++ strip_text scale l) (c.as_slice-2.ensures.value ∙ c.in_ok-columns.ensures))
-          (c.in_ok-push_frame.ensures ∙ ap (λ (l : List Issued). c.push_strip.new.draft ++ frame_text scale l c.as_slice-4.result.now) (c.as_slice-3.ensures.value ∙ c.in_ok-boxes.ensures.boxes) ∙ ap (λ (l : List Column). c.push_strip.new.draft ++ frame_text scale boxes l) (c.as_slice-4.ensures.value ∙ c.in_ok-columns.ensures))
+          (c.in_ok-push_frame.ensures ∙ ap (λ (l : List IssueBox). c.push_strip.new.draft ++ frame_text scale l c.as_slice-4.result.now) (c.as_slice-3.ensures.value ∙ c.in_ok-boxes.ensures.boxes) ∙ ap (λ (l : List Column). c.push_strip.new.draft ++ frame_text scale boxes l) (c.as_slice-4.ensures.value ∙ c.in_ok-columns.ensures))
           (c.in_ok-push_windows.ensures ∙ ap (λ (n : ℕ). c.push_frame.new.draft ++ windows_text scale report n c.as_slice-5.result.now) (c.crowded_room-room.ensures ∙ ap (λ s. crowded_room s report.figures) c.in_ok-capacity.ensures.steps) ∙ ap (λ l. c.push_frame.new.draft ++ windows_text scale report room l) c.as_slice-5.ensures.value)
           c.in_ok-text.ensures,
     )
