@@ -5,19 +5,19 @@ use Rattle.std.specs.List.{list_any, position, position_or_len}
 use Rattle.std.proofs.lemmas.Nat.{le-div}
 use Rattle.blk_bio.specs.Bios.{Bio}
 use Rattle.blk_bio.specs.declared.bio.Dir.{Dir}
-use Rattle.blk_capture.specs.Passing.{dir_of, passed_over}
+use Rattle.blk_capture.specs.Passing.{dir_of_op, passed_over}
 use Rattle.blk_capture.specs.Requests.{AreInOrder}
 use Rattle.blk_capture.specs.declared.record.Action.{Action}
 use Rattle.blk_capture.specs.declared.record.Action.TheVariants as action
 use Rattle.blk_capture.specs.declared.record.Record.{Record}
 use Rattle.blk_text.specs.declared.script.Line.{Line}
 use Rattle.blk_text.specs.declared.script.Line.TheVariants as line
-use Rattle.blk_arrivals.specs.Brought.{brought_by, next_number, with_bio, bios_from, bios_of}
-use Rattle.blk_arrivals.specs.Coming.{way_of, if_queued, unless_passed, key_of, keys_of, round_of, begin_of, told_by, submitters_of}
-use Rattle.blk_arrivals.specs.Deeds.{comes_from, done_by, deed_by, deed_of, number_of}
+use Rattle.blk_arrivals.specs.Brought.{brought_by, next_number, with_bio, bios_from, arriving_bios}
+use Rattle.blk_arrivals.specs.Coming.{way_of, if_queued, unless_passed, key_of, keys_of, round_of_time, begin_of, told_by, submitters_of}
+use Rattle.blk_arrivals.specs.Deeds.{comes_from, record_deed, deed_by, deed_of, submitter_number}
 use Rattle.blk_arrivals.specs.Plugs.{Plugs, no_plugs, flush_of, flushes, out_of, ending_of, plugs_in, is_later, room_for, bio_of, arrival_of, plugs_with, out_if, unplugging_of, plugs_without, steps_by, plugs_by, last_steps, steps_from}
 use Rattle.blk_arrivals.specs.Scripts.{steps_of}
-use Rattle.blk_arrivals.specs.declared.coming.By.{By}
+use Rattle.blk_arrivals.specs.declared.coming.ToldBy.{ToldBy}
 use Rattle.blk_arrivals.specs.declared.deeds.Deed.{Deed}
 use Rattle.blk_arrivals.specs.declared.deeds.Deed.TheVariants as deed
 use Rattle.blk_arrivals.specs.declared.terms.Terms.{Terms}
@@ -101,7 +101,7 @@ unplugged_now : (later : Bool) (p : Plugs) (s : ℕ) → (plugs_without later p 
 unplugged_now true p s = refl
 unplugged_now false p s = refl
 
-done_brings : (round k : ℕ) (p : Plugs) (r : Record) (a : Action) (way : Option Dir) → p.now ≤ round → Brings round k p r (if_queued a way) (done_by k a (if_queued a way))
+done_brings : (round k : ℕ) (p : Plugs) (r : Record) (a : Action) (way : Option Dir) → p.now ≤ round → Brings round k p r (if_queued a way) (record_deed k a (if_queued a way))
 done_brings round k p r action.Unplug way h =
     λ rest. unplug_brings (is_later round p) p k rest ∙ ap (λ n. brought_by n rest) (sym (unplugged_now (is_later round p) p k))
 done_brings round k p r action.Queue way h = from_brings round k p r way h
@@ -137,7 +137,7 @@ pub from_begin : (records : List Record) → AreInOrder records (length records)
 from_begin [] h = tt
 from_begin (r ∷ records) h = (omega arith, in_order r records h)
 
-round_rises : (begin span a b : ℕ) → 0 < span → a ≤ b → round_of begin span a ≤ round_of begin span b
+round_rises : (begin span a b : ℕ) → 0 < span → a ≤ b → round_of_time begin span a ≤ round_of_time begin span b
 round_rises begin span a b some h =
     let below : (a - begin) / span * span ≤ a - begin = div-mul-le_self (a - begin) span in
     le-div ((a - begin) / span) (b - begin) span some (omega (arith, below, h))
@@ -156,7 +156,7 @@ unplugged_bios : (later : Bool) (p : Plugs) (s : ℕ) → (plugs_without later p
 unplugged_bios true p s = refl
 unplugged_bios false p s = refl
 
-done_counts : (round s : ℕ) (p : Plugs) (a : Action) (way : Option Dir) → (plugs_by round p (done_by s a (if_queued a way))).bios ≡ next_number p.bios (if_queued a way)
+done_counts : (round s : ℕ) (p : Plugs) (a : Action) (way : Option Dir) → (plugs_by round p (record_deed s a (if_queued a way))).bios ≡ next_number p.bios (if_queued a way)
 done_counts round s p action.Unplug way = unplugged_bios (is_later round p) p s
 done_counts round s p action.Queue way = from_counts round s p way
 done_counts round s p a way = refl
@@ -170,7 +170,7 @@ by_counts round k p None a way there = absent (if_queued a way) there
     absent (Some w) there = absurd (cc there)
 by_counts round k p (Some s) a way there = done_counts round s p a way
 
-if_placed : (keys : List ℕ) (key : ℕ) (way : Option Dir) → IfSome way (λ _. list_any (λ k. k == key) keys ≡ true) → IfSome way (λ _. number_of keys key ≡ Some (position_or_len (λ k. k == key) keys))
+if_placed : (keys : List ℕ) (key : ℕ) (way : Option Dir) → IfSome way (λ _. list_any (λ k. k == key) keys ≡ true) → IfSome way (λ _. submitter_number keys key ≡ Some (position_or_len (λ k. k == key) keys))
 if_placed keys key None h = tt
 if_placed keys key (Some way) h = placed (λ k. k == key) keys h
 
@@ -190,18 +190,18 @@ last_brings p = flushes_bring p.now 0 p.held (cond (p.bios == 0) [] (line.Run p.
     none false = refl
 
 -- all records
-pub brings : (begin span : ℕ) (told : By) (keys : List ℕ) (p : Plugs) (time : ℕ) (records : List Record) → 0 < span → p.now ≤ round_of begin span time → Rise time records → AreAmong told keys records
+pub brings : (begin span : ℕ) (told : ToldBy) (keys : List ℕ) (p : Plugs) (time : ℕ) (records : List Record) → 0 < span → p.now ≤ round_of_time begin span time → Rise time records → AreAmong told keys records
     → brought_by p.now (steps_from begin span told keys p records) ≡ bios_from begin span told keys p.bios records
 unfolding steps_from bios_from
 brings begin span told keys p time [] some now rise among = last_brings p
 brings begin span told keys p time (r ∷ records) some now rise among =
-    let round = round_of begin span r.time in
+    let round = round_of_time begin span r.time in
     let key = key_of told r in
     let k = position_or_len (λ k. k == key) keys in
-    let number = number_of keys key in
-    let way = unless_passed (passed_over r) (dir_of r.op) in
+    let number = submitter_number keys key in
+    let way = unless_passed (passed_over r) (dir_of_op r.op) in
     let q = plugs_by round p (deed_of told keys r) in
-    let rises : round_of begin span time ≤ round = round_rises begin span time r.time some rise.0 in
+    let rises : round_of_time begin span time ≤ round = round_rises begin span time r.time some rise.0 in
     let by : p.now ≤ round = omega (arith, now, rises) in
     let there = if_placed keys key (way_of r) among.0 in
     let first = by_brings round k p r number r.action way by there (position_is (λ k. k == key) keys) (steps_from begin span told keys q records) in
@@ -210,15 +210,15 @@ brings begin span told keys p time (r ∷ records) some now rise among =
     first ∙ ap (with_bio round k p.bios r (way_of r)) (others ∙ ap (λ n. bios_from begin span told keys n records) counts)
 
 -- those of a capture
-pub script_brings : (t : Terms) (records : List Record) → 0 < t.round → AreInOrder records (length records) → brought_by 0 (steps_of t records) ≡ bios_of t records
+pub script_brings : (t : Terms) (records : List Record) → 0 < t.round → AreInOrder records (length records) → brought_by 0 (steps_of t records) ≡ arriving_bios t records
 script_brings t records some order =
     brings (begin_of records) t.round (told_by records) (submitters_of records) (no_plugs (length (submitters_of records))) (begin_of records) records some (omega arith) (from_begin records order)
     (all_among (told_by records) [] records)
 
 -- steps by the submitters of a capture are its steps
-pub same_steps : (t : Terms) (records : List Record) (told : By) (keys : List ℕ) (lines : List Line) → told ≡ told_by records → keys ≡ submitters_of records
+pub same_steps : (t : Terms) (records : List Record) (told : ToldBy) (keys : List ℕ) (lines : List Line) → told ≡ told_by records → keys ≡ submitters_of records
     → lines ≡ steps_from (begin_of records) t.round told keys (no_plugs (length keys)) records → lines ≡ steps_of t records
 same_steps t records told keys lines a b is =
     is
-    ∙ ap (λ (x : By). steps_from (begin_of records) t.round x keys (no_plugs (length keys)) records) a
+    ∙ ap (λ (x : ToldBy). steps_from (begin_of records) t.round x keys (no_plugs (length keys)) records) a
     ∙ ap (λ (ks : List ℕ). steps_from (begin_of records) t.round (told_by records) ks (no_plugs (length ks)) records) b

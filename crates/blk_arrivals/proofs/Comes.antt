@@ -8,18 +8,18 @@ use Rattle.blk_bio.specs.Bios.{sector_limit}
 use Rattle.blk_bio.specs.declared.bio.Dir.{Dir}
 use Rattle.blk_bio.specs.declared.bio.TheConstants.{MAX_END}
 use Rattle.blk_bio.specs.declared.limits.TheConstants.{MAX_SOFT_QUEUES}
-use Rattle.blk_capture.specs.Passing.{dir_of, passed_action, passed_op, passed_range, or_else}
+use Rattle.blk_capture.specs.Passing.{dir_of_op, passed_action, passed_op, passed_range, or_else}
 use Rattle.blk_capture.specs.declared.record.Action.{Action}
 use Rattle.blk_capture.specs.declared.record.Action.TheVariants as action
 use Rattle.blk_capture.specs.declared.record.Op.{Op}
 use Rattle.blk_capture.specs.declared.record.Op.TheVariants as op
-use Rattle.blk_capture.specs.declared.record.Passed.{Passed}
-use Rattle.blk_capture.specs.declared.record.Passed.TheVariants as passed
+use Rattle.blk_capture.specs.declared.record.PassReason.{PassReason}
+use Rattle.blk_capture.specs.declared.record.PassReason.TheVariants as passed
 use Rattle.blk_capture.specs.declared.record.Record.{Record}
-use Rattle.blk_arrivals.specs.Coming.{way_of, if_queued, unless_passed, key_of, keys_of, AreFew, told_by, submitters_of}
-use Rattle.blk_arrivals.specs.Deeds.{number_of, done_by, deed_by, deed_of}
-use Rattle.blk_arrivals.specs.declared.coming.By.{By}
-use Rattle.blk_arrivals.specs.declared.coming.By.TheVariants as by
+use Rattle.blk_arrivals.specs.Coming.{way_of, if_queued, unless_passed, key_of, keys_of, AreFewSubmitters, told_by, submitters_of}
+use Rattle.blk_arrivals.specs.Deeds.{submitter_number, record_deed, deed_by, deed_of}
+use Rattle.blk_arrivals.specs.declared.coming.ToldBy.{ToldBy}
+use Rattle.blk_arrivals.specs.declared.coming.ToldBy.TheVariants as by
 use Rattle.blk_arrivals.specs.declared.deeds.Deed.{Deed}
 
 -- a range of sectors, none of them past the last one
@@ -32,7 +32,7 @@ good_range first sectors h =
     let within : nat_lt MAX_END (first + sectors) ≡ false = le-ltb MAX_END (first + sectors) (omega (arith, h.1)) in
     rw (some, within) refl
 
-bad_range : (first sectors : ℕ) → ¬ HasRange first sectors → (k : Passed) × (passed_range first sectors ≡ Some k)
+bad_range : (first sectors : ℕ) → ¬ HasRange first sectors → (k : PassReason) × (passed_range first sectors ≡ Some k)
 bad_range first sectors h = elim (cases_Bool (sectors == 0)) [
   | inl t ↦ (passed.Empty, rw t refl)
   | inr f ↦ elim (cases_Bool (nat_lt MAX_END (first + sectors))) [
@@ -44,7 +44,7 @@ bad_range first sectors h = elim (cases_Bool (sectors == 0)) [
     some : (n : ℕ) → (n == 0) ≡ false → 0 < n
     some n e = grind (arith, e)
 
-good_way : (o : Op) → unless_passed (or_else (passed_op o) None) (dir_of o) ≡ dir_of o
+good_way : (o : Op) → unless_passed (or_else (passed_op o) None) (dir_of_op o) ≡ dir_of_op o
 good_way op.Read = refl
 good_way op.Write = refl
 good_way op.Discard = refl
@@ -52,7 +52,7 @@ good_way op.Erase = refl
 good_way op.Flush = refl
 good_way op.Nothing = refl
 
-bad_way : (o : Op) (k : Passed) → unless_passed (or_else (passed_op o) (Some k)) (dir_of o) ≡ None
+bad_way : (o : Op) (k : PassReason) → unless_passed (or_else (passed_op o) (Some k)) (dir_of_op o) ≡ None
 bad_way op.Read k = refl
 bad_way op.Write k = refl
 bad_way op.Discard k = refl
@@ -61,14 +61,14 @@ bad_way op.Flush k = refl
 bad_way op.Nothing k = refl
 
 came_by : (a : Action) (o : Op) (first sectors : ℕ) → a ≡ action.Queue → HasRange first sectors
-    → if_queued a (unless_passed (or_else (passed_action a) (or_else (passed_op o) (passed_range first sectors))) (dir_of o)) ≡ dir_of o
+    → if_queued a (unless_passed (or_else (passed_action a) (or_else (passed_op o) (passed_range first sectors))) (dir_of_op o)) ≡ dir_of_op o
 came_by a o first sectors is h = rw (is, good_range first sectors h) (good_way o)
 
 gone_by : (a : Action) (o : Op) (first sectors : ℕ) → a ≡ action.Queue → ¬ HasRange first sectors
-    → if_queued a (unless_passed (or_else (passed_action a) (or_else (passed_op o) (passed_range first sectors))) (dir_of o)) ≡ None
+    → if_queued a (unless_passed (or_else (passed_action a) (or_else (passed_op o) (passed_range first sectors))) (dir_of_op o)) ≡ None
 gone_by a o first sectors is h = (let bad = bad_range first sectors h in rw (is, bad.1) (bad_way o bad.0))
 
-pub came : (r : Record) → r.action ≡ action.Queue → HasRange r.first r.sectors → way_of r ≡ dir_of r.op
+pub came : (r : Record) → r.action ≡ action.Queue → HasRange r.first r.sectors → way_of r ≡ dir_of_op r.op
 came r is h = came_by r.action r.op r.first r.sectors is h
 
 pub gone : (r : Record) → r.action ≡ action.Queue → ¬ HasRange r.first r.sectors → way_of r ≡ None
@@ -78,5 +78,5 @@ gone r is h = gone_by r.action r.op r.first r.sectors is h
 
 -- deeds
 
-pub place_below : (keys : List ℕ) (key s : ℕ) → number_of keys key ≡ Some s → s < length keys
+pub place_below : (keys : List ℕ) (key s : ℕ) → submitter_number keys key ≡ Some s → s < length keys
 place_below keys key s h = (position-Some (λ k. k == key) keys s 0 h).0

@@ -8,14 +8,14 @@ use Rattle.std.proofs.lemmas.List.Folds.{list_any-append}
 use Rattle.blk_bio.specs.declared.bio.Dir.{Dir}
 use Rattle.blk_capture.specs.declared.record.Record.{Record}
 use Rattle.blk_arrivals.specs.Coming.{way_of, key_of, with_key, keys_after, keys_of}
-use Rattle.blk_arrivals.specs.declared.coming.By.{By}
+use Rattle.blk_arrivals.specs.declared.coming.ToldBy.{ToldBy}
 
 -- what is left from a place on begins with the element there
 pub rest_at : {X : Type 0} (xs : List X) (i : ℕ) (d : X) → i < length xs → drop i xs ≡ get_or xs i d ∷ drop (i + 1) xs
 rest_at xs i d h = rw (add-one i) (drop-cons xs i d h)
 
 -- one record more was looked at
-pub key_step : (told : By) (keys new : List ℕ) (records : List Record) (i : ℕ) (d : Record) → i < length records → keys_after told keys (drop i records) ≡ keys_after told [] records
+pub key_step : (told : ToldBy) (keys new : List ℕ) (records : List Record) (i : ℕ) (d : Record) → i < length records → keys_after told keys (drop i records) ≡ keys_after told [] records
     → (way : Option Dir) (key : ℕ) → way ≡ way_of (get_or records i d) → key ≡ key_of told (get_or records i d) → new ≡ with_key way key keys
     → keys_after told new (drop (i + 1) records) ≡ keys_after told [] records
 unfolding keys_after
@@ -33,7 +33,7 @@ with_more : (way : Option Dir) (key : ℕ) (keys : List ℕ) → length keys ≤
 with_more None key keys = omega arith
 with_more (Some way) key keys = or_more (list_any (λ k. k == key) keys) keys key
 
-pub no_fewer : (told : By) (keys : List ℕ) (records : List Record) → length keys ≤ length (keys_after told keys records)
+pub no_fewer : (told : ToldBy) (keys : List ℕ) (records : List Record) → length keys ≤ length (keys_after told keys records)
 unfolding keys_after
 no_fewer told keys [] = omega arith
 no_fewer told keys (r ∷ records) =
@@ -42,13 +42,13 @@ no_fewer told keys (r ∷ records) =
     omega (arith, now, later)
 
 -- as many as so far at least
-pub too_many : (told : By) (keys : List ℕ) (records : List Record) (i n : ℕ) → n < length keys → keys_after told keys (drop i records) ≡ keys_after told [] records → n < length (keys_of told records)
+pub too_many : (told : ToldBy) (keys : List ℕ) (records : List Record) (i n : ℕ) → n < length keys → keys_after told keys (drop i records) ≡ keys_after told [] records → n < length (keys_of told records)
 too_many told keys records i n many rest =
     let more : length keys ≤ length (keys_after told keys (drop i records)) = no_fewer told keys (drop i records) in
     let same : length (keys_after told keys (drop i records)) ≡ length (keys_of told records) = ap length rest in
     omega (arith, many, more, same)
 
-pub all_seen : (told : By) (keys : List ℕ) (records : List Record) (i : ℕ) → length records ≤ i → keys_after told keys (drop i records) ≡ keys_after told [] records → keys ≡ keys_of told records
+pub all_seen : (told : ToldBy) (keys : List ℕ) (records : List Record) (i : ℕ) → length records ≤ i → keys_after told keys (drop i records) ≡ keys_after told [] records → keys ≡ keys_of told records
 unfolding keys_after
 all_seen told keys records i past rest = sym (ap (keys_after told keys) (drop_of_length-le records past)) ∙ rest
 
@@ -66,7 +66,7 @@ with_kept : (p : ℕ → Bool) (way : Option Dir) (key : ℕ) (keys : List ℕ) 
 with_kept p None key keys h = h
 with_kept p (Some way) key keys h = or_kept p (list_any (λ k. k == key) keys) keys key h
 
-kept : (p : ℕ → Bool) (told : By) (keys : List ℕ) (records : List Record) → list_any p keys ≡ true → list_any p (keys_after told keys records) ≡ true
+kept : (p : ℕ → Bool) (told : ToldBy) (keys : List ℕ) (records : List Record) → list_any p keys ≡ true → list_any p (keys_after told keys records) ≡ true
 unfolding keys_after
 kept p told keys [] h = h
 kept p told keys (r ∷ records) h = kept p told (with_key (way_of r) (key_of told r) keys) records (with_kept p (way_of r) (key_of told r) keys h)
@@ -91,11 +91,11 @@ if_kept None P Q f h = tt
 if_kept (Some way) P Q f h = f h
 
 -- each bio that comes in has its key among some
-abbrev pub AreAmong : By → List ℕ → List Record → Type 0
+abbrev pub AreAmong : ToldBy → List ℕ → List Record → Type 0
 AreAmong told keys [] = Unit {0}
 AreAmong told keys (r ∷ records) = IfSome (way_of r) (λ _. list_any (λ k. k == key_of told r) keys ≡ true) × AreAmong told keys records
 
-pub all_among : (told : By) (keys : List ℕ) (records : List Record) → AreAmong told (keys_after told keys records) records
+pub all_among : (told : ToldBy) (keys : List ℕ) (records : List Record) → AreAmong told (keys_after told keys records) records
 unfolding keys_after
 all_among told keys [] = tt
 all_among told keys (r ∷ records) = (

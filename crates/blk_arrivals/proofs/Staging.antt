@@ -9,12 +9,12 @@ use Rattle.blk_capture.specs.declared.record.Action.TheVariants as action
 use Rattle.blk_capture.specs.declared.record.Record.{Record}
 use Rattle.blk_text.specs.declared.script.Line.{Line}
 use Rattle.blk_text.specs.declared.script.Line.TheVariants as line
-use Rattle.blk_arrivals.specs.Coming.{way_of, key_of, round_of, begin_of, told_by, submitters_of}
-use Rattle.blk_arrivals.specs.Deeds.{number_of, comes_from, done_by, deed_by, deed_of}
-use Rattle.blk_arrivals.specs.Plugs.{Plugs, no_plugs, flush_of, flushes, out_of, ending_of, plugs_in, is_later, room_for, one_more, bio_of, arrival_of, plugs_with, out_if, unplugging_of, plugs_without, steps_by, plugs_by, last_steps, steps_from}
+use Rattle.blk_arrivals.specs.Coming.{way_of, key_of, round_of_time, begin_of, told_by, submitters_of}
+use Rattle.blk_arrivals.specs.Deeds.{submitter_number, comes_from, record_deed, deed_by, deed_of}
+use Rattle.blk_arrivals.specs.Plugs.{Plugs, no_plugs, flush_of, flushes, out_of, ending_of, plugs_in, is_later, room_for, held_with, bio_of, arrival_of, plugs_with, out_if, unplugging_of, plugs_without, steps_by, plugs_by, last_steps, steps_from}
 use Rattle.blk_arrivals.specs.Scripts.{steps_of}
 use Rattle.blk_arrivals.specs.Staged.{AreEmpty, KeepPlugs, no_bios}
-use Rattle.blk_arrivals.specs.declared.coming.By.{By}
+use Rattle.blk_arrivals.specs.declared.coming.ToldBy.{ToldBy}
 use Rattle.blk_arrivals.specs.declared.deeds.Deed.{Deed}
 use Rattle.blk_arrivals.specs.declared.deeds.Deed.TheVariants as deed
 use Rattle.blk_arrivals.specs.declared.going.TheConstants.{PLUGGED}
@@ -121,7 +121,7 @@ from_below : (count s : ℕ) (way : Option Dir) → s < count → IsBelow count 
 from_below count s None h = tt
 from_below count s (Some way) h = h
 
-done_below : (count s : ℕ) (a : Action) (way : Option Dir) → s < count → IsBelow count (done_by s a way)
+done_below : (count s : ℕ) (a : Action) (way : Option Dir) → s < count → IsBelow count (record_deed s a way)
 done_below count s action.Unplug way h = h
 done_below count s a way h = from_below count s way h
 
@@ -142,13 +142,13 @@ last_keeps p = all_keep p.held (cond (p.bios == 0) [] (line.Run p.bios ∷ [])) 
     ends true = none_left (length p.held)
     ends false = run_keeps (length p.held) p.bios [] (none_left (length p.held))
 
-keeps : (begin span : ℕ) (told : By) (keys : List ℕ) (p : Plugs) (records : List Record) → length p.held ≡ length keys → KeepPlugs p.held (steps_from begin span told keys p records)
+keeps : (begin span : ℕ) (told : ToldBy) (keys : List ℕ) (p : Plugs) (records : List Record) → length p.held ≡ length keys → KeepPlugs p.held (steps_from begin span told keys p records)
 unfolding steps_from
 keeps begin span told keys p [] h = last_keeps p
 keeps begin span told keys p (r ∷ records) h =
-    let round = round_of begin span r.time in
+    let round = round_of_time begin span r.time in
     let d = deed_of told keys r in
-    let below : IsBelow (length keys) d = by_below (length keys) (number_of keys (key_of told r)) r.action (way_of r) (place_below keys (key_of told r)) in
+    let below : IsBelow (length keys) d = by_below (length keys) (submitter_number keys (key_of told r)) r.action (way_of r) (place_below keys (key_of told r)) in
     record_keeps round p r d (steps_from begin span told keys (plugs_by round p d) records) (subst (λ n. IsBelow n d) (sym h) below) (keeps begin span told keys (plugs_by round p d) records (held_stay round p d ∙ h))
 
 pub script_keeps : (t : Terms) (records : List Record) → KeepPlugs (no_bios (length (submitters_of records))) (steps_of t records)

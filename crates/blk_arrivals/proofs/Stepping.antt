@@ -12,10 +12,10 @@ use Rattle.blk_text.specs.Script.{LineFits}
 use Rattle.blk_text.specs.declared.script.Line.{Line}
 use Rattle.blk_text.specs.declared.script.Line.TheVariants as line
 use Rattle.blk_text.specs.declared.script.TheConstants.{MAX_RUN, MAX_STEPS}
-use Rattle.blk_arrivals.specs.Coming.{way_of, key_of, round_of, ComeInTime}
-use Rattle.blk_arrivals.specs.Deeds.{IsDeed, comes_from, done_by, deed_by, deed_of, number_of}
-use Rattle.blk_arrivals.specs.Plugs.{Plugs, no_plugs, flush_of, flushes, out_of, ending_of, plugs_in, is_later, room_for, one_more, bio_of, arrival_of, plugs_with, out_if, unplugging_of, plugs_without, steps_by, plugs_by, last_steps, steps_from}
-use Rattle.blk_arrivals.specs.declared.coming.By.{By}
+use Rattle.blk_arrivals.specs.Coming.{way_of, key_of, round_of_time, ComeInTime}
+use Rattle.blk_arrivals.specs.Deeds.{IsDeed, comes_from, record_deed, deed_by, deed_of, submitter_number}
+use Rattle.blk_arrivals.specs.Plugs.{Plugs, no_plugs, flush_of, flushes, out_of, ending_of, plugs_in, is_later, room_for, held_with, bio_of, arrival_of, plugs_with, out_if, unplugging_of, plugs_without, steps_by, plugs_by, last_steps, steps_from}
+use Rattle.blk_arrivals.specs.declared.coming.ToldBy.{ToldBy}
 use Rattle.blk_arrivals.specs.declared.deeds.Deed.{Deed}
 use Rattle.blk_arrivals.specs.declared.deeds.Deed.TheVariants as deed
 use Rattle.blk_arrivals.proofs.Keys.{rest_at}
@@ -33,9 +33,9 @@ unfolding flushes
 no_flushes had whole held i past rest = sym (append-nil had) ∙ sym (ap (λ (hs : List ℕ). had ++ flushes i hs) (drop_of_length-le held past)) ∙ rest
 
 -- the steps of one record more
-pub line_step : (begin span : ℕ) (told : By) (keys : List ℕ) (had now whole : List Line) (p q : Plugs) (records : List Record) (i : ℕ) (r : Record) → i < length records
+pub line_step : (begin span : ℕ) (told : ToldBy) (keys : List ℕ) (had now whole : List Line) (p q : Plugs) (records : List Record) (i : ℕ) (r : Record) → i < length records
     → had ++ steps_from begin span told keys p (drop i records) ≡ whole
-    → (round : ℕ) (d : Deed) → round ≡ round_of begin span (get_or records i r).time → d ≡ deed_of told keys (get_or records i r)
+    → (round : ℕ) (d : Deed) → round ≡ round_of_time begin span (get_or records i r).time → d ≡ deed_of told keys (get_or records i r)
     → now ≡ had ++ steps_by round p (get_or records i r) d → q ≡ plugs_by round p d
     → now ++ steps_from begin span told keys q (drop (i + 1) records) ≡ whole
 unfolding steps_from
@@ -43,10 +43,10 @@ line_step begin span told keys had now whole p q records i r h rest round d a b 
     let x = get_or records i r in
     let next : had ++ steps_from begin span told keys p (x ∷ drop (i + 1) records) ≡ whole = sym (ap (λ (rs : List Record). had ++ steps_from begin span told keys p rs) (rest_at records i r h)) ∙ rest in
     rw (is, after, a, b)
-    (append_assoc had (steps_by (round_of begin span x.time) p x (deed_of told keys x)) (steps_from begin span told keys (plugs_by (round_of begin span x.time) p (deed_of told keys x)) (drop (i + 1) records)) ∙ next)
+    (append_assoc had (steps_by (round_of_time begin span x.time) p x (deed_of told keys x)) (steps_from begin span told keys (plugs_by (round_of_time begin span x.time) p (deed_of told keys x)) (drop (i + 1) records)) ∙ next)
 
 -- and of none
-pub last_step : (begin span : ℕ) (told : By) (keys : List ℕ) (had now whole : List Line) (p : Plugs) (records : List Record) (i : ℕ) → length records ≤ i → had ++ steps_from begin span told keys p (drop i records) ≡ whole
+pub last_step : (begin span : ℕ) (told : ToldBy) (keys : List ℕ) (had now whole : List Line) (p : Plugs) (records : List Record) (i : ℕ) → length records ≤ i → had ++ steps_from begin span told keys p (drop i records) ≡ whole
     → now ≡ had ++ last_steps p → now ≡ whole
 unfolding steps_from
 last_step begin span told keys had now whole p records i past rest is = is ∙ sym (ap (λ (rs : List Record). had ++ steps_from begin span told keys p rs) (drop_of_length-le records past)) ∙ rest
@@ -70,7 +70,7 @@ unplugged_held false p s = length-set p.held s 0
 pub held_stay : (round : ℕ) (p : Plugs) (d : Deed) → length (plugs_by round p d).held ≡ length p.held
 held_stay round p (deed.Comes s way) =
     let t = plugs_in (is_later round p) round p in
-    length-set t.held s (one_more (slice_index t.held s)) ∙ turned_held (is_later round p) round p
+    length-set t.held s (held_with (slice_index t.held s)) ∙ turned_held (is_later round p) round p
 held_stay round p (deed.Unplugs s) = unplugged_held (is_later round p) p s
 held_stay round p deed.Nothing = refl
 
@@ -142,7 +142,7 @@ from_in_time : (s round : ℕ) (way : Option Dir) → IfSome way (λ _. round �
 from_in_time s round None h = tt
 from_in_time s round (Some way) h = h
 
-done_in_time : (s round : ℕ) (a : Action) (way : Option Dir) → IfSome way (λ _. round ≤ MAX_RUN) → IsInTime round (done_by s a way)
+done_in_time : (s round : ℕ) (a : Action) (way : Option Dir) → IfSome way (λ _. round ≤ MAX_RUN) → IsInTime round (record_deed s a way)
 done_in_time s round action.Unplug way h = tt
 done_in_time s round a way h = from_in_time s round way h
 
@@ -150,8 +150,8 @@ by_in_time : (number : Option ℕ) (round : ℕ) (a : Action) (way : Option Dir)
 by_in_time None round a way h = tt
 by_in_time (Some s) round a way h = done_in_time s round a way h
 
-pub deed_in_time : (told : By) (keys : List ℕ) (r : Record) (round : ℕ) → IfSome (way_of r) (λ _. round ≤ MAX_RUN) → IsInTime round (deed_of told keys r)
-deed_in_time told keys r round h = by_in_time (number_of keys (key_of told r)) round r.action (way_of r) h
+pub deed_in_time : (told : ToldBy) (keys : List ℕ) (r : Record) (round : ℕ) → IfSome (way_of r) (λ _. round ≤ MAX_RUN) → IsInTime round (deed_of told keys r)
+deed_in_time told keys r round h = by_in_time (submitter_number keys (key_of told r)) round r.action (way_of r) h
 
 unplug_fits : (n : ℕ) (later : Bool) (p : Plugs) (s : ℕ) → s < n → AllFit n (unplugging_of later p s)
 unplug_fits n true p s h = none_fits n
@@ -188,18 +188,18 @@ last_fit n p had now few bios short fit e =
     (All-append (LineFits 1 n) (flushes 0 p.held) (cond (p.bios == 0) [] (line.Run p.bios ∷ [])) (flushes_fit n 0 p.held (omega (arith, few))) (run_fits n p.bios (p.bios == 0) refl (omega (arith, bios, short)))))
 
 -- the steps of the records up to a place, after which those of the others come
-pub record AreSteps (begin span : ℕ) (told : By) (keys : List ℕ) (records : List Record) (i : ℕ) (lines : List Line) (p : Plugs) : Type 0 where
+pub record AreSteps (begin span : ℕ) (told : ToldBy) (keys : List ℕ) (records : List Record) (i : ℕ) (lines : List Line) (p : Plugs) : Type 0 where
   pub rest : lines ++ steps_from begin span told keys p (drop i records) ≡ steps_from begin span told keys (no_plugs (length keys)) records
   pub held : length p.held ≡ length keys
   pub bios : p.bios ≤ length lines
   pub fit : AllFit (max (length keys) 1) lines
 
-in_time_at : (begin span : ℕ) (told : By) (keys : List ℕ) (r : Record) (round : ℕ) (d : Deed) → round ≡ round_of begin span r.time → d ≡ deed_of told keys r → IfSome (way_of r) (λ _. round_of begin span r.time ≤ MAX_RUN)
+in_time_at : (begin span : ℕ) (told : ToldBy) (keys : List ℕ) (r : Record) (round : ℕ) (d : Deed) → round ≡ round_of_time begin span r.time → d ≡ deed_of told keys r → IfSome (way_of r) (λ _. round_of_time begin span r.time ≤ MAX_RUN)
     → IsInTime round d
-in_time_at begin span told keys r round d a b h = rw (a, b) (deed_in_time told keys r (round_of begin span r.time) h)
+in_time_at begin span told keys r round d a b h = rw (a, b) (deed_in_time told keys r (round_of_time begin span r.time) h)
 
-pub more_steps : (begin span : ℕ) (told : By) (keys : List ℕ) (records : List Record) (i : ℕ) (lines now : List Line) (p q : Plugs) (r : Record) (round : ℕ) (d : Deed) → i < length records → ComeInTime begin span records
-    → length lines ≤ MAX_STEPS → AreSteps begin span told keys records i lines p → round ≡ round_of begin span (get_or records i r).time → d ≡ deed_of told keys (get_or records i r) → IsDeed (length keys) (get_or records i r) d
+pub more_steps : (begin span : ℕ) (told : ToldBy) (keys : List ℕ) (records : List Record) (i : ℕ) (lines now : List Line) (p q : Plugs) (r : Record) (round : ℕ) (d : Deed) → i < length records → ComeInTime begin span records
+    → length lines ≤ MAX_STEPS → AreSteps begin span told keys records i lines p → round ≡ round_of_time begin span (get_or records i r).time → d ≡ deed_of told keys (get_or records i r) → IsDeed (length keys) (get_or records i r) d
     → now ≡ lines ++ steps_by round p (get_or records i r) d → q ≡ plugs_by round p d → AreSteps begin span told keys records (i + 1) now q
 more_steps begin span told keys records i lines now p q r round d h in_time short s a b deed is after =
     let x = get_or records i r in

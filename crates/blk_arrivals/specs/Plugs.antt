@@ -1,18 +1,21 @@
 -- The steps that the records of a capture come to, one record after another.
-use Rattle.std.specs.Prelude.{ℕ, ◌+◌, ◌-◌, ◌==◌, ◌++◌, List, [], ◌∷◌, length, Bool, true, false, cond, nat_lt, slice_index, slice_set}
+use Rattle.std.specs.Prelude.{ℕ, ◌≡◌, ◌<◌, ◌+◌, ◌-◌, ◌==◌, ◌++◌, List, [], ◌∷◌, length, Bool, true, false, cond, nat_lt, slice_index, slice_set}
 use Rattle.std.proofs.Math.ListN.{replicate}
 use Rattle.blk_bio.specs.Bios.{Bio}
 use Rattle.blk_bio.specs.declared.bio.Dir.{Dir}
 use Rattle.blk_capture.specs.declared.record.Record.{Record}
 use Rattle.blk_text.specs.declared.script.Line.{Line}
 use Rattle.blk_text.specs.declared.script.Line.TheVariants as line
-use Rattle.blk_arrivals.specs.Coming.{round_of}
+use Rattle.blk_text.specs.declared.script.TheConstants.{MAX_STEPS}
+use Rattle.blk_arrivals.specs.Coming.{begin_of, round_of_time}
 use Rattle.blk_arrivals.specs.Deeds.{deed_of}
-use Rattle.blk_arrivals.specs.declared.coming.By.{By}
+use Rattle.blk_arrivals.specs.declared.coming.ToldBy.{ToldBy}
 use Rattle.blk_arrivals.specs.declared.deeds.Deed.{Deed}
 use Rattle.blk_arrivals.specs.declared.deeds.Deed.TheVariants as deed
 use Rattle.blk_arrivals.specs.declared.going.Going.{Going}
 use Rattle.blk_arrivals.specs.declared.going.TheConstants.{PLUGGED}
+use Rattle.blk_arrivals.specs.declared.terms.ArrivalsFault.{ArrivalsFault}
+use Rattle.blk_arrivals.specs.declared.terms.ArrivalsFault.TheVariants as fault
 
 -- the round that it is, how many bios came in, and how many stand in the plug of each submitter
 pub record Plugs : Type 0 where
@@ -49,6 +52,13 @@ plugs_in true round p = record { now = round; bios = p.bios; held = replicate (l
 abbrev pub is_later : ℕ → Plugs → Bool
 is_later round p = nat_lt p.now round
 
+-- the steps by which a round comes, and the plugs in it: where it is later, the rounds up to it end
+abbrev pub turning : ℕ → Plugs → List Line
+turning round p = ending_of (is_later round p) round p
+
+abbrev pub turned : ℕ → Plugs → Plugs
+turned round p = plugs_in (is_later round p) round p
+
 -- it is flushed and drained
 abbrev pub out_of : ℕ → List Line
 out_of s = line.Flush s ∷ line.Drain 0 ∷ []
@@ -57,8 +67,8 @@ out_of s = line.Flush s ∷ line.Drain 0 ∷ []
 abbrev pub room_for : ℕ → ℕ → List Line
 room_for s held = cond (nat_lt held PLUGGED) [] (out_of s)
 
-abbrev pub one_more : ℕ → ℕ
-one_more held = cond (nat_lt held PLUGGED) (held + 1) 1
+abbrev pub held_with : ℕ → ℕ
+held_with held = cond (nat_lt held PLUGGED) (held + 1) 1
 
 -- the bio of a record, by its submitter and its number among all bios
 abbrev pub bio_of : ℕ → ℕ → Dir → Record → Bio
@@ -69,7 +79,7 @@ abbrev pub arrival_of : Plugs → ℕ → Dir → Record → List Line
 arrival_of p s way r = room_for s (slice_index p.held s) ++ line.Bio (bio_of s p.bios way r) ∷ []
 
 abbrev pub plugs_with : Plugs → ℕ → Plugs
-plugs_with p s = record { now = p.now; bios = p.bios + 1; held = slice_set p.held s (one_more (slice_index p.held s)) }
+plugs_with p s = record { now = p.now; bios = p.bios + 1; held = slice_set p.held s (held_with (slice_index p.held s)) }
 
 abbrev pub out_if : ℕ → ℕ → List Line
 out_if s held = cond (held == 0) [] (out_of s)
@@ -83,15 +93,22 @@ abbrev pub plugs_without : Bool → Plugs → ℕ → Plugs
 plugs_without true p s = p
 plugs_without false p s = record { now = p.now; bios = p.bios; held = slice_set p.held s 0 }
 
+-- the steps of an unplug in a round, and the plugs after it
+abbrev pub unplugging : ℕ → Plugs → ℕ → List Line
+unplugging round p s = unplugging_of (is_later round p) p s
+
+abbrev pub unplugged : ℕ → Plugs → ℕ → Plugs
+unplugged round p s = plugs_without (is_later round p) p s
+
 -- the steps of a record of this round
 abbrev pub steps_by : ℕ → Plugs → Record → Deed → List Line
-steps_by round p r (deed.Comes s way) = ending_of (is_later round p) round p ++ arrival_of (plugs_in (is_later round p) round p) s way r
-steps_by round p r (deed.Unplugs s) = unplugging_of (is_later round p) p s
+steps_by round p r (deed.Comes s way) = turning round p ++ arrival_of (turned round p) s way r
+steps_by round p r (deed.Unplugs s) = unplugging round p s
 steps_by round p r deed.Nothing = []
 
 abbrev pub plugs_by : ℕ → Plugs → Deed → Plugs
-plugs_by round p (deed.Comes s way) = plugs_with (plugs_in (is_later round p) round p) s
-plugs_by round p (deed.Unplugs s) = plugs_without (is_later round p) p s
+plugs_by round p (deed.Comes s way) = plugs_with (turned round p) s
+plugs_by round p (deed.Unplugs s) = unplugged round p s
 plugs_by round p deed.Nothing = p
 
 -- at the end all plugs are flushed, and as many rounds run as bios came in, so that all are served
@@ -99,7 +116,15 @@ abbrev pub last_steps : Plugs → List Line
 last_steps p = flushes 0 p.held ++ cond (p.bios == 0) [] (line.Run p.bios ∷ [])
 
 -- the steps of records, of submitters with these keys, in rounds of a length from a beginning on
-unfoldable pub steps_from : ℕ → ℕ → By → List ℕ → Plugs → List Record → List Line
+unfoldable pub steps_from : ℕ → ℕ → ToldBy → List ℕ → Plugs → List Record → List Line
 steps_from begin span told keys p [] = last_steps p
 steps_from begin span told keys p (r ∷ records) =
-    steps_by (round_of begin span r.time) p r (deed_of told keys r) ++ steps_from begin span told keys (plugs_by (round_of begin span r.time) p (deed_of told keys r)) records
+    steps_by (round_of_time begin span r.time) p r (deed_of told keys r) ++ steps_from begin span told keys (plugs_by (round_of_time begin span r.time) p (deed_of told keys r)) records
+
+-- the steps of all records of a capture, from round 0 on and with empty plugs
+abbrev pub all_steps : ℕ → ToldBy → List ℕ → List Record → List Line
+all_steps span told keys records = steps_from (begin_of records) span told keys (no_plugs (length keys)) records
+
+-- the fault of steps that are more than a script may have
+abbrev pub IsTooLong : List Line → ArrivalsFault → Type 0
+IsTooLong lines f = (f ≡ fault.TooLong) × (MAX_STEPS < length lines)

@@ -7,45 +7,45 @@ use Rattle.blk_text.specs.declared.script.Line.{Line}
 use Rattle.blk_text.specs.declared.script.TheConstants.{MAX_STEPS}
 use Rattle.blk_trace.specs.Setups.{Setup}
 use Rattle.blk_trace.specs.declared.setup.TheConstants.{MAX_DEPTH, MAX_EXPIRIES}
-use Rattle.blk_arrivals.specs.Coming.{begin_of, told_by, submitters_of, AreFew, ComeInTime}
-use Rattle.blk_arrivals.specs.Plugs.{no_plugs, steps_from}
+use Rattle.blk_arrivals.specs.Coming.{begin_of, told_by, submitters_of, AreFewSubmitters, ComeInTime}
+use Rattle.blk_arrivals.specs.Plugs.{all_steps}
 use Rattle.blk_arrivals.specs.declared.terms.TheConstants.{SECTORS, SEGMENTS, SOFT_DEPTH}
 use Rattle.blk_arrivals.specs.declared.terms.Terms.{Terms}
 use Rattle.blk_arrivals.specs.declared.terms.ArrivalsFault.{ArrivalsFault}
 use Rattle.blk_arrivals.specs.declared.terms.ArrivalsFault.TheVariants as fault
 
 -- an expiry in rounds: at least one
-abbrev pub rounds_in : ℕ → ℕ → ℕ
-rounds_in expire span = max (expire / span) 1
+abbrev pub expiry_rounds : ℕ → ℕ → ℕ
+expiry_rounds expire span = max (expire / span) 1
 
 abbrev pub usual_limits : Limits
 usual_limits = record { max_sectors = SECTORS; max_segments = SEGMENTS }
 
 -- one hardware queue of so many tags, and the expiries in rounds
-abbrev pub setup_of : Terms → Setup
-setup_of t = record { depth = t.depth; hw = 1; read_expire = rounds_in t.read_expire t.round; write_expire = rounds_in t.write_expire t.round; limits = usual_limits }
+abbrev pub script_setup : Terms → Setup
+script_setup t = record { depth = t.depth; hw = 1; read_expire = expiry_rounds t.read_expire t.round; write_expire = expiry_rounds t.write_expire t.round; limits = usual_limits }
 
--- the steps of all records of a capture, from round 0 on and with empty plugs
+-- the steps of a capture, of its own submitters
 abbrev pub steps_of : Terms → List Record → List Line
-steps_of t records = steps_from (begin_of records) t.round (told_by records) (submitters_of records) (no_plugs (length (submitters_of records))) records
+steps_of t records = all_steps t.round (told_by records) (submitters_of records) records
 
 -- the script: a submitter at least, since a script has one
 abbrev pub script_of : Terms → List Record → Scripted
-script_of t records = record { setup = setup_of t; soft_depth = SOFT_DEPTH; submitters = max (length (submitters_of records)) 1; lines = steps_of t records }
+script_of t records = record { setup = script_setup t; soft_depth = SOFT_DEPTH; submitters = max (length (submitters_of records)) 1; lines = steps_of t records }
 
 -- the rules of the terms, in the order in which they are looked at, each with its fault
 abbrev pub term_rules : Terms → List (Type 0 × ArrivalsFault)
 term_rules t =
     (0 < t.round, fault.Round)
     ∷ ((0 < t.depth) × (t.depth ≤ MAX_DEPTH), fault.Depth)
-    ∷ ((rounds_in t.read_expire t.round < MAX_EXPIRIES) × (rounds_in t.write_expire t.round < MAX_EXPIRIES), fault.Expire) ∷ []
+    ∷ ((expiry_rounds t.read_expire t.round < MAX_EXPIRIES) × (expiry_rounds t.write_expire t.round < MAX_EXPIRIES), fault.Expire) ∷ []
 
 -- and then those of a capture
 abbrev pub script_rules : Terms → List Record → List (Type 0 × ArrivalsFault)
 script_rules t records =
     (0 < t.round, fault.Round)
     ∷ ((0 < t.depth) × (t.depth ≤ MAX_DEPTH), fault.Depth)
-    ∷ ((rounds_in t.read_expire t.round < MAX_EXPIRIES) × (rounds_in t.write_expire t.round < MAX_EXPIRIES), fault.Expire)
-    ∷ (AreFew (submitters_of records), fault.TooMany)
+    ∷ ((expiry_rounds t.read_expire t.round < MAX_EXPIRIES) × (expiry_rounds t.write_expire t.round < MAX_EXPIRIES), fault.Expire)
+    ∷ (AreFewSubmitters (submitters_of records), fault.TooMany)
     ∷ (ComeInTime (begin_of records) t.round records, fault.TraceFull)
     ∷ (length (steps_of t records) ≤ MAX_STEPS, fault.TooLong) ∷ []

@@ -1,10 +1,9 @@
 //! Which bios of a capture come in, and from whom.
 
-ghost use Rattle.std.specs.Prelude.{◌≡◌, ◌<◌, ◌≤◌, ◌+◌, ◌↔◌, None, IsTrue, IfOk, IfSome, MatchOption, OnOk, length};
+ghost use Rattle.std.specs.Prelude.{◌≡◌, ◌<◌, ◌≤◌, ◌+◌, ◌↔◌, None, IsTrue, IfOk, IfSome, MatchOption, OnOk};
 ghost use Rattle.blk_bio.specs.Bios.{sector_limit};
-ghost use Rattle.blk_bio.specs.declared.limits.TheConstants.{MAX_SOFT_QUEUES as MOST};
 ghost use Rattle.blk_capture.specs.Passing.{passed_range};
-ghost use Rattle.blk_arrivals.specs.Coming.{way_of, begin_of, round_of, AreFew, ComeInTime, key_of, keys_of, submitters_of, told_by, with_key};
+ghost use Rattle.blk_arrivals.specs.Coming.{way_of, begin_of, round_of_time, AreFewSubmitters, AreMany, AreKeys, AreSubmitters, ComeInTime, key_of, keys_of, submitters_of, with_key};
 
 use blk_bio::{Dir, MAX_END, MAX_SOFT_QUEUES};
 use blk_capture::{Action, Record};
@@ -13,21 +12,21 @@ use std::alloc::{AllocError, Global};
 
 /// By what submitters are told apart.
 #[derive(Clone, Copy, Debug, PartialEq, Eq)]
-pub enum By {
+pub enum ToldBy {
     /// The process that queued the bio.
     Process,
     /// The processor on which it ran.
     Processor,
 }
 
-impl By {
+impl ToldBy {
     /// What tells the submitter of a record.
     pub(crate) fn key_of(self, record: &Record) -> u64
         ensures { result ≡ key_of self record.now }
     {
         match self {
-            By::Process => record.pid,
-            By::Processor => record.cpu,
+            ToldBy::Process => record.pid,
+            ToldBy::Processor => record.cpu,
         }
     }
 }
@@ -76,9 +75,9 @@ pub(crate) fn begin_of(records: &[Record]) -> u64
 }
 
 /// The round of a record, of rounds of a length from a beginning on.
-pub(crate) fn round_of(begin: u64, span: u64, record: &Record) -> u64
+pub(crate) fn round_of_time(begin: u64, span: u64, record: &Record) -> u64
     requires { 0 < span }
-    ensures { result ≡ round_of begin span record.now.time }
+    ensures { result ≡ round_of_time begin span record.now.time }
 {
     record.time.saturating_sub(begin) / span
 }
@@ -86,10 +85,10 @@ pub(crate) fn round_of(begin: u64, span: u64, record: &Record) -> u64
 /// Whether no bio comes in by a record after the last round of which a script can tell.
 fn is_in_time(begin: u64, span: u64, record: &Record) -> bool
     requires { 0 < span }
-    ensures { IsTrue result ↔ IfSome (way_of record.now) (λ _. round_of begin span record.now.time ≤ MAX_RUN) }
+    ensures { IsTrue result ↔ IfSome (way_of record.now) (λ _. round_of_time begin span record.now.time ≤ MAX_RUN) }
 {
     match way_of(record) {
-        Some(_) => round_of(begin, span, record) <= MAX_RUN,
+        Some(_) => round_of_time(begin, span, record) <= MAX_RUN,
         None => true,
     }
 }
@@ -117,8 +116,8 @@ fn note(keys: &mut Vec<u64>, way: Option<Dir>, key: u64) -> Result<(), AllocErro
 }
 
 /// The keys of all bios that come in; none where there are too many.
-fn keys_of(alloc: Global, told: By, records: &[Record]) -> Result<Option<Vec<u64>>, AllocError>
-    ensures { IfOk result (λ found. MatchOption found (MOST < length (keys_of told records.now)) (λ keys. (keys.items ≡ keys_of told records.now) × AreFew keys.items)) }
+fn keys_of(alloc: Global, told: ToldBy, records: &[Record]) -> Result<Option<Vec<u64>>, AllocError>
+    ensures { IfOk result (λ v. MatchOption v (AreMany (keys_of told records.now)) (λ keys. AreKeys told records.now keys.items)) }
 {
     let mut keys = Vec::new(alloc);
     for record in records {
@@ -133,7 +132,7 @@ fn keys_of(alloc: Global, told: By, records: &[Record]) -> Result<Option<Vec<u64
 /// By what the submitters of a capture are told apart, and their keys.
 #[derive(Drop)]
 pub(crate) struct Submitters {
-    pub(crate) told: By,
+    pub(crate) told: ToldBy,
     pub(crate) keys: Vec<u64>,
 }
 
@@ -142,13 +141,13 @@ pub(crate) fn submitters_of(
     alloc: Global,
     records: &[Record],
 ) -> Result<Option<Submitters>, AllocError>
-    ensures { IfOk result (λ found. MatchOption found (¬ AreFew (submitters_of records.now)) (λ s. (s.told ≡ told_by records.now) × (s.keys.items ≡ submitters_of records.now) × AreFew (submitters_of records.now))) }
+    ensures { IfOk result (λ v. MatchOption v (¬ AreFewSubmitters (submitters_of records.now)) (AreSubmitters records.now)) }
 {
-    let told = By::Process;
+    let told = ToldBy::Process;
     if let Some(keys) = keys_of(alloc, told, records)? {
         return Ok(Some(Submitters { told, keys }));
     }
-    let told = By::Processor;
+    let told = ToldBy::Processor;
     match keys_of(alloc, told, records)? {
         Some(keys) => Ok(Some(Submitters { told, keys })),
         None => Ok(None),

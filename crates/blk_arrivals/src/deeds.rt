@@ -1,9 +1,9 @@
 //! What a record of a capture does to the plugs of the submitters.
 
 ghost use Rattle.std.specs.Prelude.{◌≡◌, ◌<◌, IfSome, length};
-ghost use Rattle.blk_arrivals.specs.Deeds.{IsDeed, deed_of, number_of};
+ghost use Rattle.blk_arrivals.specs.Deeds.{IsDeed, deed_of, submitter_number};
 
-use crate::coming::{By, way_of};
+use crate::coming::{ToldBy, way_of};
 use blk_bio::Dir;
 use blk_capture::{Action, Record};
 
@@ -19,19 +19,19 @@ pub(crate) enum Deed {
 }
 
 /// The number of the submitter with a key, if there is one.
-fn number_of(keys: &[u64], key: u64) -> Option<usize>
-    ensures value { result ≡ number_of keys.now key }
+fn submitter_number(keys: &[u64], key: u64) -> Option<usize>
+    ensures value { result ≡ submitter_number keys.now key }
     ensures bound { IfSome result (λ s. s < length keys.now) }
 {
     keys.iter().position(|other| *other == key)
 }
 
 /// What a record does, of submitters with these keys.
-pub(crate) fn deed_of(told: By, keys: &[u64], record: &Record) -> Deed
+pub(crate) fn deed_of(told: ToldBy, keys: &[u64], record: &Record) -> Deed
     ensures value { result ≡ deed_of told keys.now record.now }
     ensures deed { IsDeed (length keys.now) record.now result }
 {
-    let Some(submitter) = number_of(keys, told.key_of(record)) else {
+    let Some(submitter) = submitter_number(keys, told.key_of(record)) else {
         return Deed::Nothing;
     };
     match record.action {

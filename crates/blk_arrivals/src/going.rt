@@ -5,11 +5,11 @@ ghost use Rattle.std.proofs.Math.ListN.{replicate};
 ghost use Rattle.blk_bio.specs.Bios.{sector_limit};
 ghost use Rattle.blk_bio.specs.declared.limits.TheConstants.{MAX_SOFT_QUEUES as MOST};
 ghost use Rattle.blk_text.specs.Script.{LineFits};
-ghost use Rattle.blk_arrivals.specs.Coming.{begin_of, AreFew, ComeInTime};
+ghost use Rattle.blk_arrivals.specs.Coming.{begin_of, AreFewSubmitters, ComeInTime};
 ghost use Rattle.blk_arrivals.specs.Deeds.{IsDeed};
-ghost use Rattle.blk_arrivals.specs.Plugs.{plugs_of, no_plugs, flush_of, flushes, out_of, out_if, ending_of, plugs_in, is_later, room_for, one_more, bio_of, arrival_of, plugs_with, unplugging_of, plugs_without, steps_by, plugs_by, last_steps, steps_from};
+ghost use Rattle.blk_arrivals.specs.Plugs.{plugs_of, no_plugs, flush_of, flushes, out_of, out_if, turning, turned, room_for, held_with, bio_of, arrival_of, plugs_with, unplugging, unplugged, steps_by, plugs_by, last_steps, all_steps, IsTooLong};
 
-use crate::coming::{By, begin_of, round_of};
+use crate::coming::{ToldBy, begin_of, round_of_time};
 use crate::deeds::{Deed, deed_of};
 use crate::terms::ArrivalsFault;
 use blk_bio::{Bio, BioId, Dir};
@@ -63,7 +63,7 @@ fn push_flush(lines: &mut Vec<Line>, submitter: usize, held: u64) -> Result<(), 
 
 /// Adds the flushes of all plugs that hold something.
 fn push_flushes(lines: &mut Vec<Line>, held: &[u64]) -> Result<(), AllocError>
-    requires { AreFew held.now }
+    requires { AreFewSubmitters held.now }
     ensures { OnOk result (lines.new.items ≡ lines.old.items ++ flushes 0 held.now) }
 {
     for submitter in 0..held.len() {
@@ -105,8 +105,8 @@ fn push_unplug(lines: &mut Vec<Line>, submitter: usize, held: u64) -> Result<(),
 }
 
 /// How many bios a plug holds with one more.
-fn one_more(held: u64) -> u64
-    ensures { result ≡ one_more held }
+fn held_with(held: u64) -> u64
+    ensures { result ≡ held_with held }
 {
     if held < PLUGGED { held + 1 } else { 1 }
 }
@@ -143,9 +143,9 @@ impl Going {
 
     /// Ends the rounds up to one, where it is later than the one that it is.
     fn turn(&mut self, round: u64) -> Result<(), AllocError>
-        requires { AreFew self.old.held.items }
-        ensures lines { OnOk result (self.new.lines.items ≡ self.old.lines.items ++ ending_of (is_later round (plugs_of self.old)) round (plugs_of self.old)) }
-        ensures plugs { OnOk result (plugs_of self.new ≡ plugs_in (is_later round (plugs_of self.old)) round (plugs_of self.old)) }
+        requires { AreFewSubmitters self.old.held.items }
+        ensures lines { OnOk result (self.new.lines.items ≡ self.old.lines.items ++ turning round (plugs_of self.old)) }
+        ensures plugs { OnOk result (plugs_of self.new ≡ turned round (plugs_of self.old)) }
     {
         if round <= self.now {
             return Ok(());
@@ -160,7 +160,7 @@ impl Going {
     /// A bio of a submitter comes in by a record.
     fn arrive(&mut self, submitter: usize, way: Dir, record: &Record) -> Result<(), AllocError>
         requires submitter { submitter < length self.old.held.items }
-        requires few { AreFew self.old.held.items }
+        requires few { AreFewSubmitters self.old.held.items }
         requires room { self.old.bios < 2 ^ 64 - 1 }
         requires range { (0 < record.now.sectors) × (record.now.first + record.now.sectors ≤ sector_limit) }
         ensures lines { OnOk result (self.new.lines.items ≡ self.old.lines.items ++ arrival_of (plugs_of self.old) submitter way record.now) }
@@ -170,7 +170,7 @@ impl Going {
         push_room(&mut self.lines, submitter, held)?;
         let bio = bio_of(submitter, self.bios, way, record);
         self.lines.push(Line::Bio(bio))?;
-        self.held[submitter] = one_more(held);
+        self.held[submitter] = held_with(held);
         self.bios += 1;
         Ok(())
     }
@@ -178,9 +178,9 @@ impl Going {
     /// The plug of a submitter is flushed, in a round.
     fn unplug(&mut self, round: u64, submitter: usize) -> Result<(), AllocError>
         requires submitter { submitter < length self.old.held.items }
-        requires few { AreFew self.old.held.items }
-        ensures lines { OnOk result (self.new.lines.items ≡ self.old.lines.items ++ unplugging_of (is_later round (plugs_of self.old)) (plugs_of self.old) submitter) }
-        ensures plugs { OnOk result (plugs_of self.new ≡ plugs_without (is_later round (plugs_of self.old)) (plugs_of self.old) submitter) }
+        requires few { AreFewSubmitters self.old.held.items }
+        ensures lines { OnOk result (self.new.lines.items ≡ self.old.lines.items ++ unplugging round (plugs_of self.old) submitter) }
+        ensures plugs { OnOk result (plugs_of self.new ≡ unplugged round (plugs_of self.old) submitter) }
     {
         if self.now < round {
             return Ok(());
@@ -194,7 +194,7 @@ impl Going {
     /// What a record of a round does.
     fn take(&mut self, round: u64, deed: Deed, record: &Record) -> Result<(), AllocError>
         requires deed { IsDeed (length self.old.held.items) record.now deed }
-        requires few { AreFew self.old.held.items }
+        requires few { AreFewSubmitters self.old.held.items }
         requires room { self.old.bios < 2 ^ 64 - 1 }
         ensures lines { OnOk result (self.new.lines.items ≡ self.old.lines.items ++ steps_by round (plugs_of self.old) record.now deed) }
         ensures plugs { OnOk result (plugs_of self.new ≡ plugs_by round (plugs_of self.old) deed) }
@@ -211,7 +211,7 @@ impl Going {
 
     /// At the end of the records.
     fn finish(&mut self) -> Result<(), AllocError>
-        requires { AreFew self.old.held.items }
+        requires { AreFewSubmitters self.old.held.items }
         ensures { OnOk result (self.new.lines.items ≡ self.old.lines.items ++ last_steps (plugs_of self.old)) }
     {
         push_flushes(&mut self.lines, self.held.as_slice())?;
@@ -225,18 +225,18 @@ impl Going {
 /// The steps of a capture's records, of submitters with these keys, in rounds of a length.
 pub(crate) fn steps_of(
     alloc: Global,
-    told: By,
+    told: ToldBy,
     keys: &[u64],
     span: u64,
     records: &[Record],
 ) -> Result<Vec<Line>, ArrivalsFault>
     requires span { 0 < span }
-    requires few { AreFew keys.now }
+    requires few { AreFewSubmitters keys.now }
     requires in_time { ComeInTime (begin_of records.now) span records.now }
-    ensures ok { IfOk result (λ v. v.items ≡ steps_from (begin_of records.now) span told keys.now (no_plugs (length keys.now)) records.now) }
+    ensures ok { IfOk result (λ v. v.items ≡ all_steps span told keys.now records.now) }
     ensures short { IfOk result (λ v. length v.items ≤ MAX_STEPS) }
     ensures fit { IfOk result (λ v. All (LineFits 1 (max (length keys.now) 1)) v.items) }
-    ensures err { IfErr result (λ f. (f ≡ ArrivalsFault.Memory) ⊎ ((f ≡ ArrivalsFault.TooLong) × (MAX_STEPS < length (steps_from (begin_of records.now) span told keys.now (no_plugs (length keys.now)) records.now)))) }
+    ensures err { IfErr result (λ f. (f ≡ ArrivalsFault.Memory) ⊎ IsTooLong (all_steps span told keys.now records.now) f) }
 {
     let begin = begin_of(records);
     let Ok(mut going) = Going::new(alloc, keys.len()) else {
@@ -244,7 +244,7 @@ pub(crate) fn steps_of(
     };
     for record in records {
         let deed = deed_of(told, keys, record);
-        match going.take(round_of(begin, span, record), deed, record) {
+        match going.take(round_of_time(begin, span, record), deed, record) {
             Ok(()) => {}
             Err(AllocError) => return Err(ArrivalsFault::Memory),
         }

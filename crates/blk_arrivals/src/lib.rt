@@ -11,7 +11,7 @@ mod script;
 mod terms;
 mod text;
 
-pub use coming::By;
+pub use coming::ToldBy;
 pub use script::script_of;
 pub use terms::{ArrivalsFault, DEPTH, SECTORS, SEGMENTS, SOFT_DEPTH, Terms};
 pub use text::script_text;

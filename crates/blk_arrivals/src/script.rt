@@ -4,14 +4,14 @@ ghost use Rattle.std.specs.Prelude.{◌≡◌, ◌⊎◌, IfOk, IfErr, length};
 ghost use Rattle.faults.specs.Order.{IsFirstFault};
 ghost use Rattle.blk_capture.specs.Requests.{AreInOrder};
 ghost use Rattle.blk_text.specs.Script.{IsScript, scripted};
-ghost use Rattle.blk_arrivals.specs.Brought.{bios_of, brought_by};
+ghost use Rattle.blk_arrivals.specs.Brought.{arriving_bios, brought_by};
 ghost use Rattle.blk_arrivals.specs.Coming.{submitters_of};
 ghost use Rattle.blk_arrivals.specs.Scripts.{script_rules, script_of};
 ghost use Rattle.blk_arrivals.specs.Staged.{KeepPlugs, no_bios};
 
 use crate::coming::{begin_of, come_in_time, submitters_of};
 use crate::going::steps_of;
-use crate::terms::{ArrivalsFault, SOFT_DEPTH, Terms, setup_of};
+use crate::terms::{ArrivalsFault, SOFT_DEPTH, Terms, script_setup};
 use blk_capture::Record;
 use blk_text::Script;
 use std::alloc::Global;
@@ -31,12 +31,12 @@ pub fn script_of(alloc: Global, records: &[Record], terms: &Terms) -> Result<Scr
     // it may be written, and reads back
     ensures script { IfOk result (λ s. IsScript (scripted s)) }
     // each bio that came in once, in the round of its time
-    ensures bios { IfOk result (λ s. brought_by 0 s.lines.items ≡ bios_of terms.now records.now) }
+    ensures bios { IfOk result (λ s. brought_by 0 s.lines.items ≡ arriving_bios terms.now records.now) }
     // no plug gets more than it holds, and none holds any when a round ends
     ensures plugs { IfOk result (λ s. KeepPlugs (no_bios (length (submitters_of records.now))) s.lines.items) }
     ensures err { IfErr result (λ f. (f ≡ ArrivalsFault.Memory) ⊎ IsFirstFault (script_rules terms.now records.now) f) }
 {
-    let setup = match setup_of(terms) {
+    let setup = match script_setup(terms) {
         Ok(setup) => setup,
         Err(fault) => return Err(fault),
     };

@@ -4,7 +4,7 @@ ghost use Rattle.std.specs.Prelude.{◌≡◌, ◌<◌, IfOk, IfErr};
 ghost use Rattle.faults.specs.Order.{IsFirstFault};
 ghost use Rattle.blk_trace.specs.Setups.{IsSetup};
 ghost use Rattle.blk_arrivals.specs.Names.{fault_name};
-ghost use Rattle.blk_arrivals.specs.Scripts.{usual_limits, rounds_in, setup_of, term_rules};
+ghost use Rattle.blk_arrivals.specs.Scripts.{usual_limits, expiry_rounds, script_setup, term_rules};
 
 use blk_bio::Limits;
 use blk_trace::{Setup, SetupFault};
@@ -81,24 +81,24 @@ fn usual_limits() -> Limits
 }
 
 /// An expiry in rounds of a length.
-fn rounds_in(expire: u64, span: u64) -> u64
+fn expiry_rounds(expire: u64, span: u64) -> u64
     requires { 0 < span }
-    ensures { result ≡ rounds_in expire span }
+    ensures { result ≡ expiry_rounds expire span }
 {
     (expire / span).max(1)
 }
 
 /// The setup of the script.
-pub(crate) fn setup_of(terms: &Terms) -> Result<Setup, ArrivalsFault>
-    ensures ok { IfOk result (λ setup. setup ≡ setup_of terms.now) }
-    ensures kept { IfOk result (λ _. (0 < terms.now.round) × IsSetup (setup_of terms.now)) }
+pub(crate) fn script_setup(terms: &Terms) -> Result<Setup, ArrivalsFault>
+    ensures ok { IfOk result (λ setup. setup ≡ script_setup terms.now) }
+    ensures kept { IfOk result (λ _. (0 < terms.now.round) × IsSetup (script_setup terms.now)) }
     ensures err { IfErr result (IsFirstFault (term_rules terms.now)) }
 {
     if terms.round == 0 {
         return Err(ArrivalsFault::Round);
     }
-    let read = rounds_in(terms.read_expire, terms.round);
-    let write = rounds_in(terms.write_expire, terms.round);
+    let read = expiry_rounds(terms.read_expire, terms.round);
+    let write = expiry_rounds(terms.write_expire, terms.round);
     match Setup::new(terms.depth, 1, read, write, usual_limits()) {
         Ok(setup) => Ok(setup),
         Err(SetupFault::Depth) => Err(ArrivalsFault::Depth),

@@ -1,6 +1,6 @@
 //! The text of a script.
 
-ghost use Rattle.std.specs.Prelude.{◌≡◌, ◌≤◌, ◌++◌, ◌∷◌, [], IfOk, OnOk, map};
+ghost use Rattle.std.specs.Prelude.{◌≡◌, ◌++◌, IfOk, OnOk, map};
 ghost use Rattle.csv.specs.Reading.{default_config, records, strip_bom};
 ghost use Rattle.drafts.specs.Drafts.{drafted};
 ghost use Rattle.blk_lists.specs.Texts.{rows_text};
@@ -27,7 +27,7 @@ fn push_lines(draft: &mut Block, lines: &[Line]) -> Result<(), AllocError>
 }
 
 /// The text of a script, in the latest version: a title, a setup, and a record for each step. [`blk_text::read_script`] reads the script
-/// back from it. Fails for want of memory alone.
+/// back from it. It fails only when out of memory.
 pub fn script_text(alloc: Global, script: &Script) -> Result<Vec<u8>, AllocError>
     requires { IsScript (scripted script.now) }
     ensures text { IfOk result (λ v. v.items ≡ rows_text (script_rows latest (scripted script.now))) }

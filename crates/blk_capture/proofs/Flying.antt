@@ -7,7 +7,7 @@ use Rattle.std.proofs.lemmas.List.{get_or_default}
 use Rattle.std.proofs.lemmas.List.Sums.{sum_by-cons}
 use Rattle.std.proofs.lemmas.List.Sorted.{sum_by-IsPermutation}
 use Rattle.blk_capture.specs.Summaries.{out_by, known_by, back_by, in_flight_at}
-use Rattle.blk_capture.specs.declared.requests.Request.{Request}
+use Rattle.blk_capture.specs.declared.requests.CapturedRequest.{CapturedRequest}
 
 abbrev one_if : Bool → ℕ
 one_if b = cond b 1 0
@@ -26,7 +26,7 @@ back_is_out : (time dispatched : ℕ) (completed : Option ℕ) → IfSome comple
 back_is_out time dispatched None after h = absurd (cc)
 back_is_out time dispatched (Some t) after h = let low : t ≤ time = leb-true t time h in le-leb dispatched time (omega (arith, low, after))
 
-pub flying : (requests : List Request) (time : ℕ) → All (λ q. IfSome q.completed (λ t. q.dispatched ≤ t)) requests → in_flight_at requests time + count_by (back_by time) requests ≡ count_by (out_by time) requests
+pub flying : (requests : List CapturedRequest) (time : ℕ) → All (λ q. IfSome q.completed (λ t. q.dispatched ≤ t)) requests → in_flight_at requests time + count_by (back_by time) requests ≡ count_by (out_by time) requests
 flying [] time after = refl
 flying (q ∷ qs) time after =
     let rest : in_flight_at qs time + count_by (back_by time) qs ≡ count_by (out_by time) qs = flying qs time (λ k d h. after (suc k) d (omega (arith, h))) in
@@ -38,12 +38,12 @@ known_first : (time : ℕ) (o : Option ℕ) (xs : List ℕ) → count_by (λ x. 
 known_first time None xs = omega arith
 known_first time (Some t) xs = count_cons (λ x. nat_le x time) t xs
 
-known_times : (requests : List Request) (time : ℕ) → count_by (λ x. nat_le x time) (filter_map (λ (q : Request). q.completed) requests) ≡ count_by (back_by time) requests
+known_times : (requests : List CapturedRequest) (time : ℕ) → count_by (λ x. nat_le x time) (filter_map (λ (q : CapturedRequest). q.completed) requests) ≡ count_by (back_by time) requests
 known_times [] time = refl
-known_times (q ∷ qs) time = known_first time q.completed (filter_map (λ (r : Request). r.completed) qs) ∙ ap (λ n. one_if (back_by time q) + n) (known_times qs time) ∙ sym (count_cons (back_by time) q qs)
+known_times (q ∷ qs) time = known_first time q.completed (filter_map (λ (r : CapturedRequest). r.completed) qs) ∙ ap (λ n. one_if (back_by time q) + n) (known_times qs time) ∙ sym (count_cons (back_by time) q qs)
 
-pub sorted_times : (requests : List Request) (sorted : List ℕ) → IsPermutation (filter_map (λ (q : Request). q.completed) requests) sorted → (time : ℕ) → count_by (λ x. nat_le x time) sorted ≡ count_by (back_by time) requests
-sorted_times requests sorted same time = sum_by-IsPermutation (λ x. one_if (nat_le x time)) (filter_map (λ (q : Request). q.completed) requests) sorted same ∙ known_times requests time
+pub sorted_times : (requests : List CapturedRequest) (sorted : List ℕ) → IsPermutation (filter_map (λ (q : CapturedRequest). q.completed) requests) sorted → (time : ℕ) → count_by (λ x. nat_le x time) sorted ≡ count_by (back_by time) requests
+sorted_times requests sorted same time = sum_by-IsPermutation (λ x. one_if (nat_le x time)) (filter_map (λ (q : CapturedRequest). q.completed) requests) sorted same ∙ known_times requests time
 
 few_more : {X : Type 0} (o : Option X) (xs : List X) → length (cons_option o xs) ≤ 1 + length xs
 few_more None xs = omega arith
@@ -55,17 +55,17 @@ few_known h [] = omega arith
 few_known h (x ∷ xs) = omega (arith, few_known h xs, few_more (h x) (filter_map h xs))
 
 -- one more dispatch, at which no more were
-pub bound_more : (requests : List Request) (n most new count : ℕ) (e : Request)
-    → ((k : ℕ) (d : Request) → k < n → k < length requests → in_flight_at requests (get_or requests k d).dispatched ≤ most) → most ≤ new → n < length requests → count ≡ in_flight_at requests (get_or requests n e).dispatched → count ≤ new
-    → (k : ℕ) (d : Request) → k < n + 1 → k < length requests → in_flight_at requests (get_or requests k d).dispatched ≤ new
+pub bound_more : (requests : List CapturedRequest) (n most new count : ℕ) (e : CapturedRequest)
+    → ((k : ℕ) (d : CapturedRequest) → k < n → k < length requests → in_flight_at requests (get_or requests k d).dispatched ≤ most) → most ≤ new → n < length requests → count ≡ in_flight_at requests (get_or requests n e).dispatched → count ≤ new
+    → (k : ℕ) (d : CapturedRequest) → k < n + 1 → k < length requests → in_flight_at requests (get_or requests k d).dispatched ≤ new
 bound_more requests n most new count e old rise here at last k d low in_list =
     elim (cases_lt k n) [
       | inl before ↦ let was : in_flight_at requests (get_or requests k d).dispatched ≤ most = old k d before in_list in omega (arith, was, rise)
       | inr past ↦
           let is : n ≡ k = omega (arith, low, past) in
           let same : get_or requests n e ≡ get_or requests k d = get_or_default requests n e d here ∙ ap (λ m. get_or requests m d) is in
-          subst (λ (q : Request). in_flight_at requests q.dispatched ≤ new) same (omega (arith, at, last))
+          subst (λ (q : CapturedRequest). in_flight_at requests q.dispatched ≤ new) same (omega (arith, at, last))
     ]
 
-pub at_last : (requests : List Request) (n count : ℕ) (e : Request) → n < length requests → count ≡ in_flight_at requests (get_or requests n e).dispatched → (d : Request) → in_flight_at requests (get_or requests n d).dispatched ≡ count
-at_last requests n count e here at d = ap (λ (q : Request). in_flight_at requests q.dispatched) (get_or_default requests n d e here) ∙ sym at
+pub at_last : (requests : List CapturedRequest) (n count : ℕ) (e : CapturedRequest) → n < length requests → count ≡ in_flight_at requests (get_or requests n e).dispatched → (d : CapturedRequest) → in_flight_at requests (get_or requests n d).dispatched ≡ count
+at_last requests n count e here at d = ap (λ (q : CapturedRequest). in_flight_at requests q.dispatched) (get_or_default requests n d e here) ∙ sym at

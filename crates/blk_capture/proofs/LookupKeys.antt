@@ -6,7 +6,7 @@ use Rattle.std.specs.Cmp.{IsTotalOrder, nat_cmp_total, bool_cmp_total, tied_itse
 use Rattle.std.specs.declared.cmp.Ordering.{Ordering}
 use Rattle.std.specs.declared.cmp.Ordering.TheVariants.{Less, Equal, Greater}
 use Rattle.std.proofs.lemmas.Cmp.{then_total, on_total}
-use Rattle.blk_capture.specs.Inside.LookupKeys.{lookup_cmp, aged_cmp, AgedKey, IsOldest, IsNewest, IsEmptyAt}
+use Rattle.blk_capture.specs.Inside.LookupKeys.{lookup_cmp, aged_cmp, AgedKey, IsOldestUnder, IsNewestUnder, IsEmptyAt}
 use Rattle.blk_capture.specs.declared.lookup.LookupKey.{LookupKey}
 
 keys_total : IsTotalOrder lookup_cmp
@@ -114,7 +114,7 @@ IsFirst found s x = (q : AgedKey) → is_gt (aged_cmp (s, 0) q) ≡ false → Is
 abbrev pub IsLast : Found → LookupKey → AgedKey → Type 0
 IsLast found s x = (q : AgedKey) → is_gt (aged_cmp q (s, 2 ^ 64 - 1)) ≡ false → IsSome (found q) → is_lt (aged_cmp x q) ≡ false
 
-oldest_is : (found : Found) (s : LookupKey) (age place : ℕ) → found (s, age) ≡ Some place → IsFirst found s (s, age) → IsOldest found s place
+oldest_is : (found : Found) (s : LookupKey) (age place : ℕ) → found (s, age) ≡ Some place → IsFirst found s (s, age) → IsOldestUnder found s place
 oldest_is found s age place there least = record {
   age = age;
   there = there;
@@ -127,7 +127,7 @@ oldest_is found s age place there least = record {
 }
 
 -- the first aged key from the beginning of a key on is the oldest one there
-pub oldest_at : (found : Found) (s t : LookupKey) (age place : ℕ) → is_eq (lookup_cmp t s) ≡ true → found (t, age) ≡ Some place → IsFirst found s (t, age) → IsOldest found s place
+pub oldest_at : (found : Found) (s t : LookupKey) (age place : ℕ) → is_eq (lookup_cmp t s) ≡ true → found (t, age) ≡ Some place → IsFirst found s (t, age) → IsOldestUnder found s place
 oldest_at found s t age place same there least =
     let e : t ≡ s = one_key t s same in
     oldest_is found s age place (subst (λ (u : LookupKey). found (u, age) ≡ Some place) e there) (subst (λ (u : LookupKey). IsFirst found s (u, age)) e least)
@@ -142,7 +142,7 @@ none_oldest found s t age other high least k in_range =
     let bad : true ≡ false = sym (alike s t up down) ∙ other in
     cc)
 
-newest_is : (found : Found) (s : LookupKey) (age place : ℕ) → found (s, age) ≡ Some place → IsLast found s (s, age) → IsNewest found s place
+newest_is : (found : Found) (s : LookupKey) (age place : ℕ) → found (s, age) ≡ Some place → IsLast found s (s, age) → IsNewestUnder found s place
 newest_is found s age place there greatest = record {
   age = age;
   there = there;
@@ -155,7 +155,7 @@ newest_is found s age place there greatest = record {
 }
 
 -- the last aged key up to the end of a key is the newest one there
-pub newest_at : (found : Found) (s t : LookupKey) (age place : ℕ) → is_eq (lookup_cmp t s) ≡ true → found (t, age) ≡ Some place → IsLast found s (t, age) → IsNewest found s place
+pub newest_at : (found : Found) (s t : LookupKey) (age place : ℕ) → is_eq (lookup_cmp t s) ≡ true → found (t, age) ≡ Some place → IsLast found s (t, age) → IsNewestUnder found s place
 newest_at found s t age place same there greatest =
     let e : t ≡ s = one_key t s same in
     newest_is found s age place (subst (λ (u : LookupKey). found (u, age) ≡ Some place) e there) (subst (λ (u : LookupKey). IsLast found s (u, age)) e greatest)

@@ -9,8 +9,8 @@ use Rattle.edd_commands.specs.Limits.{most_commands}
 use Rattle.edd_commands.specs.Schedule.{IsLegal, RoundsInRange, places_at}
 use Rattle.edd_commands.specs.declared.Command.{Command}
 use Rattle.edd_commands.proofs.InForce.{depth_fixed}
-use Rattle.blk_capture.specs.Counting.{AreServed, AreSolvable, IsCounted, AreLateByClock, dispatched_before, dispatched_by, command_at}
-use Rattle.blk_capture.specs.declared.counting.Served.{Served}
+use Rattle.blk_capture.specs.Counting.{AreServed, AreSolvable, AreInRounds, AreLateByClock, dispatched_before, dispatched_by, command_at}
+use Rattle.blk_capture.specs.declared.counting.TimedRequest.{TimedRequest}
 
 -- a count over one element more
 count_yes : {X : Type 0} (p : X → Bool) (x : X) (xs : List X) → p x ≡ true → count_by p (x ∷ xs) ≡ 1 + count_by p xs
@@ -74,22 +74,22 @@ one_place (y ∷ ys) m are x =
     ]
 
 -- the release of a request at place k is no later than k + 1
-pub released : (requests : List Served) (k : ℕ) (d : Served) → AreServed requests → k < length requests → dispatched_before requests (get_or requests k d).entry ≤ k
+pub released : (requests : List TimedRequest) (k : ℕ) (d : TimedRequest) → AreServed requests → k < length requests → dispatched_before requests (get_or requests k d).entry ≤ k
 unfolding dispatched_before
 released requests k d served here =
     count_at_most (λ r. nat_lt r.dispatch (get_or requests k d).entry) requests k
     (λ j e low high.
     let came : (get_or requests k d).entry ≤ (get_or requests k d).dispatch = served.came_in k d here in
     let up : (get_or requests k e).dispatch ≤ (get_or requests j e).dispatch = served.rising k j e low high in
-    let same : (get_or requests k e).dispatch ≡ (get_or requests k d).dispatch = ap (λ (r : Served). r.dispatch) (get_or_default requests k e d here) in
+    let same : (get_or requests k e).dispatch ≡ (get_or requests k d).dispatch = ap (λ (r : TimedRequest). r.dispatch) (get_or_default requests k e d here) in
     le-ltb (get_or requests j e).dispatch (get_or requests k d).entry (omega (arith, came, up, same)))
 
 -- due before its round just where it went out after its deadline
-pub late_at : (requests : List Served) (k : ℕ) (d : Served) → AreServed requests → k < length requests → (dispatched_by requests (get_or requests k d).deadline < k + 1) ↔ ((get_or requests k d).deadline < (get_or requests k d).dispatch)
+pub late_at : (requests : List TimedRequest) (k : ℕ) (d : TimedRequest) → AreServed requests → k < length requests → (dispatched_by requests (get_or requests k d).deadline < k + 1) ↔ ((get_or requests k d).deadline < (get_or requests k d).dispatch)
 unfolding dispatched_by
 late_at requests k d served here =
-    let by : Served → Bool = λ r. nat_le r.dispatch (get_or requests k d).deadline in
-    let same : (e : Served) → (get_or requests k e).dispatch ≡ (get_or requests k d).dispatch = λ e. ap (λ (r : Served). r.dispatch) (get_or_default requests k e d here) in (
+    let by : TimedRequest → Bool = λ r. nat_le r.dispatch (get_or requests k d).deadline in
+    let same : (e : TimedRequest) → (get_or requests k e).dispatch ≡ (get_or requests k d).dispatch = λ e. ap (λ (r : TimedRequest). r.dispatch) (get_or_default requests k e d here) in (
       λ late.
           elim (cases_lt (get_or requests k d).deadline (get_or requests k d).dispatch) [
             | inl after ↦ after
@@ -110,21 +110,21 @@ late_at requests k d served here =
           omega (arith, few),
     )
 
-pub all_late_by_clock : (requests : List Served) (commands : List Command) (rounds : List ℕ) → AreServed requests → IsCounted requests commands rounds → AreLateByClock requests commands rounds
+pub all_late_by_clock : (requests : List TimedRequest) (commands : List Command) (rounds : List ℕ) → AreServed requests → AreInRounds requests commands rounds → AreLateByClock requests commands rounds
 all_late_by_clock requests commands rounds served counted k d e here =
     let here_late = late_at requests k d served here in
     let due : (get_or commands k e).due ≡ dispatched_by requests (get_or requests k d).deadline = ap (λ (c : Command). c.due) (counted.commands_are k d e here) in
     let round : get_or rounds k 0 ≡ k + 1 = counted.rounds_are k here in
     (λ late. here_late.0 (omega (arith, late, due, round)), λ after. let late = here_late.1 after in omega (arith, late, due, round))
 
-pub all_legal : (requests : List Served) (commands : List Command) (rounds : List ℕ) → AreServed requests → IsCounted requests commands rounds → IsLegal commands rounds (fixed 1)
+pub all_legal : (requests : List TimedRequest) (commands : List Command) (rounds : List ℕ) → AreServed requests → AreInRounds requests commands rounds → IsLegal commands rounds (fixed 1)
 unfolding places_at
 all_legal requests commands rounds served counted = record {
   one_each = counted.a_round ∙ sym counted.a_command;
   released =
       λ k e h.
       let here : k < length requests = omega (arith, h, counted.a_command) in
-      let d : Served = record { entry = 0; deadline = 0; dispatch = 0 } in
+      let d : TimedRequest = record { entry = 0; deadline = 0; dispatch = 0 } in
       let release : (get_or commands k e).release ≡ dispatched_before requests (get_or requests k d).entry + 1 = ap (λ (c : Command). c.release) (counted.commands_are k d e here) in
       let round : get_or rounds k 0 ≡ k + 1 = counted.rounds_are k here in
       let low : dispatched_before requests (get_or requests k d).entry ≤ k = released requests k d served here in
@@ -136,23 +136,23 @@ all_legal requests commands rounds served counted = record {
       omega (arith, one, carries);
 }
 
-pub before_few : (requests : List Served) (time : ℕ) → dispatched_before requests time ≤ length requests
+pub before_few : (requests : List TimedRequest) (time : ℕ) → dispatched_before requests time ≤ length requests
 unfolding dispatched_before
 before_few requests time = count_by-le-length (λ r. nat_lt r.dispatch time) requests
 
-pub by_few : (requests : List Served) (time : ℕ) → dispatched_by requests time ≤ length requests
+pub by_few : (requests : List TimedRequest) (time : ℕ) → dispatched_by requests time ≤ length requests
 unfolding dispatched_by
 by_few requests time = count_by-le-length (λ r. nat_le r.dispatch time) requests
 
-pub all_solvable : (requests : List Served) (commands : List Command) (rounds : List ℕ) → length requests ≤ most_commands → IsCounted requests commands rounds → AreSolvable commands
+pub all_solvable : (requests : List TimedRequest) (commands : List Command) (rounds : List ℕ) → length requests ≤ most_commands → AreInRounds requests commands rounds → AreSolvable commands
 all_solvable requests commands rounds few counted = λ k e h.
     let here : k < length requests = omega (arith, h, counted.a_command) in
-    let d : Served = record { entry = 0; deadline = 0; dispatch = 0 } in
+    let d : TimedRequest = record { entry = 0; deadline = 0; dispatch = 0 } in
     let release : (get_or commands k e).release ≡ dispatched_before requests (get_or requests k d).entry + 1 = ap (λ (c : Command). c.release) (counted.commands_are k d e here) in
     let due : (get_or commands k e).due ≡ dispatched_by requests (get_or requests k d).deadline = ap (λ (c : Command). c.due) (counted.commands_are k d e here) in
     (omega (arith, release, few, before_few requests (get_or requests k d).entry), omega (arith, due, few, by_few requests (get_or requests k d).deadline))
 
-pub all_in_range : (requests : List Served) (commands : List Command) (rounds : List ℕ) → length requests ≤ most_commands → IsCounted requests commands rounds → RoundsInRange rounds
+pub all_in_range : (requests : List TimedRequest) (commands : List Command) (rounds : List ℕ) → length requests ≤ most_commands → AreInRounds requests commands rounds → RoundsInRange rounds
 all_in_range requests commands rounds few counted = λ k e h.
     let here : k < length requests = omega (arith, h, counted.a_round) in
     let round : get_or rounds k 0 ≡ k + 1 = counted.rounds_are k here in
@@ -160,21 +160,21 @@ all_in_range requests commands rounds few counted = λ k e h.
     omega (arith, round, same, few)
 
 -- a loop that has come to place i
-pub record IsCountedTo (requests : List Served) (commands : List Command) (rounds : List ℕ) (i : ℕ) : Type 0 where
+pub record IsCountedTo (requests : List TimedRequest) (commands : List Command) (rounds : List ℕ) (i : ℕ) : Type 0 where
   pub a_command : length commands ≡ i
   pub a_round : length rounds ≡ i
-  pub commands_are : (k : ℕ) (d : Served) (e : Command) → k < i → slice_index_or commands k e ≡ command_at requests k (slice_index_or requests k d)
+  pub commands_are : (k : ℕ) (d : TimedRequest) (e : Command) → k < i → slice_index_or commands k e ≡ command_at requests k (slice_index_or requests k d)
   pub rounds_are : (k : ℕ) → k < i → slice_index rounds k ≡ k + 1
 
 -- the first n are served, and `last` is when the last of them went out
-pub record IsServedTo (requests : List Served) (n last : ℕ) : Type 0 where
-  pub rising : (i j : ℕ) (d : Served) → i ≤ j → j < n → (get_or requests i d).dispatch ≤ (get_or requests j d).dispatch
-  pub came_in : (k : ℕ) (d : Served) → k < n → (get_or requests k d).entry ≤ (get_or requests k d).dispatch
-  pub above : (k : ℕ) (d : Served) → k < n → (get_or requests k d).dispatch ≤ last
+pub record IsServedTo (requests : List TimedRequest) (n last : ℕ) : Type 0 where
+  pub rising : (i j : ℕ) (d : TimedRequest) → i ≤ j → j < n → (get_or requests i d).dispatch ≤ (get_or requests j d).dispatch
+  pub came_in : (k : ℕ) (d : TimedRequest) → k < n → (get_or requests k d).entry ≤ (get_or requests k d).dispatch
+  pub above : (k : ℕ) (d : TimedRequest) → k < n → (get_or requests k d).dispatch ≤ last
   pub none : n ≡ 0 → last ≡ 0
-  pub some : (d : Served) → 0 < n → last ≡ (get_or requests (n - 1) d).dispatch
+  pub some : (d : TimedRequest) → 0 < n → last ≡ (get_or requests (n - 1) d).dispatch
 
-pub counted_all : (requests : List Served) (commands : List Command) (rounds : List ℕ) (i : ℕ) → IsCountedTo requests commands rounds i → i ≡ length requests → IsCounted requests commands rounds
+pub counted_all : (requests : List TimedRequest) (commands : List Command) (rounds : List ℕ) (i : ℕ) → IsCountedTo requests commands rounds i → i ≡ length requests → AreInRounds requests commands rounds
 counted_all requests commands rounds i so_far all = record {
   a_command = so_far.a_command ∙ all;
   a_round = so_far.a_round ∙ all;

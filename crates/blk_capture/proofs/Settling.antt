@@ -7,20 +7,20 @@ use Rattle.edd_commands.specs.declared.Command.{Command}
 use Rattle.blk_bio.specs.declared.bio.Dir.TheVariants.{Read}
 use Rattle.blk_capture.specs.Counting.{AreServed, AreLateByClock}
 use Rattle.blk_capture.specs.Inside.Members.{AreOpened}
-use Rattle.blk_capture.specs.Requests.{served_of, AreTimed, HaveBios, AreLate, IsDue}
+use Rattle.blk_capture.specs.Requests.{times_of, AreTimed, HaveBios, AgreeOnLateness, IsDue}
 use Rattle.blk_capture.specs.Inside.Taken.{ArePlaced, ArePlacedBios, IsTalliedFrom}
-use Rattle.blk_capture.specs.declared.counting.Served.{Served}
-use Rattle.blk_capture.specs.declared.members.Queued.{Queued}
-use Rattle.blk_capture.specs.declared.requests.Bio.{Bio}
+use Rattle.blk_capture.specs.declared.counting.TimedRequest.{TimedRequest}
+use Rattle.blk_capture.specs.declared.members.QueuedBio.{QueuedBio}
+use Rattle.blk_capture.specs.declared.requests.CapturedBio.{CapturedBio}
 use Rattle.blk_capture.specs.declared.requests.Life.{Life}
 use Rattle.blk_capture.specs.declared.requests.Options.{Options}
-use Rattle.blk_capture.specs.declared.requests.Request.{Request}
+use Rattle.blk_capture.specs.declared.requests.CapturedRequest.{CapturedRequest}
 use Rattle.blk_capture.proofs.Opened.{opener_there}
 
-abbrev no_bio : Queued
+abbrev no_bio : QueuedBio
 no_bio = record { range = record { dir = Read; first = 0; end = 1; some = lit< tt }; pid = 0; time = 0; age = 0; request = None }
 
-abbrev no_request : Request
+abbrev no_request : CapturedRequest
 no_request = record { dir = Read; first = 0; sectors = 0; bios = 0; bio = 0; pid = 0; queued = 0; got = 0; inserted = None; entry = 0; earlier = None; deadline = 0; dispatched = 0; completed = None }
 
 none_is_some : (r : ℕ) → None ≡ Some r → ⊥
@@ -35,7 +35,7 @@ there_at places r k is =
     ]
 
 -- the bio that a request was opened for went out with it
-pub have_bios : (lives : List Life) (openers : List ℕ) (places : List (Option ℕ)) (old new : List Request) (queued : List Queued) (bios : List Bio)
+pub have_bios : (lives : List Life) (openers : List ℕ) (places : List (Option ℕ)) (old new : List CapturedRequest) (queued : List QueuedBio) (bios : List CapturedBio)
     → ArePlaced lives openers places old → IsTalliedFrom old new bios → ArePlacedBios lives places queued (length queued) bios → AreOpened queued openers
     → HaveBios new bios
 have_bios lives openers places old new queued bios placed tallied are opened k d e here =
@@ -43,61 +43,61 @@ have_bios lives openers places old new queued bios placed tallied are opened k d
     let at = placed k in_old in
     let r : ℕ = at.0 in
     let b : ℕ = get_or openers r 0 in
-    let is : (get_or new k d).bio ≡ b = ap (λ (q : Request). q.bio) (tallied.rest k d) ∙ at.1.opener d in
+    let is : (get_or new k d).bio ≡ b = ap (λ (q : CapturedRequest). q.bio) (tallied.rest k d) ∙ at.1.opener d in
     let there : b < length queued = opener_there queued openers no_bio opened refl r at.1.opened in
     let went : (get_or queued b no_bio).request ≡ Some r = opened r no_bio at.1.opened in
     let out : (get_or bios b e).request ≡ get_or places r None = are.place b r no_bio e there went at.1.own (there_at places r k at.1.place) in
     ap (λ n. (get_or bios n e).request) is ∙ out ∙ at.1.place
 
-pub tallied_timed : (old new : List Request) (bios : List Bio) → AreTimed old → IsTalliedFrom old new bios → AreTimed new
+pub tallied_timed : (old new : List CapturedRequest) (bios : List CapturedBio) → AreTimed old → IsTalliedFrom old new bios → AreTimed new
 tallied_timed old new bios timed tallied = record {
   rising =
       λ i j d low h.
       let up : (get_or old i d).dispatched ≤ (get_or old j d).dispatched = timed.rising i j d low (omega (arith, h, tallied.each)) in
-      omega (arith, up, ap (λ (q : Request). q.dispatched) (tallied.rest i d), ap (λ (q : Request). q.dispatched) (tallied.rest j d));
+      omega (arith, up, ap (λ (q : CapturedRequest). q.dispatched) (tallied.rest i d), ap (λ (q : CapturedRequest). q.dispatched) (tallied.rest j d));
   came_in =
       λ k d h.
       let came : (get_or old k d).entry ≤ (get_or old k d).dispatched = timed.came_in k d (omega (arith, h, tallied.each)) in
-      omega (arith, came, ap (λ (q : Request). q.entry) (tallied.rest k d), ap (λ (q : Request). q.dispatched) (tallied.rest k d));
+      omega (arith, came, ap (λ (q : CapturedRequest). q.entry) (tallied.rest k d), ap (λ (q : CapturedRequest). q.dispatched) (tallied.rest k d));
   came_back =
       λ k d h.
       let back : IfSome (get_or old k d).completed (λ t. (get_or old k d).dispatched ≤ t) = timed.came_back k d (omega (arith, h, tallied.each)) in
-      subst (λ (q : Request). IfSome q.completed (λ t. q.dispatched ≤ t)) (sym (tallied.rest k d)) back;
+      subst (λ (q : CapturedRequest). IfSome q.completed (λ t. q.dispatched ≤ t)) (sym (tallied.rest k d)) back;
 }
 
-pub map_served : (requests : List Request) → AreTimed requests → AreServed (map served_of requests)
+pub map_served : (requests : List CapturedRequest) → AreTimed requests → AreServed (map times_of requests)
 map_served requests timed =
-    let n : length (map served_of requests) ≡ length requests = length-map requests served_of in
+    let n : length (map times_of requests) ≡ length requests = length-map requests times_of in
     record {
       rising =
           λ i j d low h.
           let some : j < length requests = omega (arith, h, n) in
-          let q : Request = no_request in
-          let at_i = ap (λ (s : Served). s.dispatch) (get_or-map served_of requests i q d (omega (arith, low, some))) in
-          let at_j = ap (λ (s : Served). s.dispatch) (get_or-map served_of requests j q d some) in
+          let q : CapturedRequest = no_request in
+          let at_i = ap (λ (s : TimedRequest). s.dispatch) (get_or-map times_of requests i q d (omega (arith, low, some))) in
+          let at_j = ap (λ (s : TimedRequest). s.dispatch) (get_or-map times_of requests j q d some) in
           let up : (get_or requests i q).dispatched ≤ (get_or requests j q).dispatched = timed.rising i j q low some in
           omega (arith, at_i, at_j, up);
       came_in =
           λ k d h.
           let some : k < length requests = omega (arith, h, n) in
-          let q : Request = no_request in
-          let entry = ap (λ (s : Served). s.entry) (get_or-map served_of requests k q d some) in
-          let dispatch = ap (λ (s : Served). s.dispatch) (get_or-map served_of requests k q d some) in
+          let q : CapturedRequest = no_request in
+          let entry = ap (λ (s : TimedRequest). s.entry) (get_or-map times_of requests k q d some) in
+          let dispatch = ap (λ (s : TimedRequest). s.dispatch) (get_or-map times_of requests k q d some) in
           let came : (get_or requests k q).entry ≤ (get_or requests k q).dispatched = timed.came_in k q some in
           omega (arith, entry, dispatch, came);
     }
 
-pub late_of_served : (requests : List Request) (commands : List Command) (rounds : List ℕ) → AreLateByClock (map served_of requests) commands rounds → AreLate requests commands rounds
+pub late_of_served : (requests : List CapturedRequest) (commands : List Command) (rounds : List ℕ) → AreLateByClock (map times_of requests) commands rounds → AgreeOnLateness requests commands rounds
 late_of_served requests commands rounds late k d e here =
-    let n : length (map served_of requests) ≡ length requests = length-map requests served_of in
-    let at = late k (served_of d) e (omega (arith, here, n)) in
-    let same = get_or-map served_of requests k d (served_of d) here in
-    let deadline = ap (λ (s : Served). s.deadline) same in
-    let dispatch = ap (λ (s : Served). s.dispatch) same in
+    let n : length (map times_of requests) ≡ length requests = length-map requests times_of in
+    let at = late k (times_of d) e (omega (arith, here, n)) in
+    let same = get_or-map times_of requests k d (times_of d) here in
+    let deadline = ap (λ (s : TimedRequest). s.deadline) same in
+    let dispatch = ap (λ (s : TimedRequest). s.dispatch) same in
     (λ x. let y = at.0 x in omega (arith, y, deadline, dispatch), λ x. at.1 (omega (arith, x, deadline, dispatch)))
 
 -- the same of the lists as the code names them
-pub have_bios_of : (lives lives2 : List Life) (openers : List ℕ) (places places2 : List (Option ℕ)) (old new : List Request) (queued queued2 : List Queued) (bios bios2 : List Bio)
+pub have_bios_of : (lives lives2 : List Life) (openers : List ℕ) (places places2 : List (Option ℕ)) (old new : List CapturedRequest) (queued queued2 : List QueuedBio) (bios bios2 : List CapturedBio)
     → lives2 ≡ lives → places2 ≡ places → queued2 ≡ queued → bios2 ≡ bios
     → ArePlaced lives openers places old → IsTalliedFrom old new bios2 → ArePlacedBios lives2 places2 queued2 (length queued2) bios → AreOpened queued openers
     → HaveBios new bios
@@ -108,7 +108,7 @@ have_bios_of lives lives2 openers places places2 old new queued queued2 bios bio
     (subst (λ qs. ArePlacedBios lives2 places2 qs (length qs) bios) same_queued are)))
     opened
 
-pub tallied_due : (options : Options) (old new : List Request) (bios : List Bio) → All (IsDue options) old → IsTalliedFrom old new bios → All (IsDue options) new
+pub tallied_due : (options : Options) (old new : List CapturedRequest) (bios : List CapturedBio) → All (IsDue options) old → IsTalliedFrom old new bios → All (IsDue options) new
 tallied_due options old new bios due tallied k d h =
     let was : IsDue options (get_or old k d) = due k d (omega (arith, h, tallied.each)) in
     subst (IsDue options) (sym (tallied.rest k d)) record { entered = was.entered; due = was.due }

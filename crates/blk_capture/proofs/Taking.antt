@@ -12,10 +12,10 @@ use Rattle.blk_capture.specs.Inside.Taken.{IsRequestOf, ArePlaced, PutsAt, AreWi
 use Rattle.blk_capture.specs.declared.clock.Dispatch.{Dispatch}
 use Rattle.blk_capture.specs.declared.requests.Life.{Life}
 use Rattle.blk_capture.specs.declared.requests.Options.{Options}
-use Rattle.blk_capture.specs.declared.requests.Request.{Request}
+use Rattle.blk_capture.specs.declared.requests.CapturedRequest.{CapturedRequest}
 
 -- what is taken of the first n dispatches
-pub record IsTakenTo (options : Options) (lives : List Life) (openers : List ℕ) (dispatches : List Dispatch) (places : List (Option ℕ)) (requests : List Request) (n : ℕ) : Type 0 where
+pub record IsTakenTo (options : Options) (lives : List Life) (openers : List ℕ) (dispatches : List Dispatch) (places : List (Option ℕ)) (requests : List CapturedRequest) (n : ℕ) : Type 0 where
   pub placed : ArePlaced lives openers places requests
   pub rising : IsNonDecreasingBy (λ q. q.dispatched) requests
   pub came_in : All (λ q. q.entry ≤ q.dispatched) requests
@@ -25,7 +25,7 @@ pub record IsTakenTo (options : Options) (lives : List Life) (openers : List ℕ
   pub each : length places ≡ length lives
   pub many : count_by is_some places ≡ length requests
   pub within : AreWithin (length requests) places
-  pub below : (k j : ℕ) (d : Request) (e : Dispatch) → k < length requests → n ≤ j → j < length dispatches → (get_or requests k d).dispatched ≤ (get_or dispatches j e).time
+  pub below : (k j : ℕ) (d : CapturedRequest) (e : Dispatch) → k < length requests → n ≤ j → j < length dispatches → (get_or requests k d).dispatched ≤ (get_or dispatches j e).time
 
 abbrev one_if : Option ℕ → ℕ
 one_if p = cond (is_some p) 1 0
@@ -34,7 +34,7 @@ no_place : (n : ℕ) → count_by is_some (replicate {A = Option ℕ} n None) �
 no_place zero = refl
 no_place (suc n) = sum_by-cons one_if None (replicate n None) ∙ omega (arith, no_place n)
 
-pub taken_none : (options : Options) (lives : List Life) (openers : List ℕ) (dispatches : List Dispatch) (places : List (Option ℕ)) (requests : List Request) → requests ≡ [] → places ≡ replicate (length lives) None → IsTakenTo options lives openers dispatches places requests 0
+pub taken_none : (options : Options) (lives : List Life) (openers : List ℕ) (dispatches : List Dispatch) (places : List (Option ℕ)) (requests : List CapturedRequest) → requests ≡ [] → places ≡ replicate (length lives) None → IsTakenTo options lives openers dispatches places requests 0
 taken_none options lives openers dispatches places requests none blank =
     let empty : length requests ≡ 0 = ap length none in
     record {
@@ -50,7 +50,7 @@ taken_none options lives openers dispatches places requests none blank =
       below = λ k j d e h. absurd (omega (arith, h, empty));
     }
 
-pub taken_same : (options : Options) (lives : List Life) (openers : List ℕ) (dispatches : List Dispatch) (places : List (Option ℕ)) (requests : List Request) (n : ℕ) → IsTakenTo options lives openers dispatches places requests n → IsTakenTo options lives openers dispatches places requests (n + 1)
+pub taken_same : (options : Options) (lives : List Life) (openers : List ℕ) (dispatches : List Dispatch) (places : List (Option ℕ)) (requests : List CapturedRequest) (n : ℕ) → IsTakenTo options lives openers dispatches places requests n → IsTakenTo options lives openers dispatches places requests (n + 1)
 taken_same options lives openers dispatches places requests n old = record {
   placed = old.placed;
   rising = old.rising;
@@ -84,7 +84,7 @@ within_more n places r old =
 some_is_none : (k : ℕ) → Some k ≡ None → ⊥
 some_is_none k e = cc
 
-placed_more : (lives : List Life) (openers : List ℕ) (places : List (Option ℕ)) (requests : List Request) (x : Dispatch) (q : Request)
+placed_more : (lives : List Life) (openers : List ℕ) (places : List (Option ℕ)) (requests : List CapturedRequest) (x : Dispatch) (q : CapturedRequest)
     → ArePlaced lives openers places requests → IsRequestOf lives openers x q → x.request < length places → get_or places x.request None ≡ None
     → ArePlaced lives openers (set places x.request (Some (length requests))) (requests ++ q ∷ [])
 placed_more lives openers places requests x q placed of there free k h =
@@ -97,7 +97,7 @@ placed_more lives openers places requests x q placed of there free k h =
             record {
               own = old.1.own;
               opened = old.1.opened;
-              opener = λ d. ap (λ (p : Request). p.bio) (get_or_append_left requests (q ∷ []) d k before) ∙ old.1.opener d;
+              opener = λ d. ap (λ (p : CapturedRequest). p.bio) (get_or_append_left requests (q ∷ []) d k before) ∙ old.1.opener d;
               place = get_or-set_other places x.request old.0 (Some (length requests)) None other ∙ old.1.place;
             },
           )
@@ -107,27 +107,27 @@ placed_more lives openers places requests x q placed of there free k h =
             record {
               own = of.own;
               opened = of.opened;
-              opener = λ d. ap (λ (p : Request). p.bio) (get_or_push requests q d k last) ∙ of.opener;
+              opener = λ d. ap (λ (p : CapturedRequest). p.bio) (get_or_push requests q d k last) ∙ of.opener;
               place = get_or-set_same places x.request (Some (length requests)) None there ∙ ap (λ j. Some j) last;
             },
           )
     ]
 
 -- one more that is put in
-taken_more : (options : Options) (lives : List Life) (openers : List ℕ) (dispatches : List Dispatch) (places : List (Option ℕ)) (requests : List Request) (n : ℕ) (x : Dispatch) (q : Request)
+taken_more : (options : Options) (lives : List Life) (openers : List ℕ) (dispatches : List Dispatch) (places : List (Option ℕ)) (requests : List CapturedRequest) (n : ℕ) (x : Dispatch) (q : CapturedRequest)
     → IsTakenTo options lives openers dispatches places requests n → IsRequestOf lives openers x q → IsDue options q → x.request < length places → get_or places x.request None ≡ None
     → IsNonDecreasingBy (λ y. y.time) dispatches → n < length dispatches → x.time ≡ (get_or dispatches n x).time
     → IsTakenTo options lives openers dispatches (set places x.request (Some (length requests))) (requests ++ q ∷ []) (n + 1)
 taken_more options lives openers dispatches places requests n x q old of is_due there free up here is = record {
   placed = placed_more lives openers places requests x q old.placed of there free;
   rising =
-      IsNonDecreasingBy-push (λ (p : Request). p.dispatched) requests q old.rising
+      IsNonDecreasingBy-push (λ (p : CapturedRequest). p.dispatched) requests q old.rising
       (λ d some.
       let low : (get_or requests (length requests - 1) d).dispatched ≤ (get_or dispatches n x).time = old.below (length requests - 1) n d x (omega arith) (omega arith) here in
       omega (arith, low, is, of.timed));
-  came_in = all_more (λ (p : Request). p.entry ≤ p.dispatched) requests q old.came_in (omega (arith, of.timed, of.came_in));
-  came_back = all_more (λ (p : Request). IfSome p.completed (λ t. p.dispatched ≤ t)) requests q old.came_back (subst (λ n. IfSome q.completed (λ t. n ≤ t)) (sym of.timed) of.came_back);
-  untallied = all_more (λ (p : Request). p.bios ≡ 0) requests q old.untallied of.none;
+  came_in = all_more (λ (p : CapturedRequest). p.entry ≤ p.dispatched) requests q old.came_in (omega (arith, of.timed, of.came_in));
+  came_back = all_more (λ (p : CapturedRequest). IfSome p.completed (λ t. p.dispatched ≤ t)) requests q old.came_back (subst (λ n. IfSome q.completed (λ t. n ≤ t)) (sym of.timed) of.came_back);
+  untallied = all_more (λ (p : CapturedRequest). p.bios ≡ 0) requests q old.untallied of.none;
   due = all_more (IsDue options) requests q old.due is_due;
   each = length-set places x.request (Some (length requests)) ∙ old.each;
   many =
@@ -140,18 +140,18 @@ taken_more options lives openers dispatches places requests n x q old of is_due 
       let n_more : length (requests ++ q ∷ []) ≡ length requests + 1 = length_push requests q in
       elim (cases_lt k (length requests)) [
         | inl before ↦
-            let same : (get_or (requests ++ q ∷ []) k d).dispatched ≡ (get_or requests k d).dispatched = ap (λ (p : Request). p.dispatched) (get_or_append_left requests (q ∷ []) d k before) in
+            let same : (get_or (requests ++ q ∷ []) k d).dispatched ≡ (get_or requests k d).dispatched = ap (λ (p : CapturedRequest). p.dispatched) (get_or_append_left requests (q ∷ []) d k before) in
             let under : (get_or requests k d).dispatched ≤ (get_or dispatches j e).time = old.below k j d e before (omega (arith, low)) in_list in
             omega (arith, same, under)
         | inr past ↦
-            let same : (get_or (requests ++ q ∷ []) k d).dispatched ≡ q.dispatched = ap (λ (p : Request). p.dispatched) (get_or_push requests q d k (omega (arith, past, h, n_more))) in
+            let same : (get_or (requests ++ q ∷ []) k d).dispatched ≡ q.dispatched = ap (λ (p : CapturedRequest). p.dispatched) (get_or_push requests q d k (omega (arith, past, h, n_more))) in
             let later : (get_or dispatches n e).time ≤ (get_or dispatches j e).time = up n j e (omega (arith, low)) in_list in
             let at : (get_or dispatches n x).time ≡ (get_or dispatches n e).time = ap (λ (y : Dispatch). y.time) (get_or_default dispatches n x e here) in
             omega (arith, same, later, at, is, of.timed)
       ];
 }
 
-pub taken_put : (options : Options) (lives : List Life) (openers : List ℕ) (dispatches : List Dispatch) (places new_places : List (Option ℕ)) (requests new_requests : List Request) (n : ℕ) (x : Dispatch) (q : Request)
+pub taken_put : (options : Options) (lives : List Life) (openers : List ℕ) (dispatches : List Dispatch) (places new_places : List (Option ℕ)) (requests new_requests : List CapturedRequest) (n : ℕ) (x : Dispatch) (q : CapturedRequest)
     → IsTakenTo options lives openers dispatches places requests n → IsRequestOf lives openers x q → IsDue options q → PutsAt x.request q requests places new_requests new_places
     → IsNonDecreasingBy (λ y. y.time) dispatches → n < length dispatches → x ≡ get_or dispatches n x
     → IsTakenTo options lives openers dispatches new_places new_requests (n + 1)

@@ -3,22 +3,22 @@ use Rattle.std.specs.Prelude.{ℕ, ◌≡◌, ◌≤◌, ◌<◌, ◌+◌, ◌�
 use Rattle.std.specs.List.Sorted.{IsNonDecreasingBy}
 use Rattle.edd_commands.specs.Limits.{release_limit, round_limit}
 use Rattle.edd_commands.specs.declared.Command.{Command}
-use Rattle.blk_capture.specs.declared.counting.Served.{Served}
+use Rattle.blk_capture.specs.declared.counting.TimedRequest.{TimedRequest}
 
 -- in the order of their dispatches, and none went out before it came in
-pub record AreServed (requests : List Served) : Type 0 where
+pub record AreServed (requests : List TimedRequest) : Type 0 where
   pub rising : IsNonDecreasingBy (λ r. r.dispatch) requests
   pub came_in : All (λ r. r.entry ≤ r.dispatch) requests
 
 -- how many went out before this time, and how many by this time
-unfoldable pub dispatched_before : List Served → ℕ → ℕ
+unfoldable pub dispatched_before : List TimedRequest → ℕ → ℕ
 dispatched_before requests time = count_by (λ r. nat_lt r.dispatch time) requests
 
-unfoldable pub dispatched_by : List Served → ℕ → ℕ
+unfoldable pub dispatched_by : List TimedRequest → ℕ → ℕ
 dispatched_by requests time = count_by (λ r. nat_le r.dispatch time) requests
 
 -- the request at place k as a command: released after the dispatches before it came in, due by those up to its deadline
-abbrev pub command_at : List Served → ℕ → Served → Command
+abbrev pub command_at : List TimedRequest → ℕ → TimedRequest → Command
 command_at requests k r = record {
   id = k + 1;
   release = dispatched_before requests r.entry + 1;
@@ -26,16 +26,16 @@ command_at requests k r = record {
 }
 
 -- the commands of the requests by place, and their rounds, which number the dispatches
-pub record IsCounted (requests : List Served) (commands : List Command) (rounds : List ℕ) : Type 0 where
+pub record AreInRounds (requests : List TimedRequest) (commands : List Command) (rounds : List ℕ) : Type 0 where
   pub a_command : length commands ≡ length requests
   pub a_round : length rounds ≡ length requests
-  pub commands_are : (k : ℕ) (d : Served) (e : Command) → k < length requests → slice_index_or commands k e ≡ command_at requests k (slice_index_or requests k d)
+  pub commands_are : (k : ℕ) (d : TimedRequest) (e : Command) → k < length requests → slice_index_or commands k e ≡ command_at requests k (slice_index_or requests k d)
   pub rounds_are : (k : ℕ) → k < length requests → slice_index rounds k ≡ k + 1
 
 -- each runs after its due round exactly where it went out after its deadline by the clock
-abbrev pub AreLateByClock : List Served → List Command → List ℕ → Type 0
+abbrev pub AreLateByClock : List TimedRequest → List Command → List ℕ → Type 0
 AreLateByClock requests commands rounds =
-    (k : ℕ) (d : Served) (e : Command) → k < length requests
+    (k : ℕ) (d : TimedRequest) (e : Command) → k < length requests
     → ((slice_index_or commands k e).due < slice_index rounds k) ↔ ((slice_index_or requests k d).deadline < (slice_index_or requests k d).dispatch)
 
 -- every release and due round is within the limits of what a schedule is asked for

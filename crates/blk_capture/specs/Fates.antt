@@ -3,10 +3,10 @@ use Rattle.std.specs.Prelude.{ℕ, ◌≡◌, ◌+◌, ◌<◌, ◌==◌, ◌&&�
 use Rattle.blk_capture.specs.Passing.{place_of, kind_place, passed_over}
 use Rattle.blk_capture.specs.declared.fates.Fate.{Fate}
 use Rattle.blk_capture.specs.declared.fates.Fate.TheVariants as fate
-use Rattle.blk_capture.specs.declared.fates.Tally.{Tally}
+use Rattle.blk_capture.specs.declared.fates.ActionTally.{ActionTally}
 use Rattle.blk_capture.specs.declared.record.Action.{Action}
 use Rattle.blk_capture.specs.declared.record.Action.TheVariants as action
-use Rattle.blk_capture.specs.declared.record.Passed.{Passed}
+use Rattle.blk_capture.specs.declared.record.PassReason.{PassReason}
 use Rattle.blk_capture.specs.declared.record.Record.{Record}
 
 abbrev pub is_taken : Fate → Bool
@@ -22,7 +22,7 @@ is_unmatched fate.Unmatched = true
 is_unmatched _ = false
 
 -- why a record was passed over, if it was
-abbrev pub passed_by : Fate → Option Passed
+abbrev pub passed_by : Fate → Option PassReason
 passed_by (fate.PassedOver kind) = Some kind
 passed_by _ = None
 
@@ -30,7 +30,7 @@ abbrev pub is_passed : Fate → Bool
 is_passed (fate.PassedOver kind) = true
 is_passed _ = false
 
-abbrev pub is_of_kind : Passed → Fate → Bool
+abbrev pub is_of_kind : PassReason → Fate → Bool
 is_of_kind kind (fate.PassedOver found) = kind_place found == kind_place kind
 is_of_kind kind _ = false
 
@@ -64,20 +64,20 @@ told p (r ∷ records) [] = 0
 told p (r ∷ records) (f ∷ fates) = cond (p r.action f) (suc (told p records fates)) (told p records fates)
 
 -- of an action, those of which something is known
-abbrev pub is_of : Action → (Fate → Bool) → Action → Fate → Bool
-is_of a p b f = (place_of b == place_of a) && p f
+abbrev pub is_of_action : Action → (Fate → Bool) → Action → Fate → Bool
+is_of_action a p b f = (place_of b == place_of a) && p f
 
 -- how many records of an action there are, and what became of them
-abbrev pub tally_of : Action → List Record → List Fate → Tally
+abbrev pub tally_of : Action → List Record → List Fate → ActionTally
 tally_of a records fates = record {
-  records = told (is_of a (λ f. true)) records fates;
-  taken = told (is_of a is_taken) records fates;
-  left_out = told (is_of a is_left_out) records fates;
-  unmatched = told (is_of a is_unmatched) records fates;
-  passed_over = told (is_of a is_passed) records fates;
+  records = told (is_of_action a (λ f. true)) records fates;
+  taken = told (is_of_action a is_taken) records fates;
+  left_out = told (is_of_action a is_left_out) records fates;
+  unmatched = told (is_of_action a is_unmatched) records fates;
+  passed_over = told (is_of_action a is_passed) records fates;
 }
 
-abbrev pub AddsUp : Tally → Type 0
+abbrev pub AddsUp : ActionTally → Type 0
 AddsUp t = t.taken + t.left_out + t.unmatched + t.passed_over ≡ t.records
 
 -- a record is passed over just where it has a reason, and for that one
@@ -85,9 +85,9 @@ abbrev pub ArePassed : List Record → List Fate → Type 0
 ArePassed records fates = map passed_by fates ≡ map passed_over records
 
 -- the requests that records are said to be of are among the first n
-abbrev pub IsBelow : ℕ → Fate → Type 0
-IsBelow n (fate.Taken k) = k < n
-IsBelow n _ = ⊤
+abbrev pub IsTakenBelow : ℕ → Fate → Type 0
+IsTakenBelow n (fate.Taken k) = k < n
+IsTakenBelow n _ = ⊤
 
 abbrev pub AreOfTaken : ℕ → List Fate → Type 0
-AreOfTaken n fates = All (IsBelow n) fates
+AreOfTaken n fates = All (IsTakenBelow n) fates

@@ -8,8 +8,8 @@ use Rattle.blk_capture.specs.declared.record.Action.{Action}
 use Rattle.blk_capture.specs.declared.record.Action.TheVariants as action
 use Rattle.blk_capture.specs.declared.record.Op.{Op}
 use Rattle.blk_capture.specs.declared.record.Op.TheVariants as op
-use Rattle.blk_capture.specs.declared.record.Passed.{Passed}
-use Rattle.blk_capture.specs.declared.record.Passed.TheVariants as passed
+use Rattle.blk_capture.specs.declared.record.PassReason.{PassReason}
+use Rattle.blk_capture.specs.declared.record.PassReason.TheVariants as passed
 use Rattle.blk_capture.specs.declared.record.Record.{Record}
 
 -- the actions, numbered
@@ -28,7 +28,7 @@ place_of action.Unplug = 10
 place_of action.Other = 11
 
 -- the reasons, numbered
-abbrev pub kind_place : Passed → ℕ
+abbrev pub kind_place : PassReason → ℕ
 kind_place passed.Plug = 0
 kind_place passed.Unplug = 1
 kind_place passed.Action = 2
@@ -50,13 +50,13 @@ action_by (c ∷ []) = letter_action c
 action_by (c ∷ d ∷ more) = action.Other
 
 -- which way data goes
-abbrev pub dir_of : Op → Option Dir
-dir_of op.Read = Some dir.Read
-dir_of op.Write = Some dir.Write
-dir_of op.Discard = None
-dir_of op.Erase = None
-dir_of op.Flush = None
-dir_of op.Nothing = None
+abbrev pub dir_of_op : Op → Option Dir
+dir_of_op op.Read = Some dir.Read
+dir_of_op op.Write = Some dir.Write
+dir_of_op op.Discard = None
+dir_of_op op.Erase = None
+dir_of_op op.Flush = None
+dir_of_op op.Nothing = None
 
 -- the first of these letters that stands among them: W, R, E, D, F
 abbrev pub has : ℕ → List ℕ → Bool
@@ -66,14 +66,14 @@ abbrev pub op_by : List ℕ → Op
 op_by rwbs = cond (has 87 rwbs) op.Write (cond (has 82 rwbs) op.Read (cond (has 69 rwbs) op.Erase (cond (has 68 rwbs) op.Discard (cond (has 70 rwbs) op.Flush op.Nothing))))
 
 -- an action without a rule
-abbrev pub passed_action : Action → Option Passed
+abbrev pub passed_action : Action → Option PassReason
 passed_action action.Plug = Some passed.Plug
 passed_action action.Unplug = Some passed.Unplug
 passed_action action.Other = Some passed.Action
 passed_action _ = None
 
 -- what moves no data
-abbrev pub passed_op : Op → Option Passed
+abbrev pub passed_op : Op → Option PassReason
 passed_op op.Read = None
 passed_op op.Write = None
 passed_op op.Discard = Some passed.Discard
@@ -82,7 +82,7 @@ passed_op op.Flush = Some passed.Flush
 passed_op op.Nothing = Some passed.Nothing
 
 -- no sectors, or some past the last one
-abbrev pub passed_range : ℕ → ℕ → Option Passed
+abbrev pub passed_range : ℕ → ℕ → Option PassReason
 passed_range first sectors = cond (sectors == 0) (Some passed.Empty) (cond (nat_lt MAX_END (first + sectors)) (Some passed.PastEnd) None)
 
 abbrev pub or_else : {X : Type 0} → Option X → Option X → Option X
@@ -90,5 +90,5 @@ or_else (Some x) other = Some x
 or_else None other = other
 
 -- why a record is passed over, if it is: the first reason
-abbrev pub passed_over : Record → Option Passed
+abbrev pub passed_over : Record → Option PassReason
 passed_over r = or_else (passed_action r.action) (or_else (passed_op r.op) (passed_range r.first r.sectors))

@@ -2,21 +2,21 @@
 use Rattle.std.specs.Prelude.{◌^◌, min, unwrap_or, ℕ, ◌≡◌, ◌≤◌, ◌<◌, ◌+◌, ◌-◌, ◌==◌, ◌↔◌, List, length, count_by, Bool, false, Option, Some, None, IfSome, slice_index, slice_index_or, All}
 use Rattle.std.specs.List.Sorted.{IsNonDecreasingBy}
 use Rattle.edd_commands.specs.declared.Command.{Command}
-use Rattle.blk_capture.specs.declared.counting.Served.{Served}
+use Rattle.blk_capture.specs.declared.counting.TimedRequest.{TimedRequest}
 use Rattle.blk_capture.specs.declared.record.Record.{Record}
 use Rattle.blk_bio.specs.declared.bio.Dir.{Dir}
 use Rattle.blk_bio.specs.declared.bio.Dir.TheVariants.{Read, Write}
 use Rattle.blk_capture.specs.declared.requests.Entry.{Entry}
 use Rattle.blk_capture.specs.declared.requests.Entry.TheVariants.{Insert, Queue}
 use Rattle.blk_capture.specs.declared.requests.Options.{Options}
-use Rattle.blk_capture.specs.declared.requests.Request.{Request}
-use Rattle.blk_capture.specs.declared.requests.Bio.{Bio}
+use Rattle.blk_capture.specs.declared.requests.CapturedRequest.{CapturedRequest}
+use Rattle.blk_capture.specs.declared.requests.CapturedBio.{CapturedBio}
 use Rattle.blk_capture.specs.declared.requests.CaptureFault.{CaptureFault}
 use Rattle.blk_capture.specs.declared.requests.CaptureFault.TheVariants.{Order, Memory}
 
 -- what of a request is counted in rounds
-abbrev pub served_of : Request → Served
-served_of q = record { entry = q.entry; deadline = q.deadline; dispatch = q.dispatched }
+abbrev pub times_of : CapturedRequest → TimedRequest
+times_of q = record { entry = q.entry; deadline = q.deadline; dispatch = q.dispatched }
 
 -- when a request came in that was queued and inserted then
 abbrev pub entry_by : Entry → ℕ → Option ℕ → ℕ
@@ -24,46 +24,46 @@ entry_by Insert queued inserted = unwrap_or inserted queued
 entry_by Queue queued inserted = queued
 
 -- how long after it came in a request of a direction is due
-abbrev pub expire_of : Options → Dir → ℕ
-expire_of options Read = options.read_expire
-expire_of options Write = options.write_expire
+abbrev pub expire_for : Options → Dir → ℕ
+expire_for options Read = options.read_expire
+expire_for options Write = options.write_expire
 
 -- the sooner of two times
-abbrev pub sooner_of : Option ℕ → ℕ → ℕ
-sooner_of None time = time
-sooner_of (Some earlier) time = min earlier time
+abbrev pub earlier_of : Option ℕ → ℕ → ℕ
+earlier_of None time = time
+earlier_of (Some earlier) time = min earlier time
 
 -- by when a request was due that came in at `entry`, and into which one was merged that was due by `earlier`
 abbrev pub deadline_of : Options → Dir → ℕ → Option ℕ → ℕ
-deadline_of options dir entry earlier = sooner_of earlier (min (entry + expire_of options dir) (2 ^ 64 - 1))
+deadline_of options dir entry earlier = earlier_of earlier (min (entry + expire_for options dir) (2 ^ 64 - 1))
 
 -- it came in and was due as the options say
-pub record IsDue (options : Options) (q : Request) : Type 0 where
+pub record IsDue (options : Options) (q : CapturedRequest) : Type 0 where
   pub entered : q.entry ≡ entry_by options.entry q.queued q.inserted
   pub due : q.deadline ≡ deadline_of options q.dir q.entry q.earlier
 
 -- in the order of their dispatches; none went out before it came in, nor was completed before it went out
-pub record AreTimed (requests : List Request) : Type 0 where
+pub record AreTimed (requests : List CapturedRequest) : Type 0 where
   pub rising : IsNonDecreasingBy (λ q. q.dispatched) requests
   pub came_in : All (λ q. q.entry ≤ q.dispatched) requests
   pub came_back : All (λ q. IfSome q.completed (λ t. q.dispatched ≤ t)) requests
 
 -- the bio that each request was opened for is one of the bios, and went out with it
-abbrev pub HaveBios : List Request → List Bio → Type 0
+abbrev pub HaveBios : List CapturedRequest → List CapturedBio → Type 0
 HaveBios requests bios =
-    (k : ℕ) (d : Request) (e : Bio) → k < length requests → (slice_index_or bios (slice_index_or requests k d).bio e).request ≡ Some k
+    (k : ℕ) (d : CapturedRequest) (e : CapturedBio) → k < length requests → (slice_index_or bios (slice_index_or requests k d).bio e).request ≡ Some k
 
 -- whether a bio went out with the request at place k
-abbrev pub is_at : ℕ → Option ℕ → Bool
-is_at k None = false
-is_at k (Some j) = j == k
+abbrev pub went_with : ℕ → Option ℕ → Bool
+went_with k None = false
+went_with k (Some j) = j == k
 
 -- each request has as many bios as went out with it
-abbrev pub AreTallied : List Request → List Bio → Type 0
-AreTallied requests bios = (k : ℕ) (d : Request) → k < length requests → (slice_index_or requests k d).bios ≡ count_by (λ b. is_at k b.request) bios
+abbrev pub AreTallied : List CapturedRequest → List CapturedBio → Type 0
+AreTallied requests bios = (k : ℕ) (d : CapturedRequest) → k < length requests → (slice_index_or requests k d).bios ≡ count_by (λ b. went_with k b.request) bios
 
 -- bios that went out with one of n requests, or with none
-abbrev pub AreGone : ℕ → List Bio → Type 0
+abbrev pub AreGone : ℕ → List CapturedBio → Type 0
 AreGone n bios = All (λ b. IfSome b.request (λ k. k < n)) bios
 
 -- no record has an earlier time than the one before it, among the first n
@@ -78,9 +78,9 @@ pub record IsFirstFall (records : List Record) (p : ℕ) : Type 0 where
   pub falls : (d : Record) → (slice_index_or records p d).time < (slice_index_or records (p - 1) d).time
 
 -- each runs after its due round exactly where it went out after its deadline by the clock
-abbrev pub AreLate : List Request → List Command → List ℕ → Type 0
-AreLate requests commands rounds =
-    (k : ℕ) (d : Request) (e : Command) → k < length requests
+abbrev pub AgreeOnLateness : List CapturedRequest → List Command → List ℕ → Type 0
+AgreeOnLateness requests commands rounds =
+    (k : ℕ) (d : CapturedRequest) (e : Command) → k < length requests
     → ((slice_index_or commands k e).due < slice_index rounds k) ↔ ((slice_index_or requests k d).deadline < (slice_index_or requests k d).dispatched)
 
 -- why a capture is refused; Order comes first

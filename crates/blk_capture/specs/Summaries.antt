@@ -9,8 +9,8 @@ use Rattle.blk_capture.specs.Fates.{tally_of}
 use Rattle.blk_capture.specs.declared.fates.Fate.{Fate}
 use Rattle.blk_capture.specs.declared.record.Action.TheVariants.{BackMerge, FrontMerge}
 use Rattle.blk_capture.specs.declared.record.Record.{Record}
-use Rattle.blk_capture.specs.declared.requests.Bio.{Bio}
-use Rattle.blk_capture.specs.declared.requests.Request.{Request}
+use Rattle.blk_capture.specs.declared.requests.CapturedBio.{CapturedBio}
+use Rattle.blk_capture.specs.declared.requests.CapturedRequest.{CapturedRequest}
 use Rattle.blk_capture.specs.declared.summary.Spread.{Spread}
 use Rattle.blk_capture.specs.declared.summary.Summary.{Summary}
 use Rattle.blk_capture.specs.declared.summary.Wait.{Wait}
@@ -23,11 +23,11 @@ goes Write Read = false
 goes Write Write = true
 
 -- a request of this direction that went out after its deadline
-abbrev pub is_late : Dir → Request → Bool
-is_late d q = goes q.dir d && nat_lt q.deadline q.dispatched
+abbrev pub is_late_request : Dir → CapturedRequest → Bool
+is_late_request d q = goes q.dir d && nat_lt q.deadline q.dispatched
 
-abbrev pub is_gone : Bio → Bool
-is_gone b = is_some b.request
+abbrev pub is_dispatched : CapturedBio → Bool
+is_dispatched b = is_some b.request
 
 -- the time between two, 0 where the second isn't later, if it is known
 abbrev pub between : ℕ → ℕ → Option ℕ
@@ -42,21 +42,21 @@ until_known from None = None
 until_known from (Some until) = between from until
 
 -- how long a request waited
-abbrev pub wait_by : Wait → Request → Option ℕ
+abbrev pub wait_by : Wait → CapturedRequest → Option ℕ
 wait_by Tag q = between q.queued q.got
 wait_by Scheduler q = from_known q.inserted q.dispatched
 wait_by Device q = until_known q.dispatched q.completed
 
 -- the nearest rank: these hundredths of n, rounded up
-abbrev pub nearest_rank : ℕ → ℕ → ℕ
-nearest_rank percent n = (percent * n + 99) / 100
+abbrev pub percent_rank : ℕ → ℕ → ℕ
+percent_rank percent n = (percent * n + 99) / 100
 
 -- of numbers in their order the one at that place, counted from 1, if there are some
-abbrev pub at_rank : ℕ → List ℕ → Option ℕ
-at_rank percent sorted = slice_get sorted (nearest_rank percent (length sorted) - 1)
+abbrev pub at_percent : ℕ → List ℕ → Option ℕ
+at_percent percent sorted = slice_get sorted (percent_rank percent (length sorted) - 1)
 
 abbrev pub spread_of : List ℕ → Spread
-spread_of sorted = record { count = length sorted; p50 = at_rank 50 sorted; p99 = at_rank 99 sorted; max = at_rank 100 sorted }
+spread_of sorted = record { count = length sorted; p50 = at_percent 50 sorted; p99 = at_percent 99 sorted; max = at_percent 100 sorted }
 
 -- the quantiles of the numbers, put in their order
 pub record IsSpread (values : List ℕ) (s : Spread) : Type 0 where
@@ -66,38 +66,38 @@ pub record IsSpread (values : List ℕ) (s : Spread) : Type 0 where
   pub are : s ≡ spread_of sorted
 
 -- out by a time, and back by a time
-abbrev pub out_by : ℕ → Request → Bool
+abbrev pub out_by : ℕ → CapturedRequest → Bool
 out_by time q = nat_le q.dispatched time
 
 abbrev pub known_by : ℕ → Option ℕ → Bool
 known_by time None = false
 known_by time (Some t) = nat_le t time
 
-abbrev pub back_by : ℕ → Request → Bool
+abbrev pub back_by : ℕ → CapturedRequest → Bool
 back_by time q = known_by time q.completed
 
 -- how many are at the device at a time
-abbrev pub in_flight_at : List Request → ℕ → ℕ
+abbrev pub in_flight_at : List CapturedRequest → ℕ → ℕ
 in_flight_at requests time = count_by (λ q. out_by time q && not (back_by time q)) requests
 
 -- n are there when the request at place k goes out
-pub record AreWith (requests : List Request) (n k : ℕ) : Type 0 where
+pub record AreWith (requests : List CapturedRequest) (n k : ℕ) : Type 0 where
   pub in_list : k < length requests
-  pub at : (d : Request) → in_flight_at requests (slice_index_or requests k d).dispatched ≡ n
+  pub at : (d : CapturedRequest) → in_flight_at requests (slice_index_or requests k d).dispatched ≡ n
 
 -- n is the most that are there when a request goes out, and 0 where there are no requests
-pub record IsMostInFlight (requests : List Request) (n : ℕ) : Type 0 where
-  pub bound : (k : ℕ) (d : Request) → k < length requests → in_flight_at requests (slice_index_or requests k d).dispatched ≤ n
+pub record IsMostInFlight (requests : List CapturedRequest) (n : ℕ) : Type 0 where
+  pub bound : (k : ℕ) (d : CapturedRequest) → k < length requests → in_flight_at requests (slice_index_or requests k d).dispatched ≤ n
   pub reached : 0 < n → (k : ℕ) × AreWith requests n k
 
 -- a capture in numbers
-pub record IsSummary (records : List Record) (requests : List Request) (bios : List Bio) (fates : List Fate) (s : Summary) : Type 0 where
+pub record IsSummary (records : List Record) (requests : List CapturedRequest) (bios : List CapturedBio) (fates : List Fate) (s : Summary) : Type 0 where
   pub records_are : s.records ≡ length records
-  pub bios_are : s.bios ≡ count_by is_gone bios
+  pub bios_are : s.bios ≡ count_by is_dispatched bios
   pub requests_are : s.requests ≡ length requests
   pub merges_are : s.merges ≡ (tally_of BackMerge records fates).taken + (tally_of FrontMerge records fates).taken
-  pub late_reads_are : s.late_reads ≡ count_by (is_late Read) requests
-  pub late_writes_are : s.late_writes ≡ count_by (is_late Write) requests
+  pub late_reads_are : s.late_reads ≡ count_by (is_late_request Read) requests
+  pub late_writes_are : s.late_writes ≡ count_by (is_late_request Write) requests
   pub tag_is : IsSpread (filter_map (wait_by Tag) requests) s.tag
   pub scheduler_is : IsSpread (filter_map (wait_by Scheduler) requests) s.scheduler
   pub device_is : IsSpread (filter_map (wait_by Device) requests) s.device

@@ -1,7 +1,7 @@
 -- Requests as rows of a table.
 use Rattle.std.specs.Prelude.{ℕ, ◌≡◌, ◌<◌, ◌+◌, ◌-◌, List, length, slice_index_or, Option, None, Some}
-use Rattle.blk_capture.specs.declared.requests.Request.{Request}
-use Rattle.blk_capture.specs.declared.table.Row.{Row}
+use Rattle.blk_capture.specs.declared.requests.CapturedRequest.{CapturedRequest}
+use Rattle.blk_capture.specs.declared.table.RequestRow.{RequestRow}
 
 -- how long after the beginning a time is, 0 where it is no later
 abbrev pub since : ℕ → ℕ → ℕ
@@ -12,8 +12,8 @@ known_since begin None = None
 known_since begin (Some time) = Some (since begin time)
 
 -- the row of the request at place k
-abbrev pub row_at : ℕ → ℕ → Request → Row
-row_at begin k q = record {
+abbrev pub request_row : ℕ → ℕ → CapturedRequest → RequestRow
+request_row begin k q = record {
   id = k + 1;
   dir = q.dir;
   first = q.first;
@@ -28,6 +28,6 @@ row_at begin k q = record {
 }
 
 -- each request's row, at its place
-pub record AreRows (begin : ℕ) (requests : List Request) (rows : List Row) : Type 0 where
+pub record AreRequestRows (begin : ℕ) (requests : List CapturedRequest) (rows : List RequestRow) : Type 0 where
   pub each : length rows ≡ length requests
-  pub are : (k : ℕ) (d : Request) (e : Row) → k < length requests → slice_index_or rows k e ≡ row_at begin k (slice_index_or requests k d)
+  pub are : (k : ℕ) (d : CapturedRequest) (e : RequestRow) → k < length requests → slice_index_or rows k e ≡ request_row begin k (slice_index_or requests k d)

@@ -4,14 +4,14 @@ ghost use Rattle.std.specs.Prelude.{◌≡◌, ◌≤◌, ◌<◌, ◌+◌, ◌�
 ghost use Rattle.edd_commands.specs.Capacity.{fixed};
 ghost use Rattle.edd_commands.specs.Limits.{most_commands};
 ghost use Rattle.edd_commands.specs.Schedule.{IsLegal, RoundsInRange};
-ghost use Rattle.blk_capture.specs.Counting.{AreServed, AreSolvable, IsCounted, AreLateByClock, dispatched_before, dispatched_by, command_at};
+ghost use Rattle.blk_capture.specs.Counting.{AreServed, AreSolvable, AreInRounds, AreLateByClock, dispatched_before, dispatched_by, command_at};
 
 use edd_commands::Command;
 use std::alloc::{AllocError, Allocator, Global};
 
 /// A request that the device took, by the clock. The unit and the beginning of the clock don't matter.
 #[derive(Clone, Copy, Debug, PartialEq, Eq)]
-pub struct Served {
+pub struct TimedRequest {
     /// When it came in.
     pub entry: u64,
     /// When it ought to have gone out by; it may lie before the entry.
@@ -22,7 +22,7 @@ pub struct Served {
 
 /// Commands and the rounds in which they ran, by the same places.
 #[derive(Debug, Drop)]
-pub struct Schedule<A: Allocator = Global> {
+pub struct CountedSchedule<A: Allocator = Global> {
     /// The commands.
     pub commands: Vec<Command, A>,
     /// Their rounds.
@@ -30,7 +30,7 @@ pub struct Schedule<A: Allocator = Global> {
 }
 
 /// Whether the requests stand in the order of their dispatches, and none went out before it came in, as [`count_rounds`] requires.
-pub fn are_served(requests: &[Served]) -> bool
+pub fn are_served(requests: &[TimedRequest]) -> bool
     ensures { IsTrue result ↔ AreServed requests.now }
 {
     let mut last = 0;
@@ -44,7 +44,7 @@ pub fn are_served(requests: &[Served]) -> bool
 }
 
 /// How many of the requests went out before a time. It is found by halves.
-fn dispatched_before(requests: &[Served], time: u64) -> u64
+fn dispatched_before(requests: &[TimedRequest], time: u64) -> u64
     requires { AreServed requests.now }
     ensures value { result ≡ dispatched_before requests.now time }
     ensures bound { result ≤ length requests.now }
@@ -53,7 +53,7 @@ fn dispatched_before(requests: &[Served], time: u64) -> u64
 }
 
 /// How many of the requests went out by a time. It is found by halves.
-fn dispatched_by(requests: &[Served], time: u64) -> u64
+fn dispatched_by(requests: &[TimedRequest], time: u64) -> u64
     requires { AreServed requests.now }
     ensures value { result ≡ dispatched_by requests.now time }
     ensures bound { result ≤ length requests.now }
@@ -62,7 +62,7 @@ fn dispatched_by(requests: &[Served], time: u64) -> u64
 }
 
 /// The command of the request at a place.
-fn command_at(requests: &[Served], place: usize, request: Served) -> Command
+fn command_at(requests: &[TimedRequest], place: usize, request: TimedRequest) -> Command
     requires served { AreServed requests.now }
     requires few { length requests.now ≤ most_commands }
     requires place { place < length requests.now }
@@ -83,11 +83,11 @@ fn command_at(requests: &[Served], place: usize, request: Served) -> Command
 /// At most [`edd_commands::MAX_COMMANDS`] requests, as [`are_served`] tells. Fails only when out of memory. The time grows as n log n.
 pub fn count_rounds<A: Allocator + Clone>(
     alloc: A,
-    requests: &[Served],
-) -> Result<Schedule<A>, AllocError>
+    requests: &[TimedRequest],
+) -> Result<CountedSchedule<A>, AllocError>
     requires served { AreServed requests.now }
     requires few { length requests.now ≤ most_commands }
-    ensures counted { IfOk result (λ s. IsCounted requests.now s.commands.items s.rounds.items) }
+    ensures counted { IfOk result (λ s. AreInRounds requests.now s.commands.items s.rounds.items) }
     // at most one dispatch a round, and none before its request came in
     ensures legal { IfOk result (λ s. IsLegal s.commands.items s.rounds.items (fixed 1)) }
     ensures late { IfOk result (λ s. AreLateByClock requests.now s.commands.items s.rounds.items) }
@@ -100,5 +100,5 @@ pub fn count_rounds<A: Allocator + Clone>(
         commands.push(command_at(requests, place, *request))?;
         rounds.push(place as u64 + 1)?;
     }
-    Ok(Schedule { commands, rounds })
+    Ok(CountedSchedule { commands, rounds })
 }

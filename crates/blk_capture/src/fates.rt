@@ -4,7 +4,7 @@ ghost use Rattle.std.specs.Prelude.{◌≡◌, ◌+◌, ◌<◌, ◌^◌, length
 ghost use Rattle.blk_capture.specs.Fates.{is_of_kind, tally_of, AddsUp};
 ghost use Rattle.blk_capture.specs.Inside.Tallies.{tally_with};
 
-use crate::record::{Action, Passed, Record};
+use crate::record::{Action, PassReason, Record};
 
 /// What became of a record.
 #[derive(Clone, Copy, Debug, PartialEq, Eq)]
@@ -16,12 +16,12 @@ pub enum Fate {
     /// What it speaks of isn't known, mostly since that began before the capture.
     Unmatched,
     /// It was passed over.
-    PassedOver(Passed),
+    PassedOver(PassReason),
 }
 
 /// How many records there are of an action, and what became of them.
 #[derive(Clone, Copy, Debug, PartialEq, Eq)]
-pub struct Tally {
+pub struct ActionTally {
     /// How many records there are.
     pub records: u64,
     /// How many are of requests that are taken, or of their bios.
@@ -34,9 +34,9 @@ pub struct Tally {
     pub passed_over: u64,
 }
 
-impl Tally {
+impl ActionTally {
     /// With one more record.
-    fn with(self, fate: Fate) -> Tally
+    fn with(self, fate: Fate) -> ActionTally
         requires few { self.records < 2 ^ 63 }
         requires up { AddsUp self }
         ensures value { result ≡ tally_with self fate }
@@ -45,22 +45,22 @@ impl Tally {
     {
         let records = self.records + 1;
         match fate {
-            Fate::Taken(_) => Tally {
+            Fate::Taken(_) => ActionTally {
                 records,
                 taken: self.taken + 1,
                 ..self
             },
-            Fate::LeftOut => Tally {
+            Fate::LeftOut => ActionTally {
                 records,
                 left_out: self.left_out + 1,
                 ..self
             },
-            Fate::Unmatched => Tally {
+            Fate::Unmatched => ActionTally {
                 records,
                 unmatched: self.unmatched + 1,
                 ..self
             },
-            Fate::PassedOver(_) => Tally {
+            Fate::PassedOver(_) => ActionTally {
                 records,
                 passed_over: self.passed_over + 1,
                 ..self
@@ -71,13 +71,13 @@ impl Tally {
 
 /// How many of the records are of an action, and how many of these are of requests that are taken, left out, unmatched and passed over,
 /// which add up to them. `fates` has what became of each record, as [`crate::match_records`] tells it.
-pub fn tally_of(records: &[Record], fates: &[Fate], action: Action) -> Tally
+pub fn tally_of(records: &[Record], fates: &[Fate], action: Action) -> ActionTally
     requires { length fates.now ≡ length records.now }
     ensures value { result ≡ tally_of action records.now fates.now }
     ensures sum { AddsUp result }
     ensures few { result.records < 2 ^ 63 }
 {
-    let mut counts = Tally {
+    let mut counts = ActionTally {
         records: 0,
         taken: 0,
         left_out: 0,
@@ -93,7 +93,7 @@ pub fn tally_of(records: &[Record], fates: &[Fate], action: Action) -> Tally
 }
 
 /// Whether a record was passed over for a reason.
-fn is_of_kind(fate: Fate, kind: Passed) -> bool
+fn is_of_kind(fate: Fate, kind: PassReason) -> bool
     ensures { result ≡ is_of_kind kind fate }
 {
     match fate {
@@ -103,7 +103,7 @@ fn is_of_kind(fate: Fate, kind: Passed) -> bool
 }
 
 /// How many records were passed over for a reason.
-pub fn count_passed(fates: &[Fate], kind: Passed) -> u64
+pub fn count_passed(fates: &[Fate], kind: PassReason) -> u64
     ensures { result ≡ count_by (is_of_kind kind) fates.now }
 {
     let mut count = 0;

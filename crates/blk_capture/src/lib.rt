@@ -17,10 +17,12 @@ mod requests;
 mod summary;
 mod table;
 
-pub use counting::{Schedule, Served, are_served, count_rounds};
-pub use fates::{Fate, Tally, count_passed, tally_of};
+pub use counting::{CountedSchedule, TimedRequest, are_served, count_rounds};
+pub use fates::{ActionTally, Fate, count_passed, tally_of};
 pub use part::part_of;
-pub use record::{Action, Op, Passed, Record};
-pub use requests::{Bio, CaptureFault, Entry, Matched, Options, Request, match_records, rounds_of};
+pub use record::{Action, Op, PassReason, Record};
+pub use requests::{
+    CaptureFault, CapturedBio, CapturedRequest, Entry, Matched, Options, match_records, rounds_of,
+};
 pub use summary::{Spread, Summary, Wait, count_late, most_in_flight, spread_waits, summarize};
-pub use table::{Row, rows_of};
+pub use table::{RequestRow, rows_of};

@@ -3,7 +3,7 @@
 ghost use Rattle.std.specs.Prelude.{◌≡◌, None, Some, false, IfSome, IfNone};
 ghost use Rattle.std.specs.Ordering.{is_eq, is_gt};
 ghost use Rattle.std.specs.BTreeMap.{get};
-ghost use Rattle.blk_capture.specs.Inside.LookupKeys.{AgedKey, lookup_cmp, aged_cmp, IsOldest, IsNewest, IsEmptyAt, IsLeastFrom, IsGreatestUpTo};
+ghost use Rattle.blk_capture.specs.Inside.LookupKeys.{AgedKey, lookup_cmp, aged_cmp, IsOldestUnder, IsNewestUnder, IsEmptyAt, IsLeastKeyFrom, IsGreatestUpTo};
 ghost use Rattle.blk_capture.specs.Inside.MergeIndex.{whole_key, edge_key, abutting_key, facing};
 
 use crate::record::Range;
@@ -72,7 +72,7 @@ fn first_from<A: Allocator + Clone>(
 ) -> Option<Standing>
     ensures there { IfSome result (λ e. get aged_cmp places.now (e.key, e.age) ≡ Some e.place) }
     ensures high { IfSome result (λ e. is_gt (aged_cmp lower (e.key, e.age)) ≡ false) }
-    ensures least { IfSome result (λ e. IsLeastFrom (get aged_cmp places.now) lower (e.key, e.age)) }
+    ensures least { IfSome result (λ e. IsLeastKeyFrom (get aged_cmp places.now) lower (e.key, e.age)) }
     ensures none { IfNone result ((q : AgedKey) → is_gt (aged_cmp lower q) ≡ false → get aged_cmp places.now q ≡ None) }
 {
     let ((key, age), place) = places.range(lower..).next()?;
@@ -129,7 +129,7 @@ impl<A: Allocator + Clone> KeyIndex<A> {
 
     /// The oldest under a key.
     pub(crate) fn oldest(&self, key: LookupKey) -> Option<usize>
-        ensures some { IfSome result (IsOldest (get aged_cmp self.now.places) key) }
+        ensures some { IfSome result (IsOldestUnder (get aged_cmp self.now.places) key) }
         ensures none { IfNone result (IsEmptyAt (get aged_cmp self.now.places) key) }
     {
         let found = first_from(&self.places, (key, 0))?;
@@ -139,7 +139,7 @@ impl<A: Allocator + Clone> KeyIndex<A> {
 
     /// The newest under a key.
     pub(crate) fn newest(&self, key: LookupKey) -> Option<usize>
-        ensures some { IfSome result (IsNewest (get aged_cmp self.now.places) key) }
+        ensures some { IfSome result (IsNewestUnder (get aged_cmp self.now.places) key) }
         ensures none { IfNone result (IsEmptyAt (get aged_cmp self.now.places) key) }
     {
         let found = last_upto(&self.places, (key, u64::MAX))?;
@@ -205,7 +205,7 @@ impl<A: Allocator + Clone> MergeIndex<A> {
 
     /// The oldest that a newcomer at a side abuts.
     pub(crate) fn oldest(&self, newcomer: Range, side: Side, pid: u64) -> Option<usize>
-        ensures some { IfSome result (IsOldest (facing side self.now) (abutting_key newcomer side pid)) }
+        ensures some { IfSome result (IsOldestUnder (facing side self.now) (abutting_key newcomer side pid)) }
         ensures none { IfNone result (IsEmptyAt (facing side self.now) (abutting_key newcomer side pid)) }
     {
         match side {
@@ -220,7 +220,7 @@ impl<A: Allocator + Clone> MergeIndex<A> {
 
     /// The newest that a newcomer at a side abuts.
     pub(crate) fn newest(&self, newcomer: Range, side: Side, pid: u64) -> Option<usize>
-        ensures some { IfSome result (IsNewest (facing side self.now) (abutting_key newcomer side pid)) }
+        ensures some { IfSome result (IsNewestUnder (facing side self.now) (abutting_key newcomer side pid)) }
         ensures none { IfNone result (IsEmptyAt (facing side self.now) (abutting_key newcomer side pid)) }
     {
         match side {

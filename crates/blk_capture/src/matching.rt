@@ -9,8 +9,8 @@ ghost use Rattle.blk_capture.specs.Inside.Matchings.{OpensIf, MakesIf};
 
 use crate::clock::Clock;
 use crate::lookup::{KeyIndex, LookupKey, MergeIndex};
-use crate::members::{Members, Queued};
-use crate::record::{Action, Passed, Range, Record};
+use crate::members::{Members, QueuedBio};
+use crate::record::{Action, PassReason, Range, Record};
 use blk_bio::Side;
 use std::alloc::{AllocError, Allocator, Global};
 
@@ -24,7 +24,7 @@ pub(crate) enum Role {
     /// What it speaks of isn't known.
     Unmatched,
     /// It is passed over.
-    PassedOver(Passed),
+    PassedOver(PassReason),
 }
 
 impl Role {
@@ -177,7 +177,7 @@ impl<A: Allocator + Clone> Matching<A> {
         ensures same { length self.new.requests.items ≡ length self.old.requests.items }
         ensures bios { IfOk result (λ bio. MakesIf (is_some bio) self.old self.new) }
     {
-        let place = self.members.queue(Queued {
+        let place = self.members.queue(QueuedBio {
             range,
             pid,
             time: self.clock.now,
@@ -492,7 +492,7 @@ impl<A: Allocator + Clone> Matching<A> {
         };
         self.waiting.take(LookupKey::whole(bio.range), bio.age);
         self.members.cut(place, range);
-        let second = self.members.queue(Queued { range: rest, ..bio })?;
+        let second = self.members.queue(QueuedBio { range: rest, ..bio })?;
         self.waiting.put(LookupKey::whole(range), bio.age, place)?;
         self.waiting.put(LookupKey::whole(rest), bio.age, second)?;
         Ok(Some(second))

@@ -8,7 +8,7 @@ use std::alloc::{AllocError, Allocator, Global};
 
 /// A bio, as it was queued or cut from one that was.
 #[derive(Clone, Copy, Debug)]
-pub(crate) struct Queued {
+pub(crate) struct QueuedBio {
     /// Its direction and range.
     pub(crate) range: Range,
     /// The process that queued it.
@@ -26,7 +26,7 @@ pub(crate) struct Queued {
 #[derive(Drop)]
 pub(crate) struct Members<A: Allocator = Global> {
     /// The bios.
-    pub(crate) bios: Vec<Queued, A>,
+    pub(crate) bios: Vec<QueuedBio, A>,
     /// By request, the bio that it was opened for.
     pub(crate) openers: Vec<usize, A>,
     ghost opened: { AreOpened bios.items openers.items },
@@ -44,11 +44,11 @@ impl<A: Allocator + Clone> Members<A> {
     }
 
     /// One more bio, which went into no request yet. Answers its number.
-    pub(crate) fn queue(&mut self, bio: Queued) -> Result<usize, AllocError>
+    pub(crate) fn queue(&mut self, bio: QueuedBio) -> Result<usize, AllocError>
         ensures { OnOk result (length self.new.bios.items ≡ length self.old.bios.items + 1) }
     {
         let number = self.bios.len();
-        self.bios.push(Queued {
+        self.bios.push(QueuedBio {
             request: None,
             ..bio
         })?;
@@ -62,7 +62,7 @@ impl<A: Allocator + Clone> Members<A> {
         let Some(queued) = self.bios.get(bio).copied() else {
             return;
         };
-        self.bios[bio] = Queued { range, ..queued };
+        self.bios[bio] = QueuedBio { range, ..queued };
     }
 
     /// Opens a request for a bio, which goes into it, and answers its number; None where the bio went into one before.
@@ -77,7 +77,7 @@ impl<A: Allocator + Clone> Members<A> {
         }
         let request = self.openers.len();
         self.openers.push(bio)?;
-        self.bios[bio] = Queued {
+        self.bios[bio] = QueuedBio {
             request: Some(request),
             ..queued
         };
@@ -94,7 +94,7 @@ impl<A: Allocator + Clone> Members<A> {
         if queued.request.is_some() {
             return false;
         }
-        self.bios[bio] = Queued {
+        self.bios[bio] = QueuedBio {
             request: Some(request),
             ..queued
         };

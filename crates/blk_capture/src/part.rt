@@ -2,17 +2,17 @@
 
 ghost use Rattle.std.specs.Prelude.{◌≡◌, ◌≤◌, ◌<◌, ◌+◌, ◌^◌, IfOk, length, map, take, drop};
 ghost use Rattle.blk_capture.specs.Requests.{AreTimed};
-ghost use Rattle.blk_capture.specs.Parting.{before, part, place_in, bio_in, fate_in, part_bios, part_fates};
+ghost use Rattle.blk_capture.specs.Parting.{gone_before, part, place_in, bio_in, fate_in, part_bios, part_fates};
 ghost use Rattle.blk_capture.specs.Matched.{all_unmerged};
 
 use crate::fates::Fate;
-use crate::requests::{Bio, Matched, Request};
+use crate::requests::{CapturedBio, CapturedRequest, Matched};
 use std::alloc::{AllocError, Allocator};
 
 /// How many of the requests went out before a time. It is found by halves.
-fn count_before(requests: &[Request], begin: u64) -> usize
+fn count_before(requests: &[CapturedRequest], begin: u64) -> usize
     requires { AreTimed requests.now }
-    ensures value { result ≡ before begin requests.now }
+    ensures value { result ≡ gone_before begin requests.now }
     ensures bound { result ≤ length requests.now }
 {
     requests.partition_point(|request| request.dispatched < begin)
@@ -29,10 +29,10 @@ fn place_in(from: usize, count: usize, place: Option<usize>) -> Option<usize>
 }
 
 /// A bio of which the request may be taken or not.
-fn bio_in(from: usize, count: usize, bio: &Bio) -> Bio
+fn bio_in(from: usize, count: usize, bio: &CapturedBio) -> CapturedBio
     ensures { result ≡ bio_in from count bio.now }
 {
-    Bio {
+    CapturedBio {
         request: place_in(from, count, bio.request),
         ..*bio
     }
@@ -54,10 +54,10 @@ fn fate_in(from: usize, count: usize, fate: Fate) -> Fate
 /// `count` of the requests, from a place on.
 fn requests_in<A: Allocator>(
     alloc: A,
-    requests: &[Request],
+    requests: &[CapturedRequest],
     from: usize,
     count: usize,
-) -> Result<Vec<Request, A>, AllocError>
+) -> Result<Vec<CapturedRequest, A>, AllocError>
     requires { from + count ≤ length requests.now }
     ensures { IfOk result (λ v. v.items ≡ take count (drop from requests.now)) }
 {
@@ -68,10 +68,10 @@ fn requests_in<A: Allocator>(
 /// The bios, of which the requests are taken or not.
 fn bios_in<A: Allocator>(
     alloc: A,
-    bios: &[Bio],
+    bios: &[CapturedBio],
     from: usize,
     count: usize,
-) -> Result<Vec<Bio, A>, AllocError>
+) -> Result<Vec<CapturedBio, A>, AllocError>
     ensures { IfOk result (λ v. v.items ≡ map (bio_in from count) bios.now) }
 {
     bios.iter()

@@ -1,7 +1,7 @@
 //! Records of a capture: one step each that a block layer took, as blktrace and the tracepoints of `block` tell them.
 
 ghost use Rattle.std.specs.Prelude.{◌≡◌, ◌<◌, None, Some, IfErr, IfOk};
-ghost use Rattle.blk_capture.specs.Passing.{place_of, kind_place, passed_action, passed_op, passed_over, dir_of, op_by, action_by, letter_action};
+ghost use Rattle.blk_capture.specs.Passing.{place_of, kind_place, passed_action, passed_op, passed_over, dir_of_op, op_by, action_by, letter_action};
 ghost use Rattle.blk_capture.specs.Inside.LookupKeys.{writes};
 
 use blk_bio::{Dir, MAX_END, Side};
@@ -67,13 +67,13 @@ impl Action {
     }
 
     /// Why it is passed over, if it always is.
-    fn passed(self) -> Option<Passed>
+    fn passed(self) -> Option<PassReason>
         ensures { result ≡ passed_action self }
     {
         match self {
-            Action::Plug => Some(Passed::Plug),
-            Action::Unplug => Some(Passed::Unplug),
-            Action::Other => Some(Passed::Action),
+            Action::Plug => Some(PassReason::Plug),
+            Action::Unplug => Some(PassReason::Unplug),
+            Action::Other => Some(PassReason::Action),
             Action::Queue
             | Action::Get
             | Action::BackMerge
@@ -147,7 +147,7 @@ impl Op {
 
     /// Which way its data goes, if it moves any.
     pub fn dir(self) -> Option<Dir>
-        ensures { result ≡ dir_of self }
+        ensures { result ≡ dir_of_op self }
     {
         match self {
             Op::Read => Some(Dir::Read),
@@ -157,22 +157,22 @@ impl Op {
     }
 
     /// Why it is passed over, if it moves no data.
-    fn passed(self) -> Option<Passed>
+    fn passed(self) -> Option<PassReason>
         ensures { result ≡ passed_op self }
     {
         match self {
             Op::Read | Op::Write => None,
-            Op::Discard => Some(Passed::Discard),
-            Op::Erase => Some(Passed::Erase),
-            Op::Flush => Some(Passed::Flush),
-            Op::Nothing => Some(Passed::Nothing),
+            Op::Discard => Some(PassReason::Discard),
+            Op::Erase => Some(PassReason::Erase),
+            Op::Flush => Some(PassReason::Flush),
+            Op::Nothing => Some(PassReason::Nothing),
         }
     }
 }
 
 /// Why a record is passed over, by the first reason that it has.
 #[derive(Clone, Copy, Debug, PartialEq, Eq)]
-pub enum Passed {
+pub enum PassReason {
     /// A process began to plug.
     Plug,
     /// A process's plug was flushed.
@@ -193,21 +193,21 @@ pub enum Passed {
     PastEnd,
 }
 
-impl Passed {
+impl PassReason {
     /// Its number, from 0 on, in the order in which they stand here.
     pub fn place(self) -> u64
         ensures { result ≡ kind_place self }
     {
         match self {
-            Passed::Plug => 0,
-            Passed::Unplug => 1,
-            Passed::Action => 2,
-            Passed::Discard => 3,
-            Passed::Erase => 4,
-            Passed::Flush => 5,
-            Passed::Nothing => 6,
-            Passed::Empty => 7,
-            Passed::PastEnd => 8,
+            PassReason::Plug => 0,
+            PassReason::Unplug => 1,
+            PassReason::Action => 2,
+            PassReason::Discard => 3,
+            PassReason::Erase => 4,
+            PassReason::Flush => 5,
+            PassReason::Nothing => 6,
+            PassReason::Empty => 7,
+            PassReason::PastEnd => 8,
         }
     }
 }
@@ -263,7 +263,7 @@ impl Range {
     }
 
     /// The range of a record, unless it is passed over.
-    pub(crate) fn of(record: &Record) -> Result<Range, Passed>
+    pub(crate) fn of(record: &Record) -> Result<Range, PassReason>
         ensures ok { IfOk result (λ _. passed_over record.now ≡ None) }
         ensures err { IfErr result (λ kind. passed_over record.now ≡ Some kind) }
     {
@@ -274,10 +274,10 @@ impl Range {
             return Err(kind);
         }
         if record.sectors == 0 {
-            return Err(Passed::Empty);
+            return Err(PassReason::Empty);
         }
         if record.first > MAX_END || record.sectors > MAX_END - record.first {
-            return Err(Passed::PastEnd);
+            return Err(PassReason::PastEnd);
         }
         let dir = match record.op {
             Op::Write => Dir::Write,

@@ -4,19 +4,19 @@ ghost use Rattle.std.specs.Prelude.{◌≡◌, ◌≤◌, ◌<◌, ◌+◌, ℕ,
 ghost use Rattle.edd_commands.specs.Capacity.{fixed};
 ghost use Rattle.edd_commands.specs.Limits.{most_commands};
 ghost use Rattle.edd_commands.specs.Schedule.{IsLegal, RoundsInRange};
-ghost use Rattle.blk_capture.specs.Counting.{AreSolvable, IsCounted};
-ghost use Rattle.blk_capture.specs.Fates.{opens, makes, told, is_matched, passed_by, IsBelow, AreOfTaken, ArePassed};
+ghost use Rattle.blk_capture.specs.Counting.{AreSolvable, AreInRounds};
+ghost use Rattle.blk_capture.specs.Fates.{opens, makes, told, is_matched, passed_by, IsTakenBelow, AreOfTaken, ArePassed};
 ghost use Rattle.blk_capture.specs.Inside.Roles.{is_known, passed_role};
-ghost use Rattle.blk_capture.specs.Requests.{served_of, AreTimed, HaveBios, AreTallied, AreGone, AreInOrder, IsFirstFall, AreLate, entry_by, expire_of, sooner_of, deadline_of, IsDue, IsCaptureFault};
+ghost use Rattle.blk_capture.specs.Requests.{times_of, AreTimed, HaveBios, AreTallied, AreGone, AreInOrder, IsFirstFall, AgreeOnLateness, entry_by, expire_for, earlier_of, deadline_of, IsDue, IsCaptureFault};
 ghost use Rattle.blk_capture.specs.Inside.Taken.{IsRequestOf, Puts, ArePlacedBios, IsTalliedFrom, AreWithin, ArePlacedIn, IsPlaceOfOwn};
-ghost use Rattle.blk_capture.specs.declared.members.Queued.{Queued};
+ghost use Rattle.blk_capture.specs.declared.members.QueuedBio.{QueuedBio};
 ghost use Rattle.blk_capture.specs.Matched.{all_opened};
 
 use crate::clock::Dispatch;
-use crate::counting::{Schedule, Served, count_rounds};
+use crate::counting::{CountedSchedule, TimedRequest, count_rounds};
 use crate::fates::Fate;
 use crate::matching::{Matching, Opened, Role};
-use crate::members::Queued;
+use crate::members::QueuedBio;
 use crate::record::{Action, Record};
 use blk_bio::Dir;
 use std::alloc::{AllocError, Allocator, Global};
@@ -52,7 +52,7 @@ pub enum CaptureFault {
 
 /// A request that went out to the device. Times are those of the records.
 #[derive(Clone, Copy, Debug, PartialEq, Eq)]
-pub struct Request {
+pub struct CapturedRequest {
     /// Which way its data goes.
     pub dir: Dir,
     /// Its first sector.
@@ -85,7 +85,7 @@ pub struct Request {
 
 /// A bio, as it was queued or cut from one that was.
 #[derive(Clone, Copy, Debug, PartialEq, Eq)]
-pub struct Bio {
+pub struct CapturedBio {
     /// Which way its data goes.
     pub dir: Dir,
     /// Its first sector.
@@ -120,8 +120,8 @@ fn entry_of(opened: &Opened, options: &Options) -> u64
 }
 
 /// How long after it came in a request of a direction is due.
-fn expire_of(options: &Options, dir: Dir) -> u64
-    ensures { result ≡ expire_of options.now dir }
+fn expire_for(options: &Options, dir: Dir) -> u64
+    ensures { result ≡ expire_for options.now dir }
 {
     match dir {
         Dir::Read => options.read_expire,
@@ -131,7 +131,7 @@ fn expire_of(options: &Options, dir: Dir) -> u64
 
 /// The sooner of two times, of which one may be unknown.
 fn sooner(earlier: Option<u64>, time: u64) -> u64
-    ensures { result ≡ sooner_of earlier time }
+    ensures { result ≡ earlier_of earlier time }
 {
     match earlier {
         Some(earlier) => earlier.min(time),
@@ -143,7 +143,7 @@ fn sooner(earlier: Option<u64>, time: u64) -> u64
 fn deadline_of(options: &Options, dir: Dir, entry: u64, earlier: Option<u64>) -> u64
     ensures { result ≡ deadline_of options.now dir entry earlier }
 {
-    sooner(earlier, entry.saturating_add(expire_of(options, dir)))
+    sooner(earlier, entry.saturating_add(expire_for(options, dir)))
 }
 
 /// The same of each.
@@ -215,7 +215,7 @@ fn request_of<A: Allocator + Clone>(
     options: &Options,
     number: usize,
     dispatch: Dispatch,
-) -> Option<Request>
+) -> Option<CapturedRequest>
     ensures of { IfSome result (IsRequestOf lives.now matching.now.members.openers.items dispatch) }
     ensures due { IfSome result (IsDue options.now) }
 {
@@ -232,7 +232,7 @@ fn request_of<A: Allocator + Clone>(
     if life.root != place || entry > dispatch.time || !opened.goes_out_by(number) {
         return None;
     }
-    Some(Request {
+    Some(CapturedRequest {
         dir: opened.range.dir,
         first: opened.range.first,
         sectors: opened.range.sectors(),
@@ -253,13 +253,13 @@ fn request_of<A: Allocator + Clone>(
 /// The requests that are taken, in the order of their dispatches, and by request its place among them, if it is taken.
 #[derive(Drop)]
 struct Taken<A: Allocator = Global> {
-    requests: Vec<Request, A>,
+    requests: Vec<CapturedRequest, A>,
     places: Vec<Option<usize>, A>,
 }
 
 impl<A: Allocator + Clone> Taken<A> {
     /// Takes the request of a number, unless it is taken.
-    fn put(&mut self, number: usize, request: Request) -> Result<(), AllocError>
+    fn put(&mut self, number: usize, request: CapturedRequest) -> Result<(), AllocError>
         ensures { OnOk result (Puts number request self.old self.new) }
     {
         let Some(None) = self.places.get(number).copied() else {
@@ -340,16 +340,16 @@ fn place_of(lives: &[Life], places: &[Option<usize>], request: Option<usize>) ->
 /// The bios, with the places of the requests that they went out with.
 fn bios_of<A: Allocator + Clone>(
     alloc: A,
-    queued: &[Queued],
+    queued: &[QueuedBio],
     lives: &[Life],
     places: &[Option<usize>],
-) -> Result<Vec<Bio, A>, AllocError>
+) -> Result<Vec<CapturedBio, A>, AllocError>
     ensures placed { IfOk result (λ v. ArePlacedBios lives.now places.now queued.now (length queued.now) v.items) }
     ensures within { (n : ℕ) → AreWithin n places.now → IfOk result (λ v. AreGone n v.items) }
 {
     let mut bios = Vec::with_capacity(alloc, queued.len())?;
     for bio in queued {
-        bios.push(Bio {
+        bios.push(CapturedBio {
             dir: bio.range.dir,
             first: bio.range.first,
             sectors: bio.range.sectors(),
@@ -362,7 +362,7 @@ fn bios_of<A: Allocator + Clone>(
 }
 
 /// The place of the request that the bio of a number went out with.
-fn bio_place(bios: &[Bio], bio: usize) -> Option<usize>
+fn bio_place(bios: &[CapturedBio], bio: usize) -> Option<usize>
     ensures { (n : ℕ) → AreGone n bios.now → IfSome result (λ k. k < n) }
 {
     if bio >= bios.len() {
@@ -375,7 +375,7 @@ fn bio_place(bios: &[Bio], bio: usize) -> Option<usize>
 fn fate_at(place: Option<usize>) -> Fate
     ensures matched { is_matched result ≡ true }
     ensures passed { passed_by result ≡ None }
-    ensures below { (n : ℕ) → IfSome place (λ k. k < n) → IsBelow n result }
+    ensures below { (n : ℕ) → IfSome place (λ k. k < n) → IsTakenBelow n result }
 {
     match place {
         Some(place) => Fate::Taken(place),
@@ -384,10 +384,10 @@ fn fate_at(place: Option<usize>) -> Fate
 }
 
 /// What became of a record, as its bio or its request was taken or not.
-fn fate_of(role: Role, bios: &[Bio], lives: &[Life], places: &[Option<usize>]) -> Fate
+fn fate_of(role: Role, bios: &[CapturedBio], lives: &[Life], places: &[Option<usize>]) -> Fate
     ensures matched { is_matched result ≡ is_known role }
     ensures passed { passed_by result ≡ passed_role role }
-    ensures below { (n : ℕ) → AreWithin n places.now → AreGone n bios.now → IsBelow n result }
+    ensures below { (n : ℕ) → AreWithin n places.now → AreGone n bios.now → IsTakenBelow n result }
 {
     match role {
         Role::Bio(bio) => fate_at(bio_place(bios, bio)),
@@ -401,7 +401,7 @@ fn fate_of(role: Role, bios: &[Bio], lives: &[Life], places: &[Option<usize>]) -
 fn fates_of<A: Allocator + Clone>(
     alloc: A,
     roles: &[Role],
-    bios: &[Bio],
+    bios: &[CapturedBio],
     lives: &[Life],
     places: &[Option<usize>],
 ) -> Result<Vec<Fate, A>, AllocError>
@@ -417,7 +417,10 @@ fn fates_of<A: Allocator + Clone>(
 }
 
 /// The requests with the numbers of their bios, of which none is counted yet.
-fn count_bios<A: Allocator + Clone>(requests: Vec<Request, A>, bios: &[Bio]) -> Vec<Request, A>
+fn count_bios<A: Allocator + Clone>(
+    requests: Vec<CapturedRequest, A>,
+    bios: &[CapturedBio],
+) -> Vec<CapturedRequest, A>
     requires { All (λ q. q.bios ≡ 0) requests.items }
     ensures { IsTalliedFrom requests.items result.items bios.now }
 {
@@ -426,7 +429,7 @@ fn count_bios<A: Allocator + Clone>(requests: Vec<Request, A>, bios: &[Bio]) -> 
         if let Some(place) = bio.request {
             if place < requests.len() {
                 let request = requests[place];
-                requests[place] = Request {
+                requests[place] = CapturedRequest {
                     bios: request.bios + 1,
                     ..request
                 };
@@ -440,9 +443,9 @@ fn count_bios<A: Allocator + Clone>(requests: Vec<Request, A>, bios: &[Bio]) -> 
 #[derive(Drop)]
 pub struct Matched<A: Allocator = Global> {
     /// The requests that are taken, in the order in which they went out.
-    pub requests: Vec<Request, A>,
+    pub requests: Vec<CapturedRequest, A>,
     /// The bios that were queued.
-    pub bios: Vec<Bio, A>,
+    pub bios: Vec<CapturedBio, A>,
     /// By record, what became of it.
     pub fates: Vec<Fate, A>,
     /// How many requests were opened and then merged into others.
@@ -580,13 +583,13 @@ fn match_in_order<A: Allocator + Clone>(
 /// exactly where it went out after its deadline. At most [`edd_commands::MAX_COMMANDS`] requests.
 pub fn rounds_of<A: Allocator + Clone>(
     alloc: A,
-    requests: &[Request],
-) -> Result<Schedule<A>, AllocError>
+    requests: &[CapturedRequest],
+) -> Result<CountedSchedule<A>, AllocError>
     requires timed { AreTimed requests.now }
     requires few { length requests.now ≤ most_commands }
-    ensures counted { IfOk result (λ s. IsCounted (map served_of requests.now) s.commands.items s.rounds.items) }
+    ensures counted { IfOk result (λ s. AreInRounds (map times_of requests.now) s.commands.items s.rounds.items) }
     ensures legal { IfOk result (λ s. IsLegal s.commands.items s.rounds.items (fixed 1)) }
-    ensures late { IfOk result (λ s. AreLate requests.now s.commands.items s.rounds.items) }
+    ensures late { IfOk result (λ s. AgreeOnLateness requests.now s.commands.items s.rounds.items) }
     ensures solvable { IfOk result (λ s. AreSolvable s.commands.items) }
     ensures in_range { IfOk result (λ s. RoundsInRange s.rounds.items) }
 {
@@ -595,12 +598,15 @@ pub fn rounds_of<A: Allocator + Clone>(
 }
 
 /// What of requests is counted in rounds.
-fn served<A: Allocator>(alloc: A, requests: &[Request]) -> Result<Vec<Served, A>, AllocError>
-    ensures { IfOk result (λ v. v.items ≡ map served_of requests.now) }
+fn served<A: Allocator>(
+    alloc: A,
+    requests: &[CapturedRequest],
+) -> Result<Vec<TimedRequest, A>, AllocError>
+    ensures { IfOk result (λ v. v.items ≡ map times_of requests.now) }
 {
     requests
         .iter()
-        .map(|request| Served {
+        .map(|request| TimedRequest {
             entry: request.entry,
             deadline: request.deadline,
             dispatch: request.dispatched,

@@ -5,12 +5,12 @@ ghost use Rattle.std.specs.List.{filter_map};
 ghost use Rattle.std.specs.List.Sorted.{IsNonDecreasingBy};
 ghost use Rattle.edd_commands.specs.Limits.{most_commands};
 ghost use Rattle.blk_capture.specs.Requests.{AreTimed};
-ghost use Rattle.blk_capture.specs.Summaries.{is_late, is_gone, wait_by, at_rank, spread_of, IsSpread, IsMostInFlight, in_flight_at, back_by, out_by};
+ghost use Rattle.blk_capture.specs.Summaries.{is_late_request, is_dispatched, wait_by, at_percent, spread_of, IsSpread, IsMostInFlight, in_flight_at, back_by, out_by};
 ghost use Rattle.blk_capture.specs.Matched.{IsSummaryOf};
 
 use crate::fates::{Fate, tally_of};
 use crate::record::{Action, Record};
-use crate::requests::{Bio, Matched, Request};
+use crate::requests::{CapturedBio, CapturedRequest, Matched};
 use blk_bio::Dir;
 use std::alloc::{AllocError, Allocator};
 
@@ -64,8 +64,8 @@ pub struct Summary {
 }
 
 /// Whether a request goes that way, and went out after its deadline.
-fn is_late(request: &Request, dir: Dir) -> bool
-    ensures { result ≡ is_late dir request.now }
+fn is_late_request(request: &CapturedRequest, dir: Dir) -> bool
+    ensures { result ≡ is_late_request dir request.now }
 {
     let goes = match (request.dir, dir) {
         (Dir::Read, Dir::Read) => true,
@@ -77,12 +77,12 @@ fn is_late(request: &Request, dir: Dir) -> bool
 }
 
 /// How many of the requests of a direction went out after their deadline, by the clock.
-pub fn count_late(requests: &[Request], dir: Dir) -> u64
-    ensures { result ≡ count_by (is_late dir) requests.now }
+pub fn count_late(requests: &[CapturedRequest], dir: Dir) -> u64
+    ensures { result ≡ count_by (is_late_request dir) requests.now }
 {
     let mut count = 0;
     for request in requests {
-        if is_late(request, dir) {
+        if is_late_request(request, dir) {
             count += 1;
         }
     }
@@ -90,8 +90,8 @@ pub fn count_late(requests: &[Request], dir: Dir) -> u64
 }
 
 /// How many of the bios went out with a request that is taken.
-fn count_gone(bios: &[Bio]) -> u64
-    ensures { result ≡ count_by is_gone bios.now }
+fn count_gone(bios: &[CapturedBio]) -> u64
+    ensures { result ≡ count_by is_dispatched bios.now }
 {
     let mut count = 0;
     for bio in bios {
@@ -103,7 +103,7 @@ fn count_gone(bios: &[Bio]) -> u64
 }
 
 /// How long a request waited, if both ends are known.
-fn wait_of(wait: Wait, request: &Request) -> Option<u64>
+fn wait_of(wait: Wait, request: &CapturedRequest) -> Option<u64>
     ensures { result ≡ wait_by wait request.now }
 {
     match wait {
@@ -120,10 +120,10 @@ fn wait_of(wait: Wait, request: &Request) -> Option<u64>
 }
 
 /// The number at the nearest rank of `percent`.
-fn at_rank(sorted: &[u64], percent: usize) -> Option<u64>
+fn at_percent(sorted: &[u64], percent: usize) -> Option<u64>
     requires few { length sorted.now ≤ most_commands }
     requires part { percent ≤ 100 }
-    ensures { result ≡ at_rank percent sorted.now }
+    ensures { result ≡ at_percent percent sorted.now }
 {
     let rank = (percent * sorted.len() + 99) / 100;
     sorted.get(rank.saturating_sub(1)).copied()
@@ -136,16 +136,16 @@ fn of_sorted(sorted: &[u64]) -> Spread
 {
     Spread {
         count: sorted.len() as u64,
-        p50: at_rank(sorted, 50),
-        p99: at_rank(sorted, 99),
-        max: at_rank(sorted, 100),
+        p50: at_percent(sorted, 50),
+        p99: at_percent(sorted, 99),
+        max: at_percent(sorted, 100),
     }
 }
 
 /// The waits of the requests of which both ends are known.
 fn waits<A: Allocator>(
     alloc: A,
-    requests: &[Request],
+    requests: &[CapturedRequest],
     wait: Wait,
 ) -> Result<Vec<u64, A>, AllocError>
     ensures { IfOk result (λ v. v.items ≡ filter_map (wait_by wait) requests.now) }
@@ -170,7 +170,7 @@ fn spread_of(values: &mut [u64]) -> Spread
 #[tactic(auto, using(crate::proofs::Flying::few_known))]
 pub fn spread_waits<A: Allocator>(
     alloc: A,
-    requests: &[Request],
+    requests: &[CapturedRequest],
     wait: Wait,
 ) -> Result<Spread, AllocError>
     requires { length requests.now ≤ most_commands }
@@ -181,7 +181,7 @@ pub fn spread_waits<A: Allocator>(
 }
 
 /// Puts the times in order at which requests were completed.
-fn put_in_order(requests: &[Request], times: &mut [u64])
+fn put_in_order(requests: &[CapturedRequest], times: &mut [u64])
     requires { times.old ≡ filter_map (λ q. q.completed) requests.now }
     ensures rising { IsNonDecreasingBy (λ x. x) times.new }
     ensures counted { (t : ℕ) → count_by (λ x. nat_le x t) times.new ≡ count_by (back_by t) requests.now }
@@ -192,7 +192,10 @@ fn put_in_order(requests: &[Request], times: &mut [u64])
 }
 
 /// When the requests were completed that were.
-fn completions<A: Allocator>(alloc: A, requests: &[Request]) -> Result<Vec<u64, A>, AllocError>
+fn completions<A: Allocator>(
+    alloc: A,
+    requests: &[CapturedRequest],
+) -> Result<Vec<u64, A>, AllocError>
     ensures { IfOk result (λ v. v.items ≡ filter_map (λ q. q.completed) requests.now) }
 {
     requests
@@ -202,7 +205,7 @@ fn completions<A: Allocator>(alloc: A, requests: &[Request]) -> Result<Vec<u64, 
 }
 
 /// How many of the requests went out by a time. It is found by halves.
-fn count_out(requests: &[Request], time: u64) -> usize
+fn count_out(requests: &[CapturedRequest], time: u64) -> usize
     requires { AreTimed requests.now }
     ensures { result ≡ count_by (out_by time) requests.now }
 {
@@ -218,7 +221,7 @@ fn count_upto(times: &[u64], time: u64) -> usize
 }
 
 /// How many of the requests were at the device at a time: they went out by then, and weren't completed.
-fn in_flight_at(requests: &[Request], completions: &[u64], time: u64) -> u64
+fn in_flight_at(requests: &[CapturedRequest], completions: &[u64], time: u64) -> u64
     requires timed { AreTimed requests.now }
     requires sorted { IsNonDecreasingBy (λ x. x) completions.now }
     requires counted { (t : ℕ) → count_by (λ x. nat_le x t) completions.now ≡ count_by (back_by t) requests.now }
@@ -230,7 +233,7 @@ fn in_flight_at(requests: &[Request], completions: &[u64], time: u64) -> u64
 }
 
 /// The most of the requests that were at the device at once, by the times at which requests were completed.
-fn most_at_once(requests: &[Request], completions: &mut [u64]) -> u64
+fn most_at_once(requests: &[CapturedRequest], completions: &mut [u64]) -> u64
     requires timed { AreTimed requests.now }
     requires completed { completions.old ≡ filter_map (λ q. q.completed) requests.now }
     ensures { IsMostInFlight requests.now result }
@@ -248,7 +251,10 @@ fn most_at_once(requests: &[Request], completions: &mut [u64]) -> u64
 
 /// The most of the requests that were at the device at once. What was completed at the very time of a dispatch was back by then. The requests
 /// are as [`crate::match_records`] gives them. Fails only when out of memory. The time grows as n log n.
-pub fn most_in_flight<A: Allocator>(alloc: A, requests: &[Request]) -> Result<u64, AllocError>
+pub fn most_in_flight<A: Allocator>(
+    alloc: A,
+    requests: &[CapturedRequest],
+) -> Result<u64, AllocError>
     requires { AreTimed requests.now }
     ensures { IfOk result (IsMostInFlight requests.now) }
 {

@@ -1,15 +1,15 @@
 //! Requests as rows of a table.
 
 ghost use Rattle.std.specs.Prelude.{◌≡◌, ◌<◌, ◌^◌, IfOk};
-ghost use Rattle.blk_capture.specs.Tables.{known_since, row_at, AreRows};
+ghost use Rattle.blk_capture.specs.Tables.{known_since, request_row, AreRequestRows};
 
-use crate::requests::Request;
+use crate::requests::CapturedRequest;
 use blk_bio::Dir;
 use std::alloc::{AllocError, Allocator};
 
 /// A request as a row of a table. Times are in nanoseconds from a beginning, 0 where they lie before it, and None where they aren't known.
 #[derive(Clone, Copy, Debug, PartialEq, Eq)]
-pub struct Row {
+pub struct RequestRow {
     /// The number of its dispatch, from 1 on, which is its id and its round in the schedule.
     pub id: u64,
     /// Which way its data goes.
@@ -45,11 +45,11 @@ fn known_since(begin: u64, time: Option<u64>) -> Option<u64>
 }
 
 /// The row of the request at a place.
-fn row_of(begin: u64, place: usize, request: &Request) -> Row
+fn row_of(begin: u64, place: usize, request: &CapturedRequest) -> RequestRow
     requires { place < 2 ^ 63 }
-    ensures { result ≡ row_at begin place request.now }
+    ensures { result ≡ request_row begin place request.now }
 {
-    Row {
+    RequestRow {
         id: place as u64 + 1,
         dir: request.dir,
         first: request.first,
@@ -68,10 +68,10 @@ fn row_of(begin: u64, place: usize, request: &Request) -> Row
 /// of the request that has this id in the schedule that [`crate::rounds_of`] makes. Fails only when out of memory.
 pub fn rows_of<A: Allocator>(
     alloc: A,
-    requests: &[Request],
+    requests: &[CapturedRequest],
     begin: u64,
-) -> Result<Vec<Row, A>, AllocError>
-    ensures { IfOk result (λ v. AreRows begin requests.now v.items) }
+) -> Result<Vec<RequestRow, A>, AllocError>
+    ensures { IfOk result (λ v. AreRequestRows begin requests.now v.items) }
 {
     let mut rows = Vec::with_capacity(alloc, requests.len())?;
     for (place, request) in requests.iter().enumerate() {

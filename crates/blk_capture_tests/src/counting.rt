@@ -1,12 +1,12 @@
 //! Requests counted in rounds, worked by hand.
 
-use blk_capture::{Served, are_served, count_rounds};
+use blk_capture::{TimedRequest, are_served, count_rounds};
 use edd_commands::Command;
 use refusing::Refusing;
 
 /// A request by when it came in, was due and went out.
-fn served(entry: u64, deadline: u64, dispatch: u64) -> Served {
-    Served {
+fn served(entry: u64, deadline: u64, dispatch: u64) -> TimedRequest {
+    TimedRequest {
         entry,
         deadline,
         dispatch,

@@ -1,6 +1,8 @@
 //! What the tests are given: records by blktrace's letters, and what is seen of what they are matched to.
 
-use blk_capture::{Action, Entry, Fate, Matched, Op, Options, Record, Request, match_records};
+use blk_capture::{
+    Action, CapturedRequest, Entry, Fate, Matched, Op, Options, Record, match_records,
+};
 use refusing::Refusing;
 use std::alloc::Global;
 use std::process::Abort;
@@ -83,7 +85,7 @@ fn letter_of(fate: Fate) -> u8 {
 pub type Row = (u64, u64, u64, u64, u64, u64);
 
 /// What of a request is looked at.
-fn row_of(request: &Request) -> Row {
+fn row_of(request: &CapturedRequest) -> Row {
     (
         request.first,
         request.sectors,

@@ -2,7 +2,7 @@
 
 use crate::given::{Line, records_of, usual};
 use blk_bio::Dir;
-use blk_capture::{Options, Row, Spread, Summary, match_records, rows_of, summarize};
+use blk_capture::{Options, RequestRow, Spread, Summary, match_records, rows_of, summarize};
 
 /// A read that is late and a write that isn't, each from its queueing to its end.
 const LINES: [Line; 10] = [
@@ -56,7 +56,7 @@ fn in_numbers(rt: HostRuntime) {
     let Ok(rows) = rows_of(rt.alloc(), matched.requests.as_slice(), 10) else {
         panic!(rt; "memory");
     };
-    let second = Row {
+    let second = RequestRow {
         id: 2,
         dir: Dir::Write,
         first: 64,

@@ -1,7 +1,7 @@
 //! Records counted by their actions, and the letters of what they do.
 
 use crate::given::{Line, records_of, usual};
-use blk_capture::{Action, Op, Passed, Tally, count_passed, match_records, tally_of};
+use blk_capture::{Action, ActionTally, Op, PassReason, count_passed, match_records, tally_of};
 
 /// Of each action the records of requests that are taken, those of others, the unmatched and those passed over add up to all.
 #[test]
@@ -24,7 +24,7 @@ fn by_action(rt: HostRuntime) {
         panic!(rt; "memory");
     };
     let queued = tally_of(records.as_slice(), matched.fates.as_slice(), Action::Queue);
-    let wanted = Tally {
+    let wanted = ActionTally {
         records: 5,
         taken: 1,
         left_out: 1,
@@ -40,12 +40,12 @@ fn by_action(rt: HostRuntime) {
     assert_eq!(rt; completed.taken, 1);
     assert_eq!(rt; completed.unmatched, 1);
     let fates = matched.fates.as_slice();
-    assert_eq!(rt; count_passed(fates, Passed::Plug), 1);
-    assert_eq!(rt; count_passed(fates, Passed::Unplug), 1);
-    assert_eq!(rt; count_passed(fates, Passed::Discard), 1);
-    assert_eq!(rt; count_passed(fates, Passed::Empty), 1);
-    assert_eq!(rt; count_passed(fates, Passed::PastEnd), 1);
-    assert_eq!(rt; count_passed(fates, Passed::Action), 0);
+    assert_eq!(rt; count_passed(fates, PassReason::Plug), 1);
+    assert_eq!(rt; count_passed(fates, PassReason::Unplug), 1);
+    assert_eq!(rt; count_passed(fates, PassReason::Discard), 1);
+    assert_eq!(rt; count_passed(fates, PassReason::Empty), 1);
+    assert_eq!(rt; count_passed(fates, PassReason::PastEnd), 1);
+    assert_eq!(rt; count_passed(fates, PassReason::Action), 0);
 }
 
 /// As blktrace writes them: a flush before a write, a write that is on the medium when it is done, one of zeroes, a read ahead, a discard, an

@@ -24,9 +24,9 @@ use Rattle.blk_lists.proofs.Each.{one_record, one_version}
 use Rattle.blk_lists.proofs.Reading.{MadeOf, Fitting, made_more, fit_next, items_wrong, items_over, items_full, few_count, stopped, outside_fails, many_fails, past_wrong, full_stopped, then_reads, hand_reads, first_halts, second_halts, lines_halt}
 use Rattle.blk_lists.proofs.Texts.{text_back}
 use Rattle.blk_capture_text.specs.Steps.{time_at, record_at, IsStep, StepLacks}
-use Rattle.blk_capture_text.specs.Captures.{title_cells, title, last_time, step_after, steps_body, capture_form, capture_rows, AreCapture, SpellsCapture, CaptureTextFault}
+use Rattle.blk_capture_text.specs.Captures.{title_cells, capture_title_part, last_time, record_after, steps_body, capture_form, capture_rows, AreCapture, SpellsCapture, CaptureTextFault}
 use Rattle.blk_capture_text.specs.Taking.{HasSteps, AreTaken}
-use Rattle.blk_capture_text.specs.declared.reading.Steps.{Steps}
+use Rattle.blk_capture_text.specs.declared.reading.StepsRead.{StepsRead}
 use Rattle.blk_capture_text.specs.declared.reading.TheConstants.{MAX_RECORDS}
 use Rattle.blk_capture_text.proofs.StepLaws.{step_tells, step_decided}
 
@@ -42,42 +42,42 @@ title_table version = record {
   fits = λ x f. tt;
 }
 
-pub title_one : IsOne title
+pub title_one : IsOne capture_title_part
 title_one = record { tells = title_part (codes "blk-capture") 1 title_cells (λ _ _. Unit {0}) (omega arith) title_table; plain = λ v rest fit. tt; one = λ v. refl }
 
 -- a record
 
-pub step_one : (before : List Row) → IsOne (step_after before)
+pub step_one : (before : List Row) → IsOne (record_after before)
 step_one before = one_record (λ row. row) (IsStep (last_time before)) why.Count (StepLacks (last_time before)) (step_tells (last_time before))
 
-step_decides : (before : List Row) → Decides (step_after before)
+step_decides : (before : List Row) → Decides (record_after before)
 step_decides before = record_decides (λ row. row) (IsStep (last_time before)) why.Count (StepLacks (last_time before)) (λ row. elim (step_decided (last_time before) row) [
   | inl s ↦ inl (row, s, refl)
   | inr w ↦ inr w
 ])
 
-some_rows : HasRows step_after
+some_rows : HasRows record_after
 some_rows s v fit e = cc e
 
 body_tells : Tells steps_body
-body_tells = ended_tells (repeats.AtMost MAX_RECORDS) why.TooLong step_after step_after with_next (λ s. (step_one s).tells) (λ s. (step_one s).plain) some_rows (λ s. (step_one s).tells) []
+body_tells = ended_tells (repeats.AtMost MAX_RECORDS) why.TooLong record_after record_after with_next (λ s. (step_one s).tells) (λ s. (step_one s).plain) some_rows (λ s. (step_one s).tells) []
 
 body_decides : Decides steps_body
-body_decides = ended_decides (repeats.AtMost MAX_RECORDS) why.TooLong step_after step_after with_next step_decides step_decides []
+body_decides = ended_decides (repeats.AtMost MAX_RECORDS) why.TooLong record_after record_after with_next step_decides step_decides []
 
 pub capture_tells : Tells capture_form
-capture_tells = then_tells title (λ _. steps_body) title_one.tells (λ t fit. body_tells)
+capture_tells = then_tells capture_title_part (λ _. steps_body) title_one.tells (λ t fit. body_tells)
 
 capture_decides : Decides capture_form
-capture_decides = then_decides title (λ _. steps_body) (title_decides (codes "blk-capture") 1 title_cells (λ _ _. Unit {0}) (omega arith) title_table) (λ t fit. body_decides)
+capture_decides = then_decides capture_title_part (λ _. steps_body) (title_decides (codes "blk-capture") 1 title_cells (λ _ _. Unit {0}) (omega arith) title_table) (λ t fit. body_decides)
 
 -- the rows of records are themselves
 
-same_rows : (s vs : List Row) → all_rows step_after with_next s vs ≡ vs
+same_rows : (s vs : List Row) → all_rows record_after with_next s vs ≡ vs
 same_rows s [] = refl
 same_rows s (v ∷ vs) = ap (λ (t : List Row). v ∷ t) (same_rows (s ++ v ∷ []) vs)
 
-pub size_steps : (vs : List Row) → size_of step_after vs ≡ length vs
+pub size_steps : (vs : List Row) → size_of record_after vs ≡ length vs
 size_steps vs = ap length (same_rows [] vs)
 
 last_after : (s : List Row) (v : Row) → last_time (s ++ v ∷ []) ≡ time_at v
@@ -87,13 +87,13 @@ last_after (r ∷ n ∷ s) v = last_after (n ∷ s) v
 
 -- times don't fall
 
-rising : (s vs : List Row) → AllFit step_after with_next s vs → (k : ℕ) (d : Row) → suc k < length vs → time_at (get_or vs k d) ≤ time_at (get_or vs (suc k) d)
+rising : (s vs : List Row) → AllFit record_after with_next s vs → (k : ℕ) (d : Row) → suc k < length vs → time_at (get_or vs k d) ≤ time_at (get_or vs (suc k) d)
 rising s [] f k d l = absurd (omega (arith, l))
 rising s (v ∷ []) f k d l = absurd (omega (arith, l))
 rising s (v ∷ u ∷ us) f zero d l = let up = f.1.0.order in omega (arith, up, last_after s v)
 rising s (v ∷ u ∷ us) f (suc k) d l = rising (s ++ v ∷ []) (u ∷ us) f.1 k d (omega (arith, l))
 
-pub fit_in_order : (vs : List Row) (cs : List Record) → cs ≡ map record_at vs → AllFit step_after with_next [] vs → AreInOrder cs (length cs)
+pub fit_in_order : (vs : List Row) (cs : List Record) → cs ≡ map record_at vs → AllFit record_after with_next [] vs → AreInOrder cs (length cs)
 fit_in_order vs cs e f = rw e (λ k d l. ordered k d (omega (arith, l, length-map vs record_at)))
   where
     empty : Row
@@ -131,7 +131,7 @@ row_back : (last : ℕ) (row : Row) → IsStep last row → read_back row ≡ ro
 row_back last [] s = absurd (let none : 0 ≡ 8 = s.width in omega (arith, none))
 row_back last (x ∷ xs) s = refl
 
-rows_back : (s vs : List Row) → AllFit step_after with_next s vs → map read_back (all_rows step_after with_next s vs ++ []) ≡ all_rows step_after with_next s vs ++ []
+rows_back : (s vs : List Row) → AllFit record_after with_next s vs → map read_back (all_rows record_after with_next s vs ++ []) ≡ all_rows record_after with_next s vs ++ []
 rows_back s [] f = refl
 rows_back s (v ∷ vs) f = let first = row_back (last_time s) v f.0 in let others = rows_back (s ++ v ∷ []) vs f.1 in cc (first, others)
 
@@ -143,32 +143,32 @@ read_back_is steps h =
 
 -- reading
 
-pub capture_read : (left mid : Option (List Row)) (version : ℕ) (steps : List Row) (cs : List Record) → Reads title left mid (version, tt) → IsVersion 1 version → cs ≡ map record_at steps
+pub capture_read : (left mid : Option (List Row)) (version : ℕ) (steps : List Row) (cs : List Record) → Reads capture_title_part left mid (version, tt) → IsVersion 1 version → cs ≡ map record_at steps
     → IfSome mid (λ rows. Begins steps_body rows steps []) → IfSome left (λ rows. SpellsCapture rows cs)
 capture_read None mid version steps cs h v e k = tt
-capture_read (Some rows) mid version steps cs h v e k = (steps, e, spelled rows steps version v (then_reads title (λ _. steps_body) (Some rows) mid (version, tt) steps h k))
+capture_read (Some rows) mid version steps cs h v e k = (steps, e, spelled rows steps version v (then_reads capture_title_part (λ _. steps_body) (Some rows) mid (version, tt) steps h k))
 
 -- rows that were taken so far
-pub record IsTaken (s : Steps) (input left : Option (List Row)) (n : ℕ) : Type 0 where
+pub record IsTaken (s : StepsRead) (input left : Option (List Row)) (n : ℕ) : Type 0 where
   pub rows : List Row
   pub has : HasSteps s rows
   pub count : length rows ≡ n
-  pub fit : Fitting step_after rows
-  pub made : MadeOf step_after input rows left
+  pub fit : Fitting record_after rows
+  pub made : MadeOf record_after input rows left
 
-made_none : (left : Option (List Row)) → MadeOf step_after left [] left
+made_none : (left : Option (List Row)) → MadeOf record_after left [] left
 made_none None = tt
 made_none (Some rows) = (rows, refl, refl)
 
-pub taken_more : (s t : Steps) (input left mid : Option (List Row)) (n : ℕ) (row : Row) → IsTaken s input left n → TakesRecord left mid row true → IsStep s.last row → t.records.items ≡ s.records.items ++ record_at row ∷ [] → t.last ≡ time_at row
+pub taken_more : (s t : StepsRead) (input left mid : Option (List Row)) (n : ℕ) (row : Row) → IsTaken s input left n → TakesRecord left mid row true → IsStep s.last row → t.records.items ≡ s.records.items ++ record_at row ∷ [] → t.last ≡ time_at row
     → IsTaken t input mid (n + 1)
 taken_more s t input left mid n row g taken step items last =
     let fits : IsStep (last_time g.rows) row = rw g.has.1 at step in record {
       rows = g.rows ++ row ∷ [];
       has = (items ∙ ap (λ (z : List Record). z ++ record_at row ∷ []) g.has.0 ∙ sym (map-append record_at g.rows (row ∷ [])), last ∙ sym (last_after g.rows row));
       count = let c = g.count in omega (arith, c, length_one g.rows);
-      fit = fit_next step_after g.rows row g.fit fits;
-      made = made_more step_after input left mid mid g.rows row row g.made taken (hand_reads (step_after g.rows) mid row row (λ rest. record { fits = fits; made = refl; follows = tt }));
+      fit = fit_next record_after g.rows row g.fit fits;
+      made = made_more record_after input left mid mid g.rows row row g.made taken (hand_reads (record_after g.rows) mid row row (λ rest. record { fits = fits; made = refl; follows = tt }));
     }
   where
     length_one : (rows : List Row) → length (rows ++ row ∷ []) ≡ length rows + 1
@@ -178,78 +178,78 @@ taken_more s t input left mid n row g taken step items last =
 abbrev at_most : Repeats
 at_most = repeats.AtMost MAX_RECORDS
 
-pub taken_over : (s : Steps) (input left mid : Option (List Row)) (n start at : ℕ) (row : Row) → IsTaken s input left n → n < MAX_RECORDS → TakesRecord left mid row false → at ≡ start + n + 1 → AreTaken s input mid start at true
+pub taken_over : (s : StepsRead) (input left mid : Option (List Row)) (n start at : ℕ) (row : Row) → IsTaken s input left n → n < MAX_RECORDS → TakesRecord left mid row false → at ≡ start + n + 1 → AreTaken s input mid start at true
 taken_over s input left mid n start at row g less taken e =
     let c = g.count in
     let few : length g.rows < MAX_RECORDS = omega (arith, c, less) in
-    (g.rows, g.has, (items_over step_after at_most MAX_RECORDS input left mid g.rows row refl g.made taken g.fit few, (g.fit, few_count at_most MAX_RECORDS (length g.rows) refl few), omega (arith, e, c, size_steps g.rows), tt))
+    (g.rows, g.has, (items_over record_after at_most MAX_RECORDS input left mid g.rows row refl g.made taken g.fit few, (g.fit, few_count at_most MAX_RECORDS (length g.rows) refl few), omega (arith, e, c, size_steps g.rows), tt))
 
-pub taken_full : (s : Steps) (input left : Option (List Row)) (n start at : ℕ) → IsTaken s input left n → n ≡ MAX_RECORDS → at ≡ start + n → AreTaken s input left start at false
+pub taken_full : (s : StepsRead) (input left : Option (List Row)) (n start at : ℕ) → IsTaken s input left n → n ≡ MAX_RECORDS → at ≡ start + n → AreTaken s input left start at false
 taken_full s input left n start at g full e =
     let c = g.count in
     let all : length g.rows ≡ MAX_RECORDS = c ∙ full in
-    (g.rows, g.has, (items_full step_after at_most input left g.rows g.made g.fit all, (g.fit, omega (arith, all)), all, omega (arith, e, c, size_steps g.rows)))
+    (g.rows, g.has, (items_full record_after at_most input left g.rows g.made g.fit all, (g.fit, omega (arith, all)), all, omega (arith, e, c, size_steps g.rows)))
 
-hand_lacks : (failed : Bool) (before : List Row) (left : Option (List Row)) (row : Row) (start at : ℕ) (w : Why) → at ≡ start → (w ≡ why.Memory) ⊎ StepLacks (last_time before) row w → HandFails failed (step_after before) left row start at w
+hand_lacks : (failed : Bool) (before : List Row) (left : Option (List Row)) (row : Row) (start at : ℕ) (w : Why) → at ≡ start → (w ≡ why.Memory) ⊎ StepLacks (last_time before) row w → HandFails failed (record_after before) left row start at w
 hand_lacks failed before None row start at w e h = tt
 hand_lacks failed before (Some rows) row start at w e (inl m) = inl (inr m)
 hand_lacks failed before (Some rows) row start at w e (inr bad) = inr (1, omega (arith, e), (refl, bad))
 
-pub taken_wrong : (failed : Bool) (s : Steps) (input left mid : Option (List Row)) (n start at : ℕ) (row : Row) (w : Why) → IsTaken s input left n → n < MAX_RECORDS → TakesRecord left mid row true → at ≡ start + n + 1
-    → (w ≡ why.Memory) ⊎ StepLacks s.last row w → Fails failed (repeated (repeats.AtMost MAX_RECORDS) step_after) input start at w
+pub taken_wrong : (failed : Bool) (s : StepsRead) (input left mid : Option (List Row)) (n start at : ℕ) (row : Row) (w : Why) → IsTaken s input left n → n < MAX_RECORDS → TakesRecord left mid row true → at ≡ start + n + 1
+    → (w ≡ why.Memory) ⊎ StepLacks s.last row w → Fails failed (repeated (repeats.AtMost MAX_RECORDS) record_after) input start at w
 taken_wrong failed s input left mid n start at row w g less taken e bad =
     let c = g.count in
     let few : length g.rows < MAX_RECORDS = omega (arith, c, less) in
-    items_wrong failed step_after at_most input left mid g.rows row start at at w g.made taken g.fit few (omega (arith, e, c, size_steps g.rows))
+    items_wrong failed record_after at_most input left mid g.rows row start at at w g.made taken g.fit few (omega (arith, e, c, size_steps g.rows))
     (hand_lacks failed g.rows mid row at at w refl (rw g.has.1 at bad))
 
-pub taken_stopped : (s : Steps) (input left : Option (List Row)) (n start at last : ℕ) → IsTaken s input left n → n ≤ MAX_RECORDS → at ≡ start + n + 1 → last ≡ at → IsStopped (repeats.AtMost MAX_RECORDS) step_after input start 0 at last
+pub taken_stopped : (s : StepsRead) (input left : Option (List Row)) (n start at last : ℕ) → IsTaken s input left n → n ≤ MAX_RECORDS → at ≡ start + n + 1 → last ≡ at → IsStopped (repeats.AtMost MAX_RECORDS) record_after input start 0 at last
 taken_stopped s input left n start at last g less e same =
     let c = g.count in
-    stopped step_after at_most input left g.rows start 0 at last g.made g.fit (omega (arith, c, less)) (omega (arith, e, c, size_steps g.rows)) (omega (arith, same)) (omega (arith, e, c, same, size_steps g.rows))
+    stopped record_after at_most input left g.rows start 0 at last g.made g.fit (omega (arith, c, less)) (omega (arith, e, c, size_steps g.rows)) (omega (arith, same)) (omega (arith, e, c, same, size_steps g.rows))
 
 -- records to the end of the text
 
-halted : (failed : Bool) (left : Option (List Row)) (start at last : ℕ) (w : Why) → IsStopped (repeats.AtMost MAX_RECORDS) step_after left start 0 at last → Fails failed steps_body left start at w → Halts failed steps_body left start at w
-halted failed left start at last w = lines_halt failed step_after at_most left start at last w (λ s. (step_one s).tells) (λ s. (step_one s).plain) some_rows
+halted : (failed : Bool) (left : Option (List Row)) (start at last : ℕ) (w : Why) → IsStopped (repeats.AtMost MAX_RECORDS) record_after left start 0 at last → Fails failed steps_body left start at w → Halts failed steps_body left start at w
+halted failed left start at last w = lines_halt failed record_after at_most left start at last w (λ s. (step_one s).tells) (λ s. (step_one s).plain) some_rows
 
-pub taking_halts : (failed : Bool) (left : Option (List Row)) (start at last : ℕ) (w : Why) → IsStopped (repeats.AtMost MAX_RECORDS) step_after left start 0 at last → Fails failed (repeated (repeats.AtMost MAX_RECORDS) step_after) left start at w
+pub taking_halts : (failed : Bool) (left : Option (List Row)) (start at last : ℕ) (w : Why) → IsStopped (repeats.AtMost MAX_RECORDS) record_after left start 0 at last → Fails failed (repeated (repeats.AtMost MAX_RECORDS) record_after) left start at w
     → Halts failed steps_body left start at w
-taking_halts failed left start at last w s f = halted failed left start at last w s (many_fails failed step_after step_after at_most left start at w f)
+taking_halts failed left start at last w s f = halted failed left start at last w s (many_fails failed record_after record_after at_most left start at w f)
 
-full : (s : Steps) (left mid : Option (List Row)) (start now at : ℕ) → AreTaken s left mid start now false → at ≡ now + 1 → IsStopped (repeats.AtMost MAX_RECORDS) step_after left start 0 at at
-full s left mid start now at g e = let is = g.2.3 in full_stopped step_after at_most left mid g.0 start 0 at g.2.0 g.2.2 (omega (arith, is, e))
+full : (s : StepsRead) (left mid : Option (List Row)) (start now at : ℕ) → AreTaken s left mid start now false → at ≡ now + 1 → IsStopped (repeats.AtMost MAX_RECORDS) record_after left start 0 at at
+full s left mid start now at g e = let is = g.2.3 in full_stopped record_after at_most left mid g.0 start 0 at g.2.0 g.2.2 (omega (arith, is, e))
 
-pub end_outside : (failed : Bool) (s : Steps) (left mid : Option (List Row)) (start now at : ℕ) (w : Why) → AreTaken s left mid start now false → at ≡ now + 1 → IsOutside failed w → Halts failed steps_body left start at w
+pub end_outside : (failed : Bool) (s : StepsRead) (left mid : Option (List Row)) (start now at : ℕ) (w : Why) → AreTaken s left mid start now false → at ≡ now + 1 → IsOutside failed w → Halts failed steps_body left start at w
 end_outside failed s left mid start now at w g e o = halted failed left start at at w (full s left mid start now at g e) (outside_fails failed steps_body left start at w o)
 
-past_halts : (failed : Bool) (s : Steps) (left mid new : Option (List Row)) (start now at : ℕ) (row : Row) (w : Why) (g : AreTaken s left mid start now false) → TakesRecord mid new row true → at ≡ now + 1
-    → ((rest : List Row) → (over why.TooLong (step_after g.0)).Wrong (row ∷ rest) 1 w) → Halts failed steps_body left start at w
+past_halts : (failed : Bool) (s : StepsRead) (left mid new : Option (List Row)) (start now at : ℕ) (row : Row) (w : Why) (g : AreTaken s left mid start now false) → TakesRecord mid new row true → at ≡ now + 1
+    → ((rest : List Row) → (over why.TooLong (record_after g.0)).Wrong (row ∷ rest) 1 w) → Halts failed steps_body left start at w
 past_halts failed s left mid new start now at row w g taken e bad =
     let is = g.2.3 in
     halted failed left start at at w (full s left mid start now at g e)
-    (past_wrong failed step_after step_after at_most left mid new g.0 row start at w g.2.0 taken (omega (arith, is, e)) bad)
+    (past_wrong failed record_after record_after at_most left mid new g.0 row start at w g.2.0 taken (omega (arith, is, e)) bad)
 
 -- one record too many, and one that is wrong by itself
-pub past_long : (failed : Bool) (s : Steps) (left mid new : Option (List Row)) (start now at : ℕ) (row : Row) → AreTaken s left mid start now false → TakesRecord mid new row true → at ≡ now + 1 → IsStep s.last row
+pub past_long : (failed : Bool) (s : StepsRead) (left mid new : Option (List Row)) (start now at : ℕ) (row : Row) → AreTaken s left mid start now false → TakesRecord mid new row true → at ≡ now + 1 → IsStep s.last row
     → Halts failed steps_body left start at why.TooLong
 past_long failed s left mid new start now at row g taken e step =
     let fits : IsStep (last_time g.0) row = rw g.1.1 at step in
     past_halts failed s left mid new start now at row why.TooLong g taken e (λ rest. ((λ z. (cc z)), inr (refl, refl, (row, rest, record { fits = fits; made = refl; follows = tt }))))
 
-pub past_lacks : (failed : Bool) (s : Steps) (left mid new : Option (List Row)) (start now at : ℕ) (row : Row) (w : Why) → AreTaken s left mid start now false → TakesRecord mid new row true → at ≡ now + 1 → StepLacks s.last row w
+pub past_lacks : (failed : Bool) (s : StepsRead) (left mid new : Option (List Row)) (start now at : ℕ) (row : Row) (w : Why) → AreTaken s left mid start now false → TakesRecord mid new row true → at ≡ now + 1 → StepLacks s.last row w
     → Halts failed steps_body left start at w
 past_lacks failed s left mid new start now at row w g taken e bad =
     let lacks : StepLacks (last_time g.0) row w = rw g.1.1 at bad in
     past_halts failed s left mid new start now at row w g taken e (λ rest. ((λ z. (cc z)), inl (refl, lacks)))
 
-pub taken_long : (s : Steps) (left mid : Option (List Row)) (start at : ℕ) (over : Bool) (g : AreTaken s left mid start at over) → length s.records.items ≡ length g.0
+pub taken_long : (s : StepsRead) (left mid : Option (List Row)) (start at : ℕ) (over : Bool) (g : AreTaken s left mid start at over) → length s.records.items ≡ length g.0
 taken_long s left mid start at over g = ap length g.1.0 ∙ length-map g.0 record_at
 
 -- where reading halts
 
-pub title_halts : (failed : Bool) (left : Option (List Row)) (start at : ℕ) (w : Why) → start ≡ 0 → Halts failed title left start at w → Halts failed capture_form left 0 at w
-title_halts failed left start at w e h = first_halts failed title (λ _. steps_body) left 0 at w (λ t fit. body_tells) (rw e at h)
+pub title_halts : (failed : Bool) (left : Option (List Row)) (start at : ℕ) (w : Why) → start ≡ 0 → Halts failed capture_title_part left start at w → Halts failed capture_form left 0 at w
+title_halts failed left start at w e h = first_halts failed capture_title_part (λ _. steps_body) left 0 at w (λ t fit. body_tells) (rw e at h)
 
-pub body_halts : (failed : Bool) (left mid : Option (List Row)) (t : ℕ × Unit {0}) (middle at : ℕ) (w : Why) → middle ≡ 1 → Reads title left mid t → Halts failed steps_body mid middle at w → Halts failed capture_form left 0 at w
-body_halts failed left mid t middle at w e r h = second_halts failed title (λ _. steps_body) left mid t 0 middle at w title_one.tells r (omega (arith, e)) h
+pub body_halts : (failed : Bool) (left mid : Option (List Row)) (t : ℕ × Unit {0}) (middle at : ℕ) (w : Why) → middle ≡ 1 → Reads capture_title_part left mid t → Halts failed steps_body mid middle at w → Halts failed capture_form left 0 at w
+body_halts failed left mid t middle at w e r h = second_halts failed capture_title_part (λ _. steps_body) left mid t 0 middle at w title_one.tells r (omega (arith, e)) h

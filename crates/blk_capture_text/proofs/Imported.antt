@@ -6,54 +6,54 @@ use Rattle.edd_commands.specs.Schedule.{RoundsInRange}
 use Rattle.edd_commands.specs.Limits.{most_commands}
 use Rattle.edd_commands.specs.declared.Command.{Command}
 use Rattle.blk_bio.specs.declared.bio.Dir.TheVariants.{Read}
-use Rattle.blk_capture.specs.Counting.{AreSolvable, IsCounted}
+use Rattle.blk_capture.specs.Counting.{AreSolvable, AreInRounds}
 use Rattle.blk_capture.specs.Fates.{told}
-use Rattle.blk_capture.specs.Parting.{before, part, bio_in, fate_in}
-use Rattle.blk_capture.specs.declared.requests.Bio.{Bio}
-use Rattle.blk_capture_text.specs.Imports.{begin_of, IsWhole, IsImport}
-use Rattle.blk_capture_text.specs.declared.importing.Asked.{Asked}
-use Rattle.blk_capture.specs.Requests.{served_of}
+use Rattle.blk_capture.specs.Parting.{gone_before, part, bio_in, fate_in}
+use Rattle.blk_capture.specs.declared.requests.CapturedBio.{CapturedBio}
+use Rattle.blk_capture_text.specs.Imports.{begin_after, IsWholeImport, IsImport}
+use Rattle.blk_capture_text.specs.declared.importing.ImportAsked.{ImportAsked}
+use Rattle.blk_capture.specs.Requests.{times_of}
 use Rattle.blk_capture.specs.declared.fates.Fate.{Fate}
 use Rattle.blk_capture.specs.declared.record.Action.{Action}
 use Rattle.blk_capture.specs.declared.record.Record.{Record}
-use Rattle.blk_capture.specs.declared.counting.Served.{Served}
-use Rattle.blk_capture.specs.declared.requests.Request.{Request}
+use Rattle.blk_capture.specs.declared.counting.TimedRequest.{TimedRequest}
+use Rattle.blk_capture.specs.declared.requests.CapturedRequest.{CapturedRequest}
 use Rattle.blk_lists.specs.Commands.{IsCommandInRange}
 use Rattle.blk_lists.specs.Schedule.{AreDistinct, IsRan}
 
-abbrev none_served : Served
+abbrev none_served : TimedRequest
 none_served = record { entry = 0; deadline = 0; dispatch = 0 }
 
-id_is : (served : List Served) (commands : List Command) (rounds : List ℕ) → IsCounted served commands rounds → (k : ℕ) (e : Command) → k < length commands → (get_or commands k e).id ≡ k + 1
+id_is : (served : List TimedRequest) (commands : List Command) (rounds : List ℕ) → AreInRounds served commands rounds → (k : ℕ) (e : Command) → k < length commands → (get_or commands k e).id ≡ k + 1
 id_is served commands rounds c k e l =
     let many = c.a_command in
     ap (λ (x : Command). x.id) (c.commands_are k none_served e (omega (arith, l, many)))
 
-ids_differ : (served : List Served) (commands : List Command) (rounds : List ℕ) → IsCounted served commands rounds → AreDistinct commands
+ids_differ : (served : List TimedRequest) (commands : List Command) (rounds : List ℕ) → AreInRounds served commands rounds → AreDistinct commands
 ids_differ served commands rounds c j k d lt top same =
     let here = id_is served commands rounds c j d (omega (arith, lt, top)) in
     let there = id_is served commands rounds c k d top in
     omega (arith, here, there, same, lt)
 
-pub may_be_written : (requests : List Request) (commands : List Command) (rounds : List ℕ) → length requests ≤ most_commands → IsCounted (map served_of requests) commands rounds → AreSolvable commands → RoundsInRange rounds
+pub may_be_written : (requests : List CapturedRequest) (commands : List Command) (rounds : List ℕ) → length requests ≤ most_commands → AreInRounds (map times_of requests) commands rounds → AreSolvable commands → RoundsInRange rounds
     → IsRan (record { depth = 1; commands = commands; rounds = rounds })
 may_be_written requests commands rounds few c solvable within =
     let each = c.a_command in
     let round = c.a_round in
-    let long = length-map requests served_of in record {
+    let long = length-map requests times_of in record {
       depth = (omega arith, omega arith);
       few = omega (arith, few, each, long);
       one_each = round ∙ sym each;
       commands = in_range;
       rounds = within;
-      distinct = ids_differ (map served_of requests) commands rounds c;
+      distinct = ids_differ (map times_of requests) commands rounds c;
     }
   where
     in_range : All IsCommandInRange commands
     in_range k d l =
-        let id = id_is (map served_of requests) commands rounds c k d l in
+        let id = id_is (map times_of requests) commands rounds c k d l in
         let each = c.a_command in
-        let long = length-map requests served_of in
+        let long = length-map requests times_of in
         let both = solvable k d l in
         let release = both.0 in
         let due = both.1 in
@@ -73,8 +73,8 @@ told_few p (r ∷ records) (f ∷ fates) = one_more (p r.action f) (told p recor
 
 -- a part of what was matched
 
-pub imported : (records : List Record) (asked : Asked) (rs : List Request) (bs : List Bio) (fs : List Fate) (absorbed left : ℕ) (ps : List Request) (pb : List Bio) (pf : List Fate) (merged out begin : ℕ)
-    → begin ≡ begin_of asked.skip records → IsWhole records asked.options rs bs fs absorbed left → ps ≡ part begin asked.first rs → pb ≡ map (bio_in (before begin rs) (length ps)) bs → pf ≡ map (fate_in (before begin rs) (length ps)) fs
+pub imported : (records : List Record) (asked : ImportAsked) (rs : List CapturedRequest) (bs : List CapturedBio) (fs : List Fate) (absorbed left : ℕ) (ps : List CapturedRequest) (pb : List CapturedBio) (pf : List Fate) (merged out begin : ℕ)
+    → begin ≡ begin_after asked.skip records → IsWholeImport records asked.options rs bs fs absorbed left → ps ≡ part begin asked.first rs → pb ≡ map (bio_in (gone_before begin rs) (length ps)) bs → pf ≡ map (fate_in (gone_before begin rs) (length ps)) fs
     → merged ≡ absorbed → out + length ps ≡ left + length rs → IsImport records asked ps pb pf merged out
 imported records asked rs bs fs absorbed left ps pb pf merged out begin at whole requests bios fates same count = record {
   all_requests = rs;

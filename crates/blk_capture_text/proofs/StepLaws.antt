@@ -15,7 +15,7 @@ use Rattle.blk_lists.specs.declared.fields.Slot.TheVariants as slot
 use Rattle.blk_lists.proofs.Decimals.{own}
 use Rattle.blk_lists.proofs.Lacking.{Dec, both, same_as, at_most, same_number, goods_all, goods_or_lacks, first_once}
 use Rattle.parts.specs.Inside.Laws.{TellsRecord}
-use Rattle.blk_capture_text.specs.Steps.{IsNanoseconds, number_at, time_at, record_at, IsStep, step_rules, StepLacks}
+use Rattle.blk_capture_text.specs.Steps.{IsNanoseconds, number_at, time_at, record_at, IsStep, step_cell_rules, StepLacks}
 use Rattle.blk_capture_text.specs.declared.step.TheConstants.{STEP}
 
 -- no field has to be empty or a direction
@@ -128,7 +128,7 @@ late_step last cells ns s nine order =
 -- a record is a step's, or it lacks one thing first
 
 pub step_tells : (last : ℕ) → TellsRecord {R = Row} (λ cells. cells) (IsStep last) (StepLacks last)
-step_tells last = record { once = λ v u f g e. e; apart = apart; first = λ cells. first_once (step_rules last cells) }
+step_tells last = record { once = λ v u f g e. e; apart = apart; first = λ cells. first_once (step_cell_rules last cells) }
   where
     apart : (v : Row) (w : Why) → IsStep last v → StepLacks last v w → ⊥
     apart v w s bad = elim bad [

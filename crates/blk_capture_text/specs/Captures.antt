@@ -2,7 +2,7 @@
 use Rattle.std.specs.Prelude.{◌≡◌, ℕ, List, [], ◌∷◌, map, codes}
 use Rattle.blk_capture.specs.declared.record.Record.{Record}
 use Rattle.blk_lists.specs.Sources.{Row}
-use Rattle.blk_lists.specs.Reads.{items_of}
+use Rattle.blk_lists.specs.Reads.{items_of, repeated}
 use Rattle.blk_lists.specs.Tables.{Cell, Blank, title_record}
 use Rattle.blk_lists.specs.declared.fault.Why.{Why}
 use Rattle.blk_lists.specs.declared.fault.Why.TheVariants as why
@@ -15,8 +15,8 @@ use Rattle.blk_capture_text.specs.declared.reading.TheConstants.{MAX_RECORDS}
 abbrev pub title_cells : ℕ → List (Cell (Unit {0}))
 title_cells version = Blank ∷ Blank ∷ Blank ∷ Blank ∷ Blank ∷ Blank ∷ []
 
-abbrev pub title : Part Row Why (ℕ × Unit {0})
-title = title_record (codes "blk-capture") 1 title_cells (λ _ _. Unit {0})
+abbrev pub capture_title_part : Part Row Why (ℕ × Unit {0})
+capture_title_part = title_record (codes "blk-capture") 1 title_cells (λ _ _. Unit {0})
 
 -- the time of the last of some records, 0 before the first
 abbrev pub last_time : List Row → ℕ
@@ -25,16 +25,19 @@ last_time (row ∷ []) = time_at row
 last_time (row ∷ next ∷ rows) = last_time (next ∷ rows)
 
 -- a record after those before it, by its row
-abbrev pub step_after : List Row → Part Row Why Row
-step_after before = record_of (λ row. row) (IsStep (last_time before)) why.Count (StepLacks (last_time before))
+abbrev pub record_after : List Row → Part Row Why Row
+record_after before = record_of (λ row. row) (IsStep (last_time before)) why.Count (StepLacks (last_time before))
 
--- records to the end of the text, at most this number
+-- records, at most this number, whatever comes after them; and to the end of the text
+abbrev pub some_steps : Part Row Why (List Row)
+some_steps = repeated (repeats.AtMost MAX_RECORDS) record_after
+
 abbrev pub steps_body : Part Row Why (List Row)
-steps_body = items_of (repeats.AtMost MAX_RECORDS) step_after
+steps_body = items_of (repeats.AtMost MAX_RECORDS) record_after
 
 -- a title, and records whose times don't fall
 abbrev pub capture_form : Part Row Why ((ℕ × Unit {0}) × List Row)
-capture_form = then title (λ _. steps_body)
+capture_form = then capture_title_part (λ _. steps_body)
 
 -- the rows of a capture of these records, each as its row
 abbrev pub capture_rows : List Row → List Row
@@ -44,9 +47,16 @@ capture_rows steps = capture_form.rows_of ((1, tt), steps)
 abbrev pub AreCapture : List Row → List Row → Type 0
 AreCapture rows steps = Spells capture_form rows ((1, tt), steps)
 
--- the rows spell these records
+-- the rows spell these records; and those that these steps tell
 abbrev pub SpellsCapture : List Row → List Record → Type 0
 SpellsCapture rows records = (steps : List Row) × (records ≡ map record_at steps) × AreCapture rows steps
+
+abbrev pub TellsSteps : List Row → List Row → Type 0
+TellsSteps rows steps = SpellsCapture rows (map record_at steps)
+
+-- rows that, behind a title, make a capture
+abbrev pub MakeCapture : List Row → Type 0
+MakeCapture steps = AreCapture (capture_rows steps) steps
 
 -- the first fault of a capture
 abbrev pub CaptureTextFault : List Row → ℕ → Why → Type 0

@@ -2,14 +2,14 @@
 use Rattle.std.specs.Prelude.{ℕ, ◌≡◌, ◌<◌, ◌+◌, ◌-◌, ◌^◌, min, List, [], ◌∷◌, length, map, All}
 use Rattle.edd_commands.specs.Limits.{most_commands}
 use Rattle.blk_capture.specs.Fates.{ArePassed, AreOfTaken, opens, makes, told}
-use Rattle.blk_capture.specs.Parting.{before, part, bio_in, fate_in}
+use Rattle.blk_capture.specs.Parting.{gone_before, part, bio_in, fate_in}
 use Rattle.blk_capture.specs.Requests.{AreTimed, HaveBios, AreTallied, AreGone, IsDue}
 use Rattle.blk_capture.specs.declared.fates.Fate.{Fate}
 use Rattle.blk_capture.specs.declared.record.Record.{Record}
-use Rattle.blk_capture.specs.declared.requests.Bio.{Bio}
+use Rattle.blk_capture.specs.declared.requests.CapturedBio.{CapturedBio}
 use Rattle.blk_capture.specs.declared.requests.Options.{Options}
-use Rattle.blk_capture.specs.declared.requests.Request.{Request}
-use Rattle.blk_capture_text.specs.declared.importing.Asked.{Asked}
+use Rattle.blk_capture.specs.declared.requests.CapturedRequest.{CapturedRequest}
+use Rattle.blk_capture_text.specs.declared.importing.ImportAsked.{ImportAsked}
 use Rattle.blk_capture_text.specs.declared.importing.ImportFault.{ImportFault}
 use Rattle.blk_capture_text.specs.declared.importing.ImportFault.TheVariants as fault
 
@@ -18,11 +18,11 @@ first_time [] = 0
 first_time (r ∷ records) = r.time
 
 -- so long after the first record
-abbrev pub begin_of : ℕ → List Record → ℕ
-begin_of skip records = min (first_time records + skip) (2 ^ 64 - 1)
+abbrev pub begin_after : ℕ → List Record → ℕ
+begin_after skip records = min (first_time records + skip) (2 ^ 64 - 1)
 
 -- all requests of a capture, its bios and what became of its records, and how many requests were merged into others or left out
-pub record IsWhole (records : List Record) (options : Options) (requests : List Request) (bios : List Bio) (fates : List Fate) (absorbed left_out : ℕ) : Type 0 where
+pub record IsWholeImport (records : List Record) (options : Options) (requests : List CapturedRequest) (bios : List CapturedBio) (fates : List Fate) (absorbed left_out : ℕ) : Type 0 where
   pub timed : AreTimed requests
   pub due : All (IsDue options) requests
   pub have_bios : HaveBios requests bios
@@ -35,27 +35,27 @@ pub record IsWhole (records : List Record) (options : Options) (requests : List 
   pub made : length bios ≡ told makes records fates
 
 -- and the part of it that is taken
-pub record IsImport (records : List Record) (asked : Asked) (requests : List Request) (bios : List Bio) (fates : List Fate) (absorbed left_out : ℕ) : Type 0 where
-  pub all_requests : List Request
-  pub all_bios : List Bio
+pub record IsImport (records : List Record) (asked : ImportAsked) (requests : List CapturedRequest) (bios : List CapturedBio) (fates : List Fate) (absorbed left_out : ℕ) : Type 0 where
+  pub all_requests : List CapturedRequest
+  pub all_bios : List CapturedBio
   pub all_fates : List Fate
   pub all_left : ℕ
-  pub whole : IsWhole records asked.options all_requests all_bios all_fates absorbed all_left
-  pub requests_are : requests ≡ part (begin_of asked.skip records) asked.first all_requests
-  pub bios_are : bios ≡ map (bio_in (before (begin_of asked.skip records) all_requests) (length requests)) all_bios
-  pub fates_are : fates ≡ map (fate_in (before (begin_of asked.skip records) all_requests) (length requests)) all_fates
+  pub whole : IsWholeImport records asked.options all_requests all_bios all_fates absorbed all_left
+  pub requests_are : requests ≡ part (begin_after asked.skip records) asked.first all_requests
+  pub bios_are : bios ≡ map (bio_in (gone_before (begin_after asked.skip records) all_requests) (length requests)) all_bios
+  pub fates_are : fates ≡ map (fate_in (gone_before (begin_after asked.skip records) all_requests) (length requests)) all_fates
   pub left_are : left_out + length requests ≡ all_left + length all_requests
 
 -- more would be taken than a schedule may have
-pub record AreTooMany (records : List Record) (asked : Asked) : Type 0 where
-  pub requests : List Request
-  pub bios : List Bio
+pub record AreTooMany (records : List Record) (asked : ImportAsked) : Type 0 where
+  pub requests : List CapturedRequest
+  pub bios : List CapturedBio
   pub fates : List Fate
   pub absorbed : ℕ
   pub left_out : ℕ
   pub imported : IsImport records asked requests bios fates absorbed left_out
   pub many : most_commands < length requests
 
-abbrev pub IsImportFault : List Record → Asked → ImportFault → Type 0
+abbrev pub IsImportFault : List Record → ImportAsked → ImportFault → Type 0
 IsImportFault records asked fault.TooMany = AreTooMany records asked
 IsImportFault records asked fault.Memory = Unit {0}

@@ -2,44 +2,49 @@
 use Rattle.std.specs.Prelude.{ℕ, ◌≡◌, List, map}
 use Rattle.edd_commands.specs.Capacity.{fixed}
 use Rattle.edd_commands.specs.Schedule.{IsLegal}
-use Rattle.blk_capture.specs.Counting.{IsCounted}
-use Rattle.blk_capture.specs.Requests.{AreLate, served_of}
+use Rattle.blk_capture.specs.Counting.{AreInRounds}
+use Rattle.blk_capture.specs.Requests.{AgreeOnLateness, times_of}
 use Rattle.blk_capture.specs.Summaries.{IsSummary}
-use Rattle.blk_capture.specs.Tables.{AreRows}
+use Rattle.blk_capture.specs.Tables.{AreRequestRows}
 use Rattle.blk_capture.specs.declared.fates.Fate.{Fate}
 use Rattle.blk_capture.specs.declared.record.Record.{Record}
-use Rattle.blk_capture.specs.declared.requests.Bio.{Bio}
-use Rattle.blk_capture.specs.declared.requests.Request.{Request}
+use Rattle.blk_capture.specs.declared.requests.CapturedBio.{CapturedBio}
+use Rattle.blk_capture.specs.declared.requests.Matched.{Matched}
+use Rattle.blk_capture.specs.declared.requests.CapturedRequest.{CapturedRequest}
 use Rattle.blk_capture.specs.declared.summary.Summary.{Summary}
-use Rattle.blk_capture.specs.declared.table.Row.{Row}
+use Rattle.blk_capture.specs.declared.table.RequestRow.{RequestRow}
 use Rattle.blk_lists.specs.Schedule.{Ran, IsRan, ran_rows}
 use Rattle.blk_lists.specs.Texts.{rows_text}
 use Rattle.blk_capture_text.specs.Imports.{first_time}
 use Rattle.blk_capture_text.specs.TableText.{table_lines}
 use Rattle.blk_capture_text.specs.SummaryText.{counts_of, summary_lines}
-use Rattle.blk_capture_text.specs.declared.shown.Shown.{Shown}
-use Rattle.blk_capture_text.specs.declared.shown.Shown.TheVariants as shown
+use Rattle.blk_capture_text.specs.declared.shown.ShownImport.{ShownImport}
+use Rattle.blk_capture_text.specs.declared.shown.ShownImport.TheVariants as shown
 
 -- the schedule of requests: a command a dispatch, legal at depth 1, late just where they were by the clock
-pub record IsScheduleOf (requests : List Request) (s : Ran) : Type 0 where
+pub record IsScheduleOf (requests : List CapturedRequest) (s : Ran) : Type 0 where
   pub depth : s.depth ≡ 1
   pub ran : IsRan s
-  pub counted : IsCounted (map served_of requests) s.commands s.rounds
+  pub counted : AreInRounds (map times_of requests) s.commands s.rounds
   pub legal : IsLegal s.commands s.rounds (fixed 1)
-  pub late : AreLate requests s.commands s.rounds
+  pub late : AgreeOnLateness requests s.commands s.rounds
 
-abbrev pub IsScheduleText : List Request → List ℕ → Type 0
+abbrev pub IsScheduleText : List CapturedRequest → List ℕ → Type 0
 IsScheduleText requests text = (s : Ran) × IsScheduleOf requests s × (text ≡ rows_text (ran_rows s))
 
 -- the table of requests, with times from the first record on
-abbrev pub IsTableText : List Record → List Request → List ℕ → Type 0
-IsTableText records requests text = (rows : List Row) × AreRows (first_time records) requests rows × (text ≡ table_lines rows)
+abbrev pub IsTableText : List Record → List CapturedRequest → List ℕ → Type 0
+IsTableText records requests text = (rows : List RequestRow) × AreRequestRows (first_time records) requests rows × (text ≡ table_lines rows)
 
 -- the capture in numbers
-abbrev pub IsSummaryText : List Record → List Request → List Bio → List Fate → ℕ → List ℕ → Type 0
+abbrev pub IsSummaryText : List Record → List CapturedRequest → List CapturedBio → List Fate → ℕ → List ℕ → Type 0
 IsSummaryText records requests bios fates left_out text = (s : Summary) × IsSummary records requests bios fates s × (text ≡ summary_lines s left_out (counts_of fates))
 
-abbrev pub IsShown : Shown → List Record → List Request → List Bio → List Fate → ℕ → List ℕ → Type 0
+abbrev pub IsShown : ShownImport → List Record → List CapturedRequest → List CapturedBio → List Fate → ℕ → List ℕ → Type 0
 IsShown shown.Schedule records requests bios fates left_out text = IsScheduleText requests text
 IsShown shown.Table records requests bios fates left_out text = IsTableText records requests text
 IsShown shown.Summary records requests bios fates left_out text = IsSummaryText records requests bios fates left_out text
+
+-- the text shows this of what was matched
+abbrev pub Shows : {A : Type 0} → ShownImport → List Record → Matched A → List ℕ → Type 0
+Shows what records m text = IsShown what records m.requests.items m.bios.items m.fates.items m.left_out text

@@ -34,9 +34,16 @@ record_at cells = record {
   sectors = number_at 7 cells;
 }
 
+-- its second field is nanoseconds, and says so many
+abbrev pub HasNanoseconds : Row → Type 0
+HasNanoseconds cells = IsNanoseconds (get_or cells 1 [])
+
+abbrev pub TellsNanoseconds : Row → ℕ → Type 0
+TellsNanoseconds cells n = HasNanoseconds cells × (n ≡ number_at 1 cells)
+
 -- its numbers are numbers, and its nanoseconds nine digits
 abbrev pub AreNumbers : Row → Type 0
-AreNumbers cells = EachField IsNumber STEP cells × IsNanoseconds (get_or cells 1 [])
+AreNumbers cells = EachField IsNumber STEP cells × HasNanoseconds cells
 
 -- a record that may stand after one of a time
 pub record IsStep (last : ℕ) (cells : Row) : Type 0 where
@@ -46,8 +53,8 @@ pub record IsStep (last : ℕ) (cells : Row) : Type 0 where
   pub order : last ≤ time_at cells
 
 -- the rules of a record, in the order in which they are looked at, each with its fault
-abbrev pub step_rules : ℕ → Row → List (Type 0 × Why)
-step_rules last cells =
+abbrev pub step_cell_rules : ℕ → Row → List (Type 0 × Why)
+step_cell_rules last cells =
     (length cells ≡ 8, why.Fields)
     ∷ (AreNumbers cells, why.Number)
     ∷ (EachField IsInRange STEP cells, why.Range)
@@ -55,4 +62,4 @@ step_rules last cells =
 
 -- the first thing that a record lacks
 abbrev pub StepLacks : ℕ → Row → Why → Type 0
-StepLacks last cells = IsFirstFault (step_rules last cells)
+StepLacks last cells = IsFirstFault (step_cell_rules last cells)

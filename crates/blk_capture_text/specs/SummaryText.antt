@@ -2,13 +2,13 @@
 use Rattle.std.specs.Prelude.{ℕ, ◌++◌, ◌∷◌, [], List, Option, None, Some, count_by, decimal, codes}
 use Rattle.blk_capture.specs.Fates.{is_of_kind, is_passed, is_unmatched}
 use Rattle.blk_capture.specs.declared.fates.Fate.{Fate}
-use Rattle.blk_capture.specs.declared.record.Passed.TheVariants as passed
+use Rattle.blk_capture.specs.declared.record.PassReason.TheVariants as passed
 use Rattle.blk_capture.specs.declared.summary.Spread.{Spread}
 use Rattle.blk_capture.specs.declared.summary.Summary.{Summary}
-use Rattle.blk_capture_text.specs.declared.numbers.Counts.{Counts}
+use Rattle.blk_capture_text.specs.declared.numbers.UnusedCounts.{UnusedCounts}
 
 -- how many records were not matched, and how many passed over, by the reason
-abbrev pub counts_of : List Fate → Counts
+abbrev pub counts_of : List Fate → UnusedCounts
 counts_of fates = record {
   unmatched = count_by is_unmatched fates;
   passed = count_by is_passed fates;
@@ -45,12 +45,12 @@ abbrev pub wait_lines : Summary → List ℕ
 wait_lines s = ((spread_line (codes "q-to-g") s.tag ++ spread_line (codes "i-to-d") s.scheduler) ++ spread_line (codes "d-to-c") s.device) ++ number_line (codes "in-flight") s.in_flight
 
 -- what isn't counted there
-abbrev pub count_lines : ℕ → Counts → List ℕ
+abbrev pub count_lines : ℕ → UnusedCounts → List ℕ
 count_lines left_out c = ((((((((((number_line (codes "left-out") left_out ++ number_line (codes "unmatched") c.unmatched) ++ number_line (codes "plugs") c.plugs) ++ number_line (codes "unplugs") c.unplugs) ++ number_line (codes "actions") c.actions) ++ number_line (codes "discards") c.discards) ++ number_line (codes "erases") c.erases) ++ number_line (codes "flushes") c.flushes) ++ number_line (codes "others") c.others) ++ number_line (codes "empty") c.empty) ++ number_line (codes "past-end") c.past_end)
 
-abbrev pub summary_lines : Summary → ℕ → Counts → List ℕ
+abbrev pub summary_lines : Summary → ℕ → UnusedCounts → List ℕ
 summary_lines s left_out c = (number_lines s ++ wait_lines s) ++ count_lines left_out c
 
 -- the line of what was passed over or not matched
-abbrev pub notice_line : Counts → List ℕ
+abbrev pub notice_line : UnusedCounts → List ℕ
 notice_line c = (((codes "blk: passed over " ++ decimal c.passed) ++ codes ", unmatched ") ++ decimal c.unmatched) ++ 10 ∷ []

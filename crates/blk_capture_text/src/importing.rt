@@ -3,7 +3,7 @@
 ghost use Rattle.std.specs.Prelude.{◌≡◌, ◌≤◌, IfOk, IfErr, length};
 ghost use Rattle.edd_commands.specs.Limits.{most_commands};
 ghost use Rattle.blk_capture.specs.Requests.{AreInOrder, AreTimed};
-ghost use Rattle.blk_capture_text.specs.Imports.{IsImport, IsImportFault, first_time, begin_of};
+ghost use Rattle.blk_capture_text.specs.Imports.{IsImport, IsImportFault, first_time, begin_after};
 
 use blk_capture::{Matched, Options, Record, match_records, part_of};
 use edd_commands::MAX_COMMANDS;
@@ -11,7 +11,7 @@ use std::alloc::Global;
 
 /// How a capture is imported.
 #[derive(Clone, Copy, Debug, PartialEq, Eq)]
-pub struct Asked {
+pub struct ImportAsked {
     /// How soon requests are due, and from when on they count as come in.
     pub options: Options,
     /// Requests that went out sooner after the first record are left out, in nanoseconds.
@@ -40,8 +40,8 @@ pub fn first_time(records: &[Record]) -> u64
 }
 
 /// From when on requests are taken.
-fn begin_of(skip: u64, records: &[Record]) -> u64
-    ensures { result ≡ begin_of skip records.now }
+fn begin_after(skip: u64, records: &[Record]) -> u64
+    ensures { result ≡ begin_after skip records.now }
 {
     first_time(records).saturating_add(skip)
 }
@@ -50,7 +50,11 @@ fn begin_of(skip: u64, records: &[Record]) -> u64
 /// and what became of its records. The times of the records don't fall, as those that [`crate::read_capture`] gives.
 ///
 /// [`ImportFault::TooMany`]: more requests would be taken than a schedule may have, [`edd_commands::MAX_COMMANDS`]. The time grows as n log n.
-pub fn import(alloc: Global, records: &[Record], asked: &Asked) -> Result<Matched, ImportFault>
+pub fn import(
+    alloc: Global,
+    records: &[Record],
+    asked: &ImportAsked,
+) -> Result<Matched, ImportFault>
     requires { AreInOrder records.now (length records.now) }
     ensures ok { IfOk result (λ m. IsImport records.now asked.now m.requests.items m.bios.items m.fates.items m.absorbed m.left_out) }
     ensures timed { IfOk result (λ m. AreTimed m.requests.items) }
@@ -62,8 +66,9 @@ pub fn import(alloc: Global, records: &[Record], asked: &Asked) -> Result<Matche
         Ok(whole) => whole,
         Err(_) => return Err(ImportFault::Memory),
     };
+    // brings the prover how many records there can be
     let _ = records.len();
-    match part_of(alloc, &whole, begin_of(asked.skip, records), asked.first) {
+    match part_of(alloc, &whole, begin_after(asked.skip, records), asked.first) {
         Ok(part) => {
             if part.requests.len() as u64 > MAX_COMMANDS {
                 return Err(ImportFault::TooMany);

@@ -6,14 +6,14 @@ ghost use Rattle.drafts.specs.Parts.{AppendsPart};
 ghost use Rattle.blk_capture.specs.Fates.{is_unmatched, is_passed};
 ghost use Rattle.blk_capture_text.specs.SummaryText.{counts_of, number_line, spread_line, figure_text, number_lines, wait_lines, count_lines, summary_lines, notice_line};
 
-use blk_capture::{Fate, Passed, Spread, Summary, count_passed};
+use blk_capture::{Fate, PassReason, Spread, Summary, count_passed};
 use drafts::{Draft, WriteFault, write_whole};
 use std::alloc::{AllocError, Global};
 use std::io::Write;
 
 /// How many records of a capture were not matched, and how many passed over, by the reason.
 #[derive(Clone, Copy, Debug, PartialEq, Eq)]
-pub struct Counts {
+pub struct UnusedCounts {
     /// What they speak of isn't known.
     pub unmatched: u64,
     /// Passed over, for whatever reason.
@@ -85,21 +85,21 @@ fn count_all_passed(fates: &[Fate]) -> u64
 }
 
 /// What became of the records that are of no request that is known.
-pub fn count_fates(fates: &[Fate]) -> Counts
+pub fn count_fates(fates: &[Fate]) -> UnusedCounts
     ensures { result ≡ counts_of fates.now }
 {
-    Counts {
+    UnusedCounts {
         unmatched: count_unmatched(fates),
         passed: count_all_passed(fates),
-        plugs: count_passed(fates, Passed::Plug),
-        unplugs: count_passed(fates, Passed::Unplug),
-        actions: count_passed(fates, Passed::Action),
-        discards: count_passed(fates, Passed::Discard),
-        erases: count_passed(fates, Passed::Erase),
-        flushes: count_passed(fates, Passed::Flush),
-        others: count_passed(fates, Passed::Nothing),
-        empty: count_passed(fates, Passed::Empty),
-        past_end: count_passed(fates, Passed::PastEnd),
+        plugs: count_passed(fates, PassReason::Plug),
+        unplugs: count_passed(fates, PassReason::Unplug),
+        actions: count_passed(fates, PassReason::Action),
+        discards: count_passed(fates, PassReason::Discard),
+        erases: count_passed(fates, PassReason::Erase),
+        flushes: count_passed(fates, PassReason::Flush),
+        others: count_passed(fates, PassReason::Nothing),
+        empty: count_passed(fates, PassReason::Empty),
+        past_end: count_passed(fates, PassReason::PastEnd),
     }
 }
 
@@ -160,7 +160,7 @@ fn push_waits(draft: &mut Draft, summary: &Summary) -> Result<(), AllocError>
 }
 
 /// Adds the lines of what isn't counted there.
-fn push_counts(draft: &mut Draft, left_out: u64, counts: &Counts) -> Result<(), AllocError>
+fn push_counts(draft: &mut Draft, left_out: u64, counts: &UnusedCounts) -> Result<(), AllocError>
     ensures { OnOk result (draft.new ≡ draft.old ++ count_lines left_out counts.now) }
 {
     push_number_line(draft, b"left-out", left_out)?;
@@ -181,7 +181,7 @@ pub fn summary_text(
     alloc: Global,
     summary: &Summary,
     left_out: u64,
-    counts: &Counts,
+    counts: &UnusedCounts,
 ) -> Result<Vec<u8>, AllocError>
     ensures { IfOk result (λ v. v.items ≡ summary_lines summary.now left_out counts.now) }
 {
@@ -204,7 +204,7 @@ pub fn write_summary<W: Write>(
     alloc: Global,
     summary: &Summary,
     left_out: u64,
-    counts: &Counts,
+    counts: &UnusedCounts,
     writer: &mut W,
 ) -> Result<(), WriteFault>
     ensures ok { OnOk result (Appends (W.contents writer.old) (W.contents writer.new) (summary_lines summary.now left_out counts.now)) }
@@ -219,7 +219,7 @@ pub fn write_summary<W: Write>(
 }
 
 /// The line that says how many records were passed over and how many not matched.
-pub fn notice_text(alloc: Global, counts: &Counts) -> Result<Vec<u8>, AllocError>
+pub fn notice_text(alloc: Global, counts: &UnusedCounts) -> Result<Vec<u8>, AllocError>
     ensures { IfOk result (λ v. v.items ≡ notice_line counts.now) }
 {
     let mut draft = Draft::new(alloc);

@@ -1,15 +1,12 @@
 //! A capture, read from its text.
 
-ghost use Rattle.std.specs.Prelude.{◌≡◌, ◌⊎◌, ◌+◌, ◌++◌, ◌∷◌, ◌≤◌, ◌<◌, ◌-◌, ◌^◌, [], List, IfOk, IfErr, IfSome, OnOk, OnErr, length, map};
+ghost use Rattle.std.specs.Prelude.{◌≡◌, ◌⊎◌, ◌+◌, ◌++◌, ◌∷◌, ◌≤◌, ◌<◌, ◌-◌, ◌^◌, [], IfOk, IfErr, IfSome, OnOk, OnErr, length};
 ghost use Rattle.csv.specs.Records.{fields_of};
-ghost use Rattle.parts.specs.Parts.{Begins};
-ghost use Rattle.parts.specs.declared.Repeats.TheVariants as repeats;
-ghost use Rattle.blk_lists.specs.Sources.{Row};
-ghost use Rattle.blk_lists.specs.Reads.{IsOutside, IsStopped, Fails, Halts, Reaches, repeated};
+ghost use Rattle.blk_lists.specs.Reads.{FaultsBy, FailsBy, Halts, Reaches};
 ghost use Rattle.blk_capture.specs.Requests.{AreInOrder};
 ghost use Rattle.blk_capture_text.specs.Steps.{IsStep, StepLacks, record_at, time_at};
-ghost use Rattle.blk_capture_text.specs.Captures.{capture_form, steps_body, step_after, SpellsCapture, CaptureTextFault};
-ghost use Rattle.blk_capture_text.specs.Taking.{HasSteps, AreTaken};
+ghost use Rattle.blk_capture_text.specs.Captures.{capture_form, some_steps, steps_body, SpellsCapture, CaptureTextFault};
+ghost use Rattle.blk_capture_text.specs.Taking.{HasSteps, AreTaken, AreStopped, TellAll};
 
 use crate::step::read_step;
 use blk_capture::Record;
@@ -45,11 +42,11 @@ const CAPTURE: Kind<11, 8> = Kind {
 struct TitleForm;
 
 impl LineForm for TitleForm {
-    ghost use Rattle.blk_capture_text.specs.Captures.{title};
+    ghost use Rattle.blk_capture_text.specs.Captures.{capture_title_part};
 
-    type Line = (u64, ());
+    type Value = (u64, ());
 
-    ghost part = { λ _. title };
+    ghost part = { λ _. capture_title_part };
 
     #[tactic(auto, using(crate::proofs::CaptureLaws::title_one))]
     fn gone(&self) -> Why {
@@ -69,13 +66,13 @@ impl LineForm for TitleForm {
 
 /// The records that were read, and the time of the last one, 0 before the first.
 #[derive(Drop)]
-pub(crate) struct Steps {
+pub(crate) struct StepsRead {
     records: Vec<Record>,
     last: u64,
 }
 
 /// Adds the record of a row, where its time is not before the last one's.
-fn take_step(steps: &mut Steps, row: &ByteRecord) -> Result<(), Why>
+fn take_step(steps: &mut StepsRead, row: &ByteRecord) -> Result<(), Why>
     ensures step { OnOk result (IsStep steps.old.last (fields_of row.now)) }
     ensures records { OnOk result (steps.new.records.items ≡ steps.old.records.items ++ record_at (fields_of row.now) ∷ []) }
     ensures last { OnOk result (steps.new.last ≡ time_at (fields_of row.now)) }
@@ -95,13 +92,13 @@ fn take_step(steps: &mut Steps, row: &ByteRecord) -> Result<(), Why>
 /// Reads records until there are as many as there may be, or until the text is over, and says whether it is over.
 fn take_steps<R: Read + Drop>(
     records: &mut Records<R>,
-    steps: &mut Steps,
+    steps: &mut StepsRead,
 ) -> Result<bool, TextFault>
     requires room { records.old.at + MAX_RECORDS + 1 < 2 ^ 64 - 1 }
     requires none { HasSteps steps.old [] }
     ensures ok { IfOk result (AreTaken steps.new records.old.left records.new.left records.old.at records.new.at) }
-    ensures err { IfErr result (λ f. Fails records.new.failed (repeated (repeats.AtMost MAX_RECORDS) step_after) records.old.left records.old.at f.at f.why) }
-    ensures before { IfErr result (λ f. IsStopped (repeats.AtMost MAX_RECORDS) step_after records.old.left records.old.at 0 f.at records.new.at) }
+    ensures err { IfErr result (FailsBy records.old records.new some_steps) }
+    ensures before { IfErr result (λ f. AreStopped records.old.left records.old.at f.at records.new.at) }
     ensures last { IfErr result (λ f. f.at ≡ records.new.at) }
     ensures asked { OnErr result (records.old.at < records.new.at) }
     ensures reads { (records.old.at ≤ records.new.at) × (records.new.at ≤ records.old.at + MAX_RECORDS) }
@@ -126,14 +123,14 @@ fn read_steps<R: Read + Drop>(
     records: &mut Records<R>,
 ) -> Result<Vec<Record>, TextFault>
     requires { records.old.at + MAX_RECORDS + 1 < 2 ^ 64 - 1 }
-    ensures ok { IfOk result (λ v. (rows : List Row) × (v.items ≡ map record_at rows) × IfSome records.old.left (λ all. Begins steps_body all rows [])) }
+    ensures ok { IfOk result (λ v. TellAll records.old.left v.items) }
     ensures in_order { IfOk result (λ v. AreInOrder v.items (length v.items)) }
     ensures err { IfErr result (λ f. Halts records.new.failed steps_body records.old.left records.old.at f.at f.why) }
     ensures last { IfErr result (λ f. f.at ≡ records.new.at) }
     ensures reads { (records.old.at < records.new.at) × (records.new.at ≤ records.old.at + MAX_RECORDS + 1) }
     ensures end { IfOk result (λ v. records.new.at ≡ records.old.at + length v.items + 1) }
 {
-    let mut steps = Steps {
+    let mut steps = StepsRead {
         records: Vec::new(alloc),
         last: 0,
     };
@@ -171,8 +168,7 @@ pub fn read_capture<R: Read + Drop>(
     ensures in_order { IfOk result (λ v. AreInOrder v.items (length v.items)) }
     // at the record that was asked for last: none was read past it
     ensures last { IfErr result (λ f. f.at ≡ records.new.at) }
-    ensures err { IfErr result (λ f. IfSome records.old.left (λ rows.
-        IsOutside records.new.failed f.why ⊎ CaptureTextFault rows f.at f.why)) }
+    ensures err { IfErr result (FaultsBy records.old records.new CaptureTextFault) }
     // also where it came from outside: at most one past the last record, and no record before it is wrong
     ensures reached { IfErr result (λ f. Reaches capture_form records.old.left 0 f.at) }
     ensures reads { (1 ≤ records.new.at) × (records.new.at ≤ MAX_RECORDS + 2) }

@@ -4,24 +4,24 @@ ghost use Rattle.std.specs.Prelude.{◌≡◌, ◌≤◌, IfOk, length, map};
 ghost use Rattle.edd_commands.specs.Capacity.{fixed};
 ghost use Rattle.edd_commands.specs.Limits.{most_commands};
 ghost use Rattle.edd_commands.specs.Schedule.{IsLegal};
-ghost use Rattle.blk_capture.specs.Counting.{IsCounted};
-ghost use Rattle.blk_capture.specs.Requests.{AreLate, AreTimed, served_of};
+ghost use Rattle.blk_capture.specs.Counting.{AreInRounds};
+ghost use Rattle.blk_capture.specs.Requests.{AgreeOnLateness, AreTimed, times_of};
 ghost use Rattle.blk_lists.specs.Schedule.{IsRan, ran_of};
 
-use blk_capture::{Request, rounds_of};
+use blk_capture::{CapturedRequest, rounds_of};
 use blk_lists::Schedule;
 use std::alloc::{AllocError, Global};
 
 /// Requests as a schedule of depth 1, whose rounds are their dispatches, as [`blk_capture::rounds_of`] counts them: legal, with an id
 /// and a round from 1 on by the order of the dispatches, and each late exactly where it went out after its deadline. It may be
 /// written. At most [`edd_commands::MAX_COMMANDS`] requests. Fails only when out of memory.
-pub fn schedule_of(alloc: Global, requests: &[Request]) -> Result<Schedule, AllocError>
+pub fn schedule_of(alloc: Global, requests: &[CapturedRequest]) -> Result<Schedule, AllocError>
     requires timed { AreTimed requests.now }
     requires few { length requests.now ≤ most_commands }
     ensures depth { IfOk result (λ s. s.depth ≡ 1) }
-    ensures counted { IfOk result (λ s. IsCounted (map served_of requests.now) s.commands.items s.rounds.items) }
+    ensures counted { IfOk result (λ s. AreInRounds (map times_of requests.now) s.commands.items s.rounds.items) }
     ensures legal { IfOk result (λ s. IsLegal s.commands.items s.rounds.items (fixed 1)) }
-    ensures late { IfOk result (λ s. AreLate requests.now s.commands.items s.rounds.items) }
+    ensures late { IfOk result (λ s. AgreeOnLateness requests.now s.commands.items s.rounds.items) }
     ensures ran { IfOk result (λ s. IsRan (ran_of s)) }
 {
     let counted = rounds_of(alloc, requests)?;

@@ -3,19 +3,19 @@
 ghost use Rattle.std.specs.Prelude.{◌≡◌, ◌≤◌, IfOk, length};
 ghost use Rattle.edd_commands.specs.Limits.{most_commands};
 ghost use Rattle.blk_capture.specs.Requests.{AreTimed};
-ghost use Rattle.blk_capture_text.specs.Shown.{IsShown, IsScheduleText, IsTableText, IsSummaryText};
+ghost use Rattle.blk_capture_text.specs.Shown.{Shows, IsScheduleText, IsTableText};
 
 use crate::importing::first_time;
 use crate::numbers::{count_fates, summary_text};
 use crate::schedule::schedule_of;
 use crate::table::table_text;
-use blk_capture::{Matched, Record, Request, rows_of, summarize};
+use blk_capture::{CapturedRequest, Matched, Record, rows_of, summarize};
 use blk_lists::schedule_text;
 use std::alloc::{AllocError, Global};
 
 /// What is shown of an import.
 #[derive(Clone, Copy, Debug, PartialEq, Eq)]
-pub enum Shown {
+pub enum ShownImport {
     /// The schedule of its requests.
     Schedule,
     /// A row a request.
@@ -25,7 +25,7 @@ pub enum Shown {
 }
 
 /// The text of the schedule of requests.
-fn text_of_schedule(alloc: Global, requests: &[Request]) -> Result<Vec<u8>, AllocError>
+fn text_of_schedule(alloc: Global, requests: &[CapturedRequest]) -> Result<Vec<u8>, AllocError>
     requires timed { AreTimed requests.now }
     requires few { length requests.now ≤ most_commands }
     ensures { IfOk result (λ text. IsScheduleText requests.now text.items) }
@@ -38,7 +38,7 @@ fn text_of_schedule(alloc: Global, requests: &[Request]) -> Result<Vec<u8>, Allo
 fn text_of_table(
     alloc: Global,
     records: &[Record],
-    requests: &[Request],
+    requests: &[CapturedRequest],
 ) -> Result<Vec<u8>, AllocError>
     ensures { IfOk result (λ text. IsTableText records.now requests.now text.items) }
 {
@@ -55,7 +55,7 @@ fn text_of_summary(
     requires timed { AreTimed matched.now.requests.items }
     requires few { length matched.now.requests.items ≤ most_commands }
     requires fates { length matched.now.fates.items ≡ length records.now }
-    ensures { IfOk result (λ text. IsSummaryText records.now matched.now.requests.items matched.now.bios.items matched.now.fates.items matched.now.left_out text.items) }
+    ensures { IfOk result (λ text. Shows ShownImport.Summary records.now matched.now text.items) }
 {
     let summary = summarize(alloc, records, matched)?;
     let counts = count_fates(matched.fates.as_slice());
@@ -65,18 +65,18 @@ fn text_of_summary(
 /// The text of what is shown of an import, as [`crate::import`] gives it of the records. Fails only when out of memory.
 pub fn shown_text(
     alloc: Global,
-    shown: Shown,
+    shown: ShownImport,
     records: &[Record],
     matched: &Matched,
 ) -> Result<Vec<u8>, AllocError>
     requires timed { AreTimed matched.now.requests.items }
     requires few { length matched.now.requests.items ≤ most_commands }
     requires fates { length matched.now.fates.items ≡ length records.now }
-    ensures { IfOk result (λ text. IsShown shown records.now matched.now.requests.items matched.now.bios.items matched.now.fates.items matched.now.left_out text.items) }
+    ensures { IfOk result (λ text. Shows shown records.now matched.now text.items) }
 {
     match shown {
-        Shown::Schedule => text_of_schedule(alloc, matched.requests.as_slice()),
-        Shown::Table => text_of_table(alloc, records, matched.requests.as_slice()),
-        Shown::Summary => text_of_summary(alloc, records, matched),
+        ShownImport::Schedule => text_of_schedule(alloc, matched.requests.as_slice()),
+        ShownImport::Table => text_of_table(alloc, records, matched.requests.as_slice()),
+        ShownImport::Summary => text_of_summary(alloc, records, matched),
     }
 }

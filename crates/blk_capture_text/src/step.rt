@@ -5,7 +5,7 @@ ghost use Rattle.std.specs.Str.Parse.{digits_value};
 ghost use Rattle.csv.specs.Records.{fields_of};
 ghost use Rattle.blk_lists.specs.Fields.{Lacks};
 ghost use Rattle.blk_capture.specs.Passing.{action_by, op_by};
-ghost use Rattle.blk_capture_text.specs.Steps.{IsNanoseconds, IsStep, StepLacks, number_at, record_at};
+ghost use Rattle.blk_capture_text.specs.Steps.{IsNanoseconds, HasNanoseconds, TellsNanoseconds, IsStep, StepLacks, record_at};
 
 use blk_capture::{Action, Op, Record};
 use blk_lists::Why;
@@ -55,7 +55,7 @@ fn nanoseconds(field: &[u8]) -> Option<u64>
 
 /// The nanoseconds of a row.
 fn nanoseconds_at(row: &ByteRecord) -> Option<u64>
-    ensures value { MatchOption result (¬ IsNanoseconds (get_or (fields_of row.now) 1 [])) (λ n. IsNanoseconds (get_or (fields_of row.now) 1 []) × (n ≡ number_at 1 (fields_of row.now))) }
+    ensures value { MatchOption result (¬ HasNanoseconds (fields_of row.now)) (TellsNanoseconds (fields_of row.now)) }
     ensures range { MatchOption result (Unit {0}) (λ n. n < 10 ^ 9) }
 {
     nanoseconds(field(row, 1))
@@ -83,6 +83,7 @@ fn first_lack(row: &ByteRecord, last: u64, why: Why) -> Why
     requires { Lacks STEP (fields_of row.now) why }
     ensures { StepLacks last (fields_of row.now) result }
 {
+    // named in the clauses alone
     let _ = last;
     match why {
         Why::Range => {

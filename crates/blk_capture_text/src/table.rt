@@ -8,7 +8,7 @@ ghost use Rattle.blk_bio.specs.Letters.{direction_text};
 ghost use Rattle.blk_capture_text.specs.TableText.{next_field, known_text, range_fields, time_fields, row_line, table_lines};
 
 use blk_bio::Dir;
-use blk_capture::Row;
+use blk_capture::RequestRow;
 use drafts::{Draft, WriteFault, write_whole};
 use std::alloc::{AllocError, Global};
 use std::io::Write;
@@ -39,7 +39,7 @@ fn push_dir(draft: &mut Draft, dir: Dir) -> Result<(), AllocError>
 }
 
 /// Adds the fields up to the process.
-fn push_range(draft: &mut Draft, row: &Row) -> Result<(), AllocError>
+fn push_range(draft: &mut Draft, row: &RequestRow) -> Result<(), AllocError>
     ensures { OnOk result (draft.new ≡ draft.old ++ range_fields row.now) }
 {
     draft.number(row.id)?;
@@ -51,7 +51,7 @@ fn push_range(draft: &mut Draft, row: &Row) -> Result<(), AllocError>
 }
 
 /// Adds the fields of its times.
-fn push_times(draft: &mut Draft, row: &Row) -> Result<(), AllocError>
+fn push_times(draft: &mut Draft, row: &RequestRow) -> Result<(), AllocError>
     ensures { OnOk result (draft.new ≡ draft.old ++ time_fields row.now) }
 {
     push_number(draft, row.queued)?;
@@ -62,7 +62,7 @@ fn push_times(draft: &mut Draft, row: &Row) -> Result<(), AllocError>
 }
 
 /// Adds the line of a request.
-fn push_row(draft: &mut Draft, row: &Row) -> Result<(), AllocError>
+fn push_row(draft: &mut Draft, row: &RequestRow) -> Result<(), AllocError>
     ensures { OnOk result (draft.new ≡ draft.old ++ row_line row.now) }
 {
     push_range(draft, row)?;
@@ -71,7 +71,7 @@ fn push_row(draft: &mut Draft, row: &Row) -> Result<(), AllocError>
 }
 
 /// Adds the lines of requests.
-fn push_rows(draft: &mut Draft, rows: &[Row]) -> Result<(), AllocError>
+fn push_rows(draft: &mut Draft, rows: &[RequestRow]) -> Result<(), AllocError>
     ensures { OnOk result (draft.new ≡ draft.old ++ flat_map (λ r. row_line r) rows.now) }
 {
     for row in rows {
@@ -81,7 +81,7 @@ fn push_rows(draft: &mut Draft, rows: &[Row]) -> Result<(), AllocError>
 }
 
 /// The head line and the lines of the requests.
-pub fn table_text(alloc: Global, rows: &[Row]) -> Result<Vec<u8>, AllocError>
+pub fn table_text(alloc: Global, rows: &[RequestRow]) -> Result<Vec<u8>, AllocError>
     ensures { IfOk result (λ v. v.items ≡ table_lines rows.now) }
 {
     let mut draft = Draft::new(alloc);
@@ -96,7 +96,11 @@ pub fn table_text(alloc: Global, rows: &[Row]) -> Result<Vec<u8>, AllocError>
 ///
 /// [`WriteFault::Write`]: the writer answered a fault; what it took before, a first part of the text, is out, and nothing says how
 /// much that is. [`WriteFault::Memory`]: nothing was handed to the writer.
-pub fn write_table<W: Write>(alloc: Global, rows: &[Row], writer: &mut W) -> Result<(), WriteFault>
+pub fn write_table<W: Write>(
+    alloc: Global,
+    rows: &[RequestRow],
+    writer: &mut W,
+) -> Result<(), WriteFault>
     ensures ok { OnOk result (Appends (W.contents writer.old) (W.contents writer.new) (table_lines rows.now)) }
     ensures memory { IfErr result (λ f. f ≡ WriteFault.Memory → writer.new ≡ writer.old) }
     // whatever the answer

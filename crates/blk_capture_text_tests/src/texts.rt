@@ -9,8 +9,8 @@ use blk_capture_text::laws::{
     captures_read_back, spelled_captures_have_no_fault,
 };
 use blk_capture_text::{
-    Asked, ImportFault, Shown, count_fates, first_time, import, notice_text, read_capture,
-    schedule_of, shown_text, write_summary, write_table,
+    ImportAsked, ImportFault, ShownImport, count_fates, first_time, import, notice_text,
+    read_capture, schedule_of, shown_text, write_summary, write_table,
 };
 use blk_lists::{Records, TextFault, Why, write_schedule};
 use std::alloc::Global;
@@ -43,8 +43,8 @@ fn records_of(rt: &impl Abort, alloc: Global, text: &str) -> Vec<Record>
 }
 
 /// Reads are due 100 after they were inserted, writes 1000.
-fn asked() -> Asked {
-    Asked {
+fn asked() -> ImportAsked {
+    ImportAsked {
         options: Options {
             read_expire: 100,
             write_expire: 1000,
@@ -274,9 +274,9 @@ fn each_text_is_shown(rt: HostRuntime) {
         panic!(rt; "memory");
     };
     let wanted = [
-        (Shown::Schedule, SCHEDULE),
-        (Shown::Table, TABLE),
-        (Shown::Summary, SUMMARY),
+        (ShownImport::Schedule, SCHEDULE),
+        (ShownImport::Table, TABLE),
+        (ShownImport::Summary, SUMMARY),
     ];
     for (shown, wanted) in wanted {
         let Ok(text) = shown_text(rt.alloc(), shown, records.as_slice(), &matched) else {
@@ -301,7 +301,7 @@ fn laws_hold(rt: HostRuntime) {
 #[test]
 fn a_part_is_taken(rt: HostRuntime) {
     let records = records_of(&rt, rt.alloc(), TEXT);
-    let later = Asked {
+    let later = ImportAsked {
         skip: 25,
         ..asked()
     };
@@ -311,7 +311,7 @@ fn a_part_is_taken(rt: HostRuntime) {
     assert_eq!(rt; matched.requests.len(), 1);
     assert_eq!(rt; matched.requests[0].first, 64);
     assert_eq!(rt; matched.left_out, 1);
-    let one = Asked {
+    let one = ImportAsked {
         first: 1,
         ..asked()
     };

@@ -5,13 +5,13 @@ use Rattle.blk_lists.specs.Sources.{Row}
 use Rattle.blk_words.specs.declared.words.Job.{Job}
 use Rattle.blk_words.specs.declared.words.Job.TheVariants as job
 use Rattle.blk_cli.specs.Said.{Said, only, IsAlone}
-use Rattle.blk_cli.specs.Gives.{Gives, GivesText, HasNoText, Fails, AnswersText}
+use Rattle.blk_cli.specs.Gives.{GivesAnswer, GivesText, HasNoText, HasNoAnswer, AnswersText}
 use Rattle.blk_cli.specs.declared.Ended.{Ended}
 use Rattle.blk_cli.specs.declared.failure.Failure.{Failure}
 use Rattle.blk_cli.specs.Ends.{Answers, AskForTexts, EndsPut, status_with}
 
 -- a job that answers a text alone
-alone : (words : List (List ℕ)) (j : Job) (input : Option (List Row)) (bytes : Option (List ℕ)) (s : Said) → AnswersText j → Gives words j input bytes s → IsAlone s
+alone : (words : List (List ℕ)) (j : Job) (input : Option (List Row)) (bytes : Option (List ℕ)) (s : Said) → AnswersText j → GivesAnswer words j input bytes s → IsAlone s
 alone words job.Version input bytes s answers g = g.1
 alone words (job.OfScript x) input bytes s answers g = g.1
 alone words (job.OfTrace x) input bytes s answers g = g.1
@@ -25,7 +25,7 @@ alone words (job.Tune x) input bytes s answers g = g.1
 alone words (job.Load x y z) input bytes s answers g = g.1
 
 -- what a job answers that gives a text alone
-pub gives_text : (words : List (List ℕ)) (j : Job) (input : Option (List Row)) (bytes : Option (List ℕ)) (text : List ℕ) → GivesText j input text → Gives words j input bytes (only text)
+pub gives_text : (words : List (List ℕ)) (j : Job) (input : Option (List Row)) (bytes : Option (List ℕ)) (text : List ℕ) → GivesText j input text → GivesAnswer words j input bytes (only text)
 gives_text words job.Version input bytes text g = (g, (refl, refl))
 gives_text words (job.OfScript x) input bytes text g = (g, (refl, refl))
 gives_text words (job.OfTrace x) input bytes text g = (g, (refl, refl))
@@ -39,7 +39,7 @@ gives_text words (job.Tune x) input bytes text g = absurd g
 gives_text words (job.Load x y z) input bytes text g = (g, (refl, refl))
 
 -- why it gives none
-pub fails_text : (words : List (List ℕ)) (j : Job) (input : Option (List Row)) (failed : Bool) (f : Failure) → HasNoText j input failed f → Fails words j input failed f
+pub fails_text : (words : List (List ℕ)) (j : Job) (input : Option (List Row)) (failed : Bool) (f : Failure) → HasNoText j input failed f → HasNoAnswer words j input failed f
 fails_text words job.Version input failed f h = h
 fails_text words (job.OfScript x) input failed f h = h
 fails_text words (job.OfTrace x) input failed f h = h

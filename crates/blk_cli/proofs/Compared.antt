@@ -15,8 +15,8 @@ use Rattle.blk_report.specs.declared.figures.Report.{Report}
 use Rattle.blk_picture.specs.Pictures.{IsPictures}
 use Rattle.blk_trace.specs.Traces.{Traced}
 use Rattle.blk_words.specs.declared.words.Form.{Form}
-use Rattle.blk_cli.specs.Scripts.{IsUnrun, failure_of_run}
-use Rattle.blk_cli.specs.Comparing.{IsReportUnder, AreUnder, AreReports, AreTraces, IsUncompared, IsTableIn, IsTableText, ArePicturesText}
+use Rattle.blk_cli.specs.Scripts.{FailsToRun, failure_of_run}
+use Rattle.blk_cli.specs.Comparing.{IsReportUnder, AreUnder, AreReports, AreTraces, IsUncompared, IsTableIn, IsComparedText, ArePicturesText}
 
 -- nothing yet, one more, and as many as schedulers
 pub none_yet : {X : Type 0} (Comes : Sched → Scripted → X → Type 0) (s : Scripted) → AreUnder Comes [] s []
@@ -67,7 +67,7 @@ pub traces_whole : (ss : List Sched) (s : Scripted) (ts : List Traced) → AreTr
 traces_whole ss s ts are = all_whole IsTraceOfScript trace_whole ss s ts are
 
 -- why a script is not run under one or each of some schedulers, as the program says it
-pub said_of_run : (x : Sched) (s : Scripted) (f : RunFault) → IsUnrunBy (policy_of x) x s f → IsUnrun x s (failure_of_run f)
+pub said_of_run : (x : Sched) (s : Scripted) (f : RunFault) → IsUnrunBy (policy_of x) x s f → FailsToRun x s (failure_of_run f)
 said_of_run x s (run.Sched f) h = h
 said_of_run x s (run.Step f) h = h
 said_of_run x s run.Memory h = tt
@@ -78,7 +78,7 @@ said_of_runs ss s (run.Step f) h = h
 said_of_runs ss s run.Memory h = tt
 
 -- the table of what was compared
-pub table_is : (l : Lineup) (f : Form) (ss : List Sched) (s : Scripted) (rs : List Report) (text : List ℕ) → ss ≡ in_turn l → AreReports ss s rs → IsTableIn f (map name_of ss) rs text → IsTableText l f s text
+pub table_is : (l : Lineup) (f : Form) (ss : List Sched) (s : Scripted) (rs : List Report) (text : List ℕ) → ss ≡ in_turn l → AreReports ss s rs → IsTableIn f (map name_of ss) rs text → IsComparedText l f s text
 table_is l f ss s rs text e are is = record {
   reports = rs;
   are_reports = subst (λ (xs : List Sched). AreReports xs s rs) e are;

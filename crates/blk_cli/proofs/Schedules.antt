@@ -11,7 +11,7 @@ use Rattle.edd_figures.specs.declared.lateness.Figures.{Figures}
 use Rattle.edd_figures.specs.declared.missing.Counts.{Counts}
 use Rattle.edd_figures.specs.declared.missing.Crowd.{Crowd}
 use Rattle.blk_judge.specs.declared.missing.Miss.{Miss}
-use Rattle.blk_judge.specs.Judged.{IsRefused, IsJudgement}
+use Rattle.blk_judge.specs.Judged.{IsRefusedSchedule, IsJudgement}
 use Rattle.blk_judge.specs.Late.{AreMissed}
 use Rattle.blk_lists.specs.Schedule.{Ran, IsRan}
 
@@ -34,5 +34,5 @@ module _ (s : Ran) (commands : List Command) (rounds : List ℕ) (steps : List S
   pub missed_of : (misses : List Miss) → AreMissed commands rounds steps misses → AreMissed s.commands s.rounds (fixed s.depth) misses
   missed_of misses = told_of (λ cs rs ss. AreMissed cs rs ss misses)
 
-  pub refused_as : (fault : CheckFault) → IsRefused commands rounds steps fault → IsRefused s.commands s.rounds (fixed s.depth) fault
-  refused_as fault = told_of (λ cs rs ss. IsRefused cs rs ss fault)
+  pub refused_as : (fault : CheckFault) → IsRefusedSchedule commands rounds steps fault → IsRefusedSchedule s.commands s.rounds (fixed s.depth) fault
+  refused_as fault = told_of (λ cs rs ss. IsRefusedSchedule cs rs ss fault)

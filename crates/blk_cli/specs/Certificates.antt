@@ -129,9 +129,9 @@ abbrev pub IsRefusedOnTime : OnTimeClaim → OnTimeFault → Type 0
 IsRefusedOnTime claim f = IsOnTimeAnswer claim.commands (fixed claim.depth) claim.rounds claim.met claim.cover (Err f)
 
 -- what `check` writes in a form, of a certificate of either kind, which is proved
-abbrev pub IsVerdict : Form → ProofClaim → List ℕ → Type 0
-IsVerdict f (OfLateness claim) text = IsProved claim × (text ≡ verdict_in f claim claim.bound)
-IsVerdict f (OfOnTime claim) text = IsOnTimeProved claim × (text ≡ on_time_verdict_in f claim)
+abbrev pub IsCheckText : Form → ProofClaim → List ℕ → Type 0
+IsCheckText f (OfLateness claim) text = IsProved claim × (text ≡ verdict_in f claim claim.bound)
+IsCheckText f (OfOnTime claim) text = IsOnTimeProved claim × (text ≡ on_time_verdict_in f claim)
 
 -- why a certificate is not proved
 abbrev pub IsUnproved : Claim → Failure → Type 0

@@ -18,7 +18,7 @@ use Rattle.blk_settings.specs.declared.sched.Sched.{Sched}
 use Rattle.blk_settings.specs.Rows.{name_of, in_turn}
 use Rattle.blk_cli.specs.declared.failure.Failure.{Failure}
 use Rattle.blk_cli.specs.declared.failure.Failure.TheVariants as failure
-use Rattle.blk_cli.specs.Scripts.{IsSimText, IsUnrun}
+use Rattle.blk_cli.specs.Scripts.{IsSimText, FailsToRun}
 
 -- the report of the trace of the script under a scheduler
 pub record IsReportUnder (s : Sched) (script : Scripted) (report : Report) : Type 0 where
@@ -45,7 +45,7 @@ IsTableIn form.Lines names reports text = IsTable names reports text
 IsTableIn form.Json names reports text = IsTableJson names reports text
 
 -- what `compare` writes: the table of these reports
-pub record IsTableText (l : Lineup) (f : Form) (script : Scripted) (text : List ℕ) : Type 0 where
+pub record IsComparedText (l : Lineup) (f : Form) (script : Scripted) (text : List ℕ) : Type 0 where
   pub reports : List Report
   pub are_reports : AreReports (in_turn l) script reports
   pub is_table : IsTableIn f (map name_of (in_turn l)) reports text
@@ -66,10 +66,10 @@ IsUncompared scheds script f = ⊥
 -- what is written of a script, and why nothing is
 abbrev pub IsRunText : Running → Scripted → List ℕ → Type 0
 IsRunText (running.One s) script text = IsSimText s script text
-IsRunText (running.Each l f) script text = IsTableText l f script text
+IsRunText (running.Each l f) script text = IsComparedText l f script text
 IsRunText (running.Drawn l) script text = ArePicturesText l script text
 
 abbrev pub HasNoRunText : Running → Scripted → Failure → Type 0
-HasNoRunText (running.One s) script f = IsUnrun s script f
+HasNoRunText (running.One s) script f = FailsToRun s script f
 HasNoRunText (running.Each l o) script f = IsUncompared (in_turn l) script f
 HasNoRunText (running.Drawn l) script f = IsUncompared (in_turn l) script f

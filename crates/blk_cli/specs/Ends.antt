@@ -10,13 +10,13 @@ use Rattle.blk_cli.specs.declared.NoText.{NoText}
 use Rattle.blk_cli.specs.declared.NoText.TheVariants as none
 use Rattle.blk_cli.specs.declared.failure.Failure.{Failure}
 use Rattle.blk_cli.specs.declared.failure.Failure.TheVariants as failure
-use Rattle.blk_cli.specs.Lines.{line_of, status_of, write_fault, excluded}
+use Rattle.blk_cli.specs.Lines.{failure_line, status_of, write_fault, excluded}
 use Rattle.blk_cli.specs.Said.{Said}
-use Rattle.blk_cli.specs.Gives.{Gives, Fails, AnswersText}
+use Rattle.blk_cli.specs.Gives.{GivesAnswer, HasNoAnswer, AnswersText}
 
 -- the words ask for a job that answers this
 abbrev pub Answers : List (List ℕ) → Option (List Row) → Option (List ℕ) → Said → Type 0
-Answers words input bytes s = (j : Job) × Asks words j × Gives words j input bytes s
+Answers words input bytes s = (j : Job) × Asks words j × GivesAnswer words j input bytes s
 
 -- they ask for nothing but texts alone
 abbrev pub AskForTexts : List (List ℕ) → Type 0
@@ -24,7 +24,7 @@ AskForTexts words = (j : Job) → Asks words j → AnswersText j
 
 -- or there is none: the job that they ask for fails, memory ran out before they were read, or they ask for nothing
 abbrev pub IsWithout : List (List ℕ) → Option (List Row) → Bool → NoText → Type 0
-IsWithout words input failed (none.Failure f) = ((j : Job) × Asks words j × Fails words j input failed f) ⊎ (f ≡ failure.Memory)
+IsWithout words input failed (none.Failure f) = ((j : Job) × Asks words j × HasNoAnswer words j input failed f) ⊎ (f ≡ failure.Memory)
 IsWithout words input failed (none.Usage text) = AreFaulty words
 IsWithout words input failed none.Excluded = NameNone words
 
@@ -35,22 +35,22 @@ status_without (none.Usage text) = 2
 status_without none.Excluded = 2
 
 abbrev pub line_without : NoText → List ℕ
-line_without (none.Failure f) = line_of f
+line_without (none.Failure f) = failure_line f
 line_without (none.Usage text) = string_bytes text
 line_without none.Excluded = excluded
 
 -- a line was said whole; or its writer failed, and took a first part of it and nothing else
-abbrev pub Says : List ℕ → Stream → Stream → Bool → Type 0
-Says line old new true = IsWritten line old new
-Says line old new false = IsCut line old new
+abbrev pub SaysLine : List ℕ → Stream → Stream → Bool → Type 0
+SaysLine line old new true = IsWritten line old new
+SaysLine line old new false = IsCut line old new
 
 -- a run ended with this status and said this line
 abbrev pub EndsSaying : ℕ → List ℕ → Stream → Stream → Ended → Type 0
-EndsSaying status line old new ended = (ended.status ≡ status) × Says line old new ended.told
+EndsSaying status line old new ended = (ended.status ≡ status) × SaysLine line old new ended.told
 
 -- with those of a failure; and with those of why there is nothing
 abbrev pub EndsFailing : Failure → Stream → Stream → Ended → Type 0
-EndsFailing f old new ended = EndsSaying (status_of f) (line_of f) old new ended
+EndsFailing f old new ended = EndsSaying (status_of f) (failure_line f) old new ended
 
 abbrev pub EndsWithout : NoText → Stream → Stream → Ended → Type 0
 EndsWithout n old new ended = EndsSaying (status_without n) (line_without n) old new ended
@@ -62,7 +62,7 @@ status_with good = if good then 0 else 1
 -- its note was said, where it has one
 abbrev pub SaysBeside : Option (List ℕ) → Stream → Stream → Bool → Type 0
 SaysBeside None old new told = (new ≡ old) × (told ≡ true)
-SaysBeside (Some line) old new told = Says line old new told
+SaysBeside (Some line) old new told = SaysLine line old new told
 
 -- its text was written whole, and its note said; or the writer of the text failed, and took a first part of it and nothing else
 abbrev pub EndsPut : Said → Stream → Stream → Stream → Stream → Ended → Type 0

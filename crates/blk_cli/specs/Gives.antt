@@ -6,7 +6,7 @@ use Rattle.blk_lists.specs.Proof.{SpellsProof, ProofFault}
 use Rattle.blk_lists.specs.Schedule.{SpellsSchedule, ScheduleFault}
 use Rattle.blk_capture_text.specs.Captures.{SpellsCapture, CaptureTextFault}
 use Rattle.blk_text.specs.Script.{SpellsScript, ScriptFault}
-use Rattle.blk_text.specs.TraceForm.{SpellsTrace, TraceFault}
+use Rattle.blk_text.specs.TraceForm.{SpellsTrace, TraceTextFault}
 use Rattle.blk_words.specs.declared.words.Job.{Job}
 use Rattle.blk_words.specs.declared.words.Job.TheVariants as job
 use Rattle.blk_cli.specs.declared.failure.Failure.{Failure}
@@ -14,8 +14,8 @@ use Rattle.blk_cli.specs.declared.failure.Failure.TheVariants as failure
 use Rattle.blk_cli.specs.Said.{Said, IsAlone}
 use Rattle.blk_cli.specs.Inputs.{Of, FailsOver}
 use Rattle.blk_cli.specs.Comparing.{IsRunText, HasNoRunText}
-use Rattle.blk_cli.specs.OfTraces.{IsTold, IsUntold}
-use Rattle.blk_cli.specs.Certificates.{SpellsList, IsSolved, IsUnsolved, IsVerdict, IsBad}
+use Rattle.blk_cli.specs.OfTraces.{IsTellingText, IsUntold}
+use Rattle.blk_cli.specs.Certificates.{SpellsList, IsSolved, IsUnsolved, IsCheckText, IsBad}
 use Rattle.blk_cli.specs.Judging.{IsJudgedText, IsUnjudged}
 use Rattle.blk_cli.specs.Importing.{IsImported, IsUnimported}
 use Rattle.blk_cli.specs.Explaining.{IsTextExplained, IsUnexplained}
@@ -42,9 +42,9 @@ version_line = codes "blk 1.0.0" ++ 10 ∷ []
 abbrev pub GivesText : Job → Option (List Row) → List ℕ → Type 0
 GivesText job.Version input text = text ≡ version_line
 GivesText (job.OfScript r) input text = Of SpellsScript (IsRunText r) input text
-GivesText (job.OfTrace t) input text = Of SpellsTrace (IsTold t) input text
+GivesText (job.OfTrace t) input text = Of SpellsTrace (IsTellingText t) input text
 GivesText (job.OfList s) input text = Of SpellsList (IsSolved s) input text
-GivesText (job.Check o) input text = Of SpellsProof (IsVerdict o) input text
+GivesText (job.Check o) input text = Of SpellsProof (IsCheckText o) input text
 GivesText (job.Import i) input text = ⊥
 GivesText (job.Refuse r) input text = ⊥
 GivesText job.Explain input text = ⊥
@@ -53,17 +53,17 @@ GivesText (job.Judge e) input text = Of SpellsSchedule (IsJudgedText e) input te
 GivesText (job.Load s l w) input text = IsLoadOf s w l text
 
 -- what it answers to the words that ask for it, of the records of its input and of its bytes, where these are known
-abbrev pub Gives : List (List ℕ) → Job → Option (List Row) → Option (List ℕ) → Said → Type 0
-Gives words (job.Import i) input bytes s = Of SpellsCapture (IsImported i) input s
-Gives words job.Explain input bytes s = IsTextExplained bytes s
-Gives words (job.Tune t) input bytes s = Of SpellsScript (IsTrial words t) input s.text × IsAlone s
-Gives words j input bytes s = GivesText j input s.text × IsAlone s
+abbrev pub GivesAnswer : List (List ℕ) → Job → Option (List Row) → Option (List ℕ) → Said → Type 0
+GivesAnswer words (job.Import i) input bytes s = Of SpellsCapture (IsImported i) input s
+GivesAnswer words job.Explain input bytes s = IsTextExplained bytes s
+GivesAnswer words (job.Tune t) input bytes s = Of SpellsScript (IsTrial words t) input s.text × IsAlone s
+GivesAnswer words j input bytes s = GivesText j input s.text × IsAlone s
 
 -- why it gives no text, where the reader has failed or hasn't; of a trial this turns on its words too
 abbrev pub HasNoText : Job → Option (List Row) → Bool → Failure → Type 0
 HasNoText job.Version input failed f = f ≡ failure.Memory
 HasNoText (job.OfScript r) input failed f = FailsOver SpellsScript ScriptFault (HasNoRunText r) input failed f
-HasNoText (job.OfTrace t) input failed f = FailsOver SpellsTrace TraceFault (IsUntold t) input failed f
+HasNoText (job.OfTrace t) input failed f = FailsOver SpellsTrace TraceTextFault (IsUntold t) input failed f
 HasNoText (job.OfList s) input failed f = FailsOver SpellsList CommandsFault IsUnsolved input failed f
 HasNoText (job.Check o) input failed f = FailsOver SpellsProof ProofFault IsBad input failed f
 HasNoText (job.Import i) input failed f = FailsOver SpellsCapture CaptureTextFault (IsUnimported i) input failed f
@@ -74,6 +74,6 @@ HasNoText (job.Tune t) input failed f = ⊥
 HasNoText (job.Load s l w) input failed f = IsUnloaded s l f
 
 -- why it gives none to the words that ask for it
-abbrev pub Fails : List (List ℕ) → Job → Option (List Row) → Bool → Failure → Type 0
-Fails words (job.Tune t) input failed f = FailsToTry words input failed f
-Fails words j input failed f = HasNoText j input failed f
+abbrev pub HasNoAnswer : List (List ℕ) → Job → Option (List Row) → Bool → Failure → Type 0
+HasNoAnswer words (job.Tune t) input failed f = FailsToTry words input failed f
+HasNoAnswer words j input failed f = HasNoText j input failed f

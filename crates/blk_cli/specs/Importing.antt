@@ -8,17 +8,17 @@ use Rattle.blk_arrivals.specs.declared.terms.TheConstants.{DEPTH}
 use Rattle.blk_arrivals.specs.declared.terms.Terms.{Terms}
 use Rattle.blk_capture.specs.declared.fates.Fate.{Fate}
 use Rattle.blk_capture.specs.declared.record.Record.{Record}
-use Rattle.blk_capture.specs.declared.requests.Bio.{Bio}
+use Rattle.blk_capture.specs.declared.requests.CapturedBio.{CapturedBio}
 use Rattle.blk_capture.specs.declared.requests.Entry.{Entry}
 use Rattle.blk_capture.specs.declared.requests.Entry.TheVariants as entry
-use Rattle.blk_capture.specs.declared.requests.Request.{Request}
+use Rattle.blk_capture.specs.declared.requests.CapturedRequest.{CapturedRequest}
 use Rattle.blk_capture_text.specs.Imports.{IsImport, IsImportFault}
 use Rattle.blk_capture_text.specs.Shown.{IsShown}
 use Rattle.blk_capture_text.specs.SummaryText.{counts_of, notice_line}
-use Rattle.blk_capture_text.specs.declared.importing.Asked.{Asked}
-use Rattle.blk_capture_text.specs.declared.numbers.Counts.{Counts}
-use Rattle.blk_capture_text.specs.declared.shown.Shown.{Shown}
-use Rattle.blk_capture_text.specs.declared.shown.Shown.TheVariants as shown
+use Rattle.blk_capture_text.specs.declared.importing.ImportAsked.{ImportAsked}
+use Rattle.blk_capture_text.specs.declared.numbers.UnusedCounts.{UnusedCounts}
+use Rattle.blk_capture_text.specs.declared.shown.ShownImport.{ShownImport}
+use Rattle.blk_capture_text.specs.declared.shown.ShownImport.TheVariants as shown
 use Rattle.blk_lists.specs.Texts.{rows_text}
 use Rattle.blk_text.specs.Script.{IsScript, script_rows}
 use Rattle.blk_text.specs.Versions.{latest}
@@ -30,19 +30,19 @@ use Rattle.blk_cli.specs.declared.failure.Failure.{Failure}
 use Rattle.blk_cli.specs.declared.failure.Failure.TheVariants as failure
 
 -- what is asked of the import
-abbrev pub entry_by : Bool → Entry
-entry_by true = entry.Queue
-entry_by false = entry.Insert
+abbrev pub entry_asked : Bool → Entry
+entry_asked true = entry.Queue
+entry_asked false = entry.Insert
 
-abbrev pub most_of : Option ℕ → ℕ
-most_of None = 2 ^ 64 - 1
-most_of (Some n) = n
+abbrev pub most_asked : Option ℕ → ℕ
+most_asked None = 2 ^ 64 - 1
+most_asked (Some n) = n
 
-abbrev pub asked_of : Import → Asked
+abbrev pub asked_of : Import → ImportAsked
 asked_of i = record {
-  options = record { read_expire = i.read_expire; write_expire = i.write_expire; entry = entry_by i.from_queue };
+  options = record { read_expire = i.read_expire; write_expire = i.write_expire; entry = entry_asked i.from_queue };
   skip = i.skip;
-  first = most_of i.first;
+  first = most_asked i.first;
 }
 
 -- how its arrivals become a script
@@ -50,18 +50,18 @@ abbrev pub terms_of : Import → ℕ → Option ℕ → Terms
 terms_of i round depth = record { round = round; depth = option_map_or (λ n. n) depth DEPTH; read_expire = i.read_expire; write_expire = i.write_expire }
 
 -- the line on what was passed over or not matched, where there is any; a summary has it among its own
-abbrev pub line_on : Counts → Option (List ℕ)
+abbrev pub line_on : UnusedCounts → Option (List ℕ)
 line_on c = if (c.passed == 0) && (c.unmatched == 0) then None else Some (notice_line c)
 
-abbrev pub note_by : Shown → Counts → Option (List ℕ)
+abbrev pub note_by : ShownImport → UnusedCounts → Option (List ℕ)
 note_by shown.Schedule c = line_on c
 note_by shown.Table c = line_on c
 note_by shown.Summary c = None
 
 -- what is shown of the requests of a capture that are taken, and what is said beside it
-pub record IsShownOf (shown : Shown) (i : Import) (records : List Record) (s : Said) : Type 0 where
-  pub requests : List Request
-  pub bios : List Bio
+pub record IsShownOf (shown : ShownImport) (i : Import) (records : List Record) (s : Said) : Type 0 where
+  pub requests : List CapturedRequest
+  pub bios : List CapturedBio
   pub fates : List Fate
   pub absorbed : ℕ
   pub left_out : ℕ

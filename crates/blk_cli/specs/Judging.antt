@@ -5,9 +5,9 @@ use Rattle.edd_figures.specs.declared.lateness.Figures.{Figures}
 use Rattle.edd_figures.specs.declared.missing.Counts.{Counts}
 use Rattle.edd_figures.specs.declared.missing.Crowd.{Crowd}
 use Rattle.blk_judge.specs.declared.missing.Miss.{Miss}
-use Rattle.blk_judge.specs.Judged.{IsRefused, IsJudgement}
+use Rattle.blk_judge.specs.Judged.{IsRefusedSchedule, IsJudgement}
 use Rattle.blk_judge.specs.Late.{AreMissed}
-use Rattle.blk_judge.specs.Text.{judged_text, misses_text}
+use Rattle.blk_judge.specs.Text.{judged_text, miss_records}
 use Rattle.blk_lists.specs.Schedule.{Ran}
 use Rattle.blk_cli.specs.declared.failure.Failure.{Failure}
 use Rattle.blk_cli.specs.declared.failure.Failure.TheVariants as failure
@@ -24,7 +24,7 @@ pub record IsWholeText (s : Ran) (text : List ℕ) : Type 0 where
 pub record IsEachText (s : Ran) (text : List ℕ) : Type 0 where
   pub misses : List Miss
   pub missed : AreMissed s.commands s.rounds (fixed s.depth) misses
-  pub is_text : text ≡ misses_text misses
+  pub is_text : text ≡ miss_records misses
 
 -- the one that is asked for
 abbrev pub IsJudgedText : Bool → Ran → List ℕ → Type 0
@@ -33,6 +33,6 @@ IsJudgedText true s text = IsEachText s text
 
 -- the schedule isn't legal, or memory ran out
 abbrev pub IsUnjudged : Ran → Failure → Type 0
-IsUnjudged s (failure.Check fault) = IsRefused s.commands s.rounds (fixed s.depth) fault
+IsUnjudged s (failure.Check fault) = IsRefusedSchedule s.commands s.rounds (fixed s.depth) fault
 IsUnjudged s failure.Memory = ⊤
 IsUnjudged s f = ⊥

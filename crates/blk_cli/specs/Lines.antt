@@ -128,20 +128,20 @@ refusal_text refusal.WriteTarget = codes "--write-target takes 1 to 64 numbers o
 refusal_text refusal.By = codes "--by takes misses or lateness"
 
 -- the line on a failure
-abbrev pub line_of : Failure → List ℕ
-line_of (failure.Text f) = text_line f.at f.why
-line_of (failure.Sched f) = sched_line f
-line_of (failure.Step f) = step_line f.at f.why
-line_of (failure.Solve f) = oracle_line f
-line_of (failure.Check f) = check_line f
-line_of (failure.OnTime f) = on_time_check_line f
-line_of failure.NotFixed = line (codes "NotFixed")
-line_of (failure.Load f) = load_line f
-line_of (failure.Import f) = import_line f
-line_of (failure.Arrivals f) = arrivals_line f
-line_of (failure.Words r) = line (refusal_text r)
-line_of failure.Write = write_fault
-line_of failure.Memory = want_of_memory
+abbrev pub failure_line : Failure → List ℕ
+failure_line (failure.Text f) = text_line f.at f.why
+failure_line (failure.Sched f) = sched_line f
+failure_line (failure.Step f) = step_line f.at f.why
+failure_line (failure.Solve f) = oracle_line f
+failure_line (failure.Check f) = check_line f
+failure_line (failure.OnTime f) = on_time_check_line f
+failure_line failure.NotFixed = line (codes "NotFixed")
+failure_line (failure.Load f) = load_line f
+failure_line (failure.Import f) = import_line f
+failure_line (failure.Arrivals f) = arrivals_line f
+failure_line (failure.Words r) = line (refusal_text r)
+failure_line failure.Write = write_fault
+failure_line failure.Memory = want_of_memory
 
 -- whether it came from outside: a read or a write that failed, or memory that ran out
 abbrev pub is_text_outside : Why → Bool

@@ -14,8 +14,8 @@ use Rattle.blk_trace.specs.Traces.{Traced}
 use Rattle.blk_json.specs.Loads.{load_json}
 use Rattle.blk_words.specs.declared.words.Form.{Form}
 use Rattle.blk_words.specs.declared.words.Form.TheVariants as form
-use Rattle.blk_words.specs.declared.words.Shown.{Shown}
-use Rattle.blk_words.specs.declared.words.Shown.TheVariants as shown
+use Rattle.blk_words.specs.declared.words.ShownLoad.{ShownLoad}
+use Rattle.blk_words.specs.declared.words.ShownLoad.TheVariants as shown
 use Rattle.blk_cli.specs.OfTraces.{IsTraceText}
 
 -- the lines on what came of a load: how many bios were accepted, served and left
@@ -29,13 +29,13 @@ account_in form.Lines accepted served left = load_lines accepted served left
 account_in form.Json accepted served left = load_json accepted served left
 
 -- the text on it: its numbers in a form, or the text that spells its trace
-abbrev pub IsLoadText : Shown → Traced → Settled → List ℕ → Type 0
+abbrev pub IsLoadText : ShownLoad → Traced → Settled → List ℕ → Type 0
 IsLoadText (shown.Account f) trace s text = text ≡ account_in f s.accepted s.served s.left
 IsLoadText shown.Trace trace s text = IsTraceText trace text
 
 -- what `load` writes, of the trace of its layer, which is one that the scheduler makes, and of what it came to by this, where no two
 -- bios have one id
-pub record IsLoadOf (s : Sched) (w : Shown) (l : Load) (text : List ℕ) : Type 0 where
+pub record IsLoadOf (s : Sched) (w : ShownLoad) (l : Load) (text : List ℕ) : Type 0 where
   pub trace : Traced
   pub settled : Settled
   pub ran : IsRunUnder s l.depth trace

@@ -15,7 +15,7 @@ use Rattle.blk_report.specs.declared.missing.Tally.{Tally}
 use Rattle.blk_report.specs.declared.spreading.Spreads.{Spreads}
 use Rattle.blk_report.specs.Lines.{report_text}
 use Rattle.blk_report.specs.declared.delays.LateCommand.{LateCommand}
-use Rattle.blk_report.specs.Late.{AreLate}
+use Rattle.blk_report.specs.Late.{AreAllLate}
 use Rattle.blk_report.specs.LateText.{late_lines}
 use Rattle.blk_report.specs.Misses.{IsTallied}
 use Rattle.blk_report.specs.MissesText.{misses_text}
@@ -28,7 +28,7 @@ use Rattle.blk_json.specs.Missing.{misses_json}
 use Rattle.blk_json.specs.Reports.{report_json}
 use Rattle.blk_json.specs.Spreading.{spread_json}
 use Rattle.blk_picture.specs.Pictures.{IsPicture}
-use Rattle.blk_words.specs.declared.inputs.Figures.TheVariants as figures
+use Rattle.blk_words.specs.declared.inputs.FiguresAsked.TheVariants as figures
 use Rattle.blk_words.specs.declared.inputs.Telling.{Telling}
 use Rattle.blk_words.specs.declared.inputs.Telling.TheVariants as telling
 use Rattle.blk_words.specs.declared.words.Form.{Form}
@@ -80,7 +80,7 @@ pub record IsSpreadText (f : Form) (trace : Traced) (text : List ℕ) : Type 0 w
 -- its commands that were late
 pub record IsLateText (f : Form) (trace : Traced) (text : List ℕ) : Type 0 where
   pub late : List LateCommand
-  pub are_late : AreLate (services_of trace.setup trace.events) (capacity_of trace.setup trace.events) late
+  pub are_late : AreAllLate (services_of trace.setup trace.events) (capacity_of trace.setup trace.events) late
   pub is_text : text ≡ late_in f late
 
 -- how many of the trace's commands were late and had to be, on what waits, and on the windows that prove it
@@ -91,14 +91,14 @@ pub record IsMissesText (f : Form) (trace : Traced) (text : List ℕ) : Type 0 w
   pub is_text : text ≡ misses_in f tally windows
 
 -- what is said about a trace
-abbrev pub IsTold : Telling → Traced → List ℕ → Type 0
-IsTold telling.Whole trace text = IsTraceText trace text
-IsTold telling.Commands trace text = IsCommandsText trace text
-IsTold telling.Picture trace text = IsPicture trace text
-IsTold (telling.Figures figures.Late f) trace text = IsLateText f trace text
-IsTold (telling.Figures figures.Misses f) trace text = IsMissesText f trace text
-IsTold (telling.Figures figures.Spread f) trace text = IsSpreadText f trace text
-IsTold (telling.Figures figures.Report f) trace text = IsReportText f trace text
+abbrev pub IsTellingText : Telling → Traced → List ℕ → Type 0
+IsTellingText telling.Whole trace text = IsTraceText trace text
+IsTellingText telling.Commands trace text = IsCommandsText trace text
+IsTellingText telling.Picture trace text = IsPicture trace text
+IsTellingText (telling.Figures figures.Late f) trace text = IsLateText f trace text
+IsTellingText (telling.Figures figures.Misses f) trace text = IsMissesText f trace text
+IsTellingText (telling.Figures figures.Spread f) trace text = IsSpreadText f trace text
+IsTellingText (telling.Figures figures.Report f) trace text = IsReportText f trace text
 
 -- why a trace has no command list: an event sets a depth
 abbrev pub IsUnlisted : Traced → Failure → Type 0

@@ -24,8 +24,8 @@ failure_of_run (run.Step f) = failure.Step f
 failure_of_run run.Memory = failure.Memory
 
 -- its scheduler isn't made of its settings, or a step is refused
-abbrev pub IsUnrun : Sched → Scripted → Failure → Type 0
-IsUnrun s script (failure.Sched f) = IsUnmade s f
-IsUnrun s script (failure.Step f) = IsRefusedUnder s script f
-IsUnrun s script failure.Memory = ⊤
-IsUnrun s script f = ⊥
+abbrev pub FailsToRun : Sched → Scripted → Failure → Type 0
+FailsToRun s script (failure.Sched f) = IsUnmade s f
+FailsToRun s script (failure.Step f) = IsRefusedUnder s script f
+FailsToRun s script failure.Memory = ⊤
+FailsToRun s script f = ⊥

@@ -4,7 +4,7 @@ use Rattle.blk_lists.specs.Sources.{Row as Record}
 use Rattle.blk_text.specs.Script.{Scripted, SpellsScript, ScriptFault}
 use Rattle.blk_grid.specs.Rows.{Gridded, grid_rows}
 use Rattle.blk_grid.specs.Wanted.{Wanted}
-use Rattle.blk_tune.specs.declared.row.Row.{Row}
+use Rattle.blk_tune.specs.declared.row.TrialRow.{TrialRow}
 use Rattle.blk_tune.specs.Tuned.{AreTuned, IsTuned}
 use Rattle.blk_json.specs.Trials.{trial_json}
 use Rattle.blk_words.specs.Asked.{AsksGrid}
@@ -22,7 +22,7 @@ wanted_by t g = record { grid = g; by = t.by; top = t.top }
 
 -- the rows of a trial as a JSON value, and in a form
 pub record IsTunedJson (w : Wanted) (script : Scripted) (text : List ℕ) : Type 0 where
-  pub rows : List Row
+  pub rows : List TrialRow
   pub are_tuned : AreTuned w script rows
   pub is_text : text ≡ trial_json w.by w.top rows
 

@@ -6,7 +6,7 @@ ghost use Rattle.blk_lists.specs.Certificate.{IsClaim, claimed};
 ghost use Rattle.blk_lists.specs.OnTime.{on_time_claimed, IsOnTimeClaim};
 ghost use Rattle.blk_lists.specs.Proof.{OfLateness, OfOnTime, SpellsProof, ProofFault, proof_claimed, IsProofClaim};
 ghost use Rattle.blk_cli.specs.Inputs.{Of, FailsOver};
-ghost use Rattle.blk_cli.specs.Certificates.{IsProved, IsOnTimeProved, IsCrowdingOf, IsBoundOf, IsUnproved, IsUnmet, IsVerdict, IsBad, bound_in, no_commands_in, verdict_in, on_time_in, on_time_verdict_in};
+ghost use Rattle.blk_cli.specs.Certificates.{IsProved, IsOnTimeProved, IsCrowdingOf, IsBoundOf, IsUnproved, IsUnmet, IsCheckText, IsBad, bound_in, no_commands_in, verdict_in, on_time_in, on_time_verdict_in};
 
 use crate::failure::Failure;
 use blk_json::{bound_json, no_commands_json, on_time_json};
@@ -99,7 +99,7 @@ fn lateness_checked(
     certificate: &Certificate,
 ) -> Result<Vec<u8>, Failure>
     requires { IsClaim (claimed certificate.now) }
-    ensures good { IfOk result (λ text. IsVerdict form (OfLateness (claimed certificate.now)) text.items) }
+    ensures good { IfOk result (λ text. IsCheckText form (OfLateness (claimed certificate.now)) text.items) }
     ensures unproved { IfErr result (IsUnproved (claimed certificate.now)) }
 {
     let crowding = match verify(alloc, certificate) {
@@ -189,7 +189,7 @@ fn on_time_checked(
     certificate: &OnTimeCertificate,
 ) -> Result<Vec<u8>, Failure>
     requires { IsOnTimeClaim (on_time_claimed certificate.now) }
-    ensures good { IfOk result (λ text. IsVerdict form (OfOnTime (on_time_claimed certificate.now)) text.items) }
+    ensures good { IfOk result (λ text. IsCheckText form (OfOnTime (on_time_claimed certificate.now)) text.items) }
     ensures unmet { IfErr result (IsUnmet (on_time_claimed certificate.now)) }
 {
     let Ok(capacity) = Capacity::fixed(alloc, certificate.depth) else {
@@ -208,7 +208,7 @@ fn on_time_checked(
 /// What is written of a certificate of either kind, which proves what it claims.
 fn checked(alloc: Global, form: Form, proof: &Proof) -> Result<Vec<u8>, Failure>
     requires { IsProofClaim (proof_claimed proof.now) }
-    ensures good { IfOk result (λ text. IsVerdict form (proof_claimed proof.now) text.items) }
+    ensures good { IfOk result (λ text. IsCheckText form (proof_claimed proof.now) text.items) }
     ensures bad { IfErr result (IsBad (proof_claimed proof.now)) }
 {
     match proof {
@@ -224,7 +224,7 @@ pub fn over_proof<R: Read + Drop>(
     records: &mut Records<R>,
 ) -> Result<Vec<u8>, Failure>
     requires { records.old.at ≡ 0 }
-    ensures text { IfOk result (λ text. Of SpellsProof (IsVerdict form) records.old.left text.items) }
+    ensures text { IfOk result (λ text. Of SpellsProof (IsCheckText form) records.old.left text.items) }
     ensures fails { IfErr result (FailsOver SpellsProof ProofFault IsBad records.old.left records.new.failed) }
 {
     let proof = match read_proof(alloc, records) {

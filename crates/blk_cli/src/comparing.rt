@@ -6,7 +6,7 @@ ghost use Rattle.blk_settings.specs.Made.{IsMade};
 ghost use Rattle.blk_settings.specs.Rows.{name_of, in_turn};
 ghost use Rattle.blk_runs.specs.Runs.{IsUnrun};
 ghost use Rattle.blk_runs.specs.Firsts.{AreUnrun};
-ghost use Rattle.blk_cli.specs.Comparing.{IsReportUnder, AreReports, IsUncompared, IsTableIn, IsTableText};
+ghost use Rattle.blk_cli.specs.Comparing.{IsReportUnder, AreReports, IsUncompared, IsTableIn, IsComparedText};
 
 use crate::failure::Failure;
 use blk_json::table_json;
@@ -133,7 +133,7 @@ pub fn table_of(
     script: &Script,
 ) -> Result<Vec<u8>, Failure>
     requires { IsScript (scripted script.now) }
-    ensures text { IfOk result (λ text. IsTableText lineup form (scripted script.now) text.items) }
+    ensures text { IfOk result (λ text. IsComparedText lineup form (scripted script.now) text.items) }
     ensures uncompared { IfErr result (IsUncompared (in_turn lineup) (scripted script.now)) }
 {
     let Ok(scheds) = lineup.in_turn(alloc) else {

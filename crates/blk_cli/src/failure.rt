@@ -2,7 +2,7 @@
 
 ghost use Rattle.std.specs.Prelude.{◌≡◌, ◌≤◌, decimal};
 ghost use Rattle.drafts.specs.Outputs.{Writes, stream_of};
-ghost use Rattle.blk_cli.specs.Lines.{line, want_of_memory, numbered, signed_line, at_record, text_line, step_line, oracle_line, check_line, on_time_check_line, refusal_text, line_of, status_of};
+ghost use Rattle.blk_cli.specs.Lines.{line, want_of_memory, numbered, signed_line, at_record, text_line, step_line, oracle_line, check_line, on_time_check_line, refusal_text, failure_line, status_of};
 ghost use Rattle.blk_cli.specs.Ends.{EndsFailing};
 ghost use Rattle.blk_cli.specs.Scripts.{failure_of_run};
 
@@ -106,7 +106,7 @@ impl Failure {
 
     /// Writes the failure's line: `blk: ` and what was refused, where it stands or which id or number it has.
     pub fn tell<F: Write>(&self, faults: &mut Output<F>) -> Result<(), WriteFault>
-        ensures { Writes (line_of self.now) (stream_of F.contents faults.old) (stream_of F.contents faults.new) result }
+        ensures { Writes (failure_line self.now) (stream_of F.contents faults.old) (stream_of F.contents faults.new) result }
     {
         match self {
             Failure::Text(fault) => tell_text(faults, fault.at, fault.why),

@@ -5,21 +5,23 @@ ghost use Rattle.blk_capture.specs.Requests.{AreInOrder};
 ghost use Rattle.blk_capture_text.specs.Captures.{SpellsCapture, CaptureTextFault};
 ghost use Rattle.blk_cli.specs.Said.{said_of};
 ghost use Rattle.blk_cli.specs.Inputs.{Of, FailsOver};
-ghost use Rattle.blk_cli.specs.Importing.{entry_by, most_of, asked_of, terms_of, line_on, note_by, IsShownOf, IsUnshown, IsScripted, IsUnscripted, IsImported, IsUnimported};
+ghost use Rattle.blk_cli.specs.Importing.{entry_asked, most_asked, asked_of, terms_of, line_on, note_by, IsShownOf, IsUnshown, IsScripted, IsUnscripted, IsImported, IsUnimported};
 
 use crate::Answered;
 use crate::failure::Failure;
 use blk_arrivals::{DEPTH, Terms, script_of, script_text};
 use blk_capture::{Entry, Options, Record};
-use blk_capture_text::{Asked, Counts, Shown, count_fates, notice_text, read_capture, shown_text};
+use blk_capture_text::{
+    ImportAsked, ShownImport, UnusedCounts, count_fates, notice_text, read_capture, shown_text,
+};
 use blk_lists::Records;
 use blk_words::{Import, Written};
 use std::alloc::{AllocError, Global};
 use std::io::Read;
 
 /// When a request counts as having come in.
-fn entry_by(from_queue: bool) -> Entry
-    ensures { result ≡ entry_by from_queue }
+fn entry_asked(from_queue: bool) -> Entry
+    ensures { result ≡ entry_asked from_queue }
 {
     if from_queue {
         Entry::Queue
@@ -29,8 +31,8 @@ fn entry_by(from_queue: bool) -> Entry
 }
 
 /// How many requests are taken at most.
-fn most_of(first: Option<u64>) -> u64
-    ensures { result ≡ most_of first }
+fn most_asked(first: Option<u64>) -> u64
+    ensures { result ≡ most_asked first }
 {
     match first {
         Some(first) => first,
@@ -39,19 +41,19 @@ fn most_of(first: Option<u64>) -> u64
 }
 
 /// What is asked of the import.
-fn asked_of(wanted: Import) -> Asked
+fn asked_of(wanted: Import) -> ImportAsked
     ensures { result ≡ asked_of wanted }
 {
-    let entry = entry_by(wanted.from_queue);
+    let entry = entry_asked(wanted.from_queue);
     let options = Options {
         read_expire: wanted.read_expire,
         write_expire: wanted.write_expire,
         entry,
     };
-    Asked {
+    ImportAsked {
         options,
         skip: wanted.skip,
-        first: most_of(wanted.first),
+        first: most_asked(wanted.first),
     }
 }
 
@@ -72,7 +74,7 @@ fn terms_of(wanted: Import, round: u64, depth: Option<u64>) -> Terms
 }
 
 /// The line on what was passed over or not matched, where there is any.
-fn line_on(alloc: Global, counts: &Counts) -> Result<Option<Vec<u8>>, AllocError>
+fn line_on(alloc: Global, counts: &UnusedCounts) -> Result<Option<Vec<u8>>, AllocError>
     ensures { IfOk result (λ note. option_map (λ line. line.items) note ≡ line_on counts.now) }
 {
     if counts.passed == 0 && counts.unmatched == 0 {
@@ -85,13 +87,17 @@ fn line_on(alloc: Global, counts: &Counts) -> Result<Option<Vec<u8>>, AllocError
 }
 
 /// What is said beside the text: a summary has it among its own lines.
-fn note_by(alloc: Global, shown: Shown, counts: &Counts) -> Result<Option<Vec<u8>>, AllocError>
+fn note_by(
+    alloc: Global,
+    shown: ShownImport,
+    counts: &UnusedCounts,
+) -> Result<Option<Vec<u8>>, AllocError>
     ensures { IfOk result (λ note. option_map (λ line. line.items) note ≡ note_by shown counts.now) }
 {
     match shown {
-        Shown::Schedule => line_on(alloc, counts),
-        Shown::Table => line_on(alloc, counts),
-        Shown::Summary => Ok(None),
+        ShownImport::Schedule => line_on(alloc, counts),
+        ShownImport::Table => line_on(alloc, counts),
+        ShownImport::Summary => Ok(None),
     }
 }
 
@@ -99,7 +105,7 @@ fn note_by(alloc: Global, shown: Shown, counts: &Counts) -> Result<Option<Vec<u8
 fn shown_of(
     alloc: Global,
     wanted: Import,
-    shown: Shown,
+    shown: ShownImport,
     records: &[Record],
 ) -> Result<Answered, Failure>
     requires { AreInOrder records.now (length records.now) }
@@ -152,9 +158,9 @@ fn imported(alloc: Global, wanted: Import, records: &[Record]) -> Result<Answere
     ensures fails { IfErr result (IsUnimported wanted records.now) }
 {
     match wanted.written {
-        Written::Schedule => shown_of(alloc, wanted, Shown::Schedule, records),
-        Written::Table => shown_of(alloc, wanted, Shown::Table, records),
-        Written::Summary => shown_of(alloc, wanted, Shown::Summary, records),
+        Written::Schedule => shown_of(alloc, wanted, ShownImport::Schedule, records),
+        Written::Table => shown_of(alloc, wanted, ShownImport::Table, records),
+        Written::Summary => shown_of(alloc, wanted, ShownImport::Summary, records),
         Written::Script { round, depth } => {
             let terms = terms_of(wanted, round, depth);
             scripted(alloc, terms, records)

@@ -7,7 +7,7 @@ use crate::failure::Failure;
 use blk_json::load_json;
 use blk_settings::{Load, Loaded, Loads, Sched, Settled, Unsettled};
 use blk_text::trace_text;
-use blk_words::{Form, Shown};
+use blk_words::{Form, ShownLoad};
 use std::alloc::{AllocError, Global};
 use std::sync::Wait;
 use std::thread::Threads;
@@ -33,12 +33,12 @@ fn account_text(alloc: Global, form: Form, settled: Settled) -> Result<Vec<u8>, 
 }
 
 /// The text that is asked for, of a load.
-fn loaded_text(alloc: Global, shown: Shown, loaded: &Loaded) -> Result<Vec<u8>, AllocError>
+fn loaded_text(alloc: Global, shown: ShownLoad, loaded: &Loaded) -> Result<Vec<u8>, AllocError>
     ensures { IfOk result (λ text. IsLoadText shown loaded.now.trace loaded.now.settled text.items) }
 {
     match shown {
-        Shown::Account(form) => account_text(alloc, form, loaded.settled),
-        Shown::Trace => trace_text(alloc, &loaded.trace),
+        ShownLoad::Account(form) => account_text(alloc, form, loaded.settled),
+        ShownLoad::Trace => trace_text(alloc, &loaded.trace),
     }
 }
 
@@ -49,7 +49,7 @@ pub fn run_load<L: Loads, R: Threads + Wait + Sync>(
     alloc: Global,
     sched: Sched,
     amounts: Load,
-    shown: Shown,
+    shown: ShownLoad,
 ) -> Result<Vec<u8>, Failure>
     ensures text { IfOk result (λ text. IsLoadOf sched shown amounts text.items) }
     ensures unloaded { IfErr result (IsUnloaded sched amounts) }

@@ -3,7 +3,7 @@
 ghost use Rattle.std.specs.Prelude.{◌≡◌, IfOk, IfErr};
 ghost use Rattle.blk_text.specs.Script.{IsScript, SpellsScript, ScriptFault, scripted};
 ghost use Rattle.blk_cli.specs.Inputs.{Of, FailsOver};
-ghost use Rattle.blk_cli.specs.Scripts.{IsSimText, IsUnrun};
+ghost use Rattle.blk_cli.specs.Scripts.{IsSimText, FailsToRun};
 ghost use Rattle.blk_cli.specs.Comparing.{IsRunText, HasNoRunText};
 
 use crate::comparing::table_of;
@@ -21,7 +21,7 @@ use std::io::Read;
 fn simulated(alloc: Global, sched: Sched, script: &Script) -> Result<Vec<u8>, Failure>
     requires { IsScript (scripted script.now) }
     ensures text { IfOk result (λ text. IsSimText sched (scripted script.now) text.items) }
-    ensures unrun { IfErr result (IsUnrun sched (scripted script.now)) }
+    ensures unrun { IfErr result (FailsToRun sched (scripted script.now)) }
 {
     let trace = match traced(alloc, sched, script) {
         Ok(trace) => trace,

@@ -1,10 +1,10 @@
 //! The jobs over a trace.
 
 ghost use Rattle.std.specs.Prelude.{◌≡◌, IfOk, IfErr};
-ghost use Rattle.blk_text.specs.TraceForm.{SpellsTrace, TraceFault};
+ghost use Rattle.blk_text.specs.TraceForm.{SpellsTrace, TraceTextFault};
 ghost use Rattle.blk_text.specs.TraceRecords.{IsTrace};
 ghost use Rattle.blk_cli.specs.Inputs.{Of, FailsOver};
-ghost use Rattle.blk_cli.specs.OfTraces.{IsTold, IsUntold, late_in, misses_in, spread_in, report_in};
+ghost use Rattle.blk_cli.specs.OfTraces.{IsTellingText, IsUntold, late_in, misses_in, spread_in, report_in};
 
 use crate::failure::Failure;
 use blk_json::{late_json, misses_json, report_json, spread_json};
@@ -16,14 +16,14 @@ use blk_report::{
 };
 use blk_text::{read_trace, trace_text};
 use blk_trace::Trace;
-use blk_words::{Figures, Form, Telling};
+use blk_words::{FiguresAsked, Form, Telling};
 use std::alloc::{AllocError, Global};
 use std::io::Read;
 
 /// The command list of a trace, which has one where no event sets a depth.
 fn list_of(alloc: Global, trace: &Trace) -> Result<Vec<u8>, Failure>
     requires { IsTrace trace.now }
-    ensures text { IfOk result (λ text. IsTold Telling.Commands trace.now text.items) }
+    ensures text { IfOk result (λ text. IsTellingText Telling.Commands trace.now text.items) }
     ensures untold { IfErr result (IsUntold Telling.Commands trace.now) }
 {
     if !trace.fixed() {
@@ -42,7 +42,7 @@ fn list_of(alloc: Global, trace: &Trace) -> Result<Vec<u8>, Failure>
 
 /// The trace itself.
 fn whole_of(alloc: Global, trace: &Trace) -> Result<Vec<u8>, Failure>
-    ensures text { IfOk result (λ text. IsTold Telling.Whole trace.now text.items) }
+    ensures text { IfOk result (λ text. IsTellingText Telling.Whole trace.now text.items) }
     ensures untold { IfErr result (IsUntold Telling.Whole trace.now) }
 {
     match trace_text(alloc, trace) {
@@ -63,8 +63,8 @@ fn late_text(alloc: Global, form: Form, late: &[LateCommand]) -> Result<Vec<u8>,
 
 /// Which commands of a trace were late.
 fn late_of(alloc: Global, form: Form, trace: &Trace) -> Result<Vec<u8>, Failure>
-    ensures text { IfOk result (λ text. IsTold (Telling.Figures Figures.Late form) trace.now text.items) }
-    ensures untold { IfErr result (IsUntold (Telling.Figures Figures.Late form) trace.now) }
+    ensures text { IfOk result (λ text. IsTellingText (Telling.Figures FiguresAsked.Late form) trace.now text.items) }
+    ensures untold { IfErr result (IsUntold (Telling.Figures FiguresAsked.Late form) trace.now) }
 {
     let Ok(late) = late(trace) else {
         return Err(Failure::Memory);
@@ -87,8 +87,8 @@ fn misses_text(alloc: Global, form: Form, misses: &Missed<Global>) -> Result<Vec
 
 /// How many commands of a trace were late.
 fn misses_of(alloc: Global, form: Form, trace: &Trace) -> Result<Vec<u8>, Failure>
-    ensures text { IfOk result (λ text. IsTold (Telling.Figures Figures.Misses form) trace.now text.items) }
-    ensures untold { IfErr result (IsUntold (Telling.Figures Figures.Misses form) trace.now) }
+    ensures text { IfOk result (λ text. IsTellingText (Telling.Figures FiguresAsked.Misses form) trace.now text.items) }
+    ensures untold { IfErr result (IsUntold (Telling.Figures FiguresAsked.Misses form) trace.now) }
 {
     let Ok(missed) = misses(trace) else {
         return Err(Failure::Memory);
@@ -111,8 +111,8 @@ fn spread_text(alloc: Global, form: Form, spread: &Spreads) -> Result<Vec<u8>, A
 
 /// How long the commands of a trace waited, and how late they were.
 fn spread_of(alloc: Global, form: Form, trace: &Trace) -> Result<Vec<u8>, Failure>
-    ensures text { IfOk result (λ text. IsTold (Telling.Figures Figures.Spread form) trace.now text.items) }
-    ensures untold { IfErr result (IsUntold (Telling.Figures Figures.Spread form) trace.now) }
+    ensures text { IfOk result (λ text. IsTellingText (Telling.Figures FiguresAsked.Spread form) trace.now text.items) }
+    ensures untold { IfErr result (IsUntold (Telling.Figures FiguresAsked.Spread form) trace.now) }
 {
     let Ok(services) = services(trace) else {
         return Err(Failure::Memory);
@@ -138,8 +138,8 @@ fn report_text(alloc: Global, form: Form, report: &Report) -> Result<Vec<u8>, Al
 
 /// How far a trace fell short.
 fn report_of(alloc: Global, form: Form, trace: &Trace) -> Result<Vec<u8>, Failure>
-    ensures text { IfOk result (λ text. IsTold (Telling.Figures Figures.Report form) trace.now text.items) }
-    ensures untold { IfErr result (IsUntold (Telling.Figures Figures.Report form) trace.now) }
+    ensures text { IfOk result (λ text. IsTellingText (Telling.Figures FiguresAsked.Report form) trace.now text.items) }
+    ensures untold { IfErr result (IsUntold (Telling.Figures FiguresAsked.Report form) trace.now) }
 {
     let Ok(report) = report(trace) else {
         return Err(Failure::Memory);
@@ -152,7 +152,7 @@ fn report_of(alloc: Global, form: Form, trace: &Trace) -> Result<Vec<u8>, Failur
 
 /// The picture of a trace.
 fn picture_of(alloc: Global, trace: &Trace) -> Result<Vec<u8>, Failure>
-    ensures text { IfOk result (λ text. IsTold Telling.Picture trace.now text.items) }
+    ensures text { IfOk result (λ text. IsTellingText Telling.Picture trace.now text.items) }
     ensures untold { IfErr result (IsUntold Telling.Picture trace.now) }
 {
     match picture(alloc, trace) {
@@ -164,17 +164,17 @@ fn picture_of(alloc: Global, trace: &Trace) -> Result<Vec<u8>, Failure>
 /// What is said about a trace.
 fn told_of(alloc: Global, telling: Telling, trace: &Trace) -> Result<Vec<u8>, Failure>
     requires { IsTrace trace.now }
-    ensures text { IfOk result (λ text. IsTold telling trace.now text.items) }
+    ensures text { IfOk result (λ text. IsTellingText telling trace.now text.items) }
     ensures untold { IfErr result (IsUntold telling trace.now) }
 {
     match telling {
         Telling::Whole => whole_of(alloc, trace),
         Telling::Commands => list_of(alloc, trace),
         Telling::Picture => picture_of(alloc, trace),
-        Telling::Figures(Figures::Late, form) => late_of(alloc, form, trace),
-        Telling::Figures(Figures::Misses, form) => misses_of(alloc, form, trace),
-        Telling::Figures(Figures::Spread, form) => spread_of(alloc, form, trace),
-        Telling::Figures(Figures::Report, form) => report_of(alloc, form, trace),
+        Telling::Figures(FiguresAsked::Late, form) => late_of(alloc, form, trace),
+        Telling::Figures(FiguresAsked::Misses, form) => misses_of(alloc, form, trace),
+        Telling::Figures(FiguresAsked::Spread, form) => spread_of(alloc, form, trace),
+        Telling::Figures(FiguresAsked::Report, form) => report_of(alloc, form, trace),
     }
 }
 
@@ -185,8 +185,8 @@ pub fn over_trace<R: Read + Drop>(
     records: &mut Records<R>,
 ) -> Result<Vec<u8>, Failure>
     requires { records.old.at ≡ 0 }
-    ensures text { IfOk result (λ text. Of SpellsTrace (IsTold telling) records.old.left text.items) }
-    ensures fails { IfErr result (FailsOver SpellsTrace TraceFault (IsUntold telling) records.old.left records.new.failed) }
+    ensures text { IfOk result (λ text. Of SpellsTrace (IsTellingText telling) records.old.left text.items) }
+    ensures fails { IfErr result (FailsOver SpellsTrace TraceTextFault (IsUntold telling) records.old.left records.new.failed) }
 {
     let trace = match read_trace(alloc, records) {
         Ok(trace) => trace,

@@ -3,7 +3,7 @@
 ghost use Rattle.std.specs.Prelude.{◌≡◌, IfOk, IfErr, map, string_bytes};
 ghost use Rattle.blk_text.specs.Script.{IsScript, SpellsScript, scripted};
 ghost use Rattle.blk_grid.specs.Rows.{grid_rows};
-ghost use Rattle.blk_grid.specs.Wanted.{wanted};
+ghost use Rattle.blk_grid.specs.Wanted.{as_wanted};
 ghost use Rattle.blk_runs.specs.Firsts.{AreUnrun};
 ghost use Rattle.blk_cli.specs.Inputs.{Of};
 ghost use Rattle.blk_cli.specs.Tuning.{IsTunedJson, IsTunedIn, IsTrial, IsUntried, FailsToTry};
@@ -29,8 +29,8 @@ fn json_of<T: Threads + Sync, P: Progress>(
     progress: &mut P,
 ) -> Result<Vec<u8>, RunFault>
     requires { IsScript (scripted script.now) }
-    ensures text { IfOk result (λ text. IsTunedJson (wanted asked.now) (scripted script.now) text.items) }
-    ensures unrun { IfErr result (AreUnrun (grid_rows (wanted asked.now).grid) (scripted script.now)) }
+    ensures text { IfOk result (λ text. IsTunedJson (as_wanted asked.now) (scripted script.now) text.items) }
+    ensures unrun { IfErr result (AreUnrun (grid_rows (as_wanted asked.now).grid) (scripted script.now)) }
 {
     let rows = match rows(rt, alloc, asked, script, progress) {
         Ok(rows) => rows,
@@ -52,8 +52,8 @@ fn tuned_in<T: Threads + Sync, P: Progress>(
     progress: &mut P,
 ) -> Result<Vec<u8>, RunFault>
     requires { IsScript (scripted script.now) }
-    ensures text { IfOk result (λ text. IsTunedIn form (wanted asked.now) (scripted script.now) text.items) }
-    ensures unrun { IfErr result (AreUnrun (grid_rows (wanted asked.now).grid) (scripted script.now)) }
+    ensures text { IfOk result (λ text. IsTunedIn form (as_wanted asked.now) (scripted script.now) text.items) }
+    ensures unrun { IfErr result (AreUnrun (grid_rows (as_wanted asked.now).grid) (scripted script.now)) }
 {
     match form {
         Form::Lines => tune(rt, alloc, asked, script, progress),

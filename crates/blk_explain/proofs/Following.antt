@@ -24,7 +24,7 @@ use Rattle.blk_sim.specs.Runs.{Steps, Runs}
 use Rattle.blk_sim.proofs.Keeping.{steps_went}
 use Rattle.blk_sim.proofs.Standing.{all_at, take_more}
 use Rattle.blk_explain.specs.Held.{HoldsIn}
-use Rattle.blk_explain.specs.Inside.Followed.{IsFollowed, IsNext, AreSame, Takes, Goes, Empties}
+use Rattle.blk_explain.specs.Inside.Followed.{IsFollowed, FollowsStep, AreSame, PlugTakes, Goes, Empties}
 use Rattle.blk_explain.proofs.Adding.{add_once}
 
 -- what a write leaves at its place, and at another
@@ -122,7 +122,7 @@ module _ (script : Scripted) (s : ℕ) where
   standing : (p : Plug) (h : ℕ) (old : SimState) → IsFollowed script s p h old → StandsAt old.queues s script.soft_depth
   standing p h old f = record { queue = f.queue; at = f.stands; depth_is = f.depth }
 
-  bio_own : (policy : Policy) (b : Bio) (p q : Plug) (h n : ℕ) (old new : SimState) → b.id.submitter ≡ s → Takes b p h q n → Steps policy old (line.Bio b) new → IsFollowed script s p h old → IsFollowed script s q n new
+  bio_own : (policy : Policy) (b : Bio) (p q : Plug) (h n : ℕ) (old new : SimState) → b.id.submitter ≡ s → PlugTakes b p h q n → Steps policy old (line.Bio b) new → IsFollowed script s p h old → IsFollowed script s q n new
   bio_own policy b p q h n old new own takes step f =
       let a = step.0 in
       let stands : slice_get old.plugs s ≡ Some a.own = subst (λ k. slice_get old.plugs k ≡ Some a.own) own a.stands in
@@ -160,7 +160,7 @@ module _ (script : Scripted) (s : ℕ) where
         holds = omega (arith, sum, held, had, both);
       }
 
-  next_step : (policy : Policy) (l : Line) (p q : Plug) (h n : ℕ) (old new : SimState) → 0 < script.setup.hw → LineFits script.setup.hw script.submitters l → IsNext script s l p h q n → Steps policy old l new → IsFollowed script s p h old → IsFollowed script s q n new
+  next_step : (policy : Policy) (l : Line) (p q : Plug) (h n : ℕ) (old new : SimState) → 0 < script.setup.hw → LineFits script.setup.hw script.submitters l → FollowsStep script s l p h q n → Steps policy old l new → IsFollowed script s p h old → IsFollowed script s q n new
   next_step policy (line.Bio b) p q h n old new some fits x step f = elim (cases_eq b.id.submitter s) [
     | inl own ↦ bio_own policy b p q h n old new own (x.0 own) step f
     | inr ne ↦ seen_at p q h n old new (x.1 ne) (ap (λ (c : CoreState). c.setup) step.2) (ap (λ l. slice_get l s) step.0.changed ∙ set_there old.plugs b.id.submitter s step.0.grown (λ e. ne (sym e))) (ap (λ l. slice_get l s) step.1) f
@@ -213,7 +213,7 @@ followed_none policy script meaning kept s p state lt made h = subst (IsFollowed
     made_at : {X : Type 0} (n i : ℕ) (x : X) → i < n → slice_get (replicate n x) i ≡ Some x
     made_at n i x lt = slice_get_read (replicate n x) n i x (sym (length-replicate n x)) lt (sym (get_or-replicate n i x x lt))
 
-pub followed_more : (policy : Policy) (script : Scripted) (start : SimState) (s k : ℕ) (l : Line) (p q : Plug) (h n : ℕ) → IsScript script → slice_get script.lines k ≡ Some l → IsNext script s l p h q n
+pub followed_more : (policy : Policy) (script : Scripted) (start : SimState) (s k : ℕ) (l : Line) (p q : Plug) (h n : ℕ) → IsScript script → slice_get script.lines k ≡ Some l → FollowsStep script s l p h q n
     → ((state : SimState) → Runs policy (take k script.lines) start state → IsFollowed script s p h state)
     → (state : SimState) → Runs policy (take (k + 1) script.lines) start state → IsFollowed script s q n state
 followed_more policy script start s k l p q h n is at x before state runs =

@@ -5,7 +5,7 @@ use Rattle.blk_lists.specs.Sources.{Row}
 use Rattle.blk_explain.specs.Forms.{form_name}
 use Rattle.blk_explain.specs.Findings.{name_in, IsFound}
 use Rattle.blk_explain.specs.Inside.Read.{IsRead}
-use Rattle.blk_explain.specs.declared.forms.Form.{Form}
+use Rattle.blk_explain.specs.declared.forms.TextForm.{TextForm}
 use Rattle.blk_explain.specs.declared.findings.Finding.{Finding}
 use Rattle.blk_explain.specs.declared.findings.Finding.TheVariants as finding
 
@@ -19,7 +19,7 @@ ok_map P Q (Ok a) f h = f a h
 ok_map P Q (Err e) f h = tt
 
 -- what the reader of the form finds that a text begins with the name of is found in the text
-pub found_as : (form : Form) (rows : List Row) → name_in rows ≡ form_name form → (f : Finding) → IsRead form rows f → IsFound rows f
+pub found_as : (form : TextForm) (rows : List Row) → name_in rows ≡ form_name form → (f : Finding) → IsRead form rows f → IsFound rows f
 found_as form rows e finding.Untitled r = absurd r
 found_as form rows e (finding.Good g) r = rw r.0 (e, r.1)
 found_as form rows e (finding.Faulty g t) r = rw r.0 (e, r.1)

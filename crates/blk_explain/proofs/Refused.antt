@@ -9,11 +9,11 @@ use Rattle.blk_sim.specs.State.{start_of}
 use Rattle.blk_sim.specs.Runs.{Runs}
 use Rattle.blk_sim.specs.declared.refusal.SimFault.{SimFault}
 use Rattle.blk_sim.specs.declared.refusal.SimWhy.TheVariants as why
-use Rattle.blk_explain.specs.Findings.{IsRefused, IsRefusedScript}
+use Rattle.blk_explain.specs.Findings.{IsRefusedStep, IsRefusedScript}
 use Rattle.blk_explain.specs.Inside.Before.{RunsTo}
 
 -- they are taken
-pub runs_to : (script : Scripted) (fault : SimFault) (n : ℕ) → n ≡ fault.at - 3 → ¬ (fault.why ≡ why.Memory) → IsRefused script fault → RunsTo script n
+pub runs_to : (script : Scripted) (fault : SimFault) (n : ℕ) → n ≡ fault.at - 3 → ¬ (fault.why ≡ why.Memory) → IsRefusedStep script fault → RunsTo script n
 runs_to script fault n e other (inl m) = absurd (other m.1)
 runs_to script fault n e other (inr r) =
     let at : fault.at ≡ r.0 + 3 = r.1 in
@@ -21,5 +21,5 @@ runs_to script fault n e other (inr r) =
     (r.2.state, subst (λ k. Runs none_policy (take k script.lines) (start_of script (at_start true) []) r.2.state) same r.2.runs)
 
 -- the script that is read again is the one whose step is refused
-pub refused_again : (rows : List Row) (script : Scripted) (fault : SimFault) → SpellsScript rows script → IsRefusedScript rows fault → IsRefused script fault
-refused_again rows script fault spells r = subst (λ s. IsRefused s fault) (spelled_once rows r.1.0 spells.0 r.0 script r.1.1 spells.1).1 r.2
+pub refused_again : (rows : List Row) (script : Scripted) (fault : SimFault) → SpellsScript rows script → IsRefusedScript rows fault → IsRefusedStep script fault
+refused_again rows script fault spells r = subst (λ s. IsRefusedStep s fault) (spelled_once rows r.1.0 spells.0 r.0 script r.1.1 spells.1).1 r.2

@@ -6,7 +6,7 @@ use Rattle.blk_bio.specs.Bios.{Bio}
 use Rattle.blk_bio.specs.declared.bio.BioId.{BioId}
 use Rattle.blk_text.specs.declared.script.Line.{Line}
 use Rattle.blk_text.specs.declared.script.Line.TheVariants as line
-use Rattle.blk_explain.specs.Twice.{AreDistinct}
+use Rattle.blk_explain.specs.Twice.{HasNoRepeat}
 use Rattle.blk_explain.specs.Inside.Seen.{AreSeen}
 
 -- a step has one bio at most
@@ -47,7 +47,7 @@ or_left a b e = rw e refl
 and_both : (a b : Bool) → a ≡ true → b ≡ true → (a && b) ≡ true
 and_both a b p q = rw (p, q) refl
 
-not_seen : (lines : List Line) (n : ℕ) (old : ℕ → ℕ → Bool) (b : Bio) → slice_get lines n ≡ Some (line.Bio b) → old b.id.submitter b.id.serial ≡ false → AreSeen lines n old → AreDistinct lines (n + 1)
+not_seen : (lines : List Line) (n : ℕ) (old : ℕ → ℕ → Bool) (b : Bio) → slice_get lines n ≡ Some (line.Bio b) → old b.id.submitter b.id.serial ≡ false → AreSeen lines n old → HasNoRepeat lines (n + 1)
 not_seen lines n old b at fresh h i j pair = let le : n ≤ j = h.distinct i j pair in elim (cases_eq j n) [
   | inl same ↦
       let again : pair.again ≡ b = line_once lines n pair.again b (subst (λ k. slice_get lines k ≡ Some (line.Bio pair.again)) same pair.returns) at in

@@ -12,9 +12,9 @@ use Rattle.blk_lists.specs.declared.fault.Why.TheVariants as why
 use Rattle.blk_lists.specs.declared.fields.Slot.{Slot}
 use Rattle.blk_lists.specs.declared.fields.Slot.TheVariants as slot
 use Rattle.blk_text.specs.Versions.{most_tags}
-use Rattle.blk_explain.specs.Names.{text_of}
+use Rattle.blk_explain.specs.Names.{name_text}
 use Rattle.blk_explain.specs.Fields.{field_name, want_of}
-use Rattle.blk_explain.specs.Forms.{fields_of, IsKind}
+use Rattle.blk_explain.specs.Forms.{fields_of, IsRecordKind}
 use Rattle.blk_explain.specs.declared.fields.Field.{Field}
 use Rattle.blk_explain.specs.declared.fields.Field.TheVariants as field
 use Rattle.blk_explain.specs.declared.fields.Allowed.{Allowed}
@@ -22,7 +22,7 @@ use Rattle.blk_explain.specs.declared.fields.Allowed.TheVariants as allowed
 use Rattle.blk_explain.specs.declared.fields.Want.{Want}
 use Rattle.blk_explain.specs.declared.fields.Want.TheVariants as want
 use Rattle.blk_explain.specs.declared.forms.FormRow.{FormRow}
-use Rattle.blk_explain.specs.declared.forms.Kind.{Kind}
+use Rattle.blk_explain.specs.declared.forms.RecordKind.{RecordKind}
 
 -- a digit of base sixteen
 abbrev pub hex_digit : ℕ → ℕ
@@ -36,12 +36,12 @@ shown_byte b =
     else 92 ∷ 120 ∷ hex_digit (b / 16) ∷ hex_digit (b % 16) ∷ []
 
 -- the first 40 bytes of a field
-abbrev pub shown : List ℕ → List ℕ
-shown f = flat_map shown_byte (take 40 f)
+abbrev pub shown_field : List ℕ → List ℕ
+shown_field f = flat_map shown_byte (take 40 f)
 
 -- a field by its place, from 0 on, and its name, and what was found in it; what is wanted follows
 abbrev pub field_text : ℕ → List ℕ → List ℕ → List ℕ
-field_text k name found = (((((codes "field " ++ decimal (k + 1)) ++ codes ", ") ++ name) ++ codes ": found \"") ++ shown found) ++ codes "\", wanted "
+field_text k name found = (((((codes "field " ++ decimal (k + 1)) ++ codes ", ") ++ name) ++ codes ": found \"") ++ shown_field found) ++ codes "\", wanted "
 
 -- the range of a slot
 abbrev pub range_text : Slot → List ℕ
@@ -122,8 +122,8 @@ abbrev pub IsNumberIn : Row → ℕ → ℕ → Type 0
 IsNumberIn row k n = (get_or row k [] ≡ decimal n) ⊎ ((n ≡ 0) × ((m : ℕ) → m < 2 ^ 64 → ¬ (get_or row k [] ≡ decimal m)))
 
 -- what may stand in a field of a bound beside n commands
-abbrev pub beside : ℕ → Slot → Allowed
-beside n t = if n == 0 then allowed.NoNumber else allowed.Slot t
+abbrev pub beside_commands : ℕ → Slot → Allowed
+beside_commands n t = if n == 0 then allowed.NoNumber else allowed.Slot t
 
 -- what may stand in a field of a text with this title
 abbrev pub IsAllowedIn : Row → Want → Allowed → Type 0
@@ -131,29 +131,29 @@ IsAllowedIn title (want.Is t) a = a ≡ allowed.Slot t
 IsAllowedIn title want.Tags a = (v : ℕ) × IsNumberIn title 1 v × (a ≡ allowed.Slot (slot.Number 1 (most_tags v)))
 IsAllowedIn title want.Queue a = (n : ℕ) × IsNumberIn title 3 n × (a ≡ allowed.Slot (slot.Number 0 (n - 1)))
 IsAllowedIn title want.Submitter a = (n : ℕ) × IsNumberIn title 5 n × (a ≡ allowed.Slot (slot.Number 0 (n - 1)))
-IsAllowedIn title (want.Bound t) a = (n : ℕ) × IsNumberIn title 3 n × (a ≡ beside n t)
+IsAllowedIn title (want.Bound t) a = (n : ℕ) × IsNumberIn title 3 n × (a ≡ beside_commands n t)
 
 -- the field at a place of a kind of record
-abbrev pub field_at : Kind → ℕ → Field
+abbrev pub field_at : RecordKind → ℕ → Field
 field_at kind k = get_or (fields_of kind) k field.Past
 
 -- the field at a place does not have the fault, and it does
-abbrev pub IsKeptAt : Row → Kind → Why → Row → ℕ → Type 0
+abbrev pub IsKeptAt : Row → RecordKind → Why → Row → ℕ → Type 0
 IsKeptAt title kind w row k = (a : Allowed) × IsAllowedIn title (want_of (field_at kind k)) a × KeepsIn w a (get_or row k [])
 
-abbrev pub IsBrokenAt : Row → Kind → Why → Row → ℕ → Allowed → Type 0
+abbrev pub IsBrokenAt : Row → RecordKind → Why → Row → ℕ → Allowed → Type 0
 IsBrokenAt title kind w row k a = IsAllowedIn title (want_of (field_at kind k)) a × ¬ KeepsIn w a (get_or row k [])
 
 -- it is the first one that does
-abbrev pub IsFirstBroken : Row → Kind → Why → Row → ℕ → Allowed → Type 0
-IsFirstBroken title kind w row k a = (k < 8) × IsBrokenAt title kind w row k a × ((j : ℕ) → j < k → IsKeptAt title kind w row j)
+abbrev pub IsFirstBrokenAt : Row → RecordKind → Why → Row → ℕ → Allowed → Type 0
+IsFirstBrokenAt title kind w row k a = (k < 8) × IsBrokenAt title kind w row k a × ((j : ℕ) → j < k → IsKeptAt title kind w row j)
 
 -- none does
-abbrev pub AllKept : Row → Kind → Why → Row → Type 0
+abbrev pub AllKept : Row → RecordKind → Why → Row → Type 0
 AllKept title kind w row = (j : ℕ) → j < 8 → IsKeptAt title kind w row j
 
 -- a field that has the fault, and what is wanted
-abbrev pub broken_text : Why → Kind → Row → ℕ → Allowed → List ℕ
+abbrev pub broken_text : Why → RecordKind → Row → ℕ → Allowed → List ℕ
 broken_text w kind row k a = field_text k (field_name (field_at kind k)) (get_or row k []) ++ wanted_text w a
 
 -- what an event has to be instead of one that breaks a rule
@@ -176,7 +176,7 @@ why_wanted form why.Title = codes "a title"
 why_wanted form why.Fields = codes "other fields"
 why_wanted form why.Word = codes "another word"
 why_wanted form why.Number = codes "nanoseconds in nine digits, and numbers"
-why_wanted form why.Range = text_of form.range
+why_wanted form why.Range = name_text form.range
 why_wanted form (why.Bio bio.Empty) = codes "one sector at least"
 why_wanted form (why.Bio bio.Range) = codes "an end of at most 281474976710656"
 why_wanted form why.Tile = codes "a bio that begins where the one before it ends, of its direction and within the limits"
@@ -190,34 +190,34 @@ why_wanted form why.Memory = codes "more memory"
 
 -- the words that a record of this number may begin with
 abbrev pub words_at : FormRow → ℕ → List ℕ
-words_at form at = text_of (if at == 2 then form.second_word else form.words)
+words_at form at = name_text (if at == 2 then form.second_word else form.words)
 
 -- the fault by its name, and what is wanted
-abbrev pub named_text : FormRow → Why → List ℕ
-named_text form w = (why_name w ++ codes ": wanted ") ++ why_wanted form w
+abbrev pub fault_wanted : FormRow → Why → List ℕ
+fault_wanted form w = (why_name w ++ codes ": wanted ") ++ why_wanted form w
 
 -- what is said where no field by itself has the fault
-abbrev pub rest_text : FormRow → ℕ → Why → Kind → Row → List ℕ
+abbrev pub rest_text : FormRow → ℕ → Why → RecordKind → Row → List ℕ
 rest_text form at why.Fields kind row = ((codes "found " ++ decimal (length row)) ++ codes " fields, wanted ") ++ decimal form.width
 rest_text form at why.Word kind cells = field_text 0 (field_name (field_at kind 0)) (get_or cells 0 []) ++ words_at form at
-rest_text form at why.Title kind row = named_text form why.Title
-rest_text form at why.Number kind row = named_text form why.Number
-rest_text form at why.Range kind row = named_text form why.Range
-rest_text form at (why.Bio b) kind row = named_text form (why.Bio b)
-rest_text form at why.Tile kind row = named_text form why.Tile
-rest_text form at (why.Rule r) kind row = named_text form (why.Rule r)
-rest_text form at why.RepeatedId kind row = named_text form why.RepeatedId
-rest_text form at why.Order kind row = named_text form why.Order
-rest_text form at why.Count kind row = named_text form why.Count
-rest_text form at why.TooLong kind row = named_text form why.TooLong
-rest_text form at why.Read kind row = named_text form why.Read
-rest_text form at why.Memory kind row = named_text form why.Memory
+rest_text form at why.Title kind row = fault_wanted form why.Title
+rest_text form at why.Number kind row = fault_wanted form why.Number
+rest_text form at why.Range kind row = fault_wanted form why.Range
+rest_text form at (why.Bio b) kind row = fault_wanted form (why.Bio b)
+rest_text form at why.Tile kind row = fault_wanted form why.Tile
+rest_text form at (why.Rule r) kind row = fault_wanted form (why.Rule r)
+rest_text form at why.RepeatedId kind row = fault_wanted form why.RepeatedId
+rest_text form at why.Order kind row = fault_wanted form why.Order
+rest_text form at why.Count kind row = fault_wanted form why.Count
+rest_text form at why.TooLong kind row = fault_wanted form why.TooLong
+rest_text form at why.Read kind row = fault_wanted form why.Read
+rest_text form at why.Memory kind row = fault_wanted form why.Memory
 
 -- what is said about a fault of a record of this number and kind, in a text with this title
-abbrev pub IsDetailBy : FormRow → Row → ℕ → Why → Kind → Row → List ℕ → Type 0
+abbrev pub IsDetailBy : FormRow → Row → ℕ → Why → RecordKind → Row → List ℕ → Type 0
 IsDetailBy form title at w kind row text =
-    ((k : ℕ) × (a : Allowed) × IsFirstBroken title kind w row k a × (text ≡ broken_text w kind row k a))
+    ((k : ℕ) × (a : Allowed) × IsFirstBrokenAt title kind w row k a × (text ≡ broken_text w kind row k a))
     ⊎ (AllKept title kind w row × (text ≡ rest_text form at w kind row))
 
 abbrev pub IsDetail : FormRow → Row → ℕ → Why → Row → List ℕ → Type 0
-IsDetail form title at w cells text = (kind : Kind) × IsKind form at (get_or cells 0 []) kind × IsDetailBy form title at w kind cells text
+IsDetail form title at w cells text = (kind : RecordKind) × IsRecordKind form at (get_or cells 0 []) kind × IsDetailBy form title at w kind cells text

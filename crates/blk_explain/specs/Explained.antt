@@ -6,31 +6,31 @@ use Rattle.blk_lists.specs.Names.{why_name}
 use Rattle.blk_lists.specs.declared.fault.TextFault.{TextFault}
 use Rattle.blk_lists.specs.declared.fault.Why.TheVariants as why
 use Rattle.blk_sim.specs.Names.{step_name}
-use Rattle.blk_explain.specs.Names.{text_of}
+use Rattle.blk_explain.specs.Names.{name_text}
 use Rattle.blk_explain.specs.Forms.{form_row, form_name}
-use Rattle.blk_explain.specs.Lines.{line_of}
+use Rattle.blk_explain.specs.Lines.{line_at}
 use Rattle.blk_explain.specs.Findings.{rows_of, row_at, name_in, IsFound}
 use Rattle.blk_explain.specs.Details.{field_text, IsDetail}
 use Rattle.blk_explain.specs.Counts.{IsCountDetail}
 use Rattle.blk_explain.specs.Steps.{IsState}
-use Rattle.blk_explain.specs.declared.forms.Form.{Form}
-use Rattle.blk_explain.specs.declared.forms.Form.TheVariants as form
+use Rattle.blk_explain.specs.declared.forms.TextForm.{TextForm}
+use Rattle.blk_explain.specs.declared.forms.TextForm.TheVariants as form
 use Rattle.blk_explain.specs.declared.forms.FormRow.{FormRow}
 use Rattle.blk_explain.specs.declared.findings.Finding.{Finding}
 use Rattle.blk_explain.specs.declared.findings.Finding.TheVariants as finding
 
 -- how many edits lead from what a text begins with to the name of a form
-abbrev pub edits_to : List ℕ → Form → ℕ
+abbrev pub edits_to : List ℕ → TextForm → ℕ
 edits_to found f = levenshtein_row nat_eq found (form_name f) (length (form_name f))
 
 -- no name is nearer
-abbrev pub IsNearest : List ℕ → Form → Type 0
-IsNearest found near = (f : Form) → edits_to found near ≤ edits_to found f
+abbrev pub IsNearest : List ℕ → TextForm → Type 0
+IsNearest found near = (f : TextForm) → edits_to found near ≤ edits_to found f
 
 -- the two lines of a good text: the form by its title, the version and the number of records; and what takes it
 abbrev pub good_text : FormRow → Row → ℕ → List ℕ
 good_text form title count =
-    (((((((text_of form.name ++ codes ", version ") ++ get_or title 1 []) ++ codes ", records ") ++ decimal count) ++ codes "\ntaken by ") ++ text_of form.takers) ++ codes "\n")
+    (((((((name_text form.name ++ codes ", version ") ++ get_or title 1 []) ++ codes ", records ") ++ decimal count) ++ codes "\ntaken by ") ++ name_text form.takers) ++ codes "\n")
 
 -- the two lines of a fault: where it is, by line and record, and what; and as the program names it
 abbrev pub fault_text : ℕ → List ℕ → ℕ → List ℕ → List ℕ → List ℕ
@@ -39,13 +39,13 @@ fault_text line name at detail why =
 
 -- what is said about a text whose first field is empty, or that has none
 abbrev pub empty_text : List ℕ → List ℕ
-empty_text bytes = fault_text (line_of bytes 1) (codes "blk") 1 (codes "found nothing, wanted a title") (codes "Title")
+empty_text bytes = fault_text (line_at bytes 1) (codes "blk") 1 (codes "found nothing, wanted a title") (codes "Title")
 
 -- what is said about a text that begins with another name: the nearest one
 abbrev pub IsNamedText : List ℕ → List ℕ → Type 0
 IsNamedText bytes text =
-    (near : Form) × IsNearest (name_in (rows_of bytes)) near
-    × (text ≡ fault_text (line_of bytes 1) (form_name near) 1 (field_text 0 (codes "title") (name_in (rows_of bytes)) ++ form_name near) (codes "Title"))
+    (near : TextForm) × IsNearest (name_in (rows_of bytes)) near
+    × (text ≡ fault_text (line_at bytes 1) (form_name near) 1 (field_text 0 (codes "title") (name_in (rows_of bytes)) ++ form_name near) (codes "Title"))
 
 -- what is said about a text that begins with the name of no form
 abbrev pub IsUntitledText : List ℕ → List ℕ → Type 0
@@ -60,15 +60,15 @@ IsFaultDetail form rows fault text =
     ⊎ ((fault.why ≢ why.Count) × IsDetail form (row_at rows 1) fault.at fault.why (row_at rows fault.at) text)
 
 -- what is said about a finding
-abbrev pub IsTold : List ℕ → Finding → List ℕ → Type 0
-IsTold bytes finding.Untitled text = IsUntitledText bytes text
-IsTold bytes (finding.Good f) text = text ≡ good_text (form_row f) (row_at (rows_of bytes) 1) (length (rows_of bytes))
-IsTold bytes (finding.Faulty f fault) text =
+abbrev pub IsFindingText : List ℕ → Finding → List ℕ → Type 0
+IsFindingText bytes finding.Untitled text = IsUntitledText bytes text
+IsFindingText bytes (finding.Good f) text = text ≡ good_text (form_row f) (row_at (rows_of bytes) 1) (length (rows_of bytes))
+IsFindingText bytes (finding.Faulty f fault) text =
     (detail : List ℕ) × IsFaultDetail (form_row f) (rows_of bytes) fault detail
-    × (text ≡ fault_text (line_of bytes fault.at) (form_name f) fault.at detail (why_name fault.why))
-IsTold bytes (finding.Refused fault) text =
+    × (text ≡ fault_text (line_at bytes fault.at) (form_name f) fault.at detail (why_name fault.why))
+IsFindingText bytes (finding.Refused fault) text =
     (state : List ℕ) × IsState bytes fault state
-    × (text ≡ fault_text (line_of bytes fault.at) (form_name form.Script) fault.at ((step_name fault.why ++ codes ": ") ++ state) (step_name fault.why))
+    × (text ≡ fault_text (line_at bytes fault.at) (form_name form.Script) fault.at ((step_name fault.why ++ codes ": ") ++ state) (step_name fault.why))
 
 -- whether a finding is no fault
 abbrev pub is_good : Finding → Bool
@@ -79,4 +79,4 @@ is_good finding.Untitled = false
 
 -- the text tells what is found in these bytes, by the reader of the form that they begin with the name of; good is where no fault is
 abbrev pub IsExplained : List ℕ → Bool → List ℕ → Type 0
-IsExplained bytes good text = (f : Finding) × IsFound (rows_of bytes) f × (good ≡ is_good f) × IsTold bytes f text
+IsExplained bytes good text = (f : Finding) × IsFound (rows_of bytes) f × (good ≡ is_good f) × IsFindingText bytes f text

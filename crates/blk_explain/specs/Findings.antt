@@ -14,14 +14,14 @@ use Rattle.blk_lists.specs.declared.fault.Why.{Why}
 use Rattle.blk_capture.specs.declared.record.Record.{Record}
 use Rattle.blk_capture_text.specs.Captures.{SpellsCapture, CaptureTextFault}
 use Rattle.blk_text.specs.Script.{Scripted, SpellsScript, ScriptFault}
-use Rattle.blk_text.specs.TraceForm.{SpellsTrace, TraceFault}
+use Rattle.blk_text.specs.TraceForm.{SpellsTrace, TraceTextFault}
 use Rattle.blk_sim.specs.State.{SimState, start_of}
 use Rattle.blk_sim.specs.Runs.{Runs}
 use Rattle.blk_sim.specs.Refusals.{IsSimFault}
 use Rattle.blk_sim.specs.declared.refusal.SimFault.{SimFault}
 use Rattle.blk_explain.specs.Forms.{form_name}
-use Rattle.blk_explain.specs.declared.forms.Form.{Form}
-use Rattle.blk_explain.specs.declared.forms.Form.TheVariants as form
+use Rattle.blk_explain.specs.declared.forms.TextForm.{TextForm}
+use Rattle.blk_explain.specs.declared.forms.TextForm.TheVariants as form
 use Rattle.blk_explain.specs.declared.findings.Finding.{Finding}
 use Rattle.blk_explain.specs.declared.findings.Finding.TheVariants as finding
 
@@ -42,11 +42,11 @@ abbrev pub DoesRun : Scripted → Type 0
 DoesRun script = (end : SimState) × Runs none_policy script.lines (start_of script (at_start true) []) end
 
 -- one is refused there
-abbrev pub IsRefused : Scripted → SimFault → Type 0
-IsRefused script fault = IsSimFault none_policy script (at_start true) [] fault
+abbrev pub IsRefusedStep : Scripted → SimFault → Type 0
+IsRefusedStep script fault = IsSimFault none_policy script (at_start true) [] fault
 
 -- the records spell a text of this form, and if it is a script it runs
-abbrev pub IsText : Form → List Row → Type 0
+abbrev pub IsText : TextForm → List Row → Type 0
 IsText form.Commands rows = (depth : ℕ) × (commands : List Command) × SpellsCommands rows depth commands
 IsText form.Certificate rows = (c : Claim) × SpellsClaim rows c
 IsText form.OnTime rows = (c : OnTimeClaim) × SpellsOnTime rows c
@@ -56,22 +56,22 @@ IsText form.Script rows = (s : Scripted) × SpellsScript rows s × DoesRun s
 IsText form.Trace rows = (t : Traced) × SpellsTrace rows t
 
 -- the first fault of a text of this form
-abbrev pub FaultOf : Form → List Row → ℕ → Why → Type 0
+abbrev pub FaultOf : TextForm → List Row → ℕ → Why → Type 0
 FaultOf form.Commands = CommandsFault
 FaultOf form.Certificate = ClaimFault
 FaultOf form.OnTime = OnTimeClaimFault
 FaultOf form.Schedule = ScheduleFault
 FaultOf form.Capture = CaptureTextFault
 FaultOf form.Script = ScriptFault
-FaultOf form.Trace = TraceFault
+FaultOf form.Trace = TraceTextFault
 
 -- the records spell a script, and one of its steps is refused
 abbrev pub IsRefusedScript : List Row → SimFault → Type 0
-IsRefusedScript rows fault = (s : Scripted) × SpellsScript rows s × IsRefused s fault
+IsRefusedScript rows fault = (s : Scripted) × SpellsScript rows s × IsRefusedStep s fault
 
 -- what is found: by the name that the first record begins with, what the reader of that form finds
 abbrev pub IsFound : List Row → Finding → Type 0
-IsFound rows finding.Untitled = (f : Form) → ¬ (name_in rows ≡ form_name f)
+IsFound rows finding.Untitled = (f : TextForm) → ¬ (name_in rows ≡ form_name f)
 IsFound rows (finding.Good found) = (name_in rows ≡ form_name found) × IsText found rows
 IsFound rows (finding.Faulty found fault) = (name_in rows ≡ form_name found) × FaultOf found rows fault.at fault.why
 IsFound rows (finding.Refused fault) = (name_in rows ≡ form_name form.Script) × IsRefusedScript rows fault

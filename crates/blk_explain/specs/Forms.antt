@@ -1,17 +1,17 @@
 -- The forms of texts, by their rows.
 use Rattle.std.specs.Prelude.{◌≡◌, ◌⊎◌, ◌<◌, ℕ, List, [], codes, length, get_or}
 use Rattle.blk_explain.specs.declared.fields.Field.{Field}
-use Rattle.blk_explain.specs.declared.forms.Form.{Form}
-use Rattle.blk_explain.specs.declared.forms.Form.TheVariants as form
+use Rattle.blk_explain.specs.declared.forms.TextForm.{TextForm}
+use Rattle.blk_explain.specs.declared.forms.TextForm.TheVariants as form
 use Rattle.blk_explain.specs.declared.forms.FormRow.{FormRow}
-use Rattle.blk_explain.specs.declared.forms.Kind.{Kind}
-use Rattle.blk_explain.specs.declared.forms.Kind.TheVariants as kind
+use Rattle.blk_explain.specs.declared.forms.RecordKind.{RecordKind}
+use Rattle.blk_explain.specs.declared.forms.RecordKind.TheVariants as kind
 use Rattle.blk_explain.specs.declared.forms.TheConstants.{COMMANDS, CERTIFICATE, MET, SCHEDULE, CAPTURE, SCRIPT, TRACE}
 use Rattle.blk_explain.specs.declared.forms.TheConstants.{BACK, BIO, BOUND, CAPTURED, CAPTURE_TITLE, COMMAND, COMMANDS_TITLE, COUNTED_TITLE, DEPTH_STEP, DONE, DRAIN, EVENT, EVENT_BIO, EVENT_DEPTH, EVENT_END, EVENT_GROUP, EVENT_ISSUE, EVENT_TICK, FLUSH, ISSUE, MET_NUMBERS, RUN, SCRIPT_TITLE, SERVED, SETUP, STEP, TICK, TRACE_TITLE, WINDOW}
-use Rattle.blk_explain.specs.Names.{text_of}
+use Rattle.blk_explain.specs.Names.{name_text}
 
 -- the row of a form
-abbrev pub form_row : Form → FormRow
+abbrev pub form_row : TextForm → FormRow
 form_row form.Commands = COMMANDS
 form_row form.Certificate = CERTIFICATE
 form_row form.OnTime = MET
@@ -21,11 +21,11 @@ form_row form.Script = SCRIPT
 form_row form.Trace = TRACE
 
 -- the name that its title begins with
-abbrev pub form_name : Form → List ℕ
-form_name f = text_of (form_row f).name
+abbrev pub form_name : TextForm → List ℕ
+form_name f = name_text (form_row f).name
 
 -- the fields of a kind of record
-abbrev pub fields_of : Kind → List Field
+abbrev pub fields_of : RecordKind → List Field
 fields_of kind.CommandsTitle = COMMANDS_TITLE
 fields_of kind.Command = COMMAND
 fields_of kind.CountedTitle = COUNTED_TITLE
@@ -59,48 +59,48 @@ fields_of kind.EventBack = EVENT_END
 fields_of kind.EventDepth = EVENT_DEPTH
 
 -- the word that it begins with, or nothing
-abbrev pub word_of : Kind → List ℕ
-word_of kind.CommandsTitle = []
-word_of kind.Command = []
-word_of kind.CountedTitle = []
-word_of kind.Served = []
-word_of kind.Bound = []
-word_of kind.OnTime = []
-word_of kind.Window = codes "window"
-word_of kind.CaptureTitle = []
-word_of kind.Capture = []
-word_of kind.ScriptTitle = []
-word_of kind.TraceTitle = []
-word_of kind.Setup = []
-word_of kind.Step = []
-word_of kind.Bio = codes "bio"
-word_of kind.Flush = codes "flush"
-word_of kind.Drain = codes "drain"
-word_of kind.Issue = codes "issue"
-word_of kind.Done = codes "done"
-word_of kind.Back = codes "back"
-word_of kind.Depth = codes "depth"
-word_of kind.Tick = codes "tick"
-word_of kind.Run = codes "run"
-word_of kind.Event = []
-word_of kind.EventTick = codes "tick"
-word_of kind.EventRelease = codes "release"
-word_of kind.EventJoin = codes "join"
-word_of kind.EventBio = codes "bio"
-word_of kind.EventIssue = codes "issue"
-word_of kind.EventDone = codes "done"
-word_of kind.EventBack = codes "back"
-word_of kind.EventDepth = codes "depth"
+abbrev pub kind_word : RecordKind → List ℕ
+kind_word kind.CommandsTitle = []
+kind_word kind.Command = []
+kind_word kind.CountedTitle = []
+kind_word kind.Served = []
+kind_word kind.Bound = []
+kind_word kind.OnTime = []
+kind_word kind.Window = codes "window"
+kind_word kind.CaptureTitle = []
+kind_word kind.Capture = []
+kind_word kind.ScriptTitle = []
+kind_word kind.TraceTitle = []
+kind_word kind.Setup = []
+kind_word kind.Step = []
+kind_word kind.Bio = codes "bio"
+kind_word kind.Flush = codes "flush"
+kind_word kind.Drain = codes "drain"
+kind_word kind.Issue = codes "issue"
+kind_word kind.Done = codes "done"
+kind_word kind.Back = codes "back"
+kind_word kind.Depth = codes "depth"
+kind_word kind.Tick = codes "tick"
+kind_word kind.Run = codes "run"
+kind_word kind.Event = []
+kind_word kind.EventTick = codes "tick"
+kind_word kind.EventRelease = codes "release"
+kind_word kind.EventJoin = codes "join"
+kind_word kind.EventBio = codes "bio"
+kind_word kind.EventIssue = codes "issue"
+kind_word kind.EventDone = codes "done"
+kind_word kind.EventBack = codes "back"
+kind_word kind.EventDepth = codes "depth"
 
 -- a kind is the one of these that begins with this word, or, where none does, another
-abbrev pub IsWorded : List Kind → Kind → List ℕ → Kind → Type 0
+abbrev pub IsWorded : List RecordKind → RecordKind → List ℕ → RecordKind → Type 0
 IsWorded kinds other word found =
-    ((k : ℕ) × (k < length kinds) × (found ≡ get_or kinds k kind.CommandsTitle) × (word_of found ≡ word))
-    ⊎ (((k : ℕ) → k < length kinds → ¬ (word_of (get_or kinds k kind.CommandsTitle) ≡ word)) × (found ≡ other))
+    ((k : ℕ) × (k < length kinds) × (found ≡ get_or kinds k kind.CommandsTitle) × (kind_word found ≡ word))
+    ⊎ (((k : ℕ) → k < length kinds → ¬ (kind_word (get_or kinds k kind.CommandsTitle) ≡ word)) × (found ≡ other))
 
 -- the kind of a record of this number that begins with this word
-abbrev pub IsKind : FormRow → ℕ → List ℕ → Kind → Type 0
-IsKind row at word found =
+abbrev pub IsRecordKind : FormRow → ℕ → List ℕ → RecordKind → Type 0
+IsRecordKind row at word found =
     ((at ≡ 1) × (found ≡ row.title))
     ⊎ ((at ≡ 2) × (found ≡ row.second))
     ⊎ (¬ (at ≡ 1) × ¬ (at ≡ 2) × IsWorded row.kinds row.item word found)

@@ -25,5 +25,5 @@ line_from s returned line n (c ∷ rest) =
     else line_from (state_after s c) (c == 13) (if ends_line returned c then line + 1 else line) (if begins s c then n - 1 else n) rest
 
 -- the line on which the n-th record of a text begins, from 1 on; where there is none, the last line
-abbrev pub line_of : List ℕ → ℕ → ℕ
-line_of bytes n = line_from st.StartRecord false 1 n (strip_bom bytes)
+abbrev pub line_at : List ℕ → ℕ → ℕ
+line_at bytes n = line_from st.StartRecord false 1 n (strip_bom bytes)

@@ -8,9 +8,9 @@ use Rattle.blk_sim.specs.declared.refusal.SimFault.{SimFault}
 use Rattle.blk_sim.specs.declared.refusal.SimWhy.{SimWhy}
 use Rattle.blk_sim.specs.declared.refusal.SimWhy.TheVariants as why
 use Rattle.blk_explain.specs.Findings.{rows_of}
-use Rattle.blk_explain.specs.Lines.{line_of}
+use Rattle.blk_explain.specs.Lines.{line_at}
 use Rattle.blk_explain.specs.Held.{HoldsAfter}
-use Rattle.blk_explain.specs.Twice.{AreOneBio, AreDistinct}
+use Rattle.blk_explain.specs.Twice.{AreOneBio, HasNoRepeat}
 
 -- what a step has to be instead
 abbrev pub step_wanted : SimWhy → List ℕ
@@ -55,8 +55,8 @@ entered_text b line = (((codes "bio " ++ decimal b.id.submitter) ++ codes ",") +
 -- is the least, and on which line its first stands
 abbrev pub IsTwiceState : List ℕ → Scripted → ℕ → List ℕ → Type 0
 IsTwiceState bytes script n text =
-    ((i j : ℕ) × (pair : AreOneBio script.lines i j) × (j < n) × AreDistinct script.lines j × (text ≡ entered_text pair.bio (line_of bytes (i + 3))))
-    ⊎ (AreDistinct script.lines n × (text ≡ plain_text why.Repeated))
+    ((i j : ℕ) × (pair : AreOneBio script.lines i j) × (j < n) × HasNoRepeat script.lines j × (text ≡ entered_text pair.bio (line_at bytes (i + 3))))
+    ⊎ (HasNoRepeat script.lines n × (text ≡ plain_text why.Repeated))
 
 -- the state that refuses the step after the first n for this reason, or what the step has to be instead
 abbrev pub IsStateAt : List ℕ → Scripted → ℕ → SimWhy → List ℕ → Type 0

@@ -21,12 +21,12 @@ pub record AreOneBio (lines : List Line) (i j : ℕ) : Type 0 where
   pub same : bio.id ≡ again.id
 
 -- no two of the first n steps are
-abbrev pub AreDistinct : List Line → ℕ → Type 0
-AreDistinct lines n = (i j : ℕ) → AreOneBio lines i j → n ≤ j
+abbrev pub HasNoRepeat : List Line → ℕ → Type 0
+HasNoRepeat lines n = (i j : ℕ) → AreOneBio lines i j → n ≤ j
 
 -- of the first n steps these are the first whose bio entered before and the step by which it did; and where there are none
-abbrev pub IsFirstPair : List Line → ℕ → ℕ → ℕ → Type 0
-IsFirstPair lines n i j = (j < n) × AreDistinct lines j × AreOneBio lines i j
+abbrev pub IsFirstRepeat : List Line → ℕ → ℕ → ℕ → Type 0
+IsFirstRepeat lines n i j = (j < n) × HasNoRepeat lines j × AreOneBio lines i j
 
 abbrev pub IsFirstPairOf : List Line → ℕ → Option (ℕ × ℕ) → Type 0
-IsFirstPairOf lines n o = MatchOption o (AreDistinct lines n) (λ p. IsFirstPair lines n p.0 p.1)
+IsFirstPairOf lines n o = MatchOption o (HasNoRepeat lines n) (λ p. IsFirstRepeat lines n p.0 p.1)

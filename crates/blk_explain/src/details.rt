@@ -4,11 +4,11 @@ ghost use Rattle.std.specs.Prelude.{◌≡◌, ◌≤◌, ◌<◌, ◌++◌, ◌
 ghost use Rattle.csv.specs.Records.{fields_of};
 ghost use Rattle.blk_lists.specs.Fields.{IsSized, IsNumber, IsInRange};
 ghost use Rattle.blk_lists.specs.declared.fields.Slot.TheVariants as slot;
-ghost use Rattle.blk_explain.specs.Details.{hex_digit, shown_byte, shown, field_text, range_text, number_text, allowed_text, wanted_text, KeepsSlot, KeepsNone, KeepsIn, IsNumberIn, IsAllowedIn, rule_wanted, why_wanted, words_at, rest_text, IsDetail, broken_text};
+ghost use Rattle.blk_explain.specs.Details.{hex_digit, shown_byte, shown_field, field_text, range_text, number_text, allowed_text, wanted_text, KeepsSlot, KeepsNone, KeepsIn, IsNumberIn, IsAllowedIn, rule_wanted, why_wanted, words_at, rest_text, IsDetail, broken_text};
 ghost use Rattle.blk_explain.specs.Inside.Broken.{SaysIfBroken, SaysFirstBroken};
 
 use crate::fields::{Allowed, Want};
-use crate::forms::{FormRow, Kind, kind_of};
+use crate::forms::{FormRow, RecordKind, kind_of};
 use blk_bio::{BioFault, Dir, TraceRule};
 use blk_lists::Why;
 use blk_lists::fields::{Slot, after_minus, field, parse_number};
@@ -55,7 +55,7 @@ fn first_bytes(found: &[u8]) -> &[u8]
 
 /// Adds the first bytes of a field.
 fn push_shown(draft: &mut Draft, found: &[u8]) -> Result<(), AllocError>
-    ensures { OnOk result (draft.new ≡ draft.old ++ shown found.now) }
+    ensures { OnOk result (draft.new ≡ draft.old ++ shown_field found.now) }
 {
     let first = first_bytes(found);
     for i in 0..first.len() {
@@ -314,7 +314,7 @@ fn allowed_in(title: &ByteRecord, want: Want) -> Allowed
 /// What may stand in the field at a place, where the field has the fault.
 fn broken_at(
     title: &ByteRecord,
-    kind: Kind,
+    kind: RecordKind,
     why: Why,
     row: &ByteRecord,
     place: usize,
@@ -333,7 +333,7 @@ fn broken_at(
 /// The place of the first field that has the fault, and what may stand in it.
 fn first_broken(
     title: &ByteRecord,
-    kind: Kind,
+    kind: RecordKind,
     why: Why,
     row: &ByteRecord,
 ) -> Option<(usize, Allowed)>
@@ -398,7 +398,7 @@ fn rest_told(
     form: &FormRow,
     at: u64,
     why: Why,
-    kind: Kind,
+    kind: RecordKind,
     row: &ByteRecord,
 ) -> Result<Vec<u8>, AllocError>
     ensures { IfOk result (λ text. text.items ≡ rest_text form.now at why kind (fields_of row.now)) }
@@ -452,7 +452,7 @@ fn words_at(form: &FormRow, at: u64) -> &'static [u8]
 fn broken_told(
     alloc: Global,
     why: Why,
-    kind: Kind,
+    kind: RecordKind,
     row: &ByteRecord,
     place: usize,
     allowed: Allowed,

@@ -4,13 +4,13 @@ ghost use Rattle.std.specs.Prelude.{◌≡◌, ◌≤◌, ◌<◌, ◌-◌, ◌^
 ghost use Rattle.csv.specs.Records.{fields_of};
 ghost use Rattle.blk_explain.specs.Findings.{rows_of, row_at, IsRefusedScript, IsFound};
 ghost use Rattle.blk_explain.specs.Details.{field_text};
-ghost use Rattle.blk_explain.specs.Explained.{edits_to, IsNearest, good_text, fault_text, empty_text, IsNamedText, IsFaultDetail, IsTold, is_good, IsExplained};
+ghost use Rattle.blk_explain.specs.Explained.{edits_to, IsNearest, good_text, fault_text, empty_text, IsNamedText, IsFaultDetail, IsFindingText, is_good, IsExplained};
 
 use crate::counts::count_detail;
 use crate::details::{detail, push_field};
 use crate::findings::{Finding, count_rows, find, row_at};
-use crate::forms::{Form, FormRow};
-use crate::lines::line_of;
+use crate::forms::{FormRow, TextForm};
+use crate::lines::line_at;
 use crate::steps::state_of;
 use blk_lists::fields::field;
 use blk_lists::{TextFault, Why};
@@ -30,7 +30,12 @@ pub struct Explained {
 }
 
 /// The one of two forms to whose name fewer edits lead.
-fn nearer(alloc: Global, found: &[u8], one: Form, other: Form) -> Result<Form, AllocError>
+fn nearer(
+    alloc: Global,
+    found: &[u8],
+    one: TextForm,
+    other: TextForm,
+) -> Result<TextForm, AllocError>
     ensures { IfOk result (λ f. (edits_to found.now f ≤ edits_to found.now one) × (edits_to found.now f ≤ edits_to found.now other)) }
 {
     let to_one = generic_levenshtein(alloc, found, one.row().name.text())?;
@@ -43,15 +48,15 @@ fn nearer(alloc: Global, found: &[u8], one: Form, other: Form) -> Result<Form, A
 }
 
 /// The form to whose name the fewest edits lead.
-fn nearest(alloc: Global, found: &[u8]) -> Result<Form, AllocError>
+fn nearest(alloc: Global, found: &[u8]) -> Result<TextForm, AllocError>
     ensures { IfOk result (IsNearest found.now) }
 {
-    let of_two = nearer(alloc, found, Form::Commands, Form::Certificate)?;
-    let of_three = nearer(alloc, found, of_two, Form::OnTime)?;
-    let of_four = nearer(alloc, found, of_three, Form::Schedule)?;
-    let of_five = nearer(alloc, found, of_four, Form::Capture)?;
-    let of_six = nearer(alloc, found, of_five, Form::Script)?;
-    nearer(alloc, found, of_six, Form::Trace)
+    let of_two = nearer(alloc, found, TextForm::Commands, TextForm::Certificate)?;
+    let of_three = nearer(alloc, found, of_two, TextForm::OnTime)?;
+    let of_four = nearer(alloc, found, of_three, TextForm::Schedule)?;
+    let of_five = nearer(alloc, found, of_four, TextForm::Capture)?;
+    let of_six = nearer(alloc, found, of_five, TextForm::Script)?;
+    nearer(alloc, found, of_six, TextForm::Trace)
 }
 
 /// The two lines of a good text.
@@ -125,8 +130,8 @@ fn step_detail(alloc: Global, why: &[u8], state: &[u8]) -> Result<Vec<u8>, Alloc
 }
 
 /// What is said about a good text.
-fn good_told(alloc: Global, bytes: &[u8], form: Form) -> Result<Vec<u8>, AllocError>
-    ensures { IfOk result (λ text. IsTold bytes.now (Finding.Good form) text.items) }
+fn good_told(alloc: Global, bytes: &[u8], form: TextForm) -> Result<Vec<u8>, AllocError>
+    ensures { IfOk result (λ text. IsFindingText bytes.now (Finding.Good form) text.items) }
 {
     let title = row_at(alloc, bytes, 1)?;
     let count = count_rows(alloc, bytes)?;
@@ -155,17 +160,17 @@ fn fault_detail(
 fn faulty_told(
     alloc: Global,
     bytes: &[u8],
-    form: Form,
+    form: TextForm,
     fault: TextFault,
 ) -> Result<Vec<u8>, AllocError>
-    ensures { IfOk result (λ text. IsTold bytes.now (Finding.Faulty form fault) text.items) }
+    ensures { IfOk result (λ text. IsFindingText bytes.now (Finding.Faulty form fault) text.items) }
 {
     if fault.at == u64::MAX {
         return Err(AllocError);
     }
     let form = form.row();
     let told = fault_detail(alloc, bytes, &form, fault)?;
-    let line = line_of(bytes, fault.at);
+    let line = line_at(bytes, fault.at);
     let name = form.name.text();
     let why = fault.why.name().as_bytes();
     fault_text(alloc, line, name, fault.at, told.as_slice(), why)
@@ -174,12 +179,12 @@ fn faulty_told(
 /// What is said about a script of which a step is refused.
 fn refused_told(alloc: Global, bytes: &[u8], fault: SimFault) -> Result<Vec<u8>, AllocError>
     requires { IsRefusedScript (rows_of bytes.now) fault }
-    ensures { IfOk result (λ text. IsTold bytes.now (Finding.Refused fault) text.items) }
+    ensures { IfOk result (λ text. IsFindingText bytes.now (Finding.Refused fault) text.items) }
 {
     let state = state_of(alloc, bytes, fault)?;
     let why = fault.why.name().as_bytes();
     let detail = step_detail(alloc, why, state.as_slice())?;
-    let line = line_of(bytes, fault.at);
+    let line = line_at(bytes, fault.at);
     fault_text(alloc, line, b"blk-script", fault.at, detail.as_slice(), why)
 }
 
@@ -187,7 +192,7 @@ fn refused_told(alloc: Global, bytes: &[u8], fault: SimFault) -> Result<Vec<u8>,
 fn empty_told(alloc: Global, bytes: &[u8]) -> Result<Vec<u8>, AllocError>
     ensures { IfOk result (λ text. text.items ≡ empty_text bytes.now) }
 {
-    let line = line_of(bytes, 1);
+    let line = line_at(bytes, 1);
     fault_text(
         alloc,
         line,
@@ -207,13 +212,13 @@ fn named_told(alloc: Global, bytes: &[u8]) -> Result<Vec<u8>, AllocError>
     let near = nearest(alloc, found)?;
     let name = near.row().name.text();
     let detail = title_detail(alloc, found, name)?;
-    let line = line_of(bytes, 1);
+    let line = line_at(bytes, 1);
     fault_text(alloc, line, name, 1, detail.as_slice(), b"Title")
 }
 
 /// What is said about a text that begins with the name of no form.
 fn untitled_told(alloc: Global, bytes: &[u8]) -> Result<Vec<u8>, AllocError>
-    ensures { IfOk result (λ text. IsTold bytes.now Finding.Untitled text.items) }
+    ensures { IfOk result (λ text. IsFindingText bytes.now Finding.Untitled text.items) }
 {
     let row = row_at(alloc, bytes, 1)?;
     if field(&row, 0).is_empty() {
@@ -225,7 +230,7 @@ fn untitled_told(alloc: Global, bytes: &[u8]) -> Result<Vec<u8>, AllocError>
 /// What is said about a finding.
 fn told(alloc: Global, bytes: &[u8], finding: Finding) -> Result<Vec<u8>, AllocError>
     requires { IsFound (rows_of bytes.now) finding }
-    ensures { IfOk result (λ text. IsTold bytes.now finding text.items) }
+    ensures { IfOk result (λ text. IsFindingText bytes.now finding text.items) }
 {
     match finding {
         Finding::Good(form) => good_told(alloc, bytes, form),

@@ -3,11 +3,11 @@
 ghost use Rattle.std.specs.Prelude.{◌≡◌, ◌<◌, ◌-◌, ◌^◌, IfOk, MatchOption, length};
 ghost use Rattle.csv.specs.Records.{fields_of};
 ghost use Rattle.blk_text.specs.Script.{IsScript, scripted};
-ghost use Rattle.blk_explain.specs.Findings.{rows_of, row_at, DoesRun, IsRefused, IsFound};
+ghost use Rattle.blk_explain.specs.Findings.{rows_of, row_at, DoesRun, IsRefusedStep, IsFound};
 ghost use Rattle.blk_explain.specs.Inside.Read.{IsRead};
 ghost use Rattle.blk_lists.specs.declared.fault.Why.TheVariants as why;
 
-use crate::forms::{Form, form_named};
+use crate::forms::{TextForm, form_named};
 use blk_capture_text::read_capture;
 use blk_lists::fields::field;
 use blk_lists::{
@@ -23,9 +23,9 @@ use std::alloc::{AllocError, Global};
 #[derive(Clone, Copy, Debug, PartialEq, Eq)]
 pub enum Finding {
     /// It is of this form; a script runs.
-    Good(Form),
+    Good(TextForm),
     /// Its title has the name of this form, and this is its first fault.
-    Faulty(Form, TextFault),
+    Faulty(TextForm, TextFault),
     /// It is a script, and a step of it is refused.
     Refused(SimFault),
     /// It begins with the name of no form.
@@ -71,7 +71,7 @@ pub fn count_rows(alloc: Global, bytes: &[u8]) -> Result<u64, AllocError>
 }
 
 /// The finding of a fault that didn't come from outside.
-fn faulty(form: Form, fault: TextFault) -> Result<Finding, AllocError>
+fn faulty(form: TextForm, fault: TextFault) -> Result<Finding, AllocError>
     ensures found { IfOk result (λ f. f ≡ Finding.Faulty form fault) }
     ensures own { IfOk result (λ _. ¬ (fault.why ≡ why.Read) × ¬ (fault.why ≡ why.Memory)) }
 {
@@ -83,61 +83,61 @@ fn faulty(form: Form, fault: TextFault) -> Result<Finding, AllocError>
 
 /// What the reader of command lists finds.
 fn find_commands(alloc: Global, bytes: &[u8]) -> Result<Finding, AllocError>
-    ensures { IfOk result (IsRead Form.Commands (rows_of bytes.now)) }
+    ensures { IfOk result (IsRead TextForm.Commands (rows_of bytes.now)) }
 {
     match read_commands(alloc, &mut Records::new(alloc, bytes)) {
-        Ok(_) => Ok(Finding::Good(Form::Commands)),
-        Err(fault) => faulty(Form::Commands, fault),
+        Ok(_) => Ok(Finding::Good(TextForm::Commands)),
+        Err(fault) => faulty(TextForm::Commands, fault),
     }
 }
 
 /// What the reader of certificates finds.
 fn find_certificate(alloc: Global, bytes: &[u8]) -> Result<Finding, AllocError>
-    ensures { IfOk result (IsRead Form.Certificate (rows_of bytes.now)) }
+    ensures { IfOk result (IsRead TextForm.Certificate (rows_of bytes.now)) }
 {
     match read_certificate(alloc, &mut Records::new(alloc, bytes)) {
-        Ok(_) => Ok(Finding::Good(Form::Certificate)),
-        Err(fault) => faulty(Form::Certificate, fault),
+        Ok(_) => Ok(Finding::Good(TextForm::Certificate)),
+        Err(fault) => faulty(TextForm::Certificate, fault),
     }
 }
 
 /// What the reader of certificates of what can be met finds.
 fn find_on_time(alloc: Global, bytes: &[u8]) -> Result<Finding, AllocError>
-    ensures { IfOk result (IsRead Form.OnTime (rows_of bytes.now)) }
+    ensures { IfOk result (IsRead TextForm.OnTime (rows_of bytes.now)) }
 {
     match read_on_time(alloc, &mut Records::new(alloc, bytes)) {
-        Ok(_) => Ok(Finding::Good(Form::OnTime)),
-        Err(fault) => faulty(Form::OnTime, fault),
+        Ok(_) => Ok(Finding::Good(TextForm::OnTime)),
+        Err(fault) => faulty(TextForm::OnTime, fault),
     }
 }
 
 /// What the reader of schedules finds.
 fn find_schedule(alloc: Global, bytes: &[u8]) -> Result<Finding, AllocError>
-    ensures { IfOk result (IsRead Form.Schedule (rows_of bytes.now)) }
+    ensures { IfOk result (IsRead TextForm.Schedule (rows_of bytes.now)) }
 {
     match read_schedule(alloc, &mut Records::new(alloc, bytes)) {
-        Ok(_) => Ok(Finding::Good(Form::Schedule)),
-        Err(fault) => faulty(Form::Schedule, fault),
+        Ok(_) => Ok(Finding::Good(TextForm::Schedule)),
+        Err(fault) => faulty(TextForm::Schedule, fault),
     }
 }
 
 /// What the reader of captures finds.
 fn find_capture(alloc: Global, bytes: &[u8]) -> Result<Finding, AllocError>
-    ensures { IfOk result (IsRead Form.Capture (rows_of bytes.now)) }
+    ensures { IfOk result (IsRead TextForm.Capture (rows_of bytes.now)) }
 {
     match read_capture(alloc, &mut Records::new(alloc, bytes)) {
-        Ok(_) => Ok(Finding::Good(Form::Capture)),
-        Err(fault) => faulty(Form::Capture, fault),
+        Ok(_) => Ok(Finding::Good(TextForm::Capture)),
+        Err(fault) => faulty(TextForm::Capture, fault),
     }
 }
 
 /// What the reader of traces finds.
 fn find_trace(alloc: Global, bytes: &[u8]) -> Result<Finding, AllocError>
-    ensures { IfOk result (IsRead Form.Trace (rows_of bytes.now)) }
+    ensures { IfOk result (IsRead TextForm.Trace (rows_of bytes.now)) }
 {
     match read_trace(alloc, &mut Records::new(alloc, bytes)) {
-        Ok(_) => Ok(Finding::Good(Form::Trace)),
-        Err(fault) => faulty(Form::Trace, fault),
+        Ok(_) => Ok(Finding::Good(TextForm::Trace)),
+        Err(fault) => faulty(TextForm::Trace, fault),
     }
 }
 
@@ -154,7 +154,7 @@ fn stepped(fault: SimFault) -> Result<Finding, AllocError>
 /// The step of a script that is refused, if one is.
 fn refused(alloc: Global, script: &Script) -> Result<Option<SimFault>, AllocError>
     requires { IsScript (scripted script.now) }
-    ensures { IfOk result (λ o. MatchOption o (DoesRun (scripted script.now)) (IsRefused (scripted script.now))) }
+    ensures { IfOk result (λ o. MatchOption o (DoesRun (scripted script.now)) (IsRefusedStep (scripted script.now))) }
 {
     let scheduler = match NoneSched::new(alloc) {
         Ok(scheduler) => scheduler,
@@ -168,31 +168,31 @@ fn refused(alloc: Global, script: &Script) -> Result<Option<SimFault>, AllocErro
 
 /// What the reader of scripts finds, and what a run does.
 fn find_script(alloc: Global, bytes: &[u8]) -> Result<Finding, AllocError>
-    ensures { IfOk result (IsRead Form.Script (rows_of bytes.now)) }
+    ensures { IfOk result (IsRead TextForm.Script (rows_of bytes.now)) }
 {
     let script = match read_script(alloc, &mut Records::new(alloc, bytes)) {
         Ok(script) => script,
-        Err(fault) => return faulty(Form::Script, fault),
+        Err(fault) => return faulty(TextForm::Script, fault),
     };
     match refused(alloc, &script) {
-        Ok(None) => Ok(Finding::Good(Form::Script)),
+        Ok(None) => Ok(Finding::Good(TextForm::Script)),
         Ok(Some(fault)) => stepped(fault),
         Err(_) => Err(AllocError),
     }
 }
 
 /// What the reader of a form finds.
-fn find_as(alloc: Global, form: Form, bytes: &[u8]) -> Result<Finding, AllocError>
+fn find_as(alloc: Global, form: TextForm, bytes: &[u8]) -> Result<Finding, AllocError>
     ensures { IfOk result (IsRead form (rows_of bytes.now)) }
 {
     match form {
-        Form::Commands => find_commands(alloc, bytes),
-        Form::Certificate => find_certificate(alloc, bytes),
-        Form::OnTime => find_on_time(alloc, bytes),
-        Form::Schedule => find_schedule(alloc, bytes),
-        Form::Capture => find_capture(alloc, bytes),
-        Form::Script => find_script(alloc, bytes),
-        Form::Trace => find_trace(alloc, bytes),
+        TextForm::Commands => find_commands(alloc, bytes),
+        TextForm::Certificate => find_certificate(alloc, bytes),
+        TextForm::OnTime => find_on_time(alloc, bytes),
+        TextForm::Schedule => find_schedule(alloc, bytes),
+        TextForm::Capture => find_capture(alloc, bytes),
+        TextForm::Script => find_script(alloc, bytes),
+        TextForm::Trace => find_trace(alloc, bytes),
     }
 }
 

@@ -1,8 +1,8 @@
 //! The forms of texts: their titles, what their records have in each field, and which subcommands take them.
 
 ghost use Rattle.std.specs.Prelude.{◌≡◌, MatchOption};
-ghost use Rattle.blk_explain.specs.Forms.{form_row, form_name, fields_of, word_of, IsWorded, IsKind};
-ghost use Rattle.blk_explain.specs.declared.forms.Form.{Form as AForm};
+ghost use Rattle.blk_explain.specs.Forms.{form_row, form_name, fields_of, kind_word, IsWorded, IsRecordKind};
+ghost use Rattle.blk_explain.specs.declared.forms.TextForm.{TextForm as AForm};
 
 use crate::counts::Counted;
 use crate::fields::Field;
@@ -10,7 +10,7 @@ use crate::names::Name;
 
 /// The form of a text.
 #[derive(Clone, Copy, Debug, PartialEq, Eq)]
-pub enum Form {
+pub enum TextForm {
     /// A command list.
     Commands,
     /// A certificate.
@@ -29,7 +29,7 @@ pub enum Form {
 
 /// The kind of a record.
 #[derive(Clone, Copy, Debug, PartialEq, Eq)]
-pub enum Kind {
+pub enum RecordKind {
     /// The title of a command list.
     CommandsTitle,
     /// A command of a command list.
@@ -442,82 +442,82 @@ const EVENT_DEPTH: [Field; 8] = [
     Field::Past,
 ];
 
-impl Kind {
+impl RecordKind {
     /// Its fields, and some past the last.
     pub fn fields(self) -> [Field; 8]
         ensures { result ≡ fields_of self }
     {
         match self {
-            Kind::CommandsTitle => COMMANDS_TITLE,
-            Kind::Command => COMMAND,
-            Kind::CountedTitle => COUNTED_TITLE,
-            Kind::Served => SERVED,
-            Kind::Bound => BOUND,
-            Kind::OnTime => MET_NUMBERS,
-            Kind::Window => WINDOW,
-            Kind::CaptureTitle => CAPTURE_TITLE,
-            Kind::Capture => CAPTURED,
-            Kind::ScriptTitle => SCRIPT_TITLE,
-            Kind::TraceTitle => TRACE_TITLE,
-            Kind::Setup => SETUP,
-            Kind::Step => STEP,
-            Kind::Bio => BIO,
-            Kind::Flush => FLUSH,
-            Kind::Drain => DRAIN,
-            Kind::Issue => ISSUE,
-            Kind::Done => DONE,
-            Kind::Back => BACK,
-            Kind::Depth => DEPTH_STEP,
-            Kind::Tick => TICK,
-            Kind::Run => RUN,
-            Kind::Event => EVENT,
-            Kind::EventTick => EVENT_TICK,
-            Kind::EventRelease => EVENT_GROUP,
-            Kind::EventJoin => EVENT_GROUP,
-            Kind::EventBio => EVENT_BIO,
-            Kind::EventIssue => EVENT_ISSUE,
-            Kind::EventDone => EVENT_END,
-            Kind::EventBack => EVENT_END,
-            Kind::EventDepth => EVENT_DEPTH,
+            RecordKind::CommandsTitle => COMMANDS_TITLE,
+            RecordKind::Command => COMMAND,
+            RecordKind::CountedTitle => COUNTED_TITLE,
+            RecordKind::Served => SERVED,
+            RecordKind::Bound => BOUND,
+            RecordKind::OnTime => MET_NUMBERS,
+            RecordKind::Window => WINDOW,
+            RecordKind::CaptureTitle => CAPTURE_TITLE,
+            RecordKind::Capture => CAPTURED,
+            RecordKind::ScriptTitle => SCRIPT_TITLE,
+            RecordKind::TraceTitle => TRACE_TITLE,
+            RecordKind::Setup => SETUP,
+            RecordKind::Step => STEP,
+            RecordKind::Bio => BIO,
+            RecordKind::Flush => FLUSH,
+            RecordKind::Drain => DRAIN,
+            RecordKind::Issue => ISSUE,
+            RecordKind::Done => DONE,
+            RecordKind::Back => BACK,
+            RecordKind::Depth => DEPTH_STEP,
+            RecordKind::Tick => TICK,
+            RecordKind::Run => RUN,
+            RecordKind::Event => EVENT,
+            RecordKind::EventTick => EVENT_TICK,
+            RecordKind::EventRelease => EVENT_GROUP,
+            RecordKind::EventJoin => EVENT_GROUP,
+            RecordKind::EventBio => EVENT_BIO,
+            RecordKind::EventIssue => EVENT_ISSUE,
+            RecordKind::EventDone => EVENT_END,
+            RecordKind::EventBack => EVENT_END,
+            RecordKind::EventDepth => EVENT_DEPTH,
         }
     }
 
     /// The word that it begins with, or nothing.
     fn word(self) -> &'static [u8]
-        ensures { result.now ≡ word_of self }
+        ensures { result.now ≡ kind_word self }
     {
         match self {
-            Kind::Window => b"window",
-            Kind::Bio => b"bio",
-            Kind::Flush => b"flush",
-            Kind::Drain => b"drain",
-            Kind::Issue => b"issue",
-            Kind::Done => b"done",
-            Kind::Back => b"back",
-            Kind::Depth => b"depth",
-            Kind::Tick => b"tick",
-            Kind::Run => b"run",
-            Kind::EventTick => b"tick",
-            Kind::EventRelease => b"release",
-            Kind::EventJoin => b"join",
-            Kind::EventBio => b"bio",
-            Kind::EventIssue => b"issue",
-            Kind::EventDone => b"done",
-            Kind::EventBack => b"back",
-            Kind::EventDepth => b"depth",
-            Kind::CommandsTitle
-            | Kind::Command
-            | Kind::CountedTitle
-            | Kind::Served
-            | Kind::Bound
-            | Kind::OnTime
-            | Kind::CaptureTitle
-            | Kind::Capture
-            | Kind::ScriptTitle
-            | Kind::TraceTitle
-            | Kind::Setup
-            | Kind::Step
-            | Kind::Event => b"",
+            RecordKind::Window => b"window",
+            RecordKind::Bio => b"bio",
+            RecordKind::Flush => b"flush",
+            RecordKind::Drain => b"drain",
+            RecordKind::Issue => b"issue",
+            RecordKind::Done => b"done",
+            RecordKind::Back => b"back",
+            RecordKind::Depth => b"depth",
+            RecordKind::Tick => b"tick",
+            RecordKind::Run => b"run",
+            RecordKind::EventTick => b"tick",
+            RecordKind::EventRelease => b"release",
+            RecordKind::EventJoin => b"join",
+            RecordKind::EventBio => b"bio",
+            RecordKind::EventIssue => b"issue",
+            RecordKind::EventDone => b"done",
+            RecordKind::EventBack => b"back",
+            RecordKind::EventDepth => b"depth",
+            RecordKind::CommandsTitle
+            | RecordKind::Command
+            | RecordKind::CountedTitle
+            | RecordKind::Served
+            | RecordKind::Bound
+            | RecordKind::OnTime
+            | RecordKind::CaptureTitle
+            | RecordKind::Capture
+            | RecordKind::ScriptTitle
+            | RecordKind::TraceTitle
+            | RecordKind::Setup
+            | RecordKind::Step
+            | RecordKind::Event => b"",
         }
     }
 }
@@ -532,13 +532,13 @@ pub struct FormRow {
     /// How many fields each record has.
     pub width: u64,
     /// The kind of its title.
-    pub title: Kind,
+    pub title: RecordKind,
     /// That of its second record.
-    pub second: Kind,
+    pub second: RecordKind,
     /// Those of its later records, by their words.
-    pub kinds: [Kind; 9],
+    pub kinds: [RecordKind; 9],
     /// That of its other records.
-    pub item: Kind,
+    pub item: RecordKind,
     /// The word of its second record.
     pub second_word: Name,
     /// The words of its later records.
@@ -554,20 +554,20 @@ const COMMANDS: FormRow = FormRow {
     name: Name::BlkCommands,
     takers: Name::TakeCommands,
     width: 3,
-    title: Kind::CommandsTitle,
-    second: Kind::Command,
+    title: RecordKind::CommandsTitle,
+    second: RecordKind::Command,
     kinds: [
-        Kind::Command,
-        Kind::Command,
-        Kind::Command,
-        Kind::Command,
-        Kind::Command,
-        Kind::Command,
-        Kind::Command,
-        Kind::Command,
-        Kind::Command,
+        RecordKind::Command,
+        RecordKind::Command,
+        RecordKind::Command,
+        RecordKind::Command,
+        RecordKind::Command,
+        RecordKind::Command,
+        RecordKind::Command,
+        RecordKind::Command,
+        RecordKind::Command,
     ],
-    item: Kind::Command,
+    item: RecordKind::Command,
     second_word: Name::Nothing,
     words: Name::Nothing,
     range: Name::EachInRange,
@@ -579,20 +579,20 @@ const CERTIFICATE: FormRow = FormRow {
     name: Name::BlkCertificate,
     takers: Name::TakeCertificates,
     width: 4,
-    title: Kind::CountedTitle,
-    second: Kind::Bound,
+    title: RecordKind::CountedTitle,
+    second: RecordKind::Bound,
     kinds: [
-        Kind::Served,
-        Kind::Served,
-        Kind::Served,
-        Kind::Served,
-        Kind::Served,
-        Kind::Served,
-        Kind::Served,
-        Kind::Served,
-        Kind::Served,
+        RecordKind::Served,
+        RecordKind::Served,
+        RecordKind::Served,
+        RecordKind::Served,
+        RecordKind::Served,
+        RecordKind::Served,
+        RecordKind::Served,
+        RecordKind::Served,
+        RecordKind::Served,
     ],
-    item: Kind::Served,
+    item: RecordKind::Served,
     second_word: Name::Bound,
     words: Name::Nothing,
     range: Name::EachInRange,
@@ -604,20 +604,20 @@ const MET: FormRow = FormRow {
     name: Name::BlkOnTime,
     takers: Name::TakeCertificates,
     width: 4,
-    title: Kind::CountedTitle,
-    second: Kind::OnTime,
+    title: RecordKind::CountedTitle,
+    second: RecordKind::OnTime,
     kinds: [
-        Kind::Window,
-        Kind::Served,
-        Kind::Served,
-        Kind::Served,
-        Kind::Served,
-        Kind::Served,
-        Kind::Served,
-        Kind::Served,
-        Kind::Served,
+        RecordKind::Window,
+        RecordKind::Served,
+        RecordKind::Served,
+        RecordKind::Served,
+        RecordKind::Served,
+        RecordKind::Served,
+        RecordKind::Served,
+        RecordKind::Served,
+        RecordKind::Served,
     ],
-    item: Kind::Served,
+    item: RecordKind::Served,
     second_word: Name::OnTime,
     words: Name::Window,
     range: Name::EachInRange,
@@ -629,20 +629,20 @@ const SCHEDULE: FormRow = FormRow {
     name: Name::BlkSchedule,
     takers: Name::TakeSchedules,
     width: 4,
-    title: Kind::CountedTitle,
-    second: Kind::Served,
+    title: RecordKind::CountedTitle,
+    second: RecordKind::Served,
     kinds: [
-        Kind::Served,
-        Kind::Served,
-        Kind::Served,
-        Kind::Served,
-        Kind::Served,
-        Kind::Served,
-        Kind::Served,
-        Kind::Served,
-        Kind::Served,
+        RecordKind::Served,
+        RecordKind::Served,
+        RecordKind::Served,
+        RecordKind::Served,
+        RecordKind::Served,
+        RecordKind::Served,
+        RecordKind::Served,
+        RecordKind::Served,
+        RecordKind::Served,
     ],
-    item: Kind::Served,
+    item: RecordKind::Served,
     second_word: Name::Nothing,
     words: Name::Nothing,
     range: Name::EachInRange,
@@ -654,20 +654,20 @@ const CAPTURE: FormRow = FormRow {
     name: Name::BlkCapture,
     takers: Name::TakeCaptures,
     width: 8,
-    title: Kind::CaptureTitle,
-    second: Kind::Capture,
+    title: RecordKind::CaptureTitle,
+    second: RecordKind::Capture,
     kinds: [
-        Kind::Capture,
-        Kind::Capture,
-        Kind::Capture,
-        Kind::Capture,
-        Kind::Capture,
-        Kind::Capture,
-        Kind::Capture,
-        Kind::Capture,
-        Kind::Capture,
+        RecordKind::Capture,
+        RecordKind::Capture,
+        RecordKind::Capture,
+        RecordKind::Capture,
+        RecordKind::Capture,
+        RecordKind::Capture,
+        RecordKind::Capture,
+        RecordKind::Capture,
+        RecordKind::Capture,
     ],
-    item: Kind::Capture,
+    item: RecordKind::Capture,
     second_word: Name::Nothing,
     words: Name::Nothing,
     range: Name::EachInRange,
@@ -679,20 +679,20 @@ const SCRIPT: FormRow = FormRow {
     name: Name::BlkScript,
     takers: Name::TakeScripts,
     width: 6,
-    title: Kind::ScriptTitle,
-    second: Kind::Setup,
+    title: RecordKind::ScriptTitle,
+    second: RecordKind::Setup,
     kinds: [
-        Kind::Bio,
-        Kind::Flush,
-        Kind::Drain,
-        Kind::Issue,
-        Kind::Done,
-        Kind::Back,
-        Kind::Depth,
-        Kind::Tick,
-        Kind::Run,
+        RecordKind::Bio,
+        RecordKind::Flush,
+        RecordKind::Drain,
+        RecordKind::Issue,
+        RecordKind::Done,
+        RecordKind::Back,
+        RecordKind::Depth,
+        RecordKind::Tick,
+        RecordKind::Run,
     ],
-    item: Kind::Step,
+    item: RecordKind::Step,
     second_word: Name::Setup,
     words: Name::StepWords,
     range: Name::EnoughSubmitters,
@@ -704,68 +704,68 @@ const TRACE: FormRow = FormRow {
     name: Name::BlkTrace,
     takers: Name::TakeTraces,
     width: 6,
-    title: Kind::TraceTitle,
-    second: Kind::Setup,
+    title: RecordKind::TraceTitle,
+    second: RecordKind::Setup,
     kinds: [
-        Kind::EventTick,
-        Kind::EventRelease,
-        Kind::EventJoin,
-        Kind::EventBio,
-        Kind::EventIssue,
-        Kind::EventDone,
-        Kind::EventBack,
-        Kind::EventDepth,
-        Kind::Event,
+        RecordKind::EventTick,
+        RecordKind::EventRelease,
+        RecordKind::EventJoin,
+        RecordKind::EventBio,
+        RecordKind::EventIssue,
+        RecordKind::EventDone,
+        RecordKind::EventBack,
+        RecordKind::EventDepth,
+        RecordKind::Event,
     ],
-    item: Kind::Event,
+    item: RecordKind::Event,
     second_word: Name::Setup,
     words: Name::EventWords,
     range: Name::EachInRange,
     counted: Counted::Events,
 };
 
-impl Form {
+impl TextForm {
     /// Its row.
     pub fn row(self) -> FormRow
         ensures { result ≡ form_row self }
     {
         match self {
-            Form::Commands => COMMANDS,
-            Form::Certificate => CERTIFICATE,
-            Form::OnTime => MET,
-            Form::Schedule => SCHEDULE,
-            Form::Capture => CAPTURE,
-            Form::Script => SCRIPT,
-            Form::Trace => TRACE,
+            TextForm::Commands => COMMANDS,
+            TextForm::Certificate => CERTIFICATE,
+            TextForm::OnTime => MET,
+            TextForm::Schedule => SCHEDULE,
+            TextForm::Capture => CAPTURE,
+            TextForm::Script => SCRIPT,
+            TextForm::Trace => TRACE,
         }
     }
 }
 
 /// The form whose title begins with this name.
-pub fn form_named(field: &[u8]) -> Option<Form>
+pub fn form_named(field: &[u8]) -> Option<TextForm>
     ensures { MatchOption result ((f : AForm) → ¬ (field.now ≡ form_name f)) (λ f. field.now ≡ form_name f) }
 {
     if field == b"blk-commands".as_slice() {
-        Some(Form::Commands)
+        Some(TextForm::Commands)
     } else if field == b"blk-certificate".as_slice() {
-        Some(Form::Certificate)
+        Some(TextForm::Certificate)
     } else if field == b"blk-met".as_slice() {
-        Some(Form::OnTime)
+        Some(TextForm::OnTime)
     } else if field == b"blk-schedule".as_slice() {
-        Some(Form::Schedule)
+        Some(TextForm::Schedule)
     } else if field == b"blk-capture".as_slice() {
-        Some(Form::Capture)
+        Some(TextForm::Capture)
     } else if field == b"blk-script".as_slice() {
-        Some(Form::Script)
+        Some(TextForm::Script)
     } else if field == b"blk-trace".as_slice() {
-        Some(Form::Trace)
+        Some(TextForm::Trace)
     } else {
         None
     }
 }
 
 /// The kind of these that begins with this word, or, where none does, another.
-fn kind_named(kinds: &[Kind], other: Kind, word: &[u8]) -> Kind
+fn kind_named(kinds: &[RecordKind], other: RecordKind, word: &[u8]) -> RecordKind
     ensures { IsWorded kinds.now other word.now result }
 {
     for k in 0..kinds.len() {
@@ -778,8 +778,8 @@ fn kind_named(kinds: &[Kind], other: Kind, word: &[u8]) -> Kind
 }
 
 /// The kind of a record of a form, by its number and the word that it begins with.
-pub fn kind_of(row: &FormRow, at: u64, word: &[u8]) -> Kind
-    ensures { IsKind row.now at word.now result }
+pub fn kind_of(row: &FormRow, at: u64, word: &[u8]) -> RecordKind
+    ensures { IsRecordKind row.now at word.now result }
 {
     if at == 1 {
         return row.title;

@@ -3,7 +3,7 @@
 ghost use Rattle.std.specs.Prelude.{◌≤◌, ◌<◌, IfOk, length};
 ghost use Rattle.blk_text.specs.Script.{scripted, IsScript};
 ghost use Rattle.blk_explain.specs.Held.{HoldsWherever};
-ghost use Rattle.blk_explain.specs.Inside.Followed.{IsNext};
+ghost use Rattle.blk_explain.specs.Inside.Followed.{FollowsStep};
 
 use blk_plug::Plug;
 use blk_text::{Line, Script};
@@ -20,7 +20,7 @@ fn held_next(
     line: Line,
 ) -> Result<u64, AllocError>
     requires { IsScript (scripted script.now) }
-    ensures { IfOk result (λ next. IsNext (scripted script.now) submitter line plug.old held plug.new next) }
+    ensures { IfOk result (λ next. FollowsStep (scripted script.now) submitter line plug.old held plug.new next) }
 {
     match line {
         Line::Bio(bio) => {

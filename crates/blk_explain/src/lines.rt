@@ -3,7 +3,7 @@
 ghost use Rattle.std.specs.Prelude.{◌≡◌, ◌<◌, ◌+◌, ◌-◌, ◌^◌, if◌then◌else◌, ◌&&◌, ◌==◌};
 ghost use Rattle.csv.specs.Machine.{ends_at_end};
 ghost use Rattle.csv.specs.Reading.{is_bom, strip_bom};
-ghost use Rattle.blk_explain.specs.Lines.{state_after, begins, ends_line, line_of};
+ghost use Rattle.blk_explain.specs.Lines.{state_after, begins, ends_line, line_at};
 ghost use Rattle.blk_explain.specs.Inside.Ends.{state_of};
 
 /// Where the reading of records stands between two bytes.
@@ -142,8 +142,8 @@ fn is_it(begun: bool, left: u64) -> bool
 
 /// The line on which the n-th record of a text begins, both from 1 on; where there is none, the text's last line. A line is ended by a
 /// line feed, a carriage return, or the second with the first after it.
-pub fn line_of(bytes: &[u8], n: u64) -> u64
-    ensures { result ≡ line_of bytes.now n }
+pub fn line_at(bytes: &[u8], n: u64) -> u64
+    ensures { result ≡ line_at bytes.now n }
 {
     let text = unmarked(bytes);
     let mut spot = Spot::Between;

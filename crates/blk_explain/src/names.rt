@@ -1,7 +1,7 @@
 //! Fixed phrases of the texts.
 
 ghost use Rattle.std.specs.Prelude.{◌≡◌};
-ghost use Rattle.blk_explain.specs.Names.{text_of};
+ghost use Rattle.blk_explain.specs.Names.{name_text};
 
 /// Some words.
 #[derive(Clone, Copy, Debug, PartialEq, Eq)]
@@ -55,7 +55,7 @@ pub enum Name {
 impl Name {
     /// Its text.
     pub fn text(self) -> &'static [u8]
-        ensures { result.now ≡ text_of self }
+        ensures { result.now ≡ name_text self }
     {
         match self {
             Name::BlkCommands => b"blk-commands",

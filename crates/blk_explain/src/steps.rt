@@ -4,15 +4,15 @@ ghost use Rattle.std.specs.Prelude.{◌≡◌, ◌+◌, ◌-◌, IfOk, MatchOpti
 ghost use Rattle.blk_bio.specs.Bios.{Bio as BioFields};
 ghost use Rattle.blk_text.specs.Script.{scripted, IsScript};
 ghost use Rattle.blk_text.specs.declared.script.Line.TheVariants as line;
-ghost use Rattle.blk_explain.specs.Findings.{rows_of, IsRefused, IsRefusedScript};
+ghost use Rattle.blk_explain.specs.Findings.{rows_of, IsRefusedStep, IsRefusedScript};
 ghost use Rattle.blk_explain.specs.Steps.{step_wanted, plain_text, held_text, entered_text, IsSoftState, IsTwiceState, IsStateAt, IsState, IsFlushAt, IsNoFlushAt};
-ghost use Rattle.blk_explain.specs.Inside.Entered.{IsEntered};
+ghost use Rattle.blk_explain.specs.Inside.Entered.{IsEntryText};
 ghost use Rattle.blk_explain.specs.Twice.{IsBioAt};
 ghost use Rattle.blk_explain.specs.Inside.Before.{RunsTo};
-ghost use Rattle.blk_explain.specs.Lines.{line_of};
+ghost use Rattle.blk_explain.specs.Lines.{line_at};
 
 use crate::held::held_after;
-use crate::lines::line_of;
+use crate::lines::line_at;
 use crate::twice::{bio_at, twice};
 use blk_bio::Bio;
 use blk_lists::Records;
@@ -121,12 +121,12 @@ fn entered_at(
 ) -> Result<Vec<u8>, AllocError>
     requires script { IsScript (scripted script.now) }
     requires bio { (b : BioFields) × IsBioAt script.now.lines.items place b }
-    ensures { IfOk result (λ text. IsEntered script.now.lines.items place (line_of bytes.now (place + 3)) text.items) }
+    ensures { IfOk result (λ text. IsEntryText script.now.lines.items place (line_at bytes.now (place + 3)) text.items) }
 {
     match bio_at(script, place) {
         Some(bio) => {
             let record = place as u64 + FIRST_STEP;
-            let line = line_of(bytes, record);
+            let line = line_at(bytes, record);
             entered_text(alloc, &bio, line)
         }
         None => unreachable!(),
@@ -158,7 +158,7 @@ fn state_at(
     fault: SimFault,
 ) -> Result<Vec<u8>, AllocError>
     requires script { IsScript (scripted script.now) }
-    requires refused { IsRefused (scripted script.now) fault }
+    requires refused { IsRefusedStep (scripted script.now) fault }
     ensures { IfOk result (λ text. IsStateAt bytes.now (scripted script.now) (fault.at - 3) fault.why text.items) }
 {
     let place = fault.at.saturating_sub(FIRST_STEP) as usize;

@@ -1,7 +1,7 @@
 //! Bios that enter twice.
 
 ghost use Rattle.std.specs.Prelude.{MatchOption, IfOk};
-ghost use Rattle.blk_explain.specs.Twice.{AreDistinct, IsBioAt, IsNoBioAt, IsFirstPairOf};
+ghost use Rattle.blk_explain.specs.Twice.{HasNoRepeat, IsBioAt, IsNoBioAt, IsFirstPairOf};
 ghost use Rattle.blk_explain.specs.Inside.Entered.{HasBioAt, HasNoBio, IsFirstAgain};
 
 use blk_bio::{Bio, BioId};
@@ -21,7 +21,7 @@ pub fn bio_at(script: &Script, place: usize) -> Option<Bio>
 
 /// The place of the first of these steps whose bio entered before.
 fn second(alloc: Global, script: &Script, count: usize) -> Result<Option<usize>, AllocError>
-    ensures { IfOk result (λ o. MatchOption o (AreDistinct script.now.lines.items count) (IsFirstAgain script.now.lines.items count)) }
+    ensures { IfOk result (λ o. MatchOption o (HasNoRepeat script.now.lines.items count) (IsFirstAgain script.now.lines.items count)) }
 {
     let mut ids = IdSet::new(alloc)?;
     for place in 0..count {

@@ -10,5 +10,5 @@ pub record Wanted : Type 0 where
   pub by : By
   pub top : Option ℕ
 
-abbrev pub wanted : Asked → Wanted
-wanted a = record { grid = gridded a.grid; by = a.by; top = a.top }
+abbrev pub as_wanted : Asked → Wanted
+as_wanted a = record { grid = gridded a.grid; by = a.by; top = a.top }

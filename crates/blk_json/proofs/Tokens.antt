@@ -7,7 +7,7 @@ use Rattle.json.specs.Json as json
 use Rattle.json.specs.Token as token
 use Rattle.json.specs.Print.{print}
 use Rattle.json.specs.Tree.{json_tokens, items_tokens, members_tokens}
-use Rattle.blk_json.specs.Values.{items_of, members_of, object_of}
+use Rattle.blk_json.specs.Values.{json_items, members_of, object_of}
 use Rattle.blk_json.specs.Inside.Tokens.{member_tokens, tokens_of}
 
 -- of the same tokens
@@ -15,8 +15,8 @@ pub told : {V E : Type 0} (r : Result V E) (items : V → List ℕ) (p q : List 
 told r items p q same h = subst (λ ts. IfOk r (λ v. items v ≡ print ts ++ 10 ∷ [])) same h
 
 -- the items of an array, with the closing bracket
-pub items_written : {X : Type 0} (f : X → json.Json) (xs : List X) → items_tokens (items_of (map f xs)) ≡ flat_map (λ x. json_tokens (f x)) xs ++ token.end_array ∷ []
-unfolding items_of
+pub items_written : {X : Type 0} (f : X → json.Json) (xs : List X) → items_tokens (json_items (map f xs)) ≡ flat_map (λ x. json_tokens (f x)) xs ++ token.end_array ∷ []
+unfolding json_items
 items_written f [] = refl
 items_written f (x ∷ xs) = ap (λ ts. json_tokens (f x) ++ ts) (items_written f xs) ∙ sym (append_assoc (json_tokens (f x)) _ _)
 

@@ -6,7 +6,7 @@ use Rattle.edd_verdict.specs.declared.Verdict.TheVariants.{Arrival, Spare, Full}
 use Rattle.blk_bio.specs.Letters.{direction_text}
 use Rattle.blk_report.specs.declared.delays.LateCommand.{LateCommand}
 use Rattle.blk_report.specs.declared.serving.Service.{Service}
-use Rattle.blk_json.specs.Values.{count, array_of, object_of, line_of}
+use Rattle.blk_json.specs.Values.{count, array_of, object_of, value_line}
 
 -- the members of its request and its rounds
 abbrev pub service_members : Service → List (List ℕ × json.Json)
@@ -32,4 +32,4 @@ abbrev pub late_list : List LateCommand → json.Json
 late_list late = object_of ((codes "late", array_of (map late_value late)) ∷ [])
 
 abbrev pub late_json : List LateCommand → List ℕ
-late_json late = line_of (late_list late)
+late_json late = value_line (late_list late)

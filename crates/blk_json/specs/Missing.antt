@@ -3,7 +3,7 @@ use Rattle.std.specs.Prelude.{ℕ, List, [], ◌∷◌, ◌++◌, codes, map}
 use Rattle.json.specs.Json as json
 use Rattle.edd_figures.specs.declared.missing.Crowd.{Crowd}
 use Rattle.blk_report.specs.declared.missing.Tally.{Tally}
-use Rattle.blk_json.specs.Values.{count, array_of, object_of, line_of}
+use Rattle.blk_json.specs.Values.{count, array_of, object_of, value_line}
 
 -- a window: its first and its last round, how many commands lie in it, and how many its rounds carry
 abbrev pub crowd_value : Crowd → json.Json
@@ -20,4 +20,4 @@ abbrev pub misses_value : Tally → List Crowd → json.Json
 misses_value t windows = object_of (tally_members t ++ (codes "windows", array_of (map crowd_value windows)) ∷ [])
 
 abbrev pub misses_json : Tally → List Crowd → List ℕ
-misses_json t windows = line_of (misses_value t windows)
+misses_json t windows = value_line (misses_value t windows)

@@ -5,7 +5,7 @@ use Rattle.edd_check.specs.declared.Window.{Window}
 use Rattle.edd_figures.specs.Figures.{greatest_in, least_in, shortfall_in}
 use Rattle.edd_figures.specs.declared.lateness.Figures.{Figures}
 use Rattle.blk_report.specs.declared.figures.Report.{Report}
-use Rattle.blk_json.specs.Values.{count, figure, count_or_null, object_of, line_of}
+use Rattle.blk_json.specs.Values.{count, figure, count_or_null, object_of, value_line}
 
 -- the first round of a window and the one in which it is due, or `null` where there is none
 abbrev pub window_value : Option Window → json.Json
@@ -34,4 +34,4 @@ report_value r =
     object_of ((codes "commands", count r.commands) ∷ (codes "waiting", count r.waiting) ∷ (codes "depth", count r.depth) ∷ figures_members r.figures)
 
 abbrev pub report_json : Report → List ℕ
-report_json r = line_of (report_value r)
+report_json r = value_line (report_value r)

@@ -4,7 +4,7 @@ use Rattle.json.specs.Json as json
 use Rattle.blk_report.specs.declared.spreading.Quantiles.{Quantiles}
 use Rattle.blk_report.specs.declared.spreading.ByDir.{ByDir}
 use Rattle.blk_report.specs.declared.spreading.Spreads.{Spreads}
-use Rattle.blk_json.specs.Values.{count, figure, object_of, line_of}
+use Rattle.blk_json.specs.Values.{count, figure, object_of, value_line}
 
 -- how many numbers there are, and their quantiles
 abbrev pub quantiles_value : Quantiles → json.Json
@@ -20,4 +20,4 @@ abbrev pub spread_value : Spreads → json.Json
 spread_value s = object_of ((codes "wait", by_dir_value s.wait) ∷ (codes "lateness", by_dir_value s.lateness) ∷ [])
 
 abbrev pub spread_json : Spreads → List ℕ
-spread_json s = line_of (spread_value s)
+spread_json s = value_line (spread_value s)

@@ -4,7 +4,7 @@ use Rattle.json.specs.Json as json
 use Rattle.edd_figures.specs.Figures.{greatest_in, least_in, shortfall_in}
 use Rattle.blk_report.specs.declared.figures.Report.{Report}
 use Rattle.blk_report.specs.Table.{IsBestPlace}
-use Rattle.blk_json.specs.Values.{count, figure, array_of, object_of, line_of}
+use Rattle.blk_json.specs.Values.{count, figure, array_of, object_of, value_line}
 
 -- how far the trace of a report fell short
 abbrev pub figure_members : Report → List (List ℕ × json.Json)
@@ -27,4 +27,4 @@ table_value names reports best = object_of ((codes "schedulers", array_of (map (
 pub record IsTableJson (names : List (List ℕ)) (reports : List Report) (text : List ℕ) : Type 0 where
   pub best : Option ℕ
   pub is_best : IsBestPlace reports best
-  pub is_text : text ≡ line_of (table_value names reports best)
+  pub is_text : text ≡ value_line (table_value names reports best)

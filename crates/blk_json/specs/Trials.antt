@@ -10,10 +10,10 @@ use Rattle.blk_settings.specs.declared.sched.Sched.{Sched}
 use Rattle.blk_settings.specs.declared.sched.Sched.TheVariants as sched
 use Rattle.blk_grid.specs.declared.By.{By}
 use Rattle.blk_grid.specs.declared.By.TheVariants as by
-use Rattle.blk_tune.specs.declared.row.Row.{Row}
+use Rattle.blk_tune.specs.declared.row.TrialRow.{TrialRow}
 use Rattle.blk_tune.specs.Text.{is_none, shown}
 use Rattle.blk_json.specs.Tables.{figure_members}
-use Rattle.blk_json.specs.Values.{count, figure, array_of, object_of, line_of}
+use Rattle.blk_json.specs.Values.{count, figure, array_of, object_of, value_line}
 
 -- the settings of deadline, of kyber, and of a scheduler, by the names that the command line has for them
 abbrev pub tunables_members : Tunables → List (List ℕ × json.Json)
@@ -37,20 +37,20 @@ abbrev pub missed_members : Tally → List (List ℕ × json.Json)
 missed_members t = (codes "late", count t.late) ∷ (codes "unavoidable", count t.unavoidable) ∷ (codes "avoidable", count t.avoidable) ∷ []
 
 -- the 99th percentiles of the reads' and of the writes' waits
-abbrev pub percentile_members : Row → List (List ℕ × json.Json)
+abbrev pub percentile_members : TrialRow → List (List ℕ × json.Json)
 percentile_members r = (codes "wait_p99_read", figure r.wait_read) ∷ (codes "wait_p99_write", figure r.wait_write) ∷ []
 
 -- a row
-abbrev pub trial_row : Row → json.Json
+abbrev pub trial_row : TrialRow → json.Json
 trial_row r = object_of (sched_members r.sched ++ (figure_members r.report ++ (missed_members r.tally ++ percentile_members r)))
 
 -- the best row's scheduler and its settings, or `null` without rows
-abbrev pub best_sched : List Row → json.Json
+abbrev pub best_sched : List TrialRow → json.Json
 best_sched [] = json.null
 best_sched (r ∷ rs) = object_of (sched_members r.sched)
 
 -- whether no schedule of a row's commands is better: nothing is avoidable, with some commands, or nothing lost
-abbrev pub is_proved : By → Row → Bool
+abbrev pub is_proved : By → TrialRow → Bool
 is_proved by.Misses r = nat_lt 0 r.tally.commands && (r.tally.avoidable == 0)
 is_proved by.Lateness r = is_none (shortfall_in r.report.figures)
 
@@ -59,16 +59,16 @@ proved_words by.Misses = codes "no schedule misses fewer"
 proved_words by.Lateness = codes "no schedule is less late"
 
 -- what is proved of the best row, in the words of the text form, or `null` where nothing is
-abbrev pub proved_of : By → Row → json.Json
+abbrev pub proved_of : By → TrialRow → json.Json
 proved_of b r = if is_proved b r then json.string (proved_words b) else json.null
 
-abbrev pub proved_value : By → List Row → json.Json
+abbrev pub proved_value : By → List TrialRow → json.Json
 proved_value b [] = json.null
 proved_value b (r ∷ rs) = proved_of b r
 
 -- the rows that are shown, the best one, and what is proved of it
-abbrev pub trial_value : By → Option ℕ → List Row → json.Json
+abbrev pub trial_value : By → Option ℕ → List TrialRow → json.Json
 trial_value b top rows = object_of ((codes "rows", array_of (map trial_row (shown top rows))) ∷ (codes "best", best_sched rows) ∷ (codes "proved", proved_value b rows) ∷ [])
 
-abbrev pub trial_json : By → Option ℕ → List Row → List ℕ
-trial_json b top rows = line_of (trial_value b top rows)
+abbrev pub trial_json : By → Option ℕ → List TrialRow → List ℕ
+trial_json b top rows = value_line (trial_value b top rows)

@@ -28,13 +28,13 @@ abbrev pub object_of : List (List ℕ × json.Json) → json.Json
 object_of ms = json.object (members_of ms)
 
 -- an array of these items
-unfoldable pub items_of : List json.Json → json.Items
-items_of [] = json.no_items
-items_of (j ∷ js) = json.item j (items_of js)
+unfoldable pub json_items : List json.Json → json.Items
+json_items [] = json.no_items
+json_items (j ∷ js) = json.item j (json_items js)
 
 abbrev pub array_of : List json.Json → json.Json
-array_of js = json.array (items_of js)
+array_of js = json.array (json_items js)
 
 -- the text of a value, without a space, and a line's end
-abbrev pub line_of : json.Json → List ℕ
-line_of j = print (json_tokens j) ++ 10 ∷ []
+abbrev pub value_line : json.Json → List ℕ
+value_line j = print (json_tokens j) ++ 10 ∷ []

@@ -14,7 +14,7 @@ use blk_grid::By;
 use blk_kyber::Targets;
 use blk_report::Tally;
 use blk_settings::Sched;
-use blk_tune::{Row, shown};
+use blk_tune::{TrialRow, shown};
 use std::alloc::{AllocError, Global};
 
 /// Writes the settings of `deadline`.
@@ -71,7 +71,7 @@ fn write_missed(page: &mut Page, tally: &Tally) -> Result<(), AllocError>
 }
 
 /// Writes the percentiles of the waits.
-fn write_percentiles(page: &mut Page, row: &Row) -> Result<(), AllocError>
+fn write_percentiles(page: &mut Page, row: &TrialRow) -> Result<(), AllocError>
     ensures { OnOk result (page.new ≡ page.old ++ tokens_of (percentile_members row.now)) }
 {
     page.figure("wait_p99_read", row.wait_read)?;
@@ -80,7 +80,7 @@ fn write_percentiles(page: &mut Page, row: &Row) -> Result<(), AllocError>
 }
 
 /// Writes a row.
-fn write_trial_row(page: &mut Page, row: &Row) -> Result<(), AllocError>
+fn write_trial_row(page: &mut Page, row: &TrialRow) -> Result<(), AllocError>
     ensures { OnOk result (page.new ≡ page.old ++ json_tokens (trial_row row.now)) }
 {
     page.begin_object()?;
@@ -93,7 +93,7 @@ fn write_trial_row(page: &mut Page, row: &Row) -> Result<(), AllocError>
 }
 
 /// Writes rows.
-fn write_trial_rows(page: &mut Page, rows: &[Row]) -> Result<(), AllocError>
+fn write_trial_rows(page: &mut Page, rows: &[TrialRow]) -> Result<(), AllocError>
     ensures { OnOk result (page.new ≡ page.old ++ flat_map (λ r. json_tokens (trial_row r)) rows.now) }
 {
     for row in rows {
@@ -114,7 +114,7 @@ fn write_best_of(page: &mut Page, sched: Sched) -> Result<(), AllocError>
 }
 
 /// Writes the scheduler of the best row and its settings, or `null`.
-fn write_best_sched(page: &mut Page, rows: &[Row]) -> Result<(), AllocError>
+fn write_best_sched(page: &mut Page, rows: &[TrialRow]) -> Result<(), AllocError>
     ensures { OnOk result (page.new ≡ page.old ++ member_tokens (codes "best") (best_sched rows.now)) }
 {
     match rows.first() {
@@ -124,7 +124,7 @@ fn write_best_sched(page: &mut Page, rows: &[Row]) -> Result<(), AllocError>
 }
 
 /// Whether no schedule of a row's commands is better.
-fn is_proved(by: By, row: &Row) -> bool
+fn is_proved(by: By, row: &TrialRow) -> bool
     ensures { result ≡ is_proved by row.now }
 {
     match by {
@@ -147,7 +147,7 @@ fn proved_words(by: By) -> &'static str
 }
 
 /// Writes what is proved of a row, or `null`.
-fn write_proved_of(page: &mut Page, by: By, row: &Row) -> Result<(), AllocError>
+fn write_proved_of(page: &mut Page, by: By, row: &TrialRow) -> Result<(), AllocError>
     ensures { OnOk result (page.new ≡ page.old ++ member_tokens (codes "proved") (proved_of by row.now)) }
 {
     if is_proved(by, row) {
@@ -158,7 +158,7 @@ fn write_proved_of(page: &mut Page, by: By, row: &Row) -> Result<(), AllocError>
 }
 
 /// Writes what is proved of the best row, or `null`.
-fn write_proved(page: &mut Page, by: By, rows: &[Row]) -> Result<(), AllocError>
+fn write_proved(page: &mut Page, by: By, rows: &[TrialRow]) -> Result<(), AllocError>
     ensures { OnOk result (page.new ≡ page.old ++ member_tokens (codes "proved") (proved_value by rows.now)) }
 {
     match rows.first() {
@@ -178,7 +178,7 @@ pub fn trial_json(
     alloc: Global,
     by: By,
     top: Option<u64>,
-    rows: &[Row],
+    rows: &[TrialRow],
 ) -> Result<Vec<u8>, AllocError>
     ensures { IfOk result (λ text. text.items ≡ trial_json by top rows.now) }
 {

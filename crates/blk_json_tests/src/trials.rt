@@ -6,13 +6,13 @@ use blk_json::trial_json;
 use blk_kyber::Targets;
 use blk_report::{Report, Tally};
 use blk_settings::Sched;
-use blk_tune::Row;
+use blk_tune::TrialRow;
 use edd_check::Window;
 use edd_figures::Figures;
 
 /// A row of two reads: how many are late, how many of those could have been avoided, and how long they waited.
-fn row(sched: Sched, shortfall: i64, late: u64, avoidable: u64, wait: i64) -> Row {
-    Row {
+fn row(sched: Sched, shortfall: i64, late: u64, avoidable: u64, wait: i64) -> TrialRow {
+    TrialRow {
         sched,
         report: Report {
             commands: 2,

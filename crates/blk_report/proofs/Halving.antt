@@ -5,7 +5,7 @@ use Rattle.std.proofs.lemmas.Bool.{cases_Bool, cases_lt, le-leb, lt-leb, lt-ltb,
 use Rattle.std.proofs.lemmas.List.{length-take-le, take-take, take_all, take-append-le, take-map, length-map, length-append, length_push, get_or_push, get_or_append_left, get_or-map}
 use Rattle.std.proofs.lemmas.List.Sums.{sum_by-cons, sum_by-append, sum_by_more, sum_by-take-le, count_by-le-length, length-filter}
 use Rattle.blk_report.specs.declared.below.Ask.{Ask}
-use Rattle.blk_report.specs.Inside.Below.{below, AreBelow, halves, half_of, answer_of, IsAsk}
+use Rattle.blk_report.specs.Inside.Below.{number_below, AreBelow, halves, half_of, answer_of, IsAskWithin}
 
 abbrev pub one_if : Bool → ℕ
 one_if b = cond b 1 0
@@ -98,28 +98,28 @@ take_past k (x ∷ xs) ys =
     ap (λ n. take n (x ∷ (xs ++ ys))) e ∙ ap (λ l. x ∷ l) (take_past k xs ys)
 
 -- a longer beginning has no fewer
-pub below_up : (xs : List ℕ) (b i j : ℕ) → i ≤ j → below xs b i ≤ below xs b j
-unfolding below
+pub below_up : (xs : List ℕ) (b i j : ℕ) → i ≤ j → number_below xs b i ≤ number_below xs b j
+unfolding number_below
 below_up xs b i j h =
     let one = sum_by-take-le (λ x. cond (nat_lt x b) 1 0) (take j xs) i in
     let same : count_by (λ x. nat_lt x b) (take i (take j xs)) ≡ count_by (λ x. nat_lt x b) (take i xs) = ap (λ l. count_by (λ x. nat_lt x b) l) (take-take i j xs h) in
     omega (arith, one, same)
 
-pub below_few : (xs : List ℕ) (b i : ℕ) → i ≤ length xs → below xs b i ≤ i
-unfolding below
+pub below_few : (xs : List ℕ) (b i : ℕ) → i ≤ length xs → number_below xs b i ≤ i
+unfolding number_below
 below_few xs b i h = omega (arith, count_by-le-length (λ x. nat_lt x b) (take i xs), length-take-le i xs h)
 
-pub below_next : (xs : List ℕ) (b i d : ℕ) → i < length xs → below xs b (i + 1) ≡ below xs b i + cond (nat_lt (get_or xs i d) b) 1 0
-unfolding below
+pub below_next : (xs : List ℕ) (b i d : ℕ) → i < length xs → number_below xs b (i + 1) ≡ number_below xs b i + cond (nat_lt (get_or xs i d) b) 1 0
+unfolding number_below
 below_next xs b i d h = sum_by_more (λ x. cond (nat_lt x b) 1 0) xs i d h
 
-pub below_none : (xs : List ℕ) (b : ℕ) → below xs b 0 ≡ 0
-unfolding below
+pub below_none : (xs : List ℕ) (b : ℕ) → number_below xs b 0 ≡ 0
+unfolding number_below
 below_none xs b = refl
 
 -- none is below 0
-pub none_below : (xs : List ℕ) (i : ℕ) → below xs 0 i ≡ 0
-unfolding below
+pub none_below : (xs : List ℕ) (i : ℕ) → number_below xs 0 i ≡ 0
+unfolding number_below
 none_below xs i = none (take i xs) where
   none : (ys : List ℕ) → count_by (λ x. nat_lt x 0) ys ≡ 0
   none [] = refl
@@ -133,8 +133,8 @@ none_below xs i = none (take i xs) where
 others : List ℕ → ℕ → ℕ → ℕ
 others xs u i = count_by (λ x. nat_le u x) (take i xs)
 
-others_left : (xs : List ℕ) (u i : ℕ) → i ≤ length xs → below xs u i + others xs u i ≡ i
-unfolding below others
+others_left : (xs : List ℕ) (u i : ℕ) → i ≤ length xs → number_below xs u i + others xs u i ≡ i
+unfolding number_below others
 others_left xs u i h = below_or_not u (take i xs) ∙ length-take-le i xs h
 
 others_up : (xs : List ℕ) (u i j : ℕ) → i ≤ j → others xs u i ≤ others xs u j
@@ -144,8 +144,8 @@ others_up xs u i j h =
     let same : count_by (λ x. nat_le u x) (take i (take j xs)) ≡ count_by (λ x. nat_le u x) (take i xs) = ap (λ l. count_by (λ x. nat_le u x) l) (take-take i j xs h) in
     omega (arith, one, same)
 
-low_many : (xs : List ℕ) (u : ℕ) → length (filter (λ x. nat_lt x u) xs) ≡ below xs u (length xs)
-unfolding below
+low_many : (xs : List ℕ) (u : ℕ) → length (filter (λ x. nat_lt x u) xs) ≡ number_below xs u (length xs)
+unfolding number_below
 low_many xs u = length-filter (λ x. nat_lt x u) xs ∙ sym (ap (λ l. count_by (λ x. nat_lt x u) l) (take_all (length xs) xs (omega arith)))
 
 pub halves_many : (xs : List ℕ) (u : ℕ) → length (halves u xs) ≡ length xs
@@ -157,8 +157,8 @@ halves_many xs u =
     ∙ omega (arith, length-map F (λ x. x - u), length-filter (λ x. nat_lt x u) xs, length-filter (λ x. nat_le u x) xs, below_or_not u xs)
 
 -- a place of the numbers below the pivot
-low_place : (xs : List ℕ) (u b i : ℕ) → b < u → below (halves u xs) b (below xs u i) ≡ below xs b i
-unfolding below halves
+low_place : (xs : List ℕ) (u b i : ℕ) → b < u → number_below (halves u xs) b (number_below xs u i) ≡ number_below xs b i
+unfolding number_below halves
 low_place xs u b i h =
     let A : List ℕ = filter (λ x. nat_lt x u) xs in
     let M : List ℕ = map (λ x. x - u) (filter (λ x. nat_le u x) xs) in
@@ -166,8 +166,8 @@ low_place xs u b i h =
     ap (λ l. count_by (λ x. nat_lt x b) l) (take-append-le (count_by (λ x. nat_lt x u) (take i xs)) A M short ∙ sym (filter_take (λ x. nat_lt x u) i xs)) ∙ sym (under u b h (take i xs))
 
 -- a place of the others
-high_place : (xs : List ℕ) (u b i k : ℕ) → u ≤ b → k ≡ below xs u (length xs) + others xs u i → below (halves u xs) (b - u) k + below xs u i ≡ count_by (λ x. nat_lt x (b - u)) (filter (λ x. nat_lt x u) xs) + below xs b i
-unfolding below halves others
+high_place : (xs : List ℕ) (u b i k : ℕ) → u ≤ b → k ≡ number_below xs u (length xs) + others xs u i → number_below (halves u xs) (b - u) k + number_below xs u i ≡ count_by (λ x. nat_lt x (b - u)) (filter (λ x. nat_lt x u) xs) + number_below xs b i
+unfolding number_below halves others
 high_place xs u b i k h is =
     let A : List ℕ = filter (λ x. nat_lt x u) xs in
     let F : List ℕ = filter (λ x. nat_le u x) xs in
@@ -182,14 +182,14 @@ high_place xs u b i k h is =
 
 -- the two places of a question, in the halves
 pub record IsHalved (xs : List ℕ) (u : ℕ) (a : Ask) : Type 0 where
-  pub started : below xs u a.start ≤ a.start
-  pub ended : below xs u a.end ≤ a.end
-  pub rises : below xs u a.start ≤ below xs u a.end
-  pub low : below xs u a.end ≤ below xs u (length xs)
-  pub forward : a.start - below xs u a.start ≤ a.end - below xs u a.end
-  pub within : below xs u (length xs) + (a.end - below xs u a.end) ≤ length xs
+  pub started : number_below xs u a.start ≤ a.start
+  pub ended : number_below xs u a.end ≤ a.end
+  pub rises : number_below xs u a.start ≤ number_below xs u a.end
+  pub low : number_below xs u a.end ≤ number_below xs u (length xs)
+  pub forward : a.start - number_below xs u a.start ≤ a.end - number_below xs u a.end
+  pub within : number_below xs u (length xs) + (a.end - number_below xs u a.end) ≤ length xs
 
-pub is_halved : (xs : List ℕ) (u limit : ℕ) (a : Ask) → IsAsk xs limit a → IsHalved xs u a
+pub is_halved : (xs : List ℕ) (u limit : ℕ) (a : Ask) → IsAskWithin xs limit a → IsHalved xs u a
 is_halved xs u limit a is =
     let start_in : a.start ≤ length xs = omega (arith, is.forward, is.within) in
     let s = others_left xs u a.start start_in in
@@ -207,14 +207,14 @@ is_halved xs u limit a is =
     }
 
 abbrev lower : List ℕ → ℕ → Ask → Ask
-lower xs u a = record { start = below xs u a.start; end = below xs u a.end; bound = a.bound; count = a.count }
+lower xs u a = record { start = number_below xs u a.start; end = number_below xs u a.end; bound = a.bound; count = a.count }
 
 abbrev upper : List ℕ → ℕ → Ask → Ask
 upper xs u a = record {
-  start = below xs u (length xs) + (a.start - below xs u a.start);
-  end = below xs u (length xs) + (a.end - below xs u a.end);
+  start = number_below xs u (length xs) + (a.start - number_below xs u a.start);
+  end = number_below xs u (length xs) + (a.end - number_below xs u a.end);
   bound = a.bound - u;
-  count = a.count + (below xs u a.end - below xs u a.start);
+  count = a.count + (number_below xs u a.end - number_below xs u a.start);
 }
 
 pub half_low : (xs : List ℕ) (u : ℕ) (a : Ask) → a.bound < u → half_of xs u a ≡ lower xs u a
@@ -229,22 +229,22 @@ low_answer : (xs : List ℕ) (u : ℕ) (a : Ask) → a.bound < u → answer_of (
 unfolding answer_of
 low_answer xs u a h = omega (arith, low_place xs u a.bound a.start h, low_place xs u a.bound a.end h)
 
-pub high_answer : (xs : List ℕ) (u limit : ℕ) (a : Ask) → IsAsk xs limit a → u ≤ a.bound → answer_of (halves u xs) (upper xs u a) ≡ answer_of xs a
+pub high_answer : (xs : List ℕ) (u limit : ℕ) (a : Ask) → IsAskWithin xs limit a → u ≤ a.bound → answer_of (halves u xs) (upper xs u a) ≡ answer_of xs a
 unfolding answer_of
 high_answer xs u limit a is h =
     let start_in : a.start ≤ length xs = omega (arith, is.forward, is.within) in
     let s = others_left xs u a.start start_in in
     let e = others_left xs u a.end is.within in
     let halved = is_halved xs u limit a is in
-    let from : ℕ = below xs u (length xs) + (a.start - below xs u a.start) in
-    let to : ℕ = below xs u (length xs) + (a.end - below xs u a.end) in
+    let from : ℕ = number_below xs u (length xs) + (a.start - number_below xs u a.start) in
+    let to : ℕ = number_below xs u (length xs) + (a.end - number_below xs u a.end) in
     let one = high_place xs u a.bound a.start from h (omega (arith, s)) in
     let two = high_place xs u a.bound a.end to h (omega (arith, e)) in
     let up = below_up (halves u xs) (a.bound - u) from to (omega (arith, halved.forward)) in
     let up' = below_up xs a.bound a.start a.end is.forward in
     omega (arith, one, two, up, up', halved.rises)
 
-pub same_answer : (xs : List ℕ) (u limit : ℕ) (a : Ask) → IsAsk xs limit a → answer_of (halves u xs) (half_of xs u a) ≡ answer_of xs a
+pub same_answer : (xs : List ℕ) (u limit : ℕ) (a : Ask) → IsAskWithin xs limit a → answer_of (halves u xs) (half_of xs u a) ≡ answer_of xs a
 same_answer xs u limit a is =
     elim (cases_lt a.bound u) [
       | inl low ↦ ap (λ b. answer_of (halves u xs) b) (half_low xs u a low) ∙ low_answer xs u a low
@@ -252,12 +252,12 @@ same_answer xs u limit a is =
     ]
 
 -- the count does not outgrow the list
-pub count_fits : (xs : List ℕ) (u limit : ℕ) (a : Ask) → IsAsk xs limit a → u ≤ a.bound → a.count + (below xs u a.end - below xs u a.start) ≤ length xs
+pub count_fits : (xs : List ℕ) (u limit : ℕ) (a : Ask) → IsAskWithin xs limit a → u ≤ a.bound → a.count + (number_below xs u a.end - number_below xs u a.start) ≤ length xs
 unfolding answer_of
 count_fits xs u limit a is h = omega (arith, high_answer xs u limit a is h, is.small)
 
 -- half the limit is left
-pub next_ask : (xs : List ℕ) (u limit : ℕ) (a : Ask) → u ≡ limit - limit / 2 → IsAsk xs limit a → IsAsk (halves u xs) (limit / 2) (half_of xs u a)
+pub next_ask : (xs : List ℕ) (u limit : ℕ) (a : Ask) → u ≡ limit - limit / 2 → IsAskWithin xs limit a → IsAskWithin (halves u xs) (limit / 2) (half_of xs u a)
 next_ask xs u limit a half is =
     let at = is_halved xs u limit a is in
     let many = halves_many xs u in
@@ -266,7 +266,7 @@ next_ask xs u limit a half is =
     elim (cases_lt a.bound u) [
       | inl low ↦
           let is_low = half_low xs u a low in
-          subst (IsAsk (halves u xs) (limit / 2)) (sym is_low) (record {
+          subst (IsAskWithin (halves u xs) (limit / 2)) (sym is_low) (record {
             forward = at.rises;
             within = omega (arith, at.low, all, many);
             bounded = omega (arith, low, half);
@@ -274,7 +274,7 @@ next_ask xs u limit a half is =
           })
       | inr high ↦
           let is_high = half_high xs u a high in
-          subst (IsAsk (halves u xs) (limit / 2)) (sym is_high) (record {
+          subst (IsAskWithin (halves u xs) (limit / 2)) (sym is_high) (record {
             forward = omega (arith, at.forward);
             within = omega (arith, at.within, many);
             bounded = omega (arith, high, half, is.bounded);
@@ -283,22 +283,22 @@ next_ask xs u limit a half is =
     ]
 
 -- nothing is left to count below 0
-pub answered : (xs : List ℕ) (a : Ask) → IsAsk xs 0 a → answer_of xs a ≡ a.count
+pub answered : (xs : List ℕ) (a : Ask) → IsAskWithin xs 0 a → answer_of xs a ≡ a.count
 unfolding answer_of
 answered xs a is =
     let none : a.bound ≡ 0 = omega (arith, is.bounded) in
-    let s : below xs a.bound a.start ≡ 0 = ap (λ b. below xs b a.start) none ∙ none_below xs a.start in
-    let e : below xs a.bound a.end ≡ 0 = ap (λ b. below xs b a.end) none ∙ none_below xs a.end in
+    let s : number_below xs a.bound a.start ≡ 0 = ap (λ b. number_below xs b a.start) none ∙ none_below xs a.start in
+    let e : number_below xs a.bound a.end ≡ 0 = ap (λ b. number_below xs b a.end) none ∙ none_below xs a.end in
     omega (arith, s, e)
 
 -- one more count
-pub push_count : (xs : List ℕ) (u n count : ℕ) (old new : List ℕ) → length old ≡ n → count ≡ below xs u n → new ≡ old ++ count ∷ [] → ((i : ℕ) → i < n → get_or old i 0 ≡ below xs u i)
-    → (length new ≡ n + 1) × ((i : ℕ) → i < n + 1 → get_or new i 0 ≡ below xs u i)
+pub push_count : (xs : List ℕ) (u n count : ℕ) (old new : List ℕ) → length old ≡ n → count ≡ number_below xs u n → new ≡ old ++ count ∷ [] → ((i : ℕ) → i < n → get_or old i 0 ≡ number_below xs u i)
+    → (length new ≡ n + 1) × ((i : ℕ) → i < n + 1 → get_or new i 0 ≡ number_below xs u i)
 push_count xs u n count old new long is more at = (
   ap length more ∙ length_push old count ∙ ap (λ m. m + 1) long,
   λ i h. elim (cases_lt i n) [
     | inl before ↦ ap (λ l. get_or l i 0) more ∙ get_or_append_left old (count ∷ []) 0 i (omega arith) ∙ at i before
-    | inr last ↦ (let same : i ≡ n = omega arith in ap (λ l. get_or l i 0) more ∙ get_or_push old count 0 i (omega arith) ∙ is ∙ ap (below xs u) (sym same))
+    | inr last ↦ (let same : i ≡ n = omega arith in ap (λ l. get_or l i 0) more ∙ get_or_push old count 0 i (omega arith) ∙ is ∙ ap (number_below xs u) (sym same))
   ],
 )
 
@@ -310,21 +310,21 @@ map_same f h k (x ∷ xs) is =
     let rest : map h (map f xs) ≡ map k xs = map_same f h k xs (λ i d l. is (suc i) d (omega (arith, l))) in
     ap (λ z. z ∷ map h (map f xs)) one ∙ ap (λ l. k x ∷ l) rest
 
-pub half_limit : (xs : List ℕ) (u limit : ℕ) (asks : List Ask) → All (IsAsk xs limit) asks → map (answer_of (halves u xs)) (map (half_of xs u) asks) ≡ map (answer_of xs) asks
+pub half_limit : (xs : List ℕ) (u limit : ℕ) (asks : List Ask) → All (IsAskWithin xs limit) asks → map (answer_of (halves u xs)) (map (half_of xs u) asks) ≡ map (answer_of xs) asks
 half_limit xs u limit asks are = map_same (half_of xs u) (answer_of (halves u xs)) (answer_of xs) asks (λ i d l. same_answer xs u limit (get_or asks i d) (are i d l))
 
-pub all_halved : (xs : List ℕ) (u limit : ℕ) (asks : List Ask) → u ≡ limit - limit / 2 → All (IsAsk xs limit) asks → All (IsAsk (halves u xs) (limit / 2)) (map (half_of xs u) asks)
+pub all_halved : (xs : List ℕ) (u limit : ℕ) (asks : List Ask) → u ≡ limit - limit / 2 → All (IsAskWithin xs limit) asks → All (IsAskWithin (halves u xs) (limit / 2)) (map (half_of xs u) asks)
 all_halved xs u limit asks half are i d l =
     let none : Ask = record { start = 0; end = 0; bound = 0; count = 0 } in
     let low : i < length asks = omega (arith, l, length-map asks (half_of xs u)) in
-    subst (IsAsk (halves u xs) (limit / 2)) (sym (get_or-map (half_of xs u) asks i none d low)) (next_ask xs u limit (get_or asks i none) half (are i none low))
+    subst (IsAskWithin (halves u xs) (limit / 2)) (sym (get_or-map (half_of xs u) asks i none d low)) (next_ask xs u limit (get_or asks i none) half (are i none low))
 
-pub all_asks : (xs : List ℕ) (limit : ℕ) (asks : List Ask) → All (IsAsk xs limit) asks → All (IsAsk xs ((limit - limit / 2) + (limit - limit / 2))) asks
+pub all_asks : (xs : List ℕ) (limit : ℕ) (asks : List Ask) → All (IsAskWithin xs limit) asks → All (IsAskWithin xs ((limit - limit / 2) + (limit - limit / 2))) asks
 all_asks xs limit asks are i d l =
     let is = are i d l in
     record { forward = is.forward; within = is.within; bounded = omega (arith, is.bounded); small = is.small }
 
-pub all_answered : (xs : List ℕ) (asks : List Ask) → All (IsAsk xs 0) asks → map (answer_of xs) asks ≡ map (λ a. a.count) asks
+pub all_answered : (xs : List ℕ) (asks : List Ask) → All (IsAskWithin xs 0) asks → map (answer_of xs) asks ≡ map (λ a. a.count) asks
 all_answered xs [] are = refl
 all_answered xs (a ∷ asks) are =
     let one : answer_of xs a ≡ a.count = answered xs a (are 0 a (omega arith)) in
@@ -333,24 +333,24 @@ all_answered xs (a ∷ asks) are =
 
 -- the counts that a question reads
 pub record IsTold (xs : List ℕ) (u : ℕ) (counts : List ℕ) (a : Ask) : Type 0 where
-  pub start : get_or counts a.start 0 ≡ below xs u a.start
-  pub end : get_or counts a.end 0 ≡ below xs u a.end
-  pub all : get_or counts (length xs) 0 ≡ below xs u (length xs)
+  pub start : get_or counts a.start 0 ≡ number_below xs u a.start
+  pub end : get_or counts a.end 0 ≡ number_below xs u a.end
+  pub all : get_or counts (length xs) 0 ≡ number_below xs u (length xs)
 
-pub told : (xs : List ℕ) (u limit : ℕ) (counts : List ℕ) (a : Ask) → AreBelow xs u counts → IsAsk xs limit a → IsTold xs u counts a
+pub told : (xs : List ℕ) (u limit : ℕ) (counts : List ℕ) (a : Ask) → AreBelow xs u counts → IsAskWithin xs limit a → IsTold xs u counts a
 told xs u limit counts a are is = record {
   start = are.at a.start (omega (arith, is.forward, is.within));
   end = are.at a.end is.within;
   all = are.at (length xs) (omega arith);
 }
 
-pub told_low : (xs : List ℕ) (u limit : ℕ) (counts : List ℕ) (a : Ask) → AreBelow xs u counts → IsAsk xs limit a → a.bound < u → (let z : Ask = record { start = get_or counts a.start 0; end = get_or counts a.end 0; bound = a.bound; count = a.count } in z) ≡ half_of xs u a
+pub told_low : (xs : List ℕ) (u limit : ℕ) (counts : List ℕ) (a : Ask) → AreBelow xs u counts → IsAskWithin xs limit a → a.bound < u → (let z : Ask = record { start = get_or counts a.start 0; end = get_or counts a.end 0; bound = a.bound; count = a.count } in z) ≡ half_of xs u a
 told_low xs u limit counts a are is h =
     let at = told xs u limit counts a are is in
     let make : ℕ → ℕ → Ask = λ s e. record { start = s; end = e; bound = a.bound; count = a.count } in
-    ap (λ s. make s (get_or counts a.end 0)) at.start ∙ ap (λ e. make (below xs u a.start) e) at.end ∙ sym (half_low xs u a h)
+    ap (λ s. make s (get_or counts a.end 0)) at.start ∙ ap (λ e. make (number_below xs u a.start) e) at.end ∙ sym (half_low xs u a h)
 
-pub told_high : (xs : List ℕ) (u limit : ℕ) (counts : List ℕ) (a : Ask) → AreBelow xs u counts → IsAsk xs limit a → u ≤ a.bound
+pub told_high : (xs : List ℕ) (u limit : ℕ) (counts : List ℕ) (a : Ask) → AreBelow xs u counts → IsAskWithin xs limit a → u ≤ a.bound
     → (let z : Ask = record {
       start = get_or counts (length xs) 0 + (a.start - get_or counts a.start 0);
       end = get_or counts (length xs) 0 + (a.end - get_or counts a.end 0);
@@ -361,6 +361,6 @@ told_high xs u limit counts a are is h =
     let at = told xs u limit counts a are is in
     let make : ℕ → ℕ → ℕ → Ask = λ m s e. record { start = m + (a.start - s); end = m + (a.end - e); bound = a.bound - u; count = a.count + (e - s) } in
     ap (λ m. make m (get_or counts a.start 0) (get_or counts a.end 0)) at.all
-    ∙ ap (λ s. make (below xs u (length xs)) s (get_or counts a.end 0)) at.start
-    ∙ ap (λ e. make (below xs u (length xs)) (below xs u a.start) e) at.end
+    ∙ ap (λ s. make (number_below xs u (length xs)) s (get_or counts a.end 0)) at.start
+    ∙ ap (λ e. make (number_below xs u (length xs)) (number_below xs u a.start) e) at.end
     ∙ sym (half_high xs u a h)

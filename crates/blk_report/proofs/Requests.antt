@@ -30,7 +30,7 @@ use Rattle.blk_trace.proofs.Joining.{join_request}
 use Rattle.blk_trace.proofs.Entering.{IsSame, same_entered, HasNothing, nothing_before, IsEntered, entered_released, entered_joined, has_released_same}
 use Rattle.blk_report.specs.declared.serving.Range.{Range}
 use Rattle.blk_report.specs.declared.serving.Service.{Service}
-use Rattle.blk_report.specs.Services.{service_of, services_of, command_in, AreTimed, AreRising}
+use Rattle.blk_report.specs.Services.{service_of, services_of, command_in, AreWithinLimits, AreInIssueOrder}
 use Rattle.blk_report.specs.Inside.Ranges.{range_of}
 use Rattle.blk_report.proofs.Gathering.{range_is}
 
@@ -210,7 +210,7 @@ served_up r (x ∷ es) j k d l h =
     (λ i e low. omega (arith, tick_up (is_tick x) r, served_from (cond (is_tick x) (r + 1) r) es i e low))
     (λ i m e a b. served_up (cond (is_tick x) (r + 1) r) es i m e a b) j k d l h
 
-pub rise : (setup : Setup) (es : List Happened) → AreRising (services_of setup es)
+pub rise : (setup : Setup) (es : List Happened) → AreInIssueOrder (services_of setup es)
 unfolding services_of
 rise setup es j k d l h =
     let s0 : ℕ × ℕ = (0, 0) in
@@ -223,7 +223,7 @@ rise setup es j k d l h =
     omega (arith, one, other, served_up 0 es j k s0 l low)
 
 -- and they lie within the limits
-pub timed : (setup : Setup) (es : List Happened) (steps : List Step) → AreBounded (commands_of setup es) (rounds_of es) → IsLegal (commands_of setup es) (rounds_of es) steps → AreTimed (services_of setup es)
+pub timed : (setup : Setup) (es : List Happened) (steps : List Step) → AreBounded (commands_of setup es) (rounds_of es) → IsLegal (commands_of setup es) (rounds_of es) steps → AreWithinLimits (services_of setup es)
 timed setup es steps bounded legal =
     let command_at : (k : ℕ) (d : Service) → k < length (services_of setup es) → get_or (commands_of setup es) k none ≡ command_in (get_or (services_of setup es) k d) =
     λ k d h. ap (λ l. get_or l k none) (sym (are_commands setup es)) ∙ get_or-map command_in (services_of setup es) k d none h in

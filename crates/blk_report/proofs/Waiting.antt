@@ -18,10 +18,10 @@ use Rattle.blk_report.specs.declared.delays.LateCommand.{LateCommand}
 use Rattle.blk_report.specs.declared.below.Ask.{Ask}
 use Rattle.std.specs.List.Sorted.{IsPartitionPoint, IsPartitionedBy}
 use Rattle.std.proofs.lemmas.List.Sorted.{IsPartitionedBy-ltb, IsNonDecreasingBy-from_default}
-use Rattle.blk_report.specs.Services.{AreTimed, AreRising}
-use Rattle.blk_report.specs.Late.{is_late, goes_before, sooner_of, later_of, IsLateCommand, HasVerdict, AreLate}
-use Rattle.blk_report.specs.Inside.Below.{below, answer_of, IsAsk}
-use Rattle.blk_report.specs.Inside.Waited.{IsFrom, AsksFor, FitsIn, AreCarried, CanWait, late_command}
+use Rattle.blk_report.specs.Services.{AreWithinLimits, AreInIssueOrder}
+use Rattle.blk_report.specs.Late.{is_late_service, goes_before, sooner_of, later_of, IsLateCommand, HasVerdict, AreAllLate}
+use Rattle.blk_report.specs.Inside.Below.{number_below, answer_of, IsAskWithin}
+use Rattle.blk_report.specs.Inside.Waited.{IsFrom, IsAskOfWait, FitsIn, AreCarried, CanWait, late_command}
 use Rattle.blk_report.proofs.Halving.{one_if, count_cons}
 
 abbrev pub unserved : Service
@@ -147,8 +147,8 @@ dues_below d (t ∷ xs) =
       | inr sooner ↦ (let e : one_if (nat_le t.due d) ≡ 1 = ap one_if (le-leb t.due d sooner) in let f : one_if (nat_lt t.due (d + 1)) ≡ 1 = ap one_if (lt-ltb t.due (d + 1) (omega arith)) in omega (arith, rest, a, b, e, f))
     ]
 
-below_due : (d : ℕ) (xs : List Service) (k : ℕ) → below (map (λ s. s.due) xs) (d + 1) k ≡ passing (λ t. nat_le t.due d) xs k
-unfolding below passing
+below_due : (d : ℕ) (xs : List Service) (k : ℕ) → number_below (map (λ s. s.due) xs) (d + 1) k ≡ passing (λ t. nat_le t.due d) xs k
+unfolding number_below passing
 below_due d xs k = ap (λ l. count_by (λ x. nat_lt x (d + 1)) l) (take-map (λ (s : Service). s.due) k xs) ∙ dues_below d (take k xs)
 
 -- what the rounds before one carry, and from it on
@@ -192,7 +192,7 @@ pub record IsWaited (xs : List Service) (steps : List Step) (s : Service) (place
   pub later_is : sooner + later_of xs s ≡ places
   pub fits : places ≤ carried steps s.release (s.issue - s.release)
 
-pub is_waited : (xs : List Service) (steps : List Step) (s : Service) (a : Ask) → s.release ≤ s.issue → AsksFor xs s a → FitsIn xs steps → IsWaited xs steps s (a.end - a.start) (answer_of (map (λ s. s.due) xs) a)
+pub is_waited : (xs : List Service) (steps : List Step) (s : Service) (a : Ask) → s.release ≤ s.issue → IsAskOfWait xs s a → FitsIn xs steps → IsWaited xs steps s (a.end - a.start) (answer_of (map (λ s. s.due) xs) a)
 unfolding sooner_of later_of answer_of
 is_waited xs steps s a le is within =
     let q : Service → Bool = λ t. nat_le t.due s.due in
@@ -207,8 +207,8 @@ is_waited xs steps s a le is within =
     let at_end = both_due s.due xs a.end is.end.within in
     let all_start = passing_all xs a.start is.start.within in
     let all_end = passing_all xs a.end is.end.within in
-    let low : below dues a.bound a.start ≡ passing q xs a.start = ap (λ b. below dues b a.start) is.bound ∙ below_due s.due xs a.start in
-    let high : below dues a.bound a.end ≡ passing q xs a.end = ap (λ b. below dues b a.end) is.bound ∙ below_due s.due xs a.end in
+    let low : number_below dues a.bound a.start ≡ passing q xs a.start = ap (λ b. number_below dues b a.start) is.bound ∙ below_due s.due xs a.start in
+    let high : number_below dues a.bound a.end ≡ passing q xs a.end = ap (λ b. number_below dues b a.end) is.bound ∙ below_due s.due xs a.end in
     let n : ℕ = s.issue - s.release in
     let in_rounds = places_of s xs n (omega arith) in
     let held = places_among-le (map (λ (s : Service). s.issue) xs) steps within s.release n in
@@ -219,7 +219,7 @@ is_waited xs steps s a le is within =
     }
 
 -- one late command: its places are in range, and its row says what is to be said
-pub one_row : (xs : List Service) (steps : List Step) (last : ℕ) (sums : List ℕ) (s : Service) (a : Ask) (n : ℕ) (v : Verdict) → s.due < s.issue → s.release ≤ s.issue → s.issue ≤ last → AsksFor xs s a → FitsIn xs steps → AreCarried steps last sums → n ≡ answer_of (map (λ s. s.due) xs) a
+pub one_row : (xs : List Service) (steps : List Step) (last : ℕ) (sums : List ℕ) (s : Service) (a : Ask) (n : ℕ) (v : Verdict) → s.due < s.issue → s.release ≤ s.issue → s.issue ≤ last → IsAskOfWait xs s a → FitsIn xs steps → AreCarried steps last sums → n ≡ answer_of (map (λ s. s.due) xs) a
     → CanWait sums s (a.end - a.start) n × IsLateCommand xs steps (late_command sums s (a.end - a.start) n v)
 one_row xs steps last sums s a n v late released in_time asks fits are is =
     let w = is_waited xs steps s a released asks fits in
@@ -244,11 +244,11 @@ one_row xs steps last sums s a n v late released in_time asks fits are is =
     )
 
 -- what holds of all holds of the late ones
-pub late_all : (P : Service → Type 0) (xs late : List Service) → late ≡ filter is_late xs → All P xs → All P late
-late_all P xs late is all = subst (All P) (sym is) (All-filter is_late P xs all)
+pub late_all : (P : Service → Type 0) (xs late : List Service) → late ≡ filter is_late_service xs → All P xs → All P late
+late_all P xs late is all = subst (All P) (sym is) (All-filter is_late_service P xs all)
 
-pub late_late : (xs late : List Service) → late ≡ filter is_late xs → All (λ s. s.due < s.issue) late
-late_late xs late is = subst (All (λ (s : Service). s.due < s.issue)) (sym is) (λ k d h. ltb-true (get_or (filter is_late xs) k d).due (get_or (filter is_late xs) k d).issue (filter_passes is_late xs k d h))
+pub late_late : (xs late : List Service) → late ≡ filter is_late_service xs → All (λ s. s.due < s.issue) late
+late_late xs late is = subst (All (λ (s : Service). s.due < s.issue)) (sym is) (λ k d h. ltb-true (get_or (filter is_late_service xs) k d).due (get_or (filter is_late_service xs) k d).issue (filter_passes is_late_service xs k d h))
 
 dues_all : (limit : ℕ) (xs : List Service) → All (λ x. x < limit) (map (λ (s : Service). s.due) xs) → All (λ s. s.due < limit) xs
 dues_all limit xs all k d h =
@@ -256,8 +256,8 @@ dues_all limit xs all k d h =
     subst (λ n. n < limit) (get_or-map due xs k d 0 h) (all k 0 (omega (arith, h, length-map xs due)))
 
 -- the questions can be asked
-pub asks_are : (xs : List Service) (steps : List Step) (late : List Service) (asks : List Ask) (limit : ℕ) → AreTimed xs → FitsIn xs steps → late ≡ filter is_late xs → length asks ≡ length late
-    → ((k : ℕ) (d : Service) (e : Ask) → k < length late → AsksFor xs (get_or late k d) (get_or asks k e)) → All (λ x. x < limit) (map (λ s. s.due) xs) → All (IsAsk (map (λ s. s.due) xs) limit) asks
+pub asks_are : (xs : List Service) (steps : List Step) (late : List Service) (asks : List Ask) (limit : ℕ) → AreWithinLimits xs → FitsIn xs steps → late ≡ filter is_late_service xs → length asks ≡ length late
+    → ((k : ℕ) (d : Service) (e : Ask) → k < length late → IsAskOfWait xs (get_or late k d) (get_or asks k e)) → All (λ x. x < limit) (map (λ s. s.due) xs) → All (IsAskWithin (map (λ s. s.due) xs) limit) asks
 asks_are xs steps late asks limit timed fits is long are under k e h =
     let low : k < length late = omega (arith, h, long) in
     let s : Service = get_or late k unserved in
@@ -274,7 +274,7 @@ asks_are xs steps late asks limit timed fits is long are under k e h =
       small = omega (arith, w.sooner_is, w.later_is, at.end.within, many);
     }
 
-pub asks_forward : (xs : List ℕ) (limit : ℕ) (asks : List Ask) → All (IsAsk xs limit) asks → All (λ a. a.start ≤ a.end) asks
+pub asks_forward : (xs : List ℕ) (limit : ℕ) (asks : List Ask) → All (IsAskWithin xs limit) asks → All (λ a. a.start ≤ a.end) asks
 asks_forward xs limit asks are k e h = (are k e h).forward
 
 -- what was counted of each
@@ -287,8 +287,8 @@ counted_each f asks counted is =
 pub counted_many : (f : Ask → ℕ) (asks counted : List Ask) → map (λ a. a.count) counted ≡ map f asks → length counted ≡ length asks
 counted_many f asks counted is = (counted_each f asks counted is).0
 
-pub each_row : (xs : List Service) (steps : List Step) (last : ℕ) (sums : List ℕ) (late : List Service) (asks counted : List Ask) → AreTimed xs → FitsIn xs steps → All (λ s. s.issue ≤ last) xs → AreCarried steps last sums → late ≡ filter is_late xs → length asks ≡ length late
-    → ((k : ℕ) (d : Service) (e : Ask) → k < length late → AsksFor xs (get_or late k d) (get_or asks k e)) → map (λ a. a.count) counted ≡ map (answer_of (map (λ s. s.due) xs)) asks
+pub each_row : (xs : List Service) (steps : List Step) (last : ℕ) (sums : List ℕ) (late : List Service) (asks counted : List Ask) → AreWithinLimits xs → FitsIn xs steps → All (λ s. s.issue ≤ last) xs → AreCarried steps last sums → late ≡ filter is_late_service xs → length asks ≡ length late
+    → ((k : ℕ) (d : Service) (e : Ask) → k < length late → IsAskOfWait xs (get_or late k d) (get_or asks k e)) → map (λ a. a.count) counted ≡ map (answer_of (map (λ s. s.due) xs)) asks
     → (k : ℕ) (d : Service) (e c : Ask) (v : Verdict) → k < length late → CanWait sums (get_or late k d) ((get_or asks k e).end - (get_or asks k e).start) (get_or counted k c).count × IsLateCommand xs steps (late_command sums (get_or late k d) ((get_or asks k e).end - (get_or asks k e).start) (get_or counted k c).count v)
 each_row xs steps last sums late asks counted timed fits before sum is long are counts k d e c v h =
     one_row xs steps last sums (get_or late k d) (get_or asks k e) (get_or counted k c).count v
@@ -304,11 +304,11 @@ AllTold xs steps sums late asks counted =
     (k : ℕ) (d : Service) (e c : Ask) (v : Verdict) → k < length late → CanWait sums (get_or late k d) ((get_or asks k e).end - (get_or asks k e).start) (get_or counted k c).count × IsLateCommand xs steps (late_command sums (get_or late k d) ((get_or asks k e).end - (get_or asks k e).start) (get_or counted k c).count v)
 
 -- all of them
-pub rows_are : (xs : List Service) (steps : List Step) (sums : List ℕ) (late : List Service) (told : List Verdict) (asks counted : List Ask) (rows : List LateCommand) → late ≡ filter is_late xs → length rows ≡ length late
+pub rows_are : (xs : List Service) (steps : List Step) (sums : List ℕ) (late : List Service) (told : List Verdict) (asks counted : List Ask) (rows : List LateCommand) → late ≡ filter is_late_service xs → length rows ≡ length late
     → ((k : ℕ) (d : Service) (e c : Ask) (v : Verdict) (r : LateCommand) → k < length late → get_or rows k r ≡ late_command sums (get_or late k d) ((get_or asks k e).end - (get_or asks k e).start) (get_or counted k c).count (get_or told k v))
     → AllTold xs steps sums late asks counted
     → ((k : ℕ) (d : Service) (e c : Ask) (v : Verdict) → k < length late → HasVerdict xs steps (late_command sums (get_or late k d) ((get_or asks k e).end - (get_or asks k e).start) (get_or counted k c).count (get_or told k v)))
-    → AreLate xs steps rows
+    → AreAllLate xs steps rows
 rows_are xs steps sums late told asks counted rows is long are each judged =
     let no_ask : Ask = record { start = 0; end = 0; bound = 0; count = 0 } in
     let of : LateCommand → Service = λ l. l.service in
@@ -360,13 +360,13 @@ sum_push steps n sum old new long is more at = (
 )
 
 -- the last was issued last
-pub last_last : (xs : List Service) (n : ℕ) → n ≡ length xs → AreRising xs → (k : ℕ) (d e : Service) → k < length xs → (get_or xs k d).issue ≤ (get_or xs (n - 1) e).issue
+pub last_last : (xs : List Service) (n : ℕ) → n ≡ length xs → AreInIssueOrder xs → (k : ℕ) (d e : Service) → k < length xs → (get_or xs k d).issue ≤ (get_or xs (n - 1) e).issue
 last_last xs n is rising k d e h =
     let low : n - 1 < length xs = omega (arith, is, h) in
     subst (λ (s : Service). (get_or xs k d).issue ≤ s.issue) (get_or_default xs (n - 1) d e low) (rising k (n - 1) d (omega (arith, is, h)) low)
 
 -- where the commands are parted by a round
-pub parted_at : (xs : List Service) (round : ℕ) → AreRising xs → IsPartitionedBy (λ (s : Service). nat_lt s.issue round) xs
+pub parted_at : (xs : List Service) (round : ℕ) → AreInIssueOrder xs → IsPartitionedBy (λ (s : Service). nat_lt s.issue round) xs
 parted_at xs round rising = IsPartitionedBy-ltb (λ (s : Service). s.issue) xs round (IsNonDecreasingBy-from_default (λ (s : Service). s.issue) xs unserved (λ i j le h. rising i j unserved le h))
 
 pub from_here : (xs : List Service) (round place : ℕ) → place ≤ length xs → IsPartitionPoint (λ (s : Service). nat_lt s.issue round ≡ true) (λ (s : Service). nat_lt s.issue round ≡ false) xs place → IsFrom xs round place
@@ -393,16 +393,16 @@ told_same xs steps sums sums' late late' asks asks' counted counted' s l a c all
 
 -- a question for each
 abbrev pub AllAsked : List Service → List Service → List Ask → Type 0
-AllAsked xs late asks = (k : ℕ) (d : Service) (e : Ask) → k < length late → AsksFor xs (get_or late k d) (get_or asks k e)
+AllAsked xs late asks = (k : ℕ) (d : Service) (e : Ask) → k < length late → IsAskOfWait xs (get_or late k d) (get_or asks k e)
 
 pub asked_same : (xs late late' : List Service) (asks : List Ask) → late ≡ late' → AllAsked xs late asks → AllAsked xs late' asks
 asked_same xs late late' asks is all = subst (λ (z : List Service). AllAsked xs z asks) is all
 
 -- the due rounds are in range
-pub dues_in : (xs : List Service) (dues : List ℕ) → dues ≡ map (λ s. s.due) xs → AreTimed xs → All (λ x. x < round_limit) dues
+pub dues_in : (xs : List Service) (dues : List ℕ) → dues ≡ map (λ s. s.due) xs → AreWithinLimits xs → All (λ x. x < round_limit) dues
 dues_in xs dues is timed =
     subst (All (λ (x : ℕ). x < round_limit)) (sym is)
     (λ k d h. (let due : Service → ℕ = λ s. s.due in let low : k < length xs = omega (arith, h, length-map xs due) in subst (λ n. n < round_limit) (sym (get_or-map due xs k unserved d low)) (timed.in_time k unserved low).1))
 
-pub late_in : (xs late : List Service) → late ≡ filter is_late xs → AreTimed xs → All (λ s. s.due < round_limit) late
+pub late_in : (xs late : List Service) → late ≡ filter is_late_service xs → AreWithinLimits xs → All (λ s. s.due < round_limit) late
 late_in xs late is timed = late_all (λ s. s.due < round_limit) xs late is (λ k d h. (timed.in_time k d h).1)

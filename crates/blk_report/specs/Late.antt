@@ -12,8 +12,8 @@ use Rattle.blk_trace.specs.Setups.{Setup}
 use Rattle.blk_report.specs.Services.{command_in, services_of}
 
 -- it was issued after it was due
-abbrev pub is_late : Service → Bool
-is_late s = nat_lt s.due s.issue
+abbrev pub is_late_service : Service → Bool
+is_late_service s = nat_lt s.due s.issue
 
 -- t was issued in one of the rounds from the release of s up to its issue, that one not among them
 abbrev pub goes_before : Service → Service → Bool
@@ -35,23 +35,23 @@ pub record IsLateCommand (services : List Service) (steps : List Step) (l : Late
   pub adds_up : l.sooner + l.later + l.idle ≡ carried steps l.service.release (l.service.issue - l.service.release)
 
 -- what the verdict says of the command at place k, among the commands of these services in their rounds
-abbrev pub IsJudged : List Service → List Step → ℕ → Verdict → Type 0
-IsJudged services steps k verdict = IsVerdict (map command_in services) (map (λ s. s.issue) services) steps k verdict
+abbrev pub IsServiceVerdict : List Service → List Step → ℕ → Verdict → Type 0
+IsServiceVerdict services steps k verdict = IsVerdict (map command_in services) (map (λ s. s.issue) services) steps k verdict
 
 -- of the verdicts on a late command its own is right, and no other
 pub record HasVerdict (services : List Service) (steps : List Step) (l : LateCommand) : Type 0 where
   pub place : ℕ
   pub within : place < length services
   pub stands : (d : Service) → slice_index_or services place d ≡ l.service
-  pub right : IsJudged services steps place l.verdict
-  pub only : (other : Verdict) → IsJudged services steps place other → other ≡ l.verdict
+  pub right : IsServiceVerdict services steps place l.verdict
+  pub only : (other : Verdict) → IsServiceVerdict services steps place other → other ≡ l.verdict
 
 -- all that are late, in their order
-pub record AreLate (services : List Service) (steps : List Step) (late : List LateCommand) : Type 0 where
-  pub commands : map (λ l. l.service) late ≡ filter is_late services
+pub record AreAllLate (services : List Service) (steps : List Step) (late : List LateCommand) : Type 0 where
+  pub commands : map (λ l. l.service) late ≡ filter is_late_service services
   pub each : All (IsLateCommand services steps) late
   pub judged : All (HasVerdict services steps) late
 
 -- those of the trace of these events, under its own capacity
 abbrev pub AreLateIn : Setup → List Happened → List LateCommand → Type 0
-AreLateIn setup events late = AreLate (services_of setup events) (capacity_of setup events) late
+AreLateIn setup events late = AreAllLate (services_of setup events) (capacity_of setup events) late

@@ -35,12 +35,12 @@ abbrev pub command_in : Service → Command
 command_in s = record { id = s.id; release = s.release; due = s.due }
 
 -- few of them, each issued in its release or later, in rounds within the limits
-pub record AreTimed (services : List Service) : Type 0 where
+pub record AreWithinLimits (services : List Service) : Type 0 where
   pub few : length services ≤ most_commands
   pub released : All (λ s. s.release ≤ s.issue) services
   pub in_time : All (λ s. (s.issue ≤ MAX_EVENTS) × (s.due < round_limit)) services
 
 -- none is issued before the one that stands before it
-abbrev pub AreRising : List Service → Type 0
-AreRising services =
+abbrev pub AreInIssueOrder : List Service → Type 0
+AreInIssueOrder services =
     (j k : ℕ) (d : Service) → j ≤ k → k < length services → (slice_index_or services j d).issue ≤ (slice_index_or services k d).issue

@@ -1,5 +1,6 @@
 -- A table of reports as text.
-use Rattle.std.specs.Prelude.{ℕ, ◌≡◌, ◌++◌, ◌-◌, ◌∷◌, [], List, length, Option, Some, None, decimal, codes, zero, suc, slice_index_or}
+use Rattle.std.specs.Prelude.{ℕ, ◌≡◌, ◌++◌, ◌-◌, ◌∷◌, [], List, length, Option, Some, None, decimal, codes, map, zero, suc, slice_index_or}
+use Rattle.std.specs.Borrow.{Bor}
 use Rattle.std.specs.Io.KnownBytes.{Appends}
 use Rattle.std.proofs.Math.ListN.{replicate}
 use Rattle.drafts.specs.Parts.{AppendsPart}
@@ -8,20 +9,24 @@ use Rattle.blk_report.specs.Comparison.{IsFirstBest, HasNoBest}
 use Rattle.edd_figures.specs.Figures.{greatest_in, least_in, shortfall_in}
 use Rattle.edd_figures.specs.Lines.{late_text}
 
--- bytes at the left and at the right of a number of places; more of them are not cut
-abbrev pub left_in : ℕ → List ℕ → List ℕ
-left_in places bytes = bytes ++ replicate (places - length bytes) 32
+-- the names behind their references
+abbrev pub names_of : List (Bor (List ℕ)) → List (List ℕ)
+names_of names = map (λ name. name.now) names
 
-abbrev pub right_in : ℕ → List ℕ → List ℕ
-right_in places bytes = replicate (places - length bytes) 32 ++ bytes
+-- bytes at the left and at the right of a number of places; more of them are not cut
+abbrev pub at_left : ℕ → List ℕ → List ℕ
+at_left places bytes = bytes ++ replicate (places - length bytes) 32
+
+abbrev pub at_right : ℕ → List ℕ → List ℕ
+at_right places bytes = replicate (places - length bytes) 32 ++ bytes
 
 -- the head line
 abbrev pub head_line : List ℕ
 head_line = codes "sched     commands   waiting  greatest     least shortfall" ++ 10 ∷ []
 
 -- a scheduler's line
-abbrev pub row_line : List ℕ → Report → List ℕ
-row_line name r = (((((left_in 8 name ++ right_in 10 (decimal r.commands)) ++ right_in 10 (decimal r.waiting)) ++ right_in 10 (late_text (greatest_in r.figures))) ++ right_in 10 (late_text (least_in r.figures))) ++ right_in 10 (late_text (shortfall_in r.figures))) ++ 10 ∷ []
+abbrev pub report_row : List ℕ → Report → List ℕ
+report_row name r = (((((at_left 8 name ++ at_right 10 (decimal r.commands)) ++ at_right 10 (decimal r.waiting)) ++ at_right 10 (late_text (greatest_in r.figures))) ++ at_right 10 (late_text (least_in r.figures))) ++ at_right 10 (late_text (shortfall_in r.figures))) ++ 10 ∷ []
 
 -- a report without figures
 abbrev pub blank : Report
@@ -30,7 +35,7 @@ blank = record { commands = 0; waiting = 0; depth = 0; figures = None }
 -- the head line and those of the first n schedulers
 abbrev pub lines_upto : List (List ℕ) → List Report → ℕ → List ℕ
 lines_upto names reports zero = head_line
-lines_upto names reports (suc n) = lines_upto names reports n ++ row_line (slice_index_or names n []) (slice_index_or reports n blank)
+lines_upto names reports (suc n) = lines_upto names reports n ++ report_row (slice_index_or names n []) (slice_index_or reports n blank)
 
 -- the head line and those of all schedulers
 abbrev pub all_lines : List (List ℕ) → List Report → List ℕ
@@ -52,9 +57,9 @@ pub record IsTable (names : List (List ℕ)) (reports : List Report) (text : Lis
   pub is_best : IsBestPlace reports best
   pub is_text : text ≡ lines_upto names reports (length reports) ++ best_line names best
 
--- known bytes grow by such a table, or by a first part of one, and by nothing else
-abbrev pub AppendsTable : List (List ℕ) → List Report → Option (List ℕ) → Option (List ℕ) → Type 0
-AppendsTable names reports old new = (text : List ℕ) × IsTable names reports text × Appends old new text
+-- known bytes grow by the table of reports under these names, or by a first part of one, and by nothing else
+abbrev pub AppendsTable : List (Bor (List ℕ)) → List Report → Option (List ℕ) → Option (List ℕ) → Type 0
+AppendsTable names reports old new = (text : List ℕ) × IsTable (names_of names) reports text × Appends old new text
 
-abbrev pub AppendsTablePart : List (List ℕ) → List Report → Option (List ℕ) → Option (List ℕ) → Type 0
-AppendsTablePart names reports old new = (text : List ℕ) × IsTable names reports text × AppendsPart old new text
+abbrev pub AppendsTablePart : List (Bor (List ℕ)) → List Report → Option (List ℕ) → Option (List ℕ) → Type 0
+AppendsTablePart names reports old new = (text : List ℕ) × IsTable (names_of names) reports text × AppendsPart old new text

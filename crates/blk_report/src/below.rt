@@ -2,7 +2,7 @@
 
 ghost use Rattle.std.specs.Prelude.{◌≡◌, ◌≤◌, ◌+◌, IfOk, All, length, map};
 ghost use Rattle.edd_commands.specs.Limits.{most_commands};
-ghost use Rattle.blk_report.specs.Inside.Below.{AreBelow, halves, half_of, answer_of, IsAsk};
+ghost use Rattle.blk_report.specs.Inside.Below.{AreBelow, halves, half_of, answer_of, IsAskWithin};
 
 use std::alloc::{AllocError, Allocator};
 
@@ -60,7 +60,7 @@ fn halved<A: Allocator>(alloc: A, numbers: &[u64], pivot: u64) -> Result<Vec<u64
 fn half_of(ask: Ask, numbers: &[u64], counts: &[usize], pivot: u64) -> Ask
     requires counts { AreBelow numbers.now pivot counts.now }
     requires few { length numbers.now ≤ most_commands }
-    requires ask { IsAsk numbers.now (pivot + pivot) ask }
+    requires ask { IsAskWithin numbers.now (pivot + pivot) ask }
     ensures { result ≡ half_of numbers.now pivot ask }
 {
     let start = counts[ask.start];
@@ -88,7 +88,7 @@ fn halves_of<A: Allocator>(
 ) -> Result<Vec<Ask, A>, AllocError>
     requires counts { AreBelow numbers.now pivot counts.now }
     requires few { length numbers.now ≤ most_commands }
-    requires asks { All (IsAsk numbers.now (pivot + pivot)) asks.now }
+    requires asks { All (IsAskWithin numbers.now (pivot + pivot)) asks.now }
     ensures { IfOk result (λ v. v.items ≡ map (half_of numbers.now pivot) asks.now) }
 {
     let mut halves = Vec::new(alloc);
@@ -107,7 +107,7 @@ pub(crate) fn count_below<A: Allocator + Clone>(
     limit: u64,
 ) -> Result<Vec<Ask, A>, AllocError>
     requires few { length numbers.items ≤ most_commands }
-    requires asks { All (IsAsk numbers.items limit) asks.now }
+    requires asks { All (IsAskWithin numbers.items limit) asks.now }
     ensures { IfOk result (λ v. map (λ a. a.count) v.items ≡ map (answer_of numbers.items) asks.now) }
 {
     let mut numbers = numbers;

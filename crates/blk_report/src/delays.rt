@@ -6,8 +6,8 @@ ghost use Rattle.edd_commands.specs.Limits.{round_limit};
 ghost use Rattle.edd_commands.specs.Schedule.{IsLegal};
 ghost use Rattle.edd_verdict.specs.Verdicts.{AreVerdicts};
 ghost use Rattle.blk_trace.specs.declared.trace.TheConstants.{MAX_EVENTS};
-ghost use Rattle.blk_report.specs.Services.{command_in, AreTimed, AreRising, issues_in};
-ghost use Rattle.blk_report.specs.Late.{is_late, AreLate, AreLateIn};
+ghost use Rattle.blk_report.specs.Services.{command_in, AreWithinLimits, AreInIssueOrder, issues_in};
+ghost use Rattle.blk_report.specs.Late.{is_late_service, AreAllLate, AreLateIn};
 ghost use Rattle.blk_report.specs.Inside.Waited.{IsFrom, AskForAll, AreCarried, CanWait, CanAllWait, late_command, AreLateCommands};
 
 use crate::below::{Ask, count_below};
@@ -37,7 +37,7 @@ pub struct LateCommand {
 
 /// The place of the first command that was issued in a round or later. It is found by halves.
 fn place_from(services: &[Service], round: u64) -> usize
-    requires { AreRising services.now }
+    requires { AreInIssueOrder services.now }
     ensures { IsFrom services.now round result }
 {
     services.partition_point(|service| service.issue < round)
@@ -45,7 +45,7 @@ fn place_from(services: &[Service], round: u64) -> usize
 
 /// The commands that are late.
 fn late_ones<A: Allocator>(alloc: A, services: &[Service]) -> Result<Vec<Service, A>, AllocError>
-    ensures { IfOk result (λ v. v.items ≡ filter is_late services.now) }
+    ensures { IfOk result (λ v. v.items ≡ filter is_late_service services.now) }
 {
     services
         .iter()
@@ -107,7 +107,7 @@ fn asks<A: Allocator>(
     services: &[Service],
     late: &[Service],
 ) -> Result<Vec<Ask, A>, AllocError>
-    requires rising { AreRising services.now }
+    requires rising { AreInIssueOrder services.now }
     requires in_time { All (λ s. s.due < round_limit) late.now }
     ensures each { IfOk result (λ v. length v.items ≡ length late.now) }
     ensures asks { IfOk result (λ v. AskForAll services.now late.now v.items) }
@@ -126,8 +126,8 @@ fn asks<A: Allocator>(
 
 /// The last round in which one was issued, or 0.
 fn last_issue(services: &[Service]) -> u64
-    requires timed { AreTimed services.now }
-    requires rising { AreRising services.now }
+    requires timed { AreWithinLimits services.now }
+    requires rising { AreInIssueOrder services.now }
     ensures within { result ≤ MAX_EVENTS }
     ensures last { All (λ s. s.issue ≤ result) services.now }
 {
@@ -194,13 +194,14 @@ fn delays<A: Allocator + Clone, B: Allocator>(
     verdicts: &[Option<Verdict>],
     capacity: &Capacity<B>,
 ) -> Result<Vec<LateCommand, A>, AllocError>
-    requires timed { AreTimed services.now }
-    requires rising { AreRising services.now }
+    requires timed { AreWithinLimits services.now }
+    requires rising { AreInIssueOrder services.now }
     requires legal { IsLegal (map command_in services.now) (issues_in services.now) capacity.now }
     requires judged { AreVerdicts (map command_in services.now) (issues_in services.now) capacity.now verdicts.now }
-    ensures { IfOk result (λ v. AreLate services.now capacity.now v.items) }
+    ensures { IfOk result (λ v. AreAllLate services.now capacity.now v.items) }
 {
     law_of_verdicts();
+    // brings the prover the capacity's invariant
     let _ = capacity.at(0);
     let last = last_issue(services);
     let sums = sums_upto(alloc.clone()?, capacity, last)?;

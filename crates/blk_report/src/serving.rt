@@ -7,7 +7,7 @@ ghost use Rattle.blk_trace.specs.Events.{request_of};
 ghost use Rattle.blk_trace.specs.Kinds.{enters};
 ghost use Rattle.blk_trace.specs.Legal.{IsLegalTrace};
 ghost use Rattle.blk_trace.specs.Meaning.{commands_of, rounds_of};
-ghost use Rattle.blk_report.specs.Services.{services_of, command_in, AreTimed, AreRising};
+ghost use Rattle.blk_report.specs.Services.{services_of, command_in, AreWithinLimits, AreInIssueOrder};
 ghost use Rattle.blk_report.specs.Inside.Ranges.{range_of, joined_range, IsExtended, EntersUnder};
 
 use blk_bio::{Dir, Request};
@@ -165,8 +165,8 @@ pub fn services<A: Allocator + Clone>(trace: &Trace<A>) -> Result<Vec<Service, A
     // place by place they are the commands of the trace and their rounds
     ensures commands { IfOk result (λ v. map command_in v.items ≡ commands_of trace.now.setup trace.now.events) }
     ensures rounds { IfOk result (λ v. map (λ s. s.issue) v.items ≡ rounds_of trace.now.events) }
-    ensures timed { IfOk result (λ v. AreTimed v.items) }
-    ensures rising { IfOk result (λ v. AreRising v.items) }
+    ensures timed { IfOk result (λ v. AreWithinLimits v.items) }
+    ensures rising { IfOk result (λ v. AreInIssueOrder v.items) }
 {
     let commands = trace.commands()?;
     let rounds = trace.rounds()?;

@@ -3,7 +3,7 @@
 ghost use Rattle.std.specs.Prelude.{◌≡◌, ◌≤◌, IfOk, filter, length, map};
 ghost use Rattle.edd_commands.specs.Limits.{most_commands};
 ghost use Rattle.blk_trace.specs.Setups.{same_dir};
-ghost use Rattle.blk_report.specs.Services.{AreTimed};
+ghost use Rattle.blk_report.specs.Services.{AreWithinLimits};
 ghost use Rattle.blk_report.specs.Spread.{wait_of, late_by, at_rank, quantiles_of, IsQuantiles, AreSpreads};
 
 use crate::serving::Service;
@@ -88,9 +88,9 @@ fn going<A: Allocator>(
     services: &[Service],
     dir: Dir,
 ) -> Result<Vec<Service, A>, AllocError>
-    requires { AreTimed services.now }
+    requires { AreWithinLimits services.now }
     ensures services { IfOk result (λ v. v.items ≡ filter (λ s. same_dir s.dir dir) services.now) }
-    ensures timed { IfOk result (λ v. AreTimed v.items) }
+    ensures timed { IfOk result (λ v. AreWithinLimits v.items) }
 {
     services
         .iter()
@@ -113,7 +113,7 @@ fn goes(service: &Service, dir: Dir) -> bool
 
 /// The quantiles of the waits.
 fn waits<A: Allocator>(alloc: A, services: &[Service]) -> Result<Quantiles, AllocError>
-    requires { AreTimed services.now }
+    requires { AreWithinLimits services.now }
     ensures { IfOk result (IsQuantiles (map wait_of services.now)) }
 {
     let mut values = Vec::new(alloc);
@@ -125,7 +125,7 @@ fn waits<A: Allocator>(alloc: A, services: &[Service]) -> Result<Quantiles, Allo
 
 /// The quantiles of the latenesses.
 fn latenesses<A: Allocator>(alloc: A, services: &[Service]) -> Result<Quantiles, AllocError>
-    requires { AreTimed services.now }
+    requires { AreWithinLimits services.now }
     ensures { IfOk result (IsQuantiles (map late_by services.now)) }
 {
     let mut values = Vec::new(alloc);
@@ -139,7 +139,7 @@ fn latenesses<A: Allocator>(alloc: A, services: &[Service]) -> Result<Quantiles,
 /// quantiles by nearest rank, in rounds. The commands are as [`crate::services`] gives them. Fails only when out of memory. The time
 /// grows as n log n in the number of commands.
 pub fn spread<A: Allocator + Clone>(alloc: A, services: &[Service]) -> Result<Spreads, AllocError>
-    requires { AreTimed services.now }
+    requires { AreWithinLimits services.now }
     ensures { IfOk result (AreSpreads services.now) }
 {
     let reads = going(alloc.clone()?, services, Dir::Read)?;

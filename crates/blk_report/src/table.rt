@@ -1,8 +1,8 @@
 //! A table of reports as text.
 
-ghost use Rattle.std.specs.Prelude.{◌≡◌, ◌⊎◌, ◌++◌, IfOk, IfErr, IfSome, OnOk, ◌<◌, decimal, length, map};
+ghost use Rattle.std.specs.Prelude.{◌≡◌, ◌⊎◌, ◌++◌, IfOk, IfErr, IfSome, OnOk, ◌<◌, decimal, length};
 ghost use Rattle.edd_figures.specs.Lines.{late_text};
-ghost use Rattle.blk_report.specs.Table.{right_in, row_line, best_line, IsTable, AppendsTable, AppendsTablePart, all_lines};
+ghost use Rattle.blk_report.specs.Table.{names_of, at_right, report_row, best_line, IsTable, AppendsTable, AppendsTablePart, all_lines};
 
 use crate::{Report, compare};
 use drafts::{Draft, WriteFault, write_whole};
@@ -17,7 +17,7 @@ const NUMBER: usize = 10;
 
 /// Adds a count at the right of its places.
 fn push_count(draft: &mut Draft, alloc: Global, count: u64) -> Result<(), AllocError>
-    ensures { OnOk result (draft.new ≡ draft.old ++ right_in 10 (decimal count)) }
+    ensures { OnOk result (draft.new ≡ draft.old ++ at_right 10 (decimal count)) }
 {
     let text = count.to_string(alloc)?;
     draft.right(text.as_bytes(), NUMBER)
@@ -25,7 +25,7 @@ fn push_count(draft: &mut Draft, alloc: Global, count: u64) -> Result<(), AllocE
 
 /// Adds a lateness at the right of its places, or `none`.
 fn push_late(draft: &mut Draft, alloc: Global, late: Option<i64>) -> Result<(), AllocError>
-    ensures { OnOk result (draft.new ≡ draft.old ++ right_in 10 (late_text late)) }
+    ensures { OnOk result (draft.new ≡ draft.old ++ at_right 10 (late_text late)) }
 {
     match late {
         Some(late) => {
@@ -43,7 +43,7 @@ fn push_row(
     name: &[u8],
     report: &Report,
 ) -> Result<(), AllocError>
-    ensures { OnOk result (draft.new ≡ draft.old ++ row_line name.now report.now) }
+    ensures { OnOk result (draft.new ≡ draft.old ++ report_row name.now report.now) }
 {
     draft.left(name, NAME)?;
     push_count(draft, alloc, report.commands)?;
@@ -62,7 +62,7 @@ fn push_rows(
     reports: &[Report],
 ) -> Result<(), AllocError>
     requires { length names.now ≡ length reports.now }
-    ensures { OnOk result (draft.new ≡ draft.old ++ all_lines (map (λ name. name.now) names.now) reports.now) }
+    ensures { OnOk result (draft.new ≡ draft.old ++ all_lines (names_of names.now) reports.now) }
 {
     draft.text(b"sched     commands   waiting  greatest     least shortfall\n")?;
     for place in 0..reports.len() {
@@ -74,7 +74,7 @@ fn push_rows(
 /// Adds the last line, which names the best.
 fn push_best(draft: &mut Draft, names: &[&[u8]], best: Option<usize>) -> Result<(), AllocError>
     requires { IfSome best (λ place. place < length names.now) }
-    ensures { OnOk result (draft.new ≡ draft.old ++ best_line (map (λ name. name.now) names.now) best) }
+    ensures { OnOk result (draft.new ≡ draft.old ++ best_line (names_of names.now) best) }
 {
     match best {
         Some(place) => {
@@ -89,7 +89,7 @@ fn push_best(draft: &mut Draft, names: &[&[u8]], best: Option<usize>) -> Result<
 /// The lines of a table.
 pub fn drafted(alloc: Global, names: &[&[u8]], reports: &[Report]) -> Result<Vec<u8>, AllocError>
     requires { length names.now ≡ length reports.now }
-    ensures { IfOk result (λ v. IsTable (map (λ name. name.now) names.now) reports.now v.items) }
+    ensures { IfOk result (λ v. IsTable (names_of names.now) reports.now v.items) }
 {
     let mut draft = Draft::new(alloc);
     push_rows(&mut draft, alloc, names, reports)?;
@@ -111,11 +111,10 @@ pub fn write_table<W: Write>(
     writer: &mut W,
 ) -> Result<(), WriteFault>
     requires { length names.now ≡ length reports.now }
-    ensures ok { OnOk result (AppendsTable (map (λ name. name.now) names.now) reports.now (W.contents writer.old) (W.contents writer.new)) }
+    ensures ok { OnOk result (AppendsTable names.now reports.now (W.contents writer.old) (W.contents writer.new)) }
     ensures memory { IfErr result (λ f. f ≡ WriteFault.Memory → writer.new ≡ writer.old) }
     // whatever the answer
-    ensures part { (writer.new ≡ writer.old)
-        ⊎ AppendsTablePart (map (λ name. name.now) names.now) reports.now (W.contents writer.old) (W.contents writer.new) }
+    ensures part { (writer.new ≡ writer.old) ⊎ AppendsTablePart names.now reports.now (W.contents writer.old) (W.contents writer.new) }
 {
     let Ok(text) = drafted(alloc, names, reports) else {
         return Err(WriteFault::Memory);

@@ -22,7 +22,7 @@ fn empty<'a>(rt: &impl Abort, heap: Heap<'a>, depth: u64, write_expire: u64) -> 
         Err(_) => {
             assert!(rt; armed && !heap.is_armed());
             let Ok(trace) = Trace::empty(heap, setup) else {
-                panic!(rt; "want of memory");
+                panic!(rt; "out of memory");
             };
             trace
         }
@@ -77,7 +77,7 @@ fn join<'a>(
     };
     let bio = Bio::new(name, Dir::Write, first, sectors).expect(rt, "a bio");
     let Ok(request) = Request::of(heap, bio) else {
-        panic!(rt; "want of memory");
+        panic!(rt; "out of memory");
     };
     push(rt, heap, trace, Event::Join { id, request });
 }

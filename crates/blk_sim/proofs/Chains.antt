@@ -10,8 +10,8 @@ use Rattle.blk_trace.specs.Events.{IsUsed}
 use Rattle.blk_core.specs.State.{CoreState}
 use Rattle.blk_core.specs.Faults.{IsInFlight}
 use Rattle.blk_sim.specs.declared.refusal.SimWhy.{SimWhy}
-use Rattle.blk_sim.specs.Moves.{Enters, EnterInTurn, drained, flushed_plug, with_requests, bios_in, Drains, DrainInTurn}
-use Rattle.blk_sim.specs.Rounds.{Gives, IssueInTurn, CompleteInTurn, Works}
+use Rattle.blk_sim.specs.Moves.{EntersCore, EnterInTurn, drained, flushed_plug, with_requests, bios_in, Drains, DrainInTurn}
+use Rattle.blk_sim.specs.Rounds.{GivesCommand, IssueInTurn, CompleteInTurn, Works}
 use Rattle.blk_core.specs.Calls.{Completes}
 use Rattle.blk_sim.specs.Inside.Working.{WorkInTurn}
 use Rattle.blk_sched.specs.Policies.{Policy}
@@ -26,7 +26,7 @@ unfolding EnterInTurn
 enter_both policy hw [] ys a b c e h = subst (λ x. EnterInTurn policy hw ys x c) e h
 enter_both policy hw (x ∷ xs) ys a b c e h = (e.0, e.1, enter_both policy hw xs ys e.0 b c e.2 h)
 
-pub enter_more : (policy : Policy) (hw : ℕ) (xs : List (List Bio)) (r : List Bio) (a b c : CoreState) → EnterInTurn policy hw xs a b → Enters policy hw r b c → EnterInTurn policy hw (xs ++ r ∷ []) a c
+pub enter_more : (policy : Policy) (hw : ℕ) (xs : List (List Bio)) (r : List Bio) (a b c : CoreState) → EnterInTurn policy hw xs a b → EntersCore policy hw r b c → EnterInTurn policy hw (xs ++ r ∷ []) a c
 unfolding EnterInTurn
 enter_more policy hw xs r a b c e h = enter_both policy hw xs (r ∷ []) a b c e (c, h, refl)
 
@@ -39,7 +39,7 @@ pub record IsMoved (policy : Policy) (hw : ℕ) (requests left : List (List Bio)
 pub moved_none : (policy : Policy) (hw : ℕ) (requests : List (List Bio)) (a : CoreState) → IsMoved policy hw requests requests a a
 moved_none policy hw requests a = record { gone = []; whole = refl; entered = enter_none policy hw a }
 
-pub moved_more : (policy : Policy) (hw : ℕ) (requests left : List (List Bio)) (r : List Bio) (rest : List (List Bio)) (a b c : CoreState) → left ≡ r ∷ rest → IsMoved policy hw requests left a b → Enters policy hw r b c → IsMoved policy hw requests rest a c
+pub moved_more : (policy : Policy) (hw : ℕ) (requests left : List (List Bio)) (r : List Bio) (rest : List (List Bio)) (a b c : CoreState) → left ≡ r ∷ rest → IsMoved policy hw requests left a b → EntersCore policy hw r b c → IsMoved policy hw requests rest a c
 moved_more policy hw requests left r rest a b c first m t = record {
   gone = m.gone ++ r ∷ [];
   whole = m.whole ∙ ap (λ l. m.gone ++ l) first ∙ sym (append_assoc m.gone (r ∷ []) rest);
@@ -113,7 +113,7 @@ pub issue_none : (policy : Policy) (a : CoreState) → IssueInTurn policy 0 a a
 unfolding IssueInTurn
 issue_none policy a = refl
 
-pub issue_given : (policy : Policy) (n : ℕ) (a b c : CoreState) → IssueInTurn policy n a b → Gives policy n b c → IssueInTurn policy (n + 1) a c
+pub issue_given : (policy : Policy) (n : ℕ) (a b c : CoreState) → IssueInTurn policy n a b → GivesCommand policy n b c → IssueInTurn policy (n + 1) a c
 unfolding IssueInTurn
 issue_given policy n a b c h d = rw add-one (b, h, inr d)
 

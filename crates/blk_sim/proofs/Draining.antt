@@ -17,8 +17,8 @@ use Rattle.blk_core.specs.State.{CoreState}
 use Rattle.blk_bio.specs.Bios.{Bio}
 use Rattle.blk_sim.specs.Moves.{bios_in, requests_in, served_requests, drained, Drains, DrainInTurn}
 use Rattle.blk_sim.specs.Simulation.{Where, Plugged, Staged, Released, is_where}
-use Rattle.blk_sim.specs.Simulated.{Placing, picked, is_in, is_at, AreStaged, AreDrained}
-use Rattle.blk_sim.specs.Inside.Places.{is_served, Passed}
+use Rattle.blk_sim.specs.Simulated.{Placing, picked, is_in, is_bio_at, AreStaged, AreDrained}
+use Rattle.blk_sim.specs.Inside.Places.{is_served, RoundsPassed}
 use Rattle.blk_sim.proofs.Events.{chain_took}
 use Rattle.blk_sched.specs.Policies.{Policy}
 use Rattle.blk_sim.proofs.Picking.{picked-same, picked-none, picked-both, IsSplit}
@@ -26,7 +26,7 @@ use Rattle.blk_sim.proofs.Picking.{picked-same, picked-none, picked-both, IsSpli
 -- tests that agree
 pub drained_same : (t u : ℕ → Bool) → ((s : ℕ) → t s ≡ u s) → (book : List Placing) (queues : List Queue) (events : List Happened) → AreDrained t book queues events → AreDrained u book queues events
 drained_same t u h book queues events d = record {
-  staged = λ s queue at. subst (λ r. IsPermutation (bios_in queue.requests) r) (picked-same (λ p. is_at Staged s p && not (t s)) (λ p. is_at Staged s p && not (u s)) (λ p. ap (λ b. is_at Staged s p && not b) (h s)) book) (d.staged s queue at);
+  staged = λ s queue at. subst (λ r. IsPermutation (bios_in queue.requests) r) (picked-same (λ p. is_bio_at Staged s p && not (t s)) (λ p. is_bio_at Staged s p && not (u s)) (λ p. ap (λ b. is_bio_at Staged s p && not b) (h s)) book) (d.staged s queue at);
   released = subst (λ r. IsPermutation (entered events) r) (picked-same (λ p. is_in Released p || (is_in Staged p && t p.bio.id.submitter)) (λ p. is_in Released p || (is_in Staged p && u p.bio.id.submitter)) (λ p. ap (λ b. is_in Released p || (is_in Staged p && b)) (h p.bio.id.submitter)) book) d.released;
 }
 
@@ -109,7 +109,7 @@ bios_served test count hw (suc n) book queues es le staged d = elim (eqb_tells (
       (picked-same (λ p. is_in Released p || (is_in Staged p && ((test p.bio.id.submitter || is_served n count hw p.bio.id.submitter) || (p.bio.id.submitter == n)))) (λ p. is_in Released p || (is_in Staged p && (test p.bio.id.submitter || is_served (suc n) count hw p.bio.id.submitter)))
       (λ p. ap (λ b. is_in Released p || (is_in Staged p && b)) (or_assoc (test p.bio.id.submitter) (is_served n count hw p.bio.id.submitter) (p.bio.id.submitter == n) ∙ ap (λ b. test p.bio.id.submitter || b) (served_more n count hw p.bio.id.submitter a.1 ∙ ap (λ k. is_served k count hw p.bio.id.submitter) (more n)))) book)
       (IsPermutation-trans _ _ _ (IsPermutation-append _ _ _ _ (bios_served test count hw n book queues es (omega (arith, le)) staged d) (staged n at.0 at.1))
-      (picked-both (λ p. is_in Released p || (is_in Staged p && ((test p.bio.id.submitter || is_served n count hw p.bio.id.submitter) || (p.bio.id.submitter == n)))) (λ p. is_in Released p || (is_in Staged p && (test p.bio.id.submitter || is_served n count hw p.bio.id.submitter))) (λ p. is_at Staged n p && not (test n))
+      (picked-both (λ p. is_in Released p || (is_in Staged p && ((test p.bio.id.submitter || is_served n count hw p.bio.id.submitter) || (p.bio.id.submitter == n)))) (λ p. is_in Released p || (is_in Staged p && (test p.bio.id.submitter || is_served n count hw p.bio.id.submitter))) (λ p. is_bio_at Staged n p && not (test n))
       (λ p. split p.place (test p.bio.id.submitter || is_served n count hw p.bio.id.submitter) (p.bio.id.submitter == n) (test n) (λ e. ap (λ s. test s || is_served n count hw s) (eqb-true p.bio.id.submitter n e) ∙ ap (λ b. test n || b) (unserved n count hw) ∙ or-false (test n))) book)))
   | inr a ↦
       let list : es ++ bios_in (served_requests queues count hw (suc n)) ≡ es ++ bios_in (served_requests queues count hw n) =
@@ -139,12 +139,12 @@ drain_drained policy test count hw book queues queues' core core' h d = record {
         let many = h.emptied.as_many in
         let lt : s < length queues = omega (arith, within, many) in
         let is : is_served (length queues) count hw s ≡ true = ap (λ b. b && ((s % count) == hw)) (lt-ltb s (length queues) lt) ∙ a.0 in
-        subst (λ l. IsPermutation l (picked (λ p. is_at Staged s p && not (test s || is_served (length queues) count hw s)) book)) (sym (ap bios_in none))
-        (subst (λ l. IsPermutation [] l) (sym (picked-none (λ p. is_at Staged s p && not (test s || is_served (length queues) count hw s)) (λ p. ap (λ b. is_at Staged s p && not (test s || b)) is ∙ never (is_at Staged s p) (test s)) book))
+        subst (λ l. IsPermutation l (picked (λ p. is_bio_at Staged s p && not (test s || is_served (length queues) count hw s)) book)) (sym (ap bios_in none))
+        (subst (λ l. IsPermutation [] l) (sym (picked-none (λ p. is_bio_at Staged s p && not (test s || is_served (length queues) count hw s)) (λ p. ap (λ b. is_bio_at Staged s p && not (test s || b)) is ∙ never (is_bio_at Staged s p) (test s)) book))
         (IsPermutation-refl []))
     | inr a ↦
         let is : is_served (length queues) count hw s ≡ false = ap (λ b. nat_lt s (length queues) && b) a.0 ∙ and-false (nat_lt s (length queues)) in
-        subst (λ l. IsPermutation (bios_in r.requests) l) (picked-same (λ p. is_at Staged s p && not (test s)) (λ p. is_at Staged s p && not (test s || is_served (length queues) count hw s)) (λ p. ap (λ b. is_at Staged s p && not b) (sym (ap (λ b. test s || b) is ∙ or-false (test s)))) book) (d.staged s r (sym (h.emptied.others s a.1) ∙ at))
+        subst (λ l. IsPermutation (bios_in r.requests) l) (picked-same (λ p. is_bio_at Staged s p && not (test s)) (λ p. is_bio_at Staged s p && not (test s || is_served (length queues) count hw s)) (λ p. ap (λ b. is_bio_at Staged s p && not b) (sym (ap (λ b. test s || b) is ∙ or-false (test s)))) book) (d.staged s r (sym (h.emptied.others s a.1) ∙ at))
   ];
   released = subst (λ l. IsPermutation l (picked (λ p. is_in Released p || (is_in Staged p && (test p.bio.id.submitter || is_served (length queues) count hw p.bio.id.submitter))) book)) (sym (chain_took policy hw (served_requests queues count hw (length queues)) core core' h.entered).took)
       (bios_served test count hw (length queues) book queues (entered core.events) (omega arith) d.staged d.released);
@@ -178,7 +178,7 @@ all_drained policy test count book q q' a b some h d =
     (turn_drained policy test count count book q q' a b h d)
 
 -- rounds in which nothing enters
-pub drained_passed : (t : ℕ → Bool) (book : List Placing) (queues : List Queue) (n : ℕ) (old new : CoreState) → Passed n old new → AreDrained t book queues old.events → AreDrained t book queues new.events
+pub drained_passed : (t : ℕ → Bool) (book : List Placing) (queues : List Queue) (n : ℕ) (old new : CoreState) → RoundsPassed n old new → AreDrained t book queues old.events → AreDrained t book queues new.events
 drained_passed t book queues n old new p d = record {
   staged = d.staged;
   released = subst (λ l. IsPermutation l (picked (λ p. is_in Released p || (is_in Staged p && t p.bio.id.submitter)) book)) (sym p.entered_same) d.released;

@@ -11,9 +11,9 @@ use Rattle.blk_core.specs.State.{CoreState}
 use Rattle.blk_core.specs.Calls.{AddsEvent, Places}
 use Rattle.blk_core.specs.declared.calls.Placed.{Placed}
 use Rattle.blk_core.specs.declared.calls.Placed.TheVariants.{New, Joined}
-use Rattle.blk_sim.specs.Moves.{Enters, EnterInTurn, bios_in}
+use Rattle.blk_sim.specs.Moves.{EntersCore, EnterInTurn, bios_in}
 use Rattle.blk_sched.specs.Policies.{Policy}
-use Rattle.blk_sim.specs.Inside.Places.{Passed, TookIn}
+use Rattle.blk_sim.specs.Inside.Places.{RoundsPassed, TookIn}
 
 -- how many of a list with one more pass a test
 count_more : (t : Happened → Bool) (es : List Happened) (e : Happened) → count_by t (es ++ e ∷ []) ≡ count_by t es + cond (t e) 1 0
@@ -28,7 +28,7 @@ unfolding round_of
 rounds_more es es' e h = ap (count_by is_tick) h ∙ count_more is_tick es e
 
 -- an event by which nothing enters
-pub adds_passed : (old new : CoreState) (e : Happened) (n : ℕ) → AddsEvent old e new → bios_of e ≡ [] → cond (is_tick e) 1 0 ≡ n → Passed n old new
+pub adds_passed : (old new : CoreState) (e : Happened) (n : ℕ) → AddsEvent old e new → bios_of e ≡ [] → cond (is_tick e) 1 0 ≡ n → RoundsPassed n old new
 adds_passed old new e n a none ticks = record {
   setup = a.0;
   entered_same = entered_more old.events new.events e a.1 ∙ ap (λ r. entered old.events ++ r) none ∙ append-nil (entered old.events);
@@ -43,10 +43,10 @@ adds_took old new e bios a these no_tick = record {
   ticks = rounds_more old.events new.events e a.1 ∙ ap (λ b. round_of old.events + cond b 1 0) no_tick ∙ omega arith;
 }
 
-pub passed_same : (old new : CoreState) → new ≡ old → Passed 0 old new
+pub passed_same : (old new : CoreState) → new ≡ old → RoundsPassed 0 old new
 passed_same old new e = record { setup = ap (λ (c : CoreState). c.setup) e; entered_same = ap (λ (c : CoreState). entered c.events) e; ticks = ap (λ (c : CoreState). round_of c.events) e ∙ omega arith }
 
-pub passed_trans : (m n : ℕ) (a b c : CoreState) → Passed m a b → Passed n b c → Passed (m + n) a c
+pub passed_trans : (m n : ℕ) (a b c : CoreState) → RoundsPassed m a b → RoundsPassed n b c → RoundsPassed (m + n) a c
 passed_trans m n a b c p q = record { setup = q.setup ∙ p.setup; entered_same = q.entered_same ∙ p.entered_same; ticks = let x = p.ticks in let y = q.ticks in omega arith }
 
 pub took_trans : (xs ys : List Bio) (a b c : CoreState) → TookIn xs a b → TookIn ys b c → TookIn (xs ++ ys) a c
@@ -57,7 +57,7 @@ placed_took : (policy : Policy) (old new : CoreState) (bios : List Bio) (hw : �
 placed_took policy old new bios hw (New id) a = adds_took _ _ _ bios a.2 refl refl
 placed_took policy old new bios hw (Joined id side) a = adds_took _ _ _ bios a.1 refl refl
 
-pub enters_took : (policy : Policy) (hw : ℕ) (bios : List Bio) (old new : CoreState) → Enters policy hw bios old new → TookIn bios old new
+pub enters_took : (policy : Policy) (hw : ℕ) (bios : List Bio) (old new : CoreState) → EntersCore policy hw bios old new → TookIn bios old new
 enters_took policy hw bios old new h = placed_took policy old new bios hw h.0 h.2
 
 took_none : (a b : CoreState) → b ≡ a → TookIn [] a b

@@ -30,7 +30,7 @@ use Rattle.blk_sim.specs.Moves.{bios_in, flushed_plug, with_requests, drained, A
 use Rattle.blk_sim.specs.Rounds.{AsksQueue, Ticks, IssueInTurn, CompleteInTurn, Works, Round, Rounds}
 use Rattle.blk_sim.specs.Runs.{Steps}
 use Rattle.blk_sim.specs.Simulated.{Placing, AreDrained, nobody, stepped, Stands, HaveCome, IsReady}
-use Rattle.blk_sim.specs.Inside.Places.{is_served, Passed}
+use Rattle.blk_sim.specs.Inside.Places.{is_served, RoundsPassed}
 use Rattle.blk_sim.proofs.Picking.{set_cases}
 use Rattle.blk_sim.proofs.Events.{adds_passed, passed_same, passed_trans, chain_took}
 use Rattle.blk_sim.proofs.Draining.{drained_same, drained_at, drain_drained, drain_count, all_drained, drained_passed}
@@ -39,36 +39,36 @@ use Rattle.blk_sched.specs.Policies.{Policy}
 use Rattle.blk_sim.proofs.Standing.{all_at, add_plugged, bio_stands, flush_plugged, flush_staged, flush_stands, let_go_stands, issue_goes, done_goes, back_goes, depth_goes, tick_goes, drain_goes, run_goes, fresh_stands}
 
 -- the core's steps by themselves let no bio enter
-issues_passed : (policy : Policy) (hw tag : ℕ) (a b : CoreState) (found : Option Command) → Issues policy.serves policy.chooses a hw tag found b → Passed 0 a b
+issues_passed : (policy : Policy) (hw tag : ℕ) (a b : CoreState) (found : Option Command) → Issues policy.serves policy.chooses a hw tag found b → RoundsPassed 0 a b
 issues_passed policy hw tag a b None h = passed_same a b h.0
 issues_passed policy hw tag a b (Some command) h = adds_passed a b _ 0 h.2 refl refl
 
-pub asks_passed : (policy : Policy) (hw tag : ℕ) (a b : CoreState) (found : Option Command) → AsksQueue policy hw tag a found b → Passed 0 a b
+pub asks_passed : (policy : Policy) (hw tag : ℕ) (a b : CoreState) (found : Option Command) → AsksQueue policy hw tag a found b → RoundsPassed 0 a b
 asks_passed policy hw tag a b found h = issues_passed policy hw tag a b found h.1
 
-pub completes_passed : (policy : Policy) (tag : ℕ) (a b : CoreState) → Completes policy.told_done a tag b → Passed 0 a b
+pub completes_passed : (policy : Policy) (tag : ℕ) (a b : CoreState) → Completes policy.told_done a tag b → RoundsPassed 0 a b
 completes_passed policy tag a b h = adds_passed a b _ 0 h.3 refl refl
 
-back_passed : (tag id : ℕ) (a b : CoreState) → RequeuesTag a tag id b → Passed 0 a b
+back_passed : (tag id : ℕ) (a b : CoreState) → RequeuesTag a tag id b → RoundsPassed 0 a b
 back_passed tag id a b h = adds_passed a b _ 0 h.4 refl refl
 
-depth_passed : (n : ℕ) (a b : CoreState) → SetsDepth a n b → Passed 0 a b
+depth_passed : (n : ℕ) (a b : CoreState) → SetsDepth a n b → RoundsPassed 0 a b
 depth_passed n a b h = adds_passed a b _ 0 h.0 refl refl
 
-pub ticks_passed : (policy : Policy) (a b : CoreState) → Ticks policy a b → Passed 1 a b
+pub ticks_passed : (policy : Policy) (a b : CoreState) → Ticks policy a b → RoundsPassed 1 a b
 ticks_passed policy a b h = adds_passed a b _ 1 h.1.0 refl refl
 
-tags_passed : (policy : Policy) (n : ℕ) (a b : CoreState) → IssueInTurn policy n a b → Passed 0 a b
+tags_passed : (policy : Policy) (n : ℕ) (a b : CoreState) → IssueInTurn policy n a b → RoundsPassed 0 a b
 unfolding IssueInTurn
 tags_passed policy zero a b h = passed_same a b h
 tags_passed policy (suc n) a b h = passed_trans 0 0 a h.0 b (tags_passed policy n a h.0 h.1) (elim h.2 [ inl t ↦ passed_same h.0 b t.1 | inr g ↦ asks_passed policy _ n h.0 b (Some g.command) g.gave ])
 
-dones_passed : (policy : Policy) (n : ℕ) (a b : CoreState) → CompleteInTurn policy n a b → Passed 0 a b
+dones_passed : (policy : Policy) (n : ℕ) (a b : CoreState) → CompleteInTurn policy n a b → RoundsPassed 0 a b
 unfolding CompleteInTurn
 dones_passed policy zero a b h = passed_same a b h
 dones_passed policy (suc n) a b h = passed_trans 0 0 a h.0 b (dones_passed policy n a h.0 h.1) (elim h.2 [ inl t ↦ completes_passed policy n h.0 b t | inr g ↦ passed_same h.0 b g.1 ])
 
-pub works_passed : (policy : Policy) (a b : CoreState) → Works policy a b → Passed 1 a b
+pub works_passed : (policy : Policy) (a b : CoreState) → Works policy a b → RoundsPassed 1 a b
 works_passed policy a b h = passed_trans 0 1 a h.idle b (passed_trans 0 0 a h.busy h.idle (tags_passed policy h.issues.tags a h.busy h.issues.issued) (dones_passed policy h.busy.setup.depth h.busy h.idle h.completes)) (ticks_passed policy h.idle b h.ticks)
 
 -- n rounds passed under one setup
@@ -76,7 +76,7 @@ pub record Went (n : ℕ) (a b : CoreState) : Type 0 where
   pub setup : b.setup ≡ a.setup
   pub ticks : round_of b.events ≡ round_of a.events + n
 
-went : (n : ℕ) (a b : CoreState) → Passed n a b → Went n a b
+went : (n : ℕ) (a b : CoreState) → RoundsPassed n a b → Went n a b
 went n a b p = record { setup = p.setup; ticks = p.ticks }
 
 went_same : (a b : CoreState) → b ≡ a → Went 0 a b
@@ -149,7 +149,7 @@ steps_stand_at : (hw : ℕ) (l : Line) (book : List Placing) (plugs plugs' : Lis
 steps_stand_at hw l book plugs plugs' queues queues' events events' p q e st =
     subst (λ x. Stands (stepped hw l book) x queues' events') (sym p) (subst (λ x. Stands (stepped hw l book) plugs x events') (sym q) (subst (λ x. Stands (stepped hw l book) plugs queues x) (sym e) st))
 
-core_stands : (hw n : ℕ) (l : Line) (book : List Placing) (old new : SimState) → length old.queues ≡ length old.plugs → Passed n old.core new.core → new.plugs ≡ old.plugs → new.queues ≡ old.queues
+core_stands : (hw n : ℕ) (l : Line) (book : List Placing) (old new : SimState) → length old.queues ≡ length old.plugs → RoundsPassed n old.core new.core → new.plugs ≡ old.plugs → new.queues ≡ old.queues
     → (Stands book old.plugs old.queues old.core.events → AreDrained nobody book old.queues new.core.events → Stands (stepped hw l book) old.plugs old.queues new.core.events)
     → Stands book old.plugs old.queues old.core.events → Stands (stepped hw l book) new.plugs new.queues new.core.events
 core_stands hw n l book old new counts p e f go st = steps_stand_at hw l book old.plugs new.plugs old.queues new.queues new.core.events new.core.events e f refl (go st (drained_passed nobody book old.queues n old.core new.core p st.drained))

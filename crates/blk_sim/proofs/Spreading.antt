@@ -6,16 +6,16 @@ use Rattle.blk_bio.specs.declared.limits.TheConstants.{MAX_QUEUES, MAX_SOFT_QUEU
 use Rattle.blk_hw.specs.Maps.{IsLeastUnserved, IsMapFault}
 use Rattle.blk_hw.specs.declared.MapFault.{MapFault}
 use Rattle.blk_hw.specs.declared.MapFault.TheVariants.{Empty, TooMany, Unserved}
-use Rattle.blk_sim.specs.Inside.Places.{IsSpread}
+use Rattle.blk_sim.specs.Inside.Places.{IsModuloMap}
 
 -- an entry is below the number of hardware queues
-below : (hw count : ℕ) (entries : List ℕ) (k x : ℕ) → 0 < hw → IsSpread hw count entries → k < length entries → get_or entries k x ≡ x → x < hw
+below : (hw count : ℕ) (entries : List ℕ) (k x : ℕ) → 0 < hw → IsModuloMap hw count entries → k < length entries → get_or entries k x ≡ x → x < hw
 below hw count entries k x some h lt is =
     let within : k < count = let n = h.counts in omega arith in
     subst (λ y. y < hw) (sym (h.spread k x within) ∙ is) (mod-lt k some)
 
 -- the map is made: at least as many software queues as hardware queues, at least one of these, and no more of either than there may be
-pub no_map_fault : (hw count : ℕ) (entries : List ℕ) (fault : MapFault) → 0 < hw → hw ≤ MAX_QUEUES → hw ≤ count → count ≤ MAX_SOFT_QUEUES → IsSpread hw count entries → IsMapFault entries fault → ⊥
+pub no_map_fault : (hw count : ℕ) (entries : List ℕ) (fault : MapFault) → 0 < hw → hw ≤ MAX_QUEUES → hw ≤ count → count ≤ MAX_SOFT_QUEUES → IsModuloMap hw count entries → IsMapFault entries fault → ⊥
 no_map_fault hw count entries Empty some few enough most h e =
     let none : length entries ≡ 0 = ap length e in
     let n = h.counts in
@@ -38,9 +38,9 @@ no_map_fault hw count entries (Unserved k) some few enough most h e =
     gap.unserved here
 
 -- the same for numbers that are equal
-pub spread_along : (hw hw' count count' : ℕ) (entries : List ℕ) → hw' ≡ hw → count' ≡ count → IsSpread hw count entries → IsSpread hw' count' entries
-spread_along hw hw' count count' entries a b h = subst (λ k. IsSpread k count' entries) (sym a) (subst (λ k. IsSpread hw k entries) (sym b) h)
+pub spread_along : (hw hw' count count' : ℕ) (entries : List ℕ) → hw' ≡ hw → count' ≡ count → IsModuloMap hw count entries → IsModuloMap hw' count' entries
+spread_along hw hw' count count' entries a b h = subst (λ k. IsModuloMap k count' entries) (sym a) (subst (λ k. IsModuloMap hw k entries) (sym b) h)
 
 -- which hardware queue the map names
-pub named : (hw count : ℕ) (entries : List ℕ) (s found : ℕ) → IsSpread hw count entries → s < count → found ≡ get_or entries s 0 → (s % hw) ≡ found
+pub named : (hw count : ℕ) (entries : List ℕ) (s found : ℕ) → IsModuloMap hw count entries → s < count → found ≡ get_or entries s 0 → (s % hw) ≡ found
 named hw count entries s found h lt is = sym (h.spread s 0 lt) ∙ sym is

@@ -19,7 +19,7 @@ use Rattle.blk_text.specs.declared.script.Line.{Line}
 use Rattle.blk_text.specs.declared.script.Line.TheVariants as line
 use Rattle.blk_sim.specs.Simulation.{Where, Plugged, Staged, Released, moved, place_after, is_where, bio_at, bios_at, ticks_of}
 use Rattle.blk_sim.specs.Moves.{bios_in}
-use Rattle.blk_sim.specs.Simulated.{Placing, placed_by, moved_by, stepped, picked, is_in, is_at, ArePlugged, AreStaged, AreDrained, nobody, Stands}
+use Rattle.blk_sim.specs.Simulated.{Placing, placed_by, moved_by, stepped, picked, is_in, is_bio_at, ArePlugged, AreStaged, AreDrained, nobody, Stands}
 use Rattle.blk_sim.specs.Inside.Places.{placings}
 use Rattle.blk_sim.proofs.Where.{one_more}
 use Rattle.blk_sim.proofs.Picking.{picked-append, picked-moved, picked-same, picked-same_in, picked-none, picked-both, IsSplit, set_cases}
@@ -83,16 +83,16 @@ pub let_go_stands : (hw : ℕ) (l : Line) (u t : ℕ → Bool) (book : List Plac
 let_go_stands hw l u t book plugs queues events go counts agree known plugged drained = record {
   known = known_quiet (length plugs) hw l book go.quiet known;
   plugged = λ s plug at. subst (λ r. IsPermutation (bios_in plug.requests) r)
-      (sym (picked-quiet (is_at Plugged s) hw l book go.quiet
-      ∙ picked-same (λ p. is_at Plugged s (moved_by hw l p)) (is_at Plugged s) (λ p. ap (λ w. is_where Plugged w && (p.bio.id.submitter == s)) (go.moves p.bio.id.submitter p.place) ∙ plugged_point p.place (u p.bio.id.submitter) (p.bio.id.submitter == s)) book))
+      (sym (picked-quiet (is_bio_at Plugged s) hw l book go.quiet
+      ∙ picked-same (λ p. is_bio_at Plugged s (moved_by hw l p)) (is_bio_at Plugged s) (λ p. ap (λ w. is_where Plugged w && (p.bio.id.submitter == s)) (go.moves p.bio.id.submitter p.place) ∙ plugged_point p.place (u p.bio.id.submitter) (p.bio.id.submitter == s)) book))
       (plugged s plug at);
   drained = record {
     staged = λ s queue at.
         let within : s < length queues = slice_get_within queues s queue at in
         let lt : s < length plugs = omega arith in
         subst (λ r. IsPermutation (bios_in queue.requests) r)
-        (sym (picked-quiet (λ p. is_at Staged s p && true) hw l book go.quiet
-        ∙ picked-same (λ p. is_at Staged s (moved_by hw l p) && true) (λ p. is_at Staged s p && not (t s)) (λ p. ap (λ w. (is_where Staged w && (p.bio.id.submitter == s)) && true) (go.moves p.bio.id.submitter p.place) ∙ staged_point p.place (u p.bio.id.submitter) (p.bio.id.submitter == s) (t s) (λ e. ap u (eqb-true p.bio.id.submitter s e) ∙ agree s lt)) book))
+        (sym (picked-quiet (λ p. is_bio_at Staged s p && true) hw l book go.quiet
+        ∙ picked-same (λ p. is_bio_at Staged s (moved_by hw l p) && true) (λ p. is_bio_at Staged s p && not (t s)) (λ p. ap (λ w. (is_where Staged w && (p.bio.id.submitter == s)) && true) (go.moves p.bio.id.submitter p.place) ∙ staged_point p.place (u p.bio.id.submitter) (p.bio.id.submitter == s) (t s) (λ e. ap u (eqb-true p.bio.id.submitter s e) ∙ agree s lt)) book))
         (drained.staged s queue at);
     released = subst (λ r. IsPermutation (entered events) r)
         (sym (picked-quiet (λ p. is_in Released p || (is_in Staged p && false)) hw l book go.quiet
@@ -138,14 +138,14 @@ pub add_plugged : (hw : ℕ) (b : Bio) (book : List Placing) (plugs : List Plug)
 add_plugged hw b book plugs plug plug' s mine plugged at more r q here = elim (set_cases plugs s r plug' q here) [
   | inl a ↦
       let own : (b.id.submitter == r) ≡ true = eq-eqb b.id.submitter r (sym mine ∙ sym (eqb-true r s a.0)) in
-      let list : picked (is_at Plugged r) (stepped hw (line.Bio b) book) ≡ picked (is_at Plugged r) book ++ b ∷ [] = picked-bio (λ w k. is_where Plugged w && (k == r)) hw b book ∙ ap (λ c. picked (is_at Plugged r) book ++ cond c (b ∷ []) []) own in
-      let old : IsPermutation (bios_in plug.requests) (picked (is_at Plugged r) book) = plugged r plug (ap (slice_get plugs) (eqb-true r s a.0) ∙ at) in
+      let list : picked (is_bio_at Plugged r) (stepped hw (line.Bio b) book) ≡ picked (is_bio_at Plugged r) book ++ b ∷ [] = picked-bio (λ w k. is_where Plugged w && (k == r)) hw b book ∙ ap (λ c. picked (is_bio_at Plugged r) book ++ cond c (b ∷ []) []) own in
+      let old : IsPermutation (bios_in plug.requests) (picked (is_bio_at Plugged r) book) = plugged r plug (ap (slice_get plugs) (eqb-true r s a.0) ∙ at) in
       subst (λ l. IsPermutation (bios_in q.requests) l) (sym list)
-      (subst (λ (x : Plug). IsPermutation (bios_in x.requests) (picked (is_at Plugged r) book ++ b ∷ [])) (sym a.1)
-      (IsPermutation-trans _ _ _ (IsPermutation-sym _ _ more) (IsPermutation-trans _ _ _ (IsPermutation-cons b _ _ old) (IsPermutation-sym _ _ (IsPermutation-to_front (picked (is_at Plugged r) book) b)))))
+      (subst (λ (x : Plug). IsPermutation (bios_in x.requests) (picked (is_bio_at Plugged r) book ++ b ∷ [])) (sym a.1)
+      (IsPermutation-trans _ _ _ (IsPermutation-sym _ _ more) (IsPermutation-trans _ _ _ (IsPermutation-cons b _ _ old) (IsPermutation-sym _ _ (IsPermutation-to_front (picked (is_bio_at Plugged r) book) b)))))
   | inr a ↦
       let other : (b.id.submitter == r) ≡ false = elim (cases_Bool (b.id.submitter == r)) [ inl y ↦ absurd (not_both r s a.0 (sym (eqb-true b.id.submitter r y) ∙ sym mine)) | inr n ↦ n ] in
-      let list : picked (is_at Plugged r) (stepped hw (line.Bio b) book) ≡ picked (is_at Plugged r) book = picked-bio (λ w k. is_where Plugged w && (k == r)) hw b book ∙ ap (λ c. picked (is_at Plugged r) book ++ cond c (b ∷ []) []) other ∙ append-nil _ in
+      let list : picked (is_bio_at Plugged r) (stepped hw (line.Bio b) book) ≡ picked (is_bio_at Plugged r) book = picked-bio (λ w k. is_where Plugged w && (k == r)) hw b book ∙ ap (λ c. picked (is_bio_at Plugged r) book ++ cond c (b ∷ []) []) other ∙ append-nil _ in
       subst (λ l. IsPermutation (bios_in q.requests) l) (sym list) (plugged r q a.1)
 ]
   where
@@ -218,11 +218,11 @@ pub flush_plugged : (hw s : ℕ) (book : List Placing) (plugs : List Plug) (plug
 flush_plugged hw s book plugs plug' plugged none r q here = elim (set_cases plugs s r plug' q here) [
   | inl a ↦
       let same : r ≡ s = eqb-true r s a.0 in
-      let list : picked (is_at Plugged r) (stepped hw (line.Flush s) book) ≡ [] = ap (λ k. picked (is_at Plugged k) (stepped hw (line.Flush s) book)) same ∙ picked-flush (λ w k. is_where Plugged w && (k == s)) hw s book ∙ picked-none (λ p. is_where Plugged (flushed p.place (p.bio.id.submitter == s)) && (p.bio.id.submitter == s)) (λ p. gone_point p.place (p.bio.id.submitter == s)) book in
+      let list : picked (is_bio_at Plugged r) (stepped hw (line.Flush s) book) ≡ [] = ap (λ k. picked (is_bio_at Plugged k) (stepped hw (line.Flush s) book)) same ∙ picked-flush (λ w k. is_where Plugged w && (k == s)) hw s book ∙ picked-none (λ p. is_where Plugged (flushed p.place (p.bio.id.submitter == s)) && (p.bio.id.submitter == s)) (λ p. gone_point p.place (p.bio.id.submitter == s)) book in
       subst (λ l. IsPermutation (bios_in q.requests) l) (sym list)
       (subst (λ l. IsPermutation l []) (sym (ap (λ (x : Plug). bios_in x.requests) a.1 ∙ ap bios_in none)) (IsPermutation-refl []))
   | inr a ↦
-      let list : picked (is_at Plugged r) (stepped hw (line.Flush s) book) ≡ picked (is_at Plugged r) book = picked-flush (λ w k. is_where Plugged w && (k == r)) hw s book ∙ picked-same (λ p. is_where Plugged (flushed p.place (p.bio.id.submitter == s)) && (p.bio.id.submitter == r)) (is_at Plugged r) (λ p. kept_point p.place (p.bio.id.submitter == s) (p.bio.id.submitter == r) (apart p.bio.id.submitter s r a.0)) book in
+      let list : picked (is_bio_at Plugged r) (stepped hw (line.Flush s) book) ≡ picked (is_bio_at Plugged r) book = picked-flush (λ w k. is_where Plugged w && (k == r)) hw s book ∙ picked-same (λ p. is_where Plugged (flushed p.place (p.bio.id.submitter == s)) && (p.bio.id.submitter == r)) (is_bio_at Plugged r) (λ p. kept_point p.place (p.bio.id.submitter == s) (p.bio.id.submitter == r) (apart p.bio.id.submitter s r a.0)) book in
       subst (λ l. IsPermutation (bios_in q.requests) l) (sym list) (plugged r q a.1)
 ]
 
@@ -230,14 +230,14 @@ pub flush_staged : (hw s : ℕ) (book : List Placing) (plugs : List Plug) (queue
 flush_staged hw s book plugs queues plug queue queue' plugged staged plug_at queue_at more r q here = elim (set_cases queues s r queue' q here) [
   | inl a ↦
       let same : r ≡ s = eqb-true r s a.0 in
-      let list : picked (λ p. is_at Staged r p && true) (stepped hw (line.Flush s) book) ≡ picked (λ p. (is_where Staged (flushed p.place (p.bio.id.submitter == s)) && (p.bio.id.submitter == s)) && true) book = ap (λ k. picked (λ p. is_at Staged k p && true) (stepped hw (line.Flush s) book)) same ∙ picked-flush (λ w k. (is_where Staged w && (k == s)) && true) hw s book in
+      let list : picked (λ p. is_bio_at Staged r p && true) (stepped hw (line.Flush s) book) ≡ picked (λ p. (is_where Staged (flushed p.place (p.bio.id.submitter == s)) && (p.bio.id.submitter == s)) && true) book = ap (λ k. picked (λ p. is_bio_at Staged k p && true) (stepped hw (line.Flush s) book)) same ∙ picked-flush (λ w k. (is_where Staged w && (k == s)) && true) hw s book in
       let bios : bios_in q.requests ≡ bios_in queue.requests ++ bios_in plug.requests = ap (λ (x : Queue). bios_in x.requests) a.1 ∙ ap bios_in more ∙ flat_map-append (λ (bios : List Bio). bios) queue.requests plug.requests in
       subst (λ l. IsPermutation (bios_in q.requests) l) (sym list)
       (subst (λ l. IsPermutation l (picked (λ p. (is_where Staged (flushed p.place (p.bio.id.submitter == s)) && (p.bio.id.submitter == s)) && true) book)) (sym bios)
       (IsPermutation-trans _ _ _ (IsPermutation-append _ _ _ _ (staged s queue queue_at) (plugged s plug plug_at))
-      (picked-both (λ p. (is_where Staged (flushed p.place (p.bio.id.submitter == s)) && (p.bio.id.submitter == s)) && true) (λ p. is_at Staged s p && true) (is_at Plugged s) (λ p. join_point p.place (p.bio.id.submitter == s)) book)))
+      (picked-both (λ p. (is_where Staged (flushed p.place (p.bio.id.submitter == s)) && (p.bio.id.submitter == s)) && true) (λ p. is_bio_at Staged s p && true) (is_bio_at Plugged s) (λ p. join_point p.place (p.bio.id.submitter == s)) book)))
   | inr a ↦
-      let list : picked (λ p. is_at Staged r p && true) (stepped hw (line.Flush s) book) ≡ picked (λ p. is_at Staged r p && true) book = picked-flush (λ w k. (is_where Staged w && (k == r)) && true) hw s book ∙ picked-same (λ p. (is_where Staged (flushed p.place (p.bio.id.submitter == s)) && (p.bio.id.submitter == r)) && true) (λ p. is_at Staged r p && true) (λ p. kept_staged_point p.place (p.bio.id.submitter == s) (p.bio.id.submitter == r) (apart p.bio.id.submitter s r a.0)) book in
+      let list : picked (λ p. is_bio_at Staged r p && true) (stepped hw (line.Flush s) book) ≡ picked (λ p. is_bio_at Staged r p && true) book = picked-flush (λ w k. (is_where Staged w && (k == r)) && true) hw s book ∙ picked-same (λ p. (is_where Staged (flushed p.place (p.bio.id.submitter == s)) && (p.bio.id.submitter == r)) && true) (λ p. is_bio_at Staged r p && true) (λ p. kept_staged_point p.place (p.bio.id.submitter == s) (p.bio.id.submitter == r) (apart p.bio.id.submitter s r a.0)) book in
       subst (λ l. IsPermutation (bios_in q.requests) l) (sym list) (staged r q a.1)
 ]
 

@@ -55,13 +55,13 @@ pub record EmptiesPlug (plugs : List Plug) (queues : List Queue) (s : ℕ) (new_
   pub queues_are : new_queues ≡ slice_set queues s (with_requests to own.requests)
 
 -- the core takes a request for a hardware queue, and places it
-abbrev pub Enters : Policy → ℕ → List Bio → CoreState → CoreState → Type 0
-Enters policy hw bios old new = (placed : Placed) × CanRelease old bios hw × Places policy.serves old bios hw placed new
+abbrev pub EntersCore : Policy → ℕ → List Bio → CoreState → CoreState → Type 0
+EntersCore policy hw bios old new = (placed : Placed) × CanRelease old bios hw × Places policy.serves old bios hw placed new
 
 -- requests enter the core, one after the other
 unfoldable pub EnterInTurn : Policy → ℕ → List (List Bio) → CoreState → CoreState → Type 0
 EnterInTurn policy hw [] old new = new ≡ old
-EnterInTurn policy hw (bios ∷ rest) old new = (middle : CoreState) × Enters policy hw bios old middle × EnterInTurn policy hw rest middle new
+EnterInTurn policy hw (bios ∷ rest) old new = (middle : CoreState) × EntersCore policy hw bios old middle × EnterInTurn policy hw rest middle new
 
 -- the requests of the software queue of this number
 abbrev pub requests_in : Option Queue → List (List Bio)

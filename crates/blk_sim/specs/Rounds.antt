@@ -28,7 +28,7 @@ abbrev pub GiveNothing : Policy → ℕ → ℕ → CoreState → Type 0
 GiveNothing policy tag n core = (k : ℕ) → k < n → AsksQueue policy (queue_asked core.setup.hw tag k) tag core None core
 
 -- of the hardware queues that are asked for a tag the first that gives a command gave this one
-pub record Gives (policy : Policy) (tag : ℕ) (old new : CoreState) : Type 0 where
+pub record GivesCommand (policy : Policy) (tag : ℕ) (old new : CoreState) : Type 0 where
   pub place : ℕ
   pub below : place < old.setup.hw
   pub nothing : GiveNothing policy tag place old
@@ -39,7 +39,7 @@ pub record Gives (policy : Policy) (tag : ℕ) (old new : CoreState) : Type 0 wh
 unfoldable pub IssueInTurn : Policy → ℕ → CoreState → CoreState → Type 0
 IssueInTurn policy zero old new = new ≡ old
 IssueInTurn policy (suc tag) old new =
-    (middle : CoreState) × IssueInTurn policy tag old middle × ((IsUsed middle.events tag × (new ≡ middle)) ⊎ Gives policy tag middle new)
+    (middle : CoreState) × IssueInTurn policy tag old middle × ((IsUsed middle.events tag × (new ≡ middle)) ⊎ GivesCommand policy tag middle new)
 
 -- all tags below the depth of the round in turn, up to the first for which no hardware queue gives a command
 pub record IssuesAll (policy : Policy) (old new : CoreState) : Type 0 where

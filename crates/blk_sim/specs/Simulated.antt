@@ -41,17 +41,17 @@ abbrev pub is_in : Where → Placing → Bool
 is_in w p = is_where w p.place
 
 -- whether a bio of the submitter is at a place
-abbrev pub is_at : Where → ℕ → Placing → Bool
-is_at w s p = is_where w p.place && (p.bio.id.submitter == s)
+abbrev pub is_bio_at : Where → ℕ → Placing → Bool
+is_bio_at w s p = is_where w p.place && (p.bio.id.submitter == s)
 
 -- each plug has its submitter's plugged bios
 abbrev pub ArePlugged : List Placing → List Plug → Type 0
-ArePlugged book plugs = (s : ℕ) (plug : Plug) → slice_get plugs s ≡ Some plug → IsPermutation (bios_in plug.requests) (picked (is_at Plugged s) book)
+ArePlugged book plugs = (s : ℕ) (plug : Plug) → slice_get plugs s ≡ Some plug → IsPermutation (bios_in plug.requests) (picked (is_bio_at Plugged s) book)
 
 -- the software queues of the submitters that pass the test are empty, and each other one has its submitter's staged bios
 abbrev pub AreStaged : (ℕ → Bool) → List Placing → List Queue → Type 0
 AreStaged test book queues = (s : ℕ) (queue : Queue) → slice_get queues s ≡ Some queue
-    → IsPermutation (bios_in queue.requests) (picked (λ p. is_at Staged s p && not (test s)) book)
+    → IsPermutation (bios_in queue.requests) (picked (λ p. is_bio_at Staged s p && not (test s)) book)
 
 -- the core has the released bios, and the staged ones of the submitters that pass the test
 abbrev pub AreReleased : (ℕ → Bool) → List Placing → List Happened → Type 0

@@ -7,7 +7,7 @@ ghost use Rattle.blk_sim.specs.Moves.{DrainsAll};
 ghost use Rattle.blk_sim.specs.Rounds.{IssuesAll, CompleteInTurn, Works, Rounds};
 ghost use Rattle.blk_sim.specs.Inside.Given.{IsGiven};
 ghost use Rattle.blk_sim.specs.Refusals.{IsAskRefused, IsIssueInTurnRefused, IsWorkRefused, IsDrainInTurnRefused, IsRunRefused};
-ghost use Rattle.blk_sim.specs.Inside.Places.{IsSpread};
+ghost use Rattle.blk_sim.specs.Inside.Places.{IsModuloMap};
 ghost use Rattle.blk_sim.specs.Inside.Working.{WorkInTurn, IsWorkInTurnRefused};
 
 use crate::refusal::SimWhy;
@@ -114,7 +114,7 @@ fn drain_all<S: Scheduler>(
     queues: &mut Vec<SoftQueue<S::A>, S::A>,
     map: &Map<S::A>,
 ) -> Result<(), SimWhy>
-    requires map { IsSpread core.old.setup.hw (length queues.old.items) map.now }
+    requires map { IsModuloMap core.old.setup.hw (length queues.old.items) map.now }
     requires limits { (s : ℕ) (queue : QueueFields) → slice_get queues.old.items s ≡ Some queue → queue.limits ≡ core.old.setup.limits }
     ensures some { 0 < core.old.setup.hw }
     ensures drained { OnOk result (DrainsAll S.policy queues.old.items core.old queues.new.items core.new) }
@@ -136,7 +136,7 @@ pub(crate) fn run<S: Scheduler>(
     count: u64,
 ) -> Result<(), SimWhy>
     requires some { 1 ≤ count }
-    requires map { IsSpread core.old.setup.hw (length queues.old.items) map.now }
+    requires map { IsModuloMap core.old.setup.hw (length queues.old.items) map.now }
     requires limits { (s : ℕ) (queue : QueueFields) → slice_get queues.old.items s ≡ Some queue → queue.limits ≡ core.old.setup.limits }
     ensures passed { OnOk result (Rounds S.policy count queues.old.items core.old queues.new.items core.new) }
     ensures refused { IfErr result (λ w. IsRunRefused S.policy count queues.old.items core.old w) }

@@ -11,7 +11,7 @@ ghost use Rattle.blk_sim.specs.State.{SimState, start_of, empty_queue};
 ghost use Rattle.blk_sim.specs.Runs.{Steps, LeadsTo};
 ghost use Rattle.blk_sim.specs.Refusals.{IsSimFault, IsStepRefused};
 ghost use Rattle.blk_sim.specs.Simulated.{IsReady};
-ghost use Rattle.blk_sim.specs.Inside.Places.{IsSpread};
+ghost use Rattle.blk_sim.specs.Inside.Places.{IsModuloMap};
 
 use crate::refusal::{SimFault, SimWhy};
 use crate::rounds::run;
@@ -93,7 +93,7 @@ fn new_queues<A: Allocator + Clone>(
 /// The hardware queues of `count` software queues: of queue s, s modulo `hw`.
 fn spread<A: Allocator>(alloc: A, count: u64, hw: u8) -> Result<Vec<u8, A>, AllocError>
     requires { 0 < hw }
-    ensures { IfOk result (λ entries. IsSpread hw count entries.items) }
+    ensures { IfOk result (λ entries. IsModuloMap hw count entries.items) }
 {
     let mut entries = Vec::new(alloc);
     for s in 0..count {
@@ -110,7 +110,7 @@ fn new_map<A: Allocator>(alloc: A, count: u64, hw: u8) -> Result<Map<A>, AllocEr
     requires few { hw ≤ MAX_QUEUES }
     requires enough { hw ≤ count }
     requires submitters { count ≤ MAX_SOFT_QUEUES }
-    ensures { IfOk result (λ map. IsSpread hw count map) }
+    ensures { IfOk result (λ map. IsModuloMap hw count map) }
 {
     let entries = spread(alloc, count, hw)?;
     match Map::new(entries) {
@@ -157,7 +157,7 @@ impl<S: Scheduler> Simulation<S> {
     /// Runs one step, with this map of the software queues to the hardware queues.
     fn step(&mut self, map: &Map<S::A>, line: Line) -> Result<(), SimWhy>
         requires ready { IsReady MAX_BIOS self.old }
-        requires map { IsSpread self.old.core.setup.hw (length self.old.plugs) map.now }
+        requires map { IsModuloMap self.old.core.setup.hw (length self.old.plugs) map.now }
         requires fits { LineFits self.old.core.setup.hw (length self.old.plugs) line }
         ensures stepped { OnOk result (Steps S.policy self.old line self.new) }
         ensures refused { IfErr result (λ w. IsStepRefused S.policy self.old line w) }
@@ -211,7 +211,7 @@ fn start<S: Scheduler>(
 ) -> Result<(Map<S::A>, Simulation<S>), AllocError>
     requires script { IsScript (scripted script.now) }
     requires start { S.meaning scheduler ≡ at_start (S.meaning scheduler).front }
-    ensures map { IfOk result (λ r. IsSpread script.now.setup.hw script.now.submitters r.0) }
+    ensures map { IfOk result (λ r. IsModuloMap script.now.setup.hw script.now.submitters r.0) }
     ensures simulation { IfOk result (λ r. r.1 ≡ start_of (scripted script.now) (S.meaning scheduler) (S.kept scheduler)) }
 {
     let map = new_map(alloc.clone()?, script.submitters, script.setup.hw())?;

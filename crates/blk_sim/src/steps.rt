@@ -5,12 +5,12 @@ ghost use Rattle.blk_bio.specs.Requests.{IsWithin};
 ghost use Rattle.blk_soft.specs.Queues.{Queue as QueueFields};
 ghost use Rattle.blk_core.specs.Calls.{Completes, RequeuesTag, SetsDepth};
 ghost use Rattle.blk_core.specs.Faults.{IsInFlight, CanSetDepth};
-ghost use Rattle.blk_sim.specs.Moves.{AddsBio, EmptiesPlug, HasSoftRoom, flushed_plug, with_requests, bios_in, Enters, EnterInTurn, drained, Drains};
+ghost use Rattle.blk_sim.specs.Moves.{AddsBio, EmptiesPlug, HasSoftRoom, flushed_plug, with_requests, bios_in, EntersCore, EnterInTurn, drained, Drains};
 ghost use Rattle.blk_sim.specs.Rounds.{AsksQueue, Ticks};
 ghost use Rattle.blk_sim.specs.Refusals.{IsBioRefused, IsFlushRefused, IsOverfull, IsReleaseRefused, IsIssueRefused, IsBackRefused, IsDepthRefused, IsTickRefused, IsMoveRefused, IsDrainRefused};
 ghost use Rattle.blk_sim.specs.Simulated.{HaveCome};
 ghost use Rattle.blk_sim.specs.Inside.Limits.{ShareLimits};
-ghost use Rattle.blk_sim.specs.Inside.Places.{IsSpread};
+ghost use Rattle.blk_sim.specs.Inside.Places.{IsModuloMap};
 
 use crate::refusal::{
     SimWhy, why_added, why_issued, why_kept, why_released, why_ticked, why_unset,
@@ -29,7 +29,7 @@ use std::alloc::Allocator;
 fn release<S: Scheduler>(core: &mut Core<S>, request: Request<S::A>, hw: u8) -> Result<(), SimWhy>
     requires queue { hw < core.old.setup.hw }
     requires within { IsWithin core.old.setup.limits request }
-    ensures entered { OnOk result (Enters S.policy hw request core.old core.new) }
+    ensures entered { OnOk result (EntersCore S.policy hw request core.old core.new) }
     ensures refused { IfErr result (λ w. IsReleaseRefused core.old request hw w) }
 {
     prove!(hw < core.trace().setup().hw());
@@ -150,7 +150,7 @@ pub(crate) fn drain<S: Scheduler>(
     hw: u8,
 ) -> Result<(), SimWhy>
     requires queue { hw < core.old.setup.hw }
-    requires map { IsSpread core.old.setup.hw (length queues.old.items) map.now }
+    requires map { IsModuloMap core.old.setup.hw (length queues.old.items) map.now }
     requires limits { (s : ℕ) (queue : QueueFields) → slice_get queues.old.items s ≡ Some queue → queue.limits ≡ core.old.setup.limits }
     ensures drained { OnOk result (Drains S.policy core.old.setup.hw hw queues.old.items core.old queues.new.items core.new) }
     ensures refused { IfErr result (λ w. IsDrainRefused S.policy core.old.setup.hw hw queues.old.items core.old w) }

@@ -6,22 +6,22 @@ use Rattle.std.proofs.lemmas.Nat.{mul-le, div-add-mod'}
 use Rattle.blk_settings.specs.declared.sched.Sched.{Sched}
 use Rattle.blk_text.specs.Script.{Scripted}
 use Rattle.blk_runs.specs.declared.fault.RunFault.{RunFault}
-use Rattle.blk_tune.specs.declared.row.Row.{Row}
-use Rattle.blk_tune.specs.Row.{IsAnswer}
-use Rattle.blk_tune.specs.Inside.Shares.{AreAnswers, IsShare}
+use Rattle.blk_tune.specs.declared.row.TrialRow.{TrialRow}
+use Rattle.blk_tune.specs.Row.{IsRunAnswer}
+use Rattle.blk_tune.specs.Inside.Shares.{AreAnswers, IsThreadShare}
 
 module _ (s : Scripted) (ss : List Sched) (from step : ℕ) where
   -- one answer more
-  pub one_more_answer : (all : List (Result Row RunFault)) (r : Result Row RunFault) (place : ℕ) → place ≡ from + length all * step → place < length ss → AreAnswers s ss from step all → (c : Sched) → IsAnswer s (get_or ss place c) r → AreAnswers s ss from step (all ++ r ∷ [])
+  pub one_more_answer : (all : List (Result TrialRow RunFault)) (r : Result TrialRow RunFault) (place : ℕ) → place ≡ from + length all * step → place < length ss → AreAnswers s ss from step all → (c : Sched) → IsRunAnswer s (get_or ss place c) r → AreAnswers s ss from step (all ++ r ∷ [])
   one_more_answer all r place at inside are c is k d e h =
-      let A : ℕ → Result Row RunFault → Type 0 = λ n x. IsAnswer s (get_or ss n d) x in
+      let A : ℕ → Result TrialRow RunFault → Type 0 = λ n x. IsRunAnswer s (get_or ss n d) x in
       elim (cases_lt k (length all)) [
         | inl low ↦ subst (A (from + k * step)) (sym (get_or_append_left all (r ∷ []) e k low)) (are k d e low)
         | inr high ↦
             let len : length (all ++ r ∷ []) ≡ length all + 1 = length_push all r in
             let last : length all ≡ k = omega (arith, h, len, high) in
             let here : place ≡ from + k * step = at ∙ ap (λ n. from + n * step) last in
-            subst (A (from + k * step)) (sym (get_or_push all r e k last)) (subst (λ n. A n r) here (subst (λ x. IsAnswer s x r) (get_or_default ss place c d inside) is))
+            subst (A (from + k * step)) (sym (get_or_push all r e k last)) (subst (λ n. A n r) here (subst (λ x. IsRunAnswer s x r) (get_or_default ss place c d inside) is))
       ]
 
   -- the place after the last of them
@@ -29,7 +29,7 @@ module _ (s : Scripted) (ss : List Sched) (from step : ℕ) where
   next_place n place at = omega (arith, at)
 
 -- the answer of a setting stands in the share of its rest, at its quotient
-pub quotient_within : (from until step i : ℕ) (all : List (Result Row RunFault)) → until ≤ (from + i % step) + length all * step → from + i < until → i / step < length all
+pub quotient_within : (from until step i : ℕ) (all : List (Result TrialRow RunFault)) → until ≤ (from + i % step) + length all * step → from + i < until → i / step < length all
 quotient_within from until step i all whole inside = elim (cases_lt (i / step) (length all)) [
   | inl low ↦ low
   | inr high ↦
@@ -46,7 +46,7 @@ place_again from step i =
     omega (arith, parts)
 
 -- the answer of a setting, in the share where it stands
-pub answer_at : (s : Scripted) (ss : List Sched) (from until step i : ℕ) (all : List (Result Row RunFault)) → IsShare s ss (from + i % step) until step all → from + i < until → (d : Sched) (e : Result Row RunFault) → IsAnswer s (get_or ss (from + i) d) (get_or all (i / step) e)
+pub answer_at : (s : Scripted) (ss : List Sched) (from until step i : ℕ) (all : List (Result TrialRow RunFault)) → IsThreadShare s ss (from + i % step) until step all → from + i < until → (d : Sched) (e : Result TrialRow RunFault) → IsRunAnswer s (get_or ss (from + i) d) (get_or all (i / step) e)
 answer_at s ss from until step i all is inside d e =
-    let A : ℕ → Type 0 = λ n. IsAnswer s (get_or ss n d) (get_or all (i / step) e) in
+    let A : ℕ → Type 0 = λ n. IsRunAnswer s (get_or ss n d) (get_or all (i / step) e) in
     subst A (place_again from step i) (is.each (i / step) d e (quotient_within from until step i all is.whole inside))

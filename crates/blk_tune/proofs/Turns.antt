@@ -6,13 +6,13 @@ use Rattle.std.proofs.lemmas.List.Elements.{All-nil, All-push, All-map, All-weak
 use Rattle.blk_settings.specs.declared.sched.Sched.{Sched}
 use Rattle.blk_text.specs.Script.{Scripted}
 use Rattle.blk_runs.specs.Firsts.{RunsWhole}
-use Rattle.blk_tune.specs.declared.row.Row.{Row}
-use Rattle.blk_tune.specs.Row.{IsRow, AreRows}
+use Rattle.blk_tune.specs.declared.row.TrialRow.{TrialRow}
+use Rattle.blk_tune.specs.Row.{IsRow, AreRowsUnder}
 
-abbrev sched_of : Row → Sched
+abbrev sched_of : TrialRow → Sched
 sched_of r = r.sched
 
-pub one_more : (ss : List Sched) (n : ℕ) (d : Sched) (s : Scripted) (rs : List Row) (r : Row) → n < length ss → AreRows (take n ss) s rs → r.sched ≡ get_or ss n d → IsRow s r → AreRows (take (n + 1) ss) s (rs ++ r ∷ [])
+pub one_more : (ss : List Sched) (n : ℕ) (d : Sched) (s : Scripted) (rs : List TrialRow) (r : TrialRow) → n < length ss → AreRowsUnder (take n ss) s rs → r.sched ≡ get_or ss n d → IsRow s r → AreRowsUnder (take (n + 1) ss) s (rs ++ r ∷ [])
 one_more ss n d s rs r h are is row = (
   map-append sched_of rs (r ∷ [])
       ∙ ap (λ (xs : List Sched). xs ++ r.sched ∷ []) are.0
@@ -22,7 +22,7 @@ one_more ss n d s rs r h are is row = (
 )
 
 -- the script runs whole under each of them
-pub whole : (ss : List Sched) (s : Scripted) (rs : List Row) → AreRows ss s rs → All (RunsWhole s) ss
+pub whole : (ss : List Sched) (s : Scripted) (rs : List TrialRow) → AreRowsUnder ss s rs → All (RunsWhole s) ss
 whole ss s rs are =
     All-same (RunsWhole s) ss (map sched_of rs) (sym are.0)
     (All-map (RunsWhole s) sched_of rs (All-weaker (IsRow s) (λ r. RunsWhole s (sched_of r)) (λ r row. (row.trace, row.is_trace)) rs are.1))

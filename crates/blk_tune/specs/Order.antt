@@ -7,36 +7,36 @@ use Rattle.std.specs.declared.cmp.Ordering.{Ordering}
 use Rattle.blk_grid.specs.declared.By.{By}
 use Rattle.blk_grid.specs.declared.By.TheVariants as by
 use Rattle.edd_figures.specs.Figures.{shortfall_in}
-use Rattle.blk_tune.specs.declared.row.Row.{Row}
+use Rattle.blk_tune.specs.declared.row.TrialRow.{TrialRow}
 
-abbrev pub avoidable_cmp : Row → Row → Ordering
+abbrev pub avoidable_cmp : TrialRow → TrialRow → Ordering
 avoidable_cmp x y = nat_cmp x.tally.avoidable y.tally.avoidable
 
 -- a figure that isn't there is the least
-abbrev pub shortfall_cmp : Row → Row → Ordering
+abbrev pub shortfall_cmp : TrialRow → TrialRow → Ordering
 shortfall_cmp x y = option_cmp int_cmp (shortfall_in x.report.figures) (shortfall_in y.report.figures)
 
-abbrev pub reads_cmp : Row → Row → Ordering
+abbrev pub reads_cmp : TrialRow → TrialRow → Ordering
 reads_cmp x y = option_cmp int_cmp x.wait_read y.wait_read
 
-abbrev pub writes_cmp : Row → Row → Ordering
+abbrev pub writes_cmp : TrialRow → TrialRow → Ordering
 writes_cmp x y = option_cmp int_cmp x.wait_write y.wait_write
 
 -- by what rows are put in order: what is avoidable and the shortfall, or the other way round, and the waits
-abbrev pub misses_key : Row → ℕ × Option ℤ × Option ℤ × Option ℤ
+abbrev pub misses_key : TrialRow → ℕ × Option ℤ × Option ℤ × Option ℤ
 misses_key r = (r.tally.avoidable, shortfall_in r.report.figures, r.wait_read, r.wait_write)
 
-abbrev pub lateness_key : Row → Option ℤ × ℕ × Option ℤ × Option ℤ
+abbrev pub lateness_key : TrialRow → Option ℤ × ℕ × Option ℤ × Option ℤ
 lateness_key r = (shortfall_in r.report.figures, r.tally.avoidable, r.wait_read, r.wait_write)
 
 -- the better one is the less: by what is avoidable and then by the shortfall, or the other way round; then by the reads' waits, then by
 -- the writes'
-abbrev pub best_cmp : By → Row → Row → Ordering
+abbrev pub best_cmp : By → TrialRow → TrialRow → Ordering
 best_cmp by.Misses x y = ordering_then (ordering_then (ordering_then (avoidable_cmp x y) (shortfall_cmp x y)) (reads_cmp x y)) (writes_cmp x y)
 best_cmp by.Lateness x y = ordering_then (ordering_then (ordering_then (shortfall_cmp x y) (avoidable_cmp x y)) (reads_cmp x y)) (writes_cmp x y)
 
 -- the same rows, the best first; those that are as good in the order that they had
-pub record AreBestFirst (b : By) (before after : List Row) : Type 0 where
+pub record AreBestFirst (b : By) (before after : List TrialRow) : Type 0 where
   pub same : IsPermutation before after
   pub sorted : IsSorted (best_cmp b) after
   pub stable : IsStable (best_cmp b) before after

@@ -18,7 +18,7 @@ use Rattle.blk_report.specs.Spread.{AreSpreads}
 use Rattle.blk_settings.specs.declared.sched.Sched.{Sched}
 use Rattle.blk_runs.specs.declared.fault.RunFault.{RunFault}
 use Rattle.blk_runs.specs.Runs.{IsTraceOfScript, IsUnrun}
-use Rattle.blk_tune.specs.declared.row.Row.{Row}
+use Rattle.blk_tune.specs.declared.row.TrialRow.{TrialRow}
 
 -- no legal schedule of the same commands has fewer of them late
 abbrev pub HasFewestLate : List Command → List ℕ → List Step → Type 0
@@ -30,7 +30,7 @@ IsLatestOfNone commands rounds steps = (late : ℤ) × IsGreatestLateness comman
 
 -- the numbers of a trace: its report, the count of its misses, and of its reads' and writes' waits the 99th percentiles. Nothing is
 -- avoidable just where no legal schedule of its commands has fewer late, and nothing is lost just where none is less late
-pub record IsRowOf (trace : Traced) (r : Row) : Type 0 where
+pub record IsRowOfTrace (trace : Traced) (r : TrialRow) : Type 0 where
   pub is_report : IsReport trace.setup trace.events r.report
   pub windows : List Crowd
   pub is_tallied : IsTallied trace.setup trace.events r.tally windows
@@ -42,16 +42,16 @@ pub record IsRowOf (trace : Traced) (r : Row) : Type 0 where
   pub least : (shortfall_in r.report.figures ≡ Some (pos 0)) ↔ IsLatestOfNone (commands_of trace.setup trace.events) (rounds_of trace.events) (capacity_of trace.setup trace.events)
 
 -- those of the trace that `sim` writes under the row's settings
-pub record IsRow (script : Scripted) (r : Row) : Type 0 where
+pub record IsRow (script : Scripted) (r : TrialRow) : Type 0 where
   pub trace : Traced
   pub is_trace : IsTraceOfScript r.sched script trace
-  pub is_row : IsRowOf trace r
+  pub is_row : IsRowOfTrace trace r
 
 -- what becomes of a run under a setting: its row, or why it has none
-abbrev pub IsAnswer : Scripted → Sched → Result Row RunFault → Type 0
-IsAnswer script s (Ok r) = (r.sched ≡ s) × IsRow script r
-IsAnswer script s (Err f) = IsUnrun s script f
+abbrev pub IsRunAnswer : Scripted → Sched → Result TrialRow RunFault → Type 0
+IsRunAnswer script s (Ok r) = (r.sched ≡ s) × IsRow script r
+IsRunAnswer script s (Err f) = IsUnrun s script f
 
 -- a row for each of these settings, in their order
-abbrev pub AreRows : List Sched → Scripted → List Row → Type 0
-AreRows scheds script rows = (map (λ r. r.sched) rows ≡ scheds) × All (IsRow script) rows
+abbrev pub AreRowsUnder : List Sched → Scripted → List TrialRow → Type 0
+AreRowsUnder scheds script rows = (map (λ r. r.sched) rows ≡ scheds) × All (IsRow script) rows

@@ -12,7 +12,7 @@ use Rattle.blk_settings.specs.declared.sched.Sched.{Sched}
 use Rattle.blk_settings.specs.declared.sched.Sched.TheVariants as sched
 use Rattle.blk_grid.specs.declared.By.{By}
 use Rattle.blk_grid.specs.declared.By.TheVariants as by
-use Rattle.blk_tune.specs.declared.row.Row.{Row}
+use Rattle.blk_tune.specs.declared.row.TrialRow.{TrialRow}
 
 abbrev pub on_off : Bool → List ℕ
 on_off true = codes "on"
@@ -29,8 +29,8 @@ settings_text (sched.Deadline t) = tunables_text t
 settings_text (sched.Kyber t) = (codes "read_target=" ++ decimal t.read) ++ (codes " write_target=" ++ decimal t.write)
 
 -- the head line, the fields of a report and of a tally, and the line of a row
-abbrev pub head_line : List ℕ
-head_line = codes "sched,settings,commands,waiting,greatest,least,shortfall,late,unavoidable,avoidable,wait_p99_read,wait_p99_write" ++ 10 ∷ []
+abbrev pub row_head : List ℕ
+row_head = codes "sched,settings,commands,waiting,greatest,least,shortfall,late,unavoidable,avoidable,wait_p99_read,wait_p99_write" ++ 10 ∷ []
 
 abbrev pub report_fields : Report → List ℕ
 report_fields r = (((next_field (decimal r.commands) ++ next_field (decimal r.waiting)) ++ next_field (late_text (greatest_in r.figures))) ++ next_field (late_text (least_in r.figures))) ++ next_field (late_text (shortfall_in r.figures))
@@ -38,8 +38,8 @@ report_fields r = (((next_field (decimal r.commands) ++ next_field (decimal r.wa
 abbrev pub tally_fields : Tally → List ℕ
 tally_fields t = (next_field (decimal t.late) ++ next_field (decimal t.unavoidable)) ++ next_field (decimal t.avoidable)
 
-abbrev pub row_line : Row → List ℕ
-row_line r = (((((name_of r.sched ++ next_field (settings_text r.sched)) ++ report_fields r.report) ++ tally_fields r.tally) ++ next_field (late_text r.wait_read)) ++ next_field (late_text r.wait_write)) ++ 10 ∷ []
+abbrev pub trial_line : TrialRow → List ℕ
+trial_line r = (((((name_of r.sched ++ next_field (settings_text r.sched)) ++ report_fields r.report) ++ tally_fields r.tally) ++ next_field (late_text r.wait_read)) ++ next_field (late_text r.wait_write)) ++ 10 ∷ []
 
 -- no rounds are lost
 abbrev pub is_none : Option ℤ → Bool
@@ -47,19 +47,19 @@ is_none None = false
 is_none (Some z) = int_eq z (pos 0)
 
 -- what is said of the best row: nothing avoidable, with some commands, or nothing lost
-abbrev pub remark_of : By → Row → List ℕ
+abbrev pub remark_of : By → TrialRow → List ℕ
 remark_of by.Misses r = if nat_lt 0 r.tally.commands && (r.tally.avoidable == 0) then codes " (no schedule misses fewer)" else []
 remark_of by.Lateness r = if is_none (shortfall_in r.report.figures) then codes " (no schedule is less late)" else []
 
 -- the last line
-abbrev pub best_line : By → List Row → List ℕ
-best_line b [] = codes "best none-served" ++ 10 ∷ []
-best_line b (r ∷ rs) = ((((codes "best " ++ name_of r.sched) ++ 32 ∷ []) ++ settings_text r.sched) ++ remark_of b r) ++ 10 ∷ []
+abbrev pub best_row_line : By → List TrialRow → List ℕ
+best_row_line b [] = codes "best none-served" ++ 10 ∷ []
+best_row_line b (r ∷ rs) = ((((codes "best " ++ name_of r.sched) ++ 32 ∷ []) ++ settings_text r.sched) ++ remark_of b r) ++ 10 ∷ []
 
 -- the rows that are shown
-abbrev pub shown : Option ℕ → List Row → List Row
+abbrev pub shown : Option ℕ → List TrialRow → List TrialRow
 shown None rows = rows
 shown (Some n) rows = take n rows
 
-abbrev pub table_text : By → Option ℕ → List Row → List ℕ
-table_text b top rows = (head_line ++ flat_map (λ r. row_line r) (shown top rows)) ++ best_line b rows
+abbrev pub table_text : By → Option ℕ → List TrialRow → List ℕ
+table_text b top rows = (row_head ++ flat_map (λ r. trial_line r) (shown top rows)) ++ best_row_line b rows

@@ -6,7 +6,7 @@
 ghost use Rattle.std.specs.Prelude.{IfOk, IfErr};
 ghost use Rattle.blk_text.specs.Script.{IsScript, scripted};
 ghost use Rattle.blk_grid.specs.Rows.{grid_rows};
-ghost use Rattle.blk_grid.specs.Wanted.{wanted};
+ghost use Rattle.blk_grid.specs.Wanted.{as_wanted};
 ghost use Rattle.blk_runs.specs.Firsts.{AreUnrun};
 ghost use Rattle.blk_tune.specs.Tuned.{AreTuned, IsTuned};
 
@@ -18,7 +18,7 @@ mod trial;
 
 use crate::order::best_first;
 pub use crate::progress::{Progress, ProgressLine, Quiet};
-pub use crate::row::Row;
+pub use crate::row::TrialRow;
 pub use crate::text::{shown, table};
 use crate::trial::tried;
 use blk_grid::Asked;
@@ -38,10 +38,10 @@ pub fn rows<T: Threads + Sync, P: Progress>(
     asked: &Asked,
     script: &Script,
     progress: &mut P,
-) -> Result<Vec<Row>, RunFault>
+) -> Result<Vec<TrialRow>, RunFault>
     requires { IsScript (scripted script.now) }
-    ensures rows { IfOk result (λ rows. AreTuned (wanted asked.now) (scripted script.now) rows.items) }
-    ensures unrun { IfErr result (AreUnrun (grid_rows (wanted asked.now).grid) (scripted script.now)) }
+    ensures rows { IfOk result (λ rows. AreTuned (as_wanted asked.now) (scripted script.now) rows.items) }
+    ensures unrun { IfErr result (AreUnrun (grid_rows (as_wanted asked.now).grid) (scripted script.now)) }
 {
     let Ok(scheds) = asked.grid.rows(alloc) else {
         return Err(RunFault::Memory);
@@ -78,8 +78,8 @@ pub fn tune<T: Threads + Sync, P: Progress>(
     progress: &mut P,
 ) -> Result<Vec<u8>, RunFault>
     requires { IsScript (scripted script.now) }
-    ensures text { IfOk result (λ text. IsTuned (wanted asked.now) (scripted script.now) text.items) }
-    ensures unrun { IfErr result (AreUnrun (grid_rows (wanted asked.now).grid) (scripted script.now)) }
+    ensures text { IfOk result (λ text. IsTuned (as_wanted asked.now) (scripted script.now) text.items) }
+    ensures unrun { IfErr result (AreUnrun (grid_rows (as_wanted asked.now).grid) (scripted script.now)) }
 {
     let rows = match rows(rt, alloc, asked, script, progress) {
         Ok(rows) => rows,

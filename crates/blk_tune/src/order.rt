@@ -3,12 +3,12 @@
 ghost use Rattle.std.specs.Prelude.{OnOk, ◌≡◌};
 ghost use Rattle.blk_tune.specs.Order.{AreBestFirst, misses_key, lateness_key};
 
-use crate::row::Row;
+use crate::row::TrialRow;
 use blk_grid::By;
 use std::alloc::AllocError;
 
 /// What is avoidable in a row, and then what breaks ties.
-fn by_misses(row: &Row) -> (u64, Option<i64>, Option<i64>, Option<i64>)
+fn by_misses(row: &TrialRow) -> (u64, Option<i64>, Option<i64>, Option<i64>)
     ensures { result ≡ misses_key row.now }
 {
     let avoidable = row.tally.avoidable;
@@ -17,7 +17,7 @@ fn by_misses(row: &Row) -> (u64, Option<i64>, Option<i64>, Option<i64>)
 }
 
 /// By how much a row falls short, and then what breaks ties.
-fn by_lateness(row: &Row) -> (Option<i64>, u64, Option<i64>, Option<i64>)
+fn by_lateness(row: &TrialRow) -> (Option<i64>, u64, Option<i64>, Option<i64>)
     ensures { result ≡ lateness_key row.now }
 {
     let shortfall = row.report.shortfall();
@@ -26,7 +26,7 @@ fn by_lateness(row: &Row) -> (Option<i64>, u64, Option<i64>, Option<i64>)
 }
 
 /// Puts rows in order by what is avoidable.
-fn sort_by_misses(rows: &mut Vec<Row>) -> Result<(), AllocError>
+fn sort_by_misses(rows: &mut Vec<TrialRow>) -> Result<(), AllocError>
     ensures { OnOk result (AreBestFirst By.Misses rows.old.items rows.new.items) }
 {
     rows.sort_by_key(|row| by_misses(row))?;
@@ -34,7 +34,7 @@ fn sort_by_misses(rows: &mut Vec<Row>) -> Result<(), AllocError>
 }
 
 /// Puts rows in order by how much they fall short.
-fn sort_by_lateness(rows: &mut Vec<Row>) -> Result<(), AllocError>
+fn sort_by_lateness(rows: &mut Vec<TrialRow>) -> Result<(), AllocError>
     ensures { OnOk result (AreBestFirst By.Lateness rows.old.items rows.new.items) }
 {
     rows.sort_by_key(|row| by_lateness(row))?;
@@ -42,7 +42,7 @@ fn sort_by_lateness(rows: &mut Vec<Row>) -> Result<(), AllocError>
 }
 
 /// Puts rows in order, the best first; of rows that are as good the one that stands first stays first.
-pub fn best_first(by: By, rows: &mut Vec<Row>) -> Result<(), AllocError>
+pub fn best_first(by: By, rows: &mut Vec<TrialRow>) -> Result<(), AllocError>
     ensures { OnOk result (AreBestFirst by rows.old.items rows.new.items) }
 {
     match by {

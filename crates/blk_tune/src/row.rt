@@ -2,7 +2,7 @@
 
 ghost use Rattle.std.specs.Prelude.{◌≡◌, IfOk};
 ghost use Rattle.blk_text.specs.Script.{IsScript, scripted};
-ghost use Rattle.blk_tune.specs.Row.{IsRowOf, IsAnswer};
+ghost use Rattle.blk_tune.specs.Row.{IsRowOfTrace, IsRunAnswer};
 
 use blk_report::{Report, Tally, misses, report, services, spread};
 use blk_runs::{RunFault, traced};
@@ -13,7 +13,7 @@ use std::alloc::{AllocError, Global};
 
 /// What came of a script under a scheduler of some settings.
 #[derive(Clone, Copy, Debug, PartialEq, Eq)]
-pub struct Row {
+pub struct TrialRow {
     /// The scheduler with its settings.
     pub sched: Sched,
     /// How far its trace fell short.
@@ -27,15 +27,15 @@ pub struct Row {
 }
 
 /// The numbers of a trace.
-fn numbers_of(alloc: Global, sched: Sched, trace: &Trace) -> Result<Row, AllocError>
+fn numbers_of(alloc: Global, sched: Sched, trace: &Trace) -> Result<TrialRow, AllocError>
     ensures sched { IfOk result (λ row. row.sched ≡ sched) }
-    ensures row { IfOk result (IsRowOf trace.now) }
+    ensures row { IfOk result (IsRowOfTrace trace.now) }
 {
     let report = report(trace)?;
     let missed = misses(trace)?;
     let services = services(trace)?;
     let spreads = spread(alloc, services.as_slice())?;
-    Ok(Row {
+    Ok(TrialRow {
         sched,
         report,
         tally: missed.tally,
@@ -45,9 +45,9 @@ fn numbers_of(alloc: Global, sched: Sched, trace: &Trace) -> Result<Row, AllocEr
 }
 
 /// The row of a script under a scheduler, or why it has none.
-pub fn row_under(alloc: Global, sched: Sched, script: &Script) -> Result<Row, RunFault>
+pub fn row_under(alloc: Global, sched: Sched, script: &Script) -> Result<TrialRow, RunFault>
     requires { IsScript (scripted script.now) }
-    ensures { IsAnswer (scripted script.now) sched result }
+    ensures { IsRunAnswer (scripted script.now) sched result }
 {
     let trace = match traced(alloc, sched, script) {
         Ok(trace) => trace,

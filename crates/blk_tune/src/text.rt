@@ -3,9 +3,9 @@
 ghost use Rattle.std.specs.Prelude.{◌≡◌, ◌++◌, OnOk, IfOk, decimal};
 ghost use Rattle.std.specs.List.{flat_map};
 ghost use Rattle.edd_figures.specs.Lines.{late_text, next_field};
-ghost use Rattle.blk_tune.specs.Text.{tunables_text, settings_text, report_fields, tally_fields, row_line, remark_of, best_line, shown, head_line, table_text, on_off};
+ghost use Rattle.blk_tune.specs.Text.{tunables_text, settings_text, report_fields, tally_fields, trial_line, remark_of, best_row_line, shown, row_head, table_text, on_off};
 
-use crate::row::Row;
+use crate::row::TrialRow;
 use blk_deadline::Tunables;
 use blk_grid::By;
 use blk_report::{Report, Tally};
@@ -98,8 +98,8 @@ fn push_tally(draft: &mut Draft, tally: &Tally) -> Result<(), AllocError>
 }
 
 /// Adds the line of a row.
-fn push_row(draft: &mut Draft, alloc: Global, row: &Row) -> Result<(), AllocError>
-    ensures { OnOk result (draft.new ≡ draft.old ++ row_line row.now) }
+fn push_row(draft: &mut Draft, alloc: Global, row: &TrialRow) -> Result<(), AllocError>
+    ensures { OnOk result (draft.new ≡ draft.old ++ trial_line row.now) }
 {
     draft.text(row.sched.name().as_bytes())?;
     push_sched(draft, row.sched)?;
@@ -111,8 +111,8 @@ fn push_row(draft: &mut Draft, alloc: Global, row: &Row) -> Result<(), AllocErro
 }
 
 /// Adds the lines of rows.
-fn push_rows(draft: &mut Draft, alloc: Global, rows: &[Row]) -> Result<(), AllocError>
-    ensures { OnOk result (draft.new ≡ draft.old ++ flat_map (λ r. row_line r) rows.now) }
+fn push_rows(draft: &mut Draft, alloc: Global, rows: &[TrialRow]) -> Result<(), AllocError>
+    ensures { OnOk result (draft.new ≡ draft.old ++ flat_map (λ r. trial_line r) rows.now) }
 {
     for row in rows {
         push_row(draft, alloc, row)?;
@@ -121,7 +121,7 @@ fn push_rows(draft: &mut Draft, alloc: Global, rows: &[Row]) -> Result<(), Alloc
 }
 
 /// What is said of the best row, where no schedule is better.
-fn remark(by: By, row: &Row) -> &'static [u8]
+fn remark(by: By, row: &TrialRow) -> &'static [u8]
     ensures { result.now ≡ remark_of by row.now }
 {
     match by {
@@ -146,8 +146,8 @@ fn remark(by: By, row: &Row) -> &'static [u8]
 }
 
 /// Adds the last line, which names the best row.
-fn push_best(draft: &mut Draft, by: By, rows: &[Row]) -> Result<(), AllocError>
-    ensures { OnOk result (draft.new ≡ draft.old ++ best_line by rows.now) }
+fn push_best(draft: &mut Draft, by: By, rows: &[TrialRow]) -> Result<(), AllocError>
+    ensures { OnOk result (draft.new ≡ draft.old ++ best_row_line by rows.now) }
 {
     match rows.first() {
         None => draft.text(b"best none-served\n"),
@@ -163,7 +163,7 @@ fn push_best(draft: &mut Draft, by: By, rows: &[Row]) -> Result<(), AllocError>
 }
 
 /// The rows that are shown of those that stand best first: the first `top`, or all where there are fewer, or without it.
-pub fn shown(top: Option<u64>, rows: &[Row]) -> &[Row]
+pub fn shown(top: Option<u64>, rows: &[TrialRow]) -> &[TrialRow]
     ensures { result.now ≡ shown top rows.now }
 {
     match top {
@@ -182,7 +182,12 @@ pub fn shown(top: Option<u64>, rows: &[Row]) -> &[Row]
 /// and bios waiting it has, its greatest lateness, the least and the shortfall, how many commands were late, had to be and didn't, and
 /// how long 99 of 100 reads and of 100 writes waited at most, in rounds, `none` where there is no such number; and a last line that names
 /// the best one, and says so where no schedule of its commands is better.
-pub fn table(alloc: Global, by: By, top: Option<u64>, rows: &[Row]) -> Result<Vec<u8>, AllocError>
+pub fn table(
+    alloc: Global,
+    by: By,
+    top: Option<u64>,
+    rows: &[TrialRow],
+) -> Result<Vec<u8>, AllocError>
     ensures { IfOk result (λ text. text.items ≡ table_text by top rows.now) }
 {
     let mut draft = Draft::new(alloc);

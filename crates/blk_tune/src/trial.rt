@@ -5,11 +5,11 @@ ghost use Rattle.blk_settings.specs.Made.{IsMade};
 ghost use Rattle.blk_settings.specs.declared.sched.Sched.{Sched};
 ghost use Rattle.blk_text.specs.Script.{IsScript, scripted};
 ghost use Rattle.blk_runs.specs.Firsts.{AreUnrun};
-ghost use Rattle.blk_tune.specs.Row.{AreRows};
-ghost use Rattle.blk_tune.specs.Inside.Shares.{IsShare, AreShares};
+ghost use Rattle.blk_tune.specs.Row.{AreRowsUnder};
+ghost use Rattle.blk_tune.specs.Inside.Shares.{IsThreadShare, AreShares};
 
 use crate::progress::Progress;
-use crate::row::{Row, row_under};
+use crate::row::{TrialRow, row_under};
 use blk_runs::RunFault;
 use blk_settings::Sched;
 use blk_text::Script;
@@ -37,7 +37,7 @@ fn side_by_side(rt: &impl Threads, threads: Option<u64>) -> usize
 }
 
 /// What came of the runs of one thread, in their order.
-type Share = Result<Vec<Result<Row, RunFault>>, AllocError>;
+type Share = Result<Vec<Result<TrialRow, RunFault>>, AllocError>;
 
 /// The runs of one thread: under the settings at a place and at every `step`-th one after it, below a bound, one after the other.
 ///
@@ -53,7 +53,7 @@ fn share(
     requires script { IsScript (scripted script.now) }
     requires step { 0 < step }
     requires within { until ≤ length scheds.now }
-    ensures each { IfOk result (λ all. IsShare (scripted script.now) scheds.now from until step all.items) }
+    ensures each { IfOk result (λ all. IsThreadShare (scripted script.now) scheds.now from until step all.items) }
 {
     let mut all = Vec::new(alloc);
     let mut place = from;
@@ -86,7 +86,7 @@ fn shares<T: Threads + Sync>(
 {
     let run = |i: usize| -> Share
         requires { (i < threads) × (threads ≤ until - from) × (until ≤ length scheds.now) × IsScript (scripted script.now) }
-        ensures { IfOk result (λ one. IsShare (scripted script.entry.now) scheds.entry.now (from + i) until threads one.items) }
+        ensures { IfOk result (λ one. IsThreadShare (scripted script.entry.now) scheds.entry.now (from + i) until threads one.items) }
     { share(alloc, scheds, from + i, until, threads, script) };
     let all = thread::map_indices(rt, alloc, threads, &run)?;
     Ok(all)
@@ -101,14 +101,14 @@ fn push_batch<T: Threads + Sync>(
     until: usize,
     threads: usize,
     script: &Script,
-    rows: &mut Vec<Row>,
+    rows: &mut Vec<TrialRow>,
 ) -> Result<(), RunFault>
     requires script { IsScript (scripted script.now) }
     requires made { All IsMade scheds.now }
     requires within { (from < until) × (until ≤ length scheds.now) }
     requires threads { 1 ≤ threads }
-    requires rows { AreRows (take from scheds.now) (scripted script.now) rows.old.items }
-    ensures rows { OnOk result (AreRows (take until scheds.now) (scripted script.now) rows.new.items) }
+    requires rows { AreRowsUnder (take from scheds.now) (scripted script.now) rows.old.items }
+    ensures rows { OnOk result (AreRowsUnder (take until scheds.now) (scripted script.now) rows.new.items) }
     ensures unrun { IfErr result (AreUnrun scheds.now (scripted script.now)) }
 {
     let threads = threads.min(until - from);
@@ -139,10 +139,10 @@ pub fn tried<T: Threads + Sync, P: Progress>(
     threads: Option<u64>,
     script: &Script,
     progress: &mut P,
-) -> Result<Vec<Row>, RunFault>
+) -> Result<Vec<TrialRow>, RunFault>
     requires script { IsScript (scripted script.now) }
     requires made { All IsMade scheds.now }
-    ensures rows { IfOk result (λ rows. AreRows scheds.now (scripted script.now) rows.items) }
+    ensures rows { IfOk result (λ rows. AreRowsUnder scheds.now (scripted script.now) rows.items) }
     ensures unrun { IfErr result (AreUnrun scheds.now (scripted script.now)) }
 {
     let threads = side_by_side(rt, threads);

@@ -15,7 +15,7 @@ use Rattle.blk_words.proofs.Lines.{Parses}
 use Rattle.blk_words.specs.declared.lists.Tried.{Tried}
 use Rattle.blk_words.specs.declared.lists.TheConstants.{MAX_LISTED}
 use Rattle.blk_words.specs.Times.{number_in}
-use Rattle.blk_words.specs.Lists.{parts, numbers_in, are_distinct, is_listed, listed, list_of, with_name, with_names}
+use Rattle.blk_words.specs.Lists.{parts, numbers_in, are_distinct, is_listed, if_listed, list_of, with_name, with_names}
 
 both : (a b : Bool) → (a && b) ≡ true → (a ≡ true) × (b ≡ true)
 both true b e = (refl, e)
@@ -81,31 +81,31 @@ not_listed : (xs ys : List ℕ) (b : Bool) → is_listed (xs ++ ys) ≡ b → is
 not_listed xs ys false e f = refl
 not_listed xs ys true e f = let h : true ≡ false = sym (listed_front xs ys e) ∙ f in cc h
 
-none_listed : (xs : List ℕ) (o : Option (List ℕ)) → is_listed xs ≡ false → option_and_then (λ ns. listed (xs ++ ns)) o ≡ None
+none_listed : (xs : List ℕ) (o : Option (List ℕ)) → is_listed xs ≡ false → option_and_then (λ ns. if_listed (xs ++ ns)) o ≡ None
 none_listed xs None e = refl
 none_listed xs (Some ns) e = ap (λ (b : Bool). if b then Some (xs ++ ns) else None) (not_listed xs ns (is_listed (xs ++ ns)) refl e)
 
-moved : (xs : List ℕ) (n : ℕ) (o : Option (List ℕ)) → option_and_then (λ ns. listed ((xs ++ n ∷ []) ++ ns)) o ≡ option_and_then (λ ns. listed (xs ++ ns)) (option_map (λ ns. n ∷ ns) o)
+moved : (xs : List ℕ) (n : ℕ) (o : Option (List ℕ)) → option_and_then (λ ns. if_listed ((xs ++ n ∷ []) ++ ns)) o ≡ option_and_then (λ ns. if_listed (xs ++ ns)) (option_map (λ ns. n ∷ ns) o)
 moved xs n None = refl
-moved xs n (Some ns) = ap listed (append_assoc xs (n ∷ []) ns)
+moved xs n (Some ns) = ap if_listed (append_assoc xs (n ∷ []) ns)
 
 -- how the rest is read from here on
 abbrev Reads : ℕ → List ℕ → List Text → Type 0
-Reads most ns texts = gathered most ns texts ≡ option_and_then (λ k. listed (ns ++ k)) (numbers_in most texts)
+Reads most ns texts = gathered most ns texts ≡ option_and_then (λ k. if_listed (ns ++ k)) (numbers_in most texts)
 
 after : (most : ℕ) (so_far : List ℕ) (texts : List Text) (n : ℕ) (b : Bool) → is_listed (so_far ++ n ∷ []) ≡ b → ((ns : List ℕ) → is_listed ns ≡ true → Reads most ns texts)
-    → (if b then gathered most (so_far ++ n ∷ []) texts else None) ≡ option_and_then (λ ns. listed (so_far ++ ns)) (option_map (λ ns. n ∷ ns) (numbers_in most texts))
+    → (if b then gathered most (so_far ++ n ∷ []) texts else None) ≡ option_and_then (λ ns. if_listed (so_far ++ ns)) (option_map (λ ns. n ∷ ns) (numbers_in most texts))
 after most so_far texts n true e rest = rest (so_far ++ n ∷ []) e ∙ moved so_far n (numbers_in most texts)
 after most so_far texts n false e rest = sym (none_listed (so_far ++ n ∷ []) (numbers_in most texts) e) ∙ moved so_far n (numbers_in most texts)
 
 with_one : (most : ℕ) (so_far : List ℕ) (texts : List Text) (o : Option ℕ) → ((ns : List ℕ) → is_listed ns ≡ true → Reads most ns texts)
     → option_and_then (λ n. if is_listed (so_far ++ n ∷ []) then gathered most (so_far ++ n ∷ []) texts else None) o
-    ≡ option_and_then (λ ns. listed (so_far ++ ns)) (option_and_then (λ n. option_map (λ ns. n ∷ ns) (numbers_in most texts)) o)
+    ≡ option_and_then (λ ns. if_listed (so_far ++ ns)) (option_and_then (λ n. option_map (λ ns. n ∷ ns) (numbers_in most texts)) o)
 with_one most so_far texts None rest = refl
 with_one most so_far texts (Some n) rest = after most so_far texts n (is_listed (so_far ++ n ∷ [])) refl rest
 
 reads : (most : ℕ) (so_far : List ℕ) (texts : List Text) → is_listed so_far ≡ true → Reads most so_far texts
-reads most so_far [] e = sym (ap listed (append-nil so_far) ∙ ap (λ (b : Bool). if b then Some so_far else None) e)
+reads most so_far [] e = sym (ap if_listed (append-nil so_far) ∙ ap (λ (b : Bool). if b then Some so_far else None) e)
 reads most so_far (text ∷ texts) e = with_one most so_far texts (number_in most text) (λ ns f. reads most ns texts f)
 
 pub gathers : (most : ℕ) (text : Text) → gathered most [] (parts text) ≡ list_of most text

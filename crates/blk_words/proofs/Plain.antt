@@ -7,19 +7,19 @@ use Rattle.clap.specs.Words.{Text, fault_of}
 use Rattle.clap.proofs.OnLiterals.{clap_on_literals}
 use Rattle.blk_settings.specs.declared.sched.Sched.TheVariants as sched
 use Rattle.blk_words.specs.declared.words.Job.{Job}
-use Rattle.blk_words.specs.declared.inputs.Figures.TheVariants as figures
+use Rattle.blk_words.specs.declared.inputs.FiguresAsked.TheVariants as figures
 use Rattle.blk_words.specs.declared.inputs.Running.TheVariants as running
 use Rattle.blk_words.specs.declared.inputs.Solving.TheVariants as solving
 use Rattle.blk_words.specs.declared.inputs.Telling.TheVariants as telling
 use Rattle.blk_words.specs.declared.words.Job.TheVariants as job
 use Rattle.blk_words.specs.declared.words.Form.TheVariants as form
-use Rattle.blk_words.specs.declared.words.Shown.TheVariants as shown
+use Rattle.blk_words.specs.declared.words.ShownLoad.TheVariants as shown
 use Rattle.blk_words.specs.declared.words.Refusal.TheVariants as refusal
 use Rattle.blk_words.specs.declared.words.Written.TheVariants as written
 use Rattle.blk_words.specs.CommandLine.{Names, AreSchedulers, sched_names, blk_app}
 use Rattle.blk_grid.specs.Rows.{Gridded, whole}
 use Rattle.blk_words.specs.Asked.{Asks, AsksGrid, grid_read, job_read}
-use Rattle.blk_words.specs.Plain.{words_in, AsksFor, AsksForGrid, AsksForNothing, default_tunables, default_targets, default_lineup, with_earliest, in_batches, default_trial, five_by_lateness, own_grid, whole_import, hundred_queued, default_load}
+use Rattle.blk_words.specs.Plain.{words_in, AsksFor, AsksForGrid, AsksForNothing, default_tunables, default_targets, deadline_in, kyber_within, default_lineup, with_earliest, in_batches, default_trial, five_by_lateness, own_grid, whole_import, hundred_queued, default_load}
 
 -- texts at some places
 abbrev placed : (ℕ → ℕ × ℕ) → List Text → List (Bor Text)
@@ -120,11 +120,11 @@ pub late_last_line : IsReadSo "sim --sched earliest --late-last" (job.OfScript (
 unfolding clap_on_literals
 late_last_line name p f = (refl, refl)
 
-pub batch_line : IsReadSo "sim --sched deadline --fifo-batch 1" (job.OfScript (running.One (sched.Deadline (record default_tunables { fifo_batch = 1 }))))
+pub batch_line : IsReadSo "sim --sched deadline --fifo-batch 1" (job.OfScript (running.One (deadline_in 1)))
 unfolding clap_on_literals
 batch_line name p f = (refl, refl)
 
-pub target_line : IsReadSo "sim --sched kyber --read-target 1000000" (job.OfScript (running.One (sched.Kyber (record default_targets { read = 1_000_000 }))))
+pub target_line : IsReadSo "sim --sched kyber --read-target 1000000" (job.OfScript (running.One (kyber_within 1_000_000)))
 unfolding clap_on_literals
 target_line name p f = (refl, refl)
 
@@ -216,9 +216,9 @@ pub picture_line : IsReadSo "picture" (job.OfTrace telling.Picture)
 unfolding clap_on_literals
 picture_line name p f = (refl, refl)
 
-pub pictures_line : IsReadSo "picture --script --earliest --fifo-batch 1" (job.OfScript (running.Drawn (in_batches 1 (with_earliest false))))
+pub drawn_line : IsReadSo "picture --script --earliest --fifo-batch 1" (job.OfScript (running.Drawn (in_batches 1 (with_earliest false))))
 unfolding clap_on_literals
-pictures_line name p f = (refl, refl)
+drawn_line name p f = (refl, refl)
 
 pub oracle_line : IsReadSo "oracle" (job.OfList solving.Least)
 unfolding clap_on_literals

@@ -21,9 +21,9 @@ use Rattle.blk_words.specs.declared.words.NoJob.{NoJob}
 use Rattle.blk_words.specs.declared.words.NoJob.TheVariants as no
 use Rattle.blk_words.specs.declared.words.Form.{Form}
 use Rattle.blk_words.specs.declared.words.Form.TheVariants as form
-use Rattle.blk_words.specs.declared.words.Shown.{Shown}
-use Rattle.blk_words.specs.declared.words.Shown.TheVariants as shown
-use Rattle.blk_words.specs.declared.inputs.Figures.TheVariants as figures
+use Rattle.blk_words.specs.declared.words.ShownLoad.{ShownLoad}
+use Rattle.blk_words.specs.declared.words.ShownLoad.TheVariants as shown
+use Rattle.blk_words.specs.declared.inputs.FiguresAsked.TheVariants as figures
 use Rattle.blk_words.specs.declared.inputs.Running.TheVariants as running
 use Rattle.blk_words.specs.declared.inputs.Solving.TheVariants as solving
 use Rattle.blk_words.specs.declared.inputs.Telling.TheVariants as telling
@@ -82,11 +82,11 @@ abbrev pub sched_of : List Row → Option Sched
 sched_of rows = option_and_then (λ name. sched_named name (tunables_of rows) (targets_of rows) (is_flagged (codes "late-last") rows)) (first_of (codes "sched") rows)
 
 -- the form by whether JSON is asked for, and by the options
-abbrev pub form_of : Bool → Form
-form_of json = if json then form.Json else form.Lines
+abbrev pub form_by : Bool → Form
+form_by json = if json then form.Json else form.Lines
 
 abbrev pub form_asked : List Row → Form
-form_asked rows = form_of (is_flagged (codes "json") rows)
+form_asked rows = form_by (is_flagged (codes "json") rows)
 
 -- whether earliest runs too, and then whether late last; the schedulers that run a script in turn, with these settings; their comparison
 -- in a form, and the picture of a trace, or of a script under them
@@ -117,10 +117,10 @@ abbrev pub amounts_of : List Row → Option Load
 amounts_of rows = amounts (number_given (codes "submitters") rows) (number_given (codes "workers") rows) (number_given (codes "bios") rows) (number_given (codes "depth") rows)
     (number_given (codes "service") rows) (number_given (codes "busy") rows)
 
-abbrev pub shown_of : Bool → Bool → Shown
-shown_of trace json = if trace then shown.Trace else shown.Account (form_of json)
+abbrev pub shown_of : Bool → Bool → ShownLoad
+shown_of trace json = if trace then shown.Trace else shown.Account (form_by json)
 
-abbrev pub loaded : Shown → Option Sched → Option Load → Option Job
+abbrev pub loaded : ShownLoad → Option Sched → Option Load → Option Job
 loaded w s l = option_and_then (λ s. option_map (λ l. job.Load s l w) l) s
 
 -- the job of `load` by whether its trace and JSON are asked for, which exclude one another
@@ -147,9 +147,9 @@ abbrev pub round_given : List Row → Result (Option ℕ) Refusal
 round_given rows = option_map_or round_by (first_of (codes "round") rows) (Ok None)
 
 -- a script, which needs a round, and something else, which has neither a round nor a depth
-abbrev pub scripted : Option ℕ → Option ℕ → Result Written Refusal
-scripted None depth = Err refusal.NoRound
-scripted (Some n) depth = Ok (written.Script n depth)
+abbrev pub script_asked : Option ℕ → Option ℕ → Result Written Refusal
+script_asked None depth = Err refusal.NoRound
+script_asked (Some n) depth = Ok (written.Script n depth)
 
 abbrev pub unscripted : Written → Option ℕ → Option ℕ → Result Written Refusal
 unscripted w None None = Ok w
@@ -160,7 +160,7 @@ unscripted w (Some n) depth = Err refusal.NoScript
 abbrev pub written_by : Bool → Bool → Bool → Option ℕ → Option ℕ → Result Written Refusal
 written_by script table summary round depth =
     if table && summary then Err refusal.TableAndSummary
-    else (if script then (if table || summary then Err refusal.ScriptAlone else scripted round depth)
+    else (if script then (if table || summary then Err refusal.ScriptAlone else script_asked round depth)
     else unscripted (if table then written.Table else (if summary then written.Summary else written.Schedule)) round depth)
 
 abbrev pub written_with : Bool → Bool → Bool → Option ℕ → Result (Option ℕ) Refusal → Result Written Refusal
@@ -236,7 +236,7 @@ tune_job rows = tune_by (grid_given rows) (by_given rows) (number_given (codes "
 abbrev pub oracle_job : Bool → Bool → Bool → Option Job
 oracle_job trace met json =
     if trace && met then None
-    else (if trace then Some (job.OfTrace (telling.Figures figures.Report (form_of json)))
+    else (if trace then Some (job.OfTrace (telling.Figures figures.Report (form_by json)))
     else (if json then Some (job.Refuse refusal.JsonAlone)
     else (if met then Some (job.OfList solving.Most) else Some (job.OfList solving.Least))))
 

@@ -5,9 +5,9 @@ use Rattle.clap.specs.Words.{App, Rule, Text, new_app, new_rule, with_rule, with
 use Rattle.clap.specs.declared.builder.ArgAction.TheVariants.{Set, SetTrue}
 use Rattle.clap.specs.declared.builder.value_parser.ValueParser.{ValueParser}
 use Rattle.clap.specs.declared.builder.value_parser.ValueParser.TheVariants as vp
-use Rattle.blk_settings.specs.declared.numbers.TheConstants.{MAX_SUBMITTERS, MAX_LOAD_WORKERS, MAX_LOAD_BIOS, MAX_LOAD_DEPTH, MAX_LOAD_SERVICE}
-use Rattle.blk_words.specs.declared.inputs.Figures.{Figures}
-use Rattle.blk_words.specs.declared.inputs.Figures.TheVariants as figures
+use Rattle.blk_settings.specs.declared.numbers.TheConstants.{MAX_LOAD_SUBMITTERS, MAX_LOAD_WORKERS, MAX_LOAD_BIOS, MAX_LOAD_DEPTH, MAX_LOAD_SERVICE}
+use Rattle.blk_words.specs.declared.inputs.FiguresAsked.{FiguresAsked}
+use Rattle.blk_words.specs.declared.inputs.FiguresAsked.TheVariants as figures
 use Rattle.blk_words.specs.declared.inputs.Telling.TheVariants as telling
 use Rattle.blk_words.specs.declared.words.Job.{Job}
 use Rattle.blk_words.specs.declared.words.Job.TheVariants as job
@@ -75,7 +75,7 @@ plain name j = record { name = name; rules = []; makes = makes.Plain j }
 abbrev pub json : Rule
 json = flag_rule (codes "json")
 
-abbrev pub formed : Text → Figures → Subcommand
+abbrev pub formed : Text → FiguresAsked → Subcommand
 formed name k = record { name = name; rules = json ∷ []; makes = makes.Formed k }
 
 -- what is tried, by what the best is found, how much is written and how many runs go side by side
@@ -89,7 +89,7 @@ trying =
 -- the numbers of a load
 abbrev pub amounts : List Rule
 amounts =
-    number_rule (codes "submitters") (vp.Unsigned 1 MAX_SUBMITTERS) (codes "2") ∷ number_rule (codes "workers") (vp.Unsigned 1 MAX_LOAD_WORKERS) (codes "2")
+    number_rule (codes "submitters") (vp.Unsigned 1 MAX_LOAD_SUBMITTERS) (codes "2") ∷ number_rule (codes "workers") (vp.Unsigned 1 MAX_LOAD_WORKERS) (codes "2")
     ∷ number_rule (codes "bios") (vp.Unsigned 1 MAX_LOAD_BIOS) (codes "1000") ∷ number_rule (codes "depth") (vp.Unsigned 1 MAX_LOAD_DEPTH) (codes "8")
     ∷ maybe_rule (codes "busy") (vp.Unsigned 2 MAX_BUSY) ∷ number_rule (codes "service") (vp.Unsigned 0 MAX_LOAD_SERVICE) (codes "0") ∷ []
 

@@ -26,12 +26,12 @@ are_distinct (n ∷ ns) = not (list_any (λ k. k == n) ns) && are_distinct ns
 abbrev pub is_listed : List ℕ → Bool
 is_listed ns = nat_le (length ns) MAX_LISTED && are_distinct ns
 
-abbrev pub listed : List ℕ → Option (List ℕ)
-listed ns = if is_listed ns then Some ns else None
+abbrev pub if_listed : List ℕ → Option (List ℕ)
+if_listed ns = if is_listed ns then Some ns else None
 
 -- the numbers of a list; it has one at least, since a text has a part at least
 abbrev pub list_of : ℕ → Text → Option (List ℕ)
-list_of most text = option_and_then listed (numbers_in most (parts text))
+list_of most text = option_and_then if_listed (numbers_in most (parts text))
 
 -- schedulers with the one of this name, which is not among them yet
 abbrev pub with_name : Tried → Text → Option Tried

@@ -9,6 +9,8 @@ use Rattle.blk_grid.specs.declared.By.TheVariants as by
 use Rattle.blk_grid.specs.Rows.{Gridded, whole}
 use Rattle.blk_settings.specs.declared.numbers.Load.{Load}
 use Rattle.blk_settings.specs.declared.sched.Lineup.{Lineup}
+use Rattle.blk_settings.specs.declared.sched.Sched.{Sched}
+use Rattle.blk_settings.specs.declared.sched.Sched.TheVariants as sched
 use Rattle.blk_words.specs.declared.words.Form.{Form}
 use Rattle.blk_words.specs.declared.words.Form.TheVariants as form
 use Rattle.blk_words.specs.declared.words.Import.{Import}
@@ -38,6 +40,13 @@ default_tunables = record { fifo_batch = 16; writes_starved = 2; front_merges = 
 
 abbrev pub default_targets : Targets
 default_targets = record { read = 2; write = 10 }
+
+-- `deadline` with batches of this size, and `kyber` with this target for reads, otherwise as where no option sets them
+abbrev pub deadline_in : ℕ → Sched
+deadline_in batch = sched.Deadline (record default_tunables { fifo_batch = batch })
+
+abbrev pub kyber_within : ℕ → Sched
+kyber_within target = sched.Kyber (record default_targets { read = target })
 
 -- the schedulers that run in turn where no option sets them, the same with earliest, and some with this batch size
 abbrev pub default_lineup : Lineup

@@ -15,8 +15,8 @@ number_in most text = if accepts false (vp.Unsigned 0 most) text then Some (digi
 abbrev pub ends_with : Text → Text → Bool
 ends_with unit text = bytes_eq (drop (length text - length unit) text) unit
 
-abbrev pub before : Text → Text → Text
-before unit text = take (length text - length unit) text
+abbrev pub before_unit : Text → Text → Text
+before_unit unit text = take (length text - length unit) text
 
 -- `n` times these nanoseconds, where they fit 64 bits
 abbrev pub scaled : ℕ → ℕ → Option ℕ
@@ -25,7 +25,7 @@ scaled nanoseconds n = if nat_lt (n * nanoseconds) (2 ^ 64) then Some (n * nanos
 -- the nanoseconds of a number with a unit that has `nanoseconds`
 abbrev pub in_unit : Text → ℕ → Text → Option ℕ
 in_unit unit nanoseconds text =
-    if ends_with unit text then option_and_then (scaled nanoseconds) (number_in 18_446_744_073_709_551_615 (before unit text)) else None
+    if ends_with unit text then option_and_then (scaled nanoseconds) (number_in 18_446_744_073_709_551_615 (before_unit unit text)) else None
 
 -- a time: a number and its unit
 abbrev pub time_of : Text → Option ℕ

@@ -4,10 +4,10 @@ ghost use Rattle.std.specs.Prelude.{◌∷◌, [], true, false, None, Some, code
 ghost use Rattle.clap.specs.Words.{Text};
 ghost use Rattle.blk_grid.specs.Rows.{whole};
 ghost use Rattle.blk_words.specs.Asked.{Asks};
-ghost use Rattle.blk_words.specs.Plain.{AsksFor, AsksForGrid, AsksForNothing, default_tunables, default_targets, default_lineup, with_earliest, in_batches, default_trial, five_by_lateness, own_grid, whole_import, hundred_queued, default_load};
+ghost use Rattle.blk_words.specs.Plain.{AsksFor, AsksForGrid, AsksForNothing, default_tunables, default_targets, deadline_in, kyber_within, default_lineup, with_earliest, in_batches, default_trial, five_by_lateness, own_grid, whole_import, hundred_queued, default_load};
 
-use crate::inputs::{Figures, Running, Solving, Telling};
-use crate::words::{Form, Job, Refusal, Shown, Written};
+use crate::inputs::{FiguresAsked, Running, Solving, Telling};
+use crate::words::{Form, Job, Refusal, ShownLoad, Written};
 use blk_settings::Sched;
 
 /// Each of these lines asks for its job and, all but `--version`, for no other; `oracle --trace --met` asks for none. `tune` asks for the
@@ -19,8 +19,8 @@ pub fn plain_lines()
     ensures kyber { AsksFor "sim --sched kyber" (Job.OfScript (Running.One (Sched.Kyber default_targets))) }
     ensures earliest { AsksFor "sim --sched earliest" (Job.OfScript (Running.One (Sched.Earliest false))) }
     ensures late_last { AsksFor "sim --sched earliest --late-last" (Job.OfScript (Running.One (Sched.Earliest true))) }
-    ensures batch { AsksFor "sim --sched deadline --fifo-batch 1" (Job.OfScript (Running.One (Sched.Deadline (record default_tunables { fifo_batch = 1 })))) }
-    ensures target { AsksFor "sim --sched kyber --read-target 1000000" (Job.OfScript (Running.One (Sched.Kyber (record default_targets { read = 1_000_000 })))) }
+    ensures batch { AsksFor "sim --sched deadline --fifo-batch 1" (Job.OfScript (Running.One (deadline_in 1))) }
+    ensures target { AsksFor "sim --sched kyber --read-target 1000000" (Job.OfScript (Running.One (kyber_within 1_000_000))) }
     ensures compare { AsksFor "compare" (Job.OfScript (Running.Each default_lineup Form.Lines)) }
     ensures compare_earliest { AsksFor "compare --earliest" (Job.OfScript (Running.Each (with_earliest false) Form.Lines)) }
     ensures compare_late_last { AsksFor "compare --earliest --late-last" (Job.OfScript (Running.Each (with_earliest true) Form.Lines)) }
@@ -36,17 +36,17 @@ pub fn plain_lines()
     ensures own_grid { AsksForGrid "tune --sched deadline,none --fifo-batch 16,1 --writes-starved 3 --write-target 7,0" own_grid }
     ensures migrate { AsksFor "migrate" (Job.OfTrace Telling.Whole) }
     ensures commands { AsksFor "commands" (Job.OfTrace Telling.Commands) }
-    ensures late { AsksFor "late" (Job.OfTrace (Telling.Figures Figures.Late Form.Lines)) }
-    ensures late_json { AsksFor "late --json" (Job.OfTrace (Telling.Figures Figures.Late Form.Json)) }
-    ensures misses { AsksFor "misses" (Job.OfTrace (Telling.Figures Figures.Misses Form.Lines)) }
-    ensures misses_json { AsksFor "misses --json" (Job.OfTrace (Telling.Figures Figures.Misses Form.Json)) }
-    ensures spread { AsksFor "spread" (Job.OfTrace (Telling.Figures Figures.Spread Form.Lines)) }
-    ensures spread_json { AsksFor "spread --json" (Job.OfTrace (Telling.Figures Figures.Spread Form.Json)) }
+    ensures late { AsksFor "late" (Job.OfTrace (Telling.Figures FiguresAsked.Late Form.Lines)) }
+    ensures late_json { AsksFor "late --json" (Job.OfTrace (Telling.Figures FiguresAsked.Late Form.Json)) }
+    ensures misses { AsksFor "misses" (Job.OfTrace (Telling.Figures FiguresAsked.Misses Form.Lines)) }
+    ensures misses_json { AsksFor "misses --json" (Job.OfTrace (Telling.Figures FiguresAsked.Misses Form.Json)) }
+    ensures spread { AsksFor "spread" (Job.OfTrace (Telling.Figures FiguresAsked.Spread Form.Lines)) }
+    ensures spread_json { AsksFor "spread --json" (Job.OfTrace (Telling.Figures FiguresAsked.Spread Form.Json)) }
     ensures picture { AsksFor "picture" (Job.OfTrace Telling.Picture) }
-    ensures pictures { AsksFor "picture --script --earliest --fifo-batch 1" (Job.OfScript (Running.Drawn (in_batches 1 (with_earliest false)))) }
+    ensures drawn { AsksFor "picture --script --earliest --fifo-batch 1" (Job.OfScript (Running.Drawn (in_batches 1 (with_earliest false)))) }
     ensures oracle { AsksFor "oracle" (Job.OfList Solving.Least) }
-    ensures report { AsksFor "oracle --trace" (Job.OfTrace (Telling.Figures Figures.Report Form.Lines)) }
-    ensures report_json { AsksFor "oracle --trace --json" (Job.OfTrace (Telling.Figures Figures.Report Form.Json)) }
+    ensures report { AsksFor "oracle --trace" (Job.OfTrace (Telling.Figures FiguresAsked.Report Form.Lines)) }
+    ensures report_json { AsksFor "oracle --trace --json" (Job.OfTrace (Telling.Figures FiguresAsked.Report Form.Json)) }
     ensures met { AsksFor "oracle --met" (Job.OfList Solving.Most) }
     ensures report_and_on_time { AsksForNothing "oracle --trace --met" }
     ensures certificate_json { AsksFor "oracle --met --json" (Job.Refuse Refusal.JsonAlone) }
@@ -64,10 +64,10 @@ pub fn plain_lines()
     ensures judge { AsksFor "judge" (Job.Judge false) }
     ensures judge_each { AsksFor "judge --each" (Job.Judge true) }
     ensures explain { AsksFor "explain" Job.Explain }
-    ensures load { AsksFor "load" (Job.Load Sched.None default_load (Shown.Account Form.Lines)) }
-    ensures load_json { AsksFor "load --json" (Job.Load Sched.None default_load (Shown.Account Form.Json)) }
-    ensures busy { AsksFor "load --busy 3" (Job.Load Sched.None (record default_load { busy = Some 3 }) (Shown.Account Form.Lines)) }
-    ensures traced { AsksFor "load --trace --service 100" (Job.Load Sched.None (record default_load { service = 100 }) Shown.Trace) }
+    ensures load { AsksFor "load" (Job.Load Sched.None default_load (ShownLoad.Account Form.Lines)) }
+    ensures load_json { AsksFor "load --json" (Job.Load Sched.None default_load (ShownLoad.Account Form.Json)) }
+    ensures busy { AsksFor "load --busy 3" (Job.Load Sched.None (record default_load { busy = Some 3 }) (ShownLoad.Account Form.Lines)) }
+    ensures traced { AsksFor "load --trace --service 100" (Job.Load Sched.None (record default_load { service = 100 }) ShownLoad.Trace) }
     ensures traced_json { AsksFor "load --trace --json" (Job.Refuse Refusal.TraceAndJson) }
     ensures version { (name : Text) → Asks (name ∷ codes "--version" ∷ []) Job.Version }
 {}

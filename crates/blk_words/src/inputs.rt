@@ -24,12 +24,12 @@ pub enum Telling {
     /// Its picture.
     Picture,
     /// Figures of it, in this form.
-    Figures(Figures, Form),
+    Figures(FiguresAsked, Form),
 }
 
 /// Figures of a trace.
 #[derive(Clone, Copy, Debug, PartialEq, Eq)]
-pub enum Figures {
+pub enum FiguresAsked {
     /// Which of its commands were late, and what the rounds that they waited went to.
     Late,
     /// How many were late, and how many had to be.

@@ -10,7 +10,7 @@ pub mod table;
 mod times;
 pub mod words;
 
-pub use crate::inputs::{Figures, Running, Solving, Telling};
+pub use crate::inputs::{FiguresAsked, Running, Solving, Telling};
 pub use crate::words::{
-    Form, Import, Job, NoJob, Refusal, Shown, Tuning, VERSION, Written, choose, grid_asked,
+    Form, Import, Job, NoJob, Refusal, ShownLoad, Tuning, VERSION, Written, choose, grid_asked,
 };

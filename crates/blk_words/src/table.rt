@@ -1,9 +1,9 @@
 //! The command line, as a table: a row for each subcommand, with its options and what these make.
 
-use crate::inputs::{Figures, Telling};
+use crate::inputs::{FiguresAsked, Telling};
 use crate::words::Job;
 use blk_settings::numbers::{
-    MAX_LOAD_BIOS, MAX_LOAD_DEPTH, MAX_LOAD_SERVICE, MAX_LOAD_WORKERS, MAX_SUBMITTERS,
+    MAX_LOAD_BIOS, MAX_LOAD_DEPTH, MAX_LOAD_SERVICE, MAX_LOAD_SUBMITTERS, MAX_LOAD_WORKERS,
 };
 
 /// The greatest target of `kyber`, in rounds.
@@ -60,7 +60,7 @@ pub enum Makes {
     /// This one: there are none.
     Plain(Job),
     /// These figures of a trace, in the form that is asked for: the flag of JSON is the one option.
-    Formed(Figures),
+    Formed(FiguresAsked),
     /// A script's run under the scheduler that they name.
     Sim,
     /// The comparison of schedulers of their settings.
@@ -238,21 +238,21 @@ pub static RUN_COMMANDS: [CommandRow; 9] = [
         about: "Writes which commands of a trace were late, and what went before them",
         options: &[JSON],
         is_tuned: false,
-        makes: Makes::Formed(Figures::Late),
+        makes: Makes::Formed(FiguresAsked::Late),
     },
     CommandRow {
         name: "misses",
         about: "Writes how many commands of a trace were late, and how many had to be",
         options: &[JSON],
         is_tuned: false,
-        makes: Makes::Formed(Figures::Misses),
+        makes: Makes::Formed(FiguresAsked::Misses),
     },
     CommandRow {
         name: "spread",
         about: "Writes how long the commands of a trace waited and how late they were, by quantiles",
         options: &[JSON],
         is_tuned: false,
-        makes: Makes::Formed(Figures::Spread),
+        makes: Makes::Formed(FiguresAsked::Spread),
     },
     CommandRow {
         name: "picture",
@@ -391,7 +391,7 @@ pub static OTHER_COMMANDS: [CommandRow; 6] = [
             JSON,
             OptionRow {
                 name: "submitters",
-                takes: Takes::Number(1, MAX_SUBMITTERS, "2"),
+                takes: Takes::Number(1, MAX_LOAD_SUBMITTERS, "2"),
                 help: "How many threads submit",
             },
             OptionRow {

@@ -9,11 +9,11 @@ ghost use Rattle.blk_settings.specs.Rows.{name_of};
 ghost use Rattle.blk_words.specs.CommandLine.{Names, table as all_commands};
 ghost use Rattle.blk_words.specs.Inside.Tables.{subcommand_of, makes_among};
 ghost use Rattle.blk_words.specs.Inside.Lists.{AreShort, grid_of_lists};
-ghost use Rattle.blk_words.specs.Asked.{Asks, AsksGrid, IsNoJob, list_given, tried_given, by_named, by_given, grid_given, tune_job, short_given, number_given, is_flagged, tunables_of, targets_of, sched_of, earliest_given, lineup_given, compared, pictured, amounts_of, shown_of, loaded, load_given, form_of, form_asked, time_given, entry_named, from_given, round_by, round_given, scripted, unscripted, written_of, takes_all, import_of, import_job, oracle_given, grid_behind, job_made, job_of};
+ghost use Rattle.blk_words.specs.Asked.{Asks, AsksGrid, IsNoJob, list_given, tried_given, by_named, by_given, grid_given, tune_job, short_given, number_given, is_flagged, tunables_of, targets_of, sched_of, earliest_given, lineup_given, compared, pictured, amounts_of, shown_of, loaded, load_given, form_by, form_asked, time_given, entry_named, from_given, round_by, round_given, script_asked, unscripted, written_of, takes_all, import_of, import_job, oracle_given, grid_behind, job_made, job_of};
 ghost use Rattle.blk_words.specs.Inside.Options.{given};
 
 use crate::command::{blk_command, other_commands, run_commands};
-use crate::inputs::{Figures, Running, Solving, Telling};
+use crate::inputs::{FiguresAsked, Running, Solving, Telling};
 use crate::lists::{Lists, MAX_SHORT, Numbers, Tried, numbers_of, tried_of};
 use crate::table::{CommandRow, MAX_TARGET, Makes};
 use crate::times::time_of;
@@ -55,7 +55,7 @@ pub enum Job {
     /// Tell what a text is, or what is wrong with it.
     Explain,
     /// Run a load on a layer under a scheduler, and write what is asked of it.
-    Load(Sched, Load, Shown),
+    Load(Sched, Load, ShownLoad),
 }
 
 /// In which form figures are written.
@@ -159,7 +159,7 @@ pub enum Refusal {
 
 /// What is written of a load.
 #[derive(Clone, Copy, Debug, PartialEq, Eq)]
-pub enum Shown {
+pub enum ShownLoad {
     /// How many bios were accepted, served and left.
     Account(Form),
     /// The trace of what the layer did.
@@ -273,8 +273,8 @@ fn earliest_of(options: &ArgMatches<'_>) -> Option<bool>
 }
 
 /// The form that is asked for by whether the flag of JSON is given.
-fn form_of(json: bool) -> Form
-    ensures { result ≡ form_of json }
+fn form_by(json: bool) -> Form
+    ensures { result ≡ form_by json }
 {
     if json { Form::Json } else { Form::Lines }
 }
@@ -283,7 +283,7 @@ fn form_of(json: bool) -> Form
 fn form_asked(options: &ArgMatches<'_>) -> Form
     ensures { result ≡ form_asked (given options.now) }
 {
-    form_of(is_flagged(options, "json"))
+    form_by(is_flagged(options, "json"))
 }
 
 /// The schedulers that run a script in turn, with the settings that the options give.
@@ -342,18 +342,18 @@ fn amounts_of(options: &ArgMatches<'_>) -> Option<Load>
 }
 
 /// What the flags of `load` ask to write.
-fn shown_of(trace: bool, json: bool) -> Shown
+fn shown_of(trace: bool, json: bool) -> ShownLoad
     ensures { result ≡ shown_of trace json }
 {
     if trace {
-        Shown::Trace
+        ShownLoad::Trace
     } else {
-        Shown::Account(form_of(json))
+        ShownLoad::Account(form_by(json))
     }
 }
 
 /// The load that the options of `load` ask for, and what is to be written of it.
-fn load_of(options: &ArgMatches<'_>, shown: Shown) -> Option<Job>
+fn load_of(options: &ArgMatches<'_>, shown: ShownLoad) -> Option<Job>
     ensures { result ≡ loaded shown (sched_of (given options.now)) (amounts_of (given options.now)) }
 {
     let sched = sched_of(options)?;
@@ -418,8 +418,8 @@ fn round_given(options: &ArgMatches<'_>) -> Result<Option<u64>, Refusal>
 }
 
 /// A script of these, which needs a round.
-fn scripted(round: Option<u64>, depth: Option<u64>) -> Result<Written, Refusal>
-    ensures { result ≡ scripted round depth }
+fn script_asked(round: Option<u64>, depth: Option<u64>) -> Result<Written, Refusal>
+    ensures { result ≡ script_asked round depth }
 {
     match round {
         Some(round) => Ok(Written::Script { round, depth }),
@@ -457,7 +457,7 @@ fn written_of(options: &ArgMatches<'_>) -> Result<Written, Refusal>
         } else if table || summary {
             Err(Refusal::ScriptAlone)
         } else {
-            scripted(round, depth)
+            script_asked(round, depth)
         }
     } else if table && summary {
         Err(Refusal::TableAndSummary)
@@ -630,7 +630,7 @@ fn oracle_job(options: &ArgMatches<'_>) -> Option<Job>
     if trace && met {
         None
     } else if trace {
-        Some(Job::OfTrace(Telling::Figures(Figures::Report, form_of(json))))
+        Some(Job::OfTrace(Telling::Figures(FiguresAsked::Report, form_by(json))))
     } else if json {
         Some(Job::Refuse(Refusal::JsonAlone))
     } else if met {

@@ -23,12 +23,12 @@ abbrev pub aged_cmp : AgedKey → AgedKey → Ordering
 aged_cmp x y = ordering_then (lookup_cmp x.0 y.0) (nat_cmp x.1 y.1)
 
 -- what stands under a key and is the oldest there, or the newest
-pub record IsOldest (found : AgedKey → Option ℕ) (key : LookupKey) (place : ℕ) : Type 0 where
+pub record IsOldestUnder (found : AgedKey → Option ℕ) (key : LookupKey) (place : ℕ) : Type 0 where
   pub age : ℕ
   pub there : found (key, age) ≡ Some place
   pub oldest : (k : ℕ) → k < age → found (key, k) ≡ None
 
-pub record IsNewest (found : AgedKey → Option ℕ) (key : LookupKey) (place : ℕ) : Type 0 where
+pub record IsNewestUnder (found : AgedKey → Option ℕ) (key : LookupKey) (place : ℕ) : Type 0 where
   pub age : ℕ
   pub there : found (key, age) ≡ Some place
   pub newest : (k : ℕ) → age < k → k < 2 ^ 64 → found (key, k) ≡ None
@@ -38,8 +38,8 @@ abbrev pub IsEmptyAt : (AgedKey → Option ℕ) → LookupKey → Type 0
 IsEmptyAt found key = (k : ℕ) → k < 2 ^ 64 → found (key, k) ≡ None
 
 -- of the keys from a lower one on under which something is found, none stands below this one; of those up to an upper one, none above
-abbrev pub IsLeastFrom : (AgedKey → Option ℕ) → AgedKey → AgedKey → Type 0
-IsLeastFrom found lower key = (q : AgedKey) → is_gt (aged_cmp lower q) ≡ false → IsSome (found q) → is_gt (aged_cmp key q) ≡ false
+abbrev pub IsLeastKeyFrom : (AgedKey → Option ℕ) → AgedKey → AgedKey → Type 0
+IsLeastKeyFrom found lower key = (q : AgedKey) → is_gt (aged_cmp lower q) ≡ false → IsSome (found q) → is_gt (aged_cmp key q) ≡ false
 
 abbrev pub IsGreatestUpTo : (AgedKey → Option ℕ) → AgedKey → AgedKey → Type 0
 IsGreatestUpTo found upper key = (q : AgedKey) → is_gt (aged_cmp q upper) ≡ false → IsSome (found q) → is_lt (aged_cmp key q) ≡ false

@@ -3,7 +3,7 @@ use Rattle.std.specs.Prelude.{ℕ, ◌≡◌, ◌⊎◌, Bool, true, Option}
 use Rattle.std.specs.BTreeMap.{get}
 use Rattle.blk_bio.specs.declared.request.Side.{Side}
 use Rattle.blk_bio.specs.declared.request.Side.TheVariants.{Back, Front}
-use Rattle.blk_capture.specs.Inside.LookupKeys.{AgedKey, aged_cmp, IsOldest, IsNewest, IsEmptyAt, writes}
+use Rattle.blk_capture.specs.Inside.LookupKeys.{AgedKey, aged_cmp, IsOldestUnder, IsNewestUnder, IsEmptyAt, writes}
 use Rattle.blk_capture.specs.declared.record.Range.{Range}
 use Rattle.blk_capture.specs.declared.lookup.MergeIndex.{MergeIndex}
 use Rattle.blk_capture.specs.declared.lookup.LookupKey.{LookupKey}
@@ -35,11 +35,11 @@ by_range e = get aged_cmp e.wholes.places
 -- of the requests that a newcomer abuts at a side: the newest that its process opened, or else the oldest that was inserted
 abbrev pub TakesAbutting : {A : Type 0} → MergeIndex A → MergeIndex A → Range → Side → ℕ → ℕ → Type 0
 TakesAbutting opened inserted newcomer side pid place =
-    IsNewest (facing side opened) (abutting_key newcomer side pid) place
-    ⊎ (IsEmptyAt (facing side opened) (abutting_key newcomer side pid) × IsOldest (facing side inserted) (abutting_key newcomer side 0) place)
+    IsNewestUnder (facing side opened) (abutting_key newcomer side pid) place
+    ⊎ (IsEmptyAt (facing side opened) (abutting_key newcomer side pid) × IsOldestUnder (facing side inserted) (abutting_key newcomer side 0) place)
 
 -- of the requests of a range: the oldest that was inserted, or else, where requests go out without that, the oldest that was opened
 abbrev pub TakesGoing : {A : Type 0} → Bool → MergeIndex A → MergeIndex A → Range → ℕ → Type 0
 TakesGoing direct opened inserted range place =
-    IsOldest (by_range inserted) (whole_key range) place
-    ⊎ (IsEmptyAt (by_range inserted) (whole_key range) × (direct ≡ true) × IsOldest (by_range opened) (whole_key range) place)
+    IsOldestUnder (by_range inserted) (whole_key range) place
+    ⊎ (IsEmptyAt (by_range inserted) (whole_key range) × (direct ≡ true) × IsOldestUnder (by_range opened) (whole_key range) place)

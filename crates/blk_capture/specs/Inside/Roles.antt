@@ -4,7 +4,7 @@ use Rattle.blk_capture.specs.Fates.{opened_by, made_by}
 use Rattle.blk_capture.specs.declared.matching.Role.{Role}
 use Rattle.blk_capture.specs.declared.matching.Role.TheVariants as role
 use Rattle.blk_capture.specs.declared.record.Action.{Action}
-use Rattle.blk_capture.specs.declared.record.Passed.{Passed}
+use Rattle.blk_capture.specs.declared.record.PassReason.{PassReason}
 
 abbrev pub adds : Bool → ℕ
 adds b = cond b 1 0
@@ -28,6 +28,6 @@ abbrev pub makes_role : Action → Role → Bool
 makes_role a p = made_by a (is_known p)
 
 -- why it is passed over, if it is
-abbrev pub passed_role : Role → Option Passed
+abbrev pub passed_role : Role → Option PassReason
 passed_role (role.PassedOver kind) = Some kind
 passed_role _ = None

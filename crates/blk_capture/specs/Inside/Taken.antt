@@ -1,10 +1,10 @@
 -- How the requests of a capture that are taken are found among all that were opened.
 use Rattle.std.specs.Prelude.{ℕ, All, ◌≡◌, ◌≤◌, ◌<◌, ◌⊎◌, ◌++◌, List, [], ◌∷◌, length, Option, Some, None, IfSome, slice_index, slice_index_or, slice_set}
 use Rattle.blk_capture.specs.declared.clock.Dispatch.{Dispatch}
-use Rattle.blk_capture.specs.declared.members.Queued.{Queued}
-use Rattle.blk_capture.specs.declared.requests.Bio.{Bio}
+use Rattle.blk_capture.specs.declared.members.QueuedBio.{QueuedBio}
+use Rattle.blk_capture.specs.declared.requests.CapturedBio.{CapturedBio}
 use Rattle.blk_capture.specs.declared.requests.Life.{Life}
-use Rattle.blk_capture.specs.declared.requests.Request.{Request}
+use Rattle.blk_capture.specs.declared.requests.CapturedRequest.{CapturedRequest}
 use Rattle.blk_capture.specs.declared.requests.Taken.{Taken}
 use Rattle.blk_capture.specs.Requests.{AreTallied}
 
@@ -14,7 +14,7 @@ pub record IsOwn (lives : List Life) (r : ℕ) : Type 0 where
   pub root : (d : Life) → (slice_index_or lives r d).root ≡ r
 
 -- the request of a dispatch, one that was merged into no other
-pub record IsRequestOf (lives : List Life) (openers : List ℕ) (x : Dispatch) (q : Request) : Type 0 where
+pub record IsRequestOf (lives : List Life) (openers : List ℕ) (x : Dispatch) (q : CapturedRequest) : Type 0 where
   pub own : IsOwn lives x.request
   pub opened : x.request < length openers
   pub opener : q.bio ≡ slice_index openers x.request
@@ -24,10 +24,10 @@ pub record IsRequestOf (lives : List Life) (openers : List ℕ) (x : Dispatch) (
   pub none : q.bios ≡ 0
 
 -- the request r stands at place k
-pub record IsPlaced (lives : List Life) (openers : List ℕ) (places : List (Option ℕ)) (requests : List Request) (k r : ℕ) : Type 0 where
+pub record IsPlaced (lives : List Life) (openers : List ℕ) (places : List (Option ℕ)) (requests : List CapturedRequest) (k r : ℕ) : Type 0 where
   pub own : IsOwn lives r
   pub opened : r < length openers
-  pub opener : (d : Request) → (slice_index_or requests k d).bio ≡ slice_index openers r
+  pub opener : (d : CapturedRequest) → (slice_index_or requests k d).bio ≡ slice_index openers r
   pub place : slice_index_or places r None ≡ Some k
 
 -- places among the first n
@@ -35,7 +35,7 @@ abbrev pub AreWithin : ℕ → List (Option ℕ) → Type 0
 AreWithin n places = All (λ p. IfSome p (λ k. k < n)) places
 
 -- each request that is taken is one of them
-abbrev pub ArePlaced : List Life → List ℕ → List (Option ℕ) → List Request → Type 0
+abbrev pub ArePlaced : List Life → List ℕ → List (Option ℕ) → List CapturedRequest → Type 0
 ArePlaced lives openers places requests = (k : ℕ) → k < length requests → (r : ℕ) × IsPlaced lives openers places requests k r
 
 abbrev pub ArePlacedIn : {A : Type 0} → List Life → List ℕ → Taken A → Type 0
@@ -47,21 +47,21 @@ IsPlaceOfOwn lives places request place =
     (r : ℕ) → request ≡ Some r → IsOwn lives r → r < length places → place ≡ slice_index_or places r None
 
 -- the request of a number is put in last, or was there
-abbrev pub PutsAt : ℕ → Request → List Request → List (Option ℕ) → List Request → List (Option ℕ) → Type 0
+abbrev pub PutsAt : ℕ → CapturedRequest → List CapturedRequest → List (Option ℕ) → List CapturedRequest → List (Option ℕ) → Type 0
 PutsAt number q old_requests old_places new_requests new_places =
     ((new_requests ≡ old_requests) × (new_places ≡ old_places))
     ⊎ ((number < length old_places) × (slice_index_or old_places number None ≡ None) × (new_places ≡ slice_set old_places number (Some (length old_requests))) × (new_requests ≡ old_requests ++ q ∷ []))
 
-abbrev pub Puts : {A : Type 0} → ℕ → Request → Taken A → Taken A → Type 0
+abbrev pub Puts : {A : Type 0} → ℕ → CapturedRequest → Taken A → Taken A → Type 0
 Puts number q old new = PutsAt number q old.requests.items old.places.items new.requests.items new.places.items
 
 -- the first n bios, with the places of the requests that they went out with: where they went into one that was merged into no other, its own
-pub record ArePlacedBios (lives : List Life) (places : List (Option ℕ)) (queued : List Queued) (n : ℕ) (bios : List Bio) : Type 0 where
+pub record ArePlacedBios (lives : List Life) (places : List (Option ℕ)) (queued : List QueuedBio) (n : ℕ) (bios : List CapturedBio) : Type 0 where
   pub each : length bios ≡ n
-  pub place : (b r : ℕ) (d : Queued) (e : Bio) → b < n → (slice_index_or queued b d).request ≡ Some r → IsOwn lives r → r < length places → (slice_index_or bios b e).request ≡ slice_index_or places r None
+  pub place : (b r : ℕ) (d : QueuedBio) (e : CapturedBio) → b < n → (slice_index_or queued b d).request ≡ Some r → IsOwn lives r → r < length places → (slice_index_or bios b e).request ≡ slice_index_or places r None
 
 -- the same requests, each with the number of its bios
-pub record IsTalliedFrom (old new : List Request) (bios : List Bio) : Type 0 where
+pub record IsTalliedFrom (old new : List CapturedRequest) (bios : List CapturedBio) : Type 0 where
   pub each : length new ≡ length old
   pub tallied : AreTallied new bios
-  pub rest : (k : ℕ) (d : Request) → slice_index_or new k d ≡ record (slice_index_or old k d) { bios = (slice_index_or new k d).bios }
+  pub rest : (k : ℕ) (d : CapturedRequest) → slice_index_or new k d ≡ record (slice_index_or old k d) { bios = (slice_index_or new k d).bios }

@@ -1,10 +1,10 @@
 -- A tally of one record more.
 use Rattle.std.specs.Prelude.{◌+◌, cond}
 use Rattle.blk_capture.specs.declared.fates.Fate.{Fate}
-use Rattle.blk_capture.specs.declared.fates.Tally.{Tally}
+use Rattle.blk_capture.specs.declared.fates.ActionTally.{ActionTally}
 use Rattle.blk_capture.specs.Fates.{is_taken, is_left_out, is_unmatched, is_passed}
 
-abbrev pub tally_with : Tally → Fate → Tally
+abbrev pub tally_with : ActionTally → Fate → ActionTally
 tally_with t f = record {
   records = t.records + 1;
   taken = t.taken + cond (is_taken f) 1 0;

@@ -1,6 +1,6 @@
 use Rattle.std.proofs.Common.{sym, subst, inl, map, string_bytes}
 use Rattle.blk_cli.specs.Said.{Said}
-use Rattle.blk_cli.specs.Gives.{Gives}
+use Rattle.blk_cli.specs.Gives.{GivesAnswer}
 use Rattle.blk_cli.proofs.Alone.{gives_text, fails_text}
 use Rattle.blk_cli.proofs.answer.Goals as goal
 
@@ -9,7 +9,7 @@ returns-in-Ok-work g c =
     let words = map string_bytes c.args.words.now in
     let given = gives_text words c.in-Ok.job c.args.records.now.left c.args.records.now.bytes c.in-Ok-work.text.items c.in-Ok-work.ensures.text in
     record {
-      answers = (c.in-Ok.job, c.in-Ok.ensures.asked, subst (λ (s : Said). Gives words c.in-Ok.job c.args.records.now.left c.args.records.now.bytes s) (sym c.alone-in-Ok-work.ensures) given);
+      answers = (c.in-Ok.job, c.in-Ok.ensures.asked, subst (λ (s : Said). GivesAnswer words c.in-Ok.job c.args.records.now.left c.args.records.now.bytes s) (sym c.alone-in-Ok-work.ensures) given);
       without = tt;
     }
 

@@ -2,7 +2,7 @@
 use Rattle.std.specs.Prelude.{◌≡◌, ◌<◌, ℕ, List}
 use Rattle.blk_bio.specs.Bios.{Bio}
 use Rattle.blk_text.specs.declared.script.Line.{Line}
-use Rattle.blk_explain.specs.Twice.{AreOneBio, AreDistinct, IsBioAt}
+use Rattle.blk_explain.specs.Twice.{AreOneBio, HasNoRepeat, IsBioAt}
 use Rattle.blk_explain.specs.Steps.{entered_text}
 use Rattle.blk_bio.specs.declared.bio.BioId.{BioId}
 
@@ -15,8 +15,8 @@ HasNoBio lines n id = (k : ℕ) (b : Bio) → k < n → IsBioAt lines k b → ¬
 
 -- of the first n steps this one is the first whose bio entered before
 abbrev pub IsFirstAgain : List Line → ℕ → ℕ → Type 0
-IsFirstAgain lines n j = (j < n) × AreDistinct lines j × ((i : ℕ) × AreOneBio lines i j)
+IsFirstAgain lines n j = (j < n) × HasNoRepeat lines j × ((i : ℕ) × AreOneBio lines i j)
 
 -- what is said about the bio of a step: that it entered on this line
-abbrev pub IsEntered : List Line → ℕ → ℕ → List ℕ → Type 0
-IsEntered lines place line text = (b : Bio) → IsBioAt lines place b → text ≡ entered_text b line
+abbrev pub IsEntryText : List Line → ℕ → ℕ → List ℕ → Type 0
+IsEntryText lines place line text = (b : Bio) → IsBioAt lines place b → text ≡ entered_text b line

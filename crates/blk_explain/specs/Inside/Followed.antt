@@ -25,8 +25,8 @@ abbrev pub AreSame : Plug → ℕ → Plug → ℕ → Type 0
 AreSame plug held new_plug new_held = (new_plug ≡ plug) × (new_held ≡ held)
 
 -- the plug takes the bio
-abbrev pub Takes : Bio → Plug → ℕ → Plug → ℕ → Type 0
-Takes b plug held new_plug new_held = (new_held ≡ held) × ((added : Added) × IsAddAnswer plug b new_plug (Ok added))
+abbrev pub PlugTakes : Bio → Plug → ℕ → Plug → ℕ → Type 0
+PlugTakes b plug held new_plug new_held = (new_held ≡ held) × ((added : Added) × IsAddAnswer plug b new_plug (Ok added))
 
 -- the plug's requests go into the queue, which has room for them
 abbrev pub Goes : ℕ → Plug → ℕ → Plug → ℕ → Type 0
@@ -38,13 +38,13 @@ abbrev pub Empties : Plug → ℕ → Plug → ℕ → Type 0
 Empties plug held new_plug new_held = (new_plug ≡ plug) × (new_held ≡ 0)
 
 -- what one step does to the plug and the queue
-abbrev pub IsNext : Scripted → ℕ → Line → Plug → ℕ → Plug → ℕ → Type 0
-IsNext script s (line.Bio b) p h q n = (b.id.submitter ≡ s → Takes b p h q n) × (b.id.submitter ≢ s → AreSame p h q n)
-IsNext script s (line.Flush t) p h q n = (t ≡ s → Goes script.soft_depth p h q n) × (t ≢ s → AreSame p h q n)
-IsNext script s (line.Drain hw) p h q n = ((s % script.setup.hw) ≡ hw → Empties p h q n) × ((s % script.setup.hw) ≢ hw → AreSame p h q n)
-IsNext script s (line.Run rounds) p h q n = Empties p h q n
-IsNext script s (line.Issue hw tag) p h q n = AreSame p h q n
-IsNext script s (line.Done tag) p h q n = AreSame p h q n
-IsNext script s (line.Back tag) p h q n = AreSame p h q n
-IsNext script s (line.Depth depth) p h q n = AreSame p h q n
-IsNext script s line.Tick p h q n = AreSame p h q n
+abbrev pub FollowsStep : Scripted → ℕ → Line → Plug → ℕ → Plug → ℕ → Type 0
+FollowsStep script s (line.Bio b) p h q n = (b.id.submitter ≡ s → PlugTakes b p h q n) × (b.id.submitter ≢ s → AreSame p h q n)
+FollowsStep script s (line.Flush t) p h q n = (t ≡ s → Goes script.soft_depth p h q n) × (t ≢ s → AreSame p h q n)
+FollowsStep script s (line.Drain hw) p h q n = ((s % script.setup.hw) ≡ hw → Empties p h q n) × ((s % script.setup.hw) ≢ hw → AreSame p h q n)
+FollowsStep script s (line.Run rounds) p h q n = Empties p h q n
+FollowsStep script s (line.Issue hw tag) p h q n = AreSame p h q n
+FollowsStep script s (line.Done tag) p h q n = AreSame p h q n
+FollowsStep script s (line.Back tag) p h q n = AreSame p h q n
+FollowsStep script s (line.Depth depth) p h q n = AreSame p h q n
+FollowsStep script s line.Tick p h q n = AreSame p h q n

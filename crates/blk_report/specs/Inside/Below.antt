@@ -3,13 +3,13 @@ use Rattle.std.specs.Prelude.{ℕ, ◌≡◌, ◌≤◌, ◌+◌, ◌-◌, ◌++
 use Rattle.blk_report.specs.declared.below.Ask.{Ask}
 
 -- of the first n numbers how many are below the bound
-unfoldable pub below : List ℕ → ℕ → ℕ → ℕ
-below numbers bound n = count_by (λ x. nat_lt x bound) (take n numbers)
+unfoldable pub number_below : List ℕ → ℕ → ℕ → ℕ
+number_below numbers bound n = count_by (λ x. nat_lt x bound) (take n numbers)
 
 -- a count for each place and one for the end: how many numbers before it are below the pivot
 pub record AreBelow (numbers : List ℕ) (pivot : ℕ) (counts : List ℕ) : Type 0 where
   pub each : length counts ≡ length numbers + 1
-  pub at : (i : ℕ) → i ≤ length numbers → slice_index counts i ≡ below numbers pivot i
+  pub at : (i : ℕ) → i ≤ length numbers → slice_index counts i ≡ number_below numbers pivot i
 
 -- the numbers below the pivot, and behind them the others less the pivot
 unfoldable pub halves : ℕ → List ℕ → List ℕ
@@ -19,20 +19,20 @@ halves pivot numbers = filter (λ x. nat_lt x pivot) numbers ++ map (λ x. x - p
 unfoldable pub half_of : List ℕ → ℕ → Ask → Ask
 half_of numbers pivot a =
     cond (nat_lt a.bound pivot)
-    (record { start = below numbers pivot a.start; end = below numbers pivot a.end; bound = a.bound; count = a.count })
+    (record { start = number_below numbers pivot a.start; end = number_below numbers pivot a.end; bound = a.bound; count = a.count })
     (record {
-      start = below numbers pivot (length numbers) + (a.start - below numbers pivot a.start);
-      end = below numbers pivot (length numbers) + (a.end - below numbers pivot a.end);
+      start = number_below numbers pivot (length numbers) + (a.start - number_below numbers pivot a.start);
+      end = number_below numbers pivot (length numbers) + (a.end - number_below numbers pivot a.end);
       bound = a.bound - pivot;
-      count = a.count + (below numbers pivot a.end - below numbers pivot a.start);
+      count = a.count + (number_below numbers pivot a.end - number_below numbers pivot a.start);
     })
 
 -- what was counted, and how many of the numbers at the asked places are below the bound
 unfoldable pub answer_of : List ℕ → Ask → ℕ
-answer_of numbers a = a.count + (below numbers a.bound a.end - below numbers a.bound a.start)
+answer_of numbers a = a.count + (number_below numbers a.bound a.end - number_below numbers a.bound a.start)
 
 -- it asks of places of the list, for a bound within the limit, and its answer is no more than there are numbers
-pub record IsAsk (numbers : List ℕ) (limit : ℕ) (a : Ask) : Type 0 where
+pub record IsAskWithin (numbers : List ℕ) (limit : ℕ) (a : Ask) : Type 0 where
   pub forward : a.start ≤ a.end
   pub within : a.end ≤ length numbers
   pub bounded : a.bound ≤ limit

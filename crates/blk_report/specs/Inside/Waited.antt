@@ -15,7 +15,7 @@ pub record IsFrom (services : List Service) (round place : ℕ) : Type 0 where
   pub after : (k : ℕ) (d : Service) → place ≤ k → k < length services → round ≤ (slice_index_or services k d).issue
 
 -- it asks for how many of the commands that were issued in the rounds that s waited are due no later
-pub record AsksFor (services : List Service) (s : Service) (a : Ask) : Type 0 where
+pub record IsAskOfWait (services : List Service) (s : Service) (a : Ask) : Type 0 where
   pub start : IsFrom services s.release a.start
   pub end : IsFrom services s.issue a.end
   pub bound : a.bound ≡ s.due + 1
@@ -24,7 +24,7 @@ pub record AsksFor (services : List Service) (s : Service) (a : Ask) : Type 0 wh
 -- each late command has one that asks for it
 abbrev pub AskForAll : List Service → List Service → List Ask → Type 0
 AskForAll services late asks =
-    (k : ℕ) → (d : Service) → (e : Ask) → k < length late → AsksFor services (slice_index_or late k d) (slice_index_or asks k e)
+    (k : ℕ) → (d : Service) → (e : Ask) → k < length late → IsAskOfWait services (slice_index_or late k d) (slice_index_or asks k e)
 
 -- no round has more of them than it carries
 abbrev pub FitsIn : List Service → List Step → Type 0

@@ -16,12 +16,12 @@ abbrev pub is_served : ℕ → ℕ → ℕ → ℕ → Bool
 is_served count hw h s = nat_lt s count && ((s % hw) == h)
 
 -- a map of `count` software queues to `hw` hardware queues, each to its own number modulo `hw`
-pub record IsSpread (hw count : ℕ) (entries : List ℕ) : Type 0 where
+pub record IsModuloMap (hw count : ℕ) (entries : List ℕ) : Type 0 where
   pub counts : length entries ≡ count
   pub spread : (s d : ℕ) → s < count → slice_index_or entries s d ≡ s % hw
 
 -- these rounds passed in the core, and no bio entered
-pub record Passed (rounds : ℕ) (old new : CoreState) : Type 0 where
+pub record RoundsPassed (rounds : ℕ) (old new : CoreState) : Type 0 where
   pub setup : new.setup ≡ old.setup
   pub entered_same : entered new.events ≡ entered old.events
   pub ticks : round_of new.events ≡ round_of old.events + rounds

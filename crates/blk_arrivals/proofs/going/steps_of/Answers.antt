@@ -10,16 +10,16 @@ more : (c : Else-len-gt-MAX_STEPS) → AreSteps (begin_of c.args.records.now) c.
 more c =
     let s = c.loop-record.invariant in
     more_steps (begin_of c.args.records.now) c.args.span c.args.told c.args.keys.now c.args.records.now c.loop-record.record-index c.loop-record.going.lines.items c.take.new.self.lines.items (plugs_of c.loop-record.going)
-    (plugs_of c.take.new.self) _ c.round_of.result c.deed_of-deed.result c.loop-record-test.true c.requires.in_time s.short (record { rest = s.rest; held = s.held; bios = s.bios; fit = s.fit })
-    (rw c.begin_of-begin.ensures at c.round_of.ensures) c.deed_of-deed.ensures.value c.deed_of-deed.ensures.deed c.in-Ok-take.ensures.lines c.in-Ok-take.ensures.plugs
+    (plugs_of c.take.new.self) _ c.round_of_time.result c.deed_of-deed.result c.loop-record-test.true c.requires.in_time s.short (record { rest = s.rest; held = s.held; bios = s.bios; fit = s.fit })
+    (rw c.begin_of-begin.ensures at c.round_of_time.ensures) c.deed_of-deed.ensures.value c.deed_of-deed.ensures.deed c.in-Ok-take.ensures.lines c.in-Ok-take.ensures.plugs
 
 -- which is one too many
 many : (c : After-drop-going-then-len-gt-MAX_STEPS-2) → AreSteps (begin_of c.args.records.now) c.args.span c.args.told c.args.keys.now c.args.records.now (c.loop-record.record-index + 1) c.take.new.self.lines.items (plugs_of c.take.new.self)
 many c =
     let s = c.loop-record.invariant in
     more_steps (begin_of c.args.records.now) c.args.span c.args.told c.args.keys.now c.args.records.now c.loop-record.record-index c.loop-record.going.lines.items c.take.new.self.lines.items (plugs_of c.loop-record.going)
-    (plugs_of c.take.new.self) _ c.round_of.result c.deed_of-deed.result c.loop-record-test.true c.requires.in_time s.short (record { rest = s.rest; held = s.held; bios = s.bios; fit = s.fit })
-    (rw c.begin_of-begin.ensures at c.round_of.ensures) c.deed_of-deed.ensures.value c.deed_of-deed.ensures.deed c.in-Ok-take.ensures.lines c.in-Ok-take.ensures.plugs
+    (plugs_of c.take.new.self) _ c.round_of_time.result c.deed_of-deed.result c.loop-record-test.true c.requires.in_time s.short (record { rest = s.rest; held = s.held; bios = s.bios; fit = s.fit })
+    (rw c.begin_of-begin.ensures at c.round_of_time.ensures) c.deed_of-deed.ensures.value c.deed_of-deed.ensures.deed c.in-Ok-take.ensures.lines c.in-Ok-take.ensures.plugs
 
 pub loop-record-preserved : goal.loop-record-preserved
 loop-record-preserved c = (let s = more c in record { rest = s.rest; held = s.held; bios = s.bios; short = omega arith; fit = s.fit })

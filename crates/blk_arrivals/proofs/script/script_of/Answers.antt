@@ -1,7 +1,7 @@
 use Rattle.std.proofs.Common.{◌≡◌, ◌∙◌, sym, subst}
 use Rattle.blk_text.specs.declared.script.Line.{Line}
 use Rattle.std.specs.Prelude.{List, length}
-use Rattle.blk_arrivals.specs.Brought.{bios_of, brought_by}
+use Rattle.blk_arrivals.specs.Brought.{arriving_bios, brought_by}
 use Rattle.blk_arrivals.specs.Coming.{submitters_of}
 use Rattle.blk_arrivals.specs.Scripts.{steps_of}
 use Rattle.blk_arrivals.specs.Staged.{KeepPlugs, no_bios}
@@ -19,7 +19,7 @@ same c =
 
 pub returns-in-Ok-steps_of-clause-bios : goal.returns-in-Ok-steps_of-clause-bios
 returns-in-Ok-steps_of-clause-bios c =
-    subst (λ (lines : List Line). brought_by 0 lines ≡ bios_of c.args.terms.now c.args.records.now) (sym (same c)) (script_brings c.args.terms.now c.args.records.now c.in-Ok.ensures.kept.0 c.requires)
+    subst (λ (lines : List Line). brought_by 0 lines ≡ arriving_bios c.args.terms.now c.args.records.now) (sym (same c)) (script_brings c.args.terms.now c.args.records.now c.in-Ok.ensures.kept.0 c.requires)
 
 pub returns-in-Ok-steps_of-clause-plugs : goal.returns-in-Ok-steps_of-clause-plugs
 returns-in-Ok-steps_of-clause-plugs c =

@@ -1,10 +1,10 @@
 use Rattle.std.proofs.Common.{arith}
-use Rattle.blk_capture.specs.Counting.{IsCounted}
+use Rattle.blk_capture.specs.Counting.{AreInRounds}
 use Rattle.blk_capture.proofs.Rounds.{counted_all, all_legal, all_late_by_clock, all_solvable, all_in_range}
 use Rattle.blk_capture.proofs.counting.count_rounds.Given.{Over}
 use Rattle.blk_capture.proofs.counting.count_rounds.Goals as goal
 
-counted : (g : Over) (c : goal.After-loop-place g) → IsCounted c.args.requests.now c.loop-place.commands.items c.loop-place.rounds.items
+counted : (g : Over) (c : goal.After-loop-place g) → AreInRounds c.args.requests.now c.loop-place.commands.items c.loop-place.rounds.items
 counted g c = counted_all c.args.requests.now c.loop-place.commands.items c.loop-place.rounds.items c.loop-place.place c.loop-place.invariant (omega arith)
 
 pub returns-clause-counted : goal.returns-clause-counted

@@ -2,7 +2,7 @@ use Rattle.std.proofs.Common.{ℕ, ◌≡◌, ◌<◌, ◌+◌, ◌∙◌, lengt
 use Rattle.std.proofs.lemmas.Bool.{eq-eqb, ne_eqb}
 use Rattle.blk_capture.specs.Fates.{AddsUp}
 use Rattle.blk_capture.specs.declared.fates.Fate.TheVariants.{LeftOut}
-use Rattle.blk_capture.specs.declared.fates.Tally.{Tally}
+use Rattle.blk_capture.specs.declared.fates.ActionTally.{ActionTally}
 use Rattle.blk_capture.proofs.Counted.{tally_none, tally_step, tally_same}
 use Rattle.blk_capture.proofs.fates.tally_of.Goals as goal
 use Rattle.blk_capture.proofs.fates.tally_of.Goals.{then-place, else-place}
@@ -21,7 +21,7 @@ loop-place-preserved c =
             (eq-eqb _ _ (sym c.place.ensures ∙ w.if-place.true ∙ c.place-in-loop-place.ensures)) c.loop-place.invariant.value (w.counts-is ∙ w.with-counts.ensures.value);
         sum = subst AddsUp (sym w.counts-is) w.with-counts.ensures.up;
         few =
-            let is : c.if-place.counts.records ≡ c.loop-place.counts.records + 1 = ap (λ (t : Tally). t.records) w.counts-is ∙ w.with-counts.ensures.records in
+            let is : c.if-place.counts.records ≡ c.loop-place.counts.records + 1 = ap (λ (t : ActionTally). t.records) w.counts-is ∙ w.with-counts.ensures.records in
             omega (arith, is, c.loop-place.invariant.few);
       }
       | else-place w ↦ record {
@@ -31,7 +31,7 @@ loop-place-preserved c =
             ∙ tally_same c.args.action c.args.records.now c.args.fates.now n _ LeftOut here c.requires (ne_eqb _ _ (λ e. w.if-place.false (c.place.ensures ∙ e ∙ sym c.place-in-loop-place.ensures)));
         sum = subst AddsUp (sym w.counts-is) c.loop-place.invariant.sum;
         few =
-            let is : c.if-place.counts.records ≡ c.loop-place.counts.records = ap (λ (t : Tally). t.records) w.counts-is in
+            let is : c.if-place.counts.records ≡ c.loop-place.counts.records = ap (λ (t : ActionTally). t.records) w.counts-is in
             omega (arith, is, c.loop-place.invariant.few);
       }
     ]

@@ -1,12 +1,12 @@
 use Rattle.std.proofs.Common.{◌≡◌, nat_lt, true, false, rules}
 use Rattle.std.specs.List.Sorted.{IsPartitionPoint}
 use Rattle.std.proofs.lemmas.List.Sorted.{IsPartitionPoint-from_clause, IsPartitionedBy-ltb}
-use Rattle.blk_capture.specs.declared.requests.Request.{Request}
+use Rattle.blk_capture.specs.declared.requests.CapturedRequest.{CapturedRequest}
 use Rattle.blk_capture.proofs.Rounds.{count_parted}
 use Rattle.blk_capture.proofs.part.count_before.Goals as goal
 
 pub returns-clause-value : goal.returns-clause-value
 returns-clause-value c =
-    let parted : IsPartitionPoint (λ (r : Request). nat_lt r.dispatched c.args.begin ≡ true) (λ (r : Request). nat_lt r.dispatched c.args.begin ≡ false) c.args.requests.now c.partition_point.result =
-    IsPartitionPoint-from_clause (λ (r : Request). nat_lt r.dispatched c.args.begin) c.args.requests.now c.partition_point.result c.partition_point.ensures.partitioned (IsPartitionedBy-ltb (λ (r : Request). r.dispatched) c.args.requests.now c.args.begin c.requires.rising) (search rules) in
-    count_parted (λ (r : Request). nat_lt r.dispatched c.args.begin) c.args.requests.now c.partition_point.result c.partition_point.ensures.bound parted
+    let parted : IsPartitionPoint (λ (r : CapturedRequest). nat_lt r.dispatched c.args.begin ≡ true) (λ (r : CapturedRequest). nat_lt r.dispatched c.args.begin ≡ false) c.args.requests.now c.partition_point.result =
+    IsPartitionPoint-from_clause (λ (r : CapturedRequest). nat_lt r.dispatched c.args.begin) c.args.requests.now c.partition_point.result c.partition_point.ensures.partitioned (IsPartitionedBy-ltb (λ (r : CapturedRequest). r.dispatched) c.args.requests.now c.args.begin c.requires.rising) (search rules) in
+    count_parted (λ (r : CapturedRequest). nat_lt r.dispatched c.args.begin) c.args.requests.now c.partition_point.result c.partition_point.ensures.bound parted

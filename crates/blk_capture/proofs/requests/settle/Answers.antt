@@ -2,7 +2,7 @@ use Rattle.std.proofs.Common.{ℕ, ◌≡◌, ◌∙◌, List, length, sym, subs
 use Rattle.blk_capture.specs.Fates.{AreOfTaken}
 use Rattle.blk_capture.specs.Requests.{AreTallied, AreGone}
 use Rattle.blk_capture.specs.Inside.Taken.{AreWithin}
-use Rattle.blk_capture.specs.declared.requests.Bio.{Bio}
+use Rattle.blk_capture.specs.declared.requests.CapturedBio.{CapturedBio}
 use Rattle.blk_capture.proofs.Settling.{have_bios_of, tallied_timed, tallied_due}
 use Rattle.blk_capture.proofs.requests.settle.Goals as goal
 
@@ -16,7 +16,7 @@ returns-clause-bios g c =
     c.in_ok-taken.ensures.placed c.count_bios.ensures c.in_ok-bios.ensures.placed c.args.matching.now.members.opened
 
 pub returns-clause-tallied : goal.returns-clause-tallied
-returns-clause-tallied g c = subst (λ (bs : List Bio). AreTallied c.count_bios.result.items bs) c.as_slice-10.ensures.value c.count_bios.ensures.tallied
+returns-clause-tallied g c = subst (λ (bs : List CapturedBio). AreTallied c.count_bios.result.items bs) c.as_slice-10.ensures.value c.count_bios.ensures.tallied
 
 pub returns-clause-due : goal.returns-clause-due
 returns-clause-due g c = tallied_due c.args.options.now c.in_ok-taken.taken.requests.items c.count_bios.result.items c.as_slice-10.result.now c.in_ok-taken.ensures.due c.count_bios.ensures

@@ -2,7 +2,7 @@ use Rattle.std.proofs.Common.{◌<◌, ◌+◌, ℕ, List, length, Option, sym, 
 use Rattle.std.specs.List.Sorted.{IsNonDecreasingBy}
 use Rattle.std.proofs.lemmas.List.{get_or_default}
 use Rattle.blk_capture.specs.declared.clock.Dispatch.{Dispatch}
-use Rattle.blk_capture.specs.declared.requests.Request.{Request}
+use Rattle.blk_capture.specs.declared.requests.CapturedRequest.{CapturedRequest}
 use Rattle.blk_capture.proofs.Taking.{IsTakenTo, taken_none, taken_same, taken_put}
 use Rattle.blk_capture.proofs.requests.take_requests.Goals as goal
 use Rattle.blk_capture.proofs.requests.take_requests.Goals.{in-Some+in_ok-put, in_default}
@@ -22,10 +22,10 @@ loop-number-preserved g c =
     elim c.match-request_of.branch [
       | in-Some+in_ok-put w ↦
           subst (λ (ps : List (Option ℕ)). IsTakenTo c.args.options.now c.args.lives.now openers ds ps c.match-request_of.taken.requests.items (n + 1)) (sym (ap (λ t. t.places.items) w.taken-is))
-          (subst (λ (qs : List Request). IsTakenTo c.args.options.now c.args.lives.now openers ds w.put.new.self.places.items qs (n + 1)) (sym (ap (λ t. t.requests.items) w.taken-is))
+          (subst (λ (qs : List CapturedRequest). IsTakenTo c.args.options.now c.args.lives.now openers ds w.put.new.self.places.items qs (n + 1)) (sym (ap (λ t. t.requests.items) w.taken-is))
           (taken_put c.args.options.now c.args.lives.now openers ds c.loop-number.taken.places.items w.put.new.self.places.items c.loop-number.taken.requests.items w.put.new.self.requests.items n _ w.in-Some.request c.loop-number.invariant w.in-Some.ensures.of w.in-Some.ensures.due w.in_ok-put.ensures up here (get_or_default ds n _ _ here)))
       | in_default w ↦
           subst (λ (ps : List (Option ℕ)). IsTakenTo c.args.options.now c.args.lives.now openers ds ps c.match-request_of.taken.requests.items (n + 1)) (sym (ap (λ t. t.places.items) w.taken-is))
-          (subst (λ (qs : List Request). IsTakenTo c.args.options.now c.args.lives.now openers ds c.loop-number.taken.places.items qs (n + 1)) (sym (ap (λ t. t.requests.items) w.taken-is))
+          (subst (λ (qs : List CapturedRequest). IsTakenTo c.args.options.now c.args.lives.now openers ds c.loop-number.taken.places.items qs (n + 1)) (sym (ap (λ t. t.requests.items) w.taken-is))
           (taken_same c.args.options.now c.args.lives.now openers ds c.loop-number.taken.places.items c.loop-number.taken.requests.items n c.loop-number.invariant))
     ]

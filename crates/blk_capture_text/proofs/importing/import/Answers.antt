@@ -16,7 +16,7 @@ returns-then-len-gt-MAX_COMMANDS-clause-err c =
       fates = c.in-Ok-part_of.part.fates.items;
       absorbed = c.in-Ok-part_of.part.absorbed;
       left_out = c.in-Ok-part_of.part.left_out;
-      imported = imported c.args.records.now c.args.asked.now _ _ _ _ _ _ _ _ _ _ _ c.begin_of.ensures
+      imported = imported c.args.records.now c.args.asked.now _ _ _ _ _ _ _ _ _ _ _ c.begin_after.ensures
           (record { timed = all.timed; due = all.due; have_bios = all.bios; tallied = all.tallied; gone = all.gone; told_each = all.fates; passed = all.passed; below = all.below; opened = all.opened; made = all.made })
           part.requests part.bios part.fates part.absorbed part.left_out;
       many = omega arith;
@@ -26,6 +26,6 @@ pub returns-in-Ok-part_of-clause-ok : goal.returns-in-Ok-part_of-clause-ok
 returns-in-Ok-part_of-clause-ok c =
     let all = c.in-Ok.ensures in
     let part = c.in-Ok-part_of.ensures in
-    imported c.args.records.now c.args.asked.now _ _ _ _ _ _ _ _ _ _ _ c.begin_of.ensures
+    imported c.args.records.now c.args.asked.now _ _ _ _ _ _ _ _ _ _ _ c.begin_after.ensures
     (record { timed = all.timed; due = all.due; have_bios = all.bios; tallied = all.tallied; gone = all.gone; told_each = all.fates; passed = all.passed; below = all.below; opened = all.opened; made = all.made })
     part.requests part.bios part.fates part.absorbed part.left_out

@@ -1,5 +1,5 @@
 use Rattle.std.proofs.Common.{rules, ◌≡◌, ◌∙◌, ap}
-use Rattle.blk_judge.specs.Text.{misses_text}
+use Rattle.blk_judge.specs.Text.{miss_records}
 use Rattle.blk_lists.specs.Schedule.{ran_of}
 use Rattle.blk_cli.proofs.Schedules.{taken_of, rounds_of, missed_of, refused_as}
 use Rattle.blk_cli.proofs.judging.each_late.Goals as goal
@@ -18,7 +18,7 @@ returns-in-Ok-late_lines-clause-text c =
     record {
       misses = c.in-Ok.misses.items;
       missed = missed_of s c.as_slice-commands.result.now c.as_slice-rounds.result.now c.args.capacity.now commands rounds c.requires.capacity _ c.in-Ok.ensures.late;
-      is_text = c.in-Ok-late_lines.ensures ∙ ap misses_text c.as_slice.ensures.value;
+      is_text = c.in-Ok-late_lines.ensures ∙ ap miss_records c.as_slice.ensures.value;
     }
 
 pub returns-in-Err-clause-fails : goal.returns-in-Err-clause-fails

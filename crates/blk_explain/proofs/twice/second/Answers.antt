@@ -1,6 +1,6 @@
 use Rattle.std.proofs.Common.{◌≡◌, ◌+◌, ◌∙◌, false, sym, subst, arith}
 use Rattle.blk_ids.specs.IdSet.{has_id}
-use Rattle.blk_explain.specs.Twice.{AreDistinct}
+use Rattle.blk_explain.specs.Twice.{HasNoRepeat}
 use Rattle.blk_explain.specs.Inside.Seen.{AreSeen}
 use Rattle.blk_explain.proofs.Seeing.{seen_passed, seen_more}
 use Rattle.blk_explain.proofs.twice.second.Goals.{in-Some+else-contains+in_ok-make_room-in-Some, in-None}
@@ -20,4 +20,4 @@ loop-place-preserved c =
 pub returns : goal.returns
 returns c =
     let end : c.args.count ≡ c.loop-place.place = (let le = c.loop-place.auto.place-end in omega arith) in
-    subst (λ n. AreDistinct c.args.script.now.lines.items n) (sym end) c.loop-place.invariant.distinct
+    subst (λ n. HasNoRepeat c.args.script.now.lines.items n) (sym end) c.loop-place.invariant.distinct

@@ -2,14 +2,14 @@ use Rattle.std.proofs.Common.{◌≡◌, ◌≤◌, ◌+◌, ◌-◌, ◌/◌, �
 use Rattle.std.specs.List.{All}
 use Rattle.edd_commands.specs.Limits.{most_commands}
 use Rattle.blk_report.specs.declared.below.Ask.{Ask}
-use Rattle.blk_report.specs.Inside.Below.{AreBelow, halves, half_of, answer_of, IsAsk}
+use Rattle.blk_report.specs.Inside.Below.{AreBelow, halves, half_of, answer_of, IsAskWithin}
 use Rattle.blk_report.proofs.Halving.{halves_many, half_limit, all_halved, all_answered, all_asks}
 use Rattle.blk_report.proofs.below.count_below.Goals as goal
 
 pub loop-limit-init : goal.loop-limit-init
 loop-limit-init g c = record {
   few = c.requires.few;
-  asks = subst (All (IsAsk c.args.numbers.items c.args.limit)) (sym c.in_ok-left.ensures.items) c.requires.asks;
+  asks = subst (All (IsAskWithin c.args.numbers.items c.args.limit)) (sym c.in_ok-left.ensures.items) c.requires.asks;
   same = ap (map (answer_of c.args.numbers.items)) c.in_ok-left.ensures.items;
 }
 
@@ -25,8 +25,8 @@ halves_of-requires g c =
           (subst (AreBelow xs pivot) (sym c.as_slice-in-loop-limit-3.ensures.value) (subst (λ l. AreBelow l pivot c.in_ok-counts.counts.items) c.as_slice.ensures.value c.in_ok-counts.ensures));
       few = subst (λ l. length l ≤ most_commands) (sym c.as_slice-in-loop-limit-2.ensures.value) old.few;
       asks =
-          subst (λ l. All (IsAsk l (pivot + pivot)) c.as_slice-in-loop-limit.result.now) (sym c.as_slice-in-loop-limit-2.ensures.value)
-          (subst (All (IsAsk xs (pivot + pivot))) (sym c.as_slice-in-loop-limit.ensures.value) (all_asks xs limit c.loop-limit.left.items old.asks));
+          subst (λ l. All (IsAskWithin l (pivot + pivot)) c.as_slice-in-loop-limit.result.now) (sym c.as_slice-in-loop-limit-2.ensures.value)
+          (subst (All (IsAskWithin xs (pivot + pivot))) (sym c.as_slice-in-loop-limit.ensures.value) (all_asks xs limit c.loop-limit.left.items old.asks));
     }
 
 pub loop-limit-preserved : goal.loop-limit-preserved
@@ -43,7 +43,7 @@ loop-limit-preserved g c =
     ∙ ap (map (half_of xs pivot)) c.as_slice-in-loop-limit.ensures.value in
     record {
       few = omega (arith, ap length numbers, halves_many xs pivot, old.few);
-      asks = subst (λ l. All (IsAsk l (limit / 2)) c.in_ok-left-2.left.items) (sym numbers) (subst (All (IsAsk (halves pivot xs) (limit / 2))) (sym asks) (all_halved xs pivot limit left refl old.asks));
+      asks = subst (λ l. All (IsAskWithin l (limit / 2)) c.in_ok-left-2.left.items) (sym numbers) (subst (All (IsAskWithin (halves pivot xs) (limit / 2))) (sym asks) (all_halved xs pivot limit left refl old.asks));
       same =
           ap (λ l. map (answer_of l) c.in_ok-left-2.left.items) numbers
           ∙ ap (map (answer_of (halves pivot xs))) asks
@@ -54,5 +54,5 @@ loop-limit-preserved g c =
 pub returns : goal.returns
 returns g c =
     let none : c.loop-limit.limit ≡ 0 = let e = c.loop-limit-test.false in omega (arith, e) in
-    sym (all_answered c.loop-limit.numbers.items c.loop-limit.left.items (subst (λ n. All (IsAsk c.loop-limit.numbers.items n) c.loop-limit.left.items) none c.loop-limit.invariant.asks))
+    sym (all_answered c.loop-limit.numbers.items c.loop-limit.left.items (subst (λ n. All (IsAskWithin c.loop-limit.numbers.items n) c.loop-limit.left.items) none c.loop-limit.invariant.asks))
     ∙ c.loop-limit.invariant.same

@@ -5,7 +5,7 @@ use Rattle.blk_report.specs.declared.below.Ask.{Ask}
 use Rattle.edd_verdict.specs.declared.Verdict.TheVariants.{Arrival}
 use Rattle.blk_report.specs.declared.serving.Service.{Service}
 use Rattle.blk_report.specs.Services.{command_in}
-use Rattle.blk_report.specs.Inside.Below.{answer_of, IsAsk}
+use Rattle.blk_report.specs.Inside.Below.{answer_of, IsAskWithin}
 use Rattle.blk_report.proofs.Waiting.{AllAsked, AllTold, asked_same, told_same, dues_in, late_in, asks_are, asks_forward, counted_many, each_row, rows_are}
 use Rattle.blk_report.proofs.Verdicts.{AreTold, IsOnly, verdicts_by, has_verdict}
 use Rattle.blk_report.proofs.delays.delays.Goals as goal
@@ -26,8 +26,8 @@ count_below-requires-clause-asks g c =
     let each : length asks ≡ length late = c.in_ok-asks.ensures.each ∙ ap length c.as_slice.ensures.value in
     let all : AllAsked xs late asks = asked_same xs c.as_slice.result.now late asks c.as_slice.ensures.value c.in_ok-asks.ensures.asks in
     let under : All (λ x. x < limit) dues = subst (All (λ (x : ℕ). x < limit)) (c.as_slice-2.ensures.value ∙ c.in_ok-dues.ensures) c.after_all-limit.ensures in
-    let are : All (IsAsk dues limit) asks = asks_are xs c.args.capacity.now late asks limit c.requires.timed c.requires.legal.within_depth c.in_ok-late.ensures each all under in
-    subst (λ (l : List ℕ). All (IsAsk l limit) c.as_slice-3.result.now) (sym c.in_ok-dues.ensures) (subst (All (IsAsk dues limit)) (sym c.as_slice-3.ensures.value) are)
+    let are : All (IsAskWithin dues limit) asks = asks_are xs c.args.capacity.now late asks limit c.requires.timed c.requires.legal.within_depth c.in_ok-late.ensures each all under in
+    subst (λ (l : List ℕ). All (IsAskWithin l limit) c.as_slice-3.result.now) (sym c.in_ok-dues.ensures) (subst (All (IsAskWithin dues limit)) (sym c.as_slice-3.ensures.value) are)
 
 pub late_commands-requires-clause-told : goal.late_commands-requires-clause-told
 late_commands-requires-clause-told g c =
@@ -52,7 +52,7 @@ late_commands-requires-clause-forward g c =
     let each : length asks ≡ length late = c.in_ok-asks.ensures.each ∙ ap length c.as_slice.ensures.value in
     let all : AllAsked xs late asks = asked_same xs c.as_slice.result.now late asks c.as_slice.ensures.value c.in_ok-asks.ensures.asks in
     let under : All (λ x. x < limit) dues = subst (All (λ (x : ℕ). x < limit)) (c.as_slice-2.ensures.value ∙ c.in_ok-dues.ensures) c.after_all-limit.ensures in
-    let are : All (IsAsk dues limit) asks = asks_are xs c.args.capacity.now late asks limit c.requires.timed c.requires.legal.within_depth c.in_ok-late.ensures each all under in
+    let are : All (IsAskWithin dues limit) asks = asks_are xs c.args.capacity.now late asks limit c.requires.timed c.requires.legal.within_depth c.in_ok-late.ensures each all under in
     subst (All (λ (a : Ask). a.start ≤ a.end)) (sym c.as_slice-6.ensures.value) (asks_forward dues limit asks are)
 
 pub late_commands-requires-clause-each : goal.late_commands-requires-clause-each

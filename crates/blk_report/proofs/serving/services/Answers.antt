@@ -1,7 +1,7 @@
 use Rattle.std.proofs.Common.{◌∙◌, List, map, ap, sym, subst}
 use Rattle.blk_trace.specs.Depths.{capacity_of}
 use Rattle.blk_report.specs.declared.serving.Service.{Service}
-use Rattle.blk_report.specs.Services.{command_in, AreTimed, AreRising}
+use Rattle.blk_report.specs.Services.{command_in, AreWithinLimits, AreInIssueOrder}
 use Rattle.blk_report.proofs.Requests.{are_commands, are_rounds, rise, timed}
 use Rattle.blk_report.proofs.serving.services.Goals as goal
 
@@ -14,10 +14,10 @@ returns-clause-rounds g c = let t = c.args.trace.now in ap (map (λ (s : Service
 pub returns-clause-timed : goal.returns-clause-timed
 returns-clause-timed g c =
     let t = c.args.trace.now in
-    subst AreTimed (sym c.in_ok-services.ensures) (timed t.setup t.events (capacity_of t.setup t.events) c.commands.ensures.bounded c.commands.ensures.scheduled)
+    subst AreWithinLimits (sym c.in_ok-services.ensures) (timed t.setup t.events (capacity_of t.setup t.events) c.commands.ensures.bounded c.commands.ensures.scheduled)
 
 pub returns-clause-rising : goal.returns-clause-rising
 returns-clause-rising g c =
     let t = c.args.trace.now in
-    let P : List Service → Type 0 = λ l. AreRising l in
+    let P : List Service → Type 0 = λ l. AreInIssueOrder l in
     subst P (sym c.in_ok-services.ensures) (rise t.setup t.events)

@@ -1,5 +1,5 @@
-use Rattle.std.proofs.Common.{◌≡◌, ◌++◌, map, length, subst, arith}
-use Rattle.blk_report.specs.Table.{lines_upto}
+use Rattle.std.proofs.Common.{◌≡◌, ◌++◌, length, subst, arith}
+use Rattle.blk_report.specs.Table.{names_of, lines_upto}
 use Rattle.blk_report.proofs.Tables.{one_more}
 use Rattle.blk_report.proofs.table.push_rows.Goals as goal
 
@@ -13,4 +13,4 @@ loop-place-preserved c =
 pub returns : goal.returns
 returns c =
     let all : c.loop-place.place ≡ length c.args.reports.now = let a = c.loop-place-test.false in let b = c.loop-place.auto.place-end in omega (arith, a, b) in
-    subst (λ n. c.loop-place.draft ≡ c.args.draft.now ++ lines_upto (map (λ name. name.now) c.args.names.now) c.args.reports.now n) all c.loop-place.invariant
+    subst (λ n. c.loop-place.draft ≡ c.args.draft.now ++ lines_upto (names_of c.args.names.now) c.args.reports.now n) all c.loop-place.invariant

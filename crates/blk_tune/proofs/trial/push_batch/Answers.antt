@@ -6,9 +6,9 @@ use Rattle.blk_settings.specs.declared.sched.Sched.TheVariants as sched
 use Rattle.blk_text.specs.Script.{scripted}
 use Rattle.blk_runs.specs.declared.fault.RunFault.{RunFault}
 use Rattle.blk_runs.proofs.Turns.{unrun_at}
-use Rattle.blk_tune.specs.declared.row.Row.{Row}
-use Rattle.blk_tune.specs.Row.{IsAnswer, AreRows}
-use Rattle.blk_tune.specs.Inside.Shares.{IsShare}
+use Rattle.blk_tune.specs.declared.row.TrialRow.{TrialRow}
+use Rattle.blk_tune.specs.Row.{IsRunAnswer, AreRowsUnder}
+use Rattle.blk_tune.specs.Inside.Shares.{IsThreadShare}
 use Rattle.blk_tune.proofs.Shares.{answer_at}
 use Rattle.blk_tune.proofs.Turns.{one_more, whole}
 use Rattle.blk_tune.proofs.trial.push_batch.Goals as goal
@@ -18,11 +18,11 @@ returns-in-Err-clause-unrun g c =
     let ss : List Sched = c.args.scheds.now in
     let n : ℕ = c.args.from + c.loop-i.i in
     let s = scripted c.args.script.now in
-    let r : Result Row RunFault = c.index-in-loop-i.result.now in
-    let A : Result Row RunFault → Type 0 = λ x. IsAnswer s (get_or ss n sched.None) x in
-    let share : IsShare s ss (c.args.from + c.loop-i.i % c.min-threads.result) c.args.until c.min-threads.result c.in-Ok-index.share.items =
-    subst (λ x. IfOk x (λ one. IsShare s ss (c.args.from + c.loop-i.i % c.min-threads.result) c.args.until c.min-threads.result one.items)) c.in-Ok-index.is
-    (subst (λ x. IfOk x (λ one. IsShare s ss (c.args.from + c.loop-i.i % c.min-threads.result) c.args.until c.min-threads.result one.items)) (sym c.index.ensures)
+    let r : Result TrialRow RunFault = c.index-in-loop-i.result.now in
+    let A : Result TrialRow RunFault → Type 0 = λ x. IsRunAnswer s (get_or ss n sched.None) x in
+    let share : IsThreadShare s ss (c.args.from + c.loop-i.i % c.min-threads.result) c.args.until c.min-threads.result c.in-Ok-index.share.items =
+    subst (λ x. IfOk x (λ one. IsThreadShare s ss (c.args.from + c.loop-i.i % c.min-threads.result) c.args.until c.min-threads.result one.items)) c.in-Ok-index.is
+    (subst (λ x. IfOk x (λ one. IsThreadShare s ss (c.args.from + c.loop-i.i % c.min-threads.result) c.args.until c.min-threads.result one.items)) (sym c.index.ensures)
     (c.in-Ok.ensures.each (c.loop-i.i % c.min-threads.result) c.index.result.now (mod_below c.loop-i.i c.min-threads.result (omega arith)))) in
     let inside : n < length ss = omega arith in
     let at : A r = subst A (sym c.index-in-loop-i.ensures) (answer_at s ss c.args.from c.args.until c.min-threads.result c.loop-i.i c.in-Ok-index.share.items share (omega arith) sched.None r) in
@@ -34,17 +34,17 @@ loop-i-preserved g c =
     let ss : List Sched = c.args.scheds.now in
     let n : ℕ = c.args.from + c.loop-i.i in
     let s = scripted c.args.script.now in
-    let r : Result Row RunFault = c.index-in-loop-i.result.now in
-    let A : Result Row RunFault → Type 0 = λ x. IsAnswer s (get_or ss n sched.None) x in
-    let share : IsShare s ss (c.args.from + c.loop-i.i % c.min-threads.result) c.args.until c.min-threads.result c.in-Ok-index.share.items =
-    subst (λ x. IfOk x (λ one. IsShare s ss (c.args.from + c.loop-i.i % c.min-threads.result) c.args.until c.min-threads.result one.items)) c.in-Ok-index.is
-    (subst (λ x. IfOk x (λ one. IsShare s ss (c.args.from + c.loop-i.i % c.min-threads.result) c.args.until c.min-threads.result one.items)) (sym c.index.ensures)
+    let r : Result TrialRow RunFault = c.index-in-loop-i.result.now in
+    let A : Result TrialRow RunFault → Type 0 = λ x. IsRunAnswer s (get_or ss n sched.None) x in
+    let share : IsThreadShare s ss (c.args.from + c.loop-i.i % c.min-threads.result) c.args.until c.min-threads.result c.in-Ok-index.share.items =
+    subst (λ x. IfOk x (λ one. IsThreadShare s ss (c.args.from + c.loop-i.i % c.min-threads.result) c.args.until c.min-threads.result one.items)) c.in-Ok-index.is
+    (subst (λ x. IfOk x (λ one. IsThreadShare s ss (c.args.from + c.loop-i.i % c.min-threads.result) c.args.until c.min-threads.result one.items)) (sym c.index.ensures)
     (c.in-Ok.ensures.each (c.loop-i.i % c.min-threads.result) c.index.result.now (mod_below c.loop-i.i c.min-threads.result (omega arith)))) in
     let inside : n < length ss = omega arith in
     let at : A r = subst A (sym c.index-in-loop-i.ensures) (answer_at s ss c.args.from c.args.until c.min-threads.result c.loop-i.i c.in-Ok-index.share.items share (omega arith) sched.None r) in
     let good : A (Ok c.in-Ok-index-2.row) = subst A c.in-Ok-index-2.is at in
-    let rows : List Row = c.loop-i.rows.items ++ c.in-Ok-index-2.row ∷ [] in
+    let rows : List TrialRow = c.loop-i.rows.items ++ c.in-Ok-index-2.row ∷ [] in
     let next : n + 1 ≡ c.args.from + (c.loop-i.i + 1) = omega arith in
-    let more : AreRows (take (n + 1) ss) s rows = one_more ss n sched.None s c.loop-i.rows.items c.in-Ok-index-2.row inside c.loop-i.invariant.rows good.0 good.1 in
-    let R : ℕ → Type 0 = λ m. AreRows (take m ss) s rows in
+    let more : AreRowsUnder (take (n + 1) ss) s rows = one_more ss n sched.None s c.loop-i.rows.items c.in-Ok-index-2.row inside c.loop-i.invariant.rows good.0 good.1 in
+    let R : ℕ → Type 0 = λ m. AreRowsUnder (take m ss) s rows in
     record { rows = rw c.in-Ok-push.ensures.items (subst R next more) }

@@ -3,7 +3,7 @@ use Rattle.std.proofs.lemmas.List.{length_push}
 use Rattle.blk_settings.specs.declared.sched.Sched.{Sched}
 use Rattle.blk_text.specs.Script.{scripted}
 use Rattle.blk_runs.specs.declared.fault.RunFault.{RunFault}
-use Rattle.blk_tune.specs.declared.row.Row.{Row}
+use Rattle.blk_tune.specs.declared.row.TrialRow.{TrialRow}
 use Rattle.blk_tune.specs.Inside.Shares.{AreAnswers}
 use Rattle.blk_tune.proofs.Shares.{one_more_answer, next_place}
 use Rattle.blk_settings.specs.declared.sched.Sched.TheVariants as sched
@@ -13,8 +13,8 @@ use Rattle.blk_tune.proofs.trial.share.Goals.{else-loop-place-test, then-loop-pl
 pub loop-place-preserved : goal.loop-place-preserved
 loop-place-preserved c =
     let s = scripted c.args.script.now in
-    let old : List (Result Row RunFault) = c.loop-place.all.items in
-    let all : List (Result Row RunFault) = old ++ c.row_under.result ∷ [] in
+    let old : List (Result TrialRow RunFault) = c.loop-place.all.items in
+    let all : List (Result TrialRow RunFault) = old ++ c.row_under.result ∷ [] in
     let more : AreAnswers s c.args.scheds.now c.args.from c.args.step all =
     one_more_answer s c.args.scheds.now c.args.from c.args.step old c.row_under.result c.loop-place.place c.loop-place.invariant.at (omega arith) c.loop-place.invariant.are sched.None c.row_under.ensures in
     let at : c.loop-place.place + c.args.step ≡ c.args.from + length all * c.args.step =
@@ -27,8 +27,8 @@ returns c = elim c.loop-place-test.branch [
   | else-loop-place-test w ↦ rw w.all-is (record { each = record { each = c.loop-place.invariant.are; whole = omega (arith, c.loop-place.invariant.at) } })
   | then-loop-place-test+in_ok-push+then-until-place w ↦
       let s = scripted c.args.script.now in
-      let old : List (Result Row RunFault) = c.loop-place.all.items in
-      let all : List (Result Row RunFault) = old ++ w.row_under.result ∷ [] in
+      let old : List (Result TrialRow RunFault) = c.loop-place.all.items in
+      let all : List (Result TrialRow RunFault) = old ++ w.row_under.result ∷ [] in
       let more : AreAnswers s c.args.scheds.now c.args.from c.args.step all =
       one_more_answer s c.args.scheds.now c.args.from c.args.step old w.row_under.result c.loop-place.place c.loop-place.invariant.at (omega arith) c.loop-place.invariant.are sched.None w.row_under.ensures in
       let at : c.loop-place.place + c.args.step ≡ c.args.from + length all * c.args.step =

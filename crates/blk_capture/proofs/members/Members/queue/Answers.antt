@@ -2,7 +2,7 @@ use Rattle.std.proofs.Common.{List, refl, sym, subst}
 use Rattle.std.specs.Result.{is_ok}
 use Rattle.std.proofs.lemmas.Bool.{cond_both}
 use Rattle.blk_capture.specs.Inside.Members.{AreOpened}
-use Rattle.blk_capture.specs.declared.members.Queued.{Queued}
+use Rattle.blk_capture.specs.declared.members.QueuedBio.{QueuedBio}
 use Rattle.blk_capture.proofs.Opened.{opened_more}
 use Rattle.blk_capture.proofs.members.Members.queue.Goals as goal
 
@@ -12,6 +12,6 @@ invariant_of-self g c =
     let openers = self.openers.items in
     record {
       opened =
-          subst (λ (bs : List Queued). AreOpened bs openers) (sym c.push.ensures.items)
-          (cond_both (is_ok c.push.result) _ self.bios.items (λ (bs : List Queued). AreOpened bs openers) (λ _. opened_more self.bios.items openers _ self.opened refl) (λ _. self.opened));
+          subst (λ (bs : List QueuedBio). AreOpened bs openers) (sym c.push.ensures.items)
+          (cond_both (is_ok c.push.result) _ self.bios.items (λ (bs : List QueuedBio). AreOpened bs openers) (λ _. opened_more self.bios.items openers _ self.opened refl) (λ _. self.opened));
     }

@@ -3,7 +3,7 @@ use Rattle.std.proofs.lemmas.List.{drop_all}
 use Rattle.blk_explain.specs.Lines.{begins}
 use Rattle.blk_explain.specs.Inside.Ends.{state_of}
 use Rattle.blk_explain.proofs.Walks.{found_at, walks_on, at_end, if_le}
-use Rattle.blk_explain.proofs.lines.line_of.Goals as goal
+use Rattle.blk_explain.proofs.lines.line_at.Goals as goal
 
 pub returns-then-is_it : goal.returns-then-is_it
 returns-then-is_it c =
