@@ -726,7 +726,7 @@ def jobs_of_some_memory():
 
 @trial
 def memory_of_less_and_less(trials):
-    """Under any limit under which it starts, the program ends as it does without one, or for want of memory."""
+    """Under any limit under which it starts, the program ends as it does without one, or because memory ran out."""
     limits = list(less_and_less())
     for words, text, wanted in jobs_of_some_memory():
         ended = [plainly(words, text, limit=f"-v {limit}") for limit in limits]
