@@ -1,4 +1,4 @@
--- Windows bound how many commands a legal schedule meets.
+-- Windows bound how many commands a legal schedule has on time.
 use Rattle.std.proofs.Common.{◌≡◌, ◌<◌, ◌≤◌, ℕ, ◌+◌, ◌-◌, ◌*◌, Bool, true, false, not, ◌&&◌, nat_le, nat_lt, List, [], ◌∷◌, length, get_or, take, count_by, suc, zero, inl, inr, arith, refl, ap, sym, ◌∙◌, subst}
 use Rattle.std.specs.List.{zip, list_any}
 use Rattle.std.specs.List.Sorted.{IsPartitionPoint, IsPartitionedBy}
@@ -24,15 +24,15 @@ pair_at commands rounds k p d e same within =
 pub length_pairs : (commands : List Command) (rounds : List ℕ) → length rounds ≡ length commands → length (zip commands rounds) ≡ length commands
 length_pairs commands rounds same = omega (arith, length-zip commands rounds)
 
--- met, and in none of the windows
+-- on time, and in none of the windows
 abbrev on_time_apart : List Window → Command × ℕ → Bool
 on_time_apart cover p = is_on_time p.0 p.1 && not (list_any (λ w. lies_in p.0 w) cover)
 
--- met, and in the window
+-- on time, and in the window
 abbrev on_time_in : Window → Command × ℕ → Bool
 on_time_in w p = is_on_time p.0 p.1 && lies_in p.0 w
 
--- a met command that lies in a window runs in it
+-- a command on time that lies in a window runs in it
 carried_on_time : (commands : List Command) (rounds : List ℕ) (steps : List Step) (w : Window) → IsLegal commands rounds steps → count_by (on_time_in w) (zip commands rounds) ≤ carried_in steps w
 unfolding carried_in
 carried_on_time commands rounds steps w legal =
@@ -56,7 +56,7 @@ carried_on_time commands rounds steps w legal =
     and_from (nat_le w.from x) (nat_lt x (w.from + n)) (le-leb w.from x (omega arith)) (lt-ltb x (w.from + n) (omega arith))) in
     omega (arith, held, places_among-le rounds steps legal.within_depth w.from n)
 
--- a met command was released by its due round
+-- a command on time was released by its due round
 apart_outside : (commands : List Command) (rounds : List ℕ) (steps : List Step) (cover : List Window) → IsLegal commands rounds steps → count_by (on_time_apart cover) (zip commands rounds) ≤ outside_of commands cover
 unfolding outside_of
 apart_outside commands rounds steps cover legal =
@@ -73,7 +73,7 @@ apart_outside commands rounds steps cover legal =
     let released : c.release ≤ x = legal.released k e k_in in
     and_from (nat_le c.release c.due) (not (list_any (λ w. lies_in c w) cover)) (le-leb c.release c.due (omega arith)) parts.1)
 
--- what is met lies in a window, whose rounds carry it, or in none
+-- what is on time lies in a window, whose rounds carry it, or in none
 on_time_split : (commands : List Command) (rounds : List ℕ) (steps : List Step) (cover : List Window) → IsLegal commands rounds steps → number_on_time commands rounds ≤ carried_by steps cover + count_by (on_time_apart cover) (zip commands rounds)
 unfolding number_on_time carried_by
 on_time_split commands rounds steps [] legal =
@@ -97,7 +97,7 @@ on_time_split commands rounds steps (w ∷ cover) legal =
     (zip commands rounds) in
     omega (arith, rest, split, carried_on_time commands rounds steps w legal, sum_by-cons (λ v. carried_in steps v) w cover)
 
--- what windows carry, with what lies in none of them, bounds what is met
+-- what windows carry, with what lies in none of them, bounds what is on time
 pub covers_bound : (commands : List Command) (steps : List Step) (cover : List Window) → IsOnTimeBound commands steps (bound_of commands steps cover)
 covers_bound commands steps cover rounds legal =
     omega (arith, on_time_split commands rounds steps cover legal, apart_outside commands rounds steps cover legal)

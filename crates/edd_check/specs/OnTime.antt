@@ -7,19 +7,19 @@ use Rattle.edd_commands.specs.Capacity.{carried}
 use Rattle.edd_commands.specs.Schedule.{IsLegal}
 use Rattle.edd_check.specs.Window.{WindowInRange}
 
--- the command is met in the round x: it runs no later than it is due
+-- the command is on time in the round x: it runs no later than it is due
 abbrev pub is_on_time : Command → ℕ → Bool
 is_on_time c x = nat_le x c.due
 
--- how many commands a schedule meets
+-- how many commands a schedule has on time
 unfoldable pub number_on_time : List Command → List ℕ → ℕ
 number_on_time commands rounds = count_by (λ p. is_on_time p.0 p.1) (zip commands rounds)
 
--- no legal schedule meets more than n commands
+-- no legal schedule has more than n commands on time
 abbrev pub IsOnTimeBound : List Command → List Step → ℕ → Type 0
 IsOnTimeBound commands steps n = (rounds : List ℕ) → IsLegal commands rounds steps → number_on_time commands rounds ≤ n
 
--- some legal schedule meets n commands, and none meets more
+-- some legal schedule has n commands on time, and none has more
 pub record IsMostOnTime (commands : List Command) (steps : List Step) (n : ℕ) : Type 0 where
   pub schedule : List ℕ
   pub legal : IsLegal commands schedule steps
@@ -34,15 +34,15 @@ holds w x = nat_le w.from x && nat_le x w.due
 abbrev pub lies_in : Command → Window → Bool
 lies_in c w = holds w c.release && holds w c.due
 
--- the command is released by its due round, so that some schedule may meet it
+-- the command is released by its due round, so that it may be on time in some schedule
 abbrev pub can_be_on_time : Command → Bool
 can_be_on_time c = nat_le c.release c.due
 
--- how many commands that can be met lie in the window
+-- how many commands that can be on time lie in the window
 unfoldable pub inside_of : List Command → Window → ℕ
 inside_of commands w = count_by (λ c. can_be_on_time c && lies_in c w) commands
 
--- how many commands that can be met lie in none of the windows
+-- how many commands that can be on time lie in none of the windows
 unfoldable pub outside_of : List Command → List Window → ℕ
 outside_of commands cover = count_by (λ c. can_be_on_time c && not (list_any (λ w. lies_in c w) cover)) commands
 
@@ -54,7 +54,7 @@ carried_in steps w = carried steps w.from (w.due + 1 - w.from)
 unfoldable pub carried_by : List Step → List Window → ℕ
 carried_by steps cover = sum_by (λ w. carried_in steps w) cover
 
--- what the windows carry, and the commands that can be met and lie in none of them
+-- what the windows carry, and the commands that can be on time and lie in none of them
 abbrev pub bound_of : List Command → List Step → List Window → ℕ
 bound_of commands steps cover = carried_by steps cover + outside_of commands cover
 

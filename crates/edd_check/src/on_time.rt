@@ -1,8 +1,8 @@
-//! Checks a claim of the greatest number of commands that a schedule can meet.
+//! Checks a claim of the greatest number of commands that a schedule can have on time.
 //!
-//! A command is met where it runs no later than it is due (Pinedo, Scheduling: the number of tardy jobs, here counted from
-//! the other side, with unit jobs and release dates). Disjoint windows of rounds bound what any schedule meets: a met
-//! command that lies in a window runs in it, and so these are at most what its rounds carry (König's cover of a convex
+//! A command is on time where it runs no later than it is due (Pinedo, Scheduling: the number of tardy jobs, here counted from
+//! the other side, with unit jobs and release dates). Disjoint windows of rounds bound how many are on time in any schedule: a
+//! command on time that lies in a window runs in it, and so these are at most what its rounds carry (König's cover of a convex
 //! bipartite graph of commands and rounds).
 
 ghost use Rattle.std.specs.Prelude.{◌≡◌, ◌≤◌, ◌<◌, ◌+◌, ◌-◌, ◌*◌, ◌&&◌, ◌↔◌, not, length, IsTrue, IfNone, IfSome, OnOk};
@@ -16,7 +16,7 @@ use crate::{Window, first_early, least_over_deep};
 use edd_commands::{Capacity, Command, MAX_DEPTH, MAX_ROUNDS};
 use std::alloc::Allocator;
 
-/// The bound of a good claim's cover: together the number of commands that the claim says are met.
+/// The bound of a good claim's cover: together the number of commands that the claim says are on time.
 #[derive(Clone, Copy, Debug, PartialEq, Eq)]
 pub struct Bound {
     /// How many commands the windows' rounds carry.
@@ -36,7 +36,7 @@ pub enum OnTimeFault {
     Memory,
     /// The least round with more commands than it carries.
     OverDepth(u64),
-    /// The schedule's own number of met commands, which is not the claimed one.
+    /// The schedule's own number of commands on time, which is not the claimed one.
     WrongMet(u64),
     /// The first window by place that has no round, or doesn't begin after the one before it ends.
     Windows(usize),
@@ -161,9 +161,9 @@ fn first_astray(cover: &[Window]) -> Option<usize>
     None
 }
 
-/// Checks a schedule, how many commands it meets, and a cover: disjoint windows of rounds whose capacity, with the number of
+/// Checks a schedule, how many commands it has on time, and a cover: disjoint windows of rounds whose capacity, with the number of
 /// the commands that are released by their due round and lie in no window, is that number. Where the answer is `Ok`, no
-/// legal schedule of these commands meets more; it has the two parts of that bound.
+/// legal schedule of these commands has more on time; it has the two parts of that bound.
 ///
 /// A window's rounds are `from` to `due`. Both are below [`MAX_ROUNDS`], as [`cover_in_range`] tells.
 ///
@@ -175,14 +175,14 @@ pub fn check_on_time<A: Allocator, B: Allocator>(
     commands: &[Command],
     capacity: &Capacity<B>,
     rounds: &[u64],
-    met: u64,
+    on_time: u64,
     cover: &[Window],
 ) -> Result<Bound, OnTimeFault>
     requires { CoverInRange cover.now }
-    ensures answer { IsOnTimeAnswer commands.now capacity.now rounds.now met cover.now result }
-    ensures accepts { AcceptsOnTimeClaim commands.now capacity.now rounds.now met cover.now result }
-    // no legal schedule meets more
-    ensures most { OnOk result (IsMostOnTime commands.now capacity.now met) }
+    ensures answer { IsOnTimeAnswer commands.now capacity.now rounds.now on_time cover.now result }
+    ensures accepts { AcceptsOnTimeClaim commands.now capacity.now rounds.now on_time cover.now result }
+    // no legal schedule has more on time
+    ensures most { OnOk result (IsMostOnTime commands.now capacity.now on_time) }
 {
     if rounds.len() != commands.len() {
         return Err(OnTimeFault::Length);
@@ -197,7 +197,7 @@ pub fn check_on_time<A: Allocator, B: Allocator>(
         return Err(OnTimeFault::OverDepth(round));
     }
     let own = number_on_time(commands, rounds);
-    if own != met {
+    if own != on_time {
         return Err(OnTimeFault::WrongMet(own));
     }
     if let Some(place) = first_astray(cover) {
@@ -208,14 +208,14 @@ pub fn check_on_time<A: Allocator, B: Allocator>(
         outside: outside(commands, cover),
     };
     let most = bound.carries + bound.outside;
-    if most != met {
+    if most != on_time {
         return Err(OnTimeFault::Loose(most));
     }
     Ok(bound)
 }
 
 /// What windows carry, with the number of the commands that are released by their due round and lie in none of them, bounds
-/// how many commands any legal schedule meets; windows that overlap only bound it worse.
+/// how many commands any legal schedule has on time; windows that overlap only bound it worse.
 ///
 /// A law: it does nothing when it runs, and a caller has its clause.
 pub fn law_of_covers<A: Allocator>(commands: &[Command], capacity: &Capacity<A>, cover: &[Window])

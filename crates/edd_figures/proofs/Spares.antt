@@ -37,12 +37,12 @@ no_more zero m h = refl
 no_more (suc n) m h = absurd (let less = h.1 (omega arith) in omega (arith, less))
 
 module _ (commands : List Command) (rounds : List ℕ) (steps : List Step) (legal : IsLegal commands rounds steps) where
-  -- the most that is met, and the fewest that are late
+  -- the most that is on time, and the fewest that are late
   most_and_fewest : (most late : ℕ) → IsMostOnTime commands steps most → IsLeastLate commands steps late → most + late ≡ length commands
   most_and_fewest most late is fewest =
       omega (arith, all_commands commands is.schedule is.legal.one_each, all_commands commands fewest.schedule fewest.legal.one_each, is.reached, fewest.reached, is.most fewest.schedule fewest.legal, fewest.least is.schedule is.legal)
 
-  -- what could have been avoided is what could have been met more
+  -- what could have been avoided is how many more could have been on time
   pub avoidable_is : (most late unavoidable avoidable : ℕ) → IsMostOnTime commands steps most → IsLeastLate commands steps unavoidable → late ≡ number_late commands rounds → unavoidable + avoidable ≡ late → number_on_time commands rounds + avoidable ≡ most
   avoidable_is most late unavoidable avoidable is fewest late_is rest =
       omega (arith, all_commands commands rounds legal.one_each, most_and_fewest most unavoidable is fewest, late_is, rest)

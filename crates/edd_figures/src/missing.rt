@@ -181,7 +181,7 @@ fn counted<A: Allocator + Clone, B: Allocator, C: Allocator>(
 {
     let count = commands.len() as u64;
     let late = count - number_on_time(commands, rounds);
-    let unavoidable = count - answer.met;
+    let unavoidable = count - answer.on_time;
     let windows = crowds(alloc, commands, capacity, answer.cover.as_slice())?;
     let counts = Counts {
         commands: count,
@@ -215,7 +215,7 @@ pub fn misses_of<A: Allocator + Clone, B: Allocator>(
     let Ok(answer) = most_on_time(alloc.clone()?, commands, capacity) else {
         return Err(AllocError);
     };
-    let spare = spare_of(alloc.clone()?, commands, rounds, capacity, answer.met)?;
+    let spare = spare_of(alloc.clone()?, commands, rounds, capacity, answer.on_time)?;
     let missed = counted(alloc, spare, commands, rounds, capacity, &answer)?;
     Ok(missed)
 }

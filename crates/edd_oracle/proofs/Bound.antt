@@ -1,4 +1,4 @@
--- The windows carry, with what lies in none of them, as many as are met.
+-- The windows carry, with what lies in none of them, as many as are on time.
 use Rattle.std.proofs.Common.{◌≡◌, ◌<◌, ◌≤◌, ℕ, ◌+◌, ◌-◌, ◌&&◌, nat_le, nat_lt, Bool, true, false, not, List, [], ◌∷◌, length, get_or, count_by, suc, inl, inr, arith, refl, sym, ◌∙◌, subst}
 use Rattle.std.specs.List.{zip, list_any}
 use Rattle.std.proofs.lemmas.List.Folds.{list_any_none, list_any_at}
@@ -18,11 +18,11 @@ use Rattle.edd_oracle.proofs.Crowded.{is_inside, due_among, due_among-full}
 use Rattle.edd_oracle.proofs.Joined.{released_after, window_some}
 use Rattle.edd_oracle.proofs.Pairs.{pair_at, length_pairs}
 
--- met, and in none of the windows
+-- on time, and in none of the windows
 abbrev on_time_apart : List Window → Command × ℕ → Bool
 on_time_apart cover p = is_on_time p.0 p.1 && not (list_any (λ w. lies_in p.0 w) cover)
 
--- met, and in the window
+-- on time, and in the window
 abbrev on_time_in : Window → Command × ℕ → Bool
 on_time_in w p = is_on_time p.0 p.1 && lies_in p.0 w
 
@@ -41,7 +41,7 @@ passed_disjoint commands rounds steps cover same first are =
           omega arith;
     }
 
--- the due round of a window lies before the end of what is met
+-- the due round of a window lies before the end of what is on time
 window_early : (commands : List Command) (rounds : List ℕ) (steps : List Step) (w : Window) → IsLegal commands rounds steps → ((x : ℕ) → 0 < depth_at steps x) → (first : IsOnTimeFirst commands rounds steps) → IsPassedWindow commands rounds steps w → w.due < first.end
 window_early commands rounds steps w legal some first is =
     let d : Command = record { id = 0; release = 0; due = 0 } in
@@ -61,7 +61,7 @@ window_early commands rounds steps w legal some first is =
           absurd (omega (arith, first.full w.due k d delayed, some w.due))
     ]
 
--- what a window's rounds carry are met commands that lie in it
+-- what a window's rounds carry are commands on time that lie in it
 window_full : (commands : List Command) (rounds : List ℕ) (steps : List Step) (w : Window) → IsLegal commands rounds steps → ((x : ℕ) → 0 < depth_at steps x) → IsOnTimeFirst commands rounds steps → IsPassedWindow commands rounds steps w → carried_in steps w ≤ count_by (on_time_in w) (zip commands rounds)
 unfolding carried_in
 window_full commands rounds steps w legal some first is =
@@ -83,11 +83,11 @@ window_full commands rounds steps w legal some first is =
     let by_then : c.due ≤ w.due = leb-true c.due w.due parts.0 in
     let low : w.from ≤ x = leb-true w.from x ends.0 in
     let high : x < w.from + n = ltb-true x (w.from + n) ends.1 in
-    let met : x ≤ c.due = first.until.met j d j_in (omega arith) in
+    let on_time : x ≤ c.due = first.until.on_time j d j_in (omega arith) in
     let released : w.from ≤ c.release = released_after commands rounds steps (w.due + 1) w.due w.from j d legal.one_each first is.is_start j_in by_then (omega arith) low in
     let can : c.release ≤ c.due = omega (arith, legal.released j d j_in) in
     subst (λ (r : Command × ℕ). on_time_in w r ≡ true) (sym (pair_at commands rounds j q d 0 legal.one_each j_in))
-    (and_from (nat_le x c.due) (lies_in c w) (le-leb x c.due met) (lies_here c w can released by_then))) in
+    (and_from (nat_le x c.due) (lies_in c w) (le-leb x c.due on_time) (lies_here c w can released by_then))) in
     omega (arith, full, held)
 
 cover_rest : (w : Window) (cover : List Window) → IsCover (w ∷ cover) → IsCover cover
@@ -116,7 +116,7 @@ any_rest p x xs none =
       | inr fails ↦ fails
     ])
 
--- a met command lies in one window at most
+-- a command on time lies in one window at most
 sum_on_time : (commands : List Command) (rounds : List ℕ) (steps : List Step) (cover : List Window) → ((i : ℕ) (e : Window) → i < length cover → carried_in steps (get_or cover i e) ≤ count_by (on_time_in (get_or cover i e)) (zip commands rounds)) → IsCover cover → carried_by steps cover + count_by (on_time_apart cover) (zip commands rounds) ≤ number_on_time commands rounds
 unfolding number_on_time carried_by
 sum_on_time commands rounds steps [] each is =
@@ -144,7 +144,7 @@ sum_on_time commands rounds steps (w ∷ cover) each is =
     (zip commands rounds) in
     omega (arith, rest, here, split, sum_by-cons (λ v. carried_in steps v) w cover)
 
--- all that can be met is met or lies in a window
+-- all that can be on time is on time or lies in a window
 outside_on_time : (commands : List Command) (rounds : List ℕ) (steps : List Step) (cover : List Window) → length rounds ≡ length commands → IsPassedCover commands rounds steps cover → outside_of commands cover ≤ count_by (on_time_apart cover) (zip commands rounds)
 unfolding outside_of
 outside_on_time commands rounds steps cover same are =
@@ -154,7 +154,7 @@ outside_on_time commands rounds steps cover same are =
     let x : ℕ = get_or rounds k 0 in
     let parts = and_parts (can_be_on_time c) (not (list_any (λ w. lies_in c w) cover)) yes in
     let can : c.release ≤ c.due = leb-true c.release c.due parts.0 in
-    let met : x ≤ c.due =
+    let on_time : x ≤ c.due =
     elim (cases_lt c.due x) [
       | inr timely ↦ timely
       | inl late ↦
@@ -167,7 +167,7 @@ outside_on_time commands rounds steps cover same are =
           absurd (cc)
     ] in
     subst (λ (q : Command × ℕ). on_time_apart cover q ≡ true) (sym (pair_at commands rounds k p d 0 same h))
-    (and_from (nat_le x c.due) (not (list_any (λ w. lies_in c w) cover)) (le-leb x c.due met) parts.1))
+    (and_from (nat_le x c.due) (not (list_any (λ w. lies_in c w) cover)) (le-leb x c.due on_time) parts.1))
 
 pub bound_reached : (commands : List Command) (rounds : List ℕ) (steps : List Step) (cover : List Window) → IsLegal commands rounds steps → ((x : ℕ) → 0 < depth_at steps x) → IsOnTimeFirst commands rounds steps → IsPassedCover commands rounds steps cover → bound_of commands steps cover ≤ number_on_time commands rounds
 bound_reached commands rounds steps cover legal some first are =
@@ -177,10 +177,10 @@ bound_reached commands rounds steps cover legal some first are =
       outside_on_time commands rounds steps cover legal.one_each are,
     )
 
--- so no schedule meets more
-pub most_answer : (commands : List Command) (rounds : List ℕ) (steps : List Step) (met : ℕ) (cover : List Window) → IsLegal commands rounds steps → ((x : ℕ) → 0 < depth_at steps x) → IsOnTimeFirst commands rounds steps → IsPassedCover commands rounds steps cover → IsOnTimeBound commands steps (bound_of commands steps cover) → number_on_time commands rounds ≡ met → RoundsInRange rounds → CoverInRange cover → IsMostAnswer commands steps rounds met cover
-most_answer commands rounds steps met cover legal some first are bound number rounds_in in_range =
-    let same : bound_of commands steps cover ≡ met = omega (arith, bound rounds legal, bound_reached commands rounds steps cover legal some first are) in
+-- so no schedule has more on time
+pub most_answer : (commands : List Command) (rounds : List ℕ) (steps : List Step) (on_time : ℕ) (cover : List Window) → IsLegal commands rounds steps → ((x : ℕ) → 0 < depth_at steps x) → IsOnTimeFirst commands rounds steps → IsPassedCover commands rounds steps cover → IsOnTimeBound commands steps (bound_of commands steps cover) → number_on_time commands rounds ≡ on_time → RoundsInRange rounds → CoverInRange cover → IsMostAnswer commands steps rounds on_time cover
+most_answer commands rounds steps on_time cover legal some first are bound number rounds_in in_range =
+    let same : bound_of commands steps cover ≡ on_time = omega (arith, bound rounds legal, bound_reached commands rounds steps cover legal some first are) in
     record {
       legal = legal;
       number = number;

@@ -1,4 +1,4 @@
--- What earliest due first that passes over leaves: windows that hold what is passed over and what is met in their rounds.
+-- What earliest due first that passes over leaves: windows that hold what is passed over and what is on time in their rounds.
 use Rattle.std.proofs.Common.{◌≡◌, ◌<◌, ◌≤◌, ℕ, ◌+◌, ◌-◌, ◌==◌, ◌&&◌, nat_le, true, List, length, get_or, reverse, inl, inr, arith, ap, sym, ◌∙◌, subst}
 use Rattle.std.specs.List.{zip, All}
 use Rattle.std.proofs.lemmas.Bool.{cases_lt, and_from, le-leb, eqb-true, eq-eqb}
@@ -33,7 +33,7 @@ delayed_full commands rounds steps x k due d same first delayed by_then =
     (and_from (nat_le (get_or commands j d).due due) (get_or rounds j 0 == x) (le-leb (get_or commands j d).due due (omega arith)) (eq-eqb (get_or rounds j 0) x at_x))) in
     omega (arith, filled, held)
 
--- a command due by the window's end that could be met in the round before the window, and runs later, is released in it
+-- a command due by the window's end that could be on time in the round before the window, and runs later, is released in it
 pub released_after : (commands : List Command) (rounds : List ℕ) (steps : List Step) (past due start k : ℕ) (d : Command) → length rounds ≡ length commands → IsOnTimeFirst commands rounds steps → IsWindowStart commands rounds steps past due start → k < length commands → (get_or commands k d).due ≤ due → start ≤ (get_or commands k d).due + 1 → start ≤ get_or rounds k 0 → start ≤ (get_or commands k d).release
 released_after commands rounds steps past due start k d same first is_start within by_then could later =
     elim is_start.first [

@@ -39,23 +39,23 @@ passes commands steps late rounds w legal greatest crowded (Err (fault.NotCrowde
     let few = is.1.1.1 in
     absurd (omega (arith, load, few, crowded))
 
-pub passes_on_time : (commands : List Command) (steps : List Step) (rounds : List ℕ) (met : ℕ) (cover : List Window) → IsLegal commands rounds steps → number_on_time commands rounds ≡ met → IsCover cover → bound_of commands steps cover ≡ met → PassesOnTimeCheck commands steps rounds met cover
-passes_on_time commands steps rounds met cover legal number is_cover bound (Ok _) is = tt
-passes_on_time commands steps rounds met cover legal number is_cover bound (Err on_time_fault.Length) is = absurd (is legal.one_each)
-passes_on_time commands steps rounds met cover legal number is_cover bound (Err (on_time_fault.BeforeRelease id)) is = absurd (not_early commands rounds steps id legal is.1)
-passes_on_time commands steps rounds met cover legal number is_cover bound (Err on_time_fault.Memory) is = refl
-passes_on_time commands steps rounds met cover legal number is_cover bound (Err (on_time_fault.OverDepth x)) is = absurd (not_deep commands rounds steps x legal is.1.1)
-passes_on_time commands steps rounds met cover legal number is_cover bound (Err (on_time_fault.WrongMet own)) is =
+pub passes_on_time : (commands : List Command) (steps : List Step) (rounds : List ℕ) (on_time : ℕ) (cover : List Window) → IsLegal commands rounds steps → number_on_time commands rounds ≡ on_time → IsCover cover → bound_of commands steps cover ≡ on_time → PassesOnTimeCheck commands steps rounds on_time cover
+passes_on_time commands steps rounds on_time cover legal number is_cover bound (Ok _) is = tt
+passes_on_time commands steps rounds on_time cover legal number is_cover bound (Err on_time_fault.Length) is = absurd (is legal.one_each)
+passes_on_time commands steps rounds on_time cover legal number is_cover bound (Err (on_time_fault.BeforeRelease id)) is = absurd (not_early commands rounds steps id legal is.1)
+passes_on_time commands steps rounds on_time cover legal number is_cover bound (Err on_time_fault.Memory) is = refl
+passes_on_time commands steps rounds on_time cover legal number is_cover bound (Err (on_time_fault.OverDepth x)) is = absurd (not_deep commands rounds steps x legal is.1.1)
+passes_on_time commands steps rounds on_time cover legal number is_cover bound (Err (on_time_fault.WrongMet own)) is =
     let told = is.1.0 in
     absurd (is.1.1 (sym told ∙ number))
-passes_on_time commands steps rounds met cover legal number is_cover bound (Err (on_time_fault.Windows p)) is =
+passes_on_time commands steps rounds on_time cover legal number is_cover bound (Err (on_time_fault.Windows p)) is =
     let first = is.1.1 in
     let at = is_cover p first.in_list in
     elim (first.astray no_window) [
       | inl short ↦ absurd (omega (arith, at.some no_window))
       | inr over ↦ absurd (omega (arith, at.rising no_window over.0, over.1))
     ]
-passes_on_time commands steps rounds met cover legal number is_cover bound (Err (on_time_fault.Loose n)) is =
+passes_on_time commands steps rounds on_time cover legal number is_cover bound (Err (on_time_fault.Loose n)) is =
     let told = is.1.1.1.0 in
     let less = is.1.1.1.1 in
     absurd (omega (arith, told, less, bound))

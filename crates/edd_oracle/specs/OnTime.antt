@@ -1,4 +1,4 @@
--- As many commands as possible by their due rounds: earliest due first that passes over what can no more be met.
+-- As many commands as possible by their due rounds: earliest due first that passes over what can no more be on time.
 use Rattle.std.specs.Prelude.{ℕ, ◌≡◌, ◌≤◌, ◌<◌, ◌+◌, ◌⊎◌, List, length, slice_index, slice_index_or}
 use Rattle.edd_commands.specs.declared.Command.{Command}
 use Rattle.edd_check.specs.declared.Window.{Window}
@@ -11,13 +11,13 @@ use Rattle.edd_oracle.specs.declared.MostOnTime.{MostOnTime}
 use Rattle.edd_oracle.specs.Plan.{IsWindowStart}
 use Rattle.edd_oracle.specs.Priority.{ComesFirst}
 
--- the commands before the round `end` are met, the others are not, and the last met one has the round before it
+-- the commands before the round `end` are on time, the others are not, and the last one on time has the round before it
 pub record IsOnTimeUntil (commands : List Command) (rounds : List ℕ) (end : ℕ) : Type 0 where
-  pub met : (k : ℕ) (d : Command) → k < length commands → slice_index rounds k < end → slice_index rounds k ≤ (slice_index_or commands k d).due
+  pub on_time : (k : ℕ) (d : Command) → k < length commands → slice_index rounds k < end → slice_index rounds k ≤ (slice_index_or commands k d).due
   pub late : (k : ℕ) (d : Command) → k < length commands → end ≤ slice_index rounds k → (slice_index_or commands k d).due < slice_index rounds k
   pub last : (end ≡ 0) ⊎ ((k : ℕ) × (k < length commands) × (slice_index rounds k + 1 ≡ end))
 
--- the command at place k could be met in the round x, and runs later
+-- the command at place k could be on time in the round x, and runs later
 pub record IsDelayed (commands : List Command) (rounds : List ℕ) (x k : ℕ) (d : Command) : Type 0 where
   pub in_list : k < length commands
   pub released : (slice_index_or commands k d).release ≤ x
@@ -31,7 +31,7 @@ pub record IsLeftOver (commands : List Command) (rounds : List ℕ) (end x k : �
   pub past : end ≤ x
   pub later : x < slice_index rounds k
 
--- where a command is delayed the round is full of met commands that come first; the commands that are not met have rounds
+-- where a command is delayed the round is full of commands on time that come first; the commands that are not on time have rounds
 -- after all that are, earliest due first
 pub record IsOnTimeFirst (commands : List Command) (rounds : List ℕ) (steps : List Step) : Type 0 where
   pub end : ℕ
@@ -61,19 +61,19 @@ pub record IsPassedCover (commands : List Command) (rounds : List ℕ) (steps : 
   pub apart : (i : ℕ) (e : Window) → i + 1 < length cover → (slice_index_or cover i e).due + 1 < (slice_index_or cover (i + 1) e).from
   pub all : (k : ℕ) (d : Command) → IsPassedOver commands rounds k d → (i : ℕ) × (i < length cover) × ((e : Window) → ((slice_index_or cover i e).from ≤ (slice_index_or commands k d).release) × ((slice_index_or commands k d).due ≤ (slice_index_or cover i e).due))
 
--- a legal schedule, how many it meets, and a cover of that bound, so that no legal schedule meets more
-pub record IsMostAnswer (commands : List Command) (steps : List Step) (rounds : List ℕ) (met : ℕ) (cover : List Window) : Type 0 where
+-- a legal schedule, how many it has on time, and a cover of that bound, so that no legal schedule has more
+pub record IsMostAnswer (commands : List Command) (steps : List Step) (rounds : List ℕ) (on_time : ℕ) (cover : List Window) : Type 0 where
   pub legal : IsLegal commands rounds steps
-  pub number : number_on_time commands rounds ≡ met
+  pub number : number_on_time commands rounds ≡ on_time
   pub disjoint : IsCover cover
-  pub bound : bound_of commands steps cover ≡ met
-  pub most : IsMostOnTime commands steps met
+  pub bound : bound_of commands steps cover ≡ on_time
+  pub most : IsMostOnTime commands steps on_time
   pub rounds_in : RoundsInRange rounds
   pub cover_in : CoverInRange cover
 
 -- the same of an answer
 abbrev pub IsMostOf : {A : Type 0} → List Command → List Step → MostOnTime A → Type 0
-IsMostOf commands steps a = IsMostAnswer commands steps a.rounds.items a.met a.cover.items
+IsMostOf commands steps a = IsMostAnswer commands steps a.rounds.items a.on_time a.cover.items
 
 -- its cover is that of the commands that are passed over
 abbrev pub HasPassedCover : {A : Type 0} → List Command → List Step → MostOnTime A → Type 0
@@ -81,4 +81,4 @@ HasPassedCover commands steps a = IsPassedCover commands a.rounds.items steps a.
 
 -- it passes the separate check
 abbrev pub IsCheckedOnTime : {A : Type 0} → List Command → List Step → MostOnTime A → Type 0
-IsCheckedOnTime commands steps a = PassesOnTimeCheck commands steps a.rounds.items a.met a.cover.items
+IsCheckedOnTime commands steps a = PassesOnTimeCheck commands steps a.rounds.items a.on_time a.cover.items

@@ -1,4 +1,4 @@
-//! The windows that show how many commands can be met at most.
+//! The windows that show how many commands can be on time at most.
 
 ghost use Rattle.std.specs.Prelude.{◌≡◌, ◌≤◌, ◌<◌, ℕ, All, IfOk, length};
 ghost use Rattle.std.specs.Bool.{OnTrue, OnFalse};

@@ -60,8 +60,8 @@ pub struct Answer<A: Allocator = Global> {
     pub rounds: Vec<u64, A>,
     /// The greatest lateness in rounds: a command's round less its due round.
     pub lateness: i64,
-    /// A window that proves the lateness least: more commands are released at its `from` or later and due at its `due` or
-    /// sooner than its rounds can carry, if each is to be less late.
+    /// A window that proves the lateness least. The commands released at its `from` or later and due at its `due` or sooner are more
+    /// than the rounds carry in which all of them would have to run to be less late.
     pub window: Window,
 }
 
@@ -69,9 +69,9 @@ pub struct Answer<A: Allocator = Global> {
 ///
 /// Round by round it takes, of the released commands that have no round yet, as many as the round carries with the
 /// least due round, on a tie with the least id: earliest due date first (see Pinedo, Scheduling, on minimising Lmax).
-/// The window's `due` is the due round of the latest command; of several that of the first round, and there of
-/// the least id. Its `from` is one more than the last round before that command's in which fewer commands due by then
-/// run than it carries, or 0 where there is none.
+/// The window's `due` is the due round of the latest command: of several that are as late, of the one in the earliest round, and
+/// of those in one round, of the one of the least id. Its `from` is the earliest round from which every round before that command's
+/// is full of commands due by `due`.
 ///
 /// There is no answer exactly where there are no commands. Releases are rounds below 2^40 and due rounds below 2^41; all
 /// rounds of the answer are below 2^41. Refused are, in this order: more than 1,000,000 commands (`TooMany`), a release
@@ -136,25 +136,25 @@ pub fn law_of_checks<A: Allocator, B: Allocator>(
     let _ = (commands.len(), capacity.at(0), answer.lateness);
 }
 
-/// A schedule that meets as many commands as any can, each by its due round.
+/// A schedule that has as many commands on time as any can.
 #[derive(Debug, Drop)]
 pub struct MostOnTime<A: Allocator = Global> {
     /// The round of each command, by place.
     pub rounds: Vec<u64, A>,
     /// How many commands run no later than they are due.
-    pub met: u64,
-    /// What shows that no schedule meets more: windows, `from` to `due`, that don't overlap, by rising rounds. `met` is what
+    pub on_time: u64,
+    /// What shows that no schedule has more on time: windows, `from` to `due`, that don't overlap, by rising rounds. `on_time` is what
     /// their rounds carry, and one for each command released by its due round that lies in none of them.
     pub cover: Vec<Window, A>,
 }
 
-/// Schedules the commands, no more of them in a round than it carries, so that as many as possible are met, each by its due
+/// Schedules the commands, no more of them in a round than it carries, so that as many as possible are on time, each by its due
 /// round.
 ///
 /// Round by round it takes of the released commands those with the least due round, on a tie with the least id, and passes
 /// over those whose due round is past (Glover, Maximum matching in a convex bipartite graph; Pinedo, Scheduling, on the number
 /// of tardy jobs). What is passed over, and what is released after its due round, is served from the round after the last
-/// met command's on, earliest due date first with ties by id as [`solve`] has it.
+/// on-time command's on, earliest due date first with ties by id as [`solve`] has it.
 ///
 /// The windows of the cover are those of the commands that are released by their due round and passed over. A window ends
 /// with that due round, and begins one past the last round up to there in which fewer commands due by then run than it
@@ -162,7 +162,7 @@ pub struct MostOnTime<A: Allocator = Global> {
 ///
 /// Refused as [`solve`] refuses: more than 1,000,000 commands (`TooMany`), a release or due round out of range
 /// (`RoundRange`), an id that stands twice (`RepeatedId`), and running out of memory (`Memory`), which may also come in place of
-/// `RepeatedId`. No command is no fault: then none is met and there is no window.
+/// `RepeatedId`. No command is no fault: then none is on time and there is no window.
 ///
 /// The time grows as n log n in the number of commands, whatever their rounds.
 pub fn most_on_time<A: Allocator + Clone, B: Allocator>(
@@ -172,7 +172,7 @@ pub fn most_on_time<A: Allocator + Clone, B: Allocator>(
 ) -> Result<MostOnTime<A>, OracleFault>
     ensures taken { OnOk result (IsTaken commands.now) }
     ensures refused { IfErr result (IsRefusal commands.now) }
-    // no legal schedule meets more, by the cover
+    // no legal schedule has more on time, by the cover
     ensures most { IfOk result (IsMostOf commands.now capacity.now) }
     ensures first { IfOk result (λ answer. IsOnTimeFirst commands.now answer.rounds.items capacity.now) }
     ensures cover { IfOk result (HasPassedCover commands.now capacity.now) }
@@ -189,9 +189,13 @@ pub fn most_on_time<A: Allocator + Clone, B: Allocator>(
     let Ok(cover) = cover::cover(alloc_cover, commands, rounds.as_slice(), capacity) else {
         return Err(OracleFault::Memory);
     };
-    let met = number_on_time(commands, rounds.as_slice());
+    let on_time = number_on_time(commands, rounds.as_slice());
     law_of_covers(commands, capacity, cover.as_slice());
-    Ok(MostOnTime { rounds, met, cover })
+    Ok(MostOnTime {
+        rounds,
+        on_time,
+        cover,
+    })
 }
 
 /// The separate check may be asked about an answer of [`most_on_time`], and passes it: whatever [`check_on_time`](edd_check::check_on_time) says
@@ -208,7 +212,7 @@ pub fn law_of_on_time_checks<A: Allocator, B: Allocator>(
     ensures passed { IsCheckedOnTime commands.now capacity.now answer.now }
 {
     // brings the prover the invariants of what the clauses speak of
-    let _ = (commands.len(), capacity.at(0), answer.met);
+    let _ = (commands.len(), capacity.at(0), answer.on_time);
 }
 
 /// There is one legal schedule by earliest due date first with ties by id, where no id stands twice.

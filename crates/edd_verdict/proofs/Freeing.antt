@@ -65,7 +65,7 @@ module _ (commands : List Command) (rounds : List ℕ) (steps : List Step) (lega
   unmoved low high =
       record {
         one_each = legal.one_each;
-        kept = λ j d h met. (legal.released j d h, met);
+        kept = λ j d h in_time. (legal.released j d h, in_time);
         within = λ x.
             let long : length (zip (zip commands rounds) rounds) ≡ length commands = length_triples commands rounds rounds legal.one_each legal.one_each in
             let fewer : moved_at commands rounds rounds x ≤ places_at rounds x =
@@ -76,7 +76,7 @@ module _ (commands : List Command) (rounds : List ℕ) (steps : List Step) (lega
             subst (λ (r : (Command × ℕ) × ℕ). is_moved_to x r ≡ true) (triple_at commands rounds rounds k q nobody legal.one_each legal.one_each k_in) yes in
             subst (λ n. (n == x) ≡ true) (get_or_default rounds k 0 e (omega (arith, legal.one_each))) (and_parts (is_on_time (get_or commands k nobody) (get_or rounds k 0)) (get_or rounds k 0 == x) here).1) in
             omega (arith, fewer, legal.within_depth x);
-        same = λ j d h met low_is high_is. refl;
+        same = λ j d h in_time low_is high_is. refl;
       }
 
   -- a command that reaches out of these rounds moves to a place that is free outside
@@ -86,15 +86,15 @@ module _ (commands : List Command) (rounds : List ℕ) (steps : List Step) (lega
       → ((d : Command) → low ≤ (get_or commands j d).release → (get_or commands j d).due ≤ high → ⊥)
       → ((d : Command) → (get_or commands j d).release ≤ z) → ((d : Command) → z ≤ (get_or commands j d).due) → (z ≡ get_or rounds j 0 → ⊥)
       → IsFreed commands rounds steps low high
-  shift low high low' high' j z moved is room down up within met from until released due_in outer after before apart =
+  shift low high low' high' j z moved is room down up within in_time from until released due_in outer after before apart =
       let y : ℕ = get_or rounds j 0 in
       let L : List (Command × ℕ) = zip commands rounds in
       let new : List ℕ = set moved j z in
       let long : length L ≡ length commands = length_pairs commands rounds legal.one_each in
-      let stays : get_or moved j 0 ≡ y = is.same j nobody within (met nobody) (released nobody) (due_in nobody) in
+      let stays : get_or moved j 0 ≡ y = is.same j nobody within (in_time nobody) (released nobody) (due_in nobody) in
       let at_j : get_or L j (nobody, 0) ≡ (get_or commands j nobody, y) = pair_at commands rounds j (nobody, 0) nobody 0 legal.one_each within in
       let j_in : j < length moved = omega (arith, is.one_each) in
-      let is_j : is_on_time (get_or commands j nobody) y ≡ true = le-leb y (get_or commands j nobody).due (met nobody) in
+      let is_j : is_on_time (get_or commands j nobody) y ≡ true = le-leb y (get_or commands j nobody).due (in_time nobody) in
       let count : (x : ℕ) → moved_at commands rounds new x + one_if (is_moved_to x (get_or L j (nobody, 0), get_or moved j 0)) ≡ moved_at commands rounds moved x + one_if (is_moved_to x (get_or L j (nobody, 0), z)) =
       λ x. count_set (is_moved_to x) L moved j z (nobody, 0) 0 (omega (arith, is.one_each, long)) (omega (arith, long)) in
       let at : (n : ℕ) → get_or new n 0 ≡ cond (n == j) z (get_or moved n 0) =
@@ -197,7 +197,7 @@ module _ (commands : List Command) (rounds : List ℕ) (steps : List Step) (lega
       let parts = and_parts (is_on_time c y) ((nat_le low y && nat_le y high) && not (nat_le low c.release && nat_le c.due high)) outer in
       let more = and_parts (nat_le low y && nat_le y high) (not (nat_le low c.release && nat_le c.due high)) parts.1 in
       let ends = and_parts (nat_le low y) (nat_le y high) more.0 in
-      let met : y ≤ c.due = leb-true y c.due parts.0 in
+      let in_time : y ≤ c.due = leb-true y c.due parts.0 in
       let from : low ≤ y = leb-true low y ends.0 in
       let until : y ≤ high = leb-true y high ends.1 in
       let out : (nat_le low c.release && nat_le c.due high) ≡ false = not-true (nat_le low c.release && nat_le c.due high) more.1 in

@@ -52,8 +52,8 @@ held_parts w c x h =
     (leb-true x c.due parts.0, lies.0, lies.1)
 
 pub held_from : (w : Window) (c : Command) (x : ℕ) → c.release ≤ x → x ≤ c.due → w.from ≤ c.release → c.due ≤ w.due → is_held w (c, x) ≡ true
-held_from w c x released met low high =
-    and_from (is_on_time c x) (lies_in c w) (le-leb x c.due met) (lies_here c w (omega arith) low high)
+held_from w c x released in_time low high =
+    and_from (is_on_time c x) (lies_in c w) (le-leb x c.due in_time) (lies_here c w (omega arith) low high)
 
 module _ (commands : List Command) (rounds : List ℕ) (steps : List Step) (w : Window) where
   -- one round more

@@ -45,7 +45,7 @@ module _ (commands : List Command) (rounds : List ℕ) (steps : List Step) (lega
   spare_apart spare w filled around =
       let other : List ℕ = spare.schedule in
       let released : own.release ≤ get_or other k 0 = spare.legal.released k nobody within in
-      let met : get_or other k 0 ≤ own.due = spare.met nobody in
+      let in_time : get_or other k 0 ≤ own.due = spare.on_time nobody in
       let low : w.from ≤ own.release = around.begins nobody in
       let high : own.due ≤ w.due = around.ends nobody in
       let some : w.from ≤ w.due = omega arith in
@@ -61,7 +61,7 @@ module _ (commands : List Command) (rounds : List ℕ) (steps : List Step) (lega
       (held_from w c (get_or other j 0) (spare.legal.released j nobody j_in) (spare.kept j nobody j_in parts.0) parts.1 parts.2))
       k (nobody, 0) (nobody, 0) (omega (arith, long))
       (tested commands rounds (is_held w) false k nobody (nobody, 0) legal.one_each within (and_left (is_on_time own (get_or rounds k 0)) (lies_in own w) (lt-leb (get_or rounds k 0) own.due (late nobody))))
-      (tested commands other (is_held w) true k nobody (nobody, 0) spare.legal.one_each within (held_from w own (get_or other k 0) released met low high)) in
+      (tested commands other (is_held w) true k nobody (nobody, 0) spare.legal.one_each within (held_from w own (get_or other k 0) released in_time low high)) in
       omega (arith, more, filled_holds commands rounds steps w filled some, held_carried commands other steps w spare.legal some)
 
   -- whether the window from f to u is filled, by how many it holds
@@ -149,7 +149,7 @@ module _ (commands : List Command) (rounds : List ℕ) (steps : List Step) (lega
       ]
 
   pub spare_can : IsSpare commands rounds steps k → CanBeOnTime commands k
-  spare_can spare d = omega (arith, spare.legal.released k d within, spare.met d)
+  spare_can spare d = omega (arith, spare.legal.released k d within, spare.on_time d)
 
   pub some_verdict : ((x : ℕ) → 0 < depth_at steps x) → (verdict : Verdict) × IsVerdict commands rounds steps k verdict
   some_verdict some =

@@ -157,9 +157,9 @@ module _ (commands : List Command) (rounds : List ℕ) (steps : List Step) (verd
             ))
             (λ p yes.
             let parts = and_parts (is_held w p) (p.1 == n) yes in
-            let met = (and_parts (is_on_time p.0 p.1) (lies_in p.0 w) parts.0).0 in
+            let in_time = (and_parts (is_on_time p.0 p.1) (lies_in p.0 w) parts.0).0 in
             let same : p.1 ≡ n = eqb-true p.1 n parts.1 in
-            and_from (is_on_time p.0 p.1) (tight_below (suc n) p.1) met
+            and_from (is_on_time p.0 p.1) (tight_below (suc n) p.1) in_time
             (and_from (tight p.1) (nat_lt p.1 (suc n)) (subst (λ m. tight m ≡ true) (sym same) held) (lt-ltb p.1 (suc n) (omega arith))))
             (zip commands rounds) in
             omega (arith, before, fewer, more, full, within n)
@@ -171,7 +171,7 @@ module _ (commands : List Command) (rounds : List ℕ) (steps : List Step) (verd
 
   -- what another schedule has on time outside these rounds is one or the other here
   kept_by : (k y : ℕ) (v : Option Verdict) → get_or verdicts k None ≡ v → k < length commands → IsVerdictAt commands rounds steps k v → (get_or commands k nobody).release ≤ y → y ≤ (get_or commands k nobody).due → tight y ≡ false → Kept k
-  kept_by k y None is within at released met loose =
+  kept_by k y None is within at released in_time loose =
       let on_time : get_or rounds k 0 ≤ (get_or commands k nobody).due = at nobody in
       inl (
         on_time,
@@ -184,9 +184,9 @@ module _ (commands : List Command) (rounds : List ℕ) (steps : List Step) (verd
               absurd (let clash : true ≡ false = sym here ∙ loose in cc)
         ],
       )
-  kept_by k y (Some Arrival) is within at released met loose = absurd (omega (arith, at.1 nobody))
-  kept_by k y (Some Spare) is within at released met loose = inr (subst (λ (v : Option Verdict). is_spare v ≡ true) (sym is) refl)
-  kept_by k y (Some (Full w)) is within at released met loose =
+  kept_by k y (Some Arrival) is within at released in_time loose = absurd (omega (arith, at.1 nobody))
+  kept_by k y (Some Spare) is within at released in_time loose = inr (subst (λ (v : Option Verdict). is_spare v ≡ true) (sym is) refl)
+  kept_by k y (Some (Full w)) is within at released in_time loose =
       let low : w.from ≤ (get_or commands k nobody).release = at.1.1.around.begins nobody in
       let high : (get_or commands k nobody).due ≤ w.due = at.1.1.around.ends nobody in
       let here : tight y ≡ true =
@@ -280,12 +280,12 @@ module _ (commands : List Command) (rounds : List ℕ) (steps : List Step) (verd
       count_along_fewer (λ p. is_on_time p.0 p.1) (λ p. is_on_time p.0 p.1) (zip commands rounds) (zip commands other) (long ∙ sym long')
       (λ j q e h yes.
       let j_in : j < length commands = omega (arith, long') in
-      let met : is_on_time (get_or commands j nobody) (get_or rounds j 0) ≡ true = untested commands rounds (λ p. is_on_time p.0 p.1) true j nobody q legal.one_each j_in yes in
+      let in_time : is_on_time (get_or commands j nobody) (get_or rounds j 0) ≡ true = untested commands rounds (λ p. is_on_time p.0 p.1) true j nobody q legal.one_each j_in yes in
       tested commands other (λ p. is_on_time p.0 p.1) true j nobody e spare.legal.one_each j_in
-      (le-leb (get_or other j 0) (get_or commands j nobody).due (spare.kept j nobody j_in (leb-true (get_or rounds j 0) (get_or commands j nobody).due met))))
+      (le-leb (get_or other j 0) (get_or commands j nobody).due (spare.kept j nobody j_in (leb-true (get_or rounds j 0) (get_or commands j nobody).due in_time))))
       k (nobody, 0) (nobody, 0) (omega (arith, long'))
       (tested commands rounds (λ p. is_on_time p.0 p.1) false k nobody (nobody, 0) legal.one_each within (lt-leb (get_or rounds k 0) (get_or commands k nobody).due (late nobody)))
-      (tested commands other (λ p. is_on_time p.0 p.1) true k nobody (nobody, 0) spare.legal.one_each within (le-leb (get_or other k 0) (get_or commands k nobody).due (spare.met nobody)))
+      (tested commands other (λ p. is_on_time p.0 p.1) true k nobody (nobody, 0) spare.legal.one_each within (le-leb (get_or other k 0) (get_or commands k nobody).due (spare.on_time nobody)))
 
   pub some_spare : (n : ℕ) → IsMostOnTime commands steps n → 0 < spares_in verdicts → number_on_time commands rounds < n
   unfolding spares_in

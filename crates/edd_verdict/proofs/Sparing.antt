@@ -53,9 +53,9 @@ module _ (commands : List Command) (rounds : List ℕ) (steps : List Step) (lega
   spot_low = omega (arith, freed.before, ((past_all commands).1 k nobody within).1)
 
   moved_ok : (j : ℕ) (d : Command) → j < length commands → on_time j ≡ true → ((get_or commands j d).release ≤ get_or freed.moved j 0) × (get_or freed.moved j 0 ≤ (get_or commands j d).due)
-  moved_ok j d h met =
+  moved_ok j d h in_time =
       let same : get_or commands j d ≡ get_or commands j nobody = get_or_default commands j d nobody h in
-      freed.is_moved.kept j d h (subst (λ (c : Command). get_or rounds j 0 ≤ c.due) (sym same) (leb-true (get_or rounds j 0) (get_or commands j nobody).due met))
+      freed.is_moved.kept j d h (subst (λ (c : Command). get_or rounds j 0 ≤ c.due) (sym same) (leb-true (get_or rounds j 0) (get_or commands j nobody).due in_time))
 
   -- two late ones have different rounds
   apart : (i j : ℕ) → i < j → on_time i ≡ false → on_time j ≡ false → round_of i ≡ round_of j → ⊥
@@ -103,7 +103,7 @@ module _ (commands : List Command) (rounds : List ℕ) (steps : List Step) (lega
       let split : count_by (λ (q : (Command × ℕ) × ℕ). q.1 == x) triples ≤ count_by (is_moved_to x) triples + count_by (is_late_at x) triples =
       count_of_either (λ (q : (Command × ℕ) × ℕ). q.1 == x) (is_moved_to x) (is_late_at x)
       (λ q yes. elim (cases_Bool (is_on_time q.0.0 q.0.1)) [
-        | inl met ↦ inl (and_from (is_on_time q.0.0 q.0.1) (q.1 == x) met yes)
+        | inl in_time ↦ inl (and_from (is_on_time q.0.0 q.0.1) (q.1 == x) in_time yes)
         | inr out ↦ inr (and_from (not (is_on_time q.0.0 q.0.1)) (q.1 == x) (not_from_false (is_on_time q.0.0 q.0.1) out) yes)
       ]) triples in
       let moved : count_by (is_moved_to x) triples ≤ moved_at commands rounds freed.moved x =
@@ -159,7 +159,7 @@ module _ (commands : List Command) (rounds : List ℕ) (steps : List Step) (lega
   schedule_released j d h =
       let is : get_or schedule j 0 ≡ round_of j = tabled_at round_of (length commands) j 0 h in
       elim (cases_Bool (on_time j)) [
-        | inl met ↦ omega (arith, is, at_on_time j met, (moved_ok j d h met).0)
+        | inl in_time ↦ omega (arith, is, at_on_time j in_time, (moved_ok j d h in_time).0)
         | inr out ↦
             elim (cases_eq j k) [
               | inl is_k ↦
@@ -174,11 +174,11 @@ module _ (commands : List Command) (rounds : List ℕ) (steps : List Step) (lega
       record {
         schedule = schedule;
         legal = record { one_each = long; released = schedule_released; within_depth = schedule_within };
-        kept = λ j d h met.
+        kept = λ j d h in_time.
             let same : get_or commands j d ≡ get_or commands j nobody = get_or_default commands j d nobody h in
-            let timely : on_time j ≡ true = le-leb (get_or rounds j 0) (get_or commands j nobody).due (subst (λ (c : Command). get_or rounds j 0 ≤ c.due) same met) in
+            let timely : on_time j ≡ true = le-leb (get_or rounds j 0) (get_or commands j nobody).due (subst (λ (c : Command). get_or rounds j 0 ≤ c.due) same in_time) in
             omega (arith, tabled_at round_of (length commands) j 0 h, at_on_time j timely, (moved_ok j d h timely).1);
-        met = λ d.
+        on_time = λ d.
             let same : (get_or commands k d).due ≡ (get_or commands k nobody).due = ap (λ (c : Command). c.due) (get_or_default commands k d nobody within) in
             omega (arith, tabled_at round_of (length commands) k 0 within, at_spot k not_on_time refl, same, freed.before);
       }

@@ -54,13 +54,13 @@ module _ (commands : List Command) (rounds : List ℕ) (steps : List Step) (lega
   abbrev pub pairs : List (Command × ℕ)
   pairs = filter (λ p. is_on_time p.0 p.1) (zip commands rounds)
 
-  abbrev pub met : List Command
-  met = on_time_of commands rounds
+  abbrev pub commands_on_time : List Command
+  commands_on_time = on_time_of commands rounds
 
   abbrev pub on_time_rounds : List ℕ
   on_time_rounds = map (λ p. p.1) pairs
 
-  one_each : length on_time_rounds ≡ length met
+  one_each : length on_time_rounds ≡ length commands_on_time
   one_each = length-map pairs (λ p. p.1) ∙ sym (length-map pairs (λ p. p.0))
 
   -- each of them is released by its round, and runs by its due round
@@ -73,12 +73,12 @@ module _ (commands : List Command) (rounds : List ℕ) (steps : List Step) (lega
       subst (λ (p : Command × ℕ). p.0.release ≤ p.1) (sym (pair_at commands rounds k q nobody 0 legal.one_each within)) (legal.released k nobody within)) in
       (released i d h, leb-true (get_or pairs i d).1 (get_or pairs i d).0.due (filter_passes (λ p. is_on_time p.0 p.1) (zip commands rounds) i d h))
 
-  on_time_at : (k : ℕ) (d : Command) → k < length met → (get_or met k d ≡ (get_or pairs k (nobody, 0)).0) × (get_or on_time_rounds k 0 ≡ (get_or pairs k (nobody, 0)).1)
+  on_time_at : (k : ℕ) (d : Command) → k < length commands_on_time → (get_or commands_on_time k d ≡ (get_or pairs k (nobody, 0)).0) × (get_or on_time_rounds k 0 ≡ (get_or pairs k (nobody, 0)).1)
   on_time_at k d h =
       let within : k < length pairs = omega (arith, length-map pairs (λ p. p.0)) in
       (get_or-map (λ p. p.0) pairs k (nobody, 0) d within, get_or-map (λ p. p.1) pairs k (nobody, 0) 0 within)
 
-  pub on_time_legal : IsLegal met on_time_rounds steps
+  pub on_time_legal : IsLegal commands_on_time on_time_rounds steps
   unfolding places_at
   on_time_legal =
       record {
@@ -99,13 +99,13 @@ module _ (commands : List Command) (rounds : List ℕ) (steps : List Step) (lega
             omega (arith, one, two, three, legal.within_depth x);
       }
 
-  pub on_time_on_time : AreOnTime met on_time_rounds
+  pub on_time_on_time : AreOnTime commands_on_time on_time_rounds
   on_time_on_time k d h =
       let within : k < length pairs = omega (arith, length-map pairs (λ p. p.0)) in
       let at = on_time_at k d h in
       omega (arith, (fits k (nobody, 0) within).1, ap (λ (c : Command). c.due) at.0, at.1)
 
-  on_time_held : (w : Window) → held_in met on_time_rounds w ≡ held_in commands rounds w
+  on_time_held : (w : Window) → held_in commands_on_time on_time_rounds w ≡ held_in commands rounds w
   on_time_held w =
       ap (λ l. count_by (is_held w) l) (zip_parts pairs)
       ∙ count_filter (is_held w) (λ p. is_on_time p.0 p.1) (λ p passes. (and_parts (is_on_time p.0 p.1) (lies_in p.0 w) passes).0) (zip commands rounds)
@@ -122,17 +122,17 @@ module _ (commands : List Command) (rounds : List ℕ) (steps : List Step) (lega
       tested list other (is_held w) true k nobody e legal_other.one_each k_in
       (and_from (is_on_time (get_or list k nobody) (get_or other k 0)) (lies_in (get_or list k nobody) w) (le-leb (get_or other k 0) (get_or list k nobody).due (on_time k nobody k_in)) (and_parts (is_on_time (get_or list k nobody) (get_or one k 0)) (lies_in (get_or list k nobody) w) here).1))
 
-  module _ (other : List ℕ) (legal' : IsLegal met other steps) (on_time' : AreOnTime met other) where
-    same_held : (w : Window) → held_in met other w ≡ held_in commands rounds w
-    same_held w = omega (arith, held_le met other on_time_rounds w legal' on_time_legal on_time_on_time, held_le met on_time_rounds other w on_time_legal legal' on_time', on_time_held w)
+  module _ (other : List ℕ) (legal' : IsLegal commands_on_time other steps) (on_time' : AreOnTime commands_on_time other) where
+    same_held : (w : Window) → held_in commands_on_time other w ≡ held_in commands rounds w
+    same_held w = omega (arith, held_le commands_on_time other on_time_rounds w legal' on_time_legal on_time_on_time, held_le commands_on_time on_time_rounds other w on_time_legal legal' on_time', on_time_held w)
 
-    pub filled_there : (w : Window) → w.from ≤ w.due → IsFilled commands rounds steps w → IsFilled met other steps w
-    filled_there w some filled = holds_filled met other steps w legal' (omega (arith, filled_holds commands rounds steps w filled some, same_held w))
+    pub filled_there : (w : Window) → w.from ≤ w.due → IsFilled commands rounds steps w → IsFilled commands_on_time other steps w
+    filled_there w some filled = holds_filled commands_on_time other steps w legal' (omega (arith, filled_holds commands rounds steps w filled some, same_held w))
 
-    pub filled_here : (w : Window) → w.from ≤ w.due → IsFilled met other steps w → IsFilled commands rounds steps w
-    filled_here w some filled = holds_filled commands rounds steps w legal (omega (arith, filled_holds met other steps w filled some, same_held w))
+    pub filled_here : (w : Window) → w.from ≤ w.due → IsFilled commands_on_time other steps w → IsFilled commands rounds steps w
+    filled_here w some filled = holds_filled commands rounds steps w legal (omega (arith, filled_holds commands_on_time other steps w filled some, same_held w))
 
-    pub all_here : (windows : List Window) → AreFilled met other steps windows → AreFilled commands rounds steps windows
+    pub all_here : (windows : List Window) → AreFilled commands_on_time other steps windows → AreFilled commands rounds steps windows
     all_here windows are =
         record {
           each = λ i e h x low high. filled_here (get_or windows i e) (omega arith) (are.each i e h) x low high;
@@ -141,7 +141,7 @@ module _ (commands : List Command) (rounds : List ℕ) (steps : List Step) (lega
         }
 
   -- where nothing is on time no window is filled
-  pub none_filled : ((x : ℕ) → 0 < depth_at steps x) → met ≡ [] → (windows : List Window) → windows ≡ [] → AreFilled commands rounds steps windows
+  pub none_filled : ((x : ℕ) → 0 < depth_at steps x) → commands_on_time ≡ [] → (windows : List Window) → windows ≡ [] → AreFilled commands rounds steps windows
   unfolding held_at
   none_filled some none windows is =
       subst (λ xs. AreFilled commands rounds steps xs) (sym is) record {
@@ -149,9 +149,9 @@ module _ (commands : List Command) (rounds : List ℕ) (steps : List Step) (lega
         all = λ v filled low.
             let held : held_at commands rounds v v.from ≤ held_in commands rounds v =
             count_wider (λ p. is_held v p && p.1 == v.from) (is_held v) (λ p passes. (and_parts (is_held v p) (p.1 == v.from) passes).0) (zip commands rounds) in
-            let short : held_in met on_time_rounds v ≤ length (zip met on_time_rounds) = count_by-le-length (is_held v) (zip met on_time_rounds) in
-            let long : length (zip met on_time_rounds) ≡ length met = length_pairs met on_time_rounds one_each in
-            let nothing : length met ≡ 0 = ap (λ xs. length xs) none in
+            let short : held_in commands_on_time on_time_rounds v ≤ length (zip commands_on_time on_time_rounds) = count_by-le-length (is_held v) (zip commands_on_time on_time_rounds) in
+            let long : length (zip commands_on_time on_time_rounds) ≡ length commands_on_time = length_pairs commands_on_time on_time_rounds one_each in
+            let nothing : length commands_on_time ≡ 0 = ap (λ xs. length xs) none in
             absurd (omega (arith, held, short, long, nothing, on_time_held v, filled v.from (omega arith) low, some v.from));
         rising = λ i j e lt h. absurd (omega arith);
       }

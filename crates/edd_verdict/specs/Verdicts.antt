@@ -24,7 +24,7 @@ pub record IsSpare (commands : List Command) (rounds : List ℕ) (steps : List S
   pub schedule : List ℕ
   pub legal : IsLegal commands schedule steps
   pub kept : (j : ℕ) (d : Command) → j < length commands → slice_index rounds j ≤ (slice_index_or commands j d).due → slice_index schedule j ≤ (slice_index_or commands j d).due
-  pub met : (d : Command) → slice_index schedule k ≤ (slice_index_or commands k d).due
+  pub on_time : (d : Command) → slice_index schedule k ≤ (slice_index_or commands k d).due
 
 -- what each verdict says of the late command at place k
 abbrev pub IsVerdict : List Command → List ℕ → List Step → ℕ → Verdict → Type 0

@@ -49,7 +49,7 @@ pub fn law_of_verdicts()
         → OfEachLate SpareMeansFree commands rounds steps }
 {}
 
-/// What the verdicts say of how many commands a schedule has late, beside how many any schedule has on time: `most - met` is
+/// What the verdicts say of how many commands a schedule has late, beside how many any schedule has on time: `most - on_time` is
 /// how many more could have been on time.
 ///
 /// A law: it does nothing when it runs, and a caller has its clauses.
@@ -103,10 +103,15 @@ fn filled<A: Allocator + Clone, B: Allocator>(
     requires capacity { IsCapacity capacity.now }
     ensures { IfOk result (λ v. AreFilled commands.now rounds.now capacity.now v.items) }
 {
-    let met = on_time(alloc.clone()?, commands, rounds)?;
-    match solve(alloc.clone()?, met.as_slice(), capacity) {
+    let commands_on_time = on_time(alloc.clone()?, commands, rounds)?;
+    match solve(alloc.clone()?, commands_on_time.as_slice(), capacity) {
         Ok(Some(answer)) => {
-            let found = tight::filled(alloc, met.as_slice(), answer.rounds.as_slice(), capacity)?;
+            let found = tight::filled(
+                alloc,
+                commands_on_time.as_slice(),
+                answer.rounds.as_slice(),
+                capacity,
+            )?;
             Ok(found)
         }
         Ok(None) => Ok(Vec::new(alloc)),

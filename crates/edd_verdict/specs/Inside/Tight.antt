@@ -1,5 +1,5 @@
 -- Full rounds, and the windows that end where all that run in a round are due in it.
-use Rattle.std.specs.Prelude.{ℕ, ◌≡◌, ◌≤◌, ◌<◌, ◌-◌, ◌==◌, ◌&&◌, ◌⊎◌, List, length, map, count_by, nat_le, slice_index_or}
+use Rattle.std.specs.Prelude.{ℕ, ◌≡◌, ◌≤◌, ◌<◌, ◌-◌, ◌^◌, ◌==◌, ◌&&◌, ◌⊎◌, List, length, map, count_by, nat_le, slice_index_or}
 use Rattle.std.specs.List.{zip}
 use Rattle.edd_commands.specs.declared.Command.{Command}
 use Rattle.edd_check.specs.declared.Window.{Window}
@@ -17,7 +17,7 @@ all_served commands rounds = map (λ p. served_command p) (zip commands rounds)
 
 -- that there is room before a round: whatever ends later can't hold the round before it
 abbrev pub room_before : ℕ → Served
-room_before round = record { round = round - 1; due = 18446744073709551615 }
+room_before round = record { round = round - 1; due = 2 ^ 64 - 1 }
 
 -- the last of a list, or else this
 abbrev pub last_or : List Served → Served → Served
@@ -75,7 +75,7 @@ pub record AreTight (full : List Served) (windows : List Window) : Type 0 where
 pub record AreBarred (full : List Served) (next : ℕ) (peaks : List Served) : Type 0 where
   pub barred : (j : ℕ) (e : Served) → j < length peaks → ((slice_index_or peaks j e).round < next) × ((b : ℕ) → b < (slice_index_or peaks j e).due → IsFullBy full (slice_index_or peaks j e).round b → ⊥)
   pub falls : (i j : ℕ) (e : Served) → i < j → j < length peaks → ((slice_index_or peaks i e).round < (slice_index_or peaks j e).round) × ((slice_index_or peaks j e).due < (slice_index_or peaks i e).due)
-  pub clear : (y b : ℕ) → y < next → next ≤ b → b < 18446744073709551615 → ((j : ℕ) (e : Served) → j < length peaks → y ≤ (slice_index_or peaks j e).round → (slice_index_or peaks j e).due ≤ b) → IsFullBy full y b
+  pub clear : (y b : ℕ) → y < next → next ≤ b → b < 2 ^ 64 - 1 → ((j : ℕ) (e : Served) → j < length peaks → y ≤ (slice_index_or peaks j e).round → (slice_index_or peaks j e).due ≤ b) → IsFullBy full y b
 
 -- the peaks fall
 abbrev pub DuesFall : List Served → Type 0

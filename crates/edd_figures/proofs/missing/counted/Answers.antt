@@ -21,12 +21,12 @@ pub returns-clause-misses : goal.returns-clause-misses
 returns-clause-misses g c =
     let m = c.requires.most in
     let legal = c.requires.legal in
-    let met = all_commands c.args.commands.now c.args.answer.now.rounds.items m.legal.one_each in
+    let on_time = all_commands c.args.commands.now c.args.answer.now.rounds.items m.legal.one_each in
     let all = all_commands c.args.commands.now c.args.rounds.now legal.one_each in
     record {
       count_is = refl;
       late_is = omega (arith, all, c.number_on_time.ensures);
-      least = least_late c.args.commands.now c.args.capacity.now c.args.answer.now.met _ m.most (omega (arith, met, m.number));
+      least = least_late c.args.commands.now c.args.capacity.now c.args.answer.now.on_time _ m.most (omega (arith, on_time, m.number));
       rest = omega (arith, all, m.most.most c.args.rounds.now legal, c.number_on_time.ensures);
       cover = c.args.answer.now.cover.items;
       disjoint = m.disjoint;
@@ -35,5 +35,5 @@ returns-clause-misses g c =
       first = c.requires.first;
       passed = c.requires.passed;
       windows_are = c.in_ok-windows.ensures ∙ ap (λ l. map (crowd_of c.args.commands.now c.args.capacity.now) l) c.as_slice.ensures.value;
-      bound = omega (arith, m.bound, met, m.number);
+      bound = omega (arith, m.bound, on_time, m.number);
     }

@@ -23,9 +23,9 @@ returns g c =
     let most = c.in-Ok.ensures.most.most in
     let spare : m.spare ≡ spares_in vs = c.in_ok-missed.ensures.kept ∙ found.spares in
     let kinds = c.law_of_spares.ensures.kinds cs rs steps vs legal judged in
-    let more : number_on_time cs rs + m.avoidable ≡ c.in-Ok.answer.met = avoidable_is cs rs steps legal c.in-Ok.answer.met m.late m.unavoidable m.avoidable most told.least told.late_is told.rest in
-    let bound = c.law_of_spares.ensures.most cs rs steps vs legal judged c.in-Ok.answer.met most in
-    let some = c.law_of_spares.ensures.some cs rs steps vs legal judged c.in-Ok.answer.met most in
+    let more : number_on_time cs rs + m.avoidable ≡ c.in-Ok.answer.on_time = avoidable_is cs rs steps legal c.in-Ok.answer.on_time m.late m.unavoidable m.avoidable most told.least told.late_is told.rest in
+    let bound = c.law_of_spares.ensures.most cs rs steps vs legal judged c.in-Ok.answer.on_time most in
+    let some = c.law_of_spares.ensures.some cs rs steps vs legal judged c.in-Ok.answer.on_time most in
     record {
       are = told;
       spares = has_spares cs rs steps legal vs m.late m.spare judged spare kinds told.late_is;
