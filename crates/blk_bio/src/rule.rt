@@ -10,7 +10,7 @@ pub enum TraceRule {
     ReleasedTwice,
     /// A Join or an Issue of an id that was not released.
     Unknown,
-    /// A Join of an id that was issued before, or an Issue of one that was and wasn't handed back.
+    /// A Join of an id that was issued before, or an Issue of one that was and wasn't requeued.
     AlreadyIssued,
     /// A bio's id that stands in the trace, or earlier in the same request.
     BioTwice,

@@ -11,7 +11,7 @@ use Rattle.blk_trace.specs.Events.{round_of, open_count}
 use Rattle.blk_trace.specs.Meaning.{commands_of}
 use Rattle.blk_trace.specs.Waits.{released_count}
 use Rattle.blk_sched.specs.Meaning.{Waiting, Meaning, HasNoCandidate, ServesNothing, Picks, RequeuesPick, Joins, opened}
-use Rattle.blk_sched.specs.Policies.{Choice, OfDone, OfTick, Policy}
+use Rattle.blk_sched.specs.Policies.{Choice, OfDone, OfTick}
 use Rattle.blk_hw.specs.Held.{held_in, held_total}
 use Rattle.blk_core.specs.declared.calls.Placed.{Placed}
 use Rattle.blk_core.specs.declared.calls.Placed.TheVariants.{New, Joined as JoinedTo}
@@ -56,11 +56,7 @@ SendsFrom serves chooses hw round [] m kept held w new_m new_kept new_held =
 SendsFrom serves chooses hw round (first ∷ rest) m kept held w new_m new_kept new_held =
     (first ≡ w) × RequeuesPick (dir_of w.bios) new_m m × (new_kept ≡ kept) × (new_held ≡ slice_set held hw rest)
 
--- the same of a scheduler of a policy, by what it means and what it keeps, before and after
-abbrev pub Dispatches : {S : Type 0} → Policy → (S → Meaning) → (S → List ℕ) → ℕ → ℕ → S → List (List Waiting) → Waiting → S → List (List Waiting) → Type 0
-Dispatches policy meaning kept hw round old held w new new_held =
-    SendsFrom policy.serves policy.chooses hw round (held_in held hw) (meaning old) (kept old) held w (meaning new) (kept new) new_held
-
+-- the same of a core, before and after
 abbrev pub Sends : (ℕ → Waiting → Bool) → Choice → CoreState → ℕ → Waiting → CoreState → Type 0
 Sends serves chooses old hw w new =
     SendsFrom serves chooses hw (round_of old.events) (held_in old.held hw) old.meaning old.kept old.held w new.meaning new.kept new.held
@@ -80,7 +76,7 @@ Issues serves chooses old hw tag (Some command) new =
     × (commands_of new.setup new.events ≡ commands_of old.setup old.events ++ command ∷ [])
     × (new.flights ≡ slice_set old.flights tag (Some (record { hw = hw; request = w })))
 
--- what a completion does: a Done of the command in flight, whose pick is then closed; the scheduler is told of the hardware queue that
+-- what a completion does: a Done of the command in flight, whose pick is then closed; the scheduler hears of the hardware queue that
 -- it was issued for, its direction, and the rounds from its release to its Issue, which is of this round
 abbrev pub Completes : OfDone → CoreState → ℕ → CoreState → Type 0
 Completes told old tag new =
@@ -109,7 +105,7 @@ RequeuesTag old tag id new =
     × (new.flights ≡ slice_set old.flights tag None)
     × (new.held ≡ slice_set old.held f.hw (held_in old.held f.hw ++ f.request ∷ []))
 
--- what the end of a round does: a Tick; the scheduler is told, once, of the round that begins
+-- what the end of a round does: a Tick; the scheduler hears, once, of the round that begins
 abbrev pub Ends : OfTick → CoreState → CoreState → Type 0
 Ends told old new =
     AddsEvent old Tick new

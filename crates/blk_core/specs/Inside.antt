@@ -1,2 +1,3 @@
--- What invariants and proofs need, and no promise names.
+-- What private functions, invariants and proofs need, and no promise names.
 pub mod Ties
+pub mod Calls

@@ -9,6 +9,7 @@ use Rattle.blk_bio.specs.Limits.{Limits}
 use Rattle.blk_bio.specs.Codes.{limits_code}
 use Rattle.blk_bio.specs.Requests.{dir_of}
 use Rattle.blk_trace.specs.Setups.{Setup}
+use Rattle.blk_trace.specs.Traces.{Traced}
 use Rattle.blk_trace.specs.Happened.{Happened, happened_code}
 use Rattle.blk_trace.specs.Events.{request_of, open_count, IsOpenBy}
 use Rattle.blk_trace.specs.Meaning.{release_of, due_of}
@@ -32,6 +33,11 @@ pub record CoreState : Type 0 where
   pub kept : List ℕ
   pub flights : List (Option Flight)
   pub held : List (List Waiting)
+
+-- a core with this trace, over a scheduler that means and keeps this, with these commands in flight and these requeued requests
+abbrev pub core_of : Traced → Meaning → List ℕ → List (Option Flight) → List (List Waiting) → CoreState
+core_of trace meaning kept flights held =
+    record { setup = trace.setup; events = trace.events; meaning = meaning; kept = kept; flights = flights; held = held }
 
 -- a core without events over a scheduler that means and keeps this
 abbrev pub new_core : Setup → Meaning → List ℕ → CoreState

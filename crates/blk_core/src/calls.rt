@@ -6,7 +6,7 @@ ghost use Rattle.blk_bio.specs.declared.bio.Dir.{Dir as Way};
 ghost use Rattle.blk_sched.specs.Meaning.{requeued_of};
 ghost use Rattle.blk_hw.specs.Held.{held_in, held_count};
 ghost use Rattle.blk_core.specs.State.{is_of};
-ghost use Rattle.blk_core.specs.Calls.{Dispatches};
+ghost use Rattle.blk_core.specs.Inside.Calls.{Dispatches};
 ghost use Rattle.blk_core.specs.Inside.Ties.{MayPickNone};
 
 use crate::refusals::{BackFault, CoreFault, DepthFault, IssueFault, NotIssued, TickFault};
@@ -45,21 +45,14 @@ pub struct Core<S: Scheduler> {
 
 impl<S: Scheduler> Model for Core<S> {
     ghost use Rattle.std.specs.Prelude.{map};
-    ghost use Rattle.blk_core.specs.State.{CoreState, core_code};
+    ghost use Rattle.blk_core.specs.State.{CoreState, core_code, core_of};
     ghost use Rattle.blk_core.specs.Inside.Ties.{IsTied, flight_of};
 
     ghost Value = { CoreState };
 
     ghost coded = { core_code };
 
-    ghost view = { λ c. record {
-      setup = c.trace.setup;
-      events = c.trace.events;
-      meaning = S.meaning c.scheduler;
-      kept = S.kept c.scheduler;
-      flights = map flight_of c.tags.items;
-      held = c.held;
-    } };
+    ghost view = { λ c. core_of c.trace (S.meaning c.scheduler) (S.kept c.scheduler) (map flight_of c.tags.items) c.held };
 
     ghost invariant = { λ c. IsTied c.trace.setup c.trace.events (S.meaning c.scheduler) c.tags.items c.held c.released };
 }

@@ -5,7 +5,7 @@ use Rattle.std.specs.List.{Contains}
 use Rattle.std.specs.Option.{option_or}
 use Rattle.std.proofs.lemmas.Bool.{cases_lt, cases_eq, leb-true, leb-false}
 use Rattle.blk_sched.specs.Meaning.{Waiting}
-use Rattle.blk_earliest.specs.Choice.{comes_before, first_of_two, first_due, on_time, earliest_choice, IsNoLater, IsEarliest, IsFirstMeetable}
+use Rattle.blk_earliest.specs.Choice.{comes_before, first_of_two, first_due, on_time, earliest_choice, IsNoLater, IsEarliest, IsFirstOnTime}
 use Rattle.blk_earliest.proofs.Listing.{is_before, from_before}
 
 itself : (w : Waiting) → IsNoLater w w
@@ -101,7 +101,7 @@ none_on now (w ∷ ws) h =
 
 record IsFirstOn (now : ℕ) (ws : List Waiting) (u : Waiting) : Type 0 where
   waits : Contains ws u
-  met : now ≤ u.due
+  in_time : now ≤ u.due
   first : All (λ v. now ≤ v.due → IsNoLater u v) ws
 
 first_on : (now : ℕ) (ws : List Waiting) (u : Waiting) → first_due (on_time now ws) ≡ Some u → IsFirstOn now ws u
@@ -111,15 +111,15 @@ first_on now (w ∷ ws) u h =
       | false ↦ λ e g.
           let past : w.due < now = leb-false now w.due e in
           let rest : IsFirstOn now ws u = first_on now ws u g in
-          record { waits = behind w u ws rest.waits; met = rest.met; first = each_of (λ v. now ≤ v.due → IsNoLater u v) w ws (λ late. absurd (omega arith)) rest.first }
+          record { waits = behind w u ws rest.waits; in_time = rest.in_time; first = each_of (λ v. now ≤ v.due → IsNoLater u v) w ws (λ late. absurd (omega arith)) rest.first }
       | true ↦ λ e g.
-          let met : now ≤ w.due = leb-true now w.due e in
+          let in_time : now ≤ w.due = leb-true now w.due e in
           elim (first_due (on_time now ws)) as (λ o. first_due (on_time now ws) ≡ o → first_of_two w o ≡ Some u → IsFirstOn now (w ∷ ws) u) [
             | None ↦ λ f q.
                 let same : w ≡ u = cc in
                 record {
                   waits = (0, omega arith, same);
-                  met = subst (λ (x : Waiting). now ≤ x.due) same met;
+                  in_time = subst (λ (x : Waiting). now ≤ x.due) same in_time;
                   first = each_of (λ v. now ≤ v.due → IsNoLater u v) w ws (λ _. subst (λ (x : Waiting). IsNoLater x w) same (itself w)) (λ k d lt late. absurd (omega (arith, none_on now ws f k d lt)));
                 }
             | Some v ↦ λ f q.
@@ -127,7 +127,7 @@ first_on now (w ∷ ws) u h =
                 let two = two_first w v u q in
                 record {
                   waits = two.2 (λ x. Contains (w ∷ ws) x) (0, omega arith, refl) (behind w v ws rest.waits);
-                  met = two.2 (λ x. now ≤ x.due) met rest.met;
+                  in_time = two.2 (λ x. now ≤ x.due) in_time rest.in_time;
                   first = each_of (λ x. now ≤ x.due → IsNoLater u x) w ws (λ _. two.0) (λ k d lt late. after_two u v (get_or ws k d) two.1 (rest.first k d lt late));
                 }
           ] refl g
@@ -138,13 +138,13 @@ first_on now (w ∷ ws) u h =
 pub choice_first : (now : ℕ) (ws : List Waiting) (w : Waiting) → earliest_choice false now ws ≡ Some w → IsEarliest ws w
 choice_first now ws w h = first_is ws w h
 
-pub choice_meetable : (now : ℕ) (ws : List Waiting) (w : Waiting) → earliest_choice true now ws ≡ Some w → IsFirstMeetable now ws w
-choice_meetable now ws w h =
-    elim (first_due (on_time now ws)) as (λ o. first_due (on_time now ws) ≡ o → option_or o (first_due ws) ≡ Some w → IsFirstMeetable now ws w) [
+pub choice_on_time : (now : ℕ) (ws : List Waiting) (w : Waiting) → earliest_choice true now ws ≡ Some w → IsFirstOnTime now ws w
+choice_on_time now ws w h =
+    elim (first_due (on_time now ws)) as (λ o. first_due (on_time now ws) ≡ o → option_or o (first_due ws) ≡ Some w → IsFirstOnTime now ws w) [
       | Some v ↦ λ e g.
           let same : v ≡ w = cc in
           let on : IsFirstOn now ws w = first_on now ws w (e ∙ g) in
-          record { waits = on.waits; on_time = λ k d lt late. (on.met, on.first k d lt late); late = λ past. absurd (omega (arith, on.met)) }
+          record { waits = on.waits; on_time = λ k d lt late. (on.in_time, on.first k d lt late); late = λ past. absurd (omega (arith, on.in_time)) }
       | None ↦ λ e g.
           let all : IsEarliest ws w = first_is ws w g in
           let past = none_on now ws e in

@@ -42,7 +42,7 @@ pub record IsEarliest (ws : List Waiting) (w : Waiting) : Type 0 where
   pub first : All (IsNoLater w) ws
 
 -- what it is with `late_last`: of those on time the first, and where none is on time the first of all
-pub record IsFirstMeetable (now : ℕ) (ws : List Waiting) (w : Waiting) : Type 0 where
+pub record IsFirstOnTime (now : ℕ) (ws : List Waiting) (w : Waiting) : Type 0 where
   pub waits : Contains ws w
   pub on_time : All (λ v. now ≤ v.due → (now ≤ w.due) × IsNoLater w v) ws
   pub late : w.due < now → All (λ v. (v.due < now) × IsNoLater w v) ws

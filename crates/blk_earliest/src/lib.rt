@@ -5,7 +5,7 @@ ghost use Rattle.std.specs.Prelude.{◌≡◌, ◌<◌, ◌+◌, ℕ, Bool, true
 ghost use Rattle.std.specs.FinMap as map;
 ghost use Rattle.blk_sched.specs.Meaning.{Waiting, Picks, ServesNothing, at_start};
 ghost use Rattle.blk_index.specs.Index.{IsIdOf};
-ghost use Rattle.blk_earliest.specs.Choice.{serves_all, first_due, on_time, earliest_choice, earliest_chooses, earliest_policy, earliest_kept, IsEarliest, IsFirstMeetable};
+ghost use Rattle.blk_earliest.specs.Choice.{serves_all, first_due, on_time, earliest_choice, earliest_chooses, earliest_policy, earliest_kept, IsEarliest, IsFirstOnTime};
 ghost use Rattle.blk_earliest.specs.Shown.{pending_of, late_last_of, setting_of, meaning_of};
 
 pub mod by_due;
@@ -27,7 +27,7 @@ pub struct Earliest<A: Allocator = Global> {
 
 impl<A: Allocator + Clone> Earliest<A> {
     /// A scheduler in which nothing waits and no pick is open. With `late_last` a request whose due round is past waits
-    /// until none is there that can still be met. It fails only when out of memory.
+    /// until none is there that can still be on time. It fails only when out of memory.
     pub fn new(alloc: A, late_last: bool) -> Result<Earliest<A>, AllocError>
         ensures ok { IfOk result (λ s. meaning_of s ≡ at_start true) }
         ensures setting { IfOk result (λ s. late_last_of s ≡ late_last) }
@@ -82,7 +82,7 @@ impl<A: Allocator + Clone> Earliest<A> {
 /// A law: it does nothing when it runs, and a caller has its clauses.
 pub fn law_of_choices()
     ensures first { (now : ℕ) → (ws : List Waiting) → (w : Waiting) → earliest_choice false now ws ≡ Some w → IsEarliest ws w }
-    ensures meetable { (now : ℕ) → (ws : List Waiting) → (w : Waiting) → earliest_choice true now ws ≡ Some w → IsFirstMeetable now ws w }
+    ensures first_on_time { (now : ℕ) → (ws : List Waiting) → (w : Waiting) → earliest_choice true now ws ≡ Some w → IsFirstOnTime now ws w }
     ensures none { (late_last : Bool) → (now : ℕ) → (ws : List Waiting) → earliest_choice late_last now ws ≡ None → ws ≡ [] }
 {}
 

@@ -10,7 +10,7 @@ use Rattle.blk_bio.specs.Extents.{extent_of}
 use Rattle.blk_sched.specs.Meaning.{Waiting}
 use Rattle.blk_sched.proofs.Maps.{same_number}
 use Rattle.blk_index.specs.declared.merge_hash.Bucket.{Bucket}
-use Rattle.blk_index.specs.Inside.Spots.{Place, Spot, Adds, TakesOne, Keeps, AreSpots, first_at, end_at}
+use Rattle.blk_index.specs.Inside.Spots.{DirSector, Spot, Adds, TakesOne, Keeps, AreSpots, first_at, end_at}
 use Rattle.blk_index.specs.Inside.Buckets.{Becomes, is_bucket, spots_of, AtMost, HasBuckets, Lowers, KeepsLeast, IsEdge}
 use Rattle.blk_index.specs.declared.merge_hash.MergeHashes.{MergeHashes}
 use Rattle.blk_index.specs.declared.merge_hash.MergeHash.{MergeHash}
@@ -21,7 +21,7 @@ use Rattle.blk_index.proofs.Order.{standing}
 use Rattle.blk_index.proofs.Spotted.{Buckets, Others, bucket_there, added_there, most_then, most_of}
 
 -- the bucket at the place of a request
-pub bucket_at : (at : Extent → Place) (found : Found) (buckets : Buckets) (others : Others) (k : ℕ) (w : Waiting) → IsEdge at found buckets others → found k ≡ Some w → IsSome (buckets (at (extent_of w.bios)))
+pub bucket_at : (at : Extent → DirSector) (found : Found) (buckets : Buckets) (others : Others) (k : ℕ) (w : Waiting) → IsEdge at found buckets others → found k ≡ Some w → IsSome (buckets (at (extent_of w.bios)))
 bucket_at at found buckets others k w edge there = bucket_there buckets others (at (extent_of w.bios), k) edge.headed (standing at found (spots_of buckets others) k w edge.spots there)
 
 pub some_bucket : (o : Option Bucket) → IsSome o → (h : Bucket) × (o ≡ Some h)
@@ -29,7 +29,7 @@ some_bucket None s = cc
 some_bucket (Some h) s = (h, refl)
 
 -- what was said of the fewest is so still, where a spot was put in
-still_least : (at : Extent → Place) (found : Found) (buckets mid : Buckets) (others : Others) (p : Place) (sectors bios k : ℕ) (w : Waiting) (h : Bucket) → IsEdge at found buckets others → Lowers buckets p sectors bios mid → found k ≡ Some w → mid (at (extent_of w.bios)) ≡ Some h → AtMost h (sectors_of w.bios) (length w.bios)
+still_least : (at : Extent → DirSector) (found : Found) (buckets mid : Buckets) (others : Others) (p : DirSector) (sectors bios k : ℕ) (w : Waiting) (h : Bucket) → IsEdge at found buckets others → Lowers buckets p sectors bios mid → found k ≡ Some w → mid (at (extent_of w.bios)) ≡ Some h → AtMost h (sectors_of w.bios) (length w.bios)
 still_least at found buckets mid others p sectors bios k w h edge lowers there is =
     let g = some_bucket (buckets (at (extent_of w.bios))) (bucket_at at found buckets others k w edge there) in
     most_of h g.0 (sectors_of w.bios) (length w.bios) ((lowers (at (extent_of w.bios)) h is).1 g.0 g.1) (edge.least k w g.0 there g.1)
@@ -50,7 +50,7 @@ apart old new id k w becomes there = by_id (λ v. old k ≡ Some v) old new id N
 pub few_of : (e : Extent) (w : Waiting) → e ≡ extent_of w.bios → e.bios ≤ length w.bios
 few_of e w is = let same : e.bios ≡ length w.bios = ap (λ (x : Extent). x.bios) is in omega (arith, same)
 
-module _ (at : Extent → Place) (old new : Found) (id : ℕ) (buckets now : Buckets) (others after : Others) where
+module _ (at : Extent → DirSector) (old new : Found) (id : ℕ) (buckets now : Buckets) (others after : Others) where
   -- a request more
   pub edge_entered : (w : Waiting) (spot : Spot) (sectors bios : ℕ) → IsEdge at old buckets others → old id ≡ None → spot ≡ (at (extent_of w.bios), id) → sectors ≡ sectors_of w.bios → bios ≤ length w.bios → Adds (spots_of buckets others) spot (spots_of now after) → (HasBuckets buckets others → HasBuckets now after) → Lowers buckets spot.0 sectors bios now → Becomes old id (Some w) new → IsEdge at new now after
   edge_entered w spot sectors bios edge none is has few adds headed lowers becomes = record {
@@ -78,7 +78,7 @@ module _ (at : Extent → Place) (old new : Found) (id : ℕ) (buckets now : Buc
   }
 
   -- nothing is changed
-  pub edge_kept : IsEdge at old buckets others → ((k : ℕ) → new k ≡ old k) → ((k : Place) → now k ≡ buckets k) → Keeps others after → IsEdge at new now after
+  pub edge_kept : IsEdge at old buckets others → ((k : ℕ) → new k ≡ old k) → ((k : DirSector) → now k ≡ buckets k) → Keeps others after → IsEdge at new now after
   edge_kept edge same buckets_same others_same = record {
     spots = kept at old new (spots_of buckets others) (spots_of now after) edge.spots same
         (λ q. ap (λ o. cond (is_bucket o q) true (after q)) (buckets_same q.0) ∙ ap (cond (is_bucket (buckets q.0) q) true) (others_same q));
@@ -87,14 +87,14 @@ module _ (at : Extent → Place) (old new : Found) (id : ℕ) (buckets now : Buc
   }
 
 -- a request grows at its other side
-pub edge_stayed : (at : Extent → Place) (old new : Found) (id : ℕ) (buckets : Buckets) (others : Others) (v w : Waiting) → IsEdge at old buckets others → old id ≡ Some v → at (extent_of v.bios) ≡ at (extent_of w.bios) → sectors_of v.bios ≤ sectors_of w.bios → length v.bios ≤ length w.bios → Becomes old id (Some w) new → IsEdge at new buckets others
+pub edge_stayed : (at : Extent → DirSector) (old new : Found) (id : ℕ) (buckets : Buckets) (others : Others) (v w : Waiting) → IsEdge at old buckets others → old id ≡ Some v → at (extent_of v.bios) ≡ at (extent_of w.bios) → sectors_of v.bios ≤ sectors_of w.bios → length v.bios ≤ length w.bios → Becomes old id (Some w) new → IsEdge at new buckets others
 edge_stayed at old new id buckets others v w edge found same grows longer becomes = record {
   spots = stayed at old new id (spots_of buckets others) v w edge.spots found same becomes;
   headed = edge.headed;
   least = λ k u h there said. by_id (λ x. buckets (at (extent_of x.bios)) ≡ Some h → AtMost h (sectors_of x.bios) (length x.bios)) old new id (Some w) k u becomes there
       (λ own here.
       let one : w ≡ u = cc in
-      let before : AtMost h (sectors_of v.bios) (length v.bios) = edge.least id v h found (ap (λ (p : Place). buckets p) same ∙ ap (λ (x : Waiting). buckets (at (extent_of x.bios))) one ∙ here) in
+      let before : AtMost h (sectors_of v.bios) (length v.bios) = edge.least id v h found (ap (λ (p : DirSector). buckets p) same ∙ ap (λ (x : Waiting). buckets (at (extent_of x.bios))) one ∙ here) in
       let size : sectors_of w.bios ≡ sectors_of u.bios = ap (λ (x : Waiting). sectors_of x.bios) one in
       let long : length w.bios ≡ length u.bios = ap (λ (x : Waiting). length x.bios) one in
       most_then h (sectors_of v.bios) (length v.bios) (sectors_of u.bios) (length u.bios) before (omega (arith, size, grows)) (omega (arith, long, longer)))
@@ -103,7 +103,7 @@ edge_stayed at old new id buckets others v w edge found same grows longer become
 
 -- ---- a spot is put in and another taken out
 
-module _ (at : Extent → Place) (old new : Found) (id : ℕ) (buckets mid now : Buckets) (others more after : Others) (spot : Spot) (sectors bios : ℕ) (edge : IsEdge at old buckets others)
+module _ (at : Extent → DirSector) (old new : Found) (id : ℕ) (buckets mid now : Buckets) (others more after : Others) (spot : Spot) (sectors bios : ℕ) (edge : IsEdge at old buckets others)
     (headed : HasBuckets buckets others → HasBuckets mid more) (lowers : Lowers buckets spot.0 sectors bios mid) (headed_then : HasBuckets mid more → HasBuckets now after) (keeps : KeepsLeast mid now) where
   -- those of the other requests are as before
   others_least : (k : ℕ) (v : Waiting) (h : Bucket) → old k ≡ Some v → now (at (extent_of v.bios)) ≡ Some h → AtMost h (sectors_of v.bios) (length v.bios)
@@ -143,7 +143,7 @@ edges_kept old new e edges same = record {
 }
 
 -- where a first spot is refused nothing is changed
-pub first_refused : {A T E : Type 0} (r : Result T E) (e : MergeHashes A) (f : MergeHash A) (id : ℕ) → ((p : Place) → buckets_in f p ≡ buckets_in e.front p) → Keeps (others_in e.front) (others_in f) → OnErr r ((old : Found) → IsEdges old e → old id ≡ None → IsEdges old (record { front = f; back = e.back }))
+pub first_refused : {A T E : Type 0} (r : Result T E) (e : MergeHashes A) (f : MergeHash A) (id : ℕ) → ((p : DirSector) → buckets_in f p ≡ buckets_in e.front p) → Keeps (others_in e.front) (others_in f) → OnErr r ((old : Found) → IsEdges old e → old id ≡ None → IsEdges old (record { front = f; back = e.back }))
 first_refused (Ok x) e f id same others = tt
 first_refused (Err x) e f id same others = λ old edges none. record {
   front = edge_kept first_at old old id (buckets_in e.front) (buckets_in f) (others_in e.front) (others_in f) edges.front (λ k. refl) same others;

@@ -12,7 +12,7 @@ use Rattle.blk_bio.specs.declared.extent.Extent.{Extent}
 use Rattle.blk_sched.specs.Meaning.{Waiting, Pending}
 use Rattle.blk_bio.specs.Extents.{extent_of}
 use Rattle.blk_sched.proofs.Maps.{same_number}
-use Rattle.blk_index.specs.Inside.Spots.{Place, Spot, place_cmp, spot_cmp, Adds, Takes, Keeps, is_placed, AreSpots}
+use Rattle.blk_index.specs.Inside.Spots.{DirSector, Spot, place_cmp, spot_cmp, Adds, TakesSpot, Keeps, is_placed, AreSpots}
 use Rattle.blk_index.specs.Inside.Buckets.{Becomes}
 use Rattle.blk_index.specs.Inside.Search.{IsNamed}
 use Rattle.blk_index.proofs.Listed.{same_place, is_equal}
@@ -48,14 +48,14 @@ both_false true = refl
 both_false false = refl
 
 -- at one id, and at another
-here : (a p : Place) (id k : ℕ) → is_at (nat_cmp id) k ≡ true → eq_by_cmp spot_cmp (a, id) (p, k) ≡ eq_by_cmp place_cmp a p
+here : (a p : DirSector) (id k : ℕ) → is_at (nat_cmp id) k ≡ true → eq_by_cmp spot_cmp (a, id) (p, k) ≡ eq_by_cmp place_cmp a p
 here a p id k e = one_spot (place_cmp a p) (nat_cmp id k) ∙ ap (λ b. is_eq (place_cmp a p) && b) e ∙ both_true (is_eq (place_cmp a p))
 
-there : (a p : Place) (id k : ℕ) → is_at (nat_cmp id) k ≡ false → eq_by_cmp spot_cmp (a, id) (p, k) ≡ false
+there : (a p : DirSector) (id k : ℕ) → is_at (nat_cmp id) k ≡ false → eq_by_cmp spot_cmp (a, id) (p, k) ≡ false
 there a p id k e = one_spot (place_cmp a p) (nat_cmp id k) ∙ ap (λ b. is_eq (place_cmp a p) && b) e ∙ both_false (is_eq (place_cmp a p))
 
 -- a place that is left and one that is come to
-apart_places : (a b p : Place) → (a ≡ b → ⊥) → cond (eq_by_cmp place_cmp a p) false (cond (eq_by_cmp place_cmp b p) true (eq_by_cmp place_cmp a p)) ≡ eq_by_cmp place_cmp b p
+apart_places : (a b p : DirSector) → (a ≡ b → ⊥) → cond (eq_by_cmp place_cmp a p) false (cond (eq_by_cmp place_cmp b p) true (eq_by_cmp place_cmp a p)) ≡ eq_by_cmp place_cmp b p
 apart_places a b p apart = elim (eq_by_cmp place_cmp a p) as (λ x. eq_by_cmp place_cmp a p ≡ x → cond x false (cond (eq_by_cmp place_cmp b p) true x) ≡ eq_by_cmp place_cmp b p) [
   | true ↦ λ e. elim (eq_by_cmp place_cmp b p) as (λ y. eq_by_cmp place_cmp b p ≡ y → false ≡ y) [
     | true ↦ λ h. absurd (apart (same_place a p (is_equal (place_cmp a p) e) ∙ sym (same_place b p (is_equal (place_cmp b p) h))))
@@ -64,11 +64,11 @@ apart_places a b p apart = elim (eq_by_cmp place_cmp a p) as (λ x. eq_by_cmp pl
   | false ↦ λ _. elim (eq_by_cmp place_cmp b p) as (λ y. cond y true false ≡ y) [ true ↦ refl | false ↦ refl ]
 ] refl
 
-pub absent : (at : Extent → Place) (old : Found) (id : ℕ) (has : Has) → AreSpots at old has → old id ≡ None → (p : Place) → has (p, id) ≡ false
+pub absent : (at : Extent → DirSector) (old : Found) (id : ℕ) (has : Has) → AreSpots at old has → old id ≡ None → (p : DirSector) → has (p, id) ≡ false
 absent at old id has spots none p = spots p id ∙ ap (is_placed at p) none
 
-module _ (at : Extent → Place) (old new : Found) (id : ℕ) where
-  by_id : (x : Option Waiting) (has : Has) → Becomes old id x new → ((p : Place) (k : ℕ) → is_at (nat_cmp id) k ≡ true → has (p, k) ≡ is_placed at p x) → ((p : Place) (k : ℕ) → is_at (nat_cmp id) k ≡ false → has (p, k) ≡ is_placed at p (old k)) → AreSpots at new has
+module _ (at : Extent → DirSector) (old new : Found) (id : ℕ) where
+  by_id : (x : Option Waiting) (has : Has) → Becomes old id x new → ((p : DirSector) (k : ℕ) → is_at (nat_cmp id) k ≡ true → has (p, k) ≡ is_placed at p x) → ((p : DirSector) (k : ℕ) → is_at (nat_cmp id) k ≡ false → has (p, k) ≡ is_placed at p (old k)) → AreSpots at new has
   by_id x has becomes same other p k =
       elim (is_at (nat_cmp id) k) as (λ b. is_at (nat_cmp id) k ≡ b → has (p, k) ≡ is_placed at p (cond b x (old k))) [
         | true ↦ λ e. same p k e
@@ -76,7 +76,7 @@ module _ (at : Extent → Place) (old new : Found) (id : ℕ) where
       ] refl
       ∙ ap (is_placed at p) (sym (becomes k))
 
-  was : (has : Has) (x : Option Waiting) → AreSpots at old has → old id ≡ x → (p : Place) (k : ℕ) → is_at (nat_cmp id) k ≡ true → has (p, k) ≡ is_placed at p x
+  was : (has : Has) (x : Option Waiting) → AreSpots at old has → old id ≡ x → (p : DirSector) (k : ℕ) → is_at (nat_cmp id) k ≡ true → has (p, k) ≡ is_placed at p x
   was has x spots is p k e = spots p k ∙ ap (λ j. is_placed at p (old j)) (same_number id k e) ∙ ap (is_placed at p) is
 
   pub entered : (has now : Has) (w : Waiting) → AreSpots at old has → old id ≡ None → Adds has (at (extent_of w.bios), id) now → Becomes old id (Some w) new → AreSpots at new now
@@ -85,14 +85,14 @@ module _ (at : Extent → Place) (old new : Found) (id : ℕ) where
       ∙ elim (eq_by_cmp place_cmp (at (extent_of w.bios)) p) as (λ b. cond b true false ≡ b) [ true ↦ refl | false ↦ refl ])
       (λ p k e. adds (p, k) ∙ ap (λ b. cond b true (has (p, k))) (there (at (extent_of w.bios)) p id k e) ∙ spots p k)
 
-  pub taken : (has now : Has) (w : Waiting) → AreSpots at old has → old id ≡ Some w → Takes has (at (extent_of w.bios), id) now → Becomes old id None new → AreSpots at new now
+  pub taken : (has now : Has) (w : Waiting) → AreSpots at old has → old id ≡ Some w → TakesSpot has (at (extent_of w.bios), id) now → Becomes old id None new → AreSpots at new now
   taken has now w spots is takes becomes = by_id None now becomes
       (λ p k e. takes (p, k) ∙ ap (λ b. cond b false (has (p, k))) (here (at (extent_of w.bios)) p id k e) ∙ ap (cond (eq_by_cmp place_cmp (at (extent_of w.bios)) p) false) (was has (Some w) spots is p k e)
       ∙ elim (eq_by_cmp place_cmp (at (extent_of w.bios)) p) as (λ b. cond b false b ≡ false) [ true ↦ refl | false ↦ refl ])
       (λ p k e. takes (p, k) ∙ ap (λ b. cond b false (has (p, k))) (there (at (extent_of w.bios)) p id k e) ∙ spots p k)
 
   -- a request moves to another place
-  pub moved : (has mid now : Has) (v w : Waiting) → AreSpots at old has → old id ≡ Some v → Adds has (at (extent_of w.bios), id) mid → Takes mid (at (extent_of v.bios), id) now → (at (extent_of v.bios) ≡ at (extent_of w.bios) → ⊥) → Becomes old id (Some w) new → AreSpots at new now
+  pub moved : (has mid now : Has) (v w : Waiting) → AreSpots at old has → old id ≡ Some v → Adds has (at (extent_of w.bios), id) mid → TakesSpot mid (at (extent_of v.bios), id) now → (at (extent_of v.bios) ≡ at (extent_of w.bios) → ⊥) → Becomes old id (Some w) new → AreSpots at new now
   moved has mid now v w spots is adds takes apart becomes = by_id (Some w) now becomes
       (λ p k e.
       takes (p, k) ∙ ap (λ b. cond b false (mid (p, k))) (here (at (extent_of v.bios)) p id k e)
@@ -109,7 +109,7 @@ module _ (at : Extent → Place) (old new : Found) (id : ℕ) where
       (λ p k e. was has (Some v) spots is p k e ∙ ap (λ a. eq_by_cmp place_cmp a p) same)
       (λ p k e. spots p k)
 
-pub kept : (at : Extent → Place) (old new : Found) (has now : Has) → AreSpots at old has → ((k : ℕ) → new k ≡ old k) → Keeps has now → AreSpots at new now
+pub kept : (at : Extent → DirSector) (old new : Found) (has now : Has) → AreSpots at old has → ((k : ℕ) → new k ≡ old k) → Keeps has now → AreSpots at new now
 kept at old new has now spots same keeps p k = keeps (p, k) ∙ spots p k ∙ ap (is_placed at p) (sym (same k))
 
 -- each request has its id then
@@ -134,7 +134,7 @@ named_same old new named same k v h = named k v (sym (same k) ∙ h)
 pub no_spot : (s : BTreeSet Spot) → IsEmpty s → (q : Spot) → contains spot_cmp s q ≡ false
 no_spot s none q = ap (list_any (is_at (spot_cmp q))) none
 
-pub no_spots : (at : Extent → Place) (m : Pending) (has : Has) → m ≡ map.empty → ((q : Spot) → has q ≡ false) → AreSpots at (map.get m) has
+pub no_spots : (at : Extent → DirSector) (m : Pending) (has : Has) → m ≡ map.empty → ((q : Spot) → has q ≡ false) → AreSpots at (map.get m) has
 no_spots at m has none empty p k = empty (p, k) ∙ ap (is_placed at p) (sym (ap (λ (x : Pending). map.get x k) none ∙ map.get-empty nat_cmp k))
 
 pub none_found : (m : Pending) → m ≡ map.empty → (k : ℕ) → map.get m k ≡ None

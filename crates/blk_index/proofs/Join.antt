@@ -13,7 +13,7 @@ use Rattle.blk_sched.specs.Meaning.{Waiting, Pending, joined_waiting}
 use Rattle.blk_bio.specs.Extents.{extent_of}
 use Rattle.blk_sched.specs.Fits.{HasFit}
 use Rattle.blk_index.specs.Inside.RequestSlabs.{JoinsOne}
-use Rattle.blk_index.specs.Inside.Spots.{Place, Spot, place_cmp, is_write, is_placed, AreSpots, Adds, Takes, first_at, end_at}
+use Rattle.blk_index.specs.Inside.Spots.{DirSector, Spot, place_cmp, is_write, is_placed, AreSpots, Adds, TakesSpot, first_at, end_at}
 use Rattle.blk_index.specs.Inside.Buckets.{Becomes}
 use Rattle.blk_index.specs.Index.{IsJoined}
 use Rattle.blk_index.specs.Inside.Search.{at_of}
@@ -64,27 +64,27 @@ last_stays limits (x ∷ xs) newcomer fits = last_both newcomer x xs
 -- where it lies at the side then
 pub at_joined : (limits : Limits) (bios newcomer : List Bio) (s : ℕ) (side : Side) → Fits limits bios newcomer side → 0 < s → first_of newcomer + s ≡ last_of newcomer → at_of side (extent_of (joined bios newcomer side)) ≡ at_of side (extent_of newcomer)
 at_joined limits bios newcomer s Back fits some range =
-    ap (λ (d : Dir). let p : Place = (is_write d, last_of (bios ++ newcomer)) in p) (dir_stays limits bios newcomer Back fits ∙ sym fits.same_direction)
-    ∙ ap (λ (n : ℕ). let p : Place = (is_write (dir_of newcomer), n) in p) (last_joined bios newcomer s some range)
+    ap (λ (d : Dir). let p : DirSector = (is_write d, last_of (bios ++ newcomer)) in p) (dir_stays limits bios newcomer Back fits ∙ sym fits.same_direction)
+    ∙ ap (λ (n : ℕ). let p : DirSector = (is_write (dir_of newcomer), n) in p) (last_joined bios newcomer s some range)
 at_joined limits bios newcomer s Front fits some range =
-    ap (λ (d : Dir). let p : Place = (is_write d, first_of (newcomer ++ bios)) in p) (dir_stays limits bios newcomer Front fits ∙ sym fits.same_direction)
-    ∙ ap (λ (n : ℕ). let p : Place = (is_write (dir_of newcomer), n) in p) (first_joined bios newcomer s some range)
+    ap (λ (d : Dir). let p : DirSector = (is_write d, first_of (newcomer ++ bios)) in p) (dir_stays limits bios newcomer Front fits ∙ sym fits.same_direction)
+    ∙ ap (λ (n : ℕ). let p : DirSector = (is_write (dir_of newcomer), n) in p) (first_joined bios newcomer s some range)
 
 -- it lies elsewhere than before
 apart_at : (limits : Limits) (bios newcomer : List Bio) (s : ℕ) (side : Side) → Fits limits bios newcomer side → 0 < s → first_of newcomer + s ≡ last_of newcomer → at_of side (extent_of bios) ≡ at_of side (extent_of newcomer) → ⊥
-apart_at limits bios newcomer s Back fits some range same = let e : last_of bios ≡ last_of newcomer = ap (λ (p : Place). p.1) same in let b : first_of newcomer ≡ last_of bios = fits.abuts in omega arith
-apart_at limits bios newcomer s Front fits some range same = let e : first_of bios ≡ first_of newcomer = ap (λ (p : Place). p.1) same in let b : last_of newcomer ≡ first_of bios = fits.abuts in omega arith
+apart_at limits bios newcomer s Back fits some range same = let e : last_of bios ≡ last_of newcomer = ap (λ (p : DirSector). p.1) same in let b : first_of newcomer ≡ last_of bios = fits.abuts in omega arith
+apart_at limits bios newcomer s Front fits some range same = let e : first_of bios ≡ first_of newcomer = ap (λ (p : DirSector). p.1) same in let b : last_of newcomer ≡ first_of bios = fits.abuts in omega arith
 
 -- and as before at the other side
 pub first_place : (limits : Limits) (bios newcomer : List Bio) → Fits limits bios newcomer Back → first_at (extent_of bios) ≡ first_at (extent_of (joined bios newcomer Back))
 first_place limits bios newcomer fits =
-    ap (λ (d : Dir). let p : Place = (is_write d, first_of bios) in p) (sym (dir_stays limits bios newcomer Back fits))
-    ∙ ap (λ (n : ℕ). let p : Place = (is_write (dir_of (bios ++ newcomer)), n) in p) (sym (first_stays limits bios newcomer fits))
+    ap (λ (d : Dir). let p : DirSector = (is_write d, first_of bios) in p) (sym (dir_stays limits bios newcomer Back fits))
+    ∙ ap (λ (n : ℕ). let p : DirSector = (is_write (dir_of (bios ++ newcomer)), n) in p) (sym (first_stays limits bios newcomer fits))
 
 pub end_place : (limits : Limits) (bios newcomer : List Bio) → Fits limits bios newcomer Front → end_at (extent_of bios) ≡ end_at (extent_of (joined bios newcomer Front))
 end_place limits bios newcomer fits =
-    ap (λ (d : Dir). let p : Place = (is_write d, last_of bios) in p) (sym (dir_stays limits bios newcomer Front fits))
-    ∙ ap (λ (n : ℕ). let p : Place = (is_write (dir_of (newcomer ++ bios)), n) in p) (sym (last_stays limits bios newcomer fits))
+    ap (λ (d : Dir). let p : DirSector = (is_write d, last_of bios) in p) (sym (dir_stays limits bios newcomer Front fits))
+    ∙ ap (λ (n : ℕ). let p : DirSector = (is_write (dir_of (newcomer ++ bios)), n) in p) (sym (last_stays limits bios newcomer fits))
 
 -- ---- the spots at the side
 
@@ -106,13 +106,13 @@ new_spot limits old has id s side newcomer v spot spots found fit some range is 
       | false ↦ λ _. refl
     ] refl
 
-pub spots_moved : (limits : Limits) (old new : Found) (has mid now : Has) (id s at : ℕ) (side : Side) (newcomer : List Bio) (v w : Waiting) (spot last : Spot) → AreSpots (at_of side) old has → old id ≡ Some v → HasFit limits old newcomer id side → 0 < s → first_of newcomer + s ≡ last_of newcomer → spot ≡ (at_of side (extent_of newcomer), id) → last ≡ (at_of side (extent_of v.bios), id) → w ≡ joined_waiting side at newcomer v → Adds has spot mid → Takes mid last now → Becomes old id (Some w) new → AreSpots (at_of side) new now
+pub spots_moved : (limits : Limits) (old new : Found) (has mid now : Has) (id s at : ℕ) (side : Side) (newcomer : List Bio) (v w : Waiting) (spot last : Spot) → AreSpots (at_of side) old has → old id ≡ Some v → HasFit limits old newcomer id side → 0 < s → first_of newcomer + s ≡ last_of newcomer → spot ≡ (at_of side (extent_of newcomer), id) → last ≡ (at_of side (extent_of v.bios), id) → w ≡ joined_waiting side at newcomer v → Adds has spot mid → TakesSpot mid last now → Becomes old id (Some w) new → AreSpots (at_of side) new now
 spots_moved limits old new has mid now id s at side newcomer v w spot last spots found fit some range is was w_is adds takes becomes =
     let fits = fits_it limits old id side newcomer v found fit in
     let place : at_of side (extent_of newcomer) ≡ at_of side (extent_of w.bios) = sym (at_joined limits v.bios newcomer s side fits some range) ∙ ap (λ (x : Waiting). at_of side (extent_of x.bios)) (sym w_is) in
     moved (at_of side) old new id has mid now v w spots found
-    (subst (λ (q : Spot). Adds has q mid) (is ∙ ap (λ (p : Place). let q : Spot = (p, id) in q) place) adds)
-    (subst (λ (q : Spot). Takes mid q now) was takes)
+    (subst (λ (q : Spot). Adds has q mid) (is ∙ ap (λ (p : DirSector). let q : Spot = (p, id) in q) place) adds)
+    (subst (λ (q : Spot). TakesSpot mid q now) was takes)
     (λ same. apart_at limits v.bios newcomer s side fits some range (same ∙ sym place))
     becomes
 

@@ -5,7 +5,7 @@ use Rattle.std.specs.Cmp.{nat_cmp_total, ranked, tied_itself}
 use Rattle.std.specs.declared.cmp.Ordering.{Ordering}
 use Rattle.std.specs.declared.cmp.Ordering.TheVariants.{Less, Equal, Greater}
 use mathlib.Core.Bool.{not, beq}
-use Rattle.blk_index.specs.Inside.Spots.{Place, Spot, place_cmp, spot_cmp, Adds, Takes, Keeps, IsBelow, upper_of}
+use Rattle.blk_index.specs.Inside.Spots.{DirSector, Spot, place_cmp, spot_cmp, Adds, TakesSpot, Keeps, IsBelow, upper_of}
 
 -- ---- the order of places and spots
 
@@ -26,19 +26,19 @@ nat_less a b lt = elim (nat_cmp a b) as (λ o. nat_cmp a b ≡ o → o ≡ Less)
 ] refl
 
 -- a place below the next sector's is not above
-not_above : (a b : Place) → place_cmp a (b.0, b.1 + 1) ≡ Less → place_cmp a b ≡ Greater → ⊥
+not_above : (a b : DirSector) → place_cmp a (b.0, b.1 + 1) ≡ Less → place_cmp a b ≡ Greater → ⊥
 not_above (false, s) (false, t) h g = let low = lt_of s (t + 1) h in let high = gt_of s t g in omega arith
 not_above (false, s) (true, t) h g = cc
 not_above (true, s) (false, t) h g = cc
 not_above (true, s) (true, t) h g = let low = lt_of s (t + 1) h in let high = gt_of s t g in omega arith
 
-pub same_place : (a b : Place) → place_cmp a b ≡ Equal → a ≡ b
-same_place (false, s) (false, t) h = ap (λ (n : ℕ). let p : Place = (false, n) in p) (eq_of s t h)
+pub same_place : (a b : DirSector) → place_cmp a b ≡ Equal → a ≡ b
+same_place (false, s) (false, t) h = ap (λ (n : ℕ). let p : DirSector = (false, n) in p) (eq_of s t h)
 same_place (false, s) (true, t) h = cc
 same_place (true, s) (false, t) h = cc
-same_place (true, s) (true, t) h = ap (λ (n : ℕ). let p : Place = (true, n) in p) (eq_of s t h)
+same_place (true, s) (true, t) h = ap (λ (n : ℕ). let p : DirSector = (true, n) in p) (eq_of s t h)
 
-pub place_itself : (a : Place) → place_cmp a a ≡ Equal
+pub place_itself : (a : DirSector) → place_cmp a a ≡ Equal
 place_itself (false, s) = tied_itself nat_cmp_total s
 place_itself (true, s) = tied_itself nat_cmp_total s
 
@@ -50,12 +50,12 @@ first_less Less r h n = refl
 first_less Equal r h n = absurd (n h)
 first_less Greater r h n = cc
 
-not_greater : (e : Spot) (p : Place) (below : Option ℕ) → spot_cmp e (upper_of p below) ≡ Less → place_cmp e.0 p ≡ Greater → ⊥
+not_greater : (e : Spot) (p : DirSector) (below : Option ℕ) → spot_cmp e (upper_of p below) ≡ Less → place_cmp e.0 p ≡ Greater → ⊥
 not_greater e p None low g = not_above e.0 p (first_less (place_cmp e.0 (p.0, p.1 + 1)) (nat_cmp e.1 0) low (below_zero e.1)) g
 not_greater e p (Some b) low g = let h : Greater ≡ Less = ap (λ o. ordering_then o (nat_cmp e.1 b)) (sym g) ∙ low in cc
 
 -- a spot below the bound, and not below one of the place, is of the place
-pub of_place : (e : Spot) (p : Place) (below : Option ℕ) (k : ℕ) → spot_cmp e (upper_of p below) ≡ Less → is_lt (spot_cmp e (p, k)) ≡ false → e.0 ≡ p
+pub of_place : (e : Spot) (p : DirSector) (below : Option ℕ) (k : ℕ) → spot_cmp e (upper_of p below) ≡ Less → is_lt (spot_cmp e (p, k)) ≡ false → e.0 ≡ p
 of_place e p below k low not_less = elim (place_cmp e.0 p) as (λ o. place_cmp e.0 p ≡ o → e.0 ≡ p) [
   | Less ↦ λ h. let less : true ≡ false = ap (λ o. is_lt (ordering_then o (nat_cmp e.1 k))) (sym h) ∙ not_less in cc
   | Equal ↦ λ h. same_place e.0 p h
@@ -63,7 +63,7 @@ of_place e p below k low not_less = elim (place_cmp e.0 p) as (λ o. place_cmp e
 ] refl
 
 -- ids below the bound stand below it
-pub below_upper : (p : Place) (below : Option ℕ) (k : ℕ) → IsBelow below k → spot_cmp (p, k) (upper_of p below) ≡ Less
+pub below_upper : (p : DirSector) (below : Option ℕ) (k : ℕ) → IsBelow below k → spot_cmp (p, k) (upper_of p below) ≡ Less
 below_upper (false, s) None k low = let e : nat_cmp s (s + 1) ≡ Less = nat_less s (s + 1) (omega arith) in ap (λ o. ordering_then o (nat_cmp k 0)) e
 below_upper (true, s) None k low = let e : nat_cmp s (s + 1) ≡ Less = nat_less s (s + 1) (omega arith) in ap (λ o. ordering_then o (nat_cmp k 0)) e
 below_upper p (Some b) k low = ap (λ o. ordering_then o (nat_cmp k b)) (place_itself p) ∙ nat_less k b low
@@ -81,11 +81,11 @@ is_equal Less h = cc
 is_equal Equal h = refl
 is_equal Greater h = cc
 
-pub place_true : (a b : Place) → eq_by_cmp place_cmp a b ≡ true → a ≡ b
+pub place_true : (a b : DirSector) → eq_by_cmp place_cmp a b ≡ true → a ≡ b
 place_true a b h = same_place a b (is_equal (place_cmp a b) h)
 
-pub place_eq : (a b : Place) → a ≡ b → eq_by_cmp place_cmp a b ≡ true
-place_eq a b e = ap (λ (x : Place). eq_by_cmp place_cmp a x) (sym e) ∙ ap is_eq (place_itself a)
+pub place_eq : (a b : DirSector) → a ≡ b → eq_by_cmp place_cmp a b ≡ true
+place_eq a b e = ap (λ (x : DirSector). eq_by_cmp place_cmp a x) (sym e) ∙ ap is_eq (place_itself a)
 
 both_equal : (o r : Ordering) → is_eq (ordering_then o r) ≡ true → (o ≡ Equal) × (r ≡ Equal)
 both_equal Less r h = cc
@@ -97,10 +97,10 @@ both_equal Greater r h = cc
 pub same_spot : (s q : Spot) → eq_by_cmp spot_cmp s q ≡ true → s ≡ q
 same_spot s q h =
     let both = both_equal (place_cmp s.0 q.0) (nat_cmp s.1 q.1) h in
-    ap (λ (p : Place). let r : Spot = (p, s.1) in r) (same_place s.0 q.0 both.0) ∙ ap (λ (n : ℕ). let r : Spot = (q.0, n) in r) (eq_of s.1 q.1 both.1)
+    ap (λ (p : DirSector). let r : Spot = (p, s.1) in r) (same_place s.0 q.0 both.0) ∙ ap (λ (n : ℕ). let r : Spot = (q.0, n) in r) (eq_of s.1 q.1 both.1)
 
 -- what is put in and taken out again leaves the spots as they were
-pub undone : (old mid new : Spot → Bool) (s : Spot) → Adds old s mid → Takes mid s new → old s ≡ false → Keeps old new
+pub undone : (old mid new : Spot → Bool) (s : Spot) → Adds old s mid → TakesSpot mid s new → old s ≡ false → Keeps old new
 undone old mid new s adds takes absent q =
     takes q ∙ elim (eq_by_cmp spot_cmp s q) as (λ b. eq_by_cmp spot_cmp s q ≡ b → cond b false (mid q) ≡ old q) [
       | true ↦ λ e. sym absent ∙ ap old (same_spot s q e)

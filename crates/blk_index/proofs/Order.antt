@@ -9,7 +9,7 @@ use Rattle.blk_bio.specs.Requests.{dir_of, first_of}
 use Rattle.blk_bio.specs.declared.extent.Extent.{Extent}
 use Rattle.blk_sched.specs.Meaning.{Waiting}
 use Rattle.blk_bio.specs.Extents.{extent_of}
-use Rattle.blk_index.specs.Inside.Spots.{Place, Spot, place_cmp, spot_cmp, is_write, is_placed, AreSpots, first_at}
+use Rattle.blk_index.specs.Inside.Spots.{DirSector, Spot, place_cmp, spot_cmp, is_write, is_placed, AreSpots, first_at}
 use Rattle.blk_index.specs.Index.{IsNext, IsBefore}
 use Rattle.blk_index.proofs.Listed.{same_place, is_equal, place_itself, nat_less, lt_of}
 use Rattle.blk_index.proofs.Indexed.{Found, Has}
@@ -20,11 +20,11 @@ same_dir Read Write h = cc
 same_dir Write Read h = cc
 same_dir Write Write h = refl
 
-placed : (at : Extent → Place) (p : Place) (o : Option Waiting) → is_placed at p o ≡ true → (w : Waiting) × (o ≡ Some w) × (at (extent_of w.bios) ≡ p)
+placed : (at : Extent → DirSector) (p : DirSector) (o : Option Waiting) → is_placed at p o ≡ true → (w : Waiting) × (o ≡ Some w) × (at (extent_of w.bios) ≡ p)
 placed at p None h = absurd (cc)
 placed at p (Some w) h = (w, refl, same_place (at (extent_of w.bios)) p (is_equal (place_cmp (at (extent_of w.bios)) p) h))
 
-pub standing : (at : Extent → Place) (found : Found) (has : Has) (k : ℕ) (v : Waiting) → AreSpots at found has → found k ≡ Some v → has (at (extent_of v.bios), k) ≡ true
+pub standing : (at : Extent → DirSector) (found : Found) (has : Has) (k : ℕ) (v : Waiting) → AreSpots at found has → found k ≡ Some v → has (at (extent_of v.bios), k) ≡ true
 standing at found has k v spots is = spots (at (extent_of v.bios)) k ∙ ap (is_placed at (at (extent_of v.bios))) is ∙ ap is_eq (place_itself (at (extent_of v.bios)))
 
 pub greater : (a b : ℕ) → b < a → nat_cmp a b ≡ Greater
@@ -64,8 +64,8 @@ module _ (found : Found) (has : Has) (dir : Dir) (first last : ℕ) (write : Boo
   pub the_next : (other : Bool) (sector id : ℕ) → has ((other, sector), id) ≡ true → spot_cmp ((write, first), last) ((other, sector), id) ≡ Less → ((q : Spot) → spot_cmp ((write, first), last) q ≡ Less → has q ≡ true → is_gt (spot_cmp ((other, sector), id) q) ≡ false) → other ≡ write → IsNext dir first last found id
   the_next other sector id there high least same_way =
       let at = placed first_at (other, sector) (found id) (sym (spots (other, sector) id) ∙ there) in
-      let way : is_write (dir_of at.0.bios) ≡ other = ap (λ (p : Place). p.0) at.2 in
-      let start : first_of at.0.bios ≡ sector = ap (λ (p : Place). p.1) at.2 in
+      let way : is_write (dir_of at.0.bios) ≡ other = ap (λ (p : DirSector). p.0) at.2 in
+      let start : first_of at.0.bios ≡ sector = ap (λ (p : DirSector). p.1) at.2 in
       record {
         waiting = at.0;
         is_found = at.1;

@@ -5,12 +5,12 @@ use Rattle.std.specs.Ordering.{nat_cmp, eq_by_cmp, ordering_then, is_eq}
 use Rattle.std.specs.Cmp.{nat_cmp_total, tied_itself, unsigned_tied}
 use Rattle.std.proofs.lemmas.Bool.{eqb-true}
 use Rattle.blk_index.specs.declared.merge_hash.Bucket.{Bucket}
-use Rattle.blk_index.specs.Inside.Spots.{Place, Spot, place_cmp, spot_cmp, Adds, Takes, TakesOne}
+use Rattle.blk_index.specs.Inside.Spots.{DirSector, Spot, place_cmp, spot_cmp, Adds, TakesSpot, TakesOne}
 use Rattle.blk_index.specs.Inside.Buckets.{is_bucket, spots_of, AtMost, HasBuckets, Lowers, KeepsLeast, Sets}
 use Rattle.blk_index.proofs.Listed.{same_spot, place_itself, place_true, place_eq}
 
 abbrev pub Buckets : Type 0
-Buckets = Place → Option Bucket
+Buckets = DirSector → Option Bucket
 
 abbrev pub Others : Type 0
 Others = Spot → Bool
@@ -39,7 +39,7 @@ at_place : (s q : Spot) → s.0 ≡ q.0 → eq_by_cmp spot_cmp s q ≡ nat_eq s.
 at_place s q same =
     ap (λ o. is_eq (ordering_then o (nat_cmp s.1 q.1))) (ap (place_cmp s.0) (sym same) ∙ place_itself s.0) ∙ unsigned_tied s.1 q.1
 
-itself : (p : Place) (a : ℕ) → eq_by_cmp spot_cmp (p, a) (p, a) ≡ true
+itself : (p : DirSector) (a : ℕ) → eq_by_cmp spot_cmp (p, a) (p, a) ≡ true
 itself p a = ap (λ o. is_eq (ordering_then o (nat_cmp a a))) (place_itself p) ∙ ap is_eq (tied_itself nat_cmp_total a)
 
 either_way : (a b x : Bool) → cond a true (cond b true x) ≡ cond b true (cond a true x)
@@ -68,13 +68,13 @@ bucket_there buckets others q headed there = elim (buckets q.0) as (λ o. bucket
 -- ---- a bucket is set at a place, or taken away
 
 -- what is set twice is what is set last
-pub set_twice : (old mid now : Buckets) (p : Place) (x y : Option Bucket) → Sets old p x mid → Sets mid p y now → Sets old p y now
+pub set_twice : (old mid now : Buckets) (p : DirSector) (x y : Option Bucket) → Sets old p x mid → Sets mid p y now → Sets old p y now
 set_twice old mid now p x y first second k =
     second k ∙ ap (cond (eq_by_cmp place_cmp p k) y) (first k)
     ∙ elim (eq_by_cmp place_cmp p k) as (λ b. cond b y (cond b x (old k)) ≡ cond b y (old k)) [ true ↦ refl | false ↦ refl ]
 
 -- nothing is taken from nothing
-pub taken_none : (has : Others) (s : Spot) → ((q : Spot) → has q ≡ false) → Takes has s has
+pub taken_none : (has : Others) (s : Spot) → ((q : Spot) → has q ≡ false) → TakesSpot has s has
 taken_none has s none q = none q ∙ elim (eq_by_cmp spot_cmp s q) as (λ b. false ≡ cond b false (has q)) [ true ↦ refl | false ↦ sym (none q) ]
 
 -- a spot more, where its place had none
@@ -130,7 +130,7 @@ lesser a b m is = (omega (arith, is), omega (arith, is))
 -- ---- a spot less
 
 -- what is left of the others was there
-module _ (buckets : Buckets) (others less : Others) (s : Spot) (takes : Takes others s less) where
+module _ (buckets : Buckets) (others less : Others) (s : Spot) (takes : TakesSpot others s less) where
   still : (q : Spot) → less q ≡ true → others q ≡ true
   still q there = elim (eq_by_cmp spot_cmp s q) as (λ b. cond b false (others q) ≡ true → others q ≡ true) [
     | true ↦ λ h. absurd (cc)
@@ -139,7 +139,7 @@ module _ (buckets : Buckets) (others less : Others) (s : Spot) (takes : Takes ot
 
   -- the bucket, where another takes its place or none is there
   module _ (now : Buckets) (bucket : Bucket) (x : Option Bucket) (own : buckets s.0 ≡ Some bucket) (id_is : bucket.id ≡ s.1) (sets : Sets buckets s.0 x now) (follows : (q : Spot) → q.0 ≡ s.0 → cond (is_bucket x q) true (less q) ≡ less q) (found : IfNone x ((q : Spot) → q.0 ≡ s.0 → less q ≡ false)) (keeps : IfSome x (λ h. AtMost h bucket.least bucket.fewest)) where
-    pub bucket_takes : Takes (spots_of buckets others) s (spots_of now less)
+    pub bucket_takes : TakesSpot (spots_of buckets others) s (spots_of now less)
     bucket_takes q =
         ap (λ o. cond (is_bucket o q) true (less q)) (sets q.0)
         ∙ elim (eq_by_cmp place_cmp s.0 q.0) as (λ b. eq_by_cmp place_cmp s.0 q.0 ≡ b → cond (is_bucket (cond b x (buckets q.0)) q) true (less q) ≡ cond (eq_by_cmp spot_cmp s q) false (spots_of buckets others q)) [
@@ -179,14 +179,14 @@ module _ (buckets : Buckets) (others less : Others) (s : Spot) (takes : Takes ot
 
 -- where there are no others, one that is there is the bucket
 module _ (buckets now : Buckets) (others : Others) (s : Spot) (empty : (q : Spot) → others q ≡ false) (sets : Sets buckets s.0 None now) where
-  by_bucket : (h : Bucket) → buckets s.0 ≡ Some h → (b : Bool) → nat_eq h.id s.1 ≡ b → cond b true (others s) ≡ true → Takes (spots_of buckets others) s (spots_of now others)
+  by_bucket : (h : Bucket) → buckets s.0 ≡ Some h → (b : Bool) → nat_eq h.id s.1 ≡ b → cond b true (others s) ≡ true → TakesSpot (spots_of buckets others) s (spots_of now others)
   by_bucket h own true is there =
       let same : h.id ≡ s.1 = eqb-true h.id s.1 is in
       bucket_takes buckets others others s (taken_none others s empty) now h None own same sets (λ q at. refl) (λ q at. empty q) tt
   by_bucket h own false is there = absurd (let a : true ≡ false = sym there ∙ empty s in cc)
 
   pub only_takes : TakesOne (spots_of buckets others) s (spots_of now others)
-  only_takes = elim (buckets s.0) as (λ o. buckets s.0 ≡ o → cond (is_bucket o s) true (others s) ≡ true → Takes (spots_of buckets others) s (spots_of now others)) [
+  only_takes = elim (buckets s.0) as (λ o. buckets s.0 ≡ o → cond (is_bucket o s) true (others s) ≡ true → TakesSpot (spots_of buckets others) s (spots_of now others)) [
     | Some h ↦ λ own there. by_bucket h own (nat_eq h.id s.1) refl there
     | None ↦ λ _ there. absurd (let a : true ≡ false = sym there ∙ empty s in cc)
   ] refl
@@ -199,11 +199,11 @@ pub there_still : (has more : Others) (s q : Spot) → Adds has s more → has q
 there_still has more s q adds there = adds q ∙ ap (cond (eq_by_cmp spot_cmp s q) true) there ∙ or_true (eq_by_cmp spot_cmp s q)
 
 -- another spot of the place that is there follows as the bucket
-pub follows_other : (less : Others) (p : Place) (next : Bucket) (other : Spot) → other.0 ≡ p → next.id ≡ other.1 → less other ≡ true → (q : Spot) → q.0 ≡ p → cond (is_bucket (Some next) q) true (less q) ≡ less q
+pub follows_other : (less : Others) (p : DirSector) (next : Bucket) (other : Spot) → other.0 ≡ p → next.id ≡ other.1 → less other ≡ true → (q : Spot) → q.0 ≡ p → cond (is_bucket (Some next) q) true (less q) ≡ less q
 follows_other less p next other of_it id_is there q at = elim (nat_eq next.id q.1) as (λ b. nat_eq next.id q.1 ≡ b → cond b true (less q) ≡ less q) [
   | true ↦ λ e.
       let place : other.0 ≡ q.0 = of_it ∙ sym at in
       let id : other.1 ≡ q.1 = sym id_is ∙ eqb-true next.id q.1 e in
-      sym there ∙ ap (λ (x : Place). less (x, other.1)) place ∙ ap (λ (n : ℕ). less (q.0, n)) id
+      sym there ∙ ap (λ (x : DirSector). less (x, other.1)) place ∙ ap (λ (n : ℕ). less (q.0, n)) id
   | false ↦ λ _. refl
 ] refl

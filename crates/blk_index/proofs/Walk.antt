@@ -14,7 +14,7 @@ use Rattle.blk_bio.specs.Requests.{Fits, dir_of, first_of, last_of, sectors_of, 
 use Rattle.blk_sched.specs.Meaning.{Waiting}
 use Rattle.blk_bio.specs.Extents.{extent_of}
 use Rattle.blk_sched.specs.Fits.{FitsNowhere, IsNewestFit, FitsNone}
-use Rattle.blk_index.specs.Inside.Spots.{Place, place_cmp, is_write, is_placed, AreSpots, IsBelow, IsNewestSpot, NoSpot}
+use Rattle.blk_index.specs.Inside.Spots.{DirSector, place_cmp, is_write, is_placed, AreSpots, IsBelow, IsNewestSpot, NoSpot}
 use Rattle.blk_index.specs.Inside.Search.{at_of, touch_of, IsPassed, FitsBy, IsNewestBy, FitsNoneBy, newer_of}
 use Rattle.blk_index.specs.declared.merge_hash.Bucket.{Bucket}
 use Rattle.blk_index.specs.Inside.Buckets.{HasNone, IsEdge}
@@ -27,15 +27,15 @@ use Rattle.blk_index.proofs.Indexed.{Found, Has}
 -- what fits is touched
 touches : (limits : Limits) (bios newcomer : List Bio) (side : Side) → Fits limits bios newcomer side → at_of side (extent_of bios) ≡ touch_of side (extent_of newcomer)
 touches limits bios newcomer Back fits =
-    ap (λ (d : Dir). let p : Place = (is_write d, last_of bios) in p) (sym fits.same_direction) ∙ ap (λ (n : ℕ). let p : Place = (is_write (dir_of newcomer), n) in p) (sym fits.abuts)
+    ap (λ (d : Dir). let p : DirSector = (is_write d, last_of bios) in p) (sym fits.same_direction) ∙ ap (λ (n : ℕ). let p : DirSector = (is_write (dir_of newcomer), n) in p) (sym fits.abuts)
 touches limits bios newcomer Front fits =
-    ap (λ (d : Dir). let p : Place = (is_write d, first_of bios) in p) (sym fits.same_direction) ∙ ap (λ (n : ℕ). let p : Place = (is_write (dir_of newcomer), n) in p) (sym fits.abuts)
+    ap (λ (d : Dir). let p : DirSector = (is_write d, first_of bios) in p) (sym fits.same_direction) ∙ ap (λ (n : ℕ). let p : DirSector = (is_write (dir_of newcomer), n) in p) (sym fits.abuts)
 
 below_or_passed : (below : Option ℕ) (k : ℕ) → IsBelow below k ⊎ IsPassed below k
 below_or_passed None k = inl tt
 below_or_passed (Some b) k = cases_lt k b
 
-module _ (limits : Limits) (waiting : Found) (has : Has) (newcomer : List Bio) (side : Side) (p : Place) (spots : AreSpots (at_of side) waiting has) (is : p ≡ touch_of side (extent_of newcomer)) where
+module _ (limits : Limits) (waiting : Found) (has : Has) (newcomer : List Bio) (side : Side) (p : DirSector) (spots : AreSpots (at_of side) waiting has) (is : p ≡ touch_of side (extent_of newcomer)) where
   standing : (k : ℕ) (w : Waiting) → waiting k ≡ Some w → Fits limits w.bios newcomer side → has (p, k) ≡ true
   standing k w there fits =
       spots p k ∙ ap (is_placed (at_of side) p) there
@@ -90,7 +90,7 @@ too_many limits bios newcomer side room room_bios least fewest wide wide_bios so
       ]
     ]
 
-pub none_room : (limits : Limits) (waiting : Found) (buckets : Buckets) (others : Others) (newcomer : List Bio) (side : Side) (p : Place) (room room_bios : ℕ) → IsEdge (at_of side) waiting buckets others → p ≡ touch_of side (extent_of newcomer) → limits.max_sectors ≤ room + sectors_of newcomer → limits.max_segments ≤ room_bios + length newcomer → 0 < sectors_of newcomer → HasNone (buckets p) room room_bios → (k : ℕ) (w : Waiting) → waiting k ≡ Some w → Fits limits w.bios newcomer side → ⊥
+pub none_room : (limits : Limits) (waiting : Found) (buckets : Buckets) (others : Others) (newcomer : List Bio) (side : Side) (p : DirSector) (room room_bios : ℕ) → IsEdge (at_of side) waiting buckets others → p ≡ touch_of side (extent_of newcomer) → limits.max_sectors ≤ room + sectors_of newcomer → limits.max_segments ≤ room_bios + length newcomer → 0 < sectors_of newcomer → HasNone (buckets p) room room_bios → (k : ℕ) (w : Waiting) → waiting k ≡ Some w → Fits limits w.bios newcomer side → ⊥
 none_room limits waiting buckets others newcomer side p room room_bios edge is wide wide_bios some none k w there fits =
     let place : at_of side (extent_of w.bios) ≡ p = touches limits w.bios newcomer side fits ∙ sym is in
     let bucket = some_bucket (buckets (at_of side (extent_of w.bios))) (bucket_at (at_of side) waiting buckets others k w edge there) in

@@ -1,7 +1,7 @@
 //! The buckets of a merge hash, by their places.
 
 ghost use Rattle.std.specs.Prelude.{◌≡◌, Option, None, Some, OnOk, OnErr, IfOk, IsSome};
-ghost use Rattle.blk_index.specs.Inside.Spots.{Place};
+ghost use Rattle.blk_index.specs.Inside.Spots.{DirSector};
 ghost use Rattle.blk_index.specs.Inside.Buckets.{Sets};
 ghost use Rattle.blk_index.specs.Inside.Tables.{table_in};
 
@@ -20,7 +20,7 @@ pub struct Buckets<A: Allocator = Global> {
 impl<A: Allocator + Clone> Buckets<A> {
     /// No requests.
     pub fn new(alloc: A) -> Buckets<A>
-        ensures { (p : Place) → table_in result p ≡ None }
+        ensures { (p : DirSector) → table_in result p ≡ None }
     {
         Buckets {
             places: HashMap::new(alloc),
@@ -43,7 +43,7 @@ impl<A: Allocator + Clone> Buckets<A> {
     pub fn put(&mut self, place: (bool, u64), bucket: Bucket) -> Result<Option<Bucket>, AllocError>
         ensures ok { OnOk result (Sets (table_in self.old) place (Some bucket) (table_in self.new)) }
         ensures before { IfOk result (λ o. o ≡ table_in self.old place) }
-        ensures same { OnErr result ((p : Place) → table_in self.new p ≡ table_in self.old p) }
+        ensures same { OnErr result ((p : DirSector) → table_in self.new p ≡ table_in self.old p) }
     {
         match self.places.insert(sector_key(place), bucket) {
             Ok(found) => Ok(found),

@@ -5,7 +5,7 @@ ghost use Rattle.std.specs.Bool.{OnFalse};
 ghost use Rattle.std.specs.Ordering.{is_gt, eq_by_cmp};
 ghost use Rattle.std.specs.BTreeSet.{contains};
 ghost use Rattle.std.specs.declared.cmp.Ordering.TheVariants.{Less};
-ghost use Rattle.blk_index.specs.Inside.Spots.{Place, Spot, place_cmp, spot_cmp, is_write, first_at, end_at, Adds, Takes, TakesOne, Keeps, IsBelow, IsGreatestBelow, IsLeastFrom, IsNewestSpot, NoSpot, upper_of, greater_of};
+ghost use Rattle.blk_index.specs.Inside.Spots.{DirSector, Spot, place_cmp, spot_cmp, is_write, first_at, end_at, Adds, TakesSpot, TakesOne, Keeps, IsBelow, IsGreatestBelow, IsLeastFrom, IsNewestSpot, NoSpot, upper_of, greater_of};
 ghost use Rattle.blk_index.specs.Inside.Buckets.{is_bucket, HasNone, Lowers, KeepsLeast};
 ghost use Rattle.blk_index.specs.Inside.Edges.{buckets_in, others_in, spots_in, KeepsBuckets, IsEdges, AddsEdges, DropsEdges};
 ghost use Rattle.blk_sched.specs.Meaning.{Waiting};
@@ -47,7 +47,7 @@ pub fn put<A: Allocator + Clone>(
 
 /// Takes a spot out.
 pub fn take<A: Allocator + Clone>(spots: &mut BTreeSet<Spot, A>, spot: Spot)
-    ensures { Takes (contains spot_cmp spots.old) spot (contains spot_cmp spots.new) }
+    ensures { TakesSpot (contains spot_cmp spots.old) spot (contains spot_cmp spots.new) }
 {
     let _ = spots.remove(&spot);
 }
@@ -125,7 +125,7 @@ pub struct MergeHash<A: Allocator = Global> {
 impl<A: Allocator + Clone> MergeHash<A> {
     /// No spots. It takes no memory but for the allocators.
     pub fn new(alloc: A) -> Result<MergeHash<A>, AllocError>
-        ensures buckets { IfOk result (λ s. (p : Place) → buckets_in s p ≡ None) }
+        ensures buckets { IfOk result (λ s. (p : DirSector) → buckets_in s p ≡ None) }
         ensures others { IfOk result (λ s. (q : Spot) → others_in s q ≡ false) }
     {
         Ok(MergeHash {
@@ -140,7 +140,7 @@ impl<A: Allocator + Clone> MergeHash<A> {
         ensures ok { OnOk result (Adds (spots_in self.old) spot (spots_in self.new)) }
         ensures buckets { OnOk result (KeepsBuckets self.old self.new) }
         ensures least { OnOk result (Lowers (buckets_in self.old) spot.0 sectors bios (buckets_in self.new)) }
-        ensures same { OnErr result ((p : Place) → buckets_in self.new p ≡ buckets_in self.old p) }
+        ensures same { OnErr result ((p : DirSector) → buckets_in self.new p ≡ buckets_in self.old p) }
         ensures same_others { OnErr result (Keeps (others_in self.old) (others_in self.new)) }
     {
         let (place, id) = spot;
@@ -188,7 +188,7 @@ impl<A: Allocator + Clone> MergeHash<A> {
     #[cold]
     #[inline(never)]
     fn take_among(&mut self, spot: Spot)
-        ensures takes { Takes (spots_in self.old) spot (spots_in self.new) }
+        ensures takes { TakesSpot (spots_in self.old) spot (spots_in self.new) }
         ensures buckets { KeepsBuckets self.old self.new }
         ensures least { KeepsLeast (buckets_in self.old) (buckets_in self.new) }
     {

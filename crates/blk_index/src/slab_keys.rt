@@ -8,7 +8,7 @@ use crate::merge_hash::Hashing;
 use std::alloc::{AllocError, Allocator, Global};
 use std::collections::{HashMap, VecDeque};
 
-/// How many ids a run may pass over for each of its keys. To pass over so many and to drop them again costs less than a place
+/// How many ids a run may pass over for each of its keys. To pass over these and to drop them again costs less than a place
 /// in the hash table.
 const SPARE: usize = 4;
 

@@ -3,7 +3,7 @@
 ghost use Rattle.std.specs.Prelude.{◌≡◌, ◌<◌, Option, Some, true, false, IfOk, OnOk, OnErr, IfSome, IfNone};
 ghost use Rattle.std.specs.BTreeSet.{contains};
 ghost use Rattle.std.specs.declared.cmp.Ordering.TheVariants.{Less};
-ghost use Rattle.blk_index.specs.Inside.Spots.{Spot, Adds, Takes, Keeps};
+ghost use Rattle.blk_index.specs.Inside.Spots.{Spot, Adds, TakesSpot, Keeps};
 ghost use Rattle.blk_index.specs.Inside.SortLists.{pair_cmp, PairAdded, PairTaken, PairsKept, IsLeastAbove, IsNextPair, NoPair, IsNextIn, NoNextIn, sorted_in};
 
 use crate::merge_hash::Spot;
@@ -50,7 +50,7 @@ impl<A: Allocator + Clone> SortLists<A> {
     /// Takes a spot out. It takes no memory.
     #[inline(always)]
     pub fn take(&mut self, spot: Spot)
-        ensures { Takes (sorted_in self.old) spot (sorted_in self.new) }
+        ensures { TakesSpot (sorted_in self.old) spot (sorted_in self.new) }
     {
         let ((write, first), id) = spot;
         if write {

@@ -13,6 +13,11 @@ pub record DirLimits : Type 0 where
   pub missed_reads : Bool
   pub missed_writes : Bool
 
+-- the limits of these numbers, with the misses of each direction
+abbrev pub dir_limits : ℕ → ℕ → ℕ → Bool → Bool → DirLimits
+dir_limits depth reads writes missed_reads missed_writes =
+    record { depth = depth; reads = reads; writes = writes; missed_reads = missed_reads; missed_writes = missed_writes }
+
 -- at first both limits are the depth, and nothing was missed
 abbrev pub first_limits : ℕ → DirLimits
 first_limits depth = record { depth = depth; reads = depth; writes = depth; missed_reads = false; missed_writes = false }
@@ -55,12 +60,12 @@ set_anew limits = record {
   missed_writes = false;
 }
 
--- what a scheduler is told: a request of a direction was done that had waited so long, or a round began
+-- what is reported to a scheduler: a request of a direction is done, with how long it had waited, or a round began
 pub data KyberReport : Type 0 where
   Done : (dir : Dir) → (wait : ℕ) → KyberReport
   Tick : (round : ℕ) → KyberReport
 
--- the limits are set anew every so many rounds
+-- the limits are set anew each time that a number of rounds have passed
 abbrev pub after_report : Targets → KyberReport → DirLimits → DirLimits
 after_report targets (Done dir wait) limits = if nat_lt (target_of dir targets) wait then missed dir limits else limits
 after_report targets (Tick round) limits = if round % ROUNDS_BETWEEN == 0 then set_anew limits else limits

@@ -58,7 +58,7 @@ numbers_of kept =
     kept.targets.read ∷ kept.targets.write ∷ kept.limits.depth ∷ kept.limits.reads ∷ kept.limits.writes
     ∷ number_of kept.limits.missed_reads ∷ number_of kept.limits.missed_writes ∷ flat_map turn_numbers kept.turns
 
--- as a scheduler's choice, and as what it keeps when it is told something
+-- as a scheduler's choice, and as what it keeps after a report
 abbrev pub Chooses : List ℕ → Meaning → ℕ → ℕ → Option Waiting → List ℕ → Type 0
 Chooses old m hw now picked new =
     (kept : KyberState) × (old ≡ numbers_of kept) × (picked ≡ chosen (choice_for hw kept m)) × (new ≡ numbers_of (after_pick hw kept (choice_for hw kept m)))

@@ -8,7 +8,7 @@ use Rattle.blk_layer.specs.Submitting.{MovesSome, IsMoveAnswer, IsMoveAllAnswer}
 use Rattle.blk_layer.specs.declared.submitting.DrainFault.{DrainFault}
 use Rattle.blk_layer.proofs.Moving.{Stays, same_stays, move_stays}
 
--- so many requests of the queue are moved, and the others are left; the limits of both stay the same
+-- this number of requests of the queue are moved, and the others are left; the limits of both stay the same
 pub record IsMoving (serves : ℕ → Waiting → Bool) (queue : Queue) (core : CoreState) (hw n : ℕ) (now : Queue) (after : CoreState) : Type 0 where
   pub some : MovesSome serves queue core hw n now after
   pub count : n + length now.requests ≡ length queue.requests

@@ -76,7 +76,7 @@ pub enum CloseRefused<S: Scheduler, L: Named> {
 
 /// What is left of a layer, and a bio on which its accounts disagree, if they do.
 #[derive(Drop)]
-struct Settled<A: Allocator> {
+struct Settlement<A: Allocator> {
     left: Vec<Bio, A>,
     differs: Option<BioId>,
 }
@@ -147,7 +147,7 @@ impl<S: Scheduler, L: Named> Layer<S, L> {
             submitters.as_slice(),
             workers.as_slice(),
         );
-        let Ok(Settled { left, differs }) = settled else {
+        let Ok(Settlement { left, differs }) = settled else {
             return Err(CloseRefused::Whole {
                 fault: CloseFault::Memory,
                 layer: Layer {
@@ -223,7 +223,7 @@ fn settle<S: Scheduler, L: Named>(
     queues: &mut [Mutex<LockedQueue<L, S::A>>],
     submitters: &[Submitter<L, S::A>],
     workers: &[Worker<L, S::A>],
-) -> Result<Settled<S::A>, AllocError>
+) -> Result<Settlement<S::A>, AllocError>
     requires counted { length (all_ran workers.now) ≡ done_count core.now.events }
     ensures counted { IfOk result (λ s. AreCounted core.now.events s.left.items workers.now) }
     ensures none { IfOk result (λ s. IfNone s.differs (AreSettled core.now.setup core.now.events s.left.items submitters.now workers.now)) }
@@ -238,13 +238,13 @@ fn settle<S: Scheduler, L: Named>(
     left.extend_from_slice(waiting.as_slice())?;
     let accepted = accepted(alloc.clone()?, submitters)?;
     if let Some(bio) = differing_bio(alloc, accepted.as_slice(), stored.as_slice())? {
-        return Ok(Settled {
+        return Ok(Settlement {
             left,
             differs: Some(bio),
         });
     }
     let differs = command_bio(alloc, trace, workers)?;
-    Ok(Settled { left, differs })
+    Ok(Settlement { left, differs })
 }
 
 /// A bio of a command that stands another number of times in the workers' accounts than it is done. The accounts have as many

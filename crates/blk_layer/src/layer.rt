@@ -4,14 +4,14 @@ ghost use Rattle.std.specs.Prelude.{ℕ, true, ◌≡◌, ◌<◌, [], All, IfOk
 ghost use Rattle.blk_trace.specs.Setups.{Setup};
 ghost use Rattle.blk_sched.specs.Meaning.{at_start};
 ghost use Rattle.blk_core.specs.State.{CoreState, new_core};
-ghost use Rattle.blk_layer.specs.Seats.{IsNewLayer, CanMake, IsFirstOutside, IsLayerFault};
+ghost use Rattle.blk_layer.specs.Seats.{no_setup, IsNewLayer, CanMake, IsFirstOutside, IsLayerFault};
 
 use crate::locked::{LockedCore, LockedQueue, empty_queues};
 use crate::seats::{Submitter, Worker, seat_submitters, seat_workers};
+use blk_bio::MAX_SOFT_DEPTH;
 use blk_core::Core;
 use blk_hw::Map;
 use blk_sched::Scheduler;
-use blk_soft::MAX_DEPTH;
 use blk_tags::TagSet;
 use std::alloc::Allocator;
 use std::marker::{Brand, Model};
@@ -24,7 +24,7 @@ use std::thread::yield_now;
 pub const MAX_WORKERS: u64 = 64;
 
 /// How often a thread tries to take the core's lock, and lets others run where it can't, before it sleeps until the lock is free.
-const TRIES: u64 = 64;
+const MAX_TRIES: u64 = 64;
 
 /// The name of a layer: its ledger's, with what all that lies under the layer's locks and all of its seats agree on. A
 /// program calls a function that is generic over it with `Brand`.
@@ -40,11 +40,9 @@ pub trait Named: Ledger {
 }
 
 impl Named for Brand {
-    ghost setup = { record { depth = 0; hw = 0; read_expire = 0; write_expire = 0; limits = record { max_sectors = 0; max_segments = 0 } } };
+    ghost setup = { no_setup };
 
-    ghost start = { new_core
-        (record { depth = 0; hw = 0; read_expire = 0; write_expire = 0; limits = record { max_sectors = 0; max_segments = 0 } })
-        (at_start true) [] };
+    ghost start = { new_core no_setup (at_start true) [] };
 
     ghost workers = { 0 };
 }
@@ -54,7 +52,7 @@ impl Named for Brand {
 pub enum LayerFault {
     /// The map has another number of hardware queues than the core.
     Queues,
-    /// The depth of the software queues is 0 or above [`MAX_DEPTH`] of `blk_soft`.
+    /// The depth of the software queues is 0 or above [`MAX_SOFT_DEPTH`].
     SoftDepth,
     /// There is no worker, or there are more than [`MAX_WORKERS`].
     Workers,
@@ -190,7 +188,7 @@ impl<S: Scheduler, L: Named> Layer<S, L> {
     /// Takes the core's lock, for those who take it for each command. It tries for a while before it sleeps: the lock is held for
     /// a shorter time than a sleep and a wake-up take, and a thread that comes again at once finds the core in its caches.
     pub(crate) fn lock_core<R: Wait>(&self, rt: &R) -> MutexGuard<'_, LockedCore<S, L>> {
-        for _ in 0..TRIES {
+        for _ in 0..MAX_TRIES {
             if let Some(core) = self.core.try_lock() {
                 return core;
             }
@@ -213,7 +211,7 @@ fn layer_fault<A: Allocator>(
     if map.hw_count() != hw {
         return Some(LayerFault::Queues);
     }
-    if soft_depth == 0 || soft_depth > MAX_DEPTH {
+    if soft_depth == 0 || soft_depth > MAX_SOFT_DEPTH {
         return Some(LayerFault::SoftDepth);
     }
     if worker_queues.is_empty() || worker_queues.len() as u64 > MAX_WORKERS {

@@ -230,8 +230,8 @@ impl<L: Named, A: Allocator + Clone> Worker<L, A> {
         }
     }
 
-    /// Tries to issue a command to it out of the core, as [`Layer::try_issue`] does, under the first free tag in rising order from the
-    /// given one, which goes on at 0 after the greatest. Without a command the tag is given back.
+    /// Tries to issue a command to it out of the core, as [`Layer::try_issue`] does, under the first free tag, looked for from the
+    /// given one up to the greatest and then from 0. Without a command the tag is given back.
     fn try_issue<S: Scheduler<A = A>>(
         &mut self,
         core: &mut LockedCore<S, L>,

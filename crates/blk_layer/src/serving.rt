@@ -77,7 +77,7 @@ pub enum NoneIssued {
     Memory,
 }
 
-/// Why a worker has no command more in its hands.
+/// Why a worker gets no further command.
 #[derive(Clone, Copy, Debug, PartialEq, Eq)]
 pub(crate) enum NoCommand {
     /// Each tag that was tried is taken.
@@ -91,13 +91,13 @@ pub(crate) enum NoCommand {
 pub struct Worked {
     /// How many passes it made.
     pub passes: u64,
-    /// How many commands its account has more.
+    /// By how many commands its account grew.
     pub ran: u64,
     /// Whether nothing was left to do after `Layer::finish`; otherwise the passes were used up.
     pub finished: bool,
 }
 
-/// Why a worker's work ended before its time. Of the core's refusals it is the first that it met.
+/// Why a worker's work ended before its time: by the first refusal of the core that it met.
 #[derive(Clone, Copy, Debug, PartialEq, Eq)]
 pub enum WorkFault {
     /// The trace has no places for an event.
@@ -132,7 +132,7 @@ pub enum After {
     Yield,
 }
 
-/// What a worker does after a pass, by what that found. It is finished where the pass began after [`Layer::finish`], moved
+/// What a worker does after a pass, which found this. It is finished where the pass began after [`Layer::finish`], moved
 /// nothing and left nothing waiting; it lets others run first where the pass neither moved nor served anything.
 pub fn after_pass(passed: Passed) -> After
     ensures { IsAfterPass passed result }
@@ -203,7 +203,7 @@ impl<S: Scheduler, L: Named> Layer<S, L> {
     /// command is in flight the round goes on. The tag is below the setup's depth. It waits for nobody.
     ///
     /// Refused as the core's issue is, and as `TraceFull` or `Memory` where the trace has no place for the end of the round, or no
-    /// memory. Only under `SlotUsed` and `TagRange` the round may have ended; else nothing is changed.
+    /// memory. Only under `SlotUsed` and `TagRange` may the round have ended; else nothing is changed.
     pub fn issue_or_end(core: &mut Core<S>, hw: u8, tag: u16) -> Result<Option<Command>, IssueFault>
         requires { tag < core.old.setup.depth }
         ensures issued { IfOk result (λ found. Issues S.policy.serves S.policy.chooses core.old hw tag found core.new) }
@@ -465,7 +465,7 @@ pub(crate) fn of_core(why: IssueFault) -> LayerIssueFault
     }
 }
 
-/// Ends a round that is full, in which a tag is used up, and answers why nothing is issued under it.
+/// Ends the round where it is full, and answers why nothing is issued under a tag that is used up in it.
 fn end_full<S: Scheduler>(core: &mut Core<S>, why: NoneIssued) -> NoneIssued
     ensures { IsFullsEnd S.policy.told_tick core.old why result core.new }
 {
@@ -505,8 +505,8 @@ fn issued_now<A: Allocator + Clone>(events: &[Event<Request<A>>]) -> u64
     count
 }
 
-/// Ends the round, in which a tag is used up, and answers why nothing is issued under it: the reason that there was, or why the
-/// round can't end.
+/// Ends the round unless a command is in flight in it, and answers why nothing is issued under a tag that is used up in it: the reason
+/// that is given, or that there is no room or no memory for the end of the round.
 fn end_used<S: Scheduler>(core: &mut Core<S>, why: IssueFault) -> IssueFault
     ensures { IsRoundsEnd S.policy.told_tick core.old why result core.new }
 {

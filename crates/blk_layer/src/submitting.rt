@@ -9,16 +9,16 @@ ghost use Rattle.blk_layer.specs.Inside.Submitting.{LosesFirst, GetsFirst, bios_
 
 use crate::layer::{Layer, Named};
 use crate::seats::{Submitter, Worker};
-use blk_bio::{Bio, BioId, Request};
+use blk_bio::{Bio, BioId, MAX_SOFT_DEPTH, Request};
 use blk_core::{Core, CoreFault};
 use blk_plug::Plug;
 use blk_sched::Scheduler;
-use blk_soft::{MAX_BIOS, MAX_DEPTH, SoftQueue};
+use blk_soft::{MAX_BIOS, SoftQueue};
 use std::alloc::Allocator;
 use std::sync::Wait;
 
 /// The most requests that a drain moves from one software queue: as many as one can hold.
-pub const MAX_MOVES: u64 = MAX_DEPTH;
+pub const MAX_MOVES: u64 = MAX_SOFT_DEPTH;
 
 /// What a flush moved.
 #[derive(Clone, Copy, Debug, PartialEq, Eq)]
@@ -66,7 +66,7 @@ impl<S: Scheduler, L: Named> Layer<S, L> {
     /// accepted. The seat is one of this layer, and the plug's limits are the layer's.
     ///
     /// The first request left is refused, by the first of these that applies: as `Foreign` with its first bio, by sector,
-    /// that another submitter has named; as `Repeated` with its first bio whose id was accepted before or stands earlier in
+    /// whose id names another submitter; as `Repeated` with its first bio whose id was accepted before or stands earlier in
     /// it; as `SoftFull` where the software queue has no room for it; and as `Memory` where the account can't grow.
     #[tactic(auto, using(crate::proofs::Copied::flushed_behind))]
     pub fn flush<R: Wait>(
@@ -176,7 +176,7 @@ impl<S: Scheduler, L: Named> Layer<S, L> {
         Self::move_all_copied(&mut staged.queue, &mut staged.copies, &mut locked.core, hw)
     }
 
-    /// Copies the requests of a software queue that have no copy yet, the first first, as long as there is memory, and room
+    /// Copies the requests of a software queue that have no copy yet, in their order, as long as there is memory, and room
     /// among the copies. These are of the queue's first requests, and have its limits; those that were there stay. It waits for
     /// nobody: a drain calls it for each of its software queues, with the lock of that queue held, before it takes the core's.
     pub fn copy_ahead(queue: &SoftQueue<S::A>, copies: &mut SoftQueue<S::A>)
@@ -228,8 +228,8 @@ impl<S: Scheduler, L: Named> Layer<S, L> {
         }
     }
 
-    /// Moves all requests of a software queue into the core, each as [`Layer::move_first`] does and the first first, up to the
-    /// first that is refused, and answers how many. It waits for nobody.
+    /// Moves all requests of a software queue into the core in their order, each as [`Layer::move_first`] does, up to the first
+    /// that is refused, and answers how many. It waits for nobody.
     ///
     /// Refused with how many were moved before, and why the first of those that are left was refused.
     #[tactic(auto, using(crate::proofs::Moved::moved_on, crate::proofs::Moved::all_moved, crate::proofs::Moved::ended))]
@@ -341,7 +341,7 @@ fn has_room<A: Allocator + Clone>(queue: &SoftQueue<A>, request: &Request<A>) ->
     (queue.len() as u64) < queue.depth() && count <= MAX_BIOS - queue.bios_in()
 }
 
-/// The id of the first of the bios, in the order of their sectors, that another submitter has named.
+/// The first id, in the order of the bios' sectors, that names another submitter.
 pub(crate) fn first_foreign(number: u8, bios: &[Bio]) -> Option<BioId>
     ensures some { IfSome result (IsFirstForeign number bios.now) }
     ensures none { IfNone result (AreOwn number bios.now) }

@@ -1,2 +1,2 @@
--- What proofs alone need.
+-- What private functions and proofs alone need.
 pub mod Stacks

@@ -1,14 +1,10 @@
 -- A list of requests, read as what waits.
-use Rattle.std.specs.Prelude.{ℕ, ◌≡◌, ◌<◌, Bool, true, List, [], ◌∷◌, map as each, length, Option, None, Some, IfNone, slice_get, slice_set}
+use Rattle.std.specs.Prelude.{ℕ, ◌≡◌, Bool, true, List, [], ◌∷◌, map as each, Option, None, IfNone}
 use Rattle.std.specs.Ordering.{nat_cmp}
 use Rattle.std.specs.BTreeMap.{is_at}
 use Rattle.std.specs.Map.{lookup}
 use Rattle.std.specs.FinMap as map
-use Rattle.blk_bio.specs.declared.request.Side.{Side}
-use Rattle.blk_bio.specs.Bios.{Bio}
-use Rattle.blk_bio.specs.Limits.{Limits}
-use Rattle.blk_bio.specs.Requests.{Fits}
-use Rattle.blk_sched.specs.Meaning.{Waiting, Pending, Meaning, ServesNothing, joined_waiting}
+use Rattle.blk_sched.specs.Meaning.{Waiting, Pending, Meaning, ServesNothing}
 use Rattle.blk_sched.specs.Policies.{Policy, choosing}
 
 -- every hardware queue serves every request
@@ -39,41 +35,3 @@ found requests id = lookup (is_at (nat_cmp id)) (each named requests)
 unfoldable pub HaveDistinctIds : List Waiting → Type 0
 HaveDistinctIds [] = Unit {0}
 HaveDistinctIds (w ∷ ws) = (found ws w.id ≡ None) × HaveDistinctIds ws
-
--- a newcomer fits none of the requests before a place
-abbrev pub FitsNoneOf : Limits → List Bio → List Waiting → ℕ → Type 0
-FitsNoneOf limits newcomer requests until =
-    (k : ℕ) (w : Waiting) (side : Side) → k < until → slice_get requests k ≡ Some w → Fits limits w.bios newcomer side → ⊥
-
--- of the requests before a place, the one of the greatest id that a newcomer fits
-pub record IsNewest (limits : Limits) (newcomer : List Bio) (requests : List Waiting) (until place : ℕ) : Type 0 where
-  pub waiting : Waiting
-  pub side : Side
-  pub within : place < length requests
-  pub stands : slice_get requests place ≡ Some waiting
-  pub fits : Fits limits waiting.bios newcomer side
-  pub only : (other : Side) → Fits limits waiting.bios newcomer other → other ≡ side
-  pub newest : (k : ℕ) (w : Waiting) (s : Side) → k < until → slice_get requests k ≡ Some w → waiting.id < w.id → Fits limits w.bios newcomer s → ⊥
-
--- the place of that one, where there is one
-abbrev pub IsNewestOf : Limits → List Bio → List Waiting → ℕ → Option ℕ → Type 0
-IsNewestOf limits newcomer requests until None = FitsNoneOf limits newcomer requests until
-IsNewestOf limits newcomer requests until (Some place) = IsNewest limits newcomer requests until place
-
--- the request at a place has the id, and a newcomer fits it at the side
-abbrev pub IsFitAt : Limits → List Bio → List Waiting → ℕ → ℕ → Side → Type 0
-IsFitAt limits newcomer requests place id side =
-    (w : Waiting) × (slice_get requests place ≡ Some w) × (w.id ≡ id) × Fits limits w.bios newcomer side
-
--- the request at a place has the id
-abbrev pub HasIdAt : List Waiting → ℕ → ℕ → Type 0
-HasIdAt requests id place = (w : Waiting) × (slice_get requests place ≡ Some w) × (w.id ≡ id)
-
--- the request at a place is joined by a newcomer at the side at which it fits, and the others stay
-pub record JoinsPlace (limits : Limits) (now : ℕ) (newcomer : List Bio) (old : List Waiting) (place : ℕ) (new : List Waiting) : Type 0 where
-  pub waiting : Waiting
-  pub side : Side
-  pub stands : slice_get old place ≡ Some waiting
-  pub fits : Fits limits waiting.bios newcomer side
-  pub only : (other : Side) → Fits limits waiting.bios newcomer other → other ≡ side
-  pub changed : new ≡ slice_set old place (joined_waiting side now newcomer waiting)

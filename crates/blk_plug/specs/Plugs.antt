@@ -2,13 +2,14 @@
 use Rattle.std.specs.Prelude.{ℕ, ◌≡◌, ◌≤◌, List, [], ◌∷◌, true, length, slice_get, slice_set, Some, All}
 use Rattle.std.specs.List.{flat_map}
 use Rattle.blk_bio.specs.declared.request.Side.{Side}
+use Rattle.blk_plug.specs.declared.plug.TheConstants.{MAX_STAGED}
 use Rattle.blk_bio.specs.Bios.{Bio}
 use Rattle.blk_bio.specs.Limits.{Limits}
 use Rattle.blk_bio.specs.Requests.{joined, IsWithin, Fits, IsJoinCandidate}
 
 -- the most requests of a plug
 abbrev pub most_requests : ℕ
-most_requests = 32
+most_requests = MAX_STAGED
 
 -- a plug: the limits within which bios join, and its requests from the oldest to the newest
 pub record Plug : Type 0 where

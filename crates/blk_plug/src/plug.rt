@@ -13,7 +13,7 @@ use std::alloc::{AllocError, Allocator, Global};
 use std::collections::VecDeque;
 use std::marker::Model;
 
-/// The most requests that a plug holds.
+/// The most requests that a plug holds: `BLK_MAX_REQUEST_COUNT` of Linux.
 pub const MAX_STAGED: usize = 32;
 
 /// What became of a bio that was added.

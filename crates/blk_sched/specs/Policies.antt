@@ -7,14 +7,14 @@ use Rattle.blk_sched.specs.Meaning.{Waiting, Meaning}
 abbrev pub Choice : Type 1
 Choice = List ℕ → Meaning → ℕ → ℕ → Option Waiting → List ℕ → Type 0
 
--- what is kept once a completion is told, by the hardware queue, the direction and the wait; and once a round is: before and then
+-- what is kept once a completion is reported, by the hardware queue, the direction and the wait; and once a round is: before and then
 abbrev pub OfDone : Type 1
 OfDone = ℕ → Dir → ℕ → List ℕ → List ℕ → Type 0
 
 abbrev pub OfTick : Type 1
 OfTick = ℕ → List ℕ → List ℕ → Type 0
 
--- a scheduler's policy: which requests a pick for a hardware queue may take, which it chooses, and what it keeps once it is told of a
+-- a scheduler's policy: which requests a pick for a hardware queue may take, which it chooses, and what it keeps once it hears of a
 -- completion and of a round
 pub record Policy : Type 1 where
   pub serves : ℕ → Waiting → Bool
@@ -22,7 +22,7 @@ pub record Policy : Type 1 where
   pub told_done : OfDone
   pub told_tick : OfTick
 
--- one that serves and chooses alone: what is kept stays when a completion or a round is told
+-- one that serves and chooses alone: what is kept stays when a completion or a round is reported
 abbrev pub choosing : (ℕ → Waiting → Bool) → Choice → Policy
 choosing serves chooses = record {
   serves = serves;

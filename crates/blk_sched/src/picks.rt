@@ -5,10 +5,11 @@ ghost use Rattle.std.specs.Prelude.{◌≡◌, ◌<◌, ◌+◌};
 ghost use Rattle.blk_sched.specs.Meaning.{no_picks, open_of, requeued_of, opened, after_requeue};
 
 use blk_bio::Dir;
+use edd_commands::MAX_DEPTH;
 use std::marker::Model;
 
 /// The most picks that may be open, as many as there are tags.
-pub const MAX_OPEN: u64 = 256;
+pub const MAX_OPEN: u64 = MAX_DEPTH;
 
 /// The most picks that may be requeued, as many as there are events.
 pub const MAX_REQUEUED: u64 = 1_000_000;
@@ -23,16 +24,11 @@ pub struct OpenPicks {
 }
 
 impl Model for OpenPicks {
-    ghost use Rattle.blk_sched.specs.Meaning.{OpenPicks as Counts};
+    ghost use Rattle.blk_sched.specs.Meaning.{OpenPicks as Counts, picks_of};
 
     ghost Value = { Counts };
 
-    ghost view = { λ p. record {
-      reads = p.reads;
-      writes = p.writes;
-      requeued_reads = p.requeued_reads;
-      requeued_writes = p.requeued_writes;
-    } };
+    ghost view = { λ p. picks_of p.reads p.writes p.requeued_reads p.requeued_writes };
 }
 
 impl OpenPicks {

@@ -9,13 +9,10 @@ ghost use Rattle.std.specs.Option.{option_copied};
 ghost use Rattle.blk_bio.specs.Requests.{IsWithin};
 ghost use Rattle.blk_soft.specs.Queues.{greatest_depth, most_bios, with_last, Queue, IsQueue};
 
-use blk_bio::{Limits, MAX_SOFT_DEPTH, Request};
+use blk_bio::{Limits, Request};
 use circular_buffer::HeapCircularBuffer;
 use std::alloc::{AllocError, Allocator, Global};
 use std::marker::Model;
-
-/// The greatest depth of a software queue, in requests.
-pub const MAX_DEPTH: u64 = MAX_SOFT_DEPTH;
 
 /// The most bios that a software queue takes in over its life: 2^40.
 pub const MAX_BIOS: u64 = 1 << 40;
@@ -41,7 +38,7 @@ impl<A: Allocator> Model for SoftQueue<A> {
 }
 
 impl<A: Allocator + Clone> SoftQueue<A> {
-    /// A queue of no requests with room for `depth`, 1 to [`MAX_DEPTH`]. Fails only when memory runs out.
+    /// A queue of no requests with room for `depth`, 1 to [`blk_bio::MAX_SOFT_DEPTH`]. Fails only when memory runs out.
     pub fn new(alloc: A, depth: u64, limits: Limits) -> Result<SoftQueue<A>, AllocError>
         requires { (1 ≤ depth) × (depth ≤ greatest_depth) }
         ensures { IfOk result (λ q. q ≡ record { depth = depth; limits = limits; requests = []; bios_in = 0; bios_out = 0 }) }
@@ -144,7 +141,7 @@ impl<A: Allocator + Clone> SoftQueue<A> {
         self.limits
     }
 
-    /// How many requests it has room for, 1 to [`MAX_DEPTH`].
+    /// How many requests it has room for, 1 to [`blk_bio::MAX_SOFT_DEPTH`].
     pub fn depth(&self) -> u64
         ensures value { result ≡ self.now.depth }
         ensures is_queue { IsQueue self.now }

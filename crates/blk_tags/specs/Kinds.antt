@@ -3,7 +3,7 @@ use Rattle.std.specs.Prelude.{ℕ, ◌≡◌, ◌<◌, ◌≤◌, List, [], ◌�
 use Rattle.atomic_table.specs.Table.{State}
 use Rattle.blk_tags.specs.Tags.{without}
 use Rattle.blk_tags.specs.Steps.{TagsAreHeldOnce, bit_of, IsSeatWith, set_in, cleared_in, with_seat, with_new_seat}
-use Rattle.blk_tags.specs.declared.TheConstants.{MAX_DEPTH}
+use Rattle.blk_tags.specs.declared.TheConstants.{MAX_TAG_DEPTH}
 
 -- where the tag rule holds before the step, it holds after it
 abbrev pub KeepsTheRule : ℕ → State ℕ (List ℕ) → State ℕ (List ℕ) → Type 0
@@ -19,7 +19,7 @@ JoinsASeat s after = (seat : ℕ) × IsSeatWith s.views seat [] × (after ≡ wi
 
 -- a seat of a set, the tags that it holds, and a tag below the set's depth
 pub record IsSeatAndTag (depth : ℕ) (views : List (List ℕ)) (seat tag : ℕ) (tags : List ℕ) : Type 0 where
-  pub few : depth ≤ MAX_DEPTH
+  pub few : depth ≤ MAX_TAG_DEPTH
   pub holds : IsSeatWith views seat tags
   pub below : tag < depth
 

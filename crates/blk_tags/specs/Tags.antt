@@ -1,7 +1,7 @@
 -- A set of tags and the seats at it, as their callers see them.
 use Rattle.std.specs.Prelude.{ℕ, ◌≡◌, ◌+◌, ◌≤◌, ◌<◌, ◌==◌, Bool, not, List, [], ◌∷◌, Option, IfSome, filter, length, if◌then◌else◌}
 use Rattle.atomic_table.specs.Seated.{TableId}
-use Rattle.blk_tags.specs.declared.TheConstants.{MAX_DEPTH}
+use Rattle.blk_tags.specs.declared.TheConstants.{MAX_TAG_DEPTH}
 
 -- a set of tags: what tells it from every other one, and how many tags it has, from 0 on
 pub record Set : Type 0 where
@@ -38,7 +38,7 @@ without t tags = filter (λ x. not (x == t)) tags
 -- a set has at least one tag, and at most the greatest number
 pub record IsSet (set : Set) : Type 0 where
   pub some : 1 ≤ set.depth
-  pub few : set.depth ≤ MAX_DEPTH
+  pub few : set.depth ≤ MAX_TAG_DEPTH
 
 -- a seat holds no tag twice, and each of its tags, like the one that it took last, is one of its set's
 pub record IsSeat (seat : Seat) : Type 0 where

@@ -20,12 +20,12 @@ use std::alloc::{AllocError, Allocator, Global};
 use std::marker::Model;
 
 /// The most tags of a set.
-pub const MAX_DEPTH: u64 = 256;
+pub const MAX_TAG_DEPTH: u64 = 256;
 
 /// Why a set is not made, in the order in which the reasons are looked for.
 #[derive(Clone, Copy, Debug, PartialEq, Eq)]
 pub enum TagFault {
-    /// The depth is 0 or above [`MAX_DEPTH`].
+    /// The depth is 0 or above [`MAX_TAG_DEPTH`].
     Depth,
     /// Memory ran out.
     Memory,
@@ -72,7 +72,7 @@ impl Join<Held> for Whole {
     ghost spent = { [] };
 }
 
-/// A set of 1 to [`MAX_DEPTH`] tags, numbered from 0. Threads share it by `&`.
+/// A set of 1 to [`MAX_TAG_DEPTH`] tags, numbered from 0. Threads share it by `&`.
 #[derive(Drop)]
 pub struct TagSet<A: Allocator = Global> {
     table: Table<u8, Held, u16, TagRule, A>,
@@ -111,14 +111,14 @@ impl<A: Allocator> Model for TagSeat<A> {
 }
 
 impl<A: Allocator + Clone> TagSet<A> {
-    /// A set of `depth` tags, 1 to [`MAX_DEPTH`], none of them taken, with its first seat. Refused as `Depth` where the depth
+    /// A set of `depth` tags, 1 to [`MAX_TAG_DEPTH`], none of them taken, with its first seat. Refused as `Depth` where the depth
     /// is out of its range, and then as `Memory` when memory runs out.
     pub fn new(alloc: A, depth: u64) -> Result<(TagSet<A>, TagSeat<A>), TagFault>
         ensures depth { IfOk result (λ p. p.0.depth ≡ depth) }
         ensures seat { IfOk result (λ p. p.1 ≡ record { of_set = p.0; tags = []; last = None }) }
-        ensures refused { (result ≡ Err TagFault.Depth) ↔ ((depth < 1) ⊎ (MAX_DEPTH < depth)) }
+        ensures refused { (result ≡ Err TagFault.Depth) ↔ ((depth < 1) ⊎ (MAX_TAG_DEPTH < depth)) }
     {
-        if depth < 1 || depth > MAX_DEPTH {
+        if depth < 1 || depth > MAX_TAG_DEPTH {
             return Err(TagFault::Depth);
         }
         let Ok(marks) = no_marks(&alloc, depth as usize) else {
@@ -285,7 +285,7 @@ impl<A: Allocator> TagSet<A> {
             .fetch_and::<Give>(seat, word_of(tag), !bit_of(tag));
     }
 
-    /// How many tags it has, 1 to [`MAX_DEPTH`].
+    /// How many tags it has, 1 to [`MAX_TAG_DEPTH`].
     pub fn depth(&self) -> u64
         ensures value { result ≡ self.now.depth }
         ensures is_set { IsSet self.now }

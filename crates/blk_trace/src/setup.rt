@@ -41,6 +41,7 @@ pub struct Setup {
 
 impl Model for Setup {
     ghost use Rattle.blk_trace.specs.Setups.{Setup as SetupFields, IsSetup, setup_of};
+    ghost use Rattle.blk_trace.specs.Inside.Stored.{stored_setup};
 
     ghost Value = { SetupFields };
 
@@ -48,7 +49,7 @@ impl Model for Setup {
 
     ghost invariant = { λ s. IsSetup (setup_of s.depth s.hw s.read_expire s.write_expire s.limits) };
 
-    ghost inverse = { λ v. record { depth = v.depth; hw = v.hw; read_expire = v.read_expire; write_expire = v.write_expire; limits = v.limits } };
+    ghost inverse = { stored_setup };
 }
 
 impl Setup {

@@ -7,7 +7,7 @@ use Rattle.blk_bio.specs.Extents.{extent_of}
 use Rattle.blk_bio.specs.Requests.{sectors_of}
 use Rattle.blk_sched.specs.Meaning.{Waiting}
 use Rattle.blk_index.specs.declared.merge_hash.Bucket.{Bucket}
-use Rattle.blk_index.specs.Inside.Spots.{Place, Spot, place_cmp, AreSpots}
+use Rattle.blk_index.specs.Inside.Spots.{DirSector, Spot, place_cmp, AreSpots}
 
 -- what is found then: at one id x, and elsewhere as before
 abbrev pub Becomes : (ℕ → Option Waiting) → ℕ → Option Waiting → (ℕ → Option Waiting) → Type 0
@@ -19,11 +19,11 @@ is_bucket None q = false
 is_bucket (Some h) q = nat_eq h.id q.1
 
 -- one spot of each place, and others
-abbrev pub spots_of : (Place → Option Bucket) → (Spot → Bool) → Spot → Bool
+abbrev pub spots_of : (DirSector → Option Bucket) → (Spot → Bool) → Spot → Bool
 spots_of buckets others q = cond (is_bucket (buckets q.0) q) true (others q)
 
 -- where there are others, one stands by itself
-abbrev pub HasBuckets : (Place → Option Bucket) → (Spot → Bool) → Type 0
+abbrev pub HasBuckets : (DirSector → Option Bucket) → (Spot → Bool) → Type 0
 HasBuckets buckets others = (q : Spot) → others q ≡ true → IsSome (buckets q.0)
 
 -- no request at a place has so few sectors and so few bios
@@ -32,8 +32,8 @@ HasNone None sectors bios = Unit {0}
 HasNone (Some h) sectors bios = (sectors < h.least) ⊎ (bios < h.fewest)
 
 -- a bucket is set at a place, or taken away
-abbrev pub Sets : (Place → Option Bucket) → Place → Option Bucket → (Place → Option Bucket) → Type 0
-Sets old p x new = (q : Place) → new q ≡ cond (eq_by_cmp place_cmp p q) x (old q)
+abbrev pub Sets : (DirSector → Option Bucket) → DirSector → Option Bucket → (DirSector → Option Bucket) → Type 0
+Sets old p x new = (q : DirSector) → new q ≡ cond (eq_by_cmp place_cmp p q) x (old q)
 
 -- what is said of the fewest sectors and bios is no more than these
 pub record AtMost (h : Bucket) (sectors bios : ℕ) : Type 0 where
@@ -41,16 +41,16 @@ pub record AtMost (h : Bucket) (sectors bios : ℕ) : Type 0 where
   pub bios_low : h.fewest ≤ bios
 
 -- what is said of the fewest holds for a request more, and for those before
-abbrev pub Lowers : (Place → Option Bucket) → Place → ℕ → ℕ → (Place → Option Bucket) → Type 0
+abbrev pub Lowers : (DirSector → Option Bucket) → DirSector → ℕ → ℕ → (DirSector → Option Bucket) → Type 0
 Lowers old p sectors bios new =
-    (s : Place) (h : Bucket) → new s ≡ Some h → (s ≡ p → AtMost h sectors bios) × ((g : Bucket) → old s ≡ Some g → AtMost h g.least g.fewest)
+    (s : DirSector) (h : Bucket) → new s ≡ Some h → (s ≡ p → AtMost h sectors bios) × ((g : Bucket) → old s ≡ Some g → AtMost h g.least g.fewest)
 
 -- what is said of the fewest was said before
-abbrev pub KeepsLeast : (Place → Option Bucket) → (Place → Option Bucket) → Type 0
-KeepsLeast old new = (s : Place) (h : Bucket) → new s ≡ Some h → (g : Bucket) × (old s ≡ Some g) × AtMost h g.least g.fewest
+abbrev pub KeepsLeast : (DirSector → Option Bucket) → (DirSector → Option Bucket) → Type 0
+KeepsLeast old new = (s : DirSector) (h : Bucket) → new s ≡ Some h → (g : Bucket) × (old s ≡ Some g) × AtMost h g.least g.fewest
 
 -- the spots are those of the requests at one side of them, and none of these has fewer sectors or bios than is said
-pub record IsEdge (at : Extent → Place) (found : ℕ → Option Waiting) (buckets : Place → Option Bucket) (others : Spot → Bool) : Type 0 where
+pub record IsEdge (at : Extent → DirSector) (found : ℕ → Option Waiting) (buckets : DirSector → Option Bucket) (others : Spot → Bool) : Type 0 where
   pub spots : AreSpots at found (spots_of buckets others)
   pub headed : HasBuckets buckets others
   pub least : (k : ℕ) (w : Waiting) (h : Bucket) → found k ≡ Some w → buckets (at (extent_of w.bios)) ≡ Some h → AtMost h (sectors_of w.bios) (length w.bios)

@@ -5,7 +5,7 @@ use Rattle.blk_bio.specs.declared.extent.Extent.{Extent}
 use Rattle.blk_bio.specs.Extents.{extent_of}
 use Rattle.blk_bio.specs.Requests.{sectors_of}
 use Rattle.blk_sched.specs.Meaning.{Waiting}
-use Rattle.blk_index.specs.Inside.Spots.{Place, Spot, spot_cmp, first_at, end_at}
+use Rattle.blk_index.specs.Inside.Spots.{DirSector, Spot, spot_cmp, first_at, end_at}
 use Rattle.blk_index.specs.Inside.Buckets.{Becomes, spots_of, HasBuckets, IsEdge}
 use Rattle.blk_index.specs.Inside.Tables.{table_in}
 use Rattle.blk_index.specs.declared.merge_hash.MergeHashes.{MergeHashes}
@@ -14,7 +14,7 @@ use Rattle.blk_index.specs.declared.merge_hash.MergeHash.{MergeHash}
 
 module _ {A : Type 0} where
   -- the spots that stand by themselves, and the others
-  abbrev pub buckets_in : MergeHash A → Place → Option Bucket
+  abbrev pub buckets_in : MergeHash A → DirSector → Option Bucket
   buckets_in s = table_in s.buckets
 
   abbrev pub others_in : MergeHash A → Spot → Bool

@@ -27,7 +27,7 @@ abbrev pub IsSlab : List (ℕ × ℕ) → (ℕ → Option Waiting) → Type 0
 IsSlab keys at =
     (id key : ℕ) → lookup (is_at (nat_cmp id)) keys ≡ Some key → (w : Waiting) × (at key ≡ Some w) × (w.id ≡ id)
 
--- and so many lie there as are found
+-- and as many lie there as are found
 abbrev pub CountsHeld : List (ℕ × ℕ) → Slab Waiting → Type 0
 CountsHeld keys s = slab_len s ≡ map.len (map.from_entries {R = nat_cmp} (held (slab.get s) keys))
 

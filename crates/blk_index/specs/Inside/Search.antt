@@ -7,7 +7,7 @@ use Rattle.blk_bio.specs.Bios.{Bio}
 use Rattle.blk_bio.specs.Limits.{Limits}
 use Rattle.blk_bio.specs.Requests.{Fits}
 use Rattle.blk_sched.specs.Meaning.{Waiting}
-use Rattle.blk_index.specs.Inside.Spots.{Place, first_at, end_at}
+use Rattle.blk_index.specs.Inside.Spots.{DirSector, first_at, end_at}
 
 -- each request has its id
 abbrev pub IsNamed : (ℕ → Option Waiting) → Type 0
@@ -26,11 +26,11 @@ abbrev pub FitsNoneBy : Limits → (ℕ → Option Waiting) → List Bio → Sid
 FitsNoneBy limits found newcomer side = (id : ℕ) (w : Waiting) → found id ≡ Some w → Fits limits w.bios newcomer side → ⊥
 
 -- where a request lies at a side, and where a newcomer that joins it there touches it
-abbrev pub at_of : Side → Extent → Place
+abbrev pub at_of : Side → Extent → DirSector
 at_of Back e = end_at e
 at_of Front e = first_at e
 
-abbrev pub touch_of : Side → Extent → Place
+abbrev pub touch_of : Side → Extent → DirSector
 touch_of Back e = first_at e
 touch_of Front e = end_at e
 

@@ -22,11 +22,11 @@ pub record IsExact {X : Type 0} (same : X → X → Bool) : Type 0 where
 unfoldable pub times : {X : Type 0} → (X → X → Bool) → X → List X → ℕ
 times same x xs = count_by (same x) xs
 
--- so many times each element stands in the list
+-- how many times each element stands in the list
 abbrev pub CountsEach : {X : Type 0} → (X → X → Bool) → (X → Option ℕ) → List X → Type 0
 CountsEach {X} same got xs = (x : X) → unwrap_or (got x) 0 ≡ times same x xs
 
--- so many times more each element stands in the other list
+-- by how many times more each element stands in the other list
 abbrev pub CountsMore : {X : Type 0} → (X → X → Bool) → (X → Option ℕ) → List X → List X → Type 0
 CountsMore {X} same got xs other = (x : X) → unwrap_or (got x) 0 + times same x xs ≡ times same x other
 

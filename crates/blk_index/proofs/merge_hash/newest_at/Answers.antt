@@ -1,7 +1,7 @@
 use Rattle.std.proofs.Common.{◌≡◌, true, false, refl, ap, sym, subst}
 use Rattle.std.specs.BTreeSet.{contains}
 use Rattle.std.specs.declared.cmp.Ordering.TheVariants.{Less}
-use Rattle.blk_index.specs.Inside.Spots.{Place, Spot, spot_cmp, upper_of}
+use Rattle.blk_index.specs.Inside.Spots.{DirSector, Spot, spot_cmp, upper_of}
 use Rattle.blk_index.proofs.Listed.{of_place, below_upper, bools_differ}
 use Rattle.blk_index.proofs.merge_hash.newest_at.Goals as goal
 use Rattle.blk_index.proofs.merge_hash.newest_at.Goals.{then-write-place-via-then-write-place, then-write-place-via-else-write-place+then-sector-place}
@@ -15,8 +15,8 @@ returns-then-write-place-clause-none g c = λ k low.
           let same = of_place e c.args.place c.args.below k under
           (c.in_ok-write.ensures.greatest (c.args.place, k) (subst (λ (u : Spot). spot_cmp (c.args.place, k) u ≡ Less) (sym c.upper_of.ensures) (below_upper c.args.place c.args.below k low)) there) in
           elim c.then-write-place.branch [
-            | then-write-place-via-then-write-place w ↦ absurd (bools_differ c.in_ok-write.write c.args.place.0 w.if-write-place.true (ap (λ (p : Place). p.0) same))
-            | then-write-place-via-else-write-place+then-sector-place w ↦ absurd (w.if-sector-place.true (ap (λ (p : Place). p.1) same))
+            | then-write-place-via-then-write-place w ↦ absurd (bools_differ c.in_ok-write.write c.args.place.0 w.if-write-place.true (ap (λ (p : DirSector). p.0) same))
+            | then-write-place-via-else-write-place+then-sector-place w ↦ absurd (w.if-sector-place.true (ap (λ (p : DirSector). p.1) same))
           ]
       | false ↦ λ _. refl
     ] refl

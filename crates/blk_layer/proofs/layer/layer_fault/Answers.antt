@@ -4,7 +4,7 @@ use Rattle.blk_hw.specs.Maps.{IsHwCount}
 use Rattle.blk_layer.specs.declared.layer.TheConstants.{MAX_WORKERS}
 use Rattle.blk_layer.proofs.Counted.{one_count}
 use Rattle.blk_layer.proofs.layer.layer_fault.Goals as goal
-use Rattle.blk_layer.proofs.layer.layer_fault.Goals.{then-soft_depth-eq0-via-then-soft_depth-eq0, then-soft_depth-eq0-via-else-soft_depth-eq0+then-soft_depth-gt-MAX_DEPTH, then-is_empty-via-then-is_empty, then-is_empty-via-else-is_empty+then-worker_queues-gt-MAX_WORKERS}
+use Rattle.blk_layer.proofs.layer.layer_fault.Goals.{then-soft_depth-eq0-via-then-soft_depth-eq0, then-soft_depth-eq0-via-else-soft_depth-eq0+then-soft_depth-gt-MAX_SOFT_DEPTH, then-is_empty-via-then-is_empty, then-is_empty-via-else-is_empty+then-worker_queues-gt-MAX_WORKERS}
 
 pub returns-then-hw_count-hw-clause-some : goal.returns-then-hw_count-hw-clause-some
 returns-then-hw_count-hw-clause-some g c = λ (named : IsHwCount c.args.map.now c.args.hw).
@@ -16,7 +16,7 @@ returns-then-soft_depth-eq0-clause-some g c =
     let same : c.hw_count.result ≡ c.args.hw = search rules in
     let outside : (c.args.soft_depth ≡ 0) ⊎ (greatest_depth < c.args.soft_depth) = elim c.then-soft_depth-eq0.branch [
       | then-soft_depth-eq0-via-then-soft_depth-eq0 w ↦ inl (search rules)
-      | then-soft_depth-eq0-via-else-soft_depth-eq0+then-soft_depth-gt-MAX_DEPTH w ↦ inr (omega arith)
+      | then-soft_depth-eq0-via-else-soft_depth-eq0+then-soft_depth-gt-MAX_SOFT_DEPTH w ↦ inr (omega arith)
     ] in
     (subst (IsHwCount c.args.map.now) same c.hw_count.ensures.value, outside)
 

@@ -3,7 +3,7 @@ use Rattle.std.specs.Prelude.{slice_get, Some}
 use Rattle.std.proofs.lemmas.Option.{slice_get_read, get_or_from_slice_get}
 use Rattle.blk_bio.specs.Requests.{Fits}
 use Rattle.blk_sched.specs.Meaning.{Waiting}
-use Rattle.blk_lifo.specs.Stacks.{FitsNoneOf, IsNewest, IsNewestOf}
+use Rattle.blk_lifo.specs.Inside.Stacks.{FitsNoneOf, IsNewest, IsNewestOf}
 use Rattle.blk_lifo.proofs.Stack.{older, newest_now}
 use Rattle.blk_lifo.proofs.lifo.newer.Goals as goal
 

@@ -1,4 +1,4 @@
-use Rattle.blk_lifo.specs.Stacks.{IsNewestOf}
+use Rattle.blk_lifo.specs.Inside.Stacks.{IsNewestOf}
 use Rattle.blk_lifo.proofs.lifo.newest_fit.Given as goal
 
 abbrev pub invariant-loop-place : goal.invariant-loop-place

@@ -1,7 +1,7 @@
 use Rattle.std.proofs.Common.{refl, ap, ◌∙◌, Some, None, Option}
 use Rattle.std.specs.BTreeSet.{contains}
 use Rattle.blk_index.specs.declared.merge_hash.Bucket.{Bucket}
-use Rattle.blk_index.specs.Inside.Spots.{Place, spot_cmp}
+use Rattle.blk_index.specs.Inside.Spots.{DirSector, spot_cmp}
 use Rattle.blk_index.specs.Inside.Edges.{buckets_in, others_in}
 use Rattle.blk_index.specs.Inside.Tables.{table_in}
 use Rattle.blk_index.proofs.Spotted.{bucket_takes, bucket_buckets, bucket_keeps, follows_other, itself_most}
@@ -17,7 +17,7 @@ returns-in-Some-spot_on-clause-takes g c =
 pub returns-in-None-clause-buckets : goal.returns-in-None-clause-buckets
 returns-in-None-clause-buckets g c =
     bucket_buckets (buckets_in c.args.self.now) (others_in c.args.self.now) (contains spot_cmp c.take.new.spots) c.args.spot c.take.ensures (table_in c.remove.new.self) c.in-Some.bucket None c.in-Some.ensures.some c.in-Some.ensures.at c.remove.ensures
-    (λ q at. refl) (λ q at. ap (λ (p : Place). contains spot_cmp c.take.new.spots (p, q.1)) at ∙ c.in-None.ensures.none q.1) tt
+    (λ q at. refl) (λ q at. ap (λ (p : DirSector). contains spot_cmp c.take.new.spots (p, q.1)) at ∙ c.in-None.ensures.none q.1) tt
 
 pub returns-in-Some-spot_on-clause-least : goal.returns-in-Some-spot_on-clause-least
 returns-in-Some-spot_on-clause-least g c =

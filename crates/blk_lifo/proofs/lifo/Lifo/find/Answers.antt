@@ -1,6 +1,6 @@
 use Rattle.std.proofs.Common.{subst, length, List}
 use Rattle.blk_sched.specs.Meaning.{Waiting}
-use Rattle.blk_lifo.specs.Stacks.{IsNewest, IsFitAt}
+use Rattle.blk_lifo.specs.Inside.Stacks.{IsNewest, IsFitAt}
 use Rattle.blk_lifo.proofs.Stack.{candidate_of, no_candidate}
 use Rattle.blk_lifo.proofs.lifo.Lifo.find.Goals as goal
 
