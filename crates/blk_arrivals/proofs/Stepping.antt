@@ -13,7 +13,8 @@ use Rattle.blk_text.specs.declared.script.Line.{Line}
 use Rattle.blk_text.specs.declared.script.Line.TheVariants as line
 use Rattle.blk_text.specs.declared.script.TheConstants.{MAX_RUN, MAX_STEPS}
 use Rattle.blk_arrivals.specs.Coming.{way_of, key_of, round_of_time, ComeInTime}
-use Rattle.blk_arrivals.specs.Deeds.{IsDeed, comes_from, record_deed, deed_by, deed_of, submitter_number}
+use Rattle.blk_arrivals.specs.Deeds.{comes_from, record_deed, deed_by, deed_of, submitter_number}
+use Rattle.blk_arrivals.specs.Inside.Deeds.{IsDeed}
 use Rattle.blk_arrivals.specs.Plugs.{Plugs, no_plugs, flush_of, flushes, out_of, ending_of, plugs_in, is_later, room_for, held_with, bio_of, arrival_of, plugs_with, out_if, unplugging_of, plugs_without, steps_by, plugs_by, last_steps, steps_from}
 use Rattle.blk_arrivals.specs.declared.coming.ToldBy.{ToldBy}
 use Rattle.blk_arrivals.specs.declared.deeds.Deed.{Deed}

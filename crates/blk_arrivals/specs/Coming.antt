@@ -1,5 +1,5 @@
 -- Which records of a capture are bios that come in, in which round, and from whom.
-use Rattle.std.specs.Prelude.{ℕ, ◌≡◌, ◌≤◌, ◌<◌, ◌==◌, ◌-◌, ◌/◌, ◌++◌, List, [], ◌∷◌, length, Option, None, Some, IfSome, cond, nat_le, All}
+use Rattle.std.specs.Prelude.{ℕ, ◌≤◌, ◌==◌, ◌-◌, ◌/◌, ◌++◌, List, [], ◌∷◌, length, Option, None, Some, IfSome, cond, nat_le, All}
 use Rattle.std.specs.List.{list_any}
 use Rattle.blk_bio.specs.declared.bio.Dir.{Dir}
 use Rattle.blk_bio.specs.declared.limits.TheConstants.{MAX_SOFT_QUEUES}
@@ -11,7 +11,6 @@ use Rattle.blk_capture.specs.declared.record.Record.{Record}
 use Rattle.blk_text.specs.declared.script.TheConstants.{MAX_RUN}
 use Rattle.blk_arrivals.specs.declared.coming.ToldBy.{ToldBy}
 use Rattle.blk_arrivals.specs.declared.coming.ToldBy.TheVariants as by
-use Rattle.blk_arrivals.specs.declared.coming.Submitters.{Submitters}
 
 -- only where it is not passed over
 abbrev pub unless_passed : Option PassReason → Option Dir → Option Dir
@@ -62,14 +61,6 @@ keys_of told records = keys_after told [] records
 abbrev pub AreFewSubmitters : List ℕ → Type 0
 AreFewSubmitters keys = length keys ≤ MAX_SOFT_QUEUES
 
--- more than there may be submitters
-abbrev pub AreMany : List ℕ → Type 0
-AreMany keys = MAX_SOFT_QUEUES < length keys
-
--- the keys of all bios that come in, no more than there may be submitters
-abbrev pub AreKeys : ToldBy → List Record → List ℕ → Type 0
-AreKeys told records keys = (keys ≡ keys_of told records) × AreFewSubmitters keys
-
 -- by their processes, where these are few enough, else by the processors
 abbrev pub told_by : List Record → ToldBy
 told_by records = cond (nat_le (length (keys_of by.Process records)) MAX_SOFT_QUEUES) by.Process by.Processor
@@ -77,7 +68,3 @@ told_by records = cond (nat_le (length (keys_of by.Process records)) MAX_SOFT_QU
 -- the keys of the submitters, who are numbered from 0 on by their places here
 abbrev pub submitters_of : List Record → List ℕ
 submitters_of records = keys_of (told_by records) records
-
--- by what the submitters of a capture are told apart, and their keys, no more than there may be submitters
-abbrev pub AreSubmitters : List Record → Submitters → Type 0
-AreSubmitters records s = (s.told ≡ told_by records) × (s.keys.items ≡ submitters_of records) × AreFewSubmitters (submitters_of records)

@@ -1,7 +1,6 @@
 -- What a record of a capture does to the plugs of the submitters.
-use Rattle.std.specs.Prelude.{ℕ, ◌≤◌, ◌<◌, ◌+◌, ◌==◌, List, length, Option, None, Some}
+use Rattle.std.specs.Prelude.{ℕ, ◌==◌, List, length, Option, None, Some}
 use Rattle.std.specs.List.{position}
-use Rattle.blk_bio.specs.Bios.{sector_limit}
 use Rattle.blk_bio.specs.declared.bio.Dir.{Dir}
 use Rattle.blk_capture.specs.declared.record.Action.{Action}
 use Rattle.blk_capture.specs.declared.record.Action.TheVariants as action
@@ -32,9 +31,3 @@ deed_by (Some s) action way = record_deed s action way
 -- what a record does, of submitters with these keys
 abbrev pub deed_of : ToldBy → List ℕ → Record → Deed
 deed_of told keys r = deed_by (submitter_number keys (key_of told r)) r.action (way_of r)
-
--- it is of one of so many submitters, and a bio that comes in by a record has a range of sectors
-abbrev pub IsDeed : ℕ → Record → Deed → Type 0
-IsDeed count r (deed.Comes s way) = (s < count) × (0 < r.sectors) × (r.first + r.sectors ≤ sector_limit)
-IsDeed count r (deed.Unplugs s) = s < count
-IsDeed count r deed.Nothing = Unit {0}

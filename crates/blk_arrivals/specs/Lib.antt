@@ -5,3 +5,4 @@ pub mod Scripts
 pub mod Brought
 pub mod Names
 pub mod Staged
+pub mod Inside

@@ -1,21 +1,17 @@
 -- The steps that the records of a capture come to, one record after another.
-use Rattle.std.specs.Prelude.{ℕ, ◌≡◌, ◌<◌, ◌+◌, ◌-◌, ◌==◌, ◌++◌, List, [], ◌∷◌, length, Bool, true, false, cond, nat_lt, slice_index, slice_set}
+use Rattle.std.specs.Prelude.{ℕ, ◌+◌, ◌-◌, ◌==◌, ◌++◌, List, [], ◌∷◌, length, Bool, true, false, cond, nat_lt, slice_index, slice_set}
 use Rattle.std.proofs.Math.ListN.{replicate}
 use Rattle.blk_bio.specs.Bios.{Bio}
 use Rattle.blk_bio.specs.declared.bio.Dir.{Dir}
 use Rattle.blk_capture.specs.declared.record.Record.{Record}
 use Rattle.blk_text.specs.declared.script.Line.{Line}
 use Rattle.blk_text.specs.declared.script.Line.TheVariants as line
-use Rattle.blk_text.specs.declared.script.TheConstants.{MAX_STEPS}
 use Rattle.blk_arrivals.specs.Coming.{begin_of, round_of_time}
 use Rattle.blk_arrivals.specs.Deeds.{deed_of}
 use Rattle.blk_arrivals.specs.declared.coming.ToldBy.{ToldBy}
 use Rattle.blk_arrivals.specs.declared.deeds.Deed.{Deed}
 use Rattle.blk_arrivals.specs.declared.deeds.Deed.TheVariants as deed
-use Rattle.blk_arrivals.specs.declared.going.Going.{Going}
 use Rattle.blk_arrivals.specs.declared.going.TheConstants.{PLUGGED}
-use Rattle.blk_arrivals.specs.declared.terms.ArrivalsFault.{ArrivalsFault}
-use Rattle.blk_arrivals.specs.declared.terms.ArrivalsFault.TheVariants as fault
 
 -- the round that it is, how many bios came in, and how many stand in the plug of each submitter
 pub record Plugs : Type 0 where
@@ -23,10 +19,7 @@ pub record Plugs : Type 0 where
   pub bios : ℕ
   pub held : List ℕ
 
-abbrev pub plugs_of : Going → Plugs
-plugs_of g = record { now = g.now; bios = g.bios; held = g.held.items }
-
--- round 0, and nothing in the plugs of so many submitters
+-- round 0, and nothing in the plug of any submitter
 abbrev pub no_plugs : ℕ → Plugs
 no_plugs count = record { now = 0; bios = 0; held = replicate count 0 }
 
@@ -124,7 +117,3 @@ steps_from begin span told keys p (r ∷ records) =
 -- the steps of all records of a capture, from round 0 on and with empty plugs
 abbrev pub all_steps : ℕ → ToldBy → List ℕ → List Record → List Line
 all_steps span told keys records = steps_from (begin_of records) span told keys (no_plugs (length keys)) records
-
--- the fault of steps that are more than a script may have
-abbrev pub IsTooLong : List Line → ArrivalsFault → Type 0
-IsTooLong lines f = (f ≡ fault.TooLong) × (MAX_STEPS < length lines)

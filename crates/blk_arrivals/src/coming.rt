@@ -3,7 +3,8 @@
 ghost use Rattle.std.specs.Prelude.{◌≡◌, ◌<◌, ◌≤◌, ◌+◌, ◌↔◌, None, IsTrue, IfOk, IfSome, MatchOption, OnOk};
 ghost use Rattle.blk_bio.specs.Bios.{sector_limit};
 ghost use Rattle.blk_capture.specs.Passing.{passed_range};
-ghost use Rattle.blk_arrivals.specs.Coming.{way_of, begin_of, round_of_time, AreFewSubmitters, AreMany, AreKeys, AreSubmitters, ComeInTime, key_of, keys_of, submitters_of, with_key};
+ghost use Rattle.blk_arrivals.specs.Coming.{way_of, begin_of, round_of_time, AreFewSubmitters, ComeInTime, key_of, keys_of, submitters_of, with_key};
+ghost use Rattle.blk_arrivals.specs.Inside.Coming.{AreMany, AreKeys, AreSubmitters};
 
 use blk_bio::{Dir, MAX_END, MAX_SOFT_QUEUES};
 use blk_capture::{Action, Record};

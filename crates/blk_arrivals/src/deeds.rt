@@ -1,7 +1,8 @@
 //! What a record of a capture does to the plugs of the submitters.
 
 ghost use Rattle.std.specs.Prelude.{◌≡◌, ◌<◌, IfSome, length};
-ghost use Rattle.blk_arrivals.specs.Deeds.{IsDeed, deed_of, submitter_number};
+ghost use Rattle.blk_arrivals.specs.Deeds.{deed_of, submitter_number};
+ghost use Rattle.blk_arrivals.specs.Inside.Deeds.{IsDeed};
 
 use crate::coming::{ToldBy, way_of};
 use blk_bio::Dir;

@@ -6,19 +6,21 @@ ghost use Rattle.blk_bio.specs.Bios.{sector_limit};
 ghost use Rattle.blk_bio.specs.declared.limits.TheConstants.{MAX_SOFT_QUEUES as MOST};
 ghost use Rattle.blk_text.specs.Script.{LineFits};
 ghost use Rattle.blk_arrivals.specs.Coming.{begin_of, AreFewSubmitters, ComeInTime};
-ghost use Rattle.blk_arrivals.specs.Deeds.{IsDeed};
-ghost use Rattle.blk_arrivals.specs.Plugs.{plugs_of, no_plugs, flush_of, flushes, out_of, out_if, turning, turned, room_for, held_with, bio_of, arrival_of, plugs_with, unplugging, unplugged, steps_by, plugs_by, last_steps, all_steps, IsTooLong};
+ghost use Rattle.blk_arrivals.specs.Inside.Deeds.{IsDeed};
+ghost use Rattle.blk_arrivals.specs.Plugs.{no_plugs, flush_of, flushes, out_of, out_if, turning, turned, room_for, held_with, bio_of, arrival_of, plugs_with, unplugging, unplugged, steps_by, plugs_by, last_steps, all_steps};
+ghost use Rattle.blk_arrivals.specs.Inside.Plugs.{plugs_of, IsTooLong};
 
 use crate::coming::{ToldBy, begin_of, round_of_time};
 use crate::deeds::{Deed, deed_of};
 use crate::terms::ArrivalsFault;
 use blk_bio::{Bio, BioId, Dir};
 use blk_capture::Record;
+use blk_plug::MAX_STAGED;
 use blk_text::{Line, MAX_STEPS};
 use std::alloc::{AllocError, Global};
 
-/// As many requests as a plug holds: `BLK_MAX_REQUEST_COUNT` of Linux.
-pub(crate) const PLUGGED: u64 = 32;
+/// As many requests as a plug holds.
+pub(crate) const PLUGGED: u64 = MAX_STAGED as u64;
 
 /// The steps so far, the round that it is, how many bios came in, and how many stand in the plug of each submitter.
 #[derive(Drop)]
@@ -29,7 +31,7 @@ pub(crate) struct Going {
     held: Vec<u64>,
 }
 
-/// So many empty plugs.
+/// Empty plugs, in this number.
 fn empty_plugs(alloc: Global, count: usize) -> Result<Vec<u64>, AllocError>
     ensures { IfOk result (λ held. held.items ≡ replicate count 0) }
 {
@@ -128,7 +130,7 @@ fn bio_of(submitter: usize, number: u64, way: Dir, record: &Record) -> Bio
 }
 
 impl Going {
-    /// In round 0, with so many empty plugs.
+    /// In round 0, with an empty plug for each submitter.
     fn new(alloc: Global, count: usize) -> Result<Going, AllocError>
         ensures lines { IfOk result (λ going. going.lines.items ≡ []) }
         ensures plugs { IfOk result (λ going. plugs_of going ≡ no_plugs count) }

@@ -11,7 +11,7 @@ ghost use Rattle.blk_arrivals.specs.Staged.{KeepPlugs, no_bios};
 
 use crate::coming::{begin_of, come_in_time, submitters_of};
 use crate::going::steps_of;
-use crate::terms::{ArrivalsFault, SOFT_DEPTH, Terms, script_setup};
+use crate::terms::{ArrivalsFault, Terms, USUAL_SOFT_DEPTH, script_setup};
 use blk_capture::Record;
 use blk_text::Script;
 use std::alloc::Global;
@@ -58,7 +58,7 @@ pub fn script_of(alloc: Global, records: &[Record], terms: &Terms) -> Result<Scr
     ) {
         Ok(lines) => Ok(Script {
             setup,
-            soft_depth: SOFT_DEPTH,
+            soft_depth: USUAL_SOFT_DEPTH,
             submitters,
             lines,
         }),

@@ -4,22 +4,25 @@ ghost use Rattle.std.specs.Prelude.{◌≡◌, ◌<◌, IfOk, IfErr};
 ghost use Rattle.faults.specs.Order.{IsFirstFault};
 ghost use Rattle.blk_trace.specs.Setups.{IsSetup};
 ghost use Rattle.blk_arrivals.specs.Names.{fault_name};
-ghost use Rattle.blk_arrivals.specs.Scripts.{usual_limits, expiry_rounds, script_setup, term_rules};
+ghost use Rattle.blk_arrivals.specs.Scripts.{usual_limits, expiry_rounds, script_setup};
+ghost use Rattle.blk_arrivals.specs.Inside.Scripts.{term_rules};
 
-use blk_bio::Limits;
+use crate::going::PLUGGED;
+use blk_bio::{Limits, MAX_SEGMENTS};
+use blk_text::MAX_DEPTH_1;
 use blk_trace::{Setup, SetupFault};
 
 /// The depth where none is asked for: the most tags of a version 1 script.
-pub const DEPTH: u64 = 64;
+pub const USUAL_DEPTH: u64 = MAX_DEPTH_1;
 
 /// The most sectors of a request of several bios: Linux's default `max_sectors_kb` of 1,280.
-pub const SECTORS: u64 = 2_560;
+pub const USUAL_SECTORS: u64 = 2_560;
 
 /// The most bios of a request: Linux's default of segments.
-pub const SEGMENTS: u64 = 128;
+pub const USUAL_SEGMENTS: u64 = MAX_SEGMENTS;
 
 /// How many requests a software queue has room for: as many as two full plugs.
-pub const SOFT_DEPTH: u64 = 64;
+pub const USUAL_SOFT_DEPTH: u64 = 2 * PLUGGED;
 
 /// How a capture becomes a script.
 #[derive(Clone, Copy, Debug, PartialEq, Eq)]
@@ -45,7 +48,7 @@ pub enum ArrivalsFault {
     Expire,
     /// There are more than [`blk_bio::MAX_SOFT_QUEUES`] submitters, by their processes and by the processors too.
     TooMany,
-    /// A bio comes in after round [`blk_text::MAX_RUN`]: a trace has no room for so many ticks.
+    /// A bio comes in after round [`blk_text::MAX_RUN`]: a trace has no room for that many ticks.
     TraceFull,
     /// There are more than [`blk_text::MAX_STEPS`] steps.
     TooLong,
@@ -74,7 +77,7 @@ impl ArrivalsFault {
 fn usual_limits() -> Limits
     ensures { result ≡ usual_limits }
 {
-    match Limits::new(SECTORS, SEGMENTS) {
+    match Limits::new(USUAL_SECTORS, USUAL_SEGMENTS) {
         Ok(limits) => limits,
         Err(_) => unreachable!(),
     }

@@ -9,12 +9,9 @@ ghost use Rattle.blk_text.specs.Versions.{latest};
 ghost use Rattle.blk_text.specs.StepRecords.{step_row};
 
 use blk_text::script::SCRIPT;
-use blk_text::{Line, Script, push_setup, push_step};
+use blk_text::{LATEST, Line, Script, push_setup, push_step};
 use drafts::Block;
 use std::alloc::{AllocError, Global};
-
-/// The version in which scripts are written, the latest.
-const VERSION: u64 = 2;
 
 /// Adds the records of steps.
 fn push_lines(draft: &mut Block, lines: &[Line]) -> Result<(), AllocError>
@@ -36,7 +33,7 @@ pub fn script_text(alloc: Global, script: &Script) -> Result<Vec<u8>, AllocError
     let mut draft = Block::new(alloc);
     let setup = script.setup;
     let title = [
-        VERSION,
+        LATEST,
         setup.depth(),
         setup.hw() as u64,
         script.soft_depth,

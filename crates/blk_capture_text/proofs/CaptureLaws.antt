@@ -25,7 +25,7 @@ use Rattle.blk_lists.proofs.Reading.{MadeOf, Fitting, made_more, fit_next, items
 use Rattle.blk_lists.proofs.Texts.{text_back}
 use Rattle.blk_capture_text.specs.Steps.{time_at, record_at, IsStep, StepLacks}
 use Rattle.blk_capture_text.specs.Captures.{title_cells, capture_title_part, last_time, record_after, steps_body, capture_form, capture_rows, AreCapture, SpellsCapture, CaptureTextFault}
-use Rattle.blk_capture_text.specs.Taking.{HasSteps, AreTaken}
+use Rattle.blk_capture_text.specs.Inside.Taking.{HasSteps, AreTaken}
 use Rattle.blk_capture_text.specs.declared.reading.StepsRead.{StepsRead}
 use Rattle.blk_capture_text.specs.declared.reading.TheConstants.{MAX_RECORDS}
 use Rattle.blk_capture_text.proofs.StepLaws.{step_tells, step_decided}

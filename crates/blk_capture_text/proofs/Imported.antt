@@ -19,7 +19,7 @@ use Rattle.blk_capture.specs.declared.record.Record.{Record}
 use Rattle.blk_capture.specs.declared.counting.TimedRequest.{TimedRequest}
 use Rattle.blk_capture.specs.declared.requests.CapturedRequest.{CapturedRequest}
 use Rattle.blk_lists.specs.Commands.{IsCommandInRange}
-use Rattle.blk_lists.specs.Schedule.{AreDistinct, IsRan}
+use Rattle.blk_lists.specs.Schedule.{AreDistinct, IsScheduleView}
 
 abbrev none_served : TimedRequest
 none_served = record { entry = 0; deadline = 0; dispatch = 0 }
@@ -36,7 +36,7 @@ ids_differ served commands rounds c j k d lt top same =
     omega (arith, here, there, same, lt)
 
 pub may_be_written : (requests : List CapturedRequest) (commands : List Command) (rounds : List ℕ) → length requests ≤ most_commands → AreInRounds (map times_of requests) commands rounds → AreSolvable commands → RoundsInRange rounds
-    → IsRan (record { depth = 1; commands = commands; rounds = rounds })
+    → IsScheduleView (record { depth = 1; commands = commands; rounds = rounds })
 may_be_written requests commands rounds few c solvable within =
     let each = c.a_command in
     let round = c.a_round in
@@ -59,7 +59,7 @@ may_be_written requests commands rounds few c solvable within =
         let due = both.1 in
         (omega (arith, id, l, few, each, long), omega (arith, release), omega (arith, due))
 
--- no more records are told of than there are
+-- no more records are counted than there are
 
 one_more : (b : Bool) (n m : ℕ) → n ≤ m → cond b (suc n) n ≤ suc m
 one_more true n m l = omega (arith, l)

@@ -1,8 +1,7 @@
 -- The laws of a record of a capture.
 use Rattle.std.proofs.Common.{◌≡◌, ◌-◌, ◌<◌, ◌≤◌, ◌^◌, ◌∙◌, ℕ, zero, suc, List, [], ◌∷◌, length, get_or, refl, sym, ap, inl, inr, arith}
 use Rattle.std.specs.Prelude.{◌⊎◌}
-use Rattle.std.specs.Char.{digit_value}
-use Rattle.std.specs.Str.Parse.{AllDigits, digits_value}
+use Rattle.std.specs.Str.Parse.{digits_value}
 use Rattle.std.proofs.lemmas.Fmt.{decimal_injective, digits_value-decimal}
 use Rattle.blk_capture.specs.Passing.{action_by, op_by}
 use Rattle.blk_capture.specs.declared.record.Action.{Action}
@@ -13,9 +12,9 @@ use Rattle.blk_lists.specs.declared.fault.Why.{Why}
 use Rattle.blk_lists.specs.declared.fault.Why.TheVariants as why
 use Rattle.blk_lists.specs.declared.fields.Slot.TheVariants as slot
 use Rattle.blk_lists.proofs.Decimals.{own}
-use Rattle.blk_lists.proofs.Lacking.{Dec, both, same_as, at_most, same_number, goods_all, goods_or_lacks, first_once}
+use Rattle.blk_lists.proofs.Lacking.{at_most, goods_all, goods_or_lacks, first_once}
 use Rattle.parts.specs.Inside.Laws.{TellsRecord}
-use Rattle.blk_capture_text.specs.Steps.{IsNanoseconds, number_at, time_at, record_at, IsStep, step_cell_rules, StepLacks}
+use Rattle.blk_capture_text.specs.Steps.{number_at, time_at, record_at, IsStep, step_cell_rules, StepLacks}
 use Rattle.blk_capture_text.specs.declared.step.TheConstants.{STEP}
 
 -- no field has to be empty or a direction
@@ -44,28 +43,18 @@ each_direction cells (suc (suc (suc (suc (suc (suc (suc (suc k)))))))) l = absur
 
 -- what a record lacks of its slots
 
-pub lack_is : (last : ℕ) (cells : Row) (w : Why) → Lacks STEP cells w → (w ≡ why.Range → IsNanoseconds (get_or cells 1 [])) → StepLacks last cells w
-lack_is last cells w bad nine = elim bad [
+pub lack_is : (last : ℕ) (cells : Row) (w : Why) → Lacks STEP cells w → StepLacks last cells w
+lack_is last cells w bad = elim bad [
   | inl f ↦ inl (f.0, λ l. f.1 (l, each_blank cells))
   | inr p ↦ elim p.1 [
     | inl f ↦ absurd (f.1 (each_direction cells))
     | inr q ↦ elim q.1 [
-      | inl f ↦ inr (p.0.0, inl (f.0, λ n. f.1 n.0))
+      | inl f ↦ inr (p.0.0, inl (f.0, f.1))
       | inr r ↦ elim r.1 [
-        | inl f ↦ inr (p.0.0, inr ((r.0, nine f.0), inl (f.0, f.1)))
+        | inl f ↦ inr (p.0.0, inr (r.0, inl (f.0, f.1)))
         | inr s ↦ absurd s.1
       ]
     ]
-  ]
-]
-
--- where its nanoseconds are none
-pub lack_nine : (last : ℕ) (cells : Row) (w : Why) → Lacks STEP cells w → ¬ IsNanoseconds (get_or cells 1 []) → (v : Why) × (((w ≡ why.Range) → (v ≡ why.Number)) × StepLacks last cells v)
-lack_nine last cells w bad none = elim bad [
-  | inl f ↦ (why.Fields, (λ e. (let same : why.Fields ≡ why.Range = sym f.0 ∙ e in cc same), inl (refl, λ l. f.1 (l, each_blank cells))))
-  | inr p ↦ elim p.1 [
-    | inl f ↦ absurd (f.1 (each_direction cells))
-    | inr q ↦ (why.Number, (λ e. refl, inr (p.0.0, inl (refl, λ n. none n.1))))
   ]
 ]
 
@@ -84,7 +73,7 @@ spelled_value least most n f m h = let high = h.3.1 in ap (digits_value 10) h.2 
 
 any_good : (cells : Row) (ns : List ℕ) → FieldsSpell STEP cells ns → (k : ℕ) → k < 8 → IsNumber (get_or STEP k slot.Given) (get_or cells k []) × IsInRange (get_or STEP k slot.Given) (get_or cells k [])
 any_good cells ns s zero l = spelled_good 0 (2 ^ 34 - 1) (get_or ns 0 0) (get_or cells 0 []) (omega arith) (s.1 0 (omega arith))
-any_good cells ns s (suc zero) l = (tt, tt)
+any_good cells ns s (suc zero) l = ((s.1 1 (omega arith)).2.0, tt)
 any_good cells ns s (suc (suc zero)) l = spelled_good 0 (2 ^ 64 - 1) (get_or ns 2 0) (get_or cells 2 []) (omega arith) (s.1 2 (omega arith))
 any_good cells ns s (suc (suc (suc zero))) l = (tt, tt)
 any_good cells ns s (suc (suc (suc (suc zero)))) l = spelled_good 0 (2 ^ 64 - 1) (get_or ns 4 0) (get_or cells 4 []) (omega arith) (s.1 4 (omega arith))
@@ -96,16 +85,19 @@ any_good cells ns s (suc (suc (suc (suc (suc (suc (suc (suc k)))))))) l = absurd
 pub spelled_numbers : (cells : Row) (ns : List ℕ) → FieldsSpell STEP cells ns → EachField IsNumber STEP cells
 spelled_numbers cells ns s k l = (any_good cells ns s k (omega (arith, l))).0
 
-pub spelled_step : (last : ℕ) (cells : Row) (ns : List ℕ) → FieldsSpell STEP cells ns → IsNanoseconds (get_or cells 1 []) → last ≤ time_at cells → IsStep last cells
-spelled_step last cells ns s nine order = record {
+pub spelled_step : (last : ℕ) (cells : Row) (ns : List ℕ) → FieldsSpell STEP cells ns → last ≤ time_at cells → IsStep last cells
+spelled_step last cells ns s order = record {
   width = s.0;
-  numbers = (spelled_numbers cells ns s, nine);
+  numbers = spelled_numbers cells ns s;
   ranges = λ k l. (any_good cells ns s k (omega (arith, l))).1;
   order = order;
 }
 
 pub seconds_is : (cells : Row) (ns : List ℕ) → FieldsSpell STEP cells ns → number_at 0 cells ≡ get_or ns 0 0
 seconds_is cells ns s = spelled_value 0 (2 ^ 34 - 1) (get_or ns 0 0) (get_or cells 0 []) (omega arith) (s.1 0 (omega arith))
+
+pub nanoseconds_are : (cells : Row) (ns : List ℕ) → FieldsSpell STEP cells ns → number_at 1 cells ≡ get_or ns 1 0
+nanoseconds_are cells ns s = sym (s.1 1 (omega arith)).2.1
 
 pub told_record : (cells : Row) (ns : List ℕ) (time : ℕ) (a : Action) (o : Op) → FieldsSpell STEP cells ns → time ≡ time_at cells → a ≡ action_by (get_or cells 3 []) → o ≡ op_by (get_or cells 5 [])
     → record { time = time; cpu = get_or ns 2 0; action = a; pid = get_or ns 4 0; op = o; first = get_or ns 6 0; sectors = get_or ns 7 0 } ≡ record_at cells
@@ -121,9 +113,9 @@ told_record cells ns time a o s e f g i = record {
 
 -- the first of the rules that is broken
 
-pub late_step : (last : ℕ) (cells : Row) (ns : List ℕ) → FieldsSpell STEP cells ns → IsNanoseconds (get_or cells 1 []) → time_at cells < last → StepLacks last cells why.Order
-late_step last cells ns s nine order =
-    inr (s.0, inr ((spelled_numbers cells ns s, nine), inr ((λ k l. (any_good cells ns s k (omega (arith, l))).1), inl (refl, λ up. omega (arith, up, order)))))
+pub late_step : (last : ℕ) (cells : Row) (ns : List ℕ) → FieldsSpell STEP cells ns → time_at cells < last → StepLacks last cells why.Order
+late_step last cells ns s order =
+    inr (s.0, inr (spelled_numbers cells ns s, inr ((λ k l. (any_good cells ns s k (omega (arith, l))).1), inl (refl, λ up. omega (arith, up, order)))))
 
 -- a record is a step's, or it lacks one thing first
 
@@ -145,26 +137,13 @@ step_tells last = record { once = λ v u f g e. e; apart = apart; first = λ cel
       ]
     ]
 
-digits_decided : (f : List ℕ) → Dec (AllDigits 10 f)
-digits_decided [] = inl tt
-digits_decided (c ∷ cs) = both (same_as (λ l. omega (arith, l)) (λ l. omega (arith, l)) (at_most (digit_value c) 9)) (digits_decided cs)
-
-nine_decided : (f : List ℕ) → Dec (IsNanoseconds f)
-nine_decided f = both (same_number (length f) 9) (digits_decided f)
-
 pub step_decided : (last : ℕ) (cells : Row) → IsStep last cells ⊎ ((w : Why) × StepLacks last cells w)
-step_decided last cells = elim (nine_decided (get_or cells 1 [])) [
-  | inl nine ↦ elim (goods_or_lacks STEP cells) [
-    | inl g ↦
-        let all = goods_all STEP cells g in
-        elim (at_most last (time_at cells)) [
-          | inl up ↦ inl (record { width = all.0.0; numbers = (all.2, nine); ranges = all.3; order = up })
-          | inr down ↦ inr (why.Order, inr (all.0.0, inr ((all.2, nine), inr (all.3, inl (refl, down)))))
-        ]
-    | inr b ↦ inr (b.0, lack_is last cells b.0 b.1 (λ e. nine))
-  ]
-  | inr none ↦ elim (goods_or_lacks STEP cells) [
-    | inl g ↦ let all = goods_all STEP cells g in inr (why.Number, inr (all.0.0, inl (refl, λ n. none n.1)))
-    | inr b ↦ let found = lack_nine last cells b.0 b.1 none in inr (found.0, found.1.1)
-  ]
+step_decided last cells = elim (goods_or_lacks STEP cells) [
+  | inl g ↦
+      let all = goods_all STEP cells g in
+      elim (at_most last (time_at cells)) [
+        | inl up ↦ inl (record { width = all.0.0; numbers = all.2; ranges = all.3; order = up })
+        | inr down ↦ inr (why.Order, inr (all.0.0, inr (all.2, inr (all.3, inl (refl, down)))))
+      ]
+  | inr b ↦ inr (b.0, lack_is last cells b.0 b.1)
 ]

@@ -2,7 +2,7 @@
 use Rattle.std.specs.Prelude.{◌≡◌, ℕ, List, [], ◌∷◌, map, codes}
 use Rattle.blk_capture.specs.declared.record.Record.{Record}
 use Rattle.blk_lists.specs.Sources.{Row}
-use Rattle.blk_lists.specs.Reads.{items_of, repeated}
+use Rattle.blk_lists.specs.Reads.{items_of}
 use Rattle.blk_lists.specs.Tables.{Cell, Blank, title_record}
 use Rattle.blk_lists.specs.declared.fault.Why.{Why}
 use Rattle.blk_lists.specs.declared.fault.Why.TheVariants as why
@@ -28,10 +28,7 @@ last_time (row ∷ next ∷ rows) = last_time (next ∷ rows)
 abbrev pub record_after : List Row → Part Row Why Row
 record_after before = record_of (λ row. row) (IsStep (last_time before)) why.Count (StepLacks (last_time before))
 
--- records, at most this number, whatever comes after them; and to the end of the text
-abbrev pub some_steps : Part Row Why (List Row)
-some_steps = repeated (repeats.AtMost MAX_RECORDS) record_after
-
+-- records, at most this number, to the end of the text
 abbrev pub steps_body : Part Row Why (List Row)
 steps_body = items_of (repeats.AtMost MAX_RECORDS) record_after
 

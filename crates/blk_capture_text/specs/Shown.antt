@@ -13,7 +13,7 @@ use Rattle.blk_capture.specs.declared.requests.Matched.{Matched}
 use Rattle.blk_capture.specs.declared.requests.CapturedRequest.{CapturedRequest}
 use Rattle.blk_capture.specs.declared.summary.Summary.{Summary}
 use Rattle.blk_capture.specs.declared.table.RequestRow.{RequestRow}
-use Rattle.blk_lists.specs.Schedule.{Ran, IsRan, ran_rows}
+use Rattle.blk_lists.specs.Schedule.{ScheduleView, IsScheduleView, schedule_rows}
 use Rattle.blk_lists.specs.Texts.{rows_text}
 use Rattle.blk_capture_text.specs.Imports.{first_time}
 use Rattle.blk_capture_text.specs.TableText.{table_lines}
@@ -22,15 +22,15 @@ use Rattle.blk_capture_text.specs.declared.shown.ShownImport.{ShownImport}
 use Rattle.blk_capture_text.specs.declared.shown.ShownImport.TheVariants as shown
 
 -- the schedule of requests: a command a dispatch, legal at depth 1, late just where they were by the clock
-pub record IsScheduleOf (requests : List CapturedRequest) (s : Ran) : Type 0 where
+pub record IsScheduleOf (requests : List CapturedRequest) (s : ScheduleView) : Type 0 where
   pub depth : s.depth ≡ 1
-  pub ran : IsRan s
+  pub ran : IsScheduleView s
   pub counted : AreInRounds (map times_of requests) s.commands s.rounds
   pub legal : IsLegal s.commands s.rounds (fixed 1)
   pub late : AgreeOnLateness requests s.commands s.rounds
 
 abbrev pub IsScheduleText : List CapturedRequest → List ℕ → Type 0
-IsScheduleText requests text = (s : Ran) × IsScheduleOf requests s × (text ≡ rows_text (ran_rows s))
+IsScheduleText requests text = (s : ScheduleView) × IsScheduleOf requests s × (text ≡ rows_text (schedule_rows s))
 
 -- the table of requests, with times from the first record on
 abbrev pub IsTableText : List Record → List CapturedRequest → List ℕ → Type 0

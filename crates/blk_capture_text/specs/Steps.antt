@@ -1,6 +1,6 @@
 -- A record of a capture: seconds, nanoseconds, processor, action, process, rwbs, first sector, sectors.
 use Rattle.std.specs.Prelude.{◌≡◌, ◌≤◌, ◌+◌, ◌*◌, ℕ, List, [], ◌∷◌, length, get_or}
-use Rattle.std.specs.Str.Parse.{AllDigits, digits_value}
+use Rattle.std.specs.Str.Parse.{digits_value}
 use Rattle.faults.specs.Order.{IsFirstFault}
 use Rattle.blk_capture.specs.Passing.{action_by, op_by}
 use Rattle.blk_capture.specs.declared.record.Record.{Record}
@@ -9,10 +9,6 @@ use Rattle.blk_lists.specs.Fields.{EachField, IsNumber, IsInRange}
 use Rattle.blk_lists.specs.declared.fault.Why.{Why}
 use Rattle.blk_lists.specs.declared.fault.Why.TheVariants as why
 use Rattle.blk_capture_text.specs.declared.step.TheConstants.{STEP}
-
--- nanoseconds have nine digits
-abbrev pub IsNanoseconds : List ℕ → Type 0
-IsNanoseconds f = (length f ≡ 9) × AllDigits 10 f
 
 -- the number of a field
 abbrev pub number_at : ℕ → Row → ℕ
@@ -34,29 +30,18 @@ record_at cells = record {
   sectors = number_at 7 cells;
 }
 
--- its second field is nanoseconds, and says so many
-abbrev pub HasNanoseconds : Row → Type 0
-HasNanoseconds cells = IsNanoseconds (get_or cells 1 [])
-
-abbrev pub TellsNanoseconds : Row → ℕ → Type 0
-TellsNanoseconds cells n = HasNanoseconds cells × (n ≡ number_at 1 cells)
-
--- its numbers are numbers, and its nanoseconds nine digits
-abbrev pub AreNumbers : Row → Type 0
-AreNumbers cells = EachField IsNumber STEP cells × HasNanoseconds cells
-
 -- a record that may stand after one of a time
 pub record IsStep (last : ℕ) (cells : Row) : Type 0 where
   pub width : length cells ≡ 8
-  pub numbers : AreNumbers cells
+  pub numbers : EachField IsNumber STEP cells
   pub ranges : EachField IsInRange STEP cells
   pub order : last ≤ time_at cells
 
--- the rules of a record, in the order in which they are looked at, each with its fault
+-- the rules of a record, in the order in which they are looked at, each with its fault; its nanoseconds are one of its numbers
 abbrev pub step_cell_rules : ℕ → Row → List (Type 0 × Why)
 step_cell_rules last cells =
     (length cells ≡ 8, why.Fields)
-    ∷ (AreNumbers cells, why.Number)
+    ∷ (EachField IsNumber STEP cells, why.Number)
     ∷ (EachField IsInRange STEP cells, why.Range)
     ∷ (last ≤ time_at cells, why.Order) ∷ []
 

@@ -4,6 +4,7 @@ ghost use Rattle.std.specs.Prelude.{◌≡◌, ◌≤◌, IfOk, IfErr, length};
 ghost use Rattle.edd_commands.specs.Limits.{most_commands};
 ghost use Rattle.blk_capture.specs.Requests.{AreInOrder, AreTimed};
 ghost use Rattle.blk_capture_text.specs.Imports.{IsImport, IsImportFault, first_time, begin_after};
+ghost use Rattle.blk_capture_text.specs.Names.{import_fault_name};
 
 use blk_capture::{Matched, Options, Record, match_records, part_of};
 use edd_commands::MAX_COMMANDS;
@@ -27,6 +28,18 @@ pub enum ImportFault {
     TooMany,
     /// Memory ran out.
     Memory,
+}
+
+impl ImportFault {
+    /// Its name, which the program prints.
+    pub fn name(self) -> &'static str
+        ensures { result.now ≡ import_fault_name self }
+    {
+        match self {
+            ImportFault::TooMany => "TooMany",
+            ImportFault::Memory => "Memory",
+        }
+    }
 }
 
 /// The time of the first record, 0 where there is none.

@@ -12,8 +12,8 @@ mod table;
 
 pub use crate::importing::{ImportAsked, ImportFault, first_time, import};
 pub use crate::numbers::{UnusedCounts, count_fates, notice_text, summary_text, write_summary};
-pub use crate::reading::{MAX_RECORDS, read_capture};
+pub use crate::reading::{CAPTURE, MAX_RECORDS, read_capture};
 pub use crate::schedule::schedule_of;
 pub use crate::shown::{ShownImport, shown_text};
-pub use crate::step::STEP;
+pub use crate::step::{SECONDS, STEP};
 pub use crate::table::{table_text, write_table};

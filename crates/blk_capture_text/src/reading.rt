@@ -5,8 +5,9 @@ ghost use Rattle.csv.specs.Records.{fields_of};
 ghost use Rattle.blk_lists.specs.Reads.{FaultsBy, FailsBy, Halts, Reaches};
 ghost use Rattle.blk_capture.specs.Requests.{AreInOrder};
 ghost use Rattle.blk_capture_text.specs.Steps.{IsStep, StepLacks, record_at, time_at};
-ghost use Rattle.blk_capture_text.specs.Captures.{capture_form, some_steps, steps_body, SpellsCapture, CaptureTextFault};
-ghost use Rattle.blk_capture_text.specs.Taking.{HasSteps, AreTaken, AreStopped, TellAll};
+ghost use Rattle.blk_capture_text.specs.Captures.{capture_form, steps_body, SpellsCapture, CaptureTextFault};
+ghost use Rattle.blk_capture_text.specs.Inside.Captures.{some_steps};
+ghost use Rattle.blk_capture_text.specs.Inside.Taking.{HasSteps, AreTaken, AreStopped, TellAll};
 
 use crate::step::read_step;
 use blk_capture::Record;
@@ -22,7 +23,7 @@ use std::io::Read;
 pub const MAX_RECORDS: u64 = 16_000_000;
 
 /// The title record: the version, and nothing.
-const CAPTURE: Kind<11, 8> = Kind {
+pub const CAPTURE: Kind<11, 8> = Kind {
     word: *b"blk-capture",
     since: 1,
     slots: [

@@ -6,7 +6,7 @@ ghost use Rattle.edd_commands.specs.Limits.{most_commands};
 ghost use Rattle.edd_commands.specs.Schedule.{IsLegal};
 ghost use Rattle.blk_capture.specs.Counting.{AreInRounds};
 ghost use Rattle.blk_capture.specs.Requests.{AgreeOnLateness, AreTimed, times_of};
-ghost use Rattle.blk_lists.specs.Schedule.{IsRan, ran_of};
+ghost use Rattle.blk_lists.specs.Schedule.{IsScheduleView, viewed};
 
 use blk_capture::{CapturedRequest, rounds_of};
 use blk_lists::Schedule;
@@ -22,7 +22,7 @@ pub fn schedule_of(alloc: Global, requests: &[CapturedRequest]) -> Result<Schedu
     ensures counted { IfOk result (λ s. AreInRounds (map times_of requests.now) s.commands.items s.rounds.items) }
     ensures legal { IfOk result (λ s. IsLegal s.commands.items s.rounds.items (fixed 1)) }
     ensures late { IfOk result (λ s. AgreeOnLateness requests.now s.commands.items s.rounds.items) }
-    ensures ran { IfOk result (λ s. IsRan (ran_of s)) }
+    ensures ran { IfOk result (λ s. IsScheduleView (viewed s)) }
 {
     let counted = rounds_of(alloc, requests)?;
     Ok(Schedule {

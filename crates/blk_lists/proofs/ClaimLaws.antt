@@ -18,7 +18,8 @@ use Rattle.blk_lists.specs.Commands.{IsCommandInRange}
 use Rattle.blk_lists.specs.Reads.{IsOutside, Reads, Halts, IsWrongLine, IsOne, items_of, with_next}
 use Rattle.blk_lists.specs.Tables.{IsUpTo, IsVersion, FitsCells, row_by, slots_by, title_by}
 use Rattle.blk_lists.specs.Titles.{counted_cells, IsCounted}
-use Rattle.blk_lists.specs.Certificate.{Claim, claim_rows, certificate_title_part, Bounded, NoBound, SomeBound, Bound, TellsBound, bound_kind, kind_of, bound_cells, no_bound_row, last_round, bound, bound_row, served_cells, served_record, IsServed, IsLateness, IsBound, IsClaim, claim_body, claim_told, claim_form, claim_value, SpellsClaim, ClaimFault}
+use Rattle.blk_lists.specs.Certificate.{Claim, claim_rows, certificate_title_part, Bounded, NoBound, SomeBound, BoundSaid, TellsBound, bound_kind, kind_of, bound_cells, no_bound_row, last_round, bound, served_cells, served_record, IsServed, IsLateness, IsBound, IsClaim, claim_body, claim_told, claim_form, claim_value, SpellsClaim, ClaimFault}
+use Rattle.blk_lists.specs.Inside.Certificate.{bound_row}
 use Rattle.blk_lists.specs.declared.fault.Why.{Why}
 use Rattle.blk_lists.specs.declared.fault.Why.TheVariants as why
 use Rattle.blk_lists.specs.declared.fields.Slot.TheVariants as slot
@@ -91,7 +92,7 @@ no_window : (count : ℕ) (b : ℤ × Window) → count ≡ 0 → FitsCells (bou
 no_window zero b e f = let low = f.1.0.0 in let high = f.1.0.1 in omega (arith, low, high)
 no_window (suc n) b e f = omega (arith, e)
 
-kind_starts : (count : ℕ) (k : Bounded) (rows : List Row) (v : Bound k) (a : List Row) → Begins (bound_kind count k) rows v a → TellsBound count k rows
+kind_starts : (count : ℕ) (k : Bounded) (rows : List Row) (v : BoundSaid k) (a : List Row) → Begins (bound_kind count k) rows v a → TellsBound count k rows
 kind_starts count NoBound rows v a h = (h.fits, (a, h.made))
 kind_starts count SomeBound rows v a h = (next_starts (codes "bound") (row_by (bound_cells count) v) rows a h.made, λ n. no_window count v n.0 h.fits)
 
@@ -120,7 +121,7 @@ kind_found count (row ∷ rows) = elim (both (same_number count 0) (same_row row
 ]
 
 -- the bound of a kind
-bound_of : (k : Bounded) → Bound k → Option (ℤ × Window)
+bound_of : (k : Bounded) → BoundSaid k → Option (ℤ × Window)
 bound_of NoBound b = None
 bound_of SomeBound b = Some b
 
@@ -129,15 +130,15 @@ unfolding bound_of
 kind_back None = refl
 kind_back (Some b) = refl
 
-bound_back : (k : Bounded) (b : Bound k) → kind_of (bound_of k b) ≡ (k, b)
+bound_back : (k : Bounded) (b : BoundSaid k) → kind_of (bound_of k b) ≡ (k, b)
 unfolding bound_of
 bound_back NoBound b = refl
 bound_back SomeBound b = refl
 
 pub bound_one : (count : ℕ) → IsOne (bound count)
 bound_one count = record {
-  tells = seen_tells kind_of (by_word Bound (TellsBound count) (bound_kind count) (NextWrong why.Word (HasNoWord 4))) (λ b c e. sym (kind_back b) ∙ ap (λ (k : (k : Bounded) × Bound k). bound_of k.0 k.1) e ∙ kind_back c)
-      (by_word_tells Bound (TellsBound count) (bound_kind count) (NextWrong why.Word (HasNoWord 4)) (kind_table count) (one_kind count) (kind_starts count) (next_once why.Word 4));
+  tells = seen_tells kind_of (by_word BoundSaid (TellsBound count) (bound_kind count) (NextWrong why.Word (HasNoWord 4))) (λ b c e. sym (kind_back b) ∙ ap (λ (k : (k : Bounded) × BoundSaid k). bound_of k.0 k.1) e ∙ kind_back c)
+      (by_word_tells BoundSaid (TellsBound count) (bound_kind count) (NextWrong why.Word (HasNoWord 4)) (kind_table count) (one_kind count) (kind_starts count) (next_once why.Word 4));
   plain = plain;
   one = one;
 }
@@ -151,8 +152,8 @@ bound_one count = record {
     one (Some b) = refl
 
 bound_decides : (count : ℕ) → Decides (bound count)
-bound_decides count = seen_decides kind_of (by_word Bound (TellsBound count) (bound_kind count) (NextWrong why.Word (HasNoWord 4))) (λ v f. (bound_of v.0 v.1, bound_back v.0 v.1))
-    (by_word_decides Bound (TellsBound count) (bound_kind count) (NextWrong why.Word (HasNoWord 4)) (kind_decided count) (kind_found count))
+bound_decides count = seen_decides kind_of (by_word BoundSaid (TellsBound count) (bound_kind count) (NextWrong why.Word (HasNoWord 4))) (λ v f. (bound_of v.0 v.1, bound_back v.0 v.1))
+    (by_word_decides BoundSaid (TellsBound count) (bound_kind count) (NextWrong why.Word (HasNoWord 4)) (kind_decided count) (kind_found count))
 
 late_in : (z : ℤ) → IsLateness z → IsUpTo (MAX_ROUNDS - 1) z
 late_in (pos n) h = omega (arith, h)

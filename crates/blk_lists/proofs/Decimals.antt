@@ -9,7 +9,8 @@ use Rattle.std.specs.Str.Parse.{digits_value, digits_value_after, AllDigits}
 use Rattle.std.proofs.lemmas.Bool.{ne_eqb}
 use Rattle.std.proofs.lemmas.Str.Parse.{IsNumeralModel, numerals_by_value, tells_digits, digit_from_value}
 use Rattle.std.proofs.lemmas.Fmt.{decimal_digit, decimal_injective, first_decimal, decimal-digits_value, digits_decimal, digits_value-decimal}
-use Rattle.blk_lists.specs.Fields.{canonical, IsSized, WritesNumber}
+use Rattle.blk_lists.specs.Fields.{IsSized}
+use Rattle.blk_lists.specs.Inside.Fields.{canonical, WritesNumber}
 
 pub own : IsNumeralModel (AllDigits 10) (digits_value 10)
 own = numerals_by_value _ tells_digits

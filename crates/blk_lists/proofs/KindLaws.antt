@@ -14,6 +14,8 @@ SizedSlots (slot.Blank ∷ ss) = SizedSlots ss
 SizedSlots (slot.Direction ∷ ss) = SizedSlots ss
 SizedSlots (slot.Number least most ∷ ss) = (most < 2 ^ 64) × SizedSlots ss
 SizedSlots (slot.Lateness most ∷ ss) = (most < 2 ^ 63) × SizedSlots ss
+SizedSlots (slot.Text ∷ ss) = SizedSlots ss
+SizedSlots (slot.Nanoseconds ∷ ss) = SizedSlots ss
 
 sized : {V : Type 0} (ss : List Slot) (told : V → Told ss) → SizedSlots ss → Sized (cells_of ss told)
 sized [] told z = tt
@@ -22,6 +24,8 @@ sized (slot.Blank ∷ ss) told z = (tt, sized ss told z)
 sized (slot.Direction ∷ ss) told z = (tt, sized ss (λ v. (told v).1) z)
 sized (slot.Number least most ∷ ss) told z = (z.0, sized ss (λ v. (told v).1) z.1)
 sized (slot.Lateness most ∷ ss) told z = (z.0, sized ss (λ v. (told v).1) z.1)
+sized (slot.Text ∷ ss) told z = (tt, sized ss (λ v. (told v).1) z)
+sized (slot.Nanoseconds ∷ ss) told z = (tt, sized ss (λ v. (told v).1) z)
 
 untold : {V : Type 0} (ss : List Slot) (told : V → Told ss) → AllTold (cells_of ss told) → Told ss
 untold [] told x = tt
@@ -30,6 +34,8 @@ untold (slot.Blank ∷ ss) told x = untold ss told x.1
 untold (slot.Direction ∷ ss) told x = (x.0, untold ss (λ v. (told v).1) x.1)
 untold (slot.Number least most ∷ ss) told x = (x.0, untold ss (λ v. (told v).1) x.1)
 untold (slot.Lateness most ∷ ss) told x = (x.0, untold ss (λ v. (told v).1) x.1)
+untold (slot.Text ∷ ss) told x = (x.0, untold ss (λ v. (told v).1) x.1)
+untold (slot.Nanoseconds ∷ ss) told x = (x.0, untold ss (λ v. (told v).1) x.1)
 
 told_back : {V : Type 0} (ss : List Slot) (told : V → Told ss) (v : V) → untold ss told (all_told (cells_of ss told) v) ≡ told v
 unfolding untold
@@ -39,6 +45,8 @@ told_back (slot.Blank ∷ ss) told v = told_back ss told v
 told_back (slot.Direction ∷ ss) told v = let others = told_back ss (λ v. (told v).1) v in λ i. ((told v).0, others i)
 told_back (slot.Number least most ∷ ss) told v = let others = told_back ss (λ v. (told v).1) v in λ i. ((told v).0, others i)
 told_back (slot.Lateness most ∷ ss) told v = let others = told_back ss (λ v. (told v).1) v in λ i. ((told v).0, others i)
+told_back (slot.Text ∷ ss) told v = let others = told_back ss (λ v. (told v).1) v in λ i. ((told v).0, others i)
+told_back (slot.Nanoseconds ∷ ss) told v = let others = told_back ss (λ v. (told v).1) v in λ i. ((told v).0, others i)
 
 told_forth : {V : Type 0} (ss : List Slot) (told : V → Told ss) (x : AllTold (cells_of ss told)) (v : V) → told v ≡ untold ss told x → all_told (cells_of ss told) v ≡ x
 unfolding untold
@@ -48,6 +56,8 @@ told_forth (slot.Blank ∷ ss) told x v e = let others = told_forth ss told x.1 
 told_forth (slot.Direction ∷ ss) told x v e = let others = told_forth ss (λ v. (told v).1) x.1 v (ap (λ t. t.1) e) in λ i. ((e i).0, others i)
 told_forth (slot.Number least most ∷ ss) told x v e = let others = told_forth ss (λ v. (told v).1) x.1 v (ap (λ t. t.1) e) in λ i. ((e i).0, others i)
 told_forth (slot.Lateness most ∷ ss) told x v e = let others = told_forth ss (λ v. (told v).1) x.1 v (ap (λ t. t.1) e) in λ i. ((e i).0, others i)
+told_forth (slot.Text ∷ ss) told x v e = let others = told_forth ss (λ v. (told v).1) x.1 v (ap (λ t. t.1) e) in λ i. ((e i).0, others i)
+told_forth (slot.Nanoseconds ∷ ss) told x v e = let others = told_forth ss (λ v. (told v).1) x.1 v (ap (λ t. t.1) e) in λ i. ((e i).0, others i)
 
 -- the table of what the fields of a row tell
 pub row_table : (ss : List Slot) → SizedSlots ss → IsTable (cells_of ss (λ s. s)) (FitsCells (cells_of ss (λ s. s)))

@@ -2,12 +2,14 @@
 use Rattle.std.proofs.Common.{◌≡◌, ◌<◌, ◌≤◌, ◌^◌, ◌+◌, ◌-◌, ◌∙◌, ℕ, zero, suc, List, [], ◌∷◌, length, refl, sym, ap, inl, inr, arith, get_or, decimal, true}
 use Rattle.std.specs.Prelude.{◌⊎◌}
 use Rattle.std.specs.Str.{bytes_eq}
-use Rattle.std.specs.Str.Parse.{digits_value}
+use Rattle.std.specs.Char.{digit_value}
+use Rattle.std.specs.Str.Parse.{AllDigits, digits_value}
 use Rattle.std.proofs.lemmas.Bool.{cases_Bool}
 use Rattle.std.proofs.lemmas.Slice.Eq.{bytes_eq-Decides}
 use Rattle.std.proofs.lemmas.Fmt.{digits_value-decimal, decimal_injective}
 use Rattle.blk_lists.specs.Sources.{Row}
-use Rattle.blk_lists.specs.Fields.{EachField, IsBlank, IsDirection, IsNumber, IsInRange, IsGood, IsSized, IsShaped, record_rules, Lacks}
+use Rattle.blk_lists.specs.Fields.{EachField, IsBlank, IsDirection, IsNumber, IsInRange, IsSized, IsShaped, IsNanoseconds, record_rules, Lacks}
+use Rattle.blk_lists.specs.Inside.Fields.{IsGood}
 use Rattle.blk_bio.specs.declared.bio.Dir.{Dir}
 use Rattle.blk_bio.specs.declared.bio.Dir.TheVariants as dir
 use Rattle.blk_bio.specs.Letters.{direction_text}
@@ -87,6 +89,13 @@ number_decided f = same_as (λ p. (value f, p.0, p.1)) back (both (at_most_less 
     back : Spelled f → (value f < 2 ^ 64) × (f ≡ decimal (value f))
     back s = let is : value f ≡ s.0 = ap value s.2 ∙ value_is s.0 s.1 in let small = s.1 in (omega (arith, is, small), s.2 ∙ ap decimal (sym is))
 
+digits_decided : (f : List ℕ) → Dec (AllDigits 10 f)
+digits_decided [] = inl tt
+digits_decided (c ∷ cs) = both (same_as (λ l. omega (arith, l)) (λ l. omega (arith, l)) (at_most (digit_value c) 9)) (digits_decided cs)
+
+nine_decided : (f : List ℕ) → Dec (IsNanoseconds f)
+nine_decided f = both (same_number (length f) 9) (digits_decided f)
+
 -- what stands after the first byte
 rest_of : List ℕ → List ℕ
 rest_of [] = []
@@ -146,6 +155,7 @@ direction_decided s f = inl tt
 slot_number_decided : (s : Slot) (f : List ℕ) → Dec (IsNumber s f)
 slot_number_decided (slot.Number least most) f = number_decided f
 slot_number_decided (slot.Lateness most) f = sized_decided f
+slot_number_decided slot.Nanoseconds f = nine_decided f
 slot_number_decided s f = inl tt
 
 range_decided : (s : Slot) (f : List ℕ) → Dec (IsInRange s f)

@@ -1,4 +1,4 @@
--- The laws of certificates of the greatest number of commands met.
+-- The laws of certificates of the greatest number of commands on time.
 use Rattle.std.proofs.Common.{◌≡◌, ◌+◌, ◌∙◌, ℕ, List, [], ◌∷◌, ◌++◌, length, map, append-nil, Option, Some, None, refl, sym, ap, subst, inl, inr, arith, codes}
 use Rattle.std.specs.Prelude.{IfSome, All, ◌⊎◌, Bool}
 use Rattle.std.specs.List.{zip}
@@ -88,8 +88,8 @@ on_time_decides = then_decides on_time_title (λ t. on_time_body t.1.1) (counted
     (repeated_decides window (record_decides window_row WindowInRange why.Count (WordLacks (codes "window") (slots_by window_cells)) (word_decides (codes "window") window_cells WindowInRange window_table)) (repeats.Exactly n.1))
     (λ ws all. served_decides t.1.1)))
 
-same_on_time : (c d : OnTimeClaim) → c.depth ≡ d.depth → c.commands ≡ d.commands → c.rounds ≡ d.rounds → c.met ≡ d.met → c.cover ≡ d.cover → c ≡ d
-same_on_time c d p q r s t i = record { depth = p i; commands = q i; rounds = r i; met = s i; cover = t i }
+same_on_time : (c d : OnTimeClaim) → c.depth ≡ d.depth → c.commands ≡ d.commands → c.rounds ≡ d.rounds → c.on_time ≡ d.on_time → c.cover ≡ d.cover → c ≡ d
+same_on_time c d p q r s t i = record { depth = p i; commands = q i; rounds = r i; on_time = s i; cover = t i }
 
 pub spelled_once : (rows : List Row) (c d : OnTimeClaim) → SpellsOnTime rows c → SpellsOnTime rows d → c ≡ d
 spelled_once rows c d s t =
@@ -120,7 +120,7 @@ rows_spell c h = (
 
 -- the records of a certificate, one by one
 pub rows_are : (c : OnTimeClaim)
-    → on_time_rows c ≡ title_by (codes "blk-met") counted_cells (1, (c.depth, length c.commands)) ∷ numbers_row (c.met, length c.cover) ∷ (map window_row c.cover ++ map (row_by served_cells) (zip c.commands c.rounds))
+    → on_time_rows c ≡ title_by (codes "blk-met") counted_cells (1, (c.depth, length c.commands)) ∷ numbers_row (c.on_time, length c.cover) ∷ (map window_row c.cover ++ map (row_by served_cells) (zip c.commands c.rounds))
 rows_are c =
     rw (append-nil (all_rows (λ _. served_record) with_next [] (zip c.commands c.rounds)), rows_map served_record (row_by served_cells) (λ v. refl) [] (zip c.commands c.rounds), rows_map window window_row (λ v. refl) [] c.cover) refl
 
@@ -130,24 +130,24 @@ read_back_is c h =
     let body = all_rows (λ _. window) with_next [] c.cover in
     let lines = (items_of (repeats.Exactly (length c.commands)) (λ _. served_record)).rows_of (zip c.commands c.rounds) in
     let same : map read_back (body ++ lines) ≡ body ++ lines = rw (map-append read_back body lines, items_back window (λ w. refl) [] c.cover, parts_back served_record (λ s. refl) (zip c.commands c.rounds)) refl in
-    let back : map read_back (on_time_rows c) ≡ on_time_rows c = ap (λ (t : List Row). title_by (codes "blk-met") counted_cells (1, (c.depth, length c.commands)) ∷ numbers_row (c.met, length c.cover) ∷ t) same in
+    let back : map read_back (on_time_rows c) ≡ on_time_rows c = ap (λ (t : List Row). title_by (codes "blk-met") counted_cells (1, (c.depth, length c.commands)) ∷ numbers_row (c.on_time, length c.cover) ∷ t) same in
     rw (text_back (on_time_rows c) _ refl back) (rows_spell c h)
 
 -- records that were taken for a title, numbers, windows and commands spell them
-on_time_spelled : (rows : List Row) (version depth count met many : ℕ) (ws : List Window) (lines : List (Command × ℕ)) → IsVersion 1 version → length ws ≡ many → length lines ≡ count
-    → Spells on_time_form rows ((version, (depth, count)), ((met, many), (ws, lines))) → SpellsOnTime rows record { depth = depth; commands = firsts lines; rounds = seconds lines; met = met; cover = ws }
-on_time_spelled rows version depth count met many ws lines v m n h =
+on_time_spelled : (rows : List Row) (version depth count on_time many : ℕ) (ws : List Window) (lines : List (Command × ℕ)) → IsVersion 1 version → length ws ≡ many → length lines ≡ count
+    → Spells on_time_form rows ((version, (depth, count)), ((on_time, many), (ws, lines))) → SpellsOnTime rows record { depth = depth; commands = firsts lines; rounds = seconds lines; on_time = on_time; cover = ws }
+on_time_spelled rows version depth count on_time many ws lines v m n h =
     let c : length (firsts lines) ≡ length lines = length-map lines (λ s. s.0) in
     let d : length (seconds lines) ≡ length lines = length-map lines (λ s. s.1) in
     let one = one_version version v in
     let number : count ≡ length (firsts lines) = omega (arith, c, n) in
-    (d ∙ sym c, subst (λ v. Spells on_time_form rows v) (λ i. ((one i, (depth, number i)), ((met, sym m i), (ws, sym (zipped lines) i)))) h)
+    (d ∙ sym c, subst (λ v. Spells on_time_form rows v) (λ i. ((one i, (depth, number i)), ((on_time, sym m i), (ws, sym (zipped lines) i)))) h)
 
 pub spelled_or_wrong : (rows : List Row) → ((c : OnTimeClaim) × SpellsOnTime rows c) ⊎ ((at : ℕ) × (w : Why) × OnTimeClaimFault rows at w)
 spelled_or_wrong rows = elim (on_time_decides rows) [
   | inl h ↦ (let f = h.2.fits in let t = h.0.0 in let n = h.0.1.0 in let ws = h.0.1.1.0 in let lines = h.0.1.1.1 in
       inl (
-        record { depth = t.1.0; commands = firsts lines; rounds = seconds lines; met = n.0; cover = ws },
+        record { depth = t.1.0; commands = firsts lines; rounds = seconds lines; on_time = n.0; cover = ws },
         on_time_spelled rows t.0 t.1.0 t.1.1 n.0 n.1 ws lines f.0.0 f.1.1.0.1 f.1.1.1.0.1 (rw h.2.follows.1.1.1.1 at h.2),
       ))
   | inr f ↦ inr f
@@ -156,22 +156,22 @@ spelled_or_wrong rows = elim (on_time_decides rows) [
 -- reading
 
 -- what was read after the title
-pub on_time_in : (depth count met many : ℕ) (ws : List Window) (lines : List (Command × ℕ)) (cs : List Command) (rs : List ℕ)
-    → IsCounted (depth, count) → AreFew (met, many) → All WindowInRange ws → length ws ≡ many → All IsServed lines → length lines ≡ count
-    → cs ≡ map (λ s. s.0) lines → rs ≡ map (λ s. s.1) lines → IsOnTimeClaim record { depth = depth; commands = cs; rounds = rs; met = met; cover = ws }
-on_time_in depth count met many ws lines cs rs r f all m fit n p q =
+pub on_time_in : (depth count on_time many : ℕ) (ws : List Window) (lines : List (Command × ℕ)) (cs : List Command) (rs : List ℕ)
+    → IsCounted (depth, count) → AreFew (on_time, many) → All WindowInRange ws → length ws ≡ many → All IsServed lines → length lines ≡ count
+    → cs ≡ map (λ s. s.0) lines → rs ≡ map (λ s. s.1) lines → IsOnTimeClaim record { depth = depth; commands = cs; rounds = rs; on_time = on_time; cover = ws }
+on_time_in depth count on_time many ws lines cs rs r f all m fit n p q =
     let c : length (firsts lines) ≡ length lines = length-map lines (λ s. s.0) in
     let d : length (seconds lines) ≡ length lines = length-map lines (λ s. s.1) in
     let few = r.2 in
     let fewer = f.1 in
     rw (p, q) (record { depth = (r.0, r.1); few = omega (arith, few, c, n); one_each = d ∙ sym c; numbers = (f.0, omega (arith, fewer, m)); cover = all; commands = all_first lines fit; rounds = all_second lines fit })
 
-pub body_read : (left mid after : Option (List Row)) (count met many : ℕ) (ws : List Window) (lines : List (Command × ℕ)) (cs : List Command) (rs : List ℕ) → Reads on_time_numbers left mid (met, many) → Reads (windows many) mid after ws
+pub body_read : (left mid after : Option (List Row)) (count on_time many : ℕ) (ws : List Window) (lines : List (Command × ℕ)) (cs : List Command) (rs : List ℕ) → Reads on_time_numbers left mid (on_time, many) → Reads (windows many) mid after ws
     → IfSome after (λ rows. Begins (items_of (repeats.Exactly count) (λ _. served_record)) rows lines []) → length ws ≡ many → cs ≡ map (λ s. s.0) lines → rs ≡ map (λ s. s.1) lines
-    → IfSome left (λ rows. Begins (on_time_body count) rows ((met, length ws), (ws, zip cs rs)) [])
-body_read left mid after count met many ws lines cs rs a b e m p q =
-    rw (p, q) (subst (λ v. IfSome left (λ rows. Begins (on_time_body count) rows v [])) (λ i. ((met, sym m i), (ws, sym (zipped lines) i)))
-    (then_reads on_time_numbers (λ n. cover_body n.1 count) left mid (met, many) (ws, lines) a
+    → IfSome left (λ rows. Begins (on_time_body count) rows ((on_time, length ws), (ws, zip cs rs)) [])
+body_read left mid after count on_time many ws lines cs rs a b e m p q =
+    rw (p, q) (subst (λ v. IfSome left (λ rows. Begins (on_time_body count) rows v [])) (λ i. ((on_time, sym m i), (ws, sym (zipped lines) i)))
+    (then_reads on_time_numbers (λ n. cover_body n.1 count) left mid (on_time, many) (ws, lines) a
     (then_reads (windows many) (λ _. items_of (repeats.Exactly count) (λ _. served_record)) mid after ws lines b e)))
 
 -- a title and what comes after it

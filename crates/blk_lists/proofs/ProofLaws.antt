@@ -7,7 +7,8 @@ use Rattle.blk_lists.specs.Reads.{Reads, Halts, IsOne, IsRowOf, IsWrongLine}
 use Rattle.blk_lists.specs.Certificate.{Claim, certificate_title_part, claim_body, SpellsClaim}
 use Rattle.blk_lists.specs.Titles.{counted_title}
 use Rattle.blk_lists.specs.OnTime.{OnTimeClaim, on_time_title, on_time_body, SpellsOnTime}
-use Rattle.blk_lists.specs.Proof.{ProofClaim, OfLateness, OfOnTime, proof_name, Shown, form_of, StartsAs, IsUnnamed, proof_title, proof_form, SpellsProof, ProofFault}
+use Rattle.blk_lists.specs.Proof.{ProofClaim, OfLateness, OfOnTime, proof_name, Shown, form_of, StartsAs, IsUnnamed, proof_form, SpellsProof, ProofFault}
+use Rattle.blk_lists.specs.Inside.Proof.{proof_title}
 use Rattle.blk_lists.specs.declared.proof.ProofKind.{ProofKind}
 use Rattle.blk_lists.specs.declared.proof.ProofKind.TheVariants as kind
 use Rattle.blk_lists.specs.declared.fault.Why.{Why}
@@ -19,7 +20,7 @@ use Rattle.blk_lists.proofs.Lacking.{word_decided}
 use Rattle.blk_lists.proofs.TableLaws.{next_starts, next_same}
 use Rattle.blk_lists.proofs.Counted.{counted_one}
 use Rattle.blk_lists.proofs.ClaimLaws as claim
-use Rattle.blk_lists.proofs.OnTimeLaws as met
+use Rattle.blk_lists.proofs.OnTimeLaws as on_time_laws
 
 -- the names
 
@@ -78,7 +79,7 @@ title_wrong k row w s h = λ rest. inl (k, s, h rest)
 
 forms_tell : (k : ProofKind) → Tells (form_of k)
 forms_tell kind.Lateness = claim.claim_tells
-forms_tell kind.OnTime = met.on_time_tells
+forms_tell kind.OnTime = on_time_laws.on_time_tells
 
 pub proof_tells : Tells proof_form
 proof_tells = by_word_tells Shown StartsAs form_of IsUnnamed forms_tell one_name forms_start (λ rows w x a b. a ∙ sym b)
@@ -118,14 +119,14 @@ spelled_or_wrong rows = elim (name_found rows) [
       | inl c ↦ inl (OfLateness c.0, c.1)
       | inr f ↦ inr (f.0, f.1, wrong_of kind.Lateness rows f.0 f.1 s f.2)
     ]
-    of_kind kind.OnTime s = elim (met.spelled_or_wrong rows) [
+    of_kind kind.OnTime s = elim (on_time_laws.spelled_or_wrong rows) [
       | inl c ↦ inl (OfOnTime c.0, c.1)
       | inr f ↦ inr (f.0, f.1, wrong_of kind.OnTime rows f.0 f.1 s f.2)
     ]
 
 pub spelled_apart : (rows : List Row) (c : ProofClaim) (at : ℕ) (w : Why) → SpellsProof rows c → ProofFault rows at w → ⊥
 spelled_apart rows (OfLateness c) at w s f = claim.claim_tells.apart rows _ _ at w s.1 (of_wrong kind.Lateness rows at w (claim_named rows c s) f)
-spelled_apart rows (OfOnTime c) at w s f = met.on_time_tells.apart rows _ _ at w s.1 (of_wrong kind.OnTime rows at w (on_time_named rows c s) f)
+spelled_apart rows (OfOnTime c) at w s f = on_time_laws.on_time_tells.apart rows _ _ at w s.1 (of_wrong kind.OnTime rows at w (on_time_named rows c s) f)
 
 two_names : (rows : List Row) → NextStarts (codes "blk-certificate") rows → NextStarts (codes "blk-met") rows → ⊥
 two_names rows s t = let e = one_name kind.Lateness kind.OnTime rows s t in cc e
@@ -134,7 +135,7 @@ pub spelled_once : (rows : List Row) (c d : ProofClaim) → SpellsProof rows c �
 spelled_once rows (OfLateness c) (OfLateness d) s t = ap (λ z. OfLateness z) (claim.spelled_once rows c d s t)
 spelled_once rows (OfLateness c) (OfOnTime d) s t = absurd (two_names rows (claim_named rows c s) (on_time_named rows d t))
 spelled_once rows (OfOnTime c) (OfLateness d) s t = absurd (two_names rows (claim_named rows d t) (on_time_named rows c s))
-spelled_once rows (OfOnTime c) (OfOnTime d) s t = ap (λ z. OfOnTime z) (met.spelled_once rows c d s t)
+spelled_once rows (OfOnTime c) (OfOnTime d) s t = ap (λ z. OfOnTime z) (on_time_laws.spelled_once rows c d s t)
 
 -- reading
 
@@ -151,7 +152,7 @@ named (Some rows) mid k t h = titles_start k rows t h.0 h.2
 
 title_lifts : (k : ProofKind) (rows : List Row) (at : ℕ) → GetsTo (counted_title (proof_name k)) rows at → GetsTo (form_of k) rows at
 title_lifts kind.Lateness rows at r = reached_first certificate_title_part (λ t. claim_body t.1.1) (λ t fit. claim.body_tells t.1.1) rows at r
-title_lifts kind.OnTime rows at r = reached_first on_time_title (λ t. on_time_body t.1.1) (λ t fit. met.body_tells t.1.1) rows at r
+title_lifts kind.OnTime rows at r = reached_first on_time_title (λ t. on_time_body t.1.1) (λ t fit. on_time_laws.body_tells t.1.1) rows at r
 
 wrong_lifts : (k : ProofKind) (rows : List Row) (at : ℕ) (w : Why) → (counted_title (proof_name k)).Wrong rows at w → (form_of k).Wrong rows at w
 wrong_lifts kind.Lateness rows at w f = inl f
@@ -195,4 +196,4 @@ pub on_time_halts : (failed : Bool) (left mid : Option (List Row)) (k : ProofKin
     → Halts failed proof_form left 0 at w
 on_time_halts failed left mid k t at w e r h =
     let own = title_reads left mid kind.OnTime t (rw e at r) in
-    kind_halts failed left kind.OnTime 0 at w (named left mid kind.OnTime t own) (met.body_halts failed left mid t at w own h)
+    kind_halts failed left kind.OnTime 0 at w (named left mid kind.OnTime t own) (on_time_laws.body_halts failed left mid t at w own h)

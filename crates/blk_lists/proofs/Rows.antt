@@ -9,8 +9,8 @@ use Rattle.std.specs.Fmt.{signed_decimal}
 use Rattle.std.specs.Int.Signed.{mag}
 use Rattle.std.proofs.lemmas.Fmt.{length_signed_le}
 use Rattle.edd_check.specs.declared.Window.{Window}
-use Rattle.blk_lists.specs.Cells.{number_cells, marked, rest_of_line}
-use Rattle.blk_lists.specs.Inside.Cells.{line_of}
+use Rattle.blk_lists.specs.Cells.{number_cells}
+use Rattle.blk_lists.specs.Inside.Cells.{line_of, marked, rest_of_line}
 use Rattle.blk_lists.specs.Texts.{rows_text}
 use Rattle.blk_lists.specs.Sources.{Row}
 use Rattle.blk_lists.specs.Certificate.{no_bound_row}

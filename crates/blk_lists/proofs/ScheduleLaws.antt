@@ -21,7 +21,8 @@ use Rattle.blk_lists.specs.Reads.{IsOutside, Reads, Halts, Fails, HandFails, IsO
 use Rattle.blk_lists.specs.Tables.{IsVersion, row_by, title_by}
 use Rattle.blk_lists.specs.Titles.{counted_cells, IsCounted}
 use Rattle.blk_lists.specs.Certificate.{served_cells, served_record, IsServed}
-use Rattle.blk_lists.specs.Schedule.{Ran, AreDistinct, IsRan, IsNew, IsRepeated, AreFit, AreIds, DoRise, new_record, ran_title, ran_body, ran_form, ran_value, ran_rows, SpellsSchedule, ScheduleFault}
+use Rattle.blk_lists.specs.Schedule.{ScheduleView, AreDistinct, IsScheduleView, IsNew, IsRepeated, new_record, schedule_title, schedule_body, schedule_form, schedule_value, schedule_rows, SpellsSchedule, ScheduleFault}
+use Rattle.blk_lists.specs.Inside.Schedule.{AreFit, AreIds, DoRise}
 use Rattle.blk_lists.specs.declared.fault.Why.{Why}
 use Rattle.blk_lists.specs.declared.fault.Why.TheVariants as why
 use Rattle.parts.specs.declared.Repeats.TheVariants as repeats
@@ -69,17 +70,17 @@ new_gone before = inl (refl, refl)
 some_rows : HasRows new_record
 some_rows s v fit e = cc e
 
-body_tells : (count : ℕ) → Tells (ran_body count)
+body_tells : (count : ℕ) → Tells (schedule_body count)
 body_tells count = ended_tells (repeats.Exactly count) why.Count new_record new_record with_next (λ s. (new_one s).tells) (λ s. (new_one s).plain) some_rows (λ s. (new_one s).tells) []
 
-body_decides : (count : ℕ) → Decides (ran_body count)
+body_decides : (count : ℕ) → Decides (schedule_body count)
 body_decides count = ended_decides (repeats.Exactly count) why.Count new_record new_record with_next new_decides new_decides []
 
-pub ran_tells : Tells ran_form
-ran_tells = then_tells ran_title (λ t. ran_body t.1.1) (counted_one (codes "blk-schedule")).tells (λ t fit. body_tells t.1.1)
+pub schedule_tells : Tells schedule_form
+schedule_tells = then_tells schedule_title (λ t. schedule_body t.1.1) (counted_one (codes "blk-schedule")).tells (λ t fit. body_tells t.1.1)
 
-ran_decides : Decides ran_form
-ran_decides = then_decides ran_title (λ t. ran_body t.1.1) (counted_decides (codes "blk-schedule")) (λ t fit. body_decides t.1.1)
+schedule_decides : Decides schedule_form
+schedule_decides = then_decides schedule_title (λ t. schedule_body t.1.1) (counted_decides (codes "blk-schedule")) (λ t fit. body_decides t.1.1)
 
 -- the records of commands
 
@@ -157,22 +158,22 @@ distinct_fits cs rs n p q h = differ_fits [] (zip cs rs) (all_zip cs rs p q) (λ
 
 -- whole schedules
 
-same_ran : (c d : Ran) → c.depth ≡ d.depth → c.commands ≡ d.commands → c.rounds ≡ d.rounds → c ≡ d
-same_ran c d p q r i = record { depth = p i; commands = q i; rounds = r i }
+same_schedule : (c d : ScheduleView) → c.depth ≡ d.depth → c.commands ≡ d.commands → c.rounds ≡ d.rounds → c ≡ d
+same_schedule c d p q r i = record { depth = p i; commands = q i; rounds = r i }
 
-pub spelled_once : (rows : List Row) (c d : Ran) → SpellsSchedule rows c → SpellsSchedule rows d → c ≡ d
+pub spelled_once : (rows : List Row) (c d : ScheduleView) → SpellsSchedule rows c → SpellsSchedule rows d → c ≡ d
 spelled_once rows c d s t =
-    let e = (ran_tells.once rows (ran_value c) (ran_value d) [] [] s.1 t.1).0 in
+    let e = (schedule_tells.once rows (schedule_value c) (schedule_value d) [] [] s.1 t.1).0 in
     let both : zip c.commands c.rounds ≡ zip d.commands d.rounds = λ i. (e i).1 in
-    same_ran c d (λ i. (e i).0.1.0)
+    same_schedule c d (λ i. (e i).0.1.0)
     (sym (firsts_zip c.commands c.rounds s.0) ∙ ap (map (λ (k : Command × ℕ). k.0)) both ∙ firsts_zip d.commands d.rounds t.0)
     (sym (seconds_zip c.commands c.rounds s.0) ∙ ap (map (λ (k : Command × ℕ). k.1)) both ∙ seconds_zip d.commands d.rounds t.0)
 
 -- the records of a schedule spell it
-pub rows_spell : (c : Ran) → IsRan c → SpellsSchedule (ran_rows c) c
+pub rows_spell : (c : ScheduleView) → IsScheduleView c → SpellsSchedule (schedule_rows c) c
 rows_spell c h = (
   h.one_each,
-  begins_itself ran_form (ran_value c) (
+  begins_itself schedule_form (schedule_value c) (
     ((omega arith, omega arith), (h.depth.0, h.depth.1, h.few)),
     ((distinct_fits c.commands c.rounds h.one_each h.commands h.rounds h.distinct, length_zip c.commands c.rounds h.one_each), tt),
   )
@@ -180,52 +181,52 @@ rows_spell c h = (
 )
 
 -- the records of a schedule, one by one
-pub rows_are : (c : Ran) → ran_rows c ≡ title_by (codes "blk-schedule") counted_cells (1, (c.depth, length c.commands)) ∷ map (row_by served_cells) (zip c.commands c.rounds)
+pub rows_are : (c : ScheduleView) → schedule_rows c ≡ title_by (codes "blk-schedule") counted_cells (1, (c.depth, length c.commands)) ∷ map (row_by served_cells) (zip c.commands c.rounds)
 rows_are c = rw (append-nil (all_rows new_record with_next [] (zip c.commands c.rounds)), same_rows [] (zip c.commands c.rounds), rows_map served_record (row_by served_cells) (λ v. refl) [] (zip c.commands c.rounds)) refl
 
-pub read_back_is : (c : Ran) → IsRan c → SpellsSchedule (records default_config (strip_bom (rows_text (ran_rows c)))) c
+pub read_back_is : (c : ScheduleView) → IsScheduleView c → SpellsSchedule (records default_config (strip_bom (rows_text (schedule_rows c)))) c
 unfolding rows_text
 read_back_is c h =
-    let lines = (ran_body (length c.commands)).rows_of (zip c.commands c.rounds) in
+    let lines = (schedule_body (length c.commands)).rows_of (zip c.commands c.rounds) in
     let same : map read_back lines ≡ lines = rw (same_rows [] (zip c.commands c.rounds)) (parts_back served_record (λ s. refl) (zip c.commands c.rounds)) in
-    let back : map read_back (ran_rows c) ≡ ran_rows c = ap (λ (t : List Row). title_by (codes "blk-schedule") counted_cells (1, (c.depth, length c.commands)) ∷ t) same in
-    rw (text_back (ran_rows c) _ refl back) (rows_spell c h)
+    let back : map read_back (schedule_rows c) ≡ schedule_rows c = ap (λ (t : List Row). title_by (codes "blk-schedule") counted_cells (1, (c.depth, length c.commands)) ∷ t) same in
+    rw (text_back (schedule_rows c) _ refl back) (rows_spell c h)
 
 -- records that were taken for a title and commands spell them
-ran_spelled : (rows : List Row) (version depth count : ℕ) (lines : List (Command × ℕ)) (cs : List Command) (rs : List ℕ) → IsVersion 1 version → length lines ≡ count
-    → cs ≡ map (λ s. s.0) lines → rs ≡ map (λ s. s.1) lines → Spells ran_form rows ((version, (depth, count)), lines) → SpellsSchedule rows record { depth = depth; commands = cs; rounds = rs }
-ran_spelled rows version depth count lines cs rs v n p q h =
+schedule_spelled : (rows : List Row) (version depth count : ℕ) (lines : List (Command × ℕ)) (cs : List Command) (rs : List ℕ) → IsVersion 1 version → length lines ≡ count
+    → cs ≡ map (λ s. s.0) lines → rs ≡ map (λ s. s.1) lines → Spells schedule_form rows ((version, (depth, count)), lines) → SpellsSchedule rows record { depth = depth; commands = cs; rounds = rs }
+schedule_spelled rows version depth count lines cs rs v n p q h =
     let c : length (firsts lines) ≡ length lines = length-map lines (λ s. s.0) in
     let d : length (seconds lines) ≡ length lines = length-map lines (λ s. s.1) in
     let one = one_version version v in
     let number : count ≡ length (firsts lines) = omega (arith, c, n) in
-    rw (p, q) (d ∙ sym c, subst (λ v. Spells ran_form rows v) (λ i. ((one i, (depth, number i)), sym (zipped lines) i)) h)
+    rw (p, q) (d ∙ sym c, subst (λ v. Spells schedule_form rows v) (λ i. ((one i, (depth, number i)), sym (zipped lines) i)) h)
 
-pub spelled_or_wrong : (rows : List Row) → ((c : Ran) × SpellsSchedule rows c) ⊎ ((at : ℕ) × (w : Why) × ScheduleFault rows at w)
-spelled_or_wrong rows = elim (ran_decides rows) [
+pub spelled_or_wrong : (rows : List Row) → ((c : ScheduleView) × SpellsSchedule rows c) ⊎ ((at : ℕ) × (w : Why) × ScheduleFault rows at w)
+spelled_or_wrong rows = elim (schedule_decides rows) [
   | inl h ↦ (let f = h.2.fits in let t = h.0.0 in let lines = h.0.1 in
-      inl (record { depth = t.1.0; commands = firsts lines; rounds = seconds lines }, ran_spelled rows t.0 t.1.0 t.1.1 lines (firsts lines) (seconds lines) f.0.0 f.1.0.1 refl refl (rw h.2.follows.1.1 at h.2)))
+      inl (record { depth = t.1.0; commands = firsts lines; rounds = seconds lines }, schedule_spelled rows t.0 t.1.0 t.1.1 lines (firsts lines) (seconds lines) f.0.0 f.1.0.1 refl refl (rw h.2.follows.1.1 at h.2)))
   | inr f ↦ inr f
 ]
 
 -- reading
 
 -- what was read
-pub ran_in : (depth count : ℕ) (lines : List (Command × ℕ)) (cs : List Command) (rs : List ℕ) → IsCounted (depth, count) → AreFit lines → length lines ≡ count
-    → cs ≡ map (λ s. s.0) lines → rs ≡ map (λ s. s.1) lines → IsRan record { depth = depth; commands = cs; rounds = rs }
-ran_in depth count lines cs rs r fit n p q =
+pub schedule_in : (depth count : ℕ) (lines : List (Command × ℕ)) (cs : List Command) (rs : List ℕ) → IsCounted (depth, count) → AreFit lines → length lines ≡ count
+    → cs ≡ map (λ s. s.0) lines → rs ≡ map (λ s. s.1) lines → IsScheduleView record { depth = depth; commands = cs; rounds = rs }
+schedule_in depth count lines cs rs r fit n p q =
     let c : length (firsts lines) ≡ length lines = length-map lines (λ s. s.0) in
     let d : length (seconds lines) ≡ length lines = length-map lines (λ s. s.1) in
     let few = r.2 in
     let all = fit_served [] lines fit in
     rw (p, q) (record { depth = (r.0, r.1); few = omega (arith, few, c, n); one_each = d ∙ sym c; commands = all_first lines all; rounds = all_second lines all; distinct = fit_distinct lines fit })
 
-pub ran_read : (left mid : Option (List Row)) (version depth count : ℕ) (lines : List (Command × ℕ)) (cs : List Command) (rs : List ℕ) → Reads ran_title left mid (version, (depth, count)) → IsVersion 1 version
-    → IfSome mid (λ rows. Begins (ran_body count) rows lines []) → length lines ≡ count → cs ≡ map (λ s. s.0) lines → rs ≡ map (λ s. s.1) lines
+pub schedule_read : (left mid : Option (List Row)) (version depth count : ℕ) (lines : List (Command × ℕ)) (cs : List Command) (rs : List ℕ) → Reads schedule_title left mid (version, (depth, count)) → IsVersion 1 version
+    → IfSome mid (λ rows. Begins (schedule_body count) rows lines []) → length lines ≡ count → cs ≡ map (λ s. s.0) lines → rs ≡ map (λ s. s.1) lines
     → IfSome left (λ rows. SpellsSchedule rows record { depth = depth; commands = cs; rounds = rs })
-ran_read None mid version depth count lines cs rs t v u n p q = tt
-ran_read (Some rows) mid version depth count lines cs rs t v u n p q =
-    ran_spelled rows version depth count lines cs rs v n p q (then_reads ran_title (λ t. ran_body t.1.1) (Some rows) mid (version, (depth, count)) lines t u)
+schedule_read None mid version depth count lines cs rs t v u n p q = tt
+schedule_read (Some rows) mid version depth count lines cs rs t v u n p q =
+    schedule_spelled rows version depth count lines cs rs v n p q (then_reads schedule_title (λ t. schedule_body t.1.1) (Some rows) mid (version, (depth, count)) lines t u)
 
 -- the ids that are known
 
@@ -386,13 +387,13 @@ pub past_old : (before : List (Command × ℕ)) (row : Row) (v : Command × ℕ)
 past_old before row v w h (inl m) = inl m
 past_old before row v w h (inr o) = inr (rw o.0 (λ rest. (λ e. (cc e), inl (old_line before row v h o.1 rest))))
 
--- so many commands, to the end of the text
+-- this number of commands, to the end of the text
 
 abbrev Counted : ℕ → Option (List Row) → Option (List Row) → ℕ → ℕ → List (Command × ℕ) → Type 0
 Counted count left new start at vs = AreGathered (repeats.Exactly count) new_record left new start at vs false
 
 pub new_ends : (count : ℕ) (left mid new : Option (List Row)) (start at : ℕ) (vs : List (Command × ℕ)) (row : Row) → Counted count left mid start at vs → TakesRecord mid new row false
-    → IfSome left (λ rows. Begins (ran_body count) rows vs [])
+    → IfSome left (λ rows. Begins (schedule_body count) rows vs [])
 new_ends count left mid new start at vs row got taken = many_ends new_record new_record (repeats.Exactly count) left vs (full_ends new_record (repeats.Exactly count) left mid new vs row got.0 taken)
 
 pub new_fit : (count : ℕ) (left mid : Option (List Row)) (start at : ℕ) (vs : List (Command × ℕ)) → Counted count left mid start at vs → AreFit vs × (length vs ≡ count)
@@ -401,21 +402,21 @@ new_fit count left mid start at vs got = (got.1.0, got.1.1)
 pub new_size : (count : ℕ) (left mid : Option (List Row)) (start at : ℕ) (vs : List (Command × ℕ)) → Counted count left mid start at vs → at ≡ start + length vs
 new_size count left mid start at vs got = let e = got.3 in omega (arith, e, size_new vs)
 
-halted : (failed : Bool) (count : ℕ) (left : Option (List Row)) (start at last : ℕ) (w : Why) → IsStopped (repeats.Exactly count) new_record left start 0 at last → Fails failed (ran_body count) left start at w → Halts failed (ran_body count) left start at w
+halted : (failed : Bool) (count : ℕ) (left : Option (List Row)) (start at last : ℕ) (w : Why) → IsStopped (repeats.Exactly count) new_record left start 0 at last → Fails failed (schedule_body count) left start at w → Halts failed (schedule_body count) left start at w
 halted failed count left start at last w = lines_halt failed new_record (repeats.Exactly count) left start at last w (λ s. (new_one s).tells) (λ s. (new_one s).plain) some_rows
 
 pub new_halts : (failed : Bool) (count : ℕ) (left : Option (List Row)) (start at last : ℕ) (w : Why) → IsStopped (repeats.Exactly count) new_record left start 0 at last → Fails failed (repeated (repeats.Exactly count) new_record) left start at w
-    → Halts failed (ran_body count) left start at w
+    → Halts failed (schedule_body count) left start at w
 new_halts failed count left start at last w s f = halted failed count left start at last w s (many_fails failed new_record new_record (repeats.Exactly count) left start at w f)
 
 full : (count : ℕ) (left mid : Option (List Row)) (start at now : ℕ) (vs : List (Command × ℕ)) → Counted count left mid start now vs → at ≡ now + 1 → IsStopped (repeats.Exactly count) new_record left start 0 at at
 full count left mid start at now vs got e = let is = got.3 in full_stopped new_record (repeats.Exactly count) left mid vs start 0 at got.0 got.2 (omega (arith, is, e))
 
-pub end_outside : (failed : Bool) (count : ℕ) (left mid : Option (List Row)) (start at now : ℕ) (vs : List (Command × ℕ)) (w : Why) → Counted count left mid start now vs → at ≡ now + 1 → IsOutside failed w → Halts failed (ran_body count) left start at w
-end_outside failed count left mid start at now vs w got e o = halted failed count left start at at w (full count left mid start at now vs got e) (outside_fails failed (ran_body count) left start at w o)
+pub end_outside : (failed : Bool) (count : ℕ) (left mid : Option (List Row)) (start at now : ℕ) (vs : List (Command × ℕ)) (w : Why) → Counted count left mid start now vs → at ≡ now + 1 → IsOutside failed w → Halts failed (schedule_body count) left start at w
+end_outside failed count left mid start at now vs w got e o = halted failed count left start at at w (full count left mid start at now vs got e) (outside_fails failed (schedule_body count) left start at w o)
 
 pub past_halts : (failed : Bool) (count : ℕ) (left mid new : Option (List Row)) (start at now : ℕ) (vs : List (Command × ℕ)) (row : Row) (w : Why) → Counted count left mid start now vs → TakesRecord mid new row true → at ≡ now + 1
-    → (w ≡ why.Memory) ⊎ IsOver vs row w → Halts failed (ran_body count) left start at w
+    → (w ≡ why.Memory) ⊎ IsOver vs row w → Halts failed (schedule_body count) left start at w
 past_halts failed count left mid new start at now vs row w got taken e (inl m) = end_outside failed count left mid start at now vs w got e (inr m)
 past_halts failed count left mid new start at now vs row w got taken e (inr bad) =
     let is = got.3 in
@@ -424,19 +425,19 @@ past_halts failed count left mid new start at now vs row w got taken e (inr bad)
 
 -- where reading halts
 
-pub title_halts : (failed : Bool) (left : Option (List Row)) (start at : ℕ) (w : Why) → start ≡ 0 → Halts failed ran_title left start at w → Halts failed ran_form left 0 at w
-title_halts failed left start at w e h = first_halts failed ran_title (λ t. ran_body t.1.1) left 0 at w (λ t fit. body_tells t.1.1) (rw e at h)
+pub title_halts : (failed : Bool) (left : Option (List Row)) (start at : ℕ) (w : Why) → start ≡ 0 → Halts failed schedule_title left start at w → Halts failed schedule_form left 0 at w
+title_halts failed left start at w e h = first_halts failed schedule_title (λ t. schedule_body t.1.1) left 0 at w (λ t fit. body_tells t.1.1) (rw e at h)
 
-pub body_halts : (failed : Bool) (left mid : Option (List Row)) (t : ℕ × (ℕ × ℕ)) (middle at : ℕ) (w : Why) → middle ≡ 1 → Reads ran_title left mid t → Halts failed (ran_body t.1.1) mid middle at w → Halts failed ran_form left 0 at w
-body_halts failed left mid t middle at w e r h = second_halts failed ran_title (λ t. ran_body t.1.1) left mid t 0 middle at w (counted_one (codes "blk-schedule")).tells r (omega (arith, e)) h
+pub body_halts : (failed : Bool) (left mid : Option (List Row)) (t : ℕ × (ℕ × ℕ)) (middle at : ℕ) (w : Why) → middle ≡ 1 → Reads schedule_title left mid t → Halts failed (schedule_body t.1.1) mid middle at w → Halts failed schedule_form left 0 at w
+body_halts failed left mid t middle at w e r h = second_halts failed schedule_title (λ t. schedule_body t.1.1) left mid t 0 middle at w (counted_one (codes "blk-schedule")).tells r (omega (arith, e)) h
 
 -- past the last record
-pub whole_halts : (failed : Bool) (left mid : Option (List Row)) (t : ℕ × (ℕ × ℕ)) (lines : List (Command × ℕ)) (at : ℕ) (w : Why) → Reads ran_title left mid t → IfSome mid (λ rows. Begins (ran_body t.1.1) rows lines [])
-    → at ≡ length lines + 2 → IsOutside failed w → Halts failed ran_form left 0 at w
+pub whole_halts : (failed : Bool) (left mid : Option (List Row)) (t : ℕ × (ℕ × ℕ)) (lines : List (Command × ℕ)) (at : ℕ) (w : Why) → Reads schedule_title left mid t → IfSome mid (λ rows. Begins (schedule_body t.1.1) rows lines [])
+    → at ≡ length lines + 2 → IsOutside failed w → Halts failed schedule_form left 0 at w
 whole_halts failed left mid t lines at w r b e o =
-    end_halts failed ran_form left (t, lines) at w ran_tells (then_reads ran_title (λ t. ran_body t.1.1) left mid t lines r b) long o
+    end_halts failed schedule_form left (t, lines) at w schedule_tells (then_reads schedule_title (λ t. schedule_body t.1.1) left mid t lines r b) long o
   where
-    long : at ≡ length (ran_form.rows_of (t, lines)) + 1
+    long : at ≡ length (schedule_form.rows_of (t, lines)) + 1
     long =
-        let all : length ((ran_body t.1.1).rows_of lines) ≡ length lines = ap length (append-nil _) ∙ size_new lines in
+        let all : length ((schedule_body t.1.1).rows_of lines) ≡ length lines = ap length (append-nil _) ∙ size_new lines in
         omega (arith, e, all)

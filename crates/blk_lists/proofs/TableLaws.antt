@@ -20,7 +20,7 @@ use Rattle.parts.specs.Parts.{Part, NextWrong}
 use Rattle.parts.specs.Laws.{Tells}
 use Rattle.parts.specs.Inside.Laws.{TellsRecord, Decides, DecidesRecord}
 use Rattle.parts.proofs.Then.{record_tells, record_decides, by_word_tells, by_word_decides}
-use Rattle.blk_lists.specs.Tables.{Cell, Blank, Direction, Number, Signed, cell_slot, field_of, row_by, slots_by, FitsCell, FitsCells, IsUpTo, IsTitled, IsVersion, title_by, TitleLacks, title_record, table_record, word_record, kinds_record}
+use Rattle.blk_lists.specs.Tables.{Cell, Blank, Direction, Number, Signed, Text, Nanoseconds, cell_slot, field_of, row_by, slots_by, FitsCell, FitsCells, IsUpTo, IsTitled, IsVersion, title_by, TitleLacks, title_record, table_record, word_record, kinds_record}
 
 -- what a field tells of a value
 abbrev pub Told : {V : Type 0} → Cell V → Type 0
@@ -28,12 +28,16 @@ Told Blank = Unit {0}
 Told (Direction f) = Dir
 Told (Number least most f) = ℕ
 Told (Signed most f) = ℤ
+Told (Text f) = List ℕ
+Told (Nanoseconds f) = List ℕ
 
 abbrev pub told : {V : Type 0} → V → (c : Cell V) → Told c
 told v Blank = tt
 told v (Direction f) = f v
 told v (Number least most f) = f v
 told v (Signed most f) = f v
+told v (Text f) = f v
+told v (Nanoseconds f) = f v
 
 -- and what all fields do
 abbrev pub AllTold : {V : Type 0} → List (Cell V) → Type 0
@@ -50,6 +54,8 @@ IsSizedCell Blank = Unit {0}
 IsSizedCell (Direction f) = Unit {0}
 IsSizedCell (Number least most f) = most < 2 ^ 64
 IsSizedCell (Signed most f) = most < 2 ^ 63
+IsSizedCell (Text f) = Unit {0}
+IsSizedCell (Nanoseconds f) = Unit {0}
 
 abbrev pub Sized : {V : Type 0} → List (Cell V) → Type 0
 Sized [] = Unit {0}
@@ -81,6 +87,8 @@ cell_good Blank v s f = (refl, tt, tt, tt)
 cell_good (Direction d) v s f = (tt, (d v, refl), tt, tt)
 cell_good (Number least most n) v s f = let high = f.1 in number_good least most (n v) (omega (arith, high, s)) f.0 f.1
 cell_good (Signed most z) v s f = late_field most (z v) f s
+cell_good (Text t) v s f = (tt, tt, tt, tt)
+cell_good (Nanoseconds t) v s f = (tt, tt, f, tt)
 
 one_direction : (d e : Dir) → direction_text d ≡ direction_text e → d ≡ e
 one_direction dir.Read dir.Read e = refl
@@ -100,6 +108,8 @@ cell_same (Signed most z) v u s f g e =
     let high = up_to most (z v) f in
     let other = up_to most (z u) g in
     signed_decimal_injective (z v) (z u) (omega (arith, high, s)) (omega (arith, other, s)) e
+cell_same (Text t) v u s f g e = e
+cell_same (Nanoseconds t) v u s f g e = e
 
 -- what a good field tells
 abbrev CellTold : {V : Type 0} → Cell V → List ℕ → Type 0
@@ -117,6 +127,8 @@ cell_told Blank f g = (tt, λ v k. (g.0, tt))
 cell_told (Direction d) f g = (g.1.0, λ v k. (g.1.1 ∙ ap direction_text (sym k), tt))
 cell_told (Number least most n) f g = (g.2.0, λ v k. (g.2.2 ∙ ap decimal (sym k), rw k (g.3 g.2.0 g.2.1 g.2.2)))
 cell_told (Signed most z) f g = late_told most z f g.2.0 (g.3 g.2.0 g.2.1 g.2.2) g.2.2
+cell_told (Text t) f g = (f, λ v k. (sym k, tt))
+cell_told (Nanoseconds t) f g = (f, λ v k. (sym k, rw k g.2))
 
 -- all fields
 
@@ -237,7 +249,7 @@ pub next_once : (gone : Why) (width : ℕ) (rows : List Row) (w x : Why) → Nex
 next_once gone width [] w x a b = a ∙ sym b
 next_once gone width (row ∷ rows) w x a b = no_word_once width row w x a b
 
--- kinds that are told by their words, where `named` is the kind of a word
+-- kinds that are known by their words, where `named` is the kind of a word
 pub words_tell : {K : Type 0} (word_of : K → List ℕ) (named : List ℕ → K) → ((k : K) → named (word_of k) ≡ k) → (j k : K) → word_of j ≡ word_of k → j ≡ k
 words_tell word_of named is j k e = sym (is j) ∙ ap named e ∙ is k
 
@@ -356,6 +368,8 @@ IsByCell Blank v f m = Unit {0}
 IsByCell (Direction d) v f m = m ∷ [] ≡ direction_text (d v)
 IsByCell (Number least most n) v f m = n v ≡ m
 IsByCell (Signed most z) v f m = (f ≡ signed_decimal (z v)) × IsUpTo most (z v)
+IsByCell (Text t) v f m = f ≡ t v
+IsByCell (Nanoseconds t) v f m = f ≡ t v
 
 -- and these by place
 abbrev pub IsBy : {V : Type 0} → List (Cell V) → V → (ℕ → List ℕ) → (ℕ → ℕ) → Type 0
@@ -367,6 +381,8 @@ cell_by Blank v f m s b = (s.0, tt)
 cell_by (Direction d) v f m s b = (s.2 ∙ b, tt)
 cell_by (Number least most n) v f m s b = (s.2 ∙ ap decimal (sym b), rw b s.3)
 cell_by (Signed most z) v f m s b = b
+cell_by (Text t) v f m s b = (b, tt)
+cell_by (Nanoseconds t) v f m s b = (b, rw b at s.2.0)
 
 -- a record whose fields spell the numbers of a value is its record
 fields_by : {V : Type 0} (cells : List (Cell V)) (v : V) (row : Row) (number : ℕ → ℕ) → length row ≡ length (slots_by cells)

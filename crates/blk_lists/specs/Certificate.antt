@@ -8,7 +8,7 @@ use Rattle.edd_check.specs.declared.Window.{Window}
 use Rattle.blk_lists.specs.Sources.{Row}
 use Rattle.blk_lists.specs.Commands.{IsCommandInRange}
 use Rattle.blk_lists.specs.Reads.{items_of}
-use Rattle.blk_lists.specs.Tables.{Cell, Number, Signed, FitsCells, cells_by, row_by, table_record, word_record}
+use Rattle.blk_lists.specs.Tables.{Cell, Number, Signed, FitsCells, cells_by, table_record, word_record}
 use Rattle.blk_lists.specs.Titles.{counted_title}
 use Rattle.blk_lists.specs.Words.{NextStarts, HasNoWord}
 use Rattle.blk_lists.specs.declared.certificate.Certificate.{Certificate}
@@ -73,22 +73,17 @@ pub record IsClaim (c : Claim) : Type 0 where
   pub commands : All IsCommandInRange c.commands
   pub rounds : All (λ x. x < MAX_ROUNDS) c.rounds
 
--- the record of a bound, or of none
-abbrev pub bound_row : Option (ℤ × Window) → Row
-bound_row None = no_bound_row
-bound_row (Some b) = codes "bound" ∷ row_by (bound_cells 0) b
-
 -- the kinds of a bound
 pub data Bounded : Type 0 where
   NoBound : Bounded
   SomeBound : Bounded
 
 -- what a record of each kind says
-abbrev pub Bound : Bounded → Type 0
-Bound NoBound = Unit {0}
-Bound SomeBound = ℤ × Window
+abbrev pub BoundSaid : Bounded → Type 0
+BoundSaid NoBound = Unit {0}
+BoundSaid SomeBound = ℤ × Window
 
--- no bound is told by its whole record, and stands only beside no commands
+-- that there is no bound is said by a whole record, which stands only beside no commands
 abbrev pub SaysNone : ℕ → List Row → Type 0
 SaysNone count rows = (count ≡ 0) × ((more : List Row) × (rows ≡ no_bound_row ∷ more))
 
@@ -97,30 +92,30 @@ TellsBound count NoBound rows = SaysNone count rows
 TellsBound count SomeBound rows = NextStarts (codes "bound") rows × ¬ SaysNone count rows
 
 -- the record of each kind
-abbrev pub bound_kind : ℕ → (k : Bounded) → Part Row Why (Bound k)
+abbrev pub bound_kind : ℕ → (k : Bounded) → Part Row Why (BoundSaid k)
 bound_kind count NoBound = record_of (λ _. no_bound_row) (λ _. count ≡ 0) why.Word (λ _ _. ⊥)
 bound_kind count SomeBound = word_record why.Word (codes "bound") (bound_cells count) (FitsCells (bound_cells count))
 
 -- the kind of a bound
-abbrev pub kind_of : Option (ℤ × Window) → (k : Bounded) × Bound k
+abbrev pub kind_of : Option (ℤ × Window) → (k : Bounded) × BoundSaid k
 kind_of None = (NoBound, tt)
 kind_of (Some b) = (SomeBound, b)
 
 abbrev pub certificate_title_part : Part Row Why (ℕ × (ℕ × ℕ))
 certificate_title_part = counted_title (codes "blk-certificate")
 
--- the bound of so many commands
+-- the bound beside this number of commands
 abbrev pub bound : ℕ → Part Row Why (Option (ℤ × Window))
-bound count = seen_as kind_of (by_word Bound (TellsBound count) (bound_kind count) (NextWrong why.Word (HasNoWord 4)))
+bound count = seen_as kind_of (by_word BoundSaid (TellsBound count) (bound_kind count) (NextWrong why.Word (HasNoWord 4)))
 
 abbrev pub served_record : Part Row Why (Command × ℕ)
 served_record = table_record why.Count served_cells IsServed
 
--- a bound and so many commands
+-- a bound and this number of commands
 abbrev pub claim_body : ℕ → Part Row Why (Option (ℤ × Window) × List (Command × ℕ))
 claim_body count = then (bound count) (λ b. items_of (repeats.Exactly count) (λ _. served_record))
 
--- a title with the depth and the number of commands, a bound, and just so many commands with their rounds
+-- a title with the depth and the number of commands, a bound, and exactly that many commands with their rounds
 abbrev pub claim_form : Part Row Why ((ℕ × (ℕ × ℕ)) × (Option (ℤ × Window) × List (Command × ℕ)))
 claim_form = then certificate_title_part (λ t. claim_body t.1.1)
 

@@ -36,7 +36,7 @@ commands_title_part = title_record (codes "blk-commands") 1 depth_cells (λ _. I
 abbrev pub command : Part Row Why Command
 command = table_record why.Count command_cells IsCommandInRange
 
--- a title with the depth, and commands, at most so many
+-- a title with the depth, and commands, at most `MAX_COMMANDS`
 abbrev pub command_list : Part Row Why ((ℕ × ℕ) × List Command)
 command_list = then commands_title_part (λ t. items_of (repeats.AtMost MAX_COMMANDS) (λ _. command))
 

@@ -1,5 +1,5 @@
 -- What may stand in the fields of a record, and what a record lacks.
-use Rattle.std.specs.Prelude.{◌≡◌, ◌⊎◌, ◌<◌, ◌≤◌, ◌^◌, ◌==◌, ◌&&◌, not, Bool, false, ℕ, List, [], ◌∷◌, length, get_or, decimal}
+use Rattle.std.specs.Prelude.{◌≡◌, ◌⊎◌, ◌<◌, ◌≤◌, ◌^◌, ℕ, List, [], ◌∷◌, length, get_or, decimal}
 use Rattle.std.specs.Str.Parse.{AllDigits, digits_value}
 use Rattle.blk_bio.specs.declared.bio.Dir.{Dir}
 use Rattle.blk_bio.specs.Letters.{direction_text}
@@ -7,20 +7,15 @@ use Rattle.faults.specs.Order.{IsFirstFault}
 use Rattle.blk_lists.specs.Sources.{Row}
 use Rattle.blk_lists.specs.declared.fault.Why.{Why}
 use Rattle.blk_lists.specs.declared.fault.Why.TheVariants as why
-use Rattle.blk_lists.specs.declared.fields.Rule.{Rule}
-use Rattle.blk_lists.specs.declared.fields.Rule.TheVariants as rule
 use Rattle.blk_lists.specs.declared.fields.Slot.{Slot}
 use Rattle.blk_lists.specs.declared.fields.Slot.TheVariants as slot
 
--- whether a field begins with no sign and with no zero before another byte
-abbrev pub canonical : List ℕ → Bool
-canonical [] = false
-canonical (c ∷ []) = not (c == 43)
-canonical (c ∷ d ∷ ds) = not (c == 43) && not (c == 48)
+-- nanoseconds have nine digits, and tell this number
+abbrev pub IsNanoseconds : List ℕ → Type 0
+IsNanoseconds f = (length f ≡ 9) × AllDigits 10 f
 
--- decimal digits that write a number which fits a u64, perhaps with zeros before it
-abbrev pub WritesNumber : List ℕ → Type 0
-WritesNumber f = AllDigits 10 f × (digits_value 10 f < 2 ^ 64)
+abbrev pub TellsNanoseconds : List ℕ → ℕ → Type 0
+TellsNanoseconds f n = IsNanoseconds f × (n ≡ digits_value 10 f)
 
 -- each field of a record has this, beside the slot at its place
 abbrev pub EachField : (Slot → List ℕ → Type 0) → List Slot → Row → Type 0
@@ -33,6 +28,8 @@ IsBlank slot.Blank f = f ≡ []
 IsBlank slot.Direction f = Unit {0}
 IsBlank (slot.Number least most) f = Unit {0}
 IsBlank (slot.Lateness most) f = Unit {0}
+IsBlank slot.Text f = Unit {0}
+IsBlank slot.Nanoseconds f = Unit {0}
 
 -- a direction is R or W
 abbrev pub IsDirection : Slot → List ℕ → Type 0
@@ -41,18 +38,22 @@ IsDirection slot.Blank f = Unit {0}
 IsDirection slot.Direction f = (d : Dir) × (f ≡ direction_text d)
 IsDirection (slot.Number least most) f = Unit {0}
 IsDirection (slot.Lateness most) f = Unit {0}
+IsDirection slot.Text f = Unit {0}
+IsDirection slot.Nanoseconds f = Unit {0}
 
 -- a signed number of this size: with one minus before it, if it is not 0
 abbrev pub IsSized : List ℕ → ℕ → Type 0
 IsSized f n = (f ≡ decimal n) ⊎ ((0 < n) × (f ≡ 45 ∷ decimal n))
 
--- a number is written in decimal digits without leading zeros, and fits a u64
+-- a number is written in decimal digits without leading zeros, and fits a u64; nanoseconds are written in nine digits
 abbrev pub IsNumber : Slot → List ℕ → Type 0
 IsNumber slot.Given f = Unit {0}
 IsNumber slot.Blank f = Unit {0}
 IsNumber slot.Direction f = Unit {0}
 IsNumber (slot.Number least most) f = (n : ℕ) × (n < 2 ^ 64) × (f ≡ decimal n)
 IsNumber (slot.Lateness most) f = (n : ℕ) × (n < 2 ^ 64) × IsSized f n
+IsNumber slot.Text f = Unit {0}
+IsNumber slot.Nanoseconds f = IsNanoseconds f
 
 -- a number lies in its slot's range
 abbrev pub IsInRange : Slot → List ℕ → Type 0
@@ -61,20 +62,14 @@ IsInRange slot.Blank f = Unit {0}
 IsInRange slot.Direction f = Unit {0}
 IsInRange (slot.Number least most) f = (n : ℕ) → n < 2 ^ 64 → f ≡ decimal n → (least ≤ n) × (n ≤ most)
 IsInRange (slot.Lateness most) f = (n : ℕ) → n < 2 ^ 64 → IsSized f n → n ≤ most
+IsInRange slot.Text f = Unit {0}
+IsInRange slot.Nanoseconds f = Unit {0}
 
--- a field keeps a rule
-abbrev pub KeepsRule : Rule → Slot → List ℕ → Type 0
-KeepsRule rule.Blank = IsBlank
-KeepsRule rule.Direction = IsDirection
-KeepsRule rule.Number = IsNumber
-
--- a field is all that its slot wants
-abbrev pub IsGood : Slot → List ℕ → Type 0
-IsGood s f = IsBlank s f × IsDirection s f × IsNumber s f × IsInRange s f
-
--- and so is each field of a record
-abbrev pub IsWhole : List Slot → Row → Type 0
-IsWhole slots row = (length row ≡ length slots) × EachField IsGood slots row
+-- few fields have such a slot
+abbrev pub IsSeldom : Slot → Type 0
+IsSeldom (slot.Lateness most) = Unit {0}
+IsSeldom slot.Nanoseconds = Unit {0}
+IsSeldom s = ⊥
 
 -- as many fields as slots, and the blank ones empty
 abbrev pub IsShaped : List Slot → Row → Type 0
@@ -99,6 +94,8 @@ NumberOf slot.Blank f n = Unit {0}
 NumberOf slot.Direction f n = f ≡ n ∷ []
 NumberOf (slot.Number least most) f n = f ≡ decimal n
 NumberOf (slot.Lateness most) f n = IsSized f n
+NumberOf slot.Text f n = Unit {0}
+NumberOf slot.Nanoseconds f n = TellsNanoseconds f n
 
 -- a number lies in a slot's range
 abbrev pub IsWithinSlot : Slot → ℕ → Type 0
@@ -107,6 +104,8 @@ IsWithinSlot slot.Blank n = Unit {0}
 IsWithinSlot slot.Direction n = Unit {0}
 IsWithinSlot (slot.Number least most) n = (least ≤ n) × (n ≤ most)
 IsWithinSlot (slot.Lateness most) n = n ≤ most
+IsWithinSlot slot.Text n = Unit {0}
+IsWithinSlot slot.Nanoseconds n = n < 10 ^ 9
 
 -- each field of a record has this, beside the slot and the number at its place
 abbrev pub EachNumber : (Slot → List ℕ → ℕ → Type 0) → List Slot → Row → List ℕ → Type 0

@@ -1,2 +1,7 @@
--- What proofs alone need.
+-- What private functions and proofs alone need.
 pub mod Cells
+pub mod Fields
+pub mod Sources
+pub mod Certificate
+pub mod Proof
+pub mod Schedule

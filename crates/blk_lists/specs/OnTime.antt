@@ -1,4 +1,4 @@
--- A certificate of the greatest number of commands that are met: a title, how many are met, a record for each window, and a
+-- A certificate of the greatest number of commands that are on time: a title, how many are on time, a record for each window, and a
 -- record for each command with its round.
 use Rattle.std.specs.Prelude.{◌≡◌, ◌≤◌, ◌<◌, ℕ, List, [], ◌∷◌, length, codes, All}
 use Rattle.std.specs.List.{zip}
@@ -21,19 +21,19 @@ use Rattle.blk_lists.specs.declared.fault.Why.TheVariants as why
 use Rattle.parts.specs.declared.Repeats.TheVariants as repeats
 use Rattle.parts.specs.Parts.{Part, then, Spells}
 
--- such a certificate: the depth, the commands and their rounds by place, how many are met, and the windows
+-- such a certificate: the depth, the commands and their rounds by place, how many are on time, and the windows
 pub record OnTimeClaim : Type 0 where
   pub depth : ℕ
   pub commands : List Command
   pub rounds : List ℕ
-  pub met : ℕ
+  pub on_time : ℕ
   pub cover : List Window
 
 -- what it claims
 abbrev pub on_time_claimed : OnTimeCertificate → OnTimeClaim
-on_time_claimed c = record { depth = c.depth; commands = c.commands.items; rounds = c.rounds.items; met = c.met; cover = c.cover.items }
+on_time_claimed c = record { depth = c.depth; commands = c.commands.items; rounds = c.rounds.items; on_time = c.on_time; cover = c.cover.items }
 
--- met, number of commands met, number of windows, empty
+-- on time, number of commands on time, number of windows, empty
 abbrev pub on_time_cells : List (Cell (ℕ × ℕ))
 on_time_cells = cells_by NUMBERS.slots ((λ n. n.0) ∷ (λ n. n.1) ∷ [])
 
@@ -41,7 +41,7 @@ on_time_cells = cells_by NUMBERS.slots ((λ n. n.0) ∷ (λ n. n.1) ∷ [])
 abbrev pub window_cells : List (Cell Window)
 window_cells = cells_by WINDOW.slots ((λ w. w.from) ∷ (λ w. w.due) ∷ [])
 
--- a number of commands met and a number of windows
+-- a number of commands on time and a number of windows
 abbrev pub AreFew : ℕ × ℕ → Type 0
 AreFew n = (n.0 ≤ MAX_COMMANDS) × (n.1 ≤ MAX_COMMANDS)
 
@@ -50,7 +50,7 @@ pub record IsOnTimeClaim (c : OnTimeClaim) : Type 0 where
   pub depth : (1 ≤ c.depth) × (c.depth ≤ MAX_DEPTH)
   pub few : length c.commands ≤ MAX_COMMANDS
   pub one_each : length c.rounds ≡ length c.commands
-  pub numbers : AreFew (c.met, length c.cover)
+  pub numbers : AreFew (c.on_time, length c.cover)
   pub cover : All WindowInRange c.cover
   pub commands : All IsCommandInRange c.commands
   pub rounds : All (λ x. x < MAX_ROUNDS) c.rounds
@@ -64,15 +64,15 @@ on_time_numbers = word_record why.Word (codes "met") on_time_cells AreFew
 abbrev pub window : Part Row Why Window
 window = word_record why.Count (codes "window") window_cells WindowInRange
 
--- so many windows
+-- this number of windows
 abbrev pub windows : ℕ → Part Row Why (List Window)
 windows count = repeated (repeats.Exactly count) (λ _. window)
 
--- so many windows and then so many commands
+-- this number of windows and then this number of commands
 abbrev pub cover_body : ℕ → ℕ → Part Row Why (List Window × List (Command × ℕ))
 cover_body most count = then (windows most) (λ _. items_of (repeats.Exactly count) (λ _. served_record))
 
--- how many are met and how many windows there are, the windows, and so many commands
+-- how many are on time and how many windows there are, the windows, and the commands
 abbrev pub on_time_body : ℕ → Part Row Why ((ℕ × ℕ) × (List Window × List (Command × ℕ)))
 on_time_body count = then on_time_numbers (λ n. cover_body n.1 count)
 
@@ -82,7 +82,7 @@ on_time_form = then on_time_title (λ t. on_time_body t.1.1)
 
 -- what the records of such a certificate tell after the title
 abbrev pub on_time_told : OnTimeClaim → (ℕ × ℕ) × (List Window × List (Command × ℕ))
-on_time_told c = ((c.met, length c.cover), (c.cover, zip c.commands c.rounds))
+on_time_told c = ((c.on_time, length c.cover), (c.cover, zip c.commands c.rounds))
 
 -- and with it
 abbrev pub on_time_value : OnTimeClaim → (ℕ × (ℕ × ℕ)) × ((ℕ × ℕ) × (List Window × List (Command × ℕ)))

@@ -7,7 +7,6 @@ use Rattle.blk_lists.specs.Sources.{Row}
 use Rattle.blk_lists.specs.Words.{NextStarts}
 use Rattle.blk_lists.specs.Certificate.{Claim, IsClaim, SpellsClaim, claimed, claim_form}
 use Rattle.blk_lists.specs.OnTime.{OnTimeClaim, IsOnTimeClaim, SpellsOnTime, on_time_claimed, on_time_form}
-use Rattle.blk_lists.specs.Titles.{counted_title}
 use Rattle.blk_lists.specs.declared.proof.Proof.{Proof}
 use Rattle.blk_lists.specs.declared.proof.Proof.TheVariants as proof
 use Rattle.blk_lists.specs.declared.proof.ProofKind.{ProofKind}
@@ -58,10 +57,6 @@ StartsAs k = NextStarts (proof_name k)
 -- what is wrong with a first record of another name, or where there is none
 abbrev pub IsUnnamed : List Row → Why → Type 0
 IsUnnamed rows w = w ≡ why.Title
-
--- the title of either kind
-abbrev pub proof_title : Part Row Why (ProofKind × (ℕ × (ℕ × ℕ)))
-proof_title = by_word (λ _. ℕ × (ℕ × ℕ)) StartsAs (λ k. counted_title (proof_name k)) IsUnnamed
 
 -- either form
 abbrev pub proof_form : Part Row Why ((k : ProofKind) × Shown k)

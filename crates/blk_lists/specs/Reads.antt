@@ -101,12 +101,12 @@ ItemsBefore x q rows place = GoodBefore x q with_next [] rows place
 abbrev pub IsStopped : {V : Type 0} → Repeats → (List V → Part Row Why V) → Option (List Row) → ℕ → ℕ → ℕ → ℕ → Type 0
 IsStopped x q left start more at last = (place : ℕ) × (start + place ≤ at) × (at ≤ last) × (last ≤ start + place + more) × IfSome left (λ rows. ItemsBefore x q rows place)
 
--- there may be fewer items than so many
+-- there may be fewer items than this number
 abbrev pub MayBeFewer : Repeats → Type 0
 MayBeFewer (repeats.AtMost most) = Unit {0}
 MayBeFewer (repeats.Exactly count) = ⊥
 
--- so many items were read: the text is over after them, which was asked for, or they are as many as there may be
+-- this number of items were read: the text is over after them, which was asked for, or they are as many as there may be
 abbrev pub AreGathered : {V : Type 0} → Repeats → (List V → Part Row Why V) → Option (List Row) → Option (List Row) → ℕ → ℕ → List V → Bool → Type 0
 AreGathered x q left new start at vs true = IfSome left (λ rows. Begins (repeated x q) rows vs []) × AreItems x q vs × (at ≡ start + size_of q vs + 1) × MayBeFewer x
 AreGathered x q left new start at vs false = Reads (repeated x q) left new vs × AreItems x q vs × (length vs ≡ most_of x) × (at ≡ start + size_of q vs)

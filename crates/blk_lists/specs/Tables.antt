@@ -4,7 +4,7 @@ use Rattle.std.specs.Fmt.{signed_decimal}
 use Rattle.blk_bio.specs.declared.bio.Dir.{Dir}
 use Rattle.blk_lists.specs.Sources.{Row}
 use Rattle.blk_bio.specs.Letters.{direction_text}
-use Rattle.blk_lists.specs.Fields.{Lacks}
+use Rattle.blk_lists.specs.Fields.{Lacks, IsNanoseconds}
 use Rattle.blk_lists.specs.Words.{NextStarts, HasNoWord, WordLacks}
 use Rattle.blk_lists.specs.declared.fault.Why.{Why}
 use Rattle.blk_lists.specs.declared.fault.Why.TheVariants as why
@@ -12,13 +12,15 @@ use Rattle.blk_lists.specs.declared.fields.Slot.{Slot}
 use Rattle.blk_lists.specs.declared.fields.Slot.TheVariants as slot
 use Rattle.parts.specs.Parts.{Part, NextWrong, record_of, by_word}
 
--- what stands in a field of the record of a value: nothing, a direction, a number from `least` to `most`, or a signed
--- number of a size up to `most`
+-- what stands in a field of the record of a value: nothing, a direction, a number from `least` to `most`, a signed
+-- number of a size up to `most`, any text, or the nine digits of nanoseconds
 pub data Cell (V : Type 0) : Type 0 where
   Blank : Cell V
   Direction : (V → Dir) → Cell V
   Number : ℕ → ℕ → (V → ℕ) → Cell V
   Signed : ℕ → (V → ℤ) → Cell V
+  Text : (V → List ℕ) → Cell V
+  Nanoseconds : (V → List ℕ) → Cell V
 
 -- the slot of a field
 abbrev pub cell_slot : {V : Type 0} → Cell V → Slot
@@ -26,6 +28,8 @@ cell_slot Blank = slot.Blank
 cell_slot (Direction f) = slot.Direction
 cell_slot (Number least most f) = slot.Number least most
 cell_slot (Signed most f) = slot.Lateness most
+cell_slot (Text f) = slot.Text
+cell_slot (Nanoseconds f) = slot.Nanoseconds
 
 -- the text of a field
 abbrev pub field_of : {V : Type 0} → V → Cell V → List ℕ
@@ -33,6 +37,8 @@ field_of v Blank = []
 field_of v (Direction f) = direction_text (f v)
 field_of v (Number least most f) = decimal (f v)
 field_of v (Signed most f) = signed_decimal (f v)
+field_of v (Text f) = f v
+field_of v (Nanoseconds f) = f v
 
 -- the record of a value
 abbrev pub row_by : {V : Type 0} → List (Cell V) → V → Row
@@ -55,12 +61,14 @@ abbrev pub IsUpTo : ℕ → ℤ → Type 0
 IsUpTo most (pos n) = n ≤ most
 IsUpTo most (negsuc n) = suc n ≤ most
 
--- the number of a field lies in its range
+-- the number of a field lies in its range, and its digits are nine
 abbrev pub FitsCell : {V : Type 0} → V → Cell V → Type 0
 FitsCell v Blank = Unit {0}
 FitsCell v (Direction f) = Unit {0}
 FitsCell v (Number least most f) = (least ≤ f v) × (f v ≤ most)
 FitsCell v (Signed most f) = IsUpTo most (f v)
+FitsCell v (Text f) = Unit {0}
+FitsCell v (Nanoseconds f) = IsNanoseconds (f v)
 
 -- all of them do
 abbrev pub FitsCells : {V : Type 0} → List (Cell V) → V → Type 0

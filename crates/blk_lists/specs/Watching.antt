@@ -1,6 +1,9 @@
 -- A reader that knows whether a read has failed.
 use Rattle.std.specs.Prelude.{ℕ, Bool, false, List, Option, option_and_then}
 use Rattle.std.specs.Option.{option_map_or}
+use Rattle.csv.specs.Reading.{reader_source}
+use Rattle.csv.specs.declared.reader.Reader.{Reader}
+use Rattle.blk_lists.specs.Sources.{Row, Source, left_of}
 use Rattle.blk_lists.specs.declared.watched.Place.{Place}
 use Rattle.blk_lists.specs.declared.watched.Watched.{Watched}
 
@@ -17,3 +20,13 @@ left_in remaining p = option_and_then (remaining_of remaining) p.held
 
 abbrev pub failed_in : {R : Type 0} → Place R → Bool
 failed_in p = option_map_or read_failed p.held false
+
+-- what a CSV reader over a place has left, with these fields of the last record that was read, and this number of records asked for
+abbrev pub source_in : {R : Type 0} → (R → Option (List ℕ)) → Reader (Place R) → Row → ℕ → Source
+source_in remaining reader fields at = record {
+  left = left_of (left_in remaining) reader;
+  bytes = left_in remaining (reader_source reader);
+  fields = fields;
+  at = at;
+  failed = failed_in (reader_source reader);
+}

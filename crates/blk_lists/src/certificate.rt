@@ -14,11 +14,13 @@ ghost use Rattle.blk_lists.specs.Texts.{rows_text, AddsRows};
 ghost use Rattle.drafts.specs.Parts.{AppendsPart};
 ghost use Rattle.drafts.specs.Drafts.{drafted};
 ghost use Rattle.blk_lists.specs.Titles.{IsCounted};
-ghost use Rattle.blk_lists.specs.Certificate.{claimed, claim_form, IsClaim, SpellsClaim, ClaimFault, claim_rows, claim_body, claim_told, bound as bound_part, bound_cells, no_bound_row, bound_row, served_cells};
+ghost use Rattle.blk_lists.specs.Certificate.{claimed, claim_form, IsClaim, SpellsClaim, ClaimFault, claim_rows, claim_body, claim_told, bound as bound_part, bound_cells, no_bound_row, served_cells};
+ghost use Rattle.blk_lists.specs.Inside.Certificate.{bound_row};
 
 use crate::fault::{TextFault, Why};
 use crate::fields::{
-    ANY, RELEASE, ROUND, Slot, after_minus, begins_with, field, read_fields, without_word,
+    ANY_SLOT, RELEASE_SLOT, ROUND_SLOT, Slot, after_minus, begins_with, field, read_fields,
+    without_word,
 };
 use crate::items::{LineForm, read_line, read_lines};
 use crate::kinds::Kind;
@@ -45,7 +47,7 @@ pub const CERTIFICATE: Kind<15, 4> = Kind {
 pub const BOUND: Kind<5, 4> = Kind {
     word: *b"bound",
     since: 1,
-    slots: [Slot::Given, LATE, ROUND, ROUND],
+    slots: [Slot::Given, LATE, ROUND_SLOT, ROUND_SLOT],
 };
 
 /// A lateness in rounds.
@@ -66,7 +68,7 @@ pub struct Certificate {
     pub bound: Option<(i64, Window)>,
 }
 
-/// The bound for so many commands.
+/// The bound beside this number of commands.
 #[derive(Clone, Copy, Drop)]
 pub(crate) struct BoundForm {
     count: u64,
@@ -92,7 +94,7 @@ impl LineForm for BoundForm {
 }
 
 /// The fields of a command with its round: id, release, due, round.
-pub const SERVED: [Slot; 4] = [ANY, RELEASE, ROUND, ROUND];
+pub const SERVED: [Slot; 4] = [ANY_SLOT, RELEASE_SLOT, ROUND_SLOT, ROUND_SLOT];
 
 /// The record of a command with its round.
 #[derive(Clone, Copy, Drop)]
@@ -166,7 +168,7 @@ fn bound_with(row: &ByteRecord, numbers: &[u64; 4], count: u64) -> (i64, Window)
     (lateness_of(field(row, 1), numbers[1]), window)
 }
 
-/// The slots of a bound, beside so many commands.
+/// The slots of a bound, beside this number of commands.
 fn bound_slots(count: u64) -> [Slot; 4]
     ensures { result ≡ slot.Given ∷ slots_by (bound_cells count) }
 {
@@ -177,7 +179,7 @@ fn bound_slots(count: u64) -> [Slot; 4]
     BOUND.slots
 }
 
-/// The bound of a record that begins with its word, for so many commands.
+/// The bound of a record that begins with its word, beside this number of commands.
 fn bound_of(row: &ByteRecord, count: u64) -> Result<Option<(i64, Window)>, Why>
     requires { StartsWith (codes "bound") (fields_of row.now) }
     ensures ok { IfOk result (IsRowOf (bound_part count) (fields_of row.now)) }

@@ -8,7 +8,9 @@ ghost use Rattle.blk_lists.specs.Reads.{FaultsBy, Reaches};
 ghost use Rattle.blk_lists.specs.Commands.{AreCommands, SpellsCommands, CommandsFault, command_list, commands_rows};
 
 use crate::fault::{TextFault, Why};
-use crate::fields::{ANY, DEPTH, RELEASE, ROUND, Slot, read_fields, version_of};
+use crate::fields::{
+    ANY_SLOT, DEPTH_SLOT, RELEASE_SLOT, ROUND_SLOT, Slot, read_fields, version_of,
+};
 use crate::items::{LineForm, read_line, read_lines};
 use crate::kinds::Kind;
 use crate::source::Records;
@@ -24,11 +26,11 @@ use std::io::{Read, Write};
 pub const COMMANDS: Kind<12, 3> = Kind {
     word: *b"blk-commands",
     since: 1,
-    slots: [Slot::Given, Slot::Given, DEPTH],
+    slots: [Slot::Given, Slot::Given, DEPTH_SLOT],
 };
 
 /// The fields of a command: id, release, due.
-pub const COMMAND: [Slot; 3] = [ANY, RELEASE, ROUND];
+pub const COMMAND: [Slot; 3] = [ANY_SLOT, RELEASE_SLOT, ROUND_SLOT];
 
 /// The title record: the version and the depth.
 #[derive(Clone, Copy, Drop)]

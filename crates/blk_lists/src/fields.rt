@@ -3,7 +3,9 @@
 ghost use Rattle.std.specs.Prelude.{◌≡◌, ◌≢◌, ◌+◌, ◌*◌, ◌<◌, ◌≤◌, ◌^◌, ◌↔◌, ℕ, [], ◌∷◌, length, get_or, IsTrue, IfOk, IfErr, MatchOption, decimal};
 ghost use Rattle.std.specs.Str.Parse.{AllDigits, digits_value};
 ghost use Rattle.csv.specs.Records.{fields_of};
-ghost use Rattle.blk_lists.specs.Fields.{EachField, IsSized, IsGood, IsWhole, KeepsRule, Lacks, FieldSpells, FieldsSpell, WritesNumber, canonical};
+ghost use Rattle.blk_lists.specs.declared.fields.TheConstants.{MAX_SAFE_DIGITS};
+ghost use Rattle.blk_lists.specs.Fields.{EachField, IsSized, IsSeldom, Lacks, FieldSpells, FieldsSpell, IsNanoseconds, TellsNanoseconds};
+ghost use Rattle.blk_lists.specs.Inside.Fields.{IsGood, IsWhole, KeepsRule, WritesNumber, canonical};
 ghost use Rattle.blk_lists.specs.Tables.{HasNoVersion, IsOfVersion};
 ghost use Rattle.blk_lists.specs.Words.{StartsWith, HasNoWord};
 
@@ -25,34 +27,38 @@ pub enum Slot {
     Number { least: u64, most: u64 },
     /// A number up to `most`, one other than 0 perhaps with a minus before it.
     Lateness { most: u64 },
+    /// Any text.
+    Text,
+    /// The nanoseconds of a time within its second: nine digits, so a number below 10^9.
+    Nanoseconds,
 }
 
 /// Any number.
-pub const ANY: Slot = Slot::Number {
+pub const ANY_SLOT: Slot = Slot::Number {
     least: 0,
     most: u64::MAX,
 };
 
 /// The depth of a round: how many commands it has room for.
-pub const DEPTH: Slot = Slot::Number {
+pub const DEPTH_SLOT: Slot = Slot::Number {
     least: 1,
     most: MAX_DEPTH,
 };
 
 /// A number of commands.
-pub const COUNT: Slot = Slot::Number {
+pub const COUNT_SLOT: Slot = Slot::Number {
     least: 0,
     most: MAX_COMMANDS,
 };
 
 /// The round in which a command is released.
-pub const RELEASE: Slot = Slot::Number {
+pub const RELEASE_SLOT: Slot = Slot::Number {
     least: 0,
     most: MAX_RELEASES - 1,
 };
 
 /// Any other round.
-pub const ROUND: Slot = Slot::Number {
+pub const ROUND_SLOT: Slot = Slot::Number {
     least: 0,
     most: MAX_ROUNDS - 1,
 };
@@ -61,7 +67,7 @@ pub const ROUND: Slot = Slot::Number {
 pub const MAX_TAGS: u64 = 1 << 16;
 
 /// A tag.
-pub const TAG: Slot = Slot::Number {
+pub const TAG_SLOT: Slot = Slot::Number {
     least: 0,
     most: MAX_TAGS - 1,
 };
@@ -88,14 +94,14 @@ fn is_canonical(field: &[u8]) -> bool
 }
 
 /// The greatest number that a digit can follow.
-const LAST: u64 = u64::MAX / 10;
+const MAX_BEFORE_DIGIT: u64 = u64::MAX / 10;
 
 /// Whether a number does not fit once one more digit follows it.
 fn is_past(number: u64, digit: u64) -> bool
     requires { digit < 10 }
     ensures { IsTrue result ↔ (2 ^ 64 ≤ number * 10 + digit) }
 {
-    number > LAST || (number == LAST && digit > u64::MAX % 10)
+    number > MAX_BEFORE_DIGIT || (number == MAX_BEFORE_DIGIT && digit > u64::MAX % 10)
 }
 
 /// The same for digits of any number. Seldom asked, so apart from the others.
@@ -120,12 +126,14 @@ fn long_number(field: &[u8]) -> Option<u64>
 }
 
 /// The most digits of which every number fits.
-const SAFE: usize = 19;
+const MAX_SAFE_DIGITS: usize = 19;
 
 /// The number that so few digits write that it fits, if they are digits.
 fn short_number(field: &[u8]) -> Option<u64>
-    requires { length field.now ≤ 19 }
-    ensures { MatchOption result (¬ WritesNumber field.now) (λ n. WritesNumber field.now × (n ≡ digits_value 10 field.now)) }
+    requires { length field.now ≤ MAX_SAFE_DIGITS }
+    ensures value { MatchOption result (¬ WritesNumber field.now) (λ n. WritesNumber field.now × (n ≡ digits_value 10 field.now)) }
+    // whatever these digits are, their number fits
+    ensures digits { MatchOption result (¬ AllDigits 10 field.now) (λ n. n < 10 ^ length field.now) }
 {
     let mut number: u64 = 0;
     for byte in field {
@@ -168,7 +176,7 @@ fn parse_digits(field: &[u8]) -> Option<u64>
 {
     if !is_canonical(field) {
         None
-    } else if field.len() <= SAFE {
+    } else if field.len() <= MAX_SAFE_DIGITS {
         short_number(field)
     } else {
         long_number(field)
@@ -185,8 +193,7 @@ pub fn after_minus(field: &[u8]) -> Option<&[u8]>
     }
 }
 
-/// The size of a signed number. A call, as `parse_digits` is.
-#[inline(never)]
+/// The size of a signed number.
 fn parse_sized(field: &[u8]) -> Option<u64>
     ensures { MatchOption result ((n : ℕ) → n < 2 ^ 64 → ¬ IsSized field.now n) (IsSized field.now) }
 {
@@ -202,6 +209,19 @@ fn parse_sized(field: &[u8]) -> Option<u64>
         },
         None => parse_number(field),
     }
+}
+
+/// How many digits nanoseconds have.
+const NINE: usize = 9;
+
+/// The nanoseconds of a time within its second, of a field of nine digits, which may begin with zeros.
+pub fn parse_nanoseconds(field: &[u8]) -> Option<u64>
+    ensures { MatchOption result (¬ IsNanoseconds field.now) (λ n. TellsNanoseconds field.now n × (n < 10 ^ 9)) }
+{
+    if field.len() != NINE {
+        return None;
+    }
+    short_number(field)
 }
 
 /// What is looked for in all fields of a record, one after another.
@@ -222,16 +242,27 @@ fn keeps(rule: Rule, slot: Slot, field: &[u8]) -> bool
     match rule {
         Rule::Blank => match slot {
             Slot::Blank => field.is_empty(),
-            Slot::Given | Slot::Direction | Slot::Number { .. } | Slot::Lateness { .. } => true,
+            Slot::Given
+            | Slot::Direction
+            | Slot::Number { .. }
+            | Slot::Lateness { .. }
+            | Slot::Text
+            | Slot::Nanoseconds => true,
         },
         Rule::Direction => match slot {
             Slot::Direction => Dir::of_letter(field).is_some(),
-            Slot::Given | Slot::Blank | Slot::Number { .. } | Slot::Lateness { .. } => true,
+            Slot::Given
+            | Slot::Blank
+            | Slot::Number { .. }
+            | Slot::Lateness { .. }
+            | Slot::Text
+            | Slot::Nanoseconds => true,
         },
         Rule::Number => match slot {
             Slot::Number { .. } => parse_number(field).is_some(),
             Slot::Lateness { .. } => parse_sized(field).is_some(),
-            Slot::Given | Slot::Blank | Slot::Direction => true,
+            Slot::Nanoseconds => parse_nanoseconds(field).is_some(),
+            Slot::Given | Slot::Blank | Slot::Direction | Slot::Text => true,
         },
     }
 }
@@ -267,13 +298,31 @@ fn first_lack(row: &ByteRecord, slots: &[Slot]) -> Why
     Why::Range
 }
 
+/// The number of a field that is what its slot wants, where few fields have such a slot. A call, as `parse_digits` is.
+#[inline(never)]
+fn seldom_spelled(slot: Slot, field: &[u8]) -> Option<u64>
+    requires { IsSeldom slot }
+    ensures { MatchOption result (¬ IsGood slot field.now) (FieldSpells slot field.now) }
+{
+    match slot {
+        Slot::Lateness { most } => match parse_sized(field) {
+            Some(n) => { if n <= most { Some(n) } else { None } }
+            None => None,
+        },
+        Slot::Nanoseconds => parse_nanoseconds(field),
+        Slot::Given | Slot::Blank | Slot::Direction | Slot::Number { .. } | Slot::Text => {
+            unreachable!()
+        }
+    }
+}
+
 /// The number of a field that is what its slot wants, a direction's letter, 0 where the slot has none.
 #[inline(always)]
 fn spelled(slot: Slot, field: &[u8]) -> Option<u64>
     ensures { MatchOption result (¬ IsGood slot field.now) (FieldSpells slot field.now) }
 {
     match slot {
-        Slot::Given => Some(0),
+        Slot::Given | Slot::Text => Some(0),
         Slot::Blank => { if field.is_empty() { Some(0) } else { None } }
         Slot::Direction => match Dir::of_letter(field) {
             Some(dir) => Some(dir.letter() as u64),
@@ -289,10 +338,7 @@ fn spelled(slot: Slot, field: &[u8]) -> Option<u64>
             }
             None => None,
         },
-        Slot::Lateness { most } => match parse_sized(field) {
-            Some(n) => { if n <= most { Some(n) } else { None } }
-            None => None,
-        },
+        Slot::Lateness { .. } | Slot::Nanoseconds => seldom_spelled(slot, field),
     }
 }
 

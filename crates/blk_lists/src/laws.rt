@@ -8,7 +8,7 @@ ghost use Rattle.blk_lists.specs.Commands.{CommandsFault, OneList, ListReadsBack
 ghost use Rattle.blk_lists.specs.Certificate.{Claim, IsClaim, SpellsClaim, ClaimFault, claim_rows};
 ghost use Rattle.blk_lists.specs.OnTime.{OnTimeClaim, IsOnTimeClaim, SpellsOnTime, OnTimeClaimFault, on_time_rows};
 ghost use Rattle.blk_lists.specs.Proof.{OfLateness, OfOnTime, SpellsProof, ProofFault, FaultsAs, StartsAs};
-ghost use Rattle.blk_lists.specs.Schedule.{IsRan, SpellsSchedule, ScheduleFault, ran_rows};
+ghost use Rattle.blk_lists.specs.Schedule.{IsScheduleView, SpellsSchedule, ScheduleFault, schedule_rows};
 ghost use Rattle.blk_lists.specs.Words.{NextStarts};
 ghost use Rattle.blk_lists.specs.declared.fault.Why.TheVariants as why;
 ghost use Rattle.blk_lists.specs.declared.proof.ProofKind.TheVariants as kind;
@@ -33,7 +33,7 @@ pub fn certificates()
     ensures first { OneFault ClaimFault }
 {}
 
-/// Certificates of the greatest number met: records spell one at most, and its text reads back as its records, which spell it. Records either spell one
+/// Certificates of the greatest number on time: records spell one at most, and its text reads back as its records, which spell it. Records either spell one
 /// or have a fault as one, and not both; and they have one first fault at most.
 pub fn on_time_certificates()
     ensures once { OneValue SpellsOnTime }
@@ -48,7 +48,7 @@ pub fn on_time_certificates()
 /// and they have one first fault at most.
 pub fn certificates_of_both_forms()
     ensures lateness { FaultsAs (codes "blk-certificate") ClaimFault }
-    ensures met { FaultsAs (codes "blk-met") OnTimeClaimFault }
+    ensures on_time { FaultsAs (codes "blk-met") OnTimeClaimFault }
     ensures neither { (rows : List Row) → ¬ StartsAs kind.Lateness rows → ¬ StartsAs kind.OnTime rows → ProofFault rows 1 why.Title }
     ensures spelled_lateness { (rows : List Row) → (c : Claim) → SpellsProof rows (OfLateness c) → NextStarts (codes "blk-certificate") rows }
     ensures spelled_on_time { (rows : List Row) → (c : OnTimeClaim) → SpellsProof rows (OfOnTime c) → NextStarts (codes "blk-met") rows }
@@ -62,7 +62,7 @@ pub fn certificates_of_both_forms()
 /// or have a fault as one, and not both; and they have one first fault at most.
 pub fn schedules()
     ensures once { OneValue SpellsSchedule }
-    ensures back { ReadsBack IsRan ran_rows SpellsSchedule }
+    ensures back { ReadsBack IsScheduleView schedule_rows SpellsSchedule }
     ensures decided { ValueOrFault SpellsSchedule ScheduleFault }
     ensures apart { NeverBoth SpellsSchedule ScheduleFault }
     ensures first { OneFault ScheduleFault }

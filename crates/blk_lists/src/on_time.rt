@@ -1,4 +1,4 @@
-//! Certificates of the greatest number of commands that a schedule can meet.
+//! Certificates of the greatest number of commands that a schedule can have on time.
 
 ghost use Rattle.std.specs.Prelude.{◌≡◌, ◌+◌, ◌*◌, ◌≤◌, ◌<◌, ◌-◌, ◌^◌, ◌∷◌, All, IfOk, IfErr, IfSome, OnOk, map, length, codes};
 ghost use Rattle.std.specs.Io.KnownBytes.{Appends};
@@ -12,7 +12,7 @@ ghost use Rattle.blk_lists.specs.OnTime.{on_time_claimed, on_time_form, IsOnTime
 
 use crate::certificate::{ServedForm, push_schedule, split};
 use crate::fault::{TextFault, Why};
-use crate::fields::{COUNT, ROUND, Slot, begins_with, read_fields, without_word};
+use crate::fields::{COUNT_SLOT, ROUND_SLOT, Slot, begins_with, read_fields, without_word};
 use crate::items::{Each, LineForm, gather, read_line, read_lines};
 use crate::kinds::Kind;
 use crate::source::Records;
@@ -26,13 +26,13 @@ use std::alloc::{AllocError, Global};
 use std::io::{Read, Write};
 
 /// The title record.
-pub const MET: Kind<7, 4> = Kind {
+pub const ON_TIME: Kind<7, 4> = Kind {
     word: *b"blk-met",
     since: 1,
     slots: COUNTED,
 };
 
-/// A schedule of commands, with the claim that none meets more of them.
+/// A schedule of commands, with the claim that none has more of them on time.
 #[derive(Debug, Drop)]
 pub struct OnTimeCertificate {
     /// How many commands a round has room for.
@@ -42,26 +42,26 @@ pub struct OnTimeCertificate {
     /// The round of each command, by its place.
     pub rounds: Vec<u64>,
     /// How many commands run no later than they are due.
-    pub met: u64,
-    /// Windows of rounds, each from its `from` to its `due`, that are to bound what any schedule meets.
+    pub on_time: u64,
+    /// Windows of rounds, each from its `from` to its `due`, that are to bound how many any schedule has on time.
     pub cover: Vec<Window>,
 }
 
-/// The record of the numbers: how many commands are met, how many windows there are, and an empty field.
+/// The record of the numbers: how many commands are on time, how many windows there are, and an empty field.
 pub const NUMBERS: Kind<3, 4> = Kind {
     word: *b"met",
     since: 1,
-    slots: [Slot::Given, COUNT, COUNT, Slot::Blank],
+    slots: [Slot::Given, COUNT_SLOT, COUNT_SLOT, Slot::Blank],
 };
 
 /// The record of a window: its first round, its last round, and an empty field.
 pub const WINDOW: Kind<6, 4> = Kind {
     word: *b"window",
     since: 1,
-    slots: [Slot::Given, ROUND, ROUND, Slot::Blank],
+    slots: [Slot::Given, ROUND_SLOT, ROUND_SLOT, Slot::Blank],
 };
 
-/// The record that says how many commands are met, and how many windows there are.
+/// The record that says how many commands are on time, and how many windows there are.
 #[derive(Clone, Copy, Drop)]
 struct NumbersForm;
 
@@ -118,7 +118,7 @@ impl LineForm for WindowForm {
     }
 }
 
-/// So many windows.
+/// This number of windows.
 fn read_windows<R: Read + Drop>(
     alloc: Global,
     records: &mut Records<R>,
@@ -158,7 +158,7 @@ pub(crate) fn read_on_time_body<R: Read + Drop>(
     ensures reads { (2 ≤ records.new.at) × (records.new.at ≤ 2 * MAX_COMMANDS + 3) }
     ensures end { IfOk result (λ c. records.new.at ≡ length c.cover.items + length c.commands.items + 3) }
 {
-    let (met, many) = match read_line(records, &NumbersForm) {
+    let (on_time, many) = match read_line(records, &NumbersForm) {
         Ok(numbers) => numbers,
         Err(fault) => return Err(fault),
     };
@@ -175,7 +175,7 @@ pub(crate) fn read_on_time_body<R: Read + Drop>(
             depth,
             commands,
             rounds,
-            met,
+            on_time,
             cover,
         }),
         Err(AllocError) => Err(records.fault(Why::Memory)),
@@ -183,9 +183,9 @@ pub(crate) fn read_on_time_body<R: Read + Drop>(
 }
 
 /// The certificate of a text of records of four fields: a title with the depth and the number of commands, how many of
-/// them are met and how many windows there are, each window, and each command with its round. No record was read before.
+/// them are on time and how many windows there are, each window, and each command with its round. No record was read before.
 ///
-/// Whether the windows bound what a schedule meets is left to [`edd_check::check_on_time`]: here they are numbers alone.
+/// Whether the windows bound how many are on time is left to [`edd_check::check_on_time`]: here they are numbers alone.
 ///
 /// The fault is the first one: of the least record, and in it the first in the order of [`Why`].
 /// [`Why::Read`] and [`Why::Memory`] come at the record that is being read. A second record that isn't there or begins
@@ -209,7 +209,7 @@ pub fn read_on_time<R: Read + Drop>(
     // the last thing that was asked for is the record after the commands, which there is not
     ensures end { IfOk result (λ c. records.new.at ≡ length c.cover.items + length c.commands.items + 3) }
 {
-    let form = CountedTitle { kind: MET };
+    let form = CountedTitle { kind: ON_TIME };
     let (_, (depth, count)) = match read_line(records, &form) {
         Ok(title) => title,
         Err(fault) => return Err(fault),
@@ -239,8 +239,8 @@ pub fn on_time_text(alloc: Global, certificate: &OnTimeCertificate) -> Result<Ve
     let mut draft = Block::new(alloc);
     let commands = certificate.commands.as_slice();
     let cover = certificate.cover.as_slice();
-    MET.push(&mut draft, &[1, certificate.depth, commands.len() as u64])?;
-    NUMBERS.push(&mut draft, &[certificate.met, cover.len() as u64])?;
+    ON_TIME.push(&mut draft, &[1, certificate.depth, commands.len() as u64])?;
+    NUMBERS.push(&mut draft, &[certificate.on_time, cover.len() as u64])?;
     push_cover(&mut draft, cover)?;
     push_schedule(&mut draft, commands, certificate.rounds.as_slice())?;
     draft.finish()

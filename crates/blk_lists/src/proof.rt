@@ -8,7 +8,7 @@ use crate::certificate::{CERTIFICATE, Certificate, read_claim_body};
 use crate::fault::{TextFault, Why};
 use crate::fields::begins_with;
 use crate::items::{LineForm, read_line};
-use crate::on_time::{MET, OnTimeCertificate, read_on_time_body};
+use crate::on_time::{ON_TIME, OnTimeCertificate, read_on_time_body};
 use crate::source::Records;
 use crate::titles::counted_title;
 use csv::ByteRecord;
@@ -21,7 +21,7 @@ use std::io::Read;
 pub enum Proof {
     /// That no schedule has a smaller greatest lateness.
     Lateness(Certificate),
-    /// That no schedule meets more commands.
+    /// That no schedule has more commands on time.
     OnTime(OnTimeCertificate),
 }
 
@@ -37,7 +37,7 @@ pub(crate) enum ProofKind {
 struct ProofTitleForm;
 
 impl LineForm for ProofTitleForm {
-    ghost use Rattle.blk_lists.specs.Proof.{proof_title};
+    ghost use Rattle.blk_lists.specs.Inside.Proof.{proof_title};
 
     type Value = (ProofKind, (u64, (u64, u64)));
 
@@ -55,8 +55,8 @@ impl LineForm for ProofTitleForm {
                 Err(why) => Err(why),
             };
         }
-        if begins_with(row, &MET.word) {
-            return match counted_title(row, &MET) {
+        if begins_with(row, &ON_TIME.word) {
+            return match counted_title(row, &ON_TIME) {
                 Ok(title) => Ok((ProofKind::OnTime, title)),
                 Err(why) => Err(why),
             };

@@ -7,7 +7,8 @@ ghost use Rattle.csv.specs.Records.{fields_of};
 ghost use Rattle.blk_lists.specs.Reads.{FaultsBy, ReadsAll, Halts, Reaches};
 ghost use Rattle.blk_lists.specs.Texts.{rows_text};
 ghost use Rattle.drafts.specs.Parts.{AppendsPart};
-ghost use Rattle.blk_lists.specs.Schedule.{ran_of, ran_form, ran_body, ran_rows, IsPastCommands, IsAdded, AreFit, AreIds, DoRise, HasIds, IsNew, IsRan, SpellsSchedule, ScheduleFault};
+ghost use Rattle.blk_lists.specs.Schedule.{viewed, schedule_form, schedule_body, schedule_rows, IsNew, IsScheduleView, SpellsSchedule, ScheduleFault};
+ghost use Rattle.blk_lists.specs.Inside.Schedule.{IsPastCommands, IsAdded, AreFit, AreIds, DoRise, HasIds};
 
 use crate::certificate::{ServedForm, push_schedule, split};
 use crate::fault::{TextFault, Why};
@@ -43,7 +44,7 @@ pub struct Schedule {
 
 /// The commands that were read, each with its round, and their ids, once these don't rise from each to the next.
 #[derive(Drop)]
-pub(crate) struct Known {
+pub(crate) struct ServedCommands {
     served: Vec<(Command, u64)>,
     rise: bool,
     ids: BTreeSet<u64>,
@@ -72,7 +73,7 @@ fn ids_of(alloc: Global, served: &[(Command, u64)]) -> Result<BTreeSet<u64>, All
 }
 
 /// Puts the ids into the set, where they rose so far. On a refusal nothing is changed.
-fn gather_ids(alloc: Global, known: &mut Known) -> Result<(), AllocError>
+fn gather_ids(alloc: Global, known: &mut ServedCommands) -> Result<(), AllocError>
     requires { HasIds known.old }
     ensures served { known.new.served.items ≡ known.old.served.items }
     ensures ids { OnOk result (AreIds known.new.served.items known.new.ids) }
@@ -88,7 +89,7 @@ fn gather_ids(alloc: Global, known: &mut Known) -> Result<(), AllocError>
 }
 
 /// Adds a command, where none before has its id. Ids that rise aren't looked for in a set.
-fn add(alloc: Global, known: &mut Known, served: (Command, u64)) -> Result<(), Why>
+fn add(alloc: Global, known: &mut ServedCommands, served: (Command, u64)) -> Result<(), Why>
     requires { HasIds known.old }
     ensures ok { OnOk result (IsAdded known.old known.new served) }
     ensures err { IfErr result (λ w. (w ≡ Why.Memory) ⊎ ((w ≡ Why.RepeatedId) × ¬ IsNew known.old.served.items served)) }
@@ -108,7 +109,7 @@ fn add(alloc: Global, known: &mut Known, served: (Command, u64)) -> Result<(), W
 /// The same, where the ids need not rise.
 #[cold]
 #[inline(never)]
-fn add_among(alloc: Global, known: &mut Known, served: (Command, u64)) -> Result<(), Why>
+fn add_among(alloc: Global, known: &mut ServedCommands, served: (Command, u64)) -> Result<(), Why>
     requires { HasIds known.old }
     ensures ok { OnOk result (IsAdded known.old known.new served) }
     ensures err { IfErr result (λ w. (w ≡ Why.Memory) ⊎ ((w ≡ Why.RepeatedId) × ¬ IsNew known.old.served.items served)) }
@@ -134,9 +135,10 @@ struct NewForm;
 impl ItemForm for NewForm {
     ghost use Rattle.std.specs.Prelude.{ℕ};
     ghost use Rattle.edd_commands.specs.declared.Command.{Command as ACommand};
-    ghost use Rattle.blk_lists.specs.Schedule.{new_record, HasIds};
+    ghost use Rattle.blk_lists.specs.Schedule.{new_record};
+    ghost use Rattle.blk_lists.specs.Inside.Schedule.{HasIds};
 
-    type Items = Known;
+    type Items = ServedCommands;
 
     ghost View = { ACommand × ℕ };
 
@@ -149,7 +151,7 @@ impl ItemForm for NewForm {
     ghost more = { 0 };
 
     #[tactic(auto, using(crate::proofs::ScheduleLaws::new_gone))]
-    fn gone(&self, items: &Known) -> Why {
+    fn gone(&self, items: &ServedCommands) -> Why {
         let _ = items;
         Why::Count
     }
@@ -158,7 +160,7 @@ impl ItemForm for NewForm {
         &self,
         alloc: Global,
         records: &mut Records<R>,
-        items: &mut Known,
+        items: &mut ServedCommands,
     ) -> Result<(), TextFault> {
         let form = ServedForm;
         let served = match form.line(records.row()) {
@@ -174,7 +176,7 @@ impl ItemForm for NewForm {
 
 /// What is wrong with a record after all commands: its own fault, that its id stood before, and else that it is one
 /// too many.
-fn past_fault(alloc: Global, row: &ByteRecord, known: &mut Known) -> Why
+fn past_fault(alloc: Global, row: &ByteRecord, known: &mut ServedCommands) -> Why
     requires { HasIds known.old }
     ensures { (result ≡ Why.Memory) ⊎ IsPastCommands known.old.served.items (fields_of row.now) result }
 {
@@ -189,21 +191,21 @@ fn past_fault(alloc: Global, row: &ByteRecord, known: &mut Known) -> Why
     }
 }
 
-/// So many commands with their rounds, to the end of the text.
+/// This number of commands with their rounds, to the end of the text.
 fn read_new<R: Read + Drop>(
     alloc: Global,
     records: &mut Records<R>,
     count: u64,
 ) -> Result<Vec<(Command, u64)>, TextFault>
     requires { records.old.at + count + 1 < 2 ^ 64 - 1 }
-    ensures ok { IfOk result (λ v. ReadsAll (ran_body count) records.old.left v.items) }
-    ensures err { IfErr result (λ f. Halts records.new.failed (ran_body count) records.old.left records.old.at f.at f.why) }
+    ensures ok { IfOk result (λ v. ReadsAll (schedule_body count) records.old.left v.items) }
+    ensures err { IfErr result (λ f. Halts records.new.failed (schedule_body count) records.old.left records.old.at f.at f.why) }
     ensures last { IfErr result (λ f. f.at ≡ records.new.at) }
     ensures fit { IfOk result (λ v. AreFit v.items × (length v.items ≡ count)) }
     ensures reads { (records.old.at < records.new.at) × (records.new.at ≤ records.old.at + count + 1) }
     ensures end { IfOk result (λ v. records.new.at ≡ records.old.at + length v.items + 1) }
 {
-    let mut known = Known {
+    let mut known = ServedCommands {
         served: Vec::new(alloc),
         rise: true,
         ids: BTreeSet::new(alloc),
@@ -240,14 +242,14 @@ pub fn read_schedule<R: Read + Drop>(
     records: &mut Records<R>,
 ) -> Result<Schedule, TextFault>
     requires { records.old.at ≡ 0 }
-    ensures ok { IfOk result (λ s. IfSome records.old.left (λ rows. SpellsSchedule rows (ran_of s))) }
+    ensures ok { IfOk result (λ s. IfSome records.old.left (λ rows. SpellsSchedule rows (viewed s))) }
     // also where the reader's bytes are not known
-    ensures in_range { IfOk result (λ s. IsRan (ran_of s)) }
+    ensures in_range { IfOk result (λ s. IsScheduleView (viewed s)) }
     // at the record that was asked for last: none was read past it
     ensures last { IfErr result (λ f. f.at ≡ records.new.at) }
     ensures err { IfErr result (FaultsBy records.old records.new ScheduleFault) }
     // also where it came from outside: at most one past the last record, and no record before it is wrong
-    ensures reached { IfErr result (λ f. Reaches ran_form records.old.left 0 f.at) }
+    ensures reached { IfErr result (λ f. Reaches schedule_form records.old.left 0 f.at) }
     ensures reads { (1 ≤ records.new.at) × (records.new.at ≤ MAX_COMMANDS + 2) }
     // the last thing that was asked for is the record after the commands, which there is not
     ensures end { IfOk result (λ s. records.new.at ≡ length s.commands.items + 2) }
@@ -273,8 +275,8 @@ pub fn read_schedule<R: Read + Drop>(
 
 /// The text of a schedule, which is as [`write_schedule`] asks.
 pub fn schedule_text(alloc: Global, schedule: &Schedule) -> Result<Vec<u8>, AllocError>
-    requires { IsRan (ran_of schedule.now) }
-    ensures { IfOk result (λ v. v.items ≡ rows_text (ran_rows (ran_of schedule.now))) }
+    requires { IsScheduleView (viewed schedule.now) }
+    ensures { IfOk result (λ v. v.items ≡ rows_text (schedule_rows (viewed schedule.now))) }
 {
     let mut draft = Block::new(alloc);
     let commands = schedule.commands.as_slice();
@@ -295,13 +297,13 @@ pub fn write_schedule<W: Write>(
     schedule: &Schedule,
     writer: &mut W,
 ) -> Result<(), WriteFault>
-    requires { IsRan (ran_of schedule.now) }
-    ensures ok { OnOk result (Appends (W.contents writer.old) (W.contents writer.new) (rows_text (ran_rows (ran_of schedule.now)))) }
+    requires { IsScheduleView (viewed schedule.now) }
+    ensures ok { OnOk result (Appends (W.contents writer.old) (W.contents writer.new) (rows_text (schedule_rows (viewed schedule.now)))) }
     // the records of that text spell it
-    ensures spells { SpellsSchedule (ran_rows (ran_of schedule.now)) (ran_of schedule.now) }
+    ensures spells { SpellsSchedule (schedule_rows (viewed schedule.now)) (viewed schedule.now) }
     ensures memory { IfErr result (λ f. f ≡ WriteFault.Memory → writer.new ≡ writer.old) }
     // whatever the answer
-    ensures part { AppendsPart (W.contents writer.old) (W.contents writer.new) (rows_text (ran_rows (ran_of schedule.now))) }
+    ensures part { AppendsPart (W.contents writer.old) (W.contents writer.new) (rows_text (schedule_rows (viewed schedule.now))) }
 {
     match schedule_text(alloc, schedule) {
         Ok(text) => write_whole(writer, text.as_slice()),

@@ -3,7 +3,8 @@
 ghost use Rattle.std.specs.Prelude.{◌≡◌, ◌+◌, ◌-◌, ◌<◌, ◌^◌, true, false, IfOk, IfErr, IfSome};
 ghost use Rattle.csv.specs.Reading.{reader_source};
 ghost use Rattle.csv.specs.Records.{fields_of};
-ghost use Rattle.blk_lists.specs.Sources.{Source, TakesRecord, IsPlainReader, input_of, left_of};
+ghost use Rattle.blk_lists.specs.Sources.{Source, TakesRecord, input_of, left_of};
+ghost use Rattle.blk_lists.specs.Inside.Sources.{IsPlainReader};
 ghost use Rattle.blk_lists.specs.Watching.{left_in, failed_in};
 ghost use Rattle.blk_lists.specs.Reads.{IsOutside};
 
@@ -26,14 +27,14 @@ pub struct Records<R: Read> {
 }
 
 impl<R: Read> Model for Records<R> {
-    ghost use Rattle.blk_lists.specs.Sources.{Source, left_of, IsPlainReader};
-    ghost use Rattle.blk_lists.specs.Watching.{left_in, failed_in};
-    ghost use Rattle.csv.specs.Reading.{reader_source};
+    ghost use Rattle.blk_lists.specs.Sources.{Source};
+    ghost use Rattle.blk_lists.specs.Inside.Sources.{IsPlainReader};
+    ghost use Rattle.blk_lists.specs.Watching.{source_in};
     ghost use Rattle.csv.specs.Records.{fields_of};
 
     ghost Value = { Source };
 
-    ghost view = { λ a. record { left = left_of (left_in R.remaining) a.rdr; bytes = left_in R.remaining (reader_source a.rdr); fields = fields_of a.row; at = a.at; failed = failed_in (reader_source a.rdr) } };
+    ghost view = { λ a. source_in R.remaining a.rdr (fields_of a.row) a.at };
 
     ghost invariant = { λ a. IsPlainReader a.rdr };
 }
@@ -105,7 +106,7 @@ impl<R: Read> Records<R> {
         ensures takes { IfOk result (λ found. TakesRecord self.old.left self.new.left self.new.fields found) }
         ensures at { self.new.at ≡ self.old.at + 1 }
         ensures fault { IfErr result (λ f. (f.at ≡ self.new.at) × IsOutside self.new.failed f.why) }
-        // a read that failed is told as nothing else
+        // a read that failed is reported as nothing else
         ensures told { IfErr result (λ f. self.new.failed ≡ true → f.why ≡ Why.Read) }
     {
         self.at += 1;
@@ -125,7 +126,7 @@ impl<R: Read + Drop> Records<R> {
     pub fn bytes(&mut self, alloc: Global) -> Result<Vec<u8>, Why>
         ensures bytes { IfOk result (λ given. IfSome self.old.bytes (λ known. given.items ≡ known)) }
         ensures fault { IfErr result (IsOutside self.new.failed) }
-        // a read that failed is told as nothing else
+        // a read that failed is reported as nothing else
         ensures told { IfErr result (λ why. self.new.failed ≡ true → why ≡ Why.Read) }
     {
         let out = replace(&mut self.rdr, plain_over(alloc, Place::empty()));

@@ -7,13 +7,13 @@ ghost use Rattle.blk_lists.specs.Titles.{counted_title as title_part};
 ghost use Rattle.blk_lists.specs.declared.titles.TheConstants.{COUNTED as COUNTED_SLOTS};
 
 use crate::fault::Why;
-use crate::fields::{COUNT, DEPTH, Slot, read_fields, version_of};
+use crate::fields::{COUNT_SLOT, DEPTH_SLOT, Slot, read_fields, version_of};
 use crate::items::LineForm;
 use crate::kinds::Kind;
 use csv::ByteRecord;
 
 /// The fields of such a title: the name, the version, the depth, the number of commands.
-pub const COUNTED: [Slot; 4] = [Slot::Given, Slot::Given, DEPTH, COUNT];
+pub const COUNTED: [Slot; 4] = [Slot::Given, Slot::Given, DEPTH_SLOT, COUNT_SLOT];
 
 /// The version, the depth and the number of commands of a title record of this kind.
 pub fn counted_title<const L: usize>(

@@ -2,14 +2,15 @@
 
 ghost use Rattle.std.specs.Prelude.{◌≡◌, ◌+◌, ◌*◌, ◌++◌, ◌≤◌, ◌∷◌, [], OnOk, length, take, decimal};
 ghost use Rattle.drafts.specs.Drafts.{drafted};
-ghost use Rattle.blk_lists.specs.Cells.{IsPlainWord, number_cells, rest_of_line};
+ghost use Rattle.blk_lists.specs.Cells.{IsPlainWord, number_cells};
+ghost use Rattle.blk_lists.specs.Inside.Cells.{rest_of_line};
 ghost use Rattle.blk_lists.specs.Texts.{rows_text};
 
 use drafts::Block;
 use drafts::pieces::{put, put_number};
 use std::alloc::AllocError;
 
-/// Writes numbers and then so many empty fields, each after a comma, and a line end; says where that ends.
+/// Writes numbers and then this number of empty fields, each after a comma, and a line end; answers where that ends.
 #[inline(always)]
 fn put_rest(numbers: &[u64], blanks: usize, buf: &mut [u8], at: usize) -> usize
     requires { at + 21 * length numbers.now + blanks + 1 ≤ length buf.old }
@@ -27,7 +28,7 @@ fn put_rest(numbers: &[u64], blanks: usize, buf: &mut [u8], at: usize) -> usize
     put(b"\n", buf, end)
 }
 
-/// Adds the record of a word, numbers and so many empty fields, of which there are five at most after the word.
+/// Adds the record of a word, numbers and this number of empty fields, five fields at most after the word.
 #[inline(always)]
 pub fn push_row(
     draft: &mut Block,

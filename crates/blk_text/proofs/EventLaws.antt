@@ -1,10 +1,11 @@
 -- The laws of the events of a trace, and of whole traces.
 use Rattle.std.proofs.Common.{◌≡◌, ◌+◌, ◌<◌, ◌≤◌, ◌∙◌, ℕ, List, [], ◌∷◌, length, refl, sym, ap, subst, inl, inr, arith, codes, Bool, true, false, Option, Some, None}
-use Rattle.std.specs.Prelude.{◌⊎◌, IfSome, Err}
+use Rattle.std.specs.Prelude.{◌⊎◌, IfSome, Err, unwrap_or}
 use Rattle.blk_bio.specs.Bios.{Bio}
 use Rattle.blk_bio.specs.Limits.{Limits}
 use Rattle.blk_trace.specs.Happened.{Happened}
-use Rattle.blk_trace.specs.declared.event.Event.TheVariants.{Tick, Release, Join, Issue, Done, Back, Depth}
+use Rattle.blk_trace.specs.declared.event.Event.TheVariants.{Tick, Release, Join}
+use Rattle.blk_trace.specs.Kinds.{bare}
 use Rattle.blk_trace.specs.Rules.{IsFirstBroken, IsUnbroken, rank}
 use Rattle.blk_bio.specs.declared.rule.TraceRule.{TraceRule}
 use Rattle.blk_trace.specs.declared.setup.TheConstants.{MAX_DEPTH}
@@ -16,7 +17,8 @@ use Rattle.blk_lists.specs.Sources.{Row, TakesRecord}
 use Rattle.blk_lists.specs.Reads.{IsOutside, IsOne, IsRowOf, IsWrongLine, Reads, HandReads, HandFails, Fails, AreGathered, IsStopped, repeated, size_of, with_next}
 use Rattle.blk_text.specs.SetupRecord.{setup}
 use Rattle.blk_lists.specs.Tables.{FitsCells, slots_by}
-use Rattle.blk_text.specs.TraceForm.{first_record, bios_after, group, event_told, plain_event, BreaksRule, event, alone, one_more, IsPast, refusal_of, IsRefused, events_of, trace_cells, IsTraceTitle, trace_title_part, trace_body, trace_form}
+use Rattle.blk_text.specs.TraceForm.{first_record, bios_after, group, event_told, plain_event, BreaksRule, event, alone, one_more, events_of, trace_cells, IsTraceTitle, trace_title_part, trace_body, trace_form}
+use Rattle.blk_text.specs.Inside.TraceForm.{IsPast, refusal_of, IsRefused}
 use Rattle.blk_text.specs.Versions.{latest, most_tags}
 use Rattle.blk_lists.specs.declared.fault.Why.{Why}
 use Rattle.blk_lists.specs.declared.fault.Why.TheVariants as why
@@ -42,13 +44,9 @@ use Rattle.blk_bio.specs.declared.limits.TheConstants.{MAX_QUEUES, MAX_SEGMENTS}
 
 -- the event of a first record and bios
 back : Head × List Bio → Happened
-back (head.Tick, bios) = Tick
 back (head.Release id count, bios) = Release id bios
 back (head.Join id count, bios) = Join id bios
-back (head.Issue id tag, bios) = Issue id tag
-back (head.Done tag, bios) = Done tag
-back (head.Back tag, bios) = Back tag
-back (head.Depth depth, bios) = Depth depth
+back (h, bios) = unwrap_or (bare h) Tick
 
 back_is : (e : Happened) → back (event_told e) ≡ e
 unfolding back
@@ -63,16 +61,12 @@ pub plain_tells : (version : ℕ) (limits : Limits) → Tells (plain_event versi
 plain_tells version limits = seen_tells event_told (in_turn (first_record version) (λ h. group version limits (bios_after h))) (λ e f same. sym (back_is e) ∙ ap back same ∙ back_is f)
     (then_tells (first_record version) (λ h. group version limits (bios_after h)) (head_tells version) (λ h fit. group_tells version limits (bios_after h)))
 
--- the first record and the bios of what was told
+-- the first record and the bios of an event
 told_back : (h : Head) (bios : List Bio) → length bios ≡ bios_after h → event_told (back (h, bios)) ≡ (h, bios)
 unfolding back
-told_back head.Tick bios e = ap (λ l. (head.Tick, l)) (none bios e)
 told_back (head.Release id count) bios e = ap (λ n. (head.Release id n, bios)) e
 told_back (head.Join id count) bios e = ap (λ n. (head.Join id n, bios)) e
-told_back (head.Issue id tag) bios e = ap (λ l. (head.Issue id tag, l)) (none bios e)
-told_back (head.Done tag) bios e = ap (λ l. (head.Done tag, l)) (none bios e)
-told_back (head.Back tag) bios e = ap (λ l. (head.Back tag, l)) (none bios e)
-told_back (head.Depth depth) bios e = ap (λ l. (head.Depth depth, l)) (none bios e)
+told_back h bios e = ap (λ l. (h, l)) (none bios e)
 
 plain_decides : (version : ℕ) (limits : Limits) → Decides (plain_event version limits)
 plain_decides version limits = seen_decides event_told (in_turn (first_record version) (λ h. group version limits (bios_after h))) (λ v f. (back v, told_back v.0 v.1 f.1.1))

@@ -6,11 +6,13 @@ use Rattle.blk_bio.specs.Limits.{Limits}
 use Rattle.blk_bio.specs.Requests.{Fits}
 use Rattle.blk_bio.specs.declared.request.Side.TheVariants as side
 use Rattle.blk_lists.specs.Sources.{Row}
-use Rattle.blk_text.specs.BioTable.{bio_cells, bio_record, IsNoSuchBio}
+use Rattle.blk_text.specs.BioTable.{bio_cells, IsNoSuchBio}
+use Rattle.blk_text.specs.Inside.BioTable.{bio_record}
 use Rattle.blk_lists.specs.Words.{StartsWith, NextStarts, WordLacks}
 use Rattle.blk_lists.specs.Reads.{IsRowOf, IsWrongLine, HandFails, Gathers, with_next}
 use Rattle.blk_lists.specs.Tables.{FitsCells, row_by, slots_by, word_record}
-use Rattle.blk_text.specs.TraceForm.{Tiles, gathered_bios, IsAstray, IsNoBio, first_record, plain_bio, whole_bio, group_bio, group}
+use Rattle.blk_text.specs.TraceForm.{Tiles, IsAstray, IsNoBio, first_record, plain_bio, whole_bio, group_bio, group}
+use Rattle.blk_text.specs.Inside.TraceForm.{gathered_bios}
 use Rattle.blk_lists.specs.declared.fault.Why.{Why}
 use Rattle.blk_lists.specs.declared.fault.Why.TheVariants as why
 use Rattle.blk_text.specs.TraceForm.{Head}

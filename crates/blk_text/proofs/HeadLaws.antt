@@ -6,9 +6,8 @@ use Rattle.blk_lists.specs.Words.{StartsWith, HasNoWord}
 use Rattle.blk_lists.specs.Fields.{Lacks, FieldsSpell}
 use Rattle.blk_lists.specs.Reads.{IsRowOf, IsWrongLine, IsOne}
 use Rattle.blk_lists.specs.Tables.{FitsCells, slots_by, kinds_record}
-use Rattle.blk_text.specs.EventKinds.{kind_row, event_word, EventStandsIn, Says, head_cells}
-use Rattle.blk_text.specs.declared.heads.EventKind.{EventKind}
-use Rattle.blk_text.specs.declared.heads.EventKind.TheVariants as kind
+use Rattle.blk_text.specs.EventKinds.{EventKind, kind_row, event_word, EventStandsIn, Says, event_fields}
+use Rattle.blk_text.specs.EventKinds as kind
 use Rattle.blk_text.specs.TraceForm.{Head, said, first_record}
 use Rattle.blk_lists.specs.declared.fault.Why.{Why}
 use Rattle.blk_lists.specs.declared.fault.Why.TheVariants as why
@@ -19,7 +18,7 @@ use Rattle.parts.specs.Laws.{Tells}
 use Rattle.parts.specs.Inside.Laws.{Decides}
 use Rattle.parts.proofs.Then.{seen_tells, seen_decides}
 use Rattle.blk_lists.proofs.Lacking.{Dec, at_most}
-use Rattle.blk_lists.proofs.TableLaws.{IsTable, IsBy, first_is, word_line, kinds_tell, kinds_decide, words_tell, word_picked}
+use Rattle.blk_lists.proofs.TableLaws.{IsTable, IsBy, first_is, begins, word_line, kinds_tell, kinds_decide, words_tell, word_picked}
 use Rattle.blk_lists.proofs.KindLaws.{SizedSlots, row_table}
 
 -- the kind of a word, whatever it is
@@ -48,7 +47,7 @@ sized kind.Join = (omega arith, (omega arith, tt))
 sized kind.Issue = (omega arith, (omega arith, tt))
 sized k = (omega arith, tt)
 
-tables : (k : EventKind) → IsTable (head_cells k) (FitsCells (head_cells k))
+tables : (k : EventKind) → IsTable (event_fields k) (FitsCells (event_fields k))
 tables k = row_table (kind_row k).slots (sized k)
 
 -- the first record of a kind
@@ -70,45 +69,52 @@ said_back kind.Tick v = refl
 said_back k v = refl
 
 abbrev kinds : ℕ → Part Row Why ((k : EventKind) × Says k)
-kinds version = kinds_record Says why.Count 6 (EventStandsIn version) event_word head_cells
+kinds version = kinds_record Says why.Count 6 (EventStandsIn version) event_word event_fields
 
 pub head_tells : (version : ℕ) → Tells (first_record version)
 head_tells version = seen_tells said (kinds version) (λ l m e. sym (head_back l) ∙ ap (λ (h : (k : EventKind) × Says k). head_with h.0 h.1) e ∙ head_back m)
-    (kinds_tell Says why.Count 6 (EventStandsIn version) event_word head_cells (words_tell event_word kind_at kind_is) tables)
+    (kinds_tell Says why.Count 6 (EventStandsIn version) event_word event_fields (words_tell event_word kind_at kind_is) tables)
 
 pub head_one : (version : ℕ) → IsOne (first_record version)
 head_one version = record { tells = head_tells version; plain = λ h rest f. tt; one = λ h. refl }
 
 pub head_decides : (version : ℕ) → Decides (first_record version)
-head_decides version = seen_decides said (kinds version) (λ v f. (head_with v.0 v.1, said_back v.0 v.1)) (kinds_decide Says why.Count 6 (EventStandsIn version) event_word head_cells (word_picked event_word kind_at (EventStandsIn version) kind_is (stands_decided version)) tables)
+head_decides version = seen_decides said (kinds version) (λ v f. (head_with v.0 v.1, said_back v.0 v.1)) (kinds_decide Says why.Count 6 (EventStandsIn version) event_word event_fields (word_picked event_word kind_at (EventStandsIn version) kind_is (stands_decided version)) tables)
 
 -- what was read of a first record
 
-pub word_long : (k : EventKind) → 0 < length (event_word k)
+word_long : (k : EventKind) → 0 < length (event_word k)
 word_long kind.Tick = omega arith
 word_long k = omega arith
 
-slots_are : (k : EventKind) → (kind_row k).slots ≡ slot.Given ∷ slots_by (head_cells k)
+slots_are : (k : EventKind) → (kind_row k).slots ≡ slot.Given ∷ slots_by (event_fields k)
 slots_are kind.Tick = refl
 slots_are k = refl
 
-pub head_spells : (k j : EventKind) (row : Row) (ns : List ℕ) → k ≡ j → FieldsSpell (kind_row k).slots row ns → FieldsSpell (kind_row j).slots row ns
-head_spells k j row ns e s = subst (λ (z : EventKind). FieldsSpell (kind_row z).slots row ns) e s
+-- a field is the word of a kind that stands in a version
+abbrev Of : ℕ → List ℕ → EventKind → Type 0
+Of version f k = EventStandsIn version k × (f ≡ event_word k)
 
--- of a kind that was told by its word
-pub head_line : (version : ℕ) (k : EventKind) (h : Head) (row : Row) (ns : List ℕ) → k ≡ (said h).0 → EventStandsIn version k → StartsWith (event_word k) row → FieldsSpell (kind_row k).slots row ns
-    → IsBy (head_cells (said h).0) (said h).1 (λ i. get_or row (suc i) []) (λ i. get_or ns (suc i) 0) → IsRowOf (first_record version) row h
-head_line version k h row ns e a t s b =
-    let j = (said h).0 in
-    let line = word_line why.Count (event_word j) (head_cells j) (λ v. EventStandsIn version j × FitsCells (head_cells j) v) (said h).1 row ns (subst (λ (z : EventKind). StartsWith (event_word z) row) e t)
-    (subst (λ ss. FieldsSpell ss row ns) (slots_are j) (head_spells k j row ns e s)) b (λ f. (subst (EventStandsIn version) e a, f)) in
+starts : (k : EventKind) (cells : Row) (f : List ℕ) → f ≡ get_or cells 0 [] → f ≡ event_word k → StartsWith (event_word k) cells
+starts k cells f at e = begins cells (event_word k) (word_long k) (sym at ∙ e)
+
+pub head_line : (version : ℕ) (h : Head) (cells : Row) (f ns : List ℕ) → f ≡ get_or cells 0 [] → (true ≡ true → Of version f (said h).0) → FieldsSpell (kind_row (said h).0).slots cells ns
+    → IsBy (event_fields (said h).0) (said h).1 (λ i. get_or cells (suc i) []) (λ i. get_or ns (suc i) 0) → IsRowOf (first_record version) cells h
+head_line version h cells f ns at is s b =
+    let k = (said h).0 in
+    let of = is refl in
+    let line = word_line why.Count (event_word k) (event_fields k) (λ v. EventStandsIn version k × FitsCells (event_fields k) v) (said h).1 cells ns (starts k cells f at of.1)
+    (subst (λ ss. FieldsSpell ss cells ns) (slots_are k) s) b (λ x. (of.0, x)) in
     λ rest. record { fits = (line rest).fits; made = (line rest).made; follows = tt }
 
-pub head_lacks : (version : ℕ) (k : EventKind) (row : Row) (w : Why) → EventStandsIn version k → StartsWith (event_word k) row → Lacks (kind_row k).slots row w → IsWrongLine (first_record version) row w
-head_lacks version k row w a t l = λ rest. inl (k, (a, t), (refl, inl (t, subst (λ ss. Lacks ss row w) (slots_are k) l)))
+pub head_lacks : (version : ℕ) (k : EventKind) (cells : Row) (f : List ℕ) (w : Why) → f ≡ get_or cells 0 [] → (true ≡ true → Of version f k) → Lacks (kind_row k).slots cells w → IsWrongLine (first_record version) cells w
+head_lacks version k cells f w at is l =
+    let of = is refl in
+    let begun = starts k cells f at of.1 in
+    λ rest. inl (k, (of.0, begun), (refl, inl (begun, subst (λ ss. Lacks ss cells w) (slots_are k) l)))
 
-pub no_head : (version : ℕ) (cells : Row) (w : Why) → ((k : EventKind) → EventStandsIn version k → ¬ (get_or cells 0 [] ≡ event_word k)) → HasNoWord 6 cells w → IsWrongLine (first_record version) cells w
-no_head version cells w n h = λ rest. inr (refl, (λ k s. n k s.0 (first_is cells (event_word k) s.1)), h)
+pub no_head : (version : ℕ) (cells : Row) (f : List ℕ) (w : Why) → f ≡ get_or cells 0 [] → ((k : EventKind) → ¬ Of version f k) → HasNoWord 6 cells w → IsWrongLine (first_record version) cells w
+no_head version cells f w at n h = λ rest. inr (refl, (λ k s. n k (s.0, at ∙ first_is cells (event_word k) s.1)), h)
 
 pub head_gone : (version : ℕ) → (first_record version).Wrong [] 1 why.Count
 head_gone version = inr (refl, (λ k s. s.1), refl)

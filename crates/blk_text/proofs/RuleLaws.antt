@@ -141,7 +141,7 @@ none_open : (events : List Happened) → Dec ((tag : ℕ) → IsOpen events tag 
 none_open events = same_as (λ f tag o. f o.place (Issue o.id tag) o.issued tag o.id refl o.not_done)
     (λ f k e at tag id is n. f tag (record { place = k; id = id; issued = at ∙ ap Some is; not_done = n })) (each_at events (IsClosed events) (is_closed events))
 
--- an Issue of the id that stands at a place was handed back
+-- an Issue of the id that stands at a place was requeued
 abbrev IsBackAt : List Happened → ℕ → ℕ → Happened → Type 0
 IsBackAt events id k e = (tag : ℕ) → e ≡ Issue id tag → IsRequeued events k tag
 

@@ -16,10 +16,10 @@ use Rattle.blk_lists.specs.Words.{StartsWith, WordLacks}
 use Rattle.blk_lists.specs.Fields.{Lacks, FieldsSpell}
 use Rattle.blk_lists.specs.Reads.{Reads, Halts, IsRowOf, IsWrongLine, IsOne, items_of}
 use Rattle.blk_lists.specs.Tables.{FitsCells, row_by, slots_by, kinds_record}
-use Rattle.blk_text.specs.StepKinds.{StepKind, step_word, StepStandsIn, slots_for, StepTold, step_cells}
+use Rattle.blk_text.specs.StepKinds.{StepKind, step_word, StepStandsIn, slots_for, StepTold, step_fields}
 use Rattle.blk_text.specs.StepKinds as kind
 use Rattle.blk_text.specs.Script.{step_said, LineFits, IsLineOf, IsRight, HasNoSuchBio, script_cells, IsTitle, IsEnough, TooFew, plain_title, script_title_part, plain_step, step, script_body, script_form, script_value, Scripted, title_of, script_rows, IsScript, IsScriptOf, SpellsVersion, SpellsScript, ScriptFault}
-use Rattle.blk_text.specs.BioTable.{bio_record}
+use Rattle.blk_text.specs.Inside.BioTable.{bio_record}
 use Rattle.blk_text.specs.Versions.{latest, most_tags}
 use Rattle.blk_lists.specs.declared.fault.Why.{Why}
 use Rattle.blk_lists.specs.declared.fault.Why.TheVariants as why
@@ -71,7 +71,7 @@ sized hw submitters g s kind.Issue = (omega (arith, g), (omega arith, tt))
 sized hw submitters g s kind.Tick = tt
 sized hw submitters g s k = (omega arith, tt)
 
-tables : (hw submitters : ℕ) → hw ≤ MAX_QUEUES → submitters ≤ MAX_SOFT_QUEUES → (k : StepKind) → IsTable (step_cells hw submitters k) (FitsCells (step_cells hw submitters k))
+tables : (hw submitters : ℕ) → hw ≤ MAX_QUEUES → submitters ≤ MAX_SOFT_QUEUES → (k : StepKind) → IsTable (step_fields hw submitters k) (FitsCells (step_fields hw submitters k))
 tables hw submitters g s k = row_table (slots_for hw submitters k) (sized hw submitters g s k)
 
 -- the step of a kind
@@ -95,7 +95,7 @@ held_back hw submitters kind.Bio v = refl
 held_back hw submitters k v = refl
 
 abbrev kinds : (version hw submitters : ℕ) → Part Row Why ((k : StepKind) × StepTold hw submitters k)
-kinds version hw submitters = kinds_record (StepTold hw submitters) why.Count 6 (StepStandsIn version) step_word (step_cells hw submitters)
+kinds version hw submitters = kinds_record (StepTold hw submitters) why.Count 6 (StepStandsIn version) step_word (step_fields hw submitters)
 
 one_bio : (b c : Bio) → line.Bio b ≡ line.Bio c → b ≡ c
 one_bio b c e = cc e
@@ -142,7 +142,7 @@ right_or_no_bio l = inl (λ b e. absurd (cc e))
 step_tells : (version hw submitters : ℕ) → hw ≤ MAX_QUEUES → submitters ≤ MAX_SOFT_QUEUES → Tells (step version hw submitters)
 step_tells version hw submitters g s = tested_tells (plain_step version hw submitters) IsRight HasNoSuchBio
     (seen_tells (step_said hw submitters) (kinds version hw submitters) (λ l m e. sym (line_back hw submitters l) ∙ ap (λ (h : (k : StepKind) × StepTold hw submitters k). line_with hw submitters h.0 h.1) e ∙ line_back hw submitters m)
-    (kinds_tell (StepTold hw submitters) why.Count 6 (StepStandsIn version) step_word (step_cells hw submitters) (words_tell step_word kind_at kind_is) (tables hw submitters g s)))
+    (kinds_tell (StepTold hw submitters) why.Count 6 (StepStandsIn version) step_word (step_fields hw submitters) (words_tell step_word kind_at kind_is) (tables hw submitters g s)))
     (λ l k j w x fit. no_bio_once l k j w x) (λ l k w good n. no_bio_is n.0 n.1 (good n.0 n.2) n.5) (λ l k w n. (let is = n.3 in (omega (arith, is), omega (arith, is))))
 
 pub step_one : (version hw submitters : ℕ) → hw ≤ MAX_QUEUES → submitters ≤ MAX_SOFT_QUEUES → IsOne (step version hw submitters)
@@ -151,7 +151,7 @@ step_one version hw submitters g s = record { tells = step_tells version hw subm
 step_decides : (version hw submitters : ℕ) → hw ≤ MAX_QUEUES → submitters ≤ MAX_SOFT_QUEUES → Decides (step version hw submitters)
 step_decides version hw submitters g s = tested_decides (plain_step version hw submitters) IsRight HasNoSuchBio
     (seen_decides (step_said hw submitters) (kinds version hw submitters) (λ v f. (line_with hw submitters v.0 v.1, held_back hw submitters v.0 v.1))
-    (kinds_decide (StepTold hw submitters) why.Count 6 (StepStandsIn version) step_word (step_cells hw submitters) (word_picked step_word kind_at (StepStandsIn version) kind_is (stands_decided version)) (tables hw submitters g s)))
+    (kinds_decide (StepTold hw submitters) why.Count 6 (StepStandsIn version) step_word (step_fields hw submitters) (word_picked step_word kind_at (StepStandsIn version) kind_is (stands_decided version)) (tables hw submitters g s)))
     (λ l fit. right_or_no_bio l)
 
 -- the numbers of a step, as its table and as the script say
@@ -185,7 +185,7 @@ word_long : (k : StepKind) → 0 < length (step_word k)
 word_long kind.Bio = omega arith
 word_long k = omega arith
 
-slots_are : (hw submitters : ℕ) (k : StepKind) → slots_for hw submitters k ≡ slot.Given ∷ slots_by (step_cells hw submitters k)
+slots_are : (hw submitters : ℕ) (k : StepKind) → slots_for hw submitters k ≡ slot.Given ∷ slots_by (step_fields hw submitters k)
 slots_are hw submitters kind.Bio = refl
 slots_are hw submitters k = refl
 
@@ -196,11 +196,11 @@ starts : (version : ℕ) (k : StepKind) (row : Row) (f : List ℕ) → f ≡ get
 starts version k row f at of = begins row (step_word k) (word_long k) (sym at ∙ of.1)
 
 pub step_line : (version hw submitters : ℕ) (l : Line) (row : Row) (f ns : List ℕ) → f ≡ get_or row (0) [] → (true ≡ true → Of version f (step_said hw submitters l).0) → FieldsSpell (slots_for hw submitters (step_said hw submitters l).0) row ns
-    → IsBy (step_cells hw submitters (step_said hw submitters l).0) (step_said hw submitters l).1 (λ i. get_or row (suc i) []) (λ i. get_or ns (suc i) 0) → IsRight l → IsRowOf (step version hw submitters) row l
+    → IsBy (step_fields hw submitters (step_said hw submitters l).0) (step_said hw submitters l).1 (λ i. get_or row (suc i) []) (λ i. get_or ns (suc i) 0) → IsRight l → IsRowOf (step version hw submitters) row l
 step_line version hw submitters l row f ns at is s b r =
     let k = (step_said hw submitters l).0 in
     let of = is refl in
-    let h = word_line why.Count (step_word k) (step_cells hw submitters k) (λ v. StepStandsIn version k × FitsCells (step_cells hw submitters k) v) (step_said hw submitters l).1 row ns (starts version k row f at of)
+    let h = word_line why.Count (step_word k) (step_fields hw submitters k) (λ v. StepStandsIn version k × FitsCells (step_fields hw submitters k) v) (step_said hw submitters l).1 row ns (starts version k row f at of)
     (subst (λ ss. FieldsSpell ss row ns) (slots_are hw submitters k) s) b (λ x. (of.0, x)) in
     λ rest. record { fits = ((h rest).fits, r); made = (h rest).made; follows = tt }
 

@@ -144,16 +144,20 @@ event_fits : (version : ℕ) (setup : Setup) (es : List Happened) (e : Happened)
 event_fits version setup es Tick legal v h = ((v, (tt, (tt, (tt, (tt, (tt, tt)))))), (tt, refl))
 event_fits version setup es (Release id bios) legal v h =
     let at = last_event es (Release id bios) in
-    ((v, ((omega arith, omega (arith, h.0)), ((h.1, h.2), (tt, (tt, (tt, tt)))))), (group_fits version setup.limits [] bios (legal.are_requests _ _ at) (legal.release_within _ id bios at) h.3, refl))
+    let g = h.0 in
+    ((v, ((omega arith, omega (arith, g.0)), ((g.1, g.2), (tt, (tt, (tt, tt)))))), (group_fits version setup.limits [] bios (legal.are_requests _ _ at) (legal.release_within _ id bios at) g.3, refl))
 event_fits version setup es (Join id bios) legal v h =
     let at = last_event es (Join id bios) in
     let fit = legal.join_fits _ id bios at in
-    let some = h.1 in
-    ((v, ((omega arith, omega (arith, h.0)), ((h.1, h.2), (tt, (tt, (tt, tt)))))), (group_fits version setup.limits [] bios (legal.are_requests _ _ at) (newcomer_within setup.limits _ bios fit.0 (omega (arith, some)) fit.1.within) h.3, refl))
-event_fits version setup es (Issue id tag) legal v h = ((v, ((omega arith, omega (arith, h.0)), ((omega arith, omega (arith, h.1)), (tt, (tt, (tt, tt)))))), (tt, refl))
-event_fits version setup es (Done tag) legal v h = ((v, ((omega arith, omega (arith, h)), (tt, (tt, (tt, (tt, tt)))))), (tt, refl))
-event_fits version setup es (Back tag) legal v h = ((v, ((omega arith, omega (arith, h)), (tt, (tt, (tt, (tt, tt)))))), (tt, refl))
-event_fits version setup es (Depth depth) legal v h = ((v, ((omega arith, omega (arith, h)), (tt, (tt, (tt, (tt, tt)))))), (tt, refl))
+    let g = h.0 in
+    let some = g.1 in
+    ((v, ((omega arith, omega (arith, g.0)), ((g.1, g.2), (tt, (tt, (tt, tt)))))), (group_fits version setup.limits [] bios (legal.are_requests _ _ at) (newcomer_within setup.limits _ bios fit.0 (omega (arith, some)) fit.1.within) g.3, refl))
+event_fits version setup es (Issue id tag) legal v h =
+    let i = h.1 in
+    ((v, ((omega arith, omega (arith, i.0)), ((omega arith, omega (arith, i.1)), (tt, (tt, (tt, tt)))))), (tt, refl))
+event_fits version setup es (Done tag) legal v h = let t = h.2 in ((v, ((omega arith, omega (arith, t)), (tt, (tt, (tt, (tt, tt)))))), (tt, refl))
+event_fits version setup es (Back tag) legal v h = let t = h.2 in ((v, ((omega arith, omega (arith, t)), (tt, (tt, (tt, (tt, tt)))))), (tt, refl))
+event_fits version setup es (Depth depth) legal v h = let d = h.3 in ((v, ((omega arith, omega (arith, d)), (tt, (tt, (tt, (tt, tt)))))), (tt, refl))
 
 -- of a list with one more, the others have it, and so has the last
 all_before : (P : Happened → Type 0) (es : List Happened) (e : Happened) → All P (es ++ e ∷ []) → All P es × P e
@@ -236,13 +240,13 @@ bios_fit version limits before [] f = All-nil BioFits
 bios_fit version limits before (b ∷ bs) f = all_cons BioFits b bs (bio_fits b version limits before f.0) (bios_fit version limits (before ++ b ∷ []) bs f.1)
 
 fits_event : (version : ℕ) (limits : Limits) (e : Happened) → (plain_event version limits).Fits e → EventFits e
-fits_event version limits Tick f = tt
-fits_event version limits (Release id bios) f = let id_in = f.0.1.0.1 in (omega (arith, id_in), f.0.1.1.0.0, f.0.1.1.0.1, bios_fit version limits [] bios f.1.0)
-fits_event version limits (Join id bios) f = let id_in = f.0.1.0.1 in (omega (arith, id_in), f.0.1.1.0.0, f.0.1.1.0.1, bios_fit version limits [] bios f.1.0)
-fits_event version limits (Issue id tag) f = let id_in = f.0.1.0.1 in let tag_in = f.0.1.1.0.1 in (omega (arith, id_in), omega (arith, tag_in))
-fits_event version limits (Done tag) f = let tag_in = f.0.1.0.1 in omega (arith, tag_in)
-fits_event version limits (Back tag) f = let tag_in = f.0.1.0.1 in omega (arith, tag_in)
-fits_event version limits (Depth depth) f = let depth_in = f.0.1.0.1 in omega (arith, depth_in)
+fits_event version limits Tick f = (tt, tt, tt, tt)
+fits_event version limits (Release id bios) f = let id_in = f.0.1.0.1 in ((omega (arith, id_in), f.0.1.1.0.0, f.0.1.1.0.1, bios_fit version limits [] bios f.1.0), tt, tt, tt)
+fits_event version limits (Join id bios) f = let id_in = f.0.1.0.1 in ((omega (arith, id_in), f.0.1.1.0.0, f.0.1.1.0.1, bios_fit version limits [] bios f.1.0), tt, tt, tt)
+fits_event version limits (Issue id tag) f = let id_in = f.0.1.0.1 in let tag_in = f.0.1.1.0.1 in (tt, (omega (arith, id_in), omega (arith, tag_in)), tt, tt)
+fits_event version limits (Done tag) f = let tag_in = f.0.1.0.1 in (tt, tt, omega (arith, tag_in), tt)
+fits_event version limits (Back tag) f = let tag_in = f.0.1.0.1 in (tt, tt, omega (arith, tag_in), tt)
+fits_event version limits (Depth depth) f = let depth_in = f.0.1.0.1 in (tt, tt, tt, omega (arith, depth_in))
 
 events_fit : (version : ℕ) (setup : Setup) (before es : List Happened) → AllFit (event version setup) with_next before es → All EventFits es
 events_fit version setup before [] f = All-nil EventFits

@@ -1,11 +1,20 @@
 -- The table of the events of a trace: the row of each kind's first record.
-use Rattle.std.specs.Prelude.{◌≡◌, ℕ, List}
+use Rattle.std.specs.Prelude.{ℕ, List}
 use Rattle.blk_lists.specs.Tables.{Cell}
 use Rattle.blk_lists.specs.Kinds.{KindRow, row, StandsFrom, Told, cells_of}
-use Rattle.blk_text.specs.declared.heads.EventKind.{EventKind}
-use Rattle.blk_text.specs.declared.heads.EventKind.TheVariants.{Tick, Release, Join, Issue, Done, Back, Depth}
 use Rattle.blk_text.specs.declared.heads.TheConstants.{TICK, RELEASE, JOIN, ISSUE, DONE, BACK, DEPTH}
 
+-- a row for each kind of event
+pub data EventKind : Type 0 where
+  Tick : EventKind
+  Release : EventKind
+  Join : EventKind
+  Issue : EventKind
+  Done : EventKind
+  Back : EventKind
+  Depth : EventKind
+
+-- the row of a kind
 abbrev pub kind_row : EventKind → KindRow
 kind_row Tick = row TICK
 kind_row Release = row RELEASE
@@ -28,13 +37,5 @@ abbrev pub Says : EventKind → Type 0
 Says k = Told (kind_row k).slots
 
 -- and in which fields
-abbrev pub head_cells : (k : EventKind) → List (Cell (Says k))
-head_cells k = cells_of (kind_row k).slots (λ s. s)
-
--- a field is the word of a kind that stands in a version
-abbrev pub IsKind : ℕ → List ℕ → EventKind → Type 0
-IsKind version f k = EventStandsIn version k × (f ≡ event_word k)
-
--- and that of none
-abbrev pub IsNoKind : ℕ → List ℕ → Type 0
-IsNoKind version f = (k : EventKind) → EventStandsIn version k → ¬ (f ≡ event_word k)
+abbrev pub event_fields : (k : EventKind) → List (Cell (Says k))
+event_fields k = cells_of (kind_row k).slots (λ s. s)

@@ -8,3 +8,4 @@ pub mod TraceForm
 pub mod Versions
 pub mod EventKinds
 pub mod StepKinds
+pub mod Inside

@@ -17,7 +17,7 @@ use Rattle.blk_lists.specs.declared.fault.Why.TheVariants as why
 use Rattle.parts.specs.declared.Repeats.TheVariants as repeats
 use Rattle.parts.specs.Parts.{Part, then, tested, seen_as, Spells}
 use Rattle.blk_lists.specs.declared.fields.TheConstants.{MAX_TAGS}
-use Rattle.blk_text.specs.StepKinds.{StepKind, step_word, StepStandsIn, StepTold, step_cells}
+use Rattle.blk_text.specs.StepKinds.{StepKind, step_word, StepStandsIn, StepTold, step_fields}
 use Rattle.blk_text.specs.StepKinds as kind
 use Rattle.blk_text.specs.declared.script.TheConstants.{MAX_RUN, MAX_STEPS}
 use Rattle.blk_text.specs.declared.script.Line.{Line}
@@ -49,7 +49,7 @@ IsRight l = (b : Bio) → l ≡ line.Bio b → IsBio b
 abbrev pub HasNoSuchBio : Line → ℕ → Why → Type 0
 HasNoSuchBio l k w = (b : Bio) × (f : BioFault) × (l ≡ line.Bio b) × (k ≡ 1) × (w ≡ why.Bio f) × IsBioAnswer b.id b.dir b.first b.sectors (Err f)
 
--- the numbers of a step lie in their ranges, for so many hardware queues and submitters
+-- the numbers of a step lie in their ranges, for these numbers of hardware queues and submitters
 abbrev pub LineFits : ℕ → ℕ → Line → Type 0
 LineFits hw submitters (line.Bio b) = (b.id.submitter < submitters) × (b.id.serial < 2 ^ 64) × IsBio b
 LineFits hw submitters (line.Flush submitter) = submitter < submitters
@@ -118,13 +118,13 @@ script_title_part = tested plain_title IsEnough TooFew
 
 -- a step by its table
 abbrev pub plain_step : ℕ → ℕ → ℕ → Part Row Why Line
-plain_step version hw submitters = seen_as (step_said hw submitters) (kinds_record (StepTold hw submitters) why.Count 6 (StepStandsIn version) step_word (step_cells hw submitters))
+plain_step version hw submitters = seen_as (step_said hw submitters) (kinds_record (StepTold hw submitters) why.Count 6 (StepStandsIn version) step_word (step_fields hw submitters))
 
--- a step of a version, for so many hardware queues and submitters
+-- a step of a version, for these numbers of hardware queues and submitters
 abbrev pub step : ℕ → ℕ → ℕ → Part Row Why Line
 step version hw submitters = tested (plain_step version hw submitters) IsRight HasNoSuchBio
 
--- a setup and steps, at most so many
+-- a setup and steps, at most `MAX_STEPS`
 abbrev pub script_body : ℕ × Title → Part Row Why (Setup × List Line)
 script_body t = then (setup t.1.depth t.1.hw) (λ s. items_of (repeats.AtMost MAX_STEPS) (λ _. step t.0 t.1.hw t.1.submitters))
 

@@ -22,10 +22,10 @@ pub record IsWholeSetup (s : Setup) : Type 0 where
   pub is_setup : IsSetup s
   pub is_limits : IsLimits s.limits
 
--- a setup of so many tags and hardware queues
+-- a setup of these numbers of tags and hardware queues
 abbrev pub FitsSetup : ℕ → ℕ → Setup → Type 0
 FitsSetup depth hw s = (s.depth ≡ depth) × (s.hw ≡ hw) × IsWholeSetup s
 
--- the setup record, for so many tags and hardware queues
+-- the setup record, for these numbers of tags and hardware queues
 abbrev pub setup : ℕ → ℕ → Part Row Why Setup
 setup depth hw = word_record why.Word (codes "setup") setup_cells (FitsSetup depth hw)

@@ -37,7 +37,7 @@ step_word k = (row_of k).word
 abbrev pub StepStandsIn : ℕ → StepKind → Type 0
 StepStandsIn version k = StandsFrom (row_of k).since version
 
--- its slots, where there are so many hardware queues and submitters
+-- its slots, for these numbers of hardware queues and submitters
 abbrev pub slots_for : ℕ → ℕ → StepKind → List Slot
 slots_for hw submitters Bio = below submitters BIO.slots
 slots_for hw submitters Flush = below submitters FLUSH.slots
@@ -50,5 +50,5 @@ abbrev pub StepTold : ℕ → ℕ → StepKind → Type 0
 StepTold hw submitters k = Told (slots_for hw submitters k)
 
 -- and in which fields
-abbrev pub step_cells : (hw submitters : ℕ) → (k : StepKind) → List (Cell (StepTold hw submitters k))
-step_cells hw submitters k = cells_of (slots_for hw submitters k) (λ s. s)
+abbrev pub step_fields : (hw submitters : ℕ) → (k : StepKind) → List (Cell (StepTold hw submitters k))
+step_fields hw submitters k = cells_of (slots_for hw submitters k) (λ s. s)

@@ -1,15 +1,13 @@
 -- A trace: a title, a setup, and events, each of which has one record, or one and those of its bios.
-use Rattle.std.specs.Prelude.{◌≡◌, ◌⊎◌, ◌≤◌, ℕ, List, [], ◌∷◌, ◌++◌, length, codes, All, Option, Some, None, IfSome}
+use Rattle.std.specs.Prelude.{◌≡◌, ◌≤◌, ℕ, List, [], ◌∷◌, length, codes, All, Option, Some, IfSome, unwrap_or}
 use Rattle.std.specs.Option.{option_map_or}
 use Rattle.blk_bio.specs.Bios.{Bio, IsBio}
 use Rattle.blk_bio.specs.Limits.{Limits}
 use Rattle.blk_bio.specs.Requests.{Fits}
 use Rattle.blk_bio.specs.declared.request.Side.TheVariants as side
-use Rattle.blk_bio.specs.declared.limits.TheConstants.{MAX_QUEUES, MAX_SEGMENTS}
+use Rattle.blk_bio.specs.declared.limits.TheConstants.{MAX_QUEUES}
 use Rattle.blk_trace.specs.declared.trace.TheConstants.{MAX_EVENTS}
 use Rattle.blk_bio.specs.declared.rule.TraceRule.{TraceRule}
-use Rattle.blk_trace.specs.declared.rule.PushFault.{PushFault}
-use Rattle.blk_trace.specs.declared.rule.PushFault.TheVariants as push_fault
 use Rattle.blk_trace.specs.declared.event.Event.{Event}
 use Rattle.blk_trace.specs.Kinds.{enters, bare}
 use Rattle.blk_trace.specs.Happened.{Happened}
@@ -19,7 +17,7 @@ use Rattle.blk_trace.specs.Setups.{Setup}
 use Rattle.blk_trace.specs.Traces.{Traced}
 use Rattle.blk_lists.specs.Sources.{Row}
 use Rattle.csv.specs.Reading.{default_config, records, strip_bom}
-use Rattle.blk_lists.specs.Reads.{IsStopped, ended_of, with_next}
+use Rattle.blk_lists.specs.Reads.{ended_of, with_next}
 use Rattle.blk_lists.specs.Texts.{rows_text}
 use Rattle.blk_lists.specs.Words.{NextStarts}
 use Rattle.blk_lists.specs.Tables.{Cell, Blank, Number, FitsCells, IsVersion, title_record, kinds_record, word_record}
@@ -30,9 +28,8 @@ use Rattle.blk_text.specs.Versions.{latest, most_tags}
 use Rattle.blk_text.specs.declared.bios.TheConstants.{MAX_SUBMITTERS}
 use Rattle.blk_lists.specs.declared.fault.Why.{Why}
 use Rattle.blk_lists.specs.declared.fault.Why.TheVariants as why
-use Rattle.blk_text.specs.EventKinds.{EventStandsIn, event_word, Says, head_cells}
-use Rattle.blk_text.specs.declared.heads.EventKind.{EventKind}
-use Rattle.blk_text.specs.declared.heads.EventKind.TheVariants as kind
+use Rattle.blk_text.specs.EventKinds.{EventKind, EventStandsIn, event_word, Says, event_fields}
+use Rattle.blk_text.specs.EventKinds as kind
 use Rattle.blk_text.specs.declared.heads.TraceTitle.{TraceTitle}
 use Rattle.parts.specs.declared.Repeats.TheVariants as repeats
 use Rattle.parts.specs.Parts.{Part, NextWrong, then, many, over, seen_as, tested, by_word, Spells}
@@ -66,7 +63,7 @@ said (Depth depth) = (kind.Depth, (depth, tt))
 
 -- the first record of an event
 abbrev pub first_record : ℕ → Part Row Why Head
-first_record version = seen_as said (kinds_record Says why.Count 6 (EventStandsIn version) event_word head_cells)
+first_record version = seen_as said (kinds_record Says why.Count 6 (EventStandsIn version) event_word event_fields)
 
 -- what is wrong with a record of a group that does not begin as a bio's: what is wrong with it as the first record of an
 -- event, and else that it came too soon
@@ -95,28 +92,19 @@ IsAstray limits before b k w = (k ≡ 1) × (w ≡ why.Tile) × ¬ Tiles limits 
 abbrev pub group_bio : ℕ → Limits → List Bio → Part Row Why Bio
 group_bio version limits before = tested (whole_bio version) (Tiles limits before) (IsAstray limits before)
 
--- the bios of the request that is made of a group so far
-abbrev pub gathered_bios : Option (List Bio) → List Bio
-gathered_bios None = []
-gathered_bios (Some bios) = bios
-
 -- how many bios follow a first record
 abbrev pub bios_after : Head → ℕ
 bios_after h = option_map_or (λ p. p.1) (enters h) 0
 
--- so many bios of a group
+-- the bios of a group, in this number
 abbrev pub group : ℕ → Limits → ℕ → Part Row Why (List Bio)
 group version limits count = many (repeats.Exactly count) (group_bio version limits) with_next []
 
--- the first record of an event, and its bios
+-- the first record of an event, and its bios: where no request enters, it tells the event itself
 abbrev pub event_told : Happened → Head × List Bio
-event_told Tick = (Tick, [])
 event_told (Release id bios) = (Release id (length bios), bios)
 event_told (Join id bios) = (Join id (length bios), bios)
-event_told (Issue id tag) = (Issue id tag, [])
-event_told (Done tag) = (Done tag, [])
-event_told (Back tag) = (Back tag, [])
-event_told (Depth depth) = (Depth depth, [])
+event_told e = (unwrap_or (bare e) Tick, [])
 
 -- an event by its records
 abbrev pub plain_event : ℕ → Limits → Part Row Why Happened
@@ -125,15 +113,6 @@ plain_event version limits = seen_as event_told (then (first_record version) (λ
 -- the first rule that an event breaks after those before it, told of the event's first record
 abbrev pub BreaksRule : Setup → List Happened → Happened → ℕ → Why → Type 0
 BreaksRule setup before e k w = (k ≡ 1) × ((rule : TraceRule) × (w ≡ why.Rule rule) × IsFirstBroken setup before e rule)
-
--- what is told of an event that a trace refuses
-abbrev pub refusal_of : PushFault → Why
-refusal_of (push_fault.Rule rule) = why.Rule rule
-refusal_of push_fault.Memory = why.Memory
-
--- an event is refused after these: because memory ran out, or for the first rule that it breaks
-abbrev pub IsRefused : Setup → List Happened → Happened → Why → Type 0
-IsRefused setup before e w = (w ≡ why.Memory) ⊎ ((rule : TraceRule) × (w ≡ why.Rule rule) × IsFirstBroken setup before e rule)
 
 -- an event that breaks no rule after those before it; its rules are looked for once all its records are read
 abbrev pub event : ℕ → Setup → List Happened → Part Row Why Happened
@@ -147,11 +126,7 @@ alone h = bare h
 abbrev pub one_more : ℕ → Setup → List Happened → Part Row Why Head
 one_more version setup before = tested (first_record version) (λ h. IfSome (alone h) (IsUnbroken setup before)) (λ h k w. (e : Happened) × (alone h ≡ Some e) × BreaksRule setup before e k w)
 
--- what is wrong with a record after the last event
-abbrev pub IsPast : ℕ → Setup → List Happened → Row → Why → Type 0
-IsPast version setup before row w = (rest : List Row) → (over why.Count (one_more version setup before)).Wrong (row ∷ rest) 1 w
-
--- just so many events, to the end of the text
+-- exactly this number of events, to the end of the text
 abbrev pub events_of : ℕ → Setup → ℕ → Part Row Why (List Happened)
 events_of version setup count = ended_of (repeats.Exactly count) (event version setup) (one_more version setup)
 
@@ -159,7 +134,7 @@ events_of version setup count = ended_of (repeats.Exactly count) (event version 
 abbrev pub trace_body : ℕ × TraceTitle → Part Row Why (Setup × List Happened)
 trace_body t = then (setup t.1.depth t.1.hw) (λ s. events_of t.0 s t.1.count)
 
--- a title with the number of events, a setup, and just so many events, each of which breaks no rule after those before it
+-- a title with the number of events, a setup, and exactly that many events, each of which breaks no rule after those before it
 abbrev pub trace_form : Part Row Why ((ℕ × TraceTitle) × (Setup × List Happened))
 trace_form = then trace_title_part trace_body
 
@@ -192,15 +167,6 @@ pub record IsTraceOf (version : ℕ) (t : Traced) : Type 0 where
 -- the first fault of a trace
 abbrev pub TraceTextFault : List Row → ℕ → Why → Type 0
 TraceTextFault = trace_form.Wrong
-
--- an event was added to a trace, none of whose rules it breaks
-abbrev pub IsPushed : Traced → Traced → Happened → Type 0
-IsPushed old new e = (new.setup ≡ old.setup) × (new.events ≡ old.events ++ e ∷ []) × IsUnbroken old.setup old.events e
-
--- reading so many events stopped at the record `at`, and `last` was asked for last: all events before the one that was being read are
--- good, and no record past those that it may have was asked for
-abbrev pub IsStoppedIn : ℕ → Setup → ℕ → Option (List Row) → ℕ → ℕ → Type 0
-IsStoppedIn version setup count left at last = IsStopped (repeats.Exactly count) (event version setup) left 2 MAX_SEGMENTS at last
 
 -- the records spell one trace at most, in one version
 abbrev pub OneTrace : List Row → Type 0

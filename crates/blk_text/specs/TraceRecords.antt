@@ -1,11 +1,12 @@
 -- The records of a trace.
-use Rattle.std.specs.Prelude.{◌≤◌, ◌<◌, ◌^◌, ℕ, List, [], ◌∷◌, length, map, decimal, codes, All}
+use Rattle.std.specs.Prelude.{◌≤◌, ◌<◌, ◌^◌, ℕ, List, [], ◌∷◌, length, map, decimal, codes, All, IfSome}
 use Rattle.std.specs.List.{flat_map}
 use Rattle.blk_bio.specs.Bios.{Bio, IsBio}
 use Rattle.blk_bio.specs.declared.limits.TheConstants.{MAX_SEGMENTS}
 use Rattle.blk_trace.specs.Setups.{Setup}
 use Rattle.blk_trace.specs.Happened.{Happened}
 use Rattle.blk_trace.specs.declared.event.Event.TheVariants.{Tick, Release, Join, Issue, Done, Back, Depth}
+use Rattle.blk_trace.specs.Kinds.{enters, issues, ends, sets_depth}
 use Rattle.blk_trace.specs.Traces.{Traced}
 use Rattle.blk_trace.specs.Legal.{IsLegalTrace}
 use Rattle.blk_lists.specs.Sources.{Row}
@@ -51,13 +52,11 @@ GroupFits id bios = (id < 2 ^ 64) × (1 ≤ length bios) × (length bios ≤ MAX
 
 -- the numbers of an event lie in their ranges
 abbrev pub EventFits : Happened → Type 0
-EventFits Tick = Unit {0}
-EventFits (Release id bios) = GroupFits id bios
-EventFits (Join id bios) = GroupFits id bios
-EventFits (Issue id tag) = (id < 2 ^ 64) × (tag < MAX_TAGS)
-EventFits (Done tag) = tag < MAX_TAGS
-EventFits (Back tag) = tag < MAX_TAGS
-EventFits (Depth depth) = depth < 2 ^ 64
+EventFits e =
+    IfSome (enters e) (λ p. GroupFits p.0 p.1)
+    × IfSome (issues e) (λ p. (p.0 < 2 ^ 64) × (p.1 < MAX_TAGS))
+    × IfSome (ends e) (λ tag. tag < MAX_TAGS)
+    × IfSome (sets_depth e) (λ depth. depth < 2 ^ 64)
 
 -- a trace is legal, and its numbers lie in their ranges
 pub record IsTrace (t : Traced) : Type 0 where

@@ -8,14 +8,14 @@ ghost use Rattle.blk_lists.specs.Reads.{IsRowOf, IsWrongLine};
 ghost use Rattle.blk_lists.specs.Texts.{rows_text};
 ghost use Rattle.blk_lists.specs.Words.{StartsWith};
 ghost use Rattle.blk_text.specs.BioRecord.{bio_row};
-ghost use Rattle.blk_text.specs.BioTable.{bio_record};
+ghost use Rattle.blk_text.specs.Inside.BioTable.{bio_record};
 ghost use Rattle.blk_text.specs.TraceRecords.{BioFits};
 ghost use Rattle.drafts.specs.Drafts.{drafted};
 
 use crate::setup::WIDTH;
 use blk_bio::{Bio, BioId, Dir};
 use blk_lists::fault::Why;
-use blk_lists::fields::{ANY, Slot, read_fields};
+use blk_lists::fields::{ANY_SLOT, Slot, read_fields};
 use blk_lists::kinds::Kind;
 use csv::ByteRecord;
 use drafts::Block;
@@ -26,10 +26,17 @@ use std::alloc::AllocError;
 pub const BIO: Kind<3, WIDTH> = Kind {
     word: *b"bio",
     since: 1,
-    slots: [Slot::Given, ANY, ANY, Slot::Direction, ANY, ANY],
+    slots: [
+        Slot::Given,
+        ANY_SLOT,
+        ANY_SLOT,
+        Slot::Direction,
+        ANY_SLOT,
+        ANY_SLOT,
+    ],
 };
 
-/// A bio of a trace names one of so many submitters.
+/// The submitters that a bio of a trace may name lie below this number.
 pub const MAX_SUBMITTERS: u64 = 1 << 8;
 
 /// The direction of a letter that a record spells.
@@ -45,7 +52,7 @@ fn direction_of(letter: u64) -> Dir
     }
 }
 
-/// The bio of a record that begins with its word, of one of so many submitters.
+/// The bio of a record that begins with its word, of a submitter below this number.
 pub fn read_bio(row: &ByteRecord, submitters: u64) -> Result<Bio, Why>
     requires some { (1 ≤ submitters) × (submitters ≤ MAX_SUBMITTERS) }
     requires starts { StartsWith (codes "bio") (fields_of row.now) }

@@ -6,7 +6,8 @@ ghost use Rattle.parts.specs.declared.Repeats.TheVariants as repeats;
 ghost use Rattle.parts.specs.Parts.{Begins};
 ghost use Rattle.blk_lists.specs.Sources.{Row};
 ghost use Rattle.blk_lists.specs.Reads.{FaultsBy, HandReads, HandFailsBy, Fails, AreItems, IsHeldAt, size_of};
-ghost use Rattle.blk_text.specs.TraceForm.{refusal_of, IsRefused, IsPushed, IsStoppedIn, plain_event, event as event_part, IsPast, events_of, trace_form, SpellsTrace, TraceTextFault};
+ghost use Rattle.blk_text.specs.TraceForm.{plain_event, event as event_part, events_of, trace_form, SpellsTrace, TraceTextFault};
+ghost use Rattle.blk_text.specs.Inside.TraceForm.{refusal_of, IsRefused, IsPushed, IsStoppedIn, IsPast};
 ghost use Rattle.blk_text.specs.TraceRecords.{IsTrace, trace_rows};
 
 use crate::groups::read_group;
@@ -60,7 +61,7 @@ fn read_event<R: Read + Drop>(
     }
 }
 
-/// What is told of an event that a trace refuses.
+/// The fault of an event that a trace refuses.
 fn refusal(fault: PushFault) -> Why
     ensures { result ≡ refusal_of fault }
 {
@@ -192,7 +193,7 @@ impl LineForm for TraceTitleForm {
     }
 }
 
-/// The trace of so many events, which are the rest of the text, from one without events.
+/// The trace of a number of events, which are the rest of the text, from one without events.
 fn read_events<R: Read + Drop>(
     alloc: Global,
     records: &mut Records<R>,
@@ -231,11 +232,11 @@ fn read_events<R: Read + Drop>(
 }
 
 /// The trace of a text of records of six fields, in version 1 or 2: a title with the depth (to 64 in version 1, to 256
-/// in version 2), the hardware queues and the number of events, a setup, and just so many events, each of which obeys the
+/// in version 2), the hardware queues and the number of events, a setup, and exactly that many events, each of which obeys the
 /// rules of a trace after those before it; a depth is set in version 2 alone. No record was read before.
 ///
 /// The fault is the first one: of the least record, and in it the first in the order of [`Why`]. A rule that an event
-/// breaks is told of its first record and looked for once its group is whole, so a fault of a bio in the group comes
+/// breaks is reported at its first record and looked for once its group is whole, so a fault of a bio in the group comes
 /// before it. Of an event past the announced number its own fault and, where it has one record, its rule come before
 /// [`Why::Count`]. [`Why::Read`] and [`Why::Memory`] come at the record that is being read. No record is asked for past
 /// those of the event that is being read, and never more than 129,000,003.

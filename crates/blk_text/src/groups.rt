@@ -67,7 +67,8 @@ struct GroupForm {
 
 impl ItemForm for GroupForm {
     ghost use Rattle.blk_bio.specs.Bios.{Bio as BioFields};
-    ghost use Rattle.blk_text.specs.TraceForm.{group_bio, gathered_bios};
+    ghost use Rattle.blk_text.specs.TraceForm.{group_bio};
+    ghost use Rattle.blk_text.specs.Inside.TraceForm.{gathered_bios};
 
     type Items = Option<Request>;
 
@@ -117,7 +118,7 @@ impl ItemForm for GroupForm {
     }
 }
 
-/// The request of so many records that come next.
+/// The request of the next records, in this number.
 pub(crate) fn read_group<R: Read + Drop>(
     alloc: Global,
     records: &mut Records<R>,

@@ -9,7 +9,7 @@ ghost use Rattle.blk_text.specs.StepKinds as kind;
 ghost use Rattle.blk_text.specs.Script.{step, IsScript, SpellsScript, ScriptFault, scripted, script_form};
 ghost use Rattle.blk_text.specs.StepRecords.{step_row};
 ghost use Rattle.drafts.specs.Drafts.{drafted};
-ghost use Rattle.blk_bio.specs.declared.limits.TheConstants.{MAX_QUEUES as ALL_QUEUES, MAX_SOFT_QUEUES as MAX_SUBMITTERS};
+ghost use Rattle.blk_bio.specs.declared.limits.TheConstants.{MAX_QUEUES as ALL_QUEUES, MAX_SOFT_QUEUES as ALL_SUBMITTERS};
 
 use crate::bios::{BIO, push_bio, read_bio};
 use crate::heads::{BACK, DEPTH, DONE, ISSUE, ONE, TICK};
@@ -48,11 +48,11 @@ pub enum Line {
     Done(u16),
     /// The device hands the command under a tag back.
     Back(u16),
-    /// So many tags may be issued in a round from the next one on: version 2 alone.
+    /// How many tags may be issued in a round, from the next one on: version 2 alone.
     Depth(u64),
     /// A round ends.
     Tick,
-    /// So many rounds of work are done, 1 to [`MAX_RUN`].
+    /// Work is done for this number of rounds, 1 to [`MAX_RUN`].
     Run(u64),
 }
 
@@ -135,14 +135,14 @@ pub(crate) struct Title {
     pub submitters: u64,
 }
 
-/// The steps of a version, for so many hardware queues and submitters.
+/// The steps of a version, for these numbers of hardware queues and submitters.
 #[derive(Clone, Copy, Drop)]
 pub(crate) struct StepForm {
     version: u64,
     hw: u8,
     submitters: u64,
     ghost hw_in: { (1 ≤ hw) × (hw ≤ ALL_QUEUES) },
-    ghost submitters_in: { (1 ≤ submitters) × (submitters ≤ MAX_SUBMITTERS) },
+    ghost submitters_in: { (1 ≤ submitters) × (submitters ≤ ALL_SUBMITTERS) },
 }
 
 /// The step of a record that is not a bio's.

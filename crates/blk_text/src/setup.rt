@@ -101,7 +101,7 @@ fn setup_with(row: &ByteRecord, depth: u64, hw: u8, numbers: &[u64; WIDTH]) -> S
     }
 }
 
-/// The setup of a record, for so many tags and hardware queues.
+/// The setup of a record, for these numbers of tags and hardware queues.
 fn setup_at(row: &ByteRecord, depth: u64, hw: u8) -> Result<Setup, Why>
     requires depth { (0 < depth) × (depth ≤ MAX_DEPTH) }
     requires hw { (0 < hw) × (hw ≤ MAX_QUEUES) }
@@ -117,7 +117,7 @@ fn setup_at(row: &ByteRecord, depth: u64, hw: u8) -> Result<Setup, Why>
     }
 }
 
-/// The setup record for so many tags and hardware queues.
+/// The setup record for these numbers of tags and hardware queues.
 #[derive(Clone, Copy, Drop)]
 pub(crate) struct SetupForm {
     pub depth: u64,

@@ -1,24 +1,25 @@
 //! The bytes of a text that is being made, of which the last ones stand in a block.
 
 ghost use Rattle.std.specs.Prelude.{◌≡◌, ◌+◌, ◌++◌, ◌≤◌, OnOk, IfOk, decimal};
+ghost use Rattle.drafts.specs.declared.block.TheConstants.{BLOCK_BYTES};
 
 use crate::pieces::{put, put_number};
 use std::alloc::{AllocError, Global};
 
 /// How many bytes are gathered before they join the text.
-const BLOCK: usize = 4096;
+const BLOCK_BYTES: usize = 4096;
 
 /// Room for a record of six fields of at most 20 bytes, with a byte after each.
-const ROOM: usize = 128;
+const RECORD_BYTES: usize = 128;
 
 /// A text, of which the last bytes stand in a block.
 #[derive(Drop)]
 pub struct Block {
     text: Vec<u8>,
     /// The last bytes of the text, up to a place.
-    pub block: [u8; BLOCK],
+    pub block: [u8; BLOCK_BYTES],
     pub at: usize,
-    ghost within: { at ≤ 4096 },
+    ghost within: { at ≤ BLOCK_BYTES },
 }
 
 impl Block {
@@ -31,7 +32,7 @@ impl Block {
     {
         Block {
             text: Vec::new(alloc),
-            block: [0; BLOCK],
+            block: [0; BLOCK_BYTES],
             at: 0,
         }
     }
@@ -52,10 +53,10 @@ impl Block {
     /// The place in the block from which on there is room for a record.
     #[inline]
     pub fn room(&mut self) -> Result<usize, AllocError>
-        ensures at { IfOk result (λ at. (at ≡ self.new.at) × (at + 128 ≤ 4096)) }
+        ensures at { IfOk result (λ at. (at ≡ self.new.at) × (at + RECORD_BYTES ≤ BLOCK_BYTES)) }
         ensures text { OnOk result (drafted self.new ≡ drafted self.old) }
     {
-        if self.at > BLOCK - ROOM {
+        if self.at > BLOCK_BYTES - RECORD_BYTES {
             self.flush()?;
         }
         Ok(self.at)
@@ -65,7 +66,7 @@ impl Block {
     pub fn push(&mut self, bytes: &[u8]) -> Result<(), AllocError>
         ensures { OnOk result (drafted self.new ≡ drafted self.old ++ bytes.now) }
     {
-        if bytes.len() > ROOM {
+        if bytes.len() > RECORD_BYTES {
             self.flush()?;
             return self.text.extend_from_slice(bytes);
         }

@@ -1,6 +1,7 @@
 use Rattle.std.proofs.Common.{◌≡◌, ◌+◌, length, max, inr, refl, ap, arith}
 use Rattle.blk_arrivals.specs.Coming.{begin_of}
-use Rattle.blk_arrivals.specs.Plugs.{plugs_of, no_plugs, steps_from}
+use Rattle.blk_arrivals.specs.Plugs.{no_plugs, steps_from}
+use Rattle.blk_arrivals.specs.Inside.Plugs.{plugs_of}
 use Rattle.blk_arrivals.proofs.Stepping.{AreSteps, more_steps, last_step, last_fit, as_many}
 use Rattle.blk_arrivals.proofs.going.steps_of.Goals as goal
 use Rattle.blk_arrivals.proofs.going.steps_of.Goals.{Else-len-gt-MAX_STEPS, After-drop-going-then-len-gt-MAX_STEPS-2, After-drop-going-then-len-gt-MAX_STEPS-2-3, After-drop-going-2}

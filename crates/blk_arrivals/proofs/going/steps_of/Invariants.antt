@@ -1,7 +1,8 @@
 use Rattle.std.proofs.Common.{◌≡◌, ◌≤◌, ◌++◌, length, drop, max}
 use Rattle.blk_text.specs.declared.script.TheConstants.{MAX_STEPS}
 use Rattle.blk_arrivals.specs.Coming.{begin_of}
-use Rattle.blk_arrivals.specs.Plugs.{plugs_of, no_plugs, steps_from}
+use Rattle.blk_arrivals.specs.Plugs.{no_plugs, steps_from}
+use Rattle.blk_arrivals.specs.Inside.Plugs.{plugs_of}
 use Rattle.blk_arrivals.proofs.Stepping.{AllFit}
 use Rattle.blk_arrivals.proofs.going.steps_of.Given as goal
 

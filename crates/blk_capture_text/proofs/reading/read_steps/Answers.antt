@@ -1,6 +1,6 @@
 use Rattle.std.proofs.Common.{rules, ◌≡◌, ◌+◌, true, false, arith}
 use Rattle.blk_lists.specs.Sources.{TakesRecord}
-use Rattle.blk_capture_text.specs.Taking.{AreTaken}
+use Rattle.blk_capture_text.specs.Inside.Taking.{AreTaken}
 use Rattle.blk_capture_text.proofs.CaptureLaws.{fit_in_order, size_steps, taken_long, taking_halts, end_outside, past_long, past_lacks}
 use Rattle.blk_capture_text.proofs.reading.read_steps.Goals as goal
 

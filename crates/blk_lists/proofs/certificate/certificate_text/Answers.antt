@@ -1,7 +1,8 @@
 use Rattle.std.proofs.Common.{◌≡◌, ◌++◌, ◌∷◌, ◌∙◌, [], List, ℕ, codes, length, map, ap, sym}
 use Rattle.std.specs.List.{zip}
 use Rattle.blk_lists.specs.Titles.{counted_cells}
-use Rattle.blk_lists.specs.Certificate.{claimed, bound_row, served_cells}
+use Rattle.blk_lists.specs.Certificate.{claimed, served_cells}
+use Rattle.blk_lists.specs.Inside.Certificate.{bound_row}
 use Rattle.blk_lists.specs.Tables.{row_by, title_by}
 use Rattle.blk_lists.specs.Texts.{rows_text}
 use Rattle.blk_lists.proofs.DraftLemmas.{two_first, rows_text-append}

@@ -1,6 +1,6 @@
 use Rattle.std.proofs.Common.{◌<◌, ℕ, [], get_or}
 use Rattle.csv.specs.Records.{fields_of}
-use Rattle.blk_lists.specs.Fields.{KeepsRule}
+use Rattle.blk_lists.specs.Inside.Fields.{KeepsRule}
 use Rattle.blk_lists.specs.declared.fields.Slot.TheVariants.{Given}
 use Rattle.blk_lists.proofs.fields.all_keep.Given as goal
 

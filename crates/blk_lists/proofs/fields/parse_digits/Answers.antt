@@ -5,8 +5,8 @@ use Rattle.blk_lists.proofs.fields.parse_digits.Goals as goal
 pub returns-then-not-is_canonical : goal.returns-then-not-is_canonical
 returns-then-not-is_canonical c = no_number c.args.field.now c.is_canonical.result (search rules) c.is_canonical.ensures
 
-pub returns-then-field-le-SAFE : goal.returns-then-field-le-SAFE
-returns-then-field-le-SAFE c = by_value c.short_number.result c.args.field.now c.is_canonical.result (search rules) c.is_canonical.ensures c.short_number.ensures
+pub returns-then-field-le-MAX_SAFE_DIGITS : goal.returns-then-field-le-MAX_SAFE_DIGITS
+returns-then-field-le-MAX_SAFE_DIGITS c = by_value c.short_number.result c.args.field.now c.is_canonical.result (search rules) c.is_canonical.ensures c.short_number.ensures.value
 
-pub returns-else-field-le-SAFE : goal.returns-else-field-le-SAFE
-returns-else-field-le-SAFE c = by_value c.long_number.result c.args.field.now c.is_canonical.result (search rules) c.is_canonical.ensures c.long_number.ensures
+pub returns-else-field-le-MAX_SAFE_DIGITS : goal.returns-else-field-le-MAX_SAFE_DIGITS
+returns-else-field-le-MAX_SAFE_DIGITS c = by_value c.long_number.result c.args.field.now c.is_canonical.result (search rules) c.is_canonical.ensures c.long_number.ensures

@@ -5,8 +5,8 @@ use Rattle.blk_lists.proofs.laws.certificates_of_both_forms.Goals as goal
 pub returns-clause-lateness : goal.returns-clause-lateness
 returns-clause-lateness c = λ rows at w s. (of_wrong kind.Lateness rows at w s, wrong_of kind.Lateness rows at w s)
 
-pub returns-clause-met : goal.returns-clause-met
-returns-clause-met c = λ rows at w s. (of_wrong kind.OnTime rows at w s, wrong_of kind.OnTime rows at w s)
+pub returns-clause-on_time : goal.returns-clause-on_time
+returns-clause-on_time c = λ rows at w s. (of_wrong kind.OnTime rows at w s, wrong_of kind.OnTime rows at w s)
 
 pub returns-clause-neither : goal.returns-clause-neither
 returns-clause-neither c = neither_wrong

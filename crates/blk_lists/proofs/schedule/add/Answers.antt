@@ -1,4 +1,4 @@
-use Rattle.blk_lists.specs.Schedule.{AreIds, DoRise}
+use Rattle.blk_lists.specs.Inside.Schedule.{AreIds, DoRise}
 use Rattle.blk_lists.proofs.ScheduleLaws.{above_rises, above_is_new, when_rising}
 use Rattle.blk_lists.proofs.schedule.add.Goals as goal
 

@@ -1,4 +1,4 @@
-use Rattle.blk_lists.specs.Schedule.{AreIds, DoRise}
+use Rattle.blk_lists.specs.Inside.Schedule.{AreIds, DoRise}
 use Rattle.blk_lists.proofs.ScheduleLaws.{when_not}
 use Rattle.blk_lists.proofs.schedule.gather_ids.Goals as goal
 

@@ -1,7 +1,7 @@
 use Rattle.std.proofs.Common.{ℕ, List, subst}
 use Rattle.std.proofs.lemmas.List.{take_all}
 use Rattle.edd_commands.specs.declared.Command.{Command}
-use Rattle.blk_lists.specs.Schedule.{AreIds}
+use Rattle.blk_lists.specs.Inside.Schedule.{AreIds}
 use Rattle.blk_lists.proofs.ScheduleLaws.{no_ids, ids_more}
 use Rattle.blk_lists.proofs.schedule.ids_of.Goals as goal
 

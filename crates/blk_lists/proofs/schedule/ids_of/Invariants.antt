@@ -1,5 +1,5 @@
 use Rattle.std.proofs.Common.{take}
-use Rattle.blk_lists.specs.Schedule.{AreIds}
+use Rattle.blk_lists.specs.Inside.Schedule.{AreIds}
 use Rattle.blk_lists.proofs.schedule.ids_of.Given as goal
 
 -- the ids of the commands so far

@@ -2,7 +2,7 @@ use Rattle.std.proofs.Common.{◌∙◌, codes, length, map, ap, sym}
 use Rattle.std.specs.List.{zip}
 use Rattle.blk_lists.specs.Titles.{counted_cells}
 use Rattle.blk_lists.specs.Certificate.{served_cells}
-use Rattle.blk_lists.specs.Schedule.{ran_of}
+use Rattle.blk_lists.specs.Schedule.{viewed}
 use Rattle.blk_lists.specs.Tables.{row_by, title_by}
 use Rattle.blk_lists.specs.Texts.{rows_text}
 use Rattle.blk_lists.proofs.DraftLemmas.{two_first}
@@ -18,4 +18,4 @@ returns c =
     let title = title_by (codes "blk-schedule") counted_cells (1, (schedule.depth, length schedule.commands.items)) in
     let lines = map (row_by served_cells) (zip schedule.commands.items schedule.rounds.items) in
     let all = two_first title lines (drafted c.new-draft.result) (drafted c.push.new.draft) (drafted c.push_schedule.new.draft) c.new-draft.ensures (rw commands at c.in_ok-push.ensures.text) (rw (commands, rounds) at c.in_ok-push_schedule.ensures.text) in
-    rw (all ∙ ap rows_text (sym (rows_are (ran_of schedule)))) at c.finish.ensures
+    rw (all ∙ ap rows_text (sym (rows_are (viewed schedule)))) at c.finish.ensures

@@ -1,6 +1,6 @@
 use Rattle.std.proofs.Common.{◌∙◌, ap, ◌++◌}
 use Rattle.drafts.proofs.Drafts.{added}
-use Rattle.blk_lists.specs.Cells.{rest_of_line}
+use Rattle.blk_lists.specs.Inside.Cells.{rest_of_line}
 use Rattle.blk_lists.proofs.Rows.{row_is}
 use Rattle.blk_lists.proofs.writing.push_row.Goals as goal
 

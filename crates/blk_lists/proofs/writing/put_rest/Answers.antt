@@ -2,7 +2,7 @@ use Rattle.std.proofs.Common.{◌+◌, ◌++◌, ◌∷◌, ◌∙◌, [], take,
 use Rattle.std.proofs.Math.ListN.{replicate}
 use Rattle.std.proofs.lemmas.Grind.{replicate_next}
 use Rattle.std.proofs.lemmas.List.{take_all}
-use Rattle.blk_lists.specs.Cells.{marked}
+use Rattle.blk_lists.specs.Inside.Cells.{marked}
 use Rattle.blk_lists.proofs.Rows.{marked_more}
 use Rattle.blk_lists.proofs.writing.put_rest.Goals as goal
 

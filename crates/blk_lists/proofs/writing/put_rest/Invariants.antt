@@ -1,6 +1,6 @@
 use Rattle.std.proofs.Common.{◌≡◌, ◌+◌, ◌*◌, ◌++◌, ◌≤◌, take, length}
 use Rattle.std.proofs.Math.ListN.{replicate}
-use Rattle.blk_lists.specs.Cells.{marked}
+use Rattle.blk_lists.specs.Inside.Cells.{marked}
 use Rattle.blk_lists.proofs.writing.put_rest.Given as goal
 
 abbrev pub invariant-loop-i : goal.invariant-loop-i

@@ -1,6 +1,7 @@
 use Rattle.std.proofs.Common.{rules, ◌≡◌, false, ap, subst, length, arith}
 use Rattle.blk_lists.specs.Reads.{AreGathered, Reads}
-use Rattle.blk_text.specs.TraceForm.{group, group_bio, gathered_bios}
+use Rattle.blk_text.specs.TraceForm.{group, group_bio}
+use Rattle.blk_text.specs.Inside.TraceForm.{gathered_bios}
 use Rattle.blk_text.proofs.GroupLaws.{group_size}
 use Rattle.parts.specs.declared.Repeats.TheVariants as repeats
 use Rattle.blk_text.proofs.groups.read_group.Goals as goal

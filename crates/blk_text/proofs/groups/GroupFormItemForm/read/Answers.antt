@@ -1,6 +1,7 @@
 use Rattle.std.proofs.Common.{rules}
 use Rattle.std.specs.Prelude.{IsTrue}
-use Rattle.blk_text.specs.TraceForm.{group_bio, gathered_bios}
+use Rattle.blk_text.specs.TraceForm.{group_bio}
+use Rattle.blk_text.specs.Inside.TraceForm.{gathered_bios}
 use Rattle.blk_text.proofs.GroupLaws.{line_fails, wrong_line, first_gathers, next_gathers, astray_fails}
 use Rattle.blk_text.proofs.groups.GroupFormItemForm.read.Goals as goal
 

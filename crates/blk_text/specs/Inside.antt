@@ -1,0 +1,3 @@
+-- What private functions and proofs alone need.
+pub mod BioTable
+pub mod TraceForm

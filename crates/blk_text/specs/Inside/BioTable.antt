@@ -1,0 +1,13 @@
+-- The record of a bio, as it is read.
+use Rattle.std.specs.Prelude.{ℕ, codes}
+use Rattle.blk_bio.specs.Bios.{Bio, IsBio}
+use Rattle.blk_lists.specs.Sources.{Row}
+use Rattle.blk_lists.specs.Tables.{FitsCells, word_record}
+use Rattle.blk_lists.specs.declared.fault.Why.{Why}
+use Rattle.blk_lists.specs.declared.fault.Why.TheVariants as why
+use Rattle.parts.specs.Parts.{Part, tested}
+use Rattle.blk_text.specs.BioTable.{bio_cells, IsNoSuchBio}
+
+-- the record of a bio of a submitter below this number
+abbrev pub bio_record : ℕ → Part Row Why Bio
+bio_record submitters = tested (word_record why.Count (codes "bio") (bio_cells submitters) (FitsCells (bio_cells submitters))) IsBio IsNoSuchBio

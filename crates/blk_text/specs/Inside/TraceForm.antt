@@ -1,0 +1,45 @@
+-- The events of a trace while they are read.
+use Rattle.std.specs.Prelude.{◌≡◌, ◌⊎◌, ℕ, List, [], ◌∷◌, ◌++◌, Option, Some, None}
+use Rattle.blk_bio.specs.Bios.{Bio}
+use Rattle.blk_bio.specs.declared.limits.TheConstants.{MAX_SEGMENTS}
+use Rattle.blk_bio.specs.declared.rule.TraceRule.{TraceRule}
+use Rattle.blk_trace.specs.declared.rule.PushFault.{PushFault}
+use Rattle.blk_trace.specs.declared.rule.PushFault.TheVariants as push_fault
+use Rattle.blk_trace.specs.Happened.{Happened}
+use Rattle.blk_trace.specs.Rules.{IsFirstBroken, IsUnbroken}
+use Rattle.blk_trace.specs.Setups.{Setup}
+use Rattle.blk_trace.specs.Traces.{Traced}
+use Rattle.blk_lists.specs.Sources.{Row}
+use Rattle.blk_lists.specs.Reads.{IsStopped}
+use Rattle.blk_lists.specs.declared.fault.Why.{Why}
+use Rattle.blk_lists.specs.declared.fault.Why.TheVariants as why
+use Rattle.parts.specs.declared.Repeats.TheVariants as repeats
+use Rattle.parts.specs.Parts.{over}
+use Rattle.blk_text.specs.TraceForm.{event, one_more}
+
+-- the bios of the request that is made of a group so far
+abbrev pub gathered_bios : Option (List Bio) → List Bio
+gathered_bios None = []
+gathered_bios (Some bios) = bios
+
+-- the fault of an event that a trace refuses
+abbrev pub refusal_of : PushFault → Why
+refusal_of (push_fault.Rule rule) = why.Rule rule
+refusal_of push_fault.Memory = why.Memory
+
+-- an event is refused after these: because memory ran out, or for the first rule that it breaks
+abbrev pub IsRefused : Setup → List Happened → Happened → Why → Type 0
+IsRefused setup before e w = (w ≡ why.Memory) ⊎ ((rule : TraceRule) × (w ≡ why.Rule rule) × IsFirstBroken setup before e rule)
+
+-- what is wrong with a record after the last event
+abbrev pub IsPast : ℕ → Setup → List Happened → Row → Why → Type 0
+IsPast version setup before row w = (rest : List Row) → (over why.Count (one_more version setup before)).Wrong (row ∷ rest) 1 w
+
+-- an event was added to a trace, none of whose rules it breaks
+abbrev pub IsPushed : Traced → Traced → Happened → Type 0
+IsPushed old new e = (new.setup ≡ old.setup) × (new.events ≡ old.events ++ e ∷ []) × IsUnbroken old.setup old.events e
+
+-- reading a number of events stopped at the record `at`, and `last` was asked for last: all events before the one that was being read are
+-- good, and no record past those that it may have was asked for
+abbrev pub IsStoppedIn : ℕ → Setup → ℕ → Option (List Row) → ℕ → ℕ → Type 0
+IsStoppedIn version setup count left at last = IsStopped (repeats.Exactly count) (event version setup) left 2 MAX_SEGMENTS at last
