@@ -1,5 +1,5 @@
 pub mod Walks
-pub mod Rows
+pub mod Taking
 pub mod Found
 pub mod Adding
 pub mod Following

@@ -2,6 +2,7 @@
 use Rattle.std.specs.Prelude.{◌≡◌, ◌==◌, ◌+◌, ◌-◌, ◌++◌, ℕ, Bool, not, if◌then◌else◌, List, [], length, count_by, get_or, codes, decimal}
 use Rattle.std.specs.Str.{bytes_eq}
 use Rattle.blk_lists.specs.Sources.{Row}
+use Rattle.blk_text.specs.declared.bios.TheConstants.{BIO}
 use Rattle.blk_explain.specs.Findings.{row_at}
 use Rattle.blk_explain.specs.Details.{IsNumberIn}
 use Rattle.blk_explain.specs.declared.counts.Counted.{Counted}
@@ -17,7 +18,7 @@ announced_text = codes "Count: wanted as many records as were announced"
 
 -- whether a record is of a bio; and how many events the records of a trace tell: those but for the title, the setup and those of bios
 abbrev pub is_of_bio : Row → Bool
-is_of_bio cells = bytes_eq (get_or cells 0 []) (codes "bio")
+is_of_bio cells = bytes_eq (get_or cells 0 []) BIO.word
 
 abbrev pub is_no_bio : Row → Bool
 is_no_bio row = not (is_of_bio row)

@@ -2,6 +2,7 @@
 use Rattle.std.specs.Prelude.{◌≡◌, ◌⊎◌, ◌-◌, ◌+◌, ◌/◌, ◌%◌, ◌<◌, ◌^◌, ◌++◌, ◌==◌, ◌&&◌, not, nat_lt, if◌then◌else◌, ℕ, List, [], ◌∷◌, length, take, get_or, codes, decimal}
 use Rattle.std.specs.List.{flat_map}
 use Rattle.blk_bio.specs.declared.bio.BioFault.TheVariants as bio
+use Rattle.blk_bio.specs.declared.bio.TheConstants.{MAX_END}
 use Rattle.blk_bio.specs.declared.rule.TraceRule.{TraceRule}
 use Rattle.blk_bio.specs.declared.rule.TraceRule.TheVariants as rule
 use Rattle.blk_lists.specs.Sources.{Row}
@@ -12,9 +13,14 @@ use Rattle.blk_lists.specs.declared.fault.Why.TheVariants as why
 use Rattle.blk_lists.specs.declared.fields.Slot.{Slot}
 use Rattle.blk_lists.specs.declared.fields.Slot.TheVariants as slot
 use Rattle.blk_text.specs.Versions.{most_tags}
+use Rattle.blk_text.specs.declared.bios.TheConstants.{MAX_SUBMITTERS}
+use Rattle.blk_text.specs.declared.setup.TheConstants.{LATEST}
 use Rattle.blk_explain.specs.Names.{name_text}
 use Rattle.blk_explain.specs.Fields.{field_name, want_of}
+use Rattle.blk_explain.specs.Rows.{kind_row, kind_word, slot_at}
+use Rattle.blk_explain.specs.Words.{words_text}
 use Rattle.blk_explain.specs.Forms.{fields_of, IsRecordKind}
+use Rattle.blk_explain.specs.declared.details.TheConstants.{MAX_SHOWN}
 use Rattle.blk_explain.specs.declared.fields.Field.{Field}
 use Rattle.blk_explain.specs.declared.fields.Field.TheVariants as field
 use Rattle.blk_explain.specs.declared.fields.Allowed.{Allowed}
@@ -35,9 +41,9 @@ shown_byte b =
     else if nat_lt 31 b && nat_lt b 127 && not (b == 92) then b ∷ []
     else 92 ∷ 120 ∷ hex_digit (b / 16) ∷ hex_digit (b % 16) ∷ []
 
--- the first 40 bytes of a field
+-- the first bytes of a field
 abbrev pub shown_field : List ℕ → List ℕ
-shown_field f = flat_map shown_byte (take 40 f)
+shown_field f = flat_map shown_byte (take MAX_SHOWN f)
 
 -- a field by its place, from 0 on, and its name, and what was found in it; what is wanted follows
 abbrev pub field_text : ℕ → List ℕ → List ℕ → List ℕ
@@ -50,6 +56,8 @@ range_text (slot.Lateness most) = ((codes "-" ++ decimal most) ++ codes " to ") 
 range_text slot.Given = []
 range_text slot.Blank = []
 range_text slot.Direction = []
+range_text slot.Text = []
+range_text slot.Nanoseconds = []
 
 -- a number is wanted, or none
 abbrev pub number_text : Allowed → List ℕ
@@ -125,24 +133,32 @@ IsNumberIn row k n = (get_or row k [] ≡ decimal n) ⊎ ((n ≡ 0) × ((m : ℕ
 abbrev pub beside_commands : ℕ → Slot → Allowed
 beside_commands n t = if n == 0 then allowed.NoNumber else allowed.Slot t
 
--- what may stand in a field of a text with this title
-abbrev pub IsAllowedIn : Row → Want → Allowed → Type 0
-IsAllowedIn title (want.Is t) a = a ≡ allowed.Slot t
-IsAllowedIn title want.Tags a = (v : ℕ) × IsNumberIn title 1 v × (a ≡ allowed.Slot (slot.Number 1 (most_tags v)))
-IsAllowedIn title want.Queue a = (n : ℕ) × IsNumberIn title 3 n × (a ≡ allowed.Slot (slot.Number 0 (n - 1)))
-IsAllowedIn title want.Submitter a = (n : ℕ) × IsNumberIn title 5 n × (a ≡ allowed.Slot (slot.Number 0 (n - 1)))
-IsAllowedIn title (want.Bound t) a = (n : ℕ) × IsNumberIn title 3 n × (a ≡ beside_commands n t)
+-- what may stand in a field of a text with this title, by the version that its record came with and by its slot
+abbrev pub IsAllowedBy : Row → ℕ → Slot → Want → Allowed → Type 0
+IsAllowedBy title since s want.Row a = a ≡ allowed.Slot s
+IsAllowedBy title since s want.OnlyVersion a = a ≡ allowed.Slot (slot.Number since since)
+IsAllowedBy title since s want.Version a = a ≡ allowed.Slot (slot.Number since LATEST)
+IsAllowedBy title since s want.Tags a = (v : ℕ) × IsNumberIn title 1 v × (a ≡ allowed.Slot (slot.Number 1 (most_tags v)))
+IsAllowedBy title since s want.Queue a = (n : ℕ) × IsNumberIn title 3 n × (a ≡ allowed.Slot (slot.Number 0 (n - 1)))
+IsAllowedBy title since s want.Submitter a = (n : ℕ) × IsNumberIn title 5 n × (a ≡ allowed.Slot (slot.Number 0 (n - 1)))
+IsAllowedBy title since s want.AnySubmitter a = a ≡ allowed.Slot (slot.Number 0 (MAX_SUBMITTERS - 1))
+IsAllowedBy title since s want.Bound a = (n : ℕ) × IsNumberIn title 3 n × (a ≡ beside_commands n s)
+IsAllowedBy title since s want.Text a = a ≡ allowed.Slot slot.Text
 
 -- the field at a place of a kind of record
 abbrev pub field_at : RecordKind → ℕ → Field
 field_at kind k = get_or (fields_of kind) k field.Past
 
+-- what may stand in it
+abbrev pub IsAllowedIn : Row → RecordKind → ℕ → Allowed → Type 0
+IsAllowedIn title kind k a = IsAllowedBy title (kind_row kind).since (slot_at kind k) (want_of (field_at kind k)) a
+
 -- the field at a place does not have the fault, and it does
 abbrev pub IsKeptAt : Row → RecordKind → Why → Row → ℕ → Type 0
-IsKeptAt title kind w row k = (a : Allowed) × IsAllowedIn title (want_of (field_at kind k)) a × KeepsIn w a (get_or row k [])
+IsKeptAt title kind w row k = (a : Allowed) × IsAllowedIn title kind k a × KeepsIn w a (get_or row k [])
 
 abbrev pub IsBrokenAt : Row → RecordKind → Why → Row → ℕ → Allowed → Type 0
-IsBrokenAt title kind w row k a = IsAllowedIn title (want_of (field_at kind k)) a × ¬ KeepsIn w a (get_or row k [])
+IsBrokenAt title kind w row k a = IsAllowedIn title kind k a × ¬ KeepsIn w a (get_or row k [])
 
 -- it is the first one that does
 abbrev pub IsFirstBrokenAt : Row → RecordKind → Why → Row → ℕ → Allowed → Type 0
@@ -178,7 +194,7 @@ why_wanted form why.Word = codes "another word"
 why_wanted form why.Number = codes "nanoseconds in nine digits, and numbers"
 why_wanted form why.Range = name_text form.range
 why_wanted form (why.Bio bio.Empty) = codes "one sector at least"
-why_wanted form (why.Bio bio.Range) = codes "an end of at most 281474976710656"
+why_wanted form (why.Bio bio.Range) = codes "an end of at most " ++ decimal MAX_END
 why_wanted form why.Tile = codes "a bio that begins where the one before it ends, of its direction and within the limits"
 why_wanted form (why.Rule r) = rule_wanted r
 why_wanted form why.RepeatedId = codes "an id that did not stand before"
@@ -190,7 +206,7 @@ why_wanted form why.Memory = codes "more memory"
 
 -- the words that a record of this number may begin with
 abbrev pub words_at : FormRow → ℕ → List ℕ
-words_at form at = name_text (if at == 2 then form.second_word else form.words)
+words_at form at = if at == 2 then kind_word form.second else words_text form.words
 
 -- the fault by its name, and what is wanted
 abbrev pub fault_wanted : FormRow → Why → List ℕ
@@ -198,7 +214,7 @@ fault_wanted form w = (why_name w ++ codes ": wanted ") ++ why_wanted form w
 
 -- what is said where no field by itself has the fault
 abbrev pub rest_text : FormRow → ℕ → Why → RecordKind → Row → List ℕ
-rest_text form at why.Fields kind row = ((codes "found " ++ decimal (length row)) ++ codes " fields, wanted ") ++ decimal form.width
+rest_text form at why.Fields kind row = ((codes "found " ++ decimal (length row)) ++ codes " fields, wanted ") ++ decimal (length (kind_row form.title).slots)
 rest_text form at why.Word kind cells = field_text 0 (field_name (field_at kind 0)) (get_or cells 0 []) ++ words_at form at
 rest_text form at why.Title kind row = fault_wanted form why.Title
 rest_text form at why.Number kind row = fault_wanted form why.Number

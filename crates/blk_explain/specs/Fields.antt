@@ -1,12 +1,9 @@
 -- The fields of records: what each is called, and what may stand in it.
 use Rattle.std.specs.Prelude.{ℕ, List, codes}
-use Rattle.blk_lists.specs.declared.fields.Slot.TheVariants as slot
-use Rattle.blk_lists.specs.declared.fields.TheConstants.{ANY, COUNT, DEPTH, RELEASE, ROUND, TAG}
 use Rattle.blk_explain.specs.declared.fields.Field.{Field}
 use Rattle.blk_explain.specs.declared.fields.Field.TheVariants as field
 use Rattle.blk_explain.specs.declared.fields.Want.{Want}
 use Rattle.blk_explain.specs.declared.fields.Want.TheVariants as want
-use Rattle.blk_explain.specs.declared.fields.TheConstants.{FIRST_VERSION_RANGE, VERSION_RANGE, LATENESS_RANGE, SECONDS_RANGE, QUEUES_RANGE, SOFT_DEPTH_RANGE, SUBMITTERS_RANGE, EVENTS_RANGE, READ_EXPIRE_RANGE, WRITE_EXPIRE_RANGE, MAX_SECTORS_RANGE, MAX_SEGMENTS_RANGE, ANY_SUBMITTER_RANGE, ROUNDS_RANGE, BIOS_RANGE}
 
 -- its name
 abbrev pub field_name : Field → List ℕ
@@ -63,53 +60,53 @@ field_name field.Bios = codes "bios"
 
 -- what may stand in it
 abbrev pub want_of : Field → Want
-want_of field.Past = want.Is slot.Given
-want_of field.Unused = want.Is slot.Blank
-want_of field.Title = want.Is slot.Given
-want_of field.FirstVersion = want.Is FIRST_VERSION_RANGE
-want_of field.Version = want.Is VERSION_RANGE
-want_of field.Room = want.Is DEPTH
-want_of field.Commands = want.Is COUNT
-want_of field.Id = want.Is ANY
-want_of field.Release = want.Is RELEASE
-want_of field.Due = want.Is ROUND
-want_of field.Round = want.Is ROUND
-want_of field.Bound = want.Is slot.Given
-want_of field.Lateness = want.Bound LATENESS_RANGE
-want_of field.From = want.Is ROUND
-want_of field.Until = want.Is ROUND
-want_of field.BoundFrom = want.Bound ROUND
-want_of field.BoundUntil = want.Bound ROUND
-want_of field.OnTime = want.Is slot.Given
-want_of field.CommandsOnTime = want.Is COUNT
-want_of field.Windows = want.Is COUNT
-want_of field.Window = want.Is slot.Given
-want_of field.Seconds = want.Is SECONDS_RANGE
-want_of field.Nanoseconds = want.Is slot.Given
-want_of field.Processor = want.Is ANY
-want_of field.Action = want.Is slot.Given
-want_of field.Process = want.Is ANY
-want_of field.Rwbs = want.Is slot.Given
-want_of field.First = want.Is ANY
-want_of field.Sectors = want.Is ANY
+want_of field.Past = want.Row
+want_of field.Unused = want.Row
+want_of field.Title = want.Row
+want_of field.FirstVersion = want.OnlyVersion
+want_of field.Version = want.Version
+want_of field.Room = want.Row
+want_of field.Commands = want.Row
+want_of field.Id = want.Row
+want_of field.Release = want.Row
+want_of field.Due = want.Row
+want_of field.Round = want.Row
+want_of field.Bound = want.Row
+want_of field.Lateness = want.Bound
+want_of field.From = want.Row
+want_of field.Until = want.Row
+want_of field.BoundFrom = want.Bound
+want_of field.BoundUntil = want.Bound
+want_of field.OnTime = want.Row
+want_of field.CommandsOnTime = want.Row
+want_of field.Windows = want.Row
+want_of field.Window = want.Row
+want_of field.Seconds = want.Row
+want_of field.Nanoseconds = want.Text
+want_of field.Processor = want.Row
+want_of field.Action = want.Row
+want_of field.Process = want.Row
+want_of field.Rwbs = want.Row
+want_of field.First = want.Row
+want_of field.Sectors = want.Row
 want_of field.Tags = want.Tags
-want_of field.Queues = want.Is QUEUES_RANGE
-want_of field.SoftDepth = want.Is SOFT_DEPTH_RANGE
-want_of field.Submitters = want.Is SUBMITTERS_RANGE
-want_of field.Events = want.Is EVENTS_RANGE
-want_of field.Setup = want.Is slot.Given
-want_of field.ReadExpire = want.Is READ_EXPIRE_RANGE
-want_of field.WriteExpire = want.Is WRITE_EXPIRE_RANGE
-want_of field.MaxSectors = want.Is MAX_SECTORS_RANGE
-want_of field.MaxSegments = want.Is MAX_SEGMENTS_RANGE
-want_of field.Step = want.Is slot.Given
-want_of field.Event = want.Is slot.Given
+want_of field.Queues = want.Row
+want_of field.SoftDepth = want.Row
+want_of field.Submitters = want.Row
+want_of field.Events = want.Row
+want_of field.Setup = want.Row
+want_of field.ReadExpire = want.Row
+want_of field.WriteExpire = want.Row
+want_of field.MaxSectors = want.Row
+want_of field.MaxSegments = want.Row
+want_of field.Step = want.Row
+want_of field.Event = want.Row
 want_of field.Submitter = want.Submitter
-want_of field.AnySubmitter = want.Is ANY_SUBMITTER_RANGE
-want_of field.Serial = want.Is ANY
-want_of field.Direction = want.Is slot.Direction
+want_of field.AnySubmitter = want.AnySubmitter
+want_of field.Serial = want.Row
+want_of field.Direction = want.Row
 want_of field.Queue = want.Queue
-want_of field.Tag = want.Is TAG
-want_of field.Depth = want.Is ANY
-want_of field.Rounds = want.Is ROUNDS_RANGE
-want_of field.Bios = want.Is BIOS_RANGE
+want_of field.Tag = want.Row
+want_of field.Depth = want.Row
+want_of field.Rounds = want.Row
+want_of field.Bios = want.Row

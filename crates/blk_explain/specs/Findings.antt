@@ -9,7 +9,7 @@ use Rattle.blk_lists.specs.Sources.{Row}
 use Rattle.blk_lists.specs.Commands.{SpellsCommands, CommandsFault}
 use Rattle.blk_lists.specs.Certificate.{Claim, SpellsClaim, ClaimFault}
 use Rattle.blk_lists.specs.OnTime.{OnTimeClaim, SpellsOnTime, OnTimeClaimFault}
-use Rattle.blk_lists.specs.Schedule.{Ran, SpellsSchedule, ScheduleFault}
+use Rattle.blk_lists.specs.Schedule.{ScheduleView, SpellsSchedule, ScheduleFault}
 use Rattle.blk_lists.specs.declared.fault.Why.{Why}
 use Rattle.blk_capture.specs.declared.record.Record.{Record}
 use Rattle.blk_capture_text.specs.Captures.{SpellsCapture, CaptureTextFault}
@@ -50,7 +50,7 @@ abbrev pub IsText : TextForm → List Row → Type 0
 IsText form.Commands rows = (depth : ℕ) × (commands : List Command) × SpellsCommands rows depth commands
 IsText form.Certificate rows = (c : Claim) × SpellsClaim rows c
 IsText form.OnTime rows = (c : OnTimeClaim) × SpellsOnTime rows c
-IsText form.Schedule rows = (s : Ran) × SpellsSchedule rows s
+IsText form.Schedule rows = (s : ScheduleView) × SpellsSchedule rows s
 IsText form.Capture rows = (all : List Record) × SpellsCapture rows all
 IsText form.Script rows = (s : Scripted) × SpellsScript rows s × DoesRun s
 IsText form.Trace rows = (t : Traced) × SpellsTrace rows t

@@ -1,5 +1,7 @@
 pub mod Names
 pub mod Fields
+pub mod Rows
+pub mod Words
 pub mod Forms
 pub mod Lines
 pub mod Findings

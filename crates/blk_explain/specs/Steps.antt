@@ -7,6 +7,7 @@ use Rattle.blk_text.specs.declared.script.Line.TheVariants as line
 use Rattle.blk_sim.specs.declared.refusal.SimFault.{SimFault}
 use Rattle.blk_sim.specs.declared.refusal.SimWhy.{SimWhy}
 use Rattle.blk_sim.specs.declared.refusal.SimWhy.TheVariants as why
+use Rattle.blk_sim.specs.declared.simulation.TheConstants.{FIRST_STEP}
 use Rattle.blk_explain.specs.Findings.{rows_of}
 use Rattle.blk_explain.specs.Lines.{line_at}
 use Rattle.blk_explain.specs.Held.{HoldsAfter}
@@ -55,7 +56,7 @@ entered_text b line = (((codes "bio " ++ decimal b.id.submitter) ++ codes ",") +
 -- is the least, and on which line its first stands
 abbrev pub IsTwiceState : List ℕ → Scripted → ℕ → List ℕ → Type 0
 IsTwiceState bytes script n text =
-    ((i j : ℕ) × (pair : AreOneBio script.lines i j) × (j < n) × HasNoRepeat script.lines j × (text ≡ entered_text pair.bio (line_at bytes (i + 3))))
+    ((i j : ℕ) × (pair : AreOneBio script.lines i j) × (j < n) × HasNoRepeat script.lines j × (text ≡ entered_text pair.bio (line_at bytes (i + FIRST_STEP))))
     ⊎ (HasNoRepeat script.lines n × (text ≡ plain_text why.Repeated))
 
 -- the state that refuses the step after the first n for this reason, or what the step has to be instead
@@ -73,4 +74,4 @@ IsStateAt bytes script n why.Memory text = text ≡ plain_text why.Memory
 
 -- the same of the script that the records of a text spell
 abbrev pub IsState : List ℕ → SimFault → List ℕ → Type 0
-IsState bytes fault text = (script : Scripted) × SpellsScript (rows_of bytes) script × IsStateAt bytes script (fault.at - 3) fault.why text
+IsState bytes fault text = (script : Scripted) × SpellsScript (rows_of bytes) script × IsStateAt bytes script (fault.at - FIRST_STEP) fault.why text

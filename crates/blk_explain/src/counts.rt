@@ -9,6 +9,7 @@ use crate::details::number_in;
 use crate::findings::{count_rows, row_at};
 use blk_lists::Records;
 use blk_lists::fields::field;
+use blk_text::BIO;
 use csv::ByteRecord;
 use drafts::Draft;
 use std::alloc::{AllocError, Global};
@@ -51,7 +52,7 @@ fn announced_text(alloc: Global) -> Result<Vec<u8>, AllocError>
 fn is_of_bio(row: &ByteRecord) -> bool
     ensures { result ≡ is_of_bio (fields_of row.now) }
 {
-    field(row, 0) == b"bio".as_slice()
+    field(row, 0) == BIO.word.as_slice()
 }
 
 /// `others`, and one more where this record isn't of a bio.

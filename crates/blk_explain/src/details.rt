@@ -1,18 +1,20 @@
 //! What is said about a fault of a record: the field, what was found in it, and what is wanted.
 
-ghost use Rattle.std.specs.Prelude.{◌≡◌, ◌≤◌, ◌<◌, ◌++◌, ◌↔◌, ◌^◌, ℕ, IsTrue, IfOk, OnOk, MatchOption, take};
+ghost use Rattle.std.specs.Prelude.{◌≡◌, ◌≤◌, ◌<◌, ◌-◌, ◌++◌, ◌↔◌, ◌^◌, ℕ, IsTrue, IfOk, OnOk, MatchOption, take};
 ghost use Rattle.csv.specs.Records.{fields_of};
 ghost use Rattle.blk_lists.specs.Fields.{IsSized, IsNumber, IsInRange};
 ghost use Rattle.blk_lists.specs.declared.fields.Slot.TheVariants as slot;
-ghost use Rattle.blk_explain.specs.Details.{hex_digit, shown_byte, shown_field, field_text, range_text, number_text, allowed_text, wanted_text, KeepsSlot, KeepsNone, KeepsIn, IsNumberIn, IsAllowedIn, rule_wanted, why_wanted, words_at, rest_text, IsDetail, broken_text};
+ghost use Rattle.blk_explain.specs.Details.{hex_digit, shown_byte, shown_field, field_text, range_text, number_text, allowed_text, wanted_text, KeepsSlot, KeepsNone, KeepsIn, IsNumberIn, IsAllowedBy, rule_wanted, why_wanted, words_at, rest_text, IsDetail, broken_text};
 ghost use Rattle.blk_explain.specs.Inside.Broken.{SaysIfBroken, SaysFirstBroken};
 
 use crate::fields::{Allowed, Want};
 use crate::forms::{FormRow, RecordKind, kind_of};
-use blk_bio::{BioFault, Dir, TraceRule};
+use crate::rows::{push_word, since_of, slot_at, width_of};
+use crate::words::push_words;
+use blk_bio::{BioFault, Dir, MAX_END, TraceRule};
 use blk_lists::Why;
-use blk_lists::fields::{Slot, after_minus, field, parse_number};
-use blk_trace::MAX_DEPTH;
+use blk_lists::fields::{Slot, after_minus, field, parse_nanoseconds, parse_number};
+use blk_text::{LATEST, MAX_SUBMITTERS, most_tags};
 use csv::ByteRecord;
 use drafts::Draft;
 use std::alloc::{AllocError, Global};
@@ -39,14 +41,14 @@ fn push_byte(draft: &mut Draft, byte: u8) -> Result<(), AllocError>
 }
 
 /// The most bytes of a field that are shown.
-const SHOWN: usize = 40;
+const MAX_SHOWN: usize = 40;
 
 /// The first bytes of a field.
 fn first_bytes(found: &[u8]) -> &[u8]
-    ensures { result.now ≡ take 40 found.now }
+    ensures { result.now ≡ take MAX_SHOWN found.now }
 {
-    if found.len() > SHOWN {
-        let (first, _) = found.split_at(SHOWN);
+    if found.len() > MAX_SHOWN {
+        let (first, _) = found.split_at(MAX_SHOWN);
         first
     } else {
         found
@@ -99,7 +101,7 @@ fn push_range(draft: &mut Draft, slot: Slot) -> Result<(), AllocError>
             draft.text(b" to ")?;
             draft.number(most)
         }
-        Slot::Given | Slot::Blank | Slot::Direction => Ok(()),
+        Slot::Given | Slot::Blank | Slot::Direction | Slot::Text | Slot::Nanoseconds => Ok(()),
     }
 }
 
@@ -169,7 +171,8 @@ fn is_number(slot: Slot, field: &[u8]) -> bool
     match slot {
         Slot::Number { .. } => parse_number(field).is_some(),
         Slot::Lateness { .. } => parse_sized(field).is_some(),
-        Slot::Given | Slot::Blank | Slot::Direction => true,
+        Slot::Nanoseconds => parse_nanoseconds(field).is_some(),
+        Slot::Given | Slot::Blank | Slot::Direction | Slot::Text => true,
     }
 }
 
@@ -207,7 +210,7 @@ fn is_within(slot: Slot, field: &[u8]) -> bool
     match slot {
         Slot::Number { least, most } => is_in_range(least, most, field),
         Slot::Lateness { most } => is_sized_in_range(most, field),
-        Slot::Given | Slot::Blank | Slot::Direction => true,
+        Slot::Given | Slot::Blank | Slot::Direction | Slot::Text | Slot::Nanoseconds => true,
     }
 }
 
@@ -218,11 +221,21 @@ fn keeps_slot(why: Why, slot: Slot, field: &[u8]) -> bool
     match why {
         Why::Fields => match slot {
             Slot::Blank => field.is_empty(),
-            Slot::Given | Slot::Direction | Slot::Number { .. } | Slot::Lateness { .. } => true,
+            Slot::Given
+            | Slot::Direction
+            | Slot::Number { .. }
+            | Slot::Lateness { .. }
+            | Slot::Text
+            | Slot::Nanoseconds => true,
         },
         Why::Word => match slot {
             Slot::Direction => Dir::of_letter(field).is_some(),
-            Slot::Given | Slot::Blank | Slot::Number { .. } | Slot::Lateness { .. } => true,
+            Slot::Given
+            | Slot::Blank
+            | Slot::Number { .. }
+            | Slot::Lateness { .. }
+            | Slot::Text
+            | Slot::Nanoseconds => true,
         },
         Why::Number => is_number(slot, field),
         Why::Range => is_within(slot, field),
@@ -280,28 +293,37 @@ pub fn number_in(row: &ByteRecord, place: usize) -> u64
     }
 }
 
-/// What may stand in a field of a text with this title.
-fn allowed_in(title: &ByteRecord, want: Want) -> Allowed
-    ensures { IsAllowedIn (fields_of title.now) want result }
+/// A number up to the greatest below a count, which is 0 where the count is.
+fn below(count: u64) -> Allowed
+    ensures { result ≡ Allowed.Slot (slot.Number 0 (count - 1)) }
+{
+    Allowed::Slot(Slot::Number {
+        least: 0,
+        most: count.saturating_sub(1),
+    })
+}
+
+/// A number from the least to the most.
+fn between(least: u64, most: u64) -> Allowed
+    ensures { result ≡ Allowed.Slot (slot.Number least most) }
+{
+    Allowed::Slot(Slot::Number { least, most })
+}
+
+/// What may stand in a field of a text with this title, by the version that its record came with and by its slot.
+fn allowed_by(title: &ByteRecord, since: u64, slot: Slot, want: Want) -> Allowed
+    ensures { IsAllowedBy (fields_of title.now) since slot want result }
 {
     match want {
-        Want::Is(slot) => Allowed::Slot(slot),
-        Want::Tags => {
-            let most = match number_in(title, 1) {
-                1 => 64,
-                _ => MAX_DEPTH,
-            };
-            Allowed::Slot(Slot::Number { least: 1, most })
-        }
-        Want::Queue => {
-            let most = number_in(title, 3).saturating_sub(1);
-            Allowed::Slot(Slot::Number { least: 0, most })
-        }
-        Want::Submitter => {
-            let most = number_in(title, 5).saturating_sub(1);
-            Allowed::Slot(Slot::Number { least: 0, most })
-        }
-        Want::Bound(slot) => {
+        Want::Row => Allowed::Slot(slot),
+        Want::OnlyVersion => between(since, since),
+        Want::Version => between(since, LATEST),
+        Want::Tags => between(1, most_tags(number_in(title, 1))),
+        Want::Queue => below(number_in(title, 3)),
+        Want::Submitter => below(number_in(title, 5)),
+        Want::AnySubmitter => below(MAX_SUBMITTERS),
+        Want::Text => Allowed::Slot(Slot::Text),
+        Want::Bound => {
             if number_in(title, 3) == 0 {
                 Allowed::NoNumber
             } else {
@@ -322,7 +344,8 @@ fn broken_at(
     requires { place < 8 }
     ensures { SaysIfBroken (fields_of title.now) kind why (fields_of row.now) place result }
 {
-    let allowed = allowed_in(title, kind.fields()[place].want());
+    let want = kind.fields()[place].want();
+    let allowed = allowed_by(title, since_of(kind), slot_at(kind, place), want);
     if keeps(why, allowed, field(row, place)) {
         None
     } else {
@@ -367,28 +390,31 @@ fn rule_wanted(rule: TraceRule) -> &'static [u8]
     }
 }
 
-/// What is wanted where no field by itself has the fault.
-fn why_wanted(form: &FormRow, why: Why) -> &'static [u8]
-    ensures { result.now ≡ why_wanted form.now why }
+/// Adds what is wanted where no field by itself has the fault.
+fn push_why(draft: &mut Draft, form: &FormRow, why: Why) -> Result<(), AllocError>
+    ensures { OnOk result (draft.new ≡ draft.old ++ why_wanted form.now why) }
 {
     match why {
-        Why::Title => b"a title",
-        Why::Fields => b"other fields",
-        Why::Word => b"another word",
-        Why::Number => b"nanoseconds in nine digits, and numbers",
-        Why::Range => form.range.text(),
-        Why::Bio(BioFault::Empty) => b"one sector at least",
-        Why::Bio(BioFault::Range) => b"an end of at most 281474976710656",
-        Why::Tile => {
-            b"a bio that begins where the one before it ends, of its direction and within the limits"
+        Why::Title => draft.text(b"a title"),
+        Why::Fields => draft.text(b"other fields"),
+        Why::Word => draft.text(b"another word"),
+        Why::Number => draft.text(b"nanoseconds in nine digits, and numbers"),
+        Why::Range => draft.text(form.range.text()),
+        Why::Bio(BioFault::Empty) => draft.text(b"one sector at least"),
+        Why::Bio(BioFault::Range) => {
+            draft.text(b"an end of at most ")?;
+            draft.number(MAX_END)
         }
-        Why::Rule(rule) => rule_wanted(rule),
-        Why::RepeatedId => b"an id that did not stand before",
-        Why::Order => b"a time that is not before that of the record before",
-        Why::Count => b"as many records as were announced",
-        Why::TooLong => b"no more records than the form may have",
-        Why::Read => b"a reader that does not fail",
-        Why::Memory => b"more memory",
+        Why::Tile => draft.text(
+            b"a bio that begins where the one before it ends, of its direction and within the limits",
+        ),
+        Why::Rule(rule) => draft.text(rule_wanted(rule)),
+        Why::RepeatedId => draft.text(b"an id that did not stand before"),
+        Why::Order => draft.text(b"a time that is not before that of the record before"),
+        Why::Count => draft.text(b"as many records as were announced"),
+        Why::TooLong => draft.text(b"no more records than the form may have"),
+        Why::Read => draft.text(b"a reader that does not fail"),
+        Why::Memory => draft.text(b"more memory"),
     }
 }
 
@@ -409,12 +435,12 @@ fn rest_told(
             draft.text(b"found ")?;
             draft.number(row.len() as u64)?;
             draft.text(b" fields, wanted ")?;
-            draft.number(form.width)?;
+            draft.number(width_of(form.title))?;
             draft.finish()
         }
         Why::Word => {
             push_field(&mut draft, 0, kind.fields()[0].name(), field(row, 0))?;
-            draft.text(words_at(form, at))?;
+            push_words_at(&mut draft, form, at)?;
             draft.finish()
         }
         Why::Title
@@ -431,20 +457,20 @@ fn rest_told(
         | Why::Memory => {
             draft.text(why.name().as_bytes())?;
             draft.text(b": wanted ")?;
-            draft.text(why_wanted(form, why))?;
+            push_why(&mut draft, form, why)?;
             draft.finish()
         }
     }
 }
 
-/// The words that a record of this number may begin with.
-fn words_at(form: &FormRow, at: u64) -> &'static [u8]
-    ensures { result.now ≡ words_at form.now at }
+/// Adds the words that a record of this number may begin with.
+fn push_words_at(draft: &mut Draft, form: &FormRow, at: u64) -> Result<(), AllocError>
+    ensures { OnOk result (draft.new ≡ draft.old ++ words_at form.now at) }
 {
     if at == 2 {
-        form.second_word.text()
+        push_word(draft, form.second)
     } else {
-        form.words.text()
+        push_words(draft, form.words)
     }
 }
 

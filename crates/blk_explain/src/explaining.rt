@@ -11,6 +11,7 @@ use crate::details::{detail, push_field};
 use crate::findings::{Finding, count_rows, find, row_at};
 use crate::forms::{FormRow, TextForm};
 use crate::lines::line_at;
+use crate::rows::{push_word, word_of};
 use crate::steps::state_of;
 use blk_lists::fields::field;
 use blk_lists::{TextFault, Why};
@@ -29,6 +30,14 @@ pub struct Explained {
     pub good: bool,
 }
 
+/// How many edits lead to the name of a form.
+fn edits_to(alloc: Global, found: &[u8], form: TextForm) -> Result<usize, AllocError>
+    ensures { IfOk result (λ n. n ≡ edits_to found.now form) }
+{
+    let name = word_of(alloc, form.row().title)?;
+    generic_levenshtein(alloc, found, name.as_slice())
+}
+
 /// The one of two forms to whose name fewer edits lead.
 fn nearer(
     alloc: Global,
@@ -38,8 +47,8 @@ fn nearer(
 ) -> Result<TextForm, AllocError>
     ensures { IfOk result (λ f. (edits_to found.now f ≤ edits_to found.now one) × (edits_to found.now f ≤ edits_to found.now other)) }
 {
-    let to_one = generic_levenshtein(alloc, found, one.row().name.text())?;
-    let to_other = generic_levenshtein(alloc, found, other.row().name.text())?;
+    let to_one = edits_to(alloc, found, one)?;
+    let to_other = edits_to(alloc, found, other)?;
     if to_other < to_one {
         Ok(other)
     } else {
@@ -69,7 +78,7 @@ fn good_text(
     ensures { IfOk result (λ text. text.items ≡ good_text form.now (fields_of title.now) count) }
 {
     let mut draft = Draft::new(alloc);
-    draft.text(form.name.text())?;
+    push_word(&mut draft, form.title)?;
     draft.text(b", version ")?;
     draft.text(field(title, 1))?;
     draft.text(b", records ")?;
@@ -171,9 +180,9 @@ fn faulty_told(
     let form = form.row();
     let told = fault_detail(alloc, bytes, &form, fault)?;
     let line = line_at(bytes, fault.at);
-    let name = form.name.text();
+    let name = word_of(alloc, form.title)?;
     let why = fault.why.name().as_bytes();
-    fault_text(alloc, line, name, fault.at, told.as_slice(), why)
+    fault_text(alloc, line, name.as_slice(), fault.at, told.as_slice(), why)
 }
 
 /// What is said about a script of which a step is refused.
@@ -185,7 +194,15 @@ fn refused_told(alloc: Global, bytes: &[u8], fault: SimFault) -> Result<Vec<u8>,
     let why = fault.why.name().as_bytes();
     let detail = step_detail(alloc, why, state.as_slice())?;
     let line = line_at(bytes, fault.at);
-    fault_text(alloc, line, b"blk-script", fault.at, detail.as_slice(), why)
+    let name = word_of(alloc, TextForm::Script.row().title)?;
+    fault_text(
+        alloc,
+        line,
+        name.as_slice(),
+        fault.at,
+        detail.as_slice(),
+        why,
+    )
 }
 
 /// What is said about a text whose first field is empty, or that has none.
@@ -210,10 +227,10 @@ fn named_told(alloc: Global, bytes: &[u8]) -> Result<Vec<u8>, AllocError>
     let row = row_at(alloc, bytes, 1)?;
     let found = field(&row, 0);
     let near = nearest(alloc, found)?;
-    let name = near.row().name.text();
-    let detail = title_detail(alloc, found, name)?;
+    let name = word_of(alloc, near.row().title)?;
+    let detail = title_detail(alloc, found, name.as_slice())?;
     let line = line_at(bytes, 1);
-    fault_text(alloc, line, name, 1, detail.as_slice(), b"Title")
+    fault_text(alloc, line, name.as_slice(), 1, detail.as_slice(), b"Title")
 }
 
 /// What is said about a text that begins with the name of no form.

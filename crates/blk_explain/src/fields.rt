@@ -3,25 +3,29 @@
 ghost use Rattle.std.specs.Prelude.{◌≡◌};
 ghost use Rattle.blk_explain.specs.Fields.{field_name, want_of};
 
-use blk_bio::{MAX_QUEUES, MAX_SECTORS, MAX_SEGMENTS, MAX_SOFT_DEPTH, MAX_SOFT_QUEUES};
-use blk_lists::fields::{ANY, COUNT, DEPTH, RELEASE, ROUND, Slot, TAG};
-use blk_text::MAX_RUN;
-use blk_trace::{MAX_EVENTS, MAX_EXPIRIES};
-use edd_commands::MAX_ROUNDS;
+use blk_lists::fields::Slot;
 
-/// What may stand in a field: by itself, or as the text's title says.
+/// What may stand in a field: what the row of its record says, or as the text's title says.
 #[derive(Clone, Copy)]
 pub enum Want {
-    /// This.
-    Is(Slot),
+    /// What the row says.
+    Row,
+    /// The version of a form that has one.
+    OnlyVersion,
+    /// A version of a script or a trace.
+    Version,
     /// A number of tags that the version has.
     Tags,
     /// One of the hardware queues.
     Queue,
     /// One of the submitters.
     Submitter,
-    /// This beside commands, and `none` beside none.
-    Bound(Slot),
+    /// A submitter that a trace may name.
+    AnySubmitter,
+    /// What the row says beside commands, and `none` beside none.
+    Bound,
+    /// Any text: what else the reader wants of it is said of the whole record.
+    Text,
 }
 
 /// What may stand in a field of a text whose title is known.
@@ -32,95 +36,6 @@ pub enum Allowed {
     /// The word `none`.
     NoNumber,
 }
-
-/// The latest version of scripts and of traces.
-const LATEST: u64 = 2;
-
-/// What may stand in the field `version`.
-const FIRST_VERSION_RANGE: Slot = Slot::Number { least: 1, most: 1 };
-
-/// What may stand in the field `version`.
-const VERSION_RANGE: Slot = Slot::Number {
-    least: 1,
-    most: LATEST,
-};
-
-/// What may stand in the field `lateness`.
-const LATENESS_RANGE: Slot = Slot::Lateness {
-    most: MAX_ROUNDS - 1,
-};
-
-/// What may stand in the field `seconds`.
-const SECONDS_RANGE: Slot = Slot::Number {
-    least: 0,
-    most: (1 << 34) - 1,
-};
-
-/// What may stand in the field `hardware queues`.
-const QUEUES_RANGE: Slot = Slot::Number {
-    least: 1,
-    most: MAX_QUEUES as u64,
-};
-
-/// What may stand in the field `software queue depth`.
-const SOFT_DEPTH_RANGE: Slot = Slot::Number {
-    least: 1,
-    most: MAX_SOFT_DEPTH,
-};
-
-/// What may stand in the field `submitters`.
-const SUBMITTERS_RANGE: Slot = Slot::Number {
-    least: 1,
-    most: MAX_SOFT_QUEUES,
-};
-
-/// What may stand in the field `events`.
-const EVENTS_RANGE: Slot = Slot::Number {
-    least: 0,
-    most: MAX_EVENTS,
-};
-
-/// What may stand in the field `read expiry`.
-const READ_EXPIRE_RANGE: Slot = Slot::Number {
-    least: 0,
-    most: MAX_EXPIRIES - 1,
-};
-
-/// What may stand in the field `write expiry`.
-const WRITE_EXPIRE_RANGE: Slot = Slot::Number {
-    least: 0,
-    most: MAX_EXPIRIES - 1,
-};
-
-/// What may stand in the field `sectors of a request`.
-const MAX_SECTORS_RANGE: Slot = Slot::Number {
-    least: 1,
-    most: MAX_SECTORS,
-};
-
-/// What may stand in the field `segments of a request`.
-const MAX_SEGMENTS_RANGE: Slot = Slot::Number {
-    least: 1,
-    most: MAX_SEGMENTS,
-};
-
-/// What may stand in the field `submitter`.
-const ANY_SUBMITTER_RANGE: Slot = Slot::Number {
-    least: 0,
-    most: 255,
-};
-
-/// What may stand in the field `rounds`.
-const ROUNDS_RANGE: Slot = Slot::Number {
-    least: 1,
-    most: MAX_RUN,
-};
-
-/// What may stand in the field `bios`.
-const BIOS_RANGE: Slot = Slot::Number {
-    least: 1,
-    most: MAX_SEGMENTS,
-};
 
 /// A field of a record.
 #[derive(Clone, Copy, Debug, PartialEq, Eq)]
@@ -291,56 +206,56 @@ impl Field {
         ensures { result ≡ want_of self }
     {
         match self {
-            Field::Past => Want::Is(Slot::Given),
-            Field::Unused => Want::Is(Slot::Blank),
-            Field::Title => Want::Is(Slot::Given),
-            Field::FirstVersion => Want::Is(FIRST_VERSION_RANGE),
-            Field::Version => Want::Is(VERSION_RANGE),
-            Field::Room => Want::Is(DEPTH),
-            Field::Commands => Want::Is(COUNT),
-            Field::Id => Want::Is(ANY),
-            Field::Release => Want::Is(RELEASE),
-            Field::Due => Want::Is(ROUND),
-            Field::Round => Want::Is(ROUND),
-            Field::Bound => Want::Is(Slot::Given),
-            Field::Lateness => Want::Bound(LATENESS_RANGE),
-            Field::From => Want::Is(ROUND),
-            Field::Until => Want::Is(ROUND),
-            Field::BoundFrom => Want::Bound(ROUND),
-            Field::BoundUntil => Want::Bound(ROUND),
-            Field::OnTime => Want::Is(Slot::Given),
-            Field::CommandsOnTime => Want::Is(COUNT),
-            Field::Windows => Want::Is(COUNT),
-            Field::Window => Want::Is(Slot::Given),
-            Field::Seconds => Want::Is(SECONDS_RANGE),
-            Field::Nanoseconds => Want::Is(Slot::Given),
-            Field::Processor => Want::Is(ANY),
-            Field::Action => Want::Is(Slot::Given),
-            Field::Process => Want::Is(ANY),
-            Field::Rwbs => Want::Is(Slot::Given),
-            Field::First => Want::Is(ANY),
-            Field::Sectors => Want::Is(ANY),
+            Field::FirstVersion => Want::OnlyVersion,
+            Field::Version => Want::Version,
+            Field::Lateness => Want::Bound,
+            Field::BoundFrom => Want::Bound,
+            Field::BoundUntil => Want::Bound,
             Field::Tags => Want::Tags,
-            Field::Queues => Want::Is(QUEUES_RANGE),
-            Field::SoftDepth => Want::Is(SOFT_DEPTH_RANGE),
-            Field::Submitters => Want::Is(SUBMITTERS_RANGE),
-            Field::Events => Want::Is(EVENTS_RANGE),
-            Field::Setup => Want::Is(Slot::Given),
-            Field::ReadExpire => Want::Is(READ_EXPIRE_RANGE),
-            Field::WriteExpire => Want::Is(WRITE_EXPIRE_RANGE),
-            Field::MaxSectors => Want::Is(MAX_SECTORS_RANGE),
-            Field::MaxSegments => Want::Is(MAX_SEGMENTS_RANGE),
-            Field::Step => Want::Is(Slot::Given),
-            Field::Event => Want::Is(Slot::Given),
             Field::Submitter => Want::Submitter,
-            Field::AnySubmitter => Want::Is(ANY_SUBMITTER_RANGE),
-            Field::Serial => Want::Is(ANY),
-            Field::Direction => Want::Is(Slot::Direction),
+            Field::AnySubmitter => Want::AnySubmitter,
             Field::Queue => Want::Queue,
-            Field::Tag => Want::Is(TAG),
-            Field::Depth => Want::Is(ANY),
-            Field::Rounds => Want::Is(ROUNDS_RANGE),
-            Field::Bios => Want::Is(BIOS_RANGE),
+            Field::Nanoseconds => Want::Text,
+            Field::Past
+            | Field::Unused
+            | Field::Title
+            | Field::Room
+            | Field::Commands
+            | Field::Id
+            | Field::Release
+            | Field::Due
+            | Field::Round
+            | Field::Bound
+            | Field::From
+            | Field::Until
+            | Field::OnTime
+            | Field::CommandsOnTime
+            | Field::Windows
+            | Field::Window
+            | Field::Seconds
+            | Field::Processor
+            | Field::Action
+            | Field::Process
+            | Field::Rwbs
+            | Field::First
+            | Field::Sectors
+            | Field::Queues
+            | Field::SoftDepth
+            | Field::Submitters
+            | Field::Events
+            | Field::Setup
+            | Field::ReadExpire
+            | Field::WriteExpire
+            | Field::MaxSectors
+            | Field::MaxSegments
+            | Field::Step
+            | Field::Event
+            | Field::Serial
+            | Field::Direction
+            | Field::Tag
+            | Field::Depth
+            | Field::Rounds
+            | Field::Bios => Want::Row,
         }
     }
 }

@@ -101,7 +101,7 @@ fn find_certificate(alloc: Global, bytes: &[u8]) -> Result<Finding, AllocError>
     }
 }
 
-/// What the reader of certificates of what can be met finds.
+/// What the reader of certificates of what can be on time finds.
 fn find_on_time(alloc: Global, bytes: &[u8]) -> Result<Finding, AllocError>
     ensures { IfOk result (IsRead TextForm.OnTime (rows_of bytes.now)) }
 {

@@ -1,12 +1,14 @@
 //! The forms of texts: their titles, what their records have in each field, and which subcommands take them.
 
-ghost use Rattle.std.specs.Prelude.{◌≡◌, MatchOption};
-ghost use Rattle.blk_explain.specs.Forms.{form_row, form_name, fields_of, kind_word, IsWorded, IsRecordKind};
+ghost use Rattle.std.specs.Prelude.{◌≡◌, ◌↔◌, IsTrue, MatchOption};
+ghost use Rattle.blk_explain.specs.Forms.{form_row, form_name, fields_of, IsWorded, IsRecordKind};
 ghost use Rattle.blk_explain.specs.declared.forms.TextForm.{TextForm as AForm};
 
 use crate::counts::Counted;
 use crate::fields::Field;
 use crate::names::Name;
+use crate::rows::has_word;
+use crate::words::Words;
 
 /// The form of a text.
 #[derive(Clone, Copy, Debug, PartialEq, Eq)]
@@ -15,7 +17,7 @@ pub enum TextForm {
     Commands,
     /// A certificate.
     Certificate,
-    /// A certificate of how many commands can be met.
+    /// A certificate of how many commands can be on time.
     OnTime,
     /// A schedule.
     Schedule,
@@ -34,13 +36,17 @@ pub enum RecordKind {
     CommandsTitle,
     /// A command of a command list.
     Command,
-    /// A title with a depth and a number of commands.
-    CountedTitle,
+    /// The title of a certificate.
+    CertificateTitle,
+    /// The title of a certificate of how many commands can be on time.
+    OnTimeTitle,
+    /// The title of a schedule.
+    ScheduleTitle,
     /// A command with its round.
     Served,
     /// The bound of a certificate.
     Bound,
-    /// How many commands are met, and how many windows there are.
+    /// How many commands are on time, and how many windows there are.
     OnTime,
     /// A window.
     Window,
@@ -154,8 +160,8 @@ const BOUND: [Field; 8] = [
     Field::Past,
 ];
 
-/// Of how many commands are met, and how many windows there are.
-const MET_NUMBERS: [Field; 8] = [
+/// Of how many commands are on time, and how many windows there are.
+const ON_TIME_NUMBERS: [Field; 8] = [
     Field::OnTime,
     Field::CommandsOnTime,
     Field::Windows,
@@ -450,10 +456,12 @@ impl RecordKind {
         match self {
             RecordKind::CommandsTitle => COMMANDS_TITLE,
             RecordKind::Command => COMMAND,
-            RecordKind::CountedTitle => COUNTED_TITLE,
+            RecordKind::CertificateTitle => COUNTED_TITLE,
+            RecordKind::OnTimeTitle => COUNTED_TITLE,
+            RecordKind::ScheduleTitle => COUNTED_TITLE,
             RecordKind::Served => SERVED,
             RecordKind::Bound => BOUND,
-            RecordKind::OnTime => MET_NUMBERS,
+            RecordKind::OnTime => ON_TIME_NUMBERS,
             RecordKind::Window => WINDOW,
             RecordKind::CaptureTitle => CAPTURE_TITLE,
             RecordKind::Capture => CAPTURED,
@@ -481,56 +489,13 @@ impl RecordKind {
             RecordKind::EventDepth => EVENT_DEPTH,
         }
     }
-
-    /// The word that it begins with, or nothing.
-    fn word(self) -> &'static [u8]
-        ensures { result.now ≡ kind_word self }
-    {
-        match self {
-            RecordKind::Window => b"window",
-            RecordKind::Bio => b"bio",
-            RecordKind::Flush => b"flush",
-            RecordKind::Drain => b"drain",
-            RecordKind::Issue => b"issue",
-            RecordKind::Done => b"done",
-            RecordKind::Back => b"back",
-            RecordKind::Depth => b"depth",
-            RecordKind::Tick => b"tick",
-            RecordKind::Run => b"run",
-            RecordKind::EventTick => b"tick",
-            RecordKind::EventRelease => b"release",
-            RecordKind::EventJoin => b"join",
-            RecordKind::EventBio => b"bio",
-            RecordKind::EventIssue => b"issue",
-            RecordKind::EventDone => b"done",
-            RecordKind::EventBack => b"back",
-            RecordKind::EventDepth => b"depth",
-            RecordKind::CommandsTitle
-            | RecordKind::Command
-            | RecordKind::CountedTitle
-            | RecordKind::Served
-            | RecordKind::Bound
-            | RecordKind::OnTime
-            | RecordKind::CaptureTitle
-            | RecordKind::Capture
-            | RecordKind::ScriptTitle
-            | RecordKind::TraceTitle
-            | RecordKind::Setup
-            | RecordKind::Step
-            | RecordKind::Event => b"",
-        }
-    }
 }
 
 /// A form.
 #[derive(Clone, Copy, Debug)]
 pub struct FormRow {
-    /// The name that its title begins with.
-    pub name: Name,
     /// The subcommands that take it.
     pub takers: Name,
-    /// How many fields each record has.
-    pub width: u64,
     /// The kind of its title.
     pub title: RecordKind,
     /// That of its second record.
@@ -539,10 +504,8 @@ pub struct FormRow {
     pub kinds: [RecordKind; 9],
     /// That of its other records.
     pub item: RecordKind,
-    /// The word of its second record.
-    pub second_word: Name,
     /// The words of its later records.
-    pub words: Name,
+    pub words: Words,
     /// What is wanted where each number lies in its own range.
     pub range: Name,
     /// How many records are announced.
@@ -551,9 +514,7 @@ pub struct FormRow {
 
 /// The row of blk-commands texts.
 const COMMANDS: FormRow = FormRow {
-    name: Name::BlkCommands,
     takers: Name::TakeCommands,
-    width: 3,
     title: RecordKind::CommandsTitle,
     second: RecordKind::Command,
     kinds: [
@@ -568,18 +529,15 @@ const COMMANDS: FormRow = FormRow {
         RecordKind::Command,
     ],
     item: RecordKind::Command,
-    second_word: Name::Nothing,
-    words: Name::Nothing,
+    words: Words::Nothing,
     range: Name::EachInRange,
     counted: Counted::Nothing,
 };
 
 /// The row of blk-certificate texts.
 const CERTIFICATE: FormRow = FormRow {
-    name: Name::BlkCertificate,
     takers: Name::TakeCertificates,
-    width: 4,
-    title: RecordKind::CountedTitle,
+    title: RecordKind::CertificateTitle,
     second: RecordKind::Bound,
     kinds: [
         RecordKind::Served,
@@ -593,18 +551,15 @@ const CERTIFICATE: FormRow = FormRow {
         RecordKind::Served,
     ],
     item: RecordKind::Served,
-    second_word: Name::Bound,
-    words: Name::Nothing,
+    words: Words::Nothing,
     range: Name::EachInRange,
     counted: Counted::Commands(2),
 };
 
 /// The row of blk-met texts.
-const MET: FormRow = FormRow {
-    name: Name::BlkOnTime,
+const ON_TIME: FormRow = FormRow {
     takers: Name::TakeCertificates,
-    width: 4,
-    title: RecordKind::CountedTitle,
+    title: RecordKind::OnTimeTitle,
     second: RecordKind::OnTime,
     kinds: [
         RecordKind::Window,
@@ -618,18 +573,15 @@ const MET: FormRow = FormRow {
         RecordKind::Served,
     ],
     item: RecordKind::Served,
-    second_word: Name::OnTime,
-    words: Name::Window,
+    words: Words::One(RecordKind::Window),
     range: Name::EachInRange,
     counted: Counted::Windows,
 };
 
 /// The row of blk-schedule texts.
 const SCHEDULE: FormRow = FormRow {
-    name: Name::BlkSchedule,
     takers: Name::TakeSchedules,
-    width: 4,
-    title: RecordKind::CountedTitle,
+    title: RecordKind::ScheduleTitle,
     second: RecordKind::Served,
     kinds: [
         RecordKind::Served,
@@ -643,17 +595,14 @@ const SCHEDULE: FormRow = FormRow {
         RecordKind::Served,
     ],
     item: RecordKind::Served,
-    second_word: Name::Nothing,
-    words: Name::Nothing,
+    words: Words::Nothing,
     range: Name::EachInRange,
     counted: Counted::Commands(1),
 };
 
 /// The row of blk-capture texts.
 const CAPTURE: FormRow = FormRow {
-    name: Name::BlkCapture,
     takers: Name::TakeCaptures,
-    width: 8,
     title: RecordKind::CaptureTitle,
     second: RecordKind::Capture,
     kinds: [
@@ -668,17 +617,14 @@ const CAPTURE: FormRow = FormRow {
         RecordKind::Capture,
     ],
     item: RecordKind::Capture,
-    second_word: Name::Nothing,
-    words: Name::Nothing,
+    words: Words::Nothing,
     range: Name::EachInRange,
     counted: Counted::Nothing,
 };
 
 /// The row of blk-script texts.
 const SCRIPT: FormRow = FormRow {
-    name: Name::BlkScript,
     takers: Name::TakeScripts,
-    width: 6,
     title: RecordKind::ScriptTitle,
     second: RecordKind::Setup,
     kinds: [
@@ -693,17 +639,14 @@ const SCRIPT: FormRow = FormRow {
         RecordKind::Run,
     ],
     item: RecordKind::Step,
-    second_word: Name::Setup,
-    words: Name::StepWords,
+    words: Words::Steps,
     range: Name::EnoughSubmitters,
     counted: Counted::Nothing,
 };
 
 /// The row of blk-trace texts.
 const TRACE: FormRow = FormRow {
-    name: Name::BlkTrace,
     takers: Name::TakeTraces,
-    width: 6,
     title: RecordKind::TraceTitle,
     second: RecordKind::Setup,
     kinds: [
@@ -718,8 +661,7 @@ const TRACE: FormRow = FormRow {
         RecordKind::Event,
     ],
     item: RecordKind::Event,
-    second_word: Name::Setup,
-    words: Name::EventWords,
+    words: Words::Events,
     range: Name::EachInRange,
     counted: Counted::Events,
 };
@@ -732,12 +674,19 @@ impl TextForm {
         match self {
             TextForm::Commands => COMMANDS,
             TextForm::Certificate => CERTIFICATE,
-            TextForm::OnTime => MET,
+            TextForm::OnTime => ON_TIME,
             TextForm::Schedule => SCHEDULE,
             TextForm::Capture => CAPTURE,
             TextForm::Script => SCRIPT,
             TextForm::Trace => TRACE,
         }
+    }
+
+    /// Whether its title begins with this name.
+    fn is_named(self, field: &[u8]) -> bool
+        ensures { IsTrue result ↔ (field.now ≡ form_name self) }
+    {
+        has_word(self.row().title, field)
     }
 }
 
@@ -745,19 +694,19 @@ impl TextForm {
 pub fn form_named(field: &[u8]) -> Option<TextForm>
     ensures { MatchOption result ((f : AForm) → ¬ (field.now ≡ form_name f)) (λ f. field.now ≡ form_name f) }
 {
-    if field == b"blk-commands".as_slice() {
+    if TextForm::Commands.is_named(field) {
         Some(TextForm::Commands)
-    } else if field == b"blk-certificate".as_slice() {
+    } else if TextForm::Certificate.is_named(field) {
         Some(TextForm::Certificate)
-    } else if field == b"blk-met".as_slice() {
+    } else if TextForm::OnTime.is_named(field) {
         Some(TextForm::OnTime)
-    } else if field == b"blk-schedule".as_slice() {
+    } else if TextForm::Schedule.is_named(field) {
         Some(TextForm::Schedule)
-    } else if field == b"blk-capture".as_slice() {
+    } else if TextForm::Capture.is_named(field) {
         Some(TextForm::Capture)
-    } else if field == b"blk-script".as_slice() {
+    } else if TextForm::Script.is_named(field) {
         Some(TextForm::Script)
-    } else if field == b"blk-trace".as_slice() {
+    } else if TextForm::Trace.is_named(field) {
         Some(TextForm::Trace)
     } else {
         None
@@ -770,7 +719,7 @@ fn kind_named(kinds: &[RecordKind], other: RecordKind, word: &[u8]) -> RecordKin
 {
     for k in 0..kinds.len() {
         let kind = kinds[k];
-        if kind.word() == word {
+        if has_word(kind, word) {
             return kind;
         }
     }

@@ -10,7 +10,9 @@ pub mod forms;
 pub mod held;
 pub mod lines;
 pub mod names;
+pub mod rows;
 pub mod steps;
 pub mod twice;
+pub mod words;
 
 pub use crate::explaining::{Explained, explain};

@@ -8,7 +8,7 @@ ghost use Rattle.blk_explain.specs.Inside.Ends.{state_of};
 
 /// Where the reading of records stands between two bytes.
 #[derive(Clone, Copy, Debug, PartialEq, Eq)]
-enum Spot {
+enum ReadState {
     /// Between two records.
     Between,
     /// Between two records, after a carriage return.
@@ -24,50 +24,50 @@ enum Spot {
 }
 
 /// The same after one more byte of a field without quotes, or of what follows quotes.
-fn in_field(byte: u8) -> Spot
-    ensures { state_of result ≡ state_after (state_of Spot.Inside) byte }
+fn in_field(byte: u8) -> ReadState
+    ensures { state_of result ≡ state_after (state_of ReadState.Inside) byte }
 {
     match byte {
-        b',' => Spot::Start,
-        b'\r' => Spot::Returned,
-        b'\n' => Spot::Between,
-        _ => Spot::Inside,
+        b',' => ReadState::Start,
+        b'\r' => ReadState::Returned,
+        b'\n' => ReadState::Between,
+        _ => ReadState::Inside,
     }
 }
 
 /// The same after one more byte.
-fn spot_after(spot: Spot, byte: u8) -> Spot
-    ensures { state_of result ≡ state_after (state_of spot) byte }
+fn state_after(state: ReadState, byte: u8) -> ReadState
+    ensures { state_of result ≡ state_after (state_of state) byte }
 {
-    match spot {
-        Spot::Returned if byte == b'\n' => Spot::Between,
-        Spot::Between | Spot::Returned => {
+    match state {
+        ReadState::Returned if byte == b'\n' => ReadState::Between,
+        ReadState::Between | ReadState::Returned => {
             if byte == b'\n' || byte == b'\r' {
-                Spot::Between
+                ReadState::Between
             } else if byte == b'"' {
-                Spot::Quoted
+                ReadState::Quoted
             } else {
                 in_field(byte)
             }
         }
-        Spot::Start => {
+        ReadState::Start => {
             if byte == b'"' {
-                Spot::Quoted
+                ReadState::Quoted
             } else {
                 in_field(byte)
             }
         }
-        Spot::Inside => in_field(byte),
-        Spot::Quoted => {
+        ReadState::Inside => in_field(byte),
+        ReadState::Quoted => {
             if byte == b'"' {
-                Spot::Quote
+                ReadState::Quote
             } else {
-                Spot::Quoted
+                ReadState::Quoted
             }
         }
-        Spot::Quote => {
+        ReadState::Quote => {
             if byte == b'"' {
-                Spot::Quoted
+                ReadState::Quoted
             } else {
                 in_field(byte)
             }
@@ -76,12 +76,12 @@ fn spot_after(spot: Spot, byte: u8) -> Spot
 }
 
 /// Whether this is within a record.
-fn is_within(spot: Spot) -> bool
-    ensures { result ≡ ends_at_end (state_of spot) }
+fn is_within(state: ReadState) -> bool
+    ensures { result ≡ ends_at_end (state_of state) }
 {
-    match spot {
-        Spot::Between | Spot::Returned => false,
-        Spot::Start | Spot::Inside | Spot::Quoted | Spot::Quote => true,
+    match state {
+        ReadState::Between | ReadState::Returned => false,
+        ReadState::Start | ReadState::Inside | ReadState::Quoted | ReadState::Quote => true,
     }
 }
 
@@ -108,10 +108,10 @@ fn unmarked(bytes: &[u8]) -> &[u8]
 }
 
 /// Whether a record begins with a byte.
-fn begins(spot: Spot, byte: u8) -> bool
-    ensures { result ≡ begins (state_of spot) byte }
+fn begins(state: ReadState, byte: u8) -> bool
+    ensures { result ≡ begins (state_of state) byte }
 {
-    !is_within(spot) && is_within(spot_after(spot, byte))
+    !is_within(state) && is_within(state_after(state, byte))
 }
 
 /// The line after a byte, which may end one.
@@ -146,20 +146,20 @@ pub fn line_at(bytes: &[u8], n: u64) -> u64
     ensures { result ≡ line_at bytes.now n }
 {
     let text = unmarked(bytes);
-    let mut spot = Spot::Between;
+    let mut state = ReadState::Between;
     let mut returned = false;
     let mut line: u64 = 1;
     let mut left = n;
     for i in 0..text.len() {
         let byte = text[i];
-        let begun = begins(spot, byte);
+        let begun = begins(state, byte);
         if is_it(begun, left) {
             return line;
         }
         left = left_after(left, begun);
         line = line_after(line, returned, byte);
         returned = byte == b'\r';
-        spot = spot_after(spot, byte);
+        state = state_after(state, byte);
     }
     line
 }

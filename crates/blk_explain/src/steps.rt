@@ -16,13 +16,10 @@ use crate::lines::line_at;
 use crate::twice::{bio_at, twice};
 use blk_bio::Bio;
 use blk_lists::Records;
-use blk_sim::{SimFault, SimWhy};
+use blk_sim::{FIRST_STEP, SimFault, SimWhy};
 use blk_text::{Line, Script, read_script};
 use drafts::Draft;
 use std::alloc::{AllocError, Global};
-
-/// The record of a script's first step, from 1 on: those before it are the title and the setup.
-const FIRST_STEP: u64 = 3;
 
 /// What a step has to be instead.
 fn step_wanted(why: SimWhy) -> &'static [u8]
@@ -121,7 +118,7 @@ fn entered_at(
 ) -> Result<Vec<u8>, AllocError>
     requires script { IsScript (scripted script.now) }
     requires bio { (b : BioFields) × IsBioAt script.now.lines.items place b }
-    ensures { IfOk result (λ text. IsEntryText script.now.lines.items place (line_at bytes.now (place + 3)) text.items) }
+    ensures { IfOk result (λ text. IsEntryText script.now.lines.items place (line_at bytes.now (place + FIRST_STEP)) text.items) }
 {
     match bio_at(script, place) {
         Some(bio) => {
@@ -159,7 +156,7 @@ fn state_at(
 ) -> Result<Vec<u8>, AllocError>
     requires script { IsScript (scripted script.now) }
     requires refused { IsRefusedStep (scripted script.now) fault }
-    ensures { IfOk result (λ text. IsStateAt bytes.now (scripted script.now) (fault.at - 3) fault.why text.items) }
+    ensures { IfOk result (λ text. IsStateAt bytes.now (scripted script.now) (fault.at - FIRST_STEP) fault.why text.items) }
 {
     let place = fault.at.saturating_sub(FIRST_STEP) as usize;
     match fault.why {

@@ -6,7 +6,7 @@ use Rattle.blk_lists.specs.Sources.{Row, TakesRecord}
 use Rattle.std.specs.Prelude.{not}
 use Rattle.blk_explain.specs.Counts.{is_of_bio, is_no_bio}
 use Rattle.blk_explain.specs.Findings.{rows_of}
-use Rattle.blk_explain.proofs.Rows.{takes_next, takes_row, takes_last}
+use Rattle.blk_explain.proofs.Taking.{takes_next, takes_row, takes_last}
 use Rattle.blk_explain.proofs.counts.count_events.Goals as goal
 
 -- one more or none is one or none added, which is one at most

@@ -1,6 +1,6 @@
 use Rattle.csv.specs.Records.{fields_of}
 use Rattle.blk_explain.specs.Details.{IsKeptAt}
-use Rattle.blk_explain.proofs.Rows.{one_more}
+use Rattle.blk_explain.proofs.Taking.{one_more}
 use Rattle.blk_explain.proofs.details.first_broken.Goals as goal
 
 pub loop-place-preserved : goal.loop-place-preserved

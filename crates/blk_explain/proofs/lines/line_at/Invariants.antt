@@ -5,6 +5,6 @@ use Rattle.blk_explain.proofs.lines.line_at.Given as goal
 
 abbrev pub invariant-loop-i : goal.invariant-loop-i
 invariant-loop-i l = record {
-  walk : line_from (state_of l.spot) l.returned l.line l.left (drop l.i l.text) ≡ line_at l.bytes l.n;
+  walk : line_from (state_of l.state) l.returned l.line l.left (drop l.i l.text) ≡ line_at l.bytes l.n;
   few : l.line ≤ l.i + 1;
 }
