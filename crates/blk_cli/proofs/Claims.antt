@@ -17,7 +17,8 @@ use Rattle.edd_check.specs.declared.CheckFault.{CheckFault}
 use Rattle.edd_check.specs.Check.{IsAnswer, IsCrowding}
 use Rattle.edd_commands.proofs.InForce.{carried_fixed}
 use Rattle.blk_words.specs.declared.words.Form.{Form}
-use Rattle.blk_cli.specs.Certificates.{IsProof, IsCrowdingOf, IsRefusedBound, bound_in, verdict_in}
+use Rattle.blk_cli.specs.Certificates.{IsProof, IsRefusedBound, bound_in, verdict_in}
+use Rattle.blk_cli.specs.Inside.Certificates.{IsCrowdingOf}
 use Rattle.edd_oracle.specs.Answer.{IsBest}
 use Rattle.blk_text.specs.TraceRecords.{EventFits}
 use Rattle.blk_trace.proofs.Ids.{has_issued}
@@ -128,4 +129,4 @@ ids_fit setup es fit k d h =
     let issue : Happened = Issue id issued.1.0 in
     let at : get_or es issued.0 Tick ≡ issue = get_or_from_slice_get es issued.0 issue Tick issued.1.1 in
     let fits : EventFits issue = subst EventFits at (fit issued.0 Tick (slice_get_within es issued.0 issue issued.1.1)) in
-    rw (get_or-map (command_of setup es) ids k 0 d within) fits.0
+    rw (get_or-map (command_of setup es) ids k 0 d within) fits.1.0

@@ -1,4 +1,4 @@
--- Certificates of what is met, from what the oracle and the check answer.
+-- Certificates of what is on time, from what the oracle and the check answer.
 use Rattle.std.proofs.Common.{ℕ, suc, ◌≡◌, Ok, ◌≤◌, ◌+◌, ◌-◌, ◌*◌, List, [], ◌∷◌, length, arith, subst, sum_by}
 use Rattle.std.specs.Prelude.{All, Err, zip}
 use Rattle.std.proofs.Math.Nat.{le-mul_of_pos_right}
@@ -46,10 +46,10 @@ cover_most depth cover some is =
     sum_most depth cover some (λ k d h. (is k h).some d)
 
 -- what the oracle answers is the claim of a certificate
-pub on_time_claim_in : (depth : ℕ) (steps : List Step) (commands : List Command) (rounds : List ℕ) (met : ℕ) (cover : List Window) → AreCommands depth commands → steps ≡ fixed depth → IsMostAnswer commands steps rounds met cover
-    → IsOnTimeClaim (record { depth = depth; commands = commands; rounds = rounds; met = met; cover = cover })
-on_time_claim_in depth steps commands rounds met cover are under answer =
-    let bound : bound_of commands (fixed depth) cover ≡ met = subst (λ s. bound_of commands s cover ≡ met) under answer.bound in
+pub on_time_claim_in : (depth : ℕ) (steps : List Step) (commands : List Command) (rounds : List ℕ) (on_time : ℕ) (cover : List Window) → AreCommands depth commands → steps ≡ fixed depth → IsMostAnswer commands steps rounds on_time cover
+    → IsOnTimeClaim (record { depth = depth; commands = commands; rounds = rounds; on_time = on_time; cover = cover })
+on_time_claim_in depth steps commands rounds on_time cover are under answer =
+    let bound : bound_of commands (fixed depth) cover ≡ on_time = subst (λ s. bound_of commands s cover ≡ on_time) under answer.bound in
     let most = number_most commands rounds answer.legal.one_each in
     let few = cover_most depth cover are.0 answer.disjoint in
     record {
@@ -64,25 +64,25 @@ on_time_claim_in depth steps commands rounds met cover are under answer =
 
 -- a certificate of which the check said Ok
 pub on_time_proved : (claim : OnTimeClaim) (commands : List Command) (rounds : List ℕ) (cover : List Window) (steps : List Step) → commands ≡ claim.commands → rounds ≡ claim.rounds → cover ≡ claim.cover → steps ≡ fixed claim.depth
-    → IsOnTimeClaim claim → IsLegal commands rounds steps × (number_on_time commands rounds ≡ claim.met) × IsCover cover × (bound_of commands steps cover ≡ claim.met) → IsMostOnTime commands steps claim.met → IsOnTimeProved claim
+    → IsOnTimeClaim claim → IsLegal commands rounds steps × (number_on_time commands rounds ≡ claim.on_time) × IsCover cover × (bound_of commands steps cover ≡ claim.on_time) → IsMostOnTime commands steps claim.on_time → IsOnTimeProved claim
 on_time_proved claim commands rounds cover steps same_commands same_rounds same_cover under is h most =
-    let seen : IsMostAnswer commands steps claim.rounds claim.met claim.cover = record {
+    let seen : IsMostAnswer commands steps claim.rounds claim.on_time claim.cover = record {
       legal = subst (λ r. IsLegal commands r steps) same_rounds h.0;
-      number = subst (λ r. number_on_time commands r ≡ claim.met) same_rounds h.1;
+      number = subst (λ r. number_on_time commands r ≡ claim.on_time) same_rounds h.1;
       disjoint = subst IsCover same_cover h.2;
-      bound = subst (λ v. bound_of commands steps v ≡ claim.met) same_cover h.3;
+      bound = subst (λ v. bound_of commands steps v ≡ claim.on_time) same_cover h.3;
       most = most;
       rounds_in = is.rounds;
       cover_in = is.cover;
     } in
-    subst (λ cs. IsMostAnswer cs (fixed claim.depth) claim.rounds claim.met claim.cover) same_commands (subst (λ s. IsMostAnswer commands s claim.rounds claim.met claim.cover) under seen)
+    subst (λ cs. IsMostAnswer cs (fixed claim.depth) claim.rounds claim.on_time claim.cover) same_commands (subst (λ s. IsMostAnswer commands s claim.rounds claim.on_time claim.cover) under seen)
 
 -- one that it refused
 pub on_time_refused : (claim : OnTimeClaim) (commands : List Command) (rounds : List ℕ) (cover : List Window) (steps : List Step) (f : OnTimeFault) → commands ≡ claim.commands → rounds ≡ claim.rounds → cover ≡ claim.cover → steps ≡ fixed claim.depth
-    → IsOnTimeAnswer commands steps rounds claim.met cover (Err f) → IsRefusedOnTime claim f
+    → IsOnTimeAnswer commands steps rounds claim.on_time cover (Err f) → IsRefusedOnTime claim f
 on_time_refused claim commands rounds cover steps f same_commands same_rounds same_cover under h =
-    let C : List Command → Type 0 = λ xs. IsOnTimeAnswer xs steps rounds claim.met cover (Err f) in
-    let R : List ℕ → Type 0 = λ ys. IsOnTimeAnswer claim.commands steps ys claim.met cover (Err f) in
-    let V : List Window → Type 0 = λ vs. IsOnTimeAnswer claim.commands steps claim.rounds claim.met vs (Err f) in
-    let P : List Step → Type 0 = λ s. IsOnTimeAnswer claim.commands s claim.rounds claim.met claim.cover (Err f) in
+    let C : List Command → Type 0 = λ xs. IsOnTimeAnswer xs steps rounds claim.on_time cover (Err f) in
+    let R : List ℕ → Type 0 = λ ys. IsOnTimeAnswer claim.commands steps ys claim.on_time cover (Err f) in
+    let V : List Window → Type 0 = λ vs. IsOnTimeAnswer claim.commands steps claim.rounds claim.on_time vs (Err f) in
+    let P : List Step → Type 0 = λ s. IsOnTimeAnswer claim.commands s claim.rounds claim.on_time claim.cover (Err f) in
     subst P under (subst V same_cover (subst R same_rounds (subst C same_commands h)))

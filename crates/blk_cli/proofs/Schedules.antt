@@ -13,17 +13,17 @@ use Rattle.edd_figures.specs.declared.missing.Crowd.{Crowd}
 use Rattle.blk_judge.specs.declared.missing.Miss.{Miss}
 use Rattle.blk_judge.specs.Judged.{IsRefusedSchedule, IsJudgement}
 use Rattle.blk_judge.specs.Late.{AreMissed}
-use Rattle.blk_lists.specs.Schedule.{Ran, IsRan}
+use Rattle.blk_lists.specs.Schedule.{ScheduleView, IsScheduleView}
 
 -- the oracle takes its commands, and its rounds are within the limit
-pub taken_of : (s : Ran) → IsRan s → (commands : List Command) → commands ≡ s.commands → IsTaken commands
+pub taken_of : (s : ScheduleView) → IsScheduleView s → (commands : List Command) → commands ≡ s.commands → IsTaken commands
 taken_of s r commands e =
     subst IsTaken (sym e) (record { few = r.few; in_range = λ k d h. ((r.commands k d h).1, (r.commands k d h).2); distinct = r.distinct })
 
-pub rounds_of : (s : Ran) → IsRan s → (rounds : List ℕ) → rounds ≡ s.rounds → RoundsInRange rounds
+pub rounds_of : (s : ScheduleView) → IsScheduleView s → (rounds : List ℕ) → rounds ≡ s.rounds → RoundsInRange rounds
 rounds_of s r rounds e = subst RoundsInRange (sym e) r.rounds
 
-module _ (s : Ran) (commands : List Command) (rounds : List ℕ) (steps : List Step) (e : commands ≡ s.commands) (f : rounds ≡ s.rounds) (g : steps ≡ fixed s.depth) where
+module _ (s : ScheduleView) (commands : List Command) (rounds : List ℕ) (steps : List Step) (e : commands ≡ s.commands) (f : rounds ≡ s.rounds) (g : steps ≡ fixed s.depth) where
   -- what holds of lists that are those of the schedule holds of its own
   pub told_of : (P : List Command → List ℕ → List Step → Type 0) → P commands rounds steps → P s.commands s.rounds (fixed s.depth)
   told_of P h = subst (λ (x : List Step). P s.commands s.rounds x) g (subst (λ (x : List ℕ). P s.commands x steps) f (subst (λ (x : List Command). P x rounds steps) e h))

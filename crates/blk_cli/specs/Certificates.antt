@@ -3,13 +3,11 @@ use Rattle.std.specs.Prelude.{◌≡◌, ◌↔◌, ◌*◌, ◌++◌, ◌∷◌
 use Rattle.std.specs.Fmt.{signed_decimal}
 use Rattle.edd_commands.specs.declared.Command.{Command}
 use Rattle.edd_check.specs.declared.CheckFault.{CheckFault}
-use Rattle.edd_check.specs.declared.Crowding.{Crowding}
-use Rattle.edd_check.specs.declared.on_time.Bound.{Bound}
 use Rattle.edd_check.specs.declared.on_time.OnTimeFault.{OnTimeFault}
 use Rattle.edd_check.specs.declared.Window.{Window}
 use Rattle.edd_commands.specs.Capacity.{fixed}
-use Rattle.edd_check.specs.Check.{IsAnswer, IsCrowding}
-use Rattle.edd_check.specs.CheckOnTime.{IsOnTimeAnswer, IsCoverBound}
+use Rattle.edd_check.specs.Check.{IsAnswer}
+use Rattle.edd_check.specs.CheckOnTime.{IsOnTimeAnswer}
 use Rattle.edd_check.specs.OnTime.{carried_by, outside_of}
 use Rattle.edd_commands.specs.Schedule.{IsLegal, IsGreatestLateness, IsLeastLateness}
 use Rattle.edd_check.specs.Window.{IsCrowded, load_of, rounds_between}
@@ -41,10 +39,10 @@ pub record IsProved (claim : Claim) : Type 0 where
   pub no_bound : (claim.bound ≡ None) ↔ (claim.commands ≡ [])
   pub proves : IfSome claim.bound (λ b. IsProof claim.commands claim.depth claim.rounds b.0 b.1)
 
--- the schedule is legal and meets the number stated, the windows are disjoint, and their bound is that number, so that no legal
--- schedule meets more
+-- the schedule is legal and has the number stated on time, the windows are disjoint, and their bound is that number, so that no legal
+-- schedule has more on time
 abbrev pub IsOnTimeProved : OnTimeClaim → Type 0
-IsOnTimeProved claim = IsMostAnswer claim.commands (fixed claim.depth) claim.rounds claim.met claim.cover
+IsOnTimeProved claim = IsMostAnswer claim.commands (fixed claim.depth) claim.rounds claim.on_time claim.cover
 
 -- the records spell a command list: its depth and its commands
 abbrev pub SpellsList : List Row → ℕ × List Command → Type 0
@@ -95,38 +93,27 @@ abbrev pub verdict_in : Form → Claim → Option (ℤ × Window) → List ℕ
 verdict_in f claim None = no_commands_in f
 verdict_in f claim (Some b) = bound_in f b.0 (load_of claim.commands b.1) (claim.depth * rounds_between b.1.from (pos b.1.due +ℤ b.0))
 
--- how crowded the window of a certificate is, if it has one
-abbrev pub IsCrowdingOf : Claim → Option (ℤ × Window) → Option Crowding → Type 0
-IsCrowdingOf claim None None = ⊤
-IsCrowdingOf claim None (Some c) = ⊥
-IsCrowdingOf claim (Some b) None = ⊥
-IsCrowdingOf claim (Some b) (Some c) = IsCrowding claim.commands (fixed claim.depth) b.0 b.1 c
-
--- the bound of the windows of one
-abbrev pub IsBoundOf : OnTimeClaim → Bound → Type 0
-IsBoundOf claim b = IsCoverBound claim.commands (fixed claim.depth) claim.cover b
-
 -- the check refuses the certificate that was read, which has a bound
 abbrev pub IsRefusedBound : Claim → CheckFault → Option (ℤ × Window) → Type 0
 IsRefusedBound claim f b = (late : ℤ) × (window : Window) × (b ≡ Some (late, window))
     × IsAnswer claim.commands (fixed claim.depth) late claim.rounds window (Err f)
 
--- the line on such a certificate: how many commands are met and how many there are, how many windows, what these carry, and how many
--- commands that can be met lie in none
+-- the line on such a certificate: how many commands are on time and how many there are, how many windows, what these carry, and how many
+-- commands that can be on time lie in none
 abbrev pub on_time_line : ℕ → ℕ → ℕ → ℕ → ℕ → List ℕ
-on_time_line met count windows carried rest =
-    codes "ok met " ++ (decimal met ++ (codes " of " ++ (decimal count ++ (codes " windows " ++ (decimal windows ++ (codes " carry " ++ (decimal carried ++ (codes " and " ++ (decimal rest ++ (codes " outside" ++ 10 ∷ []))))))))))
+on_time_line on_time count windows carried rest =
+    codes "ok met " ++ (decimal on_time ++ (codes " of " ++ (decimal count ++ (codes " windows " ++ (decimal windows ++ (codes " carry " ++ (decimal carried ++ (codes " and " ++ (decimal rest ++ (codes " outside" ++ 10 ∷ []))))))))))
 
 abbrev pub on_time_in : Form → ℕ → ℕ → ℕ → ℕ → ℕ → List ℕ
-on_time_in form.Lines met count windows carried rest = on_time_line met count windows carried rest
-on_time_in form.Json met count windows carried rest = on_time_json met count windows carried rest
+on_time_in form.Lines on_time count windows carried rest = on_time_line on_time count windows carried rest
+on_time_in form.Json on_time count windows carried rest = on_time_json on_time count windows carried rest
 
 abbrev pub on_time_verdict_in : Form → OnTimeClaim → List ℕ
-on_time_verdict_in f claim = on_time_in f claim.met (length claim.commands) (length claim.cover) (carried_by (fixed claim.depth) claim.cover) (outside_of claim.commands claim.cover)
+on_time_verdict_in f claim = on_time_in f claim.on_time (length claim.commands) (length claim.cover) (carried_by (fixed claim.depth) claim.cover) (outside_of claim.commands claim.cover)
 
--- the check refuses one of what is met
+-- the check refuses one of what is on time
 abbrev pub IsRefusedOnTime : OnTimeClaim → OnTimeFault → Type 0
-IsRefusedOnTime claim f = IsOnTimeAnswer claim.commands (fixed claim.depth) claim.rounds claim.met claim.cover (Err f)
+IsRefusedOnTime claim f = IsOnTimeAnswer claim.commands (fixed claim.depth) claim.rounds claim.on_time claim.cover (Err f)
 
 -- what `check` writes in a form, of a certificate of either kind, which is proved
 abbrev pub IsCheckText : Form → ProofClaim → List ℕ → Type 0
@@ -139,11 +126,11 @@ IsUnproved claim (failure.Check f) = IsRefusedBound claim f claim.bound
 IsUnproved claim failure.Memory = ⊤
 IsUnproved claim f = ⊥
 
-abbrev pub IsUnmet : OnTimeClaim → Failure → Type 0
-IsUnmet claim (failure.OnTime f) = IsRefusedOnTime claim f
-IsUnmet claim failure.Memory = ⊤
-IsUnmet claim f = ⊥
+abbrev pub IsOnTimeUnproved : OnTimeClaim → Failure → Type 0
+IsOnTimeUnproved claim (failure.OnTime f) = IsRefusedOnTime claim f
+IsOnTimeUnproved claim failure.Memory = ⊤
+IsOnTimeUnproved claim f = ⊥
 
 abbrev pub IsBad : ProofClaim → Failure → Type 0
 IsBad (OfLateness claim) f = IsUnproved claim f
-IsBad (OfOnTime claim) f = IsUnmet claim f
+IsBad (OfOnTime claim) f = IsOnTimeUnproved claim f

@@ -4,7 +4,7 @@ use Rattle.std.specs.Option.{option_map_or}
 use Rattle.faults.specs.Order.{IsFirstFault}
 use Rattle.blk_arrivals.specs.Scripts.{script_of, script_rules}
 use Rattle.blk_arrivals.specs.declared.terms.ArrivalsFault.TheVariants as arrivals
-use Rattle.blk_arrivals.specs.declared.terms.TheConstants.{DEPTH}
+use Rattle.blk_arrivals.specs.declared.terms.TheConstants.{USUAL_DEPTH}
 use Rattle.blk_arrivals.specs.declared.terms.Terms.{Terms}
 use Rattle.blk_capture.specs.declared.fates.Fate.{Fate}
 use Rattle.blk_capture.specs.declared.record.Record.{Record}
@@ -47,7 +47,7 @@ asked_of i = record {
 
 -- how its arrivals become a script
 abbrev pub terms_of : Import → ℕ → Option ℕ → Terms
-terms_of i round depth = record { round = round; depth = option_map_or (λ n. n) depth DEPTH; read_expire = i.read_expire; write_expire = i.write_expire }
+terms_of i round depth = record { round = round; depth = option_map_or (λ n. n) depth USUAL_DEPTH; read_expire = i.read_expire; write_expire = i.write_expire }
 
 -- the line on what was passed over or not matched, where there is any; a summary has it among its own
 abbrev pub line_on : UnusedCounts → Option (List ℕ)

@@ -8,12 +8,12 @@ use Rattle.blk_judge.specs.declared.missing.Miss.{Miss}
 use Rattle.blk_judge.specs.Judged.{IsRefusedSchedule, IsJudgement}
 use Rattle.blk_judge.specs.Late.{AreMissed}
 use Rattle.blk_judge.specs.Text.{judged_text, miss_records}
-use Rattle.blk_lists.specs.Schedule.{Ran}
+use Rattle.blk_lists.specs.Schedule.{ScheduleView}
 use Rattle.blk_cli.specs.declared.failure.Failure.{Failure}
 use Rattle.blk_cli.specs.declared.failure.Failure.TheVariants as failure
 
 -- what is said about a schedule as a whole, under its depth in every round
-pub record IsWholeText (s : Ran) (text : List ℕ) : Type 0 where
+pub record IsWholeText (s : ScheduleView) (text : List ℕ) : Type 0 where
   pub counts : Counts
   pub windows : List Crowd
   pub figures : Option Figures
@@ -21,18 +21,18 @@ pub record IsWholeText (s : Ran) (text : List ℕ) : Type 0 where
   pub is_text : text ≡ judged_text counts figures windows
 
 -- and of each of its late commands
-pub record IsEachText (s : Ran) (text : List ℕ) : Type 0 where
+pub record IsEachText (s : ScheduleView) (text : List ℕ) : Type 0 where
   pub misses : List Miss
   pub missed : AreMissed s.commands s.rounds (fixed s.depth) misses
   pub is_text : text ≡ miss_records misses
 
 -- the one that is asked for
-abbrev pub IsJudgedText : Bool → Ran → List ℕ → Type 0
+abbrev pub IsJudgedText : Bool → ScheduleView → List ℕ → Type 0
 IsJudgedText false s text = IsWholeText s text
 IsJudgedText true s text = IsEachText s text
 
 -- the schedule isn't legal, or memory ran out
-abbrev pub IsUnjudged : Ran → Failure → Type 0
+abbrev pub IsUnjudged : ScheduleView → Failure → Type 0
 IsUnjudged s (failure.Check fault) = IsRefusedSchedule s.commands s.rounds (fixed s.depth) fault
 IsUnjudged s failure.Memory = ⊤
 IsUnjudged s f = ⊥

@@ -12,3 +12,4 @@ pub mod Tuning
 pub mod Gives
 pub mod Lines
 pub mod Ends
+pub mod Inside

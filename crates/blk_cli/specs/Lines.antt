@@ -4,7 +4,7 @@ use Rattle.std.specs.Fmt.{signed_decimal}
 use Rattle.edd_check.specs.declared.CheckFault.{CheckFault}
 use Rattle.edd_check.specs.declared.CheckFault.TheVariants as check
 use Rattle.edd_check.specs.declared.on_time.OnTimeFault.{OnTimeFault}
-use Rattle.edd_check.specs.declared.on_time.OnTimeFault.TheVariants as met
+use Rattle.edd_check.specs.declared.on_time.OnTimeFault.TheVariants as on_time_fault
 use Rattle.edd_oracle.specs.declared.OracleFault.{OracleFault}
 use Rattle.edd_oracle.specs.declared.OracleFault.TheVariants as oracle
 use Rattle.edd_check.specs.Names.{check_fault_name, on_time_fault_name}
@@ -16,13 +16,13 @@ use Rattle.blk_settings.specs.declared.sched.SchedFault.{SchedFault}
 use Rattle.blk_settings.specs.declared.sched.SchedFault.TheVariants as setting
 use Rattle.blk_settings.specs.declared.fault.LoadFault.{LoadFault}
 use Rattle.blk_settings.specs.declared.fault.LoadFault.TheVariants as load
+use Rattle.blk_capture_text.specs.Names.{import_fault_name}
 use Rattle.blk_capture_text.specs.declared.importing.ImportFault.{ImportFault}
 use Rattle.blk_capture_text.specs.declared.importing.ImportFault.TheVariants as capture
 use Rattle.blk_arrivals.specs.Names.{fault_name}
 use Rattle.blk_arrivals.specs.declared.terms.ArrivalsFault.{ArrivalsFault}
 use Rattle.blk_arrivals.specs.declared.terms.ArrivalsFault.TheVariants as arrivals
-use Rattle.blk_words.specs.declared.words.Refusal.{Refusal}
-use Rattle.blk_words.specs.declared.words.Refusal.TheVariants as refusal
+use Rattle.blk_words.specs.Refusals.{refusal_text}
 use Rattle.blk_lists.specs.declared.fault.Why.{Why}
 use Rattle.blk_lists.specs.declared.fault.Why.TheVariants as why
 use Rattle.blk_sim.specs.declared.refusal.SimWhy.{SimWhy}
@@ -82,13 +82,13 @@ check_line (check.WrongLateness own) = signed_line (check_fault_name (check.Wron
 check_line (check.NotCrowded load) = numbered (check_fault_name (check.NotCrowded load)) (decimal load)
 
 abbrev pub on_time_check_line : OnTimeFault → List ℕ
-on_time_check_line met.Length = line (on_time_fault_name met.Length)
-on_time_check_line (met.BeforeRelease id) = numbered (on_time_fault_name (met.BeforeRelease id)) (decimal id)
-on_time_check_line met.Memory = want_of_memory
-on_time_check_line (met.OverDepth round) = numbered (on_time_fault_name (met.OverDepth round)) (decimal round)
-on_time_check_line (met.WrongMet own) = numbered (on_time_fault_name (met.WrongMet own)) (decimal own)
-on_time_check_line (met.Windows place) = numbered (on_time_fault_name (met.Windows place)) (decimal place)
-on_time_check_line (met.Loose bound) = numbered (on_time_fault_name (met.Loose bound)) (decimal bound)
+on_time_check_line on_time_fault.Length = line (on_time_fault_name on_time_fault.Length)
+on_time_check_line (on_time_fault.BeforeRelease id) = numbered (on_time_fault_name (on_time_fault.BeforeRelease id)) (decimal id)
+on_time_check_line on_time_fault.Memory = want_of_memory
+on_time_check_line (on_time_fault.OverDepth round) = numbered (on_time_fault_name (on_time_fault.OverDepth round)) (decimal round)
+on_time_check_line (on_time_fault.WrongMet own) = numbered (on_time_fault_name (on_time_fault.WrongMet own)) (decimal own)
+on_time_check_line (on_time_fault.Windows place) = numbered (on_time_fault_name (on_time_fault.Windows place)) (decimal place)
+on_time_check_line (on_time_fault.Loose bound) = numbered (on_time_fault_name (on_time_fault.Loose bound)) (decimal bound)
 
 abbrev pub sched_line : SchedFault → List ℕ
 sched_line setting.Memory = want_of_memory
@@ -99,33 +99,12 @@ load_line load.Memory = want_of_memory
 load_line fault = line (load_fault_name fault)
 
 abbrev pub import_line : ImportFault → List ℕ
-import_line capture.TooMany = line (codes "TooMany")
 import_line capture.Memory = want_of_memory
+import_line fault = line (import_fault_name fault)
 
 abbrev pub arrivals_line : ArrivalsFault → List ℕ
 arrivals_line arrivals.Memory = want_of_memory
 arrivals_line fault = line (fault_name fault)
-
--- what is said of words that can't be done
-abbrev pub refusal_text : Refusal → List ℕ
-refusal_text refusal.ReadExpire = codes "--read-expire takes a number with ns, us, ms or s"
-refusal_text refusal.WriteExpire = codes "--write-expire takes a number with ns, us, ms or s"
-refusal_text refusal.From = codes "--from takes insert or queue"
-refusal_text refusal.Skip = codes "--skip takes a number with ns, us, ms or s"
-refusal_text refusal.Round = codes "--round takes a number with ns, us, ms or s"
-refusal_text refusal.TableAndSummary = codes "--table and --summary exclude one another"
-refusal_text refusal.ScriptAlone = codes "--script excludes --table and --summary"
-refusal_text refusal.NoRound = codes "--script needs --round"
-refusal_text refusal.NoScript = codes "--round and --depth need --script"
-refusal_text refusal.OfRequests = codes "--script takes no --from, --skip or --first"
-refusal_text refusal.JsonAlone = codes "--json needs --trace"
-refusal_text refusal.TraceAndJson = codes "--trace and --json exclude one another"
-refusal_text refusal.Scheds = codes "--sched takes names of schedulers with commas between, each once"
-refusal_text refusal.FifoBatch = codes "--fifo-batch takes 1 to 64 numbers of 0 to 65535 with commas between, each once"
-refusal_text refusal.WritesStarved = codes "--writes-starved takes 1 to 64 numbers of 0 to 65535 with commas between, each once"
-refusal_text refusal.ReadTarget = codes "--read-target takes 1 to 64 numbers of 0 to 1000000 with commas between, each once"
-refusal_text refusal.WriteTarget = codes "--write-target takes 1 to 64 numbers of 0 to 1000000 with commas between, each once"
-refusal_text refusal.By = codes "--by takes misses or lateness"
 
 -- the line on a failure
 abbrev pub failure_line : Failure → List ℕ
@@ -166,7 +145,7 @@ is_check_outside check.Memory = true
 is_check_outside f = false
 
 abbrev pub is_on_time_outside : OnTimeFault → Bool
-is_on_time_outside met.Memory = true
+is_on_time_outside on_time_fault.Memory = true
 is_on_time_outside f = false
 
 abbrev pub is_load_outside : LoadFault → Bool

@@ -2,8 +2,8 @@
 use Rattle.std.specs.Prelude.{◌≡◌, ◌⊎◌, ℕ, Bool, List, Option}
 use Rattle.blk_lists.specs.Sources.{Row as Record}
 use Rattle.blk_text.specs.Script.{Scripted, SpellsScript, ScriptFault}
-use Rattle.blk_grid.specs.Rows.{Gridded, grid_rows}
-use Rattle.blk_grid.specs.Wanted.{Wanted}
+use Rattle.blk_settings.specs.Grids.{Gridded, grid_rows}
+use Rattle.blk_settings.specs.Wanted.{Wanted}
 use Rattle.blk_tune.specs.declared.row.TrialRow.{TrialRow}
 use Rattle.blk_tune.specs.Tuned.{AreTuned, IsTuned}
 use Rattle.blk_json.specs.Trials.{trial_json}

@@ -6,7 +6,8 @@ ghost use Rattle.blk_lists.specs.Certificate.{IsClaim, claimed};
 ghost use Rattle.blk_lists.specs.OnTime.{on_time_claimed, IsOnTimeClaim};
 ghost use Rattle.blk_lists.specs.Proof.{OfLateness, OfOnTime, SpellsProof, ProofFault, proof_claimed, IsProofClaim};
 ghost use Rattle.blk_cli.specs.Inputs.{Of, FailsOver};
-ghost use Rattle.blk_cli.specs.Certificates.{IsProved, IsOnTimeProved, IsCrowdingOf, IsBoundOf, IsUnproved, IsUnmet, IsCheckText, IsBad, bound_in, no_commands_in, verdict_in, on_time_in, on_time_verdict_in};
+ghost use Rattle.blk_cli.specs.Certificates.{IsProved, IsOnTimeProved, IsUnproved, IsOnTimeUnproved, IsCheckText, IsBad, bound_in, no_commands_in, verdict_in, on_time_in, on_time_verdict_in};
+ghost use Rattle.blk_cli.specs.Inside.Certificates.{IsCrowdingOf, IsBoundOf};
 
 use crate::failure::Failure;
 use blk_json::{bound_json, no_commands_json, on_time_json};
@@ -122,39 +123,46 @@ fn verify_on_time(
     requires capacity { capacity.now ≡ fixed certificate.now.depth }
     ensures proved { OnOk result (IsOnTimeProved (on_time_claimed certificate.now)) }
     ensures bound { IfOk result (IsBoundOf (on_time_claimed certificate.now)) }
-    ensures unmet { IfErr result (IsUnmet (on_time_claimed certificate.now)) }
+    ensures on_time_unproved { IfErr result (IsOnTimeUnproved (on_time_claimed certificate.now)) }
 {
     let commands = certificate.commands.as_slice();
     let rounds = certificate.rounds.as_slice();
     let cover = certificate.cover.as_slice();
-    match check_on_time(alloc, commands, capacity, rounds, certificate.met, cover) {
+    match check_on_time(
+        alloc,
+        commands,
+        capacity,
+        rounds,
+        certificate.on_time,
+        cover,
+    ) {
         Ok(bound) => Ok(bound),
         Err(fault) => Err(Failure::OnTime(fault)),
     }
 }
 
-/// What is written of one of `count` commands of which `met` are met, whose `windows` carry `carries`, with `rest` outside of them.
+/// What is written of one of `count` commands of which `on_time` are on time, whose `windows` carry `carries`, with `rest` outside of them.
 fn on_time_text(
     alloc: Global,
     form: Form,
-    met: u64,
+    on_time: u64,
     count: u64,
     windows: u64,
     carries: u64,
     rest: u64,
 ) -> Result<Vec<u8>, AllocError>
-    ensures { IfOk result (λ text. text.items ≡ on_time_in form met count windows carries rest) }
+    ensures { IfOk result (λ text. text.items ≡ on_time_in form on_time count windows carries rest) }
 {
     match form {
         Form::Lines => {
             match format!(in alloc;
-                "ok met {met} of {count} windows {windows} carry {carries} and {rest} outside\n"
+                "ok met {on_time} of {count} windows {windows} carry {carries} and {rest} outside\n"
             ) {
                 Ok(line) => Ok(line.into_bytes()),
                 Err(refused) => Err(refused),
             }
         }
-        Form::Json => on_time_json(alloc, met, count, windows, carries, rest),
+        Form::Json => on_time_json(alloc, on_time, count, windows, carries, rest),
     }
 }
 
@@ -168,13 +176,13 @@ fn on_time_verdict(
     requires { IsBoundOf (on_time_claimed certificate.now) bound }
     ensures { IfOk result (λ text. text.items ≡ on_time_verdict_in form (on_time_claimed certificate.now)) }
 {
-    let met = certificate.met;
+    let on_time = certificate.on_time;
     let count = certificate.commands.len() as u64;
     let windows = certificate.cover.len() as u64;
     on_time_text(
         alloc,
         form,
-        met,
+        on_time,
         count,
         windows,
         bound.carries,
@@ -182,7 +190,7 @@ fn on_time_verdict(
     )
 }
 
-/// What is written of a certificate of what is met, which proves it.
+/// What is written of a certificate of what is on time, which proves it.
 fn on_time_checked(
     alloc: Global,
     form: Form,
@@ -190,7 +198,7 @@ fn on_time_checked(
 ) -> Result<Vec<u8>, Failure>
     requires { IsOnTimeClaim (on_time_claimed certificate.now) }
     ensures good { IfOk result (λ text. IsCheckText form (OfOnTime (on_time_claimed certificate.now)) text.items) }
-    ensures unmet { IfErr result (IsUnmet (on_time_claimed certificate.now)) }
+    ensures on_time_unproved { IfErr result (IsOnTimeUnproved (on_time_claimed certificate.now)) }
 {
     let Ok(capacity) = Capacity::fixed(alloc, certificate.depth) else {
         return Err(Failure::Memory);

@@ -2,7 +2,7 @@
 
 ghost use Rattle.std.specs.Prelude.{◌≡◌, ◌≤◌, decimal};
 ghost use Rattle.drafts.specs.Outputs.{Writes, stream_of};
-ghost use Rattle.blk_cli.specs.Lines.{line, want_of_memory, numbered, signed_line, at_record, text_line, step_line, oracle_line, check_line, on_time_check_line, refusal_text, failure_line, status_of};
+ghost use Rattle.blk_cli.specs.Lines.{line, want_of_memory, numbered, signed_line, at_record, text_line, step_line, oracle_line, check_line, on_time_check_line, failure_line, status_of};
 ghost use Rattle.blk_cli.specs.Ends.{EndsFailing};
 ghost use Rattle.blk_cli.specs.Scripts.{failure_of_run};
 
@@ -27,7 +27,7 @@ const START: &[u8] = b"blk: ";
 const END: &[u8] = b"\n";
 
 /// How many digits a number has at most.
-const DIGITS: usize = 20;
+const MAX_DIGITS: usize = 20;
 
 /// Why there is no output, or not all of it.
 #[derive(Clone, Copy, Debug, PartialEq, Eq)]
@@ -42,7 +42,7 @@ pub enum Failure {
     Solve(OracleFault),
     /// The check refuses the certificate.
     Check(CheckFault),
-    /// The check refuses the certificate of what is met.
+    /// The check refuses the certificate of what is on time.
     OnTime(OnTimeFault),
     /// The trace sets a depth, so that no command list has its commands.
     NotFixed,
@@ -124,14 +124,14 @@ impl Failure {
                 _ => tell_name(faults, fault.name()),
             },
             Failure::Import(fault) => match fault {
-                ImportFault::TooMany => tell_name(faults, "TooMany"),
                 ImportFault::Memory => tell_memory(faults),
+                _ => tell_name(faults, fault.name()),
             },
             Failure::Arrivals(fault) => match fault {
                 ArrivalsFault::Memory => tell_memory(faults),
                 _ => tell_name(faults, fault.name()),
             },
-            Failure::Words(refusal) => tell_name(faults, refusal_text(*refusal)),
+            Failure::Words(refusal) => tell_name(faults, refusal.text()),
             Failure::Write => tell_name(faults, "write fault"),
             Failure::Memory => tell_memory(faults),
         }
@@ -153,40 +153,6 @@ impl Failure {
     }
 }
 
-/// What is said of words that can't be done.
-fn refusal_text(refusal: Refusal) -> &'static str
-    ensures { result.now ≡ refusal_text refusal }
-{
-    match refusal {
-        Refusal::ReadExpire => "--read-expire takes a number with ns, us, ms or s",
-        Refusal::WriteExpire => "--write-expire takes a number with ns, us, ms or s",
-        Refusal::From => "--from takes insert or queue",
-        Refusal::Skip => "--skip takes a number with ns, us, ms or s",
-        Refusal::Round => "--round takes a number with ns, us, ms or s",
-        Refusal::TableAndSummary => "--table and --summary exclude one another",
-        Refusal::ScriptAlone => "--script excludes --table and --summary",
-        Refusal::NoRound => "--script needs --round",
-        Refusal::NoScript => "--round and --depth need --script",
-        Refusal::OfRequests => "--script takes no --from, --skip or --first",
-        Refusal::JsonAlone => "--json needs --trace",
-        Refusal::TraceAndJson => "--trace and --json exclude one another",
-        Refusal::Scheds => "--sched takes names of schedulers with commas between, each once",
-        Refusal::FifoBatch => {
-            "--fifo-batch takes 1 to 64 numbers of 0 to 65535 with commas between, each once"
-        }
-        Refusal::WritesStarved => {
-            "--writes-starved takes 1 to 64 numbers of 0 to 65535 with commas between, each once"
-        }
-        Refusal::ReadTarget => {
-            "--read-target takes 1 to 64 numbers of 0 to 1000000 with commas between, each once"
-        }
-        Refusal::WriteTarget => {
-            "--write-target takes 1 to 64 numbers of 0 to 1000000 with commas between, each once"
-        }
-        Refusal::By => "--by takes misses or lateness",
-    }
-}
-
 /// Writes the line of a name.
 fn tell_name<F: Write>(faults: &mut Output<F>, name: &str) -> Result<(), WriteFault>
     ensures { Writes (line name.now) (stream_of F.contents faults.old) (stream_of F.contents faults.new) result }
@@ -205,7 +171,7 @@ fn tell_memory<F: Write>(faults: &mut Output<F>) -> Result<(), WriteFault>
 fn tell_record<F: Write>(faults: &mut Output<F>, at: u64, name: &str) -> Result<(), WriteFault>
     ensures { Writes (at_record at name.now) (stream_of F.contents faults.old) (stream_of F.contents faults.new) result }
 {
-    let mut digits = [0; DIGITS];
+    let mut digits = [0; MAX_DIGITS];
     let end = put_number(at, &mut digits, 0);
     let record: &[u8] = b"blk: record ";
     let colon: &[u8] = b": ";
@@ -216,7 +182,7 @@ fn tell_record<F: Write>(faults: &mut Output<F>, at: u64, name: &str) -> Result<
 fn tell_number<F: Write>(faults: &mut Output<F>, name: &str, number: u64) -> Result<(), WriteFault>
     ensures { Writes (numbered name.now (decimal number)) (stream_of F.contents faults.old) (stream_of F.contents faults.new) result }
 {
-    let mut digits = [0; DIGITS];
+    let mut digits = [0; MAX_DIGITS];
     let end = put_number(number, &mut digits, 0);
     let space: &[u8] = b" ";
     faults.put_all(&[START, name.as_bytes(), space, &digits[..end], END])
@@ -229,7 +195,7 @@ fn tell_signed<F: Write>(faults: &mut Output<F>, name: &str, number: i64) -> Res
     if number >= 0 {
         return tell_number(faults, name, number as u64);
     }
-    let mut digits = [0; DIGITS];
+    let mut digits = [0; MAX_DIGITS];
     let end = put_number(number.unsigned_abs(), &mut digits, 0);
     let minus: &[u8] = b" -";
     faults.put_all(&[START, name.as_bytes(), minus, &digits[..end], END])
@@ -284,7 +250,7 @@ fn tell_check<F: Write>(faults: &mut Output<F>, fault: CheckFault) -> Result<(),
     }
 }
 
-/// Writes the line on a certificate of what is met.
+/// Writes the line on a certificate of what is on time.
 fn tell_on_time<F: Write>(faults: &mut Output<F>, fault: OnTimeFault) -> Result<(), WriteFault>
     ensures { Writes (on_time_check_line fault) (stream_of F.contents faults.old) (stream_of F.contents faults.new) result }
 {

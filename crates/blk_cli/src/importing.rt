@@ -9,7 +9,7 @@ ghost use Rattle.blk_cli.specs.Importing.{entry_asked, most_asked, asked_of, ter
 
 use crate::Answered;
 use crate::failure::Failure;
-use blk_arrivals::{DEPTH, Terms, script_of, script_text};
+use blk_arrivals::{Terms, USUAL_DEPTH, script_of, script_text};
 use blk_capture::{Entry, Options, Record};
 use blk_capture_text::{
     ImportAsked, ShownImport, UnusedCounts, count_fates, notice_text, read_capture, shown_text,
@@ -63,7 +63,7 @@ fn terms_of(wanted: Import, round: u64, depth: Option<u64>) -> Terms
 {
     let depth = match depth {
         Some(depth) => depth,
-        None => DEPTH,
+        None => USUAL_DEPTH,
     };
     Terms {
         round,

@@ -2,7 +2,7 @@
 
 ghost use Rattle.std.specs.Prelude.{◌≡◌, IfOk, IfErr};
 ghost use Rattle.edd_commands.specs.Capacity.{fixed};
-ghost use Rattle.blk_lists.specs.Schedule.{IsRan, ran_of, SpellsSchedule, ScheduleFault};
+ghost use Rattle.blk_lists.specs.Schedule.{IsScheduleView, viewed, SpellsSchedule, ScheduleFault};
 ghost use Rattle.blk_cli.specs.Inputs.{Of, FailsOver};
 ghost use Rattle.blk_cli.specs.Judging.{IsWholeText, IsEachText, IsJudgedText, IsUnjudged};
 
@@ -19,10 +19,10 @@ fn whole(
     schedule: &Schedule,
     capacity: &Capacity<Global>,
 ) -> Result<Vec<u8>, Failure>
-    requires ran { IsRan (ran_of schedule.now) }
+    requires ran { IsScheduleView (viewed schedule.now) }
     requires capacity { capacity.now ≡ fixed schedule.now.depth }
-    ensures text { IfOk result (λ text. IsWholeText (ran_of schedule.now) text.items) }
-    ensures fails { IfErr result (IsUnjudged (ran_of schedule.now)) }
+    ensures text { IfOk result (λ text. IsWholeText (viewed schedule.now) text.items) }
+    ensures fails { IfErr result (IsUnjudged (viewed schedule.now)) }
 {
     let commands = schedule.commands.as_slice();
     let rounds = schedule.rounds.as_slice();
@@ -42,10 +42,10 @@ fn each_late(
     schedule: &Schedule,
     capacity: &Capacity<Global>,
 ) -> Result<Vec<u8>, Failure>
-    requires ran { IsRan (ran_of schedule.now) }
+    requires ran { IsScheduleView (viewed schedule.now) }
     requires capacity { capacity.now ≡ fixed schedule.now.depth }
-    ensures text { IfOk result (λ text. IsEachText (ran_of schedule.now) text.items) }
-    ensures fails { IfErr result (IsUnjudged (ran_of schedule.now)) }
+    ensures text { IfOk result (λ text. IsEachText (viewed schedule.now) text.items) }
+    ensures fails { IfErr result (IsUnjudged (viewed schedule.now)) }
 {
     let commands = schedule.commands.as_slice();
     let rounds = schedule.rounds.as_slice();
@@ -61,9 +61,9 @@ fn each_late(
 
 /// The text that is asked for.
 fn judged(alloc: Global, each: bool, schedule: &Schedule) -> Result<Vec<u8>, Failure>
-    requires { IsRan (ran_of schedule.now) }
-    ensures text { IfOk result (λ text. IsJudgedText each (ran_of schedule.now) text.items) }
-    ensures fails { IfErr result (IsUnjudged (ran_of schedule.now)) }
+    requires { IsScheduleView (viewed schedule.now) }
+    ensures text { IfOk result (λ text. IsJudgedText each (viewed schedule.now) text.items) }
+    ensures fails { IfErr result (IsUnjudged (viewed schedule.now)) }
 {
     let Ok(capacity) = Capacity::fixed(alloc, schedule.depth) else {
         return Err(Failure::Memory);

@@ -46,7 +46,7 @@ fn certify(alloc: Global, depth: u64, commands: Vec<Command>) -> Result<Certific
     }
 }
 
-/// The certificate of a schedule that meets as many commands as any.
+/// The certificate of a schedule that has as many commands on time as any.
 fn certify_on_time(
     alloc: Global,
     depth: u64,
@@ -67,7 +67,7 @@ fn certify_on_time(
             depth,
             commands,
             rounds: answer.rounds,
-            met: answer.met,
+            on_time: answer.on_time,
             cover: answer.cover,
         }),
         Err(fault) => Err(Failure::Solve(fault)),
@@ -90,7 +90,7 @@ fn least_of(alloc: Global, depth: u64, commands: Vec<Command>) -> Result<Vec<u8>
     }
 }
 
-/// The text of the certificate of how many commands can be met.
+/// The text of the certificate of how many commands can be on time.
 fn most_of(alloc: Global, depth: u64, commands: Vec<Command>) -> Result<Vec<u8>, Failure>
     requires { AreCommands depth commands.items }
     ensures text { IfOk result (λ text. IsSolved Solving.Most (depth, commands.items) text.items) }

@@ -2,17 +2,17 @@
 
 ghost use Rattle.std.specs.Prelude.{◌≡◌, IfOk, IfErr, map, string_bytes};
 ghost use Rattle.blk_text.specs.Script.{IsScript, SpellsScript, scripted};
-ghost use Rattle.blk_grid.specs.Rows.{grid_rows};
-ghost use Rattle.blk_grid.specs.Wanted.{as_wanted};
+ghost use Rattle.blk_settings.specs.Grids.{grid_rows};
+ghost use Rattle.blk_settings.specs.Wanted.{as_wanted};
 ghost use Rattle.blk_runs.specs.Firsts.{AreUnrun};
 ghost use Rattle.blk_cli.specs.Inputs.{Of};
 ghost use Rattle.blk_cli.specs.Tuning.{IsTunedJson, IsTunedIn, IsTrial, IsUntried, FailsToTry};
 
 use crate::failure::Failure;
-use blk_grid::Asked;
 use blk_json::trial_json;
 use blk_lists::Records;
 use blk_runs::RunFault;
+use blk_settings::TrialAsked;
 use blk_text::{Script, read_script};
 use blk_tune::{Progress, rows, tune};
 use blk_words::{Form, Tuning, grid_asked};
@@ -24,7 +24,7 @@ use std::thread::Threads;
 fn json_of<T: Threads + Sync, P: Progress>(
     rt: &T,
     alloc: Global,
-    asked: &Asked,
+    asked: &TrialAsked,
     script: &Script,
     progress: &mut P,
 ) -> Result<Vec<u8>, RunFault>
@@ -47,7 +47,7 @@ fn tuned_in<T: Threads + Sync, P: Progress>(
     rt: &T,
     alloc: Global,
     form: Form,
-    asked: &Asked,
+    asked: &TrialAsked,
     script: &Script,
     progress: &mut P,
 ) -> Result<Vec<u8>, RunFault>
@@ -77,7 +77,7 @@ fn trial_of<T: Threads + Sync, P: Progress>(
     let Ok(grid) = grid_asked(alloc, words) else {
         return Err(Failure::Memory);
     };
-    let asked = Asked {
+    let asked = TrialAsked {
         grid,
         by: tuning.by,
         top: tuning.top,

@@ -8,7 +8,9 @@ use Rattle.json.specs.Token as token
 use Rattle.json.specs.Print.{print}
 use Rattle.json.specs.Tree.{json_tokens, items_tokens, members_tokens}
 use Rattle.blk_json.specs.Values.{json_items, members_of, object_of}
-use Rattle.blk_json.specs.Inside.Tokens.{member_tokens, tokens_of}
+use Rattle.blk_settings.specs.Settings.{NamedSetting}
+use Rattle.blk_json.specs.Trials.{setting_member}
+use Rattle.blk_json.specs.Inside.Tokens.{member_tokens, tokens_of, setting_tokens}
 
 -- of the same tokens
 pub told : {V E : Type 0} (r : Result V E) (items : V → List ℕ) (p q : List token.Token) → p ≡ q → IfOk r (λ v. items v ≡ print p ++ 10 ∷ []) → IfOk r (λ v. items v ≡ print q ++ 10 ∷ [])
@@ -29,6 +31,11 @@ members_written (m ∷ ms) = ap (λ ts. token.key m.0 ∷ (json_tokens m.1 ++ ts
 pub tokens_append : (ms ns : List (List ℕ × json.Json)) → tokens_of (ms ++ ns) ≡ tokens_of ms ++ tokens_of ns
 tokens_append [] ns = refl
 tokens_append (m ∷ ms) ns = ap (λ ts. token.key m.0 ∷ (json_tokens m.1 ++ ts)) (tokens_append ms ns) ∙ ap (λ ts. token.key m.0 ∷ ts) (sym (append_assoc (json_tokens m.1) (tokens_of ms) (tokens_of ns)))
+
+-- the members of settings, one after the other
+pub settings_written : (ss : List NamedSetting) → tokens_of (map setting_member ss) ≡ flat_map (λ s. setting_tokens s) ss
+settings_written [] = refl
+settings_written (s ∷ ss) = ap (λ ts. setting_tokens s ++ ts) (settings_written ss)
 
 -- an object whose members are written by four calls
 pub object_of_four : (a b c d : List (List ℕ × json.Json)) (p0 p1 p2 p3 p4 p5 p6 : List token.Token) → p1 ≡ p0 ++ token.begin_object ∷ [] → p2 ≡ p1 ++ tokens_of a → p3 ≡ p2 ++ tokens_of b → p4 ≡ p3 ++ tokens_of c

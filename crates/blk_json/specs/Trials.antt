@@ -1,34 +1,32 @@
 -- A trial's rows as JSON.
 use Rattle.std.specs.Prelude.{ℕ, Bool, List, [], ◌∷◌, ◌++◌, Option, if◌then◌else◌, ◌&&◌, ◌==◌, nat_lt, codes, map}
 use Rattle.json.specs.Json as json
-use Rattle.blk_deadline.specs.declared.Tunables.{Tunables}
-use Rattle.blk_kyber.specs.declared.Targets.{Targets}
 use Rattle.edd_figures.specs.Figures.{shortfall_in}
 use Rattle.blk_report.specs.declared.missing.Tally.{Tally}
-use Rattle.blk_settings.specs.Rows.{name_of}
+use Rattle.blk_settings.specs.Rows.{name_of, settings_of}
+use Rattle.blk_settings.specs.Settings.{NamedSetting}
 use Rattle.blk_settings.specs.declared.sched.Sched.{Sched}
-use Rattle.blk_settings.specs.declared.sched.Sched.TheVariants as sched
-use Rattle.blk_grid.specs.declared.By.{By}
-use Rattle.blk_grid.specs.declared.By.TheVariants as by
+use Rattle.blk_settings.specs.declared.setting.SettingValue.{SettingValue}
+use Rattle.blk_settings.specs.declared.setting.SettingValue.TheVariants as value
+use Rattle.blk_settings.specs.declared.grid.By.{By}
+use Rattle.blk_settings.specs.declared.grid.By.TheVariants as by
 use Rattle.blk_tune.specs.declared.row.TrialRow.{TrialRow}
 use Rattle.blk_tune.specs.Text.{is_none, shown}
 use Rattle.blk_json.specs.Tables.{figure_members}
 use Rattle.blk_json.specs.Values.{count, figure, array_of, object_of, value_line}
 
--- the settings of deadline, of kyber, and of a scheduler, by the names that the command line has for them
-abbrev pub tunables_members : Tunables → List (List ℕ × json.Json)
-tunables_members t = (codes "fifo_batch", count t.fifo_batch) ∷ (codes "writes_starved", count t.writes_starved) ∷ (codes "front_merges", json.boolean t.front_merges) ∷ []
+-- what a setting is set to, the setting, and those of a scheduler, by the names that the command line has for them
+abbrev pub setting_value : SettingValue → json.Json
+setting_value (value.Number n) = count n
+setting_value (value.Switch is_on) = json.boolean is_on
 
-abbrev pub targets_members : Targets → List (List ℕ × json.Json)
-targets_members t = (codes "read_target", count t.read) ∷ (codes "write_target", count t.write) ∷ []
+abbrev pub setting_member : NamedSetting → List ℕ × json.Json
+setting_member s = (s.name, setting_value s.value)
 
 abbrev pub settings_members : Sched → List (List ℕ × json.Json)
-settings_members sched.None = []
-settings_members (sched.Earliest late_last) = (codes "late_last", json.boolean late_last) ∷ []
-settings_members (sched.Deadline t) = tunables_members t
-settings_members (sched.Kyber t) = targets_members t
+settings_members s = map setting_member (settings_of s)
 
--- its name, and these
+-- the name of a scheduler, and its settings
 abbrev pub sched_members : Sched → List (List ℕ × json.Json)
 sched_members s = (codes "sched", json.string (name_of s)) ∷ (codes "settings", object_of (settings_members s)) ∷ []
 

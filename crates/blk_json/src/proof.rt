@@ -38,21 +38,21 @@ pub fn no_commands_json(alloc: Global) -> Result<Vec<u8>, AllocError>
     page.finish()
 }
 
-/// What a certificate of the commands that can be met proves as an object: how many are `met`, `of` how many, the number of
-/// `windows`, how many commands these `carry`, and how many that can be met lie `outside` them. Fails only when out of memory.
+/// What a certificate of the commands that can be on time proves, as an object: how many are `on_time`, `of` how many, the number of
+/// `windows`, how many commands these `carry`, and how many that can be on time lie `outside` them. Fails only when out of memory.
 pub fn on_time_json(
     alloc: Global,
-    met: u64,
+    on_time: u64,
     of: u64,
     windows: u64,
     carry: u64,
     outside: u64,
 ) -> Result<Vec<u8>, AllocError>
-    ensures { IfOk result (λ v. v.items ≡ on_time_json met of windows carry outside) }
+    ensures { IfOk result (λ v. v.items ≡ on_time_json on_time of windows carry outside) }
 {
     let mut page = Page::new(alloc);
     page.begin_object()?;
-    page.count("met", met)?;
+    page.count("met", on_time)?;
     page.count("of", of)?;
     page.count("windows", windows)?;
     page.count("carry", carry)?;

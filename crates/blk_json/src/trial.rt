@@ -3,36 +3,34 @@
 ghost use Rattle.std.specs.Prelude.{◌≡◌, ◌++◌, IfOk, OnOk, codes};
 ghost use Rattle.std.specs.List.{flat_map};
 ghost use Rattle.json.specs.Tree.{json_tokens};
-ghost use Rattle.blk_json.specs.Inside.Tokens.{member_tokens, tokens_of};
-ghost use Rattle.blk_json.specs.Trials.{tunables_members, targets_members, settings_members, sched_members, missed_members, percentile_members, trial_row, best_sched, is_proved, proved_words, proved_of, proved_value, trial_json};
+ghost use Rattle.blk_json.specs.Inside.Tokens.{member_tokens, tokens_of, setting_tokens};
+ghost use Rattle.blk_json.specs.Trials.{settings_members, sched_members, missed_members, percentile_members, trial_row, best_sched, is_proved, proved_words, proved_of, proved_value, trial_json};
 ghost use Rattle.blk_json.specs.Values.{object_of};
 
 use crate::page::Page;
 use crate::table::write_figures;
-use blk_deadline::Tunables;
-use blk_grid::By;
-use blk_kyber::Targets;
 use blk_report::Tally;
-use blk_settings::Sched;
+use blk_settings::{By, Sched, Setting, SettingValue};
 use blk_tune::{TrialRow, shown};
 use std::alloc::{AllocError, Global};
 
-/// Writes the settings of `deadline`.
-fn write_tunables(page: &mut Page, tunables: Tunables) -> Result<(), AllocError>
-    ensures { OnOk result (page.new ≡ page.old ++ tokens_of (tunables_members tunables)) }
+/// Writes a setting.
+fn write_setting(page: &mut Page, setting: &Setting) -> Result<(), AllocError>
+    ensures { OnOk result (page.new ≡ page.old ++ setting_tokens setting.now) }
 {
-    page.count("fifo_batch", tunables.fifo_batch as u64)?;
-    page.count("writes_starved", tunables.writes_starved as u64)?;
-    page.boolean("front_merges", tunables.front_merges)?;
-    Ok(())
+    match setting.value() {
+        SettingValue::Number(number) => page.count(setting.name(), number),
+        SettingValue::Switch(is_on) => page.boolean(setting.name(), is_on),
+    }
 }
 
-/// Writes those of `kyber`.
-fn write_targets(page: &mut Page, targets: Targets) -> Result<(), AllocError>
-    ensures { OnOk result (page.new ≡ page.old ++ tokens_of (targets_members targets)) }
+/// Writes settings.
+fn write_listed(page: &mut Page, settings: &[Setting]) -> Result<(), AllocError>
+    ensures { OnOk result (page.new ≡ page.old ++ flat_map (λ s. setting_tokens s) settings.now) }
 {
-    page.count("read_target", targets.read)?;
-    page.count("write_target", targets.write)?;
+    for setting in settings {
+        write_setting(page, setting)?;
+    }
     Ok(())
 }
 
@@ -40,12 +38,9 @@ fn write_targets(page: &mut Page, targets: Targets) -> Result<(), AllocError>
 fn write_settings(page: &mut Page, sched: Sched) -> Result<(), AllocError>
     ensures { OnOk result (page.new ≡ page.old ++ tokens_of (settings_members sched)) }
 {
-    match sched {
-        Sched::None => Ok(()),
-        Sched::Earliest { late_last } => page.boolean("late_last", late_last),
-        Sched::Deadline(tunables) => write_tunables(page, tunables),
-        Sched::Kyber(targets) => write_targets(page, targets),
-    }
+    let settings = sched.settings();
+    write_listed(page, settings.as_slice())?;
+    Ok(())
 }
 
 /// Writes the name of a scheduler and its settings.
@@ -172,8 +167,8 @@ fn write_proved(page: &mut Page, by: By, rows: &[TrialRow]) -> Result<(), AllocE
 /// without commands), `late`, `unavoidable` and `avoidable` (commands), and `wait_p99_read` and `wait_p99_write`, the 99th percentiles
 /// of the waits (rounds, or `null` without commands of that direction); `best`, the first row's `sched` and `settings`, or `null`
 /// without rows, also where none is shown; and `proved`, what the text form says of that row, or `null` where it says nothing. The
-/// settings are those of the command line: none of `none`; `late_last`; `fifo_batch`, `writes_starved` and `front_merges`; or
-/// `read_target` and `write_target` (rounds). Fails only when out of memory. The time is as the number of rows that are shown.
+/// settings are those of the command line, by their names and in their order: each a number, or `true` or `false`; of a scheduler without
+/// any the object is empty. Fails only when out of memory. The time is as the number of rows that are shown.
 pub fn trial_json(
     alloc: Global,
     by: By,

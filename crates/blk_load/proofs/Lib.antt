@@ -2,3 +2,4 @@ pub mod Seated
 pub mod Counted
 pub mod Made
 mod Ruled
+pub mod RanUnder

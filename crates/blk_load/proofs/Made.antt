@@ -11,7 +11,8 @@ use Rattle.blk_hw.specs.declared.MapFault.TheVariants.{Empty, TooMany, Unserved}
 use Rattle.blk_layer.specs.Seats.{CanMake, IsLayerFault}
 use Rattle.blk_layer.specs.declared.layer.LayerFault.{LayerFault}
 use Rattle.blk_layer.specs.declared.layer.LayerFault.TheVariants as layer
-use Rattle.blk_settings.specs.Faults.{IsLoadFault, IsTold}
+use Rattle.blk_settings.specs.Faults.{IsLoadFault}
+use Rattle.blk_load.specs.Inside.Told.{IsTold}
 use Rattle.blk_settings.specs.Numbers.{IsLoad}
 use Rattle.blk_settings.specs.declared.fault.LoadFault.{LoadFault}
 use Rattle.blk_settings.specs.declared.fault.LoadFault.TheVariants as fault

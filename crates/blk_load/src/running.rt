@@ -5,7 +5,8 @@ ghost use Rattle.blk_hw.specs.Maps.{IsHwCount};
 ghost use Rattle.blk_layer.specs.Closing.{all_accepted};
 ghost use Rattle.blk_layer.specs.Seats.{CanMake};
 ghost use Rattle.blk_sched.specs.Meaning.{at_start};
-ghost use Rattle.blk_settings.specs.Faults.{IsLoadFault, IsTold};
+ghost use Rattle.blk_settings.specs.Faults.{IsLoadFault};
+ghost use Rattle.blk_load.specs.Inside.Told.{IsTold};
 ghost use Rattle.blk_settings.specs.Numbers.{IsLoad};
 ghost use Rattle.blk_settings.specs.Settles.{IsSettled, served_bios, load_setup};
 ghost use Rattle.blk_trace.specs.Events.{AreOnce};
@@ -76,7 +77,7 @@ pub fn load<R: Threads + Wait + Sync, S: Scheduler<A = Global> + Send>(
     }
 }
 
-/// `count` numbers: those below `below` in turn, and again from 0.
+/// `count` numbers, which go up from 0 and begin again at 0 whenever they reach `below`.
 fn in_turn(alloc: Global, count: u64, below: u64) -> Result<Vec<u8>, AllocError>
     requires count { count ≤ MAX_WORKERS }
     requires some { 1 ≤ below }
@@ -145,7 +146,8 @@ fn on_layer<R: Threads + Wait + Sync, S: Scheduler<A = Global> + Send, L: Named 
     told(noted.into_first(), settled)
 }
 
-/// The outcome of a load: the first, by rank, of the fault that its threads met and the one of its settling, where there are some.
+/// The outcome of a load: where its threads met no fault, what it was settled to; else their fault, or that of its settling if it comes
+/// first by rank.
 fn told(fault: Option<LoadFault>, settled: Result<Loaded, LoadFault>) -> Result<Loaded, LoadFault>
     ensures { IsTold fault settled result }
 {

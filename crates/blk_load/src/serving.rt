@@ -15,7 +15,7 @@ use std::thread::{Threads, for_each_mut};
 const MAX_WORKS: u64 = 1000;
 
 /// How many passes it makes each time at most.
-const TURNS: u64 = 10_000;
+const MAX_PASSES: u64 = 10_000;
 
 /// A worker's thread: it works until the layer says that all is finished. It ends with no fault then, or once another thread has
 /// met a fault.
@@ -33,7 +33,7 @@ fn serve<R: Wait, S: Scheduler<A = Global>, L: Named>(
         if site.noted.is_any() {
             return Ok(());
         }
-        match site.layer.work(rt, seat, &mut disk, TURNS) {
+        match site.layer.work(rt, seat, &mut disk, MAX_PASSES) {
             Ok(worked) => {
                 if worked.finished {
                     return Ok(());

@@ -26,7 +26,8 @@ const SECTORS: u64 = 8;
 /// How many sectors from the beginning of one bio to that of the next: no bio touches another.
 const STRIDE: u64 = 16;
 
-/// The bio of this number of a submitter. The bios of all submitters lie in turn, and every other one of each is a write.
+/// The bio of this number of a submitter. By their sectors the first bios of all submitters come first, then the second ones, and so on;
+/// of each submitter's, every second one is a write.
 fn nth_bio(submitters: u64, submitter: u8, serial: u64) -> Bio
     requires submitters { submitters ≤ MAX_LOAD_SUBMITTERS }
     requires serial { serial < MAX_LOAD_BIOS }

@@ -3,16 +3,14 @@
 ghost use Rattle.std.specs.Prelude.{IfOk, OnOk, IfErr};
 ghost use Rattle.blk_settings.specs.Numbers.{IsLoad};
 ghost use Rattle.blk_settings.specs.Made.{IsUnmade, IsUnsettled};
-ghost use Rattle.blk_settings.specs.Rows.{IsStart, meaning_of, numbers_at_first};
-ghost use Rattle.blk_settings.specs.Ran.{IsRunUnder};
+ghost use Rattle.blk_settings.specs.Rows.{IsStart};
 ghost use Rattle.blk_settings.specs.Settles.{IsSettled, served_bios};
 ghost use Rattle.blk_trace.specs.Events.{AreOnce};
-ghost use Rattle.blk_policy.specs.Runs.{IsRunBy};
+ghost use Rattle.blk_load.specs.Inside.Ran.{RanBy, RanUnder};
 
 use crate::running::load;
 use blk_sched::Scheduler;
-use blk_settings::sched::{deadline, earliest, kyber, none};
-use blk_settings::{Load, LoadFault, Loaded, Loads, Sched, SchedFault, Unsettled};
+use blk_settings::{Load, LoadFault, Loaded, Loads, Sched, SchedFault, Unsettled, with_made};
 use std::alloc::Global;
 use std::sync::Wait;
 use std::thread::Threads;
@@ -29,7 +27,7 @@ fn load_by<R: Threads + Wait + Sync, S: Scheduler<A = Global> + Send>(
     requires start { IfOk made (λ s. IsStart sched amounts.depth (S.meaning s) (S.kept s)) }
     requires unmade { IfErr made (IsUnmade sched) }
     ensures settled { IfOk result (λ l. IsSettled amounts l.trace l.settled) }
-    ensures ran { IfOk result (λ l. IsRunBy S.policy (meaning_of sched) (numbers_at_first sched amounts.depth) l.trace) }
+    ensures ran { IfOk result (RanBy S.policy sched amounts.depth) }
     ensures once { IfOk result (λ l. AreOnce (served_bios l.trace.events)) }
     ensures failed { IfErr result (IsUnsettled sched amounts) }
 {
@@ -43,8 +41,8 @@ fn load_by<R: Threads + Wait + Sync, S: Scheduler<A = Global> + Send>(
     }
 }
 
-/// Runs a load under a scheduler by its settings: of each row of the table, how it is made. Refused as [`load`] is, after `Range` as the
-/// scheduler is where it isn't made.
+/// Runs a load under a scheduler by its settings. Refused as [`load`] is, after `Range` as the scheduler is where it isn't made.
+#[tactic(auto, using(crate::proofs::RanUnder::loaded_under))]
 pub fn load_under<R: Threads + Wait + Sync>(
     rt: &R,
     clock: HostRuntime,
@@ -54,7 +52,7 @@ pub fn load_under<R: Threads + Wait + Sync>(
 ) -> Result<Loaded, Unsettled>
     ensures range { OnOk result (IsLoad amounts) }
     ensures settled { IfOk result (λ l. IsSettled amounts l.trace l.settled) }
-    ensures ran { IfOk result (λ l. IsRunUnder sched amounts.depth l.trace) }
+    ensures ran { IfOk result (RanUnder sched amounts.depth) }
     ensures once { IfOk result (λ l. AreOnce (served_bios l.trace.events)) }
     ensures failed { IfErr result (IsUnsettled sched amounts) }
 {
@@ -62,28 +60,7 @@ pub fn load_under<R: Threads + Wait + Sync>(
         return Err(Unsettled::Load(LoadFault::Range));
     }
     let depth = amounts.depth;
-    match sched {
-        Sched::None => load_by(rt, clock, alloc, Sched::None, none(alloc, depth), amounts),
-        Sched::Deadline(tunables) => {
-            let made = deadline(alloc, tunables, depth);
-            load_by(rt, clock, alloc, Sched::Deadline(tunables), made, amounts)
-        }
-        Sched::Kyber(targets) => {
-            let made = kyber(alloc, targets, depth);
-            load_by(rt, clock, alloc, Sched::Kyber(targets), made, amounts)
-        }
-        Sched::Earliest { late_last } => {
-            let made = earliest(alloc, late_last, depth);
-            load_by(
-                rt,
-                clock,
-                alloc,
-                Sched::Earliest { late_last },
-                made,
-                amounts,
-            )
-        }
-    }
+    with_made!(sched, alloc, depth, (row, made) => load_by(rt, clock, alloc, row, made, amounts))
 }
 
 /// Loads over a layer whose submitters and workers are threads of the runtime.

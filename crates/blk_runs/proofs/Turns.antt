@@ -1,16 +1,17 @@
--- For which of some schedulers a script isn't run, from what became of it at one place.
-use Rattle.std.proofs.Common.{ℕ, ◌≡◌, ◌∙◌, ◌∷◌, ◌++◌, List, refl, sym, ap, arith, take, drop, length, get_or, inl, inr, ◌<◌, ◌+◌}
+-- Runs under the rows of schedulers; for which of some schedulers a script isn't run, from what became of it at one place.
+use Rattle.std.proofs.Common.{ℕ, ◌≡◌, ◌∙◌, ◌∷◌, ◌++◌, List, Result, IfOk, sym, ap, subst, arith, take, drop, length, get_or, inl, inr, ◌<◌, ◌+◌}
 use Rattle.std.specs.Prelude.{All}
 use Rattle.std.proofs.lemmas.List.{take-append-drop, drop_more}
 use Rattle.blk_settings.specs.declared.sched.Sched.{Sched}
-use Rattle.blk_settings.specs.declared.sched.Sched.TheVariants as sched
 use Rattle.blk_settings.specs.declared.sched.SchedFault.{SchedFault}
-use Rattle.blk_settings.specs.declared.sched.SchedFault.TheVariants as setting
-use Rattle.blk_settings.specs.Made.{IsMade, IsUnmade, HasFault}
+use Rattle.blk_settings.specs.Made.{IsMade, HasFault}
+use Rattle.blk_settings.specs.Rows.{policy_of}
+use Rattle.blk_settings.proofs.Unmade.{made_memory}
 use Rattle.blk_text.specs.Script.{Scripted}
+use Rattle.blk_trace.specs.Traces.{Traced}
 use Rattle.blk_runs.specs.declared.fault.RunFault.{RunFault}
 use Rattle.blk_runs.specs.declared.fault.RunFault.TheVariants as run
-use Rattle.blk_runs.specs.Runs.{IsUnrun}
+use Rattle.blk_runs.specs.Runs.{RunsBy, RunsUnder, IsUnrun}
 use Rattle.blk_runs.specs.Firsts.{IsFirstUnmade, RunsWhole, AreUnrun}
 
 -- a list, split at a place
@@ -21,21 +22,13 @@ split_at xs i d h = sym (take-append-drop i xs) ∙ ap (λ (rest : List Sched). 
 pub first_unmade : (ss : List Sched) (i : ℕ) (d : Sched) (f : SchedFault) → i < length ss → All IsMade (take i ss) → HasFault (get_or ss i d) f → IsFirstUnmade ss f
 first_unmade ss i d f h made fault = record { before = take i ss; unmade = get_or ss i d; after = drop (i + 1) ss; turn = split_at ss i d h; made = made; fault = fault }
 
--- what is made of its settings is refused only when out of memory
-made_memory : (x : Sched) (f : SchedFault) → IsMade x → IsUnmade x f → f ≡ setting.Memory
-made_memory sched.None setting.ZeroBatch made h = absurd h
-made_memory sched.None setting.ZeroTarget made h = absurd h
-made_memory (sched.Deadline t) setting.ZeroBatch made h = absurd (omega (arith, made, h))
-made_memory (sched.Deadline t) setting.ZeroTarget made h = absurd h
-made_memory (sched.Kyber t) setting.ZeroBatch made h = absurd h
-made_memory (sched.Kyber t) setting.ZeroTarget made h = elim h [ inl z ↦ absurd (omega (arith, made.0, z)) | inr z ↦ absurd (omega (arith, made.1, z)) ]
-made_memory (sched.Earliest l) setting.ZeroBatch made h = absurd h
-made_memory (sched.Earliest l) setting.ZeroTarget made h = absurd h
-made_memory x setting.Memory made h = refl
-
 -- all are made, those before a place run the script whole, and the one there doesn't
 pub unrun_at : (ss : List Sched) (i : ℕ) (d : Sched) (s : Scripted) (f : RunFault) → i < length ss → All IsMade ss → All (RunsWhole s) (take i ss) → IsUnrun (get_or ss i d) s f → AreUnrun ss s f
 unrun_at ss i d s (run.Sched f) h made whole r = inr (made_memory (get_or ss i d) f (made i d h) r)
 unrun_at ss i d s (run.Step f) h made whole r =
     record { before = take i ss; under = get_or ss i d; after = drop (i + 1) ss; turn = split_at ss i d h; made = made; whole = whole; refused = r }
 unrun_at ss i d s run.Memory h made whole r = tt
+
+-- a run under the row of a scheduler's settings is one under that scheduler
+pub ran_under : {E : Type 0} (x y : Sched) (r : Result Traced E) (script : Scripted) → x ≡ y → IfOk r (λ t. RunsBy (policy_of y) y script t) → IfOk r (λ t. RunsUnder x script t)
+ran_under {E} x y r script same h = subst (λ (s : Sched). IfOk r (λ t. RunsUnder s script t)) (sym same) h

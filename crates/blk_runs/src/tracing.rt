@@ -11,8 +11,7 @@ ghost use Rattle.blk_runs.specs.Firsts.{IsFirstUnmade};
 
 use crate::fault::RunFault;
 use blk_sched::Scheduler;
-use blk_settings::sched::{deadline, earliest, kyber, none};
-use blk_settings::{Sched, SchedFault};
+use blk_settings::{Sched, SchedFault, with_made};
 use blk_sim::simulate;
 use blk_text::Script;
 use blk_trace::Trace;
@@ -46,6 +45,7 @@ fn traced_by<S: Scheduler<A = Global>>(
 
 /// The trace of a script under a scheduler. Refused, by the first of these that applies: as `Sched` where the scheduler isn't made of
 /// its settings; as `Step` at the first step that is refused, with its record and its reason.
+#[tactic(auto, using(crate::proofs::Turns::ran_under))]
 pub fn traced(alloc: Global, sched: Sched, script: &Script) -> Result<Trace, RunFault>
     requires { IsScript (scripted script.now) }
     ensures ran { IfOk result (λ trace. RunsUnder sched (scripted script.now) trace) }
@@ -55,21 +55,7 @@ pub fn traced(alloc: Global, sched: Sched, script: &Script) -> Result<Trace, Run
     ensures unrun { IfErr result (IsUnrun sched (scripted script.now)) }
 {
     let depth = script.setup.depth();
-    match sched {
-        Sched::None => traced_by(alloc, Sched::None, none(alloc, depth), script),
-        Sched::Deadline(tunables) => {
-            let made = deadline(alloc, tunables, depth);
-            traced_by(alloc, Sched::Deadline(tunables), made, script)
-        }
-        Sched::Kyber(targets) => {
-            let made = kyber(alloc, targets, depth);
-            traced_by(alloc, Sched::Kyber(targets), made, script)
-        }
-        Sched::Earliest { late_last } => {
-            let made = earliest(alloc, late_last, depth);
-            traced_by(alloc, Sched::Earliest { late_last }, made, script)
-        }
-    }
+    with_made!(sched, alloc, depth, (row, made) => traced_by(alloc, row, made, script))
 }
 
 /// What is wrong with the settings of the first of these schedulers that isn't made of them.

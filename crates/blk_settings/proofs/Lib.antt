@@ -1,2 +1,4 @@
-pub mod Starts
+pub mod Unmade
 pub mod Entered
+pub mod Found
+pub mod Tries

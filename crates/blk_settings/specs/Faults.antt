@@ -1,5 +1,5 @@
--- Why a load fails, and which of several reasons is told.
-use Rattle.std.specs.Prelude.{ℕ, ◌≡◌, ◌≤◌, ◌⊎◌, Option, None, Some, IfSome, Result, Ok, Err}
+-- Why a load fails, and which of several reasons is reported.
+use Rattle.std.specs.Prelude.{ℕ, ◌≡◌, ◌≤◌, ◌⊎◌, Option, None, IfSome}
 use Rattle.blk_settings.specs.Numbers.{IsLoad}
 use Rattle.blk_settings.specs.declared.numbers.Load.{Load}
 use Rattle.blk_settings.specs.declared.fault.LoadFault.{LoadFault}
@@ -26,9 +26,3 @@ pub record IsFirstOfTwo (one other found : Option LoadFault) : Type 0 where
   pub none : found ≡ None → (one ≡ None) × (other ≡ None)
   pub before_one : IfSome found (λ f. IfSome one (λ a. fault_rank f ≤ fault_rank a))
   pub before_other : IfSome found (λ f. IfSome other (λ b. fault_rank f ≤ fault_rank b))
-
--- what is told of a load: what it came to where its threads met no fault and it could be settled, and else the first of the faults
-abbrev pub IsTold : {V : Type 0} → Option LoadFault → Result V LoadFault → Result V LoadFault → Type 0
-IsTold fault settled (Ok v) = (fault ≡ None) × (settled ≡ Ok v)
-IsTold fault (Ok v) (Err told) = fault ≡ Some told
-IsTold fault (Err why) (Err told) = IsFirstOfTwo fault (Some why) (Some told)

@@ -2,6 +2,12 @@ pub mod Numbers
 pub mod Faults
 pub mod Made
 pub mod Names
+pub mod Settings
 pub mod Rows
 pub mod Ran
 pub mod Settles
+pub mod Options
+pub mod Given
+pub mod Grids
+pub mod Wanted
+pub mod Lists

@@ -11,23 +11,18 @@ use Rattle.blk_settings.specs.declared.Unsettled.TheVariants as un
 
 -- a scheduler is made of these settings: a batch is of some request, a target of some round
 abbrev pub IsMade : Sched → Type 0
-IsMade sched.None = ⊤
 IsMade (sched.Deadline t) = 0 < t.fifo_batch
 IsMade (sched.Kyber t) = (0 < t.read) × (0 < t.write)
-IsMade (sched.Earliest late_last) = ⊤
+IsMade s = ⊤
 
 -- it isn't: for a batch of no request, or for a target of no round
 abbrev pub HasZeroBatch : Sched → Type 0
-HasZeroBatch sched.None = ⊥
 HasZeroBatch (sched.Deadline t) = t.fifo_batch ≡ 0
-HasZeroBatch (sched.Kyber t) = ⊥
-HasZeroBatch (sched.Earliest late_last) = ⊥
+HasZeroBatch s = ⊥
 
 abbrev pub HasZeroTarget : Sched → Type 0
-HasZeroTarget sched.None = ⊥
-HasZeroTarget (sched.Deadline t) = ⊥
 HasZeroTarget (sched.Kyber t) = (t.read ≡ 0) ⊎ (t.write ≡ 0)
-HasZeroTarget (sched.Earliest late_last) = ⊥
+HasZeroTarget s = ⊥
 
 -- what is wrong with the settings, and why none is made of them: that, or out of memory
 abbrev pub HasFault : Sched → SchedFault → Type 0

@@ -5,6 +5,6 @@ use Rattle.blk_policy.specs.Runs.{IsRunBy}
 use Rattle.blk_settings.specs.Rows.{policy_of, meaning_of, numbers_at_first}
 use Rattle.blk_settings.specs.declared.sched.Sched.{Sched}
 
--- a trace is one that a scheduler of these settings makes, which is told this depth at first: each command in it is one that it chose
+-- a trace is one that a scheduler of these settings makes, which begins with this depth: each command in it is one that it chose
 abbrev pub IsRunUnder : Sched → ℕ → Traced → Type 0
 IsRunUnder s depth trace = IsRunBy (policy_of s) (meaning_of s) (numbers_at_first s depth) trace

@@ -1,5 +1,5 @@
-//! What a person sets: a scheduler, a row of the table of schedulers, with its settings, and how much load there is on a running layer; beside it what came of a load, why
-//! it fails, and the trait of whoever runs one. Who asks for a load so stands on no layer and no threads.
+//! What a person sets: a scheduler, a row of the table of schedulers, with its settings and the options that give them, grids of
+//! these, and how much load there is on a running layer; beside it what came of a load, why it fails, and the trait of whoever runs one. Who asks for a load so stands on no layer and no threads.
 #![tactic(auto)]
 
 ghost use Rattle.std.specs.Prelude.{OnOk, IfOk, IfErr};
@@ -11,13 +11,23 @@ ghost use Rattle.blk_settings.specs.Settles.{IsSettled, served_bios};
 ghost use Rattle.blk_trace.specs.Events.{AreOnce};
 
 pub mod fault;
+pub mod given;
+pub mod grid;
+pub mod lists;
 pub mod numbers;
+pub mod options;
 pub mod sched;
+pub mod setting;
 pub mod settling;
 
 pub use crate::fault::LoadFault;
+pub use crate::given::Given;
+pub use crate::grid::{By, Grid, TrialAsked};
+pub use crate::lists::{ListFault, Lists};
 pub use crate::numbers::Load;
+pub use crate::options::{OptionRow, Takes};
 pub use crate::sched::{Lineup, Sched, SchedFault};
+pub use crate::setting::{Setting, SettingValue, Settings};
 use blk_trace::Trace;
 use std::alloc::Global;
 use std::sync::Wait;

@@ -1,4 +1,5 @@
-//! The schedulers, a row for each: its name, its settings, what is wrong with these, and how it is made.
+//! The schedulers, a row for each: its name, its settings, what is wrong with these, and how it is made. Of whoever does something with the
+//! scheduler of some settings, [`with_made`](crate::with_made) has the match on these.
 
 ghost use Rattle.std.specs.Prelude.{◌≡◌, ◌≤◌, [], IfOk, IfErr, IfSome, IfNone};
 ghost use Rattle.blk_deadline.specs.Shown.{meaning_of as deadline_meaning, kept_in as deadline_kept};
@@ -7,9 +8,10 @@ ghost use Rattle.blk_kyber.specs.State.{numbers_of};
 ghost use Rattle.blk_earliest.specs.Shown.{meaning_of as earliest_meaning, late_last_of};
 ghost use Rattle.blk_earliest.specs.Choice.{earliest_kept};
 ghost use Rattle.blk_settings.specs.Made.{IsMade, IsUnmade, HasFault};
-ghost use Rattle.blk_settings.specs.Rows.{name_of, IsStart, in_turn};
+ghost use Rattle.blk_settings.specs.Rows.{name_of, settings_of, IsStart, in_turn};
 ghost use Rattle.blk_settings.specs.Names.{sched_fault_name};
 
+use crate::setting::{Setting, Settings};
 use blk_deadline::{Deadline, DeadlineFault, Tunables};
 use blk_earliest::Earliest;
 use blk_kyber::{Kyber, KyberFault, Targets};
@@ -68,6 +70,27 @@ impl Sched {
             Sched::Kyber(_) => "kyber",
             Sched::Earliest { .. } => "earliest",
         }
+    }
+
+    /// Its settings, in the order in which they are written.
+    pub fn settings(&self) -> Settings
+        ensures { result.items ≡ settings_of self.now }
+    {
+        let mut all = Settings::new();
+        match self {
+            Sched::None => {}
+            Sched::Deadline(tunables) => {
+                all.push(Setting::number("fifo_batch", tunables.fifo_batch as u64));
+                all.push(Setting::number("writes_starved", tunables.writes_starved as u64));
+                all.push(Setting::switch("front_merges", tunables.front_merges));
+            }
+            Sched::Kyber(targets) => {
+                all.push(Setting::number("read_target", targets.read));
+                all.push(Setting::number("write_target", targets.write));
+            }
+            Sched::Earliest { late_last } => all.push(Setting::switch("late_last", *late_last)),
+        }
+        all
     }
 
     /// What is wrong with its settings, which alone are looked at: so never `Memory`.
@@ -157,4 +180,35 @@ pub fn earliest(alloc: Global, late_last: bool, _depth: u64) -> Result<Earliest,
         Ok(scheduler) => Ok(scheduler),
         Err(_) => Err(SchedFault::Memory),
     }
+}
+
+/// Makes the scheduler of some settings, a [`Sched`], for a device of this depth, 1 to [`MAX_OPEN`], and hands the settings and what came of it
+/// (a `Result` of the row's own type, with a [`SchedFault`]) to an expression by the two names that stand before it. A macro, since a scheduler
+/// has a type of its own, so what goes on with it is a generic function, whose bounds (as `Send`) are those of the caller.
+#[macro_export]
+macro_rules! with_made {
+    ($sched:expr, $alloc:expr, $depth:expr, ($row:ident, $made:ident) => $then:expr) => {
+        match $sched {
+            $crate::Sched::None => {
+                let $row = $crate::Sched::None;
+                let $made = $crate::sched::none($alloc, $depth);
+                $then
+            }
+            $crate::Sched::Deadline(tunables) => {
+                let $row = $crate::Sched::Deadline(tunables);
+                let $made = $crate::sched::deadline($alloc, tunables, $depth);
+                $then
+            }
+            $crate::Sched::Kyber(targets) => {
+                let $row = $crate::Sched::Kyber(targets);
+                let $made = $crate::sched::kyber($alloc, targets, $depth);
+                $then
+            }
+            $crate::Sched::Earliest { late_last } => {
+                let $row = $crate::Sched::Earliest { late_last };
+                let $made = $crate::sched::earliest($alloc, late_last, $depth);
+                $then
+            }
+        }
+    };
 }

@@ -1,4 +1,3 @@
 mod Best
-mod Pieces
 mod Shares
 mod Turns

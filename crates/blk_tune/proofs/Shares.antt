@@ -7,7 +7,7 @@ use Rattle.blk_settings.specs.declared.sched.Sched.{Sched}
 use Rattle.blk_text.specs.Script.{Scripted}
 use Rattle.blk_runs.specs.declared.fault.RunFault.{RunFault}
 use Rattle.blk_tune.specs.declared.row.TrialRow.{TrialRow}
-use Rattle.blk_tune.specs.Row.{IsRunAnswer}
+use Rattle.blk_tune.specs.Inside.Row.{IsRunAnswer}
 use Rattle.blk_tune.specs.Inside.Shares.{AreAnswers, IsThreadShare}
 
 module _ (s : Scripted) (ss : List Sched) (from step : ℕ) where

@@ -1,11 +1,11 @@
 -- Which rows are better.
-use Rattle.std.specs.Prelude.{ℕ, ℤ, Option, List}
+use Rattle.std.specs.Prelude.{List}
 use Rattle.std.specs.List.Sorted.{IsPermutation, IsSorted, IsStable}
 use Rattle.std.specs.Option.{option_cmp}
 use Rattle.std.specs.Ordering.{ordering_then, nat_cmp, int_cmp}
 use Rattle.std.specs.declared.cmp.Ordering.{Ordering}
-use Rattle.blk_grid.specs.declared.By.{By}
-use Rattle.blk_grid.specs.declared.By.TheVariants as by
+use Rattle.blk_settings.specs.declared.grid.By.{By}
+use Rattle.blk_settings.specs.declared.grid.By.TheVariants as by
 use Rattle.edd_figures.specs.Figures.{shortfall_in}
 use Rattle.blk_tune.specs.declared.row.TrialRow.{TrialRow}
 
@@ -21,13 +21,6 @@ reads_cmp x y = option_cmp int_cmp x.wait_read y.wait_read
 
 abbrev pub writes_cmp : TrialRow → TrialRow → Ordering
 writes_cmp x y = option_cmp int_cmp x.wait_write y.wait_write
-
--- by what rows are put in order: what is avoidable and the shortfall, or the other way round, and the waits
-abbrev pub misses_key : TrialRow → ℕ × Option ℤ × Option ℤ × Option ℤ
-misses_key r = (r.tally.avoidable, shortfall_in r.report.figures, r.wait_read, r.wait_write)
-
-abbrev pub lateness_key : TrialRow → Option ℤ × ℕ × Option ℤ × Option ℤ
-lateness_key r = (shortfall_in r.report.figures, r.tally.avoidable, r.wait_read, r.wait_write)
 
 -- the better one is the less: by what is avoidable and then by the shortfall, or the other way round; then by the reads' waits, then by
 -- the writes'

@@ -1,5 +1,5 @@
 -- What comes of a script under one setting, and under each of some.
-use Rattle.std.specs.Prelude.{◌≡◌, ◌≤◌, ◌↔◌, ℕ, ℤ, pos, List, Some, Result, Ok, Err, All, map}
+use Rattle.std.specs.Prelude.{◌≡◌, ◌≤◌, ◌↔◌, ℕ, ℤ, pos, List, Some, All, map}
 use Rattle.edd_commands.specs.declared.Command.{Command}
 use Rattle.edd_commands.specs.declared.steps.Step.{Step}
 use Rattle.edd_commands.specs.Schedule.{IsLegal, IsGreatestLateness, IsLowerBound}
@@ -16,8 +16,7 @@ use Rattle.blk_report.specs.Services.{services_of}
 use Rattle.blk_report.specs.Shortfall.{IsReport}
 use Rattle.blk_report.specs.Spread.{AreSpreads}
 use Rattle.blk_settings.specs.declared.sched.Sched.{Sched}
-use Rattle.blk_runs.specs.declared.fault.RunFault.{RunFault}
-use Rattle.blk_runs.specs.Runs.{IsTraceOfScript, IsUnrun}
+use Rattle.blk_runs.specs.Runs.{IsTraceOfScript}
 use Rattle.blk_tune.specs.declared.row.TrialRow.{TrialRow}
 
 -- no legal schedule of the same commands has fewer of them late
@@ -46,11 +45,6 @@ pub record IsRow (script : Scripted) (r : TrialRow) : Type 0 where
   pub trace : Traced
   pub is_trace : IsTraceOfScript r.sched script trace
   pub is_row : IsRowOfTrace trace r
-
--- what becomes of a run under a setting: its row, or why it has none
-abbrev pub IsRunAnswer : Scripted → Sched → Result TrialRow RunFault → Type 0
-IsRunAnswer script s (Ok r) = (r.sched ≡ s) × IsRow script r
-IsRunAnswer script s (Err f) = IsUnrun s script f
 
 -- a row for each of these settings, in their order
 abbrev pub AreRowsUnder : List Sched → Scripted → List TrialRow → Type 0

@@ -3,30 +3,40 @@ use Rattle.std.specs.Prelude.{ℕ, ◌++◌, ◌∷◌, [], List, Bool, true, fa
 use Rattle.std.specs.List.{flat_map}
 use Rattle.std.specs.Ordering.{int_eq}
 use Rattle.edd_figures.specs.Lines.{late_text, next_field}
-use Rattle.blk_deadline.specs.declared.Tunables.{Tunables}
 use Rattle.edd_figures.specs.Figures.{greatest_in, least_in, shortfall_in}
 use Rattle.blk_report.specs.declared.figures.Report.{Report}
 use Rattle.blk_report.specs.declared.missing.Tally.{Tally}
-use Rattle.blk_settings.specs.Rows.{name_of}
+use Rattle.blk_settings.specs.Rows.{name_of, settings_of}
+use Rattle.blk_settings.specs.Settings.{NamedSetting}
 use Rattle.blk_settings.specs.declared.sched.Sched.{Sched}
-use Rattle.blk_settings.specs.declared.sched.Sched.TheVariants as sched
-use Rattle.blk_grid.specs.declared.By.{By}
-use Rattle.blk_grid.specs.declared.By.TheVariants as by
+use Rattle.blk_settings.specs.declared.setting.SettingValue.{SettingValue}
+use Rattle.blk_settings.specs.declared.setting.SettingValue.TheVariants as value
+use Rattle.blk_settings.specs.declared.grid.By.{By}
+use Rattle.blk_settings.specs.declared.grid.By.TheVariants as by
 use Rattle.blk_tune.specs.declared.row.TrialRow.{TrialRow}
 
 abbrev pub on_off : Bool → List ℕ
 on_off true = codes "on"
 on_off false = codes "off"
 
--- the settings of deadline, and of a scheduler
-abbrev pub tunables_text : Tunables → List ℕ
-tunables_text t = ((codes "fifo_batch=" ++ decimal t.fifo_batch) ++ (codes " writes_starved=" ++ decimal t.writes_starved)) ++ (codes " front_merges=" ++ on_off t.front_merges)
+-- what a setting is set to, the setting, and the same where another one stands before it
+abbrev pub value_text : SettingValue → List ℕ
+value_text (value.Number n) = decimal n
+value_text (value.Switch is_on) = on_off is_on
+
+abbrev pub setting_text : NamedSetting → List ℕ
+setting_text s = (s.name ++ codes "=") ++ value_text s.value
+
+abbrev pub next_setting : NamedSetting → List ℕ
+next_setting s = codes " " ++ setting_text s
+
+-- settings in their order with a space between, or `-` where there are none; and those of a scheduler
+abbrev pub with_spaces : List NamedSetting → List ℕ
+with_spaces [] = codes "-"
+with_spaces (s ∷ ss) = setting_text s ++ flat_map (λ t. next_setting t) ss
 
 abbrev pub settings_text : Sched → List ℕ
-settings_text sched.None = codes "-"
-settings_text (sched.Earliest late_last) = codes "late_last=" ++ on_off late_last
-settings_text (sched.Deadline t) = tunables_text t
-settings_text (sched.Kyber t) = (codes "read_target=" ++ decimal t.read) ++ (codes " write_target=" ++ decimal t.write)
+settings_text s = with_spaces (settings_of s)
 
 -- the head line, the fields of a report and of a tally, and the line of a row
 abbrev pub row_head : List ℕ

@@ -1,8 +1,8 @@
 -- What a trial of a script answers.
 use Rattle.std.specs.Prelude.{◌≡◌, ℕ, List}
 use Rattle.blk_text.specs.Script.{Scripted}
-use Rattle.blk_grid.specs.Rows.{grid_rows}
-use Rattle.blk_grid.specs.Wanted.{Wanted}
+use Rattle.blk_settings.specs.Grids.{grid_rows}
+use Rattle.blk_settings.specs.Wanted.{Wanted}
 use Rattle.blk_tune.specs.declared.row.TrialRow.{TrialRow}
 use Rattle.blk_tune.specs.Row.{AreRowsUnder}
 use Rattle.blk_tune.specs.Order.{AreBestFirst}

@@ -5,8 +5,8 @@
 
 ghost use Rattle.std.specs.Prelude.{IfOk, IfErr};
 ghost use Rattle.blk_text.specs.Script.{IsScript, scripted};
-ghost use Rattle.blk_grid.specs.Rows.{grid_rows};
-ghost use Rattle.blk_grid.specs.Wanted.{as_wanted};
+ghost use Rattle.blk_settings.specs.Grids.{grid_rows};
+ghost use Rattle.blk_settings.specs.Wanted.{as_wanted};
 ghost use Rattle.blk_runs.specs.Firsts.{AreUnrun};
 ghost use Rattle.blk_tune.specs.Tuned.{AreTuned, IsTuned};
 
@@ -21,8 +21,8 @@ pub use crate::progress::{Progress, ProgressLine, Quiet};
 pub use crate::row::TrialRow;
 pub use crate::text::{shown, table};
 use crate::trial::tried;
-use blk_grid::Asked;
 use blk_runs::{RunFault, unmade};
+use blk_settings::TrialAsked;
 use blk_text::Script;
 use std::alloc::Global;
 use std::thread::Threads;
@@ -30,12 +30,12 @@ use std::thread::Threads;
 /// The rows of a script under each setting of a grid, the best first. All of them run, and are answered: `top` is about the text alone.
 ///
 /// Refused, by the first of these that applies: as the first scheduler is that isn't made of its settings, before any step; as the run
-/// of the first one in the grid's order that refuses a step, with its record and its reason, whichever thread met it first. Want of
+/// of the first one in the grid's order that refuses a step, with its record and its reason, whichever thread found it first. Out of
 /// memory may come in place of any of them.
 pub fn rows<T: Threads + Sync, P: Progress>(
     rt: &T,
     alloc: Global,
-    asked: &Asked,
+    asked: &TrialAsked,
     script: &Script,
     progress: &mut P,
 ) -> Result<Vec<TrialRow>, RunFault>
@@ -73,7 +73,7 @@ pub fn rows<T: Threads + Sync, P: Progress>(
 pub fn tune<T: Threads + Sync, P: Progress>(
     rt: &T,
     alloc: Global,
-    asked: &Asked,
+    asked: &TrialAsked,
     script: &Script,
     progress: &mut P,
 ) -> Result<Vec<u8>, RunFault>

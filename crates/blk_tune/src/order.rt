@@ -1,10 +1,11 @@
 //! The rows put in order.
 
 ghost use Rattle.std.specs.Prelude.{OnOk, ◌≡◌};
-ghost use Rattle.blk_tune.specs.Order.{AreBestFirst, misses_key, lateness_key};
+ghost use Rattle.blk_tune.specs.Order.{AreBestFirst};
+ghost use Rattle.blk_tune.specs.Inside.Order.{misses_key, lateness_key};
 
 use crate::row::TrialRow;
-use blk_grid::By;
+use blk_settings::By;
 use std::alloc::AllocError;
 
 /// What is avoidable in a row, and then what breaks ties.

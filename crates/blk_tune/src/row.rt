@@ -2,7 +2,8 @@
 
 ghost use Rattle.std.specs.Prelude.{◌≡◌, IfOk};
 ghost use Rattle.blk_text.specs.Script.{IsScript, scripted};
-ghost use Rattle.blk_tune.specs.Row.{IsRowOfTrace, IsRunAnswer};
+ghost use Rattle.blk_tune.specs.Row.{IsRowOfTrace};
+ghost use Rattle.blk_tune.specs.Inside.Row.{IsRunAnswer};
 
 use blk_report::{Report, Tally, misses, report, services, spread};
 use blk_runs::{RunFault, traced};

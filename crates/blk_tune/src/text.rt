@@ -1,15 +1,13 @@
 //! The table of rows as text.
 
-ghost use Rattle.std.specs.Prelude.{◌≡◌, ◌++◌, OnOk, IfOk, decimal};
+ghost use Rattle.std.specs.Prelude.{◌≡◌, ◌++◌, OnOk, IfOk};
 ghost use Rattle.std.specs.List.{flat_map};
 ghost use Rattle.edd_figures.specs.Lines.{late_text, next_field};
-ghost use Rattle.blk_tune.specs.Text.{tunables_text, settings_text, report_fields, tally_fields, trial_line, remark_of, best_row_line, shown, row_head, table_text, on_off};
+ghost use Rattle.blk_tune.specs.Text.{value_text, setting_text, next_setting, with_spaces, settings_text, report_fields, tally_fields, trial_line, remark_of, best_row_line, shown, row_head, table_text, on_off};
 
 use crate::row::TrialRow;
-use blk_deadline::Tunables;
-use blk_grid::By;
 use blk_report::{Report, Tally};
-use blk_settings::Sched;
+use blk_settings::{By, Sched, Setting, SettingValue};
 use drafts::Draft;
 use edd_figures::lines::{push_field, push_late};
 use std::alloc::{AllocError, Global};
@@ -21,44 +19,53 @@ fn on_off(is_on: bool) -> &'static [u8]
     if is_on { b"on" } else { b"off" }
 }
 
-/// Adds a word and a number.
-fn push_number(draft: &mut Draft, word: &[u8], number: u64) -> Result<(), AllocError>
-    ensures { OnOk result (draft.new ≡ draft.old ++ (word.now ++ decimal number)) }
+/// Adds what a setting is set to.
+fn push_value(draft: &mut Draft, value: SettingValue) -> Result<(), AllocError>
+    ensures { OnOk result (draft.new ≡ draft.old ++ value_text value) }
 {
-    draft.text(word)?;
-    draft.number(number)
+    match value {
+        SettingValue::Number(number) => draft.number(number),
+        SettingValue::Switch(is_on) => draft.text(on_off(is_on)),
+    }
 }
 
-/// Adds a word and that of a switch.
-fn push_switch(draft: &mut Draft, word: &[u8], is_on: bool) -> Result<(), AllocError>
-    ensures { OnOk result (draft.new ≡ draft.old ++ (word.now ++ on_off is_on)) }
+/// Adds a setting.
+fn push_setting(draft: &mut Draft, setting: &Setting) -> Result<(), AllocError>
+    ensures { OnOk result (draft.new ≡ draft.old ++ setting_text setting.now) }
 {
-    draft.text(word)?;
-    draft.text(on_off(is_on))
+    draft.text(setting.name().as_bytes())?;
+    draft.text(b"=")?;
+    push_value(draft, setting.value())
 }
 
-/// Adds the settings of `deadline`.
-fn push_tunables(draft: &mut Draft, tunables: Tunables) -> Result<(), AllocError>
-    ensures { OnOk result (draft.new ≡ draft.old ++ tunables_text tunables) }
+/// Adds settings that others stand before.
+fn push_others(draft: &mut Draft, settings: &[Setting]) -> Result<(), AllocError>
+    ensures { OnOk result (draft.new ≡ draft.old ++ flat_map (λ s. next_setting s) settings.now) }
 {
-    push_number(draft, b"fifo_batch=", tunables.fifo_batch as u64)?;
-    push_number(draft, b" writes_starved=", tunables.writes_starved as u64)?;
-    push_switch(draft, b" front_merges=", tunables.front_merges)
+    for setting in settings {
+        draft.text(b" ")?;
+        push_setting(draft, setting)?;
+    }
+    Ok(())
+}
+
+/// Adds settings, or `-` where there are none.
+fn push_listed(draft: &mut Draft, settings: &[Setting]) -> Result<(), AllocError>
+    ensures { OnOk result (draft.new ≡ draft.old ++ with_spaces settings.now) }
+{
+    let Some((first, rest)) = settings.split_first() else {
+        return draft.text(b"-");
+    };
+    push_setting(draft, first)?;
+    push_others(draft, rest)
 }
 
 /// Adds the settings of a scheduler, by the names that the command line has for them, or `-` where it has none.
 fn push_settings(draft: &mut Draft, sched: Sched) -> Result<(), AllocError>
     ensures { OnOk result (draft.new ≡ draft.old ++ settings_text sched) }
 {
-    match sched {
-        Sched::None => draft.text(b"-"),
-        Sched::Earliest { late_last } => push_switch(draft, b"late_last=", late_last),
-        Sched::Deadline(tunables) => push_tunables(draft, tunables),
-        Sched::Kyber(targets) => {
-            push_number(draft, b"read_target=", targets.read)?;
-            push_number(draft, b" write_target=", targets.write)
-        }
-    }
+    let settings = sched.settings();
+    push_listed(draft, settings.as_slice())
 }
 
 /// Adds a field of the settings of a scheduler.

@@ -18,7 +18,7 @@ use std::thread;
 use std::thread::{Threads, available_parallelism};
 
 /// How many runs go side by side at most where nobody says how many.
-const MOST_THREADS: usize = 16;
+const MAX_DEFAULT_THREADS: usize = 16;
 
 /// How many runs a thread makes before the next word of progress. At each the threads wait for the slowest of them, and new ones begin.
 const RUNS_EACH: usize = 8;
@@ -28,9 +28,11 @@ fn side_by_side(rt: &impl Threads, threads: Option<u64>) -> usize
     ensures { 1 ≤ result }
 {
     match threads {
-        Some(threads) => usize::try_from(threads).unwrap_or(MOST_THREADS).max(1),
+        Some(threads) => usize::try_from(threads)
+            .unwrap_or(MAX_DEFAULT_THREADS)
+            .max(1),
         None => match available_parallelism(rt) {
-            Ok(count) => count.get().min(MOST_THREADS).max(1),
+            Ok(count) => count.get().min(MAX_DEFAULT_THREADS).max(1),
             Err(_) => 1,
         },
     }

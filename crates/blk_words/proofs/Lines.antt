@@ -1,7 +1,7 @@
 -- What the command line reads of words.
-use Rattle.std.proofs.Common.{◌≡◌, ◌∙◌, List, [], ◌∷◌, Some, None, Option, box_value, option_map, ap, sym, subst, refl, codes, true, false, cond, inl, inr, ℕ, zero, suc, ◌+◌, ◌<◌, ◌^◌, ◌++◌, arith, length, map, take, get_or}
+use Rattle.std.proofs.Common.{◌≡◌, ◌∙◌, List, [], ◌∷◌, Some, None, Option, box_value, option_map, ap, sym, subst, refl, codes, true, false, cond, inl, inr, ℕ, suc, ◌<◌, ◌^◌, ◌++◌, arith, map}
 use Rattle.std.proofs.lemmas.List.Sums.{fold-append}
-use Rattle.std.specs.Prelude.{◌≢◌, Bool, Result, Ok, Err, IfOk, find, fold, option_and_then, if◌then◌else◌}
+use Rattle.std.specs.Prelude.{◌≢◌, ◌&&◌, Bool, Result, Ok, Err, IfOk, find, fold, option_and_then, if◌then◌else◌}
 use Rattle.std.specs.Option.{option_map_or, option_or}
 use Rattle.std.specs.Result.{result_ok}
 use Rattle.std.specs.Str.{bytes_eq}
@@ -18,19 +18,23 @@ use Rattle.clap.specs.declared.parser.matches.ArgMatches.TheViews.{out-ArgMatche
 use Rattle.clap.specs.declared.error.Error.{Error}
 use Rattle.clap.specs.declared.error.kind.ErrorKind.{ErrorKind}
 use Rattle.clap.specs.declared.error.kind.ErrorKind.TheVariants as kind
-use Rattle.blk_settings.specs.declared.sched.Sched.{Sched}
-use Rattle.blk_deadline.specs.declared.Tunables.{Tunables}
-use Rattle.blk_kyber.specs.declared.Targets.{Targets}
-use Rattle.blk_settings.specs.Rows.{name_of}
 use Rattle.blk_words.specs.declared.table.Makes.{Makes}
-use Rattle.blk_words.specs.CommandLine.{Names, AreSchedulers, Subcommand, topmost, run_table, other_table, table, with_one, blk_app}
+use Rattle.blk_words.specs.Inside.Tables.{rule_for}
+use Rattle.blk_words.specs.CommandLine.{Names, AreSchedulers, Subcommand, option_rule, topmost, run_table, other_table, table, with_one, blk_app}
 use Rattle.blk_words.specs.declared.words.Job.{Job}
 use Rattle.blk_words.specs.declared.words.Job.TheVariants as job
 use Rattle.blk_words.specs.Times.{number_in}
-use Rattle.blk_grid.specs.Rows.{Gridded}
+use Rattle.blk_settings.specs.Grids.{Gridded}
+use Rattle.blk_settings.specs.Lists.{grid_given}
+use Rattle.blk_settings.specs.Options.{OptionOf, option_of}
+use Rattle.blk_settings.specs.declared.numbers.Load.{Load}
+use Rattle.blk_settings.specs.declared.options.OptionRow.{OptionRow}
+use Rattle.blk_settings.specs.declared.sched.Sched.{Sched}
 use Rattle.blk_words.specs.declared.words.Refusal.{Refusal}
+use Rattle.blk_words.specs.declared.words.Refusal.TheVariants as refusal
+use Rattle.blk_words.specs.declared.words.ShownLoad.{ShownLoad}
 use Rattle.blk_words.specs.declared.words.Written.TheVariants as written
-use Rattle.blk_words.specs.Asked.{Asks, AsksGrid, unscripted, written_with, grid_given, grid_read, AreFaulty, NameNone, is_flagged, tunables_of, targets_of, scheds_of, sched_named, sched_of, job_made, job_of, job_read}
+use Rattle.blk_words.specs.Asked.{Asks, AsksGrid, unscripted, written_with, grid_read, AreFaulty, NameNone, is_flagged, given_options, loaded, shown_of, load_job, job_made, job_of, job_read}
 
 simple : (names : Names) → is_simple (blk_app names) ≡ true
 simple names = refl
@@ -85,13 +89,6 @@ version_by names a words error are e kinds is = (names, are, inr (among names a 
 pub line_by : (names : Names) (a : App) (words : List Text) (error : Error) (k : ErrorKind) → AreSchedulers names → a ≡ blk_app names
     → (is_simple_and_free a ≡ true → HasKind (fault_of a words) error) → k ≡ kind_of error → k ≢ kind.OutOfMemory → k ≢ kind.DisplayVersion → AreFaulty words
 line_by names a words error k are e kinds is not other = (names, are, (k, among names a words error k e kinds is not, other))
-
--- the scheduler by the text that its option is given; and where it is given none
-pub sched_by : (f : Found) (name : Text) (s : Option Sched) → Some name ≡ first_value f (codes "sched") → s ≡ sched_named name (tunables_of (rows_of f)) (targets_of (rows_of f)) (is_flagged (codes "late-last") (rows_of f)) → s ≡ sched_of (rows_of f)
-sched_by f name s e is = is ∙ ap (option_and_then (λ name. sched_named name (tunables_of (rows_of f)) (targets_of (rows_of f)) (is_flagged (codes "late-last") (rows_of f)))) (e ∙ first_value-rows f (codes "sched"))
-
-pub no_sched_by : (f : Found) → None ≡ first_value f (codes "sched") → None ≡ sched_of (rows_of f)
-no_sched_by f e = ap (option_and_then (λ name. sched_named name (tunables_of (rows_of f)) (targets_of (rows_of f)) (is_flagged (codes "late-last") (rows_of f)))) (e ∙ first_value-rows f (codes "sched"))
 
 -- the flag by the text that is given
 pub flagged_by : (f : Found) (id text : Text) (b : Bool) → Some text ≡ first_value f id → b ≡ bytes_eq text (codes "true") → b ≡ is_flagged id (rows_of f)
@@ -150,29 +147,6 @@ pub number_by : (bits most : ℕ) → IsGreatest bits most → {E : Type 0} (giv
     → (one_text f id ≡ None → r ≡ None) → ((t : Text) → one_text f id ≡ Some t → ReadsOne gives t r) → r ≡ option_and_then (number_in most) (one_of id (rows_of f))
 number_by bits most g gives w f id r none value = read_number bits most g gives w (one_text f id) r none value ∙ ap (option_and_then (number_in most)) (one_text-rows f id)
 
--- what is found after an item that is not it
-after : {X : Type 0} (test : X → Bool) (x y : X) (xs front : List X) (b : Bool) → test x ≡ b → cond b (Some x) (find test front) ≡ None → (find test front ≡ None → find test xs ≡ Some y) → find test (x ∷ xs) ≡ Some y
-after test x y xs front true e none rest = cc none
-after test x y xs front false e none rest = rw e (rest none)
-
-still : {X : Type 0} (test : X → Bool) (x : X) (xs front : List X) (b : Bool) → test x ≡ b → cond b (Some x) (find test front) ≡ None → (find test front ≡ None → find test xs ≡ None) → find test (x ∷ xs) ≡ None
-still test x xs front true e none rest = cc none
-still test x xs front false e none rest = rw e (rest none)
-
--- what is not among the first items is the next one where that is it, and else not among one item more
-pub found_next : {X : Type 0} (test : X → Bool) (xs : List X) (i : ℕ) (d : X) → i < length xs → find test (take i xs) ≡ None → test (get_or xs i d) ≡ true → find test xs ≡ Some (get_or xs i d)
-found_next test [] i d lt none is = absurd (omega (arith, lt))
-found_next test (x ∷ xs) zero d lt none is = rw is refl
-found_next test (x ∷ xs) (suc i) d lt none is = after test x (get_or xs i d) xs (take i xs) (test x) refl none (λ n. found_next test xs i d (omega (arith, lt)) n is)
-
-not_yet : {X : Type 0} (test : X → Bool) (xs : List X) (i : ℕ) (d : X) → i < length xs → find test (take i xs) ≡ None → test (get_or xs i d) ≡ false → find test (take (suc i) xs) ≡ None
-not_yet test [] i d lt none is = absurd (omega (arith, lt))
-not_yet test (x ∷ xs) zero d lt none is = rw is refl
-not_yet test (x ∷ xs) (suc i) d lt none is = still test x (take (suc i) xs) (take i xs) (test x) refl none (λ n. not_yet test xs i d (omega (arith, lt)) n is)
-
-pub none_more : {X : Type 0} (test : X → Bool) (xs : List X) (i : ℕ) (d : X) → i < length xs → find test (take i xs) ≡ None → test (get_or xs i d) ≡ false → find test (take (i + 1) xs) ≡ None
-none_more test xs i d lt none is = let on : i + 1 ≡ suc i = omega arith in ap (λ n. find test (take n xs)) on ∙ not_yet test xs i d lt none is
-
 -- what is found among what a function gives
 of_either : {X Y : Type 0} (f : X → Y) (b : Bool) (x : X) (o : Option X) (p : Option Y) → p ≡ option_map f o → cond b (Some (f x)) p ≡ option_map f (cond b (Some x) o)
 of_either f true x o p e = refl
@@ -191,14 +165,22 @@ pub not_made : (o : Option Subcommand) (rows : List Row) → None ≡ option_map
 not_made None rows e = refl
 not_made (Some s) rows e = cc e
 
--- the scheduler by settings that are given
-pub named_by : (name : Text) (t : Tunables) (k : Targets) (b : Bool) (ot : Option Tunables) (ok : Option Targets) (ob : Bool) → Some t ≡ ot → Some k ≡ ok → b ≡ ob
-    → find (λ s. bytes_eq name (name_of s)) (scheds_of t k b) ≡ sched_named name ot ok ob
-named_by name t k b ot ok ob e f g = rw (← e, ← f, ← g) refl
+-- a command with options behind others, and with options before others
+pub rules_behind : (x a b : App) (xs ys zs : List Rule) → ys ≡ zs → b ≡ fold with_rule a xs → x ≡ fold with_rule b ys → x ≡ fold with_rule a (xs ++ zs)
+rules_behind x a b xs ys zs e own all =
+    all ∙ ap (λ (y : App). fold with_rule y ys) own ∙ ap (fold with_rule (fold with_rule a xs)) e ∙ sym (fold-append with_rule a xs zs)
 
--- a command that a call made with these options behind the others
-pub with_both : {E : Type 0} (r : Result Command E) (a : App) (xs ys zs : List Rule) → ys ≡ zs → IfOk r (λ c. app_of c ≡ fold with_rule (fold with_rule a xs) ys) → IfOk r (λ c. app_of c ≡ fold with_rule a (xs ++ zs))
-with_both r a xs ys zs e h = subst (λ x. IfOk r (λ c. app_of c ≡ x)) (ap (fold with_rule (fold with_rule a xs)) e ∙ sym (fold-append with_rule a xs zs)) h
+pub rules_before : (x a b : App) (xs ys zs : List Rule) → xs ≡ zs → b ≡ fold with_rule a xs → x ≡ fold with_rule b ys → x ≡ fold with_rule a (zs ++ ys)
+rules_before x a b xs ys zs e lists all =
+    all ∙ ap (λ (y : App). fold with_rule y ys) lists ∙ ap (λ (l : List Rule). fold with_rule (fold with_rule a l) ys) e ∙ sym (fold-append with_rule a zs ys)
+
+-- the rules of options by their rows
+ruled : (names : Names) (rows : List OptionRow) → map (rule_for names) rows ≡ map (option_rule names) (map option_of rows)
+ruled names [] = refl
+ruled names (row ∷ rows) = ap (λ (l : List Rule). option_rule names (option_of row) ∷ l) (ruled names rows)
+
+pub rules_of : (names : Names) (rows : List OptionRow) (options : List OptionOf) → map option_of rows ≡ options → map (rule_for names) rows ≡ map (option_rule names) options
+rules_of names rows options e = ruled names rows ∙ ap (map (option_rule names)) e
 
 -- a command with one subcommand more, and with one rule more
 pub adds_command : (x a b p q : App) → x ≡ with_subcommand a p.top → a ≡ b → p ≡ q → x ≡ with_subcommand b q.top
@@ -236,18 +218,33 @@ named_in g test xs ys a b e f =
 
 -- words that were parsed ask for the grid of their lists
 pub asks_grid_by : (names : Names) (a : App) (words : List Text) (m : ArgMatches) (g : Gridded) → AreSchedulers names → a ≡ blk_app names → HasMatchesOf a words m
-    → (is_simple_and_free a ≡ true → fault_of a words ≡ []) → option_and_then (λ p. result_ok (grid_given p.1)) (subcommand_rows_of m) ≡ Some g → AsksGrid words g
+    → (is_simple_and_free a ≡ true → fault_of a words ≡ []) → option_and_then (λ p. result_ok (grid_given (given_options p.1))) (subcommand_rows_of m) ≡ Some g → AsksGrid words g
 asks_grid_by names a words m g are e has kinds is =
     let h = (rw e at has) (simple names) in
     let f : fault_of (blk_app names) words ≡ [] = (rw e at kinds) (free names) in
-    let read : option_and_then (λ p. result_ok (grid_given p.1)) (subcommand_rows_of m) ≡ grid_read names words =
-    ap (option_and_then (λ p. result_ok (grid_given p.1))) {y = subcommand_of (blk_app names) words} h.1 in
+    let read : option_and_then (λ p. result_ok (grid_given (given_options p.1))) (subcommand_rows_of m) ≡ grid_read names words =
+    ap (option_and_then (λ p. result_ok (grid_given (given_options p.1)))) {y = subcommand_of (blk_app names) words} h.1 in
     (names, are, f, sym read ∙ is)
 
 -- what an Ok is, where it is something else
 pub ok_so : {X E : Type 0} (r : Result X E) (P Q : X → Type 0) → ((x : X) → P x → Q x) → IfOk r P → IfOk r Q
 ok_so (Ok x) P Q f h = f x h
 ok_so (Err e) P Q f h = h
+
+-- a load whose trace and JSON are not both asked for
+pub not_first : (a b : Bool) → a ≡ false → (a && b) ≡ false
+not_first a b e = ap (λ (x : Bool). x && b) e
+
+pub not_second : (a b : Bool) → b ≡ false → (a && b) ≡ false
+not_second true b e = e
+not_second false b e = refl
+
+pub loads_by : (trace json a b : Bool) (w : ShownLoad) (s : Option Sched) (l : Option Load) (r : Option Job) → (trace && json) ≡ false → trace ≡ a → json ≡ b → w ≡ shown_of trace json → r ≡ loaded w s l
+    → r ≡ load_job a b s l
+loads_by trace json a b w s l r not e f g h =
+    h ∙ ap (λ (x : ShownLoad). loaded x s l) g
+    ∙ sym (ap (λ (both : Bool). if both then Some (job.Refuse refusal.TraceAndJson) else loaded (shown_of trace json) s l) not)
+    ∙ ap (λ (t : Bool). load_job t json s l) e ∙ ap (λ (j : Bool). load_job a j s l) f
 
 -- what is written of an import without a script
 pub a_table : (round : Option ℕ) (r : Result (Option ℕ) Refusal) (script a table b summary c : Bool) (depth d : Option ℕ) → Ok round ≡ r → script ≡ a → script ≡ false → table ≡ b → table ≡ true → summary ≡ c → summary ≡ false → depth ≡ d

@@ -12,10 +12,10 @@ use Rattle.clap.specs.ValueTests.{accepts}
 use Rattle.clap.specs.Words.{Text}
 use Rattle.clap.specs.declared.builder.value_parser.ValueParser.TheVariants as vp
 use Rattle.blk_words.proofs.Lines.{Parses}
-use Rattle.blk_words.specs.declared.lists.Tried.{Tried}
-use Rattle.blk_words.specs.declared.lists.TheConstants.{MAX_LISTED}
+use Rattle.blk_settings.specs.declared.given.TheConstants.{MAX_LISTED}
 use Rattle.blk_words.specs.Times.{number_in}
-use Rattle.blk_words.specs.Lists.{parts, numbers_in, are_distinct, is_listed, if_listed, list_of, with_name, with_names}
+use Rattle.blk_settings.specs.Lists.{parts}
+use Rattle.blk_words.specs.Lists.{numbers_in, are_distinct, is_listed, if_listed, list_of}
 
 both : (a b : Bool) → (a && b) ≡ true → (a ≡ true) × (b ≡ true)
 both true b e = (refl, e)
@@ -171,12 +171,3 @@ not_spelled most text true e wrong =
 pub misspelled : (most : ℕ) (text : Text) → (Parses 64 text → ⊥) → number_in most text ≡ None
 misspelled most text wrong =
     ap (λ (b : Bool). if b then Some (digits_value 10 (without_leading_plus text)) else None) (not_spelled most text (accepts false (vp.Unsigned 0 most) text) refl wrong)
-
--- schedulers of names that come
-pub takes_name : (t : Tried) (texts : List Text) (k : ℕ) (text : Text) (o : Option Tried) → (k < length texts) × (text ≡ get_or texts k text) → o ≡ with_name t text
-    → with_names t (drop k texts) ≡ option_and_then (λ s. with_names s (drop (k + 1) texts)) o
-takes_name t texts k text o h e =
-    at_drop_more (with_names t) texts k text h.0 ∙ ap (λ (x : Text). with_names t (x ∷ drop (k + 1) texts)) (sym h.1) ∙ ap (option_and_then (λ s. with_names s (drop (k + 1) texts))) (sym e)
-
-pub all_named : (t : Tried) (texts : List Text) (k : ℕ) → k ≡ length texts → with_names t (drop k texts) ≡ Some t
-all_named t texts k e = at_drop_all (with_names t) texts k (omega (arith, e))

@@ -5,6 +5,7 @@ use Rattle.std.specs.Borrow.{Bor}
 use Prim.Native.String.{String}
 use Rattle.clap.specs.Words.{Text, fault_of}
 use Rattle.clap.proofs.OnLiterals.{clap_on_literals}
+use Rattle.blk_settings.specs.declared.lists.ListFault.TheVariants as list
 use Rattle.blk_settings.specs.declared.sched.Sched.TheVariants as sched
 use Rattle.blk_words.specs.declared.words.Job.{Job}
 use Rattle.blk_words.specs.declared.inputs.FiguresAsked.TheVariants as figures
@@ -16,8 +17,9 @@ use Rattle.blk_words.specs.declared.words.Form.TheVariants as form
 use Rattle.blk_words.specs.declared.words.ShownLoad.TheVariants as shown
 use Rattle.blk_words.specs.declared.words.Refusal.TheVariants as refusal
 use Rattle.blk_words.specs.declared.words.Written.TheVariants as written
-use Rattle.blk_words.specs.CommandLine.{Names, AreSchedulers, sched_names, blk_app}
-use Rattle.blk_grid.specs.Rows.{Gridded, whole}
+use Rattle.blk_words.specs.CommandLine.{Names, AreSchedulers, blk_app}
+use Rattle.blk_settings.specs.Options.{sched_names}
+use Rattle.blk_settings.specs.Grids.{Gridded, whole}
 use Rattle.blk_words.specs.Asked.{Asks, AsksGrid, grid_read, job_read}
 use Rattle.blk_words.specs.Plain.{words_in, AsksFor, AsksForGrid, AsksForNothing, default_tunables, default_targets, deadline_in, kyber_within, default_lineup, with_earliest, in_batches, default_trial, five_by_lateness, own_grid, whole_import, hundred_queued, default_load}
 
@@ -156,15 +158,15 @@ pub tune_json_line : IsReadSo "tune --json" (default_trial form.Json)
 unfolding clap_on_literals
 tune_json_line name p f = (refl, refl)
 
-pub tune_unknown_line : IsReadSo "tune --sched none,cfq" (job.Refuse refusal.Scheds)
+pub tune_unknown_line : IsReadSo "tune --sched none,cfq" (job.Refuse (refusal.Lists list.Scheds))
 unfolding clap_on_literals
 tune_unknown_line name p f = (refl, refl)
 
-pub tune_no_list_line : IsReadSo "tune --fifo-batch 1,x" (job.Refuse refusal.FifoBatch)
+pub tune_no_list_line : IsReadSo "tune --fifo-batch 1,x" (job.Refuse (refusal.Lists list.FifoBatch))
 unfolding clap_on_literals
 tune_no_list_line name p f = (refl, refl)
 
-pub tune_twice_line : IsReadSo "tune --read-target 2,5,2" (job.Refuse refusal.ReadTarget)
+pub tune_twice_line : IsReadSo "tune --read-target 2,5,2" (job.Refuse (refusal.Lists list.ReadTarget))
 unfolding clap_on_literals
 tune_twice_line name p f = (refl, refl)
 

@@ -1,20 +1,21 @@
 -- What the words of a command line ask for.
-use Rattle.std.specs.Prelude.{◌≡◌, ◌≢◌, ◌⊎◌, ◌&&◌, ◌||◌, ◌==◌, ◌∷◌, ⊤, ℕ, Bool, true, false, not, List, [], find, Option, Some, None, Result, Ok, Err, codes, option_map, option_and_then, if◌then◌else◌}
+use Rattle.std.specs.Prelude.{◌≡◌, ◌≢◌, ◌⊎◌, ◌&&◌, ◌||◌, ◌==◌, ⊤, ℕ, Bool, true, false, not, List, [], find, Option, Some, None, Result, Ok, Err, codes, option_map, option_and_then, if◌then◌else◌}
 use Rattle.std.specs.Result.{result_ok}
 use Rattle.std.specs.Option.{option_map_or}
 use Rattle.std.specs.Str.{bytes_eq}
-use Rattle.blk_deadline.specs.declared.Tunables.{Tunables}
+use Rattle.blk_settings.specs.declared.given.TheConstants.{MAX_SHORT}
 use Rattle.blk_settings.specs.declared.numbers.Load.{Load}
-use Rattle.blk_kyber.specs.declared.Targets.{Targets}
 use Rattle.clap.specs.Words.{Row, Text, IsAmong, fault_of, first_of, one_of, subcommand_of}
 use Rattle.clap.specs.declared.error.kind.ErrorKind.{ErrorKind}
 use Rattle.clap.specs.declared.error.kind.ErrorKind.TheVariants as kind
-use Rattle.blk_grid.specs.declared.By.{By}
-use Rattle.blk_grid.specs.declared.By.TheVariants as by
-use Rattle.blk_grid.specs.Rows.{Gridded}
+use Rattle.blk_settings.specs.declared.grid.By.{By}
+use Rattle.blk_settings.specs.declared.grid.By.TheVariants as by
+use Rattle.blk_settings.specs.Grids.{Gridded}
+use Rattle.blk_settings.specs.Given.{GivenOptions, sched_given, lineup_given}
+use Rattle.blk_settings.specs.Lists.{grid_given}
+use Rattle.blk_settings.specs.declared.lists.ListFault.{ListFault}
 use Rattle.blk_settings.specs.declared.sched.Lineup.{Lineup}
 use Rattle.blk_settings.specs.declared.sched.Sched.{Sched}
-use Rattle.blk_settings.specs.declared.sched.Sched.TheVariants as sched
 use Rattle.blk_words.specs.declared.words.Job.{Job}
 use Rattle.blk_words.specs.declared.words.Job.TheVariants as job
 use Rattle.blk_words.specs.declared.words.NoJob.{NoJob}
@@ -32,19 +33,15 @@ use Rattle.blk_words.specs.declared.words.Refusal.{Refusal}
 use Rattle.blk_words.specs.declared.words.Refusal.TheVariants as refusal
 use Rattle.blk_words.specs.declared.words.Written.{Written}
 use Rattle.blk_words.specs.declared.words.Written.TheVariants as written
-use Rattle.blk_words.specs.declared.lists.Tried.{Tried}
-use Rattle.blk_words.specs.declared.lists.TheConstants.{MAX_SHORT}
-use Rattle.blk_words.specs.declared.table.TheConstants.{MAX_TARGET}
 use Rattle.blk_words.specs.declared.table.Makes.{Makes}
 use Rattle.blk_words.specs.declared.table.Makes.TheVariants as makes
-use Rattle.blk_settings.specs.Rows.{name_of}
 use Rattle.blk_words.specs.CommandLine.{Names, AreSchedulers, table, blk_app}
-use Rattle.blk_words.specs.Lists.{grid_of, list_of, tried_of}
+use Rattle.blk_words.specs.Lists.{list_of}
 use Rattle.blk_words.specs.Times.{number_in, time_of}
 
 -- the number of 16 bits that an option is given, the one of 64 bits, and whether a flag is
 abbrev pub short_given : Text → List Row → Option ℕ
-short_given id rows = option_and_then (number_in 65_535) (one_of id rows)
+short_given id rows = option_and_then (number_in MAX_SHORT) (one_of id rows)
 
 abbrev pub number_given : Text → List Row → Option ℕ
 number_given id rows = option_and_then (number_in 18_446_744_073_709_551_615) (one_of id rows)
@@ -56,30 +53,26 @@ is_flagged id rows = option_map_or (λ text. bytes_eq text (codes "true")) (firs
 abbrev pub time_given : Text → List Row → Option ℕ
 time_given id rows = option_and_then time_of (first_of id rows)
 
--- the settings of `deadline` of these numbers
-abbrev pub tuned : Bool → Option ℕ → Option ℕ → Option Tunables
-tuned front batch starved = option_and_then (λ b. option_map (λ s. record { fifo_batch = b; writes_starved = s; front_merges = front }) starved) batch
+-- the list of numbers up to the most that an option is given
+abbrev pub list_given : ℕ → Text → List Row → Option (List ℕ)
+list_given most id rows = option_and_then (list_of most) (first_of id rows)
 
-abbrev pub tunables_of : List Row → Option Tunables
-tunables_of rows = tuned (not (is_flagged (codes "no-front-merges") rows)) (short_given (codes "fifo-batch") rows) (short_given (codes "writes-starved") rows)
+-- what the options are given
+abbrev pub given_options : List Row → GivenOptions
+given_options rows = record {
+  text = λ id. first_of id rows;
+  short = λ id. short_given id rows;
+  number = λ id. number_given id rows;
+  list = λ most id. list_given most id rows;
+  is_set = λ id. is_flagged id rows;
+}
 
--- the settings of `kyber` of these numbers
-abbrev pub aimed : Option ℕ → Option ℕ → Option Targets
-aimed read write = option_and_then (λ r. option_map (λ w. record { read = r; write = w }) write) read
+-- the scheduler that the options name, and the schedulers that run a script in turn
+abbrev pub sched_asked : List Row → Option Sched
+sched_asked rows = sched_given (given_options rows)
 
-abbrev pub targets_of : List Row → Option Targets
-targets_of rows = aimed (number_given (codes "read-target") rows) (number_given (codes "write-target") rows)
-
--- the schedulers of these settings, and the one that has this name
-abbrev pub scheds_of : Tunables → Targets → Bool → List Sched
-scheds_of t k late_last = sched.None ∷ sched.Deadline t ∷ sched.Kyber k ∷ sched.Earliest late_last ∷ []
-
-abbrev pub sched_named : Text → Option Tunables → Option Targets → Bool → Option Sched
-sched_named name t k late_last = option_and_then (λ t. option_and_then (λ k. find (λ s. bytes_eq name (name_of s)) (scheds_of t k late_last)) k) t
-
--- the scheduler that the options name
-abbrev pub sched_of : List Row → Option Sched
-sched_of rows = option_and_then (λ name. sched_named name (tunables_of rows) (targets_of rows) (is_flagged (codes "late-last") rows)) (first_of (codes "sched") rows)
+abbrev pub lineup_asked : List Row → Option Lineup
+lineup_asked rows = lineup_given (given_options rows)
 
 -- the form by whether JSON is asked for, and by the options
 abbrev pub form_by : Bool → Form
@@ -88,20 +81,7 @@ form_by json = if json then form.Json else form.Lines
 abbrev pub form_asked : List Row → Form
 form_asked rows = form_by (is_flagged (codes "json") rows)
 
--- whether earliest runs too, and then whether late last; the schedulers that run a script in turn, with these settings; their comparison
--- in a form, and the picture of a trace, or of a script under them
-abbrev pub earliest_of : Bool → Bool → Option Bool
-earliest_of runs late_last = if runs then Some late_last else None
-
-abbrev pub earliest_given : List Row → Option Bool
-earliest_given rows = earliest_of (is_flagged (codes "earliest") rows) (is_flagged (codes "late-last") rows)
-
-abbrev pub lineup_of : Option Tunables → Option Targets → Option Bool → Option Lineup
-lineup_of tunables targets earliest = option_and_then (λ t. option_map (λ g. record { deadline = t; kyber = g; earliest = earliest }) targets) tunables
-
-abbrev pub lineup_given : List Row → Option Lineup
-lineup_given rows = lineup_of (tunables_of rows) (targets_of rows) (earliest_given rows)
-
+-- their comparison in a form, and the picture of a trace, or of a script under them
 abbrev pub compared : Form → Option Lineup → Option Job
 compared f lineup = option_map (λ l. job.OfScript (running.Each l f)) lineup
 
@@ -128,7 +108,7 @@ abbrev pub load_job : Bool → Bool → Option Sched → Option Load → Option 
 load_job trace json s l = if trace && json then Some (job.Refuse refusal.TraceAndJson) else loaded (shown_of trace json) s l
 
 abbrev pub load_given : List Row → Option Job
-load_given rows = load_job (is_flagged (codes "trace") rows) (is_flagged (codes "json") rows) (sched_of rows) (amounts_of rows)
+load_given rows = load_job (is_flagged (codes "trace") rows) (is_flagged (codes "json") rows) (sched_asked rows) (amounts_of rows)
 
 -- whether a request came in when its first bio was queued, by the text of `--from`
 abbrev pub entry_named : Text → Option Bool
@@ -195,13 +175,7 @@ abbrev pub import_job : List Row → Job
 import_job rows = import_by (time_given (codes "read-expire") rows) (time_given (codes "write-expire") rows) (from_given rows) (time_given (codes "skip") rows)
     (number_given (codes "first") rows) (written_of rows)
 
--- the list of numbers up to the most that an option is given, the schedulers that are named, and by what rows are put in order
-abbrev pub list_given : ℕ → Text → List Row → Option (List ℕ)
-list_given most id rows = option_and_then (list_of most) (first_of id rows)
-
-abbrev pub tried_given : List Row → Option Tried
-tried_given rows = option_and_then tried_of (first_of (codes "sched") rows)
-
+-- by what rows are put in order
 abbrev pub by_named : Text → Option By
 by_named text =
     if bytes_eq text (codes "misses") then Some by.Misses
@@ -210,27 +184,14 @@ by_named text =
 abbrev pub by_given : List Row → Option By
 by_given rows = option_and_then by_named (first_of (codes "by") rows)
 
--- the grid of those that are given, or the refusal of the first that there isn't
-abbrev pub grid_by : Option Tried → Option (List ℕ) → Option (List ℕ) → Option (List ℕ) → Option (List ℕ) → Result Gridded Refusal
-grid_by None b s r w = Err refusal.Scheds
-grid_by (Some t) None s r w = Err refusal.FifoBatch
-grid_by (Some t) (Some b) None r w = Err refusal.WritesStarved
-grid_by (Some t) (Some b) (Some s) None w = Err refusal.ReadTarget
-grid_by (Some t) (Some b) (Some s) (Some r) None = Err refusal.WriteTarget
-grid_by (Some t) (Some b) (Some s) (Some r) (Some w) = Ok (grid_of t b s r w)
-
-abbrev pub grid_given : List Row → Result Gridded Refusal
-grid_given rows = grid_by (tried_given rows) (list_given MAX_SHORT (codes "fifo-batch") rows) (list_given MAX_SHORT (codes "writes-starved") rows)
-    (list_given MAX_TARGET (codes "read-target") rows) (list_given MAX_TARGET (codes "write-target") rows)
-
 -- the trial of a grid, or the refusal of the first option of it that can't be done
-abbrev pub tune_by : Result Gridded Refusal → Option By → Option ℕ → Option ℕ → Form → Job
-tune_by (Err r) b top threads f = job.Refuse r
+abbrev pub tune_by : Result Gridded ListFault → Option By → Option ℕ → Option ℕ → Form → Job
+tune_by (Err r) b top threads f = job.Refuse (refusal.Lists r)
 tune_by (Ok g) None top threads f = job.Refuse refusal.By
 tune_by (Ok g) (Some b) top threads f = job.Tune (record { by = b; top = top; threads = threads; form = f })
 
 abbrev pub tune_job : List Row → Job
-tune_job rows = tune_by (grid_given rows) (by_given rows) (number_given (codes "top") rows) (number_given (codes "threads") rows) (form_asked rows)
+tune_job rows = tune_by (grid_given (given_options rows)) (by_given rows) (number_given (codes "top") rows) (number_given (codes "threads") rows) (form_asked rows)
 
 -- the job of `oracle` by whether its flags are given, the first two of which may not stand together, nor the last without the first
 abbrev pub oracle_job : Bool → Bool → Bool → Option Job
@@ -247,10 +208,10 @@ oracle_given rows = oracle_job (is_flagged (codes "trace") rows) (is_flagged (co
 abbrev pub job_made : Makes → List Row → Option Job
 job_made (makes.Plain j) rows = Some j
 job_made (makes.Formed k) rows = Some (job.OfTrace (telling.Figures k (form_asked rows)))
-job_made makes.Sim rows = option_map (λ s. job.OfScript (running.One s)) (sched_of rows)
-job_made makes.Compare rows = compared (form_asked rows) (lineup_given rows)
+job_made makes.Sim rows = option_map (λ s. job.OfScript (running.One s)) (sched_asked rows)
+job_made makes.Compare rows = compared (form_asked rows) (lineup_asked rows)
 job_made makes.Tune rows = Some (tune_job rows)
-job_made makes.Picture rows = pictured (is_flagged (codes "script") rows) (lineup_given rows)
+job_made makes.Picture rows = pictured (is_flagged (codes "script") rows) (lineup_asked rows)
 job_made makes.Oracle rows = oracle_given rows
 job_made makes.Check rows = Some (job.Check (form_asked rows))
 job_made makes.Import rows = Some (import_job rows)
@@ -298,7 +259,7 @@ IsNoJob words no.Nothing = NameNone words
 
 -- the grid by what the options of a subcommand are given, and the one that the command line reads in words
 abbrev pub grid_behind : Option (Text × List Row) → Option Gridded
-grid_behind p = option_and_then (λ p. result_ok (grid_given p.1)) p
+grid_behind p = option_and_then (λ p. result_ok (grid_given (given_options p.1))) p
 
 abbrev pub grid_read : Names → List Text → Option Gridded
 grid_read names words = grid_behind (subcommand_of (blk_app names) words)

@@ -5,13 +5,16 @@ use Rattle.clap.specs.Words.{App, Rule, Text, new_app, new_rule, with_rule, with
 use Rattle.clap.specs.declared.builder.ArgAction.TheVariants.{Set, SetTrue}
 use Rattle.clap.specs.declared.builder.value_parser.ValueParser.{ValueParser}
 use Rattle.clap.specs.declared.builder.value_parser.ValueParser.TheVariants as vp
+use Rattle.edd_commands.specs.declared.steps.TheConstants.{MAX_DEPTH}
+use Rattle.blk_settings.specs.declared.given.TheConstants.{MAX_SHORT}
 use Rattle.blk_settings.specs.declared.numbers.TheConstants.{MAX_LOAD_SUBMITTERS, MAX_LOAD_WORKERS, MAX_LOAD_BIOS, MAX_LOAD_DEPTH, MAX_LOAD_SERVICE}
+use Rattle.blk_settings.specs.Options.{OptionKind, Flag, Name, Short, Number, MaybeNumber, Words, MaybeWords, OptionOf, sched_names, sched_option, added_option, tuning, listing}
 use Rattle.blk_words.specs.declared.inputs.FiguresAsked.{FiguresAsked}
 use Rattle.blk_words.specs.declared.inputs.FiguresAsked.TheVariants as figures
 use Rattle.blk_words.specs.declared.inputs.Telling.TheVariants as telling
 use Rattle.blk_words.specs.declared.words.Job.{Job}
 use Rattle.blk_words.specs.declared.words.Job.TheVariants as job
-use Rattle.blk_words.specs.declared.table.TheConstants.{MAX_TARGET, MAX_BUSY, MAX_FIRST, MAX_TOP, MAX_THREADS, MAX_DEPTH}
+use Rattle.blk_words.specs.declared.table.TheConstants.{MAX_BUSY, MAX_FIRST, MAX_TOP, MAX_THREADS}
 use Rattle.blk_words.specs.declared.table.Makes.{Makes}
 use Rattle.blk_words.specs.declared.table.Makes.TheVariants as makes
 
@@ -19,17 +22,13 @@ use Rattle.blk_words.specs.declared.table.Makes.TheVariants as makes
 abbrev pub Names : Type 0
 Names = Bor (List (Bor Text))
 
--- the names of the schedulers
-abbrev pub sched_names : List Text
-sched_names = codes "none" ∷ codes "deadline" ∷ codes "kyber" ∷ codes "earliest" ∷ []
-
--- they are these
+-- they are those of the schedulers
 abbrev pub AreSchedulers : Names → Type 0
 AreSchedulers names = map (λ name. name.now) names.now ≡ sched_names
 
--- an option that takes one of these names, by default none
-abbrev pub sched_rule : Text → Names → Rule
-sched_rule name names = record (new_rule name) { long = Some name; action = Some Set; parser = Some (vp.Names names); defaults = codes "none" ∷ [] }
+-- an option that takes one of these names, with a default
+abbrev pub name_rule : Text → Names → Text → Rule
+name_rule name names default = record (new_rule name) { long = Some name; action = Some Set; parser = Some (vp.Names names); defaults = default ∷ [] }
 
 -- an option that takes a number, with a default and without
 abbrev pub number_rule : Text → ValueParser → Text → Rule
@@ -52,14 +51,34 @@ flag_rule name = record (new_rule name) { long = Some name; action = Some SetTru
 
 -- a number of 16 bits
 abbrev pub short : ValueParser
-short = vp.Signed (pos 0) (pos 65535)
+short = vp.Signed (pos 0) (pos MAX_SHORT)
 
--- the options that set the schedulers
-abbrev pub tuning : List Rule
-tuning =
-    number_rule (codes "fifo-batch") short (codes "16") ∷ number_rule (codes "writes-starved") short (codes "2") ∷ flag_rule (codes "no-front-merges")
-    ∷ number_rule (codes "read-target") (vp.Unsigned 0 MAX_TARGET) (codes "2") ∷ number_rule (codes "write-target") (vp.Unsigned 0 MAX_TARGET) (codes "10")
-    ∷ flag_rule (codes "late-last") ∷ []
+-- an option of a kind
+abbrev pub kind_rule : Names → Text → OptionKind → Rule
+kind_rule names name Flag = flag_rule name
+kind_rule names name (Name default) = name_rule name names default
+kind_rule names name (Short default) = number_rule name short default
+kind_rule names name (Number least most default) = number_rule name (vp.Unsigned least most) default
+kind_rule names name (MaybeNumber least most) = maybe_rule name (vp.Unsigned least most)
+kind_rule names name (Words default) = text_rule name default
+kind_rule names name MaybeWords = maybe_text_rule name
+
+abbrev pub option_rule : Names → OptionOf → Rule
+option_rule names o = kind_rule names o.name o.kind
+
+-- the option that names a scheduler, the one that adds one to those that run in turn, those that set them, and those that list which are
+-- tried
+abbrev pub sched_rule : Names → Rule
+sched_rule names = option_rule names sched_option
+
+abbrev pub added_rule : Names → Rule
+added_rule names = option_rule names added_option
+
+abbrev pub tuning_rules : Names → List Rule
+tuning_rules names = map (option_rule names) tuning
+
+abbrev pub list_rules : Names → List Rule
+list_rules names = map (option_rule names) listing
 
 -- a subcommand: its name, its options, and what these make
 pub record Subcommand : Type 0 where
@@ -78,17 +97,14 @@ json = flag_rule (codes "json")
 abbrev pub formed : Text → FiguresAsked → Subcommand
 formed name k = record { name = name; rules = json ∷ []; makes = makes.Formed k }
 
--- what is tried, by what the best is found, how much is written and how many runs go side by side
+-- by what the best is found, how much is written and how many runs go side by side
 abbrev pub trying : List Rule
 trying =
-    text_rule (codes "sched") (codes "none,earliest,deadline,kyber") ∷ text_rule (codes "fifo-batch") (codes "1,2,4,8,16,32,64")
-    ∷ text_rule (codes "writes-starved") (codes "0,1,2,4,8") ∷ text_rule (codes "read-target") (codes "1,2,5,10,20,50,100")
-    ∷ text_rule (codes "write-target") (codes "1,2,5,10,20,50,100") ∷ text_rule (codes "by") (codes "misses")
-    ∷ maybe_rule (codes "top") (vp.Unsigned 1 MAX_TOP) ∷ maybe_rule (codes "threads") (vp.Unsigned 1 MAX_THREADS) ∷ json ∷ []
+    text_rule (codes "by") (codes "misses") ∷ maybe_rule (codes "top") (vp.Unsigned 1 MAX_TOP) ∷ maybe_rule (codes "threads") (vp.Unsigned 1 MAX_THREADS) ∷ json ∷ []
 
 -- the numbers of a load
-abbrev pub amounts : List Rule
-amounts =
+abbrev pub amount_rules : List Rule
+amount_rules =
     number_rule (codes "submitters") (vp.Unsigned 1 MAX_LOAD_SUBMITTERS) (codes "2") ∷ number_rule (codes "workers") (vp.Unsigned 1 MAX_LOAD_WORKERS) (codes "2")
     ∷ number_rule (codes "bios") (vp.Unsigned 1 MAX_LOAD_BIOS) (codes "1000") ∷ number_rule (codes "depth") (vp.Unsigned 1 MAX_LOAD_DEPTH) (codes "8")
     ∷ maybe_rule (codes "busy") (vp.Unsigned 2 MAX_BUSY) ∷ number_rule (codes "service") (vp.Unsigned 0 MAX_LOAD_SERVICE) (codes "0") ∷ []
@@ -103,15 +119,15 @@ importing =
 -- the subcommands over scripts and over traces
 abbrev pub run_table : Names → List Subcommand
 run_table names =
-    record { name = codes "sim"; rules = sched_rule (codes "sched") names ∷ tuning; makes = makes.Sim }
-    ∷ record { name = codes "compare"; rules = flag_rule (codes "earliest") ∷ json ∷ tuning; makes = makes.Compare }
-    ∷ record { name = codes "tune"; rules = trying; makes = makes.Tune }
+    record { name = codes "sim"; rules = sched_rule names ∷ tuning_rules names; makes = makes.Sim }
+    ∷ record { name = codes "compare"; rules = added_rule names ∷ json ∷ tuning_rules names; makes = makes.Compare }
+    ∷ record { name = codes "tune"; rules = list_rules names ++ trying; makes = makes.Tune }
     ∷ plain (codes "migrate") (job.OfTrace telling.Whole)
     ∷ plain (codes "commands") (job.OfTrace telling.Commands)
     ∷ formed (codes "late") figures.Late
     ∷ formed (codes "misses") figures.Misses
     ∷ formed (codes "spread") figures.Spread
-    ∷ record { name = codes "picture"; rules = flag_rule (codes "script") ∷ flag_rule (codes "earliest") ∷ tuning; makes = makes.Picture }
+    ∷ record { name = codes "picture"; rules = flag_rule (codes "script") ∷ added_rule names ∷ tuning_rules names; makes = makes.Picture }
     ∷ []
 
 -- the others: over command lists and certificates, over captures and schedules, over texts of any form, and over the running layer
@@ -122,7 +138,7 @@ other_table names =
     ∷ record { name = codes "import"; rules = importing; makes = makes.Import }
     ∷ record { name = codes "judge"; rules = flag_rule (codes "each") ∷ []; makes = makes.Judge }
     ∷ plain (codes "explain") job.Explain
-    ∷ record { name = codes "load"; rules = sched_rule (codes "sched") names ∷ flag_rule (codes "trace") ∷ json ∷ (amounts ++ tuning); makes = makes.Load }
+    ∷ record { name = codes "load"; rules = sched_rule names ∷ flag_rule (codes "trace") ∷ json ∷ (amount_rules ++ tuning_rules names); makes = makes.Load }
     ∷ []
 
 -- all of them

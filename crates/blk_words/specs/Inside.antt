@@ -1,4 +1,3 @@
 -- What private functions and proofs alone need.
 pub mod Options
 pub mod Tables
-pub mod Lists

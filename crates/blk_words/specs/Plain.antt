@@ -5,8 +5,8 @@ use Rattle.std.specs.List.{slice_split}
 use Rattle.clap.specs.Words.{Text}
 use Rattle.blk_deadline.specs.declared.Tunables.{Tunables}
 use Rattle.blk_kyber.specs.declared.Targets.{Targets}
-use Rattle.blk_grid.specs.declared.By.TheVariants as by
-use Rattle.blk_grid.specs.Rows.{Gridded, whole}
+use Rattle.blk_settings.specs.declared.grid.By.TheVariants as by
+use Rattle.blk_settings.specs.Grids.{Gridded, whole}
 use Rattle.blk_settings.specs.declared.numbers.Load.{Load}
 use Rattle.blk_settings.specs.declared.sched.Lineup.{Lineup}
 use Rattle.blk_settings.specs.declared.sched.Sched.{Sched}

@@ -2,13 +2,13 @@
 
 ghost use Rattle.std.specs.Prelude.{◌∷◌, [], true, false, None, Some, codes};
 ghost use Rattle.clap.specs.Words.{Text};
-ghost use Rattle.blk_grid.specs.Rows.{whole};
+ghost use Rattle.blk_settings.specs.Grids.{whole};
 ghost use Rattle.blk_words.specs.Asked.{Asks};
 ghost use Rattle.blk_words.specs.Plain.{AsksFor, AsksForGrid, AsksForNothing, default_tunables, default_targets, deadline_in, kyber_within, default_lineup, with_earliest, in_batches, default_trial, five_by_lateness, own_grid, whole_import, hundred_queued, default_load};
 
 use crate::inputs::{FiguresAsked, Running, Solving, Telling};
 use crate::words::{Form, Job, Refusal, ShownLoad, Written};
-use blk_settings::Sched;
+use blk_settings::{ListFault, Sched};
 
 /// Each of these lines asks for its job and, all but `--version`, for no other; `oracle --trace --met` asks for none. `tune` asks for the
 /// whole grid, or for that of its lists, and for no other.
@@ -28,9 +28,9 @@ pub fn plain_lines()
     ensures tune { AsksFor "tune" (default_trial Form.Lines) }
     ensures tune_so { AsksFor "tune --sched deadline,none --fifo-batch 16,1 --by lateness --top 5 --threads 4" five_by_lateness }
     ensures tune_json { AsksFor "tune --json" (default_trial Form.Json) }
-    ensures tune_unknown { AsksFor "tune --sched none,cfq" (Job.Refuse Refusal.Scheds) }
-    ensures tune_no_list { AsksFor "tune --fifo-batch 1,x" (Job.Refuse Refusal.FifoBatch) }
-    ensures tune_twice { AsksFor "tune --read-target 2,5,2" (Job.Refuse Refusal.ReadTarget) }
+    ensures tune_unknown { AsksFor "tune --sched none,cfq" (Job.Refuse (Refusal.Lists ListFault.Scheds)) }
+    ensures tune_no_list { AsksFor "tune --fifo-batch 1,x" (Job.Refuse (Refusal.Lists ListFault.FifoBatch)) }
+    ensures tune_twice { AsksFor "tune --read-target 2,5,2" (Job.Refuse (Refusal.Lists ListFault.ReadTarget)) }
     ensures tune_by_what { AsksFor "tune --by wait" (Job.Refuse Refusal.By) }
     ensures whole_grid { AsksForGrid "tune" whole }
     ensures own_grid { AsksForGrid "tune --sched deadline,none --fifo-batch 16,1 --writes-starved 3 --write-target 7,0" own_grid }

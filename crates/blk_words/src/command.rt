@@ -6,10 +6,9 @@ ghost use Rattle.clap.specs.declared.builder.command.Command.TheViews.{out-Comma
 ghost use Rattle.blk_words.specs.CommandLine.{Names, AreSchedulers, app_for, with_one, run_table, other_table, blk_app};
 ghost use Rattle.blk_words.specs.Inside.Tables.{rule_for, subcommand_of};
 
-use crate::table::{
-    CommandRow, OTHER_COMMANDS, OptionRow, RUN_COMMANDS, SCHEDULERS, TUNING, Takes,
-};
+use crate::table::{CommandRow, OTHER_COMMANDS, OfScheds, RUN_COMMANDS};
 use crate::words::VERSION;
+use blk_settings::options::{OptionRow, Takes, list_options, scheduler_names, tuning_options};
 use clap::builder::ValueParser;
 use clap::{Arg, ArgAction, Command, value_parser};
 use std::alloc::{AllocError, Global};
@@ -28,10 +27,10 @@ fn option_arg<'a>(alloc: Global, row: &'a OptionRow, among: Among<'a>) -> Arg<'a
     let bare = Arg::new(alloc, row.name).long(row.name).help(row.help);
     match row.takes {
         Takes::Nothing => bare.action(ArgAction::SetTrue),
-        Takes::Sched => bare
+        Takes::Sched(default) => bare
             .action(ArgAction::Set)
             .value_parser(among.names)
-            .default_value("none"),
+            .default_value(default),
         Takes::Short(default) => bare
             .action(ArgAction::Set)
             .value_parser(value_parser!(u16))
@@ -81,11 +80,18 @@ fn command_of<'a>(
     ensures local { IfOk result (λ c. (fields_of c).has_globals ≡ false) }
 {
     let bare = Command::new(alloc, row.name).about(row.about);
-    let own = with_options(alloc, bare, row.options, among)?;
-    if row.is_tuned {
-        with_options(alloc, own, TUNING.as_slice(), among)
-    } else {
-        Ok(own)
+    match row.of_scheds {
+        OfScheds::None => with_options(alloc, bare, row.options, among),
+        OfScheds::Settings => {
+            let own = with_options(alloc, bare, row.options, among)?;
+            let all = with_options(alloc, own, tuning_options(), among)?;
+            Ok(all)
+        }
+        OfScheds::Lists => {
+            let lists = with_options(alloc, bare, list_options(), among)?;
+            let all = with_options(alloc, lists, row.options, among)?;
+            Ok(all)
+        }
     }
 }
 
@@ -128,7 +134,7 @@ pub fn blk_command<'a>(alloc: Global) -> Result<Command<'a>, AllocError>
         .about("A multiqueue block layer, and how far its schedules fall short of the best")
         .subcommand_required(true);
     let among = Among {
-        names: SCHEDULERS.as_slice(),
+        names: scheduler_names(),
     };
     let runs = with_commands(alloc, blk, run_commands(), among)?;
     let all = with_commands(alloc, runs, other_commands(), among)?;

@@ -45,6 +45,6 @@ pub enum FiguresAsked {
 pub enum Solving {
     /// How late the latest of its commands has to be, with the certificate.
     Least,
-    /// How many of its commands can be met, with the certificate.
+    /// How many of its commands can be on time, with the certificate.
     Most,
 }

@@ -5,54 +5,20 @@ use crate::words::Job;
 use blk_settings::numbers::{
     MAX_LOAD_BIOS, MAX_LOAD_DEPTH, MAX_LOAD_SERVICE, MAX_LOAD_SUBMITTERS, MAX_LOAD_WORKERS,
 };
-
-/// The greatest target of `kyber`, in rounds.
-pub const MAX_TARGET: u64 = 1_000_000;
+use blk_settings::options::{ADDED, OptionRow, SCHED, Takes};
+use edd_commands::{MAX_COMMANDS, MAX_DEPTH};
 
 /// The greatest number of `--busy`.
 pub const MAX_BUSY: u64 = 1_000_000;
 
 /// The greatest number of `--first`: a schedule has no more commands.
-pub const MAX_FIRST: u64 = 1_000_000;
+pub const MAX_FIRST: u64 = MAX_COMMANDS;
 
 /// The greatest number of `--top`: no trial has more rows.
 pub const MAX_TOP: u64 = 1_000_000;
 
 /// The greatest number of `--threads`.
 pub const MAX_THREADS: u64 = 256;
-
-/// The greatest number of `--depth` of a script: a round carries no more commands.
-pub const MAX_DEPTH: u64 = 256;
-
-/// What an option takes.
-#[derive(Clone, Copy)]
-pub enum Takes {
-    /// Nothing: it is a flag.
-    Nothing,
-    /// The name of a scheduler, by default `none`.
-    Sched,
-    /// A number of 16 bits, with a default.
-    Short(&'static str),
-    /// A number from the least to the most, with a default.
-    Number(u64, u64, &'static str),
-    /// A number from the least to the most, or none.
-    Maybe(u64, u64),
-    /// A text, with a default: which ones it may be is looked at where the job is made.
-    Text(&'static str),
-    /// A text, or none.
-    MaybeText,
-}
-
-/// An option.
-#[derive(Clone, Copy)]
-pub struct OptionRow {
-    /// Its name, behind two dashes.
-    pub name: &'static str,
-    /// What it takes.
-    pub takes: Takes,
-    /// What help says of it.
-    pub help: &'static str,
-}
 
 /// What job the options of a subcommand make.
 #[derive(Clone, Copy)]
@@ -81,6 +47,17 @@ pub enum Makes {
     Load,
 }
 
+/// Which options of the schedulers a subcommand has beside its own.
+#[derive(Clone, Copy)]
+pub enum OfScheds {
+    /// None.
+    None,
+    /// Those that set the schedulers, behind its own.
+    Settings,
+    /// Those that list which schedulers are tried, and under which settings, before its own.
+    Lists,
+}
+
 /// A subcommand.
 #[derive(Clone, Copy)]
 pub struct CommandRow {
@@ -90,25 +67,11 @@ pub struct CommandRow {
     pub about: &'static str,
     /// Its own options.
     pub options: &'static [OptionRow],
-    /// Whether the options that set the schedulers follow.
-    pub is_tuned: bool,
+    /// Which options of the schedulers there are beside them.
+    pub of_scheds: OfScheds,
     /// What its options make.
     pub makes: Makes,
 }
-
-/// The option that names the scheduler.
-const SCHED: OptionRow = OptionRow {
-    name: "sched",
-    takes: Takes::Sched,
-    help: "The scheduler",
-};
-
-/// The option that adds earliest to the schedulers that run a script in turn.
-const EARLIEST: OptionRow = OptionRow {
-    name: "earliest",
-    takes: Takes::Nothing,
-    help: "Runs it under earliest as well",
-};
 
 /// The option that asks for JSON.
 const JSON: OptionRow = OptionRow {
@@ -117,88 +80,26 @@ const JSON: OptionRow = OptionRow {
     help: "Writes it as JSON",
 };
 
-/// The names of the schedulers.
-pub static SCHEDULERS: [&str; 4] = ["none", "deadline", "kyber", "earliest"];
-
-/// The options that set the schedulers.
-pub static TUNING: [OptionRow; 6] = [
-    OptionRow {
-        name: "fifo-batch",
-        takes: Takes::Short("16"),
-        help: "Under deadline, how many requests go in one batch",
-    },
-    OptionRow {
-        name: "writes-starved",
-        takes: Takes::Short("2"),
-        help: "Under deadline, how often reads go first while writes wait",
-    },
-    OptionRow {
-        name: "no-front-merges",
-        takes: Takes::Nothing,
-        help: "Under deadline, lets no newcomer join at the front",
-    },
-    OptionRow {
-        name: "read-target",
-        takes: Takes::Number(0, MAX_TARGET, "2"),
-        help: "Under kyber, how many rounds a read may wait",
-    },
-    OptionRow {
-        name: "write-target",
-        takes: Takes::Number(0, MAX_TARGET, "10"),
-        help: "Under kyber, how many rounds a write may wait",
-    },
-    OptionRow {
-        name: "late-last",
-        takes: Takes::Nothing,
-        help: "Under earliest, lets what is late already wait for what can be on time",
-    },
-];
-
 /// The subcommands over scripts and over traces.
 pub static RUN_COMMANDS: [CommandRow; 9] = [
     CommandRow {
         name: "sim",
         about: "Runs a script and writes its trace",
         options: &[SCHED],
-        is_tuned: true,
+        of_scheds: OfScheds::Settings,
         makes: Makes::Sim,
     },
     CommandRow {
         name: "compare",
         about: "Runs a script under each scheduler, and writes how late each was and had to be",
-        options: &[EARLIEST, JSON],
-        is_tuned: true,
+        options: &[ADDED, JSON],
+        of_scheds: OfScheds::Settings,
         makes: Makes::Compare,
     },
     CommandRow {
         name: "tune",
         about: "Runs a script under each of many settings, and writes a table of them, the best first",
         options: &[
-            OptionRow {
-                name: "sched",
-                takes: Takes::Text("none,earliest,deadline,kyber"),
-                help: "The schedulers to try: names with commas between",
-            },
-            OptionRow {
-                name: "fifo-batch",
-                takes: Takes::Text("1,2,4,8,16,32,64"),
-                help: "Under deadline, how many requests go in one batch: numbers with commas between",
-            },
-            OptionRow {
-                name: "writes-starved",
-                takes: Takes::Text("0,1,2,4,8"),
-                help: "Under deadline, how often reads go first while writes wait: numbers with commas between",
-            },
-            OptionRow {
-                name: "read-target",
-                takes: Takes::Text("1,2,5,10,20,50,100"),
-                help: "Under kyber, how many rounds a read may wait: numbers with commas between",
-            },
-            OptionRow {
-                name: "write-target",
-                takes: Takes::Text("1,2,5,10,20,50,100"),
-                help: "Under kyber, how many rounds a write may wait: numbers with commas between",
-            },
             OptionRow {
                 name: "by",
                 takes: Takes::Text("misses"),
@@ -216,42 +117,42 @@ pub static RUN_COMMANDS: [CommandRow; 9] = [
             },
             JSON,
         ],
-        is_tuned: false,
+        of_scheds: OfScheds::Lists,
         makes: Makes::Tune,
     },
     CommandRow {
         name: "migrate",
         about: "Writes a trace in the latest version",
         options: &[],
-        is_tuned: false,
+        of_scheds: OfScheds::None,
         makes: Makes::Plain(Job::OfTrace(Telling::Whole)),
     },
     CommandRow {
         name: "commands",
         about: "Writes the command list of a trace",
         options: &[],
-        is_tuned: false,
+        of_scheds: OfScheds::None,
         makes: Makes::Plain(Job::OfTrace(Telling::Commands)),
     },
     CommandRow {
         name: "late",
         about: "Writes which commands of a trace were late, and what went before them",
         options: &[JSON],
-        is_tuned: false,
+        of_scheds: OfScheds::None,
         makes: Makes::Formed(FiguresAsked::Late),
     },
     CommandRow {
         name: "misses",
         about: "Writes how many commands of a trace were late, and how many had to be",
         options: &[JSON],
-        is_tuned: false,
+        of_scheds: OfScheds::None,
         makes: Makes::Formed(FiguresAsked::Misses),
     },
     CommandRow {
         name: "spread",
         about: "Writes how long the commands of a trace waited and how late they were, by quantiles",
         options: &[JSON],
-        is_tuned: false,
+        of_scheds: OfScheds::None,
         makes: Makes::Formed(FiguresAsked::Spread),
     },
     CommandRow {
@@ -263,9 +164,9 @@ pub static RUN_COMMANDS: [CommandRow; 9] = [
                 takes: Takes::Nothing,
                 help: "Reads a script instead, and draws its trace under each scheduler, one below the other",
             },
-            EARLIEST,
+            ADDED,
         ],
-        is_tuned: true,
+        of_scheds: OfScheds::Settings,
         makes: Makes::Picture,
     },
 ];
@@ -292,14 +193,14 @@ pub static OTHER_COMMANDS: [CommandRow; 6] = [
                 help: "With --trace, writes it as JSON",
             },
         ],
-        is_tuned: false,
+        of_scheds: OfScheds::None,
         makes: Makes::Oracle,
     },
     CommandRow {
         name: "check",
         about: "Checks a certificate",
         options: &[JSON],
-        is_tuned: false,
+        of_scheds: OfScheds::None,
         makes: Makes::Check,
     },
     CommandRow {
@@ -357,7 +258,7 @@ pub static OTHER_COMMANDS: [CommandRow; 6] = [
                 help: "How many commands a round of the script carries; without it, 64",
             },
         ],
-        is_tuned: false,
+        of_scheds: OfScheds::None,
         makes: Makes::Import,
     },
     CommandRow {
@@ -368,14 +269,14 @@ pub static OTHER_COMMANDS: [CommandRow; 6] = [
             takes: Takes::Nothing,
             help: "Writes each late command instead, and why it was late",
         }],
-        is_tuned: false,
+        of_scheds: OfScheds::None,
         makes: Makes::Judge,
     },
     CommandRow {
         name: "explain",
         about: "Tells what a text is, or which record breaks which rule, and what was expected there",
         options: &[],
-        is_tuned: false,
+        of_scheds: OfScheds::None,
         makes: Makes::Plain(Job::Explain),
     },
     CommandRow {
@@ -420,7 +321,7 @@ pub static OTHER_COMMANDS: [CommandRow; 6] = [
                 help: "How many microseconds each device takes for a command",
             },
         ],
-        is_tuned: true,
+        of_scheds: OfScheds::Settings,
         makes: Makes::Load,
     },
 ];

@@ -1,26 +1,23 @@
 //! The words of the command line, as a job.
 
-ghost use Rattle.std.specs.Prelude.{◌≡◌, ◌≤◌, find, map, All, IfOk, IfErr, IfSome, Ok, Err, Some, option_map, option_and_then, codes, string_bytes};
+ghost use Rattle.std.specs.Prelude.{◌≡◌, ◌≤◌, map, All, IfOk, IfErr, IfSome, Some, option_map, option_and_then, codes, string_bytes};
 ghost use Rattle.std.specs.Option.{option_or};
-ghost use Rattle.std.specs.Str.{bytes_eq};
 ghost use Rattle.clap.specs.Words.{subcommand_rows_of};
-ghost use Rattle.blk_grid.specs.Rows.{gridded};
-ghost use Rattle.blk_settings.specs.Rows.{name_of};
+ghost use Rattle.blk_settings.specs.Grids.{gridded};
+ghost use Rattle.blk_settings.specs.Lists.{AreShort, grid_of_lists};
 ghost use Rattle.blk_words.specs.CommandLine.{Names, table as all_commands};
 ghost use Rattle.blk_words.specs.Inside.Tables.{subcommand_of, makes_among};
-ghost use Rattle.blk_words.specs.Inside.Lists.{AreShort, grid_of_lists};
-ghost use Rattle.blk_words.specs.Asked.{Asks, AsksGrid, IsNoJob, list_given, tried_given, by_named, by_given, grid_given, tune_job, short_given, number_given, is_flagged, tunables_of, targets_of, sched_of, earliest_given, lineup_given, compared, pictured, amounts_of, shown_of, loaded, load_given, form_by, form_asked, time_given, entry_named, from_given, round_by, round_given, script_asked, unscripted, written_of, takes_all, import_of, import_job, oracle_given, grid_behind, job_made, job_of};
+ghost use Rattle.blk_words.specs.Asked.{Asks, AsksGrid, IsNoJob, list_given, by_named, by_given, tune_job, short_given, number_given, is_flagged, given_options, sched_asked, lineup_asked, compared, pictured, amounts_of, shown_of, loaded, load_given, form_by, form_asked, time_given, entry_named, from_given, round_by, round_given, script_asked, unscripted, written_of, takes_all, import_of, import_job, oracle_given, grid_behind, job_made, job_of};
+ghost use Rattle.blk_words.specs.Refusals.{refusal_text};
 ghost use Rattle.blk_words.specs.Inside.Options.{given};
 
 use crate::command::{blk_command, other_commands, run_commands};
 use crate::inputs::{FiguresAsked, Running, Solving, Telling};
-use crate::lists::{Lists, MAX_SHORT, Numbers, Tried, numbers_of, tried_of};
-use crate::table::{CommandRow, MAX_TARGET, Makes};
+use crate::lists::numbers_of;
+use crate::table::{CommandRow, Makes};
 use crate::times::time_of;
-use blk_deadline::Tunables;
-use blk_grid::{By, Grid};
-use blk_kyber::Targets;
-use blk_settings::{Lineup, Load, Sched};
+use blk_settings::given::Numbers;
+use blk_settings::{By, Given, Grid, Lineup, ListFault, Lists, Load, Sched};
 use clap::ArgMatches;
 use clap::error::ErrorKind;
 use std::alloc::{AllocError, Global};
@@ -110,7 +107,7 @@ pub enum Written {
     Script {
         /// The length of a round, in nanoseconds.
         round: u64,
-        /// How many commands a round carries, 1 to [`crate::table::MAX_DEPTH`]; without it, the depth of the arrivals' own.
+        /// How many commands a round carries, 1 to [`edd_commands::MAX_DEPTH`]; without it, the depth of the arrivals' own.
         depth: Option<u64>,
     },
 }
@@ -143,18 +140,34 @@ pub enum Refusal {
     JsonAlone,
     /// `load` is asked for its trace, and for JSON.
     TraceAndJson,
-    /// `--sched` of `tune` is no list of schedulers' names, each once.
-    Scheds,
-    /// `--fifo-batch` of `tune` is no list of 1 to 64 numbers of 0 to 65,535, each once.
-    FifoBatch,
-    /// `--writes-starved` of `tune` is no such list.
-    WritesStarved,
-    /// `--read-target` of `tune` is no list of 1 to 64 numbers of 0 to 1,000,000, each once.
-    ReadTarget,
-    /// `--write-target` of `tune` is no such list.
-    WriteTarget,
+    /// An option of `tune` is given no list.
+    Lists(ListFault),
     /// `--by` is neither `misses` nor `lateness`.
     By,
+}
+
+impl Refusal {
+    /// What the program says of it.
+    pub fn text(self) -> &'static str
+        ensures { result.now ≡ refusal_text self }
+    {
+        match self {
+            Refusal::ReadExpire => "--read-expire takes a number with ns, us, ms or s",
+            Refusal::WriteExpire => "--write-expire takes a number with ns, us, ms or s",
+            Refusal::From => "--from takes insert or queue",
+            Refusal::Skip => "--skip takes a number with ns, us, ms or s",
+            Refusal::Round => "--round takes a number with ns, us, ms or s",
+            Refusal::TableAndSummary => "--table and --summary exclude one another",
+            Refusal::ScriptAlone => "--script excludes --table and --summary",
+            Refusal::NoRound => "--script needs --round",
+            Refusal::NoScript => "--round and --depth need --script",
+            Refusal::OfRequests => "--script takes no --from, --skip or --first",
+            Refusal::JsonAlone => "--json needs --trace",
+            Refusal::TraceAndJson => "--trace and --json exclude one another",
+            Refusal::Lists(fault) => fault.text(),
+            Refusal::By => "--by takes misses or lateness",
+        }
+    }
 }
 
 /// What is written of a load.
@@ -201,6 +214,37 @@ fn is_flagged(options: &ArgMatches<'_>, id: &str) -> bool
     }
 }
 
+/// The options of a subcommand.
+#[derive(Clone, Copy)]
+struct Options<'a, 'b> {
+    /// As clap found them.
+    matches: &'a ArgMatches<'b>,
+}
+
+impl Given for Options<'_, '_> {
+    ghost given = { λ o. given_options (given o.matches.now) };
+
+    fn text(&self, option: &str) -> Option<&str> {
+        self.matches.get_str(option)
+    }
+
+    fn short(&self, option: &str) -> Option<u16> {
+        short_of(self.matches, option)
+    }
+
+    fn number(&self, option: &str) -> Option<u64> {
+        number_of(self.matches, option)
+    }
+
+    fn list(&self, option: &str, most: u64) -> Option<Numbers> {
+        list_given(self.matches, option, most)
+    }
+
+    fn is_set(&self, option: &str) -> bool {
+        is_flagged(self.matches, option)
+    }
+}
+
 /// The time that an option is given, in nanoseconds.
 fn time_given(options: &ArgMatches<'_>, id: &str) -> Option<u64>
     ensures { result ≡ time_given id.now (given options.now) }
@@ -209,67 +253,6 @@ fn time_given(options: &ArgMatches<'_>, id: &str) -> Option<u64>
         Some(text) => time_of(text),
         None => None,
     }
-}
-
-/// The settings of `deadline` by the options.
-fn tunables_of(options: &ArgMatches<'_>) -> Option<Tunables>
-    ensures { result ≡ tunables_of (given options.now) }
-{
-    let fifo_batch = short_of(options, "fifo-batch")?;
-    let writes_starved = short_of(options, "writes-starved")?;
-    let front_merges = !is_flagged(options, "no-front-merges");
-    Some(Tunables {
-        fifo_batch,
-        writes_starved,
-        front_merges,
-    })
-}
-
-/// The settings of `kyber` by the options.
-fn targets_of(options: &ArgMatches<'_>) -> Option<Targets>
-    ensures { result ≡ targets_of (given options.now) }
-{
-    let read = number_of(options, "read-target")?;
-    let write = number_of(options, "write-target")?;
-    Some(Targets { read, write })
-}
-
-/// The scheduler of this name.
-fn sched_named(name: &str, scheds: &[Sched]) -> Option<Sched>
-    ensures { result ≡ find (λ s. bytes_eq name.now (name_of s)) scheds.now }
-{
-    for i in 0..scheds.len() {
-        if name == scheds[i].name() {
-            return Some(scheds[i]);
-        }
-    }
-    None
-}
-
-/// The scheduler that the options name.
-fn sched_of(options: &ArgMatches<'_>) -> Option<Sched>
-    ensures { result ≡ sched_of (given options.now) }
-{
-    let name = options.get_str("sched")?;
-    let tunables = tunables_of(options)?;
-    let targets = targets_of(options)?;
-    let late_last = is_flagged(options, "late-last");
-    let scheds = [
-        Sched::None,
-        Sched::Deadline(tunables),
-        Sched::Kyber(targets),
-        Sched::Earliest { late_last },
-    ];
-    sched_named(name, scheds.as_slice())
-}
-
-/// Whether the options of `compare` ask for earliest, and then whether late last.
-fn earliest_of(options: &ArgMatches<'_>) -> Option<bool>
-    ensures { result ≡ earliest_given (given options.now) }
-{
-    let runs = is_flagged(options, "earliest");
-    let late_last = is_flagged(options, "late-last");
-    if runs { Some(late_last) } else { None }
 }
 
 /// The form that is asked for by whether the flag of JSON is given.
@@ -286,35 +269,21 @@ fn form_asked(options: &ArgMatches<'_>) -> Form
     form_by(is_flagged(options, "json"))
 }
 
-/// The schedulers that run a script in turn, with the settings that the options give.
-fn lineup_of(options: &ArgMatches<'_>) -> Option<Lineup>
-    ensures { result ≡ lineup_given (given options.now) }
-{
-    let deadline = tunables_of(options)?;
-    let kyber = targets_of(options)?;
-    let earliest = earliest_of(options);
-    Some(Lineup {
-        deadline,
-        kyber,
-        earliest,
-    })
-}
-
-/// The comparison of these, in the form that is asked for.
+/// The comparison of the schedulers that run a script in turn, in the form that is asked for.
 fn compare_of(options: &ArgMatches<'_>) -> Option<Job>
-    ensures { result ≡ compared (form_asked (given options.now)) (lineup_given (given options.now)) }
+    ensures { result ≡ compared (form_asked (given options.now)) (lineup_asked (given options.now)) }
 {
     let form = form_asked(options);
-    let lineup = lineup_of(options)?;
+    let lineup = Lineup::given(&Options { matches: options })?;
     Some(Job::OfScript(Running::Each(lineup, form)))
 }
 
-/// The picture of a trace, or with the flag `--script` those of a script under these.
+/// The picture of a trace, or with the flag `--script` those of a script under the schedulers that run it in turn.
 fn picture_of(options: &ArgMatches<'_>) -> Option<Job>
-    ensures { result ≡ pictured (is_flagged (codes "script") (given options.now)) (lineup_given (given options.now)) }
+    ensures { result ≡ pictured (is_flagged (codes "script") (given options.now)) (lineup_asked (given options.now)) }
 {
     if is_flagged(options, "script") {
-        let lineup = lineup_of(options)?;
+        let lineup = Lineup::given(&Options { matches: options })?;
         Some(Job::OfScript(Running::Drawn(lineup)))
     } else {
         Some(Job::OfTrace(Telling::Picture))
@@ -354,9 +323,9 @@ fn shown_of(trace: bool, json: bool) -> ShownLoad
 
 /// The load that the options of `load` ask for, and what is to be written of it.
 fn load_of(options: &ArgMatches<'_>, shown: ShownLoad) -> Option<Job>
-    ensures { result ≡ loaded shown (sched_of (given options.now)) (amounts_of (given options.now)) }
+    ensures { result ≡ loaded shown (sched_asked (given options.now)) (amounts_of (given options.now)) }
 {
-    let sched = sched_of(options)?;
+    let sched = Sched::given(&Options { matches: options })?;
     let load = amounts_of(options)?;
     Some(Job::Load(sched, load, shown))
 }
@@ -538,16 +507,6 @@ fn list_given(options: &ArgMatches<'_>, id: &str, most: u64) -> Option<Numbers>
     }
 }
 
-/// The schedulers that the options of `tune` name.
-fn tried_given(options: &ArgMatches<'_>) -> Option<Tried>
-    ensures { result ≡ tried_given (given options.now) }
-{
-    match options.get_str("sched") {
-        Some(text) => tried_of(text),
-        None => None,
-    }
-}
-
 /// By what rows are put in order, by the text of `--by`.
 fn by_named(text: &str) -> Option<By>
     ensures { result ≡ by_named text.now }
@@ -571,43 +530,13 @@ fn by_given(options: &ArgMatches<'_>) -> Option<By>
     }
 }
 
-/// The lists that the options of `tune` give, or the refusal of the first that is none.
-fn lists_given(options: &ArgMatches<'_>) -> Result<Lists, Refusal>
-    ensures lists { IfOk result (λ l. grid_given (given options.now) ≡ Ok (grid_of_lists l)) }
-    ensures refusal { IfErr result (λ r. grid_given (given options.now) ≡ Err r) }
-    ensures range { IfOk result AreShort }
-{
-    let Some(tried) = tried_given(options) else {
-        return Err(Refusal::Scheds);
-    };
-    let Some(fifo_batch) = list_given(options, "fifo-batch", MAX_SHORT) else {
-        return Err(Refusal::FifoBatch);
-    };
-    let Some(writes_starved) = list_given(options, "writes-starved", MAX_SHORT) else {
-        return Err(Refusal::WritesStarved);
-    };
-    let Some(read_target) = list_given(options, "read-target", MAX_TARGET) else {
-        return Err(Refusal::ReadTarget);
-    };
-    let Some(write_target) = list_given(options, "write-target", MAX_TARGET) else {
-        return Err(Refusal::WriteTarget);
-    };
-    Ok(Lists {
-        tried,
-        fifo_batch,
-        writes_starved,
-        read_target,
-        write_target,
-    })
-}
-
 /// The trial that the options of `tune` ask for, or the refusal of the first of them that can't be done.
 fn tune_job(options: &ArgMatches<'_>) -> Job
     ensures { result ≡ tune_job (given options.now) }
 {
-    match lists_given(options) {
+    match Lists::given(&Options { matches: options }) {
         Ok(_) => {}
-        Err(refusal) => return Job::Refuse(refusal),
+        Err(fault) => return Job::Refuse(Refusal::Lists(fault)),
     }
     let Some(by) = by_given(options) else {
         return Job::Refuse(Refusal::By);
@@ -651,7 +580,7 @@ fn job_made(makes: Makes, options: &ArgMatches<'_>) -> Option<Job>
             Some(Job::OfTrace(Telling::Figures(figures, form)))
         }
         Makes::Sim => {
-            let sched = sched_of(options)?;
+            let sched = Sched::given(&Options { matches: options })?;
             Some(Job::OfScript(Running::One(sched)))
         }
         Makes::Compare => compare_of(options),
@@ -734,7 +663,7 @@ fn lists_of(matches: &ArgMatches<'_>) -> Option<Lists>
     ensures range { IfSome result AreShort }
 {
     let (_, options) = matches.subcommand()?;
-    match lists_given(options) {
+    match Lists::given(&Options { matches: options }) {
         Ok(lists) => Some(lists),
         Err(_) => None,
     }

@@ -19,3 +19,15 @@ returns-in-Err-work g c =
       answers = tt;
       without = inl (c.in-Ok.job, c.in-Ok.ensures.asked, fails_text (map string_bytes c.args.words.now) c.in-Ok.job c.args.records.now.left _ c.in-Err-work.failure c.in-Err-work.ensures.fails);
     }
+
+pub returns-in-Err-clause-without : goal.returns-in-Err-clause-without
+returns-in-Err-clause-without g c = inl (c.in-Ok-Load.field-0, c.in-Ok-Load.ensures.asked, rw c.in-Ok-Load.field-0-is c.in-Err.ensures.unloaded)
+
+pub returns-in-Err-over_capture-clause-without : goal.returns-in-Err-over_capture-clause-without
+returns-in-Err-over_capture-clause-without g c = inl (c.in-Ok-Import.field-0, c.in-Ok-Import.ensures.asked, rw c.in-Ok-Import.field-0-is c.in-Err-over_capture.ensures.fails)
+
+pub returns-in-Err-over_bytes-clause-without : goal.returns-in-Err-over_bytes-clause-without
+returns-in-Err-over_bytes-clause-without g c = inl (c.in-Ok-Explain.field-0, c.in-Ok-Explain.ensures.asked, rw c.in-Ok-Explain.field-0-is c.in-Err-over_bytes.ensures.fails)
+
+pub returns-in-Err-over_trial-clause-without : goal.returns-in-Err-over_trial-clause-without
+returns-in-Err-over_trial-clause-without g c = inl (c.in-Ok-Tune.field-0, c.in-Ok-Tune.ensures.asked, rw c.in-Ok-Tune.field-0-is c.in-Err-over_trial.ensures.fails)

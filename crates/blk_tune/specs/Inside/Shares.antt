@@ -4,7 +4,7 @@ use Rattle.blk_settings.specs.declared.sched.Sched.{Sched}
 use Rattle.blk_text.specs.Script.{Scripted}
 use Rattle.blk_runs.specs.declared.fault.RunFault.{RunFault}
 use Rattle.blk_tune.specs.declared.row.TrialRow.{TrialRow}
-use Rattle.blk_tune.specs.Row.{IsRunAnswer}
+use Rattle.blk_tune.specs.Inside.Row.{IsRunAnswer}
 
 -- each of these answers is that of its setting
 abbrev pub AreAnswers : Scripted → List Sched → ℕ → ℕ → List (Result TrialRow RunFault) → Type 0

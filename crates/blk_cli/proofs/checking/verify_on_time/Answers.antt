@@ -12,8 +12,8 @@ returns-in-Ok-clause-proved c =
     let told = c.in-Ok.ensures.answer in
     on_time_proved (on_time_claimed certificate) _ _ _ _ commands rounds cover c.requires.capacity c.requires.claim (told.0, told.1, told.2, told.3) c.in-Ok.ensures.most
 
-pub returns-in-Err-clause-unmet : goal.returns-in-Err-clause-unmet
-returns-in-Err-clause-unmet c =
+pub returns-in-Err-clause-on_time_unproved : goal.returns-in-Err-clause-on_time_unproved
+returns-in-Err-clause-on_time_unproved c =
     let certificate = c.args.certificate.now in
     let commands : c.as_slice-commands.result.now ≡ certificate.commands.items = search rules in
     let rounds : c.as_slice-rounds.result.now ≡ certificate.rounds.items = search rules in

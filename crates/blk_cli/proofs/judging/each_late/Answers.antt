@@ -1,18 +1,18 @@
 use Rattle.std.proofs.Common.{rules, ◌≡◌, ◌∙◌, ap}
 use Rattle.blk_judge.specs.Text.{miss_records}
-use Rattle.blk_lists.specs.Schedule.{ran_of}
+use Rattle.blk_lists.specs.Schedule.{viewed}
 use Rattle.blk_cli.proofs.Schedules.{taken_of, rounds_of, missed_of, refused_as}
 use Rattle.blk_cli.proofs.judging.each_late.Goals as goal
 
 pub late_of-requires-clause-taken : goal.late_of-requires-clause-taken
-late_of-requires-clause-taken c = taken_of (ran_of c.args.schedule.now) c.requires.ran c.as_slice-commands.result.now (search rules)
+late_of-requires-clause-taken c = taken_of (viewed c.args.schedule.now) c.requires.ran c.as_slice-commands.result.now (search rules)
 
 pub late_of-requires-clause-rounds_in : goal.late_of-requires-clause-rounds_in
-late_of-requires-clause-rounds_in c = rounds_of (ran_of c.args.schedule.now) c.requires.ran c.as_slice-rounds.result.now (search rules)
+late_of-requires-clause-rounds_in c = rounds_of (viewed c.args.schedule.now) c.requires.ran c.as_slice-rounds.result.now (search rules)
 
 pub returns-in-Ok-late_lines-clause-text : goal.returns-in-Ok-late_lines-clause-text
 returns-in-Ok-late_lines-clause-text c =
-    let s = ran_of c.args.schedule.now in
+    let s = viewed c.args.schedule.now in
     let commands : c.as_slice-commands.result.now ≡ s.commands = search rules in
     let rounds : c.as_slice-rounds.result.now ≡ s.rounds = search rules in
     record {
@@ -23,7 +23,7 @@ returns-in-Ok-late_lines-clause-text c =
 
 pub returns-in-Err-clause-fails : goal.returns-in-Err-clause-fails
 returns-in-Err-clause-fails c =
-    let s = ran_of c.args.schedule.now in
+    let s = viewed c.args.schedule.now in
     let commands : c.as_slice-commands.result.now ≡ s.commands = search rules in
     let rounds : c.as_slice-rounds.result.now ≡ s.rounds = search rules in
     refused_as s c.as_slice-commands.result.now c.as_slice-rounds.result.now c.args.capacity.now commands rounds c.requires.capacity c.in-Err.fault c.in-Err.ensures.refused

@@ -1,5 +1,5 @@
 use Rattle.std.proofs.Common.{inl}
-use Rattle.blk_lists.specs.Schedule.{Ran, ran_of, SpellsSchedule, ScheduleFault}
+use Rattle.blk_lists.specs.Schedule.{ScheduleView, viewed, SpellsSchedule, ScheduleFault}
 use Rattle.blk_cli.specs.Judging.{IsJudgedText, IsUnjudged}
 use Rattle.blk_cli.proofs.OfRead.{told, refused}
 use Rattle.blk_cli.proofs.judging.over_schedule.Goals as goal
@@ -9,10 +9,10 @@ returns-in-Err-clause-fails g c = inl c.in-Err.ensures.err
 
 pub returns-clause-text : goal.returns-clause-text
 returns-clause-text g c =
-    let s : Ran = ran_of c.in-Ok.schedule in
+    let s : ScheduleView = viewed c.in-Ok.schedule in
     told SpellsSchedule (IsJudgedText c.args.each) c.args.records.now.left s (λ text. text.items) _ c.in-Ok.ensures.ok c.judged.ensures.text
 
 pub returns-clause-fails : goal.returns-clause-fails
 returns-clause-fails g c =
-    let s : Ran = ran_of c.in-Ok.schedule in
+    let s : ScheduleView = viewed c.in-Ok.schedule in
     refused SpellsSchedule ScheduleFault IsUnjudged c.args.records.now.left _ s _ c.in-Ok.ensures.ok c.judged.ensures.fails

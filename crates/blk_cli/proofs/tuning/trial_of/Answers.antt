@@ -1,6 +1,6 @@
 use Rattle.std.proofs.Common.{inl}
 use Rattle.blk_text.specs.Script.{scripted}
-use Rattle.blk_grid.specs.Rows.{gridded, grid_rows}
+use Rattle.blk_settings.specs.Grids.{gridded, grid_rows}
 use Rattle.blk_cli.specs.Comparing.{IsUncompared}
 use Rattle.blk_cli.proofs.Compared.{said_of_runs}
 use Rattle.blk_cli.proofs.tuning.trial_of.Goals as goal

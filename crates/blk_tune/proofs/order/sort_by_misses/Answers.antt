@@ -1,6 +1,6 @@
 use Rattle.std.proofs.Common.{rules}
 use Rattle.std.proofs.lemmas.List.Sorted.{answers_always}
-use Rattle.blk_tune.specs.Order.{misses_key}
+use Rattle.blk_tune.specs.Inside.Order.{misses_key}
 use Rattle.blk_tune.proofs.order.sort_by_misses.Goals as goal
 
 pub returns : goal.returns

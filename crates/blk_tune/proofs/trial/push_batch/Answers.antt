@@ -7,7 +7,8 @@ use Rattle.blk_text.specs.Script.{scripted}
 use Rattle.blk_runs.specs.declared.fault.RunFault.{RunFault}
 use Rattle.blk_runs.proofs.Turns.{unrun_at}
 use Rattle.blk_tune.specs.declared.row.TrialRow.{TrialRow}
-use Rattle.blk_tune.specs.Row.{IsRunAnswer, AreRowsUnder}
+use Rattle.blk_tune.specs.Row.{AreRowsUnder}
+use Rattle.blk_tune.specs.Inside.Row.{IsRunAnswer}
 use Rattle.blk_tune.specs.Inside.Shares.{IsThreadShare}
 use Rattle.blk_tune.proofs.Shares.{answer_at}
 use Rattle.blk_tune.proofs.Turns.{one_more, whole}

@@ -1,15 +1,36 @@
-use Rattle.std.proofs.Common.{◌≡◌, ◌∙◌, ap, map, rules}
+use Rattle.std.proofs.Common.{◌≡◌, ◌∙◌, ◌++◌, List, ap, map, sym}
 use Rattle.std.specs.Prelude.{fold}
-use Rattle.clap.specs.Words.{app_of, new_app, with_rule}
+use Rattle.clap.specs.Words.{App, Rule, app_of, new_app, with_rule}
 use Rattle.clap.specs.Simple.{app_of_fields}
-use Rattle.blk_words.specs.CommandLine.{tuning}
-use Rattle.blk_words.specs.Inside.Tables.{rule_for}
-use Rattle.blk_words.proofs.Lines.{with_both}
+use Rattle.blk_settings.specs.Options.{tuning, listing}
+use Rattle.blk_words.specs.declared.table.OfScheds.{OfScheds}
+use Rattle.blk_words.specs.CommandLine.{list_rules, tuning_rules}
+use Rattle.blk_words.specs.Inside.Tables.{rule_for, rules_beside}
+use Rattle.blk_words.proofs.Lines.{rules_of, rules_before, rules_behind}
 use Rattle.blk_words.proofs.command.command_of.Goals as goal
 
-pub returns-then-row-clause-app : goal.returns-then-row-clause-app
-returns-then-row-clause-app c =
+pub returns-in_ok-all-in-Settings-clause-app : goal.returns-in_ok-all-in-Settings-clause-app
+returns-in_ok-all-in-Settings-clause-app c =
     let row = c.args.row.now in
-    let bare : app_of c.about-bare.result ≡ new_app row.name.now = ap app_of_fields c.about-bare.ensures ∙ c.new.ensures.app in
-    let own : app_of c.in_ok-own.own ≡ fold with_rule (new_app row.name.now) (map (rule_for c.args.among.names) row.options.now) = c.in_ok-own.ensures.app ∙ ap (λ a. fold with_rule a (map (rule_for c.args.among.names) row.options.now)) bare in
-    rw c.if-row.true (with_both _ (new_app row.name.now) (map (rule_for c.args.among.names) row.options.now) (map (rule_for c.args.among.names) c.as_slice.result.now) tuning (search rules) (rw own at c.with_options-then-row.ensures.app))
+    let names = c.args.among.names in
+    let own : List Rule = map (rule_for names) row.options.now in
+    let rows = c.tuning_options.result.now in
+    let base : App = new_app row.name.now in
+    let bare : app_of c.about-bare.result ≡ base = ap app_of_fields c.about-bare.ensures ∙ c.new.ensures.app in
+    let with_own : app_of c.in_ok-own-in-Settings.own ≡ fold with_rule base own = c.in_ok-own-in-Settings.ensures.app ∙ ap (λ (a : App). fold with_rule a own) bare in
+    let all : app_of c.in_ok-all-in-Settings.all ≡ fold with_rule base (own ++ tuning_rules names) =
+    rules_behind _ base (app_of c.in_ok-own-in-Settings.own) own (map (rule_for names) rows) (tuning_rules names) (rules_of names rows tuning c.tuning_options.ensures) with_own c.in_ok-all-in-Settings.ensures.app in
+    all ∙ ap (λ (k : OfScheds). fold with_rule base (rules_beside names k own)) (sym c.in-Settings.is)
+
+pub returns-in_ok-all-in-Lists-clause-app : goal.returns-in_ok-all-in-Lists-clause-app
+returns-in_ok-all-in-Lists-clause-app c =
+    let row = c.args.row.now in
+    let names = c.args.among.names in
+    let own : List Rule = map (rule_for names) row.options.now in
+    let rows = c.list_options.result.now in
+    let base : App = new_app row.name.now in
+    let bare : app_of c.about-bare.result ≡ base = ap app_of_fields c.about-bare.ensures ∙ c.new.ensures.app in
+    let lists : app_of c.in_ok-lists-in-Lists.lists ≡ fold with_rule base (map (rule_for names) rows) = c.in_ok-lists-in-Lists.ensures.app ∙ ap (λ (a : App). fold with_rule a (map (rule_for names) rows)) bare in
+    let all : app_of c.in_ok-all-in-Lists.all ≡ fold with_rule base (list_rules names ++ own) =
+    rules_before _ base (app_of c.in_ok-lists-in-Lists.lists) (map (rule_for names) rows) own (list_rules names) (rules_of names rows listing c.list_options.ensures) lists c.in_ok-all-in-Lists.ensures.app in
+    all ∙ ap (λ (k : OfScheds). fold with_rule base (rules_beside names k own)) (sym c.in-Lists.is)

@@ -1,4 +1,4 @@
-use Rattle.std.proofs.Common.{◌≡◌, ◌∙◌, ap, sym, refl, false, [], arith, get_or}
+use Rattle.std.proofs.Common.{◌≡◌, ◌∙◌, ap, sym, refl, [], arith, get_or}
 use Rattle.std.proofs.lemmas.List.{take_all}
 use Rattle.std.proofs.lemmas.List.Sums.{fold_more}
 use Rattle.std.proofs.lemmas.List.Folds.{fold-map}
@@ -6,6 +6,7 @@ use Rattle.clap.specs.Words.{App, app_of}
 use Rattle.blk_words.specs.declared.words.Job.TheVariants as job
 use Rattle.blk_words.specs.declared.table.CommandRow.{CommandRow}
 use Rattle.blk_words.specs.declared.table.Makes.TheVariants as makes
+use Rattle.blk_words.specs.declared.table.OfScheds.TheVariants as of
 use Rattle.blk_words.specs.CommandLine.{app_for, with_one}
 use Rattle.blk_words.specs.Inside.Tables.{subcommand_of}
 use Rattle.blk_words.proofs.Lines.{adds_command}
@@ -13,7 +14,7 @@ use Rattle.blk_words.proofs.command.with_commands.Goals as goal
 
 -- the row where there is none
 abbrev none : CommandRow
-none = record { name = record { ref_ptr = (0, 0); now = [] }; about = record { ref_ptr = (0, 0); now = [] }; options = record { ref_ptr = (0, 0); now = [] }; is_tuned = false; makes = makes.Plain job.Version }
+none = record { name = record { ref_ptr = (0, 0); now = [] }; about = record { ref_ptr = (0, 0); now = [] }; options = record { ref_ptr = (0, 0); now = [] }; of_scheds = of.None; makes = makes.Plain job.Version }
 
 pub loop-i-preserved : goal.loop-i-preserved
 loop-i-preserved c =

@@ -3,8 +3,8 @@ use Rattle.std.proofs.lemmas.List.{take_all}
 use Rattle.std.proofs.lemmas.List.Sums.{fold_more}
 use Rattle.std.proofs.lemmas.List.Folds.{fold-map}
 use Rattle.clap.specs.Words.{App, app_of, with_rule}
-use Rattle.blk_words.specs.declared.table.OptionRow.{OptionRow}
-use Rattle.blk_words.specs.declared.table.Takes.TheVariants as takes
+use Rattle.blk_settings.specs.declared.options.OptionRow.{OptionRow}
+use Rattle.blk_settings.specs.declared.options.Takes.TheVariants as takes
 use Rattle.blk_words.specs.Inside.Tables.{rule_for}
 use Rattle.blk_words.proofs.Lines.{adds_rule}
 use Rattle.blk_words.proofs.command.with_options.Goals as goal

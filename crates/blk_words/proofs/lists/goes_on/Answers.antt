@@ -2,7 +2,7 @@ use Rattle.std.proofs.Common.{◌≡◌, ◌∙◌, Bool, true, length, ap, sym,
 use Rattle.std.proofs.lemmas.Bool.{lt-ltb}
 use Rattle.std.specs.Prelude.{◌&&◌, ◌==◌, not, nat_lt}
 use Rattle.std.specs.List.{list_any}
-use Rattle.blk_words.specs.declared.lists.TheConstants.{MAX_LISTED}
+use Rattle.blk_settings.specs.declared.given.TheConstants.{MAX_LISTED}
 use Rattle.blk_words.proofs.Listed.{listed_more}
 use Rattle.blk_words.proofs.lists.goes_on.Goals as goal
 

@@ -3,7 +3,8 @@ use Rattle.std.proofs.lemmas.Iterator.Consumers.{YieldsList-end, YieldsList-turn
 use Rattle.std.proofs.lemmas.Iterator.Splits.{YieldsList-from_str_split}
 use Rattle.std.proofs.lemmas.List.{length-append}
 use Rattle.std.proofs.lemmas.List.Elements.{All-push}
-use Rattle.blk_words.specs.Lists.{is_listed, list_of, parts}
+use Rattle.blk_settings.specs.Lists.{parts}
+use Rattle.blk_words.specs.Lists.{is_listed, list_of}
 use Rattle.blk_words.proofs.Listed.{all_taken, gathered, gathers, goes_no_further, goes_over, takes_part, up_to}
 use Rattle.blk_words.proofs.lists.numbers_of.Goals as goal
 

@@ -1,5 +1,6 @@
 use Rattle.std.proofs.Common.{◌≡◌, ◌≤◌, All, drop, length, true}
-use Rattle.blk_words.specs.Lists.{is_listed, list_of, parts}
+use Rattle.blk_settings.specs.Lists.{parts}
+use Rattle.blk_words.specs.Lists.{is_listed, list_of}
 use Rattle.blk_words.proofs.Listed.{gathered}
 use Rattle.blk_words.proofs.lists.numbers_of.Given as goal
 

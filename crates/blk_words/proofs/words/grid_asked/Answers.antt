@@ -1,5 +1,5 @@
 use Rattle.std.proofs.Common.{◌∙◌, Some, ap, sym}
-use Rattle.blk_grid.specs.Rows.{Gridded, gridded}
+use Rattle.blk_settings.specs.Grids.{Gridded, gridded}
 use Rattle.blk_words.proofs.Lines.{asks_grid_by, ok_so}
 use Rattle.blk_words.proofs.words.grid_asked.Goals as goal
 

@@ -1,0 +1,21 @@
+-- What the program says of words that are taken and can't be done.
+use Rattle.std.specs.Prelude.{ℕ, List, codes}
+use Rattle.blk_settings.specs.Lists.{list_fault_text}
+use Rattle.blk_words.specs.declared.words.Refusal.{Refusal}
+use Rattle.blk_words.specs.declared.words.Refusal.TheVariants as refusal
+
+abbrev pub refusal_text : Refusal → List ℕ
+refusal_text refusal.ReadExpire = codes "--read-expire takes a number with ns, us, ms or s"
+refusal_text refusal.WriteExpire = codes "--write-expire takes a number with ns, us, ms or s"
+refusal_text refusal.From = codes "--from takes insert or queue"
+refusal_text refusal.Skip = codes "--skip takes a number with ns, us, ms or s"
+refusal_text refusal.Round = codes "--round takes a number with ns, us, ms or s"
+refusal_text refusal.TableAndSummary = codes "--table and --summary exclude one another"
+refusal_text refusal.ScriptAlone = codes "--script excludes --table and --summary"
+refusal_text refusal.NoRound = codes "--script needs --round"
+refusal_text refusal.NoScript = codes "--round and --depth need --script"
+refusal_text refusal.OfRequests = codes "--script takes no --from, --skip or --first"
+refusal_text refusal.JsonAlone = codes "--json needs --trace"
+refusal_text refusal.TraceAndJson = codes "--trace and --json exclude one another"
+refusal_text (refusal.Lists f) = list_fault_text f
+refusal_text refusal.By = codes "--by takes misses or lateness"
