@@ -29,7 +29,7 @@ use Rattle.blk_trace.proofs.Ids.{released_has}
 use Rattle.blk_trace.proofs.Newness.{once_push}
 use Rattle.blk_trace.proofs.Waiting.{waiting_from}
 use Rattle.blk_online.specs.Ticks.{IsRoundFull}
-use Rattle.blk_online.specs.Issues.{IsEarliestAtIssues, IsMeetableAtIssues, one_tag, write, read, read_too_late}
+use Rattle.blk_online.specs.Issues.{IsEarliestAtIssues, ServesOnTimeAtIssues, one_tag, write, read, read_too_late}
 
 -- ---- the trace is legal
 
@@ -148,8 +148,8 @@ earliest = record {
   due_first = λ k i tag id w h waits. first_alone (take k read_too_late) i id (alone k i tag id w h waits);
 }
 
-pub meetable : IsMeetableAtIssues one_tag read_too_late
-meetable = record {
+pub on_time_first : ServesOnTimeAtIssues one_tag read_too_late
+on_time_first = record {
   full = λ k id w h waits in_time. full_at k h;
   due_first = λ k i tag id w h waits in_time.
       let es : List Happened = take k read_too_late in

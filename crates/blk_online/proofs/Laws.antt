@@ -17,11 +17,11 @@ use Rattle.blk_trace.proofs.Newness.{get_at}
 use Rattle.blk_trace.proofs.Requeues.{map_length}
 use Rattle.blk_trace.proofs.Scheduling.{legal-schedule}
 use Rattle.blk_trace.proofs.Bounds.{bounded}
-use Rattle.blk_online.specs.Meetable.{IsMeetableFirst}
-use Rattle.blk_online.specs.Ticks.{WentOut, IsEarliestNow, IsMeetableNow, AtTicks}
+use Rattle.blk_online.specs.OnTimeFirst.{ServesOnTimeFirst}
+use Rattle.blk_online.specs.Ticks.{WentOut, IsEarliestNow, ServesOnTimeNow, AtTicks}
 use Rattle.blk_online.proofs.Ticking.{IsTick, tick_of}
 use Rattle.blk_online.proofs.Least.{earliest_least}
-use Rattle.blk_online.proofs.Most.{meetable_most}
+use Rattle.blk_online.proofs.Most.{most_on_time_first}
 
 -- ---- commands and rounds by place
 
@@ -83,8 +83,8 @@ module _ (setup : Setup) (events : List Happened) (legal : IsLegalTrace setup ev
         (command_at setup events p d (within_services p p_h) ∙ out.1) (command_at setup events k d (within_services k h) ∙ t.held.same) order;
   }
 
-  pub meetable_first : AtTicks (IsMeetableNow setup) events → IsMeetableFirst (commands_of setup events) (rounds_of events) (capacity_of setup events)
-  meetable_first each = record {
+  pub on_time_first : AtTicks (ServesOnTimeNow setup) events → ServesOnTimeFirst (commands_of setup events) (rounds_of events) (capacity_of setup events)
+  on_time_first each = record {
     full = λ x k d delayed.
         let h : k < length (commands_of setup events) = delayed.in_list in
         let t = tick x k d h delayed.released delayed.later in
@@ -118,5 +118,5 @@ pub trace_least : (setup : Setup) (events : List Happened) → IsLegalTrace setu
 trace_least setup events legal each late greatest =
     earliest_least (commands_of setup events) (capacity_of setup events) (rounds_of events) late (legal-schedule setup events legal) (earliest_first setup events legal each) greatest
 
-pub trace_most : (setup : Setup) (events : List Happened) → IsLegalTrace setup events → AtTicks (IsMeetableNow setup) events → IsMostOnTime (commands_of setup events) (capacity_of setup events) (number_on_time (commands_of setup events) (rounds_of events))
-trace_most setup events legal each = meetable_most (commands_of setup events) (rounds_of events) (capacity_of setup events) (legal-schedule setup events legal) (meetable_first setup events legal each)
+pub trace_most : (setup : Setup) (events : List Happened) → IsLegalTrace setup events → AtTicks (ServesOnTimeNow setup) events → IsMostOnTime (commands_of setup events) (capacity_of setup events) (number_on_time (commands_of setup events) (rounds_of events))
+trace_most setup events legal each = most_on_time_first (commands_of setup events) (rounds_of events) (capacity_of setup events) (legal-schedule setup events legal) (on_time_first setup events legal each)

@@ -1,4 +1,4 @@
--- What serves first what can still be met meets the most.
+-- What serves first what can still be on time has the most on time.
 use Rattle.std.proofs.Common.{◌≡◌, ◌<◌, ◌≤◌, ℕ, ◌+◌, zero, suc, Bool, true, false, not, ◌&&◌, nat_le, nat_lt, ◌==◌, List, [], ◌∷◌, length, get_or, count_by, inl, inr, arith, refl, sym, ◌∙◌, subst}
 use Rattle.std.specs.List.{zip}
 use Rattle.std.proofs.lemmas.List.{get_or_default}
@@ -12,7 +12,7 @@ use Rattle.edd_check.specs.OnTime.{number_on_time, is_on_time, IsMostOnTime}
 use Rattle.edd_commands.proofs.Counting.{count_of_either}
 use Rattle.edd_oracle.proofs.Counting.{count_along, count_of_both, count_wider, count_none}
 use Rattle.edd_oracle.proofs.Pairs.{length_pairs}
-use Rattle.blk_online.specs.Meetable.{IsMeetableFirst}
+use Rattle.blk_online.specs.OnTimeFirst.{ServesOnTimeFirst}
 use Rattle.blk_online.proofs.Tight.{is_on_time_at, on_time_at, begin, is_held_by, is_tight, any_found, paired, unpaired, begin_full, lies_inside, passed_inside}
 
 -- a round past all of a list
@@ -27,7 +27,7 @@ above_all (x ∷ xs) =
       ],
     )
 
-module _ (commands : List Command) (rounds : List ℕ) (steps : List Step) (legal : IsLegal commands rounds steps) (first : IsMeetableFirst commands rounds steps) where
+module _ (commands : List Command) (rounds : List ℕ) (steps : List Step) (legal : IsLegal commands rounds steps) (first : ServesOnTimeFirst commands rounds steps) where
   -- a round of a window
   abbrev tight : ℕ → Bool
   tight y = is_tight commands rounds steps y
@@ -36,15 +36,15 @@ module _ (commands : List Command) (rounds : List ℕ) (steps : List Step) (lega
   abbrev tight_below : ℕ → ℕ → Bool
   tight_below n y = tight y && nat_lt y n
 
-  -- met there
+  -- on time there
   abbrev on_time_below : ℕ → Command × ℕ → Bool
   on_time_below n p = is_on_time p.0 p.1 && tight_below n p.1
 
-  -- met elsewhere
+  -- on time elsewhere
   abbrev on_time_apart : Command × ℕ → Bool
   on_time_apart p = is_on_time p.0 p.1 && not (tight p.1)
 
-  -- each round of a window is full of met commands
+  -- each round of a window is full of commands on time
   tight_full : (y : ℕ) → tight y ≡ true → (b : ℕ) × (depth_at steps y ≤ on_time_at commands rounds b y)
   tight_full y h =
       let found = any_found (is_held_by commands rounds steps y) commands h in
@@ -112,9 +112,9 @@ module _ (commands : List Command) (rounds : List ℕ) (steps : List Step) (lega
             omega (arith, before, fewer, more, full.1, within n)
       ]
 
-  -- a command that another schedule meets outside the windows is met outside them
+  -- a command that another schedule has on time outside the windows is on time outside them
   apart_kept : (k y : ℕ) (d : Command) → k < length commands → (get_or commands k d).release ≤ y → y ≤ (get_or commands k d).due → tight y ≡ false → (get_or rounds k 0 ≤ (get_or commands k d).due) × (tight (get_or rounds k 0) ≡ false)
-  apart_kept k y d within released met loose =
+  apart_kept k y d within released in_time loose =
       let c : Command = get_or commands k d in
       let x : ℕ = get_or rounds k 0 in
       let timely : x ≤ c.due =
@@ -124,7 +124,7 @@ module _ (commands : List Command) (rounds : List ℕ) (steps : List Step) (lega
             let low : begin commands rounds steps c.due (suc c.due) ≤ c.release = passed_inside commands rounds steps legal first k d within (omega arith) late in
             let held : tight y ≡ true =
             list_any_at (is_held_by commands rounds steps y) commands k d within
-            (and_from (nat_le (begin commands rounds steps c.due (suc c.due)) y) (nat_le y c.due) (le-leb (begin commands rounds steps c.due (suc c.due)) y (omega arith)) (le-leb y c.due met)) in
+            (and_from (nat_le (begin commands rounds steps c.due (suc c.due)) y) (nat_le y c.due) (le-leb (begin commands rounds steps c.due (suc c.due)) y (omega arith)) (le-leb y c.due in_time)) in
             absurd (let clash : true ≡ false = sym held ∙ loose in cc)
       ] in (
         timely,
@@ -143,7 +143,7 @@ module _ (commands : List Command) (rounds : List ℕ) (steps : List Step) (lega
         ],
       )
 
-  -- no legal schedule meets more
+  -- no legal schedule has more on time
   none_more : (other : List ℕ) → IsLegal commands other steps → number_on_time commands other ≤ number_on_time commands rounds
   unfolding number_on_time
   none_more other legal' =
@@ -191,5 +191,5 @@ module _ (commands : List Command) (rounds : List ℕ) (steps : List Step) (lega
       (zip commands rounds) in
       omega (arith, split, inside, outside, joined, others_below other n legal'.within_depth)
 
-  pub meetable_most : IsMostOnTime commands steps (number_on_time commands rounds)
-  meetable_most = record { schedule = rounds; legal = legal; reached = refl; most = none_more }
+  pub most_on_time_first : IsMostOnTime commands steps (number_on_time commands rounds)
+  most_on_time_first = record { schedule = rounds; legal = legal; reached = refl; most = none_more }

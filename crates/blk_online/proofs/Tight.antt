@@ -1,4 +1,4 @@
--- Rounds that are full of met commands, each of which had to run in one of them.
+-- Rounds that are full of commands on time, each of which had to run in one of them.
 use Rattle.std.proofs.Common.{◌≡◌, ◌<◌, ◌≤◌, ℕ, ◌-◌, zero, suc, Bool, true, false, cond, ◌&&◌, ◌||◌, nat_le, ◌==◌, List, [], ◌∷◌, length, get_or, count_by, ◌⊎◌, inl, inr, arith, refl, sym, ◌∙◌, subst}
 use Rattle.std.specs.List.{zip, list_any}
 use Rattle.std.proofs.lemmas.List.{get_or_default}
@@ -12,16 +12,16 @@ use Rattle.edd_oracle.specs.OnTime.{IsDelayed}
 use Rattle.edd_oracle.proofs.Counting.{count_along, count_fewer}
 use Rattle.edd_oracle.proofs.Crowded.{due_from_first}
 use Rattle.edd_oracle.proofs.Pairs.{pair_at, length_pairs}
-use Rattle.blk_online.specs.Meetable.{IsMeetableFirst}
+use Rattle.blk_online.specs.OnTimeFirst.{ServesOnTimeFirst}
 
--- met in the round x, and due by `due`
+-- on time in the round x, and due by `due`
 abbrev pub is_on_time_at : ℕ → ℕ → Command × ℕ → Bool
 is_on_time_at due x p = nat_le p.0.due due && (is_on_time p.0 p.1 && p.1 == x)
 
 abbrev pub on_time_at : List Command → List ℕ → ℕ → ℕ → ℕ
 on_time_at commands rounds due x = count_by (is_on_time_at due x) (zip commands rounds)
 
--- from here on the rounds before n are full of met commands due by `due`
+-- from here on the rounds before n are full of commands on time due by `due`
 pub begin : List Command → List ℕ → List Step → ℕ → ℕ → ℕ
 begin commands rounds steps due zero = zero
 begin commands rounds steps due (suc n) = cond (nat_le (depth_at steps n) (on_time_at commands rounds due n)) (begin commands rounds steps due n) (suc n)
@@ -96,8 +96,8 @@ module _ (commands : List Command) (rounds : List ℕ) (steps : List Step) where
             ] refl
       ]
 
-  module _ (legal : IsLegal commands rounds steps) (first : IsMeetableFirst commands rounds steps) where
-    -- where a command is delayed the round is full of met commands due no later
+  module _ (legal : IsLegal commands rounds steps) (first : ServesOnTimeFirst commands rounds steps) where
+    -- where a command is delayed the round is full of commands on time due no later
     pub delayed_full : (x k b : ℕ) (d : Command) → IsDelayed commands rounds x k d → (get_or commands k d).due ≤ b → depth_at steps x ≤ on_time_at commands rounds b x
     unfolding places_at
     delayed_full x k b d delayed is_due =
@@ -138,9 +138,9 @@ module _ (commands : List Command) (rounds : List ℕ) (steps : List Step) where
               absurd (omega (arith, fewer, placed, full, legal.within_depth x))
         ]
 
-    -- a met command that runs in such a window lies in it
+    -- a command on time that runs in such a window lies in it
     pub lies_inside : (b k : ℕ) (d : Command) → k < length commands → get_or rounds k 0 ≤ (get_or commands k d).due → begin commands rounds steps b (suc b) ≤ get_or rounds k 0 → get_or rounds k 0 ≤ b → ((get_or commands k d).due ≤ b) × (begin commands rounds steps b (suc b) ≤ (get_or commands k d).release)
-    lies_inside b k d within met low high =
+    lies_inside b k d within in_time low high =
         let x : ℕ = get_or rounds k 0 in
         let start : ℕ = begin commands rounds steps b (suc b) in
         let by_then : (get_or commands k d).due ≤ b = due_inside b x k d within refl (begin_full b (suc b) x low (omega arith)) in (

@@ -9,7 +9,7 @@ use Rattle.blk_trace.specs.Happened.{Happened}
 use Rattle.blk_trace.specs.Setups.{Setup}
 use Rattle.blk_trace.specs.Depths.{capacity_of}
 use Rattle.blk_trace.specs.Meaning.{commands_of, rounds_of}
-use Rattle.blk_online.specs.Meetable.{IsMeetableFirst}
+use Rattle.blk_online.specs.OnTimeFirst.{ServesOnTimeFirst}
 
 -- ---- of commands, under how many each round carries
 
@@ -18,9 +18,9 @@ abbrev pub EarliestDueFirstIsLeastLate : List Command → List Step → Type 0
 EarliestDueFirstIsLeastLate commands steps = (rounds : List ℕ) → (late : ℤ) → IsLegal commands rounds steps → IsEarliestDueFirst commands rounds steps
     → IsGreatestLateness commands rounds late → IsLeastLateness commands steps late
 
--- each legal schedule that first serves what can still be met has as many commands on time as any legal schedule
-abbrev pub MeetableFirstMeetsMost : List Command → List Step → Type 0
-MeetableFirstMeetsMost commands steps = (rounds : List ℕ) → IsLegal commands rounds steps → IsMeetableFirst commands rounds steps
+-- each legal schedule that first serves what can still be on time has as many commands on time as any legal schedule
+abbrev pub OnTimeFirstHasMostOnTime : List Command → List Step → Type 0
+OnTimeFirstHasMostOnTime commands steps = (rounds : List ℕ) → IsLegal commands rounds steps → ServesOnTimeFirst commands rounds steps
     → IsMostOnTime commands steps (number_on_time commands rounds)
 
 -- ---- of a trace
@@ -29,9 +29,9 @@ MeetableFirstMeetsMost commands steps = (rounds : List ℕ) → IsLegal commands
 abbrev pub RunsEarliestFirst : Setup → List Happened → Type 0
 RunsEarliestFirst setup events = IsEarliestDueFirst (commands_of setup events) (rounds_of events) (capacity_of setup events)
 
--- what can still be met of its commands is served first
-abbrev pub RunsMeetableFirst : Setup → List Happened → Type 0
-RunsMeetableFirst setup events = IsMeetableFirst (commands_of setup events) (rounds_of events) (capacity_of setup events)
+-- what can still be on time of its commands is served first
+abbrev pub RunsOnTimeFirst : Setup → List Happened → Type 0
+RunsOnTimeFirst setup events = ServesOnTimeFirst (commands_of setup events) (rounds_of events) (capacity_of setup events)
 
 -- its rounds are those of the schedule of its commands by earliest due date first, of which there is one
 abbrev pub IsOneSchedule : Setup → List Happened → Type 0
@@ -50,5 +50,5 @@ IsLaterThanLeast setup events = (late : ℤ) → IsGreatestLateness (commands_of
     → IsLeastLateness (commands_of setup events) (capacity_of setup events) late → ⊥
 
 -- as many of its commands run no later than they are due as in any legal schedule of them
-abbrev pub MeetsMost : Setup → List Happened → Type 0
-MeetsMost setup events = IsMostOnTime (commands_of setup events) (capacity_of setup events) (number_on_time (commands_of setup events) (rounds_of events))
+abbrev pub HasMostOnTime : Setup → List Happened → Type 0
+HasMostOnTime setup events = IsMostOnTime (commands_of setup events) (capacity_of setup events) (number_on_time (commands_of setup events) (rounds_of events))

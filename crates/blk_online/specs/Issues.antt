@@ -17,7 +17,7 @@ pub record IsEarliestAtIssues (setup : Setup) (events : List Happened) : Type 0 
   pub due_first : (k i tag id : ℕ) (w : Entered) → At events k (Issue i tag) → waits_at setup (take k events) id ≡ Some w → ComesFirst (command_of setup (take k events) i) (command_of setup (take k events) id)
 
 -- the same, where that request is due in the round that is on or later, as the command then is too
-pub record IsMeetableAtIssues (setup : Setup) (events : List Happened) : Type 0 where
+pub record ServesOnTimeAtIssues (setup : Setup) (events : List Happened) : Type 0 where
   pub full : (k id : ℕ) (w : Entered) → At events k Tick → waits_at setup (take k events) id ≡ Some w → round_of (take k events) ≤ w.due → IsRoundFull setup (take k events)
   pub due_first : (k i tag id : ℕ) (w : Entered) → At events k (Issue i tag) → waits_at setup (take k events) id ≡ Some w → round_of (take k events) ≤ w.due → (round_of (take k events) ≤ due_of setup (take k events) i) × ComesFirst (command_of setup (take k events) i) (command_of setup (take k events) id)
 

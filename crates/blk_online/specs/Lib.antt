@@ -1,4 +1,4 @@
-pub mod Meetable
+pub mod OnTimeFirst
 pub mod Ticks
 pub mod Best
 pub mod Issues

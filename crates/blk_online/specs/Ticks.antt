@@ -11,7 +11,7 @@ use Rattle.blk_trace.specs.Legal.{IsLegalTrace}
 use Rattle.blk_trace.specs.Meaning.{served, rounds_of, due_of, command_of}
 use Rattle.blk_trace.specs.Waits.{Entered, waits_at}
 
--- the id went out in the round, by an Issue that was not handed back
+-- the id went out in the round, by an Issue that was not requeued
 abbrev pub WentOut : List Happened → ℕ → ℕ → Type 0
 WentOut events round id = (k : ℕ) × (slice_get (served 0 events) k ≡ Some (round, id))
 
@@ -25,7 +25,7 @@ pub record IsEarliestNow (setup : Setup) (events : List Happened) : Type 0 where
   pub due_first : (id i : ℕ) (w : Entered) → waits_at setup events id ≡ Some w → WentOut events (round_of events) i → ComesFirst (command_of setup events i) (command_of setup events id)
 
 -- the same, where that request is due in the round that is on or later, as those that went out are then too
-pub record IsMeetableNow (setup : Setup) (events : List Happened) : Type 0 where
+pub record ServesOnTimeNow (setup : Setup) (events : List Happened) : Type 0 where
   pub full : (id : ℕ) (w : Entered) → waits_at setup events id ≡ Some w → round_of events ≤ w.due → IsRoundFull setup events
   pub due_first : (id i : ℕ) (w : Entered) → waits_at setup events id ≡ Some w → round_of events ≤ w.due → WentOut events (round_of events) i → (round_of events ≤ due_of setup events i) × ComesFirst (command_of setup events i) (command_of setup events id)
 
@@ -33,9 +33,9 @@ pub record IsMeetableNow (setup : Setup) (events : List Happened) : Type 0 where
 abbrev pub AtTicks : (List Happened → Type 0) → List Happened → Type 0
 AtTicks P events = (k : ℕ) → At events k Tick → P (take k events)
 
--- a legal trace of which it holds as each round ends that the earliest due went first, and one of which it holds of what can still be met
+-- a legal trace of which it holds as each round ends that the earliest due went first, and one of which it holds of what can still be on time
 abbrev pub IsEarliestTrace : Setup → List Happened → Type 0
 IsEarliestTrace setup events = IsLegalTrace setup events × AtTicks (IsEarliestNow setup) events
 
-abbrev pub IsMeetableTrace : Setup → List Happened → Type 0
-IsMeetableTrace setup events = IsLegalTrace setup events × AtTicks (IsMeetableNow setup) events
+abbrev pub IsOnTimeFirstTrace : Setup → List Happened → Type 0
+IsOnTimeFirstTrace setup events = IsLegalTrace setup events × AtTicks (ServesOnTimeNow setup) events

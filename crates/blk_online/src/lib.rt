@@ -1,8 +1,8 @@
 //! Laws of schedules that are decided online: round by round, by what is there, with nothing known of what is to come.
 //!
 //! A scheduler that serves what is due first is never later than it has to be, and one that first serves what can still be
-//! met meets as much as can be met. The rules are Jackson's and Horn's for the greatest lateness and Glover's for the number
-//! of due rounds that are met (Pinedo, Scheduling, on Lmax and on the number of tardy jobs), here for unit commands with
+//! on time has as much on time as can be. The rules are Jackson's and Horn's for the greatest lateness and Glover's for the number
+//! of jobs on time (Pinedo, Scheduling, on Lmax and on the number of tardy jobs), here for unit commands with
 //! release rounds on equal places whose number may change from round to round.
 #![tactic(auto)]
 
@@ -12,9 +12,9 @@ ghost use Rattle.edd_commands.specs.declared.steps.Step.{Step};
 ghost use Rattle.blk_trace.specs.Happened.{Happened};
 ghost use Rattle.blk_trace.specs.Setups.{Setup, IsSetup};
 ghost use Rattle.blk_trace.specs.Legal.{IsLegalTrace};
-ghost use Rattle.blk_online.specs.Ticks.{IsEarliestTrace, IsMeetableTrace};
-ghost use Rattle.blk_online.specs.Best.{EarliestDueFirstIsLeastLate, MeetableFirstMeetsMost, RunsEarliestFirst, RunsMeetableFirst, IsOneSchedule, HasLeastLateness, IsLaterThanLeast, MeetsMost};
-ghost use Rattle.blk_online.specs.Issues.{IsEarliestAtIssues, IsMeetableAtIssues, one_tag, read_too_late};
+ghost use Rattle.blk_online.specs.Ticks.{IsEarliestTrace, IsOnTimeFirstTrace};
+ghost use Rattle.blk_online.specs.Best.{EarliestDueFirstIsLeastLate, OnTimeFirstHasMostOnTime, RunsEarliestFirst, RunsOnTimeFirst, IsOneSchedule, HasLeastLateness, IsLaterThanLeast, HasMostOnTime};
+ghost use Rattle.blk_online.specs.Issues.{IsEarliestAtIssues, ServesOnTimeAtIssues, one_tag, read_too_late};
 
 /// A legal schedule by earliest due date first is least late.
 ///
@@ -23,11 +23,11 @@ pub fn law_of_earliest_due_first()
     ensures { (commands : List Command) → (steps : List Step) → EarliestDueFirstIsLeastLate commands steps }
 {}
 
-/// A legal schedule that first serves what can still be met meets the most, in whatever order it serves the rest.
+/// A legal schedule that first serves what can still be on time has the most on time, in whatever order it serves the rest.
 ///
 /// A law: it does nothing when it runs, and a caller has its clause.
-pub fn law_of_meetable_first()
-    ensures { (commands : List Command) → (steps : List Step) → MeetableFirstMeetsMost commands steps }
+pub fn law_of_on_time_first()
+    ensures { (commands : List Command) → (steps : List Step) → OnTimeFirstHasMostOnTime commands steps }
 {}
 
 /// Where, as each round of a legal trace ends, what went out in it comes before all that waits, and the round is full if
@@ -46,15 +46,15 @@ pub fn law_of_earliest_traces()
         → IsEarliestTrace setup events → HasLeastLateness setup events }
 {}
 
-/// Where that holds of what waits and is due in the round or later, with what went out due then too, the trace meets as many
-/// due rounds as any legal schedule of its commands.
+/// Where that holds of what waits and is due in the round or later, with what went out due then too, the trace has as many
+/// commands on time as any legal schedule of them.
 ///
 /// A law: it does nothing when it runs, and a caller has its clauses.
 pub fn law_of_late_last_traces()
     ensures first { (setup : Setup) → (events : List Happened)
-        → IsMeetableTrace setup events → RunsMeetableFirst setup events }
+        → IsOnTimeFirstTrace setup events → RunsOnTimeFirst setup events }
     ensures most { (setup : Setup) → (events : List Happened)
-        → IsMeetableTrace setup events → MeetsMost setup events }
+        → IsOnTimeFirstTrace setup events → HasMostOnTime setup events }
 {}
 
 /// Read as each command goes out, and not as its round ends, what waits is too little: both laws would be false. In a legal trace a
@@ -66,6 +66,6 @@ pub fn law_of_issues()
     ensures legal { IsSetup one_tag × IsLegalTrace one_tag read_too_late }
     ensures earliest { IsEarliestAtIssues one_tag read_too_late }
     ensures late { IsLaterThanLeast one_tag read_too_late }
-    ensures meetable { IsMeetableAtIssues one_tag read_too_late }
-    ensures missed { MeetsMost one_tag read_too_late → ⊥ }
+    ensures on_time_first { ServesOnTimeAtIssues one_tag read_too_late }
+    ensures missed { HasMostOnTime one_tag read_too_late → ⊥ }
 {}

@@ -19,7 +19,7 @@ use Rattle.blk_text.proofs.TraceLaws as traces
 use Rattle.blk_settings.specs.declared.sched.Sched.TheVariants as sched
 use Rattle.blk_online.specs.Ticks.{AtTicks}
 use Rattle.blk_online_sim.specs.ByRounds.{IsByRounds, HoldsNow}
-use Rattle.blk_online_sim.proofs.Running.{trace_holds, least_late, meets_most}
+use Rattle.blk_online_sim.proofs.Running.{trace_holds, least_late, has_most_on_time}
 use Rattle.blk_online_sim.proofs.Telling as telling
 use Rattle.blk_cli.specs.Gives.{GivesText}
 use Rattle.blk_cli.specs.OfTraces.{IsReportText, IsMissesText}
@@ -59,7 +59,7 @@ none_short u text t is holds = elim (telling.no_shortfall u.setup u.events t.rep
 
 none_avoidable : (u : Traced) (text : List ℕ) → (t : IsMissesText form.Lines u text) → IsTrace u → AtTicks (HoldsNow true u.setup) u.events → t.tally.avoidable ≡ 0
 none_avoidable u text t is holds =
-    telling.none_avoidable u.setup u.events is.legal (meets_most true u.setup u.events is.legal refl holds) t.tally.commands t.tally.late t.tally.unavoidable t.tally.avoidable t.windows t.is_tallied.misses
+    telling.none_avoidable u.setup u.events is.legal (has_most_on_time true u.setup u.events is.legal refl holds) t.tally.commands t.tally.late t.tally.unavoidable t.tally.avoidable t.windows t.is_tallied.misses
 
 -- the report, and the misses, of what a simulation gives
 

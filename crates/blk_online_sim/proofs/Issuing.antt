@@ -28,7 +28,7 @@ use Rattle.blk_core.specs.State.{CoreState}
 use Rattle.blk_core.specs.Calls.{SendsFrom}
 use Rattle.blk_sim.specs.Rounds.{GivesCommand, IssueInTurn, IssuesAll}
 use Rattle.blk_earliest.specs.Choice.{serves_all, earliest_choice, earliest_chooses, earliest_kept, earliest_policy}
-use Rattle.blk_earliest.proofs.Chosen.{choice_first, choice_meetable, choice_none}
+use Rattle.blk_earliest.proofs.Chosen.{choice_first, choice_on_time, choice_none}
 use Rattle.blk_online.specs.Ticks.{AtTicks, WentOut}
 use Rattle.blk_online_sim.specs.ByRounds.{HoldsNow}
 use Rattle.blk_online_sim.proofs.Growing.{legal_before, grows_given}
@@ -48,7 +48,7 @@ Goes true round d i e j = round ≤ e → (round ≤ d) × Before d i e j
 
 goes_first : (late_last : Bool) (round : ℕ) (ws : List Waiting) (w : Waiting) → earliest_choice late_last round ws ≡ Some w → All (λ v. Goes late_last round w.due w.id v.due v.id) ws
 goes_first false round ws w h = (choice_first round ws w h).first
-goes_first true round ws w h = (choice_meetable round ws w h).on_time
+goes_first true round ws w h = (choice_on_time round ws w h).on_time
 
 same_setting : (a b : Bool) → earliest_kept a ≡ earliest_kept b → a ≡ b
 same_setting true true h = refl

@@ -18,7 +18,7 @@ use Rattle.blk_sim.specs.Runs.{Steps, Runs}
 use Rattle.blk_earliest.specs.Choice.{earliest_kept, earliest_policy}
 use Rattle.blk_online.specs.Ticks.{AtTicks}
 use Rattle.blk_online_sim.specs.ByRounds.{HoldsNow, IsByRounds}
-use Rattle.blk_online.specs.Best.{HasLeastLateness, IsOneSchedule, MeetsMost}
+use Rattle.blk_online.specs.Best.{HasLeastLateness, IsOneSchedule, HasMostOnTime}
 use Rattle.blk_online.proofs.Laws.{trace_least, oracle_same, trace_most}
 use Rattle.blk_online_sim.proofs.Growing.{legal_before, grows_run}
 use Rattle.blk_online_sim.proofs.Quiet.{fresh_start}
@@ -72,11 +72,11 @@ script_holds late_last script ls end is by p legal =
 -- ---- a trace that such a script leaves
 
 -- what a simulation says of its trace
-abbrev pub Ran : Scripted → List Line → Meaning → List ℕ → Setup → List Happened → Type 0
-Ran script ls meaning kept setup events =
+abbrev pub HasRun : Scripted → List Line → Meaning → List ℕ → Setup → List Happened → Type 0
+HasRun script ls meaning kept setup events =
     (end : SimState) × Runs earliest_policy ls (start_of script meaning kept) end × (setup ≡ end.core.setup) × (events ≡ end.core.events)
 
-pub trace_holds : (late_last : Bool) (script : Scripted) (ls : List Line) (meaning : Meaning) (kept : List ℕ) (setup : Setup) (events : List Happened) → IsSetup script.setup → meaning ≡ at_start true → kept ≡ earliest_kept late_last → Ran script ls meaning kept setup events → setup ≡ script.setup → IsLegalTrace setup events → All IsByRounds ls → AtTicks (HoldsNow late_last setup) events
+pub trace_holds : (late_last : Bool) (script : Scripted) (ls : List Line) (meaning : Meaning) (kept : List ℕ) (setup : Setup) (events : List Happened) → IsSetup script.setup → meaning ≡ at_start true → kept ≡ earliest_kept late_last → HasRun script ls meaning kept setup events → setup ≡ script.setup → IsLegalTrace setup events → All IsByRounds ls → AtTicks (HoldsNow late_last setup) events
 trace_holds late_last script ls meaning kept setup events is meaning_is kept_is ran own legal by =
     let end : SimState = ran.0 in
     let p : Runs earliest_policy ls (start_of script (at_start true) (earliest_kept late_last)) end =
@@ -92,8 +92,8 @@ least_late late_last setup events legal off holds = trace_least setup events leg
 pub one_schedule : (late_last : Bool) (setup : Setup) (events : List Happened) → IsSetup setup → IsLegalTrace setup events → late_last ≡ false → AtTicks (HoldsNow late_last setup) events → IsOneSchedule setup events
 one_schedule late_last setup events is legal off holds = oracle_same setup events is legal (subst (λ (b : Bool). AtTicks (HoldsNow b setup) events) off holds)
 
-pub meets_most : (late_last : Bool) (setup : Setup) (events : List Happened) → IsLegalTrace setup events → late_last ≡ true → AtTicks (HoldsNow late_last setup) events → MeetsMost setup events
-meets_most late_last setup events legal on holds = trace_most setup events legal (subst (λ (b : Bool). AtTicks (HoldsNow b setup) events) on holds)
+pub has_most_on_time : (late_last : Bool) (setup : Setup) (events : List Happened) → IsLegalTrace setup events → late_last ≡ true → AtTicks (HoldsNow late_last setup) events → HasMostOnTime setup events
+has_most_on_time late_last setup events legal on holds = trace_most setup events legal (subst (λ (b : Bool). AtTicks (HoldsNow b setup) events) on holds)
 
 -- ---- answers
 

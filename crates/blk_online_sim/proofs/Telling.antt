@@ -1,4 +1,4 @@
--- The shortfall of what is least late, and the avoidable misses of what meets the most.
+-- The shortfall of what is least late, and the avoidable misses of what has the most on time.
 use Rattle.std.proofs.Common.{◌≡◌, ◌≤◌, ◌+◌, ℕ, ◌⊎◌, List, [], ◌∷◌, length, nat_lt, Option, None, Some, ℤ, pos, ◌-ℤ◌, ◌≤ℤ◌, inl, inr, arith, refl, ◌∙◌, ap}
 use Rattle.std.specs.List.{zip}
 use Rattle.std.proofs.lemmas.Int.{ints}
@@ -19,7 +19,7 @@ use Rattle.edd_figures.specs.Figures.{HasFigures, shortfall_in}
 use Rattle.edd_figures.specs.declared.missing.Crowd.{Crowd}
 use Rattle.blk_report.specs.Shortfall.{IsReport}
 use Rattle.edd_figures.specs.Misses.{number_late, AreMisses}
-use Rattle.blk_online.specs.Best.{HasLeastLateness, MeetsMost}
+use Rattle.blk_online.specs.Best.{HasLeastLateness, HasMostOnTime}
 use Rattle.blk_online_sim.specs.Told.{HasNoShortfall, HasNoneAvoidable}
 
 -- where the greatest is least there is no shortfall
@@ -36,7 +36,7 @@ none_lost setup events (Some t) least are =
 pub no_shortfall : (setup : Setup) (events : List Happened) (r : Report) → HasLeastLateness setup events → IsReport setup events r → HasNoShortfall setup events r
 no_shortfall setup events r least report = none_lost setup events r.figures least report.figures
 
--- each command is met or late
+-- each command is on time or late
 on_time_or_late : (commands : List Command) (rounds : List ℕ) → length rounds ≡ length commands → number_on_time commands rounds + number_late commands rounds ≡ length commands
 unfolding number_on_time number_late
 on_time_or_late [] rounds same = refl
@@ -46,10 +46,10 @@ on_time_or_late (c ∷ cs) (x ∷ xs) same =
     let p : Command × ℕ = (c, x) in
     elim (cases_lt c.due x) [
       | inl late ↦ omega (arith, rest, count_no (λ (q : Command × ℕ). is_on_time q.0 q.1) p (zip cs xs) (lt-leb x c.due late), count_yes (λ (q : Command × ℕ). nat_lt q.0.due q.1) p (zip cs xs) (lt-ltb c.due x late))
-      | inr met ↦ omega (arith, rest, count_yes (λ (q : Command × ℕ). is_on_time q.0 q.1) p (zip cs xs) (le-leb x c.due met), count_no (λ (q : Command × ℕ). nat_lt q.0.due q.1) p (zip cs xs) (le-ltb c.due x met))
+      | inr in_time ↦ omega (arith, rest, count_yes (λ (q : Command × ℕ). is_on_time q.0 q.1) p (zip cs xs) (le-leb x c.due in_time), count_no (λ (q : Command × ℕ). nat_lt q.0.due q.1) p (zip cs xs) (le-ltb c.due x in_time))
     ]
 
-pub none_avoidable : (setup : Setup) (events : List Happened) → IsLegalTrace setup events → MeetsMost setup events → HasNoneAvoidable setup events
+pub none_avoidable : (setup : Setup) (events : List Happened) → IsLegalTrace setup events → HasMostOnTime setup events → HasNoneAvoidable setup events
 none_avoidable setup events legal most count late unavoidable avoidable windows m =
     let commands : List Command = commands_of setup events in
     let own : IsLegal commands (rounds_of events) (capacity_of setup events) = legal-schedule setup events legal in

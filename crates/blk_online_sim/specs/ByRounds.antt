@@ -10,7 +10,7 @@ use Rattle.blk_text.specs.declared.script.Line.TheVariants as line
 use Rattle.blk_sim.specs.Runs.{Runs}
 use Rattle.blk_sim.specs.State.{SimState, start_of}
 use Rattle.blk_earliest.specs.Choice.{earliest_kept, earliest_policy}
-use Rattle.blk_online.specs.Ticks.{AtTicks, IsEarliestNow, IsMeetableNow}
+use Rattle.blk_online.specs.Ticks.{AtTicks, IsEarliestNow, ServesOnTimeNow}
 
 -- no step by hand: a bio, a flush, a drain, a depth, or whole rounds
 abbrev pub IsByRounds : Line → Type 0
@@ -24,10 +24,10 @@ IsByRounds (line.Depth n) = ⊤
 IsByRounds line.Tick = ⊥
 IsByRounds (line.Run n) = ⊤
 
--- what holds as a round ends, by the setting: earliest due first, or of what can still be met
+-- what holds as a round ends, by the setting: earliest due first, or of what can still be on time
 abbrev pub HoldsNow : Bool → Setup → List Happened → Type 0
 HoldsNow false setup events = IsEarliestNow setup events
-HoldsNow true setup events = IsMeetableNow setup events
+HoldsNow true setup events = ServesOnTimeNow setup events
 
 -- it holds at each end of a round of the legal trace to which such steps of a script lead under earliest
 abbrev pub HoldsByRounds : Bool → Scripted → List Line → SimState → Type 0

@@ -1,4 +1,4 @@
--- What is said about a trace that is least late, and of one that meets the most.
+-- What is said about a trace that is least late, and of one that has the most on time.
 use Rattle.std.specs.Prelude.{◌≡◌, ◌⊎◌, ℕ, List, [], Some, pos}
 use Rattle.blk_trace.specs.Happened.{Happened}
 use Rattle.blk_trace.specs.Setups.{Setup}

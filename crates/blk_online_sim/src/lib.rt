@@ -10,20 +10,17 @@ ghost use Rattle.blk_text.specs.declared.script.Line.{Line};
 ghost use Rattle.blk_text.specs.Script.{Scripted, IsScript, scripted};
 ghost use Rattle.blk_sim.specs.State.{SimState};
 ghost use Rattle.blk_online.specs.Ticks.{AtTicks};
-ghost use Rattle.blk_online.specs.Best.{HasLeastLateness, IsOneSchedule, MeetsMost};
+ghost use Rattle.blk_online.specs.Best.{HasLeastLateness, IsOneSchedule, HasMostOnTime};
 ghost use Rattle.blk_report.specs.declared.figures.Report.{Report};
 ghost use Rattle.blk_report.specs.Shortfall.{IsReport};
 ghost use Rattle.blk_online_sim.specs.Told.{HasNoShortfall, HasNoneAvoidable};
 ghost use Rattle.blk_online_sim.specs.ByRounds.{IsByRounds, HoldsNow, HoldsByRounds};
 
 use blk_earliest::Earliest;
-use blk_sim::{SimFault, SimWhy, simulate};
+use blk_sim::{SETUP_RECORD, SimFault, SimWhy, simulate};
 use blk_text::Script;
 use blk_trace::Trace;
 use std::alloc::Allocator;
-
-/// The record of a script's setup.
-const SETUP_RECORD: u64 = 2;
 
 /// Where a script runs its rounds as a whole, with no issue, done, back or tick by hand, what goes out in a round comes before all
 /// that waits as it ends, and the round is full if anything waits; with `late_last` so of what is due in the round or later.
@@ -40,15 +37,15 @@ pub fn law_of_no_shortfall()
     ensures { (s : Setup) (es : List Happened) (r : Report) → HasLeastLateness s es → IsReport s es r → HasNoShortfall s es r }
 {}
 
-/// None of the misses of a legal trace that meets the most is avoidable.
+/// None of the misses of a legal trace that has the most on time is avoidable.
 ///
 /// A law: it does nothing when it runs, and a caller has its clause.
 pub fn law_of_none_avoidable()
-    ensures { (s : Setup) (es : List Happened) → IsLegalTrace s es → MeetsMost s es → HasNoneAvoidable s es }
+    ensures { (s : Setup) (es : List Happened) → IsLegalTrace s es → HasMostOnTime s es → HasNoneAvoidable s es }
 {}
 
 /// The trace of a script under [`Earliest`], as [`simulate`] runs it. Where the script has bios, flushes, drains, depths and runs
-/// alone, no legal schedule of the trace's own commands has a smaller greatest lateness, and with `late_last` none meets more due
+/// alone, no legal schedule of the trace's own commands has a smaller greatest lateness, and with `late_last` none keeps more due
 /// rounds. Where memory runs out before the scheduler is made, the fault is at the setup's record.
 pub fn simulate_earliest<A: Allocator + Clone>(
     alloc: A,
@@ -61,7 +58,7 @@ pub fn simulate_earliest<A: Allocator + Clone>(
     ensures rounds { IfOk result (λ t. All IsByRounds script.now.lines.items → AtTicks (HoldsNow late_last t.setup) t.events) }
     ensures least { IfOk result (λ t. late_last ≡ false → All IsByRounds script.now.lines.items → HasLeastLateness t.setup t.events) }
     ensures one { IfOk result (λ t. late_last ≡ false → All IsByRounds script.now.lines.items → IsOneSchedule t.setup t.events) }
-    ensures most { IfOk result (λ t. late_last ≡ true → All IsByRounds script.now.lines.items → MeetsMost t.setup t.events) }
+    ensures most { IfOk result (λ t. late_last ≡ true → All IsByRounds script.now.lines.items → HasMostOnTime t.setup t.events) }
 {
     // brings the prover the setup's ranges, which the laws of rounds ask for
     let _ = script.setup.hw();

@@ -1,22 +1,23 @@
 -- How a picture is laid out.
 use Rattle.std.specs.Prelude.{ℕ, ◌+◌, ◌-◌, ◌*◌, ◌/◌, ◌∷◌, [], List, cond, nat_le, max, min}
 use Rattle.blk_picture.specs.declared.scale.Scale.{Scale}
+use Rattle.blk_picture.specs.declared.scale.TheConstants.{MAX_COLUMNS, MAX_WIDE}
 
--- how many rounds a column stands for, where there are at most 400 columns
+-- how many rounds a column stands for, so that there are at most `MAX_COLUMNS`
 unfoldable pub per_of : ℕ → ℕ
-per_of rounds = max ((rounds + 399) / 400) 1
+per_of rounds = max ((rounds + (MAX_COLUMNS - 1)) / MAX_COLUMNS) 1
 
 -- how many columns there are
 unfoldable pub columns_of : ℕ → ℕ
 columns_of rounds = max ((rounds + (per_of rounds - 1)) / per_of rounds) 1
 
--- the scale of a number of rounds and tags: at most 1,200 pixels wide, a column at most 40 and a tag 3 to 24
+-- the scale of a number of rounds and tags: no wider than all columns may be, a column at most 40 and a tag 3 to 24
 unfoldable pub scale_of : ℕ → ℕ → Scale
 scale_of rounds deep = record {
   rounds = rounds;
   per = per_of rounds;
   columns = columns_of rounds;
-  wide = min (1200 / columns_of rounds) 40;
+  wide = min (MAX_WIDE / columns_of rounds) 40;
   deep = deep;
   tall = min (max (384 / max deep 1) 3) 24;
 }

@@ -4,6 +4,7 @@ use Rattle.blk_bio.specs.declared.bio.Dir.{Dir}
 use Rattle.blk_bio.specs.declared.bio.Dir.TheVariants.{Read, Write}
 use Rattle.blk_picture.specs.declared.boxes.IssueBox.{IssueBox}
 use Rattle.blk_picture.specs.declared.scale.Scale.{Scale}
+use Rattle.blk_picture.specs.declared.scale.TheConstants.{LEFT, TOP}
 use Rattle.blk_picture.specs.declared.columns.Column.{Column}
 use Rattle.blk_picture.specs.Columns.{is_late}
 use Rattle.blk_picture.specs.Filled.{filled, texts}
@@ -50,11 +51,11 @@ label_words Write = codes "<text class='n' x='$' y='$'>$</text>\n"
 abbrev pub label_text : Scale → IssueBox → List ℕ
 label_text scale b =
     cond (b.back || (not (is_late b) || not (fits scale (apart b)))) []
-    (filled (label_words b.dir) ((b.round * scale.wide + (64 + scale.wide / 2)) ∷ (b.tag * scale.tall + (182 + scale.tall / 2 + 3)) ∷ apart b ∷ []))
+    (filled (label_words b.dir) ((b.round * scale.wide + (LEFT + scale.wide / 2)) ∷ (b.tag * scale.tall + (TOP + scale.tall / 2 + 3)) ∷ apart b ∷ []))
 
 -- where a box lies: in the column of its round and the row of its tag; and how its title begins
 abbrev pub place_text : Scale → IssueBox → List ℕ
-place_text scale b = filled (codes " x='$' y='$' width='$' height='$'><title>request $, ") ((b.round * scale.wide + 64) ∷ (b.tag * scale.tall + 182) ∷ (scale.wide - 1) ∷ (scale.tall - 1) ∷ b.id ∷ [])
+place_text scale b = filled (codes " x='$' y='$' width='$' height='$'><title>request $, ") ((b.round * scale.wide + LEFT) ∷ (b.tag * scale.tall + TOP) ∷ (scale.wide - 1) ∷ (scale.tall - 1) ∷ b.id ∷ [])
 
 abbrev pub tail_text : IssueBox → List ℕ
 tail_text b = filled (tail_words b) (b.first ∷ b.end ∷ b.release ∷ b.due ∷ b.round ∷ apart b ∷ [])

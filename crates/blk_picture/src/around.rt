@@ -4,17 +4,11 @@ ghost use Rattle.std.specs.Prelude.{◌≡◌, ◌<◌, ◌++◌, OnOk, length};
 ghost use Rattle.blk_picture.specs.Around.{numbers_text, legend, heading_text, tick_text, axis_text, column_at, line_text, named_text, bracket_text, crowded_text, crowd_text, crowds_text, foot_text, windows_text};
 
 use crate::filled::fill;
-use crate::scale::{Scale, place, step_of};
+use crate::scale::{LEFT, MAX_WIDE, Scale, TOP, place, step_of};
 use blk_report::{Report, Tally, report_lines};
 use drafts::Draft;
 use edd_figures::{Crowd, Figures};
 use std::alloc::{AllocError, Global};
-
-/// Where the columns begin, from the left.
-const LEFT: u32 = 64;
-
-/// No column is wider, in pixels.
-const WIDEST: u32 = 1200;
 
 /// How many windows of misses are drawn at most.
 const MAX_CROWDS: usize = 400;
@@ -112,7 +106,7 @@ fn push_line(draft: &mut Draft, scale: &Scale, row: u32, crowd: Crowd) -> Result
     let first = column_at(scale, crowd.window.from);
     let last = column_at(scale, crowd.window.due);
     let from = place(first, scale.wide, LEFT);
-    let to = place(last, scale.wide, LEFT + scale.wide.min(WIDEST));
+    let to = place(last, scale.wide, LEFT + scale.wide.min(MAX_WIDE));
     let top = place(row, 28, 28);
     fill(
         draft,
@@ -226,7 +220,7 @@ fn push_crowds(draft: &mut Draft, scale: &Scale, crowds: &[Crowd]) -> Result<(),
 fn push_foot(draft: &mut Draft, scale: &Scale) -> Result<(), AllocError>
     ensures { OnOk result (draft.new ≡ draft.old ++ foot_text scale.now) }
 {
-    let foot = place(scale.deep, scale.tall, 182);
+    let foot = place(scale.deep, scale.tall, TOP);
     fill(draft, b"<g transform='translate(0,$)'>\n", &[foot])
 }
 

@@ -15,7 +15,7 @@ use std::alloc::{AllocError, Global};
 use std::collections::BTreeMap;
 
 /// How many numbers of tags there are: those of 16 bits.
-const TAGS: usize = 1 << 16;
+const TAG_NUMBERS: usize = 1 << 16;
 
 /// An Issue, with the request as it was issued.
 #[derive(Clone, Copy)]
@@ -36,7 +36,7 @@ pub struct IssueBox {
     pub round: u32,
     /// The tag of the Issue.
     pub tag: u16,
-    /// Whether the device handed it back.
+    /// Whether it was requeued.
     pub back: bool,
 }
 
@@ -110,7 +110,7 @@ pub(crate) fn boxes(alloc: Global, trace: &Trace) -> Result<Vec<IssueBox>, Alloc
     let setup = trace.setup();
     let facts = gathered(alloc, &setup, trace.events())?;
     let mut backs = Vec::new(alloc);
-    backs.resize(TAGS, false)?;
+    backs.resize(TAG_NUMBERS, false)?;
     let mut boxes = Vec::new(alloc);
     let mut round = trace.round();
     let mut left = trace.events().len();

@@ -8,7 +8,7 @@ ghost use Rattle.blk_trace.specs.Meaning.{greatest};
 ghost use Rattle.blk_trace.specs.Setups.{same_dir};
 ghost use Rattle.blk_picture.specs.Boxes.{boxes_of};
 ghost use Rattle.blk_picture.specs.Filled.{made};
-ghost use Rattle.blk_picture.specs.Columns.{is_late, round_in, rounds_in, entry_in, entered_in, in_column, waits_of, peaks_of, rooms_of, column_at, column_of};
+ghost use Rattle.blk_picture.specs.Columns.{is_late, round_in, rounds_in, entry_in, entered_in, in_column, waits_of, peaks_of, rooms_of, column_from, column_of};
 ghost use Rattle.blk_picture.specs.Inside.Counted.{HasOneMore, AreCounts, most_waits, by_column};
 
 use crate::boxes::IssueBox;

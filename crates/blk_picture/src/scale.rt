@@ -4,10 +4,16 @@ ghost use Rattle.std.specs.Prelude.{◌≡◌, ◌≤◌, ◌<◌, ◌+◌, ◌*
 ghost use Rattle.blk_picture.specs.Scales.{scale_of, step_of};
 
 /// The most columns of a picture.
-const COLUMNS: u32 = 400;
+const MAX_COLUMNS: u32 = 400;
 
 /// How many pixels all columns take at most.
-const WIDTH: u32 = 1200;
+pub const MAX_WIDE: u32 = 1200;
+
+/// Where the columns begin, from the left.
+pub const LEFT: u32 = 64;
+
+/// Where the tags begin, from the top of a part.
+pub const TOP: u32 = 182;
 
 /// The scale of a picture.
 #[derive(Clone, Copy)]
@@ -36,13 +42,13 @@ impl Scale {
         ensures low { result.tall ≤ 24 }
         ensures deep { result.deep ≡ deep }
     {
-        let per = ((rounds + (COLUMNS - 1)) / COLUMNS).max(1);
+        let per = ((rounds + (MAX_COLUMNS - 1)) / MAX_COLUMNS).max(1);
         let columns = ((rounds + (per - 1)) / per).max(1);
         Scale {
             rounds,
             per,
             columns,
-            wide: (WIDTH / columns).min(40),
+            wide: (MAX_WIDE / columns).min(40),
             deep,
             tall: (384 / deep.max(1)).max(3).min(24),
         }

@@ -6,16 +6,10 @@ ghost use Rattle.blk_picture.specs.Shapes.{class_words, dir_words, tail_words, a
 use crate::boxes::IssueBox;
 use crate::columns::{Column, is_late};
 use crate::filled::fill;
-use crate::scale::{Scale, place};
+use crate::scale::{LEFT, Scale, TOP, place};
 use blk_bio::Dir;
 use drafts::Draft;
 use std::alloc::AllocError;
-
-/// Where the columns begin, from the left.
-const LEFT: u32 = 64;
-
-/// Where the tags begin, from the top of a part.
-const TOP: u32 = 182;
 
 /// How a box begins, by its class.
 fn class_words(issued: &IssueBox) -> &'static [u8]

@@ -4,7 +4,7 @@ use Rattle.std.specs.List.{filter, All}
 use Rattle.std.proofs.lemmas.Bool.{cases_Bool, cases_lt, le-leb, lt-leb, lt-ltb, le-ltb}
 use Rattle.std.proofs.lemmas.List.{length-take-le, take-take, take_all, take-append-le, take-map, length-map, length-append, length_push, get_or_push, get_or_append_left, get_or-map}
 use Rattle.std.proofs.lemmas.List.Sums.{sum_by-cons, sum_by-append, sum_by_more, sum_by-take-le, count_by-le-length, length-filter}
-use Rattle.blk_report.specs.declared.below.Ask.{Ask}
+use Rattle.blk_report.specs.declared.below.CountAsk.{CountAsk}
 use Rattle.blk_report.specs.Inside.Below.{number_below, AreBelow, halves, half_of, answer_of, IsAskWithin}
 
 abbrev pub one_if : Bool → ℕ
@@ -181,7 +181,7 @@ high_place xs u b i k h is =
     omega (arith, sum, above u b h (take i xs))
 
 -- the two places of a question, in the halves
-pub record IsHalved (xs : List ℕ) (u : ℕ) (a : Ask) : Type 0 where
+pub record IsHalved (xs : List ℕ) (u : ℕ) (a : CountAsk) : Type 0 where
   pub started : number_below xs u a.start ≤ a.start
   pub ended : number_below xs u a.end ≤ a.end
   pub rises : number_below xs u a.start ≤ number_below xs u a.end
@@ -189,7 +189,7 @@ pub record IsHalved (xs : List ℕ) (u : ℕ) (a : Ask) : Type 0 where
   pub forward : a.start - number_below xs u a.start ≤ a.end - number_below xs u a.end
   pub within : number_below xs u (length xs) + (a.end - number_below xs u a.end) ≤ length xs
 
-pub is_halved : (xs : List ℕ) (u limit : ℕ) (a : Ask) → IsAskWithin xs limit a → IsHalved xs u a
+pub is_halved : (xs : List ℕ) (u limit : ℕ) (a : CountAsk) → IsAskWithin xs limit a → IsHalved xs u a
 is_halved xs u limit a is =
     let start_in : a.start ≤ length xs = omega (arith, is.forward, is.within) in
     let s = others_left xs u a.start start_in in
@@ -206,10 +206,10 @@ is_halved xs u limit a is =
       within = omega (arith, e, l, top);
     }
 
-abbrev lower : List ℕ → ℕ → Ask → Ask
+abbrev lower : List ℕ → ℕ → CountAsk → CountAsk
 lower xs u a = record { start = number_below xs u a.start; end = number_below xs u a.end; bound = a.bound; count = a.count }
 
-abbrev upper : List ℕ → ℕ → Ask → Ask
+abbrev upper : List ℕ → ℕ → CountAsk → CountAsk
 upper xs u a = record {
   start = number_below xs u (length xs) + (a.start - number_below xs u a.start);
   end = number_below xs u (length xs) + (a.end - number_below xs u a.end);
@@ -217,19 +217,19 @@ upper xs u a = record {
   count = a.count + (number_below xs u a.end - number_below xs u a.start);
 }
 
-pub half_low : (xs : List ℕ) (u : ℕ) (a : Ask) → a.bound < u → half_of xs u a ≡ lower xs u a
+pub half_low : (xs : List ℕ) (u : ℕ) (a : CountAsk) → a.bound < u → half_of xs u a ≡ lower xs u a
 unfolding half_of
 half_low xs u a h = ap (λ t. cond t (lower xs u a) (upper xs u a)) (lt-ltb a.bound u h)
 
-pub half_high : (xs : List ℕ) (u : ℕ) (a : Ask) → u ≤ a.bound → half_of xs u a ≡ upper xs u a
+pub half_high : (xs : List ℕ) (u : ℕ) (a : CountAsk) → u ≤ a.bound → half_of xs u a ≡ upper xs u a
 unfolding half_of
 half_high xs u a h = ap (λ t. cond t (lower xs u a) (upper xs u a)) (le-ltb a.bound u h)
 
-low_answer : (xs : List ℕ) (u : ℕ) (a : Ask) → a.bound < u → answer_of (halves u xs) (lower xs u a) ≡ answer_of xs a
+low_answer : (xs : List ℕ) (u : ℕ) (a : CountAsk) → a.bound < u → answer_of (halves u xs) (lower xs u a) ≡ answer_of xs a
 unfolding answer_of
 low_answer xs u a h = omega (arith, low_place xs u a.bound a.start h, low_place xs u a.bound a.end h)
 
-pub high_answer : (xs : List ℕ) (u limit : ℕ) (a : Ask) → IsAskWithin xs limit a → u ≤ a.bound → answer_of (halves u xs) (upper xs u a) ≡ answer_of xs a
+pub high_answer : (xs : List ℕ) (u limit : ℕ) (a : CountAsk) → IsAskWithin xs limit a → u ≤ a.bound → answer_of (halves u xs) (upper xs u a) ≡ answer_of xs a
 unfolding answer_of
 high_answer xs u limit a is h =
     let start_in : a.start ≤ length xs = omega (arith, is.forward, is.within) in
@@ -244,7 +244,7 @@ high_answer xs u limit a is h =
     let up' = below_up xs a.bound a.start a.end is.forward in
     omega (arith, one, two, up, up', halved.rises)
 
-pub same_answer : (xs : List ℕ) (u limit : ℕ) (a : Ask) → IsAskWithin xs limit a → answer_of (halves u xs) (half_of xs u a) ≡ answer_of xs a
+pub same_answer : (xs : List ℕ) (u limit : ℕ) (a : CountAsk) → IsAskWithin xs limit a → answer_of (halves u xs) (half_of xs u a) ≡ answer_of xs a
 same_answer xs u limit a is =
     elim (cases_lt a.bound u) [
       | inl low ↦ ap (λ b. answer_of (halves u xs) b) (half_low xs u a low) ∙ low_answer xs u a low
@@ -252,12 +252,12 @@ same_answer xs u limit a is =
     ]
 
 -- the count does not outgrow the list
-pub count_fits : (xs : List ℕ) (u limit : ℕ) (a : Ask) → IsAskWithin xs limit a → u ≤ a.bound → a.count + (number_below xs u a.end - number_below xs u a.start) ≤ length xs
+pub count_fits : (xs : List ℕ) (u limit : ℕ) (a : CountAsk) → IsAskWithin xs limit a → u ≤ a.bound → a.count + (number_below xs u a.end - number_below xs u a.start) ≤ length xs
 unfolding answer_of
 count_fits xs u limit a is h = omega (arith, high_answer xs u limit a is h, is.small)
 
 -- half the limit is left
-pub next_ask : (xs : List ℕ) (u limit : ℕ) (a : Ask) → u ≡ limit - limit / 2 → IsAskWithin xs limit a → IsAskWithin (halves u xs) (limit / 2) (half_of xs u a)
+pub next_ask : (xs : List ℕ) (u limit : ℕ) (a : CountAsk) → u ≡ limit - limit / 2 → IsAskWithin xs limit a → IsAskWithin (halves u xs) (limit / 2) (half_of xs u a)
 next_ask xs u limit a half is =
     let at = is_halved xs u limit a is in
     let many = halves_many xs u in
@@ -283,7 +283,7 @@ next_ask xs u limit a half is =
     ]
 
 -- nothing is left to count below 0
-pub answered : (xs : List ℕ) (a : Ask) → IsAskWithin xs 0 a → answer_of xs a ≡ a.count
+pub answered : (xs : List ℕ) (a : CountAsk) → IsAskWithin xs 0 a → answer_of xs a ≡ a.count
 unfolding answer_of
 answered xs a is =
     let none : a.bound ≡ 0 = omega (arith, is.bounded) in
@@ -310,21 +310,21 @@ map_same f h k (x ∷ xs) is =
     let rest : map h (map f xs) ≡ map k xs = map_same f h k xs (λ i d l. is (suc i) d (omega (arith, l))) in
     ap (λ z. z ∷ map h (map f xs)) one ∙ ap (λ l. k x ∷ l) rest
 
-pub half_limit : (xs : List ℕ) (u limit : ℕ) (asks : List Ask) → All (IsAskWithin xs limit) asks → map (answer_of (halves u xs)) (map (half_of xs u) asks) ≡ map (answer_of xs) asks
+pub half_limit : (xs : List ℕ) (u limit : ℕ) (asks : List CountAsk) → All (IsAskWithin xs limit) asks → map (answer_of (halves u xs)) (map (half_of xs u) asks) ≡ map (answer_of xs) asks
 half_limit xs u limit asks are = map_same (half_of xs u) (answer_of (halves u xs)) (answer_of xs) asks (λ i d l. same_answer xs u limit (get_or asks i d) (are i d l))
 
-pub all_halved : (xs : List ℕ) (u limit : ℕ) (asks : List Ask) → u ≡ limit - limit / 2 → All (IsAskWithin xs limit) asks → All (IsAskWithin (halves u xs) (limit / 2)) (map (half_of xs u) asks)
+pub all_halved : (xs : List ℕ) (u limit : ℕ) (asks : List CountAsk) → u ≡ limit - limit / 2 → All (IsAskWithin xs limit) asks → All (IsAskWithin (halves u xs) (limit / 2)) (map (half_of xs u) asks)
 all_halved xs u limit asks half are i d l =
-    let none : Ask = record { start = 0; end = 0; bound = 0; count = 0 } in
+    let none : CountAsk = record { start = 0; end = 0; bound = 0; count = 0 } in
     let low : i < length asks = omega (arith, l, length-map asks (half_of xs u)) in
     subst (IsAskWithin (halves u xs) (limit / 2)) (sym (get_or-map (half_of xs u) asks i none d low)) (next_ask xs u limit (get_or asks i none) half (are i none low))
 
-pub all_asks : (xs : List ℕ) (limit : ℕ) (asks : List Ask) → All (IsAskWithin xs limit) asks → All (IsAskWithin xs ((limit - limit / 2) + (limit - limit / 2))) asks
+pub all_asks : (xs : List ℕ) (limit : ℕ) (asks : List CountAsk) → All (IsAskWithin xs limit) asks → All (IsAskWithin xs ((limit - limit / 2) + (limit - limit / 2))) asks
 all_asks xs limit asks are i d l =
     let is = are i d l in
     record { forward = is.forward; within = is.within; bounded = omega (arith, is.bounded); small = is.small }
 
-pub all_answered : (xs : List ℕ) (asks : List Ask) → All (IsAskWithin xs 0) asks → map (answer_of xs) asks ≡ map (λ a. a.count) asks
+pub all_answered : (xs : List ℕ) (asks : List CountAsk) → All (IsAskWithin xs 0) asks → map (answer_of xs) asks ≡ map (λ a. a.count) asks
 all_answered xs [] are = refl
 all_answered xs (a ∷ asks) are =
     let one : answer_of xs a ≡ a.count = answered xs a (are 0 a (omega arith)) in
@@ -332,26 +332,26 @@ all_answered xs (a ∷ asks) are =
     ap (λ n. n ∷ map (answer_of xs) asks) one ∙ ap (λ l. a.count ∷ l) rest
 
 -- the counts that a question reads
-pub record IsTold (xs : List ℕ) (u : ℕ) (counts : List ℕ) (a : Ask) : Type 0 where
+pub record IsTold (xs : List ℕ) (u : ℕ) (counts : List ℕ) (a : CountAsk) : Type 0 where
   pub start : get_or counts a.start 0 ≡ number_below xs u a.start
   pub end : get_or counts a.end 0 ≡ number_below xs u a.end
   pub all : get_or counts (length xs) 0 ≡ number_below xs u (length xs)
 
-pub told : (xs : List ℕ) (u limit : ℕ) (counts : List ℕ) (a : Ask) → AreBelow xs u counts → IsAskWithin xs limit a → IsTold xs u counts a
+pub told : (xs : List ℕ) (u limit : ℕ) (counts : List ℕ) (a : CountAsk) → AreBelow xs u counts → IsAskWithin xs limit a → IsTold xs u counts a
 told xs u limit counts a are is = record {
   start = are.at a.start (omega (arith, is.forward, is.within));
   end = are.at a.end is.within;
   all = are.at (length xs) (omega arith);
 }
 
-pub told_low : (xs : List ℕ) (u limit : ℕ) (counts : List ℕ) (a : Ask) → AreBelow xs u counts → IsAskWithin xs limit a → a.bound < u → (let z : Ask = record { start = get_or counts a.start 0; end = get_or counts a.end 0; bound = a.bound; count = a.count } in z) ≡ half_of xs u a
+pub told_low : (xs : List ℕ) (u limit : ℕ) (counts : List ℕ) (a : CountAsk) → AreBelow xs u counts → IsAskWithin xs limit a → a.bound < u → (let z : CountAsk = record { start = get_or counts a.start 0; end = get_or counts a.end 0; bound = a.bound; count = a.count } in z) ≡ half_of xs u a
 told_low xs u limit counts a are is h =
     let at = told xs u limit counts a are is in
-    let make : ℕ → ℕ → Ask = λ s e. record { start = s; end = e; bound = a.bound; count = a.count } in
+    let make : ℕ → ℕ → CountAsk = λ s e. record { start = s; end = e; bound = a.bound; count = a.count } in
     ap (λ s. make s (get_or counts a.end 0)) at.start ∙ ap (λ e. make (number_below xs u a.start) e) at.end ∙ sym (half_low xs u a h)
 
-pub told_high : (xs : List ℕ) (u limit : ℕ) (counts : List ℕ) (a : Ask) → AreBelow xs u counts → IsAskWithin xs limit a → u ≤ a.bound
-    → (let z : Ask = record {
+pub told_high : (xs : List ℕ) (u limit : ℕ) (counts : List ℕ) (a : CountAsk) → AreBelow xs u counts → IsAskWithin xs limit a → u ≤ a.bound
+    → (let z : CountAsk = record {
       start = get_or counts (length xs) 0 + (a.start - get_or counts a.start 0);
       end = get_or counts (length xs) 0 + (a.end - get_or counts a.end 0);
       bound = a.bound - u;
@@ -359,7 +359,7 @@ pub told_high : (xs : List ℕ) (u limit : ℕ) (counts : List ℕ) (a : Ask) �
     } in z) ≡ half_of xs u a
 told_high xs u limit counts a are is h =
     let at = told xs u limit counts a are is in
-    let make : ℕ → ℕ → ℕ → Ask = λ m s e. record { start = m + (a.start - s); end = m + (a.end - e); bound = a.bound - u; count = a.count + (e - s) } in
+    let make : ℕ → ℕ → ℕ → CountAsk = λ m s e. record { start = m + (a.start - s); end = m + (a.end - e); bound = a.bound - u; count = a.count + (e - s) } in
     ap (λ m. make m (get_or counts a.start 0) (get_or counts a.end 0)) at.all
     ∙ ap (λ s. make (number_below xs u (length xs)) s (get_or counts a.end 0)) at.start
     ∙ ap (λ e. make (number_below xs u (length xs)) (number_below xs u a.start) e) at.end

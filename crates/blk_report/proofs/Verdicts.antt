@@ -43,8 +43,8 @@ are_told P (x ∷ xs) [] h each = absurd (omega arith)
 are_told P (x ∷ xs) (None ∷ vs) h each =
     let late : List Service = filter is_late_service xs in
     let told : List Verdict = filter_map (λ (o : Option Verdict). o) vs in
-    let met : x.issue ≤ x.due = each 0 x (omega arith) in
-    let same : filter is_late_service (x ∷ xs) ≡ late = rw (le-ltb x.due x.issue met) refl in
+    let in_time : x.issue ≤ x.due = each 0 x (omega arith) in
+    let same : filter is_late_service (x ∷ xs) ≡ late = rw (le-ltb x.due x.issue in_time) refl in
     let rest : AreTold (λ k. P (suc k)) xs late told = are_told (λ k. P (suc k)) xs vs (omega arith) (λ k d l. each (suc k) d (omega arith)) in
     subst (λ (l : List Service). AreTold P (x ∷ xs) l told) (sym same) (record { long = rest.long; at = λ k d w l. one_on P x xs (get_or late k d) (get_or told k w) (rest.at k d w l) })
 are_told P (x ∷ xs) (Some v ∷ vs) h each =
@@ -80,7 +80,7 @@ module _ (xs : List Service) (steps : List Step) where
   issued_here k d h = get_or-map (λ (s : Service). s.issue) xs k d 0 h
 
   stands : HaveOne → (k : ℕ) (d : Service) (o : Option Verdict) → k < length xs → IsVerdictAt commands rounds steps k o → Stands IsOnly k (get_or xs k d) o
-  stands one k d None h met = omega (arith, met none, due_here k d none h, issued_here k d h)
+  stands one k d None h in_time = omega (arith, in_time none, due_here k d none h, issued_here k d h)
   stands one k d (Some v) h is =
       let found = one k (omega (arith, length-map xs command_in)) is.0 in
       let only : (other : Verdict) → IsVerdict commands rounds steps k other → other ≡ v = λ other right. found.2 other right ∙ sym (found.2 v is.1) in

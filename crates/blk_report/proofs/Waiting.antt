@@ -15,7 +15,7 @@ use Rattle.edd_verdict.specs.declared.Verdict.TheVariants.{Arrival}
 use Rattle.blk_bio.specs.declared.bio.Dir.TheVariants.{Read}
 use Rattle.blk_report.specs.declared.serving.Service.{Service}
 use Rattle.blk_report.specs.declared.delays.LateCommand.{LateCommand}
-use Rattle.blk_report.specs.declared.below.Ask.{Ask}
+use Rattle.blk_report.specs.declared.below.CountAsk.{CountAsk}
 use Rattle.std.specs.List.Sorted.{IsPartitionPoint, IsPartitionedBy}
 use Rattle.std.proofs.lemmas.List.Sorted.{IsPartitionedBy-ltb, IsNonDecreasingBy-from_default}
 use Rattle.blk_report.specs.Services.{AreWithinLimits, AreInIssueOrder}
@@ -192,7 +192,7 @@ pub record IsWaited (xs : List Service) (steps : List Step) (s : Service) (place
   pub later_is : sooner + later_of xs s ≡ places
   pub fits : places ≤ carried steps s.release (s.issue - s.release)
 
-pub is_waited : (xs : List Service) (steps : List Step) (s : Service) (a : Ask) → s.release ≤ s.issue → IsAskOfWait xs s a → FitsIn xs steps → IsWaited xs steps s (a.end - a.start) (answer_of (map (λ s. s.due) xs) a)
+pub is_waited : (xs : List Service) (steps : List Step) (s : Service) (a : CountAsk) → s.release ≤ s.issue → IsAskOfWait xs s a → FitsIn xs steps → IsWaited xs steps s (a.end - a.start) (answer_of (map (λ s. s.due) xs) a)
 unfolding sooner_of later_of answer_of
 is_waited xs steps s a le is within =
     let q : Service → Bool = λ t. nat_le t.due s.due in
@@ -219,7 +219,7 @@ is_waited xs steps s a le is within =
     }
 
 -- one late command: its places are in range, and its row says what is to be said
-pub one_row : (xs : List Service) (steps : List Step) (last : ℕ) (sums : List ℕ) (s : Service) (a : Ask) (n : ℕ) (v : Verdict) → s.due < s.issue → s.release ≤ s.issue → s.issue ≤ last → IsAskOfWait xs s a → FitsIn xs steps → AreCarried steps last sums → n ≡ answer_of (map (λ s. s.due) xs) a
+pub one_row : (xs : List Service) (steps : List Step) (last : ℕ) (sums : List ℕ) (s : Service) (a : CountAsk) (n : ℕ) (v : Verdict) → s.due < s.issue → s.release ≤ s.issue → s.issue ≤ last → IsAskOfWait xs s a → FitsIn xs steps → AreCarried steps last sums → n ≡ answer_of (map (λ s. s.due) xs) a
     → CanWait sums s (a.end - a.start) n × IsLateCommand xs steps (late_command sums s (a.end - a.start) n v)
 one_row xs steps last sums s a n v late released in_time asks fits are is =
     let w = is_waited xs steps s a released asks fits in
@@ -256,12 +256,12 @@ dues_all limit xs all k d h =
     subst (λ n. n < limit) (get_or-map due xs k d 0 h) (all k 0 (omega (arith, h, length-map xs due)))
 
 -- the questions can be asked
-pub asks_are : (xs : List Service) (steps : List Step) (late : List Service) (asks : List Ask) (limit : ℕ) → AreWithinLimits xs → FitsIn xs steps → late ≡ filter is_late_service xs → length asks ≡ length late
-    → ((k : ℕ) (d : Service) (e : Ask) → k < length late → IsAskOfWait xs (get_or late k d) (get_or asks k e)) → All (λ x. x < limit) (map (λ s. s.due) xs) → All (IsAskWithin (map (λ s. s.due) xs) limit) asks
+pub asks_are : (xs : List Service) (steps : List Step) (late : List Service) (asks : List CountAsk) (limit : ℕ) → AreWithinLimits xs → FitsIn xs steps → late ≡ filter is_late_service xs → length asks ≡ length late
+    → ((k : ℕ) (d : Service) (e : CountAsk) → k < length late → IsAskOfWait xs (get_or late k d) (get_or asks k e)) → All (λ x. x < limit) (map (λ s. s.due) xs) → All (IsAskWithin (map (λ s. s.due) xs) limit) asks
 asks_are xs steps late asks limit timed fits is long are under k e h =
     let low : k < length late = omega (arith, h, long) in
     let s : Service = get_or late k unserved in
-    let a : Ask = get_or asks k e in
+    let a : CountAsk = get_or asks k e in
     let at = are k unserved e low in
     let released : s.release ≤ s.issue = late_all (λ s. s.release ≤ s.issue) xs late is timed.released k unserved low in
     let due : s.due < limit = late_all (λ s. s.due < limit) xs late is (dues_all limit xs under) k unserved low in
@@ -274,22 +274,22 @@ asks_are xs steps late asks limit timed fits is long are under k e h =
       small = omega (arith, w.sooner_is, w.later_is, at.end.within, many);
     }
 
-pub asks_forward : (xs : List ℕ) (limit : ℕ) (asks : List Ask) → All (IsAskWithin xs limit) asks → All (λ a. a.start ≤ a.end) asks
+pub asks_forward : (xs : List ℕ) (limit : ℕ) (asks : List CountAsk) → All (IsAskWithin xs limit) asks → All (λ a. a.start ≤ a.end) asks
 asks_forward xs limit asks are k e h = (are k e h).forward
 
 -- what was counted of each
-counted_each : (f : Ask → ℕ) (asks counted : List Ask) → map (λ a. a.count) counted ≡ map f asks → (length counted ≡ length asks) × ((k : ℕ) (e c : Ask) → k < length asks → (get_or counted k c).count ≡ f (get_or asks k e))
+counted_each : (f : CountAsk → ℕ) (asks counted : List CountAsk) → map (λ a. a.count) counted ≡ map f asks → (length counted ≡ length asks) × ((k : ℕ) (e c : CountAsk) → k < length asks → (get_or counted k c).count ≡ f (get_or asks k e))
 counted_each f asks counted is =
-    let count : Ask → ℕ = λ a. a.count in
+    let count : CountAsk → ℕ = λ a. a.count in
     let long : length counted ≡ length asks = omega (arith, ap length is, length-map counted count, length-map asks f) in
     (long, λ k e c h. sym (get_or-map count counted k c 0 (omega (arith, h, long))) ∙ ap (λ l. get_or l k 0) is ∙ get_or-map f asks k e 0 h)
 
-pub counted_many : (f : Ask → ℕ) (asks counted : List Ask) → map (λ a. a.count) counted ≡ map f asks → length counted ≡ length asks
+pub counted_many : (f : CountAsk → ℕ) (asks counted : List CountAsk) → map (λ a. a.count) counted ≡ map f asks → length counted ≡ length asks
 counted_many f asks counted is = (counted_each f asks counted is).0
 
-pub each_row : (xs : List Service) (steps : List Step) (last : ℕ) (sums : List ℕ) (late : List Service) (asks counted : List Ask) → AreWithinLimits xs → FitsIn xs steps → All (λ s. s.issue ≤ last) xs → AreCarried steps last sums → late ≡ filter is_late_service xs → length asks ≡ length late
-    → ((k : ℕ) (d : Service) (e : Ask) → k < length late → IsAskOfWait xs (get_or late k d) (get_or asks k e)) → map (λ a. a.count) counted ≡ map (answer_of (map (λ s. s.due) xs)) asks
-    → (k : ℕ) (d : Service) (e c : Ask) (v : Verdict) → k < length late → CanWait sums (get_or late k d) ((get_or asks k e).end - (get_or asks k e).start) (get_or counted k c).count × IsLateCommand xs steps (late_command sums (get_or late k d) ((get_or asks k e).end - (get_or asks k e).start) (get_or counted k c).count v)
+pub each_row : (xs : List Service) (steps : List Step) (last : ℕ) (sums : List ℕ) (late : List Service) (asks counted : List CountAsk) → AreWithinLimits xs → FitsIn xs steps → All (λ s. s.issue ≤ last) xs → AreCarried steps last sums → late ≡ filter is_late_service xs → length asks ≡ length late
+    → ((k : ℕ) (d : Service) (e : CountAsk) → k < length late → IsAskOfWait xs (get_or late k d) (get_or asks k e)) → map (λ a. a.count) counted ≡ map (answer_of (map (λ s. s.due) xs)) asks
+    → (k : ℕ) (d : Service) (e c : CountAsk) (v : Verdict) → k < length late → CanWait sums (get_or late k d) ((get_or asks k e).end - (get_or asks k e).start) (get_or counted k c).count × IsLateCommand xs steps (late_command sums (get_or late k d) ((get_or asks k e).end - (get_or asks k e).start) (get_or counted k c).count v)
 each_row xs steps last sums late asks counted timed fits before sum is long are counts k d e c v h =
     one_row xs steps last sums (get_or late k d) (get_or asks k e) (get_or counted k c).count v
     (late_late xs late is k d h)
@@ -299,18 +299,18 @@ each_row xs steps last sums late asks counted timed fits before sum is long are 
     ((counted_each (answer_of (map (λ (s : Service). s.due) xs)) asks counted counts).1 k e c (omega (arith, h, long)))
 
 -- what is said of each, by place and whatever its verdict
-abbrev pub AllTold : List Service → List Step → List ℕ → List Service → List Ask → List Ask → Type 0
+abbrev pub AllTold : List Service → List Step → List ℕ → List Service → List CountAsk → List CountAsk → Type 0
 AllTold xs steps sums late asks counted =
-    (k : ℕ) (d : Service) (e c : Ask) (v : Verdict) → k < length late → CanWait sums (get_or late k d) ((get_or asks k e).end - (get_or asks k e).start) (get_or counted k c).count × IsLateCommand xs steps (late_command sums (get_or late k d) ((get_or asks k e).end - (get_or asks k e).start) (get_or counted k c).count v)
+    (k : ℕ) (d : Service) (e c : CountAsk) (v : Verdict) → k < length late → CanWait sums (get_or late k d) ((get_or asks k e).end - (get_or asks k e).start) (get_or counted k c).count × IsLateCommand xs steps (late_command sums (get_or late k d) ((get_or asks k e).end - (get_or asks k e).start) (get_or counted k c).count v)
 
 -- all of them
-pub rows_are : (xs : List Service) (steps : List Step) (sums : List ℕ) (late : List Service) (told : List Verdict) (asks counted : List Ask) (rows : List LateCommand) → late ≡ filter is_late_service xs → length rows ≡ length late
-    → ((k : ℕ) (d : Service) (e c : Ask) (v : Verdict) (r : LateCommand) → k < length late → get_or rows k r ≡ late_command sums (get_or late k d) ((get_or asks k e).end - (get_or asks k e).start) (get_or counted k c).count (get_or told k v))
+pub rows_are : (xs : List Service) (steps : List Step) (sums : List ℕ) (late : List Service) (told : List Verdict) (asks counted : List CountAsk) (rows : List LateCommand) → late ≡ filter is_late_service xs → length rows ≡ length late
+    → ((k : ℕ) (d : Service) (e c : CountAsk) (v : Verdict) (r : LateCommand) → k < length late → get_or rows k r ≡ late_command sums (get_or late k d) ((get_or asks k e).end - (get_or asks k e).start) (get_or counted k c).count (get_or told k v))
     → AllTold xs steps sums late asks counted
-    → ((k : ℕ) (d : Service) (e c : Ask) (v : Verdict) → k < length late → HasVerdict xs steps (late_command sums (get_or late k d) ((get_or asks k e).end - (get_or asks k e).start) (get_or counted k c).count (get_or told k v)))
+    → ((k : ℕ) (d : Service) (e c : CountAsk) (v : Verdict) → k < length late → HasVerdict xs steps (late_command sums (get_or late k d) ((get_or asks k e).end - (get_or asks k e).start) (get_or counted k c).count (get_or told k v)))
     → AreAllLate xs steps rows
 rows_are xs steps sums late told asks counted rows is long are each judged =
-    let no_ask : Ask = record { start = 0; end = 0; bound = 0; count = 0 } in
+    let no_ask : CountAsk = record { start = 0; end = 0; bound = 0; count = 0 } in
     let of : LateCommand → Service = λ l. l.service in
     let no_row : LateCommand = record { service = unserved; lateness = 0; sooner = 0; later = 0; idle = 0; verdict = Arrival } in
     let many : length (map of rows) ≡ length late = length-map rows of ∙ long in
@@ -336,8 +336,8 @@ row_push P n old x new long is before now = (
   ],
 )
 
-pub ask_push : (P : ℕ → Ask → Type 0) (n : ℕ) (old : List Ask) (x : Ask) (new : List Ask) → length old ≡ n → new ≡ old ++ x ∷ [] → ((k : ℕ) (r : Ask) → k < n → P k (get_or old k r)) → P n x
-    → (length new ≡ n + 1) × ((k : ℕ) (r : Ask) → k < n + 1 → P k (get_or new k r))
+pub ask_push : (P : ℕ → CountAsk → Type 0) (n : ℕ) (old : List CountAsk) (x : CountAsk) (new : List CountAsk) → length old ≡ n → new ≡ old ++ x ∷ [] → ((k : ℕ) (r : CountAsk) → k < n → P k (get_or old k r)) → P n x
+    → (length new ≡ n + 1) × ((k : ℕ) (r : CountAsk) → k < n + 1 → P k (get_or new k r))
 ask_push P n old x new long is before now = (
   ap length is ∙ length_push old x ∙ ap (λ m. m + 1) long,
   λ k r h. elim (cases_lt k n) [
@@ -384,18 +384,18 @@ sum_next steps n sum depth is at =
     let deep : depth_at steps (0 + n) ≡ depth_at steps n = ap (depth_at steps) same in
     omega (arith, is, at, more, deep)
 
-pub told_same : (xs : List Service) (steps : List Step) (sums sums' : List ℕ) (late late' : List Service) (asks asks' counted counted' : List Ask) → sums ≡ sums' → late ≡ late' → asks ≡ asks' → counted ≡ counted' → AllTold xs steps sums' late' asks' counted' → AllTold xs steps sums late asks counted
+pub told_same : (xs : List Service) (steps : List Step) (sums sums' : List ℕ) (late late' : List Service) (asks asks' counted counted' : List CountAsk) → sums ≡ sums' → late ≡ late' → asks ≡ asks' → counted ≡ counted' → AllTold xs steps sums' late' asks' counted' → AllTold xs steps sums late asks counted
 told_same xs steps sums sums' late late' asks asks' counted counted' s l a c all =
     subst (λ (z : List ℕ). AllTold xs steps z late asks counted) (sym s)
     (subst (λ (z : List Service). AllTold xs steps sums' z asks counted) (sym l)
-    (subst (λ (z : List Ask). AllTold xs steps sums' late' z counted) (sym a)
-    (subst (λ (z : List Ask). AllTold xs steps sums' late' asks' z) (sym c) all)))
+    (subst (λ (z : List CountAsk). AllTold xs steps sums' late' z counted) (sym a)
+    (subst (λ (z : List CountAsk). AllTold xs steps sums' late' asks' z) (sym c) all)))
 
 -- a question for each
-abbrev pub AllAsked : List Service → List Service → List Ask → Type 0
-AllAsked xs late asks = (k : ℕ) (d : Service) (e : Ask) → k < length late → IsAskOfWait xs (get_or late k d) (get_or asks k e)
+abbrev pub AllAsked : List Service → List Service → List CountAsk → Type 0
+AllAsked xs late asks = (k : ℕ) (d : Service) (e : CountAsk) → k < length late → IsAskOfWait xs (get_or late k d) (get_or asks k e)
 
-pub asked_same : (xs late late' : List Service) (asks : List Ask) → late ≡ late' → AllAsked xs late asks → AllAsked xs late' asks
+pub asked_same : (xs late late' : List Service) (asks : List CountAsk) → late ≡ late' → AllAsked xs late asks → AllAsked xs late' asks
 asked_same xs late late' asks is all = subst (λ (z : List Service). AllAsked xs z asks) is all
 
 -- the due rounds are in range

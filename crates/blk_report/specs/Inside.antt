@@ -1,6 +1,8 @@
--- What proofs alone need.
+-- What private functions and proofs alone need.
 pub mod Ranges
 pub mod Below
 pub mod Waited
 pub mod Outstayed
 pub mod Best
+pub mod Table
+pub mod Services

@@ -22,10 +22,6 @@ service_of setup events s = record {
   issue = s.0;
 }
 
--- the rounds of the Issues
-abbrev pub issues_in : List Service → List ℕ
-issues_in services = map (λ s. s.issue) services
-
 -- in the order of the Issues, without those that were requeued
 unfoldable pub services_of : Setup → List Happened → List Service
 services_of setup events = map (service_of setup events) (served 0 events)

@@ -37,10 +37,6 @@ abbrev pub lines_upto : List (List ℕ) → List Report → ℕ → List ℕ
 lines_upto names reports zero = head_line
 lines_upto names reports (suc n) = lines_upto names reports n ++ report_row (slice_index_or names n []) (slice_index_or reports n blank)
 
--- the head line and those of all schedulers
-abbrev pub all_lines : List (List ℕ) → List Report → List ℕ
-all_lines names reports = lines_upto names reports (length reports)
-
 -- the last line, which names the best
 abbrev pub best_line : List (List ℕ) → Option ℕ → List ℕ
 best_line names None = codes "best none-served" ++ 10 ∷ []

@@ -8,7 +8,7 @@ use std::alloc::{AllocError, Allocator};
 
 /// Of the numbers from one place on and before another: how many are below a bound?
 #[derive(Clone, Copy, Debug, PartialEq, Eq)]
-pub(crate) struct Ask {
+pub(crate) struct CountAsk {
     /// The first place.
     pub(crate) start: usize,
     /// The place after the last one.
@@ -57,7 +57,7 @@ fn halved<A: Allocator>(alloc: A, numbers: &[u64], pivot: u64) -> Result<Vec<u64
 }
 
 /// What is left to ask of the halves.
-fn half_of(ask: Ask, numbers: &[u64], counts: &[usize], pivot: u64) -> Ask
+fn half_of(ask: CountAsk, numbers: &[u64], counts: &[usize], pivot: u64) -> CountAsk
     requires counts { AreBelow numbers.now pivot counts.now }
     requires few { length numbers.now ≤ most_commands }
     requires ask { IsAskWithin numbers.now (pivot + pivot) ask }
@@ -66,10 +66,10 @@ fn half_of(ask: Ask, numbers: &[u64], counts: &[usize], pivot: u64) -> Ask
     let start = counts[ask.start];
     let end = counts[ask.end];
     if ask.bound < pivot {
-        Ask { start, end, ..ask }
+        CountAsk { start, end, ..ask }
     } else {
         let low = counts[numbers.len()];
-        Ask {
+        CountAsk {
             start: low + (ask.start - start),
             end: low + (ask.end - end),
             bound: ask.bound - pivot,
@@ -81,11 +81,11 @@ fn half_of(ask: Ask, numbers: &[u64], counts: &[usize], pivot: u64) -> Ask
 /// The same of each.
 fn halves_of<A: Allocator>(
     alloc: A,
-    asks: &[Ask],
+    asks: &[CountAsk],
     numbers: &[u64],
     counts: &[usize],
     pivot: u64,
-) -> Result<Vec<Ask, A>, AllocError>
+) -> Result<Vec<CountAsk, A>, AllocError>
     requires counts { AreBelow numbers.now pivot counts.now }
     requires few { length numbers.now ≤ most_commands }
     requires asks { All (IsAskWithin numbers.now (pivot + pivot)) asks.now }
@@ -103,9 +103,9 @@ fn halves_of<A: Allocator>(
 /// binary digits of the limit.
 pub(crate) fn count_below<A: Allocator + Clone>(
     numbers: Vec<u64, A>,
-    asks: &[Ask],
+    asks: &[CountAsk],
     limit: u64,
-) -> Result<Vec<Ask, A>, AllocError>
+) -> Result<Vec<CountAsk, A>, AllocError>
     requires few { length numbers.items ≤ most_commands }
     requires asks { All (IsAskWithin numbers.items limit) asks.now }
     ensures { IfOk result (λ v. map (λ a. a.count) v.items ≡ map (answer_of numbers.items) asks.now) }

@@ -6,26 +6,27 @@ ghost use Rattle.edd_commands.specs.Limits.{round_limit};
 ghost use Rattle.edd_commands.specs.Schedule.{IsLegal};
 ghost use Rattle.edd_verdict.specs.Verdicts.{AreVerdicts};
 ghost use Rattle.blk_trace.specs.declared.trace.TheConstants.{MAX_EVENTS};
-ghost use Rattle.blk_report.specs.Services.{command_in, AreWithinLimits, AreInIssueOrder, issues_in};
+ghost use Rattle.blk_report.specs.Services.{command_in, AreWithinLimits, AreInIssueOrder};
+ghost use Rattle.blk_report.specs.Inside.Services.{issues_in};
 ghost use Rattle.blk_report.specs.Late.{is_late_service, AreAllLate, AreLateIn};
 ghost use Rattle.blk_report.specs.Inside.Waited.{IsFrom, AskForAll, AreCarried, CanWait, CanAllWait, late_command, AreLateCommands};
 
-use crate::below::{Ask, count_below};
+use crate::below::{CountAsk, count_below};
 use crate::serving::{Service, services};
 use blk_trace::Trace;
 use edd_commands::Capacity;
 use edd_verdict::{Verdict, law_of_verdicts, verdicts};
 use std::alloc::{AllocError, Allocator};
 
-/// A command that was issued after it was due, and what the places of the rounds from its release up to but not including that of
-/// its Issue went to. Where `later` and `idle` are 0, earliest due first would have let it wait too.
+/// A command that was issued after it was due, and what the rounds that it waited were used for: those from its release up to, but
+/// not including, that of its Issue. Where `later` and `idle` are 0, earliest due first would have let it wait too.
 #[derive(Clone, Copy, Debug, PartialEq, Eq)]
 pub struct LateCommand {
     /// The command, and its request as it was issued.
     pub service: Service,
     /// How many rounds after its due round it was issued.
     pub lateness: u64,
-    /// How many of these places went to commands due no later than it.
+    /// How many places of these rounds went to commands due no later than it.
     pub sooner: u64,
     /// How many went to commands due later.
     pub later: u64,
@@ -82,7 +83,7 @@ fn after_all(rounds: &[u64]) -> u64
     }
 }
 
-/// For each round up to a last one what the rounds before it carry.
+/// For each round up to a last one, how many commands the rounds before it carry together.
 fn sums_upto<A: Allocator, B: Allocator>(
     alloc: A,
     capacity: &Capacity<B>,
@@ -106,7 +107,7 @@ fn asks<A: Allocator>(
     alloc: A,
     services: &[Service],
     late: &[Service],
-) -> Result<Vec<Ask, A>, AllocError>
+) -> Result<Vec<CountAsk, A>, AllocError>
     requires rising { AreInIssueOrder services.now }
     requires in_time { All (λ s. s.due < round_limit) late.now }
     ensures each { IfOk result (λ v. length v.items ≡ length late.now) }
@@ -114,7 +115,7 @@ fn asks<A: Allocator>(
 {
     let mut asks = Vec::new(alloc);
     for service in late {
-        asks.push(Ask {
+        asks.push(CountAsk {
             start: place_from(services, service.release),
             end: place_from(services, service.issue),
             bound: service.due + 1,
@@ -124,7 +125,7 @@ fn asks<A: Allocator>(
     Ok(asks)
 }
 
-/// The last round in which one was issued, or 0.
+/// The last round in which a command was issued, or 0 where none was.
 fn last_issue(services: &[Service]) -> u64
     requires timed { AreWithinLimits services.now }
     requires rising { AreInIssueOrder services.now }
@@ -139,7 +140,8 @@ fn last_issue(services: &[Service]) -> u64
     }
 }
 
-/// A late command with its verdict: `places` of the places that it waited for went to commands, `sooner` of them to ones due no later.
+/// A late command with its verdict. Of the places in the rounds that it waited, `places` went to commands, `sooner` of these to
+/// commands due no later than it; the places beyond these stayed idle.
 fn late_command(
     service: Service,
     places: u64,
@@ -161,13 +163,13 @@ fn late_command(
     }
 }
 
-/// Each late command with its verdict, and with what the places of the rounds that it waited went to.
+/// Each late command with its verdict, and with what the rounds that it waited were used for.
 fn late_commands<A: Allocator>(
     alloc: A,
     late: &[Service],
     told: &[Verdict],
-    asks: &[Ask],
-    counted: &[Ask],
+    asks: &[CountAsk],
+    counted: &[CountAsk],
     sums: &[u64],
 ) -> Result<Vec<LateCommand, A>, AllocError>
     requires told { length told.now ≡ length late.now }
@@ -187,7 +189,7 @@ fn late_commands<A: Allocator>(
     Ok(rows)
 }
 
-/// The late ones of commands, which have these verdicts.
+/// The late commands among these, by the verdicts of all of them.
 fn delays<A: Allocator + Clone, B: Allocator>(
     alloc: A,
     services: &[Service],
@@ -222,11 +224,11 @@ fn delays<A: Allocator + Clone, B: Allocator>(
     Ok(rows)
 }
 
-/// The commands of a trace that were issued after they were due, in the order of these Issues. Of the places of the rounds from its
-/// release up to but not including that of its Issue, each says how many went to commands due no later than it, how many to commands
-/// due later, and how many to none: together they are what these rounds carry. And each has the one verdict that is right of it,
-/// beside the commands that were on time. Only Issues count that were not requeued. Fails only when out of memory. The time grows
-/// as the number of events times its binary digits, or times those of the last due round where these are more.
+/// The commands of a trace that were issued after they were due, in the order of these Issues. Each says of the rounds that it waited,
+/// those from its release up to, but not including, that of its Issue, how many of their places went to commands due no later than it,
+/// how many to commands due later, and how many to none: together they are what these rounds carry. And each has the one verdict that
+/// is right of it, beside the commands that were on time. An Issue that was requeued doesn't count. Fails only when out of memory. The
+/// time grows as the number of events times its binary digits, or times those of the last due round if that has more.
 pub fn late<A: Allocator + Clone>(trace: &Trace<A>) -> Result<Vec<LateCommand, A>, AllocError>
     ensures { IfOk result (λ v. AreLateIn trace.now.setup trace.now.events v.items) }
 {

@@ -38,7 +38,7 @@ use blk_trace::Trace;
 use edd_figures::figures_of;
 use std::alloc::{AllocError, Allocator};
 
-/// The report of a trace. The least lateness is by the trace's own capacity, the depth of each of its rounds. Fails for want of
+/// The report of a trace. The least lateness is by the trace's own capacity, the depth of each of its rounds. Fails only when out of
 /// memory alone. The time grows as n log n in the number of commands and events.
 pub fn report<A: Allocator + Clone>(trace: &Trace<A>) -> Result<Report, AllocError>
     ensures { IfOk result (IsReport trace.now.setup trace.now.events) }

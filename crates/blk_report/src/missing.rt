@@ -35,8 +35,8 @@ pub struct Tally {
 pub struct Missed<A: Allocator = Global> {
     /// The numbers.
     pub tally: Tally,
-    /// Disjoint windows, by rising rounds, which prove that no schedule has fewer late commands: of those that lie in a window at
-    /// most as many are on time as its rounds carry.
+    /// Disjoint windows, by rising rounds, which prove that no schedule has fewer late commands: of the commands that lie in a window,
+    /// at most as many can be on time as its rounds carry.
     pub windows: Vec<Crowd, A>,
 }
 
@@ -55,8 +55,8 @@ fn waits<A: Allocator + Clone>(
 }
 
 /// How many commands of a trace were late, how many of these had to be, under the trace's own capacity, and the windows that prove
-/// it: no schedule of the same commands has fewer late, and some schedule has no more. Of the late ones it counts those that are
-/// spare, and of the bios those that wait, and those that wait past their due round. Fails only when out of memory. The time
+/// it: no schedule of the same commands has fewer late, and some schedule has no more. It also counts the late commands that are
+/// spare, the bios that wait, and of these the ones that wait past their due round. Fails only when out of memory. The time
 /// grows as n log n in the number of commands and events.
 pub fn misses<A: Allocator + Clone>(trace: &Trace<A>) -> Result<Missed<A>, AllocError>
     ensures tallied { IfOk result (λ m. IsTallied trace.now.setup trace.now.events m.tally m.windows.items) }

@@ -26,6 +26,7 @@ use Rattle.blk_text.specs.declared.script.Line.TheVariants as line
 use Rattle.blk_sim.specs.declared.refusal.SimFault.{SimFault}
 use Rattle.blk_sim.specs.declared.refusal.SimWhy.{SimWhy}
 use Rattle.blk_sim.specs.declared.refusal.SimWhy.TheVariants as why
+use Rattle.blk_sim.specs.declared.simulation.TheConstants.{FIRST_STEP, SETUP_RECORD}
 use Rattle.blk_sim.specs.State.{SimState, start_of}
 use Rattle.blk_sim.specs.Moves.{EnterInTurn, DrainInTurn, DrainsAll, served_requests}
 use Rattle.blk_sim.specs.Rounds.{queue_asked, GiveNothing, IssueInTurn, IssuesAll, CompleteInTurn, Rounds}
@@ -186,9 +187,9 @@ pub record IsRefusedAt (policy : Policy) (script : Scripted) (meaning : Meaning)
   pub runs : Runs policy (take place script.lines) (start_of script meaning kept) state
   pub refused : IsStepRefused policy state step w
 
--- the fault stands at the record of the step that is refused, after those before it, for its reason, or, for want of
+-- the fault stands at the record of the step that is refused, after those before it, for its reason, or, out of
 -- memory before the first step, at that of the setup
 abbrev pub IsSimFault : Policy → Scripted → Meaning → List ℕ → SimFault → Type 0
 IsSimFault policy script meaning kept fault =
-    ((fault.at ≡ 2) × (fault.why ≡ why.Memory))
-    ⊎ ((place : ℕ) × (fault.at ≡ place + 3) × IsRefusedAt policy script meaning kept place fault.why)
+    ((fault.at ≡ SETUP_RECORD) × (fault.why ≡ why.Memory))
+    ⊎ ((place : ℕ) × (fault.at ≡ place + FIRST_STEP) × IsRefusedAt policy script meaning kept place fault.why)

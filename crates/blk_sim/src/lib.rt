@@ -9,4 +9,4 @@ pub mod simulation;
 mod steps;
 
 pub use refusal::{SimFault, SimWhy};
-pub use simulation::simulate;
+pub use simulation::{FIRST_STEP, SETUP_RECORD, simulate};

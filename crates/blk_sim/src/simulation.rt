@@ -27,11 +27,11 @@ use blk_trace::Trace;
 use std::alloc::{AllocError, Allocator};
 use std::marker::Model;
 
-/// The record of a script's setup.
-const SETUP_RECORD: u64 = 2;
+/// The record of a script's setup, from 1 on: the title is before it.
+pub const SETUP_RECORD: u64 = 2;
 
-/// The record of a script's first step.
-const FIRST_STEP: u64 = 3;
+/// The record of a script's first step, from 1 on: those before it are the title and the setup.
+pub const FIRST_STEP: u64 = 3;
 
 /// A script between two of its steps: the plugs and the software queues, one of each for a submitter, and the core.
 #[derive(Drop)]

@@ -69,7 +69,7 @@ pub(crate) fn done<S: Scheduler>(core: &mut Core<S>, tag: u16) -> Result<(), Sim
     }
 }
 
-/// Takes what is in flight under a tag back, as a busy device hands it back.
+/// Requeues what is in flight under a tag, as a busy device does.
 pub(crate) fn back<S: Scheduler>(core: &mut Core<S>, tag: u16) -> Result<(), SimWhy>
     ensures back { OnOk result ((id : ℕ) × RequeuesTag core.old tag id core.new) }
     ensures refused { IfErr result (λ w. IsBackRefused core.old tag w) }

@@ -6,7 +6,7 @@ use Rattle.edd_commands.specs.Schedule.{places_at}
 use Rattle.edd_verdict.specs.declared.Verdict.{Verdict}
 use Rattle.blk_report.specs.declared.serving.Service.{Service}
 use Rattle.blk_report.specs.declared.delays.LateCommand.{LateCommand}
-use Rattle.blk_report.specs.declared.below.Ask.{Ask}
+use Rattle.blk_report.specs.declared.below.CountAsk.{CountAsk}
 
 -- the commands before this place were issued before the round, and the others are not
 pub record IsFrom (services : List Service) (round place : ℕ) : Type 0 where
@@ -15,16 +15,16 @@ pub record IsFrom (services : List Service) (round place : ℕ) : Type 0 where
   pub after : (k : ℕ) (d : Service) → place ≤ k → k < length services → round ≤ (slice_index_or services k d).issue
 
 -- it asks for how many of the commands that were issued in the rounds that s waited are due no later
-pub record IsAskOfWait (services : List Service) (s : Service) (a : Ask) : Type 0 where
+pub record IsAskOfWait (services : List Service) (s : Service) (a : CountAsk) : Type 0 where
   pub start : IsFrom services s.release a.start
   pub end : IsFrom services s.issue a.end
   pub bound : a.bound ≡ s.due + 1
   pub nothing : a.count ≡ 0
 
 -- each late command has one that asks for it
-abbrev pub AskForAll : List Service → List Service → List Ask → Type 0
+abbrev pub AskForAll : List Service → List Service → List CountAsk → Type 0
 AskForAll services late asks =
-    (k : ℕ) → (d : Service) → (e : Ask) → k < length late → IsAskOfWait services (slice_index_or late k d) (slice_index_or asks k e)
+    (k : ℕ) → (d : Service) → (e : CountAsk) → k < length late → IsAskOfWait services (slice_index_or late k d) (slice_index_or asks k e)
 
 -- no round has more of them than it carries
 abbrev pub FitsIn : List Service → List Step → Type 0
@@ -55,16 +55,16 @@ pub record CanWait (sums : List ℕ) (s : Service) (places sooner : ℕ) : Type 
   pub room : places + slice_index sums s.release ≤ slice_index sums s.issue
 
 -- how many places it asks about
-abbrev pub places_in : Ask → ℕ
+abbrev pub places_in : CountAsk → ℕ
 places_in a = a.end - a.start
 
 -- so of each late command, by what was asked and what was counted
-abbrev pub CanAllWait : List ℕ → List Service → List Ask → List Ask → Type 0
-CanAllWait sums late asks counted = (k : ℕ) → (d : Service) → (e f : Ask) → k < length late
+abbrev pub CanAllWait : List ℕ → List Service → List CountAsk → List CountAsk → Type 0
+CanAllWait sums late asks counted = (k : ℕ) → (d : Service) → (e f : CountAsk) → k < length late
     → CanWait sums (slice_index_or late k d) (places_in (slice_index_or asks k e)) (slice_index_or counted k f).count
 
 -- the late commands with their verdicts, by what was asked and what was counted
-abbrev pub AreLateCommands : List ℕ → List Service → List Ask → List Ask → List Verdict → List LateCommand → Type 0
+abbrev pub AreLateCommands : List ℕ → List Service → List CountAsk → List CountAsk → List Verdict → List LateCommand → Type 0
 AreLateCommands sums late asks counted told rows =
-    (k : ℕ) → (d : Service) → (e f : Ask) → (w : Verdict) → (r : LateCommand) → k < length late
+    (k : ℕ) → (d : Service) → (e f : CountAsk) → (w : Verdict) → (r : LateCommand) → k < length late
     → slice_index_or rows k r ≡ late_command sums (slice_index_or late k d) (places_in (slice_index_or asks k e)) (slice_index_or counted k f).count (slice_index_or told k w)

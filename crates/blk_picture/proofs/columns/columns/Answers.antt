@@ -1,6 +1,6 @@
 use Rattle.std.proofs.Common.{◌≡◌, ◌<◌, ◌≤◌, ◌+◌, ◌-◌, ◌++◌, ◌∷◌, [], ◌∙◌, ◌==◌, ℕ, List, Bool, true, false, Some, None, length, get_or, take, drop, set, replicate, refl, sym, ap, subst, arith}
 use Rattle.blk_picture.specs.Filled.{made}
-use Rattle.blk_picture.specs.Columns.{column_at, column_of, rooms_of}
+use Rattle.blk_picture.specs.Columns.{column_from, column_of, rooms_of}
 use Rattle.blk_picture.proofs.Texts.{made_same}
 use Rattle.blk_picture.proofs.Counting.{column_is}
 use Rattle.blk_picture.proofs.columns.columns.Goals as goal
@@ -9,7 +9,7 @@ pub returns : goal.returns
 returns c =
     let t = c.args.trace.now in
     let scale = c.args.scale in
-    let f = column_at c.as_slice.result.now c.as_slice-2.result.now c.as_slice-3.result.now c.as_slice-4.result.now c.as_slice-5.result.now c.as_slice-6.result.now c.as_slice-7.result.now in
+    let f = column_from c.as_slice.result.now c.as_slice-2.result.now c.as_slice-3.result.now c.as_slice-4.result.now c.as_slice-5.result.now c.as_slice-6.result.now c.as_slice-7.result.now in
     let some : length c.as_slice.result.now ≡ scale.columns = ap length c.as_slice.ensures.value ∙ c.in_ok-reads.ensures.each in
     c.in_ok-columns.ensures
     ∙ ap (made f) some

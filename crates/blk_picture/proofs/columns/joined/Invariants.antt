@@ -1,7 +1,7 @@
 use Rattle.std.proofs.Common.{◌≡◌}
 use Rattle.blk_picture.specs.Filled.{made}
-use Rattle.blk_picture.specs.Columns.{column_at}
+use Rattle.blk_picture.specs.Columns.{column_from}
 use Rattle.blk_picture.proofs.columns.joined.Given as goal
 
 abbrev pub invariant-loop-column : goal.invariant-loop-column
-invariant-loop-column l = l.columns.items ≡ made (column_at l.reads l.writes l.lates l.backs l.rooms l.read_waits l.write_waits) l.column
+invariant-loop-column l = l.columns.items ≡ made (column_from l.reads l.writes l.lates l.backs l.rooms l.read_waits l.write_waits) l.column

@@ -1,7 +1,7 @@
 use Rattle.std.proofs.Common.{◌≡◌, ◌≤◌, ◌+◌, ◌-◌, ◌/◌, ◌∙◌, ℕ, List, length, map, refl, sym, ap, subst, arith}
 use Rattle.std.specs.List.{All}
 use Rattle.edd_commands.specs.Limits.{most_commands}
-use Rattle.blk_report.specs.declared.below.Ask.{Ask}
+use Rattle.blk_report.specs.declared.below.CountAsk.{CountAsk}
 use Rattle.blk_report.specs.Inside.Below.{AreBelow, halves, half_of, answer_of, IsAskWithin}
 use Rattle.blk_report.proofs.Halving.{halves_many, half_limit, all_halved, all_answered, all_asks}
 use Rattle.blk_report.proofs.below.count_below.Goals as goal
@@ -34,7 +34,7 @@ loop-limit-preserved g c =
     let limit : ℕ = c.loop-limit.limit in
     let pivot : ℕ = limit - limit / 2 in
     let xs : List ℕ = c.loop-limit.numbers.items in
-    let left : List Ask = c.loop-limit.left.items in
+    let left : List CountAsk = c.loop-limit.left.items in
     let old = c.loop-limit.invariant in
     let numbers : c.in_ok-numbers.numbers.items ≡ halves pivot xs = c.in_ok-numbers.ensures ∙ ap (halves pivot) c.as_slice-in-loop-limit-4.ensures.value in
     let asks : c.in_ok-left-2.left.items ≡ map (half_of xs pivot) left =

@@ -1,7 +1,7 @@
 use Rattle.std.proofs.Common.{◌≡◌, ◌<◌, ◌≤◌, ◌∙◌, ℕ, List, length, map, sym, ap, subst}
 use Rattle.std.specs.List.{All}
 use Rattle.edd_commands.specs.declared.steps.Step.{Step}
-use Rattle.blk_report.specs.declared.below.Ask.{Ask}
+use Rattle.blk_report.specs.declared.below.CountAsk.{CountAsk}
 use Rattle.edd_verdict.specs.declared.Verdict.TheVariants.{Arrival}
 use Rattle.blk_report.specs.declared.serving.Service.{Service}
 use Rattle.blk_report.specs.Services.{command_in}
@@ -20,7 +20,7 @@ pub count_below-requires-clause-asks : goal.count_below-requires-clause-asks
 count_below-requires-clause-asks g c =
     let xs : List Service = c.args.services.now in
     let late : List Service = c.in_ok-late.late.items in
-    let asks : List Ask = c.in_ok-asks.asks.items in
+    let asks : List CountAsk = c.in_ok-asks.asks.items in
     let limit : ℕ = c.after_all-limit.result in
     let dues : List ℕ = map (λ s. s.due) xs in
     let each : length asks ≡ length late = c.in_ok-asks.ensures.each ∙ ap length c.as_slice.ensures.value in
@@ -46,22 +46,22 @@ pub late_commands-requires-clause-forward : goal.late_commands-requires-clause-f
 late_commands-requires-clause-forward g c =
     let xs : List Service = c.args.services.now in
     let late : List Service = c.in_ok-late.late.items in
-    let asks : List Ask = c.in_ok-asks.asks.items in
+    let asks : List CountAsk = c.in_ok-asks.asks.items in
     let limit : ℕ = c.after_all-limit.result in
     let dues : List ℕ = map (λ s. s.due) xs in
     let each : length asks ≡ length late = c.in_ok-asks.ensures.each ∙ ap length c.as_slice.ensures.value in
     let all : AllAsked xs late asks = asked_same xs c.as_slice.result.now late asks c.as_slice.ensures.value c.in_ok-asks.ensures.asks in
     let under : All (λ x. x < limit) dues = subst (All (λ (x : ℕ). x < limit)) (c.as_slice-2.ensures.value ∙ c.in_ok-dues.ensures) c.after_all-limit.ensures in
     let are : All (IsAskWithin dues limit) asks = asks_are xs c.args.capacity.now late asks limit c.requires.timed c.requires.legal.within_depth c.in_ok-late.ensures each all under in
-    subst (All (λ (a : Ask). a.start ≤ a.end)) (sym c.as_slice-6.ensures.value) (asks_forward dues limit asks are)
+    subst (All (λ (a : CountAsk). a.start ≤ a.end)) (sym c.as_slice-6.ensures.value) (asks_forward dues limit asks are)
 
 pub late_commands-requires-clause-each : goal.late_commands-requires-clause-each
 late_commands-requires-clause-each g c = λ k d e f h.
     let xs : List Service = c.args.services.now in
     let steps : List Step = c.args.capacity.now in
     let late : List Service = c.in_ok-late.late.items in
-    let asks : List Ask = c.in_ok-asks.asks.items in
-    let counted : List Ask = c.in_ok-counted.counted.items in
+    let asks : List CountAsk = c.in_ok-asks.asks.items in
+    let counted : List CountAsk = c.in_ok-counted.counted.items in
     let sums : List ℕ = c.in_ok-sums.sums.items in
     let dues : List ℕ = map (λ s. s.due) xs in
     let each : length asks ≡ length late = c.in_ok-asks.ensures.each ∙ ap length c.as_slice.ensures.value in
@@ -76,8 +76,8 @@ returns g c =
     let xs : List Service = c.args.services.now in
     let steps : List Step = c.args.capacity.now in
     let late : List Service = c.in_ok-late.late.items in
-    let asks : List Ask = c.in_ok-asks.asks.items in
-    let counted : List Ask = c.in_ok-counted.counted.items in
+    let asks : List CountAsk = c.in_ok-asks.asks.items in
+    let counted : List CountAsk = c.in_ok-counted.counted.items in
     let sums : List ℕ = c.in_ok-sums.sums.items in
     let dues : List ℕ = map (λ s. s.due) xs in
     let each : length asks ≡ length late = c.in_ok-asks.ensures.each ∙ ap length c.as_slice.ensures.value in
