@@ -12,7 +12,7 @@ pub type Heap<'a> = &'a Refusing<Global>;
 
 /// A record: its time, its action and its direction by their letters (any other than R and W moves no data), its process, first sector
 /// and sectors.
-pub type Line = (u64, char, char, u64, u64, u64);
+pub type RecordLine = (u64, char, char, u64, u64, u64);
 
 /// The action of a letter.
 fn action_of(letter: char) -> Action {
@@ -33,7 +33,7 @@ fn action_of(letter: char) -> Action {
 }
 
 /// The record of a line.
-fn record_of(line: Line) -> Record {
+fn record_of(line: RecordLine) -> Record {
     let (time, action, dir, pid, first, sectors) = line;
     Record {
         time,
@@ -54,7 +54,7 @@ fn record_of(line: Line) -> Record {
 }
 
 /// The records of lines.
-pub fn records_of(rt: &impl Abort, alloc: Global, lines: &[Line]) -> Vec<Record> {
+pub fn records_of(rt: &impl Abort, alloc: Global, lines: &[RecordLine]) -> Vec<Record> {
     lines
         .iter()
         .map(|line| record_of(*line))
@@ -118,7 +118,7 @@ pub fn gives(
     rt: &impl Abort,
     alloc: Global,
     options: &Options,
-    lines: &[Line],
+    lines: &[RecordLine],
     fates: &str,
     rows: &[Row],
 ) -> bool {

@@ -1,13 +1,13 @@
 //! Captures of a few records, by each rule of the matching.
 
-use crate::given::{Line, gives, is_matched, records_of, usual};
+use crate::given::{RecordLine, gives, is_matched, records_of, usual};
 use blk_capture::{CaptureFault, Entry, Options, match_records, part_of};
 use refusing::Refusing;
 
 /// One read from its queueing to its end, under a scheduler and without one; a bio of no data and other actions are passed over.
 #[test]
 fn one_request(rt: HostRuntime) {
-    let lines: [Line; 9] = [
+    let lines: [RecordLine; 9] = [
         (10, 'Q', 'R', 1, 0, 8),
         (11, 'G', 'R', 1, 0, 8),
         (11, 'P', 'N', 1, 0, 0),
@@ -34,7 +34,7 @@ fn one_request(rt: HostRuntime) {
 /// unmatched, since another one was.
 #[test]
 fn first_in_first_out(rt: HostRuntime) {
-    let lines: [Line; 11] = [
+    let lines: [RecordLine; 11] = [
         (1, 'Q', 'W', 1, 0, 8),
         (2, 'Q', 'W', 2, 0, 8),
         (3, 'G', 'W', 2, 0, 8),
@@ -54,7 +54,7 @@ fn first_in_first_out(rt: HostRuntime) {
 /// A bio goes into the newest request of its process that was not inserted and that it abuts, at the back by M and at the front by F.
 #[test]
 fn merges_in_a_plug(rt: HostRuntime) {
-    let lines: [Line; 13] = [
+    let lines: [RecordLine; 13] = [
         (1, 'Q', 'W', 1, 8, 8),
         (1, 'G', 'W', 1, 8, 8),
         (2, 'Q', 'W', 2, 8, 8),
@@ -76,7 +76,7 @@ fn merges_in_a_plug(rt: HostRuntime) {
 /// Else it goes into the oldest one that was inserted and did not go out.
 #[test]
 fn merges_into_the_oldest(rt: HostRuntime) {
-    let lines: [Line; 11] = [
+    let lines: [RecordLine; 11] = [
         (1, 'Q', 'W', 1, 0, 8),
         (1, 'G', 'W', 1, 0, 8),
         (1, 'I', 'W', 1, 0, 8),
@@ -96,7 +96,7 @@ fn merges_into_the_oldest(rt: HostRuntime) {
 /// An M of a whole waiting request is a merge of two: the bios of both, and the earlier deadline.
 #[test]
 fn two_requests_become_one(rt: HostRuntime) {
-    let lines: [Line; 8] = [
+    let lines: [RecordLine; 8] = [
         (1, 'Q', 'R', 1, 8, 8),
         (1, 'G', 'R', 1, 8, 8),
         (2, 'I', 'R', 1, 8, 8),
@@ -113,7 +113,7 @@ fn two_requests_become_one(rt: HostRuntime) {
 /// An insertion takes a request of equal size first, else the oldest of that first sector.
 #[test]
 fn inserted_by_size(rt: HostRuntime) {
-    let lines: [Line; 9] = [
+    let lines: [RecordLine; 9] = [
         (1, 'Q', 'R', 1, 0, 16),
         (1, 'G', 'R', 1, 0, 16),
         (2, 'Q', 'R', 1, 0, 8),
@@ -132,7 +132,7 @@ fn inserted_by_size(rt: HostRuntime) {
 /// by its own range.
 #[test]
 fn back_and_in_parts(rt: HostRuntime) {
-    let lines: [Line; 11] = [
+    let lines: [RecordLine; 11] = [
         (1, 'Q', 'R', 1, 0, 8),
         (1, 'G', 'R', 1, 0, 8),
         (2, 'I', 'R', 1, 0, 8),
@@ -152,7 +152,7 @@ fn back_and_in_parts(rt: HostRuntime) {
 /// A bio that is cut in two is two, each with a request of its own, both queued when it was.
 #[test]
 fn cut_in_two(rt: HostRuntime) {
-    let lines: [Line; 7] = [
+    let lines: [RecordLine; 7] = [
         (1, 'Q', 'W', 1, 0, 24),
         (2, 'X', 'W', 1, 0, 8),
         (3, 'G', 'W', 1, 0, 8),
@@ -168,7 +168,7 @@ fn cut_in_two(rt: HostRuntime) {
 /// What went out before the time that is skipped, and after the first ones, is left out.
 #[test]
 fn skipped_and_first(rt: HostRuntime) {
-    let lines: [Line; 9] = [
+    let lines: [RecordLine; 9] = [
         (10, 'Q', 'R', 1, 0, 8),
         (10, 'Q', 'R', 1, 8, 8),
         (10, 'Q', 'R', 1, 16, 8),
@@ -199,7 +199,7 @@ fn skipped_and_first(rt: HostRuntime) {
 /// A time that falls is a fault, at the first record whose time does.
 #[test]
 fn time_falls(rt: HostRuntime) {
-    let lines: [Line; 4] = [
+    let lines: [RecordLine; 4] = [
         (3, 'P', 'N', 1, 0, 0),
         (3, 'P', 'N', 1, 0, 0),
         (2, 'P', 'N', 1, 0, 0),

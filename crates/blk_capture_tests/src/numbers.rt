@@ -1,11 +1,11 @@
 //! A capture as a table and in numbers, worked by hand.
 
-use crate::given::{Line, records_of, usual};
+use crate::given::{RecordLine, records_of, usual};
 use blk_bio::Dir;
 use blk_capture::{Options, RequestRow, Spread, Summary, match_records, rows_of, summarize};
 
 /// A read that is late and a write that isn't, each from its queueing to its end.
-const LINES: [Line; 10] = [
+const LINES: [RecordLine; 10] = [
     (10, 'Q', 'R', 1, 0, 8),
     (11, 'G', 'R', 1, 0, 8),
     (12, 'Q', 'W', 2, 64, 8),

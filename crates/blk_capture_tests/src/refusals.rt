@@ -1,6 +1,6 @@
 //! A capture where allocations are refused.
 
-use crate::given::{Heap, Line, is_matched, records_of, usual};
+use crate::given::{Heap, RecordLine, is_matched, records_of, usual};
 use blk_capture::{CaptureFault, Record, match_records, part_of, rounds_of};
 use refusing::Refusing;
 use std::process::Abort;
@@ -33,7 +33,7 @@ fn all_of_it(rt: &impl Abort, heap: Heap<'_>, records: &[Record]) {
 #[test]
 fn memory_refused(rt: HostRuntime) {
     let heap = Refusing::new(rt.alloc());
-    let lines: [Line; 7] = [
+    let lines: [RecordLine; 7] = [
         (1, 'Q', 'R', 1, 0, 8),
         (1, 'G', 'R', 1, 0, 8),
         (2, 'I', 'R', 1, 0, 8),

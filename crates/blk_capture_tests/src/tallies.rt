@@ -1,12 +1,12 @@
 //! Records counted by their actions, and the letters of what they do.
 
-use crate::given::{Line, records_of, usual};
+use crate::given::{RecordLine, records_of, usual};
 use blk_capture::{Action, ActionTally, Op, PassReason, count_passed, match_records, tally_of};
 
 /// Of each action the records of requests that are taken, those of others, the unmatched and those passed over add up to all.
 #[test]
 fn by_action(rt: HostRuntime) {
-    let lines: [Line; 11] = [
+    let lines: [RecordLine; 11] = [
         (10, 'Q', 'R', 1, 0, 8),
         (11, 'G', 'R', 1, 0, 8),
         (11, 'P', 'N', 1, 0, 0),

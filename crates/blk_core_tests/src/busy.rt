@@ -1,7 +1,7 @@
 //! A busy device: commands that are requeued, and issued again from the queue that issued them.
 
 use crate::given::{command, follows, lifo_follows, setup};
-use crate::listed::Call;
+use crate::listed::CoreCall;
 use blk_bio::Side;
 use blk_core::{BackFault, IssueFault, NotIssued, Placed, TickFault};
 
@@ -10,20 +10,20 @@ use blk_core::{BackFault, IssueFault, NotIssued, Placed, TickFault};
 #[test]
 fn requeued_and_issued_again(rt: HostRuntime) {
     let calls = [
-        Call::Read(0, 0, 8, 0, Ok(Placed::New(0))),
-        Call::Read(1, 100, 8, 0, Ok(Placed::New(1))),
-        Call::Issue(0, 0, Ok(Some(command(0, 0, 0)))),
-        Call::Pending(1),
-        Call::Back(0, Ok(0)),
-        Call::Pending(2),
-        Call::Back(0, Err(BackFault::NotIssued)),
-        Call::Done(0, Err(NotIssued)),
-        Call::Issue(0, 0, Err(IssueFault::SlotUsed)),
-        Call::Issue(0, 1, Ok(Some(command(0, 0, 0)))),
-        Call::Done(1, Ok(())),
-        Call::Tick(Ok(1)),
-        Call::Issue(0, 0, Ok(Some(command(1, 0, 0)))),
-        Call::Rounds(&[0, 1]),
+        CoreCall::Read(0, 0, 8, 0, Ok(Placed::New(0))),
+        CoreCall::Read(1, 100, 8, 0, Ok(Placed::New(1))),
+        CoreCall::Issue(0, 0, Ok(Some(command(0, 0, 0)))),
+        CoreCall::Pending(1),
+        CoreCall::Back(0, Ok(0)),
+        CoreCall::Pending(2),
+        CoreCall::Back(0, Err(BackFault::NotIssued)),
+        CoreCall::Done(0, Err(NotIssued)),
+        CoreCall::Issue(0, 0, Err(IssueFault::SlotUsed)),
+        CoreCall::Issue(0, 1, Ok(Some(command(0, 0, 0)))),
+        CoreCall::Done(1, Ok(())),
+        CoreCall::Tick(Ok(1)),
+        CoreCall::Issue(0, 0, Ok(Some(command(1, 0, 0)))),
+        CoreCall::Rounds(&[0, 1]),
     ];
     follows(&rt, rt.alloc(), setup(&rt, 2, 1, 0), &calls);
 }
@@ -32,26 +32,26 @@ fn requeued_and_issued_again(rt: HostRuntime) {
 #[test]
 fn held_for_its_own_queue(rt: HostRuntime) {
     let calls = [
-        Call::Read(0, 0, 8, 1, Ok(Placed::New(0))),
-        Call::Back(0, Err(BackFault::NotIssued)),
-        Call::Back(2, Err(BackFault::NotIssued)),
-        Call::Issue(1, 0, Ok(Some(command(0, 0, 0)))),
-        Call::Back(1, Err(BackFault::NotIssued)),
-        Call::Back(0, Ok(0)),
-        Call::Issue(0, 1, Ok(None)),
-        Call::Read(1, 8, 8, 1, Ok(Placed::New(1))),
-        Call::Read(2, 16, 8, 1, Ok(Placed::Joined(1, Side::Back))),
-        Call::Pending(2),
-        Call::Tick(Ok(1)),
-        Call::Issue(0, 0, Ok(None)),
-        Call::Issue(1, 0, Ok(Some(command(0, 0, 0)))),
-        Call::Tick(Err(TickFault::InFlight(1))),
-        Call::Issue(1, 1, Ok(Some(command(1, 0, 0)))),
-        Call::Pending(0),
-        Call::Done(0, Ok(())),
-        Call::Done(1, Ok(())),
-        Call::Tick(Ok(2)),
-        Call::Len(11),
+        CoreCall::Read(0, 0, 8, 1, Ok(Placed::New(0))),
+        CoreCall::Back(0, Err(BackFault::NotIssued)),
+        CoreCall::Back(2, Err(BackFault::NotIssued)),
+        CoreCall::Issue(1, 0, Ok(Some(command(0, 0, 0)))),
+        CoreCall::Back(1, Err(BackFault::NotIssued)),
+        CoreCall::Back(0, Ok(0)),
+        CoreCall::Issue(0, 1, Ok(None)),
+        CoreCall::Read(1, 8, 8, 1, Ok(Placed::New(1))),
+        CoreCall::Read(2, 16, 8, 1, Ok(Placed::Joined(1, Side::Back))),
+        CoreCall::Pending(2),
+        CoreCall::Tick(Ok(1)),
+        CoreCall::Issue(0, 0, Ok(None)),
+        CoreCall::Issue(1, 0, Ok(Some(command(0, 0, 0)))),
+        CoreCall::Tick(Err(TickFault::InFlight(1))),
+        CoreCall::Issue(1, 1, Ok(Some(command(1, 0, 0)))),
+        CoreCall::Pending(0),
+        CoreCall::Done(0, Ok(())),
+        CoreCall::Done(1, Ok(())),
+        CoreCall::Tick(Ok(2)),
+        CoreCall::Len(11),
     ];
     follows(&rt, rt.alloc(), setup(&rt, 2, 2, 0), &calls);
 }
@@ -60,46 +60,46 @@ fn held_for_its_own_queue(rt: HostRuntime) {
 #[test]
 fn held_in_the_order_of_return(rt: HostRuntime) {
     let calls = [
-        Call::Read(0, 0, 8, 0, Ok(Placed::New(0))),
-        Call::Read(1, 100, 8, 0, Ok(Placed::New(1))),
-        Call::Read(2, 200, 8, 0, Ok(Placed::New(2))),
-        Call::Issue(0, 0, Ok(Some(command(0, 0, 0)))),
-        Call::Issue(0, 1, Ok(Some(command(1, 0, 0)))),
-        Call::Issue(0, 2, Ok(Some(command(2, 0, 0)))),
-        Call::Back(2, Ok(2)),
-        Call::Back(0, Ok(0)),
-        Call::Back(1, Ok(1)),
-        Call::Pending(3),
-        Call::Tick(Ok(1)),
-        Call::Issue(0, 1, Ok(Some(command(2, 0, 0)))),
-        Call::Back(1, Ok(2)),
-        Call::Issue(0, 0, Ok(Some(command(0, 0, 0)))),
-        Call::Issue(0, 2, Ok(Some(command(1, 0, 0)))),
-        Call::Done(0, Ok(())),
-        Call::Done(2, Ok(())),
-        Call::Tick(Ok(2)),
-        Call::Issue(0, 0, Ok(Some(command(2, 0, 0)))),
-        Call::Pending(0),
-        Call::Rounds(&[1, 1, 2]),
+        CoreCall::Read(0, 0, 8, 0, Ok(Placed::New(0))),
+        CoreCall::Read(1, 100, 8, 0, Ok(Placed::New(1))),
+        CoreCall::Read(2, 200, 8, 0, Ok(Placed::New(2))),
+        CoreCall::Issue(0, 0, Ok(Some(command(0, 0, 0)))),
+        CoreCall::Issue(0, 1, Ok(Some(command(1, 0, 0)))),
+        CoreCall::Issue(0, 2, Ok(Some(command(2, 0, 0)))),
+        CoreCall::Back(2, Ok(2)),
+        CoreCall::Back(0, Ok(0)),
+        CoreCall::Back(1, Ok(1)),
+        CoreCall::Pending(3),
+        CoreCall::Tick(Ok(1)),
+        CoreCall::Issue(0, 1, Ok(Some(command(2, 0, 0)))),
+        CoreCall::Back(1, Ok(2)),
+        CoreCall::Issue(0, 0, Ok(Some(command(0, 0, 0)))),
+        CoreCall::Issue(0, 2, Ok(Some(command(1, 0, 0)))),
+        CoreCall::Done(0, Ok(())),
+        CoreCall::Done(2, Ok(())),
+        CoreCall::Tick(Ok(2)),
+        CoreCall::Issue(0, 0, Ok(Some(command(2, 0, 0)))),
+        CoreCall::Pending(0),
+        CoreCall::Rounds(&[1, 1, 2]),
     ];
     follows(&rt, rt.alloc(), setup(&rt, 3, 1, 0), &calls);
 }
 
-/// A scheduler of one's own is told of what goes back, too.
+/// A scheduler of one's own hears of what is requeued, too.
 #[test]
 fn last_in_first_out_is_told(rt: HostRuntime) {
     let calls = [
-        Call::Read(0, 0, 8, 0, Ok(Placed::New(0))),
-        Call::Read(1, 100, 8, 0, Ok(Placed::New(1))),
-        Call::Issue(0, 0, Ok(Some(command(1, 0, 0)))),
-        Call::Back(0, Ok(1)),
-        Call::Read(2, 200, 8, 0, Ok(Placed::New(2))),
-        Call::Issue(0, 1, Ok(Some(command(1, 0, 0)))),
-        Call::Back(1, Ok(1)),
-        Call::Tick(Ok(1)),
-        Call::Issue(0, 0, Ok(Some(command(1, 0, 0)))),
-        Call::Issue(0, 1, Ok(Some(command(2, 0, 0)))),
-        Call::Pending(1),
+        CoreCall::Read(0, 0, 8, 0, Ok(Placed::New(0))),
+        CoreCall::Read(1, 100, 8, 0, Ok(Placed::New(1))),
+        CoreCall::Issue(0, 0, Ok(Some(command(1, 0, 0)))),
+        CoreCall::Back(0, Ok(1)),
+        CoreCall::Read(2, 200, 8, 0, Ok(Placed::New(2))),
+        CoreCall::Issue(0, 1, Ok(Some(command(1, 0, 0)))),
+        CoreCall::Back(1, Ok(1)),
+        CoreCall::Tick(Ok(1)),
+        CoreCall::Issue(0, 0, Ok(Some(command(1, 0, 0)))),
+        CoreCall::Issue(0, 1, Ok(Some(command(2, 0, 0)))),
+        CoreCall::Pending(1),
     ];
     lifo_follows(&rt, rt.alloc(), setup(&rt, 2, 1, 0), &calls);
 }

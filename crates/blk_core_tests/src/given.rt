@@ -3,7 +3,7 @@
 ghost use Rattle.std.specs.Prelude.{◌≡◌, true};
 ghost use Rattle.blk_sched.specs.Meaning.{at_start};
 
-use crate::listed::{Call, first_other};
+use crate::listed::{CoreCall, first_other};
 use blk_bio::{Bio, BioId, Dir, Limits, Request};
 use blk_core::Core;
 use blk_lifo::Lifo;
@@ -27,7 +27,7 @@ pub fn bio(rt: &impl Abort, serial: u64, dir: Dir, first: u64, sectors: u64) -> 
     Bio::new(id_of(serial), dir, first, sectors).expect(rt, "a bio")
 }
 
-/// Requests of up to so many sectors, and of 128 bios.
+/// Requests of up to this number of sectors, and of 128 bios.
 pub fn limits(rt: &impl Abort, max_sectors: u64) -> Limits {
     Limits::new(max_sectors, 128).expect(rt, "limits")
 }
@@ -45,7 +45,7 @@ pub fn alone(rt: &impl Abort, alloc: Global, bio: Bio) -> Request {
     crate::listed::alone(&alloc, bio).expect(rt, "memory")
 }
 
-/// A setup of 256 sectors and 128 segments, under which reads are due after so many rounds and writes at once.
+/// A setup of 256 sectors and 128 segments, under which reads are due after this number of rounds and writes at once.
 pub fn setup(rt: &impl Abort, depth: u64, hw: u8, read_expire: u64) -> Setup {
     Setup::new(depth, hw, read_expire, 0, limits(rt, 256)).expect(rt, "a setup")
 }
@@ -86,18 +86,23 @@ pub fn in_order<A: Allocator + Clone>(
 }
 
 /// Makes the calls one after the other, each of which has its answer.
-pub fn follow<S: Scheduler>(rt: &impl Abort, alloc: &S::A, core: &mut Core<S>, calls: &[Call<'_>]) {
+pub fn follow<S: Scheduler>(
+    rt: &impl Abort,
+    alloc: &S::A,
+    core: &mut Core<S>,
+    calls: &[CoreCall<'_>],
+) {
     assert_eq!(rt; first_other(alloc, core, calls), None);
 }
 
 /// Makes the calls of a core in the order of entry.
-pub fn follows(rt: &impl Abort, alloc: Global, setup: Setup, calls: &[Call<'_>]) {
+pub fn follows(rt: &impl Abort, alloc: Global, setup: Setup, calls: &[CoreCall<'_>]) {
     let mut core = in_order(rt, &alloc, setup);
     follow(rt, &alloc, &mut core, calls);
 }
 
 /// Makes the calls of a core over the scheduler that is last in, first out.
-pub fn lifo_follows(rt: &impl Abort, alloc: Global, setup: Setup, calls: &[Call<'_>]) {
+pub fn lifo_follows(rt: &impl Abort, alloc: Global, setup: Setup, calls: &[CoreCall<'_>]) {
     let mut core = core_over(rt, &alloc, setup, Lifo::new(alloc));
     follow(rt, &alloc, &mut core, calls);
 }

@@ -11,12 +11,12 @@ use std::alloc::Allocator;
 
 /// A call of a core, and its answer. Bios are of submitter 0.
 #[derive(Clone, Copy)]
-pub enum Call<'a> {
-    /// Releases a read of a serial number, a first sector and so many sectors for a hardware queue.
+pub enum CoreCall<'a> {
+    /// Releases a read of a serial number, a first sector and a number of sectors for a hardware queue.
     Read(u64, u64, u64, u8, Result<Placed, CoreFault>),
     /// Releases such a write.
     Write(u64, u64, u64, u8, Result<Placed, CoreFault>),
-    /// Releases requests of a direction for a hardware queue, of the ids from this one on so many, which are their bios' serial
+    /// Releases requests of a direction for a hardware queue, a number of them with ids from this one on, which are their bios' serial
     /// numbers too: 8 sectors, 16 apart.
     Enter(Dir, u8, u64, u64),
     /// Issues for a hardware queue under a tag.
@@ -33,7 +33,7 @@ pub enum Call<'a> {
     Depth(u64, Result<(), DepthFault>),
     /// Ends the round.
     Tick(Result<u64, TickFault>),
-    /// Ends so many rounds.
+    /// Ends a number of rounds.
     Ticks(u64),
     /// Counts what waits.
     Pending(u64),
@@ -51,7 +51,7 @@ pub enum Call<'a> {
 pub fn first_other<S: Scheduler>(
     alloc: &S::A,
     core: &mut Core<S>,
-    calls: &[Call<'_>],
+    calls: &[CoreCall<'_>],
 ) -> Option<usize> {
     for (place, call) in calls.iter().enumerate() {
         if !is_answered(alloc, core, *call) {
@@ -62,28 +62,28 @@ pub fn first_other<S: Scheduler>(
 }
 
 /// Makes a call, and says whether its answer is the wanted one.
-fn is_answered<S: Scheduler>(alloc: &S::A, core: &mut Core<S>, call: Call<'_>) -> bool {
+fn is_answered<S: Scheduler>(alloc: &S::A, core: &mut Core<S>, call: CoreCall<'_>) -> bool {
     match call {
-        Call::Read(serial, first, sectors, hw, answer) => {
+        CoreCall::Read(serial, first, sectors, hw, answer) => {
             enter(alloc, core, Dir::Read, serial, first, sectors, hw) == Some(answer)
         }
-        Call::Write(serial, first, sectors, hw, answer) => {
+        CoreCall::Write(serial, first, sectors, hw, answer) => {
             enter(alloc, core, Dir::Write, serial, first, sectors, hw) == Some(answer)
         }
-        Call::Enter(dir, hw, from, count) => enter_all(alloc, core, dir, hw, from, count),
-        Call::Issue(hw, tag, answer) => issue(core, hw, tag) == answer,
-        Call::Send(hw, tag, ids) => send_all(core, hw, tag, ids),
-        Call::Done(tag, answer) => core.done(tag) == answer,
-        Call::AllDone(tags) => are_done(core, tags),
-        Call::Back(tag, answer) => back(core, tag) == answer,
-        Call::Depth(depth, answer) => set_depth(core, depth) == answer,
-        Call::Tick(answer) => tick(core) == answer,
-        Call::Ticks(count) => end_all(core, count),
-        Call::Pending(count) => core.pending() == count,
-        Call::Len(count) => core.trace().len() == count,
-        Call::Commands(wanted) => has_commands(core, wanted),
-        Call::Rounds(wanted) => has_rounds(core, wanted),
-        Call::Waiting(wanted) => has_waiting(core, wanted),
+        CoreCall::Enter(dir, hw, from, count) => enter_all(alloc, core, dir, hw, from, count),
+        CoreCall::Issue(hw, tag, answer) => issue(core, hw, tag) == answer,
+        CoreCall::Send(hw, tag, ids) => send_all(core, hw, tag, ids),
+        CoreCall::Done(tag, answer) => core.done(tag) == answer,
+        CoreCall::AllDone(tags) => are_done(core, tags),
+        CoreCall::Back(tag, answer) => back(core, tag) == answer,
+        CoreCall::Depth(depth, answer) => set_depth(core, depth) == answer,
+        CoreCall::Tick(answer) => tick(core) == answer,
+        CoreCall::Ticks(count) => end_all(core, count),
+        CoreCall::Pending(count) => core.pending() == count,
+        CoreCall::Len(count) => core.trace().len() == count,
+        CoreCall::Commands(wanted) => has_commands(core, wanted),
+        CoreCall::Rounds(wanted) => has_rounds(core, wanted),
+        CoreCall::Waiting(wanted) => has_waiting(core, wanted),
     }
 }
 
@@ -255,7 +255,7 @@ fn tick<S: Scheduler>(core: &mut Core<S>) -> Result<u64, TickFault> {
     }
 }
 
-/// Ends so many rounds.
+/// Ends a number of rounds.
 fn end_all<S: Scheduler>(core: &mut Core<S>, count: u64) -> bool {
     for _ in 0..count {
         if tick(core).is_err() {

@@ -1,7 +1,7 @@
 //! The core where allocations are refused.
 
 use crate::given::{command, follow, in_order, setup};
-use crate::listed::Call;
+use crate::listed::CoreCall;
 use blk_bio::Side;
 use blk_core::{Core, Placed};
 use blk_none::NoneSched;
@@ -17,15 +17,15 @@ fn enters<'a>(rt: &impl Abort, heap: &'a Refusing<Global>, core: &mut Under<'a>,
     assert!(rt; id < 1000);
     let (bio, sector) = (2 * id, 100 * id);
     let calls = [
-        Call::Read(bio, sector, 1, 0, Ok(Placed::New(id))),
-        Call::Read(
+        CoreCall::Read(bio, sector, 1, 0, Ok(Placed::New(id))),
+        CoreCall::Read(
             bio + 1,
             sector + 1,
             1,
             0,
             Ok(Placed::Joined(id, Side::Back)),
         ),
-        Call::Tick(Ok(id + 1)),
+        CoreCall::Tick(Ok(id + 1)),
     ];
     follow(rt, &heap, core, &calls);
 }
@@ -35,10 +35,10 @@ fn leave<'a>(rt: &impl Abort, heap: &'a Refusing<Global>, core: &mut Under<'a>, 
     assert!(rt; id < 1000);
     let next = id + 1;
     let calls = [
-        Call::Issue(0, 1, Ok(Some(command(id, id, id + 5)))),
-        Call::Issue(0, 0, Ok(Some(command(next, next, next + 5)))),
-        Call::Done(0, Ok(())),
-        Call::Done(1, Ok(())),
+        CoreCall::Issue(0, 1, Ok(Some(command(id, id, id + 5)))),
+        CoreCall::Issue(0, 0, Ok(Some(command(next, next, next + 5)))),
+        CoreCall::Done(0, Ok(())),
+        CoreCall::Done(1, Ok(())),
     ];
     follow(rt, &heap, core, &calls);
 }
@@ -46,13 +46,13 @@ fn leave<'a>(rt: &impl Abort, heap: &'a Refusing<Global>, core: &mut Under<'a>, 
 /// The first request goes out and comes back, twice, and the depth is set to what it is.
 fn comes_back<'a>(rt: &impl Abort, heap: &'a Refusing<Global>, core: &mut Under<'a>) {
     let calls = [
-        Call::Issue(0, 0, Ok(Some(command(0, 0, 5)))),
-        Call::Back(0, Ok(0)),
-        Call::Issue(0, 1, Ok(Some(command(0, 0, 5)))),
-        Call::Back(1, Ok(0)),
-        Call::Pending(20),
-        Call::Depth(2, Ok(())),
-        Call::Tick(Ok(21)),
+        CoreCall::Issue(0, 0, Ok(Some(command(0, 0, 5)))),
+        CoreCall::Back(0, Ok(0)),
+        CoreCall::Issue(0, 1, Ok(Some(command(0, 0, 5)))),
+        CoreCall::Back(1, Ok(0)),
+        CoreCall::Pending(20),
+        CoreCall::Depth(2, Ok(())),
+        CoreCall::Tick(Ok(21)),
     ];
     follow(rt, &heap, core, &calls);
 }
@@ -66,13 +66,13 @@ fn come_and_go<'a>(rt: &impl Abort, heap: &'a Refusing<Global>) {
     comes_back(rt, heap, &mut core);
     for n in 0..10u64 {
         leave(rt, heap, &mut core, 2 * n);
-        follow(rt, &heap, &mut core, &[Call::Tick(Ok(22 + n))]);
+        follow(rt, &heap, &mut core, &[CoreCall::Tick(Ok(22 + n))]);
     }
     follow(
         rt,
         &heap,
         &mut core,
-        &[Call::Issue(0, 0, Ok(None)), Call::Pending(0)],
+        &[CoreCall::Issue(0, 0, Ok(None)), CoreCall::Pending(0)],
     );
     assert_eq!(rt; core.trace().len(), 116);
 }

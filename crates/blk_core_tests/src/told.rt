@@ -1,7 +1,7 @@
 //! What the core tells its scheduler.
 
 use crate::given::{command, follow, setup};
-use crate::listed::Call;
+use crate::listed::CoreCall;
 use blk_bio::{Dir, Limits, Request, Side};
 use blk_core::{Core, Placed};
 use blk_lifo::Lifo;
@@ -13,7 +13,7 @@ use std::process::Abort;
 /// The last pick's hardware queue and round, the last done's hardware queue, direction and wait, the direction that
 /// was last requeued, and that which last went out again, and the last tick's round.
 #[derive(Drop)]
-struct Told {
+struct Notes {
     pick: Cell<Option<(u8, u64)>>,
     done: Cell<Option<(u8, Dir, u64)>>,
     back: Cell<Option<Dir>>,
@@ -21,10 +21,10 @@ struct Told {
     tick: Cell<Option<u64>>,
 }
 
-impl Told {
+impl Notes {
     /// Told nothing so far.
-    fn new() -> Told {
-        Told {
+    fn new() -> Notes {
+        Notes {
             pick: Cell::new(None),
             done: Cell::new(None),
             back: Cell::new(None),
@@ -34,11 +34,11 @@ impl Told {
     }
 }
 
-/// A scheduler that notes what it is told, and does what another does.
+/// A scheduler that notes its calls, and does what another does.
 #[derive(Drop)]
 struct Noting<'a, S: Scheduler> {
     scheduler: S,
-    told: &'a Told,
+    told: &'a Notes,
 }
 
 impl<'a, S: Scheduler> Scheduler for Noting<'a, S> {
@@ -108,11 +108,11 @@ impl<'a, S: Scheduler> Scheduler for Noting<'a, S> {
     }
 }
 
-/// A core that notes what its scheduler is told.
+/// A core whose scheduler notes its calls.
 type Heard<'a> = Core<Noting<'a, Lifo>>;
 
 /// What is noted of the last pick, the last done and the last tick.
-fn heard(told: &Told) -> (Option<(u8, u64)>, Option<(u8, Dir, u64)>, Option<u64>) {
+fn heard(told: &Notes) -> (Option<(u8, u64)>, Option<(u8, Dir, u64)>, Option<u64>) {
     (told.pick.get(), told.done.get(), told.tick.get())
 }
 
@@ -120,15 +120,15 @@ fn heard(told: &Told) -> (Option<(u8, u64)>, Option<(u8, Dir, u64)>, Option<u64>
 /// queue 1, so its wait is 1.
 fn read_goes_out(rt: &impl Abort, alloc: Global, core: &mut Heard<'_>) {
     let calls = [
-        Call::Read(0, 0, 4, 0, Ok(Placed::New(0))),
-        Call::Tick(Ok(1)),
-        Call::Tick(Ok(2)),
-        Call::Tick(Ok(3)),
-        Call::Read(1, 4, 4, 0, Ok(Placed::Joined(0, Side::Back))),
-        Call::Tick(Ok(4)),
-        Call::Issue(1, 1, Ok(Some(command(0, 3, 5)))),
-        Call::Done(1, Ok(())),
-        Call::Tick(Ok(5)),
+        CoreCall::Read(0, 0, 4, 0, Ok(Placed::New(0))),
+        CoreCall::Tick(Ok(1)),
+        CoreCall::Tick(Ok(2)),
+        CoreCall::Tick(Ok(3)),
+        CoreCall::Read(1, 4, 4, 0, Ok(Placed::Joined(0, Side::Back))),
+        CoreCall::Tick(Ok(4)),
+        CoreCall::Issue(1, 1, Ok(Some(command(0, 3, 5)))),
+        CoreCall::Done(1, Ok(())),
+        CoreCall::Tick(Ok(5)),
     ];
     follow(rt, &alloc, core, &calls);
 }
@@ -136,9 +136,9 @@ fn read_goes_out(rt: &impl Abort, alloc: Global, core: &mut Heard<'_>) {
 /// Then a write of round 5 is issued at once, so its wait is 0.
 fn write_goes_out(rt: &impl Abort, alloc: Global, core: &mut Heard<'_>) {
     let calls = [
-        Call::Write(2, 100, 8, 1, Ok(Placed::New(1))),
-        Call::Issue(0, 0, Ok(Some(command(1, 5, 5)))),
-        Call::Done(0, Ok(())),
+        CoreCall::Write(2, 100, 8, 1, Ok(Placed::New(1))),
+        CoreCall::Issue(0, 0, Ok(Some(command(1, 5, 5)))),
+        CoreCall::Done(0, Ok(())),
     ];
     follow(rt, &alloc, core, &calls);
 }
@@ -147,12 +147,12 @@ fn write_goes_out(rt: &impl Abort, alloc: Global, core: &mut Heard<'_>) {
 /// It entered at queue 0 and goes out for queue 1.
 fn read_comes_back(rt: &impl Abort, alloc: Global, core: &mut Heard<'_>) {
     let calls = [
-        Call::Read(3, 200, 4, 0, Ok(Placed::New(2))),
-        Call::Issue(1, 1, Ok(Some(command(2, 5, 10)))),
-        Call::Back(1, Ok(2)),
-        Call::Tick(Ok(6)),
-        Call::Issue(1, 0, Ok(Some(command(2, 5, 10)))),
-        Call::Done(0, Ok(())),
+        CoreCall::Read(3, 200, 4, 0, Ok(Placed::New(2))),
+        CoreCall::Issue(1, 1, Ok(Some(command(2, 5, 10)))),
+        CoreCall::Back(1, Ok(2)),
+        CoreCall::Tick(Ok(6)),
+        CoreCall::Issue(1, 0, Ok(Some(command(2, 5, 10)))),
+        CoreCall::Done(0, Ok(())),
     ];
     follow(rt, &alloc, core, &calls);
 }
@@ -160,7 +160,7 @@ fn read_comes_back(rt: &impl Abort, alloc: Global, core: &mut Heard<'_>) {
 #[test]
 fn told_the_scheduler(rt: HostRuntime) {
     let alloc = rt.alloc();
-    let told = Told::new();
+    let told = Notes::new();
     let scheduler = Noting {
         scheduler: Lifo::new(alloc),
         told: &told,

@@ -30,27 +30,27 @@ fn order(rt: &impl Abort, alloc: Global, late_last: bool, text: &str) -> Vec<u64
     ids
 }
 
-/// What is told of a script: by how much it falls short, how many are late, and how many of these are avoidable.
+/// What comes of a script: by how much it falls short, how many are late, and how many of these are avoidable.
 #[derive(Clone, Copy, Debug, PartialEq, Eq)]
-struct Told {
+struct ScriptFigures {
     shortfall: i64,
     late: u64,
     avoidable: u64,
 }
 
-const fn figures(shortfall: i64, late: u64, avoidable: u64) -> Told {
-    Told {
+const fn figures(shortfall: i64, late: u64, avoidable: u64) -> ScriptFigures {
+    ScriptFigures {
         shortfall,
         late,
         avoidable,
     }
 }
 
-fn telling(rt: &impl Abort, alloc: Global, late_last: bool, text: &str) -> Told {
+fn telling(rt: &impl Abort, alloc: Global, late_last: bool, text: &str) -> ScriptFigures {
     let trace = run(rt, alloc, late_last, text);
     let report = report(&trace).expect(rt, "memory");
     let missed = misses(&trace).expect(rt, "memory");
-    Told {
+    ScriptFigures {
         shortfall: report.shortfall().expect(rt, "commands"),
         late: missed.tally.late,
         avoidable: missed.tally.avoidable,

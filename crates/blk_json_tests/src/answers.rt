@@ -91,9 +91,9 @@ fn certificates_and_loads(rt: HostRuntime) {
         none.as_slice(),
         b"{\"lateness\":null,\"load\":null,\"carries\":null}\n".as_slice()
     );
-    let met = on_time_json(rt.alloc(), 4, 5, 1, 2, 3).expect(&rt, "memory");
+    let on_time = on_time_json(rt.alloc(), 4, 5, 1, 2, 3).expect(&rt, "memory");
     assert_eq!(rt;
-        met.as_slice(),
+        on_time.as_slice(),
         b"{\"met\":4,\"of\":5,\"windows\":1,\"carry\":2,\"outside\":3}\n".as_slice()
     );
     let load = load_json(rt.alloc(), 2000, 2000, 0).expect(&rt, "memory");

@@ -1,11 +1,10 @@
 //! Rows of a trial, put together by hand.
 
 use blk_deadline::Tunables;
-use blk_grid::By;
 use blk_json::trial_json;
 use blk_kyber::Targets;
 use blk_report::{Report, Tally};
-use blk_settings::Sched;
+use blk_settings::{By, Sched};
 use blk_tune::TrialRow;
 use edd_check::Window;
 use edd_figures::Figures;

@@ -18,7 +18,7 @@ fn earliest_due_first(rt: HostRuntime) {
     );
 }
 
-/// What can't be met any more goes last: as few are late as in any schedule, and the latest later than it had to be.
+/// What can't be on time any more goes last: as few are late as in any schedule, and the latest later than it had to be.
 #[test]
 fn late_last(rt: HostRuntime) {
     let commands = [command(0, 0, 0), command(1, 0, 0), command(2, 0, 1)];

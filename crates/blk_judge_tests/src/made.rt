@@ -18,7 +18,7 @@ pub fn fixed(rt: &impl Abort, alloc: Global, depth: u64) -> Capacity {
     Capacity::fixed(alloc, depth).expect(rt, "out of memory")
 }
 
-/// The lines that are told of a legal schedule.
+/// The lines on a legal schedule.
 pub fn told(
     rt: &impl Abort,
     alloc: Global,

@@ -5,7 +5,7 @@ ghost use Rattle.std.specs.Prelude.{◌≡◌, ◌<◌, length};
 use crate::dice::Dice;
 use crate::given::bio;
 use crate::plain::{Store, Tags};
-use crate::seen::{Seen, of_back, of_depth, of_done, of_flush, of_issue, of_tick};
+use crate::seen::{CallOutcome, of_back, of_depth, of_done, of_flush, of_issue, of_tick};
 use blk_bio::{Bio, Limits};
 use blk_core::Core;
 use blk_layer::{Layer, Named, Submitter, Worker};
@@ -71,7 +71,7 @@ fn flush<R: Abort + Wait, L: Named>(
     store: &mut Store,
     dice: &mut Dice,
     limits: Limits,
-) -> Seen
+) -> CallOutcome
     requires seat { submitter.old.number < length layer.now.map }
     requires limits { L.setup.limits ≡ limits }
     ensures { submitter.new.number ≡ submitter.old.number }
@@ -91,15 +91,15 @@ fn drain<R: Abort + Wait, L: Named>(
     worker: &mut Worker<L>,
     store: &mut Store,
     core: &mut Core<NoneSched>,
-) -> Seen
+) -> CallOutcome
     ensures { worker.new.tag_set ≡ worker.old.tag_set }
 {
     let moved = store.drain(rt, core);
     assert!(rt; layer.drain(rt, worker) == Ok(moved));
     if moved == 0 {
-        Seen::NoneMoved
+        CallOutcome::NoneMoved
     } else {
-        Seen::Moved
+        CallOutcome::Moved
     }
 }
 
@@ -111,7 +111,7 @@ fn issue<R: Abort + Wait, L: Named>(
     tags: &mut Tags,
     core: &mut Core<NoneSched>,
     hw: u8,
-) -> Seen
+) -> CallOutcome
     requires { worker.old.tag_set ≡ layer.now.tag_set }
     ensures { worker.new.tag_set ≡ worker.old.tag_set }
 {
@@ -128,7 +128,7 @@ fn done<R: Abort + Wait, L: Named>(
     tags: &mut Tags,
     core: &mut Core<NoneSched>,
     tag: u16,
-) -> Seen
+) -> CallOutcome
     requires { worker.old.tag_set ≡ layer.now.tag_set }
     ensures { worker.new.tag_set ≡ worker.old.tag_set }
 {
@@ -145,7 +145,7 @@ fn back<R: Abort + Wait, L: Named>(
     tags: &mut Tags,
     core: &mut Core<NoneSched>,
     tag: u16,
-) -> Seen
+) -> CallOutcome
     requires { worker.old.tag_set ≡ layer.now.tag_set }
     ensures { worker.new.tag_set ≡ worker.old.tag_set }
 {
@@ -160,7 +160,7 @@ fn tick<R: Abort + Wait, L: Named>(
     layer: &Layer<NoneSched, L>,
     core: &mut Core<NoneSched>,
     dice: &mut Dice,
-) -> Seen {
+) -> CallOutcome {
     if dice.below(8) > 0 {
         let answer = layer.tick(rt);
         assert!(rt; answer == core.tick());
@@ -181,7 +181,7 @@ pub fn by_worker<R: Abort + Wait, L: Named>(
     tags: &mut Tags,
     core: &mut Core<NoneSched>,
     dice: &mut Dice,
-) -> Seen
+) -> CallOutcome
     requires { worker.old.tag_set ≡ layer.now.tag_set }
     ensures { worker.new.tag_set ≡ worker.old.tag_set }
 {
@@ -216,7 +216,7 @@ pub fn by_either<R: Abort + Wait, L: Named>(
     core: &mut Core<NoneSched>,
     dice: &mut Dice,
     limits: Limits,
-) -> Seen
+) -> CallOutcome
     requires seat { submitter.old.number < length layer.now.map }
     requires limits { L.setup.limits ≡ limits }
     requires tags { worker.old.tag_set ≡ layer.now.tag_set }

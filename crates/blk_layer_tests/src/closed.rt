@@ -4,7 +4,7 @@ ghost use Rattle.std.specs.Prelude.{◌≡◌, ◌<◌, [], IfErr, length, vec_l
 
 use crate::asked::last;
 use crate::given::{core, limits, setup};
-use crate::listed::{Call, first_other};
+use crate::listed::{LayerCall, first_other};
 use blk_bio::{Bio, Limits};
 use blk_core::Core;
 use blk_hw::Map;
@@ -89,7 +89,7 @@ fn followed<R: Abort + Wait, S: Scheduler, L: Named>(
     soft_depth: u64,
     worker_queues: Vec<u8, S::A>,
     limits: Limits,
-    calls: &[Call],
+    calls: &[LayerCall],
 ) -> Result<(Option<usize>, Closed<S::A>), Core<S>>
     requires name { blank.name ≡ L.name }
     requires parts { (blank.parts ≡ MAX_WORKERS) × (L.parts ≡ MAX_WORKERS) }
@@ -138,8 +138,8 @@ fn followed<R: Abort + Wait, S: Scheduler, L: Named>(
     Ok((other, closed(rt, alloc, layer, submitters, workers)))
 }
 
-/// A layer under a name of its own follows the calls, is closed, and leaves these bios and a trace of so many events. The place of the
-/// first call whose answer is another is told, if there is one, and the place past the calls where something else is left. The core
+/// A layer under a name of its own follows the calls, is closed, and leaves these bios and a trace of this number of events. The place of the
+/// first call whose answer is another is answered, if there is one, and the place past the calls where something else is left. The core
 /// comes back where memory was refused before there was a layer.
 pub fn tried<R: Abort + Wait, S: Scheduler>(
     rt: &R,
@@ -149,7 +149,7 @@ pub fn tried<R: Abort + Wait, S: Scheduler>(
     soft_depth: u64,
     worker_queues: Vec<u8, S::A>,
     limits: Limits,
-    calls: &[Call],
+    calls: &[LayerCall],
     left: &[Bio],
     events: u64,
 ) -> Result<Option<usize>, Core<S>>
@@ -175,7 +175,7 @@ pub fn tried<R: Abort + Wait, S: Scheduler>(
     Ok(other)
 }
 
-/// The same of a layer of so many tags and hardware queues, of two software queues of so much room, which are for these hardware
+/// The same of a layer of these numbers of tags and hardware queues, of two software queues of this depth, which are for these hardware
 /// queues, and of two workers, which work for these.
 pub fn other_than<R: Abort + Wait>(
     rt: &R,
@@ -183,7 +183,7 @@ pub fn other_than<R: Abort + Wait>(
     (depth, hw, soft_depth): (u64, u8, u64),
     map: &[u8],
     worker_queues: &[u8],
-    calls: &[Call],
+    calls: &[LayerCall],
     left: &[Bio],
     events: u64,
 ) -> Option<usize> {

@@ -7,7 +7,7 @@ use crate::calls::by_either;
 use crate::dice::Dice;
 use crate::given::{core, limits, setup};
 use crate::plain::{SOFT_DEPTH, Store, Tags};
-use crate::seen::{ALL, Seen, times};
+use crate::seen::{ALL, CallOutcome, times};
 use blk_bio::{Bio, Limits, Request};
 use blk_core::Core;
 use blk_hw::Map;
@@ -120,7 +120,7 @@ fn call<R: Abort + Wait, L: Named>(
     parts: &mut Parts,
     dice: &mut Dice,
     limits: Limits,
-) -> Seen
+) -> CallOutcome
     requires first { first.old.number < length layer.now.map }
     requires second { second.old.number < length layer.now.map }
     requires limits { L.setup.limits ≡ limits }
@@ -161,7 +161,7 @@ fn play<R: Abort + Wait, L: Named>(
     one: &mut Worker<L>,
     parts: &mut Parts,
     dice: &mut Dice,
-    log: &mut Vec<Seen>,
+    log: &mut Vec<CallOutcome>,
     limits: Limits,
 )
     requires first { first.old.number < length layer.now.map }
@@ -195,7 +195,7 @@ fn list<R: Abort + Wait, L: Named>(
     limits: Limits,
     parts: &mut Parts,
     dice: &mut Dice,
-    log: &mut Vec<Seen>,
+    log: &mut Vec<CallOutcome>,
 )
     requires name { blank.name ≡ L.name }
     requires parts { (blank.parts ≡ MAX_WORKERS) × (L.parts ≡ MAX_WORKERS) }
@@ -240,7 +240,7 @@ fn list<R: Abort + Wait, L: Named>(
 }
 
 /// Draws a list of calls, and makes each of them twice.
-fn draw<R: Abort + Wait>(rt: &R, alloc: Global, dice: &mut Dice, log: &mut Vec<Seen>) {
+fn draw<R: Abort + Wait>(rt: &R, alloc: Global, dice: &mut Dice, log: &mut Vec<CallOutcome>) {
     let limits = limits(rt);
     let (set, mut seat) = TagSet::new(alloc, 2).expect(rt, "a set");
     let tags_zero = Tags::new(&set, set.split(&mut seat).expect(rt, "memory"));

@@ -2,7 +2,7 @@
 
 use crate::closed::other_than;
 use crate::given::bio;
-use crate::listed::{Call, flushed};
+use crate::listed::{LayerCall, flushed};
 use blk_bio::BioId;
 use blk_layer::{FlushFault, FlushWhy, MAX_MOVES};
 
@@ -22,16 +22,16 @@ fn layer_soft_queue_full(rt: HostRuntime) {
         }),
     };
     let calls = [
-        Call::Add(0, 0, 0),
-        Call::Add(0, 1, 100),
-        Call::Flush(0, Err(full)),
-        Call::Accepted(0, 1),
-        Call::Drain(0, Ok(1)),
-        Call::Flush(0, flushed(1)),
-        Call::Accepted(0, 2),
-        Call::Add(0, 0, 0),
-        Call::Add(0, 1, 100),
-        Call::Flush(0, Err(again)),
+        LayerCall::Add(0, 0, 0),
+        LayerCall::Add(0, 1, 100),
+        LayerCall::Flush(0, Err(full)),
+        LayerCall::Accepted(0, 1),
+        LayerCall::Drain(0, Ok(1)),
+        LayerCall::Flush(0, flushed(1)),
+        LayerCall::Accepted(0, 2),
+        LayerCall::Add(0, 0, 0),
+        LayerCall::Add(0, 1, 100),
+        LayerCall::Flush(0, Err(again)),
     ];
     let left = [bio(&rt, 0, 1, 100), bio(&rt, 0, 0, 0)];
     let other = other_than(
@@ -51,13 +51,13 @@ fn layer_soft_queue_full(rt: HostRuntime) {
 #[test]
 fn layer_drains_by_rising_number(rt: HostRuntime) {
     let calls = [
-        Call::Add(1, 0, 100),
-        Call::Flush(1, flushed(1)),
-        Call::Add(0, 0, 0),
-        Call::Add(0, 1, 200),
-        Call::Flush(0, flushed(2)),
-        Call::Drain(0, Ok(3)),
-        Call::Drain(0, Ok(0)),
+        LayerCall::Add(1, 0, 100),
+        LayerCall::Flush(1, flushed(1)),
+        LayerCall::Add(0, 0, 0),
+        LayerCall::Add(0, 1, 200),
+        LayerCall::Flush(0, flushed(2)),
+        LayerCall::Drain(0, Ok(3)),
+        LayerCall::Drain(0, Ok(0)),
     ];
     let left = [bio(&rt, 0, 0, 0), bio(&rt, 0, 1, 200), bio(&rt, 1, 0, 100)];
     let other = other_than(
@@ -77,9 +77,9 @@ fn layer_drains_by_rising_number(rt: HostRuntime) {
 #[test]
 fn layer_leaves_a_queue_in_order(rt: HostRuntime) {
     let calls = [
-        Call::Add(0, 0, 0),
-        Call::Add(0, 1, 200),
-        Call::Flush(0, flushed(2)),
+        LayerCall::Add(0, 0, 0),
+        LayerCall::Add(0, 1, 200),
+        LayerCall::Flush(0, flushed(2)),
     ];
     let left = [bio(&rt, 0, 0, 0), bio(&rt, 0, 1, 200)];
     let other = other_than(
@@ -103,15 +103,15 @@ fn layer_soft_queue_of_the_greatest_depth(rt: HostRuntime) {
         why: FlushWhy::SoftFull,
     };
     let calls = [
-        Call::Fill(0, 0, MAX_MOVES),
-        Call::Add(0, MAX_MOVES, 900_000),
-        Call::Flush(0, Err(full)),
-        Call::Drain(0, Ok(MAX_MOVES)),
-        Call::Flush(0, flushed(1)),
-        Call::Drain(1, Ok(1)),
-        Call::Finish,
-        Call::Work(0, 1000, 0, Ok((513, 1025, true)), 1025),
-        Call::Ran(0, 1025),
+        LayerCall::Fill(0, 0, MAX_MOVES),
+        LayerCall::Add(0, MAX_MOVES, 900_000),
+        LayerCall::Flush(0, Err(full)),
+        LayerCall::Drain(0, Ok(MAX_MOVES)),
+        LayerCall::Flush(0, flushed(1)),
+        LayerCall::Drain(1, Ok(1)),
+        LayerCall::Finish,
+        LayerCall::Work(0, 1000, 0, Ok((513, 1025, true)), 1025),
+        LayerCall::Ran(0, 1025),
     ];
     let other = other_than(
         &rt,

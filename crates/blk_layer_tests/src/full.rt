@@ -2,7 +2,7 @@
 
 use crate::closed::other_than;
 use crate::given::bio;
-use crate::listed::{Call, flushed};
+use crate::listed::{LayerCall, flushed};
 use blk_core::{CoreFault, DepthFault, TickFault};
 use blk_layer::{DrainFault, LayerIssueFault, WorkFault};
 
@@ -14,11 +14,11 @@ fn layer_full_of_ticks(rt: HostRuntime) {
         why: CoreFault::TraceFull,
     };
     let calls = [
-        Call::Ticks(1_000_000),
-        Call::Tick(Err(TickFault::TraceFull)),
-        Call::Add(0, 0, 0),
-        Call::Flush(0, flushed(1)),
-        Call::Drain(0, Err(full)),
+        LayerCall::Ticks(1_000_000),
+        LayerCall::Tick(Err(TickFault::TraceFull)),
+        LayerCall::Add(0, 0, 0),
+        LayerCall::Flush(0, flushed(1)),
+        LayerCall::Drain(0, Err(full)),
     ];
     let other = other_than(
         &rt,
@@ -46,16 +46,16 @@ fn layer_full_at_a_release(rt: HostRuntime) {
         why: CoreFault::TraceFull,
     };
     let calls = [
-        Call::Ticks(999_999),
-        Call::Add(1, 0, 100),
-        Call::Flush(1, flushed(1)),
-        Call::Add(0, 0, 0),
-        Call::Flush(0, flushed(1)),
-        Call::Drain(0, Err(moved)),
-        Call::Drain(1, Err(none_moved)),
-        Call::Issue(0, Err(LayerIssueFault::TraceFull)),
-        Call::Depth(1, Err(DepthFault::TraceFull)),
-        Call::Work(0, 1, 0, Err(WorkFault::TraceFull), 0),
+        LayerCall::Ticks(999_999),
+        LayerCall::Add(1, 0, 100),
+        LayerCall::Flush(1, flushed(1)),
+        LayerCall::Add(0, 0, 0),
+        LayerCall::Flush(0, flushed(1)),
+        LayerCall::Drain(0, Err(moved)),
+        LayerCall::Drain(1, Err(none_moved)),
+        LayerCall::Issue(0, Err(LayerIssueFault::TraceFull)),
+        LayerCall::Depth(1, Err(DepthFault::TraceFull)),
+        LayerCall::Work(0, 1, 0, Err(WorkFault::TraceFull), 0),
     ];
     let other = other_than(
         &rt,

@@ -18,14 +18,14 @@ use std::sync::Wait;
 
 /// A call of a layer of two submitters and two workers, and its answer. Submitters and workers go by their numbers, 0 and 1.
 #[derive(Clone, Copy)]
-pub enum Call {
+pub enum LayerCall {
     /// A read of a serial number and a first sector becomes a request of its own in a submitter's plug.
     Add(u8, u64, u64),
-    /// Reads from a serial number on, so many, each a request of its own, go through a submitter's plug into its software queue.
+    /// A number of reads from a serial number on, each a request of its own, go through a submitter's plug into its software queue.
     Fill(u8, u64, u64),
     /// A submitter flushes its plug.
     Flush(u8, Result<Flushed, FlushFault>),
-    /// So many bios of a submitter are accepted.
+    /// This number of a submitter's bios are accepted.
     Accepted(u8, usize),
     /// A worker drains.
     Drain(u8, Result<u64, DrainFault>),
@@ -35,10 +35,10 @@ pub enum Call {
     Done(u8, u16, Result<(), NotIssued>),
     /// A worker hands a tag's command back: its id.
     Back(u8, u16, Result<u64, BackFault>),
-    /// A worker works for at most so many turns, with a device that is busy at one of its runs: how many passes it makes, how many
+    /// A worker works for at most this number of turns, with a device that is busy at one of its runs: how many passes it makes, how many
     /// commands it runs, and whether it is finished; and how often the device runs.
     Work(u8, u64, u64, Result<(u64, u64, bool), WorkFault>, u64),
-    /// So many commands are in a worker's account.
+    /// This number of commands are in a worker's account.
     Ran(u8, usize),
     /// Nothing more will be flushed.
     Finish,
@@ -46,7 +46,7 @@ pub enum Call {
     Depth(u64, Result<(), DepthFault>),
     /// The round ends.
     Tick(Result<u64, TickFault>),
-    /// So many rounds end, the first of a layer.
+    /// This number of rounds end, the first of a layer.
     Ticks(u64),
 }
 
@@ -100,7 +100,7 @@ fn adds<A: Allocator + Clone>(
     }
 }
 
-/// Whether so many reads go through a plug into the software queue, as many at a time as the plug holds.
+/// Whether this number of reads go through a plug into the software queue, as many at a time as the plug holds.
 fn fills<R: Abort + Wait, S: Scheduler, L: Named>(
     rt: &R,
     layer: &Layer<S, L>,
@@ -155,7 +155,7 @@ fn by_submitter<R: Abort + Wait, S: Scheduler, L: Named>(
     layer: &Layer<S, L>,
     submitter: &mut Submitter<L, S::A>,
     plug: &mut Plug<S::A>,
-    call: Call,
+    call: LayerCall,
 ) -> bool
     requires seat { submitter.old.number < length layer.now.map }
     requires limits { plug.old.limits ≡ L.setup.limits }
@@ -163,10 +163,10 @@ fn by_submitter<R: Abort + Wait, S: Scheduler, L: Named>(
     ensures limits { plug.new.limits ≡ plug.old.limits }
 {
     match call {
-        Call::Add(_, serial, first) => adds(rt, plug, submitter.number(), serial, first),
-        Call::Fill(_, from, count) => fills(rt, layer, submitter, plug, from, count),
-        Call::Flush(_, answer) => flush(rt, layer, submitter, plug) == answer,
-        Call::Accepted(_, count) => submitter.accepted().len() == count,
+        LayerCall::Add(_, serial, first) => adds(rt, plug, submitter.number(), serial, first),
+        LayerCall::Fill(_, from, count) => fills(rt, layer, submitter, plug, from, count),
+        LayerCall::Flush(_, answer) => flush(rt, layer, submitter, plug) == answer,
+        LayerCall::Accepted(_, count) => submitter.accepted().len() == count,
         _ => false,
     }
 }
@@ -267,25 +267,25 @@ fn by_worker<R: Wait, S: Scheduler, L: Named>(
     rt: &R,
     layer: &Layer<S, L>,
     worker: &mut Worker<L, S::A>,
-    call: Call,
+    call: LayerCall,
 ) -> bool
     requires { worker.old.tag_set ≡ layer.now.tag_set }
     ensures { worker.new.tag_set ≡ worker.old.tag_set }
 {
     match call {
-        Call::Drain(_, answer) => drain(rt, layer, worker) == answer,
-        Call::Issue(_, answer) => issued(rt, layer, worker) == answer,
-        Call::Done(_, tag, answer) => layer.done(rt, worker, tag) == answer,
-        Call::Back(_, tag, answer) => back(rt, layer, worker, tag) == answer,
-        Call::Work(_, turns, busy_at, answer, runs) => {
+        LayerCall::Drain(_, answer) => drain(rt, layer, worker) == answer,
+        LayerCall::Issue(_, answer) => issued(rt, layer, worker) == answer,
+        LayerCall::Done(_, tag, answer) => layer.done(rt, worker, tag) == answer,
+        LayerCall::Back(_, tag, answer) => back(rt, layer, worker, tag) == answer,
+        LayerCall::Work(_, turns, busy_at, answer, runs) => {
             works(rt, layer, worker, turns, busy_at, answer, runs)
         }
-        Call::Ran(_, count) => worker.ran().len() == count,
+        LayerCall::Ran(_, count) => worker.ran().len() == count,
         _ => false,
     }
 }
 
-/// Whether so many rounds end, the first of a layer.
+/// Whether this number of rounds end, the first of a layer.
 fn end_all<R: Wait, S: Scheduler, L: Named>(rt: &R, layer: &Layer<S, L>, count: u64) -> bool {
     for round in 0..count {
         if layer.tick(rt) != Ok(round + 1) {
@@ -316,15 +316,15 @@ fn set_depth<R: Wait, S: Scheduler, L: Named>(
 }
 
 /// Whether a call of the layer itself has the wanted answer.
-fn by_layer<R: Wait, S: Scheduler, L: Named>(rt: &R, layer: &Layer<S, L>, call: Call) -> bool {
+fn by_layer<R: Wait, S: Scheduler, L: Named>(rt: &R, layer: &Layer<S, L>, call: LayerCall) -> bool {
     match call {
-        Call::Finish => {
+        LayerCall::Finish => {
             layer.finish();
             true
         }
-        Call::Depth(depth, answer) => set_depth(rt, layer, depth) == answer,
-        Call::Tick(answer) => tick(rt, layer) == answer,
-        Call::Ticks(count) => end_all(rt, layer, count),
+        LayerCall::Depth(depth, answer) => set_depth(rt, layer, depth) == answer,
+        LayerCall::Tick(answer) => tick(rt, layer) == answer,
+        LayerCall::Ticks(count) => end_all(rt, layer, count),
         _ => false,
     }
 }
@@ -339,7 +339,7 @@ fn is_answered<R: Abort + Wait, S: Scheduler, L: Named>(
     plug_second: &mut Plug<S::A>,
     zero: &mut Worker<L, S::A>,
     one: &mut Worker<L, S::A>,
-    call: Call,
+    call: LayerCall,
 ) -> bool
     requires first { first.old.number < length layer.now.map }
     requires second { second.old.number < length layer.now.map }
@@ -355,21 +355,23 @@ fn is_answered<R: Abort + Wait, S: Scheduler, L: Named>(
     ensures one { one.new.tag_set ≡ one.old.tag_set }
 {
     match call {
-        Call::Add(0, _, _) | Call::Fill(0, _, _) | Call::Flush(0, _) | Call::Accepted(0, _) => {
-            by_submitter(rt, layer, first, plug_first, call)
-        }
-        Call::Add(_, _, _) | Call::Fill(_, _, _) | Call::Flush(_, _) | Call::Accepted(_, _) => {
-            by_submitter(rt, layer, second, plug_second, call)
-        }
-        Call::Finish | Call::Depth(_, _) | Call::Tick(_) | Call::Ticks(_) => {
+        LayerCall::Add(0, _, _)
+        | LayerCall::Fill(0, _, _)
+        | LayerCall::Flush(0, _)
+        | LayerCall::Accepted(0, _) => { by_submitter(rt, layer, first, plug_first, call) }
+        LayerCall::Add(_, _, _)
+        | LayerCall::Fill(_, _, _)
+        | LayerCall::Flush(_, _)
+        | LayerCall::Accepted(_, _) => { by_submitter(rt, layer, second, plug_second, call) }
+        LayerCall::Finish | LayerCall::Depth(_, _) | LayerCall::Tick(_) | LayerCall::Ticks(_) => {
             by_layer(rt, layer, call)
         }
-        Call::Drain(0, _)
-        | Call::Issue(0, _)
-        | Call::Done(0, _, _)
-        | Call::Back(0, _, _)
-        | Call::Work(0, _, _, _, _)
-        | Call::Ran(0, _) => by_worker(rt, layer, zero, call),
+        LayerCall::Drain(0, _)
+        | LayerCall::Issue(0, _)
+        | LayerCall::Done(0, _, _)
+        | LayerCall::Back(0, _, _)
+        | LayerCall::Work(0, _, _, _, _)
+        | LayerCall::Ran(0, _) => by_worker(rt, layer, zero, call),
         _ => by_worker(rt, layer, one, call),
     }
 }
@@ -384,7 +386,7 @@ pub fn first_other<R: Abort + Wait, S: Scheduler, L: Named>(
     plug_second: &mut Plug<S::A>,
     zero: &mut Worker<L, S::A>,
     one: &mut Worker<L, S::A>,
-    calls: &[Call],
+    calls: &[LayerCall],
 ) -> Option<usize>
     requires first { first.old.number < length layer.now.map }
     requires second { second.old.number < length layer.now.map }

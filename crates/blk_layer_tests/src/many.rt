@@ -21,7 +21,7 @@ use std::sync::ledger::Blank;
 use std::thread::{Threads, for_each_mut, join, yield_now};
 
 /// How many bios each submitter has.
-const BIOS: u64 = 50;
+const BIOS_EACH: u64 = 50;
 
 /// How often a submitter flushes at most, and how many passes a worker makes.
 const TURNS: u64 = 3_000_000;
@@ -60,7 +60,7 @@ fn submit<R: Abort + Wait, L: Named>(
     let mut next = 0u64;
     for _ in 0..TURNS {
         if plug.len() == 0 {
-            if next >= BIOS {
+            if next >= BIOS_EACH {
                 return;
             }
             let first = next.saturating_mul(9).saturating_add(u64::from(number));
@@ -147,7 +147,7 @@ fn settles(rt: &impl Abort, closed: &Closed, runs: &[AtomicU64; 4]) {
         busy = busy.saturating_add(count / 3);
     }
     assert!(rt; closed.left.is_empty());
-    assert!(rt; ends(closed) == (busy, 9 * BIOS));
+    assert!(rt; ends(closed) == (busy, 9 * BIOS_EACH));
 }
 
 #[tactic(auto, using(crate::proofs::Seated::all_of, crate::proofs::Seated::all_numbers))]
@@ -188,7 +188,7 @@ fn at_once<R: Abort + Threads + Wait + Sync, L: Named + Send + Sync>(
         limits,
     );
     for submitter in &submitters {
-        assert!(rt; submitter.accepted().len() as u64 == BIOS);
+        assert!(rt; submitter.accepted().len() as u64 == BIOS_EACH);
     }
     let closed = close(rt, alloc, layer, submitters, workers);
     settles(rt, &closed, &runs);

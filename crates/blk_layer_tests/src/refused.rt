@@ -2,7 +2,7 @@
 
 use crate::closed::tried;
 use crate::given::{bio, core, limits, setup};
-use crate::listed::{Call, flushed};
+use crate::listed::{LayerCall, flushed};
 use blk_bio::BioId;
 use blk_hw::Map;
 use blk_layer::{FlushFault, FlushWhy};
@@ -21,7 +21,7 @@ fn zeros<'a>(rt: &impl Abort, heap: Heap<'a>) -> Vec<u8, Heap<'a>> {
 
 /// Makes the calls of a layer over an allocator that refuses one from now on, and closes it; whether all is as it has to be. Where memory
 /// is refused before there is a layer, one is made under another name.
-fn all_of_it<R: Abort + Wait>(rt: &R, heap: Heap<'_>, calls: &[Call], refuse: u64) -> bool {
+fn all_of_it<R: Abort + Wait>(rt: &R, heap: Heap<'_>, calls: &[LayerCall], refuse: u64) -> bool {
     let limits = limits(rt);
     let core = core(rt, heap, setup(rt, 1, 1, limits));
     let map = Map::new(zeros(rt, heap)).expect(rt, "a map");
@@ -63,21 +63,21 @@ fn memory_refused(rt: HostRuntime) {
         }),
     };
     let calls = [
-        Call::Add(0, 0, 0),
-        Call::Add(0, 1, 100),
-        Call::Flush(0, Err(full)),
-        Call::Drain(0, Ok(1)),
-        Call::Flush(0, flushed(1)),
-        Call::Add(0, 0, 0),
-        Call::Add(0, 1, 100),
-        Call::Flush(0, Err(again)),
-        Call::Issue(0, Ok(Some((0, 0)))),
-        Call::Back(0, 0, Ok(0)),
-        Call::Depth(1, Ok(())),
-        Call::Tick(Ok(1)),
-        Call::Issue(1, Ok(Some((0, 0)))),
-        Call::Done(1, 0, Ok(())),
-        Call::Tick(Ok(2)),
+        LayerCall::Add(0, 0, 0),
+        LayerCall::Add(0, 1, 100),
+        LayerCall::Flush(0, Err(full)),
+        LayerCall::Drain(0, Ok(1)),
+        LayerCall::Flush(0, flushed(1)),
+        LayerCall::Add(0, 0, 0),
+        LayerCall::Add(0, 1, 100),
+        LayerCall::Flush(0, Err(again)),
+        LayerCall::Issue(0, Ok(Some((0, 0)))),
+        LayerCall::Back(0, 0, Ok(0)),
+        LayerCall::Depth(1, Ok(())),
+        LayerCall::Tick(Ok(1)),
+        LayerCall::Issue(1, Ok(Some((0, 0)))),
+        LayerCall::Done(1, 0, Ok(())),
+        LayerCall::Tick(Ok(2)),
     ];
     let heap = Refusing::new(rt.alloc());
     for n in 1..1000u64 {

@@ -5,7 +5,7 @@ use blk_layer::{FlushFault, FlushWhy, Flushed, Issued, LayerIssueFault};
 
 /// What came of a call.
 #[derive(Clone, Copy, Debug, PartialEq, Eq)]
-pub enum Seen {
+pub enum CallOutcome {
     /// A flush left the plug empty.
     Flushed,
     /// A flush was refused for a bio of another submitter.
@@ -49,89 +49,89 @@ pub enum Seen {
 }
 
 /// All that is to be seen, each often.
-pub const ALL: [Seen; 19] = [
-    Seen::Flushed,
-    Seen::Foreign,
-    Seen::Repeated,
-    Seen::SoftFull,
-    Seen::Moved,
-    Seen::NoneMoved,
-    Seen::Issued,
-    Seen::NoneIssued,
-    Seen::NoTag,
-    Seen::TagRange,
-    Seen::SlotUsed,
-    Seen::Done,
-    Seen::NotDone,
-    Seen::Back,
-    Seen::NotBack,
-    Seen::Ticked,
-    Seen::InFlight,
-    Seen::Set,
-    Seen::DepthRange,
+pub const ALL: [CallOutcome; 19] = [
+    CallOutcome::Flushed,
+    CallOutcome::Foreign,
+    CallOutcome::Repeated,
+    CallOutcome::SoftFull,
+    CallOutcome::Moved,
+    CallOutcome::NoneMoved,
+    CallOutcome::Issued,
+    CallOutcome::NoneIssued,
+    CallOutcome::NoTag,
+    CallOutcome::TagRange,
+    CallOutcome::SlotUsed,
+    CallOutcome::Done,
+    CallOutcome::NotDone,
+    CallOutcome::Back,
+    CallOutcome::NotBack,
+    CallOutcome::Ticked,
+    CallOutcome::InFlight,
+    CallOutcome::Set,
+    CallOutcome::DepthRange,
 ];
 
 /// What came of a flush.
-pub fn of_flush(answer: &Result<Flushed, FlushFault>) -> Seen {
+pub fn of_flush(answer: &Result<Flushed, FlushFault>) -> CallOutcome {
     match answer {
-        Ok(_) => Seen::Flushed,
+        Ok(_) => CallOutcome::Flushed,
         Err(fault) => match fault.why {
-            FlushWhy::Foreign(_) => Seen::Foreign,
-            FlushWhy::Repeated(_) => Seen::Repeated,
-            FlushWhy::SoftFull => Seen::SoftFull,
-            FlushWhy::Memory => Seen::Other,
+            FlushWhy::Foreign(_) => CallOutcome::Foreign,
+            FlushWhy::Repeated(_) => CallOutcome::Repeated,
+            FlushWhy::SoftFull => CallOutcome::SoftFull,
+            FlushWhy::Memory => CallOutcome::Other,
         },
     }
 }
 
 /// What came of an issue.
-pub fn of_issue(answer: &Result<Option<Issued>, LayerIssueFault>) -> Seen {
+pub fn of_issue(answer: &Result<Option<Issued>, LayerIssueFault>) -> CallOutcome {
     match answer {
-        Ok(Some(_)) => Seen::Issued,
-        Ok(None) => Seen::NoneIssued,
-        Err(LayerIssueFault::NoTag) => Seen::NoTag,
-        Err(LayerIssueFault::TagRange) => Seen::TagRange,
-        Err(LayerIssueFault::SlotUsed) => Seen::SlotUsed,
-        Err(LayerIssueFault::TraceFull | LayerIssueFault::Memory) => Seen::Other,
+        Ok(Some(_)) => CallOutcome::Issued,
+        Ok(None) => CallOutcome::NoneIssued,
+        Err(LayerIssueFault::NoTag) => CallOutcome::NoTag,
+        Err(LayerIssueFault::TagRange) => CallOutcome::TagRange,
+        Err(LayerIssueFault::SlotUsed) => CallOutcome::SlotUsed,
+        Err(LayerIssueFault::TraceFull | LayerIssueFault::Memory) => CallOutcome::Other,
     }
 }
 
 /// What came of a command reported done.
-pub fn of_done(answer: &Result<(), NotIssued>) -> Seen {
+pub fn of_done(answer: &Result<(), NotIssued>) -> CallOutcome {
     match answer {
-        Ok(()) => Seen::Done,
-        Err(NotIssued) => Seen::NotDone,
+        Ok(()) => CallOutcome::Done,
+        Err(NotIssued) => CallOutcome::NotDone,
     }
 }
 
 /// What came of a command that was to be requeued.
-pub fn of_back(answer: &Result<u64, BackFault>) -> Seen {
+pub fn of_back(answer: &Result<u64, BackFault>) -> CallOutcome {
     match answer {
-        Ok(_) => Seen::Back,
-        Err(BackFault::NotIssued) => Seen::NotBack,
-        Err(BackFault::Memory) => Seen::Other,
+        Ok(_) => CallOutcome::Back,
+        Err(BackFault::NotIssued) => CallOutcome::NotBack,
+        Err(BackFault::Memory) => CallOutcome::Other,
     }
 }
 
 /// What came of a tick.
-pub fn of_tick(answer: &Result<u64, TickFault>) -> Seen {
+pub fn of_tick(answer: &Result<u64, TickFault>) -> CallOutcome {
     match answer {
-        Ok(_) => Seen::Ticked,
-        Err(TickFault::InFlight(_)) => Seen::InFlight,
-        Err(TickFault::TraceFull | TickFault::Memory) => Seen::Other,
+        Ok(_) => CallOutcome::Ticked,
+        Err(TickFault::InFlight(_)) => CallOutcome::InFlight,
+        Err(TickFault::TraceFull | TickFault::Memory) => CallOutcome::Other,
     }
 }
 
 /// What came of a depth.
-pub fn of_depth(answer: &Result<(), DepthFault>) -> Seen {
+pub fn of_depth(answer: &Result<(), DepthFault>) -> CallOutcome {
     match answer {
-        Ok(()) => Seen::Set,
-        Err(DepthFault::DepthRange) => Seen::DepthRange,
-        Err(DepthFault::TraceFull | DepthFault::Memory) => Seen::Other,
+        Ok(()) => CallOutcome::Set,
+        Err(DepthFault::DepthRange) => CallOutcome::DepthRange,
+        Err(DepthFault::TraceFull | DepthFault::Memory) => CallOutcome::Other,
     }
 }
 
 /// How often it was seen.
-pub fn times(log: &[Seen], seen: Seen) -> usize {
+pub fn times(log: &[CallOutcome], seen: CallOutcome) -> usize {
     log.iter().filter(|one| **one == seen).count()
 }

@@ -1,7 +1,7 @@
 //! Commands that workers are issued, report done and hand back.
 
 use crate::closed::other_than;
-use crate::listed::{Call, flushed};
+use crate::listed::{LayerCall, flushed};
 use blk_core::{BackFault, DepthFault, NotIssued};
 use blk_layer::LayerIssueFault;
 
@@ -9,18 +9,18 @@ use blk_layer::LayerIssueFault;
 #[test]
 fn layer_two_workers_one_tag(rt: HostRuntime) {
     let calls = [
-        Call::Add(0, 0, 0),
-        Call::Add(0, 1, 100),
-        Call::Flush(0, flushed(2)),
-        Call::Drain(1, Ok(2)),
-        Call::Issue(0, Ok(Some((0, 0)))),
-        Call::Issue(1, Err(LayerIssueFault::NoTag)),
-        Call::Done(0, 0, Ok(())),
-        Call::Issue(1, Err(LayerIssueFault::SlotUsed)),
-        Call::Tick(Ok(1)),
-        Call::Issue(1, Ok(Some((1, 0)))),
-        Call::Ran(0, 1),
-        Call::Ran(1, 0),
+        LayerCall::Add(0, 0, 0),
+        LayerCall::Add(0, 1, 100),
+        LayerCall::Flush(0, flushed(2)),
+        LayerCall::Drain(1, Ok(2)),
+        LayerCall::Issue(0, Ok(Some((0, 0)))),
+        LayerCall::Issue(1, Err(LayerIssueFault::NoTag)),
+        LayerCall::Done(0, 0, Ok(())),
+        LayerCall::Issue(1, Err(LayerIssueFault::SlotUsed)),
+        LayerCall::Tick(Ok(1)),
+        LayerCall::Issue(1, Ok(Some((1, 0)))),
+        LayerCall::Ran(0, 1),
+        LayerCall::Ran(1, 0),
     ];
     let other = other_than(&rt, rt.alloc(), (1, 1, 4), &[0, 0], &[0, 0], &calls, &[], 6);
     assert_eq!(rt; other, None);
@@ -30,17 +30,17 @@ fn layer_two_workers_one_tag(rt: HostRuntime) {
 #[test]
 fn layer_two_workers_two_queues(rt: HostRuntime) {
     let calls = [
-        Call::Add(1, 0, 0),
-        Call::Flush(1, flushed(1)),
-        Call::Drain(0, Ok(0)),
-        Call::Add(0, 0, 0),
-        Call::Flush(0, flushed(1)),
-        Call::Drain(1, Ok(1)),
-        Call::Issue(0, Ok(None)),
-        Call::Issue(1, Ok(Some((0, 0)))),
-        Call::Drain(0, Ok(1)),
-        Call::Done(0, 0, Err(NotIssued)),
-        Call::Issue(0, Ok(Some((1, 1)))),
+        LayerCall::Add(1, 0, 0),
+        LayerCall::Flush(1, flushed(1)),
+        LayerCall::Drain(0, Ok(0)),
+        LayerCall::Add(0, 0, 0),
+        LayerCall::Flush(0, flushed(1)),
+        LayerCall::Drain(1, Ok(1)),
+        LayerCall::Issue(0, Ok(None)),
+        LayerCall::Issue(1, Ok(Some((0, 0)))),
+        LayerCall::Drain(0, Ok(1)),
+        LayerCall::Done(0, 0, Err(NotIssued)),
+        LayerCall::Issue(0, Ok(Some((1, 1)))),
     ];
     let other = other_than(&rt, rt.alloc(), (2, 2, 4), &[0, 1], &[0, 1], &calls, &[], 4);
     assert_eq!(rt; other, None);
@@ -50,22 +50,22 @@ fn layer_two_workers_two_queues(rt: HostRuntime) {
 #[test]
 fn layer_back_and_depth(rt: HostRuntime) {
     let calls = [
-        Call::Add(0, 0, 0),
-        Call::Add(0, 1, 100),
-        Call::Flush(0, flushed(2)),
-        Call::Drain(0, Ok(2)),
-        Call::Issue(0, Ok(Some((0, 0)))),
-        Call::Back(0, 0, Ok(0)),
-        Call::Back(0, 0, Err(BackFault::NotIssued)),
-        Call::Issue(0, Ok(Some((0, 1)))),
-        Call::Done(0, 1, Ok(())),
-        Call::Depth(0, Err(DepthFault::DepthRange)),
-        Call::Depth(3, Err(DepthFault::DepthRange)),
-        Call::Depth(1, Ok(())),
-        Call::Tick(Ok(1)),
-        Call::Issue(0, Ok(Some((1, 0)))),
-        Call::Done(0, 0, Ok(())),
-        Call::Issue(0, Err(LayerIssueFault::TagRange)),
+        LayerCall::Add(0, 0, 0),
+        LayerCall::Add(0, 1, 100),
+        LayerCall::Flush(0, flushed(2)),
+        LayerCall::Drain(0, Ok(2)),
+        LayerCall::Issue(0, Ok(Some((0, 0)))),
+        LayerCall::Back(0, 0, Ok(0)),
+        LayerCall::Back(0, 0, Err(BackFault::NotIssued)),
+        LayerCall::Issue(0, Ok(Some((0, 1)))),
+        LayerCall::Done(0, 1, Ok(())),
+        LayerCall::Depth(0, Err(DepthFault::DepthRange)),
+        LayerCall::Depth(3, Err(DepthFault::DepthRange)),
+        LayerCall::Depth(1, Ok(())),
+        LayerCall::Tick(Ok(1)),
+        LayerCall::Issue(0, Ok(Some((1, 0)))),
+        LayerCall::Done(0, 0, Ok(())),
+        LayerCall::Issue(0, Err(LayerIssueFault::TagRange)),
     ];
     let other = other_than(
         &rt,

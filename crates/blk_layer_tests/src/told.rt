@@ -1,4 +1,4 @@
-//! That memory ran out inside a call is told: each allocation of a drain, of an issue and of a worker's work is refused in turn.
+//! A call answers that memory ran out inside it: each allocation of a drain, of an issue and of a worker's work is refused in turn.
 
 ghost use Rattle.std.specs.Prelude.{◌≡◌, ◌<◌, [], length, vec_len};
 
@@ -26,11 +26,11 @@ type Heap<'a> = &'a Refusing<Global>;
 
 /// A device that is busy at each second run.
 #[derive(Drop)]
-struct Each {
+struct EachSecond {
     runs: u64,
 }
 
-impl Device for Each {
+impl Device for EachSecond {
     fn run(&mut self, command: &Command) -> Ran {
         let _ = command.id;
         self.runs = self.runs.wrapping_add(1);
@@ -54,7 +54,7 @@ enum Made {
 
 /// What a call says of memory.
 #[derive(Clone, Copy, PartialEq, Eq)]
-enum Told {
+enum OfMemory {
     /// There was enough.
     Enough,
     /// There wasn't.
@@ -89,34 +89,34 @@ fn answer_of<'a, R: Wait, L: Named>(
     layer: &Layer<NoneSched<Heap<'a>>, L>,
     worker: &mut Worker<L, Heap<'a>>,
     made: Made,
-) -> Told
+) -> OfMemory
     requires { worker.old.tag_set ≡ layer.now.tag_set }
 {
     match made {
         Made::Drain => match layer.drain(rt, worker) {
-            Ok(_) => Told::Enough,
+            Ok(_) => OfMemory::Enough,
             Err(
                 DrainFault {
                     why: CoreFault::Memory,
                     ..
                 },
-            ) => Told::Wanting,
-            Err(_) => Told::Other,
+            ) => OfMemory::Wanting,
+            Err(_) => OfMemory::Other,
         },
         Made::Issue => match layer.issue(rt, worker) {
-            Ok(_) => Told::Enough,
-            Err(LayerIssueFault::Memory) => Told::Wanting,
-            Err(_) => Told::Other,
+            Ok(_) => OfMemory::Enough,
+            Err(LayerIssueFault::Memory) => OfMemory::Wanting,
+            Err(_) => OfMemory::Other,
         },
-        Made::Work => match layer.work(rt, worker, &mut Each { runs: 0 }, 1000) {
-            Ok(worked) if worked.finished => Told::Enough,
-            Err(WorkFault::Memory) => Told::Wanting,
-            _ => Told::Other,
+        Made::Work => match layer.work(rt, worker, &mut EachSecond { runs: 0 }, 1000) {
+            Ok(worked) if worked.finished => OfMemory::Enough,
+            Err(WorkFault::Memory) => OfMemory::Wanting,
+            _ => OfMemory::Other,
         },
     }
 }
 
-/// Makes a layer, and a call in it whose allocation of this number is refused: whether there was one, and what was told.
+/// Makes a layer, and a call in it whose allocation of this number is refused: whether there was one, and what it answered.
 #[tactic(auto, using(crate::proofs::Seated::all_of))]
 fn refused<'a, R: Abort + Wait, L: Named>(
     rt: &R,
@@ -128,7 +128,7 @@ fn refused<'a, R: Abort + Wait, L: Named>(
     limits: Limits,
     made: Made,
     n: u64,
-) -> (bool, Told)
+) -> (bool, OfMemory)
     requires name { blank.name ≡ L.name }
     requires parts { (blank.parts ≡ MAX_WORKERS) × (L.parts ≡ MAX_WORKERS) }
     requires setup { core.setup ≡ L.setup }
@@ -158,7 +158,7 @@ fn refused<'a, R: Abort + Wait, L: Named>(
 }
 
 /// The same of a layer under a name of its own.
-fn refused_at<R: Abort + Wait>(rt: &R, heap: Heap<'_>, made: Made, n: u64) -> (bool, Told) {
+fn refused_at<R: Abort + Wait>(rt: &R, heap: Heap<'_>, made: Made, n: u64) -> (bool, OfMemory) {
     let limits = limits(rt);
     let core = core(rt, heap, setup(rt, 2, 1, limits));
     let map = Map::new(Vec::from_slice(heap, &[0]).expect(rt, "memory")).expect(rt, "a map");
@@ -167,16 +167,16 @@ fn refused_at<R: Abort + Wait>(rt: &R, heap: Heap<'_>, made: Made, n: u64) -> (b
     refused::<R, Brand>(rt, heap, blank, core, map, queues, limits, made, n)
 }
 
-/// How many allocations of a call were refused in turn, each of which was told.
+/// How many allocations of a call were refused in turn, each of which it answered.
 fn all_told<R: Abort + Wait>(rt: &R, alloc: Global, made: Made) -> u64 {
     let heap = Refusing::new(alloc);
     for n in 1..1000u64 {
         let (was_refused, said) = refused_at(rt, &heap, made, n);
         if !was_refused {
-            assert!(rt; said == Told::Enough);
+            assert!(rt; said == OfMemory::Enough);
             return n - 1;
         }
-        assert!(rt; said == Told::Wanting, "{n}");
+        assert!(rt; said == OfMemory::Wanting, "{n}");
     }
     0
 }

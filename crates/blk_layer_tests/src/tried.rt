@@ -11,7 +11,7 @@ use std::process::Abort;
 type Plain = Layer<NoneSched, Brand>;
 
 /// The id that a try issues, or why it issues none, and the round after it.
-type Tried = (Result<Option<u64>, IssueFault>, u64);
+type TriedIssue = (Result<Option<u64>, IssueFault>, u64);
 
 /// A read enters, of a serial number and a first sector.
 fn enters(rt: &impl Abort, alloc: Global, core: &mut Core<NoneSched>, serial: u64, first: u64) {
@@ -21,7 +21,7 @@ fn enters(rt: &impl Abort, alloc: Global, core: &mut Core<NoneSched>, serial: u6
     assert!(rt; core.release(request, 0).is_ok());
 }
 
-/// A core of so many tags, in which two requests wait.
+/// A core of this number of tags, in which two requests wait.
 fn two_wait(rt: &impl Abort, alloc: Global, depth: u64) -> Core<NoneSched> {
     let mut core = core(rt, alloc, setup(rt, depth, 1, limits(rt)));
     enters(rt, alloc, &mut core, 0, 0);
@@ -30,7 +30,7 @@ fn two_wait(rt: &impl Abort, alloc: Global, depth: u64) -> Core<NoneSched> {
 }
 
 /// A try under a tag that the setup has.
-fn tried(rt: &impl Abort, core: &mut Core<NoneSched>, tag: u16) -> Tried {
+fn tried(rt: &impl Abort, core: &mut Core<NoneSched>, tag: u16) -> TriedIssue {
     assert!(rt; u64::from(tag) < core.trace().setup().depth());
     let answer = match Plain::issue_or_end(core, 0, tag) {
         Ok(Some(command)) => Ok(Some(command.id)),

@@ -7,7 +7,7 @@ use std::process::Abort;
 
 /// What happens in a trace.
 #[derive(Clone, Copy)]
-pub enum Step {
+pub enum Happening {
     /// A read of 8 sectors enters under an id, which is its serial number as well and, times 8, its first sector.
     Read(u64),
     /// Such a write enters.
@@ -20,7 +20,7 @@ pub enum Step {
     Back(u16),
     /// The rounds to come have another depth.
     Depth(u64),
-    /// So many rounds end.
+    /// This number of rounds end.
     Ticks(u64),
 }
 
@@ -35,25 +35,25 @@ fn request(rt: &impl Abort, alloc: Global, id: u64, dir: Dir) -> Request {
 }
 
 /// A trace of this depth with these events. Reads are due at once, writes after 9 rounds.
-pub fn trace_of(rt: &impl Abort, alloc: Global, depth: u64, steps: &[Step]) -> Trace {
+pub fn trace_of(rt: &impl Abort, alloc: Global, depth: u64, steps: &[Happening]) -> Trace {
     let limits = Limits::new(256, 128).expect(rt, "limits");
     let setup = Setup::new(depth, 1, 0, 9, limits).expect(rt, "a setup");
     let mut trace = Trace::empty(alloc, setup).expect(rt, "memory");
     for step in steps {
         let (count, event) = match *step {
-            Step::Read(id) => {
+            Happening::Read(id) => {
                 let request = request(rt, alloc, id, Dir::Read);
                 (0, Event::Release { id, request })
             }
-            Step::Write(id) => {
+            Happening::Write(id) => {
                 let request = request(rt, alloc, id, Dir::Write);
                 (0, Event::Release { id, request })
             }
-            Step::Issue(id, tag) => (0, Event::Issue { id, tag }),
-            Step::Done(tag) => (0, Event::Done { tag }),
-            Step::Back(tag) => (0, Event::Back { tag }),
-            Step::Depth(depth) => (0, Event::Depth { depth }),
-            Step::Ticks(count) => (count.saturating_sub(1), Event::Tick),
+            Happening::Issue(id, tag) => (0, Event::Issue { id, tag }),
+            Happening::Done(tag) => (0, Event::Done { tag }),
+            Happening::Back(tag) => (0, Event::Back { tag }),
+            Happening::Depth(depth) => (0, Event::Depth { depth }),
+            Happening::Ticks(count) => (count.saturating_sub(1), Event::Tick),
         };
         assert!(rt; trace.push(event).is_ok());
         for _ in 0..count {

@@ -1,12 +1,16 @@
 //! Boxes, columns and strips worked by hand.
 
-use crate::given::{Step, count_of, trace_of};
+use crate::given::{Happening, count_of, trace_of};
 use blk_picture::{picture, pictures};
 
 /// A read goes out under tag 1 in round 0, on time: 40 pixels a round, 24 a tag.
 #[test]
 fn a_read_on_time(rt: HostRuntime) {
-    let steps = [Step::Read(0), Step::Issue(0, 1), Step::Done(1)];
+    let steps = [
+        Happening::Read(0),
+        Happening::Issue(0, 1),
+        Happening::Done(1),
+    ];
     let trace = trace_of(&rt, rt.alloc(), 2, &steps);
     let text = picture(rt.alloc(), &trace).expect(&rt, "memory");
     let told =
@@ -19,13 +23,13 @@ fn a_read_on_time(rt: HostRuntime) {
 #[test]
 fn handed_back_and_late(rt: HostRuntime) {
     let steps = [
-        Step::Read(0),
-        Step::Write(1),
-        Step::Issue(0, 0),
-        Step::Back(0),
-        Step::Ticks(1),
-        Step::Issue(0, 0),
-        Step::Done(0),
+        Happening::Read(0),
+        Happening::Write(1),
+        Happening::Issue(0, 0),
+        Happening::Back(0),
+        Happening::Ticks(1),
+        Happening::Issue(0, 0),
+        Happening::Done(0),
     ];
     let trace = trace_of(&rt, rt.alloc(), 1, &steps);
     let text = picture(rt.alloc(), &trace).expect(&rt, "memory");
@@ -50,12 +54,12 @@ fn handed_back_and_late(rt: HostRuntime) {
 #[test]
 fn columns_of_two_rounds(rt: HostRuntime) {
     let steps = [
-        Step::Read(0),
-        Step::Issue(0, 0),
-        Step::Done(0),
-        Step::Ticks(400),
-        Step::Depth(1),
-        Step::Ticks(1),
+        Happening::Read(0),
+        Happening::Issue(0, 0),
+        Happening::Done(0),
+        Happening::Ticks(400),
+        Happening::Depth(1),
+        Happening::Ticks(1),
     ];
     let trace = trace_of(&rt, rt.alloc(), 2, &steps);
     let text = picture(rt.alloc(), &trace).expect(&rt, "memory");
@@ -71,8 +75,16 @@ fn columns_of_two_rounds(rt: HostRuntime) {
 /// Two traces stand one below another, on the scale of the longer one: 2 rounds of 40 pixels.
 #[test]
 fn two_on_one_scale(rt: HostRuntime) {
-    let short = [Step::Read(0), Step::Issue(0, 0), Step::Done(0)];
-    let long = [Step::Write(0), Step::Ticks(1), Step::Issue(0, 0)];
+    let short = [
+        Happening::Read(0),
+        Happening::Issue(0, 0),
+        Happening::Done(0),
+    ];
+    let long = [
+        Happening::Write(0),
+        Happening::Ticks(1),
+        Happening::Issue(0, 0),
+    ];
     let traces = [
         trace_of(&rt, rt.alloc(), 1, &short),
         trace_of(&rt, rt.alloc(), 1, &long),

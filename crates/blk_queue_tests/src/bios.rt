@@ -92,6 +92,21 @@ fn bios_pushed_at_the_back(rt: HostRuntime) {
 }
 
 #[test]
+fn bio_pushed_once_more(rt: HostRuntime) {
+    let heap = Refusing::new(rt.alloc());
+    let eight = limits(&rt, 8, 2);
+    let (first, second) = (bio(&rt, Dir::Read, 4, 4), bio(&rt, Dir::Read, 8, 2));
+    let mut whole = request(&rt, &heap, first);
+    heap.refuse(1);
+    let refused = whole.push_bio(second, &eight);
+    assert!(rt; !heap.is_armed());
+    assert_eq!(rt; refused, Err(JoinFault::Memory));
+    assert_eq!(rt; whole.bios(), [first].as_slice());
+    assert_eq!(rt; whole.push_bio(second, &eight), Ok(()));
+    assert_eq!(rt; whole.bios(), [first, second].as_slice());
+}
+
+#[test]
 fn front_merge(rt: HostRuntime) {
     let heap = Refusing::new(rt.alloc());
     let narrow = limits(&rt, 8, 2);

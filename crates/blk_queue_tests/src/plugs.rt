@@ -42,16 +42,16 @@ fn add<'a>(
 
 /// What is done with a plug, or seen in it.
 #[derive(Clone, Copy)]
-enum Step {
-    /// A read of a first sector and so many sectors is added.
+enum PlugStep {
+    /// A read of a first sector and a number of sectors is added.
     Add(u64, u64, Added),
     /// There is no room for such a read, which comes back.
     Full(u64, u64),
     /// The first request is taken, which has this range.
     Take(u64, u64),
-    /// The first request has so many bios.
+    /// The first request has this number of bios.
     Bios(usize),
-    /// There are so many requests, and a first one unless there is none.
+    /// There are this number of requests, and a first one unless there is none.
     Len(usize),
 }
 
@@ -67,18 +67,18 @@ fn bios_of_first(plug: &Plug<Heap<'_>>) -> Option<usize> {
 }
 
 /// Does what is done, and looks at what is seen.
-fn make<'a>(rt: &impl Abort, heap: Heap<'a>, plug: &mut Plug<Heap<'a>>, step: Step) {
+fn make<'a>(rt: &impl Abort, heap: Heap<'a>, plug: &mut Plug<Heap<'a>>, step: PlugStep) {
     match step {
-        Step::Add(first, sectors, added) => {
+        PlugStep::Add(first, sectors, added) => {
             assert_eq!(rt; add(rt, heap, plug, first, sectors), added, "{first}");
         }
-        Step::Full(first, sectors) => {
+        PlugStep::Full(first, sectors) => {
             let read = bio(rt, Dir::Read, first, sectors);
             assert_eq!(rt; plug.add(read), Err((read, PlugFault::Full)));
         }
-        Step::Take(first, sectors) => assert_eq!(rt; take(plug), Some((first, sectors))),
-        Step::Bios(count) => assert_eq!(rt; bios_of_first(plug), Some(count)),
-        Step::Len(count) => {
+        PlugStep::Take(first, sectors) => assert_eq!(rt; take(plug), Some((first, sectors))),
+        PlugStep::Bios(count) => assert_eq!(rt; bios_of_first(plug), Some(count)),
+        PlugStep::Len(count) => {
             assert_eq!(rt; plug.len(), count);
             assert_eq!(rt; plug.first().is_none(), count == 0);
         }
@@ -86,14 +86,14 @@ fn make<'a>(rt: &impl Abort, heap: Heap<'a>, plug: &mut Plug<Heap<'a>>, step: St
 }
 
 /// Does and sees one after the other.
-fn follow<'a>(rt: &impl Abort, heap: Heap<'a>, plug: &mut Plug<Heap<'a>>, steps: &[Step]) {
+fn follow<'a>(rt: &impl Abort, heap: Heap<'a>, plug: &mut Plug<Heap<'a>>, steps: &[PlugStep]) {
     for step in steps {
         make(rt, heap, plug, *step);
     }
 }
 
 /// Does and sees one after the other with a new plug.
-fn follows(rt: &impl Abort, alloc: Global, max_sectors: u64, steps: &[Step]) {
+fn follows(rt: &impl Abort, alloc: Global, max_sectors: u64, steps: &[PlugStep]) {
     let heap = Refusing::new(alloc);
     let mut plug = plug(rt, &heap, max_sectors);
     assert_eq!(rt; plug.limits(), limits(rt, max_sectors, 128));
@@ -103,14 +103,14 @@ fn follows(rt: &impl Abort, alloc: Global, max_sectors: u64, steps: &[Step]) {
 #[test]
 fn three_reads_become_one(rt: HostRuntime) {
     let steps = [
-        Step::Len(0),
-        Step::Add(3, 3, Added::New),
-        Step::Add(6, 1, Added::Joined(Side::Back)),
-        Step::Add(7, 2, Added::Joined(Side::Back)),
-        Step::Len(1),
-        Step::Bios(3),
-        Step::Take(3, 6),
-        Step::Len(0),
+        PlugStep::Len(0),
+        PlugStep::Add(3, 3, Added::New),
+        PlugStep::Add(6, 1, Added::Joined(Side::Back)),
+        PlugStep::Add(7, 2, Added::Joined(Side::Back)),
+        PlugStep::Len(1),
+        PlugStep::Bios(3),
+        PlugStep::Take(3, 6),
+        PlugStep::Len(0),
     ];
     follows(&rt, rt.alloc(), 256, &steps);
 }
@@ -118,12 +118,12 @@ fn three_reads_become_one(rt: HostRuntime) {
 #[test]
 fn limits_refuse_a_join(rt: HostRuntime) {
     let steps = [
-        Step::Add(0, 4, Added::New),
-        Step::Add(4, 4, Added::Joined(Side::Back)),
-        Step::Add(8, 1, Added::New),
-        Step::Take(0, 8),
-        Step::Take(8, 1),
-        Step::Len(0),
+        PlugStep::Add(0, 4, Added::New),
+        PlugStep::Add(4, 4, Added::Joined(Side::Back)),
+        PlugStep::Add(8, 1, Added::New),
+        PlugStep::Take(0, 8),
+        PlugStep::Take(8, 1),
+        PlugStep::Len(0),
     ];
     follows(&rt, rt.alloc(), 8, &steps);
 }
@@ -132,7 +132,7 @@ fn limits_refuse_a_join(rt: HostRuntime) {
 fn full<'a>(rt: &impl Abort, heap: Heap<'a>) -> Plug<Heap<'a>> {
     let mut plug = plug(rt, heap, 256);
     for k in 0..32u64 {
-        follow(rt, heap, &mut plug, &[Step::Add(16 * k, 8, Added::New)]);
+        follow(rt, heap, &mut plug, &[PlugStep::Add(16 * k, 8, Added::New)]);
     }
     plug
 }
@@ -142,11 +142,11 @@ fn full_plug(rt: HostRuntime) {
     let heap = Refusing::new(rt.alloc());
     let mut plug = full(&rt, &heap);
     let steps = [
-        Step::Full(600, 8),
-        Step::Add(8, 8, Added::Joined(Side::Front)),
-        Step::Len(32),
-        Step::Take(0, 8),
-        Step::Take(8, 16),
+        PlugStep::Full(600, 8),
+        PlugStep::Add(8, 8, Added::Joined(Side::Front)),
+        PlugStep::Len(32),
+        PlugStep::Take(0, 8),
+        PlugStep::Take(8, 16),
     ];
     follow(&rt, &heap, &mut plug, &steps);
 }
@@ -155,22 +155,22 @@ fn full_plug(rt: HostRuntime) {
 fn joins_after_some_left(rt: &impl Abort, heap: Heap<'_>) {
     let mut plug = full(rt, heap);
     for k in 0..20u64 {
-        follow(rt, heap, &mut plug, &[Step::Take(16 * k, 8)]);
+        follow(rt, heap, &mut plug, &[PlugStep::Take(16 * k, 8)]);
     }
     // sectors at which requests began that have left
     for k in 0..20u64 {
-        follow(rt, heap, &mut plug, &[Step::Add(16 * k, 8, Added::New)]);
+        follow(rt, heap, &mut plug, &[PlugStep::Add(16 * k, 8, Added::New)]);
     }
     let steps = [
         // the newest, an older one, and one of two, the newer of which is joined
-        Step::Add(312, 4, Added::Joined(Side::Back)),
-        Step::Add(504, 8, Added::Joined(Side::Back)),
-        Step::Add(328, 8, Added::Joined(Side::Front)),
+        PlugStep::Add(312, 4, Added::Joined(Side::Back)),
+        PlugStep::Add(504, 8, Added::Joined(Side::Back)),
+        PlugStep::Add(328, 8, Added::Joined(Side::Front)),
         // where the newest ends by now
-        Step::Add(316, 2, Added::Joined(Side::Back)),
-        Step::Len(32),
-        Step::Take(320, 8),
-        Step::Take(328, 16),
+        PlugStep::Add(316, 2, Added::Joined(Side::Back)),
+        PlugStep::Len(32),
+        PlugStep::Take(320, 8),
+        PlugStep::Take(328, 16),
     ];
     follow(rt, heap, &mut plug, &steps);
 }

@@ -1,13 +1,13 @@
 //! Late commands and what they waited for, worked by hand.
 
-use crate::given::{Step, trace_of};
+use crate::given::{Happening, trace_of};
 use blk_report::{late, write_late};
 use refusing::Refusing;
 use std::alloc::Global;
 use std::process::Abort;
 
 /// The lines of the late commands of a trace of this depth.
-fn lines(rt: &impl Abort, alloc: Global, depth: u64, steps: &[Step]) -> Vec<u8> {
+fn lines(rt: &impl Abort, alloc: Global, depth: u64, steps: &[Happening]) -> Vec<u8> {
     let heap = Refusing::new(alloc);
     let trace = trace_of(rt, &heap, depth, 9, steps);
     let found = late(&trace).expect(rt, "memory");
@@ -20,10 +20,10 @@ fn lines(rt: &impl Abort, alloc: Global, depth: u64, steps: &[Step]) -> Vec<u8> 
 #[test]
 fn write_before_read(rt: HostRuntime) {
     let steps = [
-        Step::Write(0),
-        Step::Read(1),
-        Step::Serve(0),
-        Step::Serve(1),
+        Happening::Write(0),
+        Happening::Read(1),
+        Happening::Serve(0),
+        Happening::Serve(1),
     ];
     let told =
         b"id,dir,first,sectors,release,due,issue,lateness,sooner,later,idle,verdict,from,until\n1,R,100,8,0,0,1,1,0,1,0,spare,,\n";
@@ -38,13 +38,13 @@ fn write_before_read(rt: HostRuntime) {
 #[test]
 fn sooner_later_and_idle(rt: HostRuntime) {
     let steps = [
-        Step::Write(0),
-        Step::Read(1),
-        Step::Read(2),
-        Step::Serve(0),
-        Step::Read(3),
-        Step::Both(3, 1),
-        Step::Serve(2),
+        Happening::Write(0),
+        Happening::Read(1),
+        Happening::Read(2),
+        Happening::Serve(0),
+        Happening::Read(3),
+        Happening::Both(3, 1),
+        Happening::Serve(2),
     ];
     let told =
         b"id,dir,first,sectors,release,due,issue,lateness,sooner,later,idle,verdict,from,until\n1,R,100,8,0,0,1,1,0,1,1,spare,,\n2,R,200,8,0,0,2,2,1,2,1,spare,,\n";
@@ -58,11 +58,11 @@ fn sooner_later_and_idle(rt: HostRuntime) {
 #[test]
 fn changing_depth(rt: HostRuntime) {
     let steps = [
-        Step::Read(1),
-        Step::Depth(1),
-        Step::Tick,
-        Step::Tick,
-        Step::Serve(1),
+        Happening::Read(1),
+        Happening::Depth(1),
+        Happening::Tick,
+        Happening::Tick,
+        Happening::Serve(1),
     ];
     let told =
         b"id,dir,first,sectors,release,due,issue,lateness,sooner,later,idle,verdict,from,until\n1,R,100,8,0,0,2,2,0,0,4,spare,,\n";
@@ -78,7 +78,7 @@ fn none_late(rt: HostRuntime) {
     let told =
         b"id,dir,first,sectors,release,due,issue,lateness,sooner,later,idle,verdict,from,until\n";
     assert_eq!(rt; lines(&rt, rt.alloc(), 1, &[]).as_slice(), told.as_slice());
-    let steps = [Step::Read(1), Step::Serve(1)];
+    let steps = [Happening::Read(1), Happening::Serve(1)];
     assert_eq!(rt;
         lines(&rt, rt.alloc(), 1, &steps).as_slice(),
         told.as_slice()

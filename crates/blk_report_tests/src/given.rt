@@ -90,7 +90,7 @@ fn serve<'a>(rt: &impl Abort, heap: Heap<'a>, trace: &mut Trace<Heap<'a>>, id: u
 
 /// What happens in a trace.
 #[derive(Clone, Copy)]
-pub enum Step {
+pub enum Happening {
     /// A read of 8 sectors enters under an id, which is its serial number as well and, times 100, its first sector.
     Read(u64),
     /// Such a write enters.
@@ -114,29 +114,29 @@ pub enum Step {
 }
 
 /// A step's events are added.
-fn take<'a>(rt: &impl Abort, heap: Heap<'a>, trace: &mut Trace<Heap<'a>>, step: Step) {
+fn take<'a>(rt: &impl Abort, heap: Heap<'a>, trace: &mut Trace<Heap<'a>>, step: Happening) {
     match step {
-        Step::Read(id) => enter(rt, heap, trace, id, Dir::Read),
-        Step::Write(id) => enter(rt, heap, trace, id, Dir::Write),
-        Step::Reads(count) => {
+        Happening::Read(id) => enter(rt, heap, trace, id, Dir::Read),
+        Happening::Write(id) => enter(rt, heap, trace, id, Dir::Write),
+        Happening::Reads(count) => {
             for id in 0..count {
                 enter(rt, heap, trace, id, Dir::Read);
             }
         }
-        Step::Join(id, first, sectors) => join(rt, heap, trace, id, first, sectors),
-        Step::Issue(id, tag) => push(rt, heap, trace, Event::Issue { id, tag }),
-        Step::Back(tag) => push(rt, heap, trace, Event::Back { tag }),
-        Step::Serve(id) => {
+        Happening::Join(id, first, sectors) => join(rt, heap, trace, id, first, sectors),
+        Happening::Issue(id, tag) => push(rt, heap, trace, Event::Issue { id, tag }),
+        Happening::Back(tag) => push(rt, heap, trace, Event::Back { tag }),
+        Happening::Serve(id) => {
             serve(rt, heap, trace, id, 0);
             push(rt, heap, trace, Event::Tick);
         }
-        Step::Both(first, second) => {
+        Happening::Both(first, second) => {
             serve(rt, heap, trace, first, 0);
             serve(rt, heap, trace, second, 1);
             push(rt, heap, trace, Event::Tick);
         }
-        Step::Depth(depth) => push(rt, heap, trace, Event::Depth { depth }),
-        Step::Tick => push(rt, heap, trace, Event::Tick),
+        Happening::Depth(depth) => push(rt, heap, trace, Event::Depth { depth }),
+        Happening::Tick => push(rt, heap, trace, Event::Tick),
     }
 }
 
@@ -146,7 +146,7 @@ pub fn trace_of<'a>(
     heap: Heap<'a>,
     depth: u64,
     write_expire: u64,
-    steps: &[Step],
+    steps: &[Happening],
 ) -> Trace<Heap<'a>> {
     let mut trace = empty(rt, heap, depth, write_expire);
     for step in steps {

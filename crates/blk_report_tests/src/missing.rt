@@ -1,13 +1,13 @@
 //! How many commands were late and how many had to be, worked by hand.
 
-use crate::given::{Step, trace_of};
+use crate::given::{Happening, trace_of};
 use blk_report::{misses, write_misses};
 use refusing::Refusing;
 use std::alloc::Global;
 use std::process::Abort;
 
 /// The lines of the misses of a trace of this depth.
-fn lines(rt: &impl Abort, alloc: Global, depth: u64, steps: &[Step]) -> Vec<u8> {
+fn lines(rt: &impl Abort, alloc: Global, depth: u64, steps: &[Happening]) -> Vec<u8> {
     let heap = Refusing::new(alloc);
     let trace = trace_of(rt, &heap, depth, 9, steps);
     let found = misses(&trace).expect(rt, "memory");
@@ -20,10 +20,10 @@ fn lines(rt: &impl Abort, alloc: Global, depth: u64, steps: &[Step]) -> Vec<u8> 
 #[test]
 fn write_before_read(rt: HostRuntime) {
     let steps = [
-        Step::Write(0),
-        Step::Read(1),
-        Step::Serve(0),
-        Step::Serve(1),
+        Happening::Write(0),
+        Happening::Read(1),
+        Happening::Serve(0),
+        Happening::Serve(1),
     ];
     let told = b"commands 2\nlate 1\nunavoidable 0\navoidable 1\nspare 1\nwaiting 0\noverdue 0\n";
     assert_eq!(rt;
@@ -36,10 +36,10 @@ fn write_before_read(rt: HostRuntime) {
 #[test]
 fn three_reads_at_once(rt: HostRuntime) {
     let steps = [
-        Step::Reads(3),
-        Step::Depth(1),
-        Step::Both(0, 1),
-        Step::Serve(2),
+        Happening::Reads(3),
+        Happening::Depth(1),
+        Happening::Both(0, 1),
+        Happening::Serve(2),
     ];
     let told =
         b"commands 3\nlate 1\nunavoidable 1\navoidable 0\nspare 0\nwaiting 0\noverdue 0\nwindow 0 0 commands 3 carries 2\n";

@@ -1,6 +1,6 @@
 //! Reports where allocations are refused.
 
-use crate::given::{Heap, Step, served, trace_of};
+use crate::given::{Happening, Heap, served, trace_of};
 use blk_report::{late, misses, report, services, spread};
 use blk_trace::Trace;
 use refusing::Refusing;
@@ -33,10 +33,10 @@ fn asked<'a>(rt: &impl Abort, heap: Heap<'a>, trace: &Trace<Heap<'a>>) {
 /// A trace of two commands is made and reported.
 fn all_of_it(rt: &impl Abort, heap: Heap<'_>) {
     let steps = [
-        Step::Write(0),
-        Step::Read(1),
-        Step::Serve(0),
-        Step::Serve(1),
+        Happening::Write(0),
+        Happening::Read(1),
+        Happening::Serve(0),
+        Happening::Serve(1),
     ];
     let trace = trace_of(rt, heap, 1, 9, &steps);
     let armed = heap.is_armed();

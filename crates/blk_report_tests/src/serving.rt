@@ -1,6 +1,6 @@
 //! The commands of traces with their requests, worked by hand.
 
-use crate::given::{Step, trace_of};
+use crate::given::{Happening, trace_of};
 use blk_bio::Dir;
 use blk_report::{Service, services};
 use refusing::Refusing;
@@ -12,7 +12,7 @@ fn are_served(
     rt: &impl Abort,
     alloc: Global,
     write_expire: u64,
-    steps: &[Step],
+    steps: &[Happening],
     wanted: &[Service],
 ) -> bool {
     let heap = Refusing::new(alloc);
@@ -25,10 +25,10 @@ fn are_served(
 #[test]
 fn write_before_read(rt: HostRuntime) {
     let steps = [
-        Step::Write(0),
-        Step::Read(1),
-        Step::Serve(0),
-        Step::Serve(1),
+        Happening::Write(0),
+        Happening::Read(1),
+        Happening::Serve(0),
+        Happening::Serve(1),
     ];
     let write = Service {
         id: 0,
@@ -56,13 +56,13 @@ fn write_before_read(rt: HostRuntime) {
 #[test]
 fn joined_and_handed_back(rt: HostRuntime) {
     let steps = [
-        Step::Write(1),
-        Step::Tick,
-        Step::Join(1, 90, 10),
-        Step::Issue(1, 0),
-        Step::Back(0),
-        Step::Tick,
-        Step::Serve(1),
+        Happening::Write(1),
+        Happening::Tick,
+        Happening::Join(1, 90, 10),
+        Happening::Issue(1, 0),
+        Happening::Back(0),
+        Happening::Tick,
+        Happening::Serve(1),
     ];
     let whole = Service {
         id: 1,

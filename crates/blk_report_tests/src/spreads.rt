@@ -1,13 +1,13 @@
 //! Waits and latenesses by quantiles, worked by hand.
 
-use crate::given::{Step, trace_of};
+use crate::given::{Happening, trace_of};
 use blk_report::{Spreads, services, spread, write_spread};
 use refusing::Refusing;
 use std::alloc::Global;
 use std::process::Abort;
 
 /// The waits and latenesses of the commands of a trace of one place a round.
-fn spread_of(rt: &impl Abort, alloc: Global, steps: &[Step]) -> Spreads {
+fn spread_of(rt: &impl Abort, alloc: Global, steps: &[Happening]) -> Spreads {
     let heap = Refusing::new(alloc);
     let trace = trace_of(rt, &heap, 1, 9, steps);
     let served = services(&trace).expect(rt, "memory");
@@ -18,10 +18,10 @@ fn spread_of(rt: &impl Abort, alloc: Global, steps: &[Step]) -> Spreads {
 #[test]
 fn write_before_read(rt: HostRuntime) {
     let steps = [
-        Step::Write(0),
-        Step::Read(1),
-        Step::Serve(0),
-        Step::Serve(1),
+        Happening::Write(0),
+        Happening::Read(1),
+        Happening::Serve(0),
+        Happening::Serve(1),
     ];
     let found = spread_of(&rt, rt.alloc(), &steps);
     let mut text = Vec::new(rt.alloc());
@@ -35,18 +35,18 @@ fn write_before_read(rt: HostRuntime) {
 #[test]
 fn eleven_reads(rt: HostRuntime) {
     let steps = [
-        Step::Reads(11),
-        Step::Serve(0),
-        Step::Serve(1),
-        Step::Serve(2),
-        Step::Serve(3),
-        Step::Serve(4),
-        Step::Serve(5),
-        Step::Serve(6),
-        Step::Serve(7),
-        Step::Serve(8),
-        Step::Serve(9),
-        Step::Serve(10),
+        Happening::Reads(11),
+        Happening::Serve(0),
+        Happening::Serve(1),
+        Happening::Serve(2),
+        Happening::Serve(3),
+        Happening::Serve(4),
+        Happening::Serve(5),
+        Happening::Serve(6),
+        Happening::Serve(7),
+        Happening::Serve(8),
+        Happening::Serve(9),
+        Happening::Serve(10),
     ];
     let found = spread_of(&rt, rt.alloc(), &steps);
     let reads = found.wait.reads;

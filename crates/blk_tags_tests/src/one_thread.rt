@@ -52,7 +52,7 @@ fn upward_and_round(rt: HostRuntime) {
     );
 }
 
-// A take may begin elsewhere: upward and round from the given tag on, or from 0 where there is none of that number.
+// A take may begin elsewhere: at the given tag, upward and then from 0 on, or at 0 where there is none of that number.
 #[test]
 fn from_a_tag(rt: HostRuntime) {
     let (set, seat) = TagSet::new(rt.alloc(), 3).expect(&rt, "a set");

@@ -1,7 +1,7 @@
 //! The faults of texts, each by its record and name. What a user meets of them, and in which order, is shown by the cases
 //! of the program.
 
-use crate::forms::{Form, first_other};
+use crate::forms::{TextKind, first_other};
 use blk_bio::{BioFault, TraceRule};
 use blk_lists::Why;
 
@@ -24,7 +24,7 @@ fn faults_of_a_command_list(rt: HostRuntime) {
             Why::Range,
         ),
     ];
-    assert_eq!(rt; first_other(rt.alloc(), Form::Commands, &texts), None);
+    assert_eq!(rt; first_other(rt.alloc(), TextKind::Commands, &texts), None);
 }
 
 #[test]
@@ -58,7 +58,7 @@ fn faults_of_a_script(rt: HostRuntime) {
             Why::Range,
         ),
     ];
-    assert_eq!(rt; first_other(rt.alloc(), Form::Script, &texts), None);
+    assert_eq!(rt; first_other(rt.alloc(), TextKind::Script, &texts), None);
 }
 
 #[test]
@@ -94,7 +94,7 @@ fn faults_of_versions(rt: HostRuntime) {
             Why::Range,
         ),
     ];
-    assert_eq!(rt; first_other(rt.alloc(), Form::Script, &texts), None);
+    assert_eq!(rt; first_other(rt.alloc(), TextKind::Script, &texts), None);
 }
 
 #[test]
@@ -111,7 +111,7 @@ fn faults_of_a_bio(rt: HostRuntime) {
             Why::Bio(BioFault::Range),
         ),
     ];
-    assert_eq!(rt; first_other(rt.alloc(), Form::Script, &texts), None);
+    assert_eq!(rt; first_other(rt.alloc(), TextKind::Script, &texts), None);
 }
 
 #[test]
@@ -135,7 +135,10 @@ fn faults_of_a_certificate(rt: HostRuntime) {
             Why::Count,
         ),
     ];
-    assert_eq!(rt; first_other(rt.alloc(), Form::Certificate, &texts), None);
+    assert_eq!(rt;
+        first_other(rt.alloc(), TextKind::Certificate, &texts),
+        None
+    );
 }
 
 #[test]

@@ -12,14 +12,14 @@ use std::io::{ErrorKind, Read, Write};
 
 /// A form of a text.
 #[derive(Clone, Copy)]
-pub enum Form {
+pub enum TextKind {
     /// A command list.
     Commands,
     /// A script.
     Script,
     /// A certificate of the least greatest lateness.
     Certificate,
-    /// A certificate of the greatest number met.
+    /// A certificate of the greatest number on time.
     OnTime,
     /// A certificate of either form.
     Proof,
@@ -30,21 +30,21 @@ pub enum Form {
 }
 
 /// The fault of what a reader gives, read in a form.
-pub fn fault_of<R: Read + Drop>(alloc: Global, form: Form, reader: R) -> Option<TextFault> {
+pub fn fault_of<R: Read + Drop>(alloc: Global, form: TextKind, reader: R) -> Option<TextFault> {
     let records = &mut Records::new(alloc, reader);
     match form {
-        Form::Commands => read_commands(alloc, records).err(),
-        Form::Script => read_script(alloc, records).err(),
-        Form::Certificate => read_certificate(alloc, records).err(),
-        Form::OnTime => read_on_time(alloc, records).err(),
-        Form::Proof => read_proof(alloc, records).err(),
-        Form::Schedule => read_schedule(alloc, records).err(),
-        Form::Trace => read_trace(alloc, records).err(),
+        TextKind::Commands => read_commands(alloc, records).err(),
+        TextKind::Script => read_script(alloc, records).err(),
+        TextKind::Certificate => read_certificate(alloc, records).err(),
+        TextKind::OnTime => read_on_time(alloc, records).err(),
+        TextKind::Proof => read_proof(alloc, records).err(),
+        TextKind::Schedule => read_schedule(alloc, records).err(),
+        TextKind::Trace => read_trace(alloc, records).err(),
     }
 }
 
 /// The place of the first text that has another fault in a form than the one beside it, if there is one.
-pub fn first_other(alloc: Global, form: Form, texts: &[(&str, u64, Why)]) -> Option<usize> {
+pub fn first_other(alloc: Global, form: TextKind, texts: &[(&str, u64, Why)]) -> Option<usize> {
     for (place, (text, at, why)) in texts.iter().enumerate() {
         let fault = TextFault { at: *at, why: *why };
         if fault_of(alloc, form, text.as_bytes()) != Some(fault) {
@@ -57,35 +57,35 @@ pub fn first_other(alloc: Global, form: Form, texts: &[(&str, u64, Why)]) -> Opt
 /// Writes again what is read of a text in a form. There is no answer where the text has a fault, or the form no writer.
 fn rewrite<W: Write>(
     alloc: Global,
-    form: Form,
+    form: TextKind,
     text: &str,
     out: &mut W,
 ) -> Option<Result<(), WriteFault>> {
     let records = &mut Records::new(alloc, text.as_bytes());
     match form {
-        Form::Script => None,
-        Form::Commands => match read_commands(alloc, records) {
+        TextKind::Script => None,
+        TextKind::Commands => match read_commands(alloc, records) {
             Ok((depth, commands)) => Some(write_commands(alloc, depth, commands.as_slice(), out)),
             Err(_) => None,
         },
-        Form::Certificate => match read_certificate(alloc, records) {
+        TextKind::Certificate => match read_certificate(alloc, records) {
             Ok(certificate) => Some(write_certificate(alloc, &certificate, out)),
             Err(_) => None,
         },
-        Form::OnTime => match read_on_time(alloc, records) {
+        TextKind::OnTime => match read_on_time(alloc, records) {
             Ok(certificate) => Some(write_on_time(alloc, &certificate, out)),
             Err(_) => None,
         },
-        Form::Proof => match read_proof(alloc, records) {
+        TextKind::Proof => match read_proof(alloc, records) {
             Ok(Proof::Lateness(certificate)) => Some(write_certificate(alloc, &certificate, out)),
             Ok(Proof::OnTime(certificate)) => Some(write_on_time(alloc, &certificate, out)),
             Err(_) => None,
         },
-        Form::Schedule => match read_schedule(alloc, records) {
+        TextKind::Schedule => match read_schedule(alloc, records) {
             Ok(schedule) => Some(write_schedule(alloc, &schedule, out)),
             Err(_) => None,
         },
-        Form::Trace => match read_trace(alloc, records) {
+        TextKind::Trace => match read_trace(alloc, records) {
             Ok(trace) => Some(write_trace(alloc, &trace, out)),
             Err(_) => None,
         },
@@ -93,7 +93,7 @@ fn rewrite<W: Write>(
 }
 
 /// The place of the first text of which something else is written again in a form than the text beside it, if there is one.
-pub fn first_unlike(alloc: Global, form: Form, texts: &[(&str, &str)]) -> Option<usize> {
+pub fn first_unlike(alloc: Global, form: TextKind, texts: &[(&str, &str)]) -> Option<usize> {
     for (place, (text, written)) in texts.iter().enumerate() {
         let mut out = Vec::new(alloc);
         if rewrite(alloc, form, text, &mut out) != Some(Ok(()))
@@ -106,7 +106,7 @@ pub fn first_unlike(alloc: Global, form: Form, texts: &[(&str, &str)]) -> Option
 }
 
 /// The place of the first text of which something else is written again in a form, if there is one.
-pub fn first_not_itself(alloc: Global, form: Form, texts: &[&str]) -> Option<usize> {
+pub fn first_not_itself(alloc: Global, form: TextKind, texts: &[&str]) -> Option<usize> {
     for (place, text) in texts.iter().enumerate() {
         if first_unlike(alloc, form, &[(*text, *text)]).is_some() {
             return Some(place);
@@ -115,7 +115,7 @@ pub fn first_not_itself(alloc: Global, form: Form, texts: &[&str]) -> Option<usi
     None
 }
 
-/// A writer that takes so many bytes, and then fails.
+/// A writer that takes a number of bytes, and then fails.
 #[derive(Drop)]
 struct Narrow {
     room: usize,
@@ -137,7 +137,7 @@ impl Write for Narrow {
 }
 
 /// Whether what is read of a text in a form can be written just where there is room for the text.
-pub fn needs_its_room(alloc: Global, form: Form, text: &str) -> bool {
+pub fn needs_its_room(alloc: Global, form: TextKind, text: &str) -> bool {
     for room in 0..text.len() {
         if rewrite(alloc, form, text, &mut Narrow { room }) != Some(Err(WriteFault::Write)) {
             return false;

@@ -1,6 +1,6 @@
-//! Certificates of the greatest number met, and certificates of either form.
+//! Certificates of the greatest number on time, and certificates of either form.
 
-use crate::forms::{Form, first_not_itself, first_other, needs_its_room};
+use crate::forms::{TextKind, first_not_itself, first_other, needs_its_room};
 use blk_lists::{Records, Why, read_on_time};
 use edd_check::Window;
 
@@ -14,7 +14,7 @@ fn what_is_on_time_is_read(rt: HostRuntime) {
         panic!(rt; "refused");
     };
     assert_eq!(rt; certificate.depth, 1);
-    assert_eq!(rt; certificate.met, 2);
+    assert_eq!(rt; certificate.on_time, 2);
     assert!(rt; certificate.cover.as_slice() == [Window { from: 0, due: 0 }].as_slice());
     assert!(rt; certificate.rounds.as_slice() == [0, 1, 2].as_slice());
     assert_eq!(rt; certificate.commands.len(), 3);
@@ -25,7 +25,7 @@ fn on_time_certificates_come_back(rt: HostRuntime) {
     let none = "blk-met,1,256,0\nmet,0,0,\n";
     let wide = "blk-met,1,2,1\nmet,1000000,2,\nwindow,9,3,\nwindow,0,2199023255551,\n1,0,0,0\n";
     assert_eq!(rt;
-        first_not_itself(rt.alloc(), Form::OnTime, &[TWO_OF_THREE, none, wide]),
+        first_not_itself(rt.alloc(), TextKind::OnTime, &[TWO_OF_THREE, none, wide]),
         None
     );
 }
@@ -34,7 +34,7 @@ fn on_time_certificates_come_back(rt: HostRuntime) {
 fn either_form_comes_back(rt: HostRuntime) {
     let other = "blk-certificate,1,1,1\nbound,0,0,0\n1,0,0,0\n";
     assert_eq!(rt;
-        first_not_itself(rt.alloc(), Form::Proof, &[TWO_OF_THREE, other]),
+        first_not_itself(rt.alloc(), TextKind::Proof, &[TWO_OF_THREE, other]),
         None
     );
 }
@@ -69,7 +69,7 @@ fn faults_of_what_is_on_time(rt: HostRuntime) {
         ("blk-met,1,1,1\nmet,0,1,\nwindow,0,0,\n", 4, Why::Count),
         ("blk-met,1,1,0\nmet,0,0,\n1,0,0,0\n", 3, Why::Count),
     ];
-    assert_eq!(rt; first_other(rt.alloc(), Form::OnTime, &texts), None);
+    assert_eq!(rt; first_other(rt.alloc(), TextKind::OnTime, &texts), None);
 }
 
 #[test]
@@ -84,10 +84,10 @@ fn faults_of_either_form(rt: HostRuntime) {
         ("blk-met,1,1,1\nmet,0,0,\n", 3, Why::Count),
         ("blk-certificate,1,1,1\nbound,0,0,0\n", 3, Why::Count),
     ];
-    assert_eq!(rt; first_other(rt.alloc(), Form::Proof, &texts), None);
+    assert_eq!(rt; first_other(rt.alloc(), TextKind::Proof, &texts), None);
 }
 
 #[test]
 fn what_is_on_time_cannot_be_written(rt: HostRuntime) {
-    assert!(rt; needs_its_room(rt.alloc(), Form::OnTime, TWO_OF_THREE));
+    assert!(rt; needs_its_room(rt.alloc(), TextKind::OnTime, TWO_OF_THREE));
 }

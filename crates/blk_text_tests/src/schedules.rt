@@ -1,6 +1,6 @@
 //! Schedules, by whatever scheduler.
 
-use crate::forms::{Form, first_not_itself, first_other, needs_its_room};
+use crate::forms::{TextKind, first_not_itself, first_other, needs_its_room};
 use blk_lists::{Records, Why, read_schedule};
 use edd_commands::Command;
 
@@ -31,7 +31,7 @@ fn schedules_come_back(rt: HostRuntime) {
     let none = "blk-schedule,1,256,0\n";
     let last = "blk-schedule,1,2,1\n0,1099511627775,2199023255551,2199023255551\n";
     assert_eq!(rt;
-        first_not_itself(rt.alloc(), Form::Schedule, &[THREE, none, last]),
+        first_not_itself(rt.alloc(), TextKind::Schedule, &[THREE, none, last]),
         None
     );
 }
@@ -54,7 +54,7 @@ fn faults_of_a_schedule(rt: HostRuntime) {
         ("blk-schedule,1,1,2\n1,0,0,0\n", 3, Why::Count),
         ("blk-schedule,1,1,1\n1,0,0,0\n2,0,0,1\n", 3, Why::Count),
     ];
-    assert_eq!(rt; first_other(rt.alloc(), Form::Schedule, &texts), None);
+    assert_eq!(rt; first_other(rt.alloc(), TextKind::Schedule, &texts), None);
 }
 
 #[test]
@@ -77,11 +77,11 @@ fn ids_stand_once(rt: HostRuntime) {
         // and it before one record too many
         ("blk-schedule,1,1,1\n1,0,0,0\n1,0,0,1\n", 3, Why::RepeatedId),
     ];
-    assert_eq!(rt; first_other(rt.alloc(), Form::Schedule, &texts), None);
+    assert_eq!(rt; first_other(rt.alloc(), TextKind::Schedule, &texts), None);
     assert_eq!(rt; Why::RepeatedId.name(), "RepeatedId");
 }
 
 #[test]
 fn a_schedule_needs_its_room(rt: HostRuntime) {
-    assert!(rt; needs_its_room(rt.alloc(), Form::Schedule, THREE));
+    assert!(rt; needs_its_room(rt.alloc(), TextKind::Schedule, THREE));
 }

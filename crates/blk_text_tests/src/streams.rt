@@ -1,6 +1,6 @@
-//! Texts whose reader fails after so many bytes, and whose writer does.
+//! Texts whose reader or writer fails after a number of bytes.
 
-use crate::forms::{Form, fault_of, needs_its_room};
+use crate::forms::{TextKind, fault_of, needs_its_room};
 use crate::texts::JOINED;
 use blk_lists::{TextFault, Why};
 use std::alloc::Global;
@@ -34,7 +34,7 @@ impl<'a> Read for Failing<'a> {
     }
 }
 
-/// A reader of a text that fails after so many bytes.
+/// A reader of a text that fails after a number of bytes.
 fn cut(text: &str, count: usize) -> Failing<'_> {
     Failing {
         text: text.as_bytes(),
@@ -42,7 +42,7 @@ fn cut(text: &str, count: usize) -> Failing<'_> {
     }
 }
 
-/// The fault of a read that fails once so many bytes of a text are read: in the record that is being read.
+/// The fault of a read that fails once a number of a text's bytes are read: in the record that is being read.
 fn fault_after(text: &str, count: usize) -> Option<TextFault> {
     let mut at: u64 = 1;
     for byte in text.as_bytes().iter().take(count) {
@@ -53,9 +53,9 @@ fn fault_after(text: &str, count: usize) -> Option<TextFault> {
     Some(TextFault { at, why: Why::Read })
 }
 
-/// Whether a text whose reader fails after so many bytes has the fault of that read in a form, for each number of its bytes, and
+/// Whether a text whose reader fails after a number of bytes has the fault of that read in a form, for each number of its bytes, and
 /// none where the reader fails later.
-fn is_cut_everywhere(alloc: Global, form: Form, text: &str) -> bool {
+fn is_cut_everywhere(alloc: Global, form: TextKind, text: &str) -> bool {
     for count in 0..text.len() + 1 {
         if fault_of(alloc, form, cut(text, count)) != fault_after(text, count) {
             return false;
@@ -67,16 +67,16 @@ fn is_cut_everywhere(alloc: Global, form: Form, text: &str) -> bool {
 #[test]
 fn a_read_that_fails(rt: HostRuntime) {
     let text = "blk-commands,1,1\n1,0,0\n\"2\",0,0\n";
-    assert!(rt; is_cut_everywhere(rt.alloc(), Form::Commands, text));
+    assert!(rt; is_cut_everywhere(rt.alloc(), TextKind::Commands, text));
     let text =
         "blk-script,1,1,1,4,1\nsetup,0,9,256,128,\nbio,0,0,W,100,8\nflush,0,,,,\nrun,2,,,,\n";
-    assert!(rt; is_cut_everywhere(rt.alloc(), Form::Script, text));
+    assert!(rt; is_cut_everywhere(rt.alloc(), TextKind::Script, text));
     let text = "blk-certificate,1,1,2\nbound,1,0,0\n1,0,0,0\n2,0,0,1\n";
-    assert!(rt; is_cut_everywhere(rt.alloc(), Form::Certificate, text));
+    assert!(rt; is_cut_everywhere(rt.alloc(), TextKind::Certificate, text));
 }
 
-/// Whether a text whose reader fails after so many bytes has this fault of its second record in a form.
-fn is_before(alloc: Global, form: Form, text: &str, count: usize, why: Why) -> bool {
+/// Whether a text whose reader fails after this number of bytes has this fault of its second record in a form.
+fn is_before(alloc: Global, form: TextKind, text: &str, count: usize, why: Why) -> bool {
     fault_of(alloc, form, cut(text, count)) == Some(TextFault { at: 2, why })
 }
 
@@ -84,18 +84,18 @@ fn is_before(alloc: Global, form: Form, text: &str, count: usize, why: Why) -> b
 fn a_fault_before_the_read_that_fails(rt: HostRuntime) {
     let alloc = rt.alloc();
     let text = "blk-commands,1,1\n1,0,x\n2,0,0\n";
-    assert!(rt; is_before(alloc, Form::Commands, text, 24, Why::Number));
+    assert!(rt; is_before(alloc, TextKind::Commands, text, 24, Why::Number));
     let text = "blk-script,1,1,1,4,1\nsetup,0,9,256,129,\ntick,,,,,\n";
-    assert!(rt; is_before(alloc, Form::Script, text, 42, Why::Range));
+    assert!(rt; is_before(alloc, TextKind::Script, text, 42, Why::Range));
     let text = "blk-certificate,1,1,1\nbond,1,0,0\n1,0,0,0\n";
-    assert!(rt; is_before(alloc, Form::Certificate, text, 35, Why::Word));
+    assert!(rt; is_before(alloc, TextKind::Certificate, text, 35, Why::Word));
 }
 
 #[test]
 fn what_cannot_be_written(rt: HostRuntime) {
     let commands = "blk-commands,1,1\n1,0,0\n";
     let certificate = "blk-certificate,1,1,0\nbound,none,none,none\n";
-    assert!(rt; needs_its_room(rt.alloc(), Form::Commands, commands));
-    assert!(rt; needs_its_room(rt.alloc(), Form::Certificate, certificate));
-    assert!(rt; needs_its_room(rt.alloc(), Form::Trace, JOINED));
+    assert!(rt; needs_its_room(rt.alloc(), TextKind::Commands, commands));
+    assert!(rt; needs_its_room(rt.alloc(), TextKind::Certificate, certificate));
+    assert!(rt; needs_its_room(rt.alloc(), TextKind::Trace, JOINED));
 }

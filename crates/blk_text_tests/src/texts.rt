@@ -1,6 +1,6 @@
 //! What is read of texts, in all their spellings, and written again.
 
-use crate::forms::{Form, first_not_itself, first_unlike};
+use crate::forms::{TextKind, first_not_itself, first_unlike};
 use blk_bio::{Bio, BioId, Dir, Limits, Request};
 use blk_lists::{Records, read_certificate};
 use blk_text::{Line, read_script, write_trace};
@@ -21,7 +21,7 @@ fn three_at_once(rt: HostRuntime) {
         ("blk-commands,1,1\r1,0,0\r2,0,0\r\"\"3,0,0", text),
         ("\"blk-commands\",1,\"1\"\n1,\"0\",0\n2,0,0\n3,0,\"0", text),
     ];
-    assert_eq!(rt; first_unlike(rt.alloc(), Form::Commands, &texts), None);
+    assert_eq!(rt; first_unlike(rt.alloc(), TextKind::Commands, &texts), None);
 }
 
 #[test]
@@ -33,7 +33,10 @@ fn numbers_of_every_length(rt: HostRuntime) {
         "blk-commands,1,1\n18446744073709551615,1099511627775,2199023255551\n",
         "blk-commands,1,1\n10000000000000000000,1,1\n9999999999999999999,1,1\n",
     ];
-    assert_eq!(rt; first_not_itself(rt.alloc(), Form::Commands, &texts), None);
+    assert_eq!(rt;
+        first_not_itself(rt.alloc(), TextKind::Commands, &texts),
+        None
+    );
 }
 
 #[test]
@@ -45,7 +48,7 @@ fn certificates_come_back(rt: HostRuntime) {
         "blk-certificate,1,1,1\nbound,-2199023255551,0,2199023255551\n1,0,2199023255551,0\n",
     ];
     assert_eq!(rt;
-        first_not_itself(rt.alloc(), Form::Certificate, &texts),
+        first_not_itself(rt.alloc(), TextKind::Certificate, &texts),
         None
     );
 }
@@ -63,7 +66,10 @@ fn a_certificate_in_other_spellings(rt: HostRuntime) {
             text,
         ),
     ];
-    assert_eq!(rt; first_unlike(rt.alloc(), Form::Certificate, &texts), None);
+    assert_eq!(rt;
+        first_unlike(rt.alloc(), TextKind::Certificate, &texts),
+        None
+    );
 }
 
 #[test]

@@ -1,6 +1,6 @@
 //! Traces read: what comes back, and their faults. The program's cases show more of them.
 
-use crate::forms::{Form, first_other, first_unlike};
+use crate::forms::{TextKind, first_other, first_unlike};
 use crate::texts::JOINED;
 use blk_bio::BioFault;
 use blk_lists::Why;
@@ -19,7 +19,7 @@ fn both_versions_come_back(rt: HostRuntime) {
             "blk-trace,2,256,1,3,\nsetup,0,9,256,128,\ndepth,7,,,,\ntick,,,,,\ndepth,256,,,,\n",
         ),
     ];
-    assert_eq!(rt; first_unlike(rt.alloc(), Form::Trace, &texts), None);
+    assert_eq!(rt; first_unlike(rt.alloc(), TextKind::Trace, &texts), None);
 }
 
 #[test]
@@ -63,7 +63,7 @@ fn faults_of_a_trace(rt: HostRuntime) {
             Why::Rule(TraceRule::Unknown),
         ),
     ];
-    assert_eq!(rt; first_other(rt.alloc(), Form::Trace, &texts), None);
+    assert_eq!(rt; first_other(rt.alloc(), TextKind::Trace, &texts), None);
 }
 
 #[test]
@@ -120,7 +120,7 @@ fn faults_of_a_group(rt: HostRuntime) {
             Why::Rule(TraceRule::Unknown),
         ),
     ];
-    assert_eq!(rt; first_other(rt.alloc(), Form::Trace, &texts), None);
+    assert_eq!(rt; first_other(rt.alloc(), TextKind::Trace, &texts), None);
 }
 
 #[test]
@@ -152,5 +152,5 @@ fn events_past_the_announced_number(rt: HostRuntime) {
             Why::Range,
         ),
     ];
-    assert_eq!(rt; first_other(rt.alloc(), Form::Trace, &texts), None);
+    assert_eq!(rt; first_other(rt.alloc(), TextKind::Trace, &texts), None);
 }

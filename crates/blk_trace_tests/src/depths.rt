@@ -1,6 +1,6 @@
 //! Traces whose depth changes from round to round.
 
-use crate::given::{Heap, Step, empty, limits, made};
+use crate::given::{Happening, Heap, empty, limits, made};
 use crate::looks::{Look, command, first_other};
 use blk_trace::{Setup, Trace, TraceFault, TraceRule};
 use refusing::Refusing;
@@ -16,7 +16,7 @@ fn of_reads<'a>(rt: &impl Abort, heap: Heap<'a>, depth: u64, reads: u8) -> Trace
     let mut trace = empty(rt, heap, of_depth(rt, depth));
     for read in 0..reads {
         let id = read as u64;
-        let enters = [Look::Push(Step::Read(id, 100 * id, 8))];
+        let enters = [Look::Push(Happening::Read(id, 100 * id, 8))];
         assert_eq!(rt; first_other(heap, &mut trace, &enters), None);
     }
     trace
@@ -32,19 +32,19 @@ fn in_force_from_the_next_round(rt: HostRuntime) {
         Look::Carries(0, 2),
         Look::Carries(1, 2),
         Look::Carries(2, 2),
-        Look::Push(Step::Depth(1)),
-        Look::Push(Step::Issue(0, 0)),
-        Look::Push(Step::Issue(1, 1)),
-        Look::Push(Step::Done(0)),
-        Look::Push(Step::Done(1)),
+        Look::Push(Happening::Depth(1)),
+        Look::Push(Happening::Issue(0, 0)),
+        Look::Push(Happening::Issue(1, 1)),
+        Look::Push(Happening::Done(0)),
+        Look::Push(Happening::Done(1)),
         Look::DepthNow(2),
-        Look::Push(Step::Tick),
+        Look::Push(Happening::Tick),
         Look::DepthNow(1),
-        Look::Breaks(Step::Issue(2, 1), TraceRule::TagRange),
-        Look::Push(Step::Depth(2)),
-        Look::Breaks(Step::Issue(2, 1), TraceRule::TagRange),
-        Look::Push(Step::Tick),
-        Look::Push(Step::Issue(2, 1)),
+        Look::Breaks(Happening::Issue(2, 1), TraceRule::TagRange),
+        Look::Push(Happening::Depth(2)),
+        Look::Breaks(Happening::Issue(2, 1), TraceRule::TagRange),
+        Look::Push(Happening::Tick),
+        Look::Push(Happening::Issue(2, 1)),
         Look::DepthNow(2),
         Look::Fixed(false),
         Look::Carries(0, 2),
@@ -65,20 +65,20 @@ fn tags_by_the_depth_of_the_round(rt: HostRuntime) {
     let heap = Refusing::new(rt.alloc());
     let mut trace = of_reads(&rt, &heap, 4, 4);
     let looks = [
-        Look::Push(Step::Depth(2)),
-        Look::Push(Step::Tick),
-        Look::Breaks(Step::Issue(0, 3), TraceRule::TagRange),
-        Look::Breaks(Step::Issue(0, 2), TraceRule::TagRange),
-        Look::Push(Step::Issue(0, 1)),
-        Look::Breaks(Step::Issue(0, 3), TraceRule::AlreadyIssued),
-        Look::Breaks(Step::Issue(1, 1), TraceRule::TagUsed),
-        Look::Breaks(Step::Done(3), TraceRule::NotIssued),
-        Look::Breaks(Step::Back(2), TraceRule::NotIssued),
-        Look::Push(Step::Depth(3)),
-        Look::Push(Step::Done(1)),
-        Look::Push(Step::Tick),
-        Look::Push(Step::Issue(1, 2)),
-        Look::Breaks(Step::Issue(2, 3), TraceRule::TagRange),
+        Look::Push(Happening::Depth(2)),
+        Look::Push(Happening::Tick),
+        Look::Breaks(Happening::Issue(0, 3), TraceRule::TagRange),
+        Look::Breaks(Happening::Issue(0, 2), TraceRule::TagRange),
+        Look::Push(Happening::Issue(0, 1)),
+        Look::Breaks(Happening::Issue(0, 3), TraceRule::AlreadyIssued),
+        Look::Breaks(Happening::Issue(1, 1), TraceRule::TagUsed),
+        Look::Breaks(Happening::Done(3), TraceRule::NotIssued),
+        Look::Breaks(Happening::Back(2), TraceRule::NotIssued),
+        Look::Push(Happening::Depth(3)),
+        Look::Push(Happening::Done(1)),
+        Look::Push(Happening::Tick),
+        Look::Push(Happening::Issue(1, 2)),
+        Look::Breaks(Happening::Issue(2, 3), TraceRule::TagRange),
         Look::Carries(0, 4),
         Look::Carries(1, 2),
         Look::Carries(2, 3),
@@ -93,15 +93,15 @@ fn set_under_way(rt: HostRuntime) {
     let heap = Refusing::new(rt.alloc());
     let mut trace = of_reads(&rt, &heap, 2, 2);
     let looks = [
-        Look::Push(Step::Issue(0, 0)),
-        Look::Push(Step::Depth(1)),
+        Look::Push(Happening::Issue(0, 0)),
+        Look::Push(Happening::Depth(1)),
         Look::Stands(4, 0, 1),
-        Look::Breaks(Step::Issue(1, 0), TraceRule::TagUsed),
-        Look::Breaks(Step::Tick, TraceRule::InFlight),
-        Look::Push(Step::Issue(1, 1)),
-        Look::Push(Step::Done(1)),
-        Look::Push(Step::Done(0)),
-        Look::Push(Step::Tick),
+        Look::Breaks(Happening::Issue(1, 0), TraceRule::TagUsed),
+        Look::Breaks(Happening::Tick, TraceRule::InFlight),
+        Look::Push(Happening::Issue(1, 1)),
+        Look::Push(Happening::Done(1)),
+        Look::Push(Happening::Done(0)),
+        Look::Push(Happening::Tick),
         Look::Commands(2),
         Look::Ran(0, command(0, 0, 0), 0),
         Look::Ran(1, command(1, 0, 0), 0),
@@ -115,19 +115,19 @@ fn the_last_of_a_round(rt: HostRuntime) {
     let heap = Refusing::new(rt.alloc());
     let mut trace = empty(&rt, &heap, of_depth(&rt, 256));
     let looks = [
-        Look::Push(Step::Depth(3)),
-        Look::Push(Step::Depth(256)),
+        Look::Push(Happening::Depth(3)),
+        Look::Push(Happening::Depth(256)),
         Look::Fixed(false),
         Look::Carries(0, 256),
         Look::Carries(1, 256),
         Look::Carries(2, 256),
-        Look::Push(Step::Tick),
-        Look::Push(Step::Tick),
-        Look::Push(Step::Depth(7)),
-        Look::Push(Step::Depth(1)),
-        Look::Push(Step::Depth(5)),
-        Look::Push(Step::Tick),
-        Look::Push(Step::Depth(4)),
+        Look::Push(Happening::Tick),
+        Look::Push(Happening::Tick),
+        Look::Push(Happening::Depth(7)),
+        Look::Push(Happening::Depth(1)),
+        Look::Push(Happening::Depth(5)),
+        Look::Push(Happening::Tick),
+        Look::Push(Happening::Depth(4)),
         Look::Carries(0, 256),
         Look::Carries(1, 256),
         Look::Carries(2, 256),
@@ -147,12 +147,12 @@ fn out_of_range(rt: HostRuntime) {
     for depth in [1, 2, 256] {
         let mut trace = empty(&rt, &heap, of_depth(&rt, depth));
         let looks = [
-            Look::Breaks(Step::Depth(0), TraceRule::DepthRange),
-            Look::Breaks(Step::Depth(depth + 1), TraceRule::DepthRange),
-            Look::Breaks(Step::Depth(257), TraceRule::DepthRange),
-            Look::Breaks(Step::Depth(u64::MAX), TraceRule::DepthRange),
-            Look::Push(Step::Depth(1)),
-            Look::Push(Step::Depth(depth)),
+            Look::Breaks(Happening::Depth(0), TraceRule::DepthRange),
+            Look::Breaks(Happening::Depth(depth + 1), TraceRule::DepthRange),
+            Look::Breaks(Happening::Depth(257), TraceRule::DepthRange),
+            Look::Breaks(Happening::Depth(u64::MAX), TraceRule::DepthRange),
+            Look::Push(Happening::Depth(1)),
+            Look::Push(Happening::Depth(depth)),
             Look::Carries(0, depth),
             Look::Carries(1, depth),
         ];
@@ -165,11 +165,11 @@ fn out_of_range(rt: HostRuntime) {
 fn of_a_list(rt: HostRuntime) {
     let heap = Refusing::new(rt.alloc());
     let steps = [
-        Step::Read(0, 0, 8),
-        Step::Depth(1),
-        Step::Issue(0, 1),
-        Step::Done(1),
-        Step::Tick,
+        Happening::Read(0, 0, 8),
+        Happening::Depth(1),
+        Happening::Issue(0, 1),
+        Happening::Done(1),
+        Happening::Tick,
     ];
     let Ok(mut trace) = made(&rt, &heap, of_depth(&rt, 2), &steps) else {
         panic!(rt; "refused");
@@ -187,21 +187,21 @@ fn of_a_list(rt: HostRuntime) {
 fn of_a_list_that_breaks_a_rule(rt: HostRuntime) {
     let heap = Refusing::new(rt.alloc());
     let above = [
-        Step::Read(0, 0, 8),
-        Step::Depth(1),
-        Step::Issue(0, 1),
-        Step::Done(1),
-        Step::Tick,
-        Step::Depth(3),
+        Happening::Read(0, 0, 8),
+        Happening::Depth(1),
+        Happening::Issue(0, 1),
+        Happening::Done(1),
+        Happening::Tick,
+        Happening::Depth(3),
     ];
     let rule = TraceRule::DepthRange;
     let answer = made(&rt, &heap, of_depth(&rt, 2), &above);
     assert_eq!(rt; answer.err(), Some(TraceFault::Rule { at: 5, rule }));
     let late = [
-        Step::Read(0, 0, 8),
-        Step::Depth(1),
-        Step::Tick,
-        Step::Issue(0, 1),
+        Happening::Read(0, 0, 8),
+        Happening::Depth(1),
+        Happening::Tick,
+        Happening::Issue(0, 1),
     ];
     let rule = TraceRule::TagRange;
     let answer = made(&rt, &heap, of_depth(&rt, 2), &late);

@@ -11,7 +11,7 @@ pub type Heap<'a> = &'a Refusing<Global>;
 
 /// An event, whose request is of one bio: of submitter 0, and its serial number is its first sector.
 #[derive(Clone, Copy)]
-pub enum Step {
+pub enum Happening {
     /// A round ends.
     Tick,
     /// A read of this first sector and length enters under an id.
@@ -65,29 +65,29 @@ pub fn request<'a>(
 }
 
 /// The event of a step.
-pub fn event<'a>(heap: Heap<'a>, step: Step) -> Option<Event<Request<Heap<'a>>>> {
+pub fn event<'a>(heap: Heap<'a>, step: Happening) -> Option<Event<Request<Heap<'a>>>> {
     match step {
-        Step::Tick => Some(Event::Tick),
-        Step::Read(id, first, sectors) => Some(Event::Release {
+        Happening::Tick => Some(Event::Tick),
+        Happening::Read(id, first, sectors) => Some(Event::Release {
             id,
             request: request(heap, Dir::Read, first, sectors)?,
         }),
-        Step::Write(id, first, sectors) => Some(Event::Release {
+        Happening::Write(id, first, sectors) => Some(Event::Release {
             id,
             request: request(heap, Dir::Write, first, sectors)?,
         }),
-        Step::JoinRead(id, first, sectors) => Some(Event::Join {
+        Happening::JoinRead(id, first, sectors) => Some(Event::Join {
             id,
             request: request(heap, Dir::Read, first, sectors)?,
         }),
-        Step::JoinWrite(id, first, sectors) => Some(Event::Join {
+        Happening::JoinWrite(id, first, sectors) => Some(Event::Join {
             id,
             request: request(heap, Dir::Write, first, sectors)?,
         }),
-        Step::Issue(id, tag) => Some(Event::Issue { id, tag }),
-        Step::Done(tag) => Some(Event::Done { tag }),
-        Step::Back(tag) => Some(Event::Back { tag }),
-        Step::Depth(depth) => Some(Event::Depth { depth }),
+        Happening::Issue(id, tag) => Some(Event::Issue { id, tag }),
+        Happening::Done(tag) => Some(Event::Done { tag }),
+        Happening::Back(tag) => Some(Event::Back { tag }),
+        Happening::Depth(depth) => Some(Event::Depth { depth }),
     }
 }
 
@@ -97,31 +97,31 @@ fn is_of(request: &Request<Heap<'_>>, dir: Dir, first: u64, sectors: u64) -> boo
 }
 
 /// Whether the event is the one of the step.
-pub fn is_event(event: &Event<Request<Heap<'_>>>, step: &Step) -> bool {
+pub fn is_event(event: &Event<Request<Heap<'_>>>, step: &Happening) -> bool {
     match (event, step) {
-        (Event::Tick, Step::Tick) => true,
-        (Event::Release { id, request }, Step::Read(i, first, sectors)) => {
+        (Event::Tick, Happening::Tick) => true,
+        (Event::Release { id, request }, Happening::Read(i, first, sectors)) => {
             *id == *i && is_of(request, Dir::Read, *first, *sectors)
         }
-        (Event::Release { id, request }, Step::Write(i, first, sectors)) => {
+        (Event::Release { id, request }, Happening::Write(i, first, sectors)) => {
             *id == *i && is_of(request, Dir::Write, *first, *sectors)
         }
-        (Event::Join { id, request }, Step::JoinRead(i, first, sectors)) => {
+        (Event::Join { id, request }, Happening::JoinRead(i, first, sectors)) => {
             *id == *i && is_of(request, Dir::Read, *first, *sectors)
         }
-        (Event::Join { id, request }, Step::JoinWrite(i, first, sectors)) => {
+        (Event::Join { id, request }, Happening::JoinWrite(i, first, sectors)) => {
             *id == *i && is_of(request, Dir::Write, *first, *sectors)
         }
-        (Event::Issue { id, tag }, Step::Issue(i, t)) => *id == *i && *tag == *t,
-        (Event::Done { tag }, Step::Done(t)) => *tag == *t,
-        (Event::Back { tag }, Step::Back(t)) => *tag == *t,
-        (Event::Depth { depth }, Step::Depth(n)) => *depth == *n,
+        (Event::Issue { id, tag }, Happening::Issue(i, t)) => *id == *i && *tag == *t,
+        (Event::Done { tag }, Happening::Done(t)) => *tag == *t,
+        (Event::Back { tag }, Happening::Back(t)) => *tag == *t,
+        (Event::Depth { depth }, Happening::Depth(n)) => *depth == *n,
         _ => false,
     }
 }
 
 /// Whether the trace's events are those of the steps.
-pub fn has_events(trace: &Trace<Heap<'_>>, steps: &[Step]) -> bool {
+pub fn has_events(trace: &Trace<Heap<'_>>, steps: &[Happening]) -> bool {
     let events = trace.events();
     events.len() == steps.len()
         && trace.len() == steps.len() as u64
@@ -151,7 +151,7 @@ pub fn empty<'a>(rt: &impl Abort, heap: Heap<'a>, setup: Setup) -> Trace<Heap<'a
 }
 
 /// Pushes the event of a step that breaks no rule; where memory is refused it comes back, nothing is changed, and it is pushed again.
-pub fn is_pushed<'a>(heap: Heap<'a>, trace: &mut Trace<Heap<'a>>, step: Step) -> bool {
+pub fn is_pushed<'a>(heap: Heap<'a>, trace: &mut Trace<Heap<'a>>, step: Happening) -> bool {
     let Some(event) = event(heap, step) else {
         return false;
     };
@@ -175,7 +175,7 @@ pub fn made<'a>(
     rt: &impl Abort,
     heap: Heap<'a>,
     setup: Setup,
-    steps: &[Step],
+    steps: &[Happening],
 ) -> Result<Trace<Heap<'a>>, TraceFault> {
     let mut events = Vec::new(heap);
     for step in steps {

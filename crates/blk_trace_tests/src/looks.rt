@@ -1,6 +1,6 @@
 //! Traces as lists of plain values: what is done to one, and what has to be seen of it then.
 
-use crate::given::{Heap, Step, bio, event, is_event, is_pushed, standing};
+use crate::given::{Happening, Heap, bio, event, is_event, is_pushed, standing};
 use blk_bio::{Bio, Dir};
 use blk_trace::{PushFault, Trace, TraceRule};
 use edd_commands::Command;
@@ -9,16 +9,16 @@ use edd_commands::Command;
 #[derive(Clone, Copy)]
 pub enum Look {
     /// An event is pushed that breaks no rule.
-    Push(Step),
+    Push(Happening),
     /// An event breaks this rule first: it comes back, and nothing is changed.
-    Breaks(Step, TraceRule),
+    Breaks(Happening, TraceRule),
     /// How many events there are, the round, and how many issues are not done.
     Stands(u64, u64, u64),
-    /// So many bios wait.
+    /// This number of bios wait.
     Waiting(usize),
     /// At the place among them is one of this direction, first sector and length.
     Waits(usize, Dir, u64, u64),
-    /// So many commands went out.
+    /// This number of commands went out.
     Commands(usize),
     /// At the place among them is this one, in this round.
     Ran(usize, Command, u64),
@@ -69,7 +69,12 @@ fn is_seen<'a>(heap: Heap<'a>, trace: &mut Trace<Heap<'a>>, look: Look) -> bool 
 }
 
 /// Pushes an event that breaks the rule.
-fn breaks<'a>(heap: Heap<'a>, trace: &mut Trace<Heap<'a>>, step: Step, rule: TraceRule) -> bool {
+fn breaks<'a>(
+    heap: Heap<'a>,
+    trace: &mut Trace<Heap<'a>>,
+    step: Happening,
+    rule: TraceRule,
+) -> bool {
     let Some(event) = event(heap, step) else {
         return false;
     };

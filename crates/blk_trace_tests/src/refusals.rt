@@ -1,6 +1,6 @@
 //! Traces where allocations are refused.
 
-use crate::given::{Heap, Step, empty, event, has_events, is_pushed, limits, made, setup};
+use crate::given::{Happening, Heap, empty, event, has_events, is_pushed, limits, made, setup};
 use crate::looks::{Look, command, first_other};
 use blk_bio::Dir;
 use blk_trace::{Event, Trace, TraceFault};
@@ -11,7 +11,11 @@ use std::process::Abort;
 const REQUESTS: u64 = 4;
 
 /// Makes room for the event of a step, which then takes no memory.
-fn is_prepared_and_pushed<'a>(heap: Heap<'a>, trace: &mut Trace<Heap<'a>>, step: Step) -> bool {
+fn is_prepared_and_pushed<'a>(
+    heap: Heap<'a>,
+    trace: &mut Trace<Heap<'a>>,
+    step: Happening,
+) -> bool {
     let Some(event) = event(heap, step) else {
         return false;
     };
@@ -28,11 +32,11 @@ fn come_and_go<'a>(rt: &impl Abort, heap: Heap<'a>) -> Trace<Heap<'a>> {
     let mut trace = empty(rt, heap, setup(rt, 5, 50, limits(rt, 256, 128)));
     for id in 0..REQUESTS {
         for step in [
-            Step::Read(id, 4 * id, 1),
-            Step::JoinRead(id, 4 * id + 1, 1),
-            Step::Issue(id, 0),
-            Step::Done(0),
-            Step::Tick,
+            Happening::Read(id, 4 * id, 1),
+            Happening::JoinRead(id, 4 * id + 1, 1),
+            Happening::Issue(id, 0),
+            Happening::Done(0),
+            Happening::Tick,
         ] {
             if id % 2 == 0 {
                 assert!(rt; is_pushed(heap, &mut trace, step));
@@ -45,7 +49,7 @@ fn come_and_go<'a>(rt: &impl Abort, heap: Heap<'a>) -> Trace<Heap<'a>> {
 }
 
 /// A trace of the events of steps that break no rule.
-fn remade<'a>(rt: &impl Abort, heap: Heap<'a>, steps: &[Step]) -> Trace<Heap<'a>> {
+fn remade<'a>(rt: &impl Abort, heap: Heap<'a>, steps: &[Happening]) -> Trace<Heap<'a>> {
     let setup = setup(rt, 5, 50, limits(rt, 256, 128));
     let armed = heap.is_armed();
     match made(rt, heap, setup, steps) {
@@ -65,8 +69,8 @@ fn remade<'a>(rt: &impl Abort, heap: Heap<'a>, steps: &[Step]) -> Trace<Heap<'a>
 fn all_of_it(rt: &impl Abort, heap: Heap<'_>) {
     let mut trace = come_and_go(rt, heap);
     let looks = [
-        Look::Push(Step::Depth(1)),
-        Look::Push(Step::Read(4, 16, 1)),
+        Look::Push(Happening::Depth(1)),
+        Look::Push(Happening::Read(4, 16, 1)),
         Look::Stands(22, 4, 0),
         Look::Commands(4),
         Look::Ran(0, command(0, 0, 5), 0),
@@ -82,9 +86,9 @@ fn all_of_it(rt: &impl Abort, heap: Heap<'_>) {
     ];
     assert_eq!(rt; first_other(heap, &mut trace, &looks), None);
     let steps = [
-        Step::Read(0, 16, 1),
-        Step::JoinRead(0, 17, 1),
-        Step::Issue(0, 0),
+        Happening::Read(0, 16, 1),
+        Happening::JoinRead(0, 17, 1),
+        Happening::Issue(0, 0),
     ];
     assert!(rt; has_events(&remade(rt, heap, &steps), &steps));
 }

@@ -1,7 +1,7 @@
 //! The rules that an event may break.
 
 use crate::given::{
-    Heap, Step, empty, event, has_events, is_pushed, limits, request, setup, standing,
+    Happening, Heap, empty, event, has_events, is_pushed, limits, request, setup, standing,
 };
 use crate::looks::{Look, command, first_other};
 use blk_bio::Dir;
@@ -10,32 +10,32 @@ use refusing::Refusing;
 use std::process::Abort;
 
 /// A read that went out and one that waits.
-fn one_of_two_issued() -> [Step; 3] {
+fn one_of_two_issued() -> [Happening; 3] {
     [
-        Step::Read(0, 0, 4),
-        Step::Read(1, 100, 4),
-        Step::Issue(0, 0),
+        Happening::Read(0, 0, 4),
+        Happening::Read(1, 100, 4),
+        Happening::Issue(0, 0),
     ]
 }
 
 /// Each rule but those that need a list of their own, with the rules after it broken too.
 fn one_broken_each() -> [Look; 17] {
     [
-        Look::Breaks(Step::Read(0, 104, 4), TraceRule::ReleasedTwice),
-        Look::Breaks(Step::Read(1, 100, 4), TraceRule::ReleasedTwice),
-        Look::Breaks(Step::JoinRead(2, 104, 4), TraceRule::Unknown),
-        Look::Breaks(Step::Issue(2, 9), TraceRule::Unknown),
-        Look::Breaks(Step::JoinRead(0, 104, 4), TraceRule::AlreadyIssued),
-        Look::Breaks(Step::Issue(0, 9), TraceRule::AlreadyIssued),
-        Look::Breaks(Step::Read(2, 0, 4), TraceRule::BioTwice),
-        Look::Breaks(Step::JoinRead(1, 0, 4), TraceRule::BioTwice),
-        Look::Breaks(Step::JoinWrite(1, 104, 4), TraceRule::Fit),
-        Look::Breaks(Step::JoinRead(1, 105, 4), TraceRule::Fit),
-        Look::Breaks(Step::JoinRead(1, 104, 5), TraceRule::Fit),
-        Look::Breaks(Step::Issue(1, 1), TraceRule::TagRange),
-        Look::Breaks(Step::Issue(1, 0), TraceRule::TagUsed),
-        Look::Breaks(Step::Done(1), TraceRule::NotIssued),
-        Look::Breaks(Step::Tick, TraceRule::InFlight),
+        Look::Breaks(Happening::Read(0, 104, 4), TraceRule::ReleasedTwice),
+        Look::Breaks(Happening::Read(1, 100, 4), TraceRule::ReleasedTwice),
+        Look::Breaks(Happening::JoinRead(2, 104, 4), TraceRule::Unknown),
+        Look::Breaks(Happening::Issue(2, 9), TraceRule::Unknown),
+        Look::Breaks(Happening::JoinRead(0, 104, 4), TraceRule::AlreadyIssued),
+        Look::Breaks(Happening::Issue(0, 9), TraceRule::AlreadyIssued),
+        Look::Breaks(Happening::Read(2, 0, 4), TraceRule::BioTwice),
+        Look::Breaks(Happening::JoinRead(1, 0, 4), TraceRule::BioTwice),
+        Look::Breaks(Happening::JoinWrite(1, 104, 4), TraceRule::Fit),
+        Look::Breaks(Happening::JoinRead(1, 105, 4), TraceRule::Fit),
+        Look::Breaks(Happening::JoinRead(1, 104, 5), TraceRule::Fit),
+        Look::Breaks(Happening::Issue(1, 1), TraceRule::TagRange),
+        Look::Breaks(Happening::Issue(1, 0), TraceRule::TagUsed),
+        Look::Breaks(Happening::Done(1), TraceRule::NotIssued),
+        Look::Breaks(Happening::Tick, TraceRule::InFlight),
         Look::Stands(3, 0, 1),
         Look::Fixed(true),
     ]
@@ -52,9 +52,9 @@ fn each_rule_refuses(rt: HostRuntime) {
     assert_eq!(rt; first_other(&heap, &mut trace, &one_broken_each()), None);
     assert!(rt; has_events(&trace, &steps));
     let done = [
-        Look::Push(Step::Done(0)),
-        Look::Breaks(Step::Done(0), TraceRule::NotIssued),
-        Look::Breaks(Step::Issue(1, 0), TraceRule::TagUsed),
+        Look::Push(Happening::Done(0)),
+        Look::Breaks(Happening::Done(0), TraceRule::NotIssued),
+        Look::Breaks(Happening::Issue(1, 0), TraceRule::TagUsed),
     ];
     assert_eq!(rt; first_other(&heap, &mut trace, &done), None);
 }
@@ -66,23 +66,23 @@ fn requeued_and_issued_again(rt: HostRuntime) {
     let made = Setup::new(2, 1, 0, 0, limits(&rt, 256, 128)).expect(&rt, "a setup");
     let mut trace = empty(&rt, &heap, made);
     let looks = [
-        Look::Push(Step::Read(0, 0, 8)),
-        Look::Push(Step::Read(1, 100, 8)),
-        Look::Push(Step::Issue(0, 0)),
-        Look::Push(Step::Back(0)),
+        Look::Push(Happening::Read(0, 0, 8)),
+        Look::Push(Happening::Read(1, 100, 8)),
+        Look::Push(Happening::Issue(0, 0)),
+        Look::Push(Happening::Back(0)),
         Look::Stands(4, 0, 0),
         Look::Waiting(2),
         Look::Waits(0, Dir::Read, 0, 8),
         Look::Waits(1, Dir::Read, 100, 8),
         Look::Commands(0),
-        Look::Breaks(Step::JoinRead(0, 8, 8), TraceRule::AlreadyIssued),
-        Look::Breaks(Step::Issue(0, 0), TraceRule::TagUsed),
-        Look::Breaks(Step::Back(0), TraceRule::NotIssued),
-        Look::Breaks(Step::Back(1), TraceRule::NotIssued),
-        Look::Push(Step::Issue(0, 1)),
-        Look::Push(Step::Done(1)),
-        Look::Push(Step::Tick),
-        Look::Push(Step::Issue(1, 0)),
+        Look::Breaks(Happening::JoinRead(0, 8, 8), TraceRule::AlreadyIssued),
+        Look::Breaks(Happening::Issue(0, 0), TraceRule::TagUsed),
+        Look::Breaks(Happening::Back(0), TraceRule::NotIssued),
+        Look::Breaks(Happening::Back(1), TraceRule::NotIssued),
+        Look::Push(Happening::Issue(0, 1)),
+        Look::Push(Happening::Done(1)),
+        Look::Push(Happening::Tick),
+        Look::Push(Happening::Issue(1, 0)),
         Look::Commands(2),
         Look::Ran(0, command(0, 0, 0), 0),
         Look::Ran(1, command(1, 0, 0), 1),
@@ -97,13 +97,13 @@ fn handed_back_in_a_round_before(rt: HostRuntime) {
     let heap = Refusing::new(rt.alloc());
     let mut trace = empty(&rt, &heap, setup(&rt, 0, 0, limits(&rt, 256, 128)));
     let looks = [
-        Look::Push(Step::Read(0, 0, 8)),
-        Look::Push(Step::Issue(0, 0)),
-        Look::Push(Step::Back(0)),
-        Look::Push(Step::Tick),
-        Look::Push(Step::Issue(0, 0)),
-        Look::Push(Step::Done(0)),
-        Look::Push(Step::Tick),
+        Look::Push(Happening::Read(0, 0, 8)),
+        Look::Push(Happening::Issue(0, 0)),
+        Look::Push(Happening::Back(0)),
+        Look::Push(Happening::Tick),
+        Look::Push(Happening::Issue(0, 0)),
+        Look::Push(Happening::Done(0)),
+        Look::Push(Happening::Tick),
         Look::Commands(1),
         Look::Ran(0, command(0, 0, 0), 1),
     ];
@@ -134,21 +134,21 @@ fn longer_than_the_limits(rt: HostRuntime) {
 fn too_long(rt: HostRuntime) {
     let heap = Refusing::new(rt.alloc());
     let mut trace = empty(&rt, &heap, setup(&rt, 0, 0, limits(&rt, 256, 128)));
-    assert!(rt; is_pushed(&heap, &mut trace, Step::Read(0, 0, 1)));
+    assert!(rt; is_pushed(&heap, &mut trace, Happening::Read(0, 0, 1)));
     for _ in 2..MAX_EVENTS {
-        assert!(rt; is_pushed(&heap, &mut trace, Step::Tick));
+        assert!(rt; is_pushed(&heap, &mut trace, Happening::Tick));
     }
     let looks = [
         Look::Stands(999_999, 999_998, 0),
-        Look::Breaks(Step::Issue(0, 0), TraceRule::TooLong),
-        Look::Breaks(Step::Depth(0), TraceRule::DepthRange),
-        Look::Push(Step::Depth(1)),
+        Look::Breaks(Happening::Issue(0, 0), TraceRule::TooLong),
+        Look::Breaks(Happening::Depth(0), TraceRule::DepthRange),
+        Look::Push(Happening::Depth(1)),
         Look::Stands(1_000_000, 999_998, 0),
-        Look::Breaks(Step::Tick, TraceRule::TooLong),
-        Look::Breaks(Step::Read(1, 1, 1), TraceRule::TooLong),
-        Look::Breaks(Step::JoinRead(0, 1, 1), TraceRule::TooLong),
-        Look::Breaks(Step::Depth(1), TraceRule::TooLong),
-        Look::Breaks(Step::Depth(0), TraceRule::TooLong),
+        Look::Breaks(Happening::Tick, TraceRule::TooLong),
+        Look::Breaks(Happening::Read(1, 1, 1), TraceRule::TooLong),
+        Look::Breaks(Happening::JoinRead(0, 1, 1), TraceRule::TooLong),
+        Look::Breaks(Happening::Depth(1), TraceRule::TooLong),
+        Look::Breaks(Happening::Depth(0), TraceRule::TooLong),
     ];
     assert_eq!(rt; first_other(&heap, &mut trace, &looks), None);
 }

@@ -1,6 +1,6 @@
 //! What traces of a few events say: the worked rows.
 
-use crate::given::{Heap, Step, empty, has_events, limits, made, setup, standing};
+use crate::given::{Happening, Heap, empty, has_events, limits, made, setup, standing};
 use crate::looks::{Look, command, first_other};
 use blk_bio::Dir;
 use blk_trace::laws::{depths_by_places, timed_by_the_ticks_before};
@@ -34,16 +34,16 @@ fn constructors_refuse(rt: HostRuntime) {
 }
 
 /// A write released before a read, and issued before it at depth 1.
-fn write_then_read() -> [Step; 8] {
+fn write_then_read() -> [Happening; 8] {
     [
-        Step::Write(0, 100, 8),
-        Step::Read(1, 200, 8),
-        Step::Issue(0, 0),
-        Step::Done(0),
-        Step::Tick,
-        Step::Issue(1, 0),
-        Step::Done(0),
-        Step::Tick,
+        Happening::Write(0, 100, 8),
+        Happening::Read(1, 200, 8),
+        Happening::Issue(0, 0),
+        Happening::Done(0),
+        Happening::Tick,
+        Happening::Issue(1, 0),
+        Happening::Done(0),
+        Happening::Tick,
     ]
 }
 
@@ -79,17 +79,17 @@ fn write_before_read_in_turn(rt: HostRuntime) {
     let heap = Refusing::new(rt.alloc());
     let mut trace = empty(&rt, &heap, setup(&rt, 0, 9, limits(&rt, 256, 128)));
     let looks = [
-        Look::Push(Step::Write(0, 100, 8)),
-        Look::Push(Step::Read(1, 200, 8)),
+        Look::Push(Happening::Write(0, 100, 8)),
+        Look::Push(Happening::Read(1, 200, 8)),
         Look::Waiting(2),
         Look::Waits(0, Dir::Write, 100, 8),
         Look::Waits(1, Dir::Read, 200, 8),
-        Look::Push(Step::Issue(0, 0)),
-        Look::Push(Step::Done(0)),
-        Look::Push(Step::Tick),
-        Look::Push(Step::Issue(1, 0)),
-        Look::Push(Step::Done(0)),
-        Look::Push(Step::Tick),
+        Look::Push(Happening::Issue(0, 0)),
+        Look::Push(Happening::Done(0)),
+        Look::Push(Happening::Tick),
+        Look::Push(Happening::Issue(1, 0)),
+        Look::Push(Happening::Done(0)),
+        Look::Push(Happening::Tick),
     ];
     assert_eq!(rt; first_other(&heap, &mut trace, &looks), None);
     assert_eq!(rt; first_other(&heap, &mut trace, &seen_of_it()), None);
@@ -111,15 +111,15 @@ fn joined_on_entry(rt: HostRuntime) {
     let heap = Refusing::new(rt.alloc());
     let mut trace = empty(&rt, &heap, setup(&rt, 5, 50, limits(&rt, 256, 128)));
     let looks = [
-        Look::Push(Step::Read(0, 0, 4)),
-        Look::Push(Step::Tick),
-        Look::Push(Step::Tick),
-        Look::Push(Step::Tick),
-        Look::Push(Step::JoinRead(0, 4, 4)),
+        Look::Push(Happening::Read(0, 0, 4)),
+        Look::Push(Happening::Tick),
+        Look::Push(Happening::Tick),
+        Look::Push(Happening::Tick),
+        Look::Push(Happening::JoinRead(0, 4, 4)),
         Look::Waiting(2),
         Look::Waits(0, Dir::Read, 0, 4),
         Look::Waits(1, Dir::Read, 4, 4),
-        Look::Push(Step::Issue(0, 0)),
+        Look::Push(Happening::Issue(0, 0)),
         Look::Commands(1),
         Look::Ran(0, command(0, 3, 5), 3),
     ];
@@ -132,16 +132,16 @@ fn waiting_by_id_and_sector(rt: HostRuntime) {
     let heap = Refusing::new(rt.alloc());
     let mut trace = empty(&rt, &heap, setup(&rt, 5, 50, limits(&rt, 256, 128)));
     let looks = [
-        Look::Push(Step::Read(5, 8, 2)),
-        Look::Push(Step::Read(3, 100, 4)),
-        Look::Push(Step::JoinRead(5, 6, 2)),
-        Look::Push(Step::JoinRead(5, 10, 2)),
+        Look::Push(Happening::Read(5, 8, 2)),
+        Look::Push(Happening::Read(3, 100, 4)),
+        Look::Push(Happening::JoinRead(5, 6, 2)),
+        Look::Push(Happening::JoinRead(5, 10, 2)),
         Look::Waiting(4),
         Look::Waits(0, Dir::Read, 100, 4),
         Look::Waits(1, Dir::Read, 6, 2),
         Look::Waits(2, Dir::Read, 8, 2),
         Look::Waits(3, Dir::Read, 10, 2),
-        Look::Push(Step::Issue(3, 0)),
+        Look::Push(Happening::Issue(3, 0)),
         Look::Waiting(3),
         Look::Waits(0, Dir::Read, 6, 2),
         Look::Waits(1, Dir::Read, 8, 2),

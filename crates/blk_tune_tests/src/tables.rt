@@ -1,9 +1,8 @@
 //! Tables of a small script, worked out by hand.
 
-use blk_grid::{Asked, By, Grid};
 use blk_lists::Records;
 use blk_runs::RunFault;
-use blk_settings::SchedFault;
+use blk_settings::{By, Grid, SchedFault, TrialAsked};
 use blk_sim::{SimFault, SimWhy};
 use blk_text::{Script, read_script};
 use blk_tune::{ProgressLine, Quiet, tune};
@@ -65,7 +64,7 @@ fn asked(
     by: By,
     top: Option<u64>,
     threads: u64,
-) -> Asked {
+) -> TrialAsked {
     let mut grid = Grid::all(alloc).expect(rt, "memory");
     grid.kyber = false;
     grid.earliest = !alone;
@@ -73,7 +72,7 @@ fn asked(
     grid.fifo_batch.truncate(0);
     grid.fifo_batch.push(batch).expect(rt, "memory");
     grid.writes_starved.truncate(2);
-    Asked {
+    TrialAsked {
         grid,
         by,
         top,
@@ -85,7 +84,7 @@ fn asked(
 fn tables(
     rt: &(impl Threads + Sync),
     alloc: Global,
-    asked: &Asked,
+    asked: &TrialAsked,
     script: &Script,
     parts: &[&str],
 ) -> bool
@@ -108,7 +107,7 @@ fn tables(
 fn refusal(
     rt: &(impl Threads + Sync),
     alloc: Global,
-    asked: &Asked,
+    asked: &TrialAsked,
     script: &Script,
 ) -> Option<RunFault>
     requires { IsScript (scripted script.now) }

@@ -1,4 +1,4 @@
-//! Claims of the greatest number of commands that are met, good and spoiled.
+//! Claims of the greatest number of commands that are on time, good and spoiled.
 
 use crate::made::{command, fixed, steps, window};
 use edd_check::{
@@ -16,17 +16,17 @@ fn accepted(
     capacity: &Capacity,
     commands: &[Command],
     rounds: &[u64],
-    met: u64,
+    on_time: u64,
     cover: &[Window],
     carried: u64,
     out: u64,
 ) {
     assert!(rt; cover_in_range(cover));
-    let Ok(bound) = check_on_time(alloc, commands, capacity, rounds, met, cover) else {
+    let Ok(bound) = check_on_time(alloc, commands, capacity, rounds, on_time, cover) else {
         panic!(rt; "refused");
     };
     assert_eq!(rt; (bound.carries, bound.outside), (carried, out));
-    assert_eq!(rt; number_on_time(commands, rounds), met);
+    assert_eq!(rt; number_on_time(commands, rounds), on_time);
     assert_eq!(rt; carried_by(capacity, cover), carried);
     assert_eq!(rt; outside(commands, cover), out);
     law_of_covers(commands, capacity, cover);
@@ -39,12 +39,12 @@ fn refused(
     capacity: &Capacity,
     commands: &[Command],
     rounds: &[u64],
-    met: u64,
+    on_time: u64,
     cover: &[Window],
     fault: OnTimeFault,
 ) {
     assert!(rt; cover_in_range(cover));
-    let own = check_on_time(alloc, commands, capacity, rounds, met, cover);
+    let own = check_on_time(alloc, commands, capacity, rounds, on_time, cover);
     assert!(rt; matches!(own, Err(it) if it == fault));
 }
 
@@ -80,7 +80,7 @@ fn spoiled_covers(rt: HostRuntime) {
     let one = fixed(&rt, rt.alloc(), 1);
     let commands = three();
     let good = [0, 2, 1];
-    for (rounds, met, fault) in [
+    for (rounds, on_time, fault) in [
         ([0, 0, 1], 2, OnTimeFault::OverDepth(0)),
         (good, 3, OnTimeFault::WrongMet(2)),
         (good, 1, OnTimeFault::WrongMet(2)),
@@ -93,7 +93,7 @@ fn spoiled_covers(rt: HostRuntime) {
             &one,
             &commands,
             &rounds,
-            met,
+            on_time,
             &cover,
             fault,
         );

@@ -84,8 +84,8 @@ fn of_a_schedule(rt: HostRuntime) {
     assert!(rt; heap.is_armed());
 }
 
-/// Schedules three commands of which one can't be met and has the answer checked; whether memory was not refused.
-fn met(rt: &impl Abort, alloc: Global, heap: &Refusing<Global>) -> bool {
+/// Schedules three commands of which one can't be on time and has the answer checked; whether memory was not refused.
+fn on_time(rt: &impl Abort, alloc: Global, heap: &Refusing<Global>) -> bool {
     let one = Capacity::fixed(alloc, 1).expect(rt, "out of memory");
     let commands = [command(2, 0, 0), command(3, 0, 0), command(1, 0, 5)];
     match most_on_time(heap, &commands, &one) {
@@ -94,7 +94,7 @@ fn met(rt: &impl Abort, alloc: Global, heap: &Refusing<Global>) -> bool {
             law_of_on_time_checks(&commands, &one, &answer);
             let rounds = answer.rounds.as_slice();
             let cover = answer.cover.as_slice();
-            match check_on_time(heap, &commands, &one, rounds, answer.met, cover) {
+            match check_on_time(heap, &commands, &one, rounds, answer.on_time, cover) {
                 Ok(_) => true,
                 Err(fault) => {
                     assert!(rt; fault == OnTimeFault::Memory);
@@ -114,12 +114,12 @@ fn of_a_greatest_number(rt: HostRuntime) {
     let heap = Refusing::new(rt.alloc());
     for n in 1..12 {
         heap.refuse(n);
-        assert!(rt; !met(&rt, rt.alloc(), &heap));
+        assert!(rt; !on_time(&rt, rt.alloc(), &heap));
         assert!(rt; !heap.is_armed());
-        assert!(rt; met(&rt, rt.alloc(), &heap));
+        assert!(rt; on_time(&rt, rt.alloc(), &heap));
     }
     heap.refuse(12);
-    assert!(rt; met(&rt, rt.alloc(), &heap));
+    assert!(rt; on_time(&rt, rt.alloc(), &heap));
     assert!(rt; heap.is_armed());
 }
 

@@ -1,4 +1,4 @@
-//! Schedules that meet as many commands as any can.
+//! Schedules that have as many commands on time as any can.
 
 use crate::made::{command, fixed, steps, window};
 use edd_check::{Window, check_on_time};
@@ -14,17 +14,17 @@ fn answers(
     commands: &[Command],
     capacity: &Capacity,
     rounds: &[u64],
-    met: u64,
+    on_time: u64,
     cover: &[Window],
 ) {
     let answer = most_on_time(alloc, commands, capacity).expect(rt, "an answer");
     assert_eq!(rt; answer.rounds.as_slice(), rounds);
-    assert_eq!(rt; answer.met, met);
+    assert_eq!(rt; answer.on_time, on_time);
     assert_eq!(rt; answer.cover.as_slice(), cover);
     law_of_on_time_checks(commands, capacity, &answer);
     let rounds = answer.rounds.as_slice();
     let cover = answer.cover.as_slice();
-    let passed = check_on_time(alloc, commands, capacity, rounds, answer.met, cover);
+    let passed = check_on_time(alloc, commands, capacity, rounds, answer.on_time, cover);
     assert!(rt; passed.is_ok());
 }
 
@@ -36,7 +36,7 @@ fn none_and_all_are_on_time(rt: HostRuntime) {
     answers(&rt, rt.alloc(), &commands, &one, &[0, 1, 2], 3, &[]);
 }
 
-/// What is released after it is due is served after all that is met, and no window holds it.
+/// What is released after it is due is served after all that is on time, and no window holds it.
 #[test]
 fn released_after_it_is_due(rt: HostRuntime) {
     let one = fixed(&rt, rt.alloc(), 1);
@@ -131,14 +131,14 @@ fn refuses_as_solve_does(rt: HostRuntime) {
             OracleFault::RoundRange(7),
         ),
     ] {
-        let met = most_on_time(rt.alloc(), &commands, &one);
-        assert!(rt; matches!(met, Err(it) if it == fault));
+        let on_time = most_on_time(rt.alloc(), &commands, &one);
+        assert!(rt; matches!(on_time, Err(it) if it == fault));
         let solved = solve(rt.alloc(), &commands, &one);
         assert!(rt; matches!(solved, Err(it) if it == fault));
     }
 }
 
-/// Whether the commands at the bits of the set can all be met: where the least greatest lateness is none or not above 0.
+/// Whether the commands at the bits of the set can all be on time: where the least greatest lateness is none or not above 0.
 fn all_on_time(
     rt: &impl Abort,
     alloc: Global,
@@ -160,7 +160,7 @@ fn all_on_time(
     }
 }
 
-/// The number is that of the largest of all subsets that can be met, on drawn lists of five commands under a changing depth.
+/// The number is that of the largest of all subsets that can be on time, on drawn lists of five commands under a changing depth.
 #[test]
 fn no_subset_is_larger(rt: HostRuntime) {
     let list = steps(&rt, rt.alloc(), &[(0, 1), (2, 2), (3, 1)]);
@@ -181,6 +181,6 @@ fn no_subset_is_larger(rt: HostRuntime) {
                 best = best.max(u64::from(set.count_ones()));
             }
         }
-        assert_eq!(rt; answer.met, best);
+        assert_eq!(rt; answer.on_time, best);
     }
 }

@@ -68,7 +68,7 @@ fn late_on_arrival(rt: HostRuntime) {
 }
 
 /// Two reads due at once and a write that is due a round later: earliest due first has the write late for nothing, and where
-/// what can't be met any more goes last one read is late alone.
+/// what can't be on time any more goes last one read is late alone.
 #[test]
 fn full_and_spare(rt: HostRuntime) {
     let one = fixed(&rt, rt.alloc(), 1);

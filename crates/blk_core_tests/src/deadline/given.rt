@@ -1,7 +1,7 @@
 //! What the tests are given: cores over the deadline scheduler.
 
 use crate::given::{again, core_over, follow};
-use crate::listed::Call;
+use crate::listed::CoreCall;
 use blk_bio::Limits;
 use blk_core::Core;
 use blk_deadline::{Deadline, Tunables};
@@ -21,7 +21,7 @@ pub fn tuned(fifo_batch: u16, writes_starved: u16, front_merges: bool) -> Tunabl
     }
 }
 
-/// A core of so many tags and one hardware queue, under which requests are due after so many rounds.
+/// A core of this number of tags and one hardware queue, under which requests are due after this number of rounds.
 pub fn under<A: Allocator + Clone>(
     rt: &impl Abort,
     alloc: &A,
@@ -35,14 +35,14 @@ pub fn under<A: Allocator + Clone>(
     core_over(rt, alloc, setup, scheduler)
 }
 
-/// Makes the calls of a core of so many tags under these settings, under which requests are due after so many rounds.
+/// Makes the calls of a core of this number of tags under these settings, under which requests are due after this number of rounds.
 pub fn follows(
     rt: &impl Abort,
     alloc: Global,
     depth: u64,
     expire: u64,
     tunables: Tunables,
-    calls: &[Call<'_>],
+    calls: &[CoreCall<'_>],
 ) {
     let mut core = under(rt, &alloc, depth, expire, tunables);
     follow(rt, &alloc, &mut core, calls);

@@ -2,7 +2,7 @@
 //! call is made once more.
 
 use crate::deadline::given::{Under, tuned, under};
-use crate::listed::{Call, first_other};
+use crate::listed::{CoreCall, first_other};
 use blk_bio::Side;
 use blk_core::Placed;
 use refusing::Refusing;
@@ -23,15 +23,19 @@ fn enters<'a>(heap: &'a Refusing<Global>, core: &mut Refused<'a>, id: u64) -> bo
     );
     let joined = Ok(Placed::Joined(id, Side::Front));
     let calls = [
-        Call::Read(serial, first, 8, 0, Ok(Placed::New(id))),
-        Call::Read(serial.wrapping_add(1), first.wrapping_sub(8), 8, 0, joined),
+        CoreCall::Read(serial, first, 8, 0, Ok(Placed::New(id))),
+        CoreCall::Read(serial.wrapping_add(1), first.wrapping_sub(8), 8, 0, joined),
     ];
     first_other(&heap, core, &calls) == None
 }
 
 /// A request goes out, and its round ends.
 fn goes<'a>(heap: &'a Refusing<Global>, core: &mut Refused<'a>, id: u64) -> bool {
-    let calls = [Call::Send(0, 0, &[id]), Call::AllDone(1), Call::Ticks(1)];
+    let calls = [
+        CoreCall::Send(0, 0, &[id]),
+        CoreCall::AllDone(1),
+        CoreCall::Ticks(1),
+    ];
     first_other(&heap, core, &calls) == None
 }
 
@@ -45,7 +49,7 @@ fn come_and_go<'a>(rt: &impl Abort, heap: &'a Refusing<Global>) {
     for id in 0..REQUESTS {
         assert!(rt; goes(heap, &mut core, id));
     }
-    let none = [Call::Issue(0, 0, Ok(None)), Call::Pending(0)];
+    let none = [CoreCall::Issue(0, 0, Ok(None)), CoreCall::Pending(0)];
     assert!(rt; first_other(&heap, &mut core, &none) == None);
 }
 

@@ -1,7 +1,7 @@
 //! The rows of the rule. Requests are named by the order in which they enter.
 
 use crate::deadline::given::{follows, tuned};
-use crate::listed::Call;
+use crate::listed::CoreCall;
 use blk_bio::Side;
 use blk_core::Placed;
 use blk_deadline::{Deadline, DeadlineFault};
@@ -10,10 +10,10 @@ use blk_deadline::{Deadline, DeadlineFault};
 #[test]
 fn deadline_batch(rt: HostRuntime) {
     let calls = [
-        Call::Read(0, 300, 8, 0, Ok(Placed::New(0))),
-        Call::Read(1, 100, 8, 0, Ok(Placed::New(1))),
-        Call::Read(2, 200, 8, 0, Ok(Placed::New(2))),
-        Call::Send(0, 0, &[0, 1, 2]),
+        CoreCall::Read(0, 300, 8, 0, Ok(Placed::New(0))),
+        CoreCall::Read(1, 100, 8, 0, Ok(Placed::New(1))),
+        CoreCall::Read(2, 200, 8, 0, Ok(Placed::New(2))),
+        CoreCall::Send(0, 0, &[0, 1, 2]),
     ];
     follows(&rt, rt.alloc(), 8, 100, tuned(2, 2, true), &calls);
 }
@@ -22,12 +22,12 @@ fn deadline_batch(rt: HostRuntime) {
 #[test]
 fn writes_starved(rt: HostRuntime) {
     let calls = [
-        Call::Read(0, 100, 8, 0, Ok(Placed::New(0))),
-        Call::Read(1, 200, 8, 0, Ok(Placed::New(1))),
-        Call::Read(2, 300, 8, 0, Ok(Placed::New(2))),
-        Call::Read(3, 400, 8, 0, Ok(Placed::New(3))),
-        Call::Write(4, 50, 8, 0, Ok(Placed::New(4))),
-        Call::Send(0, 0, &[0, 1, 4, 2, 3]),
+        CoreCall::Read(0, 100, 8, 0, Ok(Placed::New(0))),
+        CoreCall::Read(1, 200, 8, 0, Ok(Placed::New(1))),
+        CoreCall::Read(2, 300, 8, 0, Ok(Placed::New(2))),
+        CoreCall::Read(3, 400, 8, 0, Ok(Placed::New(3))),
+        CoreCall::Write(4, 50, 8, 0, Ok(Placed::New(4))),
+        CoreCall::Send(0, 0, &[0, 1, 4, 2, 3]),
     ];
     follows(&rt, rt.alloc(), 8, 100, tuned(1, 2, true), &calls);
 }
@@ -36,9 +36,9 @@ fn writes_starved(rt: HostRuntime) {
 #[test]
 fn write_goes_first(rt: HostRuntime) {
     let calls = [
-        Call::Read(0, 100, 8, 0, Ok(Placed::New(0))),
-        Call::Write(1, 50, 8, 0, Ok(Placed::New(1))),
-        Call::Send(0, 0, &[1, 0]),
+        CoreCall::Read(0, 100, 8, 0, Ok(Placed::New(0))),
+        CoreCall::Write(1, 50, 8, 0, Ok(Placed::New(1))),
+        CoreCall::Send(0, 0, &[1, 0]),
     ];
     follows(&rt, rt.alloc(), 8, 100, tuned(1, 0, true), &calls);
 }
@@ -49,12 +49,12 @@ fn write_goes_first(rt: HostRuntime) {
 fn batches_and_expiry(rt: HostRuntime) {
     for (rounds, ids) in [(9, [0, 2, 1, 3]), (0, [0, 2, 3, 1])] {
         let calls = [
-            Call::Read(0, 500, 8, 0, Ok(Placed::New(0))),
-            Call::Read(1, 100, 8, 0, Ok(Placed::New(1))),
-            Call::Read(2, 600, 8, 0, Ok(Placed::New(2))),
-            Call::Read(3, 700, 8, 0, Ok(Placed::New(3))),
-            Call::Ticks(rounds),
-            Call::Send(0, 0, &ids),
+            CoreCall::Read(0, 500, 8, 0, Ok(Placed::New(0))),
+            CoreCall::Read(1, 100, 8, 0, Ok(Placed::New(1))),
+            CoreCall::Read(2, 600, 8, 0, Ok(Placed::New(2))),
+            CoreCall::Read(3, 700, 8, 0, Ok(Placed::New(3))),
+            CoreCall::Ticks(rounds),
+            CoreCall::Send(0, 0, &ids),
         ];
         follows(&rt, rt.alloc(), 8, 5, tuned(2, 2, true), &calls);
     }
@@ -69,10 +69,10 @@ fn front_merge(rt: HostRuntime) {
         (false, Placed::New(1), Placed::New(2), 3),
     ] {
         let calls = [
-            Call::Read(0, 10, 2, 0, Ok(Placed::New(0))),
-            Call::Read(1, 8, 2, 0, Ok(second)),
-            Call::Read(2, 6, 2, 0, Ok(third)),
-            Call::Pending(left),
+            CoreCall::Read(0, 10, 2, 0, Ok(Placed::New(0))),
+            CoreCall::Read(1, 8, 2, 0, Ok(second)),
+            CoreCall::Read(2, 6, 2, 0, Ok(third)),
+            CoreCall::Pending(left),
         ];
         follows(&rt, rt.alloc(), 1, 0, tuned(16, 2, allowed), &calls);
     }
@@ -93,11 +93,11 @@ fn constructors_refuse(rt: HostRuntime) {
 #[test]
 fn two_in_one_round(rt: HostRuntime) {
     let calls = [
-        Call::Read(0, 50, 8, 0, Ok(Placed::New(0))),
-        Call::Read(1, 10, 8, 0, Ok(Placed::New(1))),
-        Call::Read(2, 60, 8, 0, Ok(Placed::New(2))),
-        Call::Ticks(2),
-        Call::Send(0, 0, &[0, 1]),
+        CoreCall::Read(0, 50, 8, 0, Ok(Placed::New(0))),
+        CoreCall::Read(1, 10, 8, 0, Ok(Placed::New(1))),
+        CoreCall::Read(2, 60, 8, 0, Ok(Placed::New(2))),
+        CoreCall::Ticks(2),
+        CoreCall::Send(0, 0, &[0, 1]),
     ];
     follows(&rt, rt.alloc(), 2, 2, tuned(1, 2, true), &calls);
 }
@@ -107,20 +107,20 @@ fn two_in_one_round(rt: HostRuntime) {
 #[test]
 fn later_than_none(rt: HostRuntime) {
     let calls = [
-        Call::Read(0, 100, 8, 0, Ok(Placed::New(0))),
-        Call::Read(1, 50, 8, 0, Ok(Placed::New(1))),
-        Call::Read(2, 200, 8, 0, Ok(Placed::New(2))),
-        Call::Send(0, 0, &[0]),
-        Call::AllDone(1),
-        Call::Ticks(1),
-        Call::Read(3, 300, 8, 0, Ok(Placed::New(3))),
-        Call::Send(0, 0, &[2]),
-        Call::AllDone(1),
-        Call::Ticks(1),
-        Call::Send(0, 0, &[3]),
-        Call::AllDone(1),
-        Call::Ticks(1),
-        Call::Send(0, 0, &[1]),
+        CoreCall::Read(0, 100, 8, 0, Ok(Placed::New(0))),
+        CoreCall::Read(1, 50, 8, 0, Ok(Placed::New(1))),
+        CoreCall::Read(2, 200, 8, 0, Ok(Placed::New(2))),
+        CoreCall::Send(0, 0, &[0]),
+        CoreCall::AllDone(1),
+        CoreCall::Ticks(1),
+        CoreCall::Read(3, 300, 8, 0, Ok(Placed::New(3))),
+        CoreCall::Send(0, 0, &[2]),
+        CoreCall::AllDone(1),
+        CoreCall::Ticks(1),
+        CoreCall::Send(0, 0, &[3]),
+        CoreCall::AllDone(1),
+        CoreCall::Ticks(1),
+        CoreCall::Send(0, 0, &[1]),
     ];
     follows(&rt, rt.alloc(), 1, 0, tuned(16, 2, true), &calls);
 }
@@ -129,14 +129,14 @@ fn later_than_none(rt: HostRuntime) {
 #[test]
 fn handed_back_in_a_batch(rt: HostRuntime) {
     let calls = [
-        Call::Read(0, 300, 8, 0, Ok(Placed::New(0))),
-        Call::Read(1, 100, 8, 0, Ok(Placed::New(1))),
-        Call::Read(2, 400, 8, 0, Ok(Placed::New(2))),
-        Call::Read(3, 500, 8, 0, Ok(Placed::New(3))),
-        Call::Send(0, 0, &[0]),
-        Call::Back(0, Ok(0)),
-        Call::Ticks(1),
-        Call::Send(0, 0, &[0, 2, 3, 1]),
+        CoreCall::Read(0, 300, 8, 0, Ok(Placed::New(0))),
+        CoreCall::Read(1, 100, 8, 0, Ok(Placed::New(1))),
+        CoreCall::Read(2, 400, 8, 0, Ok(Placed::New(2))),
+        CoreCall::Read(3, 500, 8, 0, Ok(Placed::New(3))),
+        CoreCall::Send(0, 0, &[0]),
+        CoreCall::Back(0, Ok(0)),
+        CoreCall::Ticks(1),
+        CoreCall::Send(0, 0, &[0, 2, 3, 1]),
     ];
     follows(&rt, rt.alloc(), 4, 100, tuned(3, 2, true), &calls);
 }

@@ -1,7 +1,7 @@
 //! What the tests are given: cores over the kyber scheduler.
 
 use crate::given::{again, core_over, follow};
-use crate::listed::Call;
+use crate::listed::CoreCall;
 use blk_bio::Limits;
 use blk_core::Core;
 use blk_kyber::{Kyber, Targets};
@@ -17,7 +17,7 @@ pub fn targets(read: u64, write: u64) -> Targets {
     Targets { read, write }
 }
 
-/// A core of so many tags and hardware queues, under which requests are due when they enter.
+/// A core of these numbers of tags and hardware queues, under which requests are due when they enter.
 pub fn under<A: Allocator + Clone>(
     rt: &impl Abort,
     alloc: &A,
@@ -35,14 +35,14 @@ pub fn under<A: Allocator + Clone>(
     core_over(rt, alloc, setup, scheduler)
 }
 
-/// Makes the calls of a core of so many tags and hardware queues.
+/// Makes the calls of a core of these numbers of tags and hardware queues.
 pub fn follows(
     rt: &impl Abort,
     alloc: Global,
     depth: u64,
     queues: u8,
     targets: Targets,
-    calls: &[Call<'_>],
+    calls: &[CoreCall<'_>],
 ) {
     let mut core = under(rt, &alloc, depth, queues, targets);
     follow(rt, &alloc, &mut core, calls);

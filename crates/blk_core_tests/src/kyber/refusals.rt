@@ -2,7 +2,7 @@
 //! once more.
 
 use crate::kyber::given::{Under, targets, under};
-use crate::listed::{Call, first_other};
+use crate::listed::{CoreCall, first_other};
 use blk_bio::Side;
 use blk_core::Placed;
 use refusing::Refusing;
@@ -20,15 +20,19 @@ fn enters<'a>(heap: &'a Refusing<Global>, core: &mut Refused<'a>, id: u64) -> bo
     let (serial, below) = (id.wrapping_mul(2), id.wrapping_mul(32).wrapping_add(8));
     let joined = Ok(Placed::Joined(id, Side::Front));
     let calls = [
-        Call::Read(serial, below.wrapping_add(8), 8, 1, Ok(Placed::New(id))),
-        Call::Read(serial.wrapping_add(1), below, 8, 1, joined),
+        CoreCall::Read(serial, below.wrapping_add(8), 8, 1, Ok(Placed::New(id))),
+        CoreCall::Read(serial.wrapping_add(1), below, 8, 1, joined),
     ];
     first_other(&heap, core, &calls) == None
 }
 
 /// A request goes out for that queue, and its round ends.
 fn goes<'a>(heap: &'a Refusing<Global>, core: &mut Refused<'a>, id: u64) -> bool {
-    let calls = [Call::Send(1, 0, &[id]), Call::AllDone(1), Call::Ticks(1)];
+    let calls = [
+        CoreCall::Send(1, 0, &[id]),
+        CoreCall::AllDone(1),
+        CoreCall::Ticks(1),
+    ];
     first_other(&heap, core, &calls) == None
 }
 
@@ -38,12 +42,12 @@ fn come_and_go<'a>(rt: &impl Abort, heap: &'a Refusing<Global>) {
     for id in 0..REQUESTS {
         assert!(rt; enters(heap, &mut core, id));
     }
-    let none = [Call::Issue(0, 0, Ok(None))];
+    let none = [CoreCall::Issue(0, 0, Ok(None))];
     assert!(rt; first_other(&heap, &mut core, &none) == None);
     for id in 0..REQUESTS {
         assert!(rt; goes(heap, &mut core, id));
     }
-    assert!(rt; first_other(&heap, &mut core, &[Call::Pending(0)]) == None);
+    assert!(rt; first_other(&heap, &mut core, &[CoreCall::Pending(0)]) == None);
 }
 
 #[test]

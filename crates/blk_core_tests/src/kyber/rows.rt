@@ -1,7 +1,7 @@
 //! The rows of the rule. Requests are of 8 sectors, 16 apart, and named by the order in which they enter.
 
 use crate::kyber::given::{follows, targets};
-use crate::listed::Call;
+use crate::listed::CoreCall;
 use blk_bio::Dir;
 use blk_kyber::{Kyber, KyberFault};
 
@@ -10,56 +10,56 @@ use blk_kyber::{Kyber, KyberFault};
 #[test]
 fn kyber_limits(rt: HostRuntime) {
     let calls = [
-        Call::Ticks(2),
-        Call::Enter(Dir::Read, 0, 0, 1),
-        Call::Ticks(3),
+        CoreCall::Ticks(2),
+        CoreCall::Enter(Dir::Read, 0, 0, 1),
+        CoreCall::Ticks(3),
         // done in round 5 after 3 rounds
-        Call::Send(0, 0, &[0]),
-        Call::AllDone(1),
-        Call::Ticks(3),
+        CoreCall::Send(0, 0, &[0]),
+        CoreCall::AllDone(1),
+        CoreCall::Ticks(3),
         // round 8: writes 4
-        Call::Enter(Dir::Write, 1, 1, 5),
-        Call::Send(1, 0, &[1, 2, 3, 4]),
-        Call::Issue(1, 4, Ok(None)),
-        Call::AllDone(4),
-        Call::Send(1, 4, &[5]),
-        Call::Done(4, Ok(())),
-        Call::Ticks(1),
+        CoreCall::Enter(Dir::Write, 1, 1, 5),
+        CoreCall::Send(1, 0, &[1, 2, 3, 4]),
+        CoreCall::Issue(1, 4, Ok(None)),
+        CoreCall::AllDone(4),
+        CoreCall::Send(1, 4, &[5]),
+        CoreCall::Done(4, Ok(())),
+        CoreCall::Ticks(1),
         // and reads 8
-        Call::Enter(Dir::Read, 0, 6, 8),
-        Call::Send(0, 0, &[6, 7, 8, 9, 10, 11, 12, 13]),
-        Call::AllDone(8),
-        Call::Ticks(3),
+        CoreCall::Enter(Dir::Read, 0, 6, 8),
+        CoreCall::Send(0, 0, &[6, 7, 8, 9, 10, 11, 12, 13]),
+        CoreCall::AllDone(8),
+        CoreCall::Ticks(3),
         // a write that is to be late
-        Call::Enter(Dir::Write, 2, 14, 1),
-        Call::Ticks(4),
+        CoreCall::Enter(Dir::Write, 2, 14, 1),
+        CoreCall::Ticks(4),
         // round 16: writes 5
-        Call::Enter(Dir::Write, 1, 15, 6),
-        Call::Send(1, 0, &[15, 16, 17, 18, 19]),
-        Call::Issue(1, 5, Ok(None)),
-        Call::AllDone(5),
-        Call::Send(1, 5, &[20]),
-        Call::Done(5, Ok(())),
-        Call::Ticks(1),
+        CoreCall::Enter(Dir::Write, 1, 15, 6),
+        CoreCall::Send(1, 0, &[15, 16, 17, 18, 19]),
+        CoreCall::Issue(1, 5, Ok(None)),
+        CoreCall::AllDone(5),
+        CoreCall::Send(1, 5, &[20]),
+        CoreCall::Done(5, Ok(())),
+        CoreCall::Ticks(1),
         // and reads 8
-        Call::Enter(Dir::Read, 0, 21, 8),
-        Call::Send(0, 0, &[21, 22, 23, 24, 25, 26, 27, 28]),
-        Call::AllDone(8),
-        Call::Ticks(3),
+        CoreCall::Enter(Dir::Read, 0, 21, 8),
+        CoreCall::Send(0, 0, &[21, 22, 23, 24, 25, 26, 27, 28]),
+        CoreCall::AllDone(8),
+        CoreCall::Ticks(3),
         // a read that is to be late
-        Call::Enter(Dir::Read, 2, 29, 1),
-        Call::Ticks(3),
+        CoreCall::Enter(Dir::Read, 2, 29, 1),
+        CoreCall::Ticks(3),
         // done in round 23 after 3 rounds and after 11
-        Call::Send(2, 0, &[29, 14]),
-        Call::AllDone(2),
-        Call::Ticks(1),
+        CoreCall::Send(2, 0, &[29, 14]),
+        CoreCall::AllDone(2),
+        CoreCall::Ticks(1),
         // round 24: reads 4, writes 2
-        Call::Enter(Dir::Read, 0, 30, 5),
-        Call::Enter(Dir::Write, 1, 35, 3),
-        Call::Send(0, 0, &[30, 31, 32, 33]),
-        Call::Issue(0, 4, Ok(None)),
-        Call::Send(1, 4, &[35, 36]),
-        Call::Issue(1, 6, Ok(None)),
+        CoreCall::Enter(Dir::Read, 0, 30, 5),
+        CoreCall::Enter(Dir::Write, 1, 35, 3),
+        CoreCall::Send(0, 0, &[30, 31, 32, 33]),
+        CoreCall::Issue(0, 4, Ok(None)),
+        CoreCall::Send(1, 4, &[35, 36]),
+        CoreCall::Issue(1, 6, Ok(None)),
     ];
     follows(&rt, rt.alloc(), 8, 3, targets(2, 10), &calls);
 }
@@ -76,17 +76,17 @@ fn limits_at_first(rt: HostRuntime) {
 #[test]
 fn kyber_turns(rt: HostRuntime) {
     let calls = [
-        Call::Enter(Dir::Read, 0, 0, 18),
-        Call::Enter(Dir::Write, 0, 18, 10),
-        Call::Send(
+        CoreCall::Enter(Dir::Read, 0, 0, 18),
+        CoreCall::Enter(Dir::Write, 0, 18, 10),
+        CoreCall::Send(
             0,
             0,
             &[0, 1, 2, 3, 4, 5, 6, 7, 8, 9, 10, 11, 12, 13, 14, 15],
         ),
-        Call::Send(0, 16, &[18, 19, 20, 21, 22, 23, 24, 25]),
-        Call::Send(0, 24, &[16, 17]),
-        Call::Send(0, 26, &[26, 27]),
-        Call::Issue(0, 28, Ok(None)),
+        CoreCall::Send(0, 16, &[18, 19, 20, 21, 22, 23, 24, 25]),
+        CoreCall::Send(0, 24, &[16, 17]),
+        CoreCall::Send(0, 26, &[26, 27]),
+        CoreCall::Issue(0, 28, Ok(None)),
     ];
     follows(&rt, rt.alloc(), 64, 1, targets(2, 10), &calls);
 }
@@ -96,16 +96,16 @@ fn kyber_turns(rt: HostRuntime) {
 #[test]
 fn kyber_under_the_core(rt: HostRuntime) {
     let calls = [
-        Call::Enter(Dir::Read, 0, 0, 1),
-        Call::Ticks(2),
-        Call::Send(0, 0, &[0]),
-        Call::AllDone(1),
-        Call::Ticks(6),
-        Call::Enter(Dir::Write, 0, 1, 2),
-        Call::Send(0, 0, &[1]),
-        Call::Issue(0, 1, Ok(None)),
-        Call::AllDone(1),
-        Call::Send(0, 1, &[2]),
+        CoreCall::Enter(Dir::Read, 0, 0, 1),
+        CoreCall::Ticks(2),
+        CoreCall::Send(0, 0, &[0]),
+        CoreCall::AllDone(1),
+        CoreCall::Ticks(6),
+        CoreCall::Enter(Dir::Write, 0, 1, 2),
+        CoreCall::Send(0, 0, &[1]),
+        CoreCall::Issue(0, 1, Ok(None)),
+        CoreCall::AllDone(1),
+        CoreCall::Send(0, 1, &[2]),
     ];
     follows(&rt, rt.alloc(), 2, 1, targets(1, 10), &calls);
 }
@@ -127,16 +127,16 @@ fn constructors_refuse(rt: HostRuntime) {
 #[test]
 fn handed_back_before_another_queue(rt: HostRuntime) {
     let calls = [
-        Call::Enter(Dir::Read, 0, 0, 1),
-        Call::Enter(Dir::Read, 1, 1, 1),
-        Call::Send(0, 0, &[0]),
-        Call::Back(0, Ok(0)),
-        Call::Ticks(1),
-        Call::Issue(1, 0, Ok(None)),
-        Call::Send(0, 0, &[0]),
-        Call::AllDone(1),
-        Call::Ticks(1),
-        Call::Send(1, 0, &[1]),
+        CoreCall::Enter(Dir::Read, 0, 0, 1),
+        CoreCall::Enter(Dir::Read, 1, 1, 1),
+        CoreCall::Send(0, 0, &[0]),
+        CoreCall::Back(0, Ok(0)),
+        CoreCall::Ticks(1),
+        CoreCall::Issue(1, 0, Ok(None)),
+        CoreCall::Send(0, 0, &[0]),
+        CoreCall::AllDone(1),
+        CoreCall::Ticks(1),
+        CoreCall::Send(1, 0, &[1]),
     ];
     follows(&rt, rt.alloc(), 1, 2, targets(2, 10), &calls);
 }
@@ -145,20 +145,20 @@ fn handed_back_before_another_queue(rt: HostRuntime) {
 #[test]
 fn a_return_is_no_miss(rt: HostRuntime) {
     let calls = [
-        Call::Enter(Dir::Read, 0, 0, 1),
-        Call::Ticks(7),
-        Call::Send(0, 0, &[0]),
-        Call::Back(0, Ok(0)),
-        Call::Ticks(1),
+        CoreCall::Enter(Dir::Read, 0, 0, 1),
+        CoreCall::Ticks(7),
+        CoreCall::Send(0, 0, &[0]),
+        CoreCall::Back(0, Ok(0)),
+        CoreCall::Ticks(1),
         // round 8: writes may still be 4
-        Call::Enter(Dir::Write, 0, 1, 3),
-        Call::Send(0, 0, &[0, 1, 2, 3]),
-        Call::AllDone(4),
-        Call::Ticks(8),
+        CoreCall::Enter(Dir::Write, 0, 1, 3),
+        CoreCall::Send(0, 0, &[0, 1, 2, 3]),
+        CoreCall::AllDone(4),
+        CoreCall::Ticks(8),
         // round 16: the read was done after 8 rounds, so writes may be 2
-        Call::Enter(Dir::Write, 0, 4, 3),
-        Call::Send(0, 0, &[4, 5]),
-        Call::Issue(0, 2, Ok(None)),
+        CoreCall::Enter(Dir::Write, 0, 4, 3),
+        CoreCall::Send(0, 0, &[4, 5]),
+        CoreCall::Issue(0, 2, Ok(None)),
     ];
     follows(&rt, rt.alloc(), 4, 1, targets(2, 10), &calls);
 }
