@@ -4,9 +4,8 @@ use Rattle.std.specs.Prelude.{IfSome, nat_lt, nat_le}
 use Rattle.std.specs.List.{position}
 use Rattle.std.proofs.lemmas.Bool.{cases_Bool, lt-leb}
 use Rattle.std.proofs.lemmas.List.Quantifiers.{position-Some}
-use Rattle.blk_bio.specs.Bios.{sector_limit}
-use Rattle.blk_bio.specs.declared.bio.Dir.{Dir}
 use Rattle.blk_bio.specs.declared.bio.TheConstants.{MAX_END}
+use Rattle.blk_bio.specs.declared.bio.Dir.{Dir}
 use Rattle.blk_bio.specs.declared.limits.TheConstants.{MAX_SOFT_QUEUES}
 use Rattle.blk_capture.specs.Passing.{dir_of_op, passed_action, passed_op, passed_range, or_else}
 use Rattle.blk_capture.specs.declared.record.Action.{Action}
@@ -24,7 +23,7 @@ use Rattle.blk_arrivals.specs.declared.deeds.Deed.{Deed}
 
 -- a range of sectors, none of them past the last one
 abbrev pub HasRange : ℕ → ℕ → Type 0
-HasRange first sectors = (0 < sectors) × (first + sectors ≤ sector_limit)
+HasRange first sectors = (0 < sectors) × (first + sectors ≤ MAX_END)
 
 good_range : (first sectors : ℕ) → HasRange first sectors → passed_range first sectors ≡ None
 good_range first sectors h =

@@ -3,7 +3,8 @@ use Rattle.std.proofs.Common.{◌≡◌, ◌+◌, ◌-◌, ◌<◌, ◌≤◌, �
 use Rattle.std.specs.Prelude.{All, IfSome, nat_lt, slice_index, slice_set}
 use Rattle.std.proofs.lemmas.List.{length-replicate}
 use Rattle.std.proofs.lemmas.List.Elements.{All-nil, All-cons, All-append}
-use Rattle.blk_bio.specs.Bios.{Bio, IsBio, sector_limit}
+use Rattle.blk_bio.specs.Bios.{Bio, IsBio}
+use Rattle.blk_bio.specs.declared.bio.TheConstants.{MAX_END}
 use Rattle.blk_bio.specs.declared.bio.Dir.{Dir}
 use Rattle.blk_capture.specs.declared.record.Action.{Action}
 use Rattle.blk_capture.specs.declared.record.Action.TheVariants as action

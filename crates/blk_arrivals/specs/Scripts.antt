@@ -6,7 +6,8 @@ use Rattle.blk_text.specs.Script.{Scripted}
 use Rattle.blk_text.specs.declared.script.Line.{Line}
 use Rattle.blk_text.specs.declared.script.TheConstants.{MAX_STEPS}
 use Rattle.blk_trace.specs.Setups.{Setup}
-use Rattle.blk_trace.specs.declared.setup.TheConstants.{MAX_DEPTH, MAX_EXPIRIES}
+use Rattle.edd_commands.specs.declared.steps.TheConstants.{MAX_DEPTH}
+use Rattle.blk_trace.specs.declared.setup.TheConstants.{MAX_EXPIRIES}
 use Rattle.blk_arrivals.specs.Coming.{begin_of, told_by, submitters_of, AreFewSubmitters, ComeInTime}
 use Rattle.blk_arrivals.specs.Plugs.{all_steps}
 use Rattle.blk_arrivals.specs.declared.terms.TheConstants.{USUAL_SECTORS, USUAL_SEGMENTS, USUAL_SOFT_DEPTH}

@@ -1,7 +1,6 @@
 //! Which bios of a capture come in, and from whom.
 
 ghost use Rattle.std.specs.Prelude.{◌≡◌, ◌<◌, ◌≤◌, ◌+◌, ◌↔◌, None, IsTrue, IfOk, IfSome, MatchOption, OnOk};
-ghost use Rattle.blk_bio.specs.Bios.{sector_limit};
 ghost use Rattle.blk_capture.specs.Passing.{passed_range};
 ghost use Rattle.blk_arrivals.specs.Coming.{way_of, begin_of, round_of_time, AreFewSubmitters, ComeInTime, key_of, keys_of, submitters_of, with_key};
 ghost use Rattle.blk_arrivals.specs.Inside.Coming.{AreMany, AreKeys, AreSubmitters};
@@ -34,7 +33,7 @@ impl ToldBy {
 
 /// Whether a record has sectors, none of them past the last one.
 fn has_range(record: &Record) -> bool
-    ensures { IsTrue result ↔ ((0 < record.now.sectors) × (record.now.first + record.now.sectors ≤ sector_limit)) }
+    ensures { IsTrue result ↔ ((0 < record.now.sectors) × (record.now.first + record.now.sectors ≤ MAX_END)) }
 {
     record.sectors != 0 && record.first <= MAX_END && record.sectors <= MAX_END - record.first
 }
@@ -42,7 +41,7 @@ fn has_range(record: &Record) -> bool
 /// Which way the data of a bio goes that comes in by a record, if one does.
 pub(crate) fn way_of(record: &Record) -> Option<Dir>
     ensures way { result ≡ way_of record.now }
-    ensures range { IfSome result (λ _. (0 < record.now.sectors) × (record.now.first + record.now.sectors ≤ sector_limit)) }
+    ensures range { IfSome result (λ _. (0 < record.now.sectors) × (record.now.first + record.now.sectors ≤ MAX_END)) }
 {
     match record.action {
         Action::Queue => {

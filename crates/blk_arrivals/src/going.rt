@@ -2,7 +2,7 @@
 
 ghost use Rattle.std.specs.Prelude.{◌≡◌, ◌⊎◌, ◌≤◌, ◌<◌, ◌+◌, ◌-◌, ◌^◌, ◌++◌, ◌∷◌, [], All, IfOk, IfErr, OnOk, length, max};
 ghost use Rattle.std.proofs.Math.ListN.{replicate};
-ghost use Rattle.blk_bio.specs.Bios.{sector_limit};
+ghost use Rattle.blk_bio.specs.declared.bio.TheConstants.{MAX_END};
 ghost use Rattle.blk_bio.specs.declared.limits.TheConstants.{MAX_SOFT_QUEUES as MOST};
 ghost use Rattle.blk_text.specs.Script.{LineFits};
 ghost use Rattle.blk_arrivals.specs.Coming.{begin_of, AreFewSubmitters, ComeInTime};
@@ -116,7 +116,7 @@ fn held_with(held: u64) -> u64
 /// The bio of a record.
 fn bio_of(submitter: usize, number: u64, way: Dir, record: &Record) -> Bio
     requires submitter { submitter < MOST }
-    requires range { (0 < record.now.sectors) × (record.now.first + record.now.sectors ≤ sector_limit) }
+    requires range { (0 < record.now.sectors) × (record.now.first + record.now.sectors ≤ MAX_END) }
     ensures { result ≡ bio_of submitter number way record.now }
 {
     let id = BioId {
@@ -164,7 +164,7 @@ impl Going {
         requires submitter { submitter < length self.old.held.items }
         requires few { AreFewSubmitters self.old.held.items }
         requires room { self.old.bios < 2 ^ 64 - 1 }
-        requires range { (0 < record.now.sectors) × (record.now.first + record.now.sectors ≤ sector_limit) }
+        requires range { (0 < record.now.sectors) × (record.now.first + record.now.sectors ≤ MAX_END) }
         ensures lines { OnOk result (self.new.lines.items ≡ self.old.lines.items ++ arrival_of (plugs_of self.old) submitter way record.now) }
         ensures plugs { OnOk result (plugs_of self.new ≡ plugs_with (plugs_of self.old) submitter) }
     {

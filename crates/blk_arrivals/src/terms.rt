@@ -29,7 +29,7 @@ pub const USUAL_SOFT_DEPTH: u64 = 2 * PLUGGED;
 pub struct Terms {
     /// The length of a round, in nanoseconds, at least 1.
     pub round: u64,
-    /// How many commands a round carries, 1 to [`blk_trace::MAX_DEPTH`].
+    /// How many commands a round carries, 1 to [`edd_commands::MAX_DEPTH`].
     pub depth: u64,
     /// How soon a read is due, in nanoseconds. In rounds, rounded down and at least 1, it lies below [`blk_trace::MAX_EXPIRIES`].
     pub read_expire: u64,
@@ -42,7 +42,7 @@ pub struct Terms {
 pub enum ArrivalsFault {
     /// A round has no length.
     Round,
-    /// The depth is 0 or above [`blk_trace::MAX_DEPTH`].
+    /// The depth is 0 or above [`edd_commands::MAX_DEPTH`].
     Depth,
     /// An expiry is [`blk_trace::MAX_EXPIRIES`] rounds or more.
     Expire,

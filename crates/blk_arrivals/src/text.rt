@@ -5,7 +5,6 @@ ghost use Rattle.csv.specs.Reading.{default_config, records, strip_bom};
 ghost use Rattle.drafts.specs.Drafts.{drafted};
 ghost use Rattle.blk_lists.specs.Texts.{rows_text};
 ghost use Rattle.blk_text.specs.Script.{IsScript, SpellsVersion, scripted, script_rows};
-ghost use Rattle.blk_text.specs.Versions.{latest};
 ghost use Rattle.blk_text.specs.StepRecords.{step_row};
 
 use blk_text::script::SCRIPT;
@@ -27,8 +26,8 @@ fn push_lines(draft: &mut Block, lines: &[Line]) -> Result<(), AllocError>
 /// back from it. It fails only when out of memory.
 pub fn script_text(alloc: Global, script: &Script) -> Result<Vec<u8>, AllocError>
     requires { IsScript (scripted script.now) }
-    ensures text { IfOk result (λ v. v.items ≡ rows_text (script_rows latest (scripted script.now))) }
-    ensures spells { IfOk result (λ v. SpellsVersion latest (records default_config (strip_bom v.items)) (scripted script.now)) }
+    ensures text { IfOk result (λ v. v.items ≡ rows_text (script_rows LATEST (scripted script.now))) }
+    ensures spells { IfOk result (λ v. SpellsVersion LATEST (records default_config (strip_bom v.items)) (scripted script.now)) }
 {
     let mut draft = Block::new(alloc);
     let setup = script.setup;

@@ -3,7 +3,7 @@
 ghost use Rattle.std.specs.Prelude.{◌≡◌, ◌≤◌, ◌+◌, ◌<◌, ◌∷◌, [], ◌↔◌, IsTrue, ◌++◌, IfOk, IfErr, IfNone, IfSome};
 ghost use Rattle.blk_bio.specs.declared.request.Side.{Side};
 ghost use Rattle.blk_bio.specs.declared.request.JoinFault.{JoinFault};
-ghost use Rattle.blk_bio.specs.Bios.{sector_limit};
+ghost use Rattle.blk_bio.specs.declared.bio.TheConstants.{MAX_END};
 ghost use Rattle.blk_bio.specs.Requests.{IsRequest, IsWithin, Abuts, Fits, dir_of, first_of, last_of, sectors_of};
 ghost use Rattle.blk_bio.specs.Extents.{extent_of};
 ghost use Rattle.blk_bio.specs.Answers.{IsJoinAnswer, IsBioPushAnswer};
@@ -96,7 +96,7 @@ impl<A: Allocator + Clone> Request<A> {
     /// The sector after its last one.
     fn end(&self) -> u64
         ensures value { result ≡ last_of self.now }
-        ensures in_range { result ≤ sector_limit }
+        ensures in_range { result ≤ MAX_END }
         ensures above { first_of self.now < result }
     {
         let bios = self.bios();
@@ -109,7 +109,7 @@ impl<A: Allocator + Clone> Request<A> {
         ensures value { result ≡ sectors_of self.now }
         ensures some { 0 < result }
         ensures range { first_of self.now + result ≡ last_of self.now }
-        ensures in_range { last_of self.now ≤ sector_limit }
+        ensures in_range { last_of self.now ≤ MAX_END }
     {
         // brings the prover the list's invariant, by which the request ends after it begins
         let _ = &self.bios;

@@ -5,7 +5,7 @@ use Rattle.std.proofs.lemmas.Bool.{cases_lt, cases_eq, eq-eqb, ne_eqb, cond-true
 use Rattle.std.proofs.lemmas.List.{get_or_default}
 use Rattle.std.proofs.lemmas.List.Sums.{sum_by-cons, count_by-le-length}
 use Rattle.edd_commands.specs.Capacity.{depth_at, fixed}
-use Rattle.edd_commands.specs.Limits.{most_commands}
+use Rattle.edd_commands.specs.declared.TheConstants.{MAX_COMMANDS}
 use Rattle.edd_commands.specs.Schedule.{IsLegal, RoundsInRange, places_at}
 use Rattle.edd_commands.specs.declared.Command.{Command}
 use Rattle.edd_commands.proofs.InForce.{depth_fixed}
@@ -144,7 +144,7 @@ pub by_few : (requests : List TimedRequest) (time : ℕ) → dispatched_by reque
 unfolding dispatched_by
 by_few requests time = count_by-le-length (λ r. nat_le r.dispatch time) requests
 
-pub all_solvable : (requests : List TimedRequest) (commands : List Command) (rounds : List ℕ) → length requests ≤ most_commands → AreInRounds requests commands rounds → AreSolvable commands
+pub all_solvable : (requests : List TimedRequest) (commands : List Command) (rounds : List ℕ) → length requests ≤ MAX_COMMANDS → AreInRounds requests commands rounds → AreSolvable commands
 all_solvable requests commands rounds few counted = λ k e h.
     let here : k < length requests = omega (arith, h, counted.a_command) in
     let d : TimedRequest = record { entry = 0; deadline = 0; dispatch = 0 } in
@@ -152,7 +152,7 @@ all_solvable requests commands rounds few counted = λ k e h.
     let due : (get_or commands k e).due ≡ dispatched_by requests (get_or requests k d).deadline = ap (λ (c : Command). c.due) (counted.commands_are k d e here) in
     (omega (arith, release, few, before_few requests (get_or requests k d).entry), omega (arith, due, few, by_few requests (get_or requests k d).deadline))
 
-pub all_in_range : (requests : List TimedRequest) (commands : List Command) (rounds : List ℕ) → length requests ≤ most_commands → AreInRounds requests commands rounds → RoundsInRange rounds
+pub all_in_range : (requests : List TimedRequest) (commands : List Command) (rounds : List ℕ) → length requests ≤ MAX_COMMANDS → AreInRounds requests commands rounds → RoundsInRange rounds
 all_in_range requests commands rounds few counted = λ k e h.
     let here : k < length requests = omega (arith, h, counted.a_round) in
     let round : get_or rounds k 0 ≡ k + 1 = counted.rounds_are k here in

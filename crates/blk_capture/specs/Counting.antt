@@ -1,7 +1,7 @@
 -- Requests that went to a device, by the clock, and rounds that are their dispatches.
 use Rattle.std.specs.Prelude.{ℕ, ◌≡◌, ◌≤◌, ◌<◌, ◌+◌, ◌↔◌, List, length, count_by, nat_lt, nat_le, slice_index, slice_index_or, All}
 use Rattle.std.specs.List.Sorted.{IsNonDecreasingBy}
-use Rattle.edd_commands.specs.Limits.{release_limit, round_limit}
+use Rattle.edd_commands.specs.declared.TheConstants.{MAX_RELEASES, MAX_ROUNDS}
 use Rattle.edd_commands.specs.declared.Command.{Command}
 use Rattle.blk_capture.specs.declared.counting.TimedRequest.{TimedRequest}
 
@@ -40,4 +40,4 @@ AreLateByClock requests commands rounds =
 
 -- every release and due round is within the limits of what a schedule is asked for
 abbrev pub AreSolvable : List Command → Type 0
-AreSolvable commands = All (λ c. (c.release < release_limit) × (c.due < round_limit)) commands
+AreSolvable commands = All (λ c. (c.release < MAX_RELEASES) × (c.due < MAX_ROUNDS)) commands

@@ -2,7 +2,7 @@
 
 ghost use Rattle.std.specs.Prelude.{◌≡◌, ◌≤◌, ◌<◌, ◌+◌, ◌↔◌, IsTrue, IfOk, length};
 ghost use Rattle.edd_commands.specs.Capacity.{fixed};
-ghost use Rattle.edd_commands.specs.Limits.{most_commands};
+ghost use Rattle.edd_commands.specs.declared.TheConstants.{MAX_COMMANDS};
 ghost use Rattle.edd_commands.specs.Schedule.{IsLegal, RoundsInRange};
 ghost use Rattle.blk_capture.specs.Counting.{AreServed, AreSolvable, AreInRounds, AreLateByClock, dispatched_before, dispatched_by, command_at};
 
@@ -64,7 +64,7 @@ fn dispatched_by(requests: &[TimedRequest], time: u64) -> u64
 /// The command of the request at a place.
 fn command_at(requests: &[TimedRequest], place: usize, request: TimedRequest) -> Command
     requires served { AreServed requests.now }
-    requires few { length requests.now ≤ most_commands }
+    requires few { length requests.now ≤ MAX_COMMANDS }
     requires place { place < length requests.now }
     ensures { result ≡ command_at requests.now place request }
 {
@@ -86,7 +86,7 @@ pub fn count_rounds<A: Allocator + Clone>(
     requests: &[TimedRequest],
 ) -> Result<CountedSchedule<A>, AllocError>
     requires served { AreServed requests.now }
-    requires few { length requests.now ≤ most_commands }
+    requires few { length requests.now ≤ MAX_COMMANDS }
     ensures counted { IfOk result (λ s. AreInRounds requests.now s.commands.items s.rounds.items) }
     // at most one dispatch a round, and none before its request came in
     ensures legal { IfOk result (λ s. IsLegal s.commands.items s.rounds.items (fixed 1)) }

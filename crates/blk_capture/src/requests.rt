@@ -2,7 +2,7 @@
 
 ghost use Rattle.std.specs.Prelude.{◌≡◌, ◌≤◌, ◌<◌, ◌+◌, ℕ, true, count_by, is_some, None, Some, All, IfOk, IfErr, IfSome, IfNone, OnOk, length, map};
 ghost use Rattle.edd_commands.specs.Capacity.{fixed};
-ghost use Rattle.edd_commands.specs.Limits.{most_commands};
+ghost use Rattle.edd_commands.specs.declared.TheConstants.{MAX_COMMANDS};
 ghost use Rattle.edd_commands.specs.Schedule.{IsLegal, RoundsInRange};
 ghost use Rattle.blk_capture.specs.Counting.{AreSolvable, AreInRounds};
 ghost use Rattle.blk_capture.specs.Fates.{opens, makes, told, is_matched, passed_by, IsTakenBelow, AreOfTaken, ArePassed};
@@ -586,7 +586,7 @@ pub fn rounds_of<A: Allocator + Clone>(
     requests: &[CapturedRequest],
 ) -> Result<CountedSchedule<A>, AllocError>
     requires timed { AreTimed requests.now }
-    requires few { length requests.now ≤ most_commands }
+    requires few { length requests.now ≤ MAX_COMMANDS }
     ensures counted { IfOk result (λ s. AreInRounds (map times_of requests.now) s.commands.items s.rounds.items) }
     ensures legal { IfOk result (λ s. IsLegal s.commands.items s.rounds.items (fixed 1)) }
     ensures late { IfOk result (λ s. AgreeOnLateness requests.now s.commands.items s.rounds.items) }

@@ -3,7 +3,7 @@
 ghost use Rattle.std.specs.Prelude.{◌≡◌, ◌≤◌, ℕ, IfOk, count_by, length, nat_le};
 ghost use Rattle.std.specs.List.{filter_map};
 ghost use Rattle.std.specs.List.Sorted.{IsNonDecreasingBy};
-ghost use Rattle.edd_commands.specs.Limits.{most_commands};
+ghost use Rattle.edd_commands.specs.declared.TheConstants.{MAX_COMMANDS};
 ghost use Rattle.blk_capture.specs.Requests.{AreTimed};
 ghost use Rattle.blk_capture.specs.Summaries.{is_late_request, is_dispatched, wait_by, at_percent, spread_of, IsSpread, IsMostInFlight, in_flight_at, back_by, out_by};
 ghost use Rattle.blk_capture.specs.Matched.{IsSummaryOf};
@@ -121,7 +121,7 @@ fn wait_of(wait: Wait, request: &CapturedRequest) -> Option<u64>
 
 /// The number at the nearest rank of `percent`.
 fn at_percent(sorted: &[u64], percent: usize) -> Option<u64>
-    requires few { length sorted.now ≤ most_commands }
+    requires few { length sorted.now ≤ MAX_COMMANDS }
     requires part { percent ≤ 100 }
     ensures { result ≡ at_percent percent sorted.now }
 {
@@ -131,7 +131,7 @@ fn at_percent(sorted: &[u64], percent: usize) -> Option<u64>
 
 /// The quantiles of numbers in their order.
 fn of_sorted(sorted: &[u64]) -> Spread
-    requires { length sorted.now ≤ most_commands }
+    requires { length sorted.now ≤ MAX_COMMANDS }
     ensures { result ≡ spread_of sorted.now }
 {
     Spread {
@@ -158,7 +158,7 @@ fn waits<A: Allocator>(
 
 /// The quantiles of numbers, which it puts in order.
 fn spread_of(values: &mut [u64]) -> Spread
-    requires { length values.old ≤ most_commands }
+    requires { length values.old ≤ MAX_COMMANDS }
     ensures { IsSpread values.old result }
 {
     values.sort_unstable();
@@ -173,7 +173,7 @@ pub fn spread_waits<A: Allocator>(
     requests: &[CapturedRequest],
     wait: Wait,
 ) -> Result<Spread, AllocError>
-    requires { length requests.now ≤ most_commands }
+    requires { length requests.now ≤ MAX_COMMANDS }
     ensures { IfOk result (IsSpread (filter_map (wait_by wait) requests.now)) }
 {
     let mut values = waits(alloc, requests, wait)?;
@@ -269,7 +269,7 @@ pub fn summarize<A: Allocator + Clone>(
     matched: &Matched<A>,
 ) -> Result<Summary, AllocError>
     requires timed { AreTimed matched.now.requests.items }
-    requires few { length matched.now.requests.items ≤ most_commands }
+    requires few { length matched.now.requests.items ≤ MAX_COMMANDS }
     requires fates { length matched.now.fates.items ≡ length records.now }
     ensures { IfOk result (IsSummaryOf records.now matched.now) }
 {

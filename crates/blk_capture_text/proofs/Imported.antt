@@ -3,7 +3,7 @@ use Rattle.std.proofs.Common.{◌≡◌, ◌≢◌, ◌+◌, ◌<◌, ◌≤◌,
 use Rattle.std.specs.Prelude.{All}
 use Rattle.std.proofs.lemmas.List.{length-map}
 use Rattle.edd_commands.specs.Schedule.{RoundsInRange}
-use Rattle.edd_commands.specs.Limits.{most_commands}
+use Rattle.edd_commands.specs.declared.TheConstants.{MAX_COMMANDS}
 use Rattle.edd_commands.specs.declared.Command.{Command}
 use Rattle.blk_bio.specs.declared.bio.Dir.TheVariants.{Read}
 use Rattle.blk_capture.specs.Counting.{AreSolvable, AreInRounds}
@@ -35,7 +35,7 @@ ids_differ served commands rounds c j k d lt top same =
     let there = id_is served commands rounds c k d top in
     omega (arith, here, there, same, lt)
 
-pub may_be_written : (requests : List CapturedRequest) (commands : List Command) (rounds : List ℕ) → length requests ≤ most_commands → AreInRounds (map times_of requests) commands rounds → AreSolvable commands → RoundsInRange rounds
+pub may_be_written : (requests : List CapturedRequest) (commands : List Command) (rounds : List ℕ) → length requests ≤ MAX_COMMANDS → AreInRounds (map times_of requests) commands rounds → AreSolvable commands → RoundsInRange rounds
     → IsScheduleView (record { depth = 1; commands = commands; rounds = rounds })
 may_be_written requests commands rounds few c solvable within =
     let each = c.a_command in

@@ -1,6 +1,6 @@
 -- What of a capture is taken.
 use Rattle.std.specs.Prelude.{ℕ, ◌≡◌, ◌<◌, ◌+◌, ◌-◌, ◌^◌, min, List, [], ◌∷◌, length, map, All}
-use Rattle.edd_commands.specs.Limits.{most_commands}
+use Rattle.edd_commands.specs.declared.TheConstants.{MAX_COMMANDS}
 use Rattle.blk_capture.specs.Fates.{ArePassed, AreOfTaken, opens, makes, told}
 use Rattle.blk_capture.specs.Parting.{gone_before, part, bio_in, fate_in}
 use Rattle.blk_capture.specs.Requests.{AreTimed, HaveBios, AreTallied, AreGone, IsDue}
@@ -54,7 +54,7 @@ pub record AreTooMany (records : List Record) (asked : ImportAsked) : Type 0 whe
   pub absorbed : ℕ
   pub left_out : ℕ
   pub imported : IsImport records asked requests bios fates absorbed left_out
-  pub many : most_commands < length requests
+  pub many : MAX_COMMANDS < length requests
 
 abbrev pub IsImportFault : List Record → ImportAsked → ImportFault → Type 0
 IsImportFault records asked fault.TooMany = AreTooMany records asked

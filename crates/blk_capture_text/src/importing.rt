@@ -1,7 +1,6 @@
 //! What of a capture is taken, as `import` is asked.
 
 ghost use Rattle.std.specs.Prelude.{◌≡◌, ◌≤◌, IfOk, IfErr, length};
-ghost use Rattle.edd_commands.specs.Limits.{most_commands};
 ghost use Rattle.blk_capture.specs.Requests.{AreInOrder, AreTimed};
 ghost use Rattle.blk_capture_text.specs.Imports.{IsImport, IsImportFault, first_time, begin_after};
 ghost use Rattle.blk_capture_text.specs.Names.{import_fault_name};
@@ -71,7 +70,7 @@ pub fn import(
     requires { AreInOrder records.now (length records.now) }
     ensures ok { IfOk result (λ m. IsImport records.now asked.now m.requests.items m.bios.items m.fates.items m.absorbed m.left_out) }
     ensures timed { IfOk result (λ m. AreTimed m.requests.items) }
-    ensures few { IfOk result (λ m. length m.requests.items ≤ most_commands) }
+    ensures few { IfOk result (λ m. length m.requests.items ≤ MAX_COMMANDS) }
     ensures fates { IfOk result (λ m. length m.fates.items ≡ length records.now) }
     ensures err { IfErr result (IsImportFault records.now asked.now) }
 {

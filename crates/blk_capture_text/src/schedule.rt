@@ -2,7 +2,7 @@
 
 ghost use Rattle.std.specs.Prelude.{◌≡◌, ◌≤◌, IfOk, length, map};
 ghost use Rattle.edd_commands.specs.Capacity.{fixed};
-ghost use Rattle.edd_commands.specs.Limits.{most_commands};
+ghost use Rattle.edd_commands.specs.declared.TheConstants.{MAX_COMMANDS};
 ghost use Rattle.edd_commands.specs.Schedule.{IsLegal};
 ghost use Rattle.blk_capture.specs.Counting.{AreInRounds};
 ghost use Rattle.blk_capture.specs.Requests.{AgreeOnLateness, AreTimed, times_of};
@@ -17,7 +17,7 @@ use std::alloc::{AllocError, Global};
 /// written. At most [`edd_commands::MAX_COMMANDS`] requests. Fails only when out of memory.
 pub fn schedule_of(alloc: Global, requests: &[CapturedRequest]) -> Result<Schedule, AllocError>
     requires timed { AreTimed requests.now }
-    requires few { length requests.now ≤ most_commands }
+    requires few { length requests.now ≤ MAX_COMMANDS }
     ensures depth { IfOk result (λ s. s.depth ≡ 1) }
     ensures counted { IfOk result (λ s. AreInRounds (map times_of requests.now) s.commands.items s.rounds.items) }
     ensures legal { IfOk result (λ s. IsLegal s.commands.items s.rounds.items (fixed 1)) }

@@ -1,7 +1,7 @@
 //! What is shown of an import.
 
 ghost use Rattle.std.specs.Prelude.{◌≡◌, ◌≤◌, IfOk, length};
-ghost use Rattle.edd_commands.specs.Limits.{most_commands};
+ghost use Rattle.edd_commands.specs.declared.TheConstants.{MAX_COMMANDS};
 ghost use Rattle.blk_capture.specs.Requests.{AreTimed};
 ghost use Rattle.blk_capture_text.specs.Shown.{Shows, IsScheduleText, IsTableText};
 
@@ -27,7 +27,7 @@ pub enum ShownImport {
 /// The text of the schedule of requests.
 fn text_of_schedule(alloc: Global, requests: &[CapturedRequest]) -> Result<Vec<u8>, AllocError>
     requires timed { AreTimed requests.now }
-    requires few { length requests.now ≤ most_commands }
+    requires few { length requests.now ≤ MAX_COMMANDS }
     ensures { IfOk result (λ text. IsScheduleText requests.now text.items) }
 {
     let schedule = schedule_of(alloc, requests)?;
@@ -53,7 +53,7 @@ fn text_of_summary(
     matched: &Matched,
 ) -> Result<Vec<u8>, AllocError>
     requires timed { AreTimed matched.now.requests.items }
-    requires few { length matched.now.requests.items ≤ most_commands }
+    requires few { length matched.now.requests.items ≤ MAX_COMMANDS }
     requires fates { length matched.now.fates.items ≡ length records.now }
     ensures { IfOk result (λ text. Shows ShownImport.Summary records.now matched.now text.items) }
 {
@@ -70,7 +70,7 @@ pub fn shown_text(
     matched: &Matched,
 ) -> Result<Vec<u8>, AllocError>
     requires timed { AreTimed matched.now.requests.items }
-    requires few { length matched.now.requests.items ≤ most_commands }
+    requires few { length matched.now.requests.items ≤ MAX_COMMANDS }
     requires fates { length matched.now.fates.items ≡ length records.now }
     ensures { IfOk result (λ text. Shows shown records.now matched.now text.items) }
 {

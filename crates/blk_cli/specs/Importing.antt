@@ -21,7 +21,7 @@ use Rattle.blk_capture_text.specs.declared.shown.ShownImport.{ShownImport}
 use Rattle.blk_capture_text.specs.declared.shown.ShownImport.TheVariants as shown
 use Rattle.blk_lists.specs.Texts.{rows_text}
 use Rattle.blk_text.specs.Script.{IsScript, script_rows}
-use Rattle.blk_text.specs.Versions.{latest}
+use Rattle.blk_text.specs.declared.setup.TheConstants.{LATEST}
 use Rattle.blk_words.specs.declared.words.Import.{Import}
 use Rattle.blk_words.specs.declared.words.Written.{Written}
 use Rattle.blk_words.specs.declared.words.Written.TheVariants as written
@@ -79,7 +79,7 @@ IsUnshown i records f = ⊥
 -- its arrivals as a script: a text of records that spell it, and nothing beside it
 pub record IsScripted (t : Terms) (records : List Record) (s : Said) : Type 0 where
   pub is_script : IsScript (script_of t records)
-  pub is_text : s.text ≡ rows_text (script_rows latest (script_of t records))
+  pub is_text : s.text ≡ rows_text (script_rows LATEST (script_of t records))
   pub alone : IsAlone s
 
 -- why they are none

@@ -8,7 +8,7 @@ use Rattle.blk_lists.specs.Commands.{SpellsCommands, commands_rows}
 use Rattle.blk_lists.specs.Texts.{rows_text}
 use Rattle.blk_text.specs.TraceForm.{SpellsTraceIn}
 use Rattle.blk_text.specs.TraceRecords.{trace_rows}
-use Rattle.blk_text.specs.Versions.{latest}
+use Rattle.blk_text.specs.declared.setup.TheConstants.{LATEST}
 use Rattle.blk_report.specs.declared.figures.Report.{Report}
 use Rattle.edd_figures.specs.declared.missing.Crowd.{Crowd}
 use Rattle.blk_report.specs.declared.missing.Tally.{Tally}
@@ -56,7 +56,7 @@ report_in form.Json report = report_json report
 
 -- the text that spells the trace in the latest version
 pub record IsTraceText (trace : Traced) (text : List ℕ) : Type 0 where
-  pub spelled : SpellsTraceIn latest (trace_rows trace) trace
+  pub spelled : SpellsTraceIn LATEST (trace_rows trace) trace
   pub is_text : text ≡ rows_text (trace_rows trace)
 
 -- the trace's report

@@ -6,7 +6,7 @@ ghost use Rattle.std.specs.FinMap as map;
 ghost use Rattle.blk_bio.specs.declared.request.Side.{Side};
 ghost use Rattle.blk_sched.specs.Meaning.{Waiting};
 ghost use Rattle.blk_sched.specs.Fits.{IsNewestFit, FitsNone, HasFit};
-ghost use Rattle.blk_bio.specs.Bios.{sector_limit};
+ghost use Rattle.blk_bio.specs.declared.bio.TheConstants.{MAX_END};
 ghost use Rattle.blk_bio.specs.Extents.{extent_of};
 ghost use Rattle.blk_bio.specs.Requests.{Fits, sectors_of};
 ghost use Rattle.std.specs.Bool.{OnTrue, OnFalse};
@@ -378,7 +378,7 @@ pub fn id_of<A: Allocator + Clone>(queued: &Queued<A>) -> u64
 /// How many sectors it has.
 fn sectors_of<A: Allocator + Clone>(queued: &Queued<A>) -> u64
     ensures value { result ≡ sectors_of queued.now.bios }
-    ensures in_range { result ≤ sector_limit }
+    ensures in_range { result ≤ MAX_END }
 {
     queued.request.sectors()
 }

@@ -4,7 +4,7 @@ use Rattle.edd_commands.specs.declared.Command.{Command}
 use Rattle.blk_bio.specs.Bios.{Bio}
 use Rattle.blk_trace.specs.Setups.{Setup}
 use Rattle.blk_tags.specs.Tags.{Set}
-use Rattle.blk_soft.specs.Queues.{greatest_depth}
+use Rattle.blk_bio.specs.declared.limits.TheConstants.{MAX_SOFT_DEPTH}
 use Rattle.blk_hw.specs.Maps.{IsHwCount}
 use Rattle.blk_layer.specs.declared.layer.TheConstants.{MAX_WORKERS}
 use Rattle.blk_layer.specs.declared.layer.LayerFault.{LayerFault}
@@ -65,7 +65,7 @@ pub record IsNewLayer (depth : ℕ) (map_in queues : List ℕ) (layer : LayerSha
 pub record CanMake (hw : ℕ) (map : List ℕ) (soft_depth : ℕ) (queues : List ℕ) : Type 0 where
   pub named : IsHwCount map hw
   pub some_depth : 1 ≤ soft_depth
-  pub few_depth : soft_depth ≤ greatest_depth
+  pub few_depth : soft_depth ≤ MAX_SOFT_DEPTH
   pub some_workers : 0 < length queues
   pub few_workers : length queues ≤ MAX_WORKERS
   pub in_range : All (λ queue. queue < hw) queues
@@ -81,7 +81,7 @@ pub record IsFirstOutside (hw : ℕ) (queues : List ℕ) (place : ℕ) : Type 0 
 abbrev pub layer_rules : ℕ → List ℕ → ℕ → List ℕ → List (Type 0)
 layer_rules hw map soft_depth queues =
     IsHwCount map hw
-    ∷ ((1 ≤ soft_depth) × (soft_depth ≤ greatest_depth))
+    ∷ ((1 ≤ soft_depth) × (soft_depth ≤ MAX_SOFT_DEPTH))
     ∷ ((0 < length queues) × (length queues ≤ MAX_WORKERS))
     ∷ All (λ queue. queue < hw) queues ∷ []
 
@@ -89,7 +89,7 @@ layer_rules hw map soft_depth queues =
 abbrev pub IsLayerFault : ℕ → List ℕ → ℕ → List ℕ → LayerFault → Type 0
 IsLayerFault hw map soft_depth queues Queues = BreaksFirst (layer_rules hw map soft_depth queues) 0 (¬ IsHwCount map hw)
 IsLayerFault hw map soft_depth queues SoftDepth =
-    BreaksFirst (layer_rules hw map soft_depth queues) 1 ((soft_depth ≡ 0) ⊎ (greatest_depth < soft_depth))
+    BreaksFirst (layer_rules hw map soft_depth queues) 1 ((soft_depth ≡ 0) ⊎ (MAX_SOFT_DEPTH < soft_depth))
 IsLayerFault hw map soft_depth queues Workers =
     BreaksFirst (layer_rules hw map soft_depth queues) 2 ((length queues ≡ 0) ⊎ (MAX_WORKERS < length queues))
 IsLayerFault hw map soft_depth queues (WorkerQueue worker) =

@@ -4,7 +4,8 @@ use Rattle.std.specs.List.{flat_map}
 use Rattle.blk_bio.specs.declared.bio.BioId.{BioId}
 use Rattle.blk_bio.specs.Bios.{Bio}
 use Rattle.blk_plug.specs.Plugs.{Plug}
-use Rattle.blk_soft.specs.Queues.{Queue, most_bios}
+use Rattle.blk_soft.specs.Queues.{Queue}
+use Rattle.blk_soft.specs.declared.TheConstants.{MAX_BIOS}
 use Rattle.blk_trace.specs.Events.{AreOnce, IsFirstRepeatedBio}
 use Rattle.blk_layer.specs.declared.submitting.FlushWhy.{FlushWhy}
 use Rattle.blk_layer.specs.declared.submitting.FlushWhy.TheVariants.{Foreign, Repeated, SoftFull, Memory}
@@ -64,13 +65,13 @@ pub record FlushesInto (queue : Queue) (seat : SubmitterSeat) (plug : Plug) (new
 
 -- the software queue has room for a request: for one more, and it takes in no more bios over its life than it may
 abbrev pub QueueHasRoom : Queue → List Bio → Type 0
-QueueHasRoom queue bios = (length queue.requests < queue.depth) × (queue.bios_in + length bios ≤ most_bios)
+QueueHasRoom queue bios = (length queue.requests < queue.depth) × (queue.bios_in + length bios ≤ MAX_BIOS)
 
 -- what each reason says of the room for the request: it is looked for before memory is
 abbrev pub IsRoomReason : Queue → List Bio → FlushWhy → Type 0
 IsRoomReason queue bios (Foreign id) = ⊤
 IsRoomReason queue bios (Repeated id) = ⊤
-IsRoomReason queue bios SoftFull = (queue.depth ≤ length queue.requests) ⊎ (most_bios < queue.bios_in + length bios)
+IsRoomReason queue bios SoftFull = (queue.depth ≤ length queue.requests) ⊎ (MAX_BIOS < queue.bios_in + length bios)
 IsRoomReason queue bios Memory = QueueHasRoom queue bios
 
 -- the same of the first request of a plug

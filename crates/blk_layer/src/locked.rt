@@ -1,7 +1,7 @@
 //! What lies under the locks: the core, and each software queue.
 
 ghost use Rattle.std.specs.Prelude.{◌≡◌, ◌≤◌, ◌+◌, [], IfOk, IfErr, OnOk, OnErr, length, vec_len};
-ghost use Rattle.blk_soft.specs.Queues.{greatest_depth};
+ghost use Rattle.blk_bio.specs.declared.limits.TheConstants.{MAX_SOFT_DEPTH};
 ghost use Rattle.blk_core.specs.Faults.{IsTickFault};
 ghost use Rattle.blk_core.specs.Calls.{Ends, SetsDepth};
 ghost use Rattle.blk_policy.specs.Runs.{MakesCalls, IsRunFrom};
@@ -136,7 +136,7 @@ pub(crate) fn empty_queues<L: Named, A: Allocator + Clone>(
     depth: u64,
     limits: Limits,
 ) -> Result<Vec<Mutex<LockedQueue<L, A>>, A>, AllocError>
-    requires depth { (1 ≤ depth) × (depth ≤ greatest_depth) }
+    requires depth { (1 ≤ depth) × (depth ≤ MAX_SOFT_DEPTH) }
     requires limits { limits ≡ L.setup.limits }
     ensures { IfOk result (λ queues. vec_len queues ≡ count) }
 {

@@ -13,7 +13,7 @@ use Rattle.blk_trace.specs.Traces.{Traced}
 use Rattle.blk_text.specs.Script.{Scripted}
 use Rattle.blk_text.specs.TraceForm.{SpellsTrace}
 use Rattle.blk_text.specs.TraceRecords.{trace_rows, IsTrace}
-use Rattle.blk_text.specs.Versions.{latest}
+use Rattle.blk_text.specs.declared.setup.TheConstants.{LATEST}
 use Rattle.blk_text.proofs.ScriptLaws as scripts
 use Rattle.blk_text.proofs.TraceLaws as traces
 use Rattle.blk_settings.specs.declared.sched.Sched.TheVariants as sched
@@ -37,7 +37,7 @@ held late_last bytes traced by g =
     let same : by.0 ≡ g.0 = (scripts.spelled_once (rows_in bytes) by.1.0 g.1.0 by.0 g.0 by.1.1 g.1.1).1 in
     let steps : All IsByRounds g.0.lines = subst (λ (s : Scripted). All IsByRounds s.lines) same by.2 in
     let trace : Traced = g.2.trace in
-    let is : IsTrace trace = traces.spelled_legal (trace_rows trace) trace (latest, g.2.is_text.spelled) in
+    let is : IsTrace trace = traces.spelled_legal (trace_rows trace) trace (LATEST, g.2.is_text.spelled) in
     let whole : IsSetup g.0.setup = subst IsSetup g.2.is_trace.setup is.setup.is_setup in
     trace_holds late_last g.0 g.0.lines (at_start true) (earliest_kept late_last) trace.setup trace.events whole refl refl g.2.is_trace.ran.1 g.2.is_trace.setup is.legal steps
 
@@ -47,7 +47,7 @@ read_holds late_last bytes traced u by g read =
     let trace : Traced = g.2.trace in
     let rows : rows_in traced ≡ trace_rows trace = ap rows_in g.2.is_text.is_text ∙ traces.written_back trace in
     let own : SpellsTrace (trace_rows trace) u = subst (λ (rs : List Row). SpellsTrace rs u) rows read in
-    let once = traces.spelled_once (trace_rows trace) latest own.0 trace u g.2.is_text.spelled own.1 in
+    let once = traces.spelled_once (trace_rows trace) LATEST own.0 trace u g.2.is_text.spelled own.1 in
     subst (λ (s : Setup). AtTicks (HoldsNow late_last s) u.events) once.1
     (subst (λ (es : List Happened). AtTicks (HoldsNow late_last trace.setup) es) once.2 (held late_last bytes traced by g))
 

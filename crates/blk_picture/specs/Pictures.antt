@@ -1,7 +1,7 @@
 -- The picture of a trace, and the pictures of several.
 use Rattle.std.specs.Prelude.{ℕ, ℤ, pos, negsuc, zero, suc, ◌≡◌, ◌+◌, ◌-◌, ◌*◌, ◌<◌, ◌++◌, ◌∷◌, [], min, List, Option, Some, None, length, codes, map, slice_index_or}
 use Rattle.edd_commands.specs.declared.steps.Step.{Step}
-use Rattle.edd_commands.specs.Limits.{round_limit}
+use Rattle.edd_commands.specs.declared.TheConstants.{MAX_ROUNDS}
 use Rattle.edd_commands.specs.Capacity.{carried}
 use Rattle.edd_figures.specs.declared.missing.Crowd.{Crowd}
 use Rattle.edd_figures.specs.declared.lateness.Figures.{Figures}
@@ -34,8 +34,8 @@ most_deep traces = greatest (map (λ t. t.setup.depth) traces)
 
 -- the round before which what is due in a round has to run, if it is to be less late than this; no later than rounds are counted
 abbrev pub latest_end : ℕ → ℤ → ℕ
-latest_end due (pos n) = min (due + n) (2 * round_limit - 1)
-latest_end due (negsuc n) = min (due - suc n) (2 * round_limit - 1)
+latest_end due (pos n) = min (due + n) (2 * MAX_ROUNDS - 1)
+latest_end due (negsuc n) = min (due - suc n) (2 * MAX_ROUNDS - 1)
 
 -- how many commands the rounds of the crowded window carry, if each is to be less late than the least lateness
 abbrev pub crowded_room : List Step → Option Figures → ℕ

@@ -1,8 +1,7 @@
 //! The part of a picture that shows a trace, and whole pictures.
 
 ghost use Rattle.std.specs.Prelude.{ℕ, List, ◌≡◌, ◌++◌, ◌*◌, ◌+◌, ◌≤◌, ◌<◌, OnOk, IfOk, length, map};
-ghost use Rattle.edd_commands.specs.Limits.{round_limit};
-ghost use Rattle.blk_trace.specs.declared.setup.TheConstants.{MAX_DEPTH};
+ghost use Rattle.edd_commands.specs.declared.steps.TheConstants.{MAX_DEPTH};
 ghost use Rattle.blk_trace.specs.declared.trace.TheConstants.{MAX_EVENTS};
 ghost use Rattle.blk_picture.specs.declared.parts.TheConstants.{MAX_TRACES};
 ghost use Rattle.blk_picture.specs.Scales.{scale_of};
@@ -46,7 +45,7 @@ fn tags_shown(trace: &Trace) -> u32
 /// The round before which what is due in a round has to run, if it is to be less late than this; no later than rounds are counted.
 fn latest_end(due: u64, late: i64) -> u64
     ensures value { result ≡ latest_end due late }
-    ensures small { result < 2 * round_limit }
+    ensures small { result < 2 * MAX_ROUNDS }
 {
     let end = if late < 0 {
         due.saturating_sub(late.unsigned_abs())

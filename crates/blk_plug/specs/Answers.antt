@@ -6,24 +6,25 @@ use Rattle.blk_plug.specs.declared.plug.Added.{Added}
 use Rattle.blk_plug.specs.declared.plug.Added.TheVariants.{New, Joined}
 use Rattle.blk_plug.specs.declared.plug.PlugFault.{PlugFault}
 use Rattle.blk_plug.specs.declared.plug.PlugFault.TheVariants.{Full, Memory}
-use Rattle.blk_plug.specs.Plugs.{most_requests, Plug, HasPlugCandidate, HasNoPlugCandidate, IsJoinedAt}
+use Rattle.blk_plug.specs.Plugs.{Plug, HasPlugCandidate, HasNoPlugCandidate, IsJoinedAt}
+use Rattle.blk_plug.specs.declared.plug.TheConstants.{MAX_STAGED}
 use Rattle.faults.specs.Order.{BreaksFirst, AreKept}
 
 -- the rule of an addition: the bio joins a request, or there is a place for one more
 abbrev pub add_rules : Plug → Bio → List (Type 0)
 add_rules plug bio =
     (HasPlugCandidate plug.limits plug.requests (bio ∷ [])
-    ⊎ (HasNoPlugCandidate plug.limits plug.requests (bio ∷ []) × (length plug.requests < most_requests))) ∷ []
+    ⊎ (HasNoPlugCandidate plug.limits plug.requests (bio ∷ []) × (length plug.requests < MAX_STAGED))) ∷ []
 
 -- what each fault says of the plug and the bio
 abbrev pub IsPlugFault : Plug → Bio → PlugFault → Type 0
-IsPlugFault plug bio Full = BreaksFirst (add_rules plug bio) 0 (HasNoPlugCandidate plug.limits plug.requests (bio ∷ []) × (length plug.requests ≡ most_requests))
+IsPlugFault plug bio Full = BreaksFirst (add_rules plug bio) 0 (HasNoPlugCandidate plug.limits plug.requests (bio ∷ []) × (length plug.requests ≡ MAX_STAGED))
 IsPlugFault plug bio Memory = AreKept (add_rules plug bio)
 
 -- what each answer of an addition says of the plug before and after it
 abbrev pub IsAddAnswer : Plug → Bio → Plug → Result Added (Bio × PlugFault) → Type 0
 IsAddAnswer old bio new (Ok New) =
-    HasNoPlugCandidate old.limits old.requests (bio ∷ []) × (length old.requests < most_requests)
+    HasNoPlugCandidate old.limits old.requests (bio ∷ []) × (length old.requests < MAX_STAGED)
     × (new ≡ record { limits = old.limits; requests = old.requests ++ (bio ∷ []) ∷ [] })
 IsAddAnswer old bio new (Ok (Joined side)) =
     (place : ℕ) × IsJoinCandidate old.limits true old.requests (bio ∷ []) place side

@@ -7,10 +7,6 @@ use Rattle.blk_bio.specs.Bios.{Bio}
 use Rattle.blk_bio.specs.Limits.{Limits}
 use Rattle.blk_bio.specs.Requests.{joined, IsWithin, Fits, IsJoinCandidate}
 
--- the most requests of a plug
-abbrev pub most_requests : ℕ
-most_requests = MAX_STAGED
-
 -- a plug: the limits within which bios join, and its requests from the oldest to the newest
 pub record Plug : Type 0 where
   pub limits : Limits
@@ -18,7 +14,7 @@ pub record Plug : Type 0 where
 
 -- no more requests than that, each of which is one bio or within the limits
 pub record IsPlug (plug : Plug) : Type 0 where
-  pub few : length plug.requests ≤ most_requests
+  pub few : length plug.requests ≤ MAX_STAGED
   pub within : All (IsWithin plug.limits) plug.requests
 
 -- the bios of its requests, in their order

@@ -6,7 +6,7 @@ use Rattle.std.proofs.lemmas.List.Elements.{All-filter, filter_passes}
 use Rattle.std.proofs.lemmas.List.{length-take-le, take_all, take-map, length-map, get_or-map, same_lists, length_push, get_or_push, get_or_append_left, get_or_default}
 use Rattle.std.proofs.lemmas.List.Sums.{sum_by_more}
 use Rattle.edd_commands.specs.declared.steps.Step.{Step}
-use Rattle.edd_commands.specs.Limits.{round_limit}
+use Rattle.edd_commands.specs.declared.TheConstants.{MAX_ROUNDS}
 use Rattle.edd_commands.specs.Capacity.{carried, depth_at}
 use Rattle.edd_commands.proofs.InForce.{carried_suc, carried_none}
 use Rattle.edd_commands.proofs.Counting.{places_among, places_among-le}
@@ -399,10 +399,10 @@ pub asked_same : (xs late late' : List Service) (asks : List CountAsk) → late 
 asked_same xs late late' asks is all = subst (λ (z : List Service). AllAsked xs z asks) is all
 
 -- the due rounds are in range
-pub dues_in : (xs : List Service) (dues : List ℕ) → dues ≡ map (λ s. s.due) xs → AreWithinLimits xs → All (λ x. x < round_limit) dues
+pub dues_in : (xs : List Service) (dues : List ℕ) → dues ≡ map (λ s. s.due) xs → AreWithinLimits xs → All (λ x. x < MAX_ROUNDS) dues
 dues_in xs dues is timed =
-    subst (All (λ (x : ℕ). x < round_limit)) (sym is)
-    (λ k d h. (let due : Service → ℕ = λ s. s.due in let low : k < length xs = omega (arith, h, length-map xs due) in subst (λ n. n < round_limit) (sym (get_or-map due xs k unserved d low)) (timed.in_time k unserved low).1))
+    subst (All (λ (x : ℕ). x < MAX_ROUNDS)) (sym is)
+    (λ k d h. (let due : Service → ℕ = λ s. s.due in let low : k < length xs = omega (arith, h, length-map xs due) in subst (λ n. n < MAX_ROUNDS) (sym (get_or-map due xs k unserved d low)) (timed.in_time k unserved low).1))
 
-pub late_in : (xs late : List Service) → late ≡ filter is_late_service xs → AreWithinLimits xs → All (λ s. s.due < round_limit) late
-late_in xs late is timed = late_all (λ s. s.due < round_limit) xs late is (λ k d h. (timed.in_time k d h).1)
+pub late_in : (xs late : List Service) → late ≡ filter is_late_service xs → AreWithinLimits xs → All (λ s. s.due < MAX_ROUNDS) late
+late_in xs late is timed = late_all (λ s. s.due < MAX_ROUNDS) xs late is (λ k d h. (timed.in_time k d h).1)

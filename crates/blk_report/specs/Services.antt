@@ -1,7 +1,7 @@
 -- The commands of a trace, each with its request and the round in which it was issued.
 use Rattle.std.specs.Prelude.{ℕ, ◌≤◌, ◌<◌, List, length, map, slice_index_or, All}
 use Rattle.edd_commands.specs.declared.Command.{Command}
-use Rattle.edd_commands.specs.Limits.{most_commands, round_limit}
+use Rattle.edd_commands.specs.declared.TheConstants.{MAX_COMMANDS, MAX_ROUNDS}
 use Rattle.blk_bio.specs.Requests.{dir_of, first_of, sectors_of}
 use Rattle.blk_trace.specs.declared.trace.TheConstants.{MAX_EVENTS}
 use Rattle.blk_trace.specs.Happened.{Happened}
@@ -32,9 +32,9 @@ command_in s = record { id = s.id; release = s.release; due = s.due }
 
 -- few of them, each issued in its release or later, in rounds within the limits
 pub record AreWithinLimits (services : List Service) : Type 0 where
-  pub few : length services ≤ most_commands
+  pub few : length services ≤ MAX_COMMANDS
   pub released : All (λ s. s.release ≤ s.issue) services
-  pub in_time : All (λ s. (s.issue ≤ MAX_EVENTS) × (s.due < round_limit)) services
+  pub in_time : All (λ s. (s.issue ≤ MAX_EVENTS) × (s.due < MAX_ROUNDS)) services
 
 -- none is issued before the one that stands before it
 abbrev pub AreInIssueOrder : List Service → Type 0

@@ -1,7 +1,7 @@
 //! How many of the numbers at some places of a list are below a bound, for many places and bounds at once.
 
 ghost use Rattle.std.specs.Prelude.{◌≡◌, ◌≤◌, ◌+◌, IfOk, All, length, map};
-ghost use Rattle.edd_commands.specs.Limits.{most_commands};
+ghost use Rattle.edd_commands.specs.declared.TheConstants.{MAX_COMMANDS};
 ghost use Rattle.blk_report.specs.Inside.Below.{AreBelow, halves, half_of, answer_of, IsAskWithin};
 
 use std::alloc::{AllocError, Allocator};
@@ -59,7 +59,7 @@ fn halved<A: Allocator>(alloc: A, numbers: &[u64], pivot: u64) -> Result<Vec<u64
 /// What is left to ask of the halves.
 fn half_of(ask: CountAsk, numbers: &[u64], counts: &[usize], pivot: u64) -> CountAsk
     requires counts { AreBelow numbers.now pivot counts.now }
-    requires few { length numbers.now ≤ most_commands }
+    requires few { length numbers.now ≤ MAX_COMMANDS }
     requires ask { IsAskWithin numbers.now (pivot + pivot) ask }
     ensures { result ≡ half_of numbers.now pivot ask }
 {
@@ -87,7 +87,7 @@ fn halves_of<A: Allocator>(
     pivot: u64,
 ) -> Result<Vec<CountAsk, A>, AllocError>
     requires counts { AreBelow numbers.now pivot counts.now }
-    requires few { length numbers.now ≤ most_commands }
+    requires few { length numbers.now ≤ MAX_COMMANDS }
     requires asks { All (IsAskWithin numbers.now (pivot + pivot)) asks.now }
     ensures { IfOk result (λ v. v.items ≡ map (half_of numbers.now pivot) asks.now) }
 {
@@ -106,7 +106,7 @@ pub(crate) fn count_below<A: Allocator + Clone>(
     asks: &[CountAsk],
     limit: u64,
 ) -> Result<Vec<CountAsk, A>, AllocError>
-    requires few { length numbers.items ≤ most_commands }
+    requires few { length numbers.items ≤ MAX_COMMANDS }
     requires asks { All (IsAskWithin numbers.items limit) asks.now }
     ensures { IfOk result (λ v. map (λ a. a.count) v.items ≡ map (answer_of numbers.items) asks.now) }
 {

@@ -2,7 +2,7 @@
 
 ghost use Rattle.std.specs.Prelude.{◌≡◌, ◌≤◌, ◌<◌, IfOk, All, filter, length, map};
 ghost use Rattle.std.specs.List.{filter_map};
-ghost use Rattle.edd_commands.specs.Limits.{round_limit};
+ghost use Rattle.edd_commands.specs.declared.TheConstants.{MAX_ROUNDS};
 ghost use Rattle.edd_commands.specs.Schedule.{IsLegal};
 ghost use Rattle.edd_verdict.specs.Verdicts.{AreVerdicts};
 ghost use Rattle.blk_trace.specs.declared.trace.TheConstants.{MAX_EVENTS};
@@ -74,7 +74,7 @@ fn dues<A: Allocator>(alloc: A, services: &[Service]) -> Result<Vec<u64, A>, All
 
 /// A round that is later than each of these.
 fn after_all(rounds: &[u64]) -> u64
-    requires { All (λ x. x < round_limit) rounds.now }
+    requires { All (λ x. x < MAX_ROUNDS) rounds.now }
     ensures { All (λ x. x < result) rounds.now }
 {
     match rounds.iter().copied().max() {
@@ -109,7 +109,7 @@ fn asks<A: Allocator>(
     late: &[Service],
 ) -> Result<Vec<CountAsk, A>, AllocError>
     requires rising { AreInIssueOrder services.now }
-    requires in_time { All (λ s. s.due < round_limit) late.now }
+    requires in_time { All (λ s. s.due < MAX_ROUNDS) late.now }
     ensures each { IfOk result (λ v. length v.items ≡ length late.now) }
     ensures asks { IfOk result (λ v. AskForAll services.now late.now v.items) }
 {

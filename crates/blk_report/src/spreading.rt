@@ -1,7 +1,7 @@
 //! How long the commands of a trace waited, and how late they were, by quantiles.
 
 ghost use Rattle.std.specs.Prelude.{◌≡◌, ◌≤◌, IfOk, filter, length, map};
-ghost use Rattle.edd_commands.specs.Limits.{most_commands};
+ghost use Rattle.edd_commands.specs.declared.TheConstants.{MAX_COMMANDS};
 ghost use Rattle.blk_trace.specs.Setups.{same_dir};
 ghost use Rattle.blk_report.specs.Services.{AreWithinLimits};
 ghost use Rattle.blk_report.specs.Spread.{wait_of, late_by, at_rank, quantiles_of, IsQuantiles, AreSpreads};
@@ -50,7 +50,7 @@ pub struct Spreads {
 
 /// The number at the place of a share in thousandths.
 fn at_rank(sorted: &[i64], thousandths: usize) -> Option<i64>
-    requires few { length sorted.now ≤ most_commands }
+    requires few { length sorted.now ≤ MAX_COMMANDS }
     requires part { thousandths ≤ 1000 }
     ensures { result ≡ at_rank thousandths sorted.now }
 {
@@ -60,7 +60,7 @@ fn at_rank(sorted: &[i64], thousandths: usize) -> Option<i64>
 
 /// The quantiles of numbers in their order.
 fn of_sorted(sorted: &[i64]) -> Quantiles
-    requires { length sorted.now ≤ most_commands }
+    requires { length sorted.now ≤ MAX_COMMANDS }
     ensures { result ≡ quantiles_of sorted.now }
 {
     Quantiles {
@@ -75,7 +75,7 @@ fn of_sorted(sorted: &[i64]) -> Quantiles
 
 /// The quantiles of numbers, which it puts in order.
 fn quantiles_of(values: &mut [i64]) -> Quantiles
-    requires { length values.old ≤ most_commands }
+    requires { length values.old ≤ MAX_COMMANDS }
     ensures { IsQuantiles values.old result }
 {
     values.sort_unstable();

@@ -4,7 +4,7 @@ ghost use Rattle.std.specs.Prelude.{◌↔◌, IsTrue};
 ghost use Rattle.blk_settings.specs.Numbers.{IsLoad};
 
 use blk_bio::MAX_SOFT_QUEUES;
-use blk_trace::MAX_DEPTH;
+use edd_commands::MAX_DEPTH;
 
 /// The most submitters: as many as software queues.
 pub const MAX_LOAD_SUBMITTERS: u64 = MAX_SOFT_QUEUES;

@@ -17,7 +17,7 @@ use blk_core::laws::{listed_issues_are_open, open_picks_are_open_issues};
 use blk_hw::Map;
 use blk_sched::Scheduler;
 use blk_soft::SoftQueue;
-use blk_trace::MAX_DEPTH;
+use edd_commands::MAX_DEPTH;
 
 /// Asks the hardware queues in turn for a command under a tag until one gives one, and says whether one did. The first that is
 /// asked is the tag modulo their number, and behind the last comes queue 0.

@@ -6,7 +6,8 @@ use Rattle.std.proofs.lemmas.List.Sums.{sum_by-cons, sum_by_push}
 use Rattle.circular_buffer.specs.Buffer.{keep_last}
 use Rattle.blk_bio.specs.Bios.{Bio}
 use Rattle.blk_bio.specs.Requests.{IsWithin}
-use Rattle.blk_soft.specs.Queues.{greatest_depth, Queue, IsQueue}
+use Rattle.blk_soft.specs.Queues.{Queue, IsQueue}
+use Rattle.blk_bio.specs.declared.limits.TheConstants.{MAX_SOFT_DEPTH}
 
 -- a list is its first element and the others
 pub front_is : {X : Type 0} → (xs : List X) (x : X) → Some x ≡ slice_get xs 0 → xs ≡ x ∷ drop 1 xs
@@ -28,7 +29,7 @@ taken_kept queue first bios requests depth is found rest same count =
     let one : length bios ≡ length first = ap length count in
     record {
       some_depth = subst (λ n. 1 ≤ n) (sym same) is.some_depth;
-      few_depth = subst (λ n. n ≤ greatest_depth) (sym same) is.few_depth;
+      few_depth = subst (λ n. n ≤ MAX_SOFT_DEPTH) (sym same) is.few_depth;
       room = omega (arith, is.room);
       within = subst (All (IsWithin queue.limits)) (sym rest) (All-drop (IsWithin queue.limits) 1 queue.requests is.within);
       held = omega (arith, is.held);
@@ -43,7 +44,7 @@ put_kept queue request bios requests depth is within room few added same count =
     let one : length bios ≡ length request = ap length count in
     record {
       some_depth = subst (λ n. 1 ≤ n) (sym same) is.some_depth;
-      few_depth = subst (λ n. n ≤ greatest_depth) (sym same) is.few_depth;
+      few_depth = subst (λ n. n ≤ MAX_SOFT_DEPTH) (sym same) is.few_depth;
       room = omega arith;
       within = subst (All (IsWithin queue.limits)) (sym added) (All-push (IsWithin queue.limits) queue.requests request is.within within);
       held = omega (arith, is.held);

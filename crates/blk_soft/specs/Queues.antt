@@ -6,14 +6,6 @@ use Rattle.blk_bio.specs.declared.limits.TheConstants.{MAX_SOFT_DEPTH}
 use Rattle.blk_bio.specs.Requests.{IsWithin}
 use Rattle.blk_soft.specs.declared.TheConstants.{MAX_BIOS}
 
--- the greatest depth of a queue, in requests
-abbrev pub greatest_depth : ℕ
-greatest_depth = MAX_SOFT_DEPTH
-
--- the most bios that a queue takes in over its life
-abbrev pub most_bios : ℕ
-most_bios = MAX_BIOS
-
 -- a queue: how many requests it may hold, their limits, the requests from the first, and how many bios came and went
 pub record Queue : Type 0 where
   pub depth : ℕ
@@ -37,8 +29,8 @@ bios_held queue = sum_by length queue.requests
 -- at least one and at most the greatest depth, no more requests than that, each within the limits, and what came is what went or is held
 pub record IsQueue (queue : Queue) : Type 0 where
   pub some_depth : 1 ≤ queue.depth
-  pub few_depth : queue.depth ≤ greatest_depth
+  pub few_depth : queue.depth ≤ MAX_SOFT_DEPTH
   pub room : length queue.requests ≤ queue.depth
   pub within : All (IsWithin queue.limits) queue.requests
   pub held : queue.bios_in ≡ queue.bios_out + bios_held queue
-  pub few_bios : queue.bios_in ≤ most_bios
+  pub few_bios : queue.bios_in ≤ MAX_BIOS

@@ -7,7 +7,8 @@
 ghost use Rattle.std.specs.Prelude.{◌≡◌, ◌∷◌, [], ◌+◌, ◌≤◌, ◌<◌, ◌^◌, ◌⊎◌, ◌↔◌, IsErr, IfOk, IfErr, OnOk, OnErr, IfSome, IfNone, length, slice_get};
 ghost use Rattle.std.specs.Option.{option_copied};
 ghost use Rattle.blk_bio.specs.Requests.{IsWithin};
-ghost use Rattle.blk_soft.specs.Queues.{greatest_depth, most_bios, with_last, Queue, IsQueue};
+ghost use Rattle.blk_soft.specs.Queues.{with_last, Queue, IsQueue};
+ghost use Rattle.blk_bio.specs.declared.limits.TheConstants.{MAX_SOFT_DEPTH};
 
 use blk_bio::{Limits, Request};
 use circular_buffer::HeapCircularBuffer;
@@ -40,7 +41,7 @@ impl<A: Allocator> Model for SoftQueue<A> {
 impl<A: Allocator + Clone> SoftQueue<A> {
     /// A queue of no requests with room for `depth`, 1 to [`blk_bio::MAX_SOFT_DEPTH`]. Fails only when memory runs out.
     pub fn new(alloc: A, depth: u64, limits: Limits) -> Result<SoftQueue<A>, AllocError>
-        requires { (1 ≤ depth) × (depth ≤ greatest_depth) }
+        requires { (1 ≤ depth) × (depth ≤ MAX_SOFT_DEPTH) }
         ensures { IfOk result (λ q. q ≡ record { depth = depth; limits = limits; requests = []; bios_in = 0; bios_out = 0 }) }
     {
         let ring = HeapCircularBuffer::with_capacity(alloc, depth as usize)?;
@@ -59,7 +60,7 @@ impl<A: Allocator + Clone> SoftQueue<A> {
         ensures ok { OnOk result (self.new ≡ with_last self.old request) }
         ensures err { IfErr result (λ r. r ≡ request) }
         ensures same { OnErr result (self.new ≡ self.old) }
-        ensures refused { IsErr result ↔ ((length self.old.requests ≡ self.old.depth) ⊎ (most_bios < self.old.bios_in + length request)) }
+        ensures refused { IsErr result ↔ ((length self.old.requests ≡ self.old.depth) ⊎ (MAX_BIOS < self.old.bios_in + length request)) }
     {
         let count = request.bios().len() as u64;
         if self.ring.len() >= self.ring.capacity() || count > MAX_BIOS - self.bios_in {

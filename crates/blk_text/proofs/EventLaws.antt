@@ -8,7 +8,7 @@ use Rattle.blk_trace.specs.declared.event.Event.TheVariants.{Tick, Release, Join
 use Rattle.blk_trace.specs.Kinds.{bare}
 use Rattle.blk_trace.specs.Rules.{IsFirstBroken, IsUnbroken, rank}
 use Rattle.blk_bio.specs.declared.rule.TraceRule.{TraceRule}
-use Rattle.blk_trace.specs.declared.setup.TheConstants.{MAX_DEPTH}
+use Rattle.edd_commands.specs.declared.steps.TheConstants.{MAX_DEPTH}
 use Rattle.blk_trace.specs.Setups.{Setup}
 use Rattle.blk_trace.specs.Traces.{Traced, IsPushAnswer}
 use Rattle.blk_trace.specs.declared.rule.PushFault.{PushFault}
@@ -19,7 +19,8 @@ use Rattle.blk_text.specs.SetupRecord.{setup}
 use Rattle.blk_lists.specs.Tables.{FitsCells, slots_by}
 use Rattle.blk_text.specs.TraceForm.{first_record, bios_after, group, event_told, plain_event, BreaksRule, event, alone, one_more, events_of, trace_cells, IsTraceTitle, trace_title_part, trace_body, trace_form}
 use Rattle.blk_text.specs.Inside.TraceForm.{IsPast, refusal_of, IsRefused}
-use Rattle.blk_text.specs.Versions.{latest, most_tags}
+use Rattle.blk_text.specs.Versions.{most_tags}
+use Rattle.blk_text.specs.declared.setup.TheConstants.{LATEST}
 use Rattle.blk_lists.specs.declared.fault.Why.{Why}
 use Rattle.blk_lists.specs.declared.fault.Why.TheVariants as why
 use Rattle.blk_lists.specs.declared.fields.Slot.TheVariants as slot
@@ -166,7 +167,7 @@ pub title_slots : (version depth : ℕ) → depth ≡ most_tags version
 title_slots version depth e = ap (λ n. slot.Given ∷ slot.Given ∷ slot.Number 1 n ∷ slot.Number 1 MAX_QUEUES ∷ slot.Number 0 MAX_EVENTS ∷ slot.Blank ∷ []) e
 
 pub title_one : IsOne trace_title_part
-title_one = record { tells = title_part (codes "blk-trace") latest trace_cells IsTraceTitle (omega arith) title_table; plain = λ t rest f. tt; one = λ t. refl }
+title_one = record { tells = title_part (codes "blk-trace") LATEST trace_cells IsTraceTitle (omega arith) title_table; plain = λ t rest f. tt; one = λ t. refl }
 
 -- the depth of a title is one of a setup
 pub setup_depth : (t : ℕ × TraceTitle) → IsTraceTitle t.0 t.1 → (0 < t.1.depth) × (t.1.depth ≤ MAX_DEPTH)
@@ -179,7 +180,7 @@ pub trace_tells : Tells trace_form
 trace_tells = then_tells trace_title_part trace_body title_one.tells (λ t fit. body_tells t fit.1)
 
 pub trace_decides : Decides trace_form
-trace_decides = then_decides trace_title_part trace_body (title_decides (codes "blk-trace") latest trace_cells IsTraceTitle (omega arith) title_table) (λ t fit. (let i = fit.1 in
+trace_decides = then_decides trace_title_part trace_body (title_decides (codes "blk-trace") LATEST trace_cells IsTraceTitle (omega arith) title_table) (λ t fit. (let i = fit.1 in
     then_decides (setup t.1.depth t.1.hw) (λ s. events_of t.0 s t.1.count) (setup_decides t.1.depth t.1.hw (setup_depth t i) i.hw) (λ s fit. events_decide t.0 s t.1.count)))
 
 -- what was read of an event

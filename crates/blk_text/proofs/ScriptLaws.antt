@@ -3,14 +3,15 @@ use Rattle.std.proofs.Common.{◌≡◌, ◌+◌, ◌<◌, ◌≤◌, ◌==◌, 
 use Rattle.std.specs.Prelude.{◌⊎◌, All, Err, IfSome, Bool, if◌then◌else◌}
 use Rattle.csv.specs.Reading.{default_config, records, strip_bom}
 use Rattle.csv.specs.Writing.{read_back}
-use Rattle.blk_bio.specs.Bios.{Bio, IsBio, IsBioAnswer, sector_limit}
+use Rattle.blk_bio.specs.Bios.{Bio, IsBio, IsBioAnswer}
+use Rattle.blk_bio.specs.declared.bio.TheConstants.{MAX_END}
 use Rattle.blk_bio.specs.declared.bio.BioFault.{BioFault}
 use Rattle.blk_bio.specs.declared.bio.BioFault.TheVariants as bio_fault
 use Rattle.blk_bio.specs.Limits.{Limits, IsLimits}
 use Rattle.blk_trace.specs.Setups.{Setup, IsSetup}
 use Rattle.blk_lists.specs.Sources.{Row}
 use Rattle.blk_lists.specs.Texts.{rows_text}
-use Rattle.blk_trace.specs.declared.setup.TheConstants.{MAX_DEPTH}
+use Rattle.edd_commands.specs.declared.steps.TheConstants.{MAX_DEPTH}
 use Rattle.blk_text.specs.SetupRecord.{setup_cells, setup, FitsSetup}
 use Rattle.blk_lists.specs.Words.{StartsWith, WordLacks}
 use Rattle.blk_lists.specs.Fields.{Lacks, FieldsSpell}
@@ -20,7 +21,8 @@ use Rattle.blk_text.specs.StepKinds.{StepKind, step_word, StepStandsIn, slots_fo
 use Rattle.blk_text.specs.StepKinds as kind
 use Rattle.blk_text.specs.Script.{step_said, LineFits, IsLineOf, IsRight, HasNoSuchBio, script_cells, IsTitle, IsEnough, TooFew, plain_title, script_title_part, plain_step, step, script_body, script_form, script_value, Scripted, title_of, script_rows, IsScript, IsScriptOf, SpellsVersion, SpellsScript, ScriptFault}
 use Rattle.blk_text.specs.Inside.BioTable.{bio_record}
-use Rattle.blk_text.specs.Versions.{latest, most_tags}
+use Rattle.blk_text.specs.Versions.{most_tags}
+use Rattle.blk_text.specs.declared.setup.TheConstants.{LATEST}
 use Rattle.blk_lists.specs.declared.fault.Why.{Why}
 use Rattle.blk_lists.specs.declared.fault.Why.TheVariants as why
 use Rattle.blk_lists.specs.declared.fields.Slot.TheVariants as slot
@@ -119,7 +121,7 @@ no_bio_once l k j w x n m =
 -- a bio is one, or there is none
 pub bio_or_none : (b : Bio) → IsBio b ⊎ ((f : BioFault) × IsBioAnswer b.id b.dir b.first b.sectors (Err f))
 bio_or_none b = elim (at_most 1 b.sectors) [
-  | inl some ↦ elim (at_most (b.first + b.sectors) sector_limit) [
+  | inl some ↦ elim (at_most (b.first + b.sectors) MAX_END) [
     | inl l ↦ inl (record { not_empty = some; in_range = l })
     | inr n ↦ inr (bio_fault.Range, (some, out (b.first + b.sectors) n))
   ]
@@ -129,7 +131,7 @@ bio_or_none b = elim (at_most 1 b.sectors) [
     none : (n : ℕ) → ¬ (1 ≤ n) → n ≡ 0
     none n h = grind (arith, h)
 
-    out : (n : ℕ) → ¬ (n ≤ sector_limit) → sector_limit < n
+    out : (n : ℕ) → ¬ (n ≤ MAX_END) → MAX_END < n
     out n h = grind (arith, h)
 
 right_or_no_bio : (l : Line) → IsRight l ⊎ ((k : ℕ) × (w : Why) × HasNoSuchBio l k w)
@@ -254,7 +256,7 @@ title_slots version depth e = ap (λ n. slot.Given ∷ slot.Given ∷ slot.Numbe
 
 pub title_one : IsOne script_title_part
 title_one = record {
-  tells = tested_tells plain_title IsEnough TooFew (title_part (codes "blk-script") latest script_cells IsTitle (omega arith) title_table)
+  tells = tested_tells plain_title IsEnough TooFew (title_part (codes "blk-script") LATEST script_cells IsTitle (omega arith) title_table)
       (λ t k j w x fit f g. (f.0 ∙ sym g.0, f.1 ∙ sym g.1))
       (λ t k w good f. (let few = f.2 in omega (arith, good, few)))
       (λ t k w f. (let is = f.0 in (omega (arith, is), omega (arith, is))));
@@ -263,7 +265,7 @@ title_one = record {
 }
 
 title_decided : Decides script_title_part
-title_decided = tested_decides plain_title IsEnough TooFew (title_decides (codes "blk-script") latest script_cells IsTitle (omega arith) title_table) (λ t fit. elim (at_most t.1.hw t.1.submitters) [
+title_decided = tested_decides plain_title IsEnough TooFew (title_decides (codes "blk-script") LATEST script_cells IsTitle (omega arith) title_table) (λ t fit. elim (at_most t.1.hw t.1.submitters) [
   | inl e ↦ inl e
   | inr n ↦ inr (1, why.Range, (refl, refl, few t.1.hw t.1.submitters n))
 ])
@@ -394,13 +396,13 @@ spelled_or_wrong rows = elim (script_decides rows) [
   | inr f ↦ inr f
 ]
 
-latest_title : (version : ℕ) (t : Title) → IsTitle version t → IsTitle latest t
+latest_title : (version : ℕ) (t : Title) → IsTitle version t → IsTitle LATEST t
 latest_title version t i = record { depth = (let high = i.depth.1 in (i.depth.0, omega (arith, high, fewer_tags version))); hw = i.hw; soft_depth = i.soft_depth; submitters = i.submitters }
 
 pub script_in : (t : ℕ × Title) (s : Setup) (lines : List Line) → IsTitle t.0 t.1 → t.1.hw ≤ t.1.submitters → FitsSetup t.1.depth t.1.hw s → All (step t.0 t.1.hw t.1.submitters).Fits lines → length lines ≤ MAX_STEPS
     → IsScript record { setup = s; soft_depth = t.1.soft_depth; submitters = t.1.submitters; lines = lines }
 script_in t s lines i enough f a short = record {
-  title = subst (IsTitle latest) (sym (title_is t.1 s lines f)) (latest_title t.0 t.1 i);
+  title = subst (IsTitle LATEST) (sym (title_is t.1 s lines f)) (latest_title t.0 t.1 i);
   enough = (let hw = f.1 in omega (arith, enough, hw));
   setup = f.2;
   lines = subst (λ hw. All (LineFits hw t.1.submitters) lines) (sym f.1) (λ k d l. fits_step t.0 t.1.hw t.1.submitters i.hw.0 i.submitters.0 _ (a k d l));

@@ -33,7 +33,7 @@ use Rattle.blk_text.specs.TraceRecords.{word_row, event_rows, title_row, trace_r
 use Rattle.blk_text.specs.TraceForm.{Tiles, group_bio, plain_event, event, one_more, events_of, IsTraceTitle, trace_title_part, trace_body, trace_form, trace_value, IsEventOf, IsTraceOf, SpellsTraceIn, SpellsTrace, TraceTextFault}
 use Rattle.blk_text.specs.BioTable.{bio_cells}
 use Rattle.blk_lists.specs.Tables.{FitsCells}
-use Rattle.blk_text.specs.Versions.{latest}
+use Rattle.blk_text.specs.declared.setup.TheConstants.{LATEST}
 use Rattle.blk_lists.specs.declared.fault.Why.{Why}
 use Rattle.blk_lists.specs.declared.fault.Why.TheVariants as why
 use Rattle.blk_text.specs.declared.heads.TraceTitle.{TraceTitle}
@@ -63,9 +63,9 @@ events_same : (version : ℕ) (setup : Setup) (before es : List Happened) → al
 events_same version setup before [] = refl
 events_same version setup before (e ∷ es) = λ i. event_same version setup before e i ++ events_same version setup (before ++ e ∷ []) es i
 
-pub rows_are : (t : Traced) → trace_rows t ≡ trace_form.rows_of (trace_value latest t)
+pub rows_are : (t : Traced) → trace_rows t ≡ trace_form.rows_of (trace_value LATEST t)
 rows_are t =
-    let others : flat_map event_rows t.events ≡ all_rows (event latest t.setup) with_next [] t.events ++ [] = sym (append-nil (all_rows (event latest t.setup) with_next [] t.events) ∙ events_same latest t.setup [] t.events) in
+    let others : flat_map event_rows t.events ≡ all_rows (event LATEST t.setup) with_next [] t.events ++ [] = sym (append-nil (all_rows (event LATEST t.setup) with_next [] t.events) ∙ events_same LATEST t.setup [] t.events) in
     λ i. title_row t.setup (length t.events) ∷ setup_row t.setup ∷ others i
 
 pub size_is : (version : ℕ) (setup : Setup) (es : List Happened) → size_of (event version setup) es ≡ length (flat_map event_rows es)
@@ -184,12 +184,12 @@ spells_in version t h v =
     (tt, (tt, (refl, refl)))
 
 -- the latest version has all
-latest_kind : (e : Happened) → IsEventOf latest e
+latest_kind : (e : Happened) → IsEventOf LATEST e
 latest_kind (Depth depth) = omega arith
 latest_kind e = tt
 
-pub rows_spell : (t : Traced) → IsTrace t → SpellsTraceIn latest (trace_rows t) t
-rows_spell t h = subst (λ rows. SpellsTraceIn latest rows t) (sym (rows_are t)) (spells_in latest t h (record { is_version = (omega arith, omega arith); tags = h.setup.is_setup.few_tags; kinds = λ k d l. latest_kind _ }))
+pub rows_spell : (t : Traced) → IsTrace t → SpellsTraceIn LATEST (trace_rows t) t
+rows_spell t h = subst (λ rows. SpellsTraceIn LATEST rows t) (sym (rows_are t)) (spells_in LATEST t h (record { is_version = (omega arith, omega arith); tags = h.setup.is_setup.few_tags; kinds = λ k d l. latest_kind _ }))
 
 -- what is written reads back
 

@@ -11,7 +11,8 @@ use Rattle.blk_lists.specs.Texts.{rows_text}
 use Rattle.blk_lists.specs.Reads.{items_of}
 use Rattle.blk_lists.specs.Tables.{Cell, Number, IsVersion, title_record, kinds_record}
 use Rattle.blk_text.specs.SetupRecord.{IsWholeSetup, setup}
-use Rattle.blk_text.specs.Versions.{latest, most_tags}
+use Rattle.blk_text.specs.Versions.{most_tags}
+use Rattle.blk_text.specs.declared.setup.TheConstants.{LATEST}
 use Rattle.blk_lists.specs.declared.fault.Why.{Why}
 use Rattle.blk_lists.specs.declared.fault.Why.TheVariants as why
 use Rattle.parts.specs.declared.Repeats.TheVariants as repeats
@@ -89,7 +90,7 @@ title_of s = record { depth = s.setup.depth; hw = s.setup.hw; soft_depth = s.sof
 
 -- the numbers of a script lie in their ranges, as the latest version has them
 pub record IsScript (s : Scripted) : Type 0 where
-  pub title : IsTitle latest (title_of s)
+  pub title : IsTitle LATEST (title_of s)
   pub enough : s.setup.hw ≤ s.submitters
   pub setup : IsWholeSetup s.setup
   pub lines : All (LineFits s.setup.hw s.submitters) s.lines
@@ -97,13 +98,13 @@ pub record IsScript (s : Scripted) : Type 0 where
 
 -- a script can be spelled in a version: it has no more tags than that, and no other steps
 pub record IsScriptOf (version : ℕ) (s : Scripted) : Type 0 where
-  pub is_version : IsVersion latest version
+  pub is_version : IsVersion LATEST version
   pub tags : s.setup.depth ≤ most_tags version
   pub steps : All (IsLineOf version) s.lines
 
 -- a title whose numbers lie in their own ranges
 abbrev pub plain_title : Part Row Why (ℕ × Title)
-plain_title = title_record (codes "blk-script") latest script_cells IsTitle
+plain_title = title_record (codes "blk-script") LATEST script_cells IsTitle
 
 -- as many submitters as hardware queues at least
 abbrev pub IsEnough : ℕ × Title → Type 0

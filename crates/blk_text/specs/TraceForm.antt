@@ -24,7 +24,8 @@ use Rattle.blk_lists.specs.Tables.{Cell, Blank, Number, FitsCells, IsVersion, ti
 use Rattle.blk_text.specs.BioTable.{bio_cells, IsNoSuchBio}
 use Rattle.blk_text.specs.SetupRecord.{setup}
 use Rattle.blk_text.specs.TraceRecords.{IsTrace}
-use Rattle.blk_text.specs.Versions.{latest, most_tags}
+use Rattle.blk_text.specs.Versions.{most_tags}
+use Rattle.blk_text.specs.declared.setup.TheConstants.{LATEST}
 use Rattle.blk_text.specs.declared.bios.TheConstants.{MAX_SUBMITTERS}
 use Rattle.blk_lists.specs.declared.fault.Why.{Why}
 use Rattle.blk_lists.specs.declared.fault.Why.TheVariants as why
@@ -45,7 +46,7 @@ pub record IsTraceTitle (version : ℕ) (t : TraceTitle) : Type 0 where
   pub count : t.count ≤ MAX_EVENTS
 
 abbrev pub trace_title_part : Part Row Why (ℕ × TraceTitle)
-trace_title_part = title_record (codes "blk-trace") latest trace_cells IsTraceTitle
+trace_title_part = title_record (codes "blk-trace") LATEST trace_cells IsTraceTitle
 
 -- the first record of an event tells it with the number of its bios in place of these
 abbrev pub Head : Type 0
@@ -160,7 +161,7 @@ IsEventOf version e = EventStandsIn version (said (event_told e).0).0
 
 -- a trace can be spelled in a version: it has no more tags than that, and no other events
 pub record IsTraceOf (version : ℕ) (t : Traced) : Type 0 where
-  pub is_version : IsVersion latest version
+  pub is_version : IsVersion LATEST version
   pub tags : t.setup.depth ≤ most_tags version
   pub kinds : All (IsEventOf version) t.events
 

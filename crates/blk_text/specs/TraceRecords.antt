@@ -12,7 +12,7 @@ use Rattle.blk_trace.specs.Legal.{IsLegalTrace}
 use Rattle.blk_lists.specs.Sources.{Row}
 use Rattle.blk_text.specs.BioRecord.{bio_row}
 use Rattle.blk_text.specs.SetupRecord.{setup_row, IsWholeSetup}
-use Rattle.blk_text.specs.Versions.{latest}
+use Rattle.blk_text.specs.declared.setup.TheConstants.{LATEST}
 use Rattle.blk_lists.specs.declared.fields.TheConstants.{MAX_TAGS}
 use Rattle.blk_text.specs.declared.bios.TheConstants.{MAX_SUBMITTERS}
 
@@ -36,7 +36,7 @@ event_rows (Depth depth) = word_row (codes "depth") (decimal depth) [] ∷ []
 
 -- title: blk-trace, the latest version, depth, hardware queues, number of events, empty
 abbrev pub title_row : Setup → ℕ → Row
-title_row s count = codes "blk-trace" ∷ decimal latest ∷ decimal s.depth ∷ decimal s.hw ∷ decimal count ∷ [] ∷ []
+title_row s count = codes "blk-trace" ∷ decimal LATEST ∷ decimal s.depth ∷ decimal s.hw ∷ decimal count ∷ [] ∷ []
 
 -- the title, the setup, and the records of each event in turn
 abbrev pub trace_rows : Traced → List Row

@@ -1,11 +1,7 @@
 -- The versions of scripts and of traces.
 use Rattle.std.specs.Prelude.{ℕ, zero, suc}
-use Rattle.blk_trace.specs.declared.setup.TheConstants.{MAX_DEPTH}
+use Rattle.edd_commands.specs.declared.steps.TheConstants.{MAX_DEPTH}
 use Rattle.blk_text.specs.declared.setup.TheConstants.{LATEST, MAX_DEPTH_1}
-
--- the latest one, which is written
-abbrev pub latest : ℕ
-latest = LATEST
 
 -- the most tags that a title may have in a version
 abbrev pub most_tags : ℕ → ℕ

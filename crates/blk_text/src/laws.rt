@@ -9,7 +9,7 @@ ghost use Rattle.blk_lists.specs.Laws.{ValueOrFault, NeverBoth, OneFault};
 ghost use Rattle.blk_text.specs.Script.{Scripted, SpellsScript, ScriptFault, OneScript, ScriptReadsBack};
 ghost use Rattle.blk_text.specs.TraceRecords.{trace_rows, IsTrace};
 ghost use Rattle.blk_text.specs.TraceForm.{SpellsTraceIn, SpellsTrace, TraceTextFault, OneTrace, TraceReadsBack};
-ghost use Rattle.blk_text.specs.Versions.{latest};
+ghost use Rattle.blk_text.specs.declared.setup.TheConstants.{LATEST};
 
 /// Scripts: records spell one at most, and in one version. The text of one in a version that has its tags and its steps reads
 /// back as its records, which spell it. Records either spell one or have a fault as one, and not both; and they have one first
@@ -29,7 +29,7 @@ pub fn scripts()
 pub fn traces()
     ensures once { (rows : List Row) → OneTrace rows }
     ensures rows { (t : Traced) → records default_config (strip_bom (rows_text (trace_rows t))) ≡ trace_rows t }
-    ensures spell { (t : Traced) → IsTrace t → SpellsTraceIn latest (trace_rows t) t }
+    ensures spell { (t : Traced) → IsTrace t → SpellsTraceIn LATEST (trace_rows t) t }
     ensures versions { (version : ℕ) → (t : Traced) → TraceReadsBack version t }
     ensures legal { (rows : List Row) → (t : Traced) → SpellsTrace rows t → IsTrace t }
     ensures decided { ValueOrFault SpellsTrace TraceTextFault }

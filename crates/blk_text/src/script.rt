@@ -9,7 +9,7 @@ ghost use Rattle.blk_text.specs.StepKinds as kind;
 ghost use Rattle.blk_text.specs.Script.{step, IsScript, SpellsScript, ScriptFault, scripted, script_form};
 ghost use Rattle.blk_text.specs.StepRecords.{step_row};
 ghost use Rattle.drafts.specs.Drafts.{drafted};
-ghost use Rattle.blk_bio.specs.declared.limits.TheConstants.{MAX_QUEUES as ALL_QUEUES, MAX_SOFT_QUEUES as ALL_SUBMITTERS};
+ghost use Rattle.blk_bio.specs.declared.limits.TheConstants.{MAX_QUEUES as MAX_QUEUES, MAX_SOFT_QUEUES as MAX_SOFT_QUEUES};
 
 use crate::bios::{BIO, push_bio, read_bio};
 use crate::heads::{BACK, DEPTH, DONE, ISSUE, ONE, TICK};
@@ -141,8 +141,8 @@ pub(crate) struct StepForm {
     version: u64,
     hw: u8,
     submitters: u64,
-    ghost hw_in: { (1 ≤ hw) × (hw ≤ ALL_QUEUES) },
-    ghost submitters_in: { (1 ≤ submitters) × (submitters ≤ ALL_SUBMITTERS) },
+    ghost hw_in: { (1 ≤ hw) × (hw ≤ MAX_QUEUES) },
+    ghost submitters_in: { (1 ≤ submitters) × (submitters ≤ MAX_SOFT_QUEUES) },
 }
 
 /// The step of a record that is not a bio's.

@@ -9,8 +9,8 @@ ghost use Rattle.blk_lists.specs.Words.{StartsWith};
 ghost use Rattle.blk_text.specs.SetupRecord.{setup_cells, setup_row, IsWholeSetup, setup as setup_part};
 ghost use Rattle.blk_text.specs.Versions.{most_tags};
 ghost use Rattle.drafts.specs.Drafts.{drafted};
-ghost use Rattle.blk_bio.specs.declared.limits.TheConstants.{MAX_QUEUES as ALL_QUEUES};
-ghost use Rattle.blk_trace.specs.declared.setup.TheConstants.{MAX_DEPTH as MAX_DEPTH};
+ghost use Rattle.blk_bio.specs.declared.limits.TheConstants.{MAX_QUEUES as MAX_QUEUES};
+ghost use Rattle.edd_commands.specs.declared.steps.TheConstants.{MAX_DEPTH as MAX_DEPTH};
 ghost use Rattle.blk_lists.specs.Tables.{slots_by};
 ghost use Rattle.blk_lists.specs.declared.fields.Slot.TheVariants as slot;
 
@@ -19,9 +19,10 @@ use blk_lists::fault::Why;
 use blk_lists::fields::{Slot, begins_with, read_fields, without_word};
 use blk_lists::items::LineForm;
 use blk_lists::kinds::Kind;
-use blk_trace::{MAX_DEPTH, MAX_EXPIRIES, Setup};
+use blk_trace::{MAX_EXPIRIES, Setup};
 use csv::ByteRecord;
 use drafts::Block;
+use edd_commands::MAX_DEPTH;
 use std::alloc::AllocError;
 
 /// How many fields a record of a script and of a trace has.
@@ -123,7 +124,7 @@ pub(crate) struct SetupForm {
     pub depth: u64,
     pub hw: u8,
     ghost depth_in: { (0 < depth) × (depth ≤ MAX_DEPTH) },
-    ghost hw_in: { (0 < hw) × (hw ≤ ALL_QUEUES) },
+    ghost hw_in: { (0 < hw) × (hw ≤ MAX_QUEUES) },
 }
 
 impl LineForm for SetupForm {

@@ -9,7 +9,6 @@ ghost use Rattle.blk_lists.specs.Cells.{IsPlainWord};
 ghost use Rattle.drafts.specs.Drafts.{drafted};
 ghost use Rattle.blk_text.specs.TraceRecords.{group_rows, event_rows, trace_rows, BioFits, EventFits, IsTrace};
 ghost use Rattle.blk_text.specs.TraceForm.{SpellsTrace, SpellsTraceIn};
-ghost use Rattle.blk_text.specs.Versions.{latest};
 
 use crate::bios::push_bio;
 use crate::heads::{BACK, DEPTH, DONE, ISSUE, JOIN, RELEASE, TICK, TRACE};
@@ -98,9 +97,9 @@ pub fn write_trace<A: Allocator + Clone, W: Write>(
     ensures ok { OnOk result (Appends (W.contents writer.old) (W.contents writer.new) (rows_text (trace_rows trace.now))) }
     // the records of that text spell it: its numbers lie in the ranges of the form
     ensures spells { OnOk result (SpellsTrace (trace_rows trace.now) trace.now) }
-    ensures version { OnOk result (SpellsTraceIn latest (trace_rows trace.now) trace.now) }
+    ensures version { OnOk result (SpellsTraceIn LATEST (trace_rows trace.now) trace.now) }
     // the writer is asked only for such a text
-    ensures asked { (writer.new ≡ writer.old) ⊎ SpellsTraceIn latest (trace_rows trace.now) trace.now }
+    ensures asked { (writer.new ≡ writer.old) ⊎ SpellsTraceIn LATEST (trace_rows trace.now) trace.now }
     ensures memory { IfErr result (λ f. f ≡ WriteFault.Memory → writer.new ≡ writer.old) }
     // whatever the answer
     ensures part { AppendsPart (W.contents writer.old) (W.contents writer.new) (rows_text (trace_rows trace.now)) }

@@ -6,7 +6,7 @@ use Rattle.std.specs.Option.{option_and_then}
 use Rattle.std.proofs.lemmas.List.Elements.{All-cons, All-nil, All-map}
 use Rattle.std.proofs.lemmas.Bool.{or_left, or_right}
 use Rattle.edd_commands.specs.declared.Command.{Command}
-use Rattle.edd_commands.specs.Limits.{round_limit}
+use Rattle.edd_commands.specs.declared.TheConstants.{MAX_ROUNDS}
 use Rattle.blk_bio.specs.declared.bio.Dir.{Dir}
 use Rattle.blk_bio.specs.declared.bio.Dir.TheVariants.{Read, Write}
 use Rattle.blk_bio.specs.Requests.{dir_of}
@@ -114,10 +114,10 @@ expire_small : (setup : Setup) (dir : Dir) → IsSetup setup → expire_of setup
 expire_small setup Read is = is.read_in
 expire_small setup Write is = is.write_in
 
-commands_early : (setup : Setup) (es : List Happened) → IsSetup setup → IsLegalTrace setup es → All (λ (c : Command). (c.release ≤ MAX_EVENTS) × (c.due < round_limit)) (commands_of setup es)
+commands_early : (setup : Setup) (es : List Happened) → IsSetup setup → IsLegalTrace setup es → All (λ (c : Command). (c.release ≤ MAX_EVENTS) × (c.due < MAX_ROUNDS)) (commands_of setup es)
 unfolding commands_of
 commands_early setup es is legal =
-    All-map (λ (c : Command). (c.release ≤ MAX_EVENTS) × (c.due < round_limit)) (command_of setup es) (issued_ids es)
+    All-map (λ (c : Command). (c.release ≤ MAX_EVENTS) × (c.due < MAX_ROUNDS)) (command_of setup es) (issued_ids es)
     (λ k d h.
     let p : IsReleased es (get_or (issued_ids es) k d) = released_first setup es (get_or (issued_ids es) k d) legal (has_issued es (get_or (issued_ids es) k d) (place_has (issued_ids es) k d h)) in
     let s : IsDueSoon setup es (get_or (issued_ids es) k d) = soon setup es (get_or (issued_ids es) k d) legal (released_has es p.0 (get_or (issued_ids es) k d) p.1.0 p.1.1) in (

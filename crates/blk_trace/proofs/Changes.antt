@@ -6,7 +6,8 @@ use Rattle.std.proofs.lemmas.Bool.{cases_Bool, eqb-false}
 use Rattle.edd_commands.specs.declared.steps.Step.{Step}
 use Rattle.edd_commands.specs.declared.steps.CapacityFault.{CapacityFault}
 use Rattle.edd_commands.specs.declared.steps.CapacityFault.TheVariants.{Start, Rising, Depth, Round}
-use Rattle.edd_commands.specs.Limits.{most_depth, round_limit}
+use Rattle.edd_commands.specs.declared.steps.TheConstants.{MAX_DEPTH}
+use Rattle.edd_commands.specs.declared.TheConstants.{MAX_ROUNDS}
 use Rattle.edd_commands.specs.Capacity.{depth_after, depth_at, fixed, IsStepAt, IsCapacity, IsFault}
 use Rattle.blk_trace.specs.Happened.{Happened, Tick, Depth as DepthSet}
 use Rattle.blk_trace.specs.Kinds.{sets_depth, is_tick}
@@ -49,8 +50,8 @@ capacity_depth setup es x = last_same 0 (changes_of setup es) x
 -- a step that a capacity may have
 record IsGood (s : Step) : Type 0 where
   some : 0 < s.depth
-  few : s.depth ≤ most_depth
-  soon : s.from < round_limit
+  few : s.depth ≤ MAX_DEPTH
+  soon : s.from < MAX_ROUNDS
 
 -- good steps from the round n on, none before the one before it
 abbrev Follow : ℕ → List Step → Type 0
@@ -85,7 +86,7 @@ last_rise n (s ∷ steps) l =
     ]
 
 -- the changes of a list whose first event has the round r
-changes_follow : (r D : ℕ) (es : List Happened) → ((k d : ℕ) → At es k (DepthSet d) → (0 < d) × (d ≤ D)) → D ≤ most_depth → r + round_of es + 1 < round_limit → Follow (r + 1) (filter_map change (timed r es))
+changes_follow : (r D : ℕ) (es : List Happened) → ((k d : ℕ) → At es k (DepthSet d) → (0 < d) × (d ≤ D)) → D ≤ MAX_DEPTH → r + round_of es + 1 < MAX_ROUNDS → Follow (r + 1) (filter_map change (timed r es))
 unfolding timed
 changes_follow r D [] each most soon = tt
 changes_follow r D (DepthSet d ∷ es) each most soon =
@@ -144,7 +145,7 @@ unfolding capacity_of changes_of
 capacity_steps setup es is legal =
     let first : Step = record { from = 0; depth = setup.depth } in
     let good : IsGood first = record { some = is.some_tags; few = omega (arith, is.few_tags); soon = omega arith } in
-    let soon : 0 + round_of es + 1 < round_limit = omega (arith, rounds_within es, legal.not_too_long) in
+    let soon : 0 + round_of es + 1 < MAX_ROUNDS = omega (arith, rounds_within es, legal.not_too_long) in
     is_capacity first (filter_map change (timed 0 es)) refl good (changes_follow 0 setup.depth es legal.depth_range (omega (arith, is.few_tags)) soon)
 
 -- a capacity has no fault

@@ -2,7 +2,7 @@
 use Rattle.std.specs.Prelude.{ℕ, ◌≢◌, ◌<◌, ◌≤◌, ◌++◌, List, length, slice_index_or, All, IsPermutation}
 use Rattle.std.specs.List.{flat_map}
 use Rattle.edd_commands.specs.declared.Command.{Command}
-use Rattle.edd_commands.specs.Limits.{most_commands, round_limit}
+use Rattle.edd_commands.specs.declared.TheConstants.{MAX_COMMANDS, MAX_ROUNDS}
 use Rattle.edd_commands.specs.Schedule.{IsLegal}
 use Rattle.blk_trace.specs.declared.trace.TheConstants.{MAX_EVENTS}
 use Rattle.blk_trace.specs.Happened.{Happened}
@@ -17,8 +17,8 @@ IsScheduled setup events = IsLegal (commands_of setup events) (rounds_of events)
 
 -- few commands, each id once, each released in a round of the trace and due below the limit of rounds; and each goes out in a round of the trace
 pub record AreBounded (commands : List Command) (rounds : List ℕ) : Type 0 where
-  pub few : length commands ≤ most_commands
-  pub in_range : All (λ c. (c.release ≤ MAX_EVENTS) × (c.due < round_limit)) commands
+  pub few : length commands ≤ MAX_COMMANDS
+  pub in_range : All (λ c. (c.release ≤ MAX_EVENTS) × (c.due < MAX_ROUNDS)) commands
   pub distinct : (j k : ℕ) (d : Command) → j < k → k < length commands → (slice_index_or commands j d).id ≢ (slice_index_or commands k d).id
   pub in_time : All (λ r. r ≤ MAX_EVENTS) rounds
 

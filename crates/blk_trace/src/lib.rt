@@ -12,5 +12,5 @@ pub mod trace;
 pub use blk_bio::TraceRule;
 pub use event::Event;
 pub use rule::{PushFault, TraceFault};
-pub use setup::{MAX_DEPTH, MAX_EXPIRIES, Setup, SetupFault};
+pub use setup::{MAX_EXPIRIES, Setup, SetupFault};
 pub use trace::{MAX_EVENTS, Prepared, Trace};

@@ -4,10 +4,8 @@ ghost use Rattle.std.specs.Prelude.{◌≡◌, ◌<◌};
 ghost use Rattle.blk_trace.specs.Setups.{IsSetup, IsSetupAnswer, expire_of};
 
 use blk_bio::{Dir, Limits, MAX_QUEUES};
+use edd_commands::MAX_DEPTH;
 use std::marker::Model;
-
-/// The most tags: as many commands as a round may carry.
-pub const MAX_DEPTH: u64 = edd_commands::MAX_DEPTH;
 
 /// Every expiry lies below this number of rounds.
 pub const MAX_EXPIRIES: u64 = 1 << 40;

@@ -8,7 +8,6 @@
 ghost use Rattle.std.specs.Prelude.{◌≡◌, ◌≤◌, ◌<◌, ◌+◌, ◌-◌, ◌*◌, ◌&&◌, ◌↔◌, not, length, IsTrue, IfNone, IfSome, OnOk};
 ghost use Rattle.edd_check.specs.Names.{on_time_fault_name};
 ghost use Rattle.std.specs.List.{list_any};
-ghost use Rattle.edd_commands.specs.Limits.{round_limit};
 ghost use Rattle.edd_check.specs.OnTime.{number_on_time, IsOnTimeBound, IsMostOnTime, holds, lies_in, can_be_on_time, inside_of, outside_of, carried_in, carried_by, bound_of, IsCover, IsFirstAstray, CoverInRange};
 ghost use Rattle.edd_check.specs.CheckOnTime.{IsOnTimeAnswer, AcceptsOnTimeClaim};
 
@@ -124,7 +123,7 @@ pub fn outside(commands: &[Command], cover: &[Window]) -> u64
 /// How many commands the window's rounds, `from` to `due`, carry; `due` must lie below [`MAX_ROUNDS`].
 #[tactic(auto, unfolding(crate::specs::OnTime::carried_in))]
 pub fn carried_in<A: Allocator>(capacity: &Capacity<A>, window: Window) -> u64
-    requires { window.due < round_limit }
+    requires { window.due < MAX_ROUNDS }
     ensures value { result ≡ carried_in capacity.now window }
     ensures most { result ≤ MAX_DEPTH * (window.due + 1 - window.from) }
 {
@@ -136,7 +135,7 @@ pub fn carried_by<A: Allocator>(capacity: &Capacity<A>, cover: &[Window]) -> u64
     requires disjoint { IsCover cover.now }
     requires in_range { CoverInRange cover.now }
     ensures value { result ≡ carried_by capacity.now cover.now }
-    ensures small { result ≤ MAX_DEPTH * round_limit }
+    ensures small { result ≤ MAX_DEPTH * MAX_ROUNDS }
 {
     let mut total = 0;
     for window in cover {

@@ -2,7 +2,8 @@ use Rattle.std.specs.Prelude.{ℕ, ◌≡◌, ◌≤◌, ◌<◌, ◌+◌, ◌-�
 use Rattle.edd_commands.specs.declared.steps.Step.{Step}
 use Rattle.edd_commands.specs.declared.steps.CapacityFault.{CapacityFault}
 use Rattle.edd_commands.specs.declared.steps.CapacityFault.TheVariants.{Start, Rising, Depth, Round}
-use Rattle.edd_commands.specs.Limits.{most_depth, round_limit}
+use Rattle.edd_commands.specs.declared.steps.TheConstants.{MAX_DEPTH}
+use Rattle.edd_commands.specs.declared.TheConstants.{MAX_ROUNDS}
 use Rattle.faults.specs.Order.{BreaksFirst}
 
 -- the depth of the last of these steps that begins in the round x or before, or `depth` where none does
@@ -29,11 +30,11 @@ IsRising steps k = (d : Step) → 0 < k → (slice_index_or steps (k - 1) d).fro
 
 -- its rounds carry some commands, and at most the most
 abbrev pub HasDepth : List Step → ℕ → Type 0
-HasDepth steps k = (d : Step) → (0 < (slice_index_or steps k d).depth) × ((slice_index_or steps k d).depth ≤ most_depth)
+HasDepth steps k = (d : Step) → (0 < (slice_index_or steps k d).depth) × ((slice_index_or steps k d).depth ≤ MAX_DEPTH)
 
 -- it begins in a round within the limit
 abbrev pub HasRound : List Step → ℕ → Type 0
-HasRound steps k = (d : Step) → (slice_index_or steps k d).from < round_limit
+HasRound steps k = (d : Step) → (slice_index_or steps k d).from < MAX_ROUNDS
 
 -- nothing is wrong with the step at place k
 pub record IsStepAt (steps : List Step) (k : ℕ) : Type 0 where
@@ -63,6 +64,6 @@ IsFault steps Start = BreaksFirst (step_rules steps 0) 0 ((length steps ≡ 0) �
 IsFault steps (Rising p) =
     BreaksFirst (step_rules steps p) 1 ((0 < p) × ((d : Step) → (slice_index_or steps p d).from ≤ (slice_index_or steps (p - 1) d).from))
 IsFault steps (Depth p) =
-    BreaksFirst (step_rules steps p) 2 ((d : Step) → ((slice_index_or steps p d).depth ≡ 0) ⊎ (most_depth < (slice_index_or steps p d).depth))
+    BreaksFirst (step_rules steps p) 2 ((d : Step) → ((slice_index_or steps p d).depth ≡ 0) ⊎ (MAX_DEPTH < (slice_index_or steps p d).depth))
 IsFault steps (Round p) =
-    BreaksFirst (step_rules steps p) 3 ((d : Step) → round_limit ≤ (slice_index_or steps p d).from)
+    BreaksFirst (step_rules steps p) 3 ((d : Step) → MAX_ROUNDS ≤ (slice_index_or steps p d).from)

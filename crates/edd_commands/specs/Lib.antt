@@ -1,4 +1,3 @@
-pub mod Limits
 pub mod Capacity
 pub mod Schedule
 pub mod Inside

@@ -1,7 +1,7 @@
 use Rattle.std.specs.Prelude.{ℕ, ◌≡◌, ◌≤◌, ◌<◌, ◌==◌, List, length, count_by, slice_index, slice_index_or, ℤ, pos, ◌-ℤ◌, ◌≤ℤ◌, All}
 use Rattle.edd_commands.specs.declared.Command.{Command}
 use Rattle.edd_commands.specs.declared.steps.Step.{Step}
-use Rattle.edd_commands.specs.Limits.{round_limit}
+use Rattle.edd_commands.specs.declared.TheConstants.{MAX_ROUNDS}
 use Rattle.edd_commands.specs.Capacity.{depth_at}
 
 -- each command was released by its round
@@ -32,11 +32,11 @@ pub record IsGreatestLateness (commands : List Command) (rounds : List ℕ) (lat
 
 -- every release and due round is within the limit
 abbrev pub CommandsInRange : List Command → Type 0
-CommandsInRange commands = All (λ c. (c.release < round_limit) × (c.due < round_limit)) commands
+CommandsInRange commands = All (λ c. (c.release < MAX_ROUNDS) × (c.due < MAX_ROUNDS)) commands
 
 -- every round is within the limit
 abbrev pub RoundsInRange : List ℕ → Type 0
-RoundsInRange rounds = All (λ x. x < round_limit) rounds
+RoundsInRange rounds = All (λ x. x < MAX_ROUNDS) rounds
 
 -- every legal schedule is as late at least
 abbrev pub IsLowerBound : List Command → List Step → ℤ → Type 0

@@ -1,7 +1,6 @@
 //! How many commands each round carries.
 
 ghost use Rattle.std.specs.Prelude.{◌≡◌, ◌≤◌, ◌<◌, ◌-◌, ◌*◌, List, IfOk, IfErr, IfNone, IfSome, OnOk};
-ghost use Rattle.edd_commands.specs.Limits.{most_depth, round_limit};
 ghost use Rattle.edd_commands.specs.Capacity.{depth_at, carried, fixed, IsCapacity, IsFault};
 ghost use Rattle.edd_commands.specs.Inside.InForce.{IsInForce};
 
@@ -97,7 +96,7 @@ fn place_at(steps: &[Step], round: u64) -> usize
 /// The capacities of the rounds from `from` on and before `until`, step by step.
 fn sum_of(steps: &[Step], from: u64, until: u64) -> u64
     requires capacity { IsCapacity steps.now }
-    requires small { until < 2 * round_limit }
+    requires small { until < 2 * MAX_ROUNDS }
     ensures { result ≡ carried steps.now from (until - from) }
 {
     let mut place = place_at(steps, from);
@@ -133,7 +132,7 @@ impl<A: Allocator> Capacity<A> {
     /// The same depth, 1 to [`MAX_DEPTH`], in every round.
     pub fn fixed(alloc: A, depth: u64) -> Result<Capacity<A>, AllocError>
         requires some { 0 < depth }
-        requires most { depth ≤ most_depth }
+        requires most { depth ≤ MAX_DEPTH }
         ensures { IfOk result (λ c. c ≡ fixed depth) }
     {
         let mut steps = Vec::with_capacity(alloc, 1)?;
@@ -147,7 +146,7 @@ impl<A: Allocator> Capacity<A> {
     pub fn at(&self, round: u64) -> u64
         ensures value { result ≡ depth_at self.now round }
         ensures some { 0 < result }
-        ensures most { result ≤ most_depth }
+        ensures most { result ≤ MAX_DEPTH }
         ensures steps { IsCapacity self.now }
     {
         let steps = self.steps.as_slice();
@@ -157,7 +156,7 @@ impl<A: Allocator> Capacity<A> {
     /// How many commands the rounds from `from` on and before `until`, which is below 2^42, carry; 0 where there are none.
     /// It takes as long as there are steps in between.
     pub fn sum(&self, from: u64, until: u64) -> u64
-        requires { until < 2 * round_limit }
+        requires { until < 2 * MAX_ROUNDS }
         ensures value { result ≡ carried self.now from (until - from) }
         ensures steps { IsCapacity self.now }
     {

@@ -1,7 +1,7 @@
 //! How many commands of a schedule are late, and how many of them had to be.
 
 ghost use Rattle.std.specs.Prelude.{◌≡◌, ◌≤◌, ◌<◌, ◌↔◌, IfOk, IfSome, length, map};
-ghost use Rattle.edd_commands.specs.Limits.{most_commands};
+ghost use Rattle.edd_commands.specs.declared.TheConstants.{MAX_COMMANDS};
 ghost use Rattle.edd_commands.specs.Schedule.{IsLegal};
 ghost use Rattle.edd_check.specs.OnTime.{inside_of, IsCover, IsMostOnTime, CoverInRange};
 ghost use Rattle.edd_oracle.specs.Input.{IsTaken};
@@ -75,7 +75,7 @@ fn inside_each<A: Allocator>(
     cover: &[Window],
 ) -> Result<Vec<u64, A>, AllocError>
     requires disjoint { IsCover cover.now }
-    requires few { length commands.now ≤ most_commands }
+    requires few { length commands.now ≤ MAX_COMMANDS }
     ensures { IfOk result (λ v. v.items ≡ map (λ w. inside_of commands.now w) cover.now) }
 {
     let mut counts = Vec::new(alloc);
@@ -97,7 +97,7 @@ fn crowds<A: Allocator + Clone, B: Allocator>(
 ) -> Result<Vec<Crowd, A>, AllocError>
     requires disjoint { IsCover cover.now }
     requires in_range { CoverInRange cover.now }
-    requires few { length commands.now ≤ most_commands }
+    requires few { length commands.now ≤ MAX_COMMANDS }
     ensures { IfOk result (λ v. v.items ≡ map (λ w. crowd_of commands.now capacity.now w) cover.now) }
 {
     let counts = inside_each(alloc.clone()?, commands, cover)?;
@@ -172,7 +172,7 @@ fn counted<A: Allocator + Clone, B: Allocator, C: Allocator>(
     answer: &MostOnTime<C>,
 ) -> Result<Misses<A>, AllocError>
     requires legal { IsLegal commands.now rounds.now capacity.now }
-    requires few { length commands.now ≤ most_commands }
+    requires few { length commands.now ≤ MAX_COMMANDS }
     requires most { IsMostOf commands.now capacity.now answer.now }
     requires first { IsOnTimeFirst commands.now answer.now.rounds.items capacity.now }
     requires passed { HasPassedCover commands.now capacity.now answer.now }

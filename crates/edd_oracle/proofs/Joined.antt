@@ -7,7 +7,7 @@ use Rattle.edd_commands.specs.declared.Command.{Command}
 use Rattle.edd_check.specs.declared.Window.{Window}
 use Rattle.edd_commands.specs.declared.steps.Step.{Step}
 use Rattle.edd_commands.specs.Capacity.{depth_at}
-use Rattle.edd_commands.specs.Limits.{round_limit}
+use Rattle.edd_commands.specs.declared.TheConstants.{MAX_ROUNDS}
 use Rattle.edd_check.specs.OnTime.{CoverInRange}
 use Rattle.edd_commands.specs.Schedule.{places_at, CommandsInRange}
 use Rattle.edd_oracle.specs.declared.cover.Served.{Served}
@@ -141,7 +141,7 @@ cover_in commands rounds steps cover same first ranges are =
     let range = ranges is.place d (is.passed d).in_list in
     (omega (arith, known.0, range.0), omega (arith, is.is_due d, range.1))
 
-pub dues_small : (commands : List Command) (rounds passed : List ℕ) → CommandsInRange commands → All (IsPassedDue commands rounds) passed → All (λ x. x < round_limit) passed
+pub dues_small : (commands : List Command) (rounds passed : List ℕ) → CommandsInRange commands → All (IsPassedDue commands rounds) passed → All (λ x. x < MAX_ROUNDS) passed
 dues_small commands rounds passed ranges some =
     λ k e h.
     let d : Command = record { id = 0; release = 0; due = 0 } in

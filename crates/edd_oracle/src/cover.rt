@@ -5,7 +5,7 @@ ghost use Rattle.std.specs.Bool.{OnTrue, OnFalse};
 ghost use Rattle.std.specs.List.Sorted.{IsNonDecreasingBy};
 ghost use Rattle.edd_commands.specs.declared.Command.{Command};
 ghost use Rattle.edd_commands.specs.Capacity.{depth_at};
-ghost use Rattle.edd_commands.specs.Limits.{round_limit};
+ghost use Rattle.edd_commands.specs.declared.TheConstants.{MAX_ROUNDS};
 ghost use Rattle.edd_check.specs.OnTime.{CoverInRange};
 ghost use Rattle.edd_commands.specs.Schedule.{IsLegal, CommandsInRange, places_at};
 ghost use Rattle.edd_oracle.specs.OnTime.{IsOnTimeFirst, IsPassedCover};
@@ -49,7 +49,7 @@ fn passed_over<A: Allocator>(
 
 /// One more than the last of these due rounds, or 0 where there is none.
 fn past(dues: &[u64]) -> u64
-    requires in_range { All (λ x. x < round_limit) dues.now }
+    requires in_range { All (λ x. x < MAX_ROUNDS) dues.now }
     requires rising { IsNonDecreasingBy (λ x. x) dues.now }
     ensures { All (λ x. x < result) dues.now }
 {
@@ -105,7 +105,7 @@ fn all_due(served: &[Served], first: usize, past: usize, round: u64, due: u64) -
 fn begin<A: Allocator>(served: &[Served], capacity: &Capacity<A>, due: u64) -> u64
     requires rising { IsNonDecreasingBy (λ s. s.round) served.now }
     requires few { (y : ℕ) → running_at served.now y ≤ depth_at capacity.now y }
-    requires in_range { due < round_limit }
+    requires in_range { due < MAX_ROUNDS }
     ensures { IsServedStart served.now capacity.now due result }
 {
     let mut from = due + 1;
@@ -129,7 +129,7 @@ fn windows<A: Allocator, B: Allocator>(
     served: &[Served],
     capacity: &Capacity<B>,
 ) -> Result<Vec<Window, A>, AllocError>
-    requires in_range { All (λ x. x < round_limit) passed.now }
+    requires in_range { All (λ x. x < MAX_ROUNDS) passed.now }
     requires rising_dues { IsNonDecreasingBy (λ x. x) passed.now }
     requires rising { IsNonDecreasingBy (λ s. s.round) served.now }
     requires few { (y : ℕ) → running_at served.now y ≤ depth_at capacity.now y }

@@ -4,7 +4,7 @@ ghost use Rattle.std.specs.Prelude.{◌≡◌, ◌≤◌, ◌<◌, ◌+◌, ◌^
 ghost use Rattle.std.specs.List.Sorted.{IsNonDecreasingBy};
 ghost use Rattle.std.specs.BinaryHeap.{heap_items, IsHeap};
 ghost use Rattle.edd_commands.specs.Capacity.{depth_at};
-ghost use Rattle.edd_commands.specs.Limits.{most_commands};
+ghost use Rattle.edd_commands.specs.declared.TheConstants.{MAX_COMMANDS};
 ghost use Rattle.edd_commands.specs.Schedule.{IsLegal, RoundsInRange};
 ghost use Rattle.edd_commands.specs.declared.Command.{Command};
 ghost use Rattle.edd_oracle.specs.Input.{IsSolvable};
@@ -146,7 +146,7 @@ fn leave<A: Allocator + Clone, B: Allocator>(
     start: u64,
     passes: bool,
 ) -> Result<(), AllocError>
-    requires few { length commands.now ≤ most_commands }
+    requires few { length commands.now ≤ MAX_COMMANDS }
     requires in_range { All IsSolvable commands.now }
     requires begun { IsBegun commands.now rounds.old.items capacity.now start }
     ensures { OnOk result (HaveLeft passes commands.now rounds.old.items rounds.new.items capacity.now start) }
@@ -199,7 +199,7 @@ pub fn schedule<A: Allocator + Clone, B: Allocator>(
     commands: &[Command],
     capacity: &Capacity<B>,
 ) -> Result<Vec<u64, A>, AllocError>
-    requires few { length commands.now ≤ most_commands }
+    requires few { length commands.now ≤ MAX_COMMANDS }
     requires in_range { All IsSolvable commands.now }
     ensures legal { IfOk result (λ rounds. IsLegal commands.now rounds.items capacity.now) }
     ensures in_range { IfOk result (λ rounds. RoundsInRange rounds.items) }
@@ -217,7 +217,7 @@ pub fn schedule_on_time<A: Allocator + Clone, B: Allocator>(
     commands: &[Command],
     capacity: &Capacity<B>,
 ) -> Result<Vec<u64, A>, AllocError>
-    requires few { length commands.now ≤ most_commands }
+    requires few { length commands.now ≤ MAX_COMMANDS }
     requires in_range { All IsSolvable commands.now }
     ensures legal { IfOk result (λ rounds. IsLegal commands.now rounds.items capacity.now) }
     ensures in_range { IfOk result (λ rounds. RoundsInRange rounds.items) }

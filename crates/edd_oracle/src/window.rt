@@ -2,7 +2,7 @@
 
 ghost use Rattle.std.specs.Prelude.{◌≡◌, ◌<◌, ◌+◌, All, IfOk, length};
 ghost use Rattle.std.specs.Bool.{OnTrue, OnFalse};
-ghost use Rattle.edd_commands.specs.Limits.{round_limit};
+ghost use Rattle.edd_commands.specs.declared.TheConstants.{MAX_ROUNDS};
 ghost use Rattle.edd_commands.specs.Schedule.{CommandsInRange, RoundsInRange, IsLegal, IsGreatestLateness};
 ghost use Rattle.edd_check.specs.Window.{IsCrowded, WindowInRange};
 ghost use Rattle.edd_oracle.specs.Plan.{IsChosen, IsLatest, IsWindowStart, IsLatestWindow};
@@ -16,10 +16,10 @@ use std::alloc::{AllocError, Allocator};
 /// Whether the one command at its round comes before the other at its: by lateness, the later first, then by
 /// round, then by id.
 fn is_later(one: Command, x: u64, other: Command, y: u64) -> bool
-    requires one_due { one.due < round_limit }
-    requires other_due { other.due < round_limit }
-    requires one_round { x < round_limit }
-    requires other_round { y < round_limit }
+    requires one_due { one.due < MAX_ROUNDS }
+    requires other_due { other.due < MAX_ROUNDS }
+    requires one_round { x < MAX_ROUNDS }
+    requires other_round { y < MAX_ROUNDS }
     ensures yes { OnTrue result (IsChosen one x other y) }
     ensures no { OnFalse result (IsChosen other y one x) }
 {

@@ -3,7 +3,7 @@
 ghost use Rattle.std.specs.Prelude.{◌≡◌, ◌≤◌, ◌<◌, All, IfOk, IfNone, IfSome, Some, length, map, slice_set};
 ghost use Rattle.std.specs.List.{zip};
 ghost use Rattle.std.specs.List.Sorted.{IsNonDecreasingBy};
-ghost use Rattle.edd_commands.specs.Limits.{round_limit};
+ghost use Rattle.edd_commands.specs.declared.TheConstants.{MAX_ROUNDS};
 ghost use Rattle.edd_commands.specs.Schedule.{CommandsInRange};
 ghost use Rattle.edd_verdict.specs.Inside.Open.{EndsRise, BeginsRise, IsBeginPlace, AreOpen, EndsFall, IsInnermost, IsAsk, AreAsked, first_verdict_of, AreJudged, IsEntered, BeginLater};
 
@@ -118,7 +118,7 @@ fn open_windows<A: Allocator>(
 fn innermost(opened: &[Window], round: u64) -> Option<Window>
     requires begins { BeginsRise opened.now }
     requires ends { EndsFall opened.now }
-    requires small { round < round_limit }
+    requires small { round < MAX_ROUNDS }
     ensures none { IfNone result (BeginLater opened.now round) }
     ensures some { IfSome result (IsInnermost opened.now round) }
 {

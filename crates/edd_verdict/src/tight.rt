@@ -4,7 +4,7 @@ ghost use Rattle.std.specs.Prelude.{◌≡◌, ◌≤◌, ◌<◌, ◌-◌, ℕ,
 ghost use Rattle.edd_verdict.specs.declared.tight.Served.{Served as Running};
 ghost use Rattle.std.specs.List.Sorted.{IsNonDecreasingBy, IsPermutation};
 ghost use Rattle.edd_commands.specs.Capacity.{depth_at};
-ghost use Rattle.edd_commands.specs.Limits.{round_limit};
+ghost use Rattle.edd_commands.specs.declared.TheConstants.{MAX_ROUNDS};
 ghost use Rattle.edd_commands.specs.Schedule.{IsLegal, RoundsInRange};
 ghost use Rattle.edd_oracle.specs.Priority.{IsEarliestDueFirst};
 ghost use Rattle.edd_verdict.specs.Inside.Open.{AreFilled, AreOnTime};
@@ -80,10 +80,10 @@ fn full_rounds<A: Allocator, B: Allocator>(
     requires rising { IsNonDecreasingBy (λ s. s.round) served.now }
     requires some { (y : ℕ) → 0 < depth_at capacity.now y }
     requires few { (y : ℕ) → number_running served.now y ≤ depth_at capacity.now y }
-    requires timely { All (λ s. (s.round ≤ s.due) × (s.round < round_limit)) served.now }
+    requires timely { All (λ s. (s.round ≤ s.due) × (s.round < MAX_ROUNDS)) served.now }
     ensures full { IfOk result (λ full. AreFull served.now capacity.now full.items) }
     ensures rising { IfOk result (λ full. AreRising full.items) }
-    ensures timely { IfOk result (λ full. All (λ s. (s.round ≤ s.due) × (s.round < round_limit)) full.items) }
+    ensures timely { IfOk result (λ full. All (λ s. (s.round ≤ s.due) × (s.round < MAX_ROUNDS)) full.items) }
 {
     let mut full = Vec::new(alloc);
     for (place, last) in served.iter().enumerate() {
@@ -135,7 +135,7 @@ fn later_than(peaks: &[Served], due: u64) -> usize
 
 /// One more than the round of the last peak, or 0 where there is none.
 fn start_after(peaks: &[Served]) -> u64
-    requires { (e : Running) → 0 < length peaks.now → (last_or peaks.now e).round < round_limit }
+    requires { (e : Running) → 0 < length peaks.now → (last_or peaks.now e).round < MAX_ROUNDS }
     ensures none { length peaks.now ≡ 0 → result ≡ 0 }
     ensures some { (e : Running) → 0 < length peaks.now → result ≡ (last_or peaks.now e).round + 1 }
 {
@@ -151,7 +151,7 @@ fn start_after(peaks: &[Served]) -> u64
 /// window that ends before the peak's due round can't begin sooner.
 fn windows<A: Allocator + Clone>(alloc: A, full: &[Served]) -> Result<Vec<Window, A>, AllocError>
     requires rising { AreRising full.now }
-    requires timely { All (λ s. (s.round ≤ s.due) × (s.round < round_limit)) full.now }
+    requires timely { All (λ s. (s.round ≤ s.due) × (s.round < MAX_ROUNDS)) full.now }
     ensures { IfOk result (λ found. AreTight full.now found.items) }
 {
     let mut found = Vec::new(alloc.clone()?);

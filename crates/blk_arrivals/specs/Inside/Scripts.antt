@@ -1,6 +1,7 @@
 -- The rules of terms alone.
 use Rattle.std.specs.Prelude.{◌≤◌, ◌<◌, List, [], ◌∷◌}
-use Rattle.blk_trace.specs.declared.setup.TheConstants.{MAX_DEPTH, MAX_EXPIRIES}
+use Rattle.edd_commands.specs.declared.steps.TheConstants.{MAX_DEPTH}
+use Rattle.blk_trace.specs.declared.setup.TheConstants.{MAX_EXPIRIES}
 use Rattle.blk_arrivals.specs.declared.terms.Terms.{Terms}
 use Rattle.blk_arrivals.specs.declared.terms.ArrivalsFault.{ArrivalsFault}
 use Rattle.blk_arrivals.specs.declared.terms.ArrivalsFault.TheVariants as fault

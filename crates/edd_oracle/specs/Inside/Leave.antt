@@ -3,7 +3,7 @@ use Rattle.std.specs.Prelude.{ℕ, ◌≡◌, ◌≤◌, ◌<◌, ◌+◌, ◌-�
 use Rattle.edd_commands.specs.declared.Command.{Command}
 use Rattle.edd_commands.specs.declared.steps.Step.{Step}
 use Rattle.edd_commands.specs.Capacity.{depth_at}
-use Rattle.edd_commands.specs.Limits.{release_limit}
+use Rattle.edd_commands.specs.declared.TheConstants.{MAX_RELEASES}
 use Rattle.edd_oracle.specs.declared.queue.Released.{Released}
 use Rattle.edd_oracle.specs.declared.queue.Arrival.{Arrival}
 use Rattle.edd_oracle.specs.Inside.Queue.{IsWaiting, arrivals_of}
@@ -67,7 +67,7 @@ pub record IsBegun (commands : List Command) (rounds : List (Option ℕ)) (steps
   pub one_each : length rounds ≡ length commands
   pub before : (k x : ℕ) (d : Command) → slice_index_or rounds k None ≡ Some x → ((slice_index_or commands k d).release ≤ x) × (x < start)
   pub within : (x : ℕ) → placed_at rounds x ≤ depth_at steps x
-  pub room : start + unplaced_count rounds ≤ release_limit + length commands
+  pub room : start + unplaced_count rounds ≤ MAX_RELEASES + length commands
 
 -- a round that was given already is kept, and a new one lies from `start` on, where the command may have it
 abbrev pub IsKept : Bool → List Command → List (Option ℕ) → List (Option ℕ) → ℕ → Type 0
@@ -85,7 +85,7 @@ pub record HaveLeft (passes : Bool) (commands : List Command) (begun rounds : Li
   pub due_first : (x k p : ℕ) (d : Command) → start ≤ x → CouldRun passes commands rounds x k d → slice_index_or rounds p None ≡ Some x → ComesFirst (slice_index_or commands p d) (slice_index_or commands k d)
   pub all : (k : ℕ) → IsWaiting rounds k → IsTrue passes
   pub some : (x : ℕ) → 0 < depth_at steps x
-  pub room : (k x : ℕ) → slice_index_or rounds k None ≡ Some x → x + 1 + unplaced_count rounds ≤ release_limit + length commands
+  pub room : (k x : ℕ) → slice_index_or rounds k None ≡ Some x → x + 1 + unplaced_count rounds ≤ MAX_RELEASES + length commands
 
 -- one more than the last of the rounds, or 0 where there is none
 pub record IsAfter (rounds : List (Option ℕ)) (end : ℕ) : Type 0 where

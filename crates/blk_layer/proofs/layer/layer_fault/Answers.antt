@@ -1,5 +1,5 @@
 use Rattle.std.proofs.Common.{◌≡◌, ◌<◌, ◌≤◌, ◌⊎◌, rules, arith, subst, inl, inr, length}
-use Rattle.blk_soft.specs.Queues.{greatest_depth}
+use Rattle.blk_bio.specs.declared.limits.TheConstants.{MAX_SOFT_DEPTH}
 use Rattle.blk_hw.specs.Maps.{IsHwCount}
 use Rattle.blk_layer.specs.declared.layer.TheConstants.{MAX_WORKERS}
 use Rattle.blk_layer.proofs.Counted.{one_count}
@@ -14,7 +14,7 @@ returns-then-hw_count-hw-clause-some g c = λ (named : IsHwCount c.args.map.now 
 pub returns-then-soft_depth-eq0-clause-some : goal.returns-then-soft_depth-eq0-clause-some
 returns-then-soft_depth-eq0-clause-some g c =
     let same : c.hw_count.result ≡ c.args.hw = search rules in
-    let outside : (c.args.soft_depth ≡ 0) ⊎ (greatest_depth < c.args.soft_depth) = elim c.then-soft_depth-eq0.branch [
+    let outside : (c.args.soft_depth ≡ 0) ⊎ (MAX_SOFT_DEPTH < c.args.soft_depth) = elim c.then-soft_depth-eq0.branch [
       | then-soft_depth-eq0-via-then-soft_depth-eq0 w ↦ inl (search rules)
       | then-soft_depth-eq0-via-else-soft_depth-eq0+then-soft_depth-gt-MAX_SOFT_DEPTH w ↦ inr (omega arith)
     ] in
@@ -24,7 +24,7 @@ pub returns-then-is_empty-clause-some : goal.returns-then-is_empty-clause-some
 returns-then-is_empty-clause-some g c =
     let same : c.hw_count.result ≡ c.args.hw = search rules in
     let some : 1 ≤ c.args.soft_depth = omega arith in
-    let few : c.args.soft_depth ≤ greatest_depth = omega arith in
+    let few : c.args.soft_depth ≤ MAX_SOFT_DEPTH = omega arith in
     let outside : (length c.args.worker_queues.now ≡ 0) ⊎ (MAX_WORKERS < length c.args.worker_queues.now) = elim c.then-is_empty.branch [
       | then-is_empty-via-then-is_empty w ↦ inl (search rules)
       | then-is_empty-via-else-is_empty+then-worker_queues-gt-MAX_WORKERS w ↦ inr (search rules)
@@ -35,7 +35,7 @@ pub returns-in-Some-clause-some : goal.returns-in-Some-clause-some
 returns-in-Some-clause-some g c =
     let same : c.hw_count.result ≡ c.args.hw = search rules in
     let some : 1 ≤ c.args.soft_depth = omega arith in
-    let few : c.args.soft_depth ≤ greatest_depth = omega arith in
+    let few : c.args.soft_depth ≤ MAX_SOFT_DEPTH = omega arith in
     let workers : 0 < length c.args.worker_queues.now = search rules in
     let most : length c.args.worker_queues.now ≤ MAX_WORKERS = search rules in
     (subst (IsHwCount c.args.map.now) same c.hw_count.ensures.value, ((some, few), ((workers, most), c.in-Some.ensures.some)))
@@ -44,7 +44,7 @@ pub returns-in-None-clause-none : goal.returns-in-None-clause-none
 returns-in-None-clause-none g c =
     let same : c.hw_count.result ≡ c.args.hw = search rules in
     let some : 1 ≤ c.args.soft_depth = omega arith in
-    let few : c.args.soft_depth ≤ greatest_depth = omega arith in
+    let few : c.args.soft_depth ≤ MAX_SOFT_DEPTH = omega arith in
     let workers : 0 < length c.args.worker_queues.now = search rules in
     let most : length c.args.worker_queues.now ≤ MAX_WORKERS = search rules in
     record {

@@ -1,6 +1,6 @@
 use Rattle.std.proofs.Common.{◌≡◌, ◌≤◌, ◌+◌, ◌-◌, ◌/◌, ◌∙◌, ℕ, List, length, map, refl, sym, ap, subst, arith}
 use Rattle.std.specs.List.{All}
-use Rattle.edd_commands.specs.Limits.{most_commands}
+use Rattle.edd_commands.specs.declared.TheConstants.{MAX_COMMANDS}
 use Rattle.blk_report.specs.declared.below.CountAsk.{CountAsk}
 use Rattle.blk_report.specs.Inside.Below.{AreBelow, halves, half_of, answer_of, IsAskWithin}
 use Rattle.blk_report.proofs.Halving.{halves_many, half_limit, all_halved, all_answered, all_asks}
@@ -23,7 +23,7 @@ halves_of-requires g c =
       counts =
           subst (λ l. AreBelow l pivot c.as_slice-in-loop-limit-3.result.now) (sym c.as_slice-in-loop-limit-2.ensures.value)
           (subst (AreBelow xs pivot) (sym c.as_slice-in-loop-limit-3.ensures.value) (subst (λ l. AreBelow l pivot c.in_ok-counts.counts.items) c.as_slice.ensures.value c.in_ok-counts.ensures));
-      few = subst (λ l. length l ≤ most_commands) (sym c.as_slice-in-loop-limit-2.ensures.value) old.few;
+      few = subst (λ l. length l ≤ MAX_COMMANDS) (sym c.as_slice-in-loop-limit-2.ensures.value) old.few;
       asks =
           subst (λ l. All (IsAskWithin l (pivot + pivot)) c.as_slice-in-loop-limit.result.now) (sym c.as_slice-in-loop-limit-2.ensures.value)
           (subst (All (IsAskWithin xs (pivot + pivot))) (sym c.as_slice-in-loop-limit.ensures.value) (all_asks xs limit c.loop-limit.left.items old.asks));

@@ -1,7 +1,7 @@
 use Rattle.std.proofs.Common.{◌≡◌, ◌<◌, ℕ, List, length, get_or, sym, ◌∙◌, subst}
 use Rattle.std.specs.List.{All}
 use Rattle.std.proofs.lemmas.List.{get_or_default}
-use Rattle.edd_commands.specs.Limits.{round_limit}
+use Rattle.edd_commands.specs.declared.TheConstants.{MAX_ROUNDS}
 use Rattle.edd_oracle.specs.Plan.{due_at}
 use Rattle.edd_oracle.specs.OnTime.{IsPassedCover}
 use Rattle.edd_oracle.specs.Inside.Cover.{served_at, IsPassedDue}
@@ -11,12 +11,12 @@ use Rattle.edd_oracle.proofs.cover.cover.Goals as goal
 
 pub past-requires-clause-in_range : goal.past-requires-clause-in_range
 past-requires-clause-in_range g c =
-    subst (λ xs. All (λ x. x < round_limit) xs) (sym c.as_slice-dues.ensures.value)
+    subst (λ xs. All (λ x. x < MAX_ROUNDS) xs) (sym c.as_slice-dues.ensures.value)
     (dues_small c.args.commands.now c.args.rounds.now c.in_ok-passed.passed.items c.requires.commands_in c.in_ok-passed.ensures.some)
 
 pub windows-requires-clause-in_range : goal.windows-requires-clause-in_range
 windows-requires-clause-in_range g c =
-    subst (λ xs. All (λ x. x < round_limit) xs) (sym c.as_slice-dues.ensures.value)
+    subst (λ xs. All (λ x. x < MAX_ROUNDS) xs) (sym c.as_slice-dues.ensures.value)
     (dues_small c.args.commands.now c.args.rounds.now c.in_ok-passed.passed.items c.requires.commands_in c.in_ok-passed.ensures.some)
 
 found : (g : Over) (c : goal.After-drop-passed-2 g) → IsPassedCover c.args.commands.now c.args.rounds.now c.args.capacity.now c.reverse.new.self.items
