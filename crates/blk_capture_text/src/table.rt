@@ -5,7 +5,8 @@ ghost use Rattle.std.specs.List.{flat_map};
 ghost use Rattle.std.specs.Io.KnownBytes.{Appends};
 ghost use Rattle.drafts.specs.Parts.{AppendsPart};
 ghost use Rattle.blk_bio.specs.Letters.{direction_text};
-ghost use Rattle.blk_capture_text.specs.TableText.{next_field, known_text, range_fields, time_fields, row_line, table_lines};
+ghost use Rattle.blk_capture_text.specs.TableText.{known_text, range_fields, time_fields, row_line, table_lines};
+ghost use Rattle.drafts.specs.Drafts.{next_field};
 
 use blk_bio::Dir;
 use blk_capture::RequestRow;

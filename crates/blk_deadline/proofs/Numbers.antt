@@ -4,34 +4,18 @@ use Rattle.std.specs.Prelude.{Option, None, Some}
 use Rattle.blk_bio.specs.declared.bio.Dir.{Dir}
 use Rattle.blk_bio.specs.declared.bio.Dir.TheVariants.{Read, Write}
 use Rattle.blk_sched.specs.Meaning.{is_same}
+use Rattle.blk_sched.specs.Policies.{switch_number}
+use Rattle.blk_sched.proofs.Numbers.{one_switch, head_of, tail_of, none_is, some_is}
 use Rattle.blk_deadline.specs.declared.Last.{Last}
 use Rattle.blk_deadline.specs.declared.BatchState.{BatchState}
 use Rattle.blk_deadline.specs.declared.Tunables.{Tunables}
-use Rattle.blk_deadline.specs.Choice.{number_of, last_numbers, deadline_kept}
+use Rattle.blk_deadline.specs.Choice.{last_numbers, deadline_kept}
 
-one_bool : (a b : Bool) → number_of a ≡ number_of b → a ≡ b
-one_bool true true h = refl
-one_bool false false h = refl
-one_bool true false h = let e : 1 ≡ 0 = h in absurd (omega (arith, e))
-one_bool false true h = let e : 0 ≡ 1 = h in absurd (omega (arith, e))
-
-one_dir : (d e : Dir) → number_of (is_same d Write) ≡ number_of (is_same e Write) → d ≡ e
+one_dir : (d e : Dir) → switch_number (is_same d Write) ≡ switch_number (is_same e Write) → d ≡ e
 one_dir Read Read h = refl
 one_dir Write Write h = refl
 one_dir Read Write h = let e : 0 ≡ 1 = h in absurd (omega (arith, e))
 one_dir Write Read h = let e : 1 ≡ 0 = h in absurd (omega (arith, e))
-
-head_of : (x y : ℕ) (xs ys : List ℕ) → x ∷ xs ≡ y ∷ ys → x ≡ y
-head_of x y xs ys h = cc
-
-tail_of : (x y : ℕ) (xs ys : List ℕ) → x ∷ xs ≡ y ∷ ys → xs ≡ ys
-tail_of x y xs ys h = cc
-
-none_is : (x : ℕ) (xs : List ℕ) → [] ≡ x ∷ xs → ⊥
-none_is x xs h = absurd (cc)
-
-some_is : (x : ℕ) (xs : List ℕ) → x ∷ xs ≡ [] → ⊥
-some_is x xs h = absurd (cc)
 
 one_last : (a b : Option Last) → last_numbers a ≡ last_numbers b → a ≡ b
 one_last None None h = refl
@@ -50,7 +34,7 @@ one_kept t u s v h =
     let h2 = tail_of _ _ _ _ h1 in
     let h3 = tail_of _ _ _ _ h2 in
     let h4 = tail_of _ _ _ _ h3 in
-    let front : s.front_merges ≡ v.front_merges = one_bool _ _ (head_of _ _ _ _ h2) in
+    let front : s.front_merges ≡ v.front_merges = one_switch _ _ (head_of _ _ _ _ h2) in
     let last : t.last ≡ u.last = one_last t.last u.last (tail_of _ _ _ _ h4) in (
       (λ i. record { last = last i; batching = head_of _ _ _ _ h3 i; starved = head_of _ _ _ _ h4 i }),
       (λ i. record { fifo_batch = head_of _ _ _ _ h i; writes_starved = head_of _ _ _ _ h1 i; front_merges = front i }),

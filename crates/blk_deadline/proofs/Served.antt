@@ -14,33 +14,8 @@ use Rattle.blk_sched.specs.Fits.{IsNewestFit}
 use Rattle.blk_sched.proofs.Maps.{first_found, none_found}
 use Rattle.blk_index.specs.Index.{IsOldest, NoneOf, IsJoined}
 use Rattle.blk_deadline.specs.Choice.{serves_all, is_same, has_dir, oldest_of}
-use Rattle.blk_deadline.specs.Inside.Parts.{meaning_with}
+use Rattle.blk_deadline.specs.Inside.Parts.{meaning_of_parts}
 use Rattle.blk_sched.specs.Meaning.{Picks, OpenPicks, opened}
-
-pub candidate_of : (m : Meaning) (hw : ℕ) (limits : Limits) (newcomer : List Bio) (id : ℕ) (side : Side) → IsNewestFit limits m.front (map.get m.pending) newcomer id side → HasCandidate serves_all hw limits newcomer m id side
-candidate_of m hw limits newcomer id side best = (
-  best.waiting,
-  record {
-    pending = best.is_found;
-    served = refl;
-    tried = best.fits.tried;
-    fits = best.fits.fits;
-    back_first = λ is_front back. let e : Back ≡ side = best.fits.only Back back in cc;
-    newest = λ other v s after there own tried fits. best.newest other v after there s tried fits;
-  },
-)
-
-pub joins : (m : Meaning) (new : Pending) (hw now : ℕ) (limits : Limits) (newcomer : List Bio) (id : ℕ) (side : Side) → HasCandidate serves_all hw limits newcomer m id side → IsJoined now newcomer m.pending id side new → Joins serves_all hw now limits newcomer m id side (record m { pending = new })
-joins m new hw now limits newcomer id side candidate join =
-    let w = candidate.0 in
-    let one : Some join.waiting ≡ Some w = sym join.was ∙ candidate.1.pending in
-    let same : join.waiting ≡ w = cc in (
-      w,
-      candidate.1,
-      ap (λ (x : Pending). let n : Meaning = record m { pending = x } in n) (join.is ∙ ap (λ (x : Waiting). map.insert m.pending id (joined_waiting side now newcomer x)) same),
-    )
-
--- ---- the oldest
 
 pub same_is : (d e : Dir) → d ≡ e → is_same d e ≡ true
 same_is Read Read h = refl
@@ -79,14 +54,3 @@ none_waits found reads writes k w there = elim (dir_of w.bios) as (λ d. dir_of 
 pub if_none : {X : Type 0} (r : Option X) {P Q : Type 0} → IfNone r P → (P → Q) → IfNone r Q
 if_none None h f = f h
 if_none (Some x) h f = tt
-
--- ---- the pick
-
-pub picks : (m new : Pending) (front : Bool) (hw id : ℕ) (p q : OpenPicks) (w : Waiting) → ((k : ℕ) (v : Waiting) → map.get m k ≡ Some v → v.id ≡ k) → map.get m id ≡ Some w → new ≡ map.remove m id → q ≡ opened (dir_of w.bios) p → Picks serves_all hw (meaning_with m p front) w (meaning_with new q front)
-picks m new front hw id p q w named there removed opens =
-    let own : w.id ≡ id = named id w there in (
-      ap (map.get m) own ∙ there,
-      refl,
-      ap (λ (x : Pending). meaning_with x q front) (removed ∙ ap (map.remove m) (sym own))
-          ∙ ap (λ (y : OpenPicks). let n : Meaning = record { pending = map.remove m w.id; open_picks = y; front = front } in n) opens,
-    )

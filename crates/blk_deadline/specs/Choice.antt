@@ -7,14 +7,10 @@ use Rattle.blk_bio.specs.declared.bio.Dir.{Dir}
 use Rattle.blk_bio.specs.declared.bio.Dir.TheVariants.{Read, Write}
 use Rattle.blk_bio.specs.Requests.{dir_of, first_of}
 use Rattle.blk_sched.specs.Meaning.{Waiting, Meaning}
-use Rattle.blk_sched.specs.Policies.{Policy, choosing}
+use Rattle.blk_sched.specs.Policies.{Policy, choosing, serves_all, switch_number}
 use Rattle.blk_deadline.specs.declared.Last.{Last}
 use Rattle.blk_deadline.specs.declared.BatchState.{BatchState}
 use Rattle.blk_deadline.specs.declared.Tunables.{Tunables}
-
--- it serves every request for every hardware queue
-abbrev pub serves_all : ℕ → Waiting → Bool
-serves_all hw w = true
 
 abbrev pub has_dir : Dir → Waiting → Bool
 has_dir dir w = is_same (dir_of w.bios) dir
@@ -95,17 +91,13 @@ batch_after batch None = batch
 batch_after batch (Some x) = x.1
 
 -- what it keeps beside its meaning, as numbers: the settings, the batch, how often reads went first, and the last position
-abbrev pub number_of : Bool → ℕ
-number_of false = 0
-number_of true = 1
-
 abbrev pub last_numbers : Option Last → List ℕ
 last_numbers None = []
-last_numbers (Some last) = number_of (is_same last.dir Write) ∷ last.first ∷ last.id ∷ []
+last_numbers (Some last) = switch_number (is_same last.dir Write) ∷ last.first ∷ last.id ∷ []
 
 abbrev pub deadline_kept : BatchState → Tunables → List ℕ
 deadline_kept batch tunables =
-    tunables.fifo_batch ∷ tunables.writes_starved ∷ number_of tunables.front_merges
+    tunables.fifo_batch ∷ tunables.writes_starved ∷ switch_number tunables.front_merges
     ∷ batch.batching ∷ batch.starved ∷ last_numbers batch.last
 
 -- where it stands and its settings are known by such numbers

@@ -1,5 +1,4 @@
 pub mod Listing
 pub mod Chosen
-pub mod Served
 mod Dues
 mod Lines

@@ -4,11 +4,7 @@ use Rattle.std.specs.List.{filter, Contains}
 use Rattle.std.specs.Option.{option_or}
 use Rattle.std.specs.FinMap as map
 use Rattle.blk_sched.specs.Meaning.{Waiting, Meaning}
-use Rattle.blk_sched.specs.Policies.{Policy, choosing}
-
--- it serves every request for every hardware queue
-abbrev pub serves_all : ℕ → Waiting → Bool
-serves_all hw w = true
+use Rattle.blk_sched.specs.Policies.{Policy, choosing, serves_all, switch_number}
 
 -- by the due round, and then by the id
 abbrev pub comes_before : Waiting → Waiting → Bool
@@ -48,12 +44,8 @@ pub record IsFirstOnTime (now : ℕ) (ws : List Waiting) (w : Waiting) : Type 0 
   pub late : w.due < now → All (λ v. (v.due < now) × IsNoLater w v) ws
 
 -- what it keeps beside its meaning, as a number: the setting
-abbrev pub number_of : Bool → ℕ
-number_of false = 0
-number_of true = 1
-
 abbrev pub earliest_kept : Bool → List ℕ
-earliest_kept late_last = number_of late_last ∷ []
+earliest_kept late_last = switch_number late_last ∷ []
 
 -- its choice by what it keeps: by the setting, which stays
 abbrev pub earliest_chooses : List ℕ → Meaning → ℕ → ℕ → Option Waiting → List ℕ → Type 0

@@ -1,4 +1,3 @@
--- What invariants and proofs alone need: due rounds and ids, in lines and in a set; a meaning of its parts.
+-- What invariants and proofs alone need: due rounds and ids, in lines and in a set.
 pub mod Dues
 pub mod Lines
-pub mod Meanings

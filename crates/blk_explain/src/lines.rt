@@ -4,7 +4,7 @@ ghost use Rattle.std.specs.Prelude.{◌≡◌, ◌<◌, ◌+◌, ◌-◌, ◌^�
 ghost use Rattle.csv.specs.Machine.{ends_at_end};
 ghost use Rattle.csv.specs.Reading.{is_bom, strip_bom};
 ghost use Rattle.blk_explain.specs.Lines.{state_after, begins, ends_line, line_at};
-ghost use Rattle.blk_explain.specs.Inside.Ends.{state_of};
+ghost use Rattle.blk_explain.specs.Inside.Ends.{line_state};
 
 /// Where the reading of records stands between two bytes.
 #[derive(Clone, Copy, Debug, PartialEq, Eq)]
@@ -25,7 +25,7 @@ enum ReadState {
 
 /// The same after one more byte of a field without quotes, or of what follows quotes.
 fn in_field(byte: u8) -> ReadState
-    ensures { state_of result ≡ state_after (state_of ReadState.Inside) byte }
+    ensures { line_state result ≡ state_after (line_state ReadState.Inside) byte }
 {
     match byte {
         b',' => ReadState::Start,
@@ -37,7 +37,7 @@ fn in_field(byte: u8) -> ReadState
 
 /// The same after one more byte.
 fn state_after(state: ReadState, byte: u8) -> ReadState
-    ensures { state_of result ≡ state_after (state_of state) byte }
+    ensures { line_state result ≡ state_after (line_state state) byte }
 {
     match state {
         ReadState::Returned if byte == b'\n' => ReadState::Between,
@@ -77,7 +77,7 @@ fn state_after(state: ReadState, byte: u8) -> ReadState
 
 /// Whether this is within a record.
 fn is_within(state: ReadState) -> bool
-    ensures { result ≡ ends_at_end (state_of state) }
+    ensures { result ≡ ends_at_end (line_state state) }
 {
     match state {
         ReadState::Between | ReadState::Returned => false,
@@ -109,7 +109,7 @@ fn unmarked(bytes: &[u8]) -> &[u8]
 
 /// Whether a record begins with a byte.
 fn begins(state: ReadState, byte: u8) -> bool
-    ensures { result ≡ begins (state_of state) byte }
+    ensures { result ≡ begins (line_state state) byte }
 {
     !is_within(state) && is_within(state_after(state, byte))
 }

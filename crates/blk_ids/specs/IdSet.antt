@@ -20,8 +20,8 @@ module _ {A : Type 0} where
   in_lists lists s n = serial_in (slice_get lists s) n
 
   -- whether an id is in the set
-  abbrev pub has_id : IdSet A → ℕ → ℕ → Bool
-  has_id x s n = in_lists x.lists.items s n || list_any (λ p. is_pair p s n) x.late.items
+  abbrev pub set_has : IdSet A → ℕ → ℕ → Bool
+  set_has x s n = in_lists x.lists.items s n || list_any (λ p. is_pair p s n) x.late.items
 
   -- how many ids can be put in without memory, at least
   abbrev pub spare : IdSet A → ℕ

@@ -3,7 +3,7 @@
 ghost use Rattle.std.specs.Prelude.{◌≡◌, ◌≤◌, ◌<◌, ◌+◌, ◌==◌, ◌&&◌, ◌||◌, ℕ, false, IfOk, OnOk, OnErr, length};
 ghost use Rattle.std.specs.Bool.{OnTrue, OnFalse};
 ghost use Rattle.std.specs.List.{list_any};
-ghost use Rattle.blk_ids.specs.IdSet.{has_id, in_lists, is_pair, spare};
+ghost use Rattle.blk_ids.specs.IdSet.{set_has, in_lists, is_pair, spare};
 ghost use Rattle.blk_ids.specs.Inside.Lists.{HasTheSame, HasOneMore, HasAll, LosesNone};
 
 use crate::serials::Serials;
@@ -22,7 +22,7 @@ pub struct IdSet<A: Allocator = Global> {
 impl<A: Allocator + Clone> IdSet<A> {
     /// No id. It takes no memory but for the allocators.
     pub fn new(alloc: A) -> Result<IdSet<A>, AllocError>
-        ensures { IfOk result (λ x. (s n : ℕ) → has_id x s n ≡ false) }
+        ensures { IfOk result (λ x. (s n : ℕ) → set_has x s n ≡ false) }
     {
         Ok(IdSet {
             lists: Vec::new(alloc.clone()?),
@@ -33,7 +33,7 @@ impl<A: Allocator + Clone> IdSet<A> {
     /// Whether the id is in the set.
     #[inline(always)]
     pub fn contains(&self, submitter: u8, serial: u64) -> bool
-        ensures { result ≡ has_id self.now submitter serial }
+        ensures { result ≡ set_has self.now submitter serial }
     {
         is_listed(self.lists.as_slice(), submitter, serial)
             || is_late(self.late.as_slice(), submitter, serial)
@@ -43,7 +43,7 @@ impl<A: Allocator + Clone> IdSet<A> {
     #[inline(always)]
     pub fn insert(&mut self, submitter: u8, serial: u64)
         requires { 1 ≤ spare self.old }
-        ensures ids { (s n : ℕ) → has_id self.new s n ≡ has_id self.old s n || ((submitter == s) && (serial == n)) }
+        ensures ids { (s n : ℕ) → set_has self.new s n ≡ set_has self.old s n || ((submitter == s) && (serial == n)) }
         ensures room { spare self.old ≤ spare self.new + 1 }
     {
         if !mark(&mut self.lists, submitter, serial) {
@@ -54,7 +54,7 @@ impl<A: Allocator + Clone> IdSet<A> {
     /// Makes room for as many ids more. The set stays, also where memory runs out.
     #[inline(always)]
     pub fn make_room(&mut self, ids: usize) -> Result<(), AllocError>
-        ensures same { (s n : ℕ) → has_id self.new s n ≡ has_id self.old s n }
+        ensures same { (s n : ℕ) → set_has self.new s n ≡ set_has self.old s n }
         ensures ok { OnOk result (ids ≤ spare self.new) }
         ensures room { spare self.old ≤ spare self.new }
     {

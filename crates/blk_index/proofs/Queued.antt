@@ -11,7 +11,7 @@ use Rattle.std.specs.FinMap as map
 use Rattle.std.proofs.lemmas.Bool.{eqb-true}
 use Rattle.blk_sched.specs.Meaning.{Waiting, Pending}
 use Rattle.blk_sched.proofs.Maps.{one_test, get_waiting, looked_up, no_entries}
-use Rattle.blk_index.specs.Inside.Queues.{pending_of, queue_at}
+use Rattle.blk_index.specs.Inside.Queues.{all_pending, queue_at}
 
 abbrev pub Queues : Type 0
 Queues = List Pending
@@ -61,7 +61,7 @@ lookup_append (e ∷ es) fs k =
     ∙ or_first (is_at (nat_cmp k) e.0) e.1 (lookup (is_at (nat_cmp k)) es) (lookup (is_at (nat_cmp k)) fs)
 
 abbrev pub found_in : Queues → ℕ → Option Waiting
-found_in queues k = map.get (pending_of queues) k
+found_in queues k = map.get (all_pending queues) k
 
 abbrev pub waiting_in : Queues → ℕ → ℕ → Option Waiting
 waiting_in queues hw id = map.get (queue_at queues hw) id
@@ -112,5 +112,5 @@ no_entry : (queues : Queues) → ((q : ℕ) → get_or queues q map.empty ≡ ma
 no_entry [] none = refl
 no_entry (m ∷ queues) none = ap (λ l. l ++ flat_map map.entries queues) (ap map.entries (none 0) ∙ no_entries) ∙ no_entry queues (λ q. none (suc q))
 
-pub none_pending : (queues : Queues) → ((q : ℕ) → get_or queues q map.empty ≡ map.empty) → pending_of queues ≡ map.empty
+pub none_pending : (queues : Queues) → ((q : ℕ) → get_or queues q map.empty ≡ map.empty) → all_pending queues ≡ map.empty
 none_pending queues none = ap (map.from_entries {R = nat_cmp}) (no_entry queues none)

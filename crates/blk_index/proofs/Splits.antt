@@ -15,7 +15,7 @@ use Rattle.blk_bio.specs.Limits.{Limits}
 use Rattle.blk_sched.specs.Meaning.{Waiting, Pending, joined_waiting}
 use Rattle.blk_sched.specs.Fits.{IsNewestFit, FitsNone, HasFit}
 use Rattle.blk_index.specs.Index.{IsJoined, IsOldest, IsFirst, NoneOf, FindsNothing}
-use Rattle.blk_index.specs.Inside.Queues.{AreSplit, pending_of, queue_at}
+use Rattle.blk_index.specs.Inside.Queues.{AreSplit, all_pending, queue_at}
 use Rattle.blk_index.specs.Queues.{if_served, served_of}
 use Rattle.blk_index.proofs.Served.{serves_it}
 use Rattle.blk_index.proofs.Queued.{Queues, swapped, found_in, waiting_in, found_changed, none_pending, got_inserted, got_removed, is_inserted, is_removed, stays_removed}
@@ -27,7 +27,7 @@ queue_is queues waiting hw m split low is =
     is ∙ get_or_default queues hw m map.empty within
 
 -- what a hardware queue has is what it serves of all that wait
-pub here : (queues : Queues) (waiting hw : ℕ) (self m : Pending) → AreSplit queues waiting → pending_of queues ≡ self → m ≡ queue_at queues hw → (k : ℕ) → map.get m k ≡ served_of hw self k
+pub here : (queues : Queues) (waiting hw : ℕ) (self m : Pending) → AreSplit queues waiting → all_pending queues ≡ self → m ≡ queue_at queues hw → (k : ℕ) → map.get m k ≡ served_of hw self k
 here queues waiting hw self m split v is k = ap (λ (n : Pending). map.get n k) is ∙ split.split hw k ∙ ap (λ (n : Pending). served_of hw n k) v
 
 -- ---- where a request is
@@ -84,7 +84,7 @@ module _ (queues : Queues) (waiting hw id : ℕ) (m : Pending) (x : Option Waiti
   found_then : (k : ℕ) → found_in (set queues hw m) k ≡ (if k == id then x else found_in queues k)
   found_then = let low : hw < length queues = omega (arith, t.low, t.split.count) in found_changed queues hw id m x low (alone queues waiting hw id t.split t.own) t.is
 
-  split_then : (count : ℕ) → count ≡ map.len (pending_of (set queues hw m)) → AreSplit (set queues hw m) count
+  split_then : (count : ℕ) → count ≡ map.len (all_pending (set queues hw m)) → AreSplit (set queues hw m) count
   split_then count counted =
       let low : hw < length queues = omega (arith, t.low, t.split.count) in
       record {
@@ -119,7 +119,7 @@ stays queues hw m after is same = ap (set queues hw) (same ∙ is) ∙ set-get_o
 
 -- ---- entering
 
-module _ (queues : Queues) (waiting hw : ℕ) (self m after : Pending) (w : Waiting) (v : pending_of queues ≡ self) (split : AreSplit queues waiting) (low : hw < MAX_QUEUES) (is : m ≡ queue_at queues hw) (own : w.hw ≡ hw) (none : map.get self w.id ≡ None) (put : after ≡ map.insert m w.id w) where
+module _ (queues : Queues) (waiting hw : ℕ) (self m after : Pending) (w : Waiting) (v : all_pending queues ≡ self) (split : AreSplit queues waiting) (low : hw < MAX_QUEUES) (is : m ≡ queue_at queues hw) (own : w.hw ≡ hw) (none : map.get self w.id ≡ None) (put : after ≡ map.insert m w.id w) where
   absent : found_in queues w.id ≡ None
   absent = ap (λ (n : Pending). map.get n w.id) v ∙ none
 
@@ -132,22 +132,22 @@ module _ (queues : Queues) (waiting hw : ℕ) (self m after : Pending) (w : Wait
     is = λ k. ap (λ (n : Pending). map.get n k) put ∙ got_inserted m w.id w k ∙ ap (λ (n : Pending). if k == w.id then Some w else map.get n k) is;
   }
 
-  put_in : pending_of (set queues hw after) ≡ map.insert (pending_of queues) w.id w
-  put_in = is_inserted (pending_of queues) (pending_of (set queues hw after)) w.id w (found_then queues waiting hw w.id after (Some w) enters)
+  put_in : all_pending (set queues hw after) ≡ map.insert (all_pending queues) w.id w
+  put_in = is_inserted (all_pending queues) (all_pending (set queues hw after)) w.id w (found_then queues waiting hw w.id after (Some w) enters)
 
-  pub entered_view : pending_of (set queues hw after) ≡ map.insert self w.id w
+  pub entered_view : all_pending (set queues hw after) ≡ map.insert self w.id w
   entered_view = put_in ∙ ap (λ (n : Pending). map.insert n w.id w) v
 
   pub entered_split : (count : ℕ) → count ≡ waiting + 1 → AreSplit (set queues hw after) count
   entered_split count more = split_then queues waiting hw w.id after (Some w) enters count (
-      more ∙ ap (λ n. n + 1) split.counted ∙ sym (count_put (pending_of queues) w.id w absent) ∙ ap map.len (sym put_in))
+      more ∙ ap (λ n. n + 1) split.counted ∙ sym (count_put (all_pending queues) w.id w absent) ∙ ap map.len (sym put_in))
 
-pub not_there : (queues : Queues) (waiting hw : ℕ) (self m : Pending) (id : ℕ) → pending_of queues ≡ self → AreSplit queues waiting → m ≡ queue_at queues hw → map.get self id ≡ None → map.get m id ≡ None
+pub not_there : (queues : Queues) (waiting hw : ℕ) (self m : Pending) (id : ℕ) → all_pending queues ≡ self → AreSplit queues waiting → m ≡ queue_at queues hw → map.get self id ≡ None → map.get m id ≡ None
 not_there queues waiting hw self m id v split is none = here queues waiting hw self m split v is id ∙ ap (if_served hw) none
 
 -- ---- joining
 
-module _ (queues : Queues) (waiting hw now : ℕ) (self m after : Pending) (id : ℕ) (newcomer : List Bio) (side : Side) (v : pending_of queues ≡ self) (split : AreSplit queues waiting) (low : hw < MAX_QUEUES) (is : m ≡ queue_at queues hw) (came : IsJoined now newcomer m id side after) where
+module _ (queues : Queues) (waiting hw now : ℕ) (self m after : Pending) (id : ℕ) (newcomer : List Bio) (side : Side) (v : all_pending queues ≡ self) (split : AreSplit queues waiting) (low : hw < MAX_QUEUES) (is : m ≡ queue_at queues hw) (came : IsJoined now newcomer m id side after) where
   one : Waiting
   one = came.waiting
 
@@ -167,10 +167,10 @@ module _ (queues : Queues) (waiting hw now : ℕ) (self m after : Pending) (id :
         ∙ ap (λ (n : Pending). if k == id then Some (joined_waiting side now newcomer came.waiting) else map.get n k) is;
   }
 
-  changed_in : pending_of (set queues hw after) ≡ map.insert (pending_of queues) id (joined_waiting side now newcomer came.waiting)
-  changed_in = is_inserted (pending_of queues) (pending_of (set queues hw after)) id (joined_waiting side now newcomer came.waiting) (found_then queues waiting hw id after (Some (joined_waiting side now newcomer came.waiting)) joining)
+  changed_in : all_pending (set queues hw after) ≡ map.insert (all_pending queues) id (joined_waiting side now newcomer came.waiting)
+  changed_in = is_inserted (all_pending queues) (all_pending (set queues hw after)) id (joined_waiting side now newcomer came.waiting) (found_then queues waiting hw id after (Some (joined_waiting side now newcomer came.waiting)) joining)
 
-  pub joined_view : IsJoined now newcomer self id side (pending_of (set queues hw after))
+  pub joined_view : IsJoined now newcomer self id side (all_pending (set queues hw after))
   joined_view = record {
     waiting = came.waiting;
     was = ap (λ (n : Pending). map.get n id) (sym v) ∙ was_there.0;
@@ -179,14 +179,14 @@ module _ (queues : Queues) (waiting hw now : ℕ) (self m after : Pending) (id :
 
   pub joined_split : AreSplit (set queues hw after) waiting
   joined_split = split_then queues waiting hw id after (Some (joined_waiting side now newcomer came.waiting)) joining waiting (
-      split.counted ∙ sym (count_changed (pending_of queues) id (joined_waiting side now newcomer came.waiting) came.waiting was_there.0) ∙ ap map.len (sym changed_in))
+      split.counted ∙ sym (count_changed (all_pending queues) id (joined_waiting side now newcomer came.waiting) came.waiting was_there.0) ∙ ap map.len (sym changed_in))
 
-pub fit_here : (queues : Queues) (waiting hw : ℕ) (self m : Pending) (limits : Limits) (newcomer : List Bio) (id : ℕ) (side : Side) → pending_of queues ≡ self → AreSplit queues waiting → m ≡ queue_at queues hw → HasFit limits (served_of hw self) newcomer id side → HasFit limits (map.get m) newcomer id side
+pub fit_here : (queues : Queues) (waiting hw : ℕ) (self m : Pending) (limits : Limits) (newcomer : List Bio) (id : ℕ) (side : Side) → all_pending queues ≡ self → AreSplit queues waiting → m ≡ queue_at queues hw → HasFit limits (served_of hw self) newcomer id side → HasFit limits (map.get m) newcomer id side
 fit_here queues waiting hw self m limits newcomer id side v split is fit = (fit.0, here queues waiting hw self m split v is id ∙ fit.1, fit.2)
 
 -- ---- looking
 
-module _ (queues : Queues) (waiting hw : ℕ) (self m : Pending) (v : pending_of queues ≡ self) (split : AreSplit queues waiting) (is : m ≡ queue_at queues hw) where
+module _ (queues : Queues) (waiting hw : ℕ) (self m : Pending) (v : all_pending queues ≡ self) (split : AreSplit queues waiting) (is : m ≡ queue_at queues hw) where
   pub newest_here : (limits : Limits) (newcomer : List Bio) (id : ℕ) (side : Side) → IsNewestFit limits true (map.get m) newcomer id side → IsNewestFit limits true (served_of hw self) newcomer id side
   newest_here limits newcomer id side best = record {
     waiting = best.waiting;
@@ -221,7 +221,7 @@ module _ (queues : Queues) (waiting hw : ℕ) (self m : Pending) (v : pending_of
 
 -- ---- taking out
 
-module _ (queues : Queues) (waiting hw : ℕ) (self m after : Pending) (id : ℕ) (w : Waiting) (v : pending_of queues ≡ self) (split : AreSplit queues waiting) (low : hw < MAX_QUEUES) (is : m ≡ queue_at queues hw) (there : map.get m id ≡ Some w) (gone : after ≡ map.remove m id) where
+module _ (queues : Queues) (waiting hw : ℕ) (self m after : Pending) (id : ℕ) (w : Waiting) (v : all_pending queues ≡ self) (split : AreSplit queues waiting) (low : hw < MAX_QUEUES) (is : m ≡ queue_at queues hw) (there : map.get m id ≡ Some w) (gone : after ≡ map.remove m id) where
   stood : (found_in queues id ≡ Some w) × (w.hw ≡ hw)
   stood = serves_it hw (found_in queues id) w (sym (split.split hw id) ∙ ap (λ (n : Pending). map.get n id) (sym is) ∙ there)
 
@@ -234,18 +234,18 @@ module _ (queues : Queues) (waiting hw : ℕ) (self m after : Pending) (id : ℕ
     is = λ k. ap (λ (n : Pending). map.get n k) gone ∙ got_removed m id k ∙ ap (λ (n : Pending). if k == id then None else map.get n k) is;
   }
 
-  taken_out : pending_of (set queues hw after) ≡ map.remove (pending_of queues) id
-  taken_out = is_removed (pending_of queues) (pending_of (set queues hw after)) id (found_then queues waiting hw id after None taking)
+  taken_out : all_pending (set queues hw after) ≡ map.remove (all_pending queues) id
+  taken_out = is_removed (all_pending queues) (all_pending (set queues hw after)) id (found_then queues waiting hw id after None taking)
 
-  pub taken_view : pending_of (set queues hw after) ≡ map.remove self id
+  pub taken_view : all_pending (set queues hw after) ≡ map.remove self id
   taken_view = taken_out ∙ ap (λ (n : Pending). map.remove n id) v
 
   pub taken_split : (count : ℕ) → count ≡ waiting - 1 → AreSplit (set queues hw after) count
   taken_split count less = split_then queues waiting hw id after None taking count (
-      less ∙ ap (λ n. n - 1) split.counted ∙ sym (count_out (pending_of queues) id w stood.0) ∙ ap map.len (sym taken_out))
+      less ∙ ap (λ n. n - 1) split.counted ∙ sym (count_out (all_pending queues) id w stood.0) ∙ ap map.len (sym taken_out))
 
   pub one_waits : 0 < waiting
-  one_waits = let some : 0 < map.len (pending_of queues) = some_waits (pending_of queues) id w stood.0 in omega (arith, some, split.counted)
+  one_waits = let some : 0 < map.len (all_pending queues) = some_waits (all_pending queues) id w stood.0 in omega (arith, some, split.counted)
 
 module _ (queues : Queues) (waiting hw : ℕ) (m after : Pending) (id : ℕ) (split : AreSplit queues waiting) (is : m ≡ queue_at queues hw) (none : map.get m id ≡ None) (gone : after ≡ map.remove m id) where
   pub nothing_taken : set queues hw after ≡ queues

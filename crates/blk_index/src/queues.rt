@@ -23,13 +23,13 @@ impl<A: Allocator> Model for Queues<A> {
     ghost use Rattle.std.specs.Coded.{coded_ℕ};
     ghost use Rattle.std.specs.FinMap.{code};
     ghost use Rattle.blk_sched.specs.Meaning.{Pending, waiting_code};
-    ghost use Rattle.blk_index.specs.Inside.Queues.{pending_of, AreSplit};
+    ghost use Rattle.blk_index.specs.Inside.Queues.{all_pending, AreSplit};
 
     ghost Value = { Pending };
 
     ghost coded = { code coded_ℕ waiting_code };
 
-    ghost view = { λ s. pending_of s.queues.items };
+    ghost view = { λ s. all_pending s.queues.items };
 
     ghost invariant = { λ s. AreSplit s.queues.items s.waiting };
 }

@@ -2,7 +2,7 @@
 
 ghost use Rattle.std.specs.Prelude.{◌≡◌, ◌+◌, ◌++◌, ◌∷◌, [], None, Some, length, slice_get, IfOk, OnOk, OnErr, IfSome};
 ghost use Rattle.std.specs.Bool.{OnTrue};
-ghost use Rattle.blk_index.specs.Inside.SlabKeys.{run_of, run_at, key_in, entries_of, key_of, GivesKey};
+ghost use Rattle.blk_index.specs.Inside.SlabKeys.{run_of, run_at, key_in, entries_of, slab_key_of, GivesKey};
 
 use crate::merge_hash::Hashing;
 use std::alloc::{AllocError, Allocator, Global};
@@ -42,7 +42,7 @@ impl<A: Allocator + Clone> SlabKeys<A> {
     /// The key of an id.
     #[inline(always)]
     pub fn get(&self, id: u64) -> Option<usize>
-        ensures { result ≡ key_of self.now id }
+        ensures { result ≡ slab_key_of self.now id }
     {
         match run_key(&self.run, self.from, id) {
             Some(key) => Some(key),
@@ -53,8 +53,8 @@ impl<A: Allocator + Clone> SlabKeys<A> {
     /// Gives a key to an id that has none. On a refusal nothing is changed.
     #[inline(always)]
     pub fn insert(&mut self, id: u64, key: usize) -> Result<(), AllocError>
-        requires { key_of self.old id ≡ None }
-        ensures ok { OnOk result (GivesKey (key_of self.old) id (Some key) (key_of self.new)) }
+        requires { slab_key_of self.old id ≡ None }
+        ensures ok { OnOk result (GivesKey (slab_key_of self.old) id (Some key) (slab_key_of self.new)) }
         ensures same { OnErr result (entries_of self.new ≡ entries_of self.old) }
     {
         self.begin_at(id);
@@ -77,8 +77,8 @@ impl<A: Allocator + Clone> SlabKeys<A> {
     /// Takes away the key of an id, if it has one. It takes no memory.
     #[inline(always)]
     pub fn remove(&mut self, id: u64) -> Option<usize>
-        ensures value { result ≡ key_of self.old id }
-        ensures taken { GivesKey (key_of self.old) id None (key_of self.new) }
+        ensures value { result ≡ slab_key_of self.old id }
+        ensures taken { GivesKey (slab_key_of self.old) id None (slab_key_of self.new) }
     {
         let found = take_key(&mut self.run, self.from, id);
         let other = take_other(&mut self.others, id);

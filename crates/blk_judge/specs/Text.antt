@@ -4,7 +4,8 @@ use Rattle.std.specs.List.{flat_map}
 use Rattle.edd_figures.specs.declared.lateness.Figures.{Figures}
 use Rattle.edd_figures.specs.declared.missing.Counts.{Counts}
 use Rattle.edd_figures.specs.declared.missing.Crowd.{Crowd}
-use Rattle.edd_figures.specs.Lines.{figure_line, figures_text, crowd_line, next_field, verdict_fields}
+use Rattle.edd_figures.specs.Lines.{figure_line, figures_text, crowd_line, verdict_fields}
+use Rattle.drafts.specs.Drafts.{next_field}
 use Rattle.blk_judge.specs.declared.missing.Miss.{Miss}
 
 -- the five lines of the counts

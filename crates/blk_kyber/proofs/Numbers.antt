@@ -4,31 +4,14 @@ use Rattle.std.specs.List.{flat_map}
 use Rattle.blk_bio.specs.declared.bio.Dir.{Dir}
 use Rattle.blk_bio.specs.declared.bio.Dir.TheVariants.{Read, Write}
 use Rattle.blk_kyber.specs.declared.turn.Turn.{Turn}
-use Rattle.blk_kyber.specs.State.{KyberState, number_of, dir_number, turn_numbers, numbers_of}
-
-one_bool : (a b : Bool) → number_of a ≡ number_of b → a ≡ b
-one_bool true true h = refl
-one_bool false false h = refl
-one_bool true false h = let e : 1 ≡ 0 = h in absurd (omega (arith, e))
-one_bool false true h = let e : 0 ≡ 1 = h in absurd (omega (arith, e))
+use Rattle.blk_kyber.specs.State.{KyberState, dir_number, turn_numbers, numbers_of}
+use Rattle.blk_sched.proofs.Numbers.{one_switch, head_of, tail_of, none_is, some_is}
 
 one_dir : (d e : Dir) → dir_number d ≡ dir_number e → d ≡ e
 one_dir Read Read h = refl
 one_dir Write Write h = refl
 one_dir Read Write h = let e : 0 ≡ 1 = h in absurd (omega (arith, e))
 one_dir Write Read h = let e : 1 ≡ 0 = h in absurd (omega (arith, e))
-
-head_of : (x y : ℕ) (xs ys : List ℕ) → x ∷ xs ≡ y ∷ ys → x ≡ y
-head_of x y xs ys h = cc
-
-tail_of : (x y : ℕ) (xs ys : List ℕ) → x ∷ xs ≡ y ∷ ys → xs ≡ ys
-tail_of x y xs ys h = cc
-
-none_is : (x : ℕ) (xs : List ℕ) → [] ≡ x ∷ xs → ⊥
-none_is x xs h = absurd (cc)
-
-some_is : (x : ℕ) (xs : List ℕ) → x ∷ xs ≡ [] → ⊥
-some_is x xs h = absurd (cc)
 
 one_turn : (t u : Turn) → t.dir ≡ u.dir → t.taken ≡ u.taken → t ≡ u
 one_turn t u d n = λ i. record { dir = d i; taken = n i }
@@ -52,8 +35,8 @@ one_kept a b h =
     let h5 = tail_of _ _ _ _ h4 in
     let h6 = tail_of _ _ _ _ h5 in
     let turns : a.turns ≡ b.turns = one_turns a.turns b.turns (tail_of _ _ _ _ h6) in
-    let missed_writes : a.limits.missed_writes ≡ b.limits.missed_writes = one_bool _ _ (head_of _ _ _ _ h6) in
-    let missed_reads : a.limits.missed_reads ≡ b.limits.missed_reads = one_bool _ _ (head_of _ _ _ _ h5) in
+    let missed_writes : a.limits.missed_writes ≡ b.limits.missed_writes = one_switch _ _ (head_of _ _ _ _ h6) in
+    let missed_reads : a.limits.missed_reads ≡ b.limits.missed_reads = one_switch _ _ (head_of _ _ _ _ h5) in
     λ i. record {
       targets = record { read = head_of _ _ _ _ h i; write = head_of _ _ _ _ h1 i };
       limits = record {

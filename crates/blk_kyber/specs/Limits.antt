@@ -62,13 +62,13 @@ set_anew limits = record {
 
 -- what is reported to a scheduler: a request of a direction is done, with how long it had waited, or a round began
 pub data KyberReport : Type 0 where
-  Done : (dir : Dir) → (wait : ℕ) → KyberReport
-  Tick : (round : ℕ) → KyberReport
+  Completed : (dir : Dir) → (wait : ℕ) → KyberReport
+  RoundBegan : (round : ℕ) → KyberReport
 
 -- the limits are set anew each time that a number of rounds have passed
 abbrev pub after_report : Targets → KyberReport → DirLimits → DirLimits
-after_report targets (Done dir wait) limits = if nat_lt (target_of dir targets) wait then missed dir limits else limits
-after_report targets (Tick round) limits = if round % ROUNDS_BETWEEN == 0 then set_anew limits else limits
+after_report targets (Completed dir wait) limits = if nat_lt (target_of dir targets) wait then missed dir limits else limits
+after_report targets (RoundBegan round) limits = if round % ROUNDS_BETWEEN == 0 then set_anew limits else limits
 
 -- the limits after all that was reported, the latest first
 abbrev pub kyber_limits : Targets → ℕ → List KyberReport → DirLimits

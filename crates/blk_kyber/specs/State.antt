@@ -6,10 +6,10 @@ use Rattle.std.specs.FinMap as map
 use Rattle.blk_bio.specs.declared.bio.Dir.{Dir}
 use Rattle.blk_bio.specs.declared.bio.Dir.TheVariants.{Read, Write}
 use Rattle.blk_sched.specs.Meaning.{Waiting, Meaning}
-use Rattle.blk_sched.specs.Policies.{Policy}
+use Rattle.blk_sched.specs.Policies.{Policy, switch_number}
 use Rattle.blk_kyber.specs.declared.Targets.{Targets}
 use Rattle.blk_kyber.specs.declared.turn.Turn.{Turn}
-use Rattle.blk_kyber.specs.Limits.{DirLimits, KyberReport, Done, Tick, after_report, kyber_limits}
+use Rattle.blk_kyber.specs.Limits.{DirLimits, KyberReport, Completed, RoundBegan, after_report, kyber_limits}
 use Rattle.blk_kyber.specs.Choice.{serves_own, first_turn, kyber_choice, chosen}
 
 -- the targets, the limits, and the turn of each hardware queue
@@ -42,10 +42,6 @@ Follows report old new =
     → new.limits ≡ kyber_limits old.targets depth (report ∷ earlier)
 
 -- the same as numbers
-abbrev pub number_of : Bool → ℕ
-number_of false = 0
-number_of true = 1
-
 abbrev pub dir_number : Dir → ℕ
 dir_number Read = 0
 dir_number Write = 1
@@ -56,7 +52,7 @@ turn_numbers turn = dir_number turn.dir ∷ turn.taken ∷ []
 abbrev pub numbers_of : KyberState → List ℕ
 numbers_of kept =
     kept.targets.read ∷ kept.targets.write ∷ kept.limits.depth ∷ kept.limits.reads ∷ kept.limits.writes
-    ∷ number_of kept.limits.missed_reads ∷ number_of kept.limits.missed_writes ∷ flat_map turn_numbers kept.turns
+    ∷ switch_number kept.limits.missed_reads ∷ switch_number kept.limits.missed_writes ∷ flat_map turn_numbers kept.turns
 
 -- as a scheduler's choice, and as what it keeps after a report
 abbrev pub Chooses : List ℕ → Meaning → ℕ → ℕ → Option Waiting → List ℕ → Type 0
@@ -71,6 +67,6 @@ abbrev pub kyber_policy : Policy
 kyber_policy = record {
   serves = serves_own;
   chooses = Chooses;
-  told_done = λ _ dir wait old new. IsReported (Done dir wait) old new;
-  told_tick = λ now old new. IsReported (Tick now) old new;
+  told_done = λ _ dir wait old new. IsReported (Completed dir wait) old new;
+  told_tick = λ now old new. IsReported (RoundBegan now) old new;
 }

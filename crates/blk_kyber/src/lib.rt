@@ -7,7 +7,7 @@ ghost use Rattle.blk_bio.specs.declared.bio.Dir.{Dir};
 ghost use Rattle.blk_bio.specs.Requests.{dir_of};
 ghost use Rattle.blk_sched.specs.Meaning.{Waiting, Meaning, HasCandidate, HasNoCandidate, Joins, ServesNothing, Picks, RequeuesPick, at_start, opened, open_of, requeued_of, unfinished};
 ghost use Rattle.blk_index.specs.Index.{IsIdOf, NoneOf};
-ghost use Rattle.blk_kyber.specs.Limits.{Done, Tick, limit_of, target_of, after_report};
+ghost use Rattle.blk_kyber.specs.Limits.{Completed, RoundBegan, limit_of, target_of, after_report};
 ghost use Rattle.blk_kyber.specs.Choice.{serves_own, first_turn, in_flight, chosen};
 ghost use Rattle.blk_kyber.specs.State.{KyberState, state_at_first, choice_for, after_pick, kept_told, Follows, numbers_of, Chooses, IsReported, kyber_policy};
 ghost use Rattle.blk_kyber.specs.Shown.{meaning_of, state_of};
@@ -223,10 +223,10 @@ impl<A: Allocator + Clone> Scheduler for Kyber<A> {
     fn on_done(&mut self, hw: u8, dir: Dir, wait: u64)
         requires hw { hw < MAX_QUEUES }
         requires is_open { 0 < open_of dir (meaning_of self.old).open_picks }
-        ensures limits { state_of self.new ≡ kept_told (Done dir wait) (state_of self.old) }
-        ensures reported { Follows (Done dir wait) (state_of self.old) (state_of self.new) }
+        ensures limits { state_of self.new ≡ kept_told (Completed dir wait) (state_of self.old) }
+        ensures reported { Follows (Completed dir wait) (state_of self.old) (state_of self.new) }
         ensures done { meaning_of self.old ≡ record (meaning_of self.new) { open_picks = opened dir (meaning_of self.new).open_picks } }
-        ensures told { IsReported (Done dir wait) (numbers_of (state_of self.old)) (numbers_of (state_of self.new)) }
+        ensures told { IsReported (Completed dir wait) (numbers_of (state_of self.old)) (numbers_of (state_of self.new)) }
     {
         let _ = hw;
         self.open_picks.close(dir);
@@ -259,10 +259,10 @@ impl<A: Allocator + Clone> Scheduler for Kyber<A> {
 
     /// Begins a round. Every [`ROUNDS_BETWEEN`] rounds the limits are set anew.
     fn on_tick(&mut self, now: u64)
-        ensures limits { state_of self.new ≡ kept_told (Tick now) (state_of self.old) }
-        ensures reported { Follows (Tick now) (state_of self.old) (state_of self.new) }
+        ensures limits { state_of self.new ≡ kept_told (RoundBegan now) (state_of self.old) }
+        ensures reported { Follows (RoundBegan now) (state_of self.old) (state_of self.new) }
         ensures same { meaning_of self.new ≡ meaning_of self.old }
-        ensures told { IsReported (Tick now) (numbers_of (state_of self.old)) (numbers_of (state_of self.new)) }
+        ensures told { IsReported (RoundBegan now) (numbers_of (state_of self.old)) (numbers_of (state_of self.new)) }
     {
         if now % ROUNDS_BETWEEN == 0 {
             self.limits.set_anew();

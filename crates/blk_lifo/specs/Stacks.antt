@@ -5,11 +5,7 @@ use Rattle.std.specs.BTreeMap.{is_at}
 use Rattle.std.specs.Map.{lookup}
 use Rattle.std.specs.FinMap as map
 use Rattle.blk_sched.specs.Meaning.{Waiting, Pending, Meaning, ServesNothing}
-use Rattle.blk_sched.specs.Policies.{Policy, choosing}
-
--- every hardware queue serves every request
-abbrev pub serves_all : ℕ → Waiting → Bool
-serves_all hw w = true
+use Rattle.blk_sched.specs.Policies.{Policy, choosing, serves_all}
 
 -- it holds nothing back: None only where nothing waits; which one it hands out is the order of entry, which its meaning leaves out
 abbrev pub lifo_chooses : List ℕ → Meaning → ℕ → ℕ → Option Waiting → List ℕ → Type 0

@@ -6,7 +6,8 @@
 ghost use Rattle.std.specs.Prelude.{◌≡◌, ◌<◌, ◌+◌, OnOk, IfErr, OnErr, IfSome, IfNone, IsSome, None, length};
 ghost use Rattle.std.specs.FinMap as map;
 ghost use Rattle.blk_sched.specs.Meaning.{HasCandidate, HasNoCandidate, Joins, at_start};
-ghost use Rattle.blk_lifo.specs.Stacks.{serves_all, lifo_policy, found};
+ghost use Rattle.blk_lifo.specs.Stacks.{lifo_policy, found};
+ghost use Rattle.blk_sched.specs.Policies.{serves_all};
 ghost use Rattle.blk_lifo.specs.Inside.Stacks.{IsNewest, IsNewestOf, IsFitAt, HasIdAt, JoinsPlace};
 
 use blk_bio::{Dir, Limits, Request, Side};

@@ -20,7 +20,8 @@ use Rattle.blk_core.specs.declared.calls.Placed.{Placed}
 use Rattle.blk_core.specs.declared.calls.Placed.TheVariants.{New, Joined as JoinedTo}
 use Rattle.blk_core.specs.State.{CoreState}
 use Rattle.blk_core.specs.Calls.{Places, Completes, Ends, SetsDepth}
-use Rattle.blk_earliest.specs.Choice.{serves_all, earliest_policy}
+use Rattle.blk_earliest.specs.Choice.{earliest_policy}
+use Rattle.blk_sched.specs.Policies.{serves_all}
 
 -- when a request is due that the scheduler has, and one that waits in the trace
 abbrev pub due_in : Pending → ℕ → Option ℕ

@@ -27,7 +27,8 @@ use Rattle.blk_trace.proofs.Waiting.{waiting_from}
 use Rattle.blk_core.specs.State.{CoreState}
 use Rattle.blk_core.specs.Calls.{SendsFrom}
 use Rattle.blk_sim.specs.Rounds.{GivesCommand, IssueInTurn, IssuesAll}
-use Rattle.blk_earliest.specs.Choice.{serves_all, earliest_choice, earliest_chooses, earliest_kept, earliest_policy}
+use Rattle.blk_earliest.specs.Choice.{earliest_choice, earliest_chooses, earliest_kept, earliest_policy}
+use Rattle.blk_sched.specs.Policies.{serves_all}
 use Rattle.blk_earliest.proofs.Chosen.{choice_first, choice_on_time, choice_none}
 use Rattle.blk_online.specs.Ticks.{AtTicks, WentOut}
 use Rattle.blk_online_sim.specs.ByRounds.{HoldsNow}

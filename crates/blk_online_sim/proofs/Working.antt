@@ -25,7 +25,8 @@ use Rattle.blk_core.specs.State.{CoreState}
 use Rattle.blk_core.specs.Calls.{Places, Completes, Ends, SetsDepth}
 use Rattle.blk_sim.specs.Moves.{EnterInTurn, DrainInTurn}
 use Rattle.blk_sim.specs.Rounds.{CompleteInTurn, Works, Rounds}
-use Rattle.blk_earliest.specs.Choice.{serves_all, earliest_kept, earliest_policy}
+use Rattle.blk_earliest.specs.Choice.{earliest_kept, earliest_policy}
+use Rattle.blk_sched.specs.Policies.{serves_all}
 use Rattle.blk_online.specs.Ticks.{AtTicks, WentOut, IsRoundFull}
 use Rattle.blk_online_sim.specs.ByRounds.{HoldsNow}
 use Rattle.blk_online_sim.proofs.Growing.{Grows, grows_both, legal_before, grows_entered, grows_drained, grows_completed, grows_ended, grows_worked}

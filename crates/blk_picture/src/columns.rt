@@ -9,7 +9,7 @@ ghost use Rattle.blk_trace.specs.Setups.{same_dir};
 ghost use Rattle.blk_picture.specs.Boxes.{boxes_of};
 ghost use Rattle.blk_picture.specs.Filled.{made};
 ghost use Rattle.blk_picture.specs.Columns.{is_late, round_in, rounds_in, entry_in, entered_in, in_column, waits_of, peaks_of, rooms_of, column_from, column_of};
-ghost use Rattle.blk_picture.specs.Inside.Counted.{HasOneMore, AreCounts, most_waits, by_column};
+ghost use Rattle.blk_picture.specs.Inside.Counted.{CountsOneMore, AreCounts, most_waits, by_column};
 
 use crate::boxes::IssueBox;
 use crate::scale::Scale;
@@ -157,7 +157,7 @@ fn entered(alloc: Global, events: &[Event<Request>], dir: Dir) -> Result<Vec<u32
 fn count_at(counts: &mut Vec<u32>, column: usize)
     requires { (c : ℕ) → c < length counts.old.items → slice_index_or counts.old.items c 0 < 2 ^ 31 }
     ensures each { length counts.new.items ≡ length counts.old.items }
-    ensures counts { HasOneMore column counts.old.items counts.new.items }
+    ensures counts { CountsOneMore column counts.old.items counts.new.items }
 {
     if column < counts.len() {
         counts[column] += 1;

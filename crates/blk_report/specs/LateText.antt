@@ -2,7 +2,8 @@
 use Rattle.std.specs.Prelude.{ℕ, ◌++◌, ◌∷◌, [], List, decimal, codes}
 use Rattle.std.specs.List.{flat_map}
 use Rattle.blk_bio.specs.Letters.{direction_text}
-use Rattle.edd_figures.specs.Lines.{next_field, verdict_fields}
+use Rattle.edd_figures.specs.Lines.{verdict_fields}
+use Rattle.drafts.specs.Drafts.{next_field}
 use Rattle.blk_report.specs.declared.serving.Service.{Service}
 use Rattle.blk_report.specs.declared.delays.LateCommand.{LateCommand}
 

@@ -3,7 +3,8 @@ use Rattle.std.specs.Prelude.{ℕ, ◌++◌, ◌∷◌, [], List, decimal, codes
 use Rattle.blk_report.specs.declared.spreading.Quantiles.{Quantiles}
 use Rattle.blk_report.specs.declared.spreading.ByDir.{ByDir}
 use Rattle.blk_report.specs.declared.spreading.Spreads.{Spreads}
-use Rattle.edd_figures.specs.Lines.{late_text, next_field}
+use Rattle.edd_figures.specs.Lines.{late_text}
+use Rattle.drafts.specs.Drafts.{next_field}
 
 -- the record of some quantiles: of what, of which direction, how many numbers there are, and the quantiles
 abbrev pub quantiles_row : List ℕ → List ℕ → Quantiles → List ℕ

@@ -5,7 +5,7 @@ ghost use Rattle.std.specs.List.{flat_map};
 ghost use Rattle.std.specs.Io.KnownBytes.{Appends};
 ghost use Rattle.drafts.specs.Parts.{AppendsPart};
 ghost use Rattle.blk_bio.specs.Letters.{direction_text};
-ghost use Rattle.edd_figures.specs.Lines.{next_field};
+ghost use Rattle.drafts.specs.Drafts.{next_field};
 ghost use Rattle.blk_report.specs.LateText.{request_fields, round_fields, wait_fields, late_line, late_lines};
 
 use crate::{LateCommand, Service};

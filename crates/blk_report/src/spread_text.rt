@@ -3,7 +3,8 @@
 ghost use Rattle.std.specs.Prelude.{◌≡◌, ◌++◌, IfOk, IfErr, OnOk, decimal};
 ghost use Rattle.std.specs.Io.KnownBytes.{Appends};
 ghost use Rattle.drafts.specs.Parts.{AppendsPart};
-ghost use Rattle.edd_figures.specs.Lines.{late_text, next_field};
+ghost use Rattle.edd_figures.specs.Lines.{late_text};
+ghost use Rattle.drafts.specs.Drafts.{next_field};
 ghost use Rattle.blk_report.specs.SpreadText.{quantiles_row, quantiles_rows, spread_text};
 
 use crate::{ByDir, Quantiles, Spreads};

@@ -11,7 +11,7 @@ use Rattle.blk_sim.specs.State.{SimState, start_of}
 use Rattle.blk_sim.specs.Runs.{Runs}
 use Rattle.blk_sim.specs.Refusals.{IsSimFault}
 use Rattle.blk_settings.specs.Made.{IsMade, IsUnmade}
-use Rattle.blk_settings.specs.Rows.{policy_of, meaning_of, numbers_at_first}
+use Rattle.blk_settings.specs.Rows.{policy_of, first_meaning, numbers_at_first}
 use Rattle.blk_settings.specs.declared.sched.Sched.{Sched}
 use Rattle.blk_runs.specs.declared.fault.RunFault.{RunFault}
 use Rattle.blk_runs.specs.declared.fault.RunFault.TheVariants as run
@@ -23,10 +23,10 @@ RunsFrom policy script meaning kept trace = (end : SimState) × Runs policy scri
 
 -- they do so from the start of a scheduler of these settings by a policy, and one of them is refused so; and by its own policy
 abbrev pub RunsBy : Policy → Sched → Scripted → Traced → Type 0
-RunsBy policy s script trace = IsMade s × RunsFrom policy script (meaning_of s) (numbers_at_first s script.setup.depth) trace
+RunsBy policy s script trace = IsMade s × RunsFrom policy script (first_meaning s) (numbers_at_first s script.setup.depth) trace
 
 abbrev pub IsRefusedBy : Policy → Sched → Scripted → SimFault → Type 0
-IsRefusedBy policy s script f = IsMade s × IsSimFault policy script (meaning_of s) (numbers_at_first s script.setup.depth) f
+IsRefusedBy policy s script f = IsMade s × IsSimFault policy script (first_meaning s) (numbers_at_first s script.setup.depth) f
 
 abbrev pub RunsUnder : Sched → Scripted → Traced → Type 0
 RunsUnder s script trace = RunsBy (policy_of s) s script trace

@@ -1,5 +1,5 @@
 -- What a scheduler does by rules of its own.
-use Rattle.std.specs.Prelude.{ℕ, ◌≡◌, Bool, List, Option}
+use Rattle.std.specs.Prelude.{ℕ, ◌≡◌, Bool, true, false, List, Option}
 use Rattle.blk_bio.specs.declared.bio.Dir.{Dir}
 use Rattle.blk_sched.specs.Meaning.{Waiting, Meaning}
 
@@ -30,3 +30,12 @@ choosing serves chooses = record {
   told_done = λ _ _ _ old new. new ≡ old;
   told_tick = λ _ old new. new ≡ old;
 }
+
+-- every request is served for every hardware queue
+abbrev pub serves_all : ℕ → Waiting → Bool
+serves_all hw w = true
+
+-- a switch as a number, among those that a scheduler keeps
+abbrev pub switch_number : Bool → ℕ
+switch_number false = 0
+switch_number true = 1

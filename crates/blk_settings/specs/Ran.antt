@@ -2,9 +2,9 @@
 use Rattle.std.specs.Prelude.{ℕ}
 use Rattle.blk_trace.specs.Traces.{Traced}
 use Rattle.blk_policy.specs.Runs.{IsRunBy}
-use Rattle.blk_settings.specs.Rows.{policy_of, meaning_of, numbers_at_first}
+use Rattle.blk_settings.specs.Rows.{policy_of, first_meaning, numbers_at_first}
 use Rattle.blk_settings.specs.declared.sched.Sched.{Sched}
 
 -- a trace is one that a scheduler of these settings makes, which begins with this depth: each command in it is one that it chose
 abbrev pub IsRunUnder : Sched → ℕ → Traced → Type 0
-IsRunUnder s depth trace = IsRunBy (policy_of s) (meaning_of s) (numbers_at_first s depth) trace
+IsRunUnder s depth trace = IsRunBy (policy_of s) (first_meaning s) (numbers_at_first s depth) trace

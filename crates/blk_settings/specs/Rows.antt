@@ -55,15 +55,15 @@ settings_of s = (row_for s).settings
 abbrev pub policy_of : Sched → Policy
 policy_of s = (row_for s).policy
 
-abbrev pub meaning_of : Sched → Meaning
-meaning_of s = (row_for s).meaning
+abbrev pub first_meaning : Sched → Meaning
+first_meaning s = (row_for s).meaning
 
 abbrev pub numbers_at_first : Sched → ℕ → List ℕ
 numbers_at_first s depth = (row_for s).kept depth
 
 -- one that is made and has no request yet
 abbrev pub IsStart : Sched → ℕ → Meaning → List ℕ → Type 0
-IsStart s depth meaning kept = IsMade s × (meaning ≡ meaning_of s) × (kept ≡ numbers_at_first s depth)
+IsStart s depth meaning kept = IsMade s × (meaning ≡ first_meaning s) × (kept ≡ numbers_at_first s depth)
 
 -- the schedulers that are compared, in the order in which they run
 abbrev pub earliest_row : Option Bool → List Sched

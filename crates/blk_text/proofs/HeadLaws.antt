@@ -6,7 +6,7 @@ use Rattle.blk_lists.specs.Words.{StartsWith, HasNoWord}
 use Rattle.blk_lists.specs.Fields.{Lacks, FieldsSpell}
 use Rattle.blk_lists.specs.Reads.{IsRowOf, IsWrongLine, IsOne}
 use Rattle.blk_lists.specs.Tables.{FitsCells, slots_by, kinds_record}
-use Rattle.blk_text.specs.EventKinds.{EventKind, kind_row, event_word, EventStandsIn, Says, event_fields}
+use Rattle.blk_text.specs.EventKinds.{EventKind, event_row, event_word, EventStandsIn, Says, event_fields}
 use Rattle.blk_text.specs.EventKinds as kind
 use Rattle.blk_text.specs.TraceForm.{Head, said, first_record}
 use Rattle.blk_lists.specs.declared.fault.Why.{Why}
@@ -40,7 +40,7 @@ stands_decided : (version : ℕ) (k : EventKind) → Dec (EventStandsIn version 
 stands_decided version kind.Depth = at_most 2 version
 stands_decided version k = inl tt
 
-sized : (k : EventKind) → SizedSlots (kind_row k).slots
+sized : (k : EventKind) → SizedSlots (event_row k).slots
 sized kind.Tick = tt
 sized kind.Release = (omega arith, (omega arith, tt))
 sized kind.Join = (omega arith, (omega arith, tt))
@@ -48,7 +48,7 @@ sized kind.Issue = (omega arith, (omega arith, tt))
 sized k = (omega arith, tt)
 
 tables : (k : EventKind) → IsTable (event_fields k) (FitsCells (event_fields k))
-tables k = row_table (kind_row k).slots (sized k)
+tables k = row_table (event_row k).slots (sized k)
 
 -- the first record of a kind
 abbrev head_with : (k : EventKind) → Says k → Head
@@ -87,7 +87,7 @@ word_long : (k : EventKind) → 0 < length (event_word k)
 word_long kind.Tick = omega arith
 word_long k = omega arith
 
-slots_are : (k : EventKind) → (kind_row k).slots ≡ slot.Given ∷ slots_by (event_fields k)
+slots_are : (k : EventKind) → (event_row k).slots ≡ slot.Given ∷ slots_by (event_fields k)
 slots_are kind.Tick = refl
 slots_are k = refl
 
@@ -98,7 +98,7 @@ Of version f k = EventStandsIn version k × (f ≡ event_word k)
 starts : (k : EventKind) (cells : Row) (f : List ℕ) → f ≡ get_or cells 0 [] → f ≡ event_word k → StartsWith (event_word k) cells
 starts k cells f at e = begins cells (event_word k) (word_long k) (sym at ∙ e)
 
-pub head_line : (version : ℕ) (h : Head) (cells : Row) (f ns : List ℕ) → f ≡ get_or cells 0 [] → (true ≡ true → Of version f (said h).0) → FieldsSpell (kind_row (said h).0).slots cells ns
+pub head_line : (version : ℕ) (h : Head) (cells : Row) (f ns : List ℕ) → f ≡ get_or cells 0 [] → (true ≡ true → Of version f (said h).0) → FieldsSpell (event_row (said h).0).slots cells ns
     → IsBy (event_fields (said h).0) (said h).1 (λ i. get_or cells (suc i) []) (λ i. get_or ns (suc i) 0) → IsRowOf (first_record version) cells h
 head_line version h cells f ns at is s b =
     let k = (said h).0 in
@@ -107,7 +107,7 @@ head_line version h cells f ns at is s b =
     (subst (λ ss. FieldsSpell ss cells ns) (slots_are k) s) b (λ x. (of.0, x)) in
     λ rest. record { fits = (line rest).fits; made = (line rest).made; follows = tt }
 
-pub head_lacks : (version : ℕ) (k : EventKind) (cells : Row) (f : List ℕ) (w : Why) → f ≡ get_or cells 0 [] → (true ≡ true → Of version f k) → Lacks (kind_row k).slots cells w → IsWrongLine (first_record version) cells w
+pub head_lacks : (version : ℕ) (k : EventKind) (cells : Row) (f : List ℕ) (w : Why) → f ≡ get_or cells 0 [] → (true ≡ true → Of version f k) → Lacks (event_row k).slots cells w → IsWrongLine (first_record version) cells w
 head_lacks version k cells f w at is l =
     let of = is refl in
     let begun = starts k cells f at of.1 in

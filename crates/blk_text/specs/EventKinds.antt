@@ -15,27 +15,27 @@ pub data EventKind : Type 0 where
   Depth : EventKind
 
 -- the row of a kind
-abbrev pub kind_row : EventKind → KindRow
-kind_row Tick = row TICK
-kind_row Release = row RELEASE
-kind_row Join = row JOIN
-kind_row Issue = row ISSUE
-kind_row Done = row DONE
-kind_row Back = row BACK
-kind_row Depth = row DEPTH
+abbrev pub event_row : EventKind → KindRow
+event_row Tick = row TICK
+event_row Release = row RELEASE
+event_row Join = row JOIN
+event_row Issue = row ISSUE
+event_row Done = row DONE
+event_row Back = row BACK
+event_row Depth = row DEPTH
 
 -- the word of a kind
 abbrev pub event_word : EventKind → List ℕ
-event_word k = (kind_row k).word
+event_word k = (event_row k).word
 
 -- the versions in which it stands
 abbrev pub EventStandsIn : ℕ → EventKind → Type 0
-EventStandsIn version k = StandsFrom (kind_row k).since version
+EventStandsIn version k = StandsFrom (event_row k).since version
 
 -- what its first record says beside its word
 abbrev pub Says : EventKind → Type 0
-Says k = Told (kind_row k).slots
+Says k = Told (event_row k).slots
 
 -- and in which fields
 abbrev pub event_fields : (k : EventKind) → List (Cell (Says k))
-event_fields k = cells_of (kind_row k).slots (λ s. s)
+event_fields k = cells_of (event_row k).slots (λ s. s)

@@ -2,7 +2,8 @@
 use Rattle.std.specs.Prelude.{ℕ, ◌++◌, ◌∷◌, [], List, Bool, true, false, Option, None, Some, ℤ, pos, if◌then◌else◌, ◌&&◌, ◌==◌, nat_lt, decimal, codes, take}
 use Rattle.std.specs.List.{flat_map}
 use Rattle.std.specs.Ordering.{int_eq}
-use Rattle.edd_figures.specs.Lines.{late_text, next_field}
+use Rattle.edd_figures.specs.Lines.{late_text}
+use Rattle.drafts.specs.Drafts.{next_field}
 use Rattle.edd_figures.specs.Figures.{greatest_in, least_in, shortfall_in}
 use Rattle.blk_report.specs.declared.figures.Report.{Report}
 use Rattle.blk_report.specs.declared.missing.Tally.{Tally}

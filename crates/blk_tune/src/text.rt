@@ -2,7 +2,8 @@
 
 ghost use Rattle.std.specs.Prelude.{◌≡◌, ◌++◌, OnOk, IfOk};
 ghost use Rattle.std.specs.List.{flat_map};
-ghost use Rattle.edd_figures.specs.Lines.{late_text, next_field};
+ghost use Rattle.edd_figures.specs.Lines.{late_text};
+ghost use Rattle.drafts.specs.Drafts.{next_field};
 ghost use Rattle.blk_tune.specs.Text.{value_text, setting_text, next_setting, with_spaces, settings_text, report_fields, tally_fields, trial_line, remark_of, best_row_line, shown, row_head, table_text, on_off};
 
 use crate::row::TrialRow;

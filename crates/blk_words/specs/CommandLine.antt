@@ -77,8 +77,8 @@ added_rule names = option_rule names added_option
 abbrev pub tuning_rules : Names → List Rule
 tuning_rules names = map (option_rule names) tuning
 
-abbrev pub list_rules : Names → List Rule
-list_rules names = map (option_rule names) listing
+abbrev pub listing_rules : Names → List Rule
+listing_rules names = map (option_rule names) listing
 
 -- a subcommand: its name, its options, and what these make
 pub record Subcommand : Type 0 where
@@ -121,7 +121,7 @@ abbrev pub run_table : Names → List Subcommand
 run_table names =
     record { name = codes "sim"; rules = sched_rule names ∷ tuning_rules names; makes = makes.Sim }
     ∷ record { name = codes "compare"; rules = added_rule names ∷ json ∷ tuning_rules names; makes = makes.Compare }
-    ∷ record { name = codes "tune"; rules = list_rules names ++ trying; makes = makes.Tune }
+    ∷ record { name = codes "tune"; rules = listing_rules names ++ trying; makes = makes.Tune }
     ∷ plain (codes "migrate") (job.OfTrace telling.Whole)
     ∷ plain (codes "commands") (job.OfTrace telling.Commands)
     ∷ formed (codes "late") figures.Late

@@ -6,6 +6,7 @@ use Rattle.edd_verdict.specs.declared.Verdict.{Verdict}
 use Rattle.edd_verdict.specs.declared.Verdict.TheVariants.{Arrival, Spare, Full}
 use Rattle.edd_figures.specs.declared.lateness.Figures.{Figures}
 use Rattle.edd_figures.specs.declared.missing.Crowd.{Crowd}
+use Rattle.drafts.specs.Drafts.{next_field}
 
 -- a figure, or `none` where there is none
 abbrev pub late_text : Option ℤ → List ℕ
@@ -40,10 +41,6 @@ figures_text (Some f) = values_text (Some f.greatest) (Some f.least) (Some f.sho
 -- the line of a window: its first and its last round, how many commands lie in it, and how many its rounds carry
 abbrev pub crowd_line : Crowd → List ℕ
 crowd_line c = (((((((codes "window " ++ decimal c.window.from) ++ 32 ∷ []) ++ decimal c.window.due) ++ codes " commands ") ++ decimal c.commands) ++ codes " carries ") ++ decimal c.carries) ++ 10 ∷ []
-
--- one more field of a record
-abbrev pub next_field : List ℕ → List ℕ
-next_field text = 44 ∷ text
 
 -- why a command was late, and the first and the last round of its window, if it has one
 abbrev pub verdict_fields : Verdict → List ℕ

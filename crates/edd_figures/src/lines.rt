@@ -2,7 +2,8 @@
 
 ghost use Rattle.std.specs.Prelude.{◌≡◌, ◌++◌, OnOk, decimal, codes};
 ghost use Rattle.std.specs.List.{flat_map};
-ghost use Rattle.edd_figures.specs.Lines.{late_text, count_text, window_text, figure_line, values_text, figures_text, crowd_line, next_field, verdict_fields, window_lines};
+ghost use Rattle.edd_figures.specs.Lines.{late_text, count_text, window_text, figure_line, values_text, figures_text, crowd_line, verdict_fields, window_lines};
+ghost use Rattle.drafts.specs.Drafts.{next_field};
 
 use crate::{Crowd, Figures};
 use drafts::Draft;

@@ -11,10 +11,6 @@ use Rattle.blk_deadline.specs.Choice.{next_of, in_batch, taken}
 abbrev pub IsBatchChoice : (ℕ → Option Waiting) → Option (Waiting × BatchState) → ℕ × ℕ × ℕ → Type 0
 IsBatchChoice found choice r = (w : Waiting) × (found r.0 ≡ Some w) × (choice ≡ Some (taken w r.1 r.2))
 
--- a meaning of these parts
-abbrev pub meaning_with : Pending → OpenPicks → Bool → Meaning
-meaning_with pending open_picks front = record { pending = pending; open_picks = open_picks; front = front }
-
 module _ {A : Type 0} where
   -- the next request of a direction, and the next one of the batch
   abbrev pub next_in : Deadline A → Dir → Option Waiting

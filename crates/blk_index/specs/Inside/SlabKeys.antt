@@ -31,5 +31,5 @@ module _ {A : Type 0} where
   abbrev pub entries_of : SlabKeys A → List (ℕ × ℕ)
   entries_of p = run_of p.from p.run.items ++ p.others.entries
 
-  abbrev pub key_of : SlabKeys A → ℕ → Option ℕ
-  key_of p = key_in (entries_of p)
+  abbrev pub slab_key_of : SlabKeys A → ℕ → Option ℕ
+  slab_key_of p = key_in (entries_of p)

@@ -10,8 +10,8 @@ use Rattle.blk_picture.specs.Columns.{in_column, rounds_in, entered_in, waits_of
 use Rattle.blk_picture.specs.Filled.{made}
 
 -- one more is counted in the column, where there is such a column
-abbrev pub HasOneMore : ℕ → List ℕ → List ℕ → Type 0
-HasOneMore column old new = (c : ℕ) → c < length old
+abbrev pub CountsOneMore : ℕ → List ℕ → List ℕ → Type 0
+CountsOneMore column old new = (c : ℕ) → c < length old
     → slice_index_or new c 0 ≡ cond (column == c) (slice_index_or old c 0 + 1) (slice_index_or old c 0)
 
 -- of each column how many of the rounds stand in it

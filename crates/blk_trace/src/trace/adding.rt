@@ -4,7 +4,7 @@ ghost use Rattle.std.specs.Prelude.{ℕ, ◌≡◌, ◌≤◌, ◌<◌, ◌+◌,
 ghost use Rattle.blk_ids.specs.Given.{Gives};
 ghost use Rattle.blk_ids.specs.ById.{kept_at};
 ghost use Rattle.blk_ids.specs.ById as by_id;
-ghost use Rattle.blk_ids.specs.IdSet.{has_id};
+ghost use Rattle.blk_ids.specs.IdSet.{set_has};
 ghost use Rattle.blk_ids.specs.IdSet as id_set;
 ghost use Rattle.edd_commands.specs.declared.Command.{Command as Job};
 ghost use Rattle.blk_trace.specs.declared.known.Known.{Known as Kept};
@@ -243,7 +243,7 @@ fn append<T: Drop, A: Allocator>(list: &mut Vec<T, A>, value: T)
 #[inline(always)]
 fn insert_ids<A: Allocator + Clone>(ids: &mut IdSet<A>, bios: &[Bio])
     requires { length bios.now ≤ id_set.spare ids.old }
-    ensures ids { (x : Name) → has_named (has_id ids.new) x ≡ has_named (has_id ids.old) x || has_bio_id bios.now x }
+    ensures ids { (x : Name) → has_named (set_has ids.new) x ≡ has_named (set_has ids.old) x || has_bio_id bios.now x }
     ensures room { id_set.spare ids.old ≤ id_set.spare ids.new + length bios.now }
 {
     for bio in bios {

@@ -8,7 +8,7 @@ use Rattle.blk_words.specs.declared.table.Makes.{Makes}
 use Rattle.blk_words.specs.declared.table.OfScheds.{OfScheds}
 use Rattle.blk_words.specs.declared.table.OfScheds.TheVariants as of
 use Rattle.blk_words.specs.declared.table.CommandRow.{CommandRow}
-use Rattle.blk_words.specs.CommandLine.{Names, option_rule, tuning_rules, list_rules, Subcommand}
+use Rattle.blk_words.specs.CommandLine.{Names, option_rule, tuning_rules, listing_rules, Subcommand}
 
 -- the rule of an option by its row
 abbrev pub rule_for : Names → OptionRow → Rule
@@ -18,7 +18,7 @@ rule_for names row = option_rule names (option_of row)
 abbrev pub rules_beside : Names → OfScheds → List Rule → List Rule
 rules_beside names of.None own = own
 rules_beside names of.Settings own = own ++ tuning_rules names
-rules_beside names of.Lists own = list_rules names ++ own
+rules_beside names of.Lists own = listing_rules names ++ own
 
 -- the subcommand of a row
 abbrev pub subcommand_of : Names → CommandRow → Subcommand

@@ -1,5 +1,5 @@
 use Rattle.std.proofs.lemmas.Option.{IfSome_then}
-use Rattle.blk_deadline.proofs.Served.{candidate_of}
+use Rattle.blk_index.proofs.ServesAll.{candidate_of}
 use Rattle.blk_deadline.proofs.DeadlineScheduler.candidate.Goals as goal
 
 pub returns-clause-some : goal.returns-clause-some

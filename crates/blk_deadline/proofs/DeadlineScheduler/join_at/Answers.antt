@@ -2,8 +2,8 @@ use Rattle.std.proofs.Common.{◌≡◌, sym, subst, ◌∙◌, Some, Option, Li
 use Rattle.std.specs.Prelude.{IfSome}
 use Rattle.blk_bio.specs.Bios.{Bio}
 use Rattle.blk_sched.specs.Meaning.{HasCandidate, Joins, Meaning}
-use Rattle.blk_deadline.specs.Choice.{serves_all}
-use Rattle.blk_deadline.proofs.Served.{joins}
+use Rattle.blk_sched.specs.Policies.{serves_all}
+use Rattle.blk_index.proofs.ServesAll.{joins}
 use Rattle.blk_deadline.proofs.DeadlineScheduler.join_at.Goals as goal
 
 pub returns-in-Ok-clause-joined : goal.returns-in-Ok-clause-joined

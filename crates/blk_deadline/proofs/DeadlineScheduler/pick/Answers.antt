@@ -1,7 +1,7 @@
 use Rattle.std.proofs.Common.{ap, sym, ◌∙◌}
 use Rattle.blk_bio.specs.Requests.{dir_of}
 use Rattle.blk_sched.specs.Meaning.{Waiting, opened}
-use Rattle.blk_deadline.proofs.Served.{picks}
+use Rattle.blk_index.proofs.ServesAll.{picks}
 use Rattle.blk_deadline.proofs.DeadlineScheduler.pick.Goals as goal
 
 pub returns-clause-picked : goal.returns-clause-picked

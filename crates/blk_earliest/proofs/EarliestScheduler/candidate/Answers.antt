@@ -1,6 +1,6 @@
 use Rattle.std.proofs.Common.{true}
 use Rattle.std.proofs.lemmas.Option.{IfSome_then}
-use Rattle.blk_earliest.proofs.Served.{candidate_of}
+use Rattle.blk_index.proofs.ServesAll.{candidate_of}
 use Rattle.blk_earliest.proofs.EarliestScheduler.candidate.Goals as goal
 
 pub returns-clause-some : goal.returns-clause-some

@@ -4,7 +4,7 @@ use Rattle.clap.specs.Words.{App, Rule, app_of, new_app, with_rule}
 use Rattle.clap.specs.Simple.{app_of_fields}
 use Rattle.blk_settings.specs.Options.{tuning, listing}
 use Rattle.blk_words.specs.declared.table.OfScheds.{OfScheds}
-use Rattle.blk_words.specs.CommandLine.{list_rules, tuning_rules}
+use Rattle.blk_words.specs.CommandLine.{listing_rules, tuning_rules}
 use Rattle.blk_words.specs.Inside.Tables.{rule_for, rules_beside}
 use Rattle.blk_words.proofs.Lines.{rules_of, rules_before, rules_behind}
 use Rattle.blk_words.proofs.command.command_of.Goals as goal
@@ -31,6 +31,6 @@ returns-in_ok-all-in-Lists-clause-app c =
     let base : App = new_app row.name.now in
     let bare : app_of c.about-bare.result ≡ base = ap app_of_fields c.about-bare.ensures ∙ c.new.ensures.app in
     let lists : app_of c.in_ok-lists-in-Lists.lists ≡ fold with_rule base (map (rule_for names) rows) = c.in_ok-lists-in-Lists.ensures.app ∙ ap (λ (a : App). fold with_rule a (map (rule_for names) rows)) bare in
-    let all : app_of c.in_ok-all-in-Lists.all ≡ fold with_rule base (list_rules names ++ own) =
-    rules_before _ base (app_of c.in_ok-lists-in-Lists.lists) (map (rule_for names) rows) own (list_rules names) (rules_of names rows listing c.list_options.ensures) lists c.in_ok-all-in-Lists.ensures.app in
+    let all : app_of c.in_ok-all-in-Lists.all ≡ fold with_rule base (listing_rules names ++ own) =
+    rules_before _ base (app_of c.in_ok-lists-in-Lists.lists) (map (rule_for names) rows) own (listing_rules names) (rules_of names rows listing c.list_options.ensures) lists c.in_ok-all-in-Lists.ensures.app in
     all ∙ ap (λ (k : OfScheds). fold with_rule base (rules_beside names k own)) (sym c.in-Lists.is)

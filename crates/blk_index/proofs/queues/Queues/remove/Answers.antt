@@ -1,5 +1,5 @@
 use Rattle.std.proofs.Common.{◌∙◌, ◌-◌, ap, sym, refl}
-use Rattle.blk_index.specs.Inside.Queues.{pending_of}
+use Rattle.blk_index.specs.Inside.Queues.{all_pending}
 use Rattle.blk_index.proofs.Splits.{queue_is, nothing_taken, still_split, taken_view, taken_split, one_waits}
 use Rattle.blk_index.proofs.queues.Queues.remove.Goals as goal
 
@@ -10,7 +10,7 @@ invariant_of-self g c =
 
 pub returns-in_default-clause-same : goal.returns-in_default-clause-same
 returns-in_default-clause-same g c =
-    ap pending_of (nothing_taken c.self.inside.queues.items c.self.inside.waiting c.args.hw c.index_mut.result.now c.remove.new.self c.args.id c.self.invariant
+    ap all_pending (nothing_taken c.self.inside.queues.items c.self.inside.waiting c.args.hw c.index_mut.result.now c.remove.new.self c.args.id c.self.invariant
     (queue_is c.self.inside.queues.items c.self.inside.waiting c.args.hw c.index_mut.result.now c.self.invariant c.requires c.index_mut.ensures.value) (sym c.in_default.ensures.value) c.in_default.ensures.removed)
     ∙ c.self.view_is
 

@@ -1,5 +1,5 @@
--- What the index says is said of the scheduler.
-use Rattle.std.proofs.Common.{◌≡◌, ℕ, true, sym, ap, ◌∙◌, refl, Some, List}
+-- What an index says is said of a scheduler that serves every request for every hardware queue.
+use Rattle.std.proofs.Common.{◌≡◌, ℕ, Bool, true, sym, ap, ◌∙◌, refl, Some, List}
 use Rattle.std.specs.FinMap as map
 use Rattle.blk_bio.specs.declared.request.Side.{Side}
 use Rattle.blk_bio.specs.declared.request.Side.TheVariants.{Back}
@@ -8,9 +8,12 @@ use Rattle.blk_bio.specs.Limits.{Limits}
 use Rattle.blk_bio.specs.Requests.{dir_of}
 use Rattle.blk_sched.specs.Meaning.{Waiting, Pending, Meaning, OpenPicks, HasCandidate, Joins, Picks, joined_waiting, opened}
 use Rattle.blk_sched.specs.Fits.{IsNewestFit}
+use Rattle.blk_sched.specs.Policies.{serves_all}
 use Rattle.blk_index.specs.Index.{IsJoined}
-use Rattle.blk_earliest.specs.Choice.{serves_all}
-use Rattle.blk_earliest.specs.Inside.Meanings.{meaning_with}
+
+-- a meaning of these parts
+abbrev pub meaning_of_parts : Pending → OpenPicks → Bool → Meaning
+meaning_of_parts pending open_picks front = record { pending = pending; open_picks = open_picks; front = front }
 
 pub candidate_of : (m : Meaning) (hw : ℕ) (limits : Limits) (newcomer : List Bio) (id : ℕ) (side : Side) → IsNewestFit limits m.front (map.get m.pending) newcomer id side → HasCandidate serves_all hw limits newcomer m id side
 candidate_of m hw limits newcomer id side best = (
@@ -35,13 +38,11 @@ joins m new hw now limits newcomer id side candidate join =
       ap (λ (x : Pending). let n : Meaning = record m { pending = x } in n) (join.is ∙ ap (λ (x : Waiting). map.insert m.pending id (joined_waiting side now newcomer x)) same),
     )
 
--- ---- the pick
-
-pub picks : (m new : Pending) (hw id : ℕ) (p q : OpenPicks) (w : Waiting) → ((k : ℕ) (v : Waiting) → map.get m k ≡ Some v → v.id ≡ k) → map.get m id ≡ Some w → new ≡ map.remove m id → q ≡ opened (dir_of w.bios) p → Picks serves_all hw (meaning_with m p) w (meaning_with new q)
-picks m new hw id p q w named there removed opens =
+pub picks : (m new : Pending) (front : Bool) (hw id : ℕ) (p q : OpenPicks) (w : Waiting) → ((k : ℕ) (v : Waiting) → map.get m k ≡ Some v → v.id ≡ k) → map.get m id ≡ Some w → new ≡ map.remove m id → q ≡ opened (dir_of w.bios) p → Picks serves_all hw (meaning_of_parts m p front) w (meaning_of_parts new q front)
+picks m new front hw id p q w named there removed opens =
     let own : w.id ≡ id = named id w there in (
       ap (map.get m) own ∙ there,
       refl,
-      ap (λ (x : Pending). meaning_with x q) (removed ∙ ap (map.remove m) (sym own))
-          ∙ ap (λ (y : OpenPicks). let n : Meaning = record { pending = map.remove m w.id; open_picks = y; front = true } in n) opens,
+      ap (λ (x : Pending). meaning_of_parts x q front) (removed ∙ ap (map.remove m) (sym own))
+          ∙ ap (λ (y : OpenPicks). let n : Meaning = record { pending = map.remove m w.id; open_picks = y; front = front } in n) opens,
     )
