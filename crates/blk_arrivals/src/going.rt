@@ -3,7 +3,7 @@
 ghost use Rattle.std.specs.Prelude.{◌≡◌, ◌⊎◌, ◌≤◌, ◌<◌, ◌+◌, ◌-◌, ◌^◌, ◌++◌, ◌∷◌, [], All, IfOk, IfErr, OnOk, length, max};
 ghost use Rattle.std.proofs.Math.ListN.{replicate};
 ghost use Rattle.blk_bio.specs.declared.bio.TheConstants.{MAX_END};
-ghost use Rattle.blk_bio.specs.declared.limits.TheConstants.{MAX_SOFT_QUEUES as MOST};
+ghost use Rattle.blk_bio.specs.declared.limits.TheConstants.{MAX_SOFT_QUEUES};
 ghost use Rattle.blk_text.specs.Script.{LineFits};
 ghost use Rattle.blk_arrivals.specs.Coming.{begin_of, AreFewSubmitters, ComeInTime};
 ghost use Rattle.blk_arrivals.specs.Inside.Deeds.{IsDeed};
@@ -53,7 +53,7 @@ fn empty(held: &mut [u64])
 
 /// Adds the flush of a plug, where it holds something.
 fn push_flush(lines: &mut Vec<Line>, submitter: usize, held: u64) -> Result<(), AllocError>
-    requires { submitter < MOST }
+    requires { submitter < MAX_SOFT_QUEUES }
     ensures { OnOk result (lines.new.items ≡ lines.old.items ++ flush_of submitter held) }
 {
     if held == 0 {
@@ -76,7 +76,7 @@ fn push_flushes(lines: &mut Vec<Line>, held: &[u64]) -> Result<(), AllocError>
 
 /// Adds the flush of a plug, and a drain.
 fn push_out(lines: &mut Vec<Line>, submitter: usize) -> Result<(), AllocError>
-    requires { submitter < MOST }
+    requires { submitter < MAX_SOFT_QUEUES }
     ensures { OnOk result (lines.new.items ≡ lines.old.items ++ out_of submitter) }
 {
     lines.push(Line::Flush(submitter as u8))?;
@@ -86,7 +86,7 @@ fn push_out(lines: &mut Vec<Line>, submitter: usize) -> Result<(), AllocError>
 
 /// Adds them where a plug holds as many requests as it may.
 fn push_room(lines: &mut Vec<Line>, submitter: usize, held: u64) -> Result<(), AllocError>
-    requires { submitter < MOST }
+    requires { submitter < MAX_SOFT_QUEUES }
     ensures { OnOk result (lines.new.items ≡ lines.old.items ++ room_for submitter held) }
 {
     if held < PLUGGED {
@@ -97,7 +97,7 @@ fn push_room(lines: &mut Vec<Line>, submitter: usize, held: u64) -> Result<(), A
 
 /// Adds them where a plug holds something.
 fn push_unplug(lines: &mut Vec<Line>, submitter: usize, held: u64) -> Result<(), AllocError>
-    requires { submitter < MOST }
+    requires { submitter < MAX_SOFT_QUEUES }
     ensures { OnOk result (lines.new.items ≡ lines.old.items ++ out_if submitter held) }
 {
     if held == 0 {
@@ -115,7 +115,7 @@ fn held_with(held: u64) -> u64
 
 /// The bio of a record.
 fn bio_of(submitter: usize, number: u64, way: Dir, record: &Record) -> Bio
-    requires submitter { submitter < MOST }
+    requires submitter { submitter < MAX_SOFT_QUEUES }
     requires range { (0 < record.now.sectors) × (record.now.first + record.now.sectors ≤ MAX_END) }
     ensures { result ≡ bio_of submitter number way record.now }
 {

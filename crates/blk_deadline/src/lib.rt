@@ -5,7 +5,8 @@ ghost use Rattle.std.specs.Prelude.{◌≡◌, ◌≤◌, ◌<◌, ◌+◌, ◌�
 ghost use Rattle.std.specs.Option.{OnSome, option_copied};
 ghost use Rattle.std.specs.FinMap as map;
 ghost use Rattle.blk_sched.specs.Meaning.{Waiting, Meaning, HasCandidate, HasNoCandidate, Joins, ServesNothing, Picks, RequeuesPick, opened, open_of, requeued_of, at_start};
-ghost use Rattle.blk_index.specs.Index.{IsIdOf, NoneOf};
+ghost use Rattle.blk_index.specs.Index.{NoneOf};
+ghost use Rattle.blk_index.specs.Inside.Search.{IsIdOf};
 ghost use Rattle.blk_deadline.specs.Choice.{oldest_of, due_or_next, taken, handed_out, batch_after, deadline_kept, AreKnown, deadline_chooses, deadline_policy};
 ghost use Rattle.blk_sched.specs.Policies.{serves_all};
 ghost use Rattle.blk_deadline.specs.Shown.{batch_of, tunables_of, kept_in, choice_at, meaning_of};

@@ -4,7 +4,7 @@
 ghost use Rattle.std.specs.Prelude.{◌≡◌, ◌<◌, ◌+◌, ℕ, Bool, true, false, List, [], None, Some, IfOk, IfSome, IfNone, IsTrue};
 ghost use Rattle.std.specs.FinMap as map;
 ghost use Rattle.blk_sched.specs.Meaning.{Waiting, Picks, ServesNothing, at_start};
-ghost use Rattle.blk_index.specs.Index.{IsIdOf};
+ghost use Rattle.blk_index.specs.Inside.Search.{IsIdOf};
 ghost use Rattle.blk_earliest.specs.Choice.{first_due, on_time, earliest_choice, earliest_chooses, earliest_policy, earliest_kept, IsEarliest, IsFirstOnTime};
 ghost use Rattle.blk_sched.specs.Policies.{serves_all};
 ghost use Rattle.blk_earliest.specs.Shown.{pending_of, late_last_of, setting_of, meaning_of};

@@ -7,10 +7,6 @@ use Rattle.blk_bio.specs.Bios.{Bio}
 use Rattle.blk_bio.specs.Requests.{dir_of, first_of}
 use Rattle.blk_sched.specs.Meaning.{Waiting, Pending, joined_waiting}
 
--- the request of an id is this one
-abbrev pub IsIdOf : (ℕ → Option Waiting) → Option Waiting → ℕ → Type 0
-IsIdOf found request id = (w : Waiting) × (found id ≡ Some w) × (request ≡ Some w)
-
 -- the request of an id is joined by a newcomer at a side, and the others stay
 pub record IsJoined (now : ℕ) (newcomer : List Bio) (old : Pending) (id : ℕ) (side : Side) (new : Pending) : Type 0 where
   pub waiting : Waiting

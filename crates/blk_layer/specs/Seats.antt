@@ -2,7 +2,6 @@
 use Rattle.std.specs.Prelude.{ℕ, ◌≡◌, ◌<◌, ◌↔◌, List, [], Option, None, Some, All, Contains, length, map, replicate, slice_get, ◌≤◌, ◌⊎◌, ◌∷◌}
 use Rattle.edd_commands.specs.declared.Command.{Command}
 use Rattle.blk_bio.specs.Bios.{Bio}
-use Rattle.blk_trace.specs.Setups.{Setup}
 use Rattle.blk_tags.specs.Tags.{Set}
 use Rattle.blk_bio.specs.declared.limits.TheConstants.{MAX_SOFT_DEPTH}
 use Rattle.blk_hw.specs.Maps.{IsHwCount}
@@ -10,10 +9,6 @@ use Rattle.blk_layer.specs.declared.layer.TheConstants.{MAX_WORKERS}
 use Rattle.blk_layer.specs.declared.layer.LayerFault.{LayerFault}
 use Rattle.blk_layer.specs.declared.layer.LayerFault.TheVariants.{Queues, SoftDepth, Workers, WorkerQueue, Memory}
 use Rattle.faults.specs.Order.{BreaksFirst}
-
--- no tag and no hardware queue: the setup under `Brand`, the name that a program gives and no layer's own
-abbrev pub no_setup : Setup
-no_setup = record { depth = 0; hw = 0; read_expire = 0; write_expire = 0; limits = record { max_sectors = 0; max_segments = 0 } }
 
 -- what of a layer never changes: the hardware queue of each software queue, how many workers there are, and its tags
 pub record LayerShape : Type 0 where

@@ -4,7 +4,8 @@ ghost use Rattle.std.specs.Prelude.{ℕ, true, ◌≡◌, ◌<◌, [], All, IfOk
 ghost use Rattle.blk_trace.specs.Setups.{Setup};
 ghost use Rattle.blk_sched.specs.Meaning.{at_start};
 ghost use Rattle.blk_core.specs.State.{CoreState, new_core};
-ghost use Rattle.blk_layer.specs.Seats.{no_setup, IsNewLayer, CanMake, IsFirstOutside, IsLayerFault};
+ghost use Rattle.blk_layer.specs.Seats.{IsNewLayer, CanMake, IsFirstOutside, IsLayerFault};
+ghost use Rattle.blk_layer.specs.Inside.Seats.{no_setup};
 
 use crate::locked::{LockedCore, LockedQueue, empty_queues};
 use crate::seats::{Submitter, Worker, seat_submitters, seat_workers};

@@ -6,7 +6,7 @@ use Rattle.std.specs.Cmp.{nat_cmp_total, eq_by_cmp_equiv, tied_itself}
 use Rattle.std.specs.BTreeMap.{is_at}
 use Rattle.blk_sched.specs.Meaning.{Waiting}
 use Rattle.blk_sched.proofs.Maps.{same_number}
-use Rattle.blk_lifo.specs.Stacks.{found, HaveDistinctIds}
+use Rattle.blk_lifo.specs.Inside.Stacks.{found, HaveDistinctIds}
 
 -- both tests of two ids
 turned : (k id : ℕ) → is_at (nat_cmp k) id ≡ is_at (nat_cmp id) k

@@ -13,9 +13,9 @@ use Rattle.blk_bio.specs.Limits.{Limits}
 use Rattle.blk_bio.specs.Requests.{dir_of, Fits, IsTried}
 use Rattle.blk_sched.specs.Meaning.{Waiting, Meaning, Pending, OpenPicks, Picks, Joins, ServesNothing, HasCandidate, HasNoCandidate, joined_waiting, opened}
 use Rattle.blk_sched.proofs.Maps.{get_waiting, one_given, one_taken}
-use Rattle.blk_lifo.specs.Stacks.{named, by_id, found, HaveDistinctIds}
+use Rattle.blk_lifo.specs.Stacks.{named, by_id}
+use Rattle.blk_lifo.specs.Inside.Stacks.{found, HaveDistinctIds, IsNotBefore, FitsNoneOf, IsNewest, IsFitAt, HasIdAt, JoinsPlace}
 use Rattle.blk_sched.specs.Policies.{serves_all}
-use Rattle.blk_lifo.specs.Inside.Stacks.{IsNotBefore, FitsNoneOf, IsNewest, IsFitAt, HasIdAt, JoinsPlace}
 use Rattle.std.specs.BTreeMap.{is_at}
 use Rattle.blk_sched.proofs.Maps.{same_number}
 use Rattle.blk_lifo.proofs.Lists.{itself, found_pushed, distinct_popped, found_at, place_of, found_changed, distinct_changed}

@@ -1,8 +1,5 @@
 -- A list of requests, read as what waits.
-use Rattle.std.specs.Prelude.{ℕ, ◌≡◌, Bool, true, List, [], ◌∷◌, map as each, Option, None, IfNone}
-use Rattle.std.specs.Ordering.{nat_cmp}
-use Rattle.std.specs.BTreeMap.{is_at}
-use Rattle.std.specs.Map.{lookup}
+use Rattle.std.specs.Prelude.{ℕ, ◌≡◌, List, map as each, Option, None, IfNone}
 use Rattle.std.specs.FinMap as map
 use Rattle.blk_sched.specs.Meaning.{Waiting, Pending, Meaning, ServesNothing}
 use Rattle.blk_sched.specs.Policies.{Policy, choosing, serves_all}
@@ -22,12 +19,3 @@ named w = (w.id, w)
 -- the requests by their ids
 abbrev pub by_id : List Waiting → Pending
 by_id requests = map.from_entries (each named requests)
-
--- the request of an id, if there is one
-abbrev pub found : List Waiting → ℕ → Option Waiting
-found requests id = lookup (is_at (nat_cmp id)) (each named requests)
-
--- no two requests have one id
-unfoldable pub HaveDistinctIds : List Waiting → Type 0
-HaveDistinctIds [] = Unit {0}
-HaveDistinctIds (w ∷ ws) = (found ws w.id ≡ None) × HaveDistinctIds ws

@@ -6,9 +6,9 @@
 ghost use Rattle.std.specs.Prelude.{◌≡◌, ◌<◌, ◌+◌, OnOk, IfErr, OnErr, IfSome, IfNone, IsSome, None, length};
 ghost use Rattle.std.specs.FinMap as map;
 ghost use Rattle.blk_sched.specs.Meaning.{HasCandidate, HasNoCandidate, Joins, at_start};
-ghost use Rattle.blk_lifo.specs.Stacks.{lifo_policy, found};
+ghost use Rattle.blk_lifo.specs.Stacks.{lifo_policy};
+ghost use Rattle.blk_lifo.specs.Inside.Stacks.{found, IsNewest, IsNewestOf, IsFitAt, HasIdAt, JoinsPlace};
 ghost use Rattle.blk_sched.specs.Policies.{serves_all};
-ghost use Rattle.blk_lifo.specs.Inside.Stacks.{IsNewest, IsNewestOf, IsFitAt, HasIdAt, JoinsPlace};
 
 use blk_bio::{Dir, Limits, Request, Side};
 use blk_sched::{OpenPicks, Queued, Scheduler};
@@ -25,7 +25,8 @@ pub struct Lifo<A: Allocator = Global> {
 impl<A: Allocator> Model for Lifo<A> {
     ghost use Rattle.std.specs.Prelude.{true};
     ghost use Rattle.blk_sched.specs.Meaning.{Meaning, meaning_code};
-    ghost use Rattle.blk_lifo.specs.Stacks.{by_id, HaveDistinctIds};
+    ghost use Rattle.blk_lifo.specs.Stacks.{by_id};
+    ghost use Rattle.blk_lifo.specs.Inside.Stacks.{HaveDistinctIds};
 
     ghost Value = { Meaning };
 

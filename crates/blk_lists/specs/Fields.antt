@@ -65,12 +65,6 @@ IsInRange (slot.Lateness most) f = (n : ℕ) → n < 2 ^ 64 → IsSized f n → 
 IsInRange slot.Text f = Unit {0}
 IsInRange slot.Nanoseconds f = Unit {0}
 
--- few fields have such a slot
-abbrev pub IsSeldom : Slot → Type 0
-IsSeldom (slot.Lateness most) = Unit {0}
-IsSeldom slot.Nanoseconds = Unit {0}
-IsSeldom s = ⊥
-
 -- as many fields as slots, and the blank ones empty
 abbrev pub IsShaped : List Slot → Row → Type 0
 IsShaped slots row = (length row ≡ length slots) × EachField IsBlank slots row

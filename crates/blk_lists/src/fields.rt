@@ -4,8 +4,8 @@ ghost use Rattle.std.specs.Prelude.{◌≡◌, ◌≢◌, ◌+◌, ◌*◌, ◌<
 ghost use Rattle.std.specs.Str.Parse.{AllDigits, digits_value};
 ghost use Rattle.csv.specs.Records.{fields_of};
 ghost use Rattle.blk_lists.specs.declared.fields.TheConstants.{MAX_SAFE_DIGITS};
-ghost use Rattle.blk_lists.specs.Fields.{EachField, IsSized, IsSeldom, Lacks, FieldSpells, FieldsSpell, IsNanoseconds, TellsNanoseconds};
-ghost use Rattle.blk_lists.specs.Inside.Fields.{IsGood, IsWhole, KeepsRule, WritesNumber, canonical};
+ghost use Rattle.blk_lists.specs.Fields.{EachField, IsSized, Lacks, FieldSpells, FieldsSpell, IsNanoseconds, TellsNanoseconds};
+ghost use Rattle.blk_lists.specs.Inside.Fields.{IsSeldom, IsGood, IsWhole, KeepsRule, WritesNumber, canonical};
 ghost use Rattle.blk_lists.specs.Tables.{HasNoVersion, IsOfVersion};
 ghost use Rattle.blk_lists.specs.Words.{StartsWith, HasNoWord};
 

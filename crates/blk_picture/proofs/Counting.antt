@@ -24,7 +24,8 @@ use Rattle.blk_trace.specs.Happened.{Happened}
 use Rattle.blk_trace.specs.Events.{round_of}
 use Rattle.blk_trace.specs.Meaning.{greatest, timed}
 use Rattle.blk_trace.proofs.More.{timed_part}
-use Rattle.blk_picture.specs.Columns.{in_column, round_in, rounds_in, column_with, column_of, entry_in, entered_in, before, waits_of, peaks_of, rooms_of}
+use Rattle.blk_picture.specs.Columns.{in_column, round_in, rounds_in, column_of, entry_in, entered_in, before, waits_of, peaks_of, rooms_of}
+use Rattle.blk_picture.specs.Inside.Counted.{column_with}
 
 -- no round stands in a column
 pub none_in : (per c : ℕ) (rounds : List ℕ) → in_column per c (take 0 rounds) ≡ 0

@@ -71,14 +71,6 @@ unfoldable pub rooms_of : List Step → ℕ → ℕ → ℕ → ℕ → List ℕ
 rooms_of steps per rounds start zero = []
 rooms_of steps per rounds start (suc n) = carried steps start (min (start + per) rounds - start) ∷ rooms_of steps per rounds (min (start + per) rounds) n
 
--- a column with these numbers, and that of a place in lists of them
-abbrev pub column_with : ℕ → ℕ → ℕ → ℕ → ℕ → ℕ → ℕ → Column
-column_with reads writes lates backs room rw ww = record { reads = reads; writes = writes; lates = lates; backs = backs; room = room; read_waits = rw; write_waits = ww }
-
-abbrev pub column_from : List ℕ → List ℕ → List ℕ → List ℕ → List ℕ → List ℕ → List ℕ → ℕ → Column
-column_from reads writes lates backs rooms rw ww n =
-    column_with (slice_index_or reads n 0) (slice_index_or writes n 0) (slice_index_or lates n 0) (slice_index_or backs n 0) (slice_index_or rooms n 0) (slice_index_or rw n 0) (slice_index_or ww n 0)
-
 -- the numbers of a column
 unfoldable pub column_of : Setup → List Happened → Scale → ℕ → Column
 column_of setup events scale c = record {

@@ -8,8 +8,8 @@ ghost use Rattle.blk_trace.specs.Meaning.{greatest};
 ghost use Rattle.blk_trace.specs.Setups.{same_dir};
 ghost use Rattle.blk_picture.specs.Boxes.{boxes_of};
 ghost use Rattle.blk_picture.specs.Filled.{made};
-ghost use Rattle.blk_picture.specs.Columns.{is_late, round_in, rounds_in, entry_in, entered_in, in_column, waits_of, peaks_of, rooms_of, column_from, column_of};
-ghost use Rattle.blk_picture.specs.Inside.Counted.{CountsOneMore, AreCounts, most_waits, by_column};
+ghost use Rattle.blk_picture.specs.Columns.{is_late, round_in, rounds_in, entry_in, entered_in, in_column, waits_of, peaks_of, rooms_of, column_of};
+ghost use Rattle.blk_picture.specs.Inside.Counted.{column_from, CountsOneMore, AreCounts, most_waits, by_column};
 
 use crate::boxes::IssueBox;
 use crate::scale::Scale;

@@ -5,7 +5,7 @@ ghost use Rattle.std.specs.List.{flat_map};
 ghost use Rattle.std.specs.List.Sorted.{IsNonDecreasing};
 ghost use Rattle.blk_trace.specs.Meaning.{commands_of, issued_ids};
 ghost use Rattle.blk_trace.specs.Waits.{has_id};
-ghost use Rattle.blk_trace.specs.declared.trace.TheConstants.{MAX_EVENTS as most_events};
+ghost use Rattle.blk_trace.specs.declared.trace.TheConstants.{MAX_EVENTS};
 ghost use Rattle.blk_report.specs.Overdue.{is_overdue, bios_under, overdue_of};
 ghost use Rattle.blk_report.specs.Inside.Outstayed.{comes_to_outstay, is_the};
 
@@ -48,7 +48,7 @@ fn outstays<A: Allocator + Clone>(
     last: u64,
 ) -> Option<u64>
     requires rising { IsNonDecreasing gone.now }
-    requires early { round ≤ most_events }
+    requires early { round ≤ MAX_EVENTS }
     ensures { (id : ℕ) → is_the result id ≡ comes_to_outstay setup (has_id gone.now) last round event.now id }
 {
     let Some((id, request)) = event.releases() else {

@@ -37,7 +37,7 @@ pub struct Service {
 
 /// The direction and the range of a request.
 #[derive(Clone, Copy, Debug, PartialEq, Eq)]
-struct Range {
+struct SectorRange {
     /// The way that its data goes.
     dir: Dir,
     /// Its first sector.
@@ -46,13 +46,13 @@ struct Range {
     end: u64,
 }
 
-impl Range {
+impl SectorRange {
     /// That of a request.
-    fn of<A: Allocator + Clone>(request: &Request<A>) -> Range
+    fn of<A: Allocator + Clone>(request: &Request<A>) -> SectorRange
         ensures { range_of request.now ≡ Some result }
     {
         let extent = request.extent();
-        Range {
+        SectorRange {
             dir: extent.dir,
             first: extent.first,
             end: extent.end,
@@ -60,16 +60,16 @@ impl Range {
     }
 
     /// The range of a request with a newcomer, which stands at its back where it begins at its end, and else at its front.
-    fn joined(self, newcomer: Range) -> Range
+    fn joined(self, newcomer: SectorRange) -> SectorRange
         ensures { result ≡ joined_range self newcomer }
     {
         if newcomer.first == self.end {
-            Range {
+            SectorRange {
                 end: newcomer.end,
                 ..self
             }
         } else {
-            Range {
+            SectorRange {
                 end: self.end,
                 ..newcomer
             }
@@ -79,9 +79,9 @@ impl Range {
 
 /// Extends the range under an id by that of bios which enter under it.
 fn extend<A: Allocator + Clone>(
-    ranges: &mut BTreeMap<u64, Range, A>,
+    ranges: &mut BTreeMap<u64, SectorRange, A>,
     id: u64,
-    newcomer: Range,
+    newcomer: SectorRange,
 ) -> Result<(), AllocError>
     ensures { OnOk result (IsExtended id newcomer (get nat_cmp ranges.old) (get nat_cmp ranges.new)) }
 {
@@ -97,13 +97,13 @@ fn extend<A: Allocator + Clone>(
 
 /// Takes account of one more event.
 fn gather<A: Allocator + Clone>(
-    ranges: &mut BTreeMap<u64, Range, A>,
+    ranges: &mut BTreeMap<u64, SectorRange, A>,
     event: &Event<Request<A>>,
 ) -> Result<(), AllocError>
     ensures { OnOk result (EntersUnder (get nat_cmp ranges.old) (enters event.now) (get nat_cmp ranges.new)) }
 {
     match event.enters() {
-        Some((id, request)) => extend(ranges, id, Range::of(request)),
+        Some((id, request)) => extend(ranges, id, SectorRange::of(request)),
         None => Ok(()),
     }
 }
@@ -112,7 +112,7 @@ fn gather<A: Allocator + Clone>(
 fn ranges<A: Allocator + Clone>(
     alloc: A,
     events: &[Event<Request<A>>],
-) -> Result<BTreeMap<u64, Range, A>, AllocError>
+) -> Result<BTreeMap<u64, SectorRange, A>, AllocError>
     ensures { IfOk result (λ m. (id : ℕ) → get nat_cmp m id ≡ range_of (request_of events.now id)) }
 {
     let mut ranges = BTreeMap::new(alloc);
@@ -128,7 +128,7 @@ fn served<A: Allocator + Clone>(
     trace: &Trace<A>,
     commands: &[Command],
     rounds: &[u64],
-    ranges: &BTreeMap<u64, Range, A>,
+    ranges: &BTreeMap<u64, SectorRange, A>,
 ) -> Result<Vec<Service, A>, AllocError>
     requires commands { commands.now ≡ commands_of trace.now.setup trace.now.events }
     requires rounds { rounds.now ≡ rounds_of trace.now.events }

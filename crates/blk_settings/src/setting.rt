@@ -34,7 +34,7 @@ impl Model for Setting {
 pub const MAX_SETTINGS: usize = 3;
 
 /// The settings of a scheduler, up to [`MAX_SETTINGS`] of them.
-pub type Settings = ArrayVec<Setting, 3>;
+pub type Settings = ArrayVec<Setting, MAX_SETTINGS>;
 
 /// What stands in an unused place of a list of settings.
 impl Default for Setting {

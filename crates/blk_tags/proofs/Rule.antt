@@ -8,7 +8,8 @@ use lib.ListN.{get_elem?}
 use Rattle.std.proofs.lemmas.Nat.Bits.{bit_at-zero}
 use Rattle.atomic_table.specs.Table.{State, Me, step, opening, Allows, keeps}
 use Rattle.blk_tags.specs.Tags.{count_of, without}
-use Rattle.blk_tags.specs.Steps.{TagsAreHeldOnce, bit_of, total_of, took, gave}
+use Rattle.blk_tags.specs.Steps.{TagsAreHeldOnce, bit_of, total_of}
+use Rattle.blk_tags.specs.Inside.{took, gave}
 use Rattle.blk_tags.proofs.Counts.{count_push_same, count_push_other, none_left, others_left, total_set, total_push, count_most}
 use Rattle.blk_tags.proofs.Bits.{bit_cases, low, same_place, same_power, same_mask, bit_here, bit_other, set_same, set_other, clear_same, clear_other}
 

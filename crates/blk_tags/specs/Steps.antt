@@ -3,9 +3,8 @@ use Rattle.std.specs.Prelude.{ℕ, ◌≡◌, ◌+◌, ◌-◌, ◌/◌, ◌%◌
 use Rattle.std.specs.Int.{bit_at}
 use mathlib.Core.Option.{some}
 use lib.ListN.{get_elem?}
-use Rattle.atomic_table.specs.Table.{State, Me, Step}
-use Rattle.blk_tags.specs.Tags.{count_of, without}
-use Rattle.blk_tags.specs.declared.TheConstants.{MAX_TAG_DEPTH}
+use Rattle.atomic_table.specs.Table.{State}
+use Rattle.blk_tags.specs.Tags.{count_of}
 
 -- the bit of a tag among the words: bit t % 64 of word t / 64, and 0 past the last word
 abbrev pub bit_of : List ℕ → ℕ → ℕ
@@ -53,16 +52,3 @@ with_seat s seat tags = record { words = s.words; homes = s.homes; views = slice
 
 abbrev pub with_new_seat : {S : Type 0} → State S (List ℕ) → State S (List ℕ)
 with_new_seat s = record { words = s.words; homes = s.homes; views = s.views ++ [] ∷ [] }
-
--- A take, one fetch_or of the tag's bit on its word. It wins where the bit was clear: no seat held the tag, and this one
--- holds it now, behind those that it held. It loses where the bit was set: the word and what the seat holds stay
-abbrev pub took : {S : Type 0} → Step S → Me S (List ℕ) → ℕ → Me S (List ℕ) → Type 0
-took s me found after = (after.1 ≡ me.1)
-    × ((t : ℕ) → t < MAX_TAG_DEPTH → s.word ≡ t / 64 → s.first ≡ 2 ^ (t % 64)
-    → (bit_at found (t % 64) ≡ 0 → (count_of t me.0 ≡ 0) × (after.0 ≡ me.0 ++ t ∷ []))
-    × (bit_at found (t % 64) ≡ 1 → after.0 ≡ me.0))
-
--- A give, one fetch_and of all bits but the tag's on its word: the tag is taken away from those that the seat holds
-abbrev pub gave : {S : Type 0} → Step S → Me S (List ℕ) → ℕ → Me S (List ℕ) → Type 0
-gave s me found after = (after.1 ≡ me.1)
-    × ((t : ℕ) → t < MAX_TAG_DEPTH → s.word ≡ t / 64 → s.first ≡ 2 ^ 64 - 1 - 2 ^ (t % 64) → after.0 ≡ without t me.0)

@@ -12,7 +12,8 @@ pub mod laws;
 ghost use Rattle.std.specs.Prelude.{◌≡◌, ◌<◌, ◌≤◌, ◌+◌, ◌-◌, ◌/◌, ◌%◌, ◌^◌, ◌++◌, ◌∷◌, [], ◌⊎◌, ◌↔◌, ℕ, List, replicate, true, false, None, Some, Err, IsTrue, IfOk, IfSome, IfNone, Contains};
 ghost use Rattle.std.specs.Bool.{OnTrue, OnFalse};
 ghost use Rattle.blk_tags.specs.Tags.{IsSet, IsSeat, count_of, without};
-ghost use Rattle.blk_tags.specs.Steps.{TagsAreHeldOnce, took, gave};
+ghost use Rattle.blk_tags.specs.Steps.{TagsAreHeldOnce};
+ghost use Rattle.blk_tags.specs.Inside.{took, gave};
 
 use crate::held::Held;
 use atomic_table::{Join, Play, Seat, Split, Table, TableRule};

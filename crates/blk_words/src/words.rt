@@ -216,12 +216,12 @@ fn is_flagged(options: &ArgMatches<'_>, id: &str) -> bool
 
 /// The options of a subcommand.
 #[derive(Clone, Copy)]
-struct Options<'a, 'b> {
+struct MatchedOptions<'a, 'b> {
     /// As clap found them.
     matches: &'a ArgMatches<'b>,
 }
 
-impl Given for Options<'_, '_> {
+impl Given for MatchedOptions<'_, '_> {
     ghost given = { λ o. given_options (given o.matches.now) };
 
     fn text(&self, option: &str) -> Option<&str> {
@@ -274,7 +274,7 @@ fn compare_of(options: &ArgMatches<'_>) -> Option<Job>
     ensures { result ≡ compared (form_asked (given options.now)) (lineup_asked (given options.now)) }
 {
     let form = form_asked(options);
-    let lineup = Lineup::given(&Options { matches: options })?;
+    let lineup = Lineup::given(&MatchedOptions { matches: options })?;
     Some(Job::OfScript(Running::Each(lineup, form)))
 }
 
@@ -283,7 +283,7 @@ fn picture_of(options: &ArgMatches<'_>) -> Option<Job>
     ensures { result ≡ pictured (is_flagged (codes "script") (given options.now)) (lineup_asked (given options.now)) }
 {
     if is_flagged(options, "script") {
-        let lineup = Lineup::given(&Options { matches: options })?;
+        let lineup = Lineup::given(&MatchedOptions { matches: options })?;
         Some(Job::OfScript(Running::Drawn(lineup)))
     } else {
         Some(Job::OfTrace(Telling::Picture))
@@ -325,7 +325,7 @@ fn shown_of(trace: bool, json: bool) -> ShownLoad
 fn load_of(options: &ArgMatches<'_>, shown: ShownLoad) -> Option<Job>
     ensures { result ≡ loaded shown (sched_asked (given options.now)) (amounts_of (given options.now)) }
 {
-    let sched = Sched::given(&Options { matches: options })?;
+    let sched = Sched::given(&MatchedOptions { matches: options })?;
     let load = amounts_of(options)?;
     Some(Job::Load(sched, load, shown))
 }
@@ -534,7 +534,7 @@ fn by_given(options: &ArgMatches<'_>) -> Option<By>
 fn tune_job(options: &ArgMatches<'_>) -> Job
     ensures { result ≡ tune_job (given options.now) }
 {
-    match Lists::given(&Options { matches: options }) {
+    match Lists::given(&MatchedOptions { matches: options }) {
         Ok(_) => {}
         Err(fault) => return Job::Refuse(Refusal::Lists(fault)),
     }
@@ -580,7 +580,7 @@ fn job_made(makes: Makes, options: &ArgMatches<'_>) -> Option<Job>
             Some(Job::OfTrace(Telling::Figures(figures, form)))
         }
         Makes::Sim => {
-            let sched = Sched::given(&Options { matches: options })?;
+            let sched = Sched::given(&MatchedOptions { matches: options })?;
             Some(Job::OfScript(Running::One(sched)))
         }
         Makes::Compare => compare_of(options),
@@ -663,7 +663,7 @@ fn lists_of(matches: &ArgMatches<'_>) -> Option<Lists>
     ensures range { IfSome result AreShort }
 {
     let (_, options) = matches.subcommand()?;
-    match Lists::given(&Options { matches: options }) {
+    match Lists::given(&MatchedOptions { matches: options }) {
         Ok(lists) => Some(lists),
         Err(_) => None,
     }

@@ -62,3 +62,7 @@ abbrev pub lesser_of : Option ℕ → Option ℕ → Option ℕ
 lesser_of None o = o
 lesser_of (Some a) None = Some a
 lesser_of (Some a) (Some b) = Some (if nat_lt b a then b else a)
+
+-- the request of an id is this one
+abbrev pub IsIdOf : (ℕ → Option Waiting) → Option Waiting → ℕ → Type 0
+IsIdOf found request id = (w : Waiting) × (found id ≡ Some w) × (request ≡ Some w)

@@ -38,3 +38,7 @@ IsWorkingAt setup hw seat hands ran room parts amount = IsWorking setup hw seat.
 -- the layer's name says
 abbrev pub IsLaidOut : Setup → ℕ → ℕ → List ℕ → ℕ → ℕ → Type 0
 IsLaidOut setup named queues map depth workers = (queues ≡ length map) × IsHwCount map setup.hw × (depth ≡ setup.depth) × (workers ≡ named)
+
+-- no tag and no hardware queue: the setup under `Brand`, the name that a program gives and no layer's own
+abbrev pub no_setup : Setup
+no_setup = record { depth = 0; hw = 0; read_expire = 0; write_expire = 0; limits = record { max_sectors = 0; max_segments = 0 } }

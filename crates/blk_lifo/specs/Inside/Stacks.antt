@@ -1,10 +1,14 @@
 -- Places in a list of requests, and how far it was looked through.
-use Rattle.std.specs.Prelude.{ℕ, ◌≡◌, ◌<◌, List, Some, slice_get, length, Option, None, slice_set}
+use Rattle.std.specs.Prelude.{ℕ, ◌≡◌, ◌<◌, List, Some, slice_get, length, Option, None, slice_set, [], ◌∷◌, map as each}
 use Rattle.blk_sched.specs.Meaning.{Waiting, joined_waiting}
 use Rattle.blk_bio.specs.declared.request.Side.{Side}
 use Rattle.blk_bio.specs.Bios.{Bio}
 use Rattle.blk_bio.specs.Limits.{Limits}
 use Rattle.blk_bio.specs.Requests.{Fits}
+use Rattle.std.specs.Ordering.{nat_cmp}
+use Rattle.std.specs.BTreeMap.{is_at}
+use Rattle.std.specs.Map.{lookup}
+use Rattle.blk_lifo.specs.Stacks.{named}
 
 -- none of the requests before a place has the id
 abbrev pub IsNotBefore : List Waiting → ℕ → ℕ → Type 0
@@ -47,3 +51,12 @@ pub record JoinsPlace (limits : Limits) (now : ℕ) (newcomer : List Bio) (old :
   pub fits : Fits limits waiting.bios newcomer side
   pub only : (other : Side) → Fits limits waiting.bios newcomer other → other ≡ side
   pub changed : new ≡ slice_set old place (joined_waiting side now newcomer waiting)
+
+-- the request of an id, if there is one
+abbrev pub found : List Waiting → ℕ → Option Waiting
+found requests id = lookup (is_at (nat_cmp id)) (each named requests)
+
+-- no two requests have one id
+unfoldable pub HaveDistinctIds : List Waiting → Type 0
+HaveDistinctIds [] = Unit {0}
+HaveDistinctIds (w ∷ ws) = (found ws w.id ≡ None) × HaveDistinctIds ws

@@ -6,6 +6,7 @@ use Rattle.blk_lists.specs.declared.fields.Rule.{Rule}
 use Rattle.blk_lists.specs.declared.fields.Rule.TheVariants as rule
 use Rattle.blk_lists.specs.declared.fields.Slot.{Slot}
 use Rattle.blk_lists.specs.Fields.{EachField, IsBlank, IsDirection, IsNumber, IsInRange}
+use Rattle.blk_lists.specs.declared.fields.Slot.TheVariants as slot
 
 -- whether a field begins with no sign and with no zero before another byte
 abbrev pub canonical : List ℕ → Bool
@@ -30,3 +31,9 @@ IsGood s f = IsBlank s f × IsDirection s f × IsNumber s f × IsInRange s f
 -- and so is each field of a record
 abbrev pub IsWhole : List Slot → Row → Type 0
 IsWhole slots row = (length row ≡ length slots) × EachField IsGood slots row
+
+-- few fields have such a slot
+abbrev pub IsSeldom : Slot → Type 0
+IsSeldom (slot.Lateness most) = Unit {0}
+IsSeldom slot.Nanoseconds = Unit {0}
+IsSeldom s = ⊥

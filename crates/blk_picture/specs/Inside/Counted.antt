@@ -23,6 +23,14 @@ abbrev pub most_waits : Scale → Dir → IssueKind → List Happened → List I
 most_waits scale dir kind events boxes =
     peaks_of scale.per scale.columns (waits_of (entered_in dir events) (rounds_in kind boxes) scale.rounds)
 
+-- a column with these numbers, and that of a place in lists of them
+abbrev pub column_with : ℕ → ℕ → ℕ → ℕ → ℕ → ℕ → ℕ → Column
+column_with reads writes lates backs room rw ww = record { reads = reads; writes = writes; lates = lates; backs = backs; room = room; read_waits = rw; write_waits = ww }
+
+abbrev pub column_from : List ℕ → List ℕ → List ℕ → List ℕ → List ℕ → List ℕ → List ℕ → ℕ → Column
+column_from reads writes lates backs rooms rw ww n =
+    column_with (slice_index_or reads n 0) (slice_index_or writes n 0) (slice_index_or lates n 0) (slice_index_or backs n 0) (slice_index_or rooms n 0) (slice_index_or rw n 0) (slice_index_or ww n 0)
+
 -- the columns of these numbers
 abbrev pub by_column : List ℕ → List ℕ → List ℕ → List ℕ → List ℕ → List ℕ → List ℕ → List Column
 by_column reads writes lates backs rooms rw ww = made (column_from reads writes lates backs rooms rw ww) (length reads)

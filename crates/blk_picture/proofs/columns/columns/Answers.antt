@@ -1,6 +1,7 @@
 use Rattle.std.proofs.Common.{◌≡◌, ◌<◌, ◌≤◌, ◌+◌, ◌-◌, ◌++◌, ◌∷◌, [], ◌∙◌, ◌==◌, ℕ, List, Bool, true, false, Some, None, length, get_or, take, drop, set, replicate, refl, sym, ap, subst, arith}
 use Rattle.blk_picture.specs.Filled.{made}
-use Rattle.blk_picture.specs.Columns.{column_from, column_of, rooms_of}
+use Rattle.blk_picture.specs.Columns.{column_of, rooms_of}
+use Rattle.blk_picture.specs.Inside.Counted.{column_from}
 use Rattle.blk_picture.proofs.Texts.{made_same}
 use Rattle.blk_picture.proofs.Counting.{column_is}
 use Rattle.blk_picture.proofs.columns.columns.Goals as goal

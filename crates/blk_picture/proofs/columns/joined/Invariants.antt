@@ -1,6 +1,6 @@
 use Rattle.std.proofs.Common.{◌≡◌}
 use Rattle.blk_picture.specs.Filled.{made}
-use Rattle.blk_picture.specs.Columns.{column_from}
+use Rattle.blk_picture.specs.Inside.Counted.{column_from}
 use Rattle.blk_picture.proofs.columns.joined.Given as goal
 
 abbrev pub invariant-loop-column : goal.invariant-loop-column

@@ -1,5 +1,5 @@
 use Rattle.std.proofs.Common.{rules, ◌≡◌, ◌++◌, ◌∷◌, [], subst, sym, ap, ◌∙◌}
-use Rattle.blk_lifo.specs.Stacks.{HaveDistinctIds}
+use Rattle.blk_lifo.specs.Inside.Stacks.{HaveDistinctIds}
 use Rattle.blk_lifo.proofs.Lists.{distinct_pushed}
 use Rattle.blk_lifo.proofs.Stack.{new_id, entered, view}
 use Rattle.blk_lifo.proofs.lifo.Lifo.add.Goals as goal

@@ -1,7 +1,7 @@
 use Rattle.std.proofs.Common.{subst, sym, List}
 use Rattle.std.specs.Prelude.{IsSome}
 use Rattle.blk_sched.specs.Meaning.{Waiting}
-use Rattle.blk_lifo.specs.Stacks.{found}
+use Rattle.blk_lifo.specs.Inside.Stacks.{found}
 use Rattle.blk_lifo.proofs.Stack.{is_found, place_within, distinct_then, then_ok, joins}
 use Rattle.blk_lifo.proofs.lifo.Lifo.join.Goals as goal
 

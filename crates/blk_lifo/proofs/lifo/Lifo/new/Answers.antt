@@ -1,5 +1,5 @@
 use Rattle.std.proofs.Common.{subst, sym}
-use Rattle.blk_lifo.specs.Stacks.{HaveDistinctIds}
+use Rattle.blk_lifo.specs.Inside.Stacks.{HaveDistinctIds}
 use Rattle.blk_lifo.proofs.lifo.Lifo.new.Goals as goal
 
 pub invariant_of-result : goal.invariant_of-result

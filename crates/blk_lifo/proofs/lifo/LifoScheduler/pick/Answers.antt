@@ -1,7 +1,8 @@
 use Rattle.std.proofs.Common.{rules, ◌≡◌, subst, ap, ◌∙◌, inr, true, refl}
 use Rattle.blk_bio.specs.Requests.{dir_of}
 use Rattle.blk_sched.specs.Meaning.{Waiting, Meaning, OpenPicks, opened}
-use Rattle.blk_lifo.specs.Stacks.{HaveDistinctIds, by_id}
+use Rattle.blk_lifo.specs.Stacks.{by_id}
+use Rattle.blk_lifo.specs.Inside.Stacks.{HaveDistinctIds}
 use Rattle.blk_lifo.proofs.Lists.{distinct_popped}
 use Rattle.blk_lifo.proofs.Stack.{picked, none_left}
 use Rattle.blk_lifo.proofs.lifo.LifoScheduler.pick.Goals as goal
