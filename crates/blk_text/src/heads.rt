@@ -1,13 +1,23 @@
-//! The first record of an event of a trace.
+//! The table of the events of a trace: the row of each kind's first record, how it is read, and how an event is written.
 
+ghost use Rattle.std.specs.Prelude.{◌≡◌, ◌++◌, ◌≤◌, All, OnOk, length};
+ghost use Rattle.blk_trace.specs.Events.{bios_of};
+ghost use Rattle.blk_lists.specs.Cells.{IsPlainWord};
+ghost use Rattle.blk_lists.specs.Texts.{rows_text};
+ghost use Rattle.drafts.specs.Drafts.{drafted};
+ghost use Rattle.blk_text.specs.TraceRecords.{group_rows, event_rows, BioFits, EventFits};
+
+use crate::bios::push_bio;
 use crate::setup::{DEPTHS, QUEUES, WIDTH};
-use blk_bio::MAX_SEGMENTS;
+use blk_bio::{Bio, MAX_SEGMENTS, Request};
 use blk_lists::fault::Why;
 use blk_lists::fields::{ANY_SLOT, Slot, TAG_SLOT, field, read_fields, without_word};
 use blk_lists::items::LineForm;
 use blk_lists::kinds::Kind;
 use blk_trace::{Event, MAX_EVENTS};
 use csv::ByteRecord;
+use drafts::Block;
+use std::alloc::{AllocError, Allocator};
 
 /// The title record: the version, the tags, the hardware queues, how many events follow, and an empty field. An earlier
 /// version may have fewer tags.
@@ -172,5 +182,44 @@ impl LineForm for HeadForm {
             return Ok(Event::Depth { depth: numbers[1] });
         }
         Err(without_word(row, WIDTH))
+    }
+}
+
+/// Adds the records of a group: its own, and those of its bios.
+#[inline(always)]
+fn push_group<const L: usize>(
+    draft: &mut Block,
+    kind: &Kind<L, WIDTH>,
+    id: u64,
+    bios: &[Bio],
+) -> Result<(), AllocError>
+    requires { IsPlainWord kind.now.word }
+    ensures text { OnOk result (drafted draft.new ≡ drafted draft.old ++ rows_text (group_rows kind.now.word id bios.now)) }
+    ensures fits { OnOk result (All BioFits bios.now) }
+{
+    kind.push(draft, &[id, bios.len() as u64])?;
+    for i in 0..bios.len() {
+        push_bio(draft, &bios[i])?;
+    }
+    Ok(())
+}
+
+/// Adds the records of an event.
+pub(crate) fn push_event<A: Allocator + Clone>(
+    draft: &mut Block,
+    event: &Event<Request<A>>,
+) -> Result<(), AllocError>
+    requires { length (bios_of event.now) ≤ MAX_SEGMENTS }
+    ensures text { OnOk result (drafted draft.new ≡ drafted draft.old ++ rows_text (event_rows event.now)) }
+    ensures fits { OnOk result (EventFits event.now) }
+{
+    match event {
+        Event::Tick => TICK.push(draft, &[]),
+        Event::Release { id, request } => push_group(draft, &RELEASE, *id, request.bios()),
+        Event::Join { id, request } => push_group(draft, &JOIN, *id, request.bios()),
+        Event::Issue { id, tag } => ISSUE.push(draft, &[*id, *tag as u64]),
+        Event::Done { tag } => DONE.push(draft, &[*tag as u64]),
+        Event::Back { tag } => BACK.push(draft, &[*tag as u64]),
+        Event::Depth { depth } => DEPTH.push(draft, &[*depth]),
     }
 }

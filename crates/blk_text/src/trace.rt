@@ -1,63 +1,18 @@
 //! Traces.
 
-ghost use Rattle.std.specs.Prelude.{◌≡◌, ◌⊎◌, ◌++◌, ◌∷◌, ◌≤◌, [], All, OnOk, IfOk, IfErr, length};
+ghost use Rattle.std.specs.Prelude.{◌≡◌, ◌⊎◌, OnOk, IfOk, IfErr};
 ghost use Rattle.std.specs.Io.KnownBytes.{Appends};
-ghost use Rattle.blk_trace.specs.Events.{bios_of};
 ghost use Rattle.blk_lists.specs.Texts.{rows_text};
 ghost use Rattle.drafts.specs.Parts.{AppendsPart};
-ghost use Rattle.blk_lists.specs.Cells.{IsPlainWord};
-ghost use Rattle.drafts.specs.Drafts.{drafted};
-ghost use Rattle.blk_text.specs.TraceRecords.{group_rows, event_rows, trace_rows, BioFits, EventFits, IsTrace};
+ghost use Rattle.blk_text.specs.TraceRecords.{trace_rows, IsTrace};
 ghost use Rattle.blk_text.specs.TraceForm.{SpellsTrace, SpellsTraceIn};
 
-use crate::bios::push_bio;
-use crate::heads::{BACK, DEPTH, DONE, ISSUE, JOIN, RELEASE, TICK, TRACE};
-use crate::setup::{LATEST, WIDTH, push_setup};
-use blk_bio::{Bio, MAX_SEGMENTS, Request};
-use blk_lists::kinds::Kind;
-use blk_trace::{Event, Trace};
+use crate::heads::{TRACE, push_event};
+use crate::setup::{LATEST, push_setup};
+use blk_trace::Trace;
 use drafts::{Block, WriteFault, write_whole};
 use std::alloc::{AllocError, Allocator, Global};
 use std::io::Write;
-
-/// Adds the records of a group: its own, and those of its bios.
-#[inline(always)]
-fn push_group<const L: usize>(
-    draft: &mut Block,
-    kind: &Kind<L, WIDTH>,
-    id: u64,
-    bios: &[Bio],
-) -> Result<(), AllocError>
-    requires { IsPlainWord kind.now.word }
-    ensures text { OnOk result (drafted draft.new ≡ drafted draft.old ++ rows_text (group_rows kind.now.word id bios.now)) }
-    ensures fits { OnOk result (All BioFits bios.now) }
-{
-    kind.push(draft, &[id, bios.len() as u64])?;
-    for i in 0..bios.len() {
-        push_bio(draft, &bios[i])?;
-    }
-    Ok(())
-}
-
-/// Adds the records of an event.
-fn push_event<A: Allocator + Clone>(
-    draft: &mut Block,
-    event: &Event<Request<A>>,
-) -> Result<(), AllocError>
-    requires { length (bios_of event.now) ≤ MAX_SEGMENTS }
-    ensures text { OnOk result (drafted draft.new ≡ drafted draft.old ++ rows_text (event_rows event.now)) }
-    ensures fits { OnOk result (EventFits event.now) }
-{
-    match event {
-        Event::Tick => TICK.push(draft, &[]),
-        Event::Release { id, request } => push_group(draft, &RELEASE, *id, request.bios()),
-        Event::Join { id, request } => push_group(draft, &JOIN, *id, request.bios()),
-        Event::Issue { id, tag } => ISSUE.push(draft, &[*id, *tag as u64]),
-        Event::Done { tag } => DONE.push(draft, &[*tag as u64]),
-        Event::Back { tag } => BACK.push(draft, &[*tag as u64]),
-        Event::Depth { depth } => DEPTH.push(draft, &[*depth]),
-    }
-}
 
 /// The text of a trace, in the latest version, as [`write_trace`] writes it.
 pub fn trace_text<A: Allocator + Clone>(

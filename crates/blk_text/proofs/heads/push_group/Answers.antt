@@ -5,7 +5,7 @@ use Rattle.std.proofs.lemmas.List.{take_all}
 use Rattle.blk_text.proofs.TraceLemmas.{one_fits}
 use Rattle.blk_lists.proofs.DraftLemmas.{one_more, whole}
 use Rattle.drafts.specs.Drafts.{drafted}
-use Rattle.blk_text.proofs.trace.push_group.Goals as goal
+use Rattle.blk_text.proofs.heads.push_group.Goals as goal
 
 pub loop-i-preserved : goal.loop-i-preserved
 loop-i-preserved g c = record {

@@ -4,7 +4,7 @@ use Rattle.blk_text.specs.BioRecord.{bio_row}
 use Rattle.blk_text.specs.TraceRecords.{word_row, BioFits}
 use Rattle.blk_lists.proofs.DraftLemmas.{IsSoFar}
 use Rattle.drafts.specs.Drafts.{drafted}
-use Rattle.blk_text.proofs.trace.push_group.Given as goal
+use Rattle.blk_text.proofs.heads.push_group.Given as goal
 
 abbrev pub invariant-loop-i : goal.invariant-loop-i
 invariant-loop-i g l = record {
