@@ -45,7 +45,7 @@ plugs_in true round p = record { now = round; bios = p.bios; held = replicate (l
 abbrev pub is_later : ℕ → Plugs → Bool
 is_later round p = nat_lt p.now round
 
--- the steps by which a round comes, and the plugs in it: where it is later, the rounds up to it end
+-- the steps that move on to a round, and the plugs then: where the round is later, all rounds before it end
 abbrev pub turning : ℕ → Plugs → List Line
 turning round p = ending_of (is_later round p) round p
 

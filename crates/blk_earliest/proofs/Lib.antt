@@ -1,4 +1,4 @@
 pub mod Listing
 pub mod Chosen
 mod Dues
-mod Lines
+mod Fifos

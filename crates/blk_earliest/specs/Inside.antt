@@ -1,3 +1,3 @@
--- What invariants and proofs alone need: due rounds and ids, in lines and in a set.
+-- What invariants and proofs alone need: due rounds and ids, in FIFO lists and in a set.
 pub mod Dues
-pub mod Lines
+pub mod Fifos

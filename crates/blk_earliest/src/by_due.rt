@@ -27,7 +27,7 @@ impl<A: Allocator> Model for ByDue<A> {
     ghost use Rattle.std.specs.FinMap.{get, code};
     ghost use Rattle.blk_sched.specs.Meaning.{Pending, waiting_code};
     ghost use Rattle.blk_earliest.specs.Inside.Dues.{AreDues};
-    ghost use Rattle.blk_earliest.specs.Inside.Lines.{dues_in, AreLines};
+    ghost use Rattle.blk_earliest.specs.Inside.Fifos.{dues_in, AreFifos};
 
     ghost Value = { Pending };
 
@@ -35,7 +35,7 @@ impl<A: Allocator> Model for ByDue<A> {
 
     ghost view = { λ s. s.index };
 
-    ghost invariant = { λ s. AreDues (get s.index) (dues_in s.dues) × AreLines s.dues };
+    ghost invariant = { λ s. AreDues (get s.index) (dues_in s.dues) × AreFifos s.dues };
 }
 
 impl<A: Allocator + Clone> ByDue<A> {

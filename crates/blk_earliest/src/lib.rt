@@ -138,8 +138,8 @@ impl<A: Allocator + Clone> Scheduler for Earliest<A> {
         }
     }
 
-    /// Hands out the request that is due first, of several the one with the least id; with `late_last` that of those due
-    /// in the round or later, and only where there is none of these the first of all.
+    /// Picks the request with the least due round, and of several the one with the least id. With `late_last` it looks among
+    /// those that can still be on time first.
     #[inline(always)]
     fn pick(&mut self, hw: u8, now: u64) -> Option<Queued<A>>
         requires hw { hw < MAX_QUEUES }

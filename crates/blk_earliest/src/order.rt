@@ -7,7 +7,7 @@ ghost use Rattle.std.specs.List.Sorted.{IsStrictlySortedBy};
 ghost use Rattle.std.specs.BTreeSet.{contains};
 ghost use Rattle.std.specs.declared.cmp.Ordering.TheVariants.{Less};
 ghost use Rattle.blk_index.specs.Inside.SortLists.{pair_cmp, PairAdded, PairTaken, PairsKept};
-ghost use Rattle.blk_earliest.specs.Inside.Lines.{has_pair, dues_in, pairs_in, AreLines, IsLeastPairFrom, IsFirstOrNone, IsFirstOfBoth};
+ghost use Rattle.blk_earliest.specs.Inside.Fifos.{has_pair, dues_in, pairs_in, AreFifos, IsLeastPairFrom, IsFirstOrNone, IsFirstOfBoth};
 ghost use Rattle.blk_earliest.specs.Inside.Dues.{IsFirstPair, NoPairFrom};
 
 use crate::due::Due;
@@ -16,16 +16,16 @@ use std::alloc::{AllocError, Allocator, Global};
 use std::collections::{BTreeSet, VecDeque};
 use std::ops::Bound;
 
-/// How many stand in a line at most: one that goes from the middle of it moves half of the others.
-const MAX_LINE: usize = 256;
+/// How many stand in a FIFO list at most: one that goes from the middle of it moves half of the others.
+const MAX_FIFO: usize = 256;
 
-/// Due rounds with ids, as the set of them. Under one expiry requests mostly come in by rising due rounds, so of each direction those that
-/// come after all that stand there make a line, which takes and gives them at its ends; and all others stand in an ordered set.
+/// Due rounds with ids, as the set of them. Under one expiry requests mostly come in by rising due rounds. So each direction has a FIFO list of
+/// those that were due after all in it when they came, and the rest stand in an ordered set.
 #[derive(Drop)]
 pub struct Dues<A: Allocator = Global> {
-    /// The line of reads.
+    /// The FIFO list of reads.
     pub reads: VecDeque<Due, A>,
-    /// The line of writes.
+    /// The FIFO list of writes.
     pub writes: VecDeque<Due, A>,
     /// All others.
     pub others: BTreeSet<Due, A>,
@@ -35,7 +35,7 @@ impl<A: Allocator + Clone> Dues<A> {
     /// None. It takes no memory but for the allocators.
     pub fn new(alloc: A) -> Result<Dues<A>, AllocError>
         ensures none { IfOk result (λ d. (q : ℕ × ℕ) → dues_in d q ≡ false) }
-        ensures lines { IfOk result AreLines }
+        ensures fifos { IfOk result AreFifos }
     {
         Ok(Dues {
             reads: VecDeque::new(alloc.clone()?),
@@ -44,13 +44,13 @@ impl<A: Allocator + Clone> Dues<A> {
         })
     }
 
-    /// Puts one in that comes of a request of the direction. On a refusal nothing is changed.
+    /// Adds the due round of a request of this direction. Where memory is refused nothing is changed.
     #[inline(always)]
     pub fn put(&mut self, dir: Dir, due: Due) -> Result<(), AllocError>
-        requires { AreLines self.old }
+        requires { AreFifos self.old }
         ensures ok { OnOk result (PairAdded (dues_in self.old) due (dues_in self.new)) }
         ensures same { OnErr result (PairsKept (dues_in self.old) (dues_in self.new)) }
-        ensures lines { AreLines self.new }
+        ensures fifos { AreFifos self.new }
     {
         match dir {
             Dir::Read => put_beside(&mut self.reads, &mut self.others, due),
@@ -61,9 +61,9 @@ impl<A: Allocator + Clone> Dues<A> {
     /// Takes one out, wherever it stands. It takes no memory.
     #[inline(always)]
     pub fn take(&mut self, due: Due)
-        requires { AreLines self.old }
+        requires { AreFifos self.old }
         ensures taken { PairTaken (dues_in self.old) due (dues_in self.new) }
-        ensures lines { AreLines self.new }
+        ensures fifos { AreFifos self.new }
     {
         take_from(&mut self.reads, due);
         take_from(&mut self.writes, due);
@@ -73,7 +73,7 @@ impl<A: Allocator + Clone> Dues<A> {
     /// The id of the least one whose due round is `start` or later.
     #[inline(always)]
     pub fn first_id(&self, start: u64) -> Option<u64>
-        requires { AreLines self.now }
+        requires { AreFifos self.now }
         ensures some { IfSome result (IsFirstPair (dues_in self.now) start) }
         ensures none { IfNone result (NoPairFrom (dues_in self.now) start) }
     {
@@ -115,49 +115,49 @@ fn lesser(one: Option<Due>, other: Option<Due>) -> Option<Due>
     }
 }
 
-/// Whether one comes after all of a line that has room for it.
+/// Whether one comes after all of a FIFO list that has room for it.
 #[inline(always)]
-fn goes_last<A: Allocator + Clone>(line: &VecDeque<Due, A>, due: Due) -> bool
-    requires { IsStrictlySortedBy pair_cmp line.now.items }
-    ensures { OnTrue result ((k : ℕ) (q : ℕ × ℕ) → slice_get line.now.items k ≡ Some q → pair_cmp q due ≡ Less) }
+fn goes_last<A: Allocator + Clone>(fifo: &VecDeque<Due, A>, due: Due) -> bool
+    requires { IsStrictlySortedBy pair_cmp fifo.now.items }
+    ensures { OnTrue result ((k : ℕ) (q : ℕ × ℕ) → slice_get fifo.now.items k ≡ Some q → pair_cmp q due ≡ Less) }
 {
-    if line.len() >= MAX_LINE {
+    if fifo.len() >= MAX_FIFO {
         return false;
     }
-    let Some(last) = line.back() else {
+    let Some(last) = fifo.back() else {
         return true;
     };
     comes_before(*last, due)
 }
 
-/// Puts one at the end of a line where it goes there, and else into the set beside it. On a refusal nothing is changed.
+/// Puts one at the end of a FIFO list where it goes there, and else into the set beside it. Where memory is refused nothing is changed.
 #[inline(always)]
 fn put_beside<A: Allocator + Clone>(
-    line: &mut VecDeque<Due, A>,
+    fifo: &mut VecDeque<Due, A>,
     others: &mut BTreeSet<Due, A>,
     due: Due,
 ) -> Result<(), AllocError>
-    requires { IsStrictlySortedBy pair_cmp line.old.items }
-    ensures ok { OnOk result (PairAdded (pairs_in line.old others.old) due (pairs_in line.new others.new)) }
-    ensures same { OnErr result (PairsKept (pairs_in line.old others.old) (pairs_in line.new others.new)) }
-    ensures line { IsStrictlySortedBy pair_cmp line.new.items }
+    requires { IsStrictlySortedBy pair_cmp fifo.old.items }
+    ensures ok { OnOk result (PairAdded (pairs_in fifo.old others.old) due (pairs_in fifo.new others.new)) }
+    ensures same { OnErr result (PairsKept (pairs_in fifo.old others.old) (pairs_in fifo.new others.new)) }
+    ensures fifo { IsStrictlySortedBy pair_cmp fifo.new.items }
 {
-    if goes_last(line, due) {
-        return put_last(line, due);
+    if goes_last(fifo, due) {
+        return put_last(fifo, due);
     }
     put_other(others, due)
 }
 
-/// Puts one at the end of a line, after all others. On a refusal nothing is changed.
+/// Adds one at the end of a FIFO list, after all others. Where memory is refused nothing is changed.
 #[inline(always)]
-fn put_last<A: Allocator + Clone>(line: &mut VecDeque<Due, A>, due: Due) -> Result<(), AllocError>
-    requires line { IsStrictlySortedBy pair_cmp line.old.items }
-    requires last { (k : ℕ) (q : ℕ × ℕ) → slice_get line.old.items k ≡ Some q → pair_cmp q due ≡ Less }
-    ensures ok { OnOk result (PairAdded (has_pair line.old.items) due (has_pair line.new.items)) }
-    ensures same { OnErr result (PairsKept (has_pair line.old.items) (has_pair line.new.items)) }
-    ensures line { IsStrictlySortedBy pair_cmp line.new.items }
+fn put_last<A: Allocator + Clone>(fifo: &mut VecDeque<Due, A>, due: Due) -> Result<(), AllocError>
+    requires fifo { IsStrictlySortedBy pair_cmp fifo.old.items }
+    requires last { (k : ℕ) (q : ℕ × ℕ) → slice_get fifo.old.items k ≡ Some q → pair_cmp q due ≡ Less }
+    ensures ok { OnOk result (PairAdded (has_pair fifo.old.items) due (has_pair fifo.new.items)) }
+    ensures same { OnErr result (PairsKept (has_pair fifo.old.items) (has_pair fifo.new.items)) }
+    ensures fifo { IsStrictlySortedBy pair_cmp fifo.new.items }
 {
-    match line.push_back(due) {
+    match fifo.push_back(due) {
         Ok(()) => Ok(()),
         Err(_) => Err(AllocError),
     }
@@ -175,16 +175,16 @@ fn put_other<A: Allocator + Clone>(
     Ok(())
 }
 
-/// Takes one out of a line, if it stands there.
+/// Takes one out of a FIFO list, if it stands there.
 #[inline(always)]
-fn take_from<A: Allocator + Clone>(line: &mut VecDeque<Due, A>, due: Due)
-    requires { IsStrictlySortedBy pair_cmp line.old.items }
-    ensures taken { PairTaken (has_pair line.old.items) due (has_pair line.new.items) }
-    ensures line { IsStrictlySortedBy pair_cmp line.new.items }
+fn take_from<A: Allocator + Clone>(fifo: &mut VecDeque<Due, A>, due: Due)
+    requires { IsStrictlySortedBy pair_cmp fifo.old.items }
+    ensures taken { PairTaken (has_pair fifo.old.items) due (has_pair fifo.new.items) }
+    ensures fifo { IsStrictlySortedBy pair_cmp fifo.new.items }
 {
-    let place = place_of(line, due);
-    if stands_at(line, place, due) {
-        let _ = line.remove(place);
+    let place = place_of(fifo, due);
+    if stands_at(fifo, place, due) {
+        let _ = fifo.remove(place);
     }
 }
 
@@ -199,56 +199,56 @@ fn take_other<A: Allocator + Clone>(others: &mut BTreeSet<Due, A>, due: Due)
     let _ = others.remove(&due);
 }
 
-/// Whether one stands at a place of a line.
+/// Whether one stands at a place of a FIFO list.
 #[inline(always)]
-fn stands_at<A: Allocator + Clone>(line: &VecDeque<Due, A>, place: usize, due: Due) -> bool
-    ensures yes { OnTrue result (slice_get line.now.items place ≡ Some due) }
-    ensures no { OnFalse result (slice_get line.now.items place ≡ Some due → ⊥) }
+fn stands_at<A: Allocator + Clone>(fifo: &VecDeque<Due, A>, place: usize, due: Due) -> bool
+    ensures yes { OnTrue result (slice_get fifo.now.items place ≡ Some due) }
+    ensures no { OnFalse result (slice_get fifo.now.items place ≡ Some due → ⊥) }
 {
-    if place >= line.len() {
+    if place >= fifo.len() {
         return false;
     }
-    is_same(line[place], due)
+    is_same(fifo[place], due)
 }
 
-/// How many of a line come before one: mostly none.
+/// How many of a FIFO list come before one: mostly none.
 #[inline(always)]
-fn place_of<A: Allocator + Clone>(line: &VecDeque<Due, A>, due: Due) -> usize
-    requires { IsStrictlySortedBy pair_cmp line.now.items }
-    ensures bound { result ≤ length line.now.items }
-    ensures below { (k : ℕ) (q : ℕ × ℕ) → k < result → slice_get line.now.items k ≡ Some q → is_lt (pair_cmp q due) ≡ true }
-    ensures above { (k : ℕ) (q : ℕ × ℕ) → result ≤ k → slice_get line.now.items k ≡ Some q → is_lt (pair_cmp q due) ≡ false }
+fn place_of<A: Allocator + Clone>(fifo: &VecDeque<Due, A>, due: Due) -> usize
+    requires { IsStrictlySortedBy pair_cmp fifo.now.items }
+    ensures bound { result ≤ length fifo.now.items }
+    ensures below { (k : ℕ) (q : ℕ × ℕ) → k < result → slice_get fifo.now.items k ≡ Some q → is_lt (pair_cmp q due) ≡ true }
+    ensures above { (k : ℕ) (q : ℕ × ℕ) → result ≤ k → slice_get fifo.now.items k ≡ Some q → is_lt (pair_cmp q due) ≡ false }
 {
-    if is_before_all(line, due) {
+    if is_before_all(fifo, due) {
         return 0;
     }
-    place_among(line, due)
+    place_among(fifo, due)
 }
 
-/// Whether none of a line comes before one.
+/// Whether none of a FIFO list comes before one.
 #[inline(always)]
-fn is_before_all<A: Allocator + Clone>(line: &VecDeque<Due, A>, due: Due) -> bool
-    requires { IsStrictlySortedBy pair_cmp line.now.items }
-    ensures { OnTrue result ((k : ℕ) (q : ℕ × ℕ) → slice_get line.now.items k ≡ Some q → is_lt (pair_cmp q due) ≡ false) }
+fn is_before_all<A: Allocator + Clone>(fifo: &VecDeque<Due, A>, due: Due) -> bool
+    requires { IsStrictlySortedBy pair_cmp fifo.now.items }
+    ensures { OnTrue result ((k : ℕ) (q : ℕ × ℕ) → slice_get fifo.now.items k ≡ Some q → is_lt (pair_cmp q due) ≡ false) }
 {
-    let Some(first) = line.front() else {
+    let Some(first) = fifo.front() else {
         return true;
     };
     !comes_before(*first, due)
 }
 
-/// How many of a line come before one, by halves.
-fn place_among<A: Allocator + Clone>(line: &VecDeque<Due, A>, due: Due) -> usize
-    requires { IsStrictlySortedBy pair_cmp line.now.items }
-    ensures bound { result ≤ length line.now.items }
-    ensures below { (k : ℕ) (q : ℕ × ℕ) → k < result → slice_get line.now.items k ≡ Some q → is_lt (pair_cmp q due) ≡ true }
-    ensures above { (k : ℕ) (q : ℕ × ℕ) → result ≤ k → slice_get line.now.items k ≡ Some q → is_lt (pair_cmp q due) ≡ false }
+/// How many of a FIFO list come before one, by halves.
+fn place_among<A: Allocator + Clone>(fifo: &VecDeque<Due, A>, due: Due) -> usize
+    requires { IsStrictlySortedBy pair_cmp fifo.now.items }
+    ensures bound { result ≤ length fifo.now.items }
+    ensures below { (k : ℕ) (q : ℕ × ℕ) → k < result → slice_get fifo.now.items k ≡ Some q → is_lt (pair_cmp q due) ≡ true }
+    ensures above { (k : ℕ) (q : ℕ × ℕ) → result ≤ k → slice_get fifo.now.items k ≡ Some q → is_lt (pair_cmp q due) ≡ false }
 {
     let mut low = 0;
-    let mut high = line.len();
+    let mut high = fifo.len();
     while low < high {
         let middle = low + (high - low) / 2;
-        if comes_before(line[middle], due) {
+        if comes_before(fifo[middle], due) {
             low = middle + 1;
         } else {
             high = middle;
@@ -257,14 +257,14 @@ fn place_among<A: Allocator + Clone>(line: &VecDeque<Due, A>, due: Due) -> usize
     low
 }
 
-/// The first of a line whose due round is `start` or later.
+/// The first of a FIFO list whose due round is `start` or later.
 #[inline(always)]
-fn first_in<A: Allocator + Clone>(line: &VecDeque<Due, A>, start: u64) -> Option<Due>
-    requires { IsStrictlySortedBy pair_cmp line.now.items }
-    ensures { IsFirstOrNone (has_pair line.now.items) start result }
+fn first_in<A: Allocator + Clone>(fifo: &VecDeque<Due, A>, start: u64) -> Option<Due>
+    requires { IsStrictlySortedBy pair_cmp fifo.now.items }
+    ensures { IsFirstOrNone (has_pair fifo.now.items) start result }
 {
-    let place = place_of(line, Due { due: start, id: 0 });
-    match line.get(place) {
+    let place = place_of(fifo, Due { due: start, id: 0 });
+    match fifo.get(place) {
         Some(first) => Some(*first),
         None => None,
     }

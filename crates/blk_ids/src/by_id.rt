@@ -16,7 +16,7 @@ use std::collections::BTreeMap;
 pub struct ById<V, A: Allocator = Global> {
     /// The values of the ids from 0 on, as far as they came in order.
     pub counted: Vec<V, A>,
-    /// The id that came last with its value, where it is none of these, until room is made for another.
+    /// The last entry that is out of order, held here until room is made for it in the map.
     pub last: Option<(u64, V)>,
     /// The values of other ids.
     pub others: BTreeMap<u64, V, A>,

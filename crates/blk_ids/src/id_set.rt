@@ -84,7 +84,7 @@ fn is_late(late: &[(u8, u64)], submitter: u8, serial: u64) -> bool
     late.iter().any(|id| id.0 == submitter && id.1 == serial)
 }
 
-/// Puts an id in that has a flag in its submitter's list, and says whether it has one.
+/// Sets the id's flag where its submitter's list reaches that far, and answers whether it does.
 #[inline(always)]
 fn mark<A: Allocator + Clone>(lists: &mut Vec<Serials<A>, A>, submitter: u8, serial: u64) -> bool
     ensures marked { OnTrue result (HasOneMore lists.old.items (submitter, serial) lists.new.items) }

@@ -122,8 +122,8 @@ pub trait Scheduler: Drop {
         }
     }
 
-    /// The request that a newcomer joins: the newest served for the hardware queue that it fits, with the side. None exactly where it fits none of them, at the back or, where the scheduler
-    /// allows it, at the front.
+    /// The request that a newcomer joins, and at which side: the newest that is served for the hardware queue and that it fits.
+    /// None exactly where it fits none of them.
     fn candidate(&self, hw: u8, limits: &Limits, newcomer: &Request<Self::A>) -> Option<(u64, Side)>
         requires { hw < MAX_QUEUES }
         ensures some { IfSome result (λ r. HasCandidate policy.serves hw limits.now newcomer.now (meaning self.now) r.0 r.1) }

@@ -87,7 +87,7 @@ many {R} {E} {S} {V} x q next s = record {
       × (k ≡ length (all_rows q next s vs) + j) × (q (after next s vs)).Wrong rest j w;
 }
 
--- nothing: the text is over, where one item more would be wrong in this way once it is good by itself
+-- the end of the text: another item that is good by itself is this fault
 abbrev pub over : {R E V : Type 0} → E → Part R E V → Part R E (Unit {0})
 over {R} {E} {V} why q = record {
   rows_of = λ _. [];

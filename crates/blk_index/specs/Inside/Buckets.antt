@@ -1,4 +1,4 @@
--- MergeHash of which one of each place stands by itself, with the fewest sectors and the fewest bios that a request there has.
+-- Buckets of a merge hash: one request of each place, and lower bounds on the sectors and the bios of all that are there.
 use Rattle.std.specs.Prelude.{ℕ, ◌≡◌, ◌<◌, ◌≤◌, ◌⊎◌, Bool, true, false, cond, nat_eq, length, Option, Some, None, IsSome}
 use Rattle.std.specs.Ordering.{nat_cmp, eq_by_cmp}
 use Rattle.std.specs.BTreeMap.{is_at}

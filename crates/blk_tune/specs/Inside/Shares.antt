@@ -16,7 +16,7 @@ pub record IsThreadShare (script : Scripted) (scheds : List Sched) (from until s
   pub each : AreAnswers script scheds from step all
   pub whole : until ≤ from + length all * step
 
--- shares whose settings lie side by side, the step being how many there are, where memory for them was had
+-- of n shares the i-th has the settings i, i + n, i + 2n and so on, unless it ran out of memory
 abbrev pub AreShares : {X E : Type 0} → (X → List (Result TrialRow RunFault)) → Scripted → List Sched → ℕ → ℕ → ℕ → List (Result X E) → Type 0
 AreShares {X} {E} items script scheds from until step shares =
     (i : ℕ) (e : Result X E) → i < step → IfOk (slice_index_or shares i e) (λ one. IsThreadShare script scheds (from + i) until step (items one))

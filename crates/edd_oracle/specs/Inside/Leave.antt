@@ -69,7 +69,7 @@ pub record IsBegun (commands : List Command) (rounds : List (Option ℕ)) (steps
   pub within : (x : ℕ) → placed_at rounds x ≤ depth_at steps x
   pub room : start + unplaced_count rounds ≤ MAX_RELEASES + length commands
 
--- a round that was given already is kept, and a new one lies from `start` on, where the command may have it
+-- rounds that were assigned stay; a new one is `start` or later, at which the command may run
 abbrev pub IsKept : Bool → List Command → List (Option ℕ) → List (Option ℕ) → ℕ → Type 0
 IsKept passes commands begun rounds start =
     ((k x : ℕ) → slice_index_or begun k None ≡ Some x → slice_index_or rounds k None ≡ Some x) × ((k x : ℕ) (d : Command) → slice_index_or rounds k None ≡ Some x → (slice_index_or begun k None ≡ Some x) ⊎ ((start ≤ x) × IsInTime passes (slice_index_or commands k d) x))

@@ -1,6 +1,6 @@
 use Rattle.std.proofs.Common.{◌≡◌, ℕ, Bool, Option, sym, subst, ◌∙◌}
-use Rattle.blk_earliest.specs.Inside.Lines.{has_either, IsFirstPairFrom, IsFirstOrNone}
-use Rattle.blk_earliest.proofs.Lines.{first_stays, second_first}
+use Rattle.blk_earliest.specs.Inside.Fifos.{has_either, IsFirstPairFrom, IsFirstOrNone}
+use Rattle.blk_earliest.proofs.Fifos.{first_stays, second_first}
 use Rattle.blk_earliest.proofs.order.lesser.Goals as goal
 use Rattle.blk_earliest.proofs.order.lesser.Goals.{then-comes_before, else-comes_before}
 

@@ -2,13 +2,13 @@ use Rattle.std.proofs.Common.{◌≡◌, ◌+◌, ◌-◌, ◌/◌, ◌<◌, ◌
 use Rattle.std.specs.Ordering.{is_lt}
 use Rattle.std.proofs.lemmas.Option.{slice_get_read}
 use Rattle.blk_index.specs.Inside.Pairs.{pair_cmp}
-use Rattle.blk_earliest.proofs.Lines.{below_here, above_here}
+use Rattle.blk_earliest.proofs.Fifos.{below_here, above_here}
 use Rattle.blk_earliest.proofs.order.place_among.Goals as goal
 
 pub loop-low-preserved-then-comes_before : goal.loop-low-preserved-then-comes_before
 loop-low-preserved-then-comes_before g c =
     let middle = c.loop-low.low + (c.loop-low.high - c.loop-low.low) / 2 in
-    let items = c.args.line.now.items in
+    let items = c.args.fifo.now.items in
     let low : middle < length items = omega arith in
     let at = slice_get_read items (length items) middle c.index.result.now refl low c.index.ensures in
     let less : is_lt (pair_cmp c.index.result.now c.args.due) ≡ true = sym c.comes_before.ensures ∙ c.if-comes_before.true in
@@ -22,7 +22,7 @@ loop-low-preserved-then-comes_before g c =
 pub loop-low-preserved : goal.loop-low-preserved
 loop-low-preserved g c =
     let middle = c.loop-low.low + (c.loop-low.high - c.loop-low.low) / 2 in
-    let items = c.args.line.now.items in
+    let items = c.args.fifo.now.items in
     let low : middle < length items = omega arith in
     let at = slice_get_read items (length items) middle c.index.result.now refl low c.index.ensures in
     let no : is_lt (pair_cmp c.index.result.now c.args.due) ≡ false = sym c.comes_before.ensures ∙ c.if-comes_before.false in

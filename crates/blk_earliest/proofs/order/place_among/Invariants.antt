@@ -8,9 +8,9 @@ use Rattle.blk_earliest.proofs.order.place_among.Given as goal
 abbrev pub invariant-loop-low : goal.invariant-loop-low
 invariant-loop-low g l = record {
   bounds : l.low ≤ l.high;
-  within : l.high ≤ length l.line.items;
-  below : (k : ℕ) (q : ℕ × ℕ) → k < l.low → slice_get l.line.items k ≡ Some q → is_lt (pair_cmp q l.due) ≡ true;
-  above : (k : ℕ) (q : ℕ × ℕ) → l.high ≤ k → slice_get l.line.items k ≡ Some q → is_lt (pair_cmp q l.due) ≡ false;
+  within : l.high ≤ length l.fifo.items;
+  below : (k : ℕ) (q : ℕ × ℕ) → k < l.low → slice_get l.fifo.items k ≡ Some q → is_lt (pair_cmp q l.due) ≡ true;
+  above : (k : ℕ) (q : ℕ × ℕ) → l.high ≤ k → slice_get l.fifo.items k ≡ Some q → is_lt (pair_cmp q l.due) ≡ false;
 }
 
 abbrev pub decreases-loop-low : goal.decreases-loop-low

@@ -4,7 +4,7 @@ use Rattle.std.specs.FinMap as map
 use Rattle.blk_sched.specs.Meaning.{Waiting, Pending}
 use Rattle.blk_index.proofs.Indexed.{Found}
 use Rattle.blk_earliest.specs.Inside.Dues.{IsFirstFrom, NoneFrom}
-use Rattle.blk_earliest.specs.Inside.Lines.{dues_in}
+use Rattle.blk_earliest.specs.Inside.Fifos.{dues_in}
 use Rattle.blk_earliest.proofs.Dues.{some_first, none_first}
 use Rattle.blk_earliest.proofs.by_due.ByDue.first_from.Goals as goal
 

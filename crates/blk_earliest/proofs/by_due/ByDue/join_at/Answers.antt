@@ -1,4 +1,4 @@
-use Rattle.blk_earliest.specs.Inside.Lines.{dues_in}
+use Rattle.blk_earliest.specs.Inside.Fifos.{dues_in}
 use Rattle.blk_earliest.proofs.Dues.{joined_due}
 use Rattle.blk_earliest.proofs.by_due.ByDue.join_at.Goals as goal
 

@@ -1,6 +1,6 @@
 use Rattle.std.proofs.Common.{◌≡◌, Some, sym, ◌∙◌}
 use Rattle.std.specs.FinMap as map
-use Rattle.blk_earliest.specs.Inside.Lines.{dues_in}
+use Rattle.blk_earliest.specs.Inside.Fifos.{dues_in}
 use Rattle.blk_earliest.proofs.Dues.{absent_due, left_due}
 use Rattle.blk_earliest.proofs.by_due.ByDue.remove.Goals as goal
 
@@ -12,5 +12,5 @@ invariant_of-self-2 g c =
     let there : map.get c.self.inside.index c.args.id ≡ Some c.in-Some.queued = sym c.remove.ensures.value ∙ c.in-Some.is in (
       left_due c.self.inside.index c.remove.new.self c.args.id c.in-Some.queued (dues_in c.self.inside.dues) (dues_in c.take.new.self) c.due_of.result
           c.self.invariant.0 there (c.remove.ensures.named c.args.id c.in-Some.queued there) c.due_of.ensures c.take.ensures.taken c.remove.ensures.removed,
-      c.take.ensures.lines,
+      c.take.ensures.fifos,
     )

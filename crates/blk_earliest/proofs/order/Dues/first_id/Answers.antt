@@ -1,8 +1,8 @@
 use Rattle.std.proofs.Common.{◌≡◌, ℕ, Option, sym, subst}
 use Rattle.std.specs.BTreeSet.{contains}
 use Rattle.blk_index.specs.Inside.Pairs.{pair_cmp}
-use Rattle.blk_earliest.specs.Inside.Lines.{has_pair, has_either, dues_in, IsFirstPairFrom, IsFirstOrNone}
-use Rattle.blk_earliest.proofs.Lines.{first_pair}
+use Rattle.blk_earliest.specs.Inside.Fifos.{has_pair, has_either, dues_in, IsFirstPairFrom, IsFirstOrNone}
+use Rattle.blk_earliest.proofs.Fifos.{first_pair}
 use Rattle.blk_earliest.proofs.order.Dues.first_id.Goals as goal
 
 pub returns-in-Some-clause-some : goal.returns-in-Some-clause-some

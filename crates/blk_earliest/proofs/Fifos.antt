@@ -17,7 +17,7 @@ use Rattle.blk_index.specs.Inside.Pairs.{pair_cmp, pair_total}
 use Rattle.blk_index.specs.Inside.SortLists.{PairAdded, PairTaken, PairsKept}
 use Rattle.blk_index.proofs.Listed.{is_equal}
 use Rattle.blk_earliest.specs.Inside.Dues.{IsFirstPair}
-use Rattle.blk_earliest.specs.Inside.Lines.{has_pair, has_either, IsFirstPairFrom, IsFirstOrNone}
+use Rattle.blk_earliest.specs.Inside.Fifos.{has_pair, has_either, IsFirstPairFrom, IsFirstOrNone}
 use Rattle.blk_earliest.proofs.Dues.{Pairs}
 
 abbrev Pair : Type 0

@@ -1,4 +1,4 @@
--- Due rounds with ids in lines and in a set.
+-- Due rounds with ids in FIFO lists and in a set.
 use Rattle.std.specs.Prelude.{ℕ, ◌≡◌, ◌||◌, Bool, true, false, List, Option, Some, None}
 use Rattle.std.specs.List.{list_any}
 use Rattle.std.specs.List.Sorted.{IsStrictlySortedBy}
@@ -22,13 +22,13 @@ module _ {A : Type 0} where
   abbrev pub dues_in : Dues A → ℕ × ℕ → Bool
   dues_in dues = has_either (has_pair dues.reads.items) (has_either (has_pair dues.writes.items) (contains pair_cmp dues.others))
 
-  -- those of one line and the set
+  -- those of one FIFO list and the set
   abbrev pub pairs_in : VecDeque (ℕ × ℕ) A → BTreeSet (ℕ × ℕ) → ℕ × ℕ → Bool
-  pairs_in line others = has_either (has_pair line.items) (contains pair_cmp others)
+  pairs_in fifo others = has_either (has_pair fifo.items) (contains pair_cmp others)
 
-  -- each line is in order
-  abbrev pub AreLines : Dues A → Type 0
-  AreLines dues = IsStrictlySortedBy pair_cmp dues.reads.items × IsStrictlySortedBy pair_cmp dues.writes.items
+  -- each FIFO list is in order
+  abbrev pub AreFifos : Dues A → Type 0
+  AreFifos dues = IsStrictlySortedBy pair_cmp dues.reads.items × IsStrictlySortedBy pair_cmp dues.writes.items
 
 -- no pair from a due round on is less than this one
 abbrev pub IsLeastPairFrom : (ℕ × ℕ → Bool) → ℕ → ℕ × ℕ → Type 0
