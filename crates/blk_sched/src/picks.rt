@@ -5,14 +5,14 @@ ghost use Rattle.std.specs.Prelude.{◌≡◌, ◌<◌, ◌+◌};
 ghost use Rattle.blk_sched.specs.Meaning.{no_picks, open_of, requeued_of, opened, after_requeue};
 
 use blk_bio::Dir;
-use edd_commands::MAX_DEPTH;
+use edd_commands::{MAX_COMMANDS, MAX_DEPTH};
 use std::marker::Model;
 
 /// The most picks that may be open, as many as there are tags.
 pub const MAX_OPEN: u64 = MAX_DEPTH;
 
-/// The most picks that may be requeued, as many as there are events.
-pub const MAX_REQUEUED: u64 = 1_000_000;
+/// The most picks that may be requeued, as many as there are commands.
+pub const MAX_REQUEUED: u64 = MAX_COMMANDS;
 
 /// The counts of open picks and of requeued ones, which every scheduler keeps alike.
 #[derive(Drop)]
