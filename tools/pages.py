@@ -1,0 +1,101 @@
+#!/usr/bin/env python3
+"""Holds the pages to the tree: what they link to is there, and so is each word that they set as code.
+
+    tools/pages.py
+
+A page is README.md, and any in docs/, cases/ and crates/. A link leads to a file, and its anchor to a headline there. A word is
+a name with a letter, inside backticks and outside of blocks; it stands in some file that is no page, or in a file's path. The
+words of Linux and of other projects, and those of the examples that a reader makes, are listed here.
+
+Prints what isn't there, and as the last line 'N passed, M failed'. Ends with 0, or with 1 where something failed.
+"""
+import re
+import subprocess
+import sys
+from pathlib import Path
+
+sys.dont_write_bytecode = True
+TOP = Path(__file__).resolve().parent.parent
+# Linux's own, by which the pages say what stands for what.
+LINUX = """bio_merge blk_add_rq_to_plug blk_flush_plug blk_mq_requeue_request blk_mq_sched_dispatch_requests blk_rq_pos blk_rq_sectors
+    dispatch_request elv_merge fifo_time has_work lsblk nr_hw_queues nr_requests queue_depth request_merge sbitmap submit_bio"""
+# Crates and answers of the toolchain that the sources don't name, and words of the guides' own examples.
+OTHERS = "Display document serde_json smallvec unsupported static blk_mine mine_policy burst"
+KNOWN = {*LINUX.split(), *OTHERS.split()}
+WORD = re.compile(r"[A-Za-z_]\w*")
+# A word of fewer letters is a variable.
+SHORT = 3
+
+
+def tracked():
+    """The files of the repository, by their paths from its top; in a copy without git, all but what was made."""
+    asked = subprocess.run(["git", "-C", TOP, "ls-files", "-co", "--exclude-standard"], capture_output=True, text=True)
+    if asked.returncode == 0:
+        return [it for it in asked.stdout.splitlines() if (TOP / it).is_file()]
+    return [str(it.relative_to(TOP)) for it in TOP.rglob("*") if it.is_file() and "out" not in it.relative_to(TOP).parts]
+
+
+def is_page(path):
+    return path.endswith(".md") and (path == "README.md" or path.split("/")[0] in ("docs", "cases", "crates"))
+
+
+def words_of(paths):
+    """All words of the files that are no pages, and those of all paths, also as the parts between their lines."""
+    found = set()
+    for path in paths:
+        found.update(WORD.findall(path))
+        if not path.endswith(".md"):
+            found.update(WORD.findall((TOP / path).read_text(errors="replace")))
+    return found
+
+
+def prose(text):
+    """The lines of a page outside of its blocks, each with its number."""
+    is_block = False
+    for number, line in enumerate(text.splitlines(), 1):
+        if line.startswith("```"):
+            is_block = not is_block
+        elif not is_block and not line.startswith("    "):
+            yield number, line
+
+
+def anchors_of(page):
+    """What links can say behind a #, as GitHub makes it of the headlines."""
+    heads = re.findall(r"^#+ (.*)$", page.read_text(), re.M)
+    return {re.sub(r"[^\w\- ]", "", it.lower()).strip().replace(" ", "-") for it in heads}
+
+
+def lost_links(path, line):
+    for target in re.findall(r"\]\(([^)\s]+)\)", line):
+        if re.match(r"\w+:", target):
+            continue
+        name, _, anchor = target.partition("#")
+        page = (TOP / path).parent / name if name else TOP / path
+        if not page.exists():
+            yield f"nothing at the link {target}"
+        elif anchor and page.suffix == ".md" and anchor not in anchors_of(page):
+            yield f"no headline for the link {target}"
+
+
+def lost_words(line, words):
+    for code in re.findall(r"`([^`]+)`", line):
+        for word in WORD.findall(code):
+            if len(word) > SHORT and word not in words and not word.endswith("_") and not word.startswith("_"):
+                yield f"no file has {word}"
+
+
+def main():
+    paths = tracked()
+    words, pages = words_of(paths) | KNOWN, [it for it in paths if is_page(it)]
+    failed = 0
+    for path in pages:
+        told = [f"{path}:{n}: {it}" for n, line in prose((TOP / path).read_text()) for it in [*lost_links(path, line), *lost_words(line, words)]]
+        for it in told:
+            print(f"pages: {it}")
+        failed += bool(told)
+    print(f"{len(pages) - failed} passed, {failed} failed")
+    return 1 if failed else 0
+
+
+if __name__ == "__main__":
+    sys.exit(main())
