@@ -105,7 +105,7 @@ pub const DONE: Kind<4, WIDTH> = Kind {
     slots: TAGGED,
 };
 
-/// The device hands the command under a tag back.
+/// The device requeues the command under a tag.
 pub const BACK: Kind<4, WIDTH> = Kind {
     word: *b"back",
     since: 1,
