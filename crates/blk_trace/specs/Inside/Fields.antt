@@ -8,6 +8,6 @@ use Rattle.blk_trace.specs.declared.trace.Trace.TheInside.{Inside}
 -- what is kept is what the events say, there is room for what was prepared, and the depths are those of the rounds
 abbrev pub AreKeptFields : {A : Type 0} → Inside A → Type 0
 AreKeptFields t =
-    IsKeptTrace t.setup t.events.items t.commands.items t.rounds.items t.round t.«open» (by_id.kept_at t.known) (has_named (id_set.has_id t.ids)) t.tags.items
+    IsKeptTrace t.setup t.events.items t.commands.items t.rounds.items t.round t.«open» (by_id.kept_at t.known) (has_named (id_set.set_has t.ids)) t.tags.items
     × HasRoom t.prepared (length t.events.items) t.«open» (length t.commands.items) (length t.rounds.items) (vec_capacity t.events) (vec_capacity t.commands) (vec_capacity t.rounds) (by_id.spare t.known) (id_set.spare t.ids)
     × HasDepths t.setup t.events.items t.depth t.next_depth

@@ -6,7 +6,7 @@ use Rattle.blk_trace.proofs.trace.adding.insert_ids.Given as goal
 
 abbrev pub invariant-loop-bio : goal.invariant-loop-bio
 invariant-loop-bio g l = record {
-  ids : (id : BioId) → has_named (id_set.has_id l.ids) id ≡ has_named (id_set.has_id l.initial.ids) id || has_bio_id (take l.bio-index l.bios) id;
+  ids : (id : BioId) → has_named (id_set.set_has l.ids) id ≡ has_named (id_set.set_has l.initial.ids) id || has_bio_id (take l.bio-index l.bios) id;
   room : length l.bios ≤ id_set.spare l.ids + l.bio-index;
   kept : id_set.spare l.initial.ids ≤ id_set.spare l.ids + l.bio-index;
 }
