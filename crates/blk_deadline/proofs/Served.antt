@@ -1,21 +1,14 @@
 -- What the index says is said of the scheduler.
-use Rattle.std.proofs.Common.{◌≡◌, ℕ, Bool, true, false, sym, ap, ◌∙◌, refl, Some, None, Option, List}
+use Rattle.std.proofs.Common.{◌≡◌, ℕ, true, false, sym, ◌∙◌, refl, Some, None, Option}
 use Rattle.std.specs.Prelude.{IfNone}
 use Rattle.std.specs.FinMap as map
 use Rattle.blk_bio.specs.declared.bio.Dir.{Dir}
 use Rattle.blk_bio.specs.declared.bio.Dir.TheVariants.{Read, Write}
-use Rattle.blk_bio.specs.declared.request.Side.{Side}
-use Rattle.blk_bio.specs.declared.request.Side.TheVariants.{Back}
-use Rattle.blk_bio.specs.Bios.{Bio}
-use Rattle.blk_bio.specs.Limits.{Limits}
 use Rattle.blk_bio.specs.Requests.{dir_of}
-use Rattle.blk_sched.specs.Meaning.{Waiting, Pending, Meaning, HasCandidate, Joins, joined_waiting}
-use Rattle.blk_sched.specs.Fits.{IsNewestFit}
+use Rattle.blk_sched.specs.Meaning.{Waiting, Pending}
 use Rattle.blk_sched.proofs.Maps.{first_found, none_found}
-use Rattle.blk_index.specs.Index.{IsOldest, NoneOf, IsJoined}
-use Rattle.blk_deadline.specs.Choice.{serves_all, is_same, has_dir, oldest_of}
-use Rattle.blk_deadline.specs.Inside.Parts.{meaning_of_parts}
-use Rattle.blk_sched.specs.Meaning.{Picks, OpenPicks, opened}
+use Rattle.blk_index.specs.Index.{IsOldest, NoneOf}
+use Rattle.blk_deadline.specs.Choice.{is_same, has_dir, oldest_of}
 
 pub same_is : (d e : Dir) → d ≡ e → is_same d e ≡ true
 same_is Read Read h = refl

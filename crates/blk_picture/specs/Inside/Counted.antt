@@ -6,7 +6,7 @@ use Rattle.blk_picture.specs.declared.boxes.IssueBox.{IssueBox}
 use Rattle.blk_picture.specs.declared.scale.Scale.{Scale}
 use Rattle.blk_picture.specs.declared.columns.Column.{Column}
 use Rattle.blk_picture.specs.declared.columns.IssueKind.{IssueKind}
-use Rattle.blk_picture.specs.Columns.{in_column, rounds_in, entered_in, waits_of, peaks_of, column_from}
+use Rattle.blk_picture.specs.Columns.{in_column, rounds_in, entered_in, waits_of, peaks_of}
 use Rattle.blk_picture.specs.Filled.{made}
 
 -- one more is counted in the column, where there is such a column
