@@ -47,7 +47,7 @@ record IsClosed (m m' : Meaning) (dir : Dir) : Type 0 where
   writes : m.open_picks.writes ≡ m'.open_picks.writes + cond (same_dir Write dir) 1 0
   pending : m'.pending ≡ m.pending
 
--- what the scheduler and the held lists hold then
+-- what the scheduler and the requeue lists hold then
 record IsLeft (setup : Setup) (fs : List Happened) (m' : Meaning) (held' : List (List Waiting)) : Type 0 where
   pending : (q : ℕ) → option_map entered_of (map.get m'.pending q) ≡ unissued_at setup fs q
   are : AreAs (requeued_at setup fs) held'

@@ -39,7 +39,7 @@ record IsOpened (m m' : Meaning) (dir : Dir) : Type 0 where
   reads : m'.open_picks.reads ≡ m.open_picks.reads + cond (same_dir Read dir) 1 0
   writes : m'.open_picks.writes ≡ m.open_picks.writes + cond (same_dir Write dir) 1 0
 
--- what the scheduler and the held lists hold once the request went
+-- what the scheduler and the requeue lists hold once the request went
 record IsSent (setup : Setup) (es fs : List Happened) (m' : Meaning) (held' : List (List Waiting)) (rel : ℕ) : Type 0 where
   pending : (q : ℕ) → option_map entered_of (map.get m'.pending q) ≡ unissued_at setup fs q
   fresh : (q : ℕ) → rel < q + 1 → map.get m'.pending q ≡ None
@@ -130,7 +130,7 @@ picked_opened serves hw m m' w picks = record {
   writes = ap (λ (x : Meaning). x.open_picks.writes) picks.2 ∙ opened_writes (dir_of w.bios) m.open_picks;
 }
 
--- the first of a held list goes
+-- the first of a requeue list goes
 again_goes : {A : Type 0} (setup : Setup) (es : List Happened) (m m' : Meaning) (fl : List (TagState A)) (held : List (List Waiting)) (rel hw tag : ℕ) (w : Waiting) (rest : List Waiting) → (let fs : List Happened = es ++ Issue w.id tag ∷ [] in (q : ℕ) → unissued_at setup fs q ≡ cond (w.id == q) None (unissued_at setup es q)) → (let fs : List Happened = es ++ Issue w.id tag ∷ [] in (q : ℕ) → requeued_at setup fs q ≡ cond (w.id == q) None (requeued_at setup es q)) → IsTied setup es m fl held rel → hw < length held → get_or held hw [] ≡ w ∷ rest → RequeuesPick (dir_of w.bios) m' m → IsSent setup es (es ++ Issue w.id tag ∷ []) m' (set held hw rest) rel
 again_goes setup es m m' fl held rel hw tag w rest unissued requeued t lt is back =
     let fs : List Happened = es ++ Issue w.id tag ∷ [] in

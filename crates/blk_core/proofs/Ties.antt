@@ -21,7 +21,7 @@ use Rattle.blk_trace.specs.declared.event.Event.TheVariants.{Release, Join, Tick
 use Rattle.blk_trace.specs.Depths.{depth_now}
 use Rattle.blk_trace.specs.Legal.{IsLegalTrace}
 use Rattle.blk_trace.proofs.Depths.{depth_now_is}
-use Rattle.blk_trace.specs.Events.{At, round_of, entered, AreOnce, open_count, join_up, IsOpen, IsUsed}
+use Rattle.blk_trace.specs.Events.{At, IsReleased, round_of, entered, AreOnce, open_count, join_up, IsOpen, IsUsed}
 use Rattle.blk_trace.specs.Meaning.{released_ids, issued_ids, served, waiting_ids, rising}
 use Rattle.blk_trace.specs.Inside.Seats.{RoundSeat, seat_at, flying_of, this_round}
 use Rattle.blk_trace.specs.Inside.Allowed.{IsAllowed}
@@ -53,13 +53,13 @@ use Rattle.blk_trace.proofs.Unissued.{unissued_from, unissued_kept}
 use Rattle.blk_trace.proofs.Steps as step
 
 -- no Release is added: those that stand are known
-pub old_known : (es : List Happened) (e : Happened) (rel : ℕ) → ((id : ℕ) (bios : List Bio) → e ≡ Release id bios → ⊥) → ((k id : ℕ) (bios : List Bio) → At es k (Release id bios) → id < rel) → (k id : ℕ) (bios : List Bio) → At (es ++ e ∷ []) k (Release id bios) → id < rel
-old_known es e rel other h k id bios at = elim (get_more es e k (Release id bios) at) [ inl a ↦ h k id bios a | inr b ↦ absurd (other id bios b.1) ]
+pub old_known : (es : List Happened) (e : Happened) (rel : ℕ) → ((id : ℕ) (bios : List Bio) → e ≡ Release id bios → ⊥) → ((id : ℕ) → IsReleased es id → id < rel) → (id : ℕ) → IsReleased (es ++ e ∷ []) id → id < rel
+old_known es e rel other h id (k, (bios, at)) = elim (get_more es e k (Release id bios) at) [ inl a ↦ h id (k, (bios, a)) | inr b ↦ absurd (other id bios b.1) ]
 
 -- the newest Release is known
-new_known : (es : List Happened) (rel : ℕ) (q : List Bio) → ((k id : ℕ) (bios : List Bio) → At es k (Release id bios) → id < rel) → (k id : ℕ) (bios : List Bio) → At (es ++ Release rel q ∷ []) k (Release id bios) → id < rel + 1
-new_known es rel q h k id bios at = elim (get_more es (Release rel q) k (Release id bios) at) [
-  | inl a ↦ (let l = h k id bios a in omega arith)
+new_known : (es : List Happened) (rel : ℕ) (q : List Bio) → ((id : ℕ) → IsReleased es id → id < rel) → (id : ℕ) → IsReleased (es ++ Release rel q ∷ []) id → id < rel + 1
+new_known es rel q h id (k, (bios, at)) = elim (get_more es (Release rel q) k (Release id bios) at) [
+  | inl a ↦ (let l = h id (k, (bios, a)) in omega arith)
   | inr b ↦ (let e : rel ≡ id = (let p = b.1 in cc) in omega arith)
 ]
 
@@ -347,7 +347,7 @@ at_first {A} setup m n k start ranges d h_is =
       };
       next = sym none_released;
       few = omega arith;
-      known = λ k id bios at. absurd (let x : None ≡ Some (Release id bios) = at in cc);
+      known = λ id r. absurd (let x : None ≡ Some (Release id r.1.0) = r.1.1 in cc);
       fresh = λ q h. ap (λ (x : Pending). map.get x q) parts.0 ∙ map.get-empty nat_cmp q;
       room = length-replicate n (unused {A = A}) ∙ d;
       lists = length-replicate k nothing ∙ h_is;

@@ -24,8 +24,8 @@ pub record Flight : Type 0 where
   pub hw : ℕ
   pub request : Waiting
 
--- a core: what it is set up for, what happened, what its scheduler means, what that keeps of its own, by tag the commands in
--- flight, and by hardware queue the requests that were requeued
+-- a core: its setup and its events, what its scheduler means and what that keeps of its own, the commands in flight by tag, and a
+-- requeue list for each hardware queue
 pub record CoreState : Type 0 where
   pub setup : Setup
   pub events : List Happened
@@ -34,7 +34,7 @@ pub record CoreState : Type 0 where
   pub flights : List (Option Flight)
   pub held : List (List Waiting)
 
--- a core with this trace, over a scheduler that means and keeps this, with these commands in flight and these requeued requests
+-- a core with this trace, over a scheduler that means and keeps this, with these commands in flight and these requeue lists
 abbrev pub core_of : Traced → Meaning → List ℕ → List (Option Flight) → List (List Waiting) → CoreState
 core_of trace meaning kept flights held =
     record { setup = trace.setup; events = trace.events; meaning = meaning; kept = kept; flights = flights; held = held }
@@ -76,15 +76,15 @@ is_of dir w = same_dir dir (dir_of w.bios)
 abbrev pub is_named : ℕ → Waiting → Bool
 is_named id w = id == w.id
 
--- the scheduler and the held lists together hold exactly what waits in the trace, as it was joined
+-- the scheduler and the requeue lists together hold exactly what waits in the trace, as it was joined
 pub record HoldsWhatWaits (setup : Setup) (events : List Happened) (m : Meaning) (held : List (List Waiting)) : Type 0 where
   -- the scheduler has what was never issued
   pub pending : (id : ℕ) → option_map entered_of (map.get m.pending id) ≡ unissued_at setup events id
-  -- the held lists have what was requeued, and each such request once
+  -- the requeue lists have what was requeued, and each such request once
   pub requeued : (hw place : ℕ) (w : Waiting) → slice_get (held_in held hw) place ≡ Some w → requeued_at setup events w.id ≡ Some (entered_of w)
   pub held_once : (id : ℕ) → held_count (is_named id) held ≡ cond (is_some (requeued_at setup events id)) 1 0
   pub count : map.len m.pending + held_total held ≡ waiting_count events
-  -- the scheduler's open picks are the open Issues, and its requeued picks are the held requests
+  -- the scheduler's open picks are the open Issues, and its requeued picks are the requests of the requeue lists
   pub reads : m.open_picks.reads ≡ open_issues_of events Read
   pub writes : m.open_picks.writes ≡ open_issues_of events Write
   pub requeued_picks : (dir : Dir) → requeued_of dir m.open_picks ≡ held_count (is_of dir) held

@@ -53,7 +53,7 @@ pub(crate) fn completed<A: Allocator + Clone>(tag: &mut TagState<A>) -> Request<
     queued.request
 }
 
-/// Requeues the request in flight under a tag: it moves to the held list of its hardware queue, and the tag is spent from
+/// Requeues the request in flight under a tag: it moves to the requeue list of its hardware queue, and the tag is spent from
 /// then on. Fails only when memory runs out, and changes nothing then.
 pub(crate) fn requeue<A: Allocator + Clone>(
     tag: &mut TagState<A>,

@@ -191,7 +191,7 @@ impl<A: Allocator + Clone> RequeueList<A> {
     }
 }
 
-/// A held list for each hardware queue: what was requeued from one is dispatched to that one again.
+/// A requeue list for each hardware queue: what was requeued from one is dispatched to that one again.
 #[derive(Drop)]
 pub struct RequeueLists<A: Allocator = Global> {
     lists: Vec<RequeueList<A>, A>,

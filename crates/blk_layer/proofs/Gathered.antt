@@ -1,7 +1,7 @@
 -- Lists that are gathered, one element after the other.
 use Rattle.std.proofs.Common.{◌≡◌, ◌∙◌, ◌+◌, ◌<◌, ℕ, sym, ap, refl, arith, inl, inr, Bool, true, false, cond, List, [], ◌∷◌, ◌++◌, Option, Some, None, zero, suc, ◌==◌, length, length-append, take, get_or, map}
 use Rattle.std.specs.Prelude.{◌||◌, slice_get}
-use Rattle.std.specs.Option.{option_or}
+use Rattle.std.specs.Option.{option_or, option_and_then}
 use Rattle.std.specs.List.{flat_map, cons_option}
 use Rattle.std.proofs.lemmas.List.{take_more, append-nil, map-append}
 use Rattle.std.proofs.lemmas.List.Folds.{list_any-append}
@@ -11,8 +11,8 @@ use lib.Dec.{ltb}
 use Rattle.edd_commands.specs.declared.Command.{Command}
 use Rattle.blk_bio.specs.Bios.{Bio}
 use Rattle.blk_trace.specs.Happened.{Happened}
-use Rattle.blk_trace.specs.declared.event.Event.TheVariants.{Tick, Release, Join, Issue, Done, Back, Depth}
-use Rattle.blk_trace.specs.Events.{entered, bios_of}
+use Rattle.blk_trace.specs.declared.event.Event.TheVariants.{Release}
+use Rattle.blk_trace.specs.Kinds.{releases, completes}
 use Rattle.blk_trace.specs.Setups.{Setup}
 use Rattle.blk_trace.specs.Meaning.{commands_of, command_of, issued_ids}
 use Rattle.blk_trace.specs.Waits.{has_id}
@@ -47,24 +47,13 @@ no_ran = refl
 pub events_more : (es : List Happened) (i : ℕ) (e : Happened) → i < length es → e ≡ get_or es i e → take (i + 1) es ≡ take i es ++ e ∷ []
 events_more es i e low is = take_more es i e low ∙ ap (λ x. take i es ++ x ∷ []) (sym is)
 
-pub entered_more : (es : List Happened) (i : ℕ) (e : Happened) → i < length es → e ≡ get_or es i e → entered (take (i + 1) es) ≡ entered (take i es) ++ bios_of e
-unfolding entered
-entered_more es i e low is =
-    ap (flat_map bios_of) (events_more es i e low is) ∙ flat_map-append bios_of (take i es) (e ∷ []) ∙ ap (λ l. flat_map bios_of (take i es) ++ l) (append-nil (bios_of e))
-
-pub none_entered : entered [] ≡ []
-unfolding entered
-none_entered = refl
-
 -- what an event says is done, by what is known of each tag
 same_done : (f g : ℕ → Option ℕ) (e : Happened) → ((tag : ℕ) → f tag ≡ g tag) → done_by f e ≡ done_by g e
-same_done f g Tick h = refl
-same_done f g (Release id bios) h = refl
-same_done f g (Join id bios) h = refl
-same_done f g (Issue id tag) h = refl
-same_done f g (Done tag) h = h tag
-same_done f g (Back tag) h = refl
-same_done f g (Depth depth) h = refl
+same_done f g e h = then (completes e)
+  where
+    then : (o : Option ℕ) → option_and_then f o ≡ option_and_then g o
+    then None = refl
+    then (Some tag) = h tag
 
 -- the ids of what is done, and the last id of each tag, with one more event
 pub done_noted : (es : List Happened) (i : ℕ) (e : Happened) (ids new : List ℕ) (known : ℕ → Option ℕ) → i < length es → e ≡ get_or es i e
@@ -160,7 +149,7 @@ event_at (x ∷ es) zero e low is = ap Some (sym is)
 event_at (x ∷ es) (suc i) e low is = event_at es i e (omega arith) is
 
 -- no place of the events so far releases the id
-pub none_yet : (es : List Happened) (i id : ℕ) (e : Happened) → i < length es → e ≡ get_or es i e → ((q : List Bio) → e ≡ Release id q → ⊥)
+pub none_yet : (es : List Happened) (i id : ℕ) (e : Happened) → i < length es → e ≡ get_or es i e → ((q : List Bio) → releases e ≡ Some (id, q) → ⊥)
     → ((k : ℕ) (q : List Bio) → k < i → slice_get es k ≡ Some (Release id q) → ⊥) → (k : ℕ) (q : List Bio) → k < i + 1 → slice_get es k ≡ Some (Release id q) → ⊥
 none_yet es i id e low is here before k q less at = elim (cases_Bool (ltb k i)) [
   | inl y ↦ before k q (ltb-true k i y) at
@@ -168,7 +157,7 @@ none_yet es i id e low is here before k q less at = elim (cases_Bool (ltb k i)) 
       let same : k ≡ i = omega (arith, less, ltb-false k i n) in
       let both : Some e ≡ Some (Release id q) = sym (event_at es i e low is) ∙ ap (slice_get es) (sym same) ∙ at in
       let one : e ≡ Release id q = cc in
-      here q one
+      here q (ap (λ (x : Happened). releases x) one)
 ]
 
 -- a place of the events is one

@@ -7,9 +7,11 @@ use Rattle.blk_tags.specs.Tags.{without}
 use Rattle.blk_tags.proofs.Counts.{none_count}
 use Rattle.blk_layer.specs.declared.serving.WorkFault.{WorkFault}
 use Rattle.blk_layer.specs.declared.serving.WorkFault.TheVariants.{TraceFull, Memory, Repeated}
+use Rattle.blk_layer.specs.declared.serving.Ran.{Ran}
+use Rattle.blk_layer.specs.declared.serving.Ran.TheVariants.{Done, Busy}
 use Rattle.blk_layer.specs.Seats.{WorkerSeat}
 use Rattle.blk_layer.specs.Serving.{TakesInHand, let_go, RunsMore, IsWorkFault}
-use Rattle.blk_layer.specs.Inside.Serving.{IsEnded}
+use Rattle.blk_layer.specs.Inside.Serving.{IsEndedAs}
 use Rattle.blk_layer.proofs.InHand.{pushed_without}
 
 -- nothing ran
@@ -50,14 +52,14 @@ let_go_again a t command b took = rw took.taken (
     let hands : slice_set (slice_set a.hands t (Some command)) t None ≡ a.hands = emptied a.hands t command took.free in
     rw (tags, hands) refl)
 
--- a command that was taken in hand and then done, or went back
-pub ended_runs : (a : WorkerSeat) (t : ℕ) (command : Command) (b c : WorkerSeat) → TakesInHand a t command b → IsEnded b t c → RunsMore a c
-ended_runs a t command b c took (inl done) = record {
+-- a command that was taken in hand and then done, or requeued
+pub ended_runs : (a : WorkerSeat) (t : ℕ) (command : Command) (b : WorkerSeat) (ran : Ran) (c : WorkerSeat) → TakesInHand a t command b → IsEndedAs ran b t c → RunsMore a c
+ended_runs a t command b Done c took done = record {
   added = done.command ∷ [];
   grown = done.gone ∙ ap (λ (s : WorkerSeat). record s { ran = b.ran ++ done.command ∷ [] }) (let_go_again a t command b took)
       ∙ ap (λ (s : WorkerSeat). record a { ran = s.ran ++ done.command ∷ [] }) took.taken;
 }
-ended_runs a t command b c took (inr back) = none_ran a c (back.1.gone ∙ let_go_again a t command b took)
+ended_runs a t command b Busy c took back = none_ran a c (back.1.gone ∙ let_go_again a t command b took)
 
 -- a command that was taken in hand and stays there
 pub left_in_hand : (a : WorkerSeat) (t : ℕ) (command : Command) (b : WorkerSeat) (why : WorkFault) (c : WorkerSeat) → TakesInHand a t command b → why ≡ Memory → c ≡ b

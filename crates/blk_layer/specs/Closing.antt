@@ -1,10 +1,10 @@
 -- What closing a layer says.
-use Rattle.std.specs.Prelude.{ℕ, Bool, true, false, List, count_by, ◌≡◌, ◌≢◌, ◌<◌, ◌⊎◌, ◌++◌, ◌==◌, ◌&&◌, [], ◌∷◌, Option, None, Some, fold, map, length, slice_get, IsPermutation}
+use Rattle.std.specs.Prelude.{ℕ, Bool, List, count_by, is_some, ◌≡◌, ◌≢◌, ◌<◌, ◌⊎◌, ◌++◌, ◌==◌, ◌&&◌, [], ◌∷◌, Option, None, Some, fold, map, length, slice_get, IsPermutation}
 use Rattle.blk_bio.specs.declared.bio.Dir.{Dir}
 use Rattle.blk_bio.specs.declared.bio.Dir.TheVariants.{Read, Write}
 use Rattle.blk_trace.specs.Happened.{Happened}
-use Rattle.blk_trace.specs.declared.event.Event.TheVariants.{Done, Release}
-use Rattle.std.specs.Option.{option_or}
+use Rattle.blk_trace.specs.Kinds.{completes, releases}
+use Rattle.std.specs.Option.{option_or, option_and_then}
 use Rattle.std.specs.List.{flat_map, cons_option}
 use Rattle.edd_commands.specs.declared.Command.{Command}
 use Rattle.blk_bio.specs.Bios.{Bio}
@@ -27,8 +27,7 @@ way_number Write = 1
 
 -- whether an event is a Done
 abbrev pub is_done : Happened → Bool
-is_done (Done tag) = true
-is_done _ = false
+is_done e = is_some (completes e)
 
 -- how many Dones there are
 unfoldable pub done_count : List Happened → ℕ
@@ -62,8 +61,7 @@ last_under tag events = fold (λ found e. option_or (issued_by tag e) found) Non
 
 -- the id whose command an event says is done, by the id that was last issued under each tag before it
 abbrev pub done_by : (ℕ → Option ℕ) → Happened → Option ℕ
-done_by last (Done tag) = last tag
-done_by last _ = None
+done_by last e = option_and_then last (completes e)
 
 -- the ids of the commands that events say are done, where those given stand before them
 unfoldable pub done_after : List Happened → List Happened → List ℕ
@@ -100,8 +98,10 @@ pub record DiffersAsBio (events : List Happened) (left : List Bio) (submitters :
 -- a bio of this id was released under the id of a command
 pub record IsBioOf (events : List Happened) (command : ℕ) (id : BioId) : Type 0 where
   pub place : ℕ
+  pub event : Happened
   pub request : List Bio
-  pub released : At events place (Release command request)
+  pub stands : At events place event
+  pub released : releases event ≡ Some (command, request)
   pub named : HasId request id
 
 -- the command of the request that was released with a bio of this id stands another number of times in the accounts than it is done

@@ -79,21 +79,6 @@ IsDepthAnswer most n (Err depth.Memory) = (0 < n) × (n ≤ most)
 abbrev pub IsUsedUp : CoreState → ℕ → ℕ → Type 0
 IsUsedUp c hw tag = IsIssueFault c hw tag issue.SlotUsed ⊎ IsIssueFault c hw tag issue.TagRange
 
--- the round ends, exactly where no command is in flight
-abbrev pub EndsOrWaits : OfTick → CoreState → CoreState → Type 0
-EndsOrWaits told old new = Ends told old new ⊎ ((0 < open_count old.events) × (new ≡ old))
-
--- what each fault of a last try says, and does: the round ends only where the tag is used up in it, so under SlotUsed it has an Issue with
--- the tag; where it can't end since there is no room or no memory, that is the fault; and nothing else is changed
-abbrev pub IsLastTryFault : OfTick → CoreState → ℕ → ℕ → IssueFault → CoreState → Type 0
-IsLastTryFault told old hw tag issue.NoQueue new = IsIssueFault old hw tag issue.NoQueue × (new ≡ old)
-IsLastTryFault told old hw tag issue.TagRange new = IsIssueFault old hw tag issue.TagRange × EndsOrWaits told old new
-IsLastTryFault told old hw tag issue.SlotUsed new = IsIssueFault old hw tag issue.SlotUsed × EndsOrWaits told old new
-IsLastTryFault told old hw tag issue.TraceFull new =
-    (IsIssueFault old hw tag issue.TraceFull ⊎ (IsUsedUp old hw tag × IsTickFault old tick.TraceFull)) × (new ≡ old)
-IsLastTryFault told old hw tag issue.Memory new =
-    (IsIssueFault old hw tag issue.Memory ⊎ (IsUsedUp old hw tag × IsTickFault old tick.Memory)) × (new ≡ old)
-
 -- a worker whose account has commands more, at its end, and which is else as it was
 pub record RunsMore (old new : WorkerSeat) : Type 0 where
   pub added : List Command
@@ -117,11 +102,11 @@ IsAfterPass p Finish = IsOver p
 IsAfterPass p Again = (0 < p.moved) ⊎ (HasMoreToServe p × (0 < p.served))
 IsAfterPass p Yield = HasMoreToServe p × (p.moved ≡ 0) × (p.served ≡ 0)
 
--- what work says that it did: at most `turns` passes, and fewer only where it was finished; as many commands as the account has more;
+-- what work says that it did: at most `passes` passes, and fewer only where it was finished; as many commands as the account has more;
 -- else the seat is as it was
-pub record IsWorked (turns : ℕ) (old : WorkerSeat) (worked : Worked) (new : WorkerSeat) : Type 0 where
-  pub few : worked.passes ≤ turns
-  pub unfinished : worked.finished ≡ false → worked.passes ≡ turns
+pub record IsWorked (passes : ℕ) (old : WorkerSeat) (worked : Worked) (new : WorkerSeat) : Type 0 where
+  pub few : worked.passes ≤ passes
+  pub unfinished : worked.finished ≡ false → worked.passes ≡ passes
   pub runs : RunsMore old new
   pub ran : worked.ran ≡ length runs.added
 

@@ -107,7 +107,7 @@ MovesSome serves queue core hw zero new_queue new_core = (new_queue ≡ queue) �
 MovesSome serves queue core hw (suc n) new_queue new_core =
     (between : Queue) × ((after : CoreState) × MovesSome serves queue core hw n between after × MovesFirst serves between after hw new_queue new_core)
 
--- what each answer of a move of all says: how many of how many were moved, and which; and why the first of those that are left wasn't
+-- what each answer of `move_all` says: which requests were moved, and how many; and why the next one was refused
 abbrev pub IsMoveAllAnswer : (ℕ → Waiting → Bool) → Queue → CoreState → ℕ → Queue → CoreState → Result ℕ DrainFault → Type 0
 IsMoveAllAnswer serves queue core hw new_queue new_core (Ok moved) =
     MovesSome serves queue core hw moved new_queue new_core × (moved ≡ length queue.requests) × (new_queue.requests ≡ [])

@@ -4,8 +4,8 @@ ghost use Rattle.std.specs.Prelude.{ℕ, ◌≡◌, ◌<◌, ◌++◌, ◌↔◌
 ghost use Rattle.std.specs.List.{cons_option};
 ghost use Rattle.std.specs.HashMap as hash;
 ghost use Rattle.blk_bio.specs.Bios.{Bio as Transfer};
-ghost use Rattle.blk_trace.specs.Events.{entered, AreOnce, HasId, IsReleased, bios_of};
-ghost use Rattle.blk_trace.specs.declared.event.Event.TheVariants.{Release};
+ghost use Rattle.blk_trace.specs.Events.{AreOnce, HasId, IsReleased};
+ghost use Rattle.blk_trace.specs.Kinds.{releases};
 ghost use Rattle.blk_policy.specs.Runs.{IsRunFrom};
 ghost use Rattle.blk_layer.specs.Seats.{SubmitterSeat};
 ghost use Rattle.blk_layer.specs.Closing.{AreAllThere, HasNumber, all_accepted, all_ran, issued_bios, done_by, done_ids, done_commands, done_count, AreSettled, AreCounted, IsBioOf, DiffersAsCommand, Disagrees, IsCloseRefusal};
@@ -232,7 +232,7 @@ fn settle<S: Scheduler, L: Named>(
 {
     let trace = core.trace();
     let mut left = queued(alloc.clone()?, queues)?;
-    let mut stored = entered(alloc.clone()?, trace.events())?;
+    let mut stored = trace.entered()?;
     stored.extend_from_slice(left.as_slice())?;
     let waiting = trace.waiting()?;
     left.extend_from_slice(waiting.as_slice())?;
@@ -323,31 +323,6 @@ fn add_queued<A: Allocator + Clone>(
     Ok(())
 }
 
-/// The bios that entered.
-#[tactic(auto, using(crate::proofs::Gathered::entered_more, crate::proofs::Gathered::none_entered))]
-fn entered<A: Allocator + Clone>(
-    alloc: A,
-    events: &[Event<Request<A>>],
-) -> Result<Vec<Bio, A>, AllocError>
-    ensures { IfOk result (λ v. v.items ≡ entered events.now) }
-{
-    let mut bios = Vec::new(alloc);
-    for event in events {
-        bios.extend_from_slice(bios_of(event))?;
-    }
-    Ok(bios)
-}
-
-/// The bios that enter by an event.
-fn bios_of<A: Allocator + Clone>(event: &Event<Request<A>>) -> &[Bio]
-    ensures { result.now ≡ bios_of event.now }
-{
-    match event.enters() {
-        Some((_, request)) => request.bios(),
-        None => &[],
-    }
-}
-
 /// The commands of a trace that are done, in the order of their Dones.
 fn done<A: Allocator + Clone>(alloc: &A, trace: &Trace<A>) -> Result<Vec<Command, A>, AllocError>
     ensures { IfOk result (λ v. v.items ≡ done_commands trace.now.setup trace.now.events) }
@@ -406,18 +381,17 @@ fn note<A: Allocator + Clone>(
     ensures ids { OnOk result (ids.new.items ≡ ids.old.items ++ cons_option (done_by (hash.get nat_eq last.old) event.now) []) }
     ensures last { OnOk result (NotesLast (hash.get nat_eq last.old) event.now (hash.get nat_eq last.new)) }
 {
-    match event {
-        Event::Issue { id, tag } => match last.insert(*tag, *id) {
-            Ok(_) => Ok(()),
-            Err(_) => Err(AllocError),
-        },
-        Event::Done { tag } => {
-            if let Some(id) = last.get(tag) {
-                ids.push(*id)?;
-            }
-            Ok(())
+    if let Some(tag) = event.completes() {
+        if let Some(id) = last.get(&tag) {
+            ids.push(*id)?;
         }
-        _ => Ok(()),
+    }
+    let Some((id, tag)) = event.issues() else {
+        return Ok(());
+    };
+    match last.insert(tag, id) {
+        Ok(_) => Ok(()),
+        Err(_) => Err(AllocError),
     }
 }
 
@@ -436,8 +410,8 @@ fn bio_of<A: Allocator + Clone>(events: &[Event<Request<A>>], id: u64) -> BioId
 
 /// The first bio that an event releases under an id.
 fn released_as<A: Allocator + Clone>(event: &Event<Request<A>>, id: u64) -> Option<BioId>
-    ensures some { IfSome result (λ bio. (q : List Transfer) × (event.now ≡ Release id q) × HasId q bio) }
-    ensures none { IfNone result ((q : List Transfer) → event.now ≡ Release id q → ⊥) }
+    ensures some { IfSome result (λ bio. (q : List Transfer) × (releases event.now ≡ Some (id, q)) × HasId q bio) }
+    ensures none { IfNone result ((q : List Transfer) → releases event.now ≡ Some (id, q) → ⊥) }
 {
     let Some((released, request)) = event.releases() else {
         return None;

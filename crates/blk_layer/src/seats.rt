@@ -2,19 +2,18 @@
 
 ghost use Rattle.std.specs.Prelude.{◌≡◌, ◌++◌, OnErr, IfSome, IfNone, ◌<◌, ◌≤◌, ◌+◌, [], ℕ, IfOk, IfErr, OnOk, All, length, map, replicate, vec_len, slice_get, Some, None, Contains};
 ghost use Rattle.blk_trace.specs.Events.{AreOnce};
-ghost use Rattle.std.specs.Bool.{OnTrue, OnFalse};
 ghost use Rattle.blk_core.specs.Calls.{Completes, RequeuesTag};
 ghost use Rattle.blk_layer.specs.Seats.{AreOwn, HoldsItsTags, new_submitter, new_worker};
 ghost use Rattle.blk_layer.specs.Submitting.{CanAccept, IsFlushReason};
 ghost use Rattle.blk_layer.specs.Serving.{TakesInHand, AccountsFor, LetsGo, IsInHand, IsIssueAnswer};
 ghost use Rattle.blk_layer.specs.Closing.{all_ran};
 ghost use Rattle.blk_layer.specs.Inside.Submitting.{IsOfBios};
-ghost use Rattle.blk_layer.specs.Inside.Serving.{IssuesTo, IssuesAsTold, IsEndedAs, IsPassRefusal};
+ghost use Rattle.blk_layer.specs.Inside.Serving.{IssuesTo, IssuesAsTold, IsPassRefusal};
 
 use crate::accounts::Account;
 use crate::layer::{Layer, Named};
 use crate::locked::LockedCore;
-use crate::serving::{Issued, LayerIssueFault, NoCommand, NoneIssued, Ran, WorkFault, of_core};
+use crate::serving::{Issued, LayerIssueFault, NoneIssued, WorkFault, of_core};
 use crate::submitting::{FlushWhy, first_foreign};
 use blk_bio::{Bio, Request};
 use blk_core::{BackFault, NotIssued};
@@ -230,38 +229,6 @@ impl<L: Named, A: Allocator + Clone> Worker<L, A> {
         }
     }
 
-    /// Tries to issue a command to it out of the core, as [`Layer::try_issue`] does, under the first free tag, looked for from the
-    /// given one up to the greatest and then from 0. Without a command the tag is given back.
-    fn try_issue<S: Scheduler<A = A>>(
-        &mut self,
-        core: &mut LockedCore<S, L>,
-        tags: &TagSet<A>,
-        from: u16,
-    ) -> Result<Issued, NoCommand>
-        requires { self.old.tag_set ≡ tags.now }
-        ensures issued { IfOk result (λ issued. TakesInHand self.old issued.tag issued.command self.new) }
-        ensures core { IfOk result (λ issued. IssuesTo S.policy core.old.core self.old.hw issued core.new.core) }
-        ensures same { OnErr result (self.new ≡ self.old) }
-    {
-        if self.ran.reserve(self.hands.len()).is_err() {
-            return Err(NoCommand::Tried(NoneIssued::Memory));
-        }
-        let Some(tag) = tags.get_from(&mut self.seat, from) else {
-            return Err(NoCommand::NoTag);
-        };
-        match Layer::<S, L>::try_issue(&mut core.core, self.hw, tag) {
-            Ok(command) => {
-                core.next_tag = tag.saturating_add(1);
-                self.hands[usize::from(tag)] = Some(command);
-                Ok(Issued { command, tag })
-            }
-            Err(why) => {
-                tags.give(&mut self.seat, tag);
-                Err(NoCommand::Tried(why))
-            }
-        }
-    }
-
     /// The command in its hands under a tag.
     fn in_hand(&self, tag: u16) -> Option<Command>
         ensures some { IfSome result (λ command. slice_get self.now.hands tag ≡ Some (Some command)) }
@@ -319,37 +286,10 @@ impl<L: Named, A: Allocator + Clone> Worker<L, A> {
         tags.give(&mut self.seat, tag);
         Ok(command.id)
     }
-}
 
-impl<L: Named, A: Allocator + Clone> Worker<L, A> {
-    /// Reports what became of the command in its hands under a tag: it is done, and its request is to be freed, or it is requeued.
-    /// False where the core refuses that; nothing is changed then.
-    pub(crate) fn end<S: Scheduler<A = A>>(
-        &mut self,
-        core: &mut LockedCore<S, L>,
-        tags: &TagSet<A>,
-        tag: u16,
-        ran: Ran,
-        freed: &mut Option<Request<A>>,
-    ) -> bool
-        requires { self.old.tag_set ≡ tags.now }
-        ensures ended { OnTrue result (IsEndedAs ran self.old tag self.new) }
-        ensures same { OnFalse result (self.new ≡ self.old) }
-    {
-        match ran {
-            Ran::Done => match self.done(core, tags, tag) {
-                Ok(request) => {
-                    *freed = Some(request);
-                    true
-                }
-                Err(_) => false,
-            },
-            Ran::Busy => self.back(core, tags, tag).is_ok(),
-        }
-    }
-
-    /// The next command for it. It tries one tag after the other, from the one after the last that was issued, until one is not used
-    /// up in the round or the round is full, and ends a round that is full unless a command is in flight in it.
+    /// Issues the next command to it out of the core, if there is one. It tries one free tag after the other by [`Layer::try_issue`], from
+    /// the one after the last that was issued on, until one isn't used up in the round; of a full round it tries no other. Without a
+    /// command it holds no tag more.
     pub(crate) fn next<S: Scheduler<A = A>>(
         &mut self,
         core: &mut LockedCore<S, L>,
@@ -357,22 +297,33 @@ impl<L: Named, A: Allocator + Clone> Worker<L, A> {
     ) -> Result<Option<Issued>, WorkFault>
         requires { self.old.tag_set ≡ tags.now }
         ensures issued { IfOk result (λ found. IsIssueAnswer self.old found self.new) }
+        ensures core { IfOk result (λ found. IfSome found (λ issued. IssuesTo S.policy core.old.core self.old.hw issued core.new.core)) }
         ensures fault { IfErr result (λ why. IsPassRefusal why × (self.new ≡ self.old)) }
     {
+        if self.ran.reserve(self.hands.len()).is_err() {
+            return Err(WorkFault::Memory);
+        }
         let mut from = core.next_tag;
         for _ in 0..tags.depth() {
-            match self.try_issue(core, tags, from) {
-                Ok(issued) => return Ok(Some(issued)),
-                Err(NoCommand::Tried(NoneIssued::TagRange | NoneIssued::SlotUsed)) => {}
-                Err(NoCommand::Tried(NoneIssued::TraceFull)) => return Err(WorkFault::TraceFull),
-                Err(NoCommand::Tried(NoneIssued::Memory)) => return Err(WorkFault::Memory),
-                Err(NoCommand::NoTag) => return Ok(None),
-                Err(NoCommand::Tried(NoneIssued::Nothing | NoneIssued::Full | NoneIssued::Ended)) =>
-                    {
-                        return Ok(None);
-                    }
+            let Some(tag) = tags.get_from(&mut self.seat, from) else {
+                return Ok(None);
+            };
+            from = tag.saturating_add(1);
+            let why = match Layer::<S, L>::try_issue(&mut core.core, self.hw, tag) {
+                Ok(command) => {
+                    core.next_tag = from;
+                    self.hands[usize::from(tag)] = Some(command);
+                    return Ok(Some(Issued { command, tag }));
+                }
+                Err(why) => why,
+            };
+            tags.give(&mut self.seat, tag);
+            match why {
+                NoneIssued::TagRange | NoneIssued::SlotUsed => {}
+                NoneIssued::Nothing | NoneIssued::Full | NoneIssued::Ended => return Ok(None),
+                NoneIssued::TraceFull => return Err(WorkFault::TraceFull),
+                NoneIssued::Memory => return Err(WorkFault::Memory),
             }
-            from = self.seat.next();
         }
         Ok(None)
     }

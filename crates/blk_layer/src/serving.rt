@@ -2,8 +2,8 @@
 
 ghost use Rattle.std.specs.Prelude.{◌≡◌, ◌≢◌, ◌<◌, ◌↔◌, IsTrue, OnOk, OnErr, IfOk, IfErr, None, Some};
 ghost use Rattle.blk_core.specs.Calls.{Issues};
-ghost use Rattle.blk_layer.specs.Serving.{IsIssueAnswer, AccountsFor, LetsGo, IsInHand, IsTickAnswer, IsDepthAnswer, IsLastTryFault, IsNoneIssued, IsFull, issued_now, RunsMore, IsWorked, IsWorkFault, IsAfterPass};
-ghost use Rattle.blk_layer.specs.Inside.Serving.{IsRoundsEnd, IsFullsEnd, IsEnded, IsTurned, IsTurnFault, IsPassRefusal, work_name};
+ghost use Rattle.blk_layer.specs.Serving.{IsIssueAnswer, AccountsFor, LetsGo, IsInHand, IsTickAnswer, IsDepthAnswer, IsNoneIssued, IsFull, issued_now, RunsMore, IsWorked, IsWorkFault, IsAfterPass};
+ghost use Rattle.blk_layer.specs.Inside.Serving.{IsFullsEnd, ServesOne, IsServeFault, IsPassRefusal, work_name};
 
 use crate::layer::{Layer, Named};
 use crate::seats::Worker;
@@ -75,15 +75,6 @@ pub enum NoneIssued {
     TraceFull,
     /// Memory ran out.
     Memory,
-}
-
-/// Why a worker gets no further command.
-#[derive(Clone, Copy, Debug, PartialEq, Eq)]
-pub(crate) enum NoCommand {
-    /// Each tag that was tried is taken.
-    NoTag,
-    /// What came of the try under its tag.
-    Tried(NoneIssued),
 }
 
 /// What a worker did in a call of `Layer::work`.
@@ -198,24 +189,6 @@ impl<S: Scheduler, L: Named> Layer<S, L> {
         }
     }
 
-    /// Issues for a hardware queue under a tag, as `Core::issue` does, and ends the round where that is refused because the tag is
-    /// used up in it: it was issued in this round, or isn't below this round's depth, which is smaller than the setup's then. While a
-    /// command is in flight the round goes on. The tag is below the setup's depth. It waits for nobody.
-    ///
-    /// Refused as the core's issue is, and as `TraceFull` or `Memory` where the trace has no place for the end of the round, or no
-    /// memory. Only under `SlotUsed` and `TagRange` may the round have ended; else nothing is changed.
-    pub fn issue_or_end(core: &mut Core<S>, hw: u8, tag: u16) -> Result<Option<Command>, IssueFault>
-        requires { tag < core.old.setup.depth }
-        ensures issued { IfOk result (λ found. Issues S.policy.serves S.policy.chooses core.old hw tag found core.new) }
-        ensures fault { IfErr result (λ why. IsLastTryFault S.policy.told_tick core.old hw tag why core.new) }
-    {
-        match core.issue(hw, tag) {
-            Err(IssueFault::SlotUsed) => Err(end_used(core, IssueFault::SlotUsed)),
-            Err(IssueFault::TagRange) => Err(end_used(core, IssueFault::TagRange)),
-            answer => answer,
-        }
-    }
-
     /// Reports as done the command in the worker's hands under a tag: the one that the worker was last issued with it. It goes
     /// into the worker's account, and the tag is given back. The seat is one of this layer. Takes no memory.
     ///
@@ -280,7 +253,7 @@ impl<S: Scheduler, L: Named> Layer<S, L> {
         self.finishing.store(true, Ordering::SeqCst);
     }
 
-    /// Works for the hardware queue of the worker, whose seat is one of this layer, in at most `turns` passes. A pass drains; then
+    /// Works for the hardware queue of the worker, whose seat is one of this layer, in at most `passes` passes. A pass drains; then
     /// commands are issued to the worker, one after the other. It lets the device run each, and reports it done, or requeues it where
     /// the device was busy, under the same hold of the core's lock under which the next one is issued. A pass ends where an issue finds
     /// no command or no tag, and where the round is full, which it ends unless a command is in flight ([`Layer::try_issue`]). It has no
@@ -298,15 +271,15 @@ impl<S: Scheduler, L: Named> Layer<S, L> {
         rt: &R,
         worker: &mut Worker<L, S::A>,
         device: &mut D,
-        turns: u64,
+        passes: u64,
     ) -> Result<Worked, WorkFault>
         requires { worker.old.tag_set ≡ self.now.tag_set }
-        ensures worked { IfOk result (λ w. IsWorked turns worker.old w worker.new) }
+        ensures worked { IfOk result (λ w. IsWorked passes worker.old w worker.new) }
         ensures fault { IfErr result (λ why. IsWorkFault worker.old why worker.new) }
         ensures tag_set { worker.new.tag_set ≡ worker.old.tag_set }
     {
         let before = worker.ran().len();
-        for passed in 0..turns {
+        for passed in 0..passes {
             match self.pass(rt, worker, device)? {
                 After::Finish => {
                     return Ok(Worked {
@@ -320,7 +293,7 @@ impl<S: Scheduler, L: Named> Layer<S, L> {
             }
         }
         Ok(Worked {
-            passes: turns,
+            passes,
             ran: (worker.ran().len() - before) as u64,
             finished: false,
         })
@@ -380,8 +353,8 @@ impl<S: Scheduler, L: Named> Layer<S, L> {
                 None => return Ok(served),
             }
         }
-        self.run_last(rt, worker, device, issued)?;
-        Ok(MAX_EVENTS)
+        // No trace has places for so many Issues, which no clause says across the lock.
+        Err(WorkFault::Memory)
     }
 
     /// The first command of a pass, if there is one for the worker.
@@ -403,7 +376,7 @@ impl<S: Scheduler, L: Named> Layer<S, L> {
 
     /// Reports what became of the command in the worker's hands under a tag, and answers the next one, both under one hold of the core's
     /// lock. Room in the account is made before the lock is taken, and the request of a command that is done is freed after it is released.
-    #[tactic(auto, using(crate::proofs::Ending::turned, crate::proofs::Ending::not_ended, crate::proofs::Ending::none_next))]
+    #[tactic(auto, using(crate::proofs::Ending::served, crate::proofs::Ending::not_ended, crate::proofs::Ending::none_next))]
     fn end_and_next<R: Wait>(
         &self,
         rt: &R,
@@ -412,43 +385,28 @@ impl<S: Scheduler, L: Named> Layer<S, L> {
         ran: Ran,
     ) -> Result<Option<Issued>, WorkFault>
         requires { worker.old.tag_set ≡ self.now.tag_set }
-        ensures turned { IfOk result (λ found. IsTurned worker.old tag ran found worker.new) }
-        ensures fault { IfErr result (λ why. IsTurnFault worker.old tag ran why worker.new) }
+        ensures served { IfOk result (λ found. ServesOne worker.old tag ran found worker.new) }
+        ensures fault { IfErr result (λ why. IsServeFault worker.old tag ran why worker.new) }
     {
         let has_room = worker.make_room().is_ok();
-        let mut freed = None;
+        // declared before the guard, so that it is dropped after it
+        let mut _freed = None;
         let mut core = self.lock_core(rt);
-        if !worker.end(&mut *core, &self.tags, tag, ran, &mut freed) {
-            return Err(WorkFault::Memory);
+        match ran {
+            Ran::Done => match worker.done(&mut *core, &self.tags, tag) {
+                Ok(request) => _freed = Some(request),
+                Err(_) => return Err(WorkFault::Memory),
+            },
+            Ran::Busy => {
+                if worker.back(&mut *core, &self.tags, tag).is_err() {
+                    return Err(WorkFault::Memory);
+                }
+            }
         }
         if !has_room {
             return Err(WorkFault::Memory);
         }
         worker.next(&mut *core, &self.tags)
-    }
-
-    /// Lets the device run a command in the worker's hands, and reports what became of it, without issuing another one.
-    fn run_last<R: Wait, D: Device>(
-        &self,
-        rt: &R,
-        worker: &mut Worker<L, S::A>,
-        device: &mut D,
-        issued: Issued,
-    ) -> Result<(), WorkFault>
-        requires { worker.old.tag_set ≡ self.now.tag_set }
-        ensures ended { IfOk result (λ _. IsEnded worker.old issued.tag worker.new) }
-        ensures fault { IfErr result (λ why. (why ≡ WorkFault.Memory) × (worker.new ≡ worker.old)) }
-    {
-        let ran = device.run(&issued.command);
-        let mut freed = None;
-        let mut core = self.lock_core(rt);
-        let is_ended = worker.end(&mut *core, &self.tags, issued.tag, ran, &mut freed);
-        drop(core);
-        if is_ended {
-            Ok(())
-        } else {
-            Err(WorkFault::Memory)
-        }
     }
 }
 
@@ -503,18 +461,6 @@ fn issued_now<A: Allocator + Clone>(events: &[Event<Request<A>>]) -> u64
         }
     }
     count
-}
-
-/// Ends the round unless a command is in flight in it, and answers why nothing is issued under a tag that is used up in it: the reason
-/// that is given, or that there is no room or no memory for the end of the round.
-fn end_used<S: Scheduler>(core: &mut Core<S>, why: IssueFault) -> IssueFault
-    ensures { IsRoundsEnd S.policy.told_tick core.old why result core.new }
-{
-    match core.tick() {
-        Ok(_) | Err(TickFault::InFlight(_)) => why,
-        Err(TickFault::TraceFull) => IssueFault::TraceFull,
-        Err(TickFault::Memory) => IssueFault::Memory,
-    }
 }
 
 /// Why a drain ended, as a fault of `work`. The hardware queue is there.

@@ -173,7 +173,7 @@ impl<S: Scheduler, L: Named> Layer<S, L> {
         }
         let mut core = self.lock_core(rt);
         let locked = &mut *core;
-        Self::move_all_copied(&mut staged.queue, &mut staged.copies, &mut locked.core, hw)
+        Self::move_all(&mut staged.queue, &mut staged.copies, &mut locked.core, hw)
     }
 
     /// Copies the requests of a software queue that have no copy yet, in their order, as long as there is memory, and room
@@ -229,37 +229,14 @@ impl<S: Scheduler, L: Named> Layer<S, L> {
     }
 
     /// Moves all requests of a software queue into the core in their order, each as [`Layer::move_first`] does, up to the first
-    /// that is refused, and answers how many. It waits for nobody.
+    /// that is refused, and answers how many. The copies for the trace, which are those of its first requests, were made before, so
+    /// that none is made now. It waits for nobody: a drain calls it for each of its software queues, with the lock of that queue and
+    /// the core's held.
     ///
-    /// Refused with how many were moved before, and why the first of those that are left was refused.
+    /// Refused with how many were moved before, and why the first of those that are left was refused: as `Memory` too where the core
+    /// would take it and it has no copy. The copies that are left are again those of the first requests that are left.
     #[tactic(auto, using(crate::proofs::Moved::moved_on, crate::proofs::Moved::all_moved, crate::proofs::Moved::ended))]
     pub fn move_all(
-        queue: &mut SoftQueue<S::A>,
-        core: &mut Core<S>,
-        hw: u8,
-    ) -> Result<u64, DrainFault>
-        requires { queue.old.limits ≡ core.old.setup.limits }
-        ensures { IsMoveAllAnswer S.policy.serves queue.old core.old hw queue.new core.new result }
-    {
-        let most = queue.len() as u64;
-        for moved in 0..most {
-            match Self::move_first(queue, core, hw) {
-                Ok(true) => {}
-                Ok(false) => unreachable!(),
-                Err(why) => return Err(DrainFault { moved, why }),
-            }
-        }
-        Ok(most)
-    }
-
-    /// Moves all requests of a software queue into the core as [`Layer::move_all`] does, with copies of its first requests for
-    /// the trace that were made before, so that none is made now. It waits for nobody: a drain calls it for each of its software
-    /// queues, with the lock of that queue and the core's held.
-    ///
-    /// Refused as [`Layer::move_all`] is, and as `Memory` too where the core would take a request that has no copy. The copies
-    /// that are left are again those of the first requests that are left.
-    #[tactic(auto, using(crate::proofs::Moved::moved_on, crate::proofs::Moved::all_moved, crate::proofs::Moved::ended))]
-    pub fn move_all_copied(
         queue: &mut SoftQueue<S::A>,
         copies: &mut SoftQueue<S::A>,
         core: &mut Core<S>,

@@ -68,35 +68,26 @@ impl<'a> Parts<'a> {
     }
 }
 
+/// Whether the same bios enter under the same id, or none by either.
+fn enter_alike(one: Option<(u64, &Request)>, other: Option<(u64, &Request)>) -> bool {
+    match (one, other) {
+        (Some((id, request)), Some((id_there, there))) => {
+            id == id_there && request.bios() == there.bios()
+        }
+        (None, None) => true,
+        _ => false,
+    }
+}
+
 /// Whether two events are the same.
 fn is_same(one: &Event<Request>, other: &Event<Request>) -> bool {
-    match one {
-        Event::Tick => matches!(other, Event::Tick),
-        Event::Release { id, request } => match other {
-            Event::Release {
-                id: id_there,
-                request: there,
-            } => id == id_there && request.bios() == there.bios(),
-            _ => false,
-        },
-        Event::Join { id, request } => match other {
-            Event::Join {
-                id: id_there,
-                request: there,
-            } => id == id_there && request.bios() == there.bios(),
-            _ => false,
-        },
-        Event::Issue { id, tag } => match other {
-            Event::Issue {
-                id: id_there,
-                tag: there,
-            } => id == id_there && tag == there,
-            _ => false,
-        },
-        Event::Done { tag } => matches!(other, Event::Done { tag: there } if tag == there),
-        Event::Back { tag } => matches!(other, Event::Back { tag: there } if tag == there),
-        Event::Depth { depth } => matches!(other, Event::Depth { depth: there } if depth == there),
-    }
+    one.is_tick() == other.is_tick()
+        && enter_alike(one.releases(), other.releases())
+        && enter_alike(one.joins(), other.joins())
+        && one.issues() == other.issues()
+        && one.completes() == other.completes()
+        && one.requeues() == other.requeues()
+        && one.sets_depth() == other.sets_depth()
 }
 
 /// Whether two lists of events are the same.

@@ -33,9 +33,9 @@ pub enum LayerCall {
     Issue(u8, Result<Option<(u64, u16)>, LayerIssueFault>),
     /// A worker reports a tag done.
     Done(u8, u16, Result<(), NotIssued>),
-    /// A worker hands a tag's command back: its id.
+    /// A worker requeues a tag's command: its id.
     Back(u8, u16, Result<u64, BackFault>),
-    /// A worker works for at most this number of turns, with a device that is busy at one of its runs: how many passes it makes, how many
+    /// A worker works for at most this number of passes, with a device that is busy at one of its runs: how many passes it makes, how many
     /// commands it runs, and whether it is finished; and how often the device runs.
     Work(u8, u64, u64, Result<(u64, u64, bool), WorkFault>, u64),
     /// This number of commands are in a worker's account.
@@ -229,12 +229,12 @@ fn back<R: Wait, S: Scheduler, L: Named>(
     }
 }
 
-/// Whether a worker does what is wanted in as many turns, and its device too, which runs just the commands that come into its account.
+/// Whether a worker does what is wanted in at most as many passes, and its device too, which runs just the commands that come into its account.
 fn works<R: Wait, S: Scheduler, L: Named>(
     rt: &R,
     layer: &Layer<S, L>,
     worker: &mut Worker<L, S::A>,
-    turns: u64,
+    most: u64,
     busy_at: u64,
     wanted: Result<(u64, u64, bool), WorkFault>,
     runs: u64,
@@ -248,7 +248,7 @@ fn works<R: Wait, S: Scheduler, L: Named>(
         busy_at,
         ids: 0,
     };
-    let did = match layer.work(rt, worker, &mut device, turns) {
+    let did = match layer.work(rt, worker, &mut device, most) {
         Ok(
             Worked {
                 passes,
@@ -277,8 +277,8 @@ fn by_worker<R: Wait, S: Scheduler, L: Named>(
         LayerCall::Issue(_, answer) => issued(rt, layer, worker) == answer,
         LayerCall::Done(_, tag, answer) => layer.done(rt, worker, tag) == answer,
         LayerCall::Back(_, tag, answer) => back(rt, layer, worker, tag) == answer,
-        LayerCall::Work(_, turns, busy_at, answer, runs) => {
-            works(rt, layer, worker, turns, busy_at, answer, runs)
+        LayerCall::Work(_, most, busy_at, answer, runs) => {
+            works(rt, layer, worker, most, busy_at, answer, runs)
         }
         LayerCall::Ran(_, count) => worker.ran().len() == count,
         _ => false,

@@ -23,8 +23,8 @@ use std::thread::{Threads, for_each_mut, join, yield_now};
 /// How many bios each submitter has.
 const BIOS_EACH: u64 = 50;
 
-/// How often a submitter flushes at most, and how many passes a worker makes.
-const TURNS: u64 = 3_000_000;
+/// How often a submitter flushes, and how many passes a worker makes, at most.
+const MAX_PASSES: u64 = 3_000_000;
 
 /// A device that is busy at each third run, and counts its runs where others see it.
 #[derive(Drop)]
@@ -58,7 +58,7 @@ fn submit<R: Abort + Wait, L: Named>(
     let mut plug = Plug::new(alloc, limits).expect(rt, "memory");
     let number = submitter.number();
     let mut next = 0u64;
-    for _ in 0..TURNS {
+    for _ in 0..MAX_PASSES {
         if plug.len() == 0 {
             if next >= BIOS_EACH {
                 return;
@@ -87,7 +87,7 @@ fn serve<R: Wait, L: Named>(
     ensures { worker.new.tag_set ≡ worker.old.tag_set }
 {
     let mut device = Third { runs };
-    let _ = layer.work(rt, worker, &mut device, TURNS);
+    let _ = layer.work(rt, worker, &mut device, MAX_PASSES);
 }
 
 /// All submitters, each in a thread of its own.
@@ -101,11 +101,11 @@ fn submit_all<R: Abort + Threads + Wait + Sync, L: Named + Send + Sync>(
     requires seats { All (λ s. s.number < length layer.now.map) submitters.old }
     requires limits { L.setup.limits ≡ limits }
 {
-    let turns = |_: usize, seat: &mut Submitter<L>|
+    let each = |_: usize, seat: &mut Submitter<L>|
         requires { (seat.now.number < length layer.now.map) × (L.setup.limits ≡ limits) }
         ensures { seat.exit.now.number ≡ seat.entry.now.number }
     { submit(rt, alloc, layer, seat, limits) };
-    for_each_mut(rt, submitters, 9, &turns);
+    for_each_mut(rt, submitters, 9, &each);
     layer.finish();
 }
 
@@ -118,11 +118,11 @@ fn serve_all<R: Threads + Wait + Sync, L: Named + Send + Sync>(
 )
     requires { All (λ w. w.tag_set ≡ layer.now.tag_set) workers.old }
 {
-    let turns = |place: usize, seat: &mut Worker<L>|
+    let each = |place: usize, seat: &mut Worker<L>|
         requires { seat.now.tag_set ≡ layer.now.tag_set }
         ensures { seat.exit.now.tag_set ≡ seat.entry.now.tag_set }
     { serve(rt, layer, seat, &runs[place % 4]) };
-    for_each_mut(rt, workers, 4, &turns);
+    for_each_mut(rt, workers, 4, &each);
 }
 
 /// How many events of a closed layer are Backs, and how many Dones.

@@ -27,6 +27,23 @@ fn move_first_then_none(rt: HostRuntime) {
     assert_eq!(rt; core.trace().len(), 1);
 }
 
+// A request whose bio's id stands in the trace is refused, and stays first.
+#[test]
+fn move_first_refused(rt: HostRuntime) {
+    let alloc = rt.alloc();
+    let mut core = core(&rt, alloc, setup(&rt, 1, 1, limits(&rt)));
+    let mut queue = queue_of(&rt, alloc, &[7, 7]);
+    assert!(rt; queue.limits() == core.trace().setup().limits());
+    assert!(rt; Plain::move_first(&mut queue, &mut core, 0) == Ok(true));
+    assert!(rt; queue.limits() == core.trace().setup().limits());
+    let again = CoreFault::Repeated(BioId {
+        submitter: 0,
+        serial: 7,
+    });
+    assert!(rt; Plain::move_first(&mut queue, &mut core, 0) == Err(again));
+    assert!(rt; (queue.len(), core.pending()) == (1, 1));
+}
+
 /// A queue of reads of submitter 0, of these serial numbers.
 fn queue_of(rt: &impl Abort, alloc: Global, serials: &[u64]) -> SoftQueue {
     let limits = limits(rt);
@@ -37,19 +54,6 @@ fn queue_of(rt: &impl Abort, alloc: Global, serials: &[u64]) -> SoftQueue {
         assert!(rt; queue.put(request).is_ok());
     }
     queue
-}
-
-/// What a move of all answers, and how many requests stay in the queue.
-fn all_of(
-    rt: &impl Abort,
-    alloc: Global,
-    serials: &[u64],
-) -> (Result<u64, DrainFault>, usize, u64) {
-    let mut core = core(rt, alloc, setup(rt, 1, 1, limits(rt)));
-    let mut queue = queue_of(rt, alloc, serials);
-    assert!(rt; queue.limits() == core.trace().setup().limits());
-    let answer = Plain::move_all(&mut queue, &mut core, 0);
-    (answer, queue.len(), core.pending())
 }
 
 /// Two requests moved, and the third refused since its bio's id stands in the trace.
@@ -63,19 +67,9 @@ fn again_at_the_third() -> DrainFault {
     }
 }
 
-// All of them, or those before the first one that is refused.
-#[test]
-fn move_all_or_to_the_first_refused(rt: HostRuntime) {
-    let alloc = rt.alloc();
-    let again = again_at_the_third();
-    assert!(rt; all_of(&rt, alloc, &[]) == (Ok(0), 0, 0));
-    assert!(rt; all_of(&rt, alloc, &[1, 2, 3]) == (Ok(3), 0, 3));
-    assert!(rt; all_of(&rt, alloc, &[1, 2, 1, 3]) == (Err(again), 2, 2));
-}
-
-/// What a move of all answers that has copies, where they are made, how many requests stay in the queue and wait in the core, and how
+/// What a move of all answers, with copies where they are made, how many requests stay in the queue and wait in the core, and how
 /// many copies stay.
-fn all_copied_of(
+fn all_of(
     rt: &impl Abort,
     alloc: Global,
     serials: &[u64],
@@ -91,21 +85,21 @@ fn all_copied_of(
         Plain::copy_ahead(&queue, &mut copies);
         assert!(rt; copies.len() == queue.len());
     }
-    let answer = Plain::move_all_copied(&mut queue, &mut copies, &mut core, 0);
+    let answer = Plain::move_all(&mut queue, &mut copies, &mut core, 0);
     (answer, queue.len(), core.pending(), copies.len())
 }
 
-// The same with copies that are made ahead: those of what is left stay. What has none is refused as out of memory.
+// All of them, or those before the first one that is refused; the copies of what is left stay. What has none is refused as out of memory.
 #[test]
-fn move_all_copied_or_to_the_first_refused(rt: HostRuntime) {
+fn move_all_or_to_the_first_refused(rt: HostRuntime) {
     let alloc = rt.alloc();
     let again = again_at_the_third();
     let uncopied = DrainFault {
         moved: 0,
         why: CoreFault::Memory,
     };
-    assert!(rt; all_copied_of(&rt, alloc, &[], true) == (Ok(0), 0, 0, 0));
-    assert!(rt; all_copied_of(&rt, alloc, &[1, 2, 3], true) == (Ok(3), 0, 3, 0));
-    assert!(rt; all_copied_of(&rt, alloc, &[1, 2, 1, 3], true) == (Err(again), 2, 2, 2));
-    assert!(rt; all_copied_of(&rt, alloc, &[1, 2], false) == (Err(uncopied), 2, 0, 0));
+    assert!(rt; all_of(&rt, alloc, &[], true) == (Ok(0), 0, 0, 0));
+    assert!(rt; all_of(&rt, alloc, &[1, 2, 3], true) == (Ok(3), 0, 3, 0));
+    assert!(rt; all_of(&rt, alloc, &[1, 2, 1, 3], true) == (Err(again), 2, 2, 2));
+    assert!(rt; all_of(&rt, alloc, &[1, 2], false) == (Err(uncopied), 2, 0, 0));
 }

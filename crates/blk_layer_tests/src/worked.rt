@@ -42,9 +42,9 @@ fn work_to_the_end(rt: HostRuntime) {
     assert_eq!(rt; other, None);
 }
 
-// At depth 1 a pass serves one command and ends the round. Turns that are used up are no end, though nothing more is flushed.
+// At depth 1 a pass serves one command and ends the round. Passes that are used up are no end, though nothing more is flushed.
 #[test]
-fn turns_used_up_twice(rt: HostRuntime) {
+fn passes_used_up_twice(rt: HostRuntime) {
     let calls = [
         LayerCall::Add(0, 0, 0),
         LayerCall::Add(0, 1, 100),

@@ -40,9 +40,9 @@ const SOFT_DEPTH: u64 = 64;
 /// that count.
 ///
 /// Refused, by the first of these that applies: as `Range` where a number of the load is out of its range; as `Memory`; as
-/// `TraceFull` where a worker is refused so; as `Repeated` where a submitter or a worker is; as `Stalled` where one used up its turns;
-/// as `SeatMissing` or `Differs` where the layer's accounts can't be settled; and as `Differs` where not all bios were accepted and
-/// served.
+/// `TraceFull` where a worker is refused so; as `Repeated` where a submitter or a worker is; as `Stalled` where one used up its
+/// flushes or its passes; as `SeatMissing` or `Differs` where the layer's accounts can't be settled; and as `Differs` where not all
+/// bios were accepted and served.
 #[tactic(auto, using(crate::proofs::Made::can_make, crate::proofs::Made::no_range))]
 pub fn load<R: Threads + Wait + Sync, S: Scheduler<A = Global> + Send>(
     rt: &R,
@@ -208,7 +208,7 @@ fn settle<S: Scheduler<A = Global>, L: Named>(
     };
     match layer.close(alloc, submitters, workers) {
         Ok(Closed { trace, left }) => {
-            match load.settle(alloc, &trace, accepted, left.len() as u64) {
+            match load.settle(&trace, accepted, left.len() as u64) {
                 Ok(settled) => Ok(Loaded { trace, settled }),
                 Err(fault) => Err(fault),
             }

@@ -70,9 +70,9 @@ pub(crate) fn serve_all<
     requires seats { All (λ s. s.tag_set ≡ site.now.layer.tag_set) seats.old }
 {
     let threads = seats.len().max(1);
-    let turns = |_: usize, seat: &mut Worker<L>|
+    let each = |_: usize, seat: &mut Worker<L>|
         requires { seat.now.tag_set ≡ site.now.layer.tag_set }
         ensures { seat.exit.now.tag_set ≡ seat.entry.now.tag_set }
     { serve_noted(rt, site, seat) };
-    for_each_mut(rt, seats, threads, &turns);
+    for_each_mut(rt, seats, threads, &each);
 }

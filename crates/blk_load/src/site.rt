@@ -56,7 +56,7 @@ impl Noted {
         self.any.load(Ordering::SeqCst)
     }
 
-    /// Notes the fault at which a thread's turns ended.
+    /// Notes the fault at which a thread ended.
     pub(crate) fn note<R: Wait>(&self, rt: &R, fault: LoadFault)
         requires { fault ≢ LoadFault.Range }
     {

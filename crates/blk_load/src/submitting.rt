@@ -150,10 +150,10 @@ pub(crate) fn submit_all<
     requires seats { All (λ s. s.number < length site.now.layer.map) seats.old }
 {
     let threads = seats.len().max(1);
-    let turns = |_: usize, seat: &mut Submitter<L>|
+    let each = |_: usize, seat: &mut Submitter<L>|
         requires { seat.now.number < length site.now.layer.map }
         ensures { seat.exit.now.number ≡ seat.entry.now.number }
     { submit_noted(rt, site, seat) };
-    for_each_mut(rt, seats, threads, &turns);
+    for_each_mut(rt, seats, threads, &each);
     site.layer.finish();
 }

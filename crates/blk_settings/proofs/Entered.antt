@@ -1,4 +1,4 @@
--- The bios that entered, one event after the other, how many of them the commands have, and what comes of a load by these numbers.
+-- How many of the bios that entered the commands have, and what comes of a load by these numbers.
 use Rattle.std.proofs.Common.{◌≡◌, ◌∙◌, ◌+◌, ◌-◌, ◌<◌, ℕ, sym, ap, refl, arith, inr, List, [], ◌∷◌, ◌++◌, length, length-append, take, get_or}
 use Rattle.std.specs.List.{flat_map}
 use Rattle.std.proofs.lemmas.List.{take_more}
@@ -15,13 +15,6 @@ use Rattle.blk_settings.specs.declared.Settled.{Settled}
 use Rattle.blk_settings.specs.declared.fault.LoadFault.{LoadFault}
 use Rattle.blk_settings.specs.declared.fault.LoadFault.TheVariants as fault
 use Rattle.blk_settings.specs.declared.numbers.Load.{Load}
-
-pub entered_more : (es : List Happened) (i : ℕ) (e : Happened) → i < length es → e ≡ get_or es i e → entered (take (i + 1) es) ≡ entered (take i es) ++ bios_of e
-entered_more es i e low is = ap entered (take_more es i e low ∙ ap (λ x. take i es ++ x ∷ []) (sym is)) ∙ entered_with (take i es) e
-
-pub none_entered : entered [] ≡ []
-unfolding entered
-none_entered = refl
 
 -- the bios in commands are those that entered and don't wait
 pub served_count : (es : List Happened) (n w : ℕ) → IsAccounted es → n ≡ length (entered es) → w ≡ length (waiting_of es) → n - w ≡ length (served_bios es)

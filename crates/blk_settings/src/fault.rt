@@ -15,7 +15,7 @@ pub enum LoadFault {
     TraceFull,
     /// The id of a bio was used before.
     Repeated,
-    /// A submitter or a worker used up its turns.
+    /// A submitter used up its flushes, or a worker its passes.
     Stalled,
     /// A seat wasn't there when the layer was closed.
     SeatMissing,

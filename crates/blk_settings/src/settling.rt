@@ -1,15 +1,13 @@
 //! What a load is set up for, and what it comes to by the trace of its layer.
 
 ghost use Rattle.std.specs.Prelude.{◌≡◌, ◌≤◌, IfOk, IfErr, min};
-ghost use Rattle.blk_trace.specs.Events.{entered, bios_of};
 ghost use Rattle.blk_settings.specs.Numbers.{IsLoad};
 ghost use Rattle.blk_settings.specs.Settles.{AreEven, IsSettled, IsSettleFault, load_setup};
 
 use crate::numbers::MAX_LOAD_WORKERS;
 use crate::{Load, LoadFault, Settled};
-use blk_bio::{Bio, Limits, Request};
-use blk_trace::{Event, Setup, Trace};
-use std::alloc::{AllocError, Global};
+use blk_bio::Limits;
+use blk_trace::{Setup, Trace};
 
 /// After how many rounds a read is due.
 pub const READ_EXPIRE: u64 = 5;
@@ -54,13 +52,7 @@ impl Load {
     ///
     /// Refused as `Differs` where not all of its bios were accepted and served, or something is in flight, waits or is left; and as
     /// `Memory`.
-    pub fn settle(
-        &self,
-        alloc: Global,
-        trace: &Trace,
-        accepted: u64,
-        left: u64,
-    ) -> Result<Settled, LoadFault>
+    pub fn settle(&self, trace: &Trace, accepted: u64, left: u64) -> Result<Settled, LoadFault>
         requires range { IsLoad self.now }
         requires setup { trace.now.setup ≡ load_setup self.now }
         ensures settled { IfOk result (IsSettled self.now trace.now) }
@@ -70,7 +62,7 @@ impl Load {
         let Ok(waiting) = trace.waiting() else {
             return Err(LoadFault::Memory);
         };
-        let Ok(entered) = entered(alloc, trace.events()) else {
+        let Ok(entered) = trace.entered() else {
             return Err(LoadFault::Memory);
         };
         let waits = waiting.len() as u64;
@@ -108,27 +100,5 @@ impl Load {
             });
         }
         Err(LoadFault::Differs)
-    }
-}
-
-/// The bios that entered by these events.
-#[tactic(auto, using(crate::proofs::Entered::entered_more, crate::proofs::Entered::none_entered))]
-fn entered(alloc: Global, events: &[Event<Request>]) -> Result<Vec<Bio>, AllocError>
-    ensures { IfOk result (λ v. v.items ≡ entered events.now) }
-{
-    let mut bios = Vec::new(alloc);
-    for event in events {
-        bios.extend_from_slice(bios_of(event))?;
-    }
-    Ok(bios)
-}
-
-/// The bios that enter by an event.
-fn bios_of(event: &Event<Request>) -> &[Bio]
-    ensures { result.now ≡ bios_of event.now }
-{
-    match event.enters() {
-        Some((_, request)) => request.bios(),
-        None => &[],
     }
 }

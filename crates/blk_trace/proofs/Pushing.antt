@@ -1,7 +1,8 @@
 -- A list with one more event is legal exactly where the list is, and the event obeys each rule.
-use Rattle.std.proofs.Common.{◌≡◌, ◌≤◌, ◌+◌, ◌++◌, ℕ, ◌<◌, List, [], ◌∷◌, length, refl, sym, ◌∙◌, ap, subst, arith, length-append, inl, inr, append-nil, cond, Bool, true, false, Option, Some, None, IfSome}
+use Rattle.std.proofs.Common.{◌≡◌, ◌≤◌, ◌+◌, ◌++◌, ℕ, ◌<◌, List, [], ◌∷◌, length, refl, sym, ◌∙◌, ap, subst, arith, length-append, inl, inr, append-nil, cond, Bool, true, false, Option, Some, None, IfSome, take, get_or}
 use Rattle.std.specs.Option.{option_map_or}
 use Rattle.std.specs.List.{flat_map}
+use Rattle.std.proofs.lemmas.List.{take_more}
 use Rattle.std.proofs.lemmas.List.Concat.{flat_map-append}
 use Rattle.std.proofs.lemmas.Option.{slice_get_within}
 use Rattle.blk_bio.specs.Bios.{Bio}
@@ -44,6 +45,14 @@ empty_legal setup = record {
 pub entered_more : (es : List Happened) (e : Happened) → entered (es ++ e ∷ []) ≡ entered es ++ bios_of e
 unfolding entered
 entered_more es e = flat_map-append bios_of es (e ∷ []) ∙ ap (λ l. flat_map bios_of es ++ l) (append-nil (bios_of e))
+
+-- the same of the events up to a place
+pub entered_up : (es : List Happened) (i : ℕ) (e : Happened) → i < length es → e ≡ get_or es i e → entered (take (i + 1) es) ≡ entered (take i es) ++ bios_of e
+entered_up es i e low is = ap entered (take_more es i e low ∙ ap (λ x. take i es ++ x ∷ []) (sym is)) ∙ entered_more (take i es) e
+
+pub none_entered : entered [] ≡ []
+unfolding entered
+none_entered = refl
 
 -- no bio enters by an event that is no Released or Joined
 pub once_more : (setup : Setup) (es : List Happened) (e : Happened) → AreOnce (entered es) → Obeys setup es e BioTwice → AreOnce (entered es ++ bios_of e)

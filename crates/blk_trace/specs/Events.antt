@@ -50,7 +50,7 @@ IsIssued events id = (k : ℕ) × ((tag : ℕ) × At events k (Issue id tag))
 abbrev pub EndsAt : List Happened → ℕ → ℕ → Type 0
 EndsAt events k tag = (e : Happened) × At events k e × (ends e ≡ Some tag)
 
--- whether, of these events, the first that ends the tag's Issue hands its request back
+-- whether the first of these events that ends the tag's Issue requeues its request
 unfoldable pub goes_back : ℕ → List Happened → Bool
 goes_back tag [] = false
 goes_back tag (e ∷ es) = cond (is_done_of tag e) (is_some (requeues e)) (goes_back tag es)

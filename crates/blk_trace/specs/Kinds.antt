@@ -1,4 +1,4 @@
--- What an event does. The first eight words read its kind, as the methods of an event do in code, and all others are composed of them.
+-- What an event does. The first nine words read its kind, as the methods of an event do in code, and all others are composed of them.
 use Rattle.std.specs.Prelude.{ℕ, Bool, true, false, List, [], Option, None, Some, is_some, cond, ◌==◌}
 use Rattle.std.specs.Option.{option_or, option_map_or, option_and_then}
 use Rattle.blk_bio.specs.Bios.{Bio}
@@ -26,7 +26,12 @@ ends (Done tag) = Some tag
 ends (Back tag) = Some tag
 ends _ = None
 
--- the tag whose request the device hands back
+-- the tag whose command has completed
+abbrev pub completes : {R : Type 0} → Event R → Option ℕ
+completes (Done tag) = Some tag
+completes _ = None
+
+-- the tag whose request is requeued
 abbrev pub requeues : {R : Type 0} → Event R → Option ℕ
 requeues (Back tag) = Some tag
 requeues _ = None

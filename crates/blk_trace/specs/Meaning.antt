@@ -52,7 +52,7 @@ due_of setup events id = least (filter_map (entry_due setup id) (timed 0 events)
 abbrev pub command_of : Setup → List Happened → ℕ → Command
 command_of setup events id = record { id = id; release = release_of events id; due = due_of setup events id }
 
--- the round and id of an Issue in a given round that is followed by these events, unless they hand its request back
+-- the round and id of an Issue in this round, unless these later events requeue its request
 abbrev pub service : ℕ → Happened → List Happened → Option (ℕ × ℕ)
 service round e later = option_and_then (λ p. cond (goes_back p.1 later) None (Some (round, p.0))) (issues e)
 

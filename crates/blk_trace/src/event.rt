@@ -1,7 +1,10 @@
 //! What can happen in a block layer: the events of Linux's blktrace that this model has.
 
 ghost use Rattle.std.specs.Prelude.{◌≡◌, option_map};
-ghost use Rattle.blk_trace.specs.Kinds.{releases, joins, enters, issues, ends, requeues, sets_depth, is_tick, bare};
+ghost use Rattle.blk_trace.specs.Kinds.{releases, joins, enters, issues, ends, completes, requeues, sets_depth, is_tick, bare, bios_of};
+
+use blk_bio::{Bio, Request};
+use std::alloc::Allocator;
 
 /// One thing that happened. `R` is what is known of a request that enters: the request itself, in a trace.
 #[derive(Debug, Drop)]
@@ -34,7 +37,7 @@ pub enum Event<R> {
         /// The tag of a command that is in flight.
         tag: u16,
     },
-    /// The device hands the request under the tag back (a requeue): it waits again, was not served, and the tag is free
+    /// The request under the tag is requeued, since the device was busy: it waits again, was not served, and the tag is free
     /// from the next round on.
     Back {
         /// The tag of a command that is in flight.
@@ -101,7 +104,17 @@ impl<R> Event<R> {
         }
     }
 
-    /// The tag whose request the device hands back.
+    /// The tag whose command has completed.
+    pub fn completes(&self) -> Option<u16>
+        ensures { result ≡ completes self.now }
+    {
+        match self {
+            Event::Done { tag } => Some(*tag),
+            _ => None,
+        }
+    }
+
+    /// The tag whose request is requeued.
     pub fn requeues(&self) -> Option<u16>
         ensures { result ≡ requeues self.now }
     {
@@ -139,6 +152,18 @@ impl<R> Event<R> {
             Event::Done { tag } => Some(Event::Done { tag: *tag }),
             Event::Back { tag } => Some(Event::Back { tag: *tag }),
             Event::Depth { depth } => Some(Event::Depth { depth: *depth }),
+        }
+    }
+}
+
+impl<A: Allocator + Clone> Event<Request<A>> {
+    /// The bios that enter by it: none where no request does.
+    pub fn bios(&self) -> &[Bio]
+        ensures { result.now ≡ bios_of self.now }
+    {
+        match self.enters() {
+            Some((_, request)) => request.bios(),
+            None => &[],
         }
     }
 }

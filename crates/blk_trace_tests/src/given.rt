@@ -91,44 +91,48 @@ pub fn event<'a>(heap: Heap<'a>, step: Happening) -> Option<Event<Request<Heap<'
     }
 }
 
-/// Whether the request is of just one bio, and this one.
-fn is_of(request: &Request<Heap<'_>>, dir: Dir, first: u64, sectors: u64) -> bool {
-    request.bios().len() == 1 && bio(dir, first, sectors) == Some(request.bios()[0])
-}
-
-/// Whether the event is the one of the step.
-pub fn is_event(event: &Event<Request<Heap<'_>>>, step: &Happening) -> bool {
-    match (event, step) {
-        (Event::Tick, Happening::Tick) => true,
-        (Event::Release { id, request }, Happening::Read(i, first, sectors)) => {
-            *id == *i && is_of(request, Dir::Read, *first, *sectors)
+/// Whether the same bios enter under the same id, or none by either.
+fn enter_alike(
+    one: Option<(u64, &Request<Heap<'_>>)>,
+    other: Option<(u64, &Request<Heap<'_>>)>,
+) -> bool {
+    match (one, other) {
+        (Some((id, request)), Some((id_there, there))) => {
+            id == id_there && request.bios() == there.bios()
         }
-        (Event::Release { id, request }, Happening::Write(i, first, sectors)) => {
-            *id == *i && is_of(request, Dir::Write, *first, *sectors)
-        }
-        (Event::Join { id, request }, Happening::JoinRead(i, first, sectors)) => {
-            *id == *i && is_of(request, Dir::Read, *first, *sectors)
-        }
-        (Event::Join { id, request }, Happening::JoinWrite(i, first, sectors)) => {
-            *id == *i && is_of(request, Dir::Write, *first, *sectors)
-        }
-        (Event::Issue { id, tag }, Happening::Issue(i, t)) => *id == *i && *tag == *t,
-        (Event::Done { tag }, Happening::Done(t)) => *tag == *t,
-        (Event::Back { tag }, Happening::Back(t)) => *tag == *t,
-        (Event::Depth { depth }, Happening::Depth(n)) => *depth == *n,
+        (None, None) => true,
         _ => false,
     }
 }
 
+/// Whether two events are the same.
+fn is_same(one: &Event<Request<Heap<'_>>>, other: &Event<Request<Heap<'_>>>) -> bool {
+    one.is_tick() == other.is_tick()
+        && enter_alike(one.releases(), other.releases())
+        && enter_alike(one.joins(), other.joins())
+        && one.issues() == other.issues()
+        && one.completes() == other.completes()
+        && one.requeues() == other.requeues()
+        && one.sets_depth() == other.sets_depth()
+}
+
+/// Whether the event is the one of the step.
+pub fn is_event<'a>(heap: Heap<'a>, event: &Event<Request<Heap<'a>>>, step: Happening) -> bool {
+    match self::event(heap, step) {
+        Some(wanted) => is_same(event, &wanted),
+        None => false,
+    }
+}
+
 /// Whether the trace's events are those of the steps.
-pub fn has_events(trace: &Trace<Heap<'_>>, steps: &[Happening]) -> bool {
+pub fn has_events<'a>(heap: Heap<'a>, trace: &Trace<Heap<'a>>, steps: &[Happening]) -> bool {
     let events = trace.events();
     events.len() == steps.len()
         && trace.len() == steps.len() as u64
         && events
             .iter()
             .zip(steps)
-            .all(|(event, step)| is_event(event, step))
+            .all(|(event, step)| is_event(heap, event, *step))
 }
 
 /// How many events there are, the round, and how many issues are not done.
@@ -162,7 +166,7 @@ pub fn is_pushed<'a>(heap: Heap<'a>, trace: &mut Trace<Heap<'a>>, step: Happenin
         Err((back, PushFault::Memory)) => {
             armed
                 && !heap.is_armed()
-                && is_event(&back, &step)
+                && is_event(heap, &back, step)
                 && standing(trace) == before
                 && trace.push(back).is_ok()
         }

@@ -14,6 +14,8 @@ pub enum Look {
     Breaks(Happening, TraceRule),
     /// How many events there are, the round, and how many issues are not done.
     Stands(u64, u64, u64),
+    /// At the place among the bios that entered is one of this direction, first sector and length.
+    Entered(usize, Dir, u64, u64),
     /// This number of bios wait.
     Waiting(usize),
     /// At the place among them is one of this direction, first sector and length.
@@ -57,6 +59,7 @@ fn is_seen<'a>(heap: Heap<'a>, trace: &mut Trace<Heap<'a>>, look: Look) -> bool 
         Look::Push(step) => is_pushed(heap, trace, step),
         Look::Breaks(step, rule) => breaks(heap, trace, step, rule),
         Look::Stands(len, round, unfinished) => standing(trace) == (len, round, unfinished),
+        Look::Entered(place, dir, first, sectors) => entered(trace, place, dir, first, sectors),
         Look::Waiting(count) => are_waiting(trace, count),
         Look::Waits(place, dir, first, sectors) => waits(trace, place, dir, first, sectors),
         Look::Commands(count) => are_commands(trace, count),
@@ -82,8 +85,20 @@ fn breaks<'a>(
     match trace.push(event) {
         Ok(()) => false,
         Err((back, why)) => {
-            why == PushFault::Rule(rule) && is_event(&back, &step) && standing(trace) == before
+            why == PushFault::Rule(rule) && is_event(heap, &back, step) && standing(trace) == before
         }
+    }
+}
+
+/// The bio that entered at a place, once memory is had.
+fn entered(trace: &Trace<Heap<'_>>, place: usize, dir: Dir, first: u64, sectors: u64) -> bool {
+    let all = match trace.entered() {
+        Ok(found) => Some(found),
+        Err(_) => trace.entered().ok(),
+    };
+    match all {
+        Some(found) => place < found.len() && Some(found[place]) == bio(dir, first, sectors),
+        None => false,
     }
 }
 

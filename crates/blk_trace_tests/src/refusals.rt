@@ -79,6 +79,7 @@ fn all_of_it(rt: &impl Abort, heap: Heap<'_>) {
         Look::Ran(3, command(3, 3, 8), 3),
         Look::Carries(0, 1),
         Look::Carries(5, 1),
+        Look::Entered(4, Dir::Read, 16, 1),
         Look::Waiting(1),
         Look::Waits(0, Dir::Read, 16, 1),
         Look::HasBio(16, true),
@@ -90,7 +91,7 @@ fn all_of_it(rt: &impl Abort, heap: Heap<'_>) {
         Happening::JoinRead(0, 17, 1),
         Happening::Issue(0, 0),
     ];
-    assert!(rt; has_events(&remade(rt, heap, &steps), &steps));
+    assert!(rt; has_events(heap, &remade(rt, heap, &steps), &steps));
 }
 
 #[test]

@@ -50,7 +50,7 @@ fn each_rule_refuses(rt: HostRuntime) {
         assert!(rt; is_pushed(&heap, &mut trace, step));
     }
     assert_eq!(rt; first_other(&heap, &mut trace, &one_broken_each()), None);
-    assert!(rt; has_events(&trace, &steps));
+    assert!(rt; has_events(&heap, &trace, &steps));
     let done = [
         Look::Push(Happening::Done(0)),
         Look::Breaks(Happening::Done(0), TraceRule::NotIssued),

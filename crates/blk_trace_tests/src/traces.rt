@@ -69,7 +69,7 @@ fn write_before_read(rt: HostRuntime) {
     let Ok(mut trace) = made(&rt, &heap, setup, &steps) else {
         panic!(rt; "refused");
     };
-    assert!(rt; has_events(&trace, &steps));
+    assert!(rt; has_events(&heap, &trace, &steps));
     assert_eq!(rt; first_other(&heap, &mut trace, &seen_of_it()), None);
 }
 
@@ -136,6 +136,9 @@ fn waiting_by_id_and_sector(rt: HostRuntime) {
         Look::Push(Happening::Read(3, 100, 4)),
         Look::Push(Happening::JoinRead(5, 6, 2)),
         Look::Push(Happening::JoinRead(5, 10, 2)),
+        Look::Entered(0, Dir::Read, 8, 2),
+        Look::Entered(1, Dir::Read, 100, 4),
+        Look::Entered(3, Dir::Read, 10, 2),
         Look::Waiting(4),
         Look::Waits(0, Dir::Read, 100, 4),
         Look::Waits(1, Dir::Read, 6, 2),

@@ -7,8 +7,7 @@ use Rattle.blk_bio.specs.Bios.{Bio}
 use Rattle.blk_bio.specs.Requests.{dir_of}
 use Rattle.blk_trace.specs.Setups.{Setup, IsSetup}
 use Rattle.blk_trace.specs.Happened.{Happened}
-use Rattle.blk_trace.specs.declared.event.Event.TheVariants.{Release}
-use Rattle.blk_trace.specs.Events.{At}
+use Rattle.blk_trace.specs.Events.{IsReleased}
 use Rattle.blk_trace.specs.Legal.{IsLegalTrace}
 use Rattle.blk_trace.specs.Inside.Seats.{RoundSeat, seat_at}
 use Rattle.blk_trace.specs.Waits.{released_count}
@@ -64,7 +63,7 @@ pub record IsTied {A : Type 0} (setup : Setup) (events : List Happened) (m : Mea
   pub holds : HoldsWhatWaits setup events m held
   pub next : released ≡ released_count events
   pub few : released ≤ length events
-  pub known : (k id : ℕ) (bios : List Bio) → At events k (Release id bios) → id < released
+  pub known : (id : ℕ) → IsReleased events id → id < released
   pub fresh : (id : ℕ) → released ≤ id → map.get m.pending id ≡ None
   pub room : length tags ≡ setup.depth
   pub lists : length held ≡ setup.hw

@@ -5,9 +5,8 @@ use Rattle.blk_core.specs.State.{CoreState}
 use Rattle.blk_sched.specs.Policies.{OfTick, Policy}
 use Rattle.blk_core.specs.Calls.{Ends, Issues}
 use Rattle.blk_core.specs.Faults.{IsTickFault}
-use Rattle.blk_core.specs.declared.refusals.IssueFault.{IssueFault}
 use Rattle.blk_layer.specs.declared.serving.NoneIssued.{NoneIssued}
-use Rattle.blk_layer.specs.Serving.{EndsOrWaits, IsFull, CarriesMore, AccountsFor, LetsGo, IsIssueAnswer}
+use Rattle.blk_layer.specs.Serving.{IsFull, CarriesMore, AccountsFor, LetsGo, IsIssueAnswer}
 use Rattle.blk_core.specs.declared.refusals.CoreFault.{CoreFault}
 use Rattle.blk_layer.specs.declared.serving.WorkFault.{WorkFault}
 use Rattle.blk_layer.specs.declared.serving.WorkFault.TheVariants.{TraceFull, Memory, Repeated}
@@ -15,7 +14,6 @@ use Rattle.blk_layer.specs.Seats.{WorkerSeat}
 use Rattle.blk_layer.specs.declared.serving.Ran.{Ran}
 use Rattle.blk_layer.specs.declared.serving.Ran.TheVariants.{Done, Busy}
 use Rattle.blk_layer.specs.declared.serving.Issued.{Issued}
-use Rattle.blk_core.specs.declared.refusals.IssueFault.TheVariants as issue
 use Rattle.blk_core.specs.declared.refusals.TickFault.TheVariants as tick
 use Rattle.blk_layer.specs.declared.serving.NoneIssued.TheVariants as none
 use Rattle.blk_core.specs.declared.refusals.CoreFault.TheVariants as core
@@ -29,17 +27,14 @@ abbrev pub IssuesAsTold : Policy → CoreState → ℕ → Option Issued → Cor
 IssuesAsTold policy old hw None new = new ≡ old
 IssuesAsTold policy old hw (Some issued) new = IssuesTo policy old hw issued new
 
--- the command in the hands of a worker under a tag was done, or was requeued
-abbrev pub IsEnded : WorkerSeat → ℕ → WorkerSeat → Type 0
-IsEnded old tag new = AccountsFor old tag new ⊎ ((id : ℕ) × LetsGo old tag id new)
-
--- the same by what the device answered: a command that it ran is done, and one for which it was busy is requeued
+-- the command in the hands of a worker under a tag was ended as the device answered: it is done where the device ran it, and requeued
+-- where that was busy
 abbrev pub IsEndedAs : Ran → WorkerSeat → ℕ → WorkerSeat → Type 0
 IsEndedAs Done old tag new = AccountsFor old tag new
 IsEndedAs Busy old tag new = (id : ℕ) × LetsGo old tag id new
 
 -- the command in the hands of a worker under a tag was ended, and then the worker was issued the next one, or none
-pub record IsTurned (old : WorkerSeat) (tag : ℕ) (ran : Ran) (found : Option Issued) (new : WorkerSeat) : Type 0 where
+pub record ServesOne (old : WorkerSeat) (tag : ℕ) (ran : Ran) (found : Option Issued) (new : WorkerSeat) : Type 0 where
   pub between : WorkerSeat
   pub ended : IsEndedAs ran old tag between
   pub answer : IsIssueAnswer between found new
@@ -56,18 +51,11 @@ abbrev pub IsPassRefusal : WorkFault → Type 0
 IsPassRefusal why = (why ≡ TraceFull) ⊎ (why ≡ Memory)
 
 -- the command wasn't ended, since memory ran out, or it was and there is no next one for this reason
-abbrev pub IsTurnFault : WorkerSeat → ℕ → Ran → WorkFault → WorkerSeat → Type 0
-IsTurnFault old tag ran why new = ((why ≡ Memory) × (new ≡ old)) ⊎ (IsPassRefusal why × IsEndedAs ran old tag new)
+abbrev pub IsServeFault : WorkerSeat → ℕ → Ran → WorkFault → WorkerSeat → Type 0
+IsServeFault old tag ran why new = ((why ≡ Memory) × (new ≡ old)) ⊎ (IsPassRefusal why × IsEndedAs ran old tag new)
 
--- the round ends or waits, and the reason stays; or it can't end, for a reason that takes the other's place
-abbrev pub IsRoundsEnd : OfTick → CoreState → IssueFault → IssueFault → CoreState → Type 0
-IsRoundsEnd told old first why new =
-    ((why ≡ first) × EndsOrWaits told old new)
-    ⊎ ((why ≡ issue.TraceFull) × IsTickFault old tick.TraceFull × (new ≡ old))
-    ⊎ ((why ≡ issue.Memory) × IsTickFault old tick.Memory × (new ≡ old))
-
--- the same of a tag that is used up in a round which may be full: where it carries more the reason stays, and else the round ends or waits,
--- or can't end
+-- a tag is used up in a round for the first reason: where the round carries more that reason stays, and a full one ends, or has a command
+-- in flight, or can't end
 abbrev pub IsFullsEnd : OfTick → CoreState → NoneIssued → NoneIssued → CoreState → Type 0
 IsFullsEnd told old first why new =
     ((why ≡ first) × CarriesMore old × (new ≡ old))

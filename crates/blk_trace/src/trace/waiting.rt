@@ -1,4 +1,4 @@
-//! The bios that wait, gathered from the events.
+//! The bios that entered and those that wait, gathered from the events.
 
 ghost use Rattle.std.specs.Prelude.{ℕ, ◌≡◌, false, not, Some, IfOk, OnOk};
 ghost use Rattle.std.specs.Option.{option_map_or};
@@ -8,6 +8,7 @@ ghost use Rattle.std.specs.Ordering.{nat_cmp};
 ghost use Rattle.std.specs.BTreeMap.{get, values, IsOrdered};
 ghost use Rattle.blk_trace.specs.Inside.Gathered.{waiting_bios, with_event, TakesJoin, FitsUnder, JoinsUnder};
 ghost use Rattle.blk_trace.specs.Inside.Kept.{known_of, is_gone};
+ghost use Rattle.blk_trace.specs.Events.{entered};
 ghost use Rattle.blk_trace.specs.Kinds.{enters};
 ghost use Rattle.blk_trace.specs.Laws.{IsAccounted};
 ghost use Rattle.blk_trace.specs.Legal.{IsLegalTrace};
@@ -24,6 +25,13 @@ use std::alloc::{AllocError, Allocator};
 use std::collections::BTreeMap;
 
 impl<A: Allocator + Clone> Trace<A> {
+    /// The bios that entered, in the order of their events. Fails only when out of memory.
+    pub fn entered(&self) -> Result<Vec<Bio, A>, AllocError>
+        ensures { IfOk result (λ v. v.items ≡ entered self.now.events) }
+    {
+        all_entered(self.events.allocator().clone()?, self.events.as_slice())
+    }
+
     /// The bios of the released requests that were not issued, or were requeued, by rising id of the requests and then
     /// in the order of their sectors. It walks the events once. Fails only when out of memory.
     pub fn waiting(&self) -> Result<Vec<Bio, A>, AllocError>
@@ -38,6 +46,21 @@ impl<A: Allocator + Clone> Trace<A> {
             self.events.as_slice(),
         )
     }
+}
+
+/// The bios that entered by the events.
+#[tactic(auto, using(crate::proofs::Pushing::entered_up, crate::proofs::Pushing::none_entered))]
+fn all_entered<A: Allocator + Clone>(
+    alloc: A,
+    events: &[Event<Request<A>>],
+) -> Result<Vec<Bio, A>, AllocError>
+    ensures { IfOk result (λ v. v.items ≡ entered events.now) }
+{
+    let mut bios = Vec::new(alloc);
+    for event in events {
+        bios.extend_from_slice(event.bios())?;
+    }
+    Ok(bios)
 }
 
 /// The bios that wait after the events, of which this is kept.

@@ -1,5 +1,4 @@
-use Rattle.std.proofs.Common.{◌∙◌, ap, arith}
-use Rattle.std.specs.Prelude.{Some}
+use Rattle.std.proofs.Common.{arith}
 use Rattle.blk_layer.proofs.Gathered.{event_at, none_yet, within_events}
 use Rattle.blk_trace.specs.declared.event.Event.TheVariants.{Release}
 use Rattle.blk_layer.proofs.closing.bio_of.Goals as goal
@@ -9,8 +8,10 @@ returns-in-Some g c =
     let some = c.in-Some.ensures.some in
     record {
       place = c.loop-event.event-index;
+      event = c.event-item.result;
       request = some.0;
-      released = event_at c.args.events.now c.loop-event.event-index c.event-item.result c.loop-event-test.true c.event-item.is ∙ ap Some some.1;
+      stands = event_at c.args.events.now c.loop-event.event-index c.event-item.result c.loop-event-test.true c.event-item.is;
+      released = some.1;
       named = some.2;
     }
 

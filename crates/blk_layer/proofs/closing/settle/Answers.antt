@@ -27,7 +27,7 @@ returns-in-Some-clause-some g c =
     let left : c.extend_from_slice-2.new.self.items ≡ queued ++ waiting_of es =
     c.in_ok-extend_from_slice-2.ensures.items ∙ ap (λ l. queued ++ l) (c.as_slice-2.ensures.value ∙ c.in_ok-waiting.ensures.waiting ∙ ap waiting_of c.trace-trace.ensures.events) in
     let stored : c.as_slice-4.result.now ≡ entered es ++ queued =
-    c.as_slice-4.ensures.value ∙ c.in_ok-extend_from_slice.ensures.items ∙ ap (λ l. l ++ c.as_slice.result.now) (c.in_ok-stored.ensures ∙ ap entered (c.events.ensures.events ∙ c.trace-trace.ensures.events)) ∙ ap (λ l. entered es ++ l) c.as_slice.ensures.value in
+    c.as_slice-4.ensures.value ∙ c.in_ok-extend_from_slice.ensures.items ∙ ap (λ l. l ++ c.as_slice.result.now) (c.in_ok-stored.ensures ∙ ap entered c.trace-trace.ensures.events) ∙ ap (λ l. entered es ++ l) c.as_slice.ensures.value in
     let accepted : c.as_slice-3.result.now ≡ all_accepted c.args.submitters.now = c.as_slice-3.ensures.value ∙ c.in_ok-accepted.ensures.list in
     let setup = c.args.core.now.setup in
     let found = some_of c.in_ok-bio.field-0 (λ (id : BioId). (bio : Bio) × (bio.id ≡ id) × (count_by (is_bio_of bio) c.as_slice-3.result.now ≢ count_by (is_bio_of bio) c.as_slice-4.result.now)) c.in-Some.bio c.in-Some.is c.in_ok-bio.ensures.some in
@@ -48,7 +48,7 @@ returns-clause-none g c =
     let left : c.extend_from_slice-2.new.self.items ≡ queued ++ waiting_of es =
     c.in_ok-extend_from_slice-2.ensures.items ∙ ap (λ l. queued ++ l) (c.as_slice-2.ensures.value ∙ c.in_ok-waiting.ensures.waiting ∙ ap waiting_of c.trace-trace.ensures.events) in
     let stored : c.as_slice-4.result.now ≡ entered es ++ queued =
-    c.as_slice-4.ensures.value ∙ c.in_ok-extend_from_slice.ensures.items ∙ ap (λ l. l ++ c.as_slice.result.now) (c.in_ok-stored.ensures ∙ ap entered (c.events.ensures.events ∙ c.trace-trace.ensures.events)) ∙ ap (λ l. entered es ++ l) c.as_slice.ensures.value in
+    c.as_slice-4.ensures.value ∙ c.in_ok-extend_from_slice.ensures.items ∙ ap (λ l. l ++ c.as_slice.result.now) (c.in_ok-stored.ensures ∙ ap entered c.trace-trace.ensures.events) ∙ ap (λ l. entered es ++ l) c.as_slice.ensures.value in
     let accepted : c.as_slice-3.result.now ≡ all_accepted c.args.submitters.now = c.as_slice-3.ensures.value ∙ c.in_ok-accepted.ensures.list in
     let setup = c.args.core.now.setup in
     let same : IsPermutation c.as_slice-3.result.now c.as_slice-4.result.now = none_of c.in_ok-bio.field-0 (IsPermutation c.as_slice-3.result.now c.as_slice-4.result.now) c.in_default.is c.in_ok-bio.ensures.none in
@@ -75,7 +75,7 @@ returns-clause-once g c =
     let left : c.extend_from_slice-2.new.self.items ≡ queued ++ waiting_of es =
     c.in_ok-extend_from_slice-2.ensures.items ∙ ap (λ l. queued ++ l) (c.as_slice-2.ensures.value ∙ c.in_ok-waiting.ensures.waiting ∙ ap waiting_of c.trace-trace.ensures.events) in
     let stored : c.as_slice-4.result.now ≡ entered es ++ queued =
-    c.as_slice-4.ensures.value ∙ c.in_ok-extend_from_slice.ensures.items ∙ ap (λ l. l ++ c.as_slice.result.now) (c.in_ok-stored.ensures ∙ ap entered (c.events.ensures.events ∙ c.trace-trace.ensures.events)) ∙ ap (λ l. entered es ++ l) c.as_slice.ensures.value in
+    c.as_slice-4.ensures.value ∙ c.in_ok-extend_from_slice.ensures.items ∙ ap (λ l. l ++ c.as_slice.result.now) (c.in_ok-stored.ensures ∙ ap entered c.trace-trace.ensures.events) ∙ ap (λ l. entered es ++ l) c.as_slice.ensures.value in
     let accepted : c.as_slice-3.result.now ≡ all_accepted c.args.submitters.now = c.as_slice-3.ensures.value ∙ c.in_ok-accepted.ensures.list in
     let setup = c.args.core.now.setup in
     let same : IsPermutation c.as_slice-3.result.now c.as_slice-4.result.now = none_of c.in_ok-bio.field-0 (IsPermutation c.as_slice-3.result.now c.as_slice-4.result.now) c.in_default.is c.in_ok-bio.ensures.none in

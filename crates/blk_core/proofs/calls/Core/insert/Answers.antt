@@ -20,7 +20,7 @@ add-requires-clause-unbroken g c =
     let given : IsWithin c.self.inside.trace.setup.limits c.args.request = subst (λ (v : CoreState). IsWithin v.setup.limits c.args.request) (sym c.self.view_is) c.requires.within in
     let within : IsWithin c.self.inside.trace.setup.limits c.args.copy = subst (λ x. IsWithin c.self.inside.trace.setup.limits x) (sym c.requires.copied) given in
     unbroken c.self.inside.trace.setup c.self.inside.trace.events c.prepare_bios.new.trace _ (Release c.self.inside.released c.args.copy) c.in-Ok.ensures.ok c.self.invariant.legal
-    ((λ r. let below = c.self.invariant.known r.0 c.self.inside.released r.1.0 r.1.1 in omega arith), within, once)
+    ((λ r. let below = c.self.invariant.known c.self.inside.released r in omega arith), within, once)
     (omega arith)
 
 pub add-requires-clause-prepared : goal.add-requires-clause-prepared

@@ -8,9 +8,9 @@ pub invariant_of-staged-2 : goal.invariant_of-staged-2
 invariant_of-staged-2 g c =
     let staged = c.deref_mut-staged.result.now in
     record {
-      limits = all_limits g.S.Scheduler.policy.serves staged.queue c.deref_mut-locked.result.now.core c.args.hw c.move_all_copied.new.queue c.move_all_copied.new.core c.move_all_copied.result c.move_all_copied.ensures.answer ∙ staged.limits;
-      same_limits = c.move_all_copied.ensures.limits ∙ c.copy_ahead.ensures.limits ∙ staged.same_limits;
-      first = c.move_all_copied.ensures.first;
+      limits = all_limits g.S.Scheduler.policy.serves staged.queue c.deref_mut-locked.result.now.core c.args.hw c.move_all.new.queue c.move_all.new.core c.move_all.result c.move_all.ensures.answer ∙ staged.limits;
+      same_limits = c.move_all.ensures.limits ∙ c.copy_ahead.ensures.limits ∙ staged.same_limits;
+      first = c.move_all.ensures.first;
     }
 
 pub invariant_of-locked : goal.invariant_of-locked
@@ -18,11 +18,11 @@ invariant_of-locked g c =
     let queue = c.deref_mut-staged.result.now.queue in
     let locked = c.deref_mut-locked.result.now in
     let S = g.S.Scheduler in
-    let stays = all_stay g.S.Scheduler.policy.serves queue locked.core c.args.hw c.move_all_copied.new.queue c.move_all_copied.new.core c.move_all_copied.result c.move_all_copied.ensures.answer in
+    let stays = all_stay g.S.Scheduler.policy.serves queue locked.core c.args.hw c.move_all.new.queue c.move_all.new.core c.move_all.result c.move_all.ensures.answer in
     record {
       named = stays.setup ∙ locked.named;
       counted = locked.counted ∙ sym stays.dones;
       all_out = locked.all_out;
       none = locked.none;
-      ran = ∥∥₁_map locked.ran (all_moved S.policy g.L.Named.start queue locked.core c.args.hw c.move_all_copied.new.queue c.move_all_copied.new.core c.move_all_copied.result c.move_all_copied.ensures.answer);
+      ran = ∥∥₁_map locked.ran (all_moved S.policy g.L.Named.start queue locked.core c.args.hw c.move_all.new.queue c.move_all.new.core c.move_all.result c.move_all.ensures.answer);
     }

@@ -8,7 +8,7 @@ pub returns-in-Ok-balanced-clause-settled : goal.returns-in-Ok-balanced-clause-s
 returns-in-Ok-balanced-clause-settled c =
     let e = c.args.trace.now.events in
     let long : c.len.result ≡ length c.in-Ok-entered.entered.items = search rules in
-    let all : c.len.result ≡ length (entered e) = long ∙ ap length (c.in-Ok-entered.ensures ∙ ap entered c.events.ensures.events) in
+    let all : c.len.result ≡ length (entered e) = long ∙ ap length c.in-Ok-entered.ensures in
     let some : c.len-waits.result ≡ length c.in-Ok.waiting.items = search rules in
     let waits : c.len-waits.result ≡ length (waiting_of e) = some ∙ ap length c.in-Ok.ensures.waiting in
     let less : c.saturating_sub-served.result ≡ c.len.result - c.len-waits.result = search rules in
@@ -19,7 +19,7 @@ pub returns-clause-fault : goal.returns-clause-fault
 returns-clause-fault c =
     let e = c.args.trace.now.events in
     let long : c.len.result ≡ length c.in-Ok-entered.entered.items = search rules in
-    let all : c.len.result ≡ length (entered e) = long ∙ ap length (c.in-Ok-entered.ensures ∙ ap entered c.events.ensures.events) in
+    let all : c.len.result ≡ length (entered e) = long ∙ ap length c.in-Ok-entered.ensures in
     let some : c.len-waits.result ≡ length c.in-Ok.waiting.items = search rules in
     let waits : c.len-waits.result ≡ length (waiting_of e) = some ∙ ap length c.in-Ok.ensures.waiting in
     let less : c.saturating_sub-served.result ≡ c.len.result - c.len-waits.result = search rules in

@@ -1,6 +1,0 @@
-use Rattle.std.proofs.Common.{◌≡◌, take}
-use Rattle.blk_trace.specs.Events.{entered}
-use Rattle.blk_settings.proofs.settling.entered.Given as goal
-
-abbrev pub invariant-loop-event : goal.invariant-loop-event
-invariant-loop-event l = l.bios.items ≡ entered (take l.event-index l.events)
