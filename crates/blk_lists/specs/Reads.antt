@@ -131,8 +131,14 @@ HaltsBy old new p f = Halts new.failed p old.left old.at f.at f.why
 abbrev pub HandFailsBy : {V : Type 0} → Source → Source → Part Row Why V → TextFault → Type 0
 HandFailsBy old new p f = HandFails new.failed p old.left old.fields old.at f.at f.why
 
-abbrev pub GathersBy : {V : Type 0} → Source → Source → (List V → Part Row Why V) → List V → List V → Type 0
-GathersBy old new q before after = Gathers q before after old.left old.fields new.left old.at new.at
+-- the same of the item after those before it, by whatever is known of them
+abbrev pub NextFailsBy : {V K : Type 0} → Source → Source → (List V → Part Row Why V) → (K → List V) → TextFault → Type 0
+NextFailsBy {V} {K} old new q before f = (k : K) → HandFailsBy old new (q (before k)) f
 
-abbrev pub AreGatheredBy : {V : Type 0} → Source → Source → Repeats → (List V → Part Row Why V) → List V → Bool → Type 0
-AreGatheredBy old new x q vs over = AreGathered x q old.left new.left old.at new.at vs over
+-- an item was read, and is gathered after those before it, by whatever is known of them; this is known of them now
+abbrev pub GathersBy : {V K L : Type 0} → Source → Source → (List V → Part Row Why V) → (K → List V) → (L → List V) → Type 0
+GathersBy {V} {K} {L} old new q before after = (k : K) → (l : L) × Gathers q (before k) (after l) old.left old.fields new.left old.at new.at
+
+-- items were read, by what is known of them
+abbrev pub AreGatheredBy : {V K : Type 0} → Source → Source → Repeats → (List V → Part Row Why V) → (K → List V) → Bool → Type 0
+AreGatheredBy {V} {K} old new x q seen over = (k : K) × AreGathered x q old.left new.left old.at new.at (seen k) over

@@ -193,8 +193,9 @@ pub fn after_minus(field: &[u8]) -> Option<&[u8]>
     }
 }
 
-/// The size of a signed number.
-fn parse_sized(field: &[u8]) -> Option<u64>
+/// The size of the signed number that a field writes, in decimal digits with no leading zero, behind a minus where it is below 0: 0 has
+/// no minus, and no number has a plus.
+pub fn parse_sized(field: &[u8]) -> Option<u64>
     ensures { MatchOption result ((n : ℕ) → n < 2 ^ 64 → ¬ IsSized field.now n) (IsSized field.now) }
 {
     match after_minus(field) {

@@ -5,7 +5,7 @@ ghost use Rattle.csv.specs.Records.{fields_of};
 ghost use Rattle.blk_lists.specs.Sources.{Row};
 ghost use Rattle.blk_lists.specs.declared.fault.Why.{Why as AWhy};
 ghost use Rattle.parts.specs.Parts.{Part, IsCount, most_of};
-ghost use Rattle.blk_lists.specs.Reads.{Reads, ReadsAll, HandFailsBy, FailsBy, Halts, HaltsBy, GathersBy, AreGatheredBy, IsRowOf, IsWrongLine, IsOne, IsStopped, beyond_of, items_of, repeated};
+ghost use Rattle.blk_lists.specs.Reads.{Reads, ReadsAll, NextFailsBy, FailsBy, Halts, HaltsBy, GathersBy, AreGatheredBy, IsRowOf, IsWrongLine, IsOne, IsStopped, beyond_of, items_of, repeated};
 
 use crate::fault::{TextFault, Why};
 use crate::source::Records;
@@ -63,19 +63,20 @@ pub trait ItemForm {
 
     ghost View: { Type 0 };
 
-    ghost seen: { Self.Items → List View };
+    // what is known of the items that this form has gathered; where they keep less than what was read, also that
+    ghost known: { Self → Self.Items → Type 0 };
+
+    // the items, each as what was read of it
+    ghost seen: { (form : Self) → (items : Self.Items) → known form items → List View };
 
     ghost part: { Self → List View → Part Row AWhy View };
-
-    // these items may be gathered by this form
-    ghost suits: { Self → Self.Items → Type 0 };
 
     // the most records past the first
     ghost more: { ℕ };
 
     /// The fault where the first record never came.
     fn gone(&self, items: &Self::Items) -> Why
-        ensures { (part self.now (seen items.now)).Wrong [] 1 result };
+        ensures { (k : known self.now items.now) → (part self.now (seen self.now items.now k)).Wrong [] 1 result };
 
     /// Reads the item of the record that was read last and those after it, and adds it to those before it.
     fn read<R: Read + Drop>(
@@ -85,11 +86,10 @@ pub trait ItemForm {
         items: &mut Self::Items,
     ) -> Result<(), TextFault>
         requires room { records.old.at + more < 2 ^ 64 - 1 }
-        requires suits { suits self.now items.old }
-        ensures suits { OnOk result (suits self.now items.new) }
-        ensures ok { OnOk result (GathersBy records.old records.new (part self.now) (seen items.old) (seen items.new)) }
+        requires known { known self.now items.old }
+        ensures ok { OnOk result (GathersBy records.old records.new (part self.now) (seen self.now items.old) (seen self.now items.new)) }
         ensures last { IfErr result (λ f. (records.old.at ≤ f.at) × (f.at ≤ records.new.at)) }
-        ensures err { IfErr result (HandFailsBy records.old records.new (part self.now (seen items.old))) }
+        ensures err { IfErr result (NextFailsBy records.old records.new (part self.now) (seen self.now items.old)) }
         ensures reads { (records.old.at ≤ records.new.at) × (records.new.at ≤ records.old.at + more) };
 }
 
@@ -103,10 +103,8 @@ pub fn gather<R: Read + Drop, F: ItemForm>(
     items: &mut F::Items,
 ) -> Result<bool, TextFault>
     requires room { records.old.at + most_of repeats * (F.more + 1) < 2 ^ 64 - 1 }
-    requires none { F.seen items.old ≡ [] }
-    requires suits { F.suits form.now items.old }
-    ensures suits { OnOk result (F.suits form.now items.new) }
-    ensures ok { IfOk result (AreGatheredBy records.old records.new repeats (F.part form.now) (F.seen items.new)) }
+    requires none { (k : F.known form.now items.old) × (F.seen form.now items.old k ≡ []) }
+    ensures ok { IfOk result (AreGatheredBy records.old records.new repeats (F.part form.now) (F.seen form.now items.new)) }
     ensures err { IfErr result (FailsBy records.old records.new (repeated repeats (F.part form.now))) }
     // all items before the one that is being read are good, and no record past that one is asked for
     ensures before { IfErr result (λ f. IsStopped repeats (F.part form.now) records.old.left records.old.at F.more f.at records.new.at) }
@@ -148,11 +146,11 @@ where
 
     ghost View = { F.Value };
 
-    ghost seen = { λ v. v.items };
+    ghost known = { λ _ _. Unit {0} };
+
+    ghost seen = { λ _ v _. v.items };
 
     ghost part = { λ e _. F.part e.form };
-
-    ghost suits = { λ _ _. Unit {0} };
 
     ghost more = { 0 };
 

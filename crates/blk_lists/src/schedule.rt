@@ -142,11 +142,11 @@ impl ItemForm for NewForm {
 
     ghost View = { ACommand × ℕ };
 
-    ghost seen = { λ k. k.served.items };
+    ghost known = { λ _ k. HasIds k };
+
+    ghost seen = { λ _ k _. k.served.items };
 
     ghost part = { λ _ before. new_record before };
-
-    ghost suits = { λ _ k. HasIds k };
 
     ghost more = { 0 };
 

@@ -100,11 +100,11 @@ impl ItemForm for EventForm {
 
     ghost View = { Happened };
 
-    ghost seen = { λ t. t.events };
+    ghost known = { λ f t. t.setup ≡ f.setup };
+
+    ghost seen = { λ _ t _. t.events };
 
     ghost part = { λ f before. event_part f.head.version f.setup before };
-
-    ghost suits = { λ f t. t.setup ≡ f.setup };
 
     ghost more = { MAX_SEGMENTS };
 

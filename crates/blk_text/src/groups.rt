@@ -74,11 +74,11 @@ impl ItemForm for GroupForm {
 
     ghost View = { BioFields };
 
-    ghost seen = { gathered_bios };
+    ghost known = { λ _ _. Unit {0} };
+
+    ghost seen = { λ _ bios _. gathered_bios bios };
 
     ghost part = { λ f before. group_bio f.head.version f.limits before };
-
-    ghost suits = { λ _ _. Unit {0} };
 
     ghost more = { 0 };
 

@@ -8,13 +8,13 @@ use Rattle.blk_lists.proofs.items.read_lines.Goals as goal
 pub returns-in-Ok-true-clause-fit : goal.returns-in-Ok-true-clause-fit
 returns-in-Ok-true-clause-fit g c =
     let p = g.F.LineForm.part c.args.form in
-    let got : AreGathered c.args.repeats (λ _. p) c.args.records.now.left c.gather.new.records.left c.args.records.now.at c.gather.new.records.at c.gather.new.items.items true = search rules in
+    let got : AreGathered c.args.repeats (λ _. p) c.args.records.now.left c.gather.new.records.left c.args.records.now.at c.gather.new.records.at c.gather.new.items.items true = rw c.in-Ok-true.field-0-test at c.in-Ok-true.ensures.ok.1 in
     (fit_all p [] c.gather.new.items.items got.1.0, got.1.1)
 
 pub returns-in-Ok-true-clause-end : goal.returns-in-Ok-true-clause-end
 returns-in-Ok-true-clause-end g c =
     let p = g.F.LineForm.part c.args.form in
-    let got : AreGathered c.args.repeats (λ _. p) c.args.records.now.left c.gather.new.records.left c.args.records.now.at c.gather.new.records.at c.gather.new.items.items true = search rules in
+    let got : AreGathered c.args.repeats (λ _. p) c.args.records.now.left c.gather.new.records.left c.args.records.now.at c.gather.new.records.at c.gather.new.items.items true = rw c.in-Ok-true.field-0-test at c.in-Ok-true.ensures.ok.1 in
     let at = got.2 in
     omega (arith, at, size_is p c.gone.ensures.one c.gather.new.items.items)
 
@@ -27,20 +27,20 @@ returns-in-Err-clause-err g c =
 pub returns-in-Ok-false-advance-clause-fit : goal.returns-in-Ok-false-advance-clause-fit
 returns-in-Ok-false-advance-clause-fit g c =
     let p = g.F.LineForm.part c.args.form in
-    let got : AreGathered c.args.repeats (λ _. p) c.args.records.now.left c.gather.new.records.left c.args.records.now.at c.gather.new.records.at c.gather.new.items.items false = search rules in
+    let got : AreGathered c.args.repeats (λ _. p) c.args.records.now.left c.gather.new.records.left c.args.records.now.at c.gather.new.records.at c.gather.new.items.items false = rw c.in-Ok-false.field-0-test at c.in-Ok-false.ensures.ok.1 in
     (fit_all p [] c.gather.new.items.items got.1.0, got.1.1)
 
 pub returns-in-Ok-false-advance-clause-end : goal.returns-in-Ok-false-advance-clause-end
 returns-in-Ok-false-advance-clause-end g c =
     let p = g.F.LineForm.part c.args.form in
-    let got : AreGathered c.args.repeats (λ _. p) c.args.records.now.left c.gather.new.records.left c.args.records.now.at c.gather.new.records.at c.gather.new.items.items false = search rules in
+    let got : AreGathered c.args.repeats (λ _. p) c.args.records.now.left c.gather.new.records.left c.args.records.now.at c.gather.new.records.at c.gather.new.items.items false = rw c.in-Ok-false.field-0-test at c.in-Ok-false.ensures.ok.1 in
     let at = got.3 in
     omega (arith, at, size_is p c.gone.ensures.one c.gather.new.items.items)
 
 pub returns-in-Err-advance-clause-err : goal.returns-in-Err-advance-clause-err
 returns-in-Err-advance-clause-err g c =
     let p = g.F.LineForm.part c.args.form in
-    let got : AreGathered c.args.repeats (λ _. p) c.args.records.now.left c.gather.new.records.left c.args.records.now.at c.gather.new.records.at c.gather.new.items.items false = search rules in
+    let got : AreGathered c.args.repeats (λ _. p) c.args.records.now.left c.gather.new.records.left c.args.records.now.at c.gather.new.records.at c.gather.new.items.items false = rw c.in-Ok-false.field-0-test at c.in-Ok-false.ensures.ok.1 in
     let at = got.3 in
     let fault = c.in-Err-advance.ensures.fault in
     let same = fault.0 in
@@ -51,7 +51,7 @@ returns-in-Err-advance-clause-err g c =
 pub returns-in-Ok-clause-err : goal.returns-in-Ok-clause-err
 returns-in-Ok-clause-err g c =
     let p = g.F.LineForm.part c.args.form in
-    let got : AreGathered c.args.repeats (λ _. p) c.args.records.now.left c.gather.new.records.left c.args.records.now.at c.gather.new.records.at c.gather.new.items.items false = search rules in
+    let got : AreGathered c.args.repeats (λ _. p) c.args.records.now.left c.gather.new.records.left c.args.records.now.at c.gather.new.records.at c.gather.new.items.items false = rw c.in-Ok-false.field-0-test at c.in-Ok-false.ensures.ok.1 in
     let taken : TakesRecord c.gather.new.records.left c.advance.new.self.left c.advance.new.self.fields true = search rules in
     let before = got.3 in
     let at : c.fault.result.at ≡ c.args.records.now.at + size_of (λ _. p) c.gather.new.items.items + 1 = omega (arith, before) in
@@ -65,7 +65,7 @@ returns-in-Ok-clause-err g c =
 pub returns-clause-err : goal.returns-clause-err
 returns-clause-err g c =
     let p = g.F.LineForm.part c.args.form in
-    let got : AreGathered c.args.repeats (λ _. p) c.args.records.now.left c.gather.new.records.left c.args.records.now.at c.gather.new.records.at c.gather.new.items.items false = search rules in
+    let got : AreGathered c.args.repeats (λ _. p) c.args.records.now.left c.gather.new.records.left c.args.records.now.at c.gather.new.records.at c.gather.new.items.items false = rw c.in-Ok-false.field-0-test at c.in-Ok-false.ensures.ok.1 in
     let taken : TakesRecord c.gather.new.records.left c.advance.new.self.left c.advance.new.self.fields true = search rules in
     let before = got.3 in
     let at : c.fault-in-Err-line.result.at ≡ c.args.records.now.at + size_of (λ _. p) c.gather.new.items.items + 1 = omega (arith, before) in
