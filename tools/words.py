@@ -169,15 +169,33 @@ def held_by_cases():
     return held
 
 
-def names_of_faults():
-    """Where the names that the program prints and the list in docs/FORMATS.md differ."""
-    printed = set()
-    for it in TOP.glob("crates/*/src/**/*.rt"):
+# The names that are no variant's, by the fault that has each: `Stalled` says what became of a load, where the others name a broken rule.
+OWN_NAMES = {"LoadFault::Stalled": "stalled"}
+# A variant with the text that is printed for it.
+NAMED = re.compile(r'\b(\w+::\w+)(?:\([^)]*\)| \{[^}]*\})? => (?:tell_name\(faults, )?"(\w+)"')
+
+
+def printed_names():
+    """The faults of the sources that have a name, each with that name."""
+    for it in sorted(TOP.glob("crates/*/src/**/*.rt")):
         text = it.read_text()
-        for block in re.findall(r"fn name\(self\) -> &'static str.*?\n    }\n", text, re.S):
-            printed.update(re.findall(r'=> "(\w+)"', block))
-        printed.update(re.findall(r'tell_name\(faults, "(\w+)"\)', text))
-    listed = set()
+        blocks = re.findall(r"fn name\(self\) -> &'static str.*?\n    }\n", text, re.S)
+        blocks += re.findall(r'\w+::\w+ => tell_name\(faults, "\w+"\)', text)
+        for block in blocks:
+            found = NAMED.findall(block)
+            if len(found) != block.count('"') // 2:
+                raise Fault(f"{it.relative_to(TOP)}: these names of faults aren't understood: {block}")
+            yield from found
+
+
+def names_of_faults():
+    """Where a fault's name isn't its variant's, or the names that the program prints and the list in docs/FORMATS.md differ."""
+    named = list(printed_names())
+    for fault, name in named:
+        wanted = OWN_NAMES.get(fault, fault.partition("::")[2])
+        if name != wanted:
+            yield f"the name of {fault} is {name}, and not {wanted}"
+    printed, listed = {name for _, name in named}, set()
     for row in FORMATS.read_text().split("\n## Names of faults\n")[-1].splitlines():
         listed.update(re.findall(r"`(\w+)`", row.split("|")[1] if row.startswith("|") else ""))
     apart = printed - {"Memory", "Read"}

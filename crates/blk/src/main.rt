@@ -1,6 +1,7 @@
 //! The program `blk`: the standard streams and the words of the command line, handed to `blk_cli::run`, and loads run on its threads.
 #![tactic(auto)]
 
+use blk_cli::Failure;
 use blk_lists::Records;
 use blk_load::OnThreads;
 use blk_tune::ProgressLine;
@@ -29,8 +30,7 @@ fn main(rt: HostRuntime) -> ExitCode {
         Ok(args) => args,
         Err(error) => {
             if error.kind() == ErrorKind::OutOfMemory {
-                let _ = faults.put(b"blk: want of memory\n");
-                return ExitCode::from(blk_cli::FAILED);
+                return ExitCode::from(Failure::Memory.report(&mut faults).status);
             }
             // A word that is no UTF-8.
             let _ = faults.put(b"blk: the command line could not be read\n");
@@ -38,8 +38,7 @@ fn main(rt: HostRuntime) -> ExitCode {
         }
     };
     let Ok(words) = args.collect::<Vec<String>>(alloc) else {
-        let _ = faults.put(b"blk: want of memory\n");
-        return ExitCode::from(blk_cli::FAILED);
+        return ExitCode::from(Failure::Memory.report(&mut faults).status);
     };
     let is_terminal = says_to_a_terminal(&rt);
     let ended = blk_cli::run(
