@@ -8,7 +8,7 @@ use Rattle.blk_capture.specs.Requests.{AreInOrder}
 use Rattle.blk_capture.specs.declared.record.Record.{Record}
 use Rattle.blk_lists.specs.Sources.{Row, TakesRecord}
 use Rattle.blk_lists.specs.Texts.{rows_text}
-use Rattle.blk_lists.specs.Reads.{IsOutside, Reads, Halts, Fails, HandFails, IsOne, IsStopped, with_next, size_of, repeated}
+use Rattle.blk_lists.specs.Reads.{IsOutside, Reads, Halts, Fails, HandFails, Gathers, AreGathered, IsOne, IsStopped, with_next, size_of, repeated}
 use Rattle.blk_lists.specs.Tables.{IsVersion, title_by}
 use Rattle.blk_lists.specs.declared.fault.Why.{Why}
 use Rattle.blk_lists.specs.declared.fault.Why.TheVariants as why
@@ -21,11 +21,11 @@ use Rattle.parts.proofs.Then.{then_tells, then_decides, record_decides}
 use Rattle.parts.proofs.Many.{HasRows, ended_tells, ended_decides}
 use Rattle.blk_lists.proofs.TableLaws.{IsTable, title_part, title_decides}
 use Rattle.blk_lists.proofs.Each.{one_record, one_version}
-use Rattle.blk_lists.proofs.Reading.{MadeOf, Fitting, made_more, fit_next, items_wrong, items_over, items_full, few_count, stopped, outside_fails, many_fails, past_wrong, full_stopped, then_reads, hand_reads, first_halts, second_halts, lines_halt}
+use Rattle.blk_lists.proofs.Reading.{outside_fails, many_fails, past_wrong, full_stopped, then_reads, hand_reads, first_halts, second_halts, lines_halt}
 use Rattle.blk_lists.proofs.Texts.{text_back}
 use Rattle.blk_capture_text.specs.Steps.{time_at, record_at, IsStep, StepLacks}
 use Rattle.blk_capture_text.specs.Captures.{title_cells, capture_title_part, last_time, record_after, steps_body, capture_form, capture_rows, AreCapture, SpellsCapture, CaptureTextFault}
-use Rattle.blk_capture_text.specs.Inside.Taking.{HasSteps, AreTaken}
+use Rattle.blk_capture_text.specs.Inside.Taking.{HasSteps, HaveRows}
 use Rattle.blk_capture_text.specs.declared.reading.StepsRead.{StepsRead}
 use Rattle.blk_capture_text.specs.declared.reading.TheConstants.{MAX_RECORDS}
 use Rattle.blk_capture_text.proofs.StepLaws.{step_tells, step_decided}
@@ -148,67 +148,36 @@ pub capture_read : (left mid : Option (List Row)) (version : ℕ) (steps : List 
 capture_read None mid version steps cs h v e k = tt
 capture_read (Some rows) mid version steps cs h v e k = (steps, e, spelled rows steps version v (then_reads capture_title_part (λ _. steps_body) (Some rows) mid (version, tt) steps h k))
 
--- rows that were taken so far
-pub record IsTaken (s : StepsRead) (input left : Option (List Row)) (n : ℕ) : Type 0 where
-  pub rows : List Row
-  pub has : HasSteps s rows
-  pub count : length rows ≡ n
-  pub fit : Fitting record_after rows
-  pub made : MadeOf record_after input rows left
+-- one record more
 
-made_none : (left : Option (List Row)) → MadeOf record_after left [] left
-made_none None = tt
-made_none (Some rows) = (rows, refl, refl)
+pub step_gathers : (old now : StepsRead) (known : HaveRows old) (left : Option (List Row)) (row : Row) (at : ℕ) → IsStep old.last row → now.records.items ≡ old.records.items ++ record_at row ∷ [] → now.last ≡ time_at row
+    → (next : HaveRows now) × Gathers record_after known.0 next.0 left row left at at
+step_gathers old now known left row at step items last =
+    let fits : IsStep (last_time known.0) row = rw known.1.1 at step in
+    let has : HasSteps now (known.0 ++ row ∷ []) = (items ∙ ap (λ (z : List Record). z ++ record_at row ∷ []) known.1.0 ∙ sym (map-append record_at known.0 (row ∷ [])), last ∙ sym (last_after known.0 row)) in (
+      (known.0 ++ row ∷ [], has),
+      record {
+        item = row;
+        gathered = refl;
+        fits = fits;
+        read = hand_reads (record_after known.0) left row row (λ rest. record { fits = fits; made = refl; follows = tt });
+        end = refl;
+      },
+    )
 
-pub taken_more : (s t : StepsRead) (input left mid : Option (List Row)) (n : ℕ) (row : Row) → IsTaken s input left n → TakesRecord left mid row true → IsStep s.last row → t.records.items ≡ s.records.items ++ record_at row ∷ [] → t.last ≡ time_at row
-    → IsTaken t input mid (n + 1)
-taken_more s t input left mid n row g taken step items last =
-    let fits : IsStep (last_time g.rows) row = rw g.has.1 at step in record {
-      rows = g.rows ++ row ∷ [];
-      has = (items ∙ ap (λ (z : List Record). z ++ record_at row ∷ []) g.has.0 ∙ sym (map-append record_at g.rows (row ∷ [])), last ∙ sym (last_after g.rows row));
-      count = let c = g.count in omega (arith, c, length_one g.rows);
-      fit = fit_next record_after g.rows row g.fit fits;
-      made = made_more record_after input left mid mid g.rows row row g.made taken (hand_reads (record_after g.rows) mid row row (λ rest. record { fits = fits; made = refl; follows = tt }));
-    }
-  where
-    length_one : (rows : List Row) → length (rows ++ row ∷ []) ≡ length rows + 1
-    length_one [] = refl
-    length_one (r ∷ rows) = let more = length_one rows in omega (arith, more)
+pub step_fails : (failed : Bool) (old : StepsRead) (known : HaveRows old) (left : Option (List Row)) (row : Row) (start at : ℕ) (w : Why) → at ≡ start → (w ≡ why.Memory) ⊎ StepLacks old.last row w → HandFails failed (record_after known.0) left row start at w
+step_fails failed old known None row start at w e h = tt
+step_fails failed old known (Some rows) row start at w e (inl m) = inl (inr m)
+step_fails failed old known (Some rows) row start at w e (inr bad) = inr (1, omega (arith, e), (refl, rw known.1.1 at bad))
+
+-- records to the end of the text
 
 abbrev at_most : Repeats
 at_most = repeats.AtMost MAX_RECORDS
 
-pub taken_over : (s : StepsRead) (input left mid : Option (List Row)) (n start at : ℕ) (row : Row) → IsTaken s input left n → n < MAX_RECORDS → TakesRecord left mid row false → at ≡ start + n + 1 → AreTaken s input mid start at true
-taken_over s input left mid n start at row g less taken e =
-    let c = g.count in
-    let few : length g.rows < MAX_RECORDS = omega (arith, c, less) in
-    (g.rows, g.has, (items_over record_after at_most MAX_RECORDS input left mid g.rows row refl g.made taken g.fit few, (g.fit, few_count at_most MAX_RECORDS (length g.rows) refl few), omega (arith, e, c, size_steps g.rows), tt))
-
-pub taken_full : (s : StepsRead) (input left : Option (List Row)) (n start at : ℕ) → IsTaken s input left n → n ≡ MAX_RECORDS → at ≡ start + n → AreTaken s input left start at false
-taken_full s input left n start at g full e =
-    let c = g.count in
-    let all : length g.rows ≡ MAX_RECORDS = c ∙ full in
-    (g.rows, g.has, (items_full record_after at_most input left g.rows g.made g.fit all, (g.fit, omega (arith, all)), all, omega (arith, e, c, size_steps g.rows)))
-
-hand_lacks : (failed : Bool) (before : List Row) (left : Option (List Row)) (row : Row) (start at : ℕ) (w : Why) → at ≡ start → (w ≡ why.Memory) ⊎ StepLacks (last_time before) row w → HandFails failed (record_after before) left row start at w
-hand_lacks failed before None row start at w e h = tt
-hand_lacks failed before (Some rows) row start at w e (inl m) = inl (inr m)
-hand_lacks failed before (Some rows) row start at w e (inr bad) = inr (1, omega (arith, e), (refl, bad))
-
-pub taken_wrong : (failed : Bool) (s : StepsRead) (input left mid : Option (List Row)) (n start at : ℕ) (row : Row) (w : Why) → IsTaken s input left n → n < MAX_RECORDS → TakesRecord left mid row true → at ≡ start + n + 1
-    → (w ≡ why.Memory) ⊎ StepLacks s.last row w → Fails failed (repeated (repeats.AtMost MAX_RECORDS) record_after) input start at w
-taken_wrong failed s input left mid n start at row w g less taken e bad =
-    let c = g.count in
-    let few : length g.rows < MAX_RECORDS = omega (arith, c, less) in
-    items_wrong failed record_after at_most input left mid g.rows row start at at w g.made taken g.fit few (omega (arith, e, c, size_steps g.rows))
-    (hand_lacks failed g.rows mid row at at w refl (rw g.has.1 at bad))
-
-pub taken_stopped : (s : StepsRead) (input left : Option (List Row)) (n start at last : ℕ) → IsTaken s input left n → n ≤ MAX_RECORDS → at ≡ start + n + 1 → last ≡ at → IsStopped (repeats.AtMost MAX_RECORDS) record_after input start 0 at last
-taken_stopped s input left n start at last g less e same =
-    let c = g.count in
-    stopped record_after at_most input left g.rows start 0 at last g.made g.fit (omega (arith, c, less)) (omega (arith, e, c, size_steps g.rows)) (omega (arith, same)) (omega (arith, e, c, same, size_steps g.rows))
-
--- records to the end of the text
+-- rows were read, and the records are theirs
+abbrev pub AreTaken : StepsRead → Option (List Row) → Option (List Row) → ℕ → ℕ → Bool → Type 0
+AreTaken s left new start at over = (known : HaveRows s) × AreGathered (repeats.AtMost MAX_RECORDS) record_after left new start at known.0 over
 
 halted : (failed : Bool) (left : Option (List Row)) (start at last : ℕ) (w : Why) → IsStopped (repeats.AtMost MAX_RECORDS) record_after left start 0 at last → Fails failed steps_body left start at w → Halts failed steps_body left start at w
 halted failed left start at last w = lines_halt failed record_after at_most left start at last w (λ s. (step_one s).tells) (λ s. (step_one s).plain) some_rows
@@ -218,33 +187,33 @@ pub taking_halts : (failed : Bool) (left : Option (List Row)) (start at last : �
 taking_halts failed left start at last w s f = halted failed left start at last w s (many_fails failed record_after record_after at_most left start at w f)
 
 full : (s : StepsRead) (left mid : Option (List Row)) (start now at : ℕ) → AreTaken s left mid start now false → at ≡ now + 1 → IsStopped (repeats.AtMost MAX_RECORDS) record_after left start 0 at at
-full s left mid start now at g e = let is = g.2.3 in full_stopped record_after at_most left mid g.0 start 0 at g.2.0 g.2.2 (omega (arith, is, e))
+full s left mid start now at g e = let is = g.1.3 in full_stopped record_after at_most left mid g.0.0 start 0 at g.1.0 g.1.2 (omega (arith, is, e))
 
 pub end_outside : (failed : Bool) (s : StepsRead) (left mid : Option (List Row)) (start now at : ℕ) (w : Why) → AreTaken s left mid start now false → at ≡ now + 1 → IsOutside failed w → Halts failed steps_body left start at w
 end_outside failed s left mid start now at w g e o = halted failed left start at at w (full s left mid start now at g e) (outside_fails failed steps_body left start at w o)
 
 past_halts : (failed : Bool) (s : StepsRead) (left mid new : Option (List Row)) (start now at : ℕ) (row : Row) (w : Why) (g : AreTaken s left mid start now false) → TakesRecord mid new row true → at ≡ now + 1
-    → ((rest : List Row) → (over why.TooLong (record_after g.0)).Wrong (row ∷ rest) 1 w) → Halts failed steps_body left start at w
+    → ((rest : List Row) → (over why.TooLong (record_after g.0.0)).Wrong (row ∷ rest) 1 w) → Halts failed steps_body left start at w
 past_halts failed s left mid new start now at row w g taken e bad =
-    let is = g.2.3 in
+    let is = g.1.3 in
     halted failed left start at at w (full s left mid start now at g e)
-    (past_wrong failed record_after record_after at_most left mid new g.0 row start at w g.2.0 taken (omega (arith, is, e)) bad)
+    (past_wrong failed record_after record_after at_most left mid new g.0.0 row start at w g.1.0 taken (omega (arith, is, e)) bad)
 
 -- one record too many, and one that is wrong by itself
 pub past_long : (failed : Bool) (s : StepsRead) (left mid new : Option (List Row)) (start now at : ℕ) (row : Row) → AreTaken s left mid start now false → TakesRecord mid new row true → at ≡ now + 1 → IsStep s.last row
     → Halts failed steps_body left start at why.TooLong
 past_long failed s left mid new start now at row g taken e step =
-    let fits : IsStep (last_time g.0) row = rw g.1.1 at step in
+    let fits : IsStep (last_time g.0.0) row = rw g.0.1.1 at step in
     past_halts failed s left mid new start now at row why.TooLong g taken e (λ rest. ((λ z. (cc z)), inr (refl, refl, (row, rest, record { fits = fits; made = refl; follows = tt }))))
 
 pub past_lacks : (failed : Bool) (s : StepsRead) (left mid new : Option (List Row)) (start now at : ℕ) (row : Row) (w : Why) → AreTaken s left mid start now false → TakesRecord mid new row true → at ≡ now + 1 → StepLacks s.last row w
     → Halts failed steps_body left start at w
 past_lacks failed s left mid new start now at row w g taken e bad =
-    let lacks : StepLacks (last_time g.0) row w = rw g.1.1 at bad in
+    let lacks : StepLacks (last_time g.0.0) row w = rw g.0.1.1 at bad in
     past_halts failed s left mid new start now at row w g taken e (λ rest. ((λ z. (cc z)), inl (refl, lacks)))
 
-pub taken_long : (s : StepsRead) (left mid : Option (List Row)) (start at : ℕ) (over : Bool) (g : AreTaken s left mid start at over) → length s.records.items ≡ length g.0
-taken_long s left mid start at over g = ap length g.1.0 ∙ length-map g.0 record_at
+pub taken_long : (s : StepsRead) (left mid : Option (List Row)) (start at : ℕ) (over : Bool) (g : AreTaken s left mid start at over) → length s.records.items ≡ length g.0.0
+taken_long s left mid start at over g = ap length g.0.1.0 ∙ length-map g.0.0 record_at
 
 -- where reading halts
 

@@ -1,11 +1,10 @@
 -- Requests as a schedule that may be written.
-use Rattle.std.proofs.Common.{◌≡◌, ◌≢◌, ◌+◌, ◌<◌, ◌≤◌, ◌^◌, ◌∙◌, ℕ, suc, cond, Bool, true, false, List, [], ◌∷◌, length, map, sym, ap, arith, get_or}
+use Rattle.std.proofs.Common.{◌≡◌, ◌+◌, ◌<◌, ◌≤◌, ◌∙◌, ℕ, suc, cond, Bool, true, false, List, [], ◌∷◌, length, map, sym, ap, arith, get_or}
 use Rattle.std.specs.Prelude.{All}
 use Rattle.std.proofs.lemmas.List.{length-map}
 use Rattle.edd_commands.specs.Schedule.{RoundsInRange}
 use Rattle.edd_commands.specs.Limits.{most_commands}
 use Rattle.edd_commands.specs.declared.Command.{Command}
-use Rattle.blk_bio.specs.declared.bio.Dir.TheVariants.{Read}
 use Rattle.blk_capture.specs.Counting.{AreSolvable, AreInRounds}
 use Rattle.blk_capture.specs.Fates.{told}
 use Rattle.blk_capture.specs.Parting.{gone_before, part, bio_in, fate_in}

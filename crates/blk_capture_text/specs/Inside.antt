@@ -1,3 +1,2 @@
 -- What private functions and proofs alone need.
-pub mod Captures
 pub mod Taking

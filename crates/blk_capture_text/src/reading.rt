@@ -2,20 +2,20 @@
 
 ghost use Rattle.std.specs.Prelude.{◌≡◌, ◌⊎◌, ◌+◌, ◌++◌, ◌∷◌, ◌≤◌, ◌<◌, ◌-◌, ◌^◌, [], IfOk, IfErr, IfSome, OnOk, OnErr, length};
 ghost use Rattle.csv.specs.Records.{fields_of};
-ghost use Rattle.blk_lists.specs.Reads.{FaultsBy, FailsBy, Halts, Reaches};
+ghost use Rattle.blk_lists.specs.Reads.{FaultsBy, Halts, Reaches};
 ghost use Rattle.blk_capture.specs.Requests.{AreInOrder};
 ghost use Rattle.blk_capture_text.specs.Steps.{IsStep, StepLacks, record_at, time_at};
 ghost use Rattle.blk_capture_text.specs.Captures.{capture_form, steps_body, SpellsCapture, CaptureTextFault};
-ghost use Rattle.blk_capture_text.specs.Inside.Captures.{some_steps};
-ghost use Rattle.blk_capture_text.specs.Inside.Taking.{HasSteps, AreTaken, AreStopped, TellAll};
+ghost use Rattle.blk_capture_text.specs.Inside.Taking.{TellAll};
 
 use crate::step::read_step;
 use blk_capture::Record;
 use blk_lists::fields::{Slot, read_fields, version_of};
-use blk_lists::items::{LineForm, read_line};
+use blk_lists::items::{ItemForm, LineForm, gather, read_line};
 use blk_lists::kinds::Kind;
 use blk_lists::{Records, TextFault, Why};
 use csv::ByteRecord;
+use parts::Repeats;
 use std::alloc::Global;
 use std::io::Read;
 
@@ -90,32 +90,44 @@ fn take_step(steps: &mut StepsRead, row: &ByteRecord) -> Result<(), Why>
     }
 }
 
-/// Reads records until there are as many as there may be, or until the text is over, and says whether it is over.
-fn take_steps<R: Read + Drop>(
-    records: &mut Records<R>,
-    steps: &mut StepsRead,
-) -> Result<bool, TextFault>
-    requires room { records.old.at + MAX_RECORDS + 1 < 2 ^ 64 - 1 }
-    requires none { HasSteps steps.old [] }
-    ensures ok { IfOk result (AreTaken steps.new records.old.left records.new.left records.old.at records.new.at) }
-    ensures err { IfErr result (FailsBy records.old records.new some_steps) }
-    ensures before { IfErr result (λ f. AreStopped records.old.left records.old.at f.at records.new.at) }
-    ensures last { IfErr result (λ f. f.at ≡ records.new.at) }
-    ensures asked { OnErr result (records.old.at < records.new.at) }
-    ensures reads { (records.old.at ≤ records.new.at) × (records.new.at ≤ records.old.at + MAX_RECORDS) }
-{
-    for _ in 0..MAX_RECORDS {
-        match records.advance() {
-            Ok(true) => {}
-            Ok(false) => return Ok(true),
-            Err(fault) => return Err(fault),
-        }
-        match take_step(steps, records.row()) {
-            Ok(()) => {}
-            Err(why) => return Err(records.fault(why)),
+/// The records of a capture, each after those before it. Of a row they keep seven numbers, and the form speaks of the whole row.
+#[derive(Clone, Copy, Drop)]
+struct StepForm;
+
+impl ItemForm for StepForm {
+    ghost use Rattle.blk_lists.specs.Sources.{Row};
+    ghost use Rattle.blk_capture_text.specs.Captures.{record_after};
+    ghost use Rattle.blk_capture_text.specs.Inside.Taking.{HaveRows};
+
+    type Items = StepsRead;
+
+    ghost View = { Row };
+
+    ghost known = { λ _ steps. HaveRows steps };
+
+    ghost seen = { λ _ _ known. known.0 };
+
+    ghost part = { λ _ before. record_after before };
+
+    ghost more = { 0 };
+
+    fn gone(&self, items: &StepsRead) -> Why {
+        let _ = items;
+        Why::Count
+    }
+
+    fn read<R: Read + Drop>(
+        &self,
+        alloc: Global,
+        records: &mut Records<R>,
+        items: &mut StepsRead,
+    ) -> Result<(), TextFault> {
+        let _ = alloc;
+        match take_step(items, records.row()) {
+            Ok(()) => Ok(()),
+            Err(why) => Err(records.fault(why)),
         }
     }
-    Ok(false)
 }
 
 /// The records after the title, to the end of the text.
@@ -135,7 +147,13 @@ fn read_steps<R: Read + Drop>(
         records: Vec::new(alloc),
         last: 0,
     };
-    match take_steps(records, &mut steps) {
+    match gather(
+        alloc,
+        records,
+        &StepForm,
+        Repeats::AtMost(MAX_RECORDS),
+        &mut steps,
+    ) {
         Ok(true) => return Ok(steps.records),
         Ok(false) => {}
         Err(fault) => return Err(fault),
