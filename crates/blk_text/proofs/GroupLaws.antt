@@ -18,10 +18,10 @@ use Rattle.blk_lists.specs.declared.fault.Why.TheVariants as why
 use Rattle.blk_text.specs.TraceForm.{Head}
 use Rattle.parts.specs.declared.Repeats.TheVariants as repeats
 use Rattle.parts.specs.Parts.{Part, by_word, all_rows}
-use Rattle.parts.specs.Laws.{Tells, IsPlain}
+use Rattle.parts.specs.Laws.{Tells}
 use Rattle.parts.specs.Inside.Laws.{Decides}
 use Rattle.parts.proofs.Then.{record_tells, record_decides, by_word_tells, by_word_decides, seen_tells, seen_decides, tested_tells, tested_decides, over_tells}
-use Rattle.parts.proofs.Many.{HasRows, many_tells, many_decides, many_plain}
+use Rattle.parts.proofs.Many.{HasRows, many_tells, many_decides}
 use Rattle.blk_lists.proofs.Lacking.{Dec, word_decided}
 use Rattle.blk_lists.proofs.TableLaws.{IsTable, next_starts, word_tells, word_decides}
 use Rattle.blk_text.proofs.ScriptLaws.{no_bio_is, one_bio_fault, bio_or_none}

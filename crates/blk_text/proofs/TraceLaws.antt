@@ -28,7 +28,7 @@ use Rattle.blk_lists.specs.Sources.{Row}
 use Rattle.blk_lists.specs.Texts.{rows_text}
 use Rattle.blk_text.specs.BioRecord.{bio_row}
 use Rattle.blk_text.specs.SetupRecord.{setup_row, setup, FitsSetup, IsWholeSetup}
-use Rattle.blk_lists.specs.Reads.{IsOutside, Reads, Fails, Halts, AreItems, IsStopped, IsHeldAt, with_next, size_of}
+use Rattle.blk_lists.specs.Reads.{IsOutside, Reads, Fails, AreItems, IsStopped, IsHeldAt, with_next, size_of}
 use Rattle.blk_text.specs.TraceRecords.{word_row, event_rows, title_row, trace_rows, BioFits, EventFits, IsTrace}
 use Rattle.blk_text.specs.TraceForm.{Tiles, group_bio, plain_event, event, one_more, events_of, IsTraceTitle, trace_title_part, trace_body, trace_form, trace_value, IsEventOf, IsTraceOf, SpellsTraceIn, SpellsTrace, TraceTextFault}
 use Rattle.blk_text.specs.BioTable.{bio_cells}
@@ -38,14 +38,14 @@ use Rattle.blk_lists.specs.declared.fault.Why.{Why}
 use Rattle.blk_lists.specs.declared.fault.Why.TheVariants as why
 use Rattle.blk_text.specs.declared.heads.TraceTitle.{TraceTitle}
 use Rattle.parts.specs.declared.Repeats.TheVariants as repeats
-use Rattle.parts.specs.Parts.{Begins, AllFit, Spells, all_rows}
+use Rattle.parts.specs.Parts.{AllFit, Spells, all_rows}
 use Rattle.parts.proofs.Many.{fit_more, ended_reached}
 use Rattle.parts.proofs.Then.{reached_second, at_first}
 use Rattle.blk_lists.proofs.Lists.{head_of, tail_of, all_cons}
-use Rattle.blk_lists.proofs.Reading.{after_all, then_reads, first_halts, second_halts, second_fails}
+use Rattle.blk_lists.proofs.Reading.{after_all, second_fails}
 use Rattle.blk_lists.proofs.Texts.{text_back, begins_itself}
 use Rattle.blk_text.proofs.ScriptLaws.{setup_one}
-use Rattle.blk_text.proofs.EventLaws.{event_tells, event_plain, event_rows as some_rows, more_tells, events_tell, title_one, setup_depth, body_tells, trace_tells, trace_decides}
+use Rattle.blk_text.proofs.EventLaws.{event_tells, event_plain, event_rows as some_rows, more_tells, title_one, setup_depth, body_tells, trace_tells, trace_decides}
 use Rattle.blk_bio.specs.declared.limits.TheConstants.{MAX_SEGMENTS}
 
 -- the records of a trace's events, one after the other

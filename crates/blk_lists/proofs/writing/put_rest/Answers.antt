@@ -1,4 +1,4 @@
-use Rattle.std.proofs.Common.{◌+◌, ◌++◌, ◌∷◌, ◌∙◌, [], take, ap, sym, append_assoc, append-nil, arith, decimal, get_or}
+use Rattle.std.proofs.Common.{◌++◌, ◌∷◌, ◌∙◌, [], take, ap, sym, append_assoc, append-nil, arith, decimal, get_or}
 use Rattle.std.proofs.Math.ListN.{replicate}
 use Rattle.std.proofs.lemmas.Grind.{replicate_next}
 use Rattle.std.proofs.lemmas.List.{take_all}

@@ -1,5 +1,5 @@
 use Rattle.csv.specs.Records.{fields_of}
-use Rattle.blk_text.proofs.BioLaws.{bio_of_numbers, letter_of, no_bio_of_numbers, bio_lacks}
+use Rattle.blk_text.proofs.BioLaws.{bio_of_numbers, no_bio_of_numbers, bio_lacks}
 use Rattle.blk_text.proofs.bios.read_bio.Goals as goal
 
 pub returns-in-Err-clause-err : goal.returns-in-Err-clause-err

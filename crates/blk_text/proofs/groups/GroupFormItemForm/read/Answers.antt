@@ -19,11 +19,17 @@ returns-then-not-tiles-clause-err g c =
 
 pub returns-in-Ok-of-clause-ok : goal.returns-in-Ok-of-clause-ok
 returns-in-Ok-of-clause-ok g c =
-    λ k. (k, first_gathers c.args.self.now.head.version c.args.self.now.limits c.args.items.now c.in-Ok-of.request c.in-Ok.bio c.args.records.now.left c.args.records.now.fields c.args.records.now.at
-    c.in-None.is c.in-Ok-of.ensures.ok (rw c.row.ensures at c.in-Ok.ensures.ok))
+    λ k. (
+      k,
+      first_gathers c.args.self.now.head.version c.args.self.now.limits c.args.items.now c.in-Ok-of.request c.in-Ok.bio c.args.records.now.left c.args.records.now.fields c.args.records.now.at
+          c.in-None.is c.in-Ok-of.ensures.ok (rw c.row.ensures at c.in-Ok.ensures.ok),
+    )
 
 pub returns-in-Ok-append-clause-ok : goal.returns-in-Ok-append-clause-ok
 returns-in-Ok-append-clause-ok g c =
     let tiles : IsTrue c.tiles.result = search rules in
-    λ k. (k, next_gathers c.args.self.now.head.version c.args.self.now.limits c.args.items.now _ c.append.new.request c.in-Ok.bio c.args.records.now.left c.args.records.now.fields c.args.records.now.at
-    c.in-Some.is c.in-Ok-append.ensures (c.tiles.ensures.fits tiles) (rw c.row.ensures at c.in-Ok.ensures.ok))
+    λ k. (
+      k,
+      next_gathers c.args.self.now.head.version c.args.self.now.limits c.args.items.now _ c.append.new.request c.in-Ok.bio c.args.records.now.left c.args.records.now.fields c.args.records.now.at
+          c.in-Some.is c.in-Ok-append.ensures (c.tiles.ensures.fits tiles) (rw c.row.ensures at c.in-Ok.ensures.ok),
+    )
