@@ -1,5 +1,5 @@
 -- What is written of a capture, what is said of what that leaves out, its arrivals as a script, and why there is nothing.
-use Rattle.std.specs.Prelude.{◌≡◌, ◌⊎◌, ◌==◌, ◌&&◌, ◌-◌, ◌^◌, ⊤, ℕ, Bool, true, false, if◌then◌else◌, List, Option, None, Some}
+use Rattle.std.specs.Prelude.{◌≡◌, ◌⊎◌, ◌==◌, ◌&&◌, ⊤, ℕ, Bool, true, false, if◌then◌else◌, List, Option, None, Some}
 use Rattle.std.specs.Option.{option_map_or}
 use Rattle.faults.specs.Order.{IsFirstFault}
 use Rattle.blk_arrivals.specs.Scripts.{script_of, script_rules}
@@ -22,6 +22,7 @@ use Rattle.blk_capture_text.specs.declared.shown.ShownImport.TheVariants as show
 use Rattle.blk_lists.specs.Texts.{rows_text}
 use Rattle.blk_text.specs.Script.{IsScript, script_rows}
 use Rattle.blk_text.specs.declared.setup.TheConstants.{LATEST}
+use Rattle.blk_words.specs.Times.{MAX_NUMBER}
 use Rattle.blk_words.specs.declared.words.Import.{Import}
 use Rattle.blk_words.specs.declared.words.Written.{Written}
 use Rattle.blk_words.specs.declared.words.Written.TheVariants as written
@@ -35,7 +36,7 @@ entry_asked true = entry.Queue
 entry_asked false = entry.Insert
 
 abbrev pub most_asked : Option ℕ → ℕ
-most_asked None = 2 ^ 64 - 1
+most_asked None = MAX_NUMBER
 most_asked (Some n) = n
 
 abbrev pub asked_of : Import → ImportAsked

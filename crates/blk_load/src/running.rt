@@ -32,8 +32,8 @@ use std::sync::Wait;
 use std::sync::ledger::Blank;
 use std::thread::{Threads, join};
 
-/// How many requests a software queue has room for.
-const SOFT_DEPTH: u64 = 64;
+/// How many requests a software queue of a load has room for.
+const LOAD_SOFT_DEPTH: u64 = 64;
 
 /// Runs a load over a layer of a scheduler in which nothing waits, whose devices sleep by the clock. There is a hardware queue for each
 /// submitter or each worker, whichever are fewer; software queue s and worker w are mapped to the hardware queues of numbers s and w modulo
@@ -126,14 +126,14 @@ fn on_layer<R: Threads + Wait + Sync, S: Scheduler<A = Global> + Send, L: Named 
     requires empty { core.events ≡ [] }
     requires range { IsLoad load }
     requires setup_is { L.setup ≡ load_setup load }
-    requires can { CanMake core.setup.hw map SOFT_DEPTH queues.items }
+    requires can { CanMake core.setup.hw map LOAD_SOFT_DEPTH queues.items }
     ensures settled { IfOk result (λ l. IsSettled load l.trace l.settled) }
     ensures ran { IfOk result (λ l. IsRunFrom S.policy L.start l.trace.events) }
     ensures once { IfOk result (λ l. AreOnce (served_bios l.trace.events)) }
     ensures fault { IfErr result (λ f. f ≢ LoadFault.Range) }
 {
     let limits = core.trace().setup().limits();
-    let made = Layer::<S, L>::new(alloc, blank, core, map, SOFT_DEPTH, queues);
+    let made = Layer::<S, L>::new(alloc, blank, core, map, LOAD_SOFT_DEPTH, queues);
     let (layer, mut submitters, mut workers) = match made {
         Ok(made) => made,
         Err((LayerFault::Memory, _)) => return Err(LoadFault::Memory),

@@ -28,19 +28,6 @@ gridded g = record {
   writes = g.write_target.items;
 }
 
--- the whole grid
-abbrev pub whole : Gridded
-whole = record {
-  has_none = true;
-  has_earliest = true;
-  has_deadline = true;
-  has_kyber = true;
-  batches = 1 ∷ 2 ∷ 4 ∷ 8 ∷ 16 ∷ 32 ∷ 64 ∷ [];
-  starved = 0 ∷ 1 ∷ 2 ∷ 4 ∷ 8 ∷ [];
-  reads = 1 ∷ 2 ∷ 5 ∷ 10 ∷ 20 ∷ 50 ∷ 100 ∷ [];
-  writes = 1 ∷ 2 ∷ 5 ∷ 10 ∷ 20 ∷ 50 ∷ 100 ∷ [];
-}
-
 -- deadline with a batch and a number of batches of reads, with front merges and without
 abbrev pub both_ways : ℕ → ℕ → List Sched
 both_ways batch starved =

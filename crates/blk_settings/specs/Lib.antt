@@ -11,3 +11,4 @@ pub mod Given
 pub mod Grids
 pub mod Wanted
 pub mod Lists
+pub mod Defaults

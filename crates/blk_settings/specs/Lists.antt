@@ -4,6 +4,7 @@ use Rattle.std.specs.List.{slice_split}
 use Rattle.std.specs.Str.{bytes_eq}
 use Rattle.blk_settings.specs.Given.{GivenOptions}
 use Rattle.blk_settings.specs.Grids.{Gridded}
+use Rattle.blk_settings.specs.Options.{scheds_list, fifo_batch_list, writes_starved_list, read_target_list, write_target_list}
 use Rattle.blk_settings.specs.declared.given.TheConstants.{MAX_SHORT}
 use Rattle.blk_settings.specs.declared.lists.ListFault.{ListFault}
 use Rattle.blk_settings.specs.declared.lists.ListFault.TheVariants as list
@@ -37,7 +38,7 @@ abbrev pub tried_of : List ℕ → Option Tried
 tried_of text = with_names no_schedulers (parts text)
 
 abbrev pub tried_given : GivenOptions → Option Tried
-tried_given o = option_and_then tried_of (o.text (codes "sched"))
+tried_given o = option_and_then tried_of (o.text scheds_list.name)
 
 -- the grid of some schedulers and lists
 abbrev pub grid_of : Tried → List ℕ → List ℕ → List ℕ → List ℕ → Gridded
@@ -54,8 +55,8 @@ grid_by (Some t) (Some b) (Some s) (Some r) (Some w) = Ok (grid_of t b s r w)
 
 abbrev pub grid_given : GivenOptions → Result Gridded ListFault
 grid_given o =
-    grid_by (tried_given o) (o.list MAX_SHORT (codes "fifo-batch")) (o.list MAX_SHORT (codes "writes-starved")) (o.list MAX_TARGET (codes "read-target"))
-    (o.list MAX_TARGET (codes "write-target"))
+    grid_by (tried_given o) (o.list MAX_SHORT fifo_batch_list.name) (o.list MAX_SHORT writes_starved_list.name) (o.list MAX_TARGET read_target_list.name)
+    (o.list MAX_TARGET write_target_list.name)
 
 -- lists whose numbers of 16 bits are such, and the grid of lists
 abbrev pub AreShort : Lists → Type 0

@@ -2,6 +2,7 @@
 use Rattle.std.specs.Prelude.{ℕ, ◌≡◌, ◌*◌, ◌⊎◌, List, length, min}
 use Rattle.std.specs.List.{flat_map}
 use Rattle.blk_bio.specs.Bios.{Bio}
+use Rattle.blk_bio.specs.declared.limits.TheConstants.{MAX_SEGMENTS}
 use Rattle.blk_trace.specs.Happened.{Happened}
 use Rattle.blk_trace.specs.Setups.{Setup}
 use Rattle.blk_trace.specs.Events.{request_of, open_count}
@@ -11,7 +12,7 @@ use Rattle.blk_settings.specs.declared.Settled.{Settled}
 use Rattle.blk_settings.specs.declared.fault.LoadFault.{LoadFault}
 use Rattle.blk_settings.specs.declared.fault.LoadFault.TheVariants as fault
 use Rattle.blk_settings.specs.declared.numbers.Load.{Load}
-use Rattle.blk_settings.specs.declared.settling.TheConstants.{READ_EXPIRE, WRITE_EXPIRE, MAX_REQUEST_SECTORS, MAX_REQUEST_BIOS}
+use Rattle.blk_settings.specs.declared.settling.TheConstants.{READ_EXPIRE, WRITE_EXPIRE, MAX_REQUEST_SECTORS}
 
 -- what the layer of a load is set up for: the tags of the load, and a hardware queue for each submitter or each worker, whichever are
 -- fewer
@@ -21,7 +22,7 @@ load_setup l = record {
   hw = min l.submitters l.workers;
   read_expire = READ_EXPIRE;
   write_expire = WRITE_EXPIRE;
-  limits = record { max_sectors = MAX_REQUEST_SECTORS; max_segments = MAX_REQUEST_BIOS };
+  limits = record { max_sectors = MAX_REQUEST_SECTORS; max_segments = MAX_SEGMENTS };
 }
 
 -- the bios in the commands of a trace

@@ -5,6 +5,7 @@ ghost use Rattle.std.specs.Str.{bytes_eq};
 ghost use Rattle.blk_settings.specs.Rows.{name_of};
 ghost use Rattle.blk_settings.specs.Given.{GivenOptions, tunables_given, targets_given, sched_given, earliest_given, lineup_given};
 
+use crate::option_names;
 use crate::sched::{Lineup, Sched};
 use arrayvec::ArrayVec;
 use blk_deadline::Tunables;
@@ -50,9 +51,9 @@ pub trait Given {
 fn tunables_given<G: Given>(options: &G) -> Option<Tunables>
     ensures { result ≡ tunables_given (G.given options.now) }
 {
-    let fifo_batch = options.short("fifo-batch")?;
-    let writes_starved = options.short("writes-starved")?;
-    let front_merges = !options.is_set("no-front-merges");
+    let fifo_batch = options.short(option_names::FIFO_BATCH)?;
+    let writes_starved = options.short(option_names::WRITES_STARVED)?;
+    let front_merges = !options.is_set(option_names::NO_FRONT_MERGES);
     Some(Tunables {
         fifo_batch,
         writes_starved,
@@ -64,8 +65,8 @@ fn tunables_given<G: Given>(options: &G) -> Option<Tunables>
 fn targets_given<G: Given>(options: &G) -> Option<Targets>
     ensures { result ≡ targets_given (G.given options.now) }
 {
-    let read = options.number("read-target")?;
-    let write = options.number("write-target")?;
+    let read = options.number(option_names::READ_TARGET)?;
+    let write = options.number(option_names::WRITE_TARGET)?;
     Some(Targets { read, write })
 }
 
@@ -73,8 +74,8 @@ fn targets_given<G: Given>(options: &G) -> Option<Targets>
 fn earliest_given<G: Given>(options: &G) -> Option<bool>
     ensures { result ≡ earliest_given (G.given options.now) }
 {
-    let runs = options.is_set("earliest");
-    let late_last = options.is_set("late-last");
+    let runs = options.is_set(option_names::EARLIEST);
+    let late_last = options.is_set(option_names::LATE_LAST);
     if runs { Some(late_last) } else { None }
 }
 
@@ -96,10 +97,10 @@ impl Sched {
     pub fn given<G: Given>(options: &G) -> Option<Sched>
         ensures { result ≡ sched_given (G.given options.now) }
     {
-        let name = options.text("sched")?;
+        let name = options.text(option_names::SCHED)?;
         let tunables = tunables_given(options)?;
         let targets = targets_given(options)?;
-        let late_last = options.is_set("late-last");
+        let late_last = options.is_set(option_names::LATE_LAST);
         let scheds = [
             Sched::None,
             Sched::Deadline(tunables),

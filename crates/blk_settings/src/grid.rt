@@ -2,7 +2,8 @@
 
 ghost use Rattle.std.specs.Prelude.{◌≡◌, ◌++◌, IfOk, OnOk};
 ghost use Rattle.std.specs.List.{flat_map};
-ghost use Rattle.blk_settings.specs.Grids.{gridded, whole, both_ways, batch_rows, target_row, read_rows, grid_rows};
+ghost use Rattle.blk_settings.specs.Grids.{gridded, both_ways, batch_rows, target_row, read_rows, grid_rows};
+ghost use Rattle.blk_settings.specs.Defaults.{whole};
 
 use crate::sched::Sched;
 use blk_deadline::Tunables;
@@ -106,9 +107,9 @@ fn push_kyber(all: &mut Vec<Sched>, reads: &[u64], writes: &[u64]) -> Result<(),
 }
 
 impl Grid {
-    /// The whole grid: `none`; `earliest`, late last and not; `deadline` with batches of 1, 2, 4, 8, 16, 32 and 64 requests, with 0, 1, 2,
-    /// 4 and 8 batches of reads before the writes' turn, with front merges and without; `kyber` with targets of 1, 2, 5, 10, 20, 50 and
-    /// 100 rounds for reads and for writes.
+    /// The whole grid, which the defaults of [`crate::options::list_options`] spell: `none`; `earliest`, late last and not; `deadline` with
+    /// batches of 1, 2, 4, 8, 16, 32 and 64 requests, with 0, 1, 2, 4 and 8 batches of reads before the writes' turn, with front merges
+    /// and without; `kyber` with targets of 1, 2, 5, 10, 20, 50 and 100 rounds for reads and for writes.
     pub fn all(alloc: Global) -> Result<Grid, AllocError>
         ensures { IfOk result (λ g. gridded g ≡ whole) }
     {

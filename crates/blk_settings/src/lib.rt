@@ -1,5 +1,6 @@
 //! What a person sets: a scheduler, a row of the table of schedulers, with its settings and the options that give them, grids of
-//! these, and how much load there is on a running layer; beside it what came of a load, why it fails, and the trait of whoever runs one. Who asks for a load so stands on no layer and no threads.
+//! these, and how much load there is on a running layer. It also has a load's result and faults, and the trait [`Loads`], so that the
+//! command line needs no layer and no threads.
 #![tactic(auto)]
 
 ghost use Rattle.std.specs.Prelude.{OnOk, IfOk, IfErr};
@@ -15,6 +16,7 @@ pub mod given;
 pub mod grid;
 pub mod lists;
 pub mod numbers;
+mod option_names;
 pub mod options;
 pub mod sched;
 pub mod setting;

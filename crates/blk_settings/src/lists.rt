@@ -6,6 +6,7 @@ ghost use Rattle.blk_settings.specs.Lists.{AreShort, with_name, tried_of, tried_
 
 use crate::given::{Given, MAX_SHORT, Numbers};
 use crate::grid::Grid;
+use crate::option_names;
 use crate::options::MAX_TARGET;
 use std::alloc::{AllocError, Global};
 
@@ -123,7 +124,7 @@ fn tried_of(text: &str) -> Option<Tried>
 fn tried_given<G: Given>(options: &G) -> Option<Tried>
     ensures { result ≡ tried_given (G.given options.now) }
 {
-    match options.text("sched") {
+    match options.text(option_names::SCHED) {
         Some(text) => tried_of(text),
         None => None,
     }
@@ -160,16 +161,16 @@ impl Lists {
         let Some(tried) = tried_given(options) else {
             return Err(ListFault::Scheds);
         };
-        let Some(fifo_batch) = options.list("fifo-batch", MAX_SHORT) else {
+        let Some(fifo_batch) = options.list(option_names::FIFO_BATCH, MAX_SHORT) else {
             return Err(ListFault::FifoBatch);
         };
-        let Some(writes_starved) = options.list("writes-starved", MAX_SHORT) else {
+        let Some(writes_starved) = options.list(option_names::WRITES_STARVED, MAX_SHORT) else {
             return Err(ListFault::WritesStarved);
         };
-        let Some(read_target) = options.list("read-target", MAX_TARGET) else {
+        let Some(read_target) = options.list(option_names::READ_TARGET, MAX_TARGET) else {
             return Err(ListFault::ReadTarget);
         };
-        let Some(write_target) = options.list("write-target", MAX_TARGET) else {
+        let Some(write_target) = options.list(option_names::WRITE_TARGET, MAX_TARGET) else {
             return Err(ListFault::WriteTarget);
         };
         Ok(Lists {

@@ -3,6 +3,8 @@
 ghost use Rattle.std.specs.Prelude.{◌≡◌, map};
 ghost use Rattle.blk_settings.specs.Options.{option_of, sched_names, tuning, listing};
 
+use crate::option_names;
+
 /// The greatest target of `kyber`, in rounds.
 pub const MAX_TARGET: u64 = 1_000_000;
 
@@ -38,14 +40,14 @@ pub struct OptionRow {
 
 /// The option that names the scheduler.
 pub const SCHED: OptionRow = OptionRow {
-    name: "sched",
+    name: option_names::SCHED,
     takes: Takes::Sched("none"),
     help: "The scheduler",
 };
 
 /// The option that adds a scheduler to those of a [`crate::Lineup`].
 pub const ADDED: OptionRow = OptionRow {
-    name: "earliest",
+    name: option_names::EARLIEST,
     takes: Takes::Nothing,
     help: "Runs it under earliest as well",
 };
@@ -56,32 +58,32 @@ static SCHEDULERS: [&str; 4] = ["none", "deadline", "kyber", "earliest"];
 /// The options that set the schedulers.
 static TUNING: [OptionRow; 6] = [
     OptionRow {
-        name: "fifo-batch",
+        name: option_names::FIFO_BATCH,
         takes: Takes::Short("16"),
         help: "Under deadline, how many requests go in one batch",
     },
     OptionRow {
-        name: "writes-starved",
+        name: option_names::WRITES_STARVED,
         takes: Takes::Short("2"),
         help: "Under deadline, how often reads go first while writes wait",
     },
     OptionRow {
-        name: "no-front-merges",
+        name: option_names::NO_FRONT_MERGES,
         takes: Takes::Nothing,
         help: "Under deadline, lets no newcomer join at the front",
     },
     OptionRow {
-        name: "read-target",
+        name: option_names::READ_TARGET,
         takes: Takes::Number(0, MAX_TARGET, "2"),
         help: "Under kyber, how many rounds a read may wait",
     },
     OptionRow {
-        name: "write-target",
+        name: option_names::WRITE_TARGET,
         takes: Takes::Number(0, MAX_TARGET, "10"),
         help: "Under kyber, how many rounds a write may wait",
     },
     OptionRow {
-        name: "late-last",
+        name: option_names::LATE_LAST,
         takes: Takes::Nothing,
         help: "Under earliest, lets what is late already wait for what can be on time",
     },
@@ -90,27 +92,27 @@ static TUNING: [OptionRow; 6] = [
 /// The options that list schedulers and their settings.
 static LISTS: [OptionRow; 5] = [
     OptionRow {
-        name: "sched",
+        name: option_names::SCHED,
         takes: Takes::Text("none,earliest,deadline,kyber"),
         help: "The schedulers to try: names with commas between",
     },
     OptionRow {
-        name: "fifo-batch",
+        name: option_names::FIFO_BATCH,
         takes: Takes::Text("1,2,4,8,16,32,64"),
         help: "Under deadline, how many requests go in one batch: numbers with commas between",
     },
     OptionRow {
-        name: "writes-starved",
+        name: option_names::WRITES_STARVED,
         takes: Takes::Text("0,1,2,4,8"),
         help: "Under deadline, how often reads go first while writes wait: numbers with commas between",
     },
     OptionRow {
-        name: "read-target",
+        name: option_names::READ_TARGET,
         takes: Takes::Text("1,2,5,10,20,50,100"),
         help: "Under kyber, how many rounds a read may wait: numbers with commas between",
     },
     OptionRow {
-        name: "write-target",
+        name: option_names::WRITE_TARGET,
         takes: Takes::Text("1,2,5,10,20,50,100"),
         help: "Under kyber, how many rounds a write may wait: numbers with commas between",
     },

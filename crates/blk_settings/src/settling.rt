@@ -6,7 +6,7 @@ ghost use Rattle.blk_settings.specs.Settles.{AreEven, IsSettled, IsSettleFault, 
 
 use crate::numbers::MAX_LOAD_WORKERS;
 use crate::{Load, LoadFault, Settled};
-use blk_bio::Limits;
+use blk_bio::{Limits, MAX_SEGMENTS};
 use blk_trace::{Setup, Trace};
 
 /// After how many rounds a read is due.
@@ -15,11 +15,8 @@ pub const READ_EXPIRE: u64 = 5;
 /// After how many rounds a write is due.
 pub const WRITE_EXPIRE: u64 = 50;
 
-/// How many sectors a request of several bios may have.
+/// How many sectors a request of several bios may have. It may have as many bios as any, [`MAX_SEGMENTS`].
 pub const MAX_REQUEST_SECTORS: u64 = 256;
-
-/// How many bios a request may have.
-pub const MAX_REQUEST_BIOS: u64 = 128;
 
 impl Load {
     /// How many hardware queues its layer has: one for each submitter or each worker, whichever are fewer, so 1 to 16.
@@ -37,7 +34,7 @@ impl Load {
         requires { IsLoad self.now }
         ensures { result ≡ load_setup self.now }
     {
-        let Ok(limits) = Limits::new(MAX_REQUEST_SECTORS, MAX_REQUEST_BIOS) else {
+        let Ok(limits) = Limits::new(MAX_REQUEST_SECTORS, MAX_SEGMENTS) else {
             unreachable!()
         };
         let hw = self.hw_queues() as u8;

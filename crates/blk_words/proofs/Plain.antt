@@ -6,7 +6,6 @@ use Prim.Native.String.{String}
 use Rattle.clap.specs.Words.{Text, fault_of}
 use Rattle.clap.proofs.OnLiterals.{clap_on_literals}
 use Rattle.blk_settings.specs.declared.lists.ListFault.TheVariants as list
-use Rattle.blk_settings.specs.declared.sched.Sched.TheVariants as sched
 use Rattle.blk_words.specs.declared.words.Job.{Job}
 use Rattle.blk_words.specs.declared.inputs.FiguresAsked.TheVariants as figures
 use Rattle.blk_words.specs.declared.inputs.Running.TheVariants as running
@@ -19,9 +18,10 @@ use Rattle.blk_words.specs.declared.words.Refusal.TheVariants as refusal
 use Rattle.blk_words.specs.declared.words.Written.TheVariants as written
 use Rattle.blk_words.specs.CommandLine.{Names, AreSchedulers, blk_app}
 use Rattle.blk_settings.specs.Options.{sched_names}
-use Rattle.blk_settings.specs.Grids.{Gridded, whole}
+use Rattle.blk_settings.specs.Grids.{Gridded}
+use Rattle.blk_settings.specs.Defaults.{default_sched, default_deadline, default_kyber, default_earliest, deadline_in, kyber_within, earliest_late_last, default_lineup, with_earliest, in_batches, whole, none_and_deadline}
 use Rattle.blk_words.specs.Asked.{Asks, AsksGrid, grid_read, job_read}
-use Rattle.blk_words.specs.Plain.{words_in, AsksFor, AsksForGrid, AsksForNothing, default_tunables, default_targets, deadline_in, kyber_within, default_lineup, with_earliest, in_batches, default_trial, five_by_lateness, own_grid, whole_import, hundred_queued, default_load}
+use Rattle.blk_words.specs.Plain.{words_in, AsksFor, AsksForGrid, AsksForNothing, default_trial, five_by_lateness, whole_import, hundred_queued, default_load}
 
 -- texts at some places
 abbrev placed : (ℕ → ℕ × ℕ) → List Text → List (Bor Text)
@@ -98,27 +98,27 @@ asks_for_grid line k h name = asks_grid_alone (name ∷ words_in line) k (h name
 pub asks_for_nothing : (line : String) → IsReadAsNothingSo line → AsksForNothing line
 asks_for_nothing line h name = asks_nothing (name ∷ words_in line) (h name)
 
-pub sim_line : IsReadSo "sim" (job.OfScript (running.One sched.None))
+pub sim_line : IsReadSo "sim" (job.OfScript (running.One default_sched))
 unfolding clap_on_literals
 sim_line name p f = (refl, refl)
 
-pub none_line : IsReadSo "sim --sched none" (job.OfScript (running.One sched.None))
+pub none_line : IsReadSo "sim --sched none" (job.OfScript (running.One default_sched))
 unfolding clap_on_literals
 none_line name p f = (refl, refl)
 
-pub deadline_line : IsReadSo "sim --sched deadline" (job.OfScript (running.One (sched.Deadline default_tunables)))
+pub deadline_line : IsReadSo "sim --sched deadline" (job.OfScript (running.One default_deadline))
 unfolding clap_on_literals
 deadline_line name p f = (refl, refl)
 
-pub kyber_line : IsReadSo "sim --sched kyber" (job.OfScript (running.One (sched.Kyber default_targets)))
+pub kyber_line : IsReadSo "sim --sched kyber" (job.OfScript (running.One default_kyber))
 unfolding clap_on_literals
 kyber_line name p f = (refl, refl)
 
-pub earliest_line : IsReadSo "sim --sched earliest" (job.OfScript (running.One (sched.Earliest false)))
+pub earliest_line : IsReadSo "sim --sched earliest" (job.OfScript (running.One default_earliest))
 unfolding clap_on_literals
 earliest_line name p f = (refl, refl)
 
-pub late_last_line : IsReadSo "sim --sched earliest --late-last" (job.OfScript (running.One (sched.Earliest true)))
+pub late_last_line : IsReadSo "sim --sched earliest --late-last" (job.OfScript (running.One earliest_late_last))
 unfolding clap_on_literals
 late_last_line name p f = (refl, refl)
 
@@ -178,7 +178,7 @@ pub whole_grid_line : IsReadAsGridSo "tune" whole
 unfolding clap_on_literals
 whole_grid_line name p f = (refl, refl)
 
-pub own_grid_line : IsReadAsGridSo "tune --sched deadline,none --fifo-batch 16,1 --writes-starved 3 --write-target 7,0" own_grid
+pub own_grid_line : IsReadAsGridSo "tune --sched deadline,none --fifo-batch 16,1 --writes-starved 3 --write-target 7,0" (none_and_deadline (16 ∷ 1 ∷ []) (3 ∷ []) (7 ∷ 0 ∷ []))
 unfolding clap_on_literals
 own_grid_line name p f = (refl, refl)
 
@@ -302,19 +302,19 @@ pub explain_line : IsReadSo "explain" job.Explain
 unfolding clap_on_literals
 explain_line name p f = (refl, refl)
 
-pub load_line : IsReadSo "load" (job.Load sched.None default_load (shown.Account form.Lines))
+pub load_line : IsReadSo "load" (job.Load default_sched default_load (shown.Account form.Lines))
 unfolding clap_on_literals
 load_line name p f = (refl, refl)
 
-pub load_json_line : IsReadSo "load --json" (job.Load sched.None default_load (shown.Account form.Json))
+pub load_json_line : IsReadSo "load --json" (job.Load default_sched default_load (shown.Account form.Json))
 unfolding clap_on_literals
 load_json_line name p f = (refl, refl)
 
-pub busy_line : IsReadSo "load --busy 3" (job.Load sched.None (record default_load { busy = Some 3 }) (shown.Account form.Lines))
+pub busy_line : IsReadSo "load --busy 3" (job.Load default_sched (record default_load { busy = Some 3 }) (shown.Account form.Lines))
 unfolding clap_on_literals
 busy_line name p f = (refl, refl)
 
-pub traced_line : IsReadSo "load --trace --service 100" (job.Load sched.None (record default_load { service = 100 }) shown.Trace)
+pub traced_line : IsReadSo "load --trace --service 100" (job.Load default_sched (record default_load { service = 100 }) shown.Trace)
 unfolding clap_on_literals
 traced_line name p f = (refl, refl)
 

@@ -36,15 +36,16 @@ use Rattle.blk_words.specs.declared.words.Written.TheVariants as written
 use Rattle.blk_words.specs.declared.table.Makes.{Makes}
 use Rattle.blk_words.specs.declared.table.Makes.TheVariants as makes
 use Rattle.blk_words.specs.CommandLine.{Names, AreSchedulers, table, blk_app}
+use Rattle.blk_words.specs.Options.{json_option, script_option, trace_option, by_option, top_option, threads_option, met_option, each_option, read_expire_option, write_expire_option, from_option, skip_option, first_option, table_option, summary_option, round_option, depth_option, submitters_option, workers_option, bios_option, load_depth_option, busy_option, service_option}
 use Rattle.blk_words.specs.Lists.{list_of}
-use Rattle.blk_words.specs.Times.{number_in, time_of}
+use Rattle.blk_words.specs.Times.{MAX_NUMBER, number_in, time_of}
 
 -- the number of 16 bits that an option is given, the one of 64 bits, and whether a flag is
 abbrev pub short_given : Text → List Row → Option ℕ
 short_given id rows = option_and_then (number_in MAX_SHORT) (one_of id rows)
 
 abbrev pub number_given : Text → List Row → Option ℕ
-number_given id rows = option_and_then (number_in 18_446_744_073_709_551_615) (one_of id rows)
+number_given id rows = option_and_then (number_in MAX_NUMBER) (one_of id rows)
 
 abbrev pub is_flagged : Text → List Row → Bool
 is_flagged id rows = option_map_or (λ text. bytes_eq text (codes "true")) (first_of id rows) false
@@ -79,7 +80,7 @@ abbrev pub form_by : Bool → Form
 form_by json = if json then form.Json else form.Lines
 
 abbrev pub form_asked : List Row → Form
-form_asked rows = form_by (is_flagged (codes "json") rows)
+form_asked rows = form_by (is_flagged json_option.name rows)
 
 -- their comparison in a form, and the picture of a trace, or of a script under them
 abbrev pub compared : Form → Option Lineup → Option Job
@@ -94,8 +95,8 @@ amounts submitters workers bios depth service busy = option_and_then (λ s. opti
     record { submitters = s; workers = w; bios = b; depth = d; busy = busy; service = t }) service) depth) bios) workers) submitters
 
 abbrev pub amounts_of : List Row → Option Load
-amounts_of rows = amounts (number_given (codes "submitters") rows) (number_given (codes "workers") rows) (number_given (codes "bios") rows) (number_given (codes "depth") rows)
-    (number_given (codes "service") rows) (number_given (codes "busy") rows)
+amounts_of rows = amounts (number_given submitters_option.name rows) (number_given workers_option.name rows) (number_given bios_option.name rows) (number_given load_depth_option.name rows)
+    (number_given service_option.name rows) (number_given busy_option.name rows)
 
 abbrev pub shown_of : Bool → Bool → ShownLoad
 shown_of trace json = if trace then shown.Trace else shown.Account (form_by json)
@@ -108,7 +109,7 @@ abbrev pub load_job : Bool → Bool → Option Sched → Option Load → Option 
 load_job trace json s l = if trace && json then Some (job.Refuse refusal.TraceAndJson) else loaded (shown_of trace json) s l
 
 abbrev pub load_given : List Row → Option Job
-load_given rows = load_job (is_flagged (codes "trace") rows) (is_flagged (codes "json") rows) (sched_asked rows) (amounts_of rows)
+load_given rows = load_job (is_flagged trace_option.name rows) (is_flagged json_option.name rows) (sched_asked rows) (amounts_of rows)
 
 -- whether a request came in when its first bio was queued, by the text of `--from`
 abbrev pub entry_named : Text → Option Bool
@@ -117,14 +118,14 @@ entry_named text =
     else (if bytes_eq text (codes "queue") then Some true else None)
 
 abbrev pub from_given : List Row → Option Bool
-from_given rows = option_and_then entry_named (first_of (codes "from") rows)
+from_given rows = option_and_then entry_named (first_of from_option.name rows)
 
 -- the length of a round by the text of `--round`, and where it is given
 abbrev pub round_by : Text → Result (Option ℕ) Refusal
 round_by text = option_map_or (λ n. Ok (Some n)) (time_of text) (Err refusal.Round)
 
 abbrev pub round_given : List Row → Result (Option ℕ) Refusal
-round_given rows = option_map_or round_by (first_of (codes "round") rows) (Ok None)
+round_given rows = option_map_or round_by (first_of round_option.name rows) (Ok None)
 
 -- a script, which needs a round, and something else, which has neither a round nor a depth
 abbrev pub script_asked : Option ℕ → Option ℕ → Result Written Refusal
@@ -148,7 +149,7 @@ written_with script table summary depth (Err r) = Err r
 written_with script table summary depth (Ok round) = written_by script table summary round depth
 
 abbrev pub written_of : List Row → Result Written Refusal
-written_of rows = written_with (is_flagged (codes "script") rows) (is_flagged (codes "table") rows) (is_flagged (codes "summary") rows) (number_given (codes "depth") rows) (round_given rows)
+written_of rows = written_with (is_flagged script_option.name rows) (is_flagged table_option.name rows) (is_flagged summary_option.name rows) (number_given depth_option.name rows) (round_given rows)
 
 -- all requests are taken, as they were inserted, and none is left out, which has no bearing on a script
 abbrev pub takes_all : Import → Bool
@@ -172,8 +173,8 @@ import_by (Some r) (Some d) (Some q) (Some s) first (Ok w) =
     import_of (record { read_expire = r; write_expire = d; from_queue = q; skip = s; first = first; written = w })
 
 abbrev pub import_job : List Row → Job
-import_job rows = import_by (time_given (codes "read-expire") rows) (time_given (codes "write-expire") rows) (from_given rows) (time_given (codes "skip") rows)
-    (number_given (codes "first") rows) (written_of rows)
+import_job rows = import_by (time_given read_expire_option.name rows) (time_given write_expire_option.name rows) (from_given rows) (time_given skip_option.name rows)
+    (number_given first_option.name rows) (written_of rows)
 
 -- by what rows are put in order
 abbrev pub by_named : Text → Option By
@@ -182,7 +183,7 @@ by_named text =
     else (if bytes_eq text (codes "lateness") then Some by.Lateness else None)
 
 abbrev pub by_given : List Row → Option By
-by_given rows = option_and_then by_named (first_of (codes "by") rows)
+by_given rows = option_and_then by_named (first_of by_option.name rows)
 
 -- the trial of a grid, or the refusal of the first option of it that can't be done
 abbrev pub tune_by : Result Gridded ListFault → Option By → Option ℕ → Option ℕ → Form → Job
@@ -191,7 +192,7 @@ tune_by (Ok g) None top threads f = job.Refuse refusal.By
 tune_by (Ok g) (Some b) top threads f = job.Tune (record { by = b; top = top; threads = threads; form = f })
 
 abbrev pub tune_job : List Row → Job
-tune_job rows = tune_by (grid_given (given_options rows)) (by_given rows) (number_given (codes "top") rows) (number_given (codes "threads") rows) (form_asked rows)
+tune_job rows = tune_by (grid_given (given_options rows)) (by_given rows) (number_given top_option.name rows) (number_given threads_option.name rows) (form_asked rows)
 
 -- the job of `oracle` by whether its flags are given, the first two of which may not stand together, nor the last without the first
 abbrev pub oracle_job : Bool → Bool → Bool → Option Job
@@ -202,7 +203,7 @@ oracle_job trace met json =
     else (if met then Some (job.OfList solving.Most) else Some (job.OfList solving.Least))))
 
 abbrev pub oracle_given : List Row → Option Job
-oracle_given rows = oracle_job (is_flagged (codes "trace") rows) (is_flagged (codes "met") rows) (is_flagged (codes "json") rows)
+oracle_given rows = oracle_job (is_flagged trace_option.name rows) (is_flagged met_option.name rows) (is_flagged json_option.name rows)
 
 -- the job that a subcommand makes of what its options are given
 abbrev pub job_made : Makes → List Row → Option Job
@@ -211,11 +212,11 @@ job_made (makes.Formed k) rows = Some (job.OfTrace (telling.Figures k (form_aske
 job_made makes.Sim rows = option_map (λ s. job.OfScript (running.One s)) (sched_asked rows)
 job_made makes.Compare rows = compared (form_asked rows) (lineup_asked rows)
 job_made makes.Tune rows = Some (tune_job rows)
-job_made makes.Picture rows = pictured (is_flagged (codes "script") rows) (lineup_asked rows)
+job_made makes.Picture rows = pictured (is_flagged script_option.name rows) (lineup_asked rows)
 job_made makes.Oracle rows = oracle_given rows
 job_made makes.Check rows = Some (job.Check (form_asked rows))
 job_made makes.Import rows = Some (import_job rows)
-job_made makes.Judge rows = Some (job.Judge (is_flagged (codes "each") rows))
+job_made makes.Judge rows = Some (job.Judge (is_flagged each_option.name rows))
 job_made makes.Load rows = load_given rows
 
 -- the job of the subcommand of a name, by what its options are given

@@ -5,18 +5,16 @@ use Rattle.clap.specs.Words.{App, Rule, Text, new_app, new_rule, with_rule, with
 use Rattle.clap.specs.declared.builder.ArgAction.TheVariants.{Set, SetTrue}
 use Rattle.clap.specs.declared.builder.value_parser.ValueParser.{ValueParser}
 use Rattle.clap.specs.declared.builder.value_parser.ValueParser.TheVariants as vp
-use Rattle.edd_commands.specs.declared.steps.TheConstants.{MAX_DEPTH}
 use Rattle.blk_settings.specs.declared.given.TheConstants.{MAX_SHORT}
-use Rattle.blk_settings.specs.declared.numbers.TheConstants.{MAX_LOAD_SUBMITTERS, MAX_LOAD_WORKERS, MAX_LOAD_BIOS, MAX_LOAD_DEPTH, MAX_LOAD_SERVICE}
 use Rattle.blk_settings.specs.Options.{OptionKind, Flag, Name, Short, Number, MaybeNumber, Words, MaybeWords, OptionOf, sched_names, sched_option, added_option, tuning, listing}
 use Rattle.blk_words.specs.declared.inputs.FiguresAsked.{FiguresAsked}
 use Rattle.blk_words.specs.declared.inputs.FiguresAsked.TheVariants as figures
 use Rattle.blk_words.specs.declared.inputs.Telling.TheVariants as telling
 use Rattle.blk_words.specs.declared.words.Job.{Job}
 use Rattle.blk_words.specs.declared.words.Job.TheVariants as job
-use Rattle.blk_words.specs.declared.table.TheConstants.{MAX_BUSY, MAX_FIRST, MAX_TOP, MAX_THREADS}
 use Rattle.blk_words.specs.declared.table.Makes.{Makes}
 use Rattle.blk_words.specs.declared.table.Makes.TheVariants as makes
+use Rattle.blk_words.specs.Options.{json_option, script_option, trace_option, by_option, top_option, threads_option, met_option, each_option, read_expire_option, write_expire_option, from_option, skip_option, first_option, table_option, summary_option, round_option, depth_option, submitters_option, workers_option, bios_option, load_depth_option, busy_option, service_option}
 
 -- names behind a reference
 abbrev pub Names : Type 0
@@ -66,17 +64,11 @@ kind_rule names name MaybeWords = maybe_text_rule name
 abbrev pub option_rule : Names → OptionOf → Rule
 option_rule names o = kind_rule names o.name o.kind
 
--- the option that names a scheduler, the one that adds one to those that run in turn, those that set them, and those that list which are
--- tried
-abbrev pub sched_rule : Names → Rule
-sched_rule names = option_rule names sched_option
-
-abbrev pub added_rule : Names → Rule
-added_rule names = option_rule names added_option
-
+-- the options that set schedulers
 abbrev pub tuning_rules : Names → List Rule
 tuning_rules names = map (option_rule names) tuning
 
+-- those that list which schedulers are tried
 abbrev pub listing_rules : Names → List Rule
 listing_rules names = map (option_rule names) listing
 
@@ -86,59 +78,54 @@ pub record Subcommand : Type 0 where
   pub rules : List Rule
   pub makes : Makes
 
--- one without options
+-- one with these options, and one without any
+abbrev pub taking : Names → Text → List OptionOf → Makes → Subcommand
+taking names name options m = record { name = name; rules = map (option_rule names) options; makes = m }
+
 abbrev pub plain : Text → Job → Subcommand
 plain name j = record { name = name; rules = []; makes = makes.Plain j }
 
--- the flag that asks for JSON, and a subcommand over a trace with that alone
-abbrev pub json : Rule
-json = flag_rule (codes "json")
+-- one over a trace, whose one option is the flag that asks for JSON
+abbrev pub formed : Names → Text → FiguresAsked → Subcommand
+formed names name k = taking names name (json_option ∷ []) (makes.Formed k)
 
-abbrev pub formed : Text → FiguresAsked → Subcommand
-formed name k = record { name = name; rules = json ∷ []; makes = makes.Formed k }
-
--- by what the best is found, how much is written and how many runs go side by side
-abbrev pub trying : List Rule
-trying =
-    text_rule (codes "by") (codes "misses") ∷ maybe_rule (codes "top") (vp.Unsigned 1 MAX_TOP) ∷ maybe_rule (codes "threads") (vp.Unsigned 1 MAX_THREADS) ∷ json ∷ []
-
--- the numbers of a load
-abbrev pub amount_rules : List Rule
-amount_rules =
-    number_rule (codes "submitters") (vp.Unsigned 1 MAX_LOAD_SUBMITTERS) (codes "2") ∷ number_rule (codes "workers") (vp.Unsigned 1 MAX_LOAD_WORKERS) (codes "2")
-    ∷ number_rule (codes "bios") (vp.Unsigned 1 MAX_LOAD_BIOS) (codes "1000") ∷ number_rule (codes "depth") (vp.Unsigned 1 MAX_LOAD_DEPTH) (codes "8")
-    ∷ maybe_rule (codes "busy") (vp.Unsigned 2 MAX_BUSY) ∷ number_rule (codes "service") (vp.Unsigned 0 MAX_LOAD_SERVICE) (codes "0") ∷ []
+-- how the rows of a trial are put in order, how many are written, and how many runs go side by side
+abbrev pub trying : List OptionOf
+trying = by_option ∷ top_option ∷ threads_option ∷ json_option ∷ []
 
 -- how a capture is imported
-abbrev pub importing : List Rule
+abbrev pub importing : List OptionOf
 importing =
-    text_rule (codes "read-expire") (codes "500ms") ∷ text_rule (codes "write-expire") (codes "5s") ∷ text_rule (codes "from") (codes "insert")
-    ∷ text_rule (codes "skip") (codes "0s") ∷ maybe_rule (codes "first") (vp.Unsigned 1 MAX_FIRST) ∷ flag_rule (codes "table") ∷ flag_rule (codes "summary")
-    ∷ flag_rule (codes "script") ∷ maybe_text_rule (codes "round") ∷ maybe_rule (codes "depth") (vp.Unsigned 1 MAX_DEPTH) ∷ []
+    read_expire_option ∷ write_expire_option ∷ from_option ∷ skip_option ∷ first_option ∷ table_option ∷ summary_option ∷ script_option ∷ round_option
+    ∷ depth_option ∷ []
+
+-- how much load there is
+abbrev pub amount_options : List OptionOf
+amount_options = submitters_option ∷ workers_option ∷ bios_option ∷ load_depth_option ∷ busy_option ∷ service_option ∷ []
 
 -- the subcommands over scripts and over traces
 abbrev pub run_table : Names → List Subcommand
 run_table names =
-    record { name = codes "sim"; rules = sched_rule names ∷ tuning_rules names; makes = makes.Sim }
-    ∷ record { name = codes "compare"; rules = added_rule names ∷ json ∷ tuning_rules names; makes = makes.Compare }
-    ∷ record { name = codes "tune"; rules = listing_rules names ++ trying; makes = makes.Tune }
+    taking names (codes "sim") (sched_option ∷ tuning) makes.Sim
+    ∷ taking names (codes "compare") (added_option ∷ json_option ∷ tuning) makes.Compare
+    ∷ taking names (codes "tune") (listing ++ trying) makes.Tune
     ∷ plain (codes "migrate") (job.OfTrace telling.Whole)
     ∷ plain (codes "commands") (job.OfTrace telling.Commands)
-    ∷ formed (codes "late") figures.Late
-    ∷ formed (codes "misses") figures.Misses
-    ∷ formed (codes "spread") figures.Spread
-    ∷ record { name = codes "picture"; rules = flag_rule (codes "script") ∷ added_rule names ∷ tuning_rules names; makes = makes.Picture }
+    ∷ formed names (codes "late") figures.Late
+    ∷ formed names (codes "misses") figures.Misses
+    ∷ formed names (codes "spread") figures.Spread
+    ∷ taking names (codes "picture") (script_option ∷ added_option ∷ tuning) makes.Picture
     ∷ []
 
 -- the others: over command lists and certificates, over captures and schedules, over texts of any form, and over the running layer
 abbrev pub other_table : Names → List Subcommand
 other_table names =
-    record { name = codes "oracle"; rules = flag_rule (codes "trace") ∷ flag_rule (codes "met") ∷ json ∷ []; makes = makes.Oracle }
-    ∷ record { name = codes "check"; rules = json ∷ []; makes = makes.Check }
-    ∷ record { name = codes "import"; rules = importing; makes = makes.Import }
-    ∷ record { name = codes "judge"; rules = flag_rule (codes "each") ∷ []; makes = makes.Judge }
+    taking names (codes "oracle") (trace_option ∷ met_option ∷ json_option ∷ []) makes.Oracle
+    ∷ taking names (codes "check") (json_option ∷ []) makes.Check
+    ∷ taking names (codes "import") importing makes.Import
+    ∷ taking names (codes "judge") (each_option ∷ []) makes.Judge
     ∷ plain (codes "explain") job.Explain
-    ∷ record { name = codes "load"; rules = sched_rule names ∷ flag_rule (codes "trace") ∷ json ∷ (amount_rules ++ tuning_rules names); makes = makes.Load }
+    ∷ taking names (codes "load") (sched_option ∷ trace_option ∷ json_option ∷ (amount_options ++ tuning)) makes.Load
     ∷ []
 
 -- all of them

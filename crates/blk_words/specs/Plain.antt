@@ -1,16 +1,12 @@
 -- Lines as a person types them, and the jobs that they ask for.
-use Rattle.std.specs.Prelude.{ℕ, ◌≡◌, ◌↔◌, ◌==◌, ◌∷◌, List, [], Bool, true, false, None, Some, codes}
+use Rattle.std.specs.Prelude.{◌≡◌, ◌↔◌, ◌==◌, ◌∷◌, List, true, false, None, Some, codes}
 use Prim.Native.String.{String}
 use Rattle.std.specs.List.{slice_split}
 use Rattle.clap.specs.Words.{Text}
-use Rattle.blk_deadline.specs.declared.Tunables.{Tunables}
-use Rattle.blk_kyber.specs.declared.Targets.{Targets}
 use Rattle.blk_settings.specs.declared.grid.By.TheVariants as by
-use Rattle.blk_settings.specs.Grids.{Gridded, whole}
+use Rattle.blk_settings.specs.Grids.{Gridded}
+use Rattle.blk_settings.specs.Options.{default_number}
 use Rattle.blk_settings.specs.declared.numbers.Load.{Load}
-use Rattle.blk_settings.specs.declared.sched.Lineup.{Lineup}
-use Rattle.blk_settings.specs.declared.sched.Sched.{Sched}
-use Rattle.blk_settings.specs.declared.sched.Sched.TheVariants as sched
 use Rattle.blk_words.specs.declared.words.Form.{Form}
 use Rattle.blk_words.specs.declared.words.Form.TheVariants as form
 use Rattle.blk_words.specs.declared.words.Import.{Import}
@@ -18,6 +14,7 @@ use Rattle.blk_words.specs.declared.words.Job.{Job}
 use Rattle.blk_words.specs.declared.words.Job.TheVariants as job
 use Rattle.blk_words.specs.declared.words.Written.{Written}
 use Rattle.blk_words.specs.declared.words.Written.TheVariants as written
+use Rattle.blk_words.specs.Options.{submitters_option, workers_option, bios_option, load_depth_option, service_option}
 use Rattle.blk_words.specs.Asked.{Asks, AsksGrid}
 
 -- the words of a line behind the program's name, with a space between
@@ -34,41 +31,12 @@ AsksForGrid line grid = (name : Text) → (g : Gridded) → AsksGrid (name ∷ w
 abbrev pub AsksForNothing : String → Type 0
 AsksForNothing line = (name : Text) → (j : Job) → Asks (name ∷ words_in line) j → ⊥
 
--- the settings of `deadline` and of `kyber` where no option sets them
-abbrev pub default_tunables : Tunables
-default_tunables = record { fifo_batch = 16; writes_starved = 2; front_merges = true }
-
-abbrev pub default_targets : Targets
-default_targets = record { read = 2; write = 10 }
-
--- `deadline` with batches of this size, and `kyber` with this target for reads, otherwise as where no option sets them
-abbrev pub deadline_in : ℕ → Sched
-deadline_in batch = sched.Deadline (record default_tunables { fifo_batch = batch })
-
-abbrev pub kyber_within : ℕ → Sched
-kyber_within target = sched.Kyber (record default_targets { read = target })
-
--- the schedulers that run in turn where no option sets them, the same with earliest, and some with this batch size
-abbrev pub default_lineup : Lineup
-default_lineup = record { deadline = default_tunables; kyber = default_targets; earliest = None }
-
-abbrev pub with_earliest : Bool → Lineup
-with_earliest late_last = record default_lineup { earliest = Some late_last }
-
-abbrev pub in_batches : ℕ → Lineup → Lineup
-in_batches n lineup = record lineup { deadline = record lineup.deadline { fifo_batch = n } }
-
 -- a trial of the whole grid where no option says how; and one of the five best by lateness, four runs side by side
 abbrev pub default_trial : Form → Job
 default_trial f = job.Tune (record { by = by.Misses; top = None; threads = None; form = f })
 
 abbrev pub five_by_lateness : Job
 five_by_lateness = job.Tune (record { by = by.Lateness; top = Some 5; threads = Some 4; form = form.Lines })
-
--- none, and deadline with batch sizes 16 and 1 and writes passed over 3 times; the write targets 7 and 0 are for kyber, which isn't tried
-abbrev pub own_grid : Gridded
-own_grid =
-    record whole { has_earliest = false; has_kyber = false; batches = 16 ∷ 1 ∷ []; starved = 3 ∷ []; writes = 7 ∷ 0 ∷ [] }
 
 -- an import of all requests where no option says how, in nanoseconds; and one of the first 100 that went out after 2 ms, from when they
 -- were queued, reads due after 150 us
@@ -80,4 +48,11 @@ hundred_queued = record { read_expire = 150_000; write_expire = 5_000_000_000; f
 
 -- a load where no option sets it
 abbrev pub default_load : Load
-default_load = record { submitters = 2; workers = 2; bios = 1000; depth = 8; busy = None; service = 0 }
+default_load = record {
+  submitters = default_number submitters_option;
+  workers = default_number workers_option;
+  bios = default_number bios_option;
+  depth = default_number load_depth_option;
+  busy = None;
+  service = default_number service_option;
+}

@@ -7,6 +7,10 @@ use Rattle.clap.specs.ValueTests.{accepts}
 use Rattle.clap.specs.declared.builder.value_parser.ValueParser.TheVariants as vp
 use Rattle.clap.specs.Words.{Text}
 
+-- the greatest number of 64 bits
+abbrev pub MAX_NUMBER : ℕ
+MAX_NUMBER = 2 ^ 64 - 1
+
 -- a number in decimal digits, up to the most
 abbrev pub number_in : ℕ → Text → Option ℕ
 number_in most text = if accepts false (vp.Unsigned 0 most) text then Some (digits_value 10 (without_leading_plus text)) else None
@@ -25,7 +29,7 @@ scaled nanoseconds n = if nat_lt (n * nanoseconds) (2 ^ 64) then Some (n * nanos
 -- the nanoseconds of a number with a unit that has `nanoseconds`
 abbrev pub in_unit : Text → ℕ → Text → Option ℕ
 in_unit unit nanoseconds text =
-    if ends_with unit text then option_and_then (scaled nanoseconds) (number_in 18_446_744_073_709_551_615 (before_unit unit text)) else None
+    if ends_with unit text then option_and_then (scaled nanoseconds) (number_in MAX_NUMBER (before_unit unit text)) else None
 
 -- a time: a number and its unit
 abbrev pub time_of : Text → Option ℕ

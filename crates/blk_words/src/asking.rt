@@ -2,23 +2,23 @@
 
 ghost use Rattle.std.specs.Prelude.{◌∷◌, [], true, false, None, Some, codes};
 ghost use Rattle.clap.specs.Words.{Text};
-ghost use Rattle.blk_settings.specs.Grids.{whole};
+ghost use Rattle.blk_settings.specs.Defaults.{default_sched, default_deadline, default_kyber, default_earliest, deadline_in, kyber_within, earliest_late_last, default_lineup, with_earliest, in_batches, whole, none_and_deadline};
 ghost use Rattle.blk_words.specs.Asked.{Asks};
-ghost use Rattle.blk_words.specs.Plain.{AsksFor, AsksForGrid, AsksForNothing, default_tunables, default_targets, deadline_in, kyber_within, default_lineup, with_earliest, in_batches, default_trial, five_by_lateness, own_grid, whole_import, hundred_queued, default_load};
+ghost use Rattle.blk_words.specs.Plain.{AsksFor, AsksForGrid, AsksForNothing, default_trial, five_by_lateness, whole_import, hundred_queued, default_load};
 
 use crate::inputs::{FiguresAsked, Running, Solving, Telling};
 use crate::words::{Form, Job, Refusal, ShownLoad, Written};
-use blk_settings::{ListFault, Sched};
+use blk_settings::ListFault;
 
 /// Each of these lines asks for its job and, all but `--version`, for no other; `oracle --trace --met` asks for none. `tune` asks for the
 /// whole grid, or for that of its lists, and for no other.
 pub fn plain_lines()
-    ensures sim { AsksFor "sim" (Job.OfScript (Running.One Sched.None)) }
-    ensures none { AsksFor "sim --sched none" (Job.OfScript (Running.One Sched.None)) }
-    ensures deadline { AsksFor "sim --sched deadline" (Job.OfScript (Running.One (Sched.Deadline default_tunables))) }
-    ensures kyber { AsksFor "sim --sched kyber" (Job.OfScript (Running.One (Sched.Kyber default_targets))) }
-    ensures earliest { AsksFor "sim --sched earliest" (Job.OfScript (Running.One (Sched.Earliest false))) }
-    ensures late_last { AsksFor "sim --sched earliest --late-last" (Job.OfScript (Running.One (Sched.Earliest true))) }
+    ensures sim { AsksFor "sim" (Job.OfScript (Running.One default_sched)) }
+    ensures none { AsksFor "sim --sched none" (Job.OfScript (Running.One default_sched)) }
+    ensures deadline { AsksFor "sim --sched deadline" (Job.OfScript (Running.One default_deadline)) }
+    ensures kyber { AsksFor "sim --sched kyber" (Job.OfScript (Running.One default_kyber)) }
+    ensures earliest { AsksFor "sim --sched earliest" (Job.OfScript (Running.One default_earliest)) }
+    ensures late_last { AsksFor "sim --sched earliest --late-last" (Job.OfScript (Running.One earliest_late_last)) }
     ensures batch { AsksFor "sim --sched deadline --fifo-batch 1" (Job.OfScript (Running.One (deadline_in 1))) }
     ensures target { AsksFor "sim --sched kyber --read-target 1000000" (Job.OfScript (Running.One (kyber_within 1_000_000))) }
     ensures compare { AsksFor "compare" (Job.OfScript (Running.Each default_lineup Form.Lines)) }
@@ -33,7 +33,7 @@ pub fn plain_lines()
     ensures tune_twice { AsksFor "tune --read-target 2,5,2" (Job.Refuse (Refusal.Lists ListFault.ReadTarget)) }
     ensures tune_by_what { AsksFor "tune --by wait" (Job.Refuse Refusal.By) }
     ensures whole_grid { AsksForGrid "tune" whole }
-    ensures own_grid { AsksForGrid "tune --sched deadline,none --fifo-batch 16,1 --writes-starved 3 --write-target 7,0" own_grid }
+    ensures own_grid { AsksForGrid "tune --sched deadline,none --fifo-batch 16,1 --writes-starved 3 --write-target 7,0" (none_and_deadline (16 ∷ 1 ∷ []) (3 ∷ []) (7 ∷ 0 ∷ [])) }
     ensures migrate { AsksFor "migrate" (Job.OfTrace Telling.Whole) }
     ensures commands { AsksFor "commands" (Job.OfTrace Telling.Commands) }
     ensures late { AsksFor "late" (Job.OfTrace (Telling.Figures FiguresAsked.Late Form.Lines)) }
@@ -64,10 +64,10 @@ pub fn plain_lines()
     ensures judge { AsksFor "judge" (Job.Judge false) }
     ensures judge_each { AsksFor "judge --each" (Job.Judge true) }
     ensures explain { AsksFor "explain" Job.Explain }
-    ensures load { AsksFor "load" (Job.Load Sched.None default_load (ShownLoad.Account Form.Lines)) }
-    ensures load_json { AsksFor "load --json" (Job.Load Sched.None default_load (ShownLoad.Account Form.Json)) }
-    ensures busy { AsksFor "load --busy 3" (Job.Load Sched.None (record default_load { busy = Some 3 }) (ShownLoad.Account Form.Lines)) }
-    ensures traced { AsksFor "load --trace --service 100" (Job.Load Sched.None (record default_load { service = 100 }) ShownLoad.Trace) }
+    ensures load { AsksFor "load" (Job.Load default_sched default_load (ShownLoad.Account Form.Lines)) }
+    ensures load_json { AsksFor "load --json" (Job.Load default_sched default_load (ShownLoad.Account Form.Json)) }
+    ensures busy { AsksFor "load --busy 3" (Job.Load default_sched (record default_load { busy = Some 3 }) (ShownLoad.Account Form.Lines)) }
+    ensures traced { AsksFor "load --trace --service 100" (Job.Load default_sched (record default_load { service = 100 }) ShownLoad.Trace) }
     ensures traced_json { AsksFor "load --trace --json" (Job.Refuse Refusal.TraceAndJson) }
     ensures version { (name : Text) → Asks (name ∷ codes "--version" ∷ []) Job.Version }
 {}

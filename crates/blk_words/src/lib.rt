@@ -6,6 +6,7 @@ pub mod asking;
 mod command;
 pub mod inputs;
 mod lists;
+mod option_names;
 pub mod table;
 mod times;
 pub mod words;

@@ -1,6 +1,7 @@
 //! The command line, as a table: a row for each subcommand, with its options and what these make.
 
 use crate::inputs::{FiguresAsked, Telling};
+use crate::option_names;
 use crate::words::Job;
 use blk_settings::numbers::{
     MAX_LOAD_BIOS, MAX_LOAD_DEPTH, MAX_LOAD_SERVICE, MAX_LOAD_SUBMITTERS, MAX_LOAD_WORKERS,
@@ -75,7 +76,7 @@ pub struct CommandRow {
 
 /// The option that asks for JSON.
 const JSON: OptionRow = OptionRow {
-    name: "json",
+    name: option_names::JSON,
     takes: Takes::Nothing,
     help: "Writes it as JSON",
 };
@@ -101,17 +102,17 @@ pub static RUN_COMMANDS: [CommandRow; 9] = [
         about: "Runs a script under each of many settings, and writes a table of them, the best first",
         options: &[
             OptionRow {
-                name: "by",
+                name: option_names::BY,
                 takes: Takes::Text("misses"),
                 help: "What the best has least of: misses, late commands that could have been on time; lateness, how much later than it had to be the latest was",
             },
             OptionRow {
-                name: "top",
+                name: option_names::TOP,
                 takes: Takes::Maybe(1, MAX_TOP),
                 help: "Writes only so many rows, the best ones; without it, all",
             },
             OptionRow {
-                name: "threads",
+                name: option_names::THREADS,
                 takes: Takes::Maybe(1, MAX_THREADS),
                 help: "How many runs go side by side; without it, as many as there are processors, 16 at most",
             },
@@ -160,7 +161,7 @@ pub static RUN_COMMANDS: [CommandRow; 9] = [
         about: "Draws a trace as an SVG picture: its commands by round and tag, what waited, and which were late",
         options: &[
             OptionRow {
-                name: "script",
+                name: option_names::SCRIPT,
                 takes: Takes::Nothing,
                 help: "Reads a script instead, and draws its trace under each scheduler, one below the other",
             },
@@ -178,17 +179,17 @@ pub static OTHER_COMMANDS: [CommandRow; 6] = [
         about: "Writes a least schedule of a command list, with its certificate",
         options: &[
             OptionRow {
-                name: "trace",
+                name: option_names::TRACE,
                 takes: Takes::Nothing,
                 help: "Reads a trace instead, and writes how late it was and had to be",
             },
             OptionRow {
-                name: "met",
+                name: option_names::MET,
                 takes: Takes::Nothing,
                 help: "Writes how many commands can be met, with its certificate",
             },
             OptionRow {
-                name: "json",
+                name: option_names::JSON,
                 takes: Takes::Nothing,
                 help: "With --trace, writes it as JSON",
             },
@@ -208,52 +209,52 @@ pub static OTHER_COMMANDS: [CommandRow; 6] = [
         about: "Reads a capture of a machine's requests, and writes their schedule",
         options: &[
             OptionRow {
-                name: "read-expire",
+                name: option_names::READ_EXPIRE,
                 takes: Takes::Text("500ms"),
                 help: "How long after it came in a read is due: a number with ns, us, ms or s",
             },
             OptionRow {
-                name: "write-expire",
+                name: option_names::WRITE_EXPIRE,
                 takes: Takes::Text("5s"),
                 help: "How long after it came in a write is due",
             },
             OptionRow {
-                name: "from",
+                name: option_names::FROM,
                 takes: Takes::Text("insert"),
                 help: "When a request came in: insert, when it was inserted into the scheduler; queue, when its first bio was queued",
             },
             OptionRow {
-                name: "skip",
+                name: option_names::SKIP,
                 takes: Takes::Text("0s"),
                 help: "Leaves out what went out sooner than so long after the first record",
             },
             OptionRow {
-                name: "first",
+                name: option_names::FIRST,
                 takes: Takes::Maybe(1, MAX_FIRST),
                 help: "Takes only so many requests, those that went out first; without it, all",
             },
             OptionRow {
-                name: "table",
+                name: option_names::TABLE,
                 takes: Takes::Nothing,
                 help: "Writes a record for each request instead, with its times",
             },
             OptionRow {
-                name: "summary",
+                name: option_names::SUMMARY,
                 takes: Takes::Nothing,
                 help: "Writes the capture in numbers instead",
             },
             OptionRow {
-                name: "script",
+                name: option_names::SCRIPT,
                 takes: Takes::Nothing,
                 help: "Writes the bios that came in as a script instead, to be run by sim and compare; needs --round",
             },
             OptionRow {
-                name: "round",
+                name: option_names::ROUND,
                 takes: Takes::MaybeText,
                 help: "How long a round of the script is",
             },
             OptionRow {
-                name: "depth",
+                name: option_names::DEPTH,
                 takes: Takes::Maybe(1, MAX_DEPTH),
                 help: "How many commands a round of the script carries; without it, 64",
             },
@@ -265,7 +266,7 @@ pub static OTHER_COMMANDS: [CommandRow; 6] = [
         name: "judge",
         about: "Judges a schedule: how many commands were late, how late the latest was, and what had to be",
         options: &[OptionRow {
-            name: "each",
+            name: option_names::EACH,
             takes: Takes::Nothing,
             help: "Writes each late command instead, and why it was late",
         }],
@@ -285,38 +286,38 @@ pub static OTHER_COMMANDS: [CommandRow; 6] = [
         options: &[
             SCHED,
             OptionRow {
-                name: "trace",
+                name: option_names::TRACE,
                 takes: Takes::Nothing,
                 help: "Writes the trace of what the layer did instead",
             },
             JSON,
             OptionRow {
-                name: "submitters",
+                name: option_names::SUBMITTERS,
                 takes: Takes::Number(1, MAX_LOAD_SUBMITTERS, "2"),
                 help: "How many threads submit",
             },
             OptionRow {
-                name: "workers",
+                name: option_names::WORKERS,
                 takes: Takes::Number(1, MAX_LOAD_WORKERS, "2"),
                 help: "How many threads issue commands and run them",
             },
             OptionRow {
-                name: "bios",
+                name: option_names::BIOS,
                 takes: Takes::Number(1, MAX_LOAD_BIOS, "1000"),
                 help: "How many bios each submitter has",
             },
             OptionRow {
-                name: "depth",
+                name: option_names::DEPTH,
                 takes: Takes::Number(1, MAX_LOAD_DEPTH, "8"),
                 help: "How many tags there are",
             },
             OptionRow {
-                name: "busy",
+                name: option_names::BUSY,
                 takes: Takes::Maybe(2, MAX_BUSY),
                 help: "Lets each worker's device hand every so many-th command back; without it, none",
             },
             OptionRow {
-                name: "service",
+                name: option_names::SERVICE,
                 takes: Takes::Number(0, MAX_LOAD_SERVICE, "0"),
                 help: "How many microseconds each device takes for a command",
             },

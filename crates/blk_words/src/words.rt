@@ -1,6 +1,6 @@
 //! The words of the command line, as a job.
 
-ghost use Rattle.std.specs.Prelude.{◌≡◌, ◌≤◌, map, All, IfOk, IfErr, IfSome, Some, option_map, option_and_then, codes, string_bytes};
+ghost use Rattle.std.specs.Prelude.{◌≡◌, ◌≤◌, map, All, IfOk, IfErr, IfSome, Some, option_map, option_and_then, string_bytes};
 ghost use Rattle.std.specs.Option.{option_or};
 ghost use Rattle.clap.specs.Words.{subcommand_rows_of};
 ghost use Rattle.blk_settings.specs.Grids.{gridded};
@@ -8,12 +8,14 @@ ghost use Rattle.blk_settings.specs.Lists.{AreShort, grid_of_lists};
 ghost use Rattle.blk_words.specs.CommandLine.{Names, table as all_commands};
 ghost use Rattle.blk_words.specs.Inside.Tables.{subcommand_of, makes_among};
 ghost use Rattle.blk_words.specs.Asked.{Asks, AsksGrid, IsNoJob, list_given, by_named, by_given, tune_job, short_given, number_given, is_flagged, given_options, sched_asked, lineup_asked, compared, pictured, amounts_of, shown_of, loaded, load_given, form_by, form_asked, time_given, entry_named, from_given, round_by, round_given, script_asked, unscripted, written_of, takes_all, import_of, import_job, oracle_given, grid_behind, job_made, job_of};
+ghost use Rattle.blk_words.specs.Options.{script_option};
 ghost use Rattle.blk_words.specs.Refusals.{refusal_text};
 ghost use Rattle.blk_words.specs.Inside.Options.{given};
 
 use crate::command::{blk_command, other_commands, run_commands};
 use crate::inputs::{FiguresAsked, Running, Solving, Telling};
 use crate::lists::numbers_of;
+use crate::option_names;
 use crate::table::{CommandRow, Makes};
 use crate::times::time_of;
 use blk_settings::given::Numbers;
@@ -112,8 +114,8 @@ pub enum Written {
     },
 }
 
-/// Why words that are taken can't be done, of each subcommand in the order in which it is looked for: the text of an option of `import` or
-/// `tune` is none that it may have, or flags exclude one another.
+/// Why words that clap accepts are refused, in the order of the checks: a bad value of an option of `import` or `tune`, or flags that exclude
+/// one another.
 #[derive(Clone, Copy, Debug, PartialEq, Eq)]
 pub enum Refusal {
     /// `--read-expire` is no time.
@@ -266,7 +268,7 @@ fn form_by(json: bool) -> Form
 fn form_asked(options: &ArgMatches<'_>) -> Form
     ensures { result ≡ form_asked (given options.now) }
 {
-    form_by(is_flagged(options, "json"))
+    form_by(is_flagged(options, option_names::JSON))
 }
 
 /// The comparison of the schedulers that run a script in turn, in the form that is asked for.
@@ -280,9 +282,9 @@ fn compare_of(options: &ArgMatches<'_>) -> Option<Job>
 
 /// The picture of a trace, or with the flag `--script` those of a script under the schedulers that run it in turn.
 fn picture_of(options: &ArgMatches<'_>) -> Option<Job>
-    ensures { result ≡ pictured (is_flagged (codes "script") (given options.now)) (lineup_asked (given options.now)) }
+    ensures { result ≡ pictured (is_flagged script_option.name (given options.now)) (lineup_asked (given options.now)) }
 {
-    if is_flagged(options, "script") {
+    if is_flagged(options, option_names::SCRIPT) {
         let lineup = Lineup::given(&MatchedOptions { matches: options })?;
         Some(Job::OfScript(Running::Drawn(lineup)))
     } else {
@@ -294,12 +296,12 @@ fn picture_of(options: &ArgMatches<'_>) -> Option<Job>
 fn amounts_of(options: &ArgMatches<'_>) -> Option<Load>
     ensures { result ≡ amounts_of (given options.now) }
 {
-    let submitters = number_of(options, "submitters")?;
-    let workers = number_of(options, "workers")?;
-    let bios = number_of(options, "bios")?;
-    let depth = number_of(options, "depth")?;
-    let service = number_of(options, "service")?;
-    let busy = number_of(options, "busy");
+    let submitters = number_of(options, option_names::SUBMITTERS)?;
+    let workers = number_of(options, option_names::WORKERS)?;
+    let bios = number_of(options, option_names::BIOS)?;
+    let depth = number_of(options, option_names::DEPTH)?;
+    let service = number_of(options, option_names::SERVICE)?;
+    let busy = number_of(options, option_names::BUSY);
     Some(Load {
         submitters,
         workers,
@@ -334,8 +336,8 @@ fn load_of(options: &ArgMatches<'_>, shown: ShownLoad) -> Option<Job>
 fn load_job(options: &ArgMatches<'_>) -> Option<Job>
     ensures { result ≡ load_given (given options.now) }
 {
-    let trace = is_flagged(options, "trace");
-    let json = is_flagged(options, "json");
+    let trace = is_flagged(options, option_names::TRACE);
+    let json = is_flagged(options, option_names::JSON);
     if trace && json {
         Some(Job::Refuse(Refusal::TraceAndJson))
     } else {
@@ -360,7 +362,7 @@ fn entry_named(text: &str) -> Option<bool>
 fn from_given(options: &ArgMatches<'_>) -> Option<bool>
     ensures { result ≡ from_given (given options.now) }
 {
-    match options.get_str("from") {
+    match options.get_str(option_names::FROM) {
         Some(text) => entry_named(text),
         None => None,
     }
@@ -380,7 +382,7 @@ fn round_by(text: &str) -> Result<Option<u64>, Refusal>
 fn round_given(options: &ArgMatches<'_>) -> Result<Option<u64>, Refusal>
     ensures { result ≡ round_given (given options.now) }
 {
-    match options.get_str("round") {
+    match options.get_str(option_names::ROUND) {
         Some(text) => round_by(text),
         None => Ok(None),
     }
@@ -417,10 +419,10 @@ fn written_of(options: &ArgMatches<'_>) -> Result<Written, Refusal>
         Ok(round) => round,
         Err(refusal) => return Err(refusal),
     };
-    let depth = number_of(options, "depth");
-    let table = is_flagged(options, "table");
-    let summary = is_flagged(options, "summary");
-    if is_flagged(options, "script") {
+    let depth = number_of(options, option_names::DEPTH);
+    let table = is_flagged(options, option_names::TABLE);
+    let summary = is_flagged(options, option_names::SUMMARY);
+    if is_flagged(options, option_names::SCRIPT) {
         if table && summary {
             Err(Refusal::TableAndSummary)
         } else if table || summary {
@@ -469,19 +471,19 @@ fn import_of(wanted: Import) -> Job
 fn import_job(options: &ArgMatches<'_>) -> Job
     ensures { result ≡ import_job (given options.now) }
 {
-    let Some(read_expire) = time_given(options, "read-expire") else {
+    let Some(read_expire) = time_given(options, option_names::READ_EXPIRE) else {
         return Job::Refuse(Refusal::ReadExpire);
     };
-    let Some(write_expire) = time_given(options, "write-expire") else {
+    let Some(write_expire) = time_given(options, option_names::WRITE_EXPIRE) else {
         return Job::Refuse(Refusal::WriteExpire);
     };
     let Some(from_queue) = from_given(options) else {
         return Job::Refuse(Refusal::From);
     };
-    let Some(skip) = time_given(options, "skip") else {
+    let Some(skip) = time_given(options, option_names::SKIP) else {
         return Job::Refuse(Refusal::Skip);
     };
-    let first = number_of(options, "first");
+    let first = number_of(options, option_names::FIRST);
     let written = match written_of(options) {
         Ok(written) => written,
         Err(refusal) => return Job::Refuse(refusal),
@@ -524,7 +526,7 @@ fn by_named(text: &str) -> Option<By>
 fn by_given(options: &ArgMatches<'_>) -> Option<By>
     ensures { result ≡ by_given (given options.now) }
 {
-    match options.get_str("by") {
+    match options.get_str(option_names::BY) {
         Some(text) => by_named(text),
         None => None,
     }
@@ -543,8 +545,8 @@ fn tune_job(options: &ArgMatches<'_>) -> Job
     };
     Job::Tune(Tuning {
         by,
-        top: number_of(options, "top"),
-        threads: number_of(options, "threads"),
+        top: number_of(options, option_names::TOP),
+        threads: number_of(options, option_names::THREADS),
         form: form_asked(options),
     })
 }
@@ -553,9 +555,9 @@ fn tune_job(options: &ArgMatches<'_>) -> Job
 fn oracle_job(options: &ArgMatches<'_>) -> Option<Job>
     ensures { result ≡ oracle_given (given options.now) }
 {
-    let trace = is_flagged(options, "trace");
-    let met = is_flagged(options, "met");
-    let json = is_flagged(options, "json");
+    let trace = is_flagged(options, option_names::TRACE);
+    let met = is_flagged(options, option_names::MET);
+    let json = is_flagged(options, option_names::JSON);
     if trace && met {
         None
     } else if trace {
@@ -590,7 +592,7 @@ fn job_made(makes: Makes, options: &ArgMatches<'_>) -> Option<Job>
         Makes::Oracle => oracle_job(options),
         Makes::Import => Some(import_job(options)),
         Makes::Judge => Some(Job::Judge {
-            each: is_flagged(options, "each"),
+            each: is_flagged(options, option_names::EACH),
         }),
         Makes::Load => load_job(options),
     }

@@ -1,11 +1,11 @@
-use Rattle.std.proofs.Common.{codes}
 use Rattle.clap.specs.Words.{found_of}
+use Rattle.blk_words.specs.Options.{from_option}
 use Rattle.blk_words.specs.Asked.{entry_named}
 use Rattle.blk_words.proofs.Lines.{given_by, not_given_by}
 use Rattle.blk_words.proofs.words.from_given.Goals as goal
 
 pub returns-in-Some : goal.returns-in-Some
-returns-in-Some c = given_by (found_of c.args.options.now) (codes "from") c.in-Some.text.now entry_named c.entry_named.result c.in-Some.ensures c.entry_named.ensures
+returns-in-Some c = given_by (found_of c.args.options.now) from_option.name c.in-Some.text.now entry_named c.entry_named.result c.in-Some.ensures c.entry_named.ensures
 
 pub returns-in-None : goal.returns-in-None
-returns-in-None c = not_given_by (found_of c.args.options.now) (codes "from") entry_named c.in-None.ensures
+returns-in-None c = not_given_by (found_of c.args.options.now) from_option.name entry_named c.in-None.ensures

@@ -1,12 +1,13 @@
-use Rattle.std.proofs.Common.{codes, None}
+use Rattle.std.proofs.Common.{None}
 use Rattle.std.specs.Prelude.{Ok}
 use Rattle.clap.specs.Words.{found_of}
+use Rattle.blk_words.specs.Options.{round_option}
 use Rattle.blk_words.specs.Asked.{round_by}
 use Rattle.blk_words.proofs.Lines.{read_by, unread_by}
 use Rattle.blk_words.proofs.words.round_given.Goals as goal
 
 pub returns-in-Some : goal.returns-in-Some
-returns-in-Some c = read_by (found_of c.args.options.now) (codes "round") c.in-Some.text.now round_by (Ok None) c.round_by.result c.in-Some.ensures c.round_by.ensures
+returns-in-Some c = read_by (found_of c.args.options.now) round_option.name c.in-Some.text.now round_by (Ok None) c.round_by.result c.in-Some.ensures c.round_by.ensures
 
 pub returns-in-None : goal.returns-in-None
-returns-in-None c = unread_by (found_of c.args.options.now) (codes "round") round_by (Ok None) c.in-None.ensures
+returns-in-None c = unread_by (found_of c.args.options.now) round_option.name round_by (Ok None) c.in-None.ensures

@@ -1,0 +1,68 @@
+//! The names of the subcommands' own options, behind two dashes: the rows of [`crate::table`] and whoever reads what an option is given take
+//! them from here. They are constants of their own, since no constant can be made of another's field.
+
+/// Whether figures are written as JSON.
+pub const JSON: &str = "json";
+
+/// By what the rows of a trial are put in order.
+pub const BY: &str = "by";
+
+/// How many of them are written.
+pub const TOP: &str = "top";
+
+/// How many runs go side by side.
+pub const THREADS: &str = "threads";
+
+/// Whether a script is read, or written.
+pub const SCRIPT: &str = "script";
+
+/// Whether a trace is read, or written.
+pub const TRACE: &str = "trace";
+
+/// Whether as many commands as can be are to be on time.
+pub const MET: &str = "met";
+
+/// How long after it came in a read is due.
+pub const READ_EXPIRE: &str = "read-expire";
+
+/// How long after it came in a write is due.
+pub const WRITE_EXPIRE: &str = "write-expire";
+
+/// When a request came in.
+pub const FROM: &str = "from";
+
+/// How much of the beginning of a capture is left out.
+pub const SKIP: &str = "skip";
+
+/// How many requests of it are taken.
+pub const FIRST: &str = "first";
+
+/// Whether its requests are written with their times.
+pub const TABLE: &str = "table";
+
+/// Whether it is written in numbers.
+pub const SUMMARY: &str = "summary";
+
+/// How long a round of its script is.
+pub const ROUND: &str = "round";
+
+/// How many commands a round carries: as many as there are tags.
+pub const DEPTH: &str = "depth";
+
+/// Whether each late command is judged.
+pub const EACH: &str = "each";
+
+/// How many threads submit.
+pub const SUBMITTERS: &str = "submitters";
+
+/// How many threads issue commands and run them.
+pub const WORKERS: &str = "workers";
+
+/// How many bios each submitter has.
+pub const BIOS: &str = "bios";
+
+/// Which runs of a device find it busy.
+pub const BUSY: &str = "busy";
+
+/// How long a device takes for a command.
+pub const SERVICE: &str = "service";
