@@ -11,21 +11,21 @@ use Rattle.edd_oracle.specs.declared.cover.Served.{Served}
 use Rattle.edd_oracle.specs.Inside.Cover.{served_at, running_at, IsServedStart, AreDue, IsOneOff}
 use Rattle.edd_oracle.proofs.Counting.{count_map, count_run, count_wider, count_fewer}
 
-abbrev nobody : Served
+abbrev pub nobody : Served
 nobody = record { round = 0; due = 0 }
 
 -- the rounds alone
-abbrev times : List Served → List ℕ
+abbrev pub times : List Served → List ℕ
 times served = map (λ s. s.round) served
 
-time_at : (served : List Served) (k : ℕ) → k < length served → get_or (times served) k 0 ≡ (get_or served k nobody).round
+pub time_at : (served : List Served) (k : ℕ) → k < length served → get_or (times served) k 0 ≡ (get_or served k nobody).round
 time_at served k h = get_or-map (λ s. s.round) served k nobody 0 h
 
-times_count : (served : List Served) (y : ℕ) → places_at (times served) y ≡ running_at served y
+pub times_count : (served : List Served) (y : ℕ) → places_at (times served) y ≡ running_at served y
 unfolding places_at running_at
 times_count served y = count_map (λ s. s.round) (λ z. z == y) served
 
-times_rise : (served : List Served) → IsNonDecreasingBy (λ s. s.round) served → Rises (times served)
+pub times_rise : (served : List Served) → IsNonDecreasingBy (λ s. s.round) served → Rises (times served)
 times_rise served rising i j le lt =
     let within : j < length served = omega (arith, length-map served (λ s. s.round)) in
     omega (arith, time_at served i (omega arith), time_at served j within, rising i j nobody le within)
@@ -49,7 +49,7 @@ back_at_due served steps due start left is_start within parted =
     }
 
 -- the places of a round that are due by then are among all of that round
-served_le : (served : List Served) (y due : ℕ) → served_at served y due ≤ running_at served y
+pub served_le : (served : List Served) (y due : ℕ) → served_at served y due ≤ running_at served y
 unfolding served_at running_at
 served_le served y due =
     count_wider (λ s. nat_le s.due due && s.round == y) (λ s. s.round == y) (λ s both. (and_parts (nat_le s.due due) (s.round == y) both).1) served

@@ -17,11 +17,11 @@ use std::alloc::{AllocError, Allocator};
 
 /// When a command runs, and when it is due.
 #[derive(Clone, Copy, Debug, PartialEq, Eq)]
-struct Served {
+pub struct Served {
     /// Its round.
-    round: u64,
+    pub round: u64,
     /// Its due round.
-    due: u64,
+    pub due: u64,
 }
 
 /// The due rounds of the commands that are passed over: those that are released by their due round and run after it.

@@ -21,6 +21,7 @@ mod input;
 mod queue;
 mod window;
 
+pub use cover::Served;
 use edd_check::{Window, law_of_covers, law_of_crowded_windows, number_on_time};
 use edd_commands::{Capacity, Command};
 use std::alloc::{Allocator, Global};

@@ -3,7 +3,7 @@ use Rattle.std.proofs.Common.{◌≡◌, ◌≤◌, ℕ, nat_lt, true, false, Li
 use Rattle.std.specs.List.Sorted.{IsPartitionPoint, IsPartitionedBy}
 use Rattle.std.proofs.lemmas.Bool.{cases_eq, ltb-true, ltb-false, lt-ltb}
 use Rattle.edd_check.specs.declared.Window.{Window}
-use Rattle.edd_verdict.specs.declared.tight.Served.{Served}
+use Rattle.edd_oracle.specs.declared.cover.Served.{Served}
 use Rattle.edd_verdict.specs.Inside.Tight.{DuesFall, IsDuePlace}
 use Rattle.edd_verdict.specs.Inside.Open.{BeginsRise, IsBeginPlace}
 

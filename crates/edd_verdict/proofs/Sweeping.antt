@@ -3,7 +3,7 @@ use Rattle.std.proofs.Common.{◌≡◌, ◌<◌, ◌≤◌, ℕ, ◌+◌, ◌-�
 use Rattle.std.proofs.lemmas.List.{get_or_default, get_or_append_left, get_or-append-add, length-append, length-take-le, get_or-take}
 use Rattle.std.proofs.lemmas.Bool.{cases_lt, cases_eq, cases_order}
 use Rattle.edd_check.specs.declared.Window.{Window}
-use Rattle.edd_verdict.specs.declared.tight.Served.{Served}
+use Rattle.edd_oracle.specs.declared.cover.Served.{Served}
 use Rattle.edd_verdict.specs.Inside.Tight.{AreRising, IsFullBy, IsTight, AreTightBelow, AreTight, AreBarred, IsDuePlace}
 
 -- one element more at the end

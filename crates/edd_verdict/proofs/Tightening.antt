@@ -15,26 +15,27 @@ use Rattle.edd_oracle.specs.Priority.{IsEarliestDueFirst}
 use Rattle.edd_oracle.proofs.Counting.{count_map, count_along, count_wider}
 use Rattle.edd_oracle.proofs.Crowded.{due_from_first}
 use Rattle.edd_oracle.proofs.Pairs.{pair_at, length_pairs}
-use Rattle.edd_verdict.specs.declared.tight.Served.{Served}
-use Rattle.edd_verdict.specs.Inside.Tight.{served_command, number_running, served_by, IsFullBy, AreFull, IsTight, AreTight}
+use Rattle.edd_oracle.specs.declared.cover.Served.{Served}
+use Rattle.edd_oracle.specs.Inside.Cover.{running_at, served_at}
+use Rattle.edd_verdict.specs.Inside.Tight.{served_command, IsFullBy, AreFull, IsTight, AreTight}
 use Rattle.edd_verdict.specs.Inside.Open.{AreFilled, AreOnTime}
 use Rattle.edd_verdict.specs.Filled.{held_at, IsFilled}
 use Rattle.edd_verdict.proofs.Holding.{is_held, held_from, held_parts, tested, untested}
 use Rattle.edd_verdict.proofs.Freeing.{nobody}
 
 module _ (commands : List Command) (rounds : List ℕ) (served : List Served) (moved : IsPermutation (map (λ p. served_command p) (zip commands rounds)) served) where
-  pub served_due : (y b : ℕ) → served_by served y b ≡ due_at commands rounds y b
-  unfolding served_by due_at
+  pub served_due : (y b : ℕ) → served_at served y b ≡ due_at commands rounds y b
+  unfolding served_at due_at
   served_due y b =
       sum_by-IsPermutation (λ s. cond (nat_le s.due b && s.round == y) 1 0) (map (λ p. served_command p) (zip commands rounds)) served moved
       ∙ count_map (λ p. served_command p) (λ s. nat_le s.due b && s.round == y) (zip commands rounds)
 
   module _ (steps : List Step) (legal : IsLegal commands rounds steps) where
-    pub served_few : (y : ℕ) → number_running served y ≤ depth_at steps y
-    unfolding number_running places_at
+    pub served_few : (y : ℕ) → running_at served y ≤ depth_at steps y
+    unfolding running_at places_at
     served_few y =
         let long : length (zip commands rounds) ≡ length commands = length_pairs commands rounds legal.one_each in
-        let same : number_running served y ≡ count_by (λ (p : Command × ℕ). p.1 == y) (zip commands rounds) =
+        let same : running_at served y ≡ count_by (λ (p : Command × ℕ). p.1 == y) (zip commands rounds) =
         sum_by-IsPermutation (λ s. cond (s.round == y) 1 0) (map (λ p. served_command p) (zip commands rounds)) served moved
         ∙ count_map (λ p. served_command p) (λ s. s.round == y) (zip commands rounds) in
         let placed : count_by (λ (p : Command × ℕ). p.1 == y) (zip commands rounds) ≤ places_at rounds y =
@@ -57,14 +58,14 @@ module _ (commands : List Command) (rounds : List ℕ) (served : List Served) (m
     module _ (full : List Served) (first : IsEarliestDueFirst commands rounds steps) (on_time : AreOnTime commands rounds) (are : AreFull served steps full) where
       -- full by b in the schedule
       full_due : (y b : ℕ) → IsFullBy full y b → depth_at steps y ≤ due_at commands rounds y b
-      unfolding served_by
+      unfolding served_at
       full_due y b found =
           let i : ℕ = found.0 in
           let s : Served = record { round = 0; due = 0 } in
           let f : Served = get_or full i s in
           let is = found.2 s in
-          let sound : depth_at steps y ≤ served_by served y f.due = subst (λ r. depth_at steps r ≤ served_by served r f.due) is.0 (are.sound i s found.1) in
-          let more : served_by served y f.due ≤ served_by served y b =
+          let sound : depth_at steps y ≤ served_at served y f.due = subst (λ r. depth_at steps r ≤ served_at served r f.due) is.0 (are.sound i s found.1) in
+          let more : served_at served y f.due ≤ served_at served y b =
           count_wider (λ t. nat_le t.due f.due && t.round == y) (λ t. nat_le t.due b && t.round == y)
           (λ t passes. let parts = and_parts (nat_le t.due f.due) (t.round == y) passes in and_from (nat_le t.due b) (t.round == y) (le-leb t.due b (omega (arith, leb-true t.due f.due parts.0, is.1))) parts.1) served in
           omega (arith, sound, more, served_due y b)

@@ -1,27 +1,20 @@
 //! The windows that are filled by commands that are all on time: where earliest due date first leaves no room for one more.
 
 ghost use Rattle.std.specs.Prelude.{◌≡◌, ◌≤◌, ◌<◌, ◌-◌, ℕ, All, ◌+◌, IfOk, OnOk, [], ◌∷◌, length};
-ghost use Rattle.edd_verdict.specs.declared.tight.Served.{Served as Running};
+ghost use Rattle.edd_oracle.specs.declared.cover.Served.{Served as Running};
 ghost use Rattle.std.specs.List.Sorted.{IsNonDecreasingBy, IsPermutation};
 ghost use Rattle.edd_commands.specs.Capacity.{depth_at};
 ghost use Rattle.edd_commands.specs.declared.TheConstants.{MAX_ROUNDS};
 ghost use Rattle.edd_commands.specs.Schedule.{IsLegal, RoundsInRange};
 ghost use Rattle.edd_oracle.specs.Priority.{IsEarliestDueFirst};
 ghost use Rattle.edd_verdict.specs.Inside.Open.{AreFilled, AreOnTime};
-ghost use Rattle.edd_verdict.specs.Inside.Tight.{number_running, AreFull, AreRising, AreTight, IsLatestDue, DuesFall, IsDuePlace, all_served, room_before, last_or};
+ghost use Rattle.edd_oracle.specs.Inside.Cover.{running_at};
+ghost use Rattle.edd_verdict.specs.Inside.Tight.{AreFull, AreRising, AreTight, IsLatestDue, DuesFall, IsDuePlace, all_served, room_before, last_or};
 
 use edd_check::Window;
 use edd_commands::{Capacity, Command};
+use edd_oracle::Served;
 use std::alloc::{AllocError, Allocator};
-
-/// A round in which a command runs, or all that run in a full round, and when the last of them is due.
-#[derive(Clone, Copy, Debug, PartialEq, Eq)]
-pub struct Served {
-    /// The round.
-    pub round: u64,
-    /// The due round.
-    pub due: u64,
-}
 
 /// When the commands run and are due.
 fn paired<A: Allocator>(
@@ -70,7 +63,7 @@ fn latest_due(served: &[Served], first: usize, past: usize) -> u64
     due
 }
 
-/// The rounds that are full, each with the latest due round of those that run in it. Of a full round as many stand side by
+/// The rounds that are full, each with the latest due round of those that run in it: the last of them stands for the round. Of a full round as many stand side by
 /// side as it carries, the last of them at the place at which it is found.
 fn full_rounds<A: Allocator, B: Allocator>(
     alloc: A,
@@ -79,7 +72,7 @@ fn full_rounds<A: Allocator, B: Allocator>(
 ) -> Result<Vec<Served, A>, AllocError>
     requires rising { IsNonDecreasingBy (λ s. s.round) served.now }
     requires some { (y : ℕ) → 0 < depth_at capacity.now y }
-    requires few { (y : ℕ) → number_running served.now y ≤ depth_at capacity.now y }
+    requires few { (y : ℕ) → running_at served.now y ≤ depth_at capacity.now y }
     requires timely { All (λ s. (s.round ≤ s.due) × (s.round < MAX_ROUNDS)) served.now }
     ensures full { IfOk result (λ full. AreFull served.now capacity.now full.items) }
     ensures rising { IfOk result (λ full. AreRising full.items) }

@@ -1,11 +1,12 @@
 -- Full rounds, and the windows that end where all that run in a round are due in it.
-use Rattle.std.specs.Prelude.{ℕ, ◌≡◌, ◌≤◌, ◌<◌, ◌-◌, ◌^◌, ◌==◌, ◌&&◌, ◌⊎◌, List, length, map, count_by, nat_le, slice_index_or}
+use Rattle.std.specs.Prelude.{ℕ, ◌≡◌, ◌≤◌, ◌<◌, ◌-◌, ◌^◌, ◌⊎◌, List, length, map, slice_index_or}
 use Rattle.std.specs.List.{zip}
 use Rattle.edd_commands.specs.declared.Command.{Command}
 use Rattle.edd_check.specs.declared.Window.{Window}
 use Rattle.edd_commands.specs.declared.steps.Step.{Step}
 use Rattle.edd_commands.specs.Capacity.{depth_at}
-use Rattle.edd_verdict.specs.declared.tight.Served.{Served}
+use Rattle.edd_oracle.specs.declared.cover.Served.{Served}
+use Rattle.edd_oracle.specs.Inside.Cover.{served_at}
 
 -- a command that runs in the round p.1
 abbrev pub served_command : Command × ℕ → Served
@@ -22,14 +23,6 @@ room_before round = record { round = round - 1; due = 2 ^ 64 - 1 }
 -- the last of a list, or else this
 abbrev pub last_or : List Served → Served → Served
 last_or peaks e = slice_index_or peaks (length peaks - 1) e
-
--- how many of them run in the round y
-unfoldable pub number_running : List Served → ℕ → ℕ
-number_running served y = count_by (λ s. s.round == y) served
-
--- and of those how many are due by b
-unfoldable pub served_by : List Served → ℕ → ℕ → ℕ
-served_by served y b = count_by (λ s. nat_le s.due b && s.round == y) served
 
 -- of those at the places from `first` on and before `past` the last is due then
 pub record IsLatestDue (served : List Served) (first past due : ℕ) : Type 0 where
@@ -49,8 +42,8 @@ IsFullBy full y b = (i : ℕ) × (i < length full) × ((e : Served) → ((slice_
 
 -- the full rounds, each with the latest due round of those that run in it
 pub record AreFull (served : List Served) (steps : List Step) (full : List Served) : Type 0 where
-  pub sound : (i : ℕ) (e : Served) → i < length full → depth_at steps (slice_index_or full i e).round ≤ served_by served (slice_index_or full i e).round (slice_index_or full i e).due
-  pub complete : (y b : ℕ) → depth_at steps y ≤ served_by served y b → IsFullBy full y b
+  pub sound : (i : ℕ) (e : Served) → i < length full → depth_at steps (slice_index_or full i e).round ≤ served_at served (slice_index_or full i e).round (slice_index_or full i e).due
+  pub complete : (y b : ℕ) → depth_at steps y ≤ served_at served y b → IsFullBy full y b
 
 -- the rounds of the window are full of commands due in it, and the one before it is not
 pub record IsTight (full : List Served) (w : Window) : Type 0 where

@@ -1,14 +1,15 @@
 use Rattle.std.proofs.Common.{ℕ, List, ◌≤◌, ◌<◌, sym, subst}
 use Rattle.std.specs.List.{All}
 use Rattle.edd_commands.specs.Capacity.{depth_at}
-use Rattle.edd_verdict.specs.declared.tight.Served.{Served}
-use Rattle.edd_verdict.specs.Inside.Tight.{number_running, AreFull, AreTight}
+use Rattle.edd_oracle.specs.declared.cover.Served.{Served}
+use Rattle.edd_oracle.specs.Inside.Cover.{running_at}
+use Rattle.edd_verdict.specs.Inside.Tight.{AreFull, AreTight}
 use Rattle.edd_verdict.proofs.Tightening.{served_few, served_timely, all_filled}
 use Rattle.edd_verdict.proofs.tight.filled.Goals as goal
 
 pub full_rounds-requires-clause-few : goal.full_rounds-requires-clause-few
 full_rounds-requires-clause-few g c =
-    subst (λ (xs : List Served). (y : ℕ) → number_running xs y ≤ depth_at c.args.capacity.now y) (sym c.as_slice.ensures.value)
+    subst (λ (xs : List Served). (y : ℕ) → running_at xs y ≤ depth_at c.args.capacity.now y) (sym c.as_slice.ensures.value)
     (served_few c.args.commands.now c.args.rounds.now c.in_ok-served.served.items c.in_ok-served.ensures.moved c.args.capacity.now c.requires.legal)
 
 pub full_rounds-requires-clause-timely : goal.full_rounds-requires-clause-timely

@@ -1,7 +1,7 @@
 use Rattle.std.proofs.Common.{◌≡◌, nat_lt, true, false, rules}
 use Rattle.std.specs.List.Sorted.{IsPartitionPoint}
 use Rattle.std.proofs.lemmas.List.Sorted.{IsPartitionPoint-from_clause}
-use Rattle.edd_verdict.specs.declared.tight.Served.{Served}
+use Rattle.edd_oracle.specs.declared.cover.Served.{Served}
 use Rattle.edd_verdict.proofs.Parting.{dues_parted, due_place}
 use Rattle.edd_verdict.proofs.tight.later_than.Goals as goal
 

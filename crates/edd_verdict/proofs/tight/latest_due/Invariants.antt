@@ -1,5 +1,5 @@
 use Rattle.std.proofs.Common.{◌≡◌, ◌≤◌, ◌<◌, ℕ, ◌⊎◌, get_or}
-use Rattle.edd_verdict.specs.declared.tight.Served.{Served}
+use Rattle.edd_oracle.specs.declared.cover.Served.{Served}
 use Rattle.edd_verdict.proofs.tight.latest_due.Given as goal
 
 abbrev pub invariant-loop-place : goal.invariant-loop-place
