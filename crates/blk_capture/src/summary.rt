@@ -67,17 +67,11 @@ pub struct Summary {
 fn is_late_request(request: &CapturedRequest, dir: Dir) -> bool
     ensures { result ≡ is_late_request dir request.now }
 {
-    let goes = match (request.dir, dir) {
-        (Dir::Read, Dir::Read) => true,
-        (Dir::Read, Dir::Write) => false,
-        (Dir::Write, Dir::Read) => false,
-        (Dir::Write, Dir::Write) => true,
-    };
-    goes && request.deadline < request.dispatched
+    request.dir == dir && request.deadline < request.dispatched
 }
 
 /// How many of the requests of a direction went out after their deadline, by the clock.
-pub fn count_late(requests: &[CapturedRequest], dir: Dir) -> u64
+fn count_late(requests: &[CapturedRequest], dir: Dir) -> u64
     ensures { result ≡ count_by (is_late_request dir) requests.now }
 {
     let mut count = 0;

@@ -5,7 +5,6 @@ ghost use Rattle.std.specs.List.{cons_option};
 ghost use Rattle.blk_trace.specs.Kinds.{is_tick};
 ghost use Rattle.blk_trace.specs.declared.trace.TheConstants.{MAX_EVENTS};
 ghost use Rattle.blk_trace.specs.Meaning.{greatest};
-ghost use Rattle.blk_trace.specs.Setups.{same_dir};
 ghost use Rattle.blk_picture.specs.Boxes.{boxes_of};
 ghost use Rattle.blk_picture.specs.Filled.{made};
 ghost use Rattle.blk_picture.specs.Columns.{is_late, round_in, rounds_in, entry_in, entered_in, in_column, waits_of, peaks_of, rooms_of, column_of};
@@ -54,18 +53,6 @@ pub struct Column {
     pub write_waits: u32,
 }
 
-/// Whether two directions are one.
-fn is_same(dir: Dir, other: Dir) -> bool
-    ensures { result ≡ same_dir dir other }
-{
-    match (dir, other) {
-        (Dir::Read, Dir::Read) => true,
-        (Dir::Read, Dir::Write) => false,
-        (Dir::Write, Dir::Read) => false,
-        (Dir::Write, Dir::Write) => true,
-    }
-}
-
 /// Whether it was issued after it was due.
 pub(crate) fn is_late(issued: &IssueBox) -> bool
     ensures { result ≡ is_late issued.now }
@@ -79,12 +66,12 @@ fn round_in(kind: IssueKind, issued: &IssueBox) -> Option<u32>
 {
     let on_time = !issued.back && !is_late(issued);
     let counted = match kind {
-        IssueKind::Reads => on_time && is_same(issued.dir, Dir::Read),
-        IssueKind::Writes => on_time && is_same(issued.dir, Dir::Write),
+        IssueKind::Reads => on_time && issued.dir == Dir::Read,
+        IssueKind::Writes => on_time && issued.dir == Dir::Write,
         IssueKind::Lates => !issued.back && is_late(issued),
         IssueKind::Backs => issued.back,
-        IssueKind::GoneReads => !issued.back && is_same(issued.dir, Dir::Read),
-        IssueKind::GoneWrites => !issued.back && is_same(issued.dir, Dir::Write),
+        IssueKind::GoneReads => !issued.back && issued.dir == Dir::Read,
+        IssueKind::GoneWrites => !issued.back && issued.dir == Dir::Write,
     };
     if counted { Some(issued.round) } else { None }
 }
@@ -107,7 +94,7 @@ fn entry_in(event: &Event<Request>, round: u32, dir: Dir) -> Option<u32>
 {
     match event.releases() {
         Some((_, request)) => {
-            if is_same(request.dir(), dir) {
+            if request.dir() == dir {
                 Some(round)
             } else {
                 None

@@ -103,12 +103,7 @@ fn going<A: Allocator>(
 fn goes(service: &Service, dir: Dir) -> bool
     ensures { result ≡ same_dir service.now.dir dir }
 {
-    match (service.dir, dir) {
-        (Dir::Read, Dir::Read) => true,
-        (Dir::Read, Dir::Write) => false,
-        (Dir::Write, Dir::Read) => false,
-        (Dir::Write, Dir::Write) => true,
-    }
+    service.dir == dir
 }
 
 /// The quantiles of the waits.
