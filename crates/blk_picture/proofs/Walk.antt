@@ -14,7 +14,7 @@ use Rattle.blk_trace.specs.Events.{round_of, goes_back, request_of}
 use Rattle.blk_trace.specs.Meaning.{release_of, due_of}
 use Rattle.blk_trace.proofs.More.{round_more}
 use Rattle.blk_picture.specs.declared.boxes.IssueBox.{IssueBox}
-use Rattle.blk_picture.specs.declared.boxes.TheConstants.{TAG_NUMBERS}
+use Rattle.blk_picture.specs.declared.boxes.TheConstants.{MAX_TAGS}
 use Rattle.blk_picture.specs.declared.facts.Facts.{Facts}
 use Rattle.blk_picture.specs.Inside.Facts.{facts_with, facts_or, Knows}
 use Rattle.blk_picture.specs.Inside.Walked.{IsWalked}
@@ -111,7 +111,7 @@ same_round events place round e l is quiet h =
     omega (arith, h, now)
 
 -- over the end of an Issue
-pub walked_end : (setup : Setup) (events : List Happened) (place round t : ℕ) (e : Happened) (b : Bool) (backs new : List Bool) (boxes : List IssueBox) → place < length events → e ≡ get_or events place e → is_tick e ≡ false → ends e ≡ Some t → t < TAG_NUMBERS → b ≡ is_some (requeues e) → new ≡ set backs t b → IsWalked setup events (place + 1) round backs boxes → IsWalked setup events place round new boxes
+pub walked_end : (setup : Setup) (events : List Happened) (place round t : ℕ) (e : Happened) (b : Bool) (backs new : List Bool) (boxes : List IssueBox) → place < length events → e ≡ get_or events place e → is_tick e ≡ false → ends e ≡ Some t → t < MAX_TAGS → b ≡ is_some (requeues e) → new ≡ set backs t b → IsWalked setup events (place + 1) round backs boxes → IsWalked setup events place round new boxes
 walked_end setup events place round t e b backs new boxes l here quiet some low back n w =
     let is = sym here in
     record {
@@ -153,7 +153,7 @@ abbrev pub box_with : ℕ → ℕ → ℕ → Facts → Bool → IssueBox
 box_with id tag round f back = record { id = id; dir = f.dir; first = f.first; end = f.end; release = f.release; due = f.due; round = round; tag = tag; back = back }
 
 -- over an Issue
-pub walked_issue : (setup : Setup) (events : List Happened) (place round id tag : ℕ) (e : Happened) (o : Option Facts) (f : Facts) (back : Bool) (backs : List Bool) (boxes new : List IssueBox) → place < length events → e ≡ get_or events place e → is_tick e ≡ false → ends e ≡ None → issues e ≡ Some (id, tag) → tag < TAG_NUMBERS → Knows setup events id o → f ≡ facts_or o → back ≡ get_or backs tag false → new ≡ boxes ++ box_with id tag round f back ∷ [] → IsWalked setup events (place + 1) round backs boxes → IsWalked setup events place round backs new
+pub walked_issue : (setup : Setup) (events : List Happened) (place round id tag : ℕ) (e : Happened) (o : Option Facts) (f : Facts) (back : Bool) (backs : List Bool) (boxes new : List IssueBox) → place < length events → e ≡ get_or events place e → is_tick e ≡ false → ends e ≡ None → issues e ≡ Some (id, tag) → tag < MAX_TAGS → Knows setup events id o → f ≡ facts_or o → back ≡ get_or backs tag false → new ≡ boxes ++ box_with id tag round f back ∷ [] → IsWalked setup events (place + 1) round backs boxes → IsWalked setup events place round backs new
 walked_issue setup events place round id tag e o f back backs boxes new l here quiet none some low known fact read n w =
     let is = sym here in
     let later : List Happened = drop (place + 1) events in
@@ -170,7 +170,7 @@ walked_issue setup events place round id tag e o f back backs boxes new l here q
     }
 
 -- at the end of the events
-pub walked_none : (setup : Setup) (events : List Happened) (n : ℕ) (backs : List Bool) (boxes : List IssueBox) → n ≡ length events → round_of events ≤ MAX_EVENTS → backs ≡ replicate TAG_NUMBERS false → boxes ≡ [] → IsWalked setup events n (round_of events) backs boxes
+pub walked_none : (setup : Setup) (events : List Happened) (n : ℕ) (backs : List Bool) (boxes : List IssueBox) → n ≡ length events → round_of events ≤ MAX_EVENTS → backs ≡ replicate MAX_TAGS false → boxes ≡ [] → IsWalked setup events n (round_of events) backs boxes
 unfolding boxes_from goes_back
 walked_none setup events n backs boxes all few b none =
     let end : drop n events ≡ [] = drop_all n events (omega (arith, all)) in
@@ -179,8 +179,8 @@ walked_none setup events n backs boxes all few b none =
       small = few;
       few = omega (arith, all, ap length none);
       boxes_are = none ∙ sym (ap (boxes_from setup events (round_of events)) end);
-      tags = ap length b ∙ length-replicate TAG_NUMBERS false;
-      backs_are = λ tag h. ap (λ x. get_or x tag false) b ∙ get_or-replicate TAG_NUMBERS tag false false h ∙ sym (ap (goes_back tag) end);
+      tags = ap length b ∙ length-replicate MAX_TAGS false;
+      backs_are = λ tag h. ap (λ x. get_or x tag false) b ∙ get_or-replicate MAX_TAGS tag false false h ∙ sym (ap (goes_back tag) end);
     }
 
 -- at their start

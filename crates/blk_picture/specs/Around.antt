@@ -5,9 +5,9 @@ use Rattle.edd_figures.specs.declared.lateness.Figures.{Figures}
 use Rattle.blk_report.specs.declared.figures.Report.{Report}
 use Rattle.blk_report.specs.declared.missing.Tally.{Tally}
 use Rattle.blk_report.specs.Lines.{report_text}
-use Rattle.blk_picture.specs.declared.around.TheConstants.{MAX_CROWDS}
+use Rattle.blk_picture.specs.declared.around.TheConstants.{MAX_CROWDS, MAX_LABELLED}
 use Rattle.blk_picture.specs.declared.scale.Scale.{Scale}
-use Rattle.blk_picture.specs.declared.scale.TheConstants.{LEFT, MAX_WIDE, TOP}
+use Rattle.blk_picture.specs.declared.scale.TheConstants.{LEFT, MAX_AXIS_STEPS, MAX_WIDE, TOP}
 use Rattle.blk_picture.specs.Filled.{filled, texts}
 use Rattle.blk_picture.specs.Scales.{step_of}
 
@@ -36,7 +36,7 @@ tick_text scale n =
 
 -- the axis
 abbrev pub axis_text : Scale → List ℕ
-axis_text scale = texts (tick_text scale) 25 ++ codes "<text class='s e' x='58' y='17'>round</text>\n"
+axis_text scale = texts (tick_text scale) (MAX_AXIS_STEPS + 1) ++ codes "<text class='s e' x='58' y='17'>round</text>\n"
 
 -- the bracket of a window in a row, from the column of its first round to that of its last one, and its two numbers in its title
 abbrev pub line_text : Scale → ℕ → Crowd → List ℕ
@@ -62,7 +62,7 @@ no_crowd = record { window = record { from = 0; due = 0 }; commands = 0; carries
 
 -- the windows of misses, the first of them, in four rows; with their numbers where they are few
 abbrev pub crowd_text : Scale → List Crowd → ℕ → List ℕ
-crowd_text scale crowds n = codes "<path class='k'" ++ bracket_text scale (n % 4 + 1) (slice_index_or crowds n no_crowd) (nat_le (length crowds) 12)
+crowd_text scale crowds n = codes "<path class='k'" ++ bracket_text scale (n % 4 + 1) (slice_index_or crowds n no_crowd) (nat_le (length crowds) MAX_LABELLED)
 
 abbrev pub crowds_text : Scale → List Crowd → List ℕ
 crowds_text scale crowds = texts (crowd_text scale crowds) (min (length crowds) MAX_CROWDS)

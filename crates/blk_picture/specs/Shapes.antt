@@ -6,6 +6,7 @@ use Rattle.blk_picture.specs.declared.boxes.IssueBox.{IssueBox}
 use Rattle.blk_picture.specs.declared.scale.Scale.{Scale}
 use Rattle.blk_picture.specs.declared.scale.TheConstants.{LEFT, TOP}
 use Rattle.blk_picture.specs.declared.columns.Column.{Column}
+use Rattle.blk_picture.specs.declared.shapes.TheConstants.{MIN_LABEL_TALL}
 use Rattle.blk_picture.specs.Columns.{is_late}
 use Rattle.blk_picture.specs.Filled.{filled, texts}
 
@@ -41,7 +42,7 @@ apart b = cond (nat_lt b.round b.due) (b.due - b.round) (b.round - b.due)
 -- a number of rounds can be written inside a box
 abbrev pub fits : Scale → ℕ → Bool
 fits scale rounds =
-    nat_le 12 scale.tall && nat_lt rounds (cond (nat_lt scale.wide 10) 0 (cond (nat_lt scale.wide 16) 10 (cond (nat_lt scale.wide 22) 100 (cond (nat_lt scale.wide 28) 1000 10000))))
+    nat_le MIN_LABEL_TALL scale.tall && nat_lt rounds (cond (nat_lt scale.wide 10) 0 (cond (nat_lt scale.wide 16) 10 (cond (nat_lt scale.wide 22) 100 (cond (nat_lt scale.wide 28) 1000 10000))))
 
 abbrev pub label_words : Dir → List ℕ
 label_words Read = codes "<text class='n o' x='$' y='$'>$</text>\n"

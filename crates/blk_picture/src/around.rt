@@ -4,7 +4,7 @@ ghost use Rattle.std.specs.Prelude.{◌≡◌, ◌<◌, ◌++◌, OnOk, length};
 ghost use Rattle.blk_picture.specs.Around.{numbers_text, legend, heading_text, tick_text, axis_text, column_at, line_text, named_text, bracket_text, crowded_text, crowd_text, crowds_text, foot_text, windows_text};
 
 use crate::filled::fill;
-use crate::scale::{LEFT, MAX_WIDE, Scale, TOP, place, step_of};
+use crate::scale::{LEFT, MAX_AXIS_STEPS, MAX_WIDE, Scale, TOP, place, step_of};
 use blk_report::{Report, Tally, report_lines};
 use drafts::Draft;
 use edd_figures::{Crowd, Figures};
@@ -12,6 +12,9 @@ use std::alloc::{AllocError, Global};
 
 /// How many windows of misses are drawn at most.
 const MAX_CROWDS: usize = 400;
+
+/// How many windows of misses there are at most where each has its numbers below it.
+const MAX_LABELLED: usize = 12;
 
 /// Adds what was late, and what a column stands for.
 fn push_numbers(draft: &mut Draft, scale: &Scale, tally: &Tally) -> Result<(), AllocError>
@@ -92,7 +95,7 @@ fn push_axis(draft: &mut Draft, scale: &Scale) -> Result<(), AllocError>
     requires { 0 < scale.now.per }
     ensures { OnOk result (draft.new ≡ draft.old ++ axis_text scale.now) }
 {
-    for number in 0..25 {
+    for number in 0..MAX_AXIS_STEPS + 1 {
         push_tick(draft, scale, number)?;
     }
     draft.text(b"<text class='s e' x='58' y='17'>round</text>\n")
@@ -196,7 +199,7 @@ fn push_crowd(
     requires within { number < length crowds.now }
     ensures { OnOk result (draft.new ≡ draft.old ++ crowd_text scale.now crowds.now number) }
 {
-    let labelled = crowds.len() <= 12;
+    let labelled = crowds.len() <= MAX_LABELLED;
     let row = (number % 4 + 1) as u32;
     let crowd = crowds[number];
     draft.text(b"<path class='k'")?;

@@ -14,8 +14,8 @@ use blk_trace::Trace;
 use std::alloc::{AllocError, Global};
 use std::collections::BTreeMap;
 
-/// How many numbers of tags there are: those of 16 bits.
-const TAG_NUMBERS: usize = 1 << 16;
+/// How many tags there are at most: the numbers of 16 bits.
+const MAX_TAGS: usize = 1 << 16;
 
 /// An Issue, with the request as it was issued.
 #[derive(Clone, Copy)]
@@ -110,7 +110,7 @@ pub(crate) fn boxes(alloc: Global, trace: &Trace) -> Result<Vec<IssueBox>, Alloc
     let setup = trace.setup();
     let facts = gathered(alloc, &setup, trace.events())?;
     let mut backs = Vec::new(alloc);
-    backs.resize(TAG_NUMBERS, false)?;
+    backs.resize(MAX_TAGS, false)?;
     let mut boxes = Vec::new(alloc);
     let mut round = trace.round();
     let mut left = trace.events().len();

@@ -4,6 +4,7 @@ ghost use Rattle.std.specs.Prelude.{ℕ, List, ◌≡◌, ◌++◌, ◌*◌, ◌
 ghost use Rattle.edd_commands.specs.declared.steps.TheConstants.{MAX_DEPTH};
 ghost use Rattle.blk_trace.specs.declared.trace.TheConstants.{MAX_EVENTS};
 ghost use Rattle.blk_picture.specs.declared.parts.TheConstants.{MAX_TRACES};
+ghost use Rattle.blk_picture.specs.declared.scale.TheConstants.{MAX_TAG_TALL};
 ghost use Rattle.blk_picture.specs.Scales.{scale_of};
 ghost use Rattle.blk_picture.specs.Pictures.{rounds_shown, most_rounds, most_deep, latest_end, crowded_room, IsPart, height_of, style, head_text, IsPicture, IsPictures};
 ghost use Rattle.blk_picture.specs.Inside.Several.{HasParts};
@@ -95,7 +96,7 @@ fn push_part(
 /// How many pixels a part is high.
 fn height_of(scale: &Scale) -> u32
     requires deep { scale.now.deep ≤ MAX_DEPTH }
-    requires tall { scale.now.tall ≤ 24 }
+    requires tall { scale.now.tall ≤ MAX_TAG_TALL }
     ensures { result ≡ height_of scale.now }
 {
     let tall = place(scale.deep, scale.tall, 372);
@@ -152,7 +153,7 @@ fn shared(traces: &[Trace]) -> Scale
     ensures scale { result ≡ scale_of (most_rounds traces.now) (most_deep traces.now) }
     ensures deep { result.deep ≤ MAX_DEPTH }
     ensures some { 0 < result.per }
-    ensures low { result.tall ≤ 24 }
+    ensures low { result.tall ≤ MAX_TAG_TALL }
 {
     let mut rounds = 0;
     let mut deep = 0;
@@ -175,7 +176,7 @@ fn push_parts(
     requires few { length traces.now ≤ MAX_TRACES }
     requires some { 0 < scale.per }
     requires deep { scale.deep ≤ MAX_DEPTH }
-    requires tall { scale.tall ≤ 24 }
+    requires tall { scale.tall ≤ MAX_TAG_TALL }
     ensures { OnOk result (HasParts scale (map (λ n. n.now) names.now) traces.now draft.old draft.new) }
 {
     let height = height_of(&scale);

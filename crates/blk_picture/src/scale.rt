@@ -1,13 +1,37 @@
 //! How a picture is laid out: which rounds a column stands for, and where things lie, in pixels.
 
 ghost use Rattle.std.specs.Prelude.{◌≡◌, ◌≤◌, ◌<◌, ◌+◌, ◌*◌, ◌^◌};
-ghost use Rattle.blk_picture.specs.Scales.{scale_of, step_of};
+ghost use Rattle.blk_picture.specs.declared.scale.TheConstants.{MAX_TAG_TALL};
+ghost use Rattle.blk_picture.specs.Scales.{fits_axis, scale_of, step_of};
 
 /// The most columns of a picture.
 const MAX_COLUMNS: u32 = 400;
 
 /// How many pixels all columns take at most.
 pub const MAX_WIDE: u32 = 1200;
+
+/// How many pixels a column is wide at most.
+const MAX_COLUMN_WIDE: u32 = 40;
+
+/// How many pixels all tags take at most, but for so many that each has the least height.
+const MAX_TALL: u32 = 384;
+
+/// How many pixels a tag is high at least.
+const MIN_TAG_TALL: u32 = 3;
+
+/// How many pixels a tag is high at most.
+pub(crate) const MAX_TAG_TALL: u32 = 24;
+
+/// The most steps of the axis, each from a number to the next.
+pub(crate) const MAX_AXIS_STEPS: u32 = 24;
+
+/// How many rounds a step of the axis may stand for, the fewest first: 1, 2 or 5 times a power of ten.
+const STEPS: [u32; 15] = [
+    1, 2, 5, 10, 20, 50, 100, 200, 500, 1000, 2000, 5000, 10_000, 20_000, 50_000,
+];
+
+/// How many rounds a step stands for where none of these fits.
+const MAX_STEP: u32 = 100_000;
 
 /// Where the columns begin, from the left.
 pub const LEFT: u32 = 64;
@@ -39,7 +63,7 @@ impl Scale {
         requires { rounds ≤ 2 ^ 30 }
         ensures scale { result ≡ scale_of rounds deep }
         ensures some { 0 < result.per }
-        ensures low { result.tall ≤ 24 }
+        ensures low { result.tall ≤ MAX_TAG_TALL }
         ensures deep { result.deep ≡ deep }
     {
         let per = ((rounds + (MAX_COLUMNS - 1)) / MAX_COLUMNS).max(1);
@@ -48,51 +72,30 @@ impl Scale {
             rounds,
             per,
             columns,
-            wide: (MAX_WIDE / columns).min(40),
+            wide: (MAX_WIDE / columns).min(MAX_COLUMN_WIDE),
             deep,
-            tall: (384 / deep.max(1)).max(3).min(24),
+            tall: (MAX_TALL / deep.max(1)).max(MIN_TAG_TALL).min(MAX_TAG_TALL),
         }
     }
 }
 
-/// The rounds between two numbers of the axis: 1, 2 or 5 times a power of ten, such that there are few of them.
-#[tactic(auto, unfolding(crate::specs::Scales::step_of))]
+/// Whether all the rounds are at most [`MAX_AXIS_STEPS`] steps of this size.
+fn fits_axis(rounds: u32, step: u32) -> bool
+    ensures { result ≡ fits_axis rounds step }
+{
+    u64::from(rounds) <= u64::from(MAX_AXIS_STEPS) * u64::from(step)
+}
+
+/// The rounds between two numbers of the axis: the first of [`STEPS`] that fits, or the greatest step.
 pub(crate) fn step_of(rounds: u32) -> u32
     ensures { result ≡ step_of rounds }
 {
-    if rounds <= 24 {
-        1
-    } else if rounds <= 48 {
-        2
-    } else if rounds <= 120 {
-        5
-    } else if rounds <= 240 {
-        10
-    } else if rounds <= 480 {
-        20
-    } else if rounds <= 1200 {
-        50
-    } else if rounds <= 2400 {
-        100
-    } else if rounds <= 4800 {
-        200
-    } else if rounds <= 12_000 {
-        500
-    } else if rounds <= 24_000 {
-        1000
-    } else if rounds <= 48_000 {
-        2000
-    } else if rounds <= 120_000 {
-        5000
-    } else if rounds <= 240_000 {
-        10_000
-    } else if rounds <= 480_000 {
-        20_000
-    } else if rounds <= 1_200_000 {
-        50_000
-    } else {
-        100_000
+    for step in &STEPS {
+        if fits_axis(rounds, *step) {
+            return *step;
+        }
     }
+    MAX_STEP
 }
 
 /// Where a thing lies: a number of lengths from a place.

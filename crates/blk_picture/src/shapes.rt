@@ -11,6 +11,9 @@ use blk_bio::Dir;
 use drafts::Draft;
 use std::alloc::AllocError;
 
+/// How many pixels a tag is high at least where a number is written inside a box.
+const MIN_LABEL_TALL: u32 = 12;
+
 /// How a box begins, by its class.
 fn class_words(issued: &IssueBox) -> &'static [u8]
     ensures { result.now ≡ class_words issued.now }
@@ -75,7 +78,7 @@ fn fits(scale: &Scale, rounds: u64) -> bool
         22..28 => 1000,
         _ => 10_000,
     };
-    12 <= scale.tall && rounds < most
+    MIN_LABEL_TALL <= scale.tall && rounds < most
 }
 
 /// Adds how many rounds late it was, inside its box, where it was late and the number fits.

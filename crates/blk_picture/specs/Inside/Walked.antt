@@ -5,7 +5,7 @@ use Rattle.blk_trace.specs.Happened.{Happened}
 use Rattle.blk_trace.specs.Setups.{Setup}
 use Rattle.blk_trace.specs.Events.{round_of, goes_back}
 use Rattle.blk_picture.specs.declared.boxes.IssueBox.{IssueBox}
-use Rattle.blk_picture.specs.declared.boxes.TheConstants.{TAG_NUMBERS}
+use Rattle.blk_picture.specs.declared.boxes.TheConstants.{MAX_TAGS}
 use Rattle.blk_picture.specs.Boxes.{boxes_from}
 
 -- the boxes of the events that were walked, the round of the others, and whether the next end of each tag is a requeue
@@ -14,5 +14,5 @@ pub record IsWalked (setup : Setup) (events : List Happened) (place round : ℕ)
   pub small : round ≤ MAX_EVENTS
   pub few : length boxes + place ≤ length events
   pub boxes_are : boxes ≡ boxes_from setup events round (drop place events)
-  pub tags : length backs ≡ TAG_NUMBERS
-  pub backs_are : (tag : ℕ) → tag < TAG_NUMBERS → slice_index_or backs tag false ≡ goes_back tag (drop place events)
+  pub tags : length backs ≡ MAX_TAGS
+  pub backs_are : (tag : ℕ) → tag < MAX_TAGS → slice_index_or backs tag false ≡ goes_back tag (drop place events)

@@ -7,7 +7,7 @@ use Rattle.blk_picture.specs.Inside.Facts.{Knows}
 use Rattle.blk_trace.specs.Events.{round_of}
 use Rattle.blk_picture.specs.Inside.Walked.{IsWalked}
 use Rattle.blk_picture.proofs.Walk.{filled_up, walked_none, walked_all}
-use Rattle.blk_picture.specs.declared.boxes.TheConstants.{TAG_NUMBERS}
+use Rattle.blk_picture.specs.declared.boxes.TheConstants.{MAX_TAGS}
 use Rattle.blk_picture.proofs.boxes.boxes.Goals as goal
 
 pub loop-left-init : goal.loop-left-init
@@ -18,7 +18,7 @@ loop-left-init c =
       within = omega (arith, all);
       facts = λ id. subst (λ (s : Setup). Knows s t.events id (get nat_cmp c.in_ok-facts.facts id)) c.setup-setup.ensures (subst (λ (l : List Happened). Knows c.setup-setup.result l id (get nat_cmp c.in_ok-facts.facts id)) c.events.ensures.events (c.in_ok-facts.ensures id));
       walked = subst (λ (r : ℕ). IsWalked t.setup t.events (length c.events-left.result.now) r c.resize.new.self.items c.new-boxes.result.items) (sym c.round-round.ensures.value)
-          (walked_none t.setup t.events (length c.events-left.result.now) c.resize.new.self.items c.new-boxes.result.items all (omega (arith, c.round-round.ensures.value, c.round-round.ensures.few)) (c.in_ok-resize.ensures.items ∙ filled_up TAG_NUMBERS c.new-backs.result.items _ c.new-backs.ensures.items c.new-backs.ensures.len) c.new-boxes.ensures.items);
+          (walked_none t.setup t.events (length c.events-left.result.now) c.resize.new.self.items c.new-boxes.result.items all (omega (arith, c.round-round.ensures.value, c.round-round.ensures.few)) (c.in_ok-resize.ensures.items ∙ filled_up MAX_TAGS c.new-backs.result.items _ c.new-backs.ensures.items c.new-backs.ensures.len) c.new-boxes.ensures.items);
     }
 
 pub loop-left-preserved : goal.loop-left-preserved
