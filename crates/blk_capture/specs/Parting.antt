@@ -30,7 +30,7 @@ abbrev pub fate_in : ℕ → ℕ → Fate → Fate
 fate_in from n (fate.Taken k) = fate_at (place_in from n (Some k))
 fate_in from n f = f
 
--- the bios and the fates of all records, where of the requests that went out from a time on n are taken
+-- the bios and the fates when only the first n requests dispatched from a time on are kept
 abbrev pub part_bios : {A : Type 0} → ℕ → ℕ → Matched A → List CapturedBio
 part_bios begin n m = map (bio_in (gone_before begin m.requests.items) n) m.bios.items
 

@@ -33,7 +33,7 @@ abbrev pub earlier_of : Option ℕ → ℕ → ℕ
 earlier_of None time = time
 earlier_of (Some earlier) time = min earlier time
 
--- by when a request was due that came in at `entry`, and into which one was merged that was due by `earlier`
+-- the deadline of a request that came in at `entry`; `earlier` is that of a request merged into it
 abbrev pub deadline_of : Options → Dir → ℕ → Option ℕ → ℕ
 deadline_of options dir entry earlier = earlier_of earlier (min (entry + expire_for options dir) (2 ^ 64 - 1))
 

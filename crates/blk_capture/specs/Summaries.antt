@@ -51,7 +51,7 @@ wait_by Device q = until_known q.dispatched q.completed
 abbrev pub percent_rank : ℕ → ℕ → ℕ
 percent_rank percent n = (percent * n + 99) / 100
 
--- of numbers in their order the one at that place, counted from 1, if there are some
+-- the one at that rank of sorted numbers, counted from 1; None where there are none
 abbrev pub at_percent : ℕ → List ℕ → Option ℕ
 at_percent percent sorted = slice_get sorted (percent_rank percent (length sorted) - 1)
 

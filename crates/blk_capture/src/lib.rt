@@ -24,5 +24,5 @@ pub use record::{Action, Op, PassReason, Record};
 pub use requests::{
     CaptureFault, CapturedBio, CapturedRequest, Entry, Matched, Options, match_records, rounds_of,
 };
-pub use summary::{Spread, Summary, Wait, count_late, most_in_flight, spread_waits, summarize};
+pub use summary::{Spread, Summary, Wait, summarize};
 pub use table::{RequestRow, rows_of};

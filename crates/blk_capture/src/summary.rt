@@ -162,7 +162,7 @@ fn spread_of(values: &mut [u64]) -> Spread
 /// How long the requests waited, of those of which both ends are known. At most [`edd_commands::MAX_COMMANDS`] requests. Fails only when
 /// out of memory. The time grows as n log n.
 #[tactic(auto, using(crate::proofs::Flying::few_known))]
-pub fn spread_waits<A: Allocator>(
+fn spread_waits<A: Allocator>(
     alloc: A,
     requests: &[CapturedRequest],
     wait: Wait,
@@ -245,10 +245,7 @@ fn most_at_once(requests: &[CapturedRequest], completions: &mut [u64]) -> u64
 
 /// The most of the requests that were at the device at once. What was completed at the very time of a dispatch was back by then. The requests
 /// are as [`crate::match_records`] gives them. Fails only when out of memory. The time grows as n log n.
-pub fn most_in_flight<A: Allocator>(
-    alloc: A,
-    requests: &[CapturedRequest],
-) -> Result<u64, AllocError>
+fn most_in_flight<A: Allocator>(alloc: A, requests: &[CapturedRequest]) -> Result<u64, AllocError>
     requires { AreTimed requests.now }
     ensures { IfOk result (IsMostInFlight requests.now) }
 {

@@ -11,7 +11,7 @@ mod step;
 mod table;
 
 pub use crate::importing::{ImportAsked, ImportFault, first_time, import};
-pub use crate::numbers::{UnusedCounts, count_fates, notice_text, summary_text, write_summary};
+pub use crate::numbers::{UnusedCounts, count_fates, notice_text, write_summary};
 pub use crate::reading::{CAPTURE, MAX_RECORDS, read_capture};
 pub use crate::schedule::schedule_of;
 pub use crate::shown::{ShownImport, shown_text};

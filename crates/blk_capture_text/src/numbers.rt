@@ -177,7 +177,7 @@ fn push_counts(draft: &mut Draft, left_out: u64, counts: &UnusedCounts) -> Resul
 }
 
 /// The lines of a summary.
-pub fn summary_text(
+pub(crate) fn summary_text(
     alloc: Global,
     summary: &Summary,
     left_out: u64,
@@ -192,14 +192,14 @@ pub fn summary_text(
     draft.finish()
 }
 
-/// Writes a summary, at once where all of it could be made: lines of a word, a space and a number, `records`, `bios`, `requests`,
-/// `merges`, `late-reads`, `late-writes`; then `q-to-g`, `i-to-d` and `d-to-c` with the median, the 99th of a hundred and the greatest of
-/// these waits in nanoseconds, or three times `none`; `in-flight`; `left-out`, requests that were opened and are not taken; and of
-/// records `unmatched`, and what was passed over: `plugs`, `unplugs`, `actions`, `discards`, `erases`, `flushes`, `others`, `empty`,
-/// `past-end`.
+/// Writes a summary once the whole text is built: lines of a word, a space and a number, `records`, `bios`, `requests`, `merges`,
+/// `late-reads`, `late-writes`; then `q-to-g`, `i-to-d` and `d-to-c` with the median, the 99th of a hundred and the greatest of
+/// these waits in nanoseconds, or three times `none`; `in-flight`; `left-out`, requests that were opened and are not taken; and
+/// of records `unmatched`, and what was passed over: `plugs`, `unplugs`, `actions`, `discards`, `erases`, `flushes`, `others`,
+/// `empty`, `past-end`.
 ///
-/// [`WriteFault::Write`]: the writer answered a fault; what it took before, a first part of the text, is out, and nothing says how
-/// much that is. [`WriteFault::Memory`]: nothing was handed to the writer.
+/// [`WriteFault::Write`]: the writer answered a fault, and a prefix of the text, of unknown length, may be out.
+/// [`WriteFault::Memory`]: nothing was handed to the writer.
 pub fn write_summary<W: Write>(
     alloc: Global,
     summary: &Summary,

@@ -91,12 +91,12 @@ pub fn table_text(alloc: Global, rows: &[RequestRow]) -> Result<Vec<u8>, AllocEr
     draft.finish()
 }
 
-/// Writes requests as records of comma-separated fields, at once where all of it could be made: the head line
-/// `id,dir,first,sectors,bios,pid,queued,inserted,dispatched,completed,due`, and a line for each, in their order. The direction is `R`
-/// or `W`, times are in nanoseconds, and one that isn't known is empty.
+/// Writes requests as records of comma-separated fields once the whole text is built: the head line
+/// `id,dir,first,sectors,bios,pid,queued,inserted,dispatched,completed,due`, and a line for each, in their order. The direction
+/// is `R` or `W`, times are in nanoseconds, and one that isn't known is empty.
 ///
-/// [`WriteFault::Write`]: the writer answered a fault; what it took before, a first part of the text, is out, and nothing says how
-/// much that is. [`WriteFault::Memory`]: nothing was handed to the writer.
+/// [`WriteFault::Write`]: the writer answered a fault, and a prefix of the text, of unknown length, may be out.
+/// [`WriteFault::Memory`]: nothing was handed to the writer.
 pub fn write_table<W: Write>(
     alloc: Global,
     rows: &[RequestRow],

@@ -80,7 +80,7 @@ abbrev pub bound_line : ℤ → ℕ → ℕ → List ℕ
 bound_line late load carries =
     codes "ok lateness " ++ (signed_decimal late ++ (codes " load " ++ (decimal load ++ (codes " carries " ++ (decimal carries ++ 10 ∷ [])))))
 
--- what is written of it in a form, and of one without commands
+-- the line for a certificate, as text or JSON; the next word is for one without commands
 abbrev pub bound_in : Form → ℤ → ℕ → ℕ → List ℕ
 bound_in form.Lines late load carries = bound_line late load carries
 bound_in form.Json late load carries = bound_json late load carries

@@ -75,8 +75,7 @@ abbrev pub EndsPutOn : {W F : Type 0} → (W → Option (List ℕ)) → (F → O
 EndsPutOn held said s old new faults_old faults_new ended =
     EndsPut s (stream_of held old) (stream_of held new) (stream_of said faults_old) (stream_of said faults_new) ended
 
--- how a run of the program ended, by the records and the bytes of its input and whether their reader has failed, and by what the writers
--- of its output and of its faults hold before and after: it wrote the text of its answer, or nothing at all
+-- how a run ends, given its input and what both writers hold before and after: it wrote the text of its answer, or nothing at all
 abbrev pub RunEnds : List (List ℕ) → Option (List Row) → Option (List ℕ) → Bool → Stream → Stream → Stream → Stream → Ended → Type 0
 RunEnds words input bytes failed old new faults_old faults_new ended =
     ((s : Said) × Answers words input bytes s × EndsPut s old new faults_old faults_new ended)

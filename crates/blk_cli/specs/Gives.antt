@@ -52,7 +52,7 @@ GivesText (job.Tune t) input text = ⊥
 GivesText (job.Judge e) input text = Of SpellsSchedule (IsJudgedText e) input text
 GivesText (job.Load s l w) input text = IsLoadOf s w l text
 
--- what it answers to the words that ask for it, of the records of its input and of its bytes, where these are known
+-- the answer of a job to its words and its input: the records and the bytes, where they are known
 abbrev pub GivesAnswer : List (List ℕ) → Job → Option (List Row) → Option (List ℕ) → Said → Type 0
 GivesAnswer words (job.Import i) input bytes s = Of SpellsCapture (IsImported i) input s
 GivesAnswer words job.Explain input bytes s = IsTextExplained bytes s

@@ -42,10 +42,10 @@ use std::sync::Wait;
 use std::thread::Threads;
 
 /// The exit status of a run that did what it was asked.
-pub const GOOD: u8 = 0;
+const GOOD: u8 = 0;
 
 /// The exit status of refused input.
-pub const REFUSED: u8 = 1;
+const REFUSED: u8 = 1;
 
 /// The exit status of words that are no command line of the program.
 pub const COMMAND_LINE: u8 = 2;
@@ -238,9 +238,9 @@ pub fn answer<L: Loads, T: Threads + Wait + Sync, R: Read + Drop, P: Progress>(
     }
 }
 
-/// Writes the text of an answer, the one call by which anything reaches the output, and says its note. Where the writer fails it has
-/// taken a first part of the text, the note isn't said, and the line that says so goes to `faults`.
-pub fn put_out<W: Write, F: Write>(
+/// Writes the text of an answer, the one call by which anything reaches the output, and says its note. Where the writer fails, a
+/// prefix of the text is out, the note isn't said, and a line to `faults` says that the write failed.
+fn put_out<W: Write, F: Write>(
     answer: &Answered,
     out: &mut Output<W>,
     faults: &mut Output<F>,
@@ -254,9 +254,9 @@ pub fn put_out<W: Write, F: Write>(
     }
 }
 
-/// Runs the program on the words of its command line, the first of which is its name: reads the input from `records`, writes the
-/// output to `out`, and where there is none, or not all of it, a line on why to `faults`. Loads are run by `loads`, on the threads of
-/// `rt`, and so are trials, which tell `progress` how far they have come. Answers how it ended.
+/// Runs the program on the words of its command line, the first of which is its name: reads the input from `records` and writes the
+/// output to `out`. On failure, or where the output leaves something out, it writes one line to `faults`. Loads are run by `loads`, on
+/// the threads of `rt`, and so are trials, which tell `progress` how far they have come. Answers how it ended.
 pub fn run<L: Loads, T: Threads + Wait + Sync, R: Read + Drop, W: Write, F: Write, P: Progress>(
     loads: &L,
     rt: &T,

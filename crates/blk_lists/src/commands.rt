@@ -133,13 +133,13 @@ pub fn commands_text(alloc: Global, depth: u64, commands: &[Command]) -> Result<
     draft.finish()
 }
 
-/// Writes the text of a depth and a list of commands, at once where all of it could be made.
+/// Writes the text of a depth and a list of commands once all of it is built.
 ///
 /// There are at most 1,000,000 commands, and the numbers lie in the ranges of the form: a depth of
 /// 1 to 256, releases below round 2^40, dues below round 2^41.
 ///
-/// [`WriteFault::Write`]: the writer answered a fault; what it took before, a first part of the text, is out, and
-/// nothing says how much that is. [`WriteFault::Memory`]: nothing was handed to the writer.
+/// [`WriteFault::Write`]: the writer answered a fault, and a prefix of the text, of unknown length, may be out.
+/// [`WriteFault::Memory`]: nothing was handed to the writer.
 pub fn write_commands<W: Write>(
     alloc: Global,
     depth: u64,

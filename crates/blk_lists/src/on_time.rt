@@ -246,13 +246,13 @@ pub fn on_time_text(alloc: Global, certificate: &OnTimeCertificate) -> Result<Ve
     draft.finish()
 }
 
-/// Writes the text of a certificate, at once where all of it could be made.
+/// Writes the text of a certificate once all of it is built.
 ///
 /// There are at most 1,000,000 commands with a round each and at most 1,000,000 windows, and the numbers lie in the ranges
 /// of the form.
 ///
-/// [`WriteFault::Write`]: the writer answered a fault; what it took before, a first part of the text, is out, and
-/// nothing says how much that is. [`WriteFault::Memory`]: nothing was handed to the writer.
+/// [`WriteFault::Write`]: the writer answered a fault, and a prefix of the text, of unknown length, may be out.
+/// [`WriteFault::Memory`]: nothing was handed to the writer.
 pub fn write_on_time<W: Write>(
     alloc: Global,
     certificate: &OnTimeCertificate,

@@ -285,13 +285,13 @@ pub fn schedule_text(alloc: Global, schedule: &Schedule) -> Result<Vec<u8>, Allo
     draft.finish()
 }
 
-/// Writes the text of a schedule, at once where all of it could be made.
+/// Writes the text of a schedule once all of it is built.
 ///
 /// There are at most 1,000,000 commands, no two of one id, with a round each, and the numbers lie in the ranges of the
 /// form: a depth of 1 to 256, releases below round 2^40, dues and rounds below 2^41.
 ///
-/// [`WriteFault::Write`]: the writer answered a fault; what it took before, a first part of the text, is out, and
-/// nothing says how much that is. [`WriteFault::Memory`]: nothing was handed to the writer.
+/// [`WriteFault::Write`]: the writer answered a fault, and a prefix of the text, of unknown length, may be out.
+/// [`WriteFault::Memory`]: nothing was handed to the writer.
 pub fn write_schedule<W: Write>(
     alloc: Global,
     schedule: &Schedule,

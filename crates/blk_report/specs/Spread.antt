@@ -20,7 +20,7 @@ late_by s = pos s.issue -ℤ pos s.due
 abbrev pub nearest_rank : ℕ → ℕ → ℕ
 nearest_rank thousandths n = (thousandths * n + 999) / 1000
 
--- of numbers in their order the one at that place, counted from 1, if there are some
+-- the one at that rank of sorted numbers, counted from 1; None where there are none
 abbrev pub at_rank : ℕ → List ℤ → Option ℤ
 at_rank thousandths sorted = slice_get sorted (nearest_rank thousandths (length sorted) - 1)
 

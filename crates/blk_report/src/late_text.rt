@@ -84,13 +84,13 @@ pub fn drafted(alloc: Global, late: &[LateCommand]) -> Result<Vec<u8>, AllocErro
     draft.finish()
 }
 
-/// Writes late commands as records of comma-separated fields, at once where all of it could be made: the head line
-/// `id,dir,first,sectors,release,due,issue,lateness,sooner,later,idle,verdict,from,until`, and a line for each, in their order. The
-/// direction is `R` or `W`; sectors and rounds are as in the trace. The verdict is `arrival` or `spare` before two empty fields, or
-/// `full` before the first and the last round of its window.
+/// Writes late commands as records of comma-separated fields once the whole text is built: the head line
+/// `id,dir,first,sectors,release,due,issue,lateness,sooner,later,idle,verdict,from,until`, and a line for each, in their order.
+/// The direction is `R` or `W`; sectors and rounds are as in the trace. The verdict is `arrival` or `spare` before two empty
+/// fields, or `full` before the first and the last round of its window.
 ///
-/// [`WriteFault::Write`]: the writer answered a fault; what it took before, a first part of the text, is out, and nothing says how
-/// much that is. [`WriteFault::Memory`]: nothing was handed to the writer.
+/// [`WriteFault::Write`]: the writer answered a fault, and a prefix of the text, of unknown length, may be out.
+/// [`WriteFault::Memory`]: nothing was handed to the writer.
 pub fn write_late<W: Write>(
     alloc: Global,
     late: &[LateCommand],

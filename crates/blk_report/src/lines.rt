@@ -23,12 +23,12 @@ pub fn drafted(alloc: Global, report: &Report) -> Result<Vec<u8>, AllocError>
     draft.finish()
 }
 
-/// Writes a report, at once where all of it could be made: eight lines, each a word, a space and its value, `commands`, `waiting`
-/// (bios), `depth`, `greatest`, `least`, `shortfall`, `window` (two rounds with a space between) and `load`. Without commands the
-/// last five have the value `none`.
+/// Writes a report once the whole text is built: eight lines, each a word, a space and its value, `commands`, `waiting` (bios),
+/// `depth`, `greatest`, `least`, `shortfall`, `window` (two rounds with a space between) and `load`. Without commands the last
+/// five have the value `none`.
 ///
-/// [`WriteFault::Write`]: the writer answered a fault; what it took before, a first part of the text, is out, and nothing says how
-/// much that is. [`WriteFault::Memory`]: nothing was handed to the writer.
+/// [`WriteFault::Write`]: the writer answered a fault, and a prefix of the text, of unknown length, may be out.
+/// [`WriteFault::Memory`]: nothing was handed to the writer.
 pub fn write<W: Write>(alloc: Global, report: &Report, writer: &mut W) -> Result<(), WriteFault>
     ensures ok { OnOk result (Appends (W.contents writer.old) (W.contents writer.new) (report_text report.now)) }
     ensures memory { IfErr result (λ f. f ≡ WriteFault.Memory → writer.new ≡ writer.old) }

@@ -34,12 +34,12 @@ pub fn drafted<A: Allocator>(alloc: Global, missed: &Missed<A>) -> Result<Vec<u8
     draft.finish()
 }
 
-/// Writes how many commands were late, at once where all of it could be made: the lines `commands N`, `late M`, `unavoidable U`,
-/// `avoidable A`, `spare S`, `waiting W` and `overdue O`, and one for each window, `window FROM UNTIL commands C carries K`: C
-/// commands are released and due in the rounds FROM to UNTIL, and these carry K.
+/// Writes how many commands were late once the whole text is built: the lines `commands N`, `late M`, `unavoidable U`, `avoidable
+/// A`, `spare S`, `waiting W` and `overdue O`, and one for each window, `window FROM UNTIL commands C carries K`: C commands are
+/// released and due in the rounds FROM to UNTIL, and these carry K.
 ///
-/// [`WriteFault::Write`]: the writer answered a fault; what it took before, a first part of the text, is out, and nothing says how
-/// much that is. [`WriteFault::Memory`]: nothing was handed to the writer.
+/// [`WriteFault::Write`]: the writer answered a fault, and a prefix of the text, of unknown length, may be out.
+/// [`WriteFault::Memory`]: nothing was handed to the writer.
 pub fn write_misses<A: Allocator, W: Write>(
     alloc: Global,
     missed: &Missed<A>,

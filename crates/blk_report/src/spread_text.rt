@@ -76,12 +76,12 @@ pub fn drafted(alloc: Global, spread: &Spreads) -> Result<Vec<u8>, AllocError>
     draft.finish()
 }
 
-/// Writes a spread as records of comma-separated fields, at once where all of it could be made: the head line
+/// Writes a spread as records of comma-separated fields once the whole text is built: the head line
 /// `what,dir,count,p50,p90,p99,p999,max`, and a line for the waits of the reads (`wait,R`), of the writes (`wait,W`) and of both
 /// (`wait,all`), and for their latenesses (`lateness`) the same three. A quantile of no commands is `none`.
 ///
-/// [`WriteFault::Write`]: the writer answered a fault; what it took before, a first part of the text, is out, and nothing says how
-/// much that is. [`WriteFault::Memory`]: nothing was handed to the writer.
+/// [`WriteFault::Write`]: the writer answered a fault, and a prefix of the text, of unknown length, may be out.
+/// [`WriteFault::Memory`]: nothing was handed to the writer.
 pub fn write_spread<W: Write>(
     alloc: Global,
     spread: &Spreads,

@@ -98,13 +98,13 @@ pub fn drafted(alloc: Global, names: &[&[u8]], reports: &[Report]) -> Result<Vec
     draft.finish()
 }
 
-/// Writes the table of some reports, each under its scheduler's name, at once where all of it could be made: a head line, a line
-/// for each, the name at the left of 8 places and then the commands, the waiting bios, the greatest lateness, the least and the
-/// shortfall, each at the right of 10 places (`none` where there is no number), and a last line `best NAME` that names the report
-/// that [`compare`] picks, or `best none-served`. What needs more places is not cut.
+/// Writes the table of some reports, each under its scheduler's name, once the whole text is built: a head line, a line for each,
+/// the name at the left of 8 places and then the commands, the waiting bios, the greatest lateness, the least and the shortfall,
+/// each at the right of 10 places (`none` where there is no number), and a last line `best NAME` that names the report that
+/// [`compare`] picks, or `best none-served`. What needs more places is not cut.
 ///
-/// [`WriteFault::Write`]: the writer answered a fault; what it took before, a first part of the text, is out, and nothing says how
-/// much that is. [`WriteFault::Memory`]: nothing was handed to the writer.
+/// [`WriteFault::Write`]: the writer answered a fault, and a prefix of the text, of unknown length, may be out.
+/// [`WriteFault::Memory`]: nothing was handed to the writer.
 pub fn write_table<W: Write>(
     alloc: Global,
     names: &[&[u8]],

@@ -39,11 +39,11 @@ pub fn trace_text<A: Allocator + Clone>(
     draft.finish()
 }
 
-/// Writes the text of a trace, in the latest version, at once where all of it could be made: records of six fields, a title,
-/// a setup, and the records of each event, those of a group's bios after its own in the order of their sectors.
+/// Writes the text of a trace, in the latest version, once the whole text is built: records of six fields, a title, a setup, and
+/// the records of each event, those of a group's bios after its own in the order of their sectors.
 ///
-/// [`WriteFault::Write`]: the writer answered a fault; what it took before, a first part of the text, is out, and
-/// nothing says how much that is. [`WriteFault::Memory`]: nothing was handed to the writer.
+/// [`WriteFault::Write`]: the writer answered a fault, and a prefix of the text, of unknown length, may be out.
+/// [`WriteFault::Memory`]: nothing was handed to the writer.
 pub fn write_trace<A: Allocator + Clone, W: Write>(
     alloc: Global,
     trace: &Trace<A>,

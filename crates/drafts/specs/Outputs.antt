@@ -20,7 +20,7 @@ stream_of contents output = record { held = contents output.writer; failed = is_
 abbrev pub IsWritten : List ℕ → Stream → Stream → Type 0
 IsWritten text old new = Appends old.held new.held text × (new.failed ≡ old.failed)
 
--- the writer failed before it took the whole: it took a first part of the text, and nothing else
+-- the writer failed before it took the whole: it took a prefix of the text, and nothing else
 abbrev pub IsCut : List ℕ → Stream → Stream → Type 0
 IsCut text old new = AppendsLess old.held new.held text × (new.failed ≡ true)
 

@@ -57,7 +57,7 @@ impl Draft {
     }
 
     /// Adds `count` spaces.
-    pub fn spaces(&mut self, count: usize) -> Result<(), AllocError>
+    fn spaces(&mut self, count: usize) -> Result<(), AllocError>
         ensures { OnOk result (self.new ≡ self.old ++ replicate count 32) }
     {
         for _ in 0..count {

@@ -34,9 +34,8 @@ fn hand<W: Write>(mark: &mut Mark, writer: &mut W, text: &[u8]) -> Result<(), Wr
 
 /// Writes a text that is whole, by as many calls of the writer as it takes; one that is interrupted is made again.
 ///
-/// [`WriteFault::Write`], the only fault: the writer answered another fault, or took nothing of what was left; what it took before,
-/// a first part of the text and never the whole, is out. `write_all` of std says nothing of what was taken before a fault; so the
-/// writer is asked here.
+/// [`WriteFault::Write`], the only fault: the writer answered another fault, or took nothing of what was left; a prefix of the text,
+/// never the whole, is out. `write_all` of std says nothing of what was taken before a fault, so the writer is called here.
 pub fn write_whole<W: Write>(writer: &mut W, text: &[u8]) -> Result<(), WriteFault>
     ensures ok { OnOk result (Appends (W.contents writer.old) (W.contents writer.new) text.now) }
     ensures err { IfErr result (λ f. f ≡ WriteFault.Write) }
@@ -70,8 +69,7 @@ impl<W: Write> Output<W> {
 
     /// Writes a text that is whole, by as many calls of the writer as it takes; one that is interrupted is made again.
     ///
-    /// [`WriteFault::Write`], the only fault: the writer failed, and what it took before, a first part of the text and never the
-    /// whole, is out.
+    /// [`WriteFault::Write`], the only fault: the writer failed, and a prefix of the text, never the whole, is out.
     pub fn put(&mut self, text: &[u8]) -> Result<(), WriteFault>
         ensures { Writes text.now (stream_of W.contents self.old) (stream_of W.contents self.new) result }
     {

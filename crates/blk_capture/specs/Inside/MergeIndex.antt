@@ -20,12 +20,12 @@ abbrev pub abutting_key : Range → Side → ℕ → LookupKey
 abutting_key newcomer Back pid = edge_key newcomer newcomer.first pid
 abutting_key newcomer Front pid = edge_key newcomer newcomer.end pid
 
--- of what is listed by where it begins and by where it ends, what is looked at for a side
+-- the index that a merge at this side looks in: of requests by their ends, or by their first sectors
 abbrev pub on_side : Side → (AgedKey → Option ℕ) → (AgedKey → Option ℕ) → AgedKey → Option ℕ
 on_side Back firsts ends = ends
 on_side Front firsts ends = firsts
 
--- of requests what is looked at for a side, and what is looked at for a whole range
+-- the index of these requests for a merge at a side, and the one by whole ranges
 abbrev pub facing : {A : Type 0} → Side → MergeIndex A → AgedKey → Option ℕ
 facing side e = on_side side (get aged_cmp e.firsts.places) (get aged_cmp e.ends.places)
 
