@@ -15,7 +15,7 @@ use Rattle.blk_report.specs.declared.missing.Tally.{Tally}
 use Rattle.blk_report.specs.declared.spreading.Spreads.{Spreads}
 use Rattle.blk_report.specs.Lines.{report_text}
 use Rattle.blk_report.specs.declared.delays.LateCommand.{LateCommand}
-use Rattle.blk_report.specs.Late.{AreAllLate}
+use Rattle.blk_report.specs.Late.{AreLateIn}
 use Rattle.blk_report.specs.LateText.{late_lines}
 use Rattle.blk_report.specs.Misses.{IsTallied}
 use Rattle.blk_report.specs.MissesText.{misses_text}
@@ -37,15 +37,15 @@ use Rattle.blk_cli.specs.declared.failure.Failure.{Failure}
 use Rattle.blk_cli.specs.declared.failure.Failure.TheVariants as failure
 use Rattle.blk_cli.specs.Inputs.{IsMemory}
 
--- figures that are those of the trace, as lines or as JSON
-pub record AreWritten {V : Type 0} (AreOf : Traced → V → Type 0) (as_text : V → List ℕ) (trace : Traced) (text : List ℕ) : Type 0 where
-  pub figures : V
-  pub are_of : AreOf trace figures
-  pub is_text : text ≡ as_text figures
+-- a value that is made of the trace, and its text
+pub record AreWritten {V : Type 0} (AreOf : Traced → V → Type 0) (text_of : V → List ℕ) (trace : Traced) (text : List ℕ) : Type 0 where
+  pub value : V
+  pub is_of : AreOf trace value
+  pub is_text : text ≡ text_of value
 
-abbrev pub IsFiguresText : {V : Type 0} → (Traced → V → Type 0) → (V → List ℕ) → (V → List ℕ) → Form → Traced → List ℕ → Type 0
-IsFiguresText AreOf as_lines as_json form.Lines trace text = AreWritten AreOf as_lines trace text
-IsFiguresText AreOf as_lines as_json form.Json trace text = AreWritten AreOf as_json trace text
+abbrev pub in_form : {V : Type 0} → (V → List ℕ) → (V → List ℕ) → Form → V → List ℕ
+in_form lines json form.Lines = lines
+in_form lines json form.Json = json
 
 -- its report
 abbrev pub IsReportOf : Traced → Report → Type 0
@@ -57,17 +57,14 @@ AreSpreadsOf trace s = AreSpreads (services_of trace.setup trace.events) s
 
 -- its commands that were late
 abbrev pub AreLateOf : Traced → List LateCommand → Type 0
-AreLateOf trace late = AreAllLate (services_of trace.setup trace.events) (capacity_of trace.setup trace.events) late
+AreLateOf trace late = AreLateIn trace.setup trace.events late
 
--- how many of its commands were late and had to be, what waits, and the windows that prove it
-abbrev pub AreMissesOf : Traced → Tally × List Crowd → Type 0
-AreMissesOf trace m = IsTallied trace.setup trace.events m.0 m.1
-
-abbrev pub lines_of_misses : Tally × List Crowd → List ℕ
-lines_of_misses m = misses_text m.0 m.1
-
-abbrev pub json_of_misses : Tally × List Crowd → List ℕ
-json_of_misses m = misses_json m.0 m.1
+-- how many of the trace's commands were late and had to be, on what waits, and on the windows that prove it
+pub record IsMissesText (f : Form) (trace : Traced) (text : List ℕ) : Type 0 where
+  pub tally : Tally
+  pub windows : List Crowd
+  pub is_tallied : IsTallied trace.setup trace.events tally windows
+  pub is_text : text ≡ in_form (misses_text tally) (misses_json tally) f windows
 
 -- the text that spells the trace in the latest version
 pub record IsTraceText (trace : Traced) (text : List ℕ) : Type 0 where
@@ -85,10 +82,10 @@ abbrev pub IsTellingText : Telling → Traced → List ℕ → Type 0
 IsTellingText telling.Whole trace text = IsTraceText trace text
 IsTellingText telling.Commands trace text = IsCommandsText trace text
 IsTellingText telling.Picture trace text = IsPicture trace text
-IsTellingText (telling.Figures figures.Late f) trace text = IsFiguresText AreLateOf late_lines late_json f trace text
-IsTellingText (telling.Figures figures.Misses f) trace text = IsFiguresText AreMissesOf lines_of_misses json_of_misses f trace text
-IsTellingText (telling.Figures figures.Spread f) trace text = IsFiguresText AreSpreadsOf spread_text spread_json f trace text
-IsTellingText (telling.Figures figures.Report f) trace text = IsFiguresText IsReportOf report_text report_json f trace text
+IsTellingText (telling.Figures figures.Late f) trace text = AreWritten AreLateOf (in_form late_lines late_json f) trace text
+IsTellingText (telling.Figures figures.Misses f) trace text = IsMissesText f trace text
+IsTellingText (telling.Figures figures.Spread f) trace text = AreWritten AreSpreadsOf (in_form spread_text spread_json f) trace text
+IsTellingText (telling.Figures figures.Report f) trace text = AreWritten IsReportOf (in_form report_text report_json f) trace text
 
 -- why a trace has no command list: an event sets a depth
 abbrev pub IsUnlisted : Traced → Failure → Type 0

@@ -11,7 +11,6 @@ mod checking;
 mod comparing;
 mod explaining;
 mod failure;
-mod figures;
 mod importing;
 mod judging;
 mod lists;

@@ -4,17 +4,20 @@ ghost use Rattle.std.specs.Prelude.{◌≡◌, IfOk, IfErr};
 ghost use Rattle.blk_text.specs.TraceForm.{SpellsTrace, TraceTextFault};
 ghost use Rattle.blk_text.specs.TraceRecords.{IsTrace};
 ghost use Rattle.blk_cli.specs.Inputs.{Of, FailsOver};
-ghost use Rattle.blk_cli.specs.OfTraces.{IsTellingText, IsUntold};
+ghost use Rattle.blk_cli.specs.OfTraces.{AreSpreadsOf, IsTellingText, IsUntold};
 
 use crate::failure::Failure;
-use crate::figures::figures_text;
+use blk_json::{late_json, misses_json, report_json, spread_json};
 use blk_lists::{Records, commands_text};
 use blk_picture::picture;
-use blk_report::{LateCommand, Missed, Report, Spreads};
+use blk_report::{
+    Spreads, late, late_lines, misses, misses_lines, report, report_lines, services, spread,
+    spread_lines,
+};
 use blk_text::{read_trace, trace_text};
 use blk_trace::Trace;
-use blk_words::{FiguresAsked, Telling};
-use std::alloc::Global;
+use blk_words::{FiguresAsked, Form, Telling};
+use std::alloc::{AllocError, Global};
 use std::io::Read;
 
 /// The command list of a trace, which has one where no event sets a depth.
@@ -48,6 +51,51 @@ fn whole_of(alloc: Global, trace: &Trace) -> Result<Vec<u8>, Failure>
     }
 }
 
+/// How long the commands of a trace waited, and how late they were.
+fn spreads_of(alloc: Global, trace: &Trace) -> Result<Spreads, AllocError>
+    ensures { IfOk result (AreSpreadsOf trace.now) }
+{
+    let services = services(trace)?;
+    spread(alloc, services.as_slice())
+}
+
+/// The text of figures of a trace: what is made of the trace, and how it is written.
+fn figures_text(
+    alloc: Global,
+    asked: FiguresAsked,
+    form: Form,
+    trace: &Trace,
+) -> Result<Vec<u8>, AllocError>
+    ensures { IfOk result (λ text. IsTellingText (Telling.Figures asked form) trace.now text.items) }
+{
+    match (asked, form) {
+        (FiguresAsked::Late, Form::Lines) => late_lines(alloc, late(trace)?.as_slice()),
+        (FiguresAsked::Late, Form::Json) => late_json(alloc, late(trace)?.as_slice()),
+        (FiguresAsked::Misses, Form::Lines) => misses_lines(alloc, &misses(trace)?),
+        (FiguresAsked::Misses, Form::Json) => misses_json(alloc, &misses(trace)?),
+        (FiguresAsked::Spread, Form::Lines) => spread_lines(alloc, &spreads_of(alloc, trace)?),
+        (FiguresAsked::Spread, Form::Json) => spread_json(alloc, &spreads_of(alloc, trace)?),
+        (FiguresAsked::Report, Form::Lines) => report_lines(alloc, &report(trace)?),
+        (FiguresAsked::Report, Form::Json) => report_json(alloc, &report(trace)?),
+    }
+}
+
+/// Figures of a trace.
+fn figures_of(
+    alloc: Global,
+    asked: FiguresAsked,
+    form: Form,
+    trace: &Trace,
+) -> Result<Vec<u8>, Failure>
+    ensures text { IfOk result (λ text. IsTellingText (Telling.Figures asked form) trace.now text.items) }
+    ensures untold { IfErr result (IsUntold (Telling.Figures asked form) trace.now) }
+{
+    match figures_text(alloc, asked, form, trace) {
+        Ok(text) => Ok(text),
+        Err(_) => Err(Failure::Memory),
+    }
+}
+
 /// The picture of a trace.
 fn picture_of(alloc: Global, trace: &Trace) -> Result<Vec<u8>, Failure>
     ensures text { IfOk result (λ text. IsTellingText Telling.Picture trace.now text.items) }
@@ -69,12 +117,7 @@ fn told_of(alloc: Global, telling: Telling, trace: &Trace) -> Result<Vec<u8>, Fa
         Telling::Whole => whole_of(alloc, trace),
         Telling::Commands => list_of(alloc, trace),
         Telling::Picture => picture_of(alloc, trace),
-        Telling::Figures(FiguresAsked::Late, form) => {
-            figures_text::<Vec<LateCommand>>(alloc, form, trace)
-        }
-        Telling::Figures(FiguresAsked::Misses, form) => figures_text::<Missed>(alloc, form, trace),
-        Telling::Figures(FiguresAsked::Spread, form) => figures_text::<Spreads>(alloc, form, trace),
-        Telling::Figures(FiguresAsked::Report, form) => figures_text::<Report>(alloc, form, trace),
+        Telling::Figures(asked, form) => figures_of(alloc, asked, form, trace),
     }
 }
 

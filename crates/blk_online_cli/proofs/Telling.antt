@@ -23,7 +23,7 @@ use Rattle.blk_online_sim.proofs.Running.{trace_holds, least_late, has_most_on_t
 use Rattle.blk_online_sim.proofs.Telling as telling
 use Rattle.blk_cli.specs.Gives.{GivesText}
 use Rattle.blk_report.specs.Lines.{report_text}
-use Rattle.blk_cli.specs.OfTraces.{AreWritten, AreMissesOf, IsReportOf, lines_of_misses}
+use Rattle.blk_cli.specs.OfTraces.{AreWritten, IsReportOf, IsMissesText}
 use Rattle.blk_words.specs.declared.words.Form.TheVariants as form
 use Rattle.blk_words.specs.declared.inputs.FiguresAsked.TheVariants as figures
 use Rattle.blk_words.specs.declared.inputs.Running.TheVariants as running
@@ -52,15 +52,15 @@ read_holds late_last bytes traced u by g read =
     subst (λ (s : Setup). AtTicks (HoldsNow late_last s) u.events) once.1
     (subst (λ (es : List Happened). AtTicks (HoldsNow late_last trace.setup) es) once.2 (held late_last bytes traced by g))
 
-none_short : (u : Traced) (text : List ℕ) → (t : AreWritten IsReportOf report_text u text) → IsTrace u → AtTicks (HoldsNow false u.setup) u.events → (t.figures.commands ≡ 0) ⊎ (shortfall_in t.figures.figures ≡ Some (pos 0))
-none_short u text t is holds = elim (telling.no_shortfall u.setup u.events t.figures (least_late false u.setup u.events is.legal refl holds) t.are_of) [
-  | inl none ↦ inl (t.are_of.commands ∙ ap length none)
+none_short : (u : Traced) (text : List ℕ) → (t : AreWritten IsReportOf report_text u text) → IsTrace u → AtTicks (HoldsNow false u.setup) u.events → (t.value.commands ≡ 0) ⊎ (shortfall_in t.value.figures ≡ Some (pos 0))
+none_short u text t is holds = elim (telling.no_shortfall u.setup u.events t.value (least_late false u.setup u.events is.legal refl holds) t.is_of) [
+  | inl none ↦ inl (t.is_of.commands ∙ ap length none)
   | inr zero ↦ inr zero
 ]
 
-none_avoidable : (u : Traced) (text : List ℕ) → (t : AreWritten AreMissesOf lines_of_misses u text) → IsTrace u → AtTicks (HoldsNow true u.setup) u.events → t.figures.0.avoidable ≡ 0
+none_avoidable : (u : Traced) (text : List ℕ) → (t : IsMissesText form.Lines u text) → IsTrace u → AtTicks (HoldsNow true u.setup) u.events → t.tally.avoidable ≡ 0
 none_avoidable u text t is holds =
-    telling.none_avoidable u.setup u.events is.legal (has_most_on_time true u.setup u.events is.legal refl holds) t.figures.0.commands t.figures.0.late t.figures.0.unavoidable t.figures.0.avoidable t.figures.1 t.are_of.misses
+    telling.none_avoidable u.setup u.events is.legal (has_most_on_time true u.setup u.events is.legal refl holds) t.tally.commands t.tally.late t.tally.unavoidable t.tally.avoidable t.windows t.is_tallied.misses
 
 -- the report, and the misses, of what a simulation gives
 

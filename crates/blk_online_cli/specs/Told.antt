@@ -18,7 +18,7 @@ use Rattle.blk_words.specs.Asked.{Asks}
 use Rattle.blk_cli.specs.declared.Ended.{Ended}
 use Rattle.blk_cli.specs.Ends.{RunEnds}
 use Rattle.blk_report.specs.Lines.{report_text}
-use Rattle.blk_cli.specs.OfTraces.{AreWritten, AreMissesOf, IsReportOf, lines_of_misses}
+use Rattle.blk_cli.specs.OfTraces.{AreWritten, IsReportOf, IsMissesText}
 use Rattle.blk_online_sim.specs.ByRounds.{IsByRounds}
 
 -- the records of these bytes
@@ -56,16 +56,16 @@ pub record ReportsNoShortfall (bytes : List ℕ) (old new : Stream) : Type 0 whe
   pub spelled : SpellsTrace (rows_in bytes) trace
   pub is_text : AreWritten IsReportOf report_text trace text
   pub wrote : IsWritten text old new
-  pub none_short : (is_text.figures.commands ≡ 0) ⊎ (shortfall_in is_text.figures.figures ≡ Some (pos 0))
+  pub none_short : (is_text.value.commands ≡ 0) ⊎ (shortfall_in is_text.value.figures ≡ Some (pos 0))
 
 -- what is said of the misses of that trace was written: none of them is avoidable
 pub record CountsNoneAvoidable (bytes : List ℕ) (old new : Stream) : Type 0 where
   pub trace : Traced
   pub text : List ℕ
   pub spelled : SpellsTrace (rows_in bytes) trace
-  pub is_text : AreWritten AreMissesOf lines_of_misses trace text
+  pub is_text : IsMissesText form.Lines trace text
   pub wrote : IsWritten text old new
-  pub none_avoidable : is_text.figures.0.avoidable ≡ 0
+  pub none_avoidable : is_text.tally.avoidable ≡ 0
 
 -- where one run writes a trace of a script by rounds, and another reads it, this holds of what the other writes
 abbrev pub OfTwoRuns : Job → Job → (List ℕ → Stream → Stream → Type 0) → Type 0

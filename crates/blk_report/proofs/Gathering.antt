@@ -11,7 +11,7 @@ use Rattle.blk_trace.specs.Happened.{Happened}
 use Rattle.blk_trace.specs.Kinds.{enters}
 use Rattle.blk_trace.specs.Events.{join_up, request_of}
 use Rattle.blk_trace.proofs.More.{request_more}
-use Rattle.blk_report.specs.declared.serving.Range.{Range}
+use Rattle.blk_report.specs.declared.serving.SectorRange.{SectorRange}
 use Rattle.blk_report.specs.Inside.Ranges.{range_of, joined_to, with_entry}
 
 -- that of a request
@@ -30,17 +30,17 @@ join_range (b ∷ bs) [] =
       | inr f ↦ ap (λ x. range_of (cond x ((b ∷ bs) ++ []) (b ∷ bs))) f
     ]
 join_range (b ∷ bs) (c ∷ cs) =
-    let r : Range = record { dir = b.dir; first = b.first; end = last_of (b ∷ bs) } in
-    let n : Range = record { dir = c.dir; first = c.first; end = last_of (c ∷ cs) } in
+    let r : SectorRange = record { dir = b.dir; first = b.first; end = last_of (b ∷ bs) } in
+    let n : SectorRange = record { dir = c.dir; first = c.first; end = last_of (c ∷ cs) } in
     elim (cases_Bool (c.first == last_of (b ∷ bs))) [
       | inl t ↦
           ap (λ x. range_of (cond x ((b ∷ bs) ++ (c ∷ cs)) ((c ∷ cs) ++ (b ∷ bs)))) t
-          ∙ ap (λ e. Some (let z : Range = record { dir = b.dir; first = b.first; end = e } in z)) (last-append (b ∷ bs) c cs)
-          ∙ sym (ap (λ x. Some (cond x (let z : Range = record { dir = b.dir; first = b.first; end = n.end } in z) (record { dir = n.dir; first = n.first; end = r.end }))) t)
+          ∙ ap (λ e. Some (let z : SectorRange = record { dir = b.dir; first = b.first; end = e } in z)) (last-append (b ∷ bs) c cs)
+          ∙ sym (ap (λ x. Some (cond x (let z : SectorRange = record { dir = b.dir; first = b.first; end = n.end } in z) (record { dir = n.dir; first = n.first; end = r.end }))) t)
       | inr f ↦
           ap (λ x. range_of (cond x ((b ∷ bs) ++ (c ∷ cs)) ((c ∷ cs) ++ (b ∷ bs)))) f
-          ∙ ap (λ e. Some (let z : Range = record { dir = c.dir; first = c.first; end = e } in z)) (last-append (c ∷ cs) b bs)
-          ∙ sym (ap (λ x. Some (cond x (let z : Range = record { dir = b.dir; first = b.first; end = n.end } in z) (record { dir = n.dir; first = n.first; end = r.end }))) f)
+          ∙ ap (λ e. Some (let z : SectorRange = record { dir = c.dir; first = c.first; end = e } in z)) (last-append (c ∷ cs) b bs)
+          ∙ sym (ap (λ x. Some (cond x (let z : SectorRange = record { dir = b.dir; first = b.first; end = n.end } in z) (record { dir = n.dir; first = n.first; end = r.end }))) f)
     ]
 
 -- what is under an id after one more event
@@ -52,12 +52,12 @@ entry_range old id (Some p) =
       | inr f ↦ rw f refl
     ]
 
-alike : (f g : ℕ → Option Range) (o : Option (ℕ × List Bio)) (id : ℕ) → ((i : ℕ) → f i ≡ g i) → with_entry f o id ≡ with_entry g o id
+alike : (f g : ℕ → Option SectorRange) (o : Option (ℕ × List Bio)) (id : ℕ) → ((i : ℕ) → f i ≡ g i) → with_entry f o id ≡ with_entry g o id
 alike f g None id h = h id
 alike f g (Some p) id h = ap (λ x. cond (p.0 == id) (joined_to x (range_of p.1)) (f id)) (h p.0) ∙ ap (λ x. cond (p.0 == id) (joined_to (g p.0) (range_of p.1)) x) (h id)
 
 -- the same id as that of the entry
-at_entry : (f : ℕ → Option Range) (o : Option (ℕ × List Bio)) (id : ℕ) → with_entry (λ _. f id) o id ≡ with_entry f o id
+at_entry : (f : ℕ → Option SectorRange) (o : Option (ℕ × List Bio)) (id : ℕ) → with_entry (λ _. f id) o id ≡ with_entry f o id
 at_entry f None id = refl
 at_entry f (Some p) id =
     elim (cases_Bool (p.0 == id)) [
@@ -65,7 +65,7 @@ at_entry f (Some p) id =
       | inr b ↦ rw b refl
     ]
 
-pub range_more : (es : List Happened) (e : Happened) (f : ℕ → Option Range) → ((i : ℕ) → f i ≡ range_of (request_of es i)) → (id : ℕ) → with_entry f (enters e) id ≡ range_of (request_of (es ++ e ∷ []) id)
+pub range_more : (es : List Happened) (e : Happened) (f : ℕ → Option SectorRange) → ((i : ℕ) → f i ≡ range_of (request_of es i)) → (id : ℕ) → with_entry f (enters e) id ≡ range_of (request_of (es ++ e ∷ []) id)
 range_more es e f h id =
     alike f (λ i. range_of (request_of es i)) (enters e) id h
     ∙ sym (at_entry (λ i. range_of (request_of es i)) (enters e) id)

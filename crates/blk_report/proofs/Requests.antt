@@ -28,7 +28,7 @@ use Rattle.blk_trace.proofs.Places.{last}
 use Rattle.blk_trace.proofs.Ids.{by_legal, has_issued, released_first, released_has}
 use Rattle.blk_trace.proofs.Joining.{join_request}
 use Rattle.blk_trace.proofs.Entering.{IsSame, same_entered, HasNothing, nothing_before, IsEntered, entered_released, entered_joined, has_released_same}
-use Rattle.blk_report.specs.declared.serving.Range.{Range}
+use Rattle.blk_report.specs.declared.serving.SectorRange.{SectorRange}
 use Rattle.blk_report.specs.declared.serving.Service.{Service}
 use Rattle.blk_report.specs.Services.{service_of, services_of, command_in, AreWithinLimits, AreInIssueOrder}
 use Rattle.blk_report.specs.Inside.Ranges.{range_of}
@@ -131,15 +131,15 @@ service_request setup es k d legal h =
     subst P (sym (get_or-map (service_of setup es) (served 0 es) k s0 d low)) (served_request setup es k s0 legal low, refl, refl, refl)
 
 -- a request's range and sectors
-pub record IsRanged (bios : List Bio) (r : Range) : Type 0 where
+pub record IsRanged (bios : List Bio) (r : SectorRange) : Type 0 where
   pub dir : r.dir ≡ dir_of bios
   pub first : r.first ≡ first_of bios
   pub sectors : r.first + sectors_of bios ≡ r.end
 
-ranged : (bios : List Bio) (r : Range) → IsRequest bios → range_of bios ≡ Some r → IsRanged bios r
+ranged : (bios : List Bio) (r : SectorRange) → IsRequest bios → range_of bios ≡ Some r → IsRanged bios r
 ranged bios r request is =
-    let told : Some (let z : Range = record { dir = dir_of bios; first = first_of bios; end = last_of bios } in z) ≡ Some r = sym (range_is bios request.not_empty) ∙ is in
-    let all : (let z : Range = record { dir = dir_of bios; first = first_of bios; end = last_of bios } in z) ≡ r = cc in
+    let told : Some (let z : SectorRange = record { dir = dir_of bios; first = first_of bios; end = last_of bios } in z) ≡ Some r = sym (range_is bios request.not_empty) ∙ is in
+    let all : (let z : SectorRange = record { dir = dir_of bios; first = first_of bios; end = last_of bios } in z) ≡ r = cc in
     subst (IsRanged bios) all (record { dir = refl; first = refl; sectors = fills bios request })
 
 -- the command at a place, with the range of its request, is the service there
@@ -161,7 +161,7 @@ range_there setup es k x id legal h is none =
     let told = range_is (request_of es id) some.not_empty in
     absurd (cc)
 
-pub same_range : (setup : Setup) (es : List Happened) (k : ℕ) (x : Service) (id : ℕ) (r : Range) → IsLegalTrace setup es → k < length (services_of setup es) → id ≡ (get_or (services_of setup es) k x).id → range_of (request_of es id) ≡ Some r
+pub same_range : (setup : Setup) (es : List Happened) (k : ℕ) (x : Service) (id : ℕ) (r : SectorRange) → IsLegalTrace setup es → k < length (services_of setup es) → id ≡ (get_or (services_of setup es) k x).id → range_of (request_of es id) ≡ Some r
     → (r.dir ≡ (get_or (services_of setup es) k x).dir) × (r.first ≡ (get_or (services_of setup es) k x).first) × (r.first + (get_or (services_of setup es) k x).sectors ≡ r.end)
 same_range setup es k x id r legal h is told =
     let q = service_request setup es k x legal h in
