@@ -2,7 +2,8 @@
 """The words of the command line: makes the man page and completions, and holds what tells of them to one another.
 
     tools/words.py man|bash|zsh|fish      writes the man page, or the completions of that shell
-    tools/words.py check                  compares the tables of docs/FORMATS.md, the help texts, the cases and the names of faults
+    tools/words.py check                  compares the tables of docs/FORMATS.md, the help texts, the cases, the names of faults and what
+                                          `explain` lists
     tools/words.py keep                   keeps the help texts of the program that is built
 
 The subcommands, their options and what each may be are those of the table in docs/FORMATS.md under 'Program'. What each
@@ -24,6 +25,17 @@ TOP = Path(__file__).resolve().parent.parent
 FORMATS = TOP / "docs" / "FORMATS.md"
 HELP = TOP / "tools" / "help"
 PROGRAM = TOP / "crates" / "blk" / "out" / "blk"
+# The phrases of `explain`: `TakeTraces` lists the subcommands that take a trace.
+PHRASES = TOP / "crates" / "blk_explain" / "src" / "names.rt"
+# Each form as these phrases name it, and how the table's cells of input begin that name it.
+FORMS = {
+    "Commands": "a command list",
+    "Certificates": "a certificate",
+    "Schedules": "a schedule",
+    "Captures": "a capture",
+    "Scripts": "a script",
+    "Traces": "a trace",
+}
 # What the command line library adds to each command.
 ADDED = {"--help", "--version"}
 
@@ -203,12 +215,29 @@ def names_of_faults():
     yield from (f"no fault has the name {it}, which docs/FORMATS.md lists" for it in sorted(listed - apart))
 
 
+def takers_of(form, commands):
+    """The subcommands that read a form, each with the flag that asks for that where it reads another without."""
+    for name, command in commands.items():
+        flags = [flag for flag, (reads, _) in command.flows.items() if reads.startswith(form)]
+        yield from [name] if "" in flags else [f"{name} {flag}" for flag in flags]
+
+
+def takers_listed(commands):
+    """Where the subcommands that `explain` lists for a form and those of the table differ."""
+    phrases = dict(re.findall(r'Name::Take(\w+) => b"([^"]*)"', PHRASES.read_text()))
+    for name, form in FORMS.items():
+        listed, takers = set(phrases.get(name, "").split(", ")), set(takers_of(form, commands))
+        yield from (f"explain doesn't list that {it} takes {form}" for it in sorted(takers - listed))
+        yield from (f"explain lists that {it} takes {form}, and docs/FORMATS.md doesn't" for it in sorted(listed - takers))
+
+
 def faults():
     """What is compared, each with what differs, if anything does."""
     commands, kept, held = read_table(), {it.name for it in HELP.iterdir()}, held_by_cases()
     texts = forms(commands)
     wanted = {*texts.values()}
     yield list(names_of_faults())
+    yield list(takers_listed(commands))
     yield [f"tools/help/{it} is missing: tools/words.py keep writes it" for it in sorted(wanted - kept)]
     yield [f"tools/help/{it} is the text of no subcommand" for it in sorted(kept - wanted)]
     for words, name in texts.items():

@@ -17,18 +17,16 @@ use Rattle.blk_text.specs.declared.bios.TheConstants.{MAX_SUBMITTERS}
 use Rattle.blk_text.specs.declared.setup.TheConstants.{LATEST}
 use Rattle.blk_explain.specs.Names.{name_text}
 use Rattle.blk_explain.specs.Fields.{field_name, want_of}
-use Rattle.blk_explain.specs.Rows.{kind_row, kind_word, slot_at}
+use Rattle.blk_explain.specs.Kinds.{record_row, kind_word, slot_at, field_at}
 use Rattle.blk_explain.specs.Words.{words_text}
-use Rattle.blk_explain.specs.Forms.{fields_of, IsRecordKind}
+use Rattle.blk_explain.specs.Forms.{IsRecordKind}
 use Rattle.blk_explain.specs.declared.details.TheConstants.{MAX_SHOWN}
-use Rattle.blk_explain.specs.declared.fields.Field.{Field}
-use Rattle.blk_explain.specs.declared.fields.Field.TheVariants as field
 use Rattle.blk_explain.specs.declared.fields.Allowed.{Allowed}
 use Rattle.blk_explain.specs.declared.fields.Allowed.TheVariants as allowed
 use Rattle.blk_explain.specs.declared.fields.Want.{Want}
 use Rattle.blk_explain.specs.declared.fields.Want.TheVariants as want
 use Rattle.blk_explain.specs.declared.forms.FormRow.{FormRow}
-use Rattle.blk_explain.specs.declared.forms.RecordKind.{RecordKind}
+use Rattle.blk_explain.specs.declared.kinds.RecordKind.{RecordKind}
 
 -- a digit of base sixteen
 abbrev pub hex_digit : ℕ → ℕ
@@ -145,13 +143,9 @@ IsAllowedBy title since s want.AnySubmitter a = a ≡ allowed.Slot (slot.Number 
 IsAllowedBy title since s want.Bound a = (n : ℕ) × IsNumberIn title 3 n × (a ≡ beside_commands n s)
 IsAllowedBy title since s want.Text a = a ≡ allowed.Slot slot.Text
 
--- the field at a place of a kind of record
-abbrev pub field_at : RecordKind → ℕ → Field
-field_at kind k = get_or (fields_of kind) k field.Past
-
--- what may stand in it
+-- what may stand in the field at a place of a kind of record
 abbrev pub IsAllowedIn : Row → RecordKind → ℕ → Allowed → Type 0
-IsAllowedIn title kind k a = IsAllowedBy title (kind_row kind).since (slot_at kind k) (want_of (field_at kind k)) a
+IsAllowedIn title kind k a = IsAllowedBy title (record_row kind).kind.since (slot_at kind k) (want_of (field_at kind k)) a
 
 -- the field at a place does not have the fault, and it does
 abbrev pub IsKeptAt : Row → RecordKind → Why → Row → ℕ → Type 0
@@ -212,28 +206,36 @@ words_at form at = if at == 2 then kind_word form.second else words_text form.wo
 abbrev pub fault_wanted : FormRow → Why → List ℕ
 fault_wanted form w = (why_name w ++ codes ": wanted ") ++ why_wanted form w
 
+-- where a record of this number begins with another word than it may, its first field is called as that of this kind
+abbrev pub kind_at : FormRow → ℕ → RecordKind
+kind_at form at = if at == 2 then form.second else form.item
+
+-- what it begins with, and the words that it may begin with
+abbrev pub begun_text : FormRow → ℕ → List ℕ → List ℕ
+begun_text form at found = field_text 0 (field_name (field_at (kind_at form at) 0)) found ++ words_at form at
+
 -- what is said where no field by itself has the fault
-abbrev pub rest_text : FormRow → ℕ → Why → RecordKind → Row → List ℕ
-rest_text form at why.Fields kind row = ((codes "found " ++ decimal (length row)) ++ codes " fields, wanted ") ++ decimal (length (kind_row form.title).slots)
-rest_text form at why.Word kind cells = field_text 0 (field_name (field_at kind 0)) (get_or cells 0 []) ++ words_at form at
-rest_text form at why.Title kind row = fault_wanted form why.Title
-rest_text form at why.Number kind row = fault_wanted form why.Number
-rest_text form at why.Range kind row = fault_wanted form why.Range
-rest_text form at (why.Bio b) kind row = fault_wanted form (why.Bio b)
-rest_text form at why.Tile kind row = fault_wanted form why.Tile
-rest_text form at (why.Rule r) kind row = fault_wanted form (why.Rule r)
-rest_text form at why.RepeatedId kind row = fault_wanted form why.RepeatedId
-rest_text form at why.Order kind row = fault_wanted form why.Order
-rest_text form at why.Count kind row = fault_wanted form why.Count
-rest_text form at why.TooLong kind row = fault_wanted form why.TooLong
-rest_text form at why.Read kind row = fault_wanted form why.Read
-rest_text form at why.Memory kind row = fault_wanted form why.Memory
+abbrev pub rest_text : FormRow → ℕ → Why → Row → List ℕ
+rest_text form at why.Fields cells = ((codes "found " ++ decimal (length cells)) ++ codes " fields, wanted ") ++ decimal (length (record_row form.title).kind.slots)
+rest_text form at why.Word cells = begun_text form at (get_or cells 0 [])
+rest_text form at why.Title cells = fault_wanted form why.Title
+rest_text form at why.Number cells = fault_wanted form why.Number
+rest_text form at why.Range cells = fault_wanted form why.Range
+rest_text form at (why.Bio b) cells = fault_wanted form (why.Bio b)
+rest_text form at why.Tile cells = fault_wanted form why.Tile
+rest_text form at (why.Rule r) cells = fault_wanted form (why.Rule r)
+rest_text form at why.RepeatedId cells = fault_wanted form why.RepeatedId
+rest_text form at why.Order cells = fault_wanted form why.Order
+rest_text form at why.Count cells = fault_wanted form why.Count
+rest_text form at why.TooLong cells = fault_wanted form why.TooLong
+rest_text form at why.Read cells = fault_wanted form why.Read
+rest_text form at why.Memory cells = fault_wanted form why.Memory
 
 -- what is said about a fault of a record of this number and kind, in a text with this title
 abbrev pub IsDetailBy : FormRow → Row → ℕ → Why → RecordKind → Row → List ℕ → Type 0
 IsDetailBy form title at w kind row text =
     ((k : ℕ) × (a : Allowed) × IsFirstBrokenAt title kind w row k a × (text ≡ broken_text w kind row k a))
-    ⊎ (AllKept title kind w row × (text ≡ rest_text form at w kind row))
+    ⊎ (AllKept title kind w row × (text ≡ rest_text form at w row))
 
 abbrev pub IsDetail : FormRow → Row → ℕ → Why → Row → List ℕ → Type 0
 IsDetail form title at w cells text = (kind : RecordKind) × IsRecordKind form at (get_or cells 0 []) kind × IsDetailBy form title at w kind cells text

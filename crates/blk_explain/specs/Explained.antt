@@ -7,7 +7,7 @@ use Rattle.blk_lists.specs.declared.fault.TextFault.{TextFault}
 use Rattle.blk_lists.specs.declared.fault.Why.TheVariants as why
 use Rattle.blk_sim.specs.Names.{step_name}
 use Rattle.blk_explain.specs.Names.{name_text}
-use Rattle.blk_explain.specs.Rows.{kind_word}
+use Rattle.blk_explain.specs.Kinds.{kind_word}
 use Rattle.blk_explain.specs.Forms.{form_row, form_name}
 use Rattle.blk_explain.specs.Lines.{line_at}
 use Rattle.blk_explain.specs.Findings.{rows_of, row_at, name_in, IsFound}

@@ -7,8 +7,8 @@ use Rattle.blk_explain.specs.declared.fields.Want.TheVariants as want
 
 -- its name
 abbrev pub field_name : Field → List ℕ
-field_name field.Past = codes "field"
 field_name field.Unused = codes "unused"
+field_name field.Word = codes "word"
 field_name field.Title = codes "title"
 field_name field.FirstVersion = codes "version"
 field_name field.Version = codes "version"
@@ -27,7 +27,6 @@ field_name field.BoundUntil = codes "until"
 field_name field.OnTime = codes "met"
 field_name field.CommandsOnTime = codes "commands met"
 field_name field.Windows = codes "windows"
-field_name field.Window = codes "window"
 field_name field.Seconds = codes "seconds"
 field_name field.Nanoseconds = codes "nanoseconds"
 field_name field.Processor = codes "processor"
@@ -60,8 +59,8 @@ field_name field.Bios = codes "bios"
 
 -- what may stand in it
 abbrev pub want_of : Field → Want
-want_of field.Past = want.Row
 want_of field.Unused = want.Row
+want_of field.Word = want.Row
 want_of field.Title = want.Row
 want_of field.FirstVersion = want.OnlyVersion
 want_of field.Version = want.Version
@@ -80,7 +79,6 @@ want_of field.BoundUntil = want.Bound
 want_of field.OnTime = want.Row
 want_of field.CommandsOnTime = want.Row
 want_of field.Windows = want.Row
-want_of field.Window = want.Row
 want_of field.Seconds = want.Row
 want_of field.Nanoseconds = want.Text
 want_of field.Processor = want.Row

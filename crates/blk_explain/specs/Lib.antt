@@ -1,6 +1,7 @@
 pub mod Names
 pub mod Fields
 pub mod Rows
+pub mod Kinds
 pub mod Words
 pub mod Forms
 pub mod Lines

@@ -1,9 +1,9 @@
 -- The words that the later records of a form begin with, as they are told.
 use Rattle.std.specs.Prelude.{◌==◌, ◌++◌, if◌then◌else◌, ℕ, List, [], codes, decimal}
 use Rattle.std.specs.List.{flat_map}
-use Rattle.blk_explain.specs.Rows.{kind_row, kind_word}
-use Rattle.blk_explain.specs.declared.forms.RecordKind.{RecordKind}
-use Rattle.blk_explain.specs.declared.forms.RecordKind.TheVariants as kind
+use Rattle.blk_explain.specs.Kinds.{record_row, kind_word}
+use Rattle.blk_explain.specs.declared.kinds.RecordKind.{RecordKind}
+use Rattle.blk_explain.specs.declared.kinds.RecordKind.TheVariants as kind
 use Rattle.blk_explain.specs.declared.words.Words.{Words}
 use Rattle.blk_explain.specs.declared.words.Words.TheVariants as words
 use Rattle.blk_explain.specs.declared.words.TheConstants.{EVENTS, STEPS}
@@ -14,7 +14,7 @@ since_text since = if since == 1 then [] else codes " in version " ++ decimal si
 
 -- the word of a kind, with that version
 abbrev pub versioned : RecordKind → List ℕ
-versioned k = kind_word k ++ since_text (kind_row k).since
+versioned k = kind_word k ++ since_text (record_row k).kind.since
 
 -- and with a comma
 abbrev pub before_comma : RecordKind → List ℕ
@@ -29,4 +29,4 @@ abbrev pub words_text : Words → List ℕ
 words_text words.Nothing = []
 words_text (words.One k) = kind_word k
 words_text words.Steps = several STEPS kind.Depth
-words_text words.Events = several EVENTS kind.EventDepth
+words_text words.Events = several EVENTS kind.Depth

@@ -15,7 +15,7 @@ use drafts::Draft;
 use std::alloc::{AllocError, Global};
 
 /// How many records a text announces.
-#[derive(Clone, Copy, Debug)]
+#[derive(Clone, Copy)]
 pub enum Counted {
     /// No number of records.
     Nothing,

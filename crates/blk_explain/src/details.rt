@@ -4,16 +4,16 @@ ghost use Rattle.std.specs.Prelude.{◌≡◌, ◌≤◌, ◌<◌, ◌-◌, ◌+
 ghost use Rattle.csv.specs.Records.{fields_of};
 ghost use Rattle.blk_lists.specs.Fields.{IsSized, IsNumber, IsInRange};
 ghost use Rattle.blk_lists.specs.declared.fields.Slot.TheVariants as slot;
-ghost use Rattle.blk_explain.specs.Details.{hex_digit, shown_byte, shown_field, field_text, range_text, number_text, allowed_text, wanted_text, KeepsSlot, KeepsNone, KeepsIn, IsNumberIn, IsAllowedBy, rule_wanted, why_wanted, words_at, rest_text, IsDetail, broken_text};
+ghost use Rattle.blk_explain.specs.Details.{hex_digit, shown_byte, shown_field, field_text, range_text, number_text, allowed_text, wanted_text, KeepsSlot, KeepsNone, KeepsIn, IsNumberIn, IsAllowedBy, rule_wanted, why_wanted, words_at, begun_text, rest_text, IsDetail, broken_text};
 ghost use Rattle.blk_explain.specs.Inside.Broken.{SaysIfBroken, SaysFirstBroken};
 
 use crate::fields::{Allowed, Want};
-use crate::forms::{FormRow, RecordKind, kind_of};
-use crate::rows::{push_word, since_of, slot_at, width_of};
+use crate::forms::{FormRow, kind_of};
+use crate::kinds::{RecordKind, push_word};
 use crate::words::push_words;
 use blk_bio::{BioFault, Dir, MAX_END, TraceRule};
 use blk_lists::Why;
-use blk_lists::fields::{Slot, after_minus, field, parse_nanoseconds, parse_number};
+use blk_lists::fields::{Slot, field, parse_nanoseconds, parse_number, parse_sized};
 use blk_text::{LATEST, MAX_SUBMITTERS, most_tags};
 use csv::ByteRecord;
 use drafts::Draft;
@@ -143,24 +143,6 @@ fn push_wanted(draft: &mut Draft, why: Why, allowed: Allowed) -> Result<(), Allo
         | Why::TooLong
         | Why::Read
         | Why::Memory => Ok(()),
-    }
-}
-
-/// The size of a signed number.
-fn parse_sized(field: &[u8]) -> Option<u64>
-    ensures { MatchOption result ((n : ℕ) → n < 2 ^ 64 → ¬ IsSized field.now n) (IsSized field.now) }
-{
-    match after_minus(field) {
-        Some(digits) => match parse_number(digits) {
-            Some(n) => {
-                if n == 0 {
-                    return None;
-                }
-                Some(n)
-            }
-            None => None,
-        },
-        None => parse_number(field),
     }
 }
 
@@ -341,11 +323,11 @@ fn broken_at(
     row: &ByteRecord,
     place: usize,
 ) -> Option<Allowed>
-    requires { place < 8 }
     ensures { SaysIfBroken (fields_of title.now) kind why (fields_of row.now) place result }
 {
-    let want = kind.fields()[place].want();
-    let allowed = allowed_by(title, since_of(kind), slot_at(kind, place), want);
+    let kept = kind.row();
+    let want = kept.field(place).want();
+    let allowed = allowed_by(title, kept.since(), kept.slot(place), want);
     if keeps(why, allowed, field(row, place)) {
         None
     } else {
@@ -418,16 +400,36 @@ fn push_why(draft: &mut Draft, form: &FormRow, why: Why) -> Result<(), AllocErro
     }
 }
 
+/// Adds the words that a record of this number may begin with.
+fn push_words_at(draft: &mut Draft, form: &FormRow, at: u64) -> Result<(), AllocError>
+    ensures { OnOk result (draft.new ≡ draft.old ++ words_at form.now at) }
+{
+    if at == 2 {
+        push_word(draft, form.second)
+    } else {
+        push_words(draft, form.words)
+    }
+}
+
+/// Adds what a record of this number was found to begin with, and the words that it may begin with. The field is called as that of the
+/// records that begin with no word of the form.
+fn push_begun(draft: &mut Draft, form: &FormRow, at: u64, found: &[u8]) -> Result<(), AllocError>
+    ensures { OnOk result (draft.new ≡ draft.old ++ begun_text form.now at found.now) }
+{
+    let kind = if at == 2 { form.second } else { form.item };
+    push_field(draft, 0, kind.row().field(0).name(), found)?;
+    push_words_at(draft, form, at)
+}
+
 /// What is said where no field by itself has the fault.
 fn rest_told(
     alloc: Global,
     form: &FormRow,
     at: u64,
     why: Why,
-    kind: RecordKind,
     row: &ByteRecord,
 ) -> Result<Vec<u8>, AllocError>
-    ensures { IfOk result (λ text. text.items ≡ rest_text form.now at why kind (fields_of row.now)) }
+    ensures { IfOk result (λ text. text.items ≡ rest_text form.now at why (fields_of row.now)) }
 {
     let mut draft = Draft::new(alloc);
     match why {
@@ -435,12 +437,11 @@ fn rest_told(
             draft.text(b"found ")?;
             draft.number(row.len() as u64)?;
             draft.text(b" fields, wanted ")?;
-            draft.number(width_of(form.title))?;
+            draft.number(form.title.row().width())?;
             draft.finish()
         }
         Why::Word => {
-            push_field(&mut draft, 0, kind.fields()[0].name(), field(row, 0))?;
-            push_words_at(&mut draft, form, at)?;
+            push_begun(&mut draft, form, at, field(row, 0))?;
             draft.finish()
         }
         Why::Title
@@ -463,17 +464,6 @@ fn rest_told(
     }
 }
 
-/// Adds the words that a record of this number may begin with.
-fn push_words_at(draft: &mut Draft, form: &FormRow, at: u64) -> Result<(), AllocError>
-    ensures { OnOk result (draft.new ≡ draft.old ++ words_at form.now at) }
-{
-    if at == 2 {
-        push_word(draft, form.second)
-    } else {
-        push_words(draft, form.words)
-    }
-}
-
 /// What is said about a field at a place that has the fault.
 fn broken_told(
     alloc: Global,
@@ -487,7 +477,7 @@ fn broken_told(
     ensures { IfOk result (λ text. text.items ≡ broken_text why kind (fields_of row.now) place allowed) }
 {
     let mut draft = Draft::new(alloc);
-    let name = kind.fields()[place].name();
+    let name = kind.row().field(place).name();
     push_field(&mut draft, place, name, field(row, place))?;
     push_wanted(&mut draft, why, allowed)?;
     draft.finish()
@@ -507,6 +497,6 @@ pub fn detail(
     let kind = kind_of(form, at, field(row, 0));
     match first_broken(title, kind, why, row) {
         Some((place, allowed)) => broken_told(alloc, why, kind, row, place, allowed),
-        None => rest_told(alloc, form, at, why, kind, row),
+        None => rest_told(alloc, form, at, why, row),
     }
 }

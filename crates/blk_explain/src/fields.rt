@@ -38,12 +38,12 @@ pub enum Allowed {
 }
 
 /// A field of a record.
-#[derive(Clone, Copy, Debug, PartialEq, Eq)]
+#[derive(Clone, Copy)]
 pub enum Field {
-    /// None: past the last.
-    Past,
     /// One that the record doesn't use.
     Unused,
+    /// The word that the record begins with. Of a record that begins with another, the field has the name that its form's other records have.
+    Word,
     /// The field `title`.
     Title,
     /// The field `version`.
@@ -80,8 +80,6 @@ pub enum Field {
     CommandsOnTime,
     /// The field `windows`.
     Windows,
-    /// The field `window`.
-    Window,
     /// The field `seconds`.
     Seconds,
     /// The field `nanoseconds`.
@@ -148,8 +146,8 @@ impl Field {
         ensures { result.now ≡ field_name self }
     {
         match self {
-            Field::Past => b"field",
             Field::Unused => b"unused",
+            Field::Word => b"word",
             Field::Title => b"title",
             Field::FirstVersion => b"version",
             Field::Version => b"version",
@@ -168,7 +166,6 @@ impl Field {
             Field::OnTime => b"met",
             Field::CommandsOnTime => b"commands met",
             Field::Windows => b"windows",
-            Field::Window => b"window",
             Field::Seconds => b"seconds",
             Field::Nanoseconds => b"nanoseconds",
             Field::Processor => b"processor",
@@ -216,8 +213,8 @@ impl Field {
             Field::AnySubmitter => Want::AnySubmitter,
             Field::Queue => Want::Queue,
             Field::Nanoseconds => Want::Text,
-            Field::Past
-            | Field::Unused
+            Field::Unused
+            | Field::Word
             | Field::Title
             | Field::Room
             | Field::Commands
@@ -231,7 +228,6 @@ impl Field {
             | Field::OnTime
             | Field::CommandsOnTime
             | Field::Windows
-            | Field::Window
             | Field::Seconds
             | Field::Processor
             | Field::Action

@@ -1,13 +1,12 @@
 //! The forms of texts: their titles, what their records have in each field, and which subcommands take them.
 
 ghost use Rattle.std.specs.Prelude.{◌≡◌, ◌↔◌, IsTrue, MatchOption};
-ghost use Rattle.blk_explain.specs.Forms.{form_row, form_name, fields_of, IsWorded, IsRecordKind};
+ghost use Rattle.blk_explain.specs.Forms.{form_row, form_name, IsWorded, IsRecordKind};
 ghost use Rattle.blk_explain.specs.declared.forms.TextForm.{TextForm as AForm};
 
 use crate::counts::Counted;
-use crate::fields::Field;
+use crate::kinds::RecordKind;
 use crate::names::Name;
-use crate::rows::has_word;
 use crate::words::Words;
 
 /// The form of a text.
@@ -29,470 +28,8 @@ pub enum TextForm {
     Trace,
 }
 
-/// The kind of a record.
-#[derive(Clone, Copy, Debug, PartialEq, Eq)]
-pub enum RecordKind {
-    /// The title of a command list.
-    CommandsTitle,
-    /// A command of a command list.
-    Command,
-    /// The title of a certificate.
-    CertificateTitle,
-    /// The title of a certificate of how many commands can be on time.
-    OnTimeTitle,
-    /// The title of a schedule.
-    ScheduleTitle,
-    /// A command with its round.
-    Served,
-    /// The bound of a certificate.
-    Bound,
-    /// How many commands are on time, and how many windows there are.
-    OnTime,
-    /// A window.
-    Window,
-    /// The title of a capture.
-    CaptureTitle,
-    /// A record of a capture.
-    Capture,
-    /// The title of a script.
-    ScriptTitle,
-    /// The title of a trace.
-    TraceTitle,
-    /// The setup of a script or a trace.
-    Setup,
-    /// A step with none of the words.
-    Step,
-    /// A bio of a script.
-    Bio,
-    /// A flush.
-    Flush,
-    /// A drain.
-    Drain,
-    /// An issue of a script.
-    Issue,
-    /// A done of a script.
-    Done,
-    /// A back of a script.
-    Back,
-    /// A depth of a script.
-    Depth,
-    /// A tick of a script.
-    Tick,
-    /// A run.
-    Run,
-    /// An event with none of the words.
-    Event,
-    /// A tick of a trace.
-    EventTick,
-    /// A release.
-    EventRelease,
-    /// A join.
-    EventJoin,
-    /// A bio of a trace.
-    EventBio,
-    /// An issue of a trace.
-    EventIssue,
-    /// A done of a trace.
-    EventDone,
-    /// A back of a trace.
-    EventBack,
-    /// A depth of a trace.
-    EventDepth,
-}
-
-/// Of the title of a command list.
-const COMMANDS_TITLE: [Field; 8] = [
-    Field::Title,
-    Field::FirstVersion,
-    Field::Room,
-    Field::Past,
-    Field::Past,
-    Field::Past,
-    Field::Past,
-    Field::Past,
-];
-
-/// Of a command of a command list.
-const COMMAND: [Field; 8] = [
-    Field::Id,
-    Field::Release,
-    Field::Due,
-    Field::Past,
-    Field::Past,
-    Field::Past,
-    Field::Past,
-    Field::Past,
-];
-
-/// Of a title with a depth and a number of commands.
-const COUNTED_TITLE: [Field; 8] = [
-    Field::Title,
-    Field::FirstVersion,
-    Field::Room,
-    Field::Commands,
-    Field::Past,
-    Field::Past,
-    Field::Past,
-    Field::Past,
-];
-
-/// Of a command with its round.
-const SERVED: [Field; 8] = [
-    Field::Id,
-    Field::Release,
-    Field::Due,
-    Field::Round,
-    Field::Past,
-    Field::Past,
-    Field::Past,
-    Field::Past,
-];
-
-/// Of the bound of a certificate.
-const BOUND: [Field; 8] = [
-    Field::Bound,
-    Field::Lateness,
-    Field::BoundFrom,
-    Field::BoundUntil,
-    Field::Past,
-    Field::Past,
-    Field::Past,
-    Field::Past,
-];
-
-/// Of how many commands are on time, and how many windows there are.
-const ON_TIME_NUMBERS: [Field; 8] = [
-    Field::OnTime,
-    Field::CommandsOnTime,
-    Field::Windows,
-    Field::Unused,
-    Field::Past,
-    Field::Past,
-    Field::Past,
-    Field::Past,
-];
-
-/// Of a window.
-const WINDOW: [Field; 8] = [
-    Field::Window,
-    Field::From,
-    Field::Until,
-    Field::Unused,
-    Field::Past,
-    Field::Past,
-    Field::Past,
-    Field::Past,
-];
-
-/// Of the title of a capture.
-const CAPTURE_TITLE: [Field; 8] = [
-    Field::Title,
-    Field::FirstVersion,
-    Field::Unused,
-    Field::Unused,
-    Field::Unused,
-    Field::Unused,
-    Field::Unused,
-    Field::Unused,
-];
-
-/// Of a record of a capture.
-const CAPTURED: [Field; 8] = [
-    Field::Seconds,
-    Field::Nanoseconds,
-    Field::Processor,
-    Field::Action,
-    Field::Process,
-    Field::Rwbs,
-    Field::First,
-    Field::Sectors,
-];
-
-/// Of the title of a script.
-const SCRIPT_TITLE: [Field; 8] = [
-    Field::Title,
-    Field::Version,
-    Field::Tags,
-    Field::Queues,
-    Field::SoftDepth,
-    Field::Submitters,
-    Field::Past,
-    Field::Past,
-];
-
-/// Of the title of a trace.
-const TRACE_TITLE: [Field; 8] = [
-    Field::Title,
-    Field::Version,
-    Field::Tags,
-    Field::Queues,
-    Field::Events,
-    Field::Unused,
-    Field::Past,
-    Field::Past,
-];
-
-/// Of the setup of a script or a trace.
-const SETUP: [Field; 8] = [
-    Field::Setup,
-    Field::ReadExpire,
-    Field::WriteExpire,
-    Field::MaxSectors,
-    Field::MaxSegments,
-    Field::Unused,
-    Field::Past,
-    Field::Past,
-];
-
-/// Of a step with none of the words.
-const STEP: [Field; 8] = [
-    Field::Step,
-    Field::Past,
-    Field::Past,
-    Field::Past,
-    Field::Past,
-    Field::Past,
-    Field::Past,
-    Field::Past,
-];
-
-/// Of a bio of a script.
-const BIO: [Field; 8] = [
-    Field::Step,
-    Field::Submitter,
-    Field::Serial,
-    Field::Direction,
-    Field::First,
-    Field::Sectors,
-    Field::Past,
-    Field::Past,
-];
-
-/// Of a flush.
-const FLUSH: [Field; 8] = [
-    Field::Step,
-    Field::Submitter,
-    Field::Unused,
-    Field::Unused,
-    Field::Unused,
-    Field::Unused,
-    Field::Past,
-    Field::Past,
-];
-
-/// Of a drain.
-const DRAIN: [Field; 8] = [
-    Field::Step,
-    Field::Queue,
-    Field::Unused,
-    Field::Unused,
-    Field::Unused,
-    Field::Unused,
-    Field::Past,
-    Field::Past,
-];
-
-/// Of an issue of a script.
-const ISSUE: [Field; 8] = [
-    Field::Step,
-    Field::Queue,
-    Field::Tag,
-    Field::Unused,
-    Field::Unused,
-    Field::Unused,
-    Field::Past,
-    Field::Past,
-];
-
-/// Of a done of a script.
-const DONE: [Field; 8] = [
-    Field::Step,
-    Field::Tag,
-    Field::Unused,
-    Field::Unused,
-    Field::Unused,
-    Field::Unused,
-    Field::Past,
-    Field::Past,
-];
-
-/// Of a back of a script.
-const BACK: [Field; 8] = [
-    Field::Step,
-    Field::Tag,
-    Field::Unused,
-    Field::Unused,
-    Field::Unused,
-    Field::Unused,
-    Field::Past,
-    Field::Past,
-];
-
-/// Of a depth of a script.
-const DEPTH_STEP: [Field; 8] = [
-    Field::Step,
-    Field::Depth,
-    Field::Unused,
-    Field::Unused,
-    Field::Unused,
-    Field::Unused,
-    Field::Past,
-    Field::Past,
-];
-
-/// Of a tick of a script.
-const TICK: [Field; 8] = [
-    Field::Step,
-    Field::Unused,
-    Field::Unused,
-    Field::Unused,
-    Field::Unused,
-    Field::Unused,
-    Field::Past,
-    Field::Past,
-];
-
-/// Of a run.
-const RUN: [Field; 8] = [
-    Field::Step,
-    Field::Rounds,
-    Field::Unused,
-    Field::Unused,
-    Field::Unused,
-    Field::Unused,
-    Field::Past,
-    Field::Past,
-];
-
-/// Of an event with none of the words.
-const EVENT: [Field; 8] = [
-    Field::Event,
-    Field::Past,
-    Field::Past,
-    Field::Past,
-    Field::Past,
-    Field::Past,
-    Field::Past,
-    Field::Past,
-];
-
-/// Of a tick of a trace.
-const EVENT_TICK: [Field; 8] = [
-    Field::Event,
-    Field::Unused,
-    Field::Unused,
-    Field::Unused,
-    Field::Unused,
-    Field::Unused,
-    Field::Past,
-    Field::Past,
-];
-
-/// Of a release.
-const EVENT_GROUP: [Field; 8] = [
-    Field::Event,
-    Field::Id,
-    Field::Bios,
-    Field::Unused,
-    Field::Unused,
-    Field::Unused,
-    Field::Past,
-    Field::Past,
-];
-
-/// Of a bio of a trace.
-const EVENT_BIO: [Field; 8] = [
-    Field::Event,
-    Field::AnySubmitter,
-    Field::Serial,
-    Field::Direction,
-    Field::First,
-    Field::Sectors,
-    Field::Past,
-    Field::Past,
-];
-
-/// Of an issue of a trace.
-const EVENT_ISSUE: [Field; 8] = [
-    Field::Event,
-    Field::Id,
-    Field::Tag,
-    Field::Unused,
-    Field::Unused,
-    Field::Unused,
-    Field::Past,
-    Field::Past,
-];
-
-/// Of a done of a trace.
-const EVENT_END: [Field; 8] = [
-    Field::Event,
-    Field::Tag,
-    Field::Unused,
-    Field::Unused,
-    Field::Unused,
-    Field::Unused,
-    Field::Past,
-    Field::Past,
-];
-
-/// Of a depth of a trace.
-const EVENT_DEPTH: [Field; 8] = [
-    Field::Event,
-    Field::Depth,
-    Field::Unused,
-    Field::Unused,
-    Field::Unused,
-    Field::Unused,
-    Field::Past,
-    Field::Past,
-];
-
-impl RecordKind {
-    /// Its fields, and some past the last.
-    pub fn fields(self) -> [Field; 8]
-        ensures { result ≡ fields_of self }
-    {
-        match self {
-            RecordKind::CommandsTitle => COMMANDS_TITLE,
-            RecordKind::Command => COMMAND,
-            RecordKind::CertificateTitle => COUNTED_TITLE,
-            RecordKind::OnTimeTitle => COUNTED_TITLE,
-            RecordKind::ScheduleTitle => COUNTED_TITLE,
-            RecordKind::Served => SERVED,
-            RecordKind::Bound => BOUND,
-            RecordKind::OnTime => ON_TIME_NUMBERS,
-            RecordKind::Window => WINDOW,
-            RecordKind::CaptureTitle => CAPTURE_TITLE,
-            RecordKind::Capture => CAPTURED,
-            RecordKind::ScriptTitle => SCRIPT_TITLE,
-            RecordKind::TraceTitle => TRACE_TITLE,
-            RecordKind::Setup => SETUP,
-            RecordKind::Step => STEP,
-            RecordKind::Bio => BIO,
-            RecordKind::Flush => FLUSH,
-            RecordKind::Drain => DRAIN,
-            RecordKind::Issue => ISSUE,
-            RecordKind::Done => DONE,
-            RecordKind::Back => BACK,
-            RecordKind::Depth => DEPTH_STEP,
-            RecordKind::Tick => TICK,
-            RecordKind::Run => RUN,
-            RecordKind::Event => EVENT,
-            RecordKind::EventTick => EVENT_TICK,
-            RecordKind::EventRelease => EVENT_GROUP,
-            RecordKind::EventJoin => EVENT_GROUP,
-            RecordKind::EventBio => EVENT_BIO,
-            RecordKind::EventIssue => EVENT_ISSUE,
-            RecordKind::EventDone => EVENT_END,
-            RecordKind::EventBack => EVENT_END,
-            RecordKind::EventDepth => EVENT_DEPTH,
-        }
-    }
-}
-
 /// A form.
-#[derive(Clone, Copy, Debug)]
+#[derive(Clone, Copy)]
 pub struct FormRow {
     /// The subcommands that take it.
     pub takers: Name,
@@ -513,21 +50,11 @@ pub struct FormRow {
 }
 
 /// The row of blk-commands texts.
-const COMMANDS: FormRow = FormRow {
+const COMMANDS_FORM: FormRow = FormRow {
     takers: Name::TakeCommands,
     title: RecordKind::CommandsTitle,
     second: RecordKind::Command,
-    kinds: [
-        RecordKind::Command,
-        RecordKind::Command,
-        RecordKind::Command,
-        RecordKind::Command,
-        RecordKind::Command,
-        RecordKind::Command,
-        RecordKind::Command,
-        RecordKind::Command,
-        RecordKind::Command,
-    ],
+    kinds: [RecordKind::Command; 9],
     item: RecordKind::Command,
     words: Words::Nothing,
     range: Name::EachInRange,
@@ -535,21 +62,11 @@ const COMMANDS: FormRow = FormRow {
 };
 
 /// The row of blk-certificate texts.
-const CERTIFICATE: FormRow = FormRow {
+const CERTIFICATE_FORM: FormRow = FormRow {
     takers: Name::TakeCertificates,
     title: RecordKind::CertificateTitle,
     second: RecordKind::Bound,
-    kinds: [
-        RecordKind::Served,
-        RecordKind::Served,
-        RecordKind::Served,
-        RecordKind::Served,
-        RecordKind::Served,
-        RecordKind::Served,
-        RecordKind::Served,
-        RecordKind::Served,
-        RecordKind::Served,
-    ],
+    kinds: [RecordKind::Served; 9],
     item: RecordKind::Served,
     words: Words::Nothing,
     range: Name::EachInRange,
@@ -557,7 +74,7 @@ const CERTIFICATE: FormRow = FormRow {
 };
 
 /// The row of blk-met texts.
-const ON_TIME: FormRow = FormRow {
+const ON_TIME_FORM: FormRow = FormRow {
     takers: Name::TakeCertificates,
     title: RecordKind::OnTimeTitle,
     second: RecordKind::OnTime,
@@ -579,21 +96,11 @@ const ON_TIME: FormRow = FormRow {
 };
 
 /// The row of blk-schedule texts.
-const SCHEDULE: FormRow = FormRow {
+const SCHEDULE_FORM: FormRow = FormRow {
     takers: Name::TakeSchedules,
     title: RecordKind::ScheduleTitle,
     second: RecordKind::Served,
-    kinds: [
-        RecordKind::Served,
-        RecordKind::Served,
-        RecordKind::Served,
-        RecordKind::Served,
-        RecordKind::Served,
-        RecordKind::Served,
-        RecordKind::Served,
-        RecordKind::Served,
-        RecordKind::Served,
-    ],
+    kinds: [RecordKind::Served; 9],
     item: RecordKind::Served,
     words: Words::Nothing,
     range: Name::EachInRange,
@@ -601,21 +108,11 @@ const SCHEDULE: FormRow = FormRow {
 };
 
 /// The row of blk-capture texts.
-const CAPTURE: FormRow = FormRow {
+const CAPTURE_FORM: FormRow = FormRow {
     takers: Name::TakeCaptures,
     title: RecordKind::CaptureTitle,
     second: RecordKind::Capture,
-    kinds: [
-        RecordKind::Capture,
-        RecordKind::Capture,
-        RecordKind::Capture,
-        RecordKind::Capture,
-        RecordKind::Capture,
-        RecordKind::Capture,
-        RecordKind::Capture,
-        RecordKind::Capture,
-        RecordKind::Capture,
-    ],
+    kinds: [RecordKind::Capture; 9],
     item: RecordKind::Capture,
     words: Words::Nothing,
     range: Name::EachInRange,
@@ -623,7 +120,7 @@ const CAPTURE: FormRow = FormRow {
 };
 
 /// The row of blk-script texts.
-const SCRIPT: FormRow = FormRow {
+const SCRIPT_FORM: FormRow = FormRow {
     takers: Name::TakeScripts,
     title: RecordKind::ScriptTitle,
     second: RecordKind::Setup,
@@ -645,19 +142,19 @@ const SCRIPT: FormRow = FormRow {
 };
 
 /// The row of blk-trace texts.
-const TRACE: FormRow = FormRow {
+const TRACE_FORM: FormRow = FormRow {
     takers: Name::TakeTraces,
     title: RecordKind::TraceTitle,
     second: RecordKind::Setup,
     kinds: [
-        RecordKind::EventTick,
-        RecordKind::EventRelease,
-        RecordKind::EventJoin,
+        RecordKind::Tick,
+        RecordKind::Release,
+        RecordKind::Join,
         RecordKind::EventBio,
         RecordKind::EventIssue,
-        RecordKind::EventDone,
-        RecordKind::EventBack,
-        RecordKind::EventDepth,
+        RecordKind::Done,
+        RecordKind::Back,
+        RecordKind::Depth,
         RecordKind::Event,
     ],
     item: RecordKind::Event,
@@ -672,13 +169,13 @@ impl TextForm {
         ensures { result ≡ form_row self }
     {
         match self {
-            TextForm::Commands => COMMANDS,
-            TextForm::Certificate => CERTIFICATE,
-            TextForm::OnTime => ON_TIME,
-            TextForm::Schedule => SCHEDULE,
-            TextForm::Capture => CAPTURE,
-            TextForm::Script => SCRIPT,
-            TextForm::Trace => TRACE,
+            TextForm::Commands => COMMANDS_FORM,
+            TextForm::Certificate => CERTIFICATE_FORM,
+            TextForm::OnTime => ON_TIME_FORM,
+            TextForm::Schedule => SCHEDULE_FORM,
+            TextForm::Capture => CAPTURE_FORM,
+            TextForm::Script => SCRIPT_FORM,
+            TextForm::Trace => TRACE_FORM,
         }
     }
 
@@ -686,7 +183,8 @@ impl TextForm {
     fn is_named(self, field: &[u8]) -> bool
         ensures { IsTrue result ↔ (field.now ≡ form_name self) }
     {
-        has_word(self.row().title, field)
+        let title = self.row().title.row();
+        field == title.word()
     }
 }
 
@@ -719,7 +217,7 @@ fn kind_named(kinds: &[RecordKind], other: RecordKind, word: &[u8]) -> RecordKin
 {
     for k in 0..kinds.len() {
         let kind = kinds[k];
-        if has_word(kind, word) {
+        if word == kind.row().word() {
             return kind;
         }
     }

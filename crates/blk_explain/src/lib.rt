@@ -8,6 +8,7 @@ pub mod fields;
 pub mod findings;
 pub mod forms;
 pub mod held;
+pub mod kinds;
 pub mod lines;
 pub mod names;
 pub mod rows;

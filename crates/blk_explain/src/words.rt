@@ -4,13 +4,12 @@ ghost use Rattle.std.specs.Prelude.{◌≡◌, ◌++◌, OnOk};
 ghost use Rattle.std.specs.List.{flat_map};
 ghost use Rattle.blk_explain.specs.Words.{since_text, versioned, before_comma, several, words_text};
 
-use crate::forms::RecordKind;
-use crate::rows::{push_word, since_of};
+use crate::kinds::{RecordKind, push_word};
 use drafts::Draft;
 use std::alloc::AllocError;
 
 /// The words that the later records of a form begin with.
-#[derive(Clone, Copy, Debug)]
+#[derive(Clone, Copy)]
 pub enum Words {
     /// No word.
     Nothing,
@@ -36,12 +35,12 @@ const STEPS: [RecordKind; 8] = [
 
 /// The kinds of the first records of the events of a trace, but for the last that is named.
 const EVENTS: [RecordKind; 6] = [
-    RecordKind::EventTick,
-    RecordKind::EventRelease,
-    RecordKind::EventJoin,
+    RecordKind::Tick,
+    RecordKind::Release,
+    RecordKind::Join,
     RecordKind::EventIssue,
-    RecordKind::EventDone,
-    RecordKind::EventBack,
+    RecordKind::Done,
+    RecordKind::Back,
 ];
 
 /// Adds the version that a kind came with, if it isn't the first.
@@ -59,8 +58,9 @@ fn push_since(draft: &mut Draft, since: u64) -> Result<(), AllocError>
 fn push_versioned(draft: &mut Draft, kind: RecordKind) -> Result<(), AllocError>
     ensures { OnOk result (draft.new ≡ draft.old ++ versioned kind) }
 {
-    push_word(draft, kind)?;
-    push_since(draft, since_of(kind))
+    let row = kind.row();
+    draft.text(row.word())?;
+    push_since(draft, row.since())
 }
 
 /// Adds the word of a kind and a comma.
@@ -99,6 +99,6 @@ pub fn push_words(draft: &mut Draft, words: Words) -> Result<(), AllocError>
         Words::Nothing => Ok(()),
         Words::One(kind) => push_word(draft, kind),
         Words::Steps => push_several(draft, &STEPS, RecordKind::Depth),
-        Words::Events => push_several(draft, &EVENTS, RecordKind::EventDepth),
+        Words::Events => push_several(draft, &EVENTS, RecordKind::Depth),
     }
 }

@@ -3,7 +3,7 @@ use Rattle.std.specs.Prelude.{ℕ, Option, MatchOption}
 use Rattle.blk_lists.specs.Sources.{Row}
 use Rattle.blk_lists.specs.declared.fault.Why.{Why}
 use Rattle.blk_explain.specs.declared.fields.Allowed.{Allowed}
-use Rattle.blk_explain.specs.declared.forms.RecordKind.{RecordKind}
+use Rattle.blk_explain.specs.declared.kinds.RecordKind.{RecordKind}
 use Rattle.blk_explain.specs.Details.{IsKeptAt, IsBrokenAt, IsFirstBrokenAt, AllKept}
 
 -- whether the field at a place has the fault, and what may stand in it then; the same of the first one that does
