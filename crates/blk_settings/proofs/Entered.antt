@@ -1,13 +1,10 @@
 -- How many of the bios that entered the commands have, and what comes of a load by these numbers.
-use Rattle.std.proofs.Common.{◌≡◌, ◌∙◌, ◌+◌, ◌-◌, ◌<◌, ℕ, sym, ap, refl, arith, inr, List, [], ◌∷◌, ◌++◌, length, length-append, take, get_or}
-use Rattle.std.specs.List.{flat_map}
-use Rattle.std.proofs.lemmas.List.{take_more}
+use Rattle.std.proofs.Common.{◌≡◌, ◌∙◌, ◌-◌, ℕ, sym, ap, arith, inr, List, ◌++◌, length, length-append}
 use Rattle.std.proofs.lemmas.List.Sorted.{length_permutation}
 use Rattle.blk_trace.specs.Happened.{Happened}
-use Rattle.blk_trace.specs.Events.{entered, bios_of}
+use Rattle.blk_trace.specs.Events.{entered}
 use Rattle.blk_trace.specs.Laws.{IsAccounted}
 use Rattle.blk_trace.specs.Meaning.{waiting_of}
-use Rattle.blk_trace.proofs.Pushing.{entered_more as entered_with}
 use Rattle.blk_trace.specs.Events.{open_count}
 use Rattle.blk_trace.specs.Traces.{Traced}
 use Rattle.blk_settings.specs.Settles.{served_bios, load_setup, AreEven, IsSettled, IsSettleFault}
