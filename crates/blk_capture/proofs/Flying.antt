@@ -1,5 +1,5 @@
 -- What is at the device at a time.
-use Rattle.std.proofs.Common.{◌≡◌, ◌≤◌, ◌<◌, ◌+◌, ◌-◌, ◌∙◌, ℕ, suc, List, [], ◌∷◌, length, get_or, inl, inr, subst, Bool, true, false, cond, count_by, nat_le, refl, sym, ap, arith, Option, None, Some}
+use Rattle.std.proofs.Common.{◌≡◌, ◌≤◌, ◌<◌, ◌+◌, ◌∙◌, ℕ, suc, List, [], ◌∷◌, length, get_or, inl, inr, subst, Bool, true, false, cond, count_by, nat_le, refl, sym, ap, arith, Option, None, Some}
 use Rattle.std.specs.Prelude.{not, ◌&&◌, IfSome, IsPermutation}
 use Rattle.std.specs.List.{All, filter_map, cons_option}
 use Rattle.std.proofs.lemmas.Bool.{cases_lt, leb-true, le-leb}

@@ -1,5 +1,5 @@
 -- Parts one below another, and what several traces share.
-use Rattle.std.proofs.Common.{◌≡◌, ◌<◌, ◌≤◌, ◌+◌, ◌*◌, ◌++◌, ◌∙◌, ℕ, List, [], ◌∷◌, length, map, suc, get_or, take, refl, sym, subst, ap, arith, append_assoc}
+use Rattle.std.proofs.Common.{◌≡◌, ◌<◌, ◌+◌, ◌*◌, ◌++◌, ◌∙◌, ℕ, List, [], ◌∷◌, length, map, suc, get_or, take, refl, sym, subst, ap, arith}
 use Rattle.std.specs.Prelude.{max, codes}
 use Rattle.blk_picture.specs.Scales.{scale_of}
 use Rattle.std.specs.Borrow.{Bor}

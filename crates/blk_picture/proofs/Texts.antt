@@ -1,6 +1,6 @@
 -- Texts that grow.
-use Rattle.std.proofs.Common.{◌≡◌, ◌<◌, ◌≤◌, ◌+◌, ◌++◌, ◌==◌, ◌∙◌, ℕ, inl, inr, zero, suc, List, [], ◌∷◌, length, get_or, take, drop, refl, sym, ap, arith, append_assoc, append-nil, cond, Bool, true, false}
-use Rattle.std.specs.Prelude.{flat_map, decimal}
+use Rattle.std.proofs.Common.{◌≡◌, ◌<◌, ◌≤◌, ◌+◌, ◌++◌, ◌==◌, ◌∙◌, ℕ, inl, inr, zero, suc, List, [], ◌∷◌, length, get_or, take, drop, refl, sym, ap, arith, append_assoc, append-nil, cond}
+use Rattle.std.specs.Prelude.{flat_map}
 use Rattle.std.proofs.lemmas.Bool.{cases_Bool}
 use Rattle.std.proofs.lemmas.List.{flat_map_more, take_more, drop_more, drop_all}
 use Rattle.blk_picture.specs.Filled.{filled, first_digits, texts, made}

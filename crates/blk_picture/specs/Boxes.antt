@@ -1,8 +1,6 @@
 -- The boxes of a trace.
-use Rattle.std.specs.Prelude.{ℕ, ◌+◌, ◌++◌, ◌∷◌, [], List, Option, Some, None, option_map, cond, nat_lt, not, ◌&&◌, map, filter}
-use Rattle.std.specs.List.{cons_option, filter_map}
-use Rattle.blk_bio.specs.declared.bio.Dir.{Dir}
-use Rattle.blk_bio.specs.declared.bio.Dir.TheVariants.{Read, Write}
+use Rattle.std.specs.Prelude.{ℕ, ◌+◌, ◌++◌, ◌∷◌, [], List, option_map, cond}
+use Rattle.std.specs.List.{cons_option}
 use Rattle.blk_bio.specs.Requests.{dir_of, first_of, last_of}
 use Rattle.blk_trace.specs.Happened.{Happened}
 use Rattle.blk_trace.specs.Kinds.{issues, is_tick}

@@ -1,5 +1,5 @@
 -- The picture of a trace, and the pictures of several.
-use Rattle.std.specs.Prelude.{ℕ, ℤ, pos, negsuc, zero, suc, ◌≡◌, ◌+◌, ◌-◌, ◌*◌, ◌<◌, ◌++◌, ◌∷◌, [], min, List, Option, Some, None, length, codes, map, slice_index_or}
+use Rattle.std.specs.Prelude.{ℕ, ℤ, pos, negsuc, zero, suc, ◌≡◌, ◌+◌, ◌-◌, ◌*◌, ◌++◌, ◌∷◌, [], min, List, Option, Some, None, length, codes, map, slice_index_or}
 use Rattle.edd_commands.specs.declared.steps.Step.{Step}
 use Rattle.edd_commands.specs.declared.TheConstants.{MAX_ROUNDS}
 use Rattle.edd_commands.specs.Capacity.{carried}

@@ -1,5 +1,5 @@
 -- The boxes, the columns and the strip of a picture as text. Nothing but fixed words and numbers gets into it.
-use Rattle.std.specs.Prelude.{ℕ, zero, suc, ◌+◌, ◌-◌, ◌*◌, ◌/◌, ◌==◌, ◌&&◌, ◌||◌, ◌++◌, ◌∷◌, [], Bool, true, false, not, cond, max, nat_le, nat_lt, List, length, codes, slice_index_or, flat_map, map, fold}
+use Rattle.std.specs.Prelude.{ℕ, ◌+◌, ◌-◌, ◌*◌, ◌/◌, ◌==◌, ◌&&◌, ◌||◌, ◌++◌, ◌∷◌, [], Bool, true, false, not, cond, max, nat_le, nat_lt, List, length, codes, slice_index_or, flat_map, map, fold}
 use Rattle.blk_bio.specs.declared.bio.Dir.{Dir}
 use Rattle.blk_bio.specs.declared.bio.Dir.TheVariants.{Read, Write}
 use Rattle.blk_picture.specs.declared.boxes.IssueBox.{IssueBox}

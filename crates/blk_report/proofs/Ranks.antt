@@ -1,13 +1,12 @@
 -- A quantile by nearest rank has its share of the numbers.
-use Rattle.std.proofs.Common.{◌≡◌, ◌<◌, ◌≤◌, ◌+◌, ◌-◌, ◌*◌, ◌/◌, ℕ, zero, suc, List, [], ◌∷◌, length, get_or, Bool, true, false, count_by, refl, sym, ap, arith, inl, inr, ℤ, pos, IsPermutation}
-use Rattle.std.specs.Prelude.{not, slice_get, Option, Some}
-use Rattle.std.specs.Ordering.{int_cmp, is_lt}
+use Rattle.std.proofs.Common.{◌≡◌, ◌<◌, ◌≤◌, ◌+◌, ◌-◌, ◌*◌, ◌/◌, ℕ, zero, suc, List, [], ◌∷◌, length, get_or, Bool, true, false, count_by, refl, sym, ap, arith, ℤ, pos, IsPermutation}
+use Rattle.std.specs.Prelude.{not}
+use Rattle.std.specs.Ordering.{int_cmp}
 use Rattle.std.specs.List.Sorted.{IsSorted}
-use Rattle.std.proofs.lemmas.Bool.{cases_Bool}
 use Rattle.std.proofs.lemmas.Cmp.{int_cmp_total}
 use Rattle.std.proofs.lemmas.Option.{slice_get-get_or}
 use Rattle.std.proofs.lemmas.List.Sorted.{ranks_by, sorted_far, sum_by-IsPermutation, length_permutation}
-use Rattle.blk_report.specs.Spread.{is_less, HasShare, IsShare, HaveShares, nearest_rank, at_rank, quantiles_of}
+use Rattle.blk_report.specs.Spread.{is_less, IsShare, HaveShares, nearest_rank, at_rank, quantiles_of}
 use Rattle.blk_report.proofs.Halving.{one_if, count_cons}
 
 -- the first i pass

@@ -1,5 +1,5 @@
 -- The verdicts of the late commands, in their order.
-use Rattle.std.proofs.Common.{◌≡◌, ◌<◌, ◌≤◌, ◌∙◌, ℕ, zero, suc, List, [], ◌∷◌, length, get_or, map, false, true, refl, sym, ap, subst, arith, Some, None}
+use Rattle.std.proofs.Common.{◌≡◌, ◌<◌, ◌≤◌, ◌∙◌, ℕ, zero, suc, List, [], ◌∷◌, length, get_or, map, refl, sym, ap, subst, arith, Some, None}
 use Rattle.std.specs.Prelude.{Option}
 use Rattle.std.specs.List.{filter, filter_map}
 use Rattle.std.proofs.lemmas.Bool.{lt-ltb, le-ltb}

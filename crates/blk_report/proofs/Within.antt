@@ -1,5 +1,5 @@
 -- A trace's rounds lie within the limits of the check.
-use Rattle.std.proofs.Common.{◌<◌, ◌^◌, ℕ, List, arith}
+use Rattle.std.proofs.Common.{ℕ, List, arith}
 use Rattle.edd_commands.specs.declared.Command.{Command}
 use Rattle.edd_commands.specs.Schedule.{RoundsInRange}
 use Rattle.blk_trace.specs.Laws.{AreBounded}

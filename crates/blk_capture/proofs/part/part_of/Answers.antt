@@ -1,4 +1,4 @@
-use Rattle.std.proofs.Common.{◌≡◌, ◌-◌, ◌∙◌, List, length, map, sym, ap, subst, arith}
+use Rattle.std.proofs.Common.{◌≡◌, ◌∙◌, List, length, map, sym, ap, subst, arith}
 use Rattle.blk_capture.specs.Parting.{gone_before, part, bio_in, fate_in}
 use Rattle.blk_capture.specs.Requests.{AreTimed}
 use Rattle.blk_capture.specs.declared.requests.CapturedRequest.{CapturedRequest}

@@ -1,6 +1,3 @@
-use Rattle.std.proofs.Common.{◌≡◌, ◌++◌, ℕ, List, length, subst, arith}
-use Rattle.std.specs.Prelude.{slice_index_or}
-use Rattle.blk_picture.specs.Filled.{texts}
 use Rattle.blk_picture.specs.Around.{tick_text}
 use Rattle.blk_picture.proofs.Texts.{texts_none, texts_push}
 use Rattle.blk_picture.proofs.around.push_axis.Goals as goal

@@ -1,5 +1,3 @@
-use Rattle.std.proofs.Common.{◌≡◌, ◌<◌, ◌≤◌, ◌+◌, ◌-◌, ◌++◌, ◌∷◌, [], ◌∙◌, ◌==◌, ℕ, List, Bool, true, false, Some, None, length, get_or, take, drop, set, replicate, refl, sym, ap, subst, arith}
-use Rattle.blk_picture.specs.Filled.{texts}
 use Rattle.blk_picture.specs.Around.{crowd_text}
 use Rattle.blk_picture.proofs.Texts.{texts_none, texts_push}
 use Rattle.blk_picture.proofs.around.push_crowds.Goals as goal

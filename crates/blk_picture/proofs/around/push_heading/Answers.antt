@@ -1,5 +1,5 @@
-use Rattle.std.proofs.Common.{◌≡◌, ◌++◌, ◌∷◌, [], ◌∙◌, ◌==◌, ℕ, List, length, refl, ap, cond}
-use Rattle.std.specs.Prelude.{codes, flat_map}
+use Rattle.std.proofs.Common.{◌++◌, ◌∙◌, ℕ, List, ap}
+use Rattle.std.specs.Prelude.{codes}
 use Rattle.blk_report.specs.Lines.{report_text}
 use Rattle.blk_picture.specs.Around.{numbers_text, legend}
 use Rattle.blk_picture.proofs.Texts.{grow6}

@@ -1,10 +1,9 @@
-use Rattle.std.proofs.Common.{◌≡◌, ◌<◌, ◌≤◌, ◌+◌, ◌-◌, ◌++◌, ◌∷◌, [], ◌∙◌, ◌==◌, ℕ, List, Bool, true, false, Some, None, length, get_or, take, drop, set, replicate, refl, sym, ap, subst, arith}
+use Rattle.std.proofs.Common.{◌≡◌, ◌∙◌, ℕ, List, length, sym, ap, subst, arith}
 use Rattle.std.specs.Ordering.{nat_cmp}
 use Rattle.std.specs.BTreeMap.{get}
 use Rattle.blk_trace.specs.Happened.{Happened}
 use Rattle.blk_trace.specs.Setups.{Setup}
 use Rattle.blk_picture.specs.Inside.Facts.{Knows}
-use Rattle.blk_trace.specs.Events.{round_of}
 use Rattle.blk_picture.specs.Inside.Walked.{IsWalked}
 use Rattle.blk_picture.proofs.Walk.{filled_up, walked_none, walked_all}
 use Rattle.blk_picture.specs.declared.boxes.TheConstants.{MAX_TAGS}

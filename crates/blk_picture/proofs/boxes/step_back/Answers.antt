@@ -1,10 +1,9 @@
-use Rattle.std.proofs.Common.{◌≡◌, ◌<◌, ◌≤◌, ◌+◌, ◌-◌, ◌++◌, ◌∷◌, [], ◌∙◌, ◌==◌, ℕ, List, Bool, true, false, Some, None, length, get_or, take, drop, set, replicate, refl, sym, ap, subst, arith}
+use Rattle.std.proofs.Common.{◌≡◌, ◌<◌, ◌∙◌, List, false, get_or, refl, sym, ap, arith}
 use Rattle.std.specs.Prelude.{is_some}
 use Rattle.std.specs.Ordering.{nat_cmp}
 use Rattle.std.specs.BTreeMap.{get}
 use Rattle.std.proofs.lemmas.List.{get_or_read}
 use Rattle.blk_trace.specs.Happened.{Happened}
-use Rattle.blk_trace.specs.Kinds.{is_tick, ends, issues, requeues}
 use Rattle.blk_picture.proofs.Walk.{tick_round, walked_tick, walked_end, walked_still, walked_issue}
 use Rattle.blk_picture.specs.declared.boxes.TheConstants.{MAX_TAGS}
 use Rattle.blk_picture.proofs.boxes.step_back.Goals as goal

@@ -1,4 +1,4 @@
-use Rattle.std.proofs.Common.{◌≡◌, ◌<◌, ◌≤◌, ◌+◌, ◌-◌, ◌++◌, ◌∷◌, [], ◌∙◌, ◌==◌, ℕ, List, Bool, true, false, Some, None, length, get_or, take, drop, set, replicate, refl, sym, ap, subst, arith}
+use Rattle.std.proofs.Common.{◌≡◌, ◌∙◌, length, get_or, ap}
 use Rattle.blk_picture.specs.Filled.{made}
 use Rattle.blk_picture.specs.Columns.{column_of, rooms_of}
 use Rattle.blk_picture.specs.Inside.Counted.{column_from}

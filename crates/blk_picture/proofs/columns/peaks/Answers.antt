@@ -1,6 +1,4 @@
-use Rattle.std.proofs.Common.{◌≡◌, ◌<◌, ◌-◌, ◌+◌, ◌++◌, ◌∙◌, ℕ, List, refl, sym, ap, arith, append-nil, take, drop, length}
-use Rattle.std.specs.Prelude.{min}
-use Rattle.blk_trace.specs.Meaning.{greatest}
+use Rattle.std.proofs.Common.{◌≡◌, ◌-◌, ◌++◌, ◌∙◌, ap, arith, take, drop}
 use Rattle.blk_picture.specs.Columns.{peaks_of}
 use Rattle.blk_picture.proofs.Counting.{peaks_next, peaks_done}
 use Rattle.blk_picture.proofs.columns.peaks.Goals as goal

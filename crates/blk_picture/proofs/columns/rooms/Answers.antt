@@ -1,6 +1,5 @@
-use Rattle.std.proofs.Common.{◌≡◌, ◌+◌, ◌++◌, ◌∙◌, ap, arith}
+use Rattle.std.proofs.Common.{◌+◌, ◌∙◌, ap, arith}
 use Rattle.std.specs.Prelude.{min}
-use Rattle.blk_picture.specs.Columns.{rooms_of}
 use Rattle.blk_picture.proofs.Counting.{rooms_next, rooms_done}
 use Rattle.blk_picture.proofs.columns.rooms.Goals as goal
 

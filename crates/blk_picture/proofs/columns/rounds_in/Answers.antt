@@ -1,4 +1,4 @@
-use Rattle.std.proofs.Common.{◌≡◌, ◌<◌, ◌≤◌, ◌+◌, ◌-◌, ◌++◌, ◌∷◌, [], ◌∙◌, ◌==◌, ℕ, List, Bool, true, false, Some, None, length, get_or, take, drop, set, replicate, refl, sym, ap, subst, arith}
+use Rattle.std.proofs.Common.{[], ◌∙◌, length, sym, ap, arith}
 use Rattle.std.specs.List.{cons_option}
 use Rattle.std.proofs.lemmas.List.{take_all, length-append}
 use Rattle.blk_picture.specs.Columns.{rounds_in}

@@ -1,6 +1,6 @@
-use Rattle.std.proofs.Common.{◌≡◌, ◌<◌, ◌≤◌, ◌+◌, ◌-◌, ◌++◌, ◌∷◌, [], ◌∙◌, ◌==◌, ℕ, List, Bool, true, false, Some, None, length, get_or, take, drop, set, replicate, refl, sym, ap, subst, arith}
+use Rattle.std.proofs.Common.{◌≡◌, ◌+◌, ◌-◌, ◌∙◌, ℕ, get_or, sym, ap, arith}
 use Rattle.std.proofs.lemmas.List.{get_or_read}
-use Rattle.blk_picture.specs.Columns.{before, in_column}
+use Rattle.blk_picture.specs.Columns.{before}
 use Rattle.blk_picture.proofs.Counting.{before_none, before_more, before_few, waits_push, waits_none}
 use Rattle.blk_picture.proofs.columns.waits.Goals as goal
 

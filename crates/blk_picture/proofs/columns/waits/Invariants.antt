@@ -1,4 +1,4 @@
-use Rattle.std.proofs.Common.{ℕ, ◌≡◌}
+use Rattle.std.proofs.Common.{◌≡◌}
 use Rattle.blk_picture.specs.Columns.{before, waits_of}
 use Rattle.blk_picture.proofs.columns.waits.Given as goal
 

@@ -1,4 +1,4 @@
-use Rattle.std.proofs.Common.{◌≡◌, ◌∙◌, ◌==◌, ℕ, List, Some, cond, sym, ap}
+use Rattle.std.proofs.Common.{◌∙◌, ◌==◌, Some, cond, sym, ap}
 use Rattle.std.specs.Ordering.{nat_cmp}
 use Rattle.std.specs.BTreeMap.{get}
 use Rattle.blk_picture.specs.declared.facts.Facts.{Facts}

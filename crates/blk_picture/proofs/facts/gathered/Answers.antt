@@ -1,11 +1,9 @@
-use Rattle.std.proofs.Common.{◌≡◌, ◌+◌, ◌++◌, ◌∷◌, [], ◌∙◌, ℕ, List, sym, ap, subst, arith, take}
+use Rattle.std.proofs.Common.{◌≡◌, ◌+◌, ◌++◌, ◌∷◌, [], ◌∙◌, List, sym, ap, subst, arith, take}
 use Rattle.std.proofs.lemmas.List.{take_all, take_more}
 use Rattle.std.specs.Map.{lookup}
 use Rattle.std.specs.Ordering.{nat_cmp}
 use Rattle.std.specs.BTreeMap.{get, is_at}
 use Rattle.blk_trace.specs.Happened.{Happened}
-use Rattle.blk_trace.specs.Events.{round_of}
-use Rattle.blk_trace.proofs.More.{round_more}
 use Rattle.blk_picture.specs.Inside.Facts.{Knows}
 use Rattle.blk_picture.proofs.Requests.{knows_empty, round_next, round_none, round_step}
 use Rattle.blk_picture.proofs.facts.gathered.Goals as goal

@@ -1,4 +1,4 @@
-use Rattle.std.proofs.Common.{◌≡◌, ◌++◌, refl, get_or}
+use Rattle.std.proofs.Common.{refl}
 use Rattle.blk_picture.proofs.Texts.{fill_next, fill_all}
 use Rattle.blk_picture.proofs.filled.fill.Goals as goal
 

@@ -1,4 +1,4 @@
-use Rattle.std.proofs.Common.{◌≡◌, ◌++◌, ◌∙◌, List, ℕ, ap}
+use Rattle.std.proofs.Common.{◌++◌, ◌∙◌, List, ℕ, ap}
 use Rattle.std.specs.Prelude.{codes}
 use Rattle.blk_picture.specs.Scales.{scale_of}
 use Rattle.blk_picture.specs.Pictures.{rounds_shown, head_text}

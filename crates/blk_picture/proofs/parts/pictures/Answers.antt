@@ -1,4 +1,4 @@
-use Rattle.std.proofs.Common.{◌≡◌, ◌++◌, ◌+◌, ◌*◌, ◌∙◌, List, ℕ, ap, length}
+use Rattle.std.proofs.Common.{◌++◌, ◌+◌, ◌*◌, ◌∙◌, List, ℕ, ap, length}
 use Rattle.std.specs.Prelude.{codes}
 use Rattle.blk_picture.specs.Pictures.{head_text}
 use Rattle.blk_picture.proofs.Joining.{names_of, pictures_are}

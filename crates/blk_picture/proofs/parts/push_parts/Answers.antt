@@ -1,4 +1,4 @@
-use Rattle.std.proofs.Common.{◌≡◌, ◌+◌, ◌*◌, ◌++◌, ◌∙◌, ℕ, List, [], length, sym, ap, subst, arith, append-nil, append_assoc}
+use Rattle.std.proofs.Common.{◌≡◌, ◌+◌, ◌*◌, ◌++◌, ◌∙◌, ℕ, [], length, sym, ap, subst, arith, append-nil, append_assoc}
 use Rattle.blk_picture.specs.Pictures.{AreParts}
 use Rattle.blk_picture.proofs.Joining.{names_of, parts_none, parts_push}
 use Rattle.blk_picture.proofs.parts.push_parts.Goals as goal

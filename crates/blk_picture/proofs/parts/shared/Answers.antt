@@ -1,8 +1,5 @@
-use Rattle.std.proofs.Common.{◌≡◌, ◌∙◌, List, sym, ap, arith, take}
-use Rattle.std.proofs.lemmas.List.{take_all}
+use Rattle.std.proofs.Common.{List, arith}
 use Rattle.blk_trace.specs.Traces.{Traced}
-use Rattle.blk_picture.specs.Scales.{scale_of}
-use Rattle.blk_picture.specs.Pictures.{most_rounds, most_deep}
 use Rattle.blk_picture.proofs.Joining.{none_most, none_deep, rounds_more, deep_more}
 use Rattle.blk_picture.proofs.parts.shared.Goals as goal
 

@@ -1,4 +1,4 @@
-use Rattle.std.proofs.Common.{◌≡◌, ◌≤◌, take}
+use Rattle.std.proofs.Common.{◌≡◌, take}
 use Rattle.blk_picture.specs.Shapes.{most_waiting}
 use Rattle.blk_picture.proofs.shapes.most_waiting.Given as goal
 

@@ -1,5 +1,4 @@
-use Rattle.std.proofs.Common.{◌≡◌, ◌++◌, ◌∷◌, [], ◌∙◌, ◌==◌, ℕ, List, length, refl, ap, cond}
-use Rattle.std.specs.Prelude.{codes, flat_map}
+use Rattle.std.proofs.Common.{◌++◌, ◌∙◌, ℕ, List, ap}
 use Rattle.blk_picture.specs.Shapes.{class_words, place_text, dir_words, tail_text, label_text}
 use Rattle.blk_picture.proofs.Texts.{grow5}
 use Rattle.blk_picture.proofs.shapes.push_box.Goals as goal

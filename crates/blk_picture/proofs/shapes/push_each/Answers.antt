@@ -1,4 +1,4 @@
-use Rattle.std.proofs.Common.{◌≡◌, ◌++◌, ◌∙◌, List, sym, ap, append-nil, take}
+use Rattle.std.proofs.Common.{◌++◌, ◌∙◌, List, sym, ap, append-nil}
 use Rattle.std.specs.Prelude.{flat_map}
 use Rattle.std.proofs.lemmas.List.{take_all}
 use Rattle.blk_picture.specs.declared.boxes.IssueBox.{IssueBox}

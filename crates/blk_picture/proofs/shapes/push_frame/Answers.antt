@@ -1,4 +1,4 @@
-use Rattle.std.proofs.Common.{◌≡◌, ◌++◌, ◌∷◌, [], ◌∙◌, ◌==◌, ℕ, List, length, refl, ap, cond}
+use Rattle.std.proofs.Common.{[], ◌==◌, length, cond}
 use Rattle.std.specs.Prelude.{codes, flat_map}
 use Rattle.blk_picture.specs.Shapes.{border_text, columns_text, box_text}
 use Rattle.blk_picture.proofs.Texts.{grow4}

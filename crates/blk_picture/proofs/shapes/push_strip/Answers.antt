@@ -1,5 +1,5 @@
-use Rattle.std.proofs.Common.{◌≡◌, ◌++◌, ◌∷◌, [], ◌∙◌, ◌==◌, ℕ, List, length, refl, ap, cond}
-use Rattle.std.specs.Prelude.{codes, flat_map}
+use Rattle.std.proofs.Common.{◌++◌, ◌∙◌, ℕ, length, ap}
+use Rattle.std.specs.Prelude.{codes}
 use Rattle.blk_picture.specs.Shapes.{scale_text, most_waiting, waits_text}
 use Rattle.blk_picture.proofs.Texts.{grow3}
 use Rattle.blk_picture.proofs.shapes.push_strip.Goals as goal

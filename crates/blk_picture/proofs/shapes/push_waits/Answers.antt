@@ -1,6 +1,5 @@
-use Rattle.std.proofs.Common.{◌≡◌, ◌++◌, ℕ, List, length, subst, arith}
+use Rattle.std.proofs.Common.{◌≡◌, ◌++◌, ℕ, length, subst, arith}
 use Rattle.std.specs.Prelude.{slice_index_or}
-use Rattle.blk_picture.specs.Filled.{texts}
 use Rattle.blk_picture.specs.Shapes.{waiting_text, waits_text, no_column}
 use Rattle.blk_picture.proofs.Texts.{texts_none, texts_push}
 use Rattle.blk_picture.proofs.shapes.push_waits.Goals as goal

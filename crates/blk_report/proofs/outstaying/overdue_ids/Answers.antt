@@ -1,4 +1,4 @@
-use Rattle.std.proofs.Common.{◌≡◌, ◌≤◌, ◌+◌, ◌∙◌, ℕ, List, take, ap, sym, subst, arith, Bool}
+use Rattle.std.proofs.Common.{◌+◌, ◌∙◌, ℕ, List, take, ap, sym, subst, arith, Bool}
 use Rattle.std.proofs.lemmas.List.{take_all}
 use Rattle.std.proofs.lemmas.List.Sorted.{IsNonDecreasingBy-from_sort}
 use Rattle.blk_trace.specs.Happened.{Happened}

@@ -1,4 +1,4 @@
-use Rattle.std.proofs.Common.{◌≡◌, ℕ, take}
+use Rattle.std.proofs.Common.{take}
 use Rattle.blk_trace.specs.Waits.{has_id}
 use Rattle.blk_report.proofs.Overdue.{IsReached}
 use Rattle.blk_report.proofs.outstaying.overdue_ids.Given as goal
