@@ -15,7 +15,7 @@ use Rattle.blk_report.specs.declared.missing.Tally.{Tally}
 use Rattle.blk_report.specs.declared.spreading.Spreads.{Spreads}
 use Rattle.blk_report.specs.Lines.{report_text}
 use Rattle.blk_report.specs.declared.delays.LateCommand.{LateCommand}
-use Rattle.blk_report.specs.Late.{AreLateIn}
+use Rattle.blk_report.specs.Late.{AreAllLate}
 use Rattle.blk_report.specs.LateText.{late_lines}
 use Rattle.blk_report.specs.Misses.{IsTallied}
 use Rattle.blk_report.specs.MissesText.{misses_text}
@@ -37,39 +37,33 @@ use Rattle.blk_cli.specs.declared.failure.Failure.{Failure}
 use Rattle.blk_cli.specs.declared.failure.Failure.TheVariants as failure
 use Rattle.blk_cli.specs.Inputs.{IsMemory}
 
--- a value that is made of the trace, and its text
-pub record AreWritten {V : Type 0} (AreOf : Traced → V → Type 0) (text_of : V → List ℕ) (trace : Traced) (text : List ℕ) : Type 0 where
-  pub value : V
-  pub is_of : AreOf trace value
-  pub is_text : text ≡ text_of value
+-- figures of a trace in a form
+abbrev pub late_in : Form → List LateCommand → List ℕ
+late_in form.Lines late = late_lines late
+late_in form.Json late = late_json late
 
-abbrev pub in_form : {V : Type 0} → (V → List ℕ) → (V → List ℕ) → Form → V → List ℕ
-in_form lines json form.Lines = lines
-in_form lines json form.Json = json
+abbrev pub misses_in : Form → Tally → List Crowd → List ℕ
+misses_in form.Lines tally windows = misses_text tally windows
+misses_in form.Json tally windows = misses_json tally windows
 
--- its report
-abbrev pub IsReportOf : Traced → Report → Type 0
-IsReportOf trace r = IsReport trace.setup trace.events r
+abbrev pub spread_in : Form → Spreads → List ℕ
+spread_in form.Lines spreads = spread_text spreads
+spread_in form.Json spreads = spread_json spreads
 
--- how long its commands waited and how late they were
-abbrev pub AreSpreadsOf : Traced → Spreads → Type 0
-AreSpreadsOf trace s = AreSpreads (services_of trace.setup trace.events) s
-
--- its commands that were late
-abbrev pub AreLateOf : Traced → List LateCommand → Type 0
-AreLateOf trace late = AreLateIn trace.setup trace.events late
-
--- how many of the trace's commands were late and had to be, on what waits, and on the windows that prove it
-pub record IsMissesText (f : Form) (trace : Traced) (text : List ℕ) : Type 0 where
-  pub tally : Tally
-  pub windows : List Crowd
-  pub is_tallied : IsTallied trace.setup trace.events tally windows
-  pub is_text : text ≡ in_form (misses_text tally) (misses_json tally) f windows
+abbrev pub report_in : Form → Report → List ℕ
+report_in form.Lines report = report_text report
+report_in form.Json report = report_json report
 
 -- the text that spells the trace in the latest version
 pub record IsTraceText (trace : Traced) (text : List ℕ) : Type 0 where
   pub spelled : SpellsTraceIn LATEST (trace_rows trace) trace
   pub is_text : text ≡ rows_text (trace_rows trace)
+
+-- the trace's report
+pub record IsReportText (f : Form) (trace : Traced) (text : List ℕ) : Type 0 where
+  pub report : Report
+  pub is_report : IsReport trace.setup trace.events report
+  pub is_text : text ≡ report_in f report
 
 -- the trace's commands as a list at the setup's depth, which is that of each of its rounds
 pub record IsCommandsText (trace : Traced) (text : List ℕ) : Type 0 where
@@ -77,15 +71,34 @@ pub record IsCommandsText (trace : Traced) (text : List ℕ) : Type 0 where
   pub spelled : SpellsCommands (commands_rows trace.setup.depth (commands_of trace.setup trace.events)) trace.setup.depth (commands_of trace.setup trace.events)
   pub is_text : text ≡ rows_text (commands_rows trace.setup.depth (commands_of trace.setup trace.events))
 
+-- the table of how long the trace's commands waited and how late they were
+pub record IsSpreadText (f : Form) (trace : Traced) (text : List ℕ) : Type 0 where
+  pub spreads : Spreads
+  pub are_spreads : AreSpreads (services_of trace.setup trace.events) spreads
+  pub is_text : text ≡ spread_in f spreads
+
+-- its commands that were late
+pub record IsLateText (f : Form) (trace : Traced) (text : List ℕ) : Type 0 where
+  pub late : List LateCommand
+  pub are_late : AreAllLate (services_of trace.setup trace.events) (capacity_of trace.setup trace.events) late
+  pub is_text : text ≡ late_in f late
+
+-- how many of the trace's commands were late and had to be, on what waits, and on the windows that prove it
+pub record IsMissesText (f : Form) (trace : Traced) (text : List ℕ) : Type 0 where
+  pub tally : Tally
+  pub windows : List Crowd
+  pub is_tallied : IsTallied trace.setup trace.events tally windows
+  pub is_text : text ≡ misses_in f tally windows
+
 -- what is said about a trace
 abbrev pub IsTellingText : Telling → Traced → List ℕ → Type 0
 IsTellingText telling.Whole trace text = IsTraceText trace text
 IsTellingText telling.Commands trace text = IsCommandsText trace text
 IsTellingText telling.Picture trace text = IsPicture trace text
-IsTellingText (telling.Figures figures.Late f) trace text = AreWritten AreLateOf (in_form late_lines late_json f) trace text
+IsTellingText (telling.Figures figures.Late f) trace text = IsLateText f trace text
 IsTellingText (telling.Figures figures.Misses f) trace text = IsMissesText f trace text
-IsTellingText (telling.Figures figures.Spread f) trace text = AreWritten AreSpreadsOf (in_form spread_text spread_json f) trace text
-IsTellingText (telling.Figures figures.Report f) trace text = AreWritten IsReportOf (in_form report_text report_json f) trace text
+IsTellingText (telling.Figures figures.Spread f) trace text = IsSpreadText f trace text
+IsTellingText (telling.Figures figures.Report f) trace text = IsReportText f trace text
 
 -- why a trace has no command list: an event sets a depth
 abbrev pub IsUnlisted : Traced → Failure → Type 0

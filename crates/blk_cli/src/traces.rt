@@ -4,15 +4,15 @@ ghost use Rattle.std.specs.Prelude.{◌≡◌, IfOk, IfErr};
 ghost use Rattle.blk_text.specs.TraceForm.{SpellsTrace, TraceTextFault};
 ghost use Rattle.blk_text.specs.TraceRecords.{IsTrace};
 ghost use Rattle.blk_cli.specs.Inputs.{Of, FailsOver};
-ghost use Rattle.blk_cli.specs.OfTraces.{AreSpreadsOf, IsTellingText, IsUntold};
+ghost use Rattle.blk_cli.specs.OfTraces.{IsTellingText, IsUntold, late_in, misses_in, spread_in, report_in};
 
 use crate::failure::Failure;
 use blk_json::{late_json, misses_json, report_json, spread_json};
 use blk_lists::{Records, commands_text};
 use blk_picture::picture;
 use blk_report::{
-    Spreads, late, late_lines, misses, misses_lines, report, report_lines, services, spread,
-    spread_lines,
+    LateCommand, Missed, Report, Spreads, late, late_lines, misses, misses_lines, report,
+    report_lines, services, spread, spread_lines,
 };
 use blk_text::{read_trace, trace_text};
 use blk_trace::Trace;
@@ -51,46 +51,100 @@ fn whole_of(alloc: Global, trace: &Trace) -> Result<Vec<u8>, Failure>
     }
 }
 
-/// How long the commands of a trace waited, and how late they were.
-fn spreads_of(alloc: Global, trace: &Trace) -> Result<Spreads, AllocError>
-    ensures { IfOk result (AreSpreadsOf trace.now) }
+/// The late commands in this form.
+fn late_text(alloc: Global, form: Form, late: &[LateCommand]) -> Result<Vec<u8>, AllocError>
+    ensures { IfOk result (λ text. text.items ≡ late_in form late.now) }
 {
-    let services = services(trace)?;
-    spread(alloc, services.as_slice())
-}
-
-/// The text of figures of a trace: what is made of the trace, and how it is written.
-fn figures_text(
-    alloc: Global,
-    asked: FiguresAsked,
-    form: Form,
-    trace: &Trace,
-) -> Result<Vec<u8>, AllocError>
-    ensures { IfOk result (λ text. IsTellingText (Telling.Figures asked form) trace.now text.items) }
-{
-    match (asked, form) {
-        (FiguresAsked::Late, Form::Lines) => late_lines(alloc, late(trace)?.as_slice()),
-        (FiguresAsked::Late, Form::Json) => late_json(alloc, late(trace)?.as_slice()),
-        (FiguresAsked::Misses, Form::Lines) => misses_lines(alloc, &misses(trace)?),
-        (FiguresAsked::Misses, Form::Json) => misses_json(alloc, &misses(trace)?),
-        (FiguresAsked::Spread, Form::Lines) => spread_lines(alloc, &spreads_of(alloc, trace)?),
-        (FiguresAsked::Spread, Form::Json) => spread_json(alloc, &spreads_of(alloc, trace)?),
-        (FiguresAsked::Report, Form::Lines) => report_lines(alloc, &report(trace)?),
-        (FiguresAsked::Report, Form::Json) => report_json(alloc, &report(trace)?),
+    match form {
+        Form::Lines => late_lines(alloc, late),
+        Form::Json => late_json(alloc, late),
     }
 }
 
-/// Figures of a trace.
-fn figures_of(
-    alloc: Global,
-    asked: FiguresAsked,
-    form: Form,
-    trace: &Trace,
-) -> Result<Vec<u8>, Failure>
-    ensures text { IfOk result (λ text. IsTellingText (Telling.Figures asked form) trace.now text.items) }
-    ensures untold { IfErr result (IsUntold (Telling.Figures asked form) trace.now) }
+/// Which commands of a trace were late.
+fn late_of(alloc: Global, form: Form, trace: &Trace) -> Result<Vec<u8>, Failure>
+    ensures text { IfOk result (λ text. IsTellingText (Telling.Figures FiguresAsked.Late form) trace.now text.items) }
+    ensures untold { IfErr result (IsUntold (Telling.Figures FiguresAsked.Late form) trace.now) }
 {
-    match figures_text(alloc, asked, form, trace) {
+    let Ok(late) = late(trace) else {
+        return Err(Failure::Memory);
+    };
+    match late_text(alloc, form, late.as_slice()) {
+        Ok(text) => Ok(text),
+        Err(_) => Err(Failure::Memory),
+    }
+}
+
+/// The misses in this form.
+fn misses_text(alloc: Global, form: Form, misses: &Missed<Global>) -> Result<Vec<u8>, AllocError>
+    ensures { IfOk result (λ text. text.items ≡ misses_in form misses.now.tally misses.now.windows.items) }
+{
+    match form {
+        Form::Lines => misses_lines(alloc, misses),
+        Form::Json => misses_json(alloc, misses),
+    }
+}
+
+/// How many commands of a trace were late.
+fn misses_of(alloc: Global, form: Form, trace: &Trace) -> Result<Vec<u8>, Failure>
+    ensures text { IfOk result (λ text. IsTellingText (Telling.Figures FiguresAsked.Misses form) trace.now text.items) }
+    ensures untold { IfErr result (IsUntold (Telling.Figures FiguresAsked.Misses form) trace.now) }
+{
+    let Ok(missed) = misses(trace) else {
+        return Err(Failure::Memory);
+    };
+    match misses_text(alloc, form, &missed) {
+        Ok(text) => Ok(text),
+        Err(_) => Err(Failure::Memory),
+    }
+}
+
+/// The quantiles in this form.
+fn spread_text(alloc: Global, form: Form, spread: &Spreads) -> Result<Vec<u8>, AllocError>
+    ensures { IfOk result (λ text. text.items ≡ spread_in form spread.now) }
+{
+    match form {
+        Form::Lines => spread_lines(alloc, spread),
+        Form::Json => spread_json(alloc, spread),
+    }
+}
+
+/// How long the commands of a trace waited, and how late they were.
+fn spread_of(alloc: Global, form: Form, trace: &Trace) -> Result<Vec<u8>, Failure>
+    ensures text { IfOk result (λ text. IsTellingText (Telling.Figures FiguresAsked.Spread form) trace.now text.items) }
+    ensures untold { IfErr result (IsUntold (Telling.Figures FiguresAsked.Spread form) trace.now) }
+{
+    let Ok(services) = services(trace) else {
+        return Err(Failure::Memory);
+    };
+    let Ok(spreads) = spread(alloc, services.as_slice()) else {
+        return Err(Failure::Memory);
+    };
+    match spread_text(alloc, form, &spreads) {
+        Ok(text) => Ok(text),
+        Err(_) => Err(Failure::Memory),
+    }
+}
+
+/// The report in this form.
+fn report_text(alloc: Global, form: Form, report: &Report) -> Result<Vec<u8>, AllocError>
+    ensures { IfOk result (λ text. text.items ≡ report_in form report.now) }
+{
+    match form {
+        Form::Lines => report_lines(alloc, report),
+        Form::Json => report_json(alloc, report),
+    }
+}
+
+/// How far a trace fell short.
+fn report_of(alloc: Global, form: Form, trace: &Trace) -> Result<Vec<u8>, Failure>
+    ensures text { IfOk result (λ text. IsTellingText (Telling.Figures FiguresAsked.Report form) trace.now text.items) }
+    ensures untold { IfErr result (IsUntold (Telling.Figures FiguresAsked.Report form) trace.now) }
+{
+    let Ok(report) = report(trace) else {
+        return Err(Failure::Memory);
+    };
+    match report_text(alloc, form, &report) {
         Ok(text) => Ok(text),
         Err(_) => Err(Failure::Memory),
     }
@@ -117,7 +171,10 @@ fn told_of(alloc: Global, telling: Telling, trace: &Trace) -> Result<Vec<u8>, Fa
         Telling::Whole => whole_of(alloc, trace),
         Telling::Commands => list_of(alloc, trace),
         Telling::Picture => picture_of(alloc, trace),
-        Telling::Figures(asked, form) => figures_of(alloc, asked, form, trace),
+        Telling::Figures(FiguresAsked::Late, form) => late_of(alloc, form, trace),
+        Telling::Figures(FiguresAsked::Misses, form) => misses_of(alloc, form, trace),
+        Telling::Figures(FiguresAsked::Spread, form) => spread_of(alloc, form, trace),
+        Telling::Figures(FiguresAsked::Report, form) => report_of(alloc, form, trace),
     }
 }
 

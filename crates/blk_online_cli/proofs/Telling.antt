@@ -22,8 +22,7 @@ use Rattle.blk_online_sim.specs.ByRounds.{IsByRounds, HoldsNow}
 use Rattle.blk_online_sim.proofs.Running.{trace_holds, least_late, has_most_on_time}
 use Rattle.blk_online_sim.proofs.Telling as telling
 use Rattle.blk_cli.specs.Gives.{GivesText}
-use Rattle.blk_report.specs.Lines.{report_text}
-use Rattle.blk_cli.specs.OfTraces.{AreWritten, IsReportOf, IsMissesText}
+use Rattle.blk_cli.specs.OfTraces.{IsReportText, IsMissesText}
 use Rattle.blk_words.specs.declared.words.Form.TheVariants as form
 use Rattle.blk_words.specs.declared.inputs.FiguresAsked.TheVariants as figures
 use Rattle.blk_words.specs.declared.inputs.Running.TheVariants as running
@@ -52,9 +51,9 @@ read_holds late_last bytes traced u by g read =
     subst (λ (s : Setup). AtTicks (HoldsNow late_last s) u.events) once.1
     (subst (λ (es : List Happened). AtTicks (HoldsNow late_last trace.setup) es) once.2 (held late_last bytes traced by g))
 
-none_short : (u : Traced) (text : List ℕ) → (t : AreWritten IsReportOf report_text u text) → IsTrace u → AtTicks (HoldsNow false u.setup) u.events → (t.value.commands ≡ 0) ⊎ (shortfall_in t.value.figures ≡ Some (pos 0))
-none_short u text t is holds = elim (telling.no_shortfall u.setup u.events t.value (least_late false u.setup u.events is.legal refl holds) t.is_of) [
-  | inl none ↦ inl (t.is_of.commands ∙ ap length none)
+none_short : (u : Traced) (text : List ℕ) → (t : IsReportText form.Lines u text) → IsTrace u → AtTicks (HoldsNow false u.setup) u.events → (t.report.commands ≡ 0) ⊎ (shortfall_in t.report.figures ≡ Some (pos 0))
+none_short u text t is holds = elim (telling.no_shortfall u.setup u.events t.report (least_late false u.setup u.events is.legal refl holds) t.is_report) [
+  | inl none ↦ inl (t.is_report.commands ∙ ap length none)
   | inr zero ↦ inr zero
 ]
 

@@ -17,8 +17,7 @@ use Rattle.blk_words.specs.declared.words.Job.TheVariants as job
 use Rattle.blk_words.specs.Asked.{Asks}
 use Rattle.blk_cli.specs.declared.Ended.{Ended}
 use Rattle.blk_cli.specs.Ends.{RunEnds}
-use Rattle.blk_report.specs.Lines.{report_text}
-use Rattle.blk_cli.specs.OfTraces.{AreWritten, IsReportOf, IsMissesText}
+use Rattle.blk_cli.specs.OfTraces.{IsReportText, IsMissesText}
 use Rattle.blk_online_sim.specs.ByRounds.{IsByRounds}
 
 -- the records of these bytes
@@ -54,9 +53,9 @@ pub record ReportsNoShortfall (bytes : List ℕ) (old new : Stream) : Type 0 whe
   pub trace : Traced
   pub text : List ℕ
   pub spelled : SpellsTrace (rows_in bytes) trace
-  pub is_text : AreWritten IsReportOf report_text trace text
+  pub is_text : IsReportText form.Lines trace text
   pub wrote : IsWritten text old new
-  pub none_short : (is_text.value.commands ≡ 0) ⊎ (shortfall_in is_text.value.figures ≡ Some (pos 0))
+  pub none_short : (is_text.report.commands ≡ 0) ⊎ (shortfall_in is_text.report.figures ≡ Some (pos 0))
 
 -- what is said of the misses of that trace was written: none of them is avoidable
 pub record CountsNoneAvoidable (bytes : List ℕ) (old new : Stream) : Type 0 where
