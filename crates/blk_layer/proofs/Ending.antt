@@ -1,5 +1,5 @@
 -- A worker that ends one command and is issued the next.
-use Rattle.std.proofs.Common.{◌≡◌, ℕ, refl, subst, inl, inr, Option, Some, None, Result, Ok, Err, IfOk, IfErr}
+use Rattle.std.proofs.Common.{◌≡◌, ℕ, refl, ap, inl, inr, Option, Some, None, Result, Ok, Err, IfOk, IfErr}
 use Rattle.edd_commands.specs.declared.Command.{Command}
 use Rattle.blk_layer.specs.declared.serving.Ran.{Ran}
 use Rattle.blk_layer.specs.declared.serving.Ran.TheVariants.{Done, Busy}
@@ -7,7 +7,7 @@ use Rattle.blk_layer.specs.declared.serving.Issued.{Issued}
 use Rattle.blk_layer.specs.declared.serving.WorkFault.{WorkFault}
 use Rattle.blk_layer.specs.declared.serving.WorkFault.TheVariants.{Memory}
 use Rattle.blk_layer.specs.Seats.{WorkerSeat}
-use Rattle.blk_layer.specs.Serving.{TakesInHand, IsIssueAnswer, RunsMore, IsWorkFault}
+use Rattle.blk_layer.specs.Serving.{TakesInHand, AccountsFor, LetsGo, IsIssueAnswer, RunsMore, IsWorkFault}
 use Rattle.blk_layer.specs.Inside.Serving.{IsEndedAs, IsPassRefusal, ServesOne, IsServeFault}
 use Rattle.blk_layer.proofs.Running.{ran_on, ended_runs, faulted_on, left_in_hand}
 
@@ -22,18 +22,28 @@ pub none_next : (old : WorkerSeat) (tag : ℕ) (ran : Ran) (between : WorkerSeat
     → IsServeFault old tag ran why new
 none_next old tag ran between why new ended is e = rw e (inr (is, ended))
 
--- the same by the answer of the call that issues the next one, where room was made before, which changes nothing
-pub served_next : (old : WorkerSeat) (tag : ℕ) (ran : Ran) (made between : WorkerSeat) (r : Result (Option Issued) WorkFault) (new : WorkerSeat) → made ≡ old → IsEndedAs ran made tag between
-    → IfOk r (λ found. IsIssueAnswer between found new) → IfOk r (λ found. ServesOne old tag ran found new)
-served_next old tag ran made between (Ok found) new e ended answer =
-    served old tag ran between found new (subst (λ (s : WorkerSeat). IsEndedAs ran s tag between) e ended) answer
-served_next old tag ran made between (Err why) new e ended answer = tt
+-- by what became of it, where room was made before, which changes nothing
+pub done_as : (old : WorkerSeat) (tag : ℕ) (ran : Ran) (made done between : WorkerSeat) → made ≡ old → ran ≡ Done → between ≡ done → AccountsFor made tag done → IsEndedAs ran old tag between
+done_as old tag ran made done between m r b h = rw (r, b, ← m) h
 
-pub serve_fault : (old : WorkerSeat) (tag : ℕ) (ran : Ran) (made between : WorkerSeat) (r : Result (Option Issued) WorkFault) (new : WorkerSeat) → made ≡ old → IsEndedAs ran made tag between
-    → IfErr r (λ why. IsPassRefusal why × (new ≡ between)) → IfErr r (λ why. IsServeFault old tag ran why new)
-serve_fault old tag ran made between (Ok found) new e ended fault = tt
-serve_fault old tag ran made between (Err why) new e ended fault =
-    none_next old tag ran between why new (subst (λ (s : WorkerSeat). IsEndedAs ran s tag between) e ended) fault.0 fault.1
+pub back_as : (old : WorkerSeat) (tag : ℕ) (ran : Ran) (made back between : WorkerSeat) (id : ℕ) → made ≡ old → ran ≡ Busy → between ≡ back → LetsGo made tag id back → IsEndedAs ran old tag between
+back_as old tag ran made back between id m r b h = rw (r, b, ← m) (id, h)
+
+-- its tags are of the same set
+pub ended_set : (old : WorkerSeat) (tag : ℕ) (ran : Ran) (new : WorkerSeat) → IsEndedAs ran old tag new → new.tag_set ≡ old.tag_set
+ended_set old tag Done new h = ap (λ (s : WorkerSeat). s.tag_set) h.gone
+ended_set old tag Busy new h = ap (λ (s : WorkerSeat). s.tag_set) h.1.gone
+
+-- what the call that issues the next one answered
+pub served_next : (old : WorkerSeat) (tag : ℕ) (ran : Ran) (between : WorkerSeat) (r answer : Result (Option Issued) WorkFault) (next new : WorkerSeat) → IsEndedAs ran old tag between → answer ≡ r → new ≡ next
+    → IfOk r (λ found. IsIssueAnswer between found next) → IfOk answer (λ found. ServesOne old tag ran found new)
+served_next old tag ran between (Ok found) answer next new ended e f is = rw (e, f) (served old tag ran between found next ended is)
+served_next old tag ran between (Err why) answer next new ended e f is = rw e tt
+
+pub serve_fault : (old : WorkerSeat) (tag : ℕ) (ran : Ran) (between : WorkerSeat) (r answer : Result (Option Issued) WorkFault) (next new : WorkerSeat) → IsEndedAs ran old tag between → answer ≡ r → new ≡ next
+    → IfErr r (λ why. IsPassRefusal why × (next ≡ between)) → IfErr answer (λ why. IsServeFault old tag ran why new)
+serve_fault old tag ran between (Ok found) answer next new ended e f is = rw e tt
+serve_fault old tag ran between (Err why) answer next new ended e f is = rw (e, f) (none_next old tag ran between why next ended is.0 is.1)
 
 -- what a worker ran so far, and the command that it has in its hands
 pub record IsServing (old : WorkerSeat) (tag : ℕ) (command : Command) (new : WorkerSeat) : Type 0 where

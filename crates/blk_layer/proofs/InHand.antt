@@ -151,3 +151,41 @@ one_fewer setup hw depth same v w hands ran as_many room more parts pieces amoun
       counted = refl;
     } in
     rw (d, a, m, p, s) whole
+
+-- a worker that tries tags, as its fields stand: it is as it was, and its account has room for all that it can have in its hands
+pub record IsTrying (setup : Setup) (old : WorkerSeat) (hw : ℕ) (seat : Seat) (hands : List (Option Command)) (ran : List Command) (room parts amount : ℕ) : Type 0 where
+  pub seated : (let now : WorkerSeat = record { tag_set = seat.of_set; hw = hw; tags = seat.tags; hands = hands; ran = ran } in now) ≡ old
+  pub working : IsWorking setup hw seat.of_set.depth seat.tags hands (length ran) room parts amount
+  pub enough : length ran + length hands ≤ room
+
+pub set_is : (setup : Setup) (old : WorkerSeat) (hw : ℕ) (seat : Seat) (hands : List (Option Command)) (ran : List Command) (room parts amount : ℕ) (set : Set)
+    → IsTrying setup old hw seat hands ran room parts amount → old.tag_set ≡ set → seat.of_set ≡ set
+set_is setup old hw seat hands ran room parts amount set is same = ap (λ (s : WorkerSeat). s.tag_set) is.seated ∙ same
+
+-- after a tag was taken and given back
+pub tried_on : (setup : Setup) (old : WorkerSeat) (hw : ℕ) (seat took gave : Seat) (hands : List (Option Command)) (ran : List Command) (room parts amount t : ℕ) (one other : Option ℕ)
+    → IsTrying setup old hw seat hands ran room parts amount → took ≡ record { of_set = seat.of_set; tags = seat.tags ++ t ∷ []; last = one }
+    → gave ≡ record { of_set = took.of_set; tags = without t took.tags; last = other } → ¬ Contains seat.tags t
+    → IsTrying setup old hw gave hands ran room parts amount
+tried_on setup old hw seat took gave hands ran room parts amount t one other is e f free =
+    let back = given_back seat took gave t one other e f free in
+    record {
+      seated = same_seat seat.of_set gave.of_set hw seat.tags gave.tags hands ran ran back.0 back.1 refl ∙ is.seated;
+      working = more_room setup hw seat.of_set.depth gave.of_set.depth seat.tags gave.tags hands (length ran) (length ran) room room parts amount is.working (ap (λ (s : Set). s.depth) back.0) back.1 refl (omega arith);
+      enough = is.enough;
+    }
+
+-- after a command came into the hands under a tag
+pub working_on : (setup : Setup) (old : WorkerSeat) (hw : ℕ) (seat took : Seat) (hands : List (Option Command)) (ran : List Command) (room parts amount at t : ℕ) (one : Option ℕ) (command : Command)
+    → IsTrying setup old hw seat hands ran room parts amount → took ≡ record { of_set = seat.of_set; tags = seat.tags ++ t ∷ []; last = one } → t < seat.of_set.depth → ¬ Contains seat.tags t → at ≡ t
+    → IsWorking setup hw took.of_set.depth took.tags (slice_set hands at (Some command)) (length ran) room parts amount
+working_on setup old hw seat took hands ran room parts amount at t one command is e less free a =
+    one_more setup hw seat.of_set.depth took.of_set.depth seat.tags took.tags hands (length ran) (length ran) room room parts amount at t command is.working (ap (λ (s : Seat). s.of_set.depth) e) refl is.enough less free (ap (λ (s : Seat). s.tags) e) a
+
+pub takes_on : (setup : Setup) (old : WorkerSeat) (hw : ℕ) (seat took : Seat) (hands : List (Option Command)) (ran : List Command) (room parts amount at t : ℕ) (one : Option ℕ) (command : Command)
+    → IsTrying setup old hw seat hands ran room parts amount → took ≡ record { of_set = seat.of_set; tags = seat.tags ++ t ∷ []; last = one } → t < seat.of_set.depth → ¬ Contains seat.tags t → at ≡ t
+    → TakesInHand old t command (record { tag_set = took.of_set; hw = hw; tags = took.tags; hands = slice_set hands at (Some command); ran = ran })
+takes_on setup old hw seat took hands ran room parts amount at t one command is e less free a =
+    let new : WorkerSeat = record { tag_set = took.of_set; hw = hw; tags = took.tags; hands = slice_set hands at (Some command); ran = ran } in
+    subst (λ (s : WorkerSeat). TakesInHand s t command new) is.seated
+    (takes seat.of_set took.of_set hw seat.tags took.tags hands ran ran at t command (ap (λ (s : Seat). s.of_set) e) (ap (λ (s : Seat). s.tags) e) refl a is.working.marks is.working.places less free)

@@ -3,7 +3,6 @@ use Rattle.std.specs.Prelude.{ℕ, ◌≡◌, ◌<◌, ◌≤◌, ◌⊎◌, ◌
 use Rattle.edd_commands.specs.declared.Command.{Command}
 use Rattle.blk_core.specs.State.{CoreState}
 use Rattle.blk_core.specs.Faults.{IsIssueFault, IsTickFault}
-use Rattle.blk_core.specs.declared.refusals.IssueFault.{IssueFault}
 use Rattle.blk_core.specs.declared.refusals.TickFault.{TickFault}
 use Rattle.blk_core.specs.declared.refusals.DepthFault.{DepthFault}
 use Rattle.blk_layer.specs.declared.serving.Issued.{Issued}
@@ -44,7 +43,7 @@ IsIssueAnswer old (Some issued) new = TakesInHand old issued.tag issued.command 
 abbrev pub let_go : WorkerSeat → ℕ → WorkerSeat
 let_go seat tag = record seat { tags = without tag seat.tags; hands = slice_set seat.hands tag None }
 
--- it was done: the account has it more, at its end
+-- it was done, and the account grows by it, at its end
 pub record AccountsFor (old : WorkerSeat) (tag : ℕ) (new : WorkerSeat) : Type 0 where
   pub command : Command
   pub held : slice_get old.hands tag ≡ Some (Some command)
@@ -75,16 +74,16 @@ IsDepthAnswer most n (Err depth.TraceFull) = ⊤
 IsDepthAnswer most n (Err depth.DepthRange) = (n ≡ 0) ⊎ (most < n)
 IsDepthAnswer most n (Err depth.Memory) = (0 < n) × (n ≤ most)
 
--- the tag is used up in the round that is on: it was issued in it, or it isn't below the round's depth
+-- the tag is used up in the current round: it was issued in it, or isn't below its depth
 abbrev pub IsUsedUp : CoreState → ℕ → ℕ → Type 0
 IsUsedUp c hw tag = IsIssueFault c hw tag issue.SlotUsed ⊎ IsIssueFault c hw tag issue.TagRange
 
--- a worker whose account has commands more, at its end, and which is else as it was
+-- the account of a worker grows by commands, at its end; else the seat is as it was
 pub record RunsMore (old new : WorkerSeat) : Type 0 where
   pub added : List Command
   pub grown : new ≡ record old { ran = old.ran ++ added }
 
--- a command more in the hands of a worker, which is else as it was
+-- a worker took one more command in hand; else the seat is as it was
 pub record IsLeftInHand (old new : WorkerSeat) : Type 0 where
   pub tag : ℕ
   pub command : Command
@@ -102,7 +101,7 @@ IsAfterPass p Finish = IsOver p
 IsAfterPass p Again = (0 < p.moved) ⊎ (HasMoreToServe p × (0 < p.served))
 IsAfterPass p Yield = HasMoreToServe p × (p.moved ≡ 0) × (p.served ≡ 0)
 
--- what work says that it did: at most `passes` passes, and fewer only where it was finished; as many commands as the account has more;
+-- what `work` says it did: at most `passes` passes, and fewer only where it was finished; as many commands as the account grew by;
 -- else the seat is as it was
 pub record IsWorked (passes : ℕ) (old : WorkerSeat) (worked : Worked) (new : WorkerSeat) : Type 0 where
   pub few : worked.passes ≤ passes
@@ -116,15 +115,15 @@ IsWorkFault old TraceFull new = RunsMore old new
 IsWorkFault old Memory new = RunsMore old new ⊎ ((between : WorkerSeat) × RunsMore old between × IsLeftInHand between new)
 IsWorkFault old (Repeated id) new = RunsMore old new
 
--- how many commands were issued in the round that is on after an event, by how many were before it
+-- how many commands were issued in the current round after an event, by how many were before it
 abbrev pub issued_after : ℕ → Happened → ℕ
 issued_after n e = if is_tick e then 0 else (if is_issue e then n + 1 else n)
 
--- how many commands were issued in the round that is on
+-- how many commands were issued in the current round
 unfoldable pub issued_now : List Happened → ℕ
 issued_now events = fold issued_after 0 events
 
--- the round that is on is full: as many commands were issued in it as it carries; it carries more where not
+-- the current round is full: as many commands were issued in it as it carries. Else it carries more
 abbrev pub IsFull : CoreState → Type 0
 IsFull c = depth_now c.setup c.events ≤ issued_now c.events
 

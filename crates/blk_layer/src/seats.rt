@@ -287,9 +287,9 @@ impl<L: Named, A: Allocator + Clone> Worker<L, A> {
         Ok(command.id)
     }
 
-    /// Issues the next command to it out of the core, if there is one. It tries one free tag after the other by [`Layer::try_issue`], from
-    /// the one after the last that was issued on, until one isn't used up in the round; of a full round it tries no other. Without a
-    /// command it holds no tag more.
+    /// Issues the next command to it out of the core, if there is one. It tries one free tag after the other ([`Layer::try_issue`]),
+    /// beginning after the tag that was issued last, until one isn't used up in the round or the round is full. Without a command it
+    /// holds the tags that it held.
     pub(crate) fn next<S: Scheduler<A = A>>(
         &mut self,
         core: &mut LockedCore<S, L>,

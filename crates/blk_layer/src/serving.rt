@@ -253,12 +253,11 @@ impl<S: Scheduler, L: Named> Layer<S, L> {
         self.finishing.store(true, Ordering::SeqCst);
     }
 
-    /// Works for the hardware queue of the worker, whose seat is one of this layer, in at most `passes` passes. A pass drains; then
-    /// commands are issued to the worker, one after the other. It lets the device run each, and reports it done, or requeues it where
-    /// the device was busy, under the same hold of the core's lock under which the next one is issued. A pass ends where an issue finds
-    /// no command or no tag, and where the round is full, which it ends unless a command is in flight ([`Layer::try_issue`]). It has no
-    /// other bound than the trace, which has places for fewer Issues than [`MAX_EVENTS`]. After a pass that found nothing to do it lets
-    /// another thread run.
+    /// Works for the worker's hardware queue, in at most `passes` passes. The seat is one of this layer. A pass drains; then commands are
+    /// issued to the worker, one after the other. The device runs each, and under one hold of the core's lock it is reported done, or
+    /// requeued where the device was busy, and the next one is issued. A pass ends where an issue finds no command or no tag, and where
+    /// the round is full, which it ends unless a command is in flight ([`Layer::try_issue`]). It has no other bound than the trace, which
+    /// has places for fewer Issues than [`MAX_EVENTS`]. After a pass that found nothing to do other threads run first.
     ///
     /// Finished at a pass that began after [`Layer::finish`], moved no request and left none waiting in the core ([`after_pass`]). The
     /// worker's account grows at its end by the commands that ran; else its seat is as it was.
@@ -353,7 +352,7 @@ impl<S: Scheduler, L: Named> Layer<S, L> {
                 None => return Ok(served),
             }
         }
-        // No trace has places for so many Issues, which no clause says across the lock.
+        // can't come: no trace has places for so many Issues, but what lay under the lock no clause can name
         Err(WorkFault::Memory)
     }
 
@@ -376,7 +375,7 @@ impl<S: Scheduler, L: Named> Layer<S, L> {
 
     /// Reports what became of the command in the worker's hands under a tag, and answers the next one, both under one hold of the core's
     /// lock. Room in the account is made before the lock is taken, and the request of a command that is done is freed after it is released.
-    #[tactic(auto, using(crate::proofs::Ending::served, crate::proofs::Ending::not_ended, crate::proofs::Ending::none_next))]
+    #[tactic(auto, using(crate::proofs::Ending::not_ended))]
     fn end_and_next<R: Wait>(
         &self,
         rt: &R,
@@ -389,24 +388,25 @@ impl<S: Scheduler, L: Named> Layer<S, L> {
         ensures fault { IfErr result (λ why. IsServeFault worker.old tag ran why worker.new) }
     {
         let has_room = worker.make_room().is_ok();
-        // declared before the guard, so that it is dropped after it
-        let mut _freed = None;
         let mut core = self.lock_core(rt);
-        match ran {
+        let freed = match ran {
             Ran::Done => match worker.done(&mut *core, &self.tags, tag) {
-                Ok(request) => _freed = Some(request),
+                Ok(request) => Some(request),
                 Err(_) => return Err(WorkFault::Memory),
             },
-            Ran::Busy => {
-                if worker.back(&mut *core, &self.tags, tag).is_err() {
-                    return Err(WorkFault::Memory);
-                }
-            }
-        }
-        if !has_room {
-            return Err(WorkFault::Memory);
-        }
-        worker.next(&mut *core, &self.tags)
+            Ran::Busy => match worker.back(&mut *core, &self.tags, tag) {
+                Ok(_) => None,
+                Err(_) => return Err(WorkFault::Memory),
+            },
+        };
+        let next = if has_room {
+            worker.next(&mut *core, &self.tags)
+        } else {
+            Err(WorkFault::Memory)
+        };
+        drop(core);
+        drop(freed);
+        next
     }
 }
 
@@ -423,7 +423,7 @@ pub(crate) fn of_core(why: IssueFault) -> LayerIssueFault
     }
 }
 
-/// Ends the round where it is full, and answers why nothing is issued under a tag that is used up in it.
+/// Ends the round if it is full. Answers why nothing is issued under a tag that is used up in it, which is `why` where it carries more.
 fn end_full<S: Scheduler>(core: &mut Core<S>, why: NoneIssued) -> NoneIssued
     ensures { IsFullsEnd S.policy.told_tick core.old why result core.new }
 {
@@ -438,7 +438,7 @@ fn end_full<S: Scheduler>(core: &mut Core<S>, why: NoneIssued) -> NoneIssued
     }
 }
 
-/// Whether the round that is on is full.
+/// Whether the current round is full.
 fn is_full<S: Scheduler>(core: &Core<S>) -> bool
     ensures { IsTrue result ↔ IsFull core.now }
 {
@@ -446,7 +446,7 @@ fn is_full<S: Scheduler>(core: &Core<S>) -> bool
     trace.depth_now() <= issued_now(trace.events())
 }
 
-/// How many commands were issued in the round that is on: it looks back to where that began.
+/// How many commands were issued in the current round. It looks back over the events to where that began.
 fn issued_now<A: Allocator + Clone>(events: &[Event<Request<A>>]) -> u64
     ensures { result ≡ issued_now events.now }
 {
