@@ -78,6 +78,6 @@ is_good (finding.Faulty f fault) = false
 is_good (finding.Refused fault) = false
 is_good finding.Untitled = false
 
--- the text tells what is found in these bytes, by the reader of the form that they begin with the name of; good is where no fault is
+-- the text says what the reader of the named form finds in these bytes; it is good where there is no fault
 abbrev pub IsExplained : List ℕ → Bool → List ℕ → Type 0
 IsExplained bytes good text = (f : Finding) × IsFound (rows_of bytes) f × (good ≡ is_good f) × IsFindingText bytes f text

@@ -52,8 +52,8 @@ IsSoftState script n text =
 abbrev pub entered_text : Bio → ℕ → List ℕ
 entered_text b line = (((codes "bio " ++ decimal b.id.submitter) ++ codes ",") ++ decimal b.id.serial) ++ codes " entered at line " ++ decimal line
 
--- what is said about the step after the first n where a bio entered before: of the pairs among these n that are of one bio, that whose second
--- is the least, and on which line its first stands
+-- what is said about the step after the first n where a bio entered before: of these n the first step that brings a bio a second time, and the
+-- line of the step that brought it first
 abbrev pub IsTwiceState : List ℕ → Scripted → ℕ → List ℕ → Type 0
 IsTwiceState bytes script n text =
     ((i j : ℕ) × (pair : AreOneBio script.lines i j) × (j < n) × HasNoRepeat script.lines j × (text ≡ entered_text pair.bio (line_at bytes (i + FIRST_STEP))))

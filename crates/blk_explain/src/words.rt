@@ -1,4 +1,4 @@
-//! The words that records of a form begin with, told to whoever wrote another.
+//! The words that may stand first in a record of a form, for an author who wrote another.
 
 ghost use Rattle.std.specs.Prelude.{◌≡◌, ◌++◌, OnOk};
 ghost use Rattle.std.specs.List.{flat_map};
@@ -21,7 +21,7 @@ pub enum Words {
     Events,
 }
 
-/// The kinds of the steps of a script, but for the last that is named.
+/// The kinds of the steps of a script, without the last, which stands behind an 'or'.
 const STEPS: [RecordKind; 8] = [
     RecordKind::Bio,
     RecordKind::Flush,
@@ -33,7 +33,7 @@ const STEPS: [RecordKind; 8] = [
     RecordKind::Run,
 ];
 
-/// The kinds of the first records of the events of a trace, but for the last that is named.
+/// The kinds of the first records of events, without the last, which stands behind an 'or'.
 const EVENTS: [RecordKind; 6] = [
     RecordKind::Tick,
     RecordKind::Release,
@@ -81,7 +81,7 @@ fn push_before_commas(draft: &mut Draft, kinds: &[RecordKind]) -> Result<(), All
     Ok(())
 }
 
-/// Adds that one of the words of kinds is wanted, or of the last one.
+/// Adds `one of A, B, or C`, where C is the word of the last kind.
 fn push_several(draft: &mut Draft, kinds: &[RecordKind], last: RecordKind) -> Result<(), AllocError>
     ensures { OnOk result (draft.new ≡ draft.old ++ several kinds.now last) }
 {

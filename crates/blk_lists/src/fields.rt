@@ -128,7 +128,7 @@ fn long_number(field: &[u8]) -> Option<u64>
 /// The most digits of which every number fits.
 const MAX_SAFE_DIGITS: usize = 19;
 
-/// The number that so few digits write that it fits, if they are digits.
+/// The number that a field of few digits writes: few enough for any of them to fit.
 fn short_number(field: &[u8]) -> Option<u64>
     requires { length field.now ≤ MAX_SAFE_DIGITS }
     ensures value { MatchOption result (¬ WritesNumber field.now) (λ n. WritesNumber field.now × (n ≡ digits_value 10 field.now)) }

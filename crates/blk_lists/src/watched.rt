@@ -8,8 +8,8 @@ ghost use Rattle.blk_lists.specs.Watching.{remaining_of, read_failed, left_in, f
 use std::io;
 use std::io::{ErrorKind, Read};
 
-/// A reader, and whether a read of it has failed, which the CSV reader has no word for: there a growth that was refused stops it in
-/// the same way. A read that a signal interrupts is made again; the CSV reader takes it for one that failed.
+/// A reader that remembers whether a read of it has failed: the CSV reader doesn't tell that from a refused growth. A read that a
+/// signal interrupts is made again; the CSV reader would take it for one that failed.
 #[derive(Drop)]
 pub struct Watched<R> {
     inner: R,
@@ -61,7 +61,7 @@ impl<R: Read> Read for Watched<R> {
     }
 }
 
-/// The place of such a reader, which may be taken out of it, as it can't be of the CSV reader that lies over it. While it is out
+/// Holds such a reader so that it can be taken back: the CSV reader over it gives its own back only at its end. While it is out
 /// there is nothing to be read.
 #[derive(Drop)]
 pub struct Place<R> {
