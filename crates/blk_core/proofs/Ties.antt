@@ -21,7 +21,7 @@ use Rattle.blk_trace.specs.declared.event.Event.TheVariants.{Release, Join, Tick
 use Rattle.blk_trace.specs.Depths.{depth_now}
 use Rattle.blk_trace.specs.Legal.{IsLegalTrace}
 use Rattle.blk_trace.proofs.Depths.{depth_now_is}
-use Rattle.blk_trace.specs.Events.{At, IsReleased, round_of, entered, AreOnce, open_count, join_up, IsOpen, IsUsed}
+use Rattle.blk_trace.specs.Events.{IsReleased, round_of, entered, AreOnce, open_count, join_up, IsOpen, IsUsed}
 use Rattle.blk_trace.specs.Meaning.{released_ids, issued_ids, served, waiting_ids, rising}
 use Rattle.blk_trace.specs.Inside.Seats.{RoundSeat, seat_at, flying_of, this_round}
 use Rattle.blk_trace.specs.Inside.Allowed.{IsAllowed}
