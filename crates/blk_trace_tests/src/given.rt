@@ -127,12 +127,15 @@ pub fn is_event<'a>(heap: Heap<'a>, event: &Event<Request<Heap<'a>>>, step: Happ
 /// Whether the trace's events are those of the steps.
 pub fn has_events<'a>(heap: Heap<'a>, trace: &Trace<Heap<'a>>, steps: &[Happening]) -> bool {
     let events = trace.events();
-    events.len() == steps.len()
-        && trace.len() == steps.len() as u64
-        && events
-            .iter()
-            .zip(steps)
-            .all(|(event, step)| is_event(heap, event, *step))
+    if events.len() != steps.len() || trace.len() != steps.len() as u64 {
+        return false;
+    }
+    for i in 0..events.len() {
+        if !is_event(heap, &events[i], steps[i]) {
+            return false;
+        }
+    }
+    true
 }
 
 /// How many events there are, the round, and how many issues are not done.
