@@ -3,7 +3,7 @@
 use crate::given::{Happening, Heap, empty, event, has_events, is_pushed, limits, made, setup};
 use crate::looks::{Look, command, first_other};
 use blk_bio::Dir;
-use blk_trace::{Trace, TraceFault};
+use blk_trace::{Event, Trace, TraceFault};
 use refusing::Refusing;
 use std::process::Abort;
 
@@ -19,9 +19,9 @@ fn is_prepared_and_pushed<'a>(
     let Some(event) = event(heap, step) else {
         return false;
     };
-    let request = match event.enters() {
-        Some((_, request)) => Some(request),
-        None => None,
+    let request = match &event {
+        Event::Release { request, .. } | Event::Join { request, .. } => Some(request),
+        _ => None,
     };
     (trace.prepare(request).is_ok() || trace.prepare(request).is_ok()) && trace.push(event).is_ok()
 }
