@@ -70,11 +70,6 @@ EndsPut s old new faults_old faults_new ended =
     (IsWritten s.text old new × (ended.status ≡ status_with s.good) × SaysBeside s.note faults_old faults_new ended.told)
     ⊎ (IsCut s.text old new × EndsSaying 3 write_fault faults_old faults_new ended)
 
--- the same of writers, by what they hold
-abbrev pub EndsPutOn : {W F : Type 0} → (W → Option (List ℕ)) → (F → Option (List ℕ)) → Said → Output W → Output W → Output F → Output F → Ended → Type 0
-EndsPutOn held said s old new faults_old faults_new ended =
-    EndsPut s (stream_of held old) (stream_of held new) (stream_of said faults_old) (stream_of said faults_new) ended
-
 -- how a run ends, given its input and what both writers hold before and after: it wrote the text of its answer, or nothing at all
 abbrev pub RunEnds : List (List ℕ) → Option (List Row) → Option (List ℕ) → Bool → Stream → Stream → Stream → Stream → Ended → Type 0
 RunEnds words input bytes failed old new faults_old faults_new ended =

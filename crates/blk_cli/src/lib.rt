@@ -5,7 +5,8 @@ ghost use Rattle.std.specs.Prelude.{◌≡◌, ◌≤◌, IfOk, IfErr, map, stri
 ghost use Rattle.drafts.specs.Outputs.{stream_of};
 ghost use Rattle.blk_cli.specs.Said.{only, said_of, IsAlone};
 ghost use Rattle.blk_cli.specs.Gives.{GivesText, HasNoText, StartsNoThreads, AnswersText, version_line};
-ghost use Rattle.blk_cli.specs.Ends.{Answers, AskForTexts, IsWithout, status_with, SaysBeside, EndsSaying, EndsWithout, EndsPutOn, RunEndsOn};
+ghost use Rattle.blk_cli.specs.Ends.{Answers, AskForTexts, IsWithout, status_with, SaysBeside, EndsSaying, EndsWithout, RunEndsOn};
+ghost use Rattle.blk_cli.specs.Inside.Ends.{EndsPutOn};
 
 mod checking;
 mod comparing;

@@ -19,9 +19,9 @@ use Rattle.blk_words.specs.declared.words.Written.TheVariants as written
 use Rattle.blk_words.specs.CommandLine.{Names, AreSchedulers, blk_app}
 use Rattle.blk_settings.specs.Options.{sched_names}
 use Rattle.blk_settings.specs.Grids.{Gridded}
-use Rattle.blk_settings.specs.Defaults.{default_sched, default_deadline, default_kyber, default_earliest, deadline_in, kyber_within, earliest_late_last, default_lineup, with_earliest, in_batches, whole, none_and_deadline}
+use Rattle.blk_settings.specs.Defaults.{default_sched, default_deadline, default_kyber, default_earliest, deadline_in, kyber_within, earliest_late_last, default_lineup, with_earliest, in_batches, whole}
 use Rattle.blk_words.specs.Asked.{Asks, AsksGrid, grid_read, job_read}
-use Rattle.blk_words.specs.Plain.{words_in, AsksFor, AsksForGrid, AsksForNothing, default_trial, five_by_lateness, whole_import, hundred_queued, default_load}
+use Rattle.blk_words.specs.Plain.{words_in, AsksFor, AsksForGrid, AsksForNothing, default_trial, five_by_lateness, whole_import, hundred_queued, default_load, own_grid}
 
 -- texts at some places
 abbrev placed : (ℕ → ℕ × ℕ) → List Text → List (Bor Text)
@@ -178,7 +178,7 @@ pub whole_grid_line : IsReadAsGridSo "tune" whole
 unfolding clap_on_literals
 whole_grid_line name p f = (refl, refl)
 
-pub own_grid_line : IsReadAsGridSo "tune --sched deadline,none --fifo-batch 16,1 --writes-starved 3 --write-target 7,0" (none_and_deadline (16 ∷ 1 ∷ []) (3 ∷ []) (7 ∷ 0 ∷ []))
+pub own_grid_line : IsReadAsGridSo "tune --sched deadline,none --fifo-batch 16,1 --writes-starved 3 --write-target 7,0" own_grid
 unfolding clap_on_literals
 own_grid_line name p f = (refl, refl)
 

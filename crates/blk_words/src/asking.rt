@@ -2,9 +2,9 @@
 
 ghost use Rattle.std.specs.Prelude.{◌∷◌, [], true, false, None, Some, codes};
 ghost use Rattle.clap.specs.Words.{Text};
-ghost use Rattle.blk_settings.specs.Defaults.{default_sched, default_deadline, default_kyber, default_earliest, deadline_in, kyber_within, earliest_late_last, default_lineup, with_earliest, in_batches, whole, none_and_deadline};
+ghost use Rattle.blk_settings.specs.Defaults.{default_sched, default_deadline, default_kyber, default_earliest, deadline_in, kyber_within, earliest_late_last, default_lineup, with_earliest, in_batches, whole};
 ghost use Rattle.blk_words.specs.Asked.{Asks};
-ghost use Rattle.blk_words.specs.Plain.{AsksFor, AsksForGrid, AsksForNothing, default_trial, five_by_lateness, whole_import, hundred_queued, default_load};
+ghost use Rattle.blk_words.specs.Plain.{AsksFor, AsksForGrid, AsksForNothing, default_trial, five_by_lateness, whole_import, hundred_queued, default_load, own_grid};
 
 use crate::inputs::{FiguresAsked, Running, Solving, Telling};
 use crate::words::{Form, Job, Refusal, ShownLoad, Written};
@@ -33,7 +33,7 @@ pub fn plain_lines()
     ensures tune_twice { AsksFor "tune --read-target 2,5,2" (Job.Refuse (Refusal.Lists ListFault.ReadTarget)) }
     ensures tune_by_what { AsksFor "tune --by wait" (Job.Refuse Refusal.By) }
     ensures whole_grid { AsksForGrid "tune" whole }
-    ensures own_grid { AsksForGrid "tune --sched deadline,none --fifo-batch 16,1 --writes-starved 3 --write-target 7,0" (none_and_deadline (16 ∷ 1 ∷ []) (3 ∷ []) (7 ∷ 0 ∷ [])) }
+    ensures own_grid { AsksForGrid "tune --sched deadline,none --fifo-batch 16,1 --writes-starved 3 --write-target 7,0" own_grid }
     ensures migrate { AsksFor "migrate" (Job.OfTrace Telling.Whole) }
     ensures commands { AsksFor "commands" (Job.OfTrace Telling.Commands) }
     ensures late { AsksFor "late" (Job.OfTrace (Telling.Figures FiguresAsked.Late Form.Lines)) }
