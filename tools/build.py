@@ -148,10 +148,10 @@ def free_disk(place):
     return shutil.disk_usage(place).free // 2**20
 
 
-def keeps():
-    """Whether this rt keeps what it proved at all: that of an older kit doesn't, and names no folder for it."""
+def keeps(store):
+    """Whether this rt keeps what it proved at all: that of an older kit doesn't, and neither has the folder nor names it."""
     rt = Path(shutil.which("rt") or "").resolve()
-    return any(b"rattle-kept" in it.read_bytes() for it in (rt, rt.with_name("rtlib.py")) if it.is_file())
+    return store.exists() or any(b"rattle-kept" in it.read_bytes() for it in rt.parent.glob("rt*") if it.is_file())
 
 
 def kept_in():
@@ -319,10 +319,10 @@ def announce(costs, lanes, tree):
 
 def look_at_store(costs):
     """Says whether a start that is ended is lost, and returns what is to be said when it is ended."""
-    if not keeps():
+    (store, is_usable), wanted = kept_in(), RT_LEAVES + costs.disk
+    if not keeps(store):
         say("^C ends it: this rt keeps nothing of it, and the next start begins anew")
         return "ended: nothing of it is kept, and the next start begins anew"
-    (store, is_usable), wanted = kept_in(), RT_LEAVES + costs.disk
     if not is_usable:
         say(f"^C ends it: nothing is kept in {store}, where this user can't write, and the next start begins anew")
         return "ended: nothing of it is kept, and the next start begins anew"
