@@ -184,7 +184,7 @@ def held_by_cases():
 # The names that are no variant's, by the fault that has each: `Stalled` says what became of a load, where the others name a broken rule.
 OWN_NAMES = {"LoadFault::Stalled": "stalled"}
 # A variant with the text that is printed for it.
-NAMED = re.compile(r'\b(\w+::\w+)(?:\([^)]*\)| \{[^}]*\})? => (?:tell_name\(faults, )?"(\w+)"')
+NAMED = re.compile(r'\b(\w+::\w+)(?:\([^)]*\)| \{[^}]*\})? => "(\w+)"')
 
 
 def printed_names():
@@ -192,7 +192,6 @@ def printed_names():
     for it in sorted(TOP.glob("crates/*/src/**/*.rt")):
         text = it.read_text()
         blocks = re.findall(r"fn name\(self\) -> &'static str.*?\n    }\n", text, re.S)
-        blocks += re.findall(r'\w+::\w+ => tell_name\(faults, "\w+"\)', text)
         for block in blocks:
             found = NAMED.findall(block)
             if len(found) != block.count('"') // 2:

@@ -1,9 +1,10 @@
 -- Requests of a capture that went out, and the bios that went with them.
-use Rattle.std.specs.Prelude.{◌^◌, min, unwrap_or, ℕ, ◌≡◌, ◌≤◌, ◌<◌, ◌+◌, ◌-◌, ◌==◌, ◌↔◌, List, length, count_by, Bool, false, Option, Some, None, IfSome, slice_index, slice_index_or, All}
+use Rattle.std.specs.Prelude.{min, unwrap_or, ℕ, ◌≡◌, ◌≤◌, ◌<◌, ◌+◌, ◌-◌, ◌==◌, ◌↔◌, List, length, count_by, Bool, false, Option, Some, None, IfSome, slice_index, slice_index_or, All}
 use Rattle.std.specs.List.Sorted.{IsNonDecreasingBy}
 use Rattle.edd_commands.specs.declared.Command.{Command}
 use Rattle.blk_capture.specs.declared.counting.TimedRequest.{TimedRequest}
 use Rattle.blk_capture.specs.declared.record.Record.{Record}
+use Rattle.blk_capture.specs.declared.record.TheConstants.{MAX_TIME}
 use Rattle.blk_bio.specs.declared.bio.Dir.{Dir}
 use Rattle.blk_bio.specs.declared.bio.Dir.TheVariants.{Read, Write}
 use Rattle.blk_capture.specs.declared.requests.Entry.{Entry}
@@ -35,7 +36,7 @@ earlier_of (Some earlier) time = min earlier time
 
 -- the deadline of a request that came in at `entry`; `earlier` is that of a request merged into it
 abbrev pub deadline_of : Options → Dir → ℕ → Option ℕ → ℕ
-deadline_of options dir entry earlier = earlier_of earlier (min (entry + expire_for options dir) (2 ^ 64 - 1))
+deadline_of options dir entry earlier = earlier_of earlier (min (entry + expire_for options dir) MAX_TIME)
 
 -- it came in and was due as the options say
 pub record IsDue (options : Options) (q : CapturedRequest) : Type 0 where

@@ -20,7 +20,7 @@ mod table;
 pub use counting::{CountedSchedule, TimedRequest, are_served, count_rounds};
 pub use fates::{ActionTally, Fate, count_passed, tally_of};
 pub use part::part_of;
-pub use record::{Action, Op, PassReason, Record};
+pub use record::{Action, MAX_TIME, Op, PassReason, Record};
 pub use requests::{
     CaptureFault, CapturedBio, CapturedRequest, Entry, Matched, Options, match_records, rounds_of,
 };

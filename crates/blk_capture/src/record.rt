@@ -212,6 +212,9 @@ impl PassReason {
     }
 }
 
+/// The last time, in nanoseconds from any beginning: what would be later counts as it.
+pub const MAX_TIME: u64 = u64::MAX;
+
 /// A record of a capture.
 #[derive(Clone, Copy, Debug, PartialEq, Eq)]
 pub struct Record {

@@ -17,7 +17,7 @@ use crate::counting::{CountedSchedule, TimedRequest, count_rounds};
 use crate::fates::Fate;
 use crate::matching::{Matching, Opened, Role};
 use crate::members::QueuedBio;
-use crate::record::{Action, Record};
+use crate::record::{Action, MAX_TIME, Record};
 use blk_bio::Dir;
 use std::alloc::{AllocError, Allocator, Global};
 
@@ -194,7 +194,7 @@ fn deadline_at<A: Allocator + Clone>(
             entry_of(opened, options),
             life.earlier,
         ),
-        _ => u64::MAX,
+        _ => MAX_TIME,
     }
 }
 

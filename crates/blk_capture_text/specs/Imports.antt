@@ -1,11 +1,12 @@
 -- What of a capture is taken.
-use Rattle.std.specs.Prelude.{ℕ, ◌≡◌, ◌<◌, ◌+◌, ◌-◌, ◌^◌, min, List, [], ◌∷◌, length, map, All}
+use Rattle.std.specs.Prelude.{ℕ, ◌≡◌, ◌<◌, ◌+◌, min, List, [], ◌∷◌, length, map, All}
 use Rattle.edd_commands.specs.declared.TheConstants.{MAX_COMMANDS}
 use Rattle.blk_capture.specs.Fates.{ArePassed, AreOfTaken, opens, makes, told}
 use Rattle.blk_capture.specs.Parting.{gone_before, part, bio_in, fate_in}
 use Rattle.blk_capture.specs.Requests.{AreTimed, HaveBios, AreTallied, AreGone, IsDue}
 use Rattle.blk_capture.specs.declared.fates.Fate.{Fate}
 use Rattle.blk_capture.specs.declared.record.Record.{Record}
+use Rattle.blk_capture.specs.declared.record.TheConstants.{MAX_TIME}
 use Rattle.blk_capture.specs.declared.requests.CapturedBio.{CapturedBio}
 use Rattle.blk_capture.specs.declared.requests.Options.{Options}
 use Rattle.blk_capture.specs.declared.requests.CapturedRequest.{CapturedRequest}
@@ -19,7 +20,7 @@ first_time (r ∷ records) = r.time
 
 -- so long after the first record
 abbrev pub begin_after : ℕ → List Record → ℕ
-begin_after skip records = min (first_time records + skip) (2 ^ 64 - 1)
+begin_after skip records = min (first_time records + skip) MAX_TIME
 
 -- all requests of a capture, its bios and what became of its records, and how many requests were merged into others or left out
 pub record IsWholeImport (records : List Record) (options : Options) (requests : List CapturedRequest) (bios : List CapturedBio) (fates : List Fate) (absorbed left_out : ℕ) : Type 0 where

@@ -27,6 +27,7 @@ use Rattle.blk_lists.specs.declared.fault.Why.{Why}
 use Rattle.blk_lists.specs.declared.fault.Why.TheVariants as why
 use Rattle.blk_sim.specs.declared.refusal.SimWhy.{SimWhy}
 use Rattle.blk_sim.specs.declared.refusal.SimWhy.TheVariants as step
+use Rattle.blk_cli.specs.Names.{unlisted_fault_name}
 use Rattle.blk_cli.specs.declared.failure.Failure.{Failure}
 use Rattle.blk_cli.specs.declared.failure.Failure.TheVariants as failure
 
@@ -114,7 +115,7 @@ failure_line (failure.Step f) = step_line f.at f.why
 failure_line (failure.Solve f) = oracle_line f
 failure_line (failure.Check f) = check_line f
 failure_line (failure.OnTime f) = on_time_check_line f
-failure_line failure.NotFixed = line (codes "NotFixed")
+failure_line (failure.Unlisted f) = line (unlisted_fault_name f)
 failure_line (failure.Load f) = load_line f
 failure_line (failure.Import f) = import_line f
 failure_line (failure.Arrivals f) = arrivals_line f
@@ -167,7 +168,7 @@ is_outside (failure.Step f) = is_step_outside f.why
 is_outside (failure.Solve f) = is_oracle_outside f
 is_outside (failure.Check f) = is_check_outside f
 is_outside (failure.OnTime f) = is_on_time_outside f
-is_outside failure.NotFixed = false
+is_outside (failure.Unlisted f) = false
 is_outside (failure.Load f) = is_load_outside f
 is_outside (failure.Import f) = is_import_outside f
 is_outside (failure.Arrivals f) = is_arrivals_outside f

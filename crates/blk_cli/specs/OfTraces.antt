@@ -35,6 +35,7 @@ use Rattle.blk_words.specs.declared.words.Form.{Form}
 use Rattle.blk_words.specs.declared.words.Form.TheVariants as form
 use Rattle.blk_cli.specs.declared.failure.Failure.{Failure}
 use Rattle.blk_cli.specs.declared.failure.Failure.TheVariants as failure
+use Rattle.blk_cli.specs.declared.traces.UnlistedFault.TheVariants as unlisted
 use Rattle.blk_cli.specs.Inputs.{IsMemory}
 
 -- figures of a trace in a form
@@ -102,7 +103,7 @@ IsTellingText (telling.Figures figures.Report f) trace text = IsReportText f tra
 
 -- why a trace has no command list: an event sets a depth
 abbrev pub IsUnlisted : Traced → Failure → Type 0
-IsUnlisted trace failure.NotFixed = IsFixed trace.events → ⊥
+IsUnlisted trace (failure.Unlisted unlisted.NotFixed) = IsFixed trace.events → ⊥
 IsUnlisted trace failure.Memory = ⊤
 IsUnlisted trace f = ⊥
 

@@ -6,6 +6,7 @@ ghost use Rattle.blk_cli.specs.Lines.{line, want_of_memory, numbered, signed_lin
 ghost use Rattle.blk_cli.specs.Ends.{EndsFailing};
 ghost use Rattle.blk_cli.specs.Scripts.{failure_of_run};
 
+use crate::traces::UnlistedFault;
 use crate::{COMMAND_LINE, Ended, FAILED, REFUSED};
 use blk_arrivals::ArrivalsFault;
 use blk_capture_text::ImportFault;
@@ -44,8 +45,8 @@ pub enum Failure {
     Check(CheckFault),
     /// The check refuses the certificate of what is on time.
     OnTime(OnTimeFault),
-    /// The trace sets a depth, so that no command list has its commands.
-    NotFixed,
+    /// The trace has no command list.
+    Unlisted(UnlistedFault),
     /// The load fails.
     Load(LoadFault),
     /// The capture is not imported.
@@ -92,7 +93,7 @@ impl Failure {
             Failure::Solve(_) => REFUSED,
             Failure::Check(CheckFault::Memory) => FAILED,
             Failure::OnTime(OnTimeFault::Memory) => FAILED,
-            Failure::Check(_) | Failure::OnTime(_) | Failure::NotFixed => REFUSED,
+            Failure::Check(_) | Failure::OnTime(_) | Failure::Unlisted(_) => REFUSED,
             Failure::Load(LoadFault::Memory) => FAILED,
             Failure::Load(_) => REFUSED,
             Failure::Import(ImportFault::Memory) => FAILED,
@@ -118,7 +119,7 @@ impl Failure {
             Failure::Solve(fault) => tell_solve(faults, *fault),
             Failure::Check(fault) => tell_check(faults, *fault),
             Failure::OnTime(fault) => tell_on_time(faults, *fault),
-            Failure::NotFixed => tell_name(faults, "NotFixed"),
+            Failure::Unlisted(fault) => tell_name(faults, fault.name()),
             Failure::Load(fault) => match fault {
                 LoadFault::Memory => tell_memory(faults),
                 _ => tell_name(faults, fault.name()),

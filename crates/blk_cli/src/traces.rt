@@ -4,6 +4,7 @@ ghost use Rattle.std.specs.Prelude.{◌≡◌, IfOk, IfErr};
 ghost use Rattle.blk_text.specs.TraceForm.{SpellsTrace, TraceTextFault};
 ghost use Rattle.blk_text.specs.TraceRecords.{IsTrace};
 ghost use Rattle.blk_cli.specs.Inputs.{Of, FailsOver};
+ghost use Rattle.blk_cli.specs.Names.{unlisted_fault_name};
 ghost use Rattle.blk_cli.specs.OfTraces.{IsTellingText, IsUntold, late_in, misses_in, spread_in, report_in};
 
 use crate::failure::Failure;
@@ -20,6 +21,24 @@ use blk_words::{FiguresAsked, Form, Telling};
 use std::alloc::{AllocError, Global};
 use std::io::Read;
 
+/// Why a trace has no command list.
+#[derive(Clone, Copy, Debug, PartialEq, Eq)]
+pub enum UnlistedFault {
+    /// An event sets a depth, and a command list has one.
+    NotFixed,
+}
+
+impl UnlistedFault {
+    /// Its name, which the program prints.
+    pub fn name(self) -> &'static str
+        ensures { result.now ≡ unlisted_fault_name self }
+    {
+        match self {
+            UnlistedFault::NotFixed => "NotFixed",
+        }
+    }
+}
+
 /// The command list of a trace, which has one where no event sets a depth.
 fn list_of(alloc: Global, trace: &Trace) -> Result<Vec<u8>, Failure>
     requires { IsTrace trace.now }
@@ -27,7 +46,7 @@ fn list_of(alloc: Global, trace: &Trace) -> Result<Vec<u8>, Failure>
     ensures untold { IfErr result (IsUntold Telling.Commands trace.now) }
 {
     if !trace.fixed() {
-        return Err(Failure::NotFixed);
+        return Err(Failure::Unlisted(UnlistedFault::NotFixed));
     }
     let Ok(commands) = trace.commands() else {
         return Err(Failure::Memory);

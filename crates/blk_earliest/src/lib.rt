@@ -9,9 +9,9 @@ ghost use Rattle.blk_earliest.specs.Choice.{first_due, on_time, earliest_choice,
 ghost use Rattle.blk_sched.specs.Policies.{serves_all};
 ghost use Rattle.blk_earliest.specs.Shown.{pending_of, late_last_of, setting_of, meaning_of};
 
-pub mod by_due;
-pub mod due;
-pub mod order;
+mod by_due;
+mod due;
+mod order;
 
 use crate::by_due::ByDue;
 use blk_bio::{Dir, Limits, MAX_QUEUES, Request, Side};

@@ -2,10 +2,10 @@
 //! do, and ordered sets for all others, so that no choice of ids makes them slow.
 #![tactic(auto)]
 
-pub mod by_id;
-pub mod id_set;
-pub mod scattered;
-pub mod serials;
+mod by_id;
+mod id_set;
+mod scattered;
+mod serials;
 
 pub use crate::by_id::ById;
 pub use crate::id_set::IdSet;

@@ -16,7 +16,7 @@ ghost use Rattle.blk_kyber.specs.Inside.Parts.{IsTurnChoice, head_in};
 ghost use Rattle.blk_index.specs.Queues.{served_of};
 
 pub mod limits;
-pub mod turn;
+mod turn;
 
 use crate::limits::{DomainLimits, ROUNDS_BETWEEN};
 use crate::turn::{Turn, cap, other};

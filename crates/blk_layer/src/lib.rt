@@ -7,10 +7,10 @@
 #![tactic(auto)]
 
 mod accounts;
-pub mod closing;
+mod closing;
 pub mod layer;
 mod locked;
-pub mod seats;
+mod seats;
 pub mod serving;
 pub mod submitting;
 

@@ -1,6 +1,6 @@
 //! A scheduler of one's own, to read before one writes another.
 #![tactic(auto)]
 
-pub mod lifo;
+mod lifo;
 
 pub use crate::lifo::Lifo;

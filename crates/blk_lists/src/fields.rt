@@ -63,15 +63,6 @@ pub const ROUND_SLOT: Slot = Slot::Number {
     most: MAX_ROUNDS - 1,
 };
 
-/// Every tag of a record lies below this.
-pub const MAX_TAGS: u64 = 1 << 16;
-
-/// A tag.
-pub const TAG_SLOT: Slot = Slot::Number {
-    least: 0,
-    most: MAX_TAGS - 1,
-};
-
 /// The field at a place, empty where the record has none.
 #[inline(always)]
 pub fn field(row: &ByteRecord, place: usize) -> &[u8]

@@ -9,12 +9,12 @@ pub mod items;
 pub mod kinds;
 pub mod laws;
 pub mod on_time;
-pub mod proof;
+mod proof;
 pub mod schedule;
 pub mod source;
 mod titles;
 mod watched;
-pub mod writing;
+mod writing;
 
 pub use crate::certificate::{Certificate, certificate_text, read_certificate, write_certificate};
 pub use crate::commands::{commands_text, read_commands, write_commands};

@@ -6,11 +6,11 @@
 
 mod counts;
 mod device;
-pub mod running;
+mod running;
 mod serving;
 mod site;
 mod submitting;
-pub mod under;
+mod under;
 
 pub use crate::running::load;
 pub use crate::under::{OnThreads, load_under};

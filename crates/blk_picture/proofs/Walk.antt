@@ -14,7 +14,7 @@ use Rattle.blk_trace.specs.Events.{round_of, goes_back, request_of}
 use Rattle.blk_trace.specs.Meaning.{release_of, due_of}
 use Rattle.blk_trace.proofs.More.{round_more}
 use Rattle.blk_picture.specs.declared.boxes.IssueBox.{IssueBox}
-use Rattle.blk_picture.specs.declared.boxes.TheConstants.{MAX_TAGS}
+use Rattle.blk_trace.specs.declared.event.TheConstants.{MAX_TAGS}
 use Rattle.blk_picture.specs.declared.facts.Facts.{Facts}
 use Rattle.blk_picture.specs.Inside.Facts.{facts_with, facts_or, Knows}
 use Rattle.blk_picture.specs.Inside.Walked.{IsWalked}

@@ -10,12 +10,9 @@ ghost use Rattle.blk_picture.specs.Inside.Walked.{IsWalked};
 
 use crate::facts::{Facts, gathered};
 use blk_bio::Dir;
-use blk_trace::Trace;
+use blk_trace::{MAX_TAGS, Trace};
 use std::alloc::{AllocError, Global};
 use std::collections::BTreeMap;
-
-/// How many tags there are at most: the numbers of 16 bits.
-const MAX_TAGS: usize = 1 << 16;
 
 /// An Issue, with the request as it was issued.
 #[derive(Clone, Copy)]
@@ -110,7 +107,7 @@ pub(crate) fn boxes(alloc: Global, trace: &Trace) -> Result<Vec<IssueBox>, Alloc
     let setup = trace.setup();
     let facts = gathered(alloc, &setup, trace.events())?;
     let mut backs = Vec::new(alloc);
-    backs.resize(MAX_TAGS, false)?;
+    backs.resize(MAX_TAGS as usize, false)?;
     let mut boxes = Vec::new(alloc);
     let mut round = trace.round();
     let mut left = trace.events().len();

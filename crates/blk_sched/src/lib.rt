@@ -10,7 +10,7 @@ ghost use Rattle.blk_bio.specs.declared.request.Side.{Side};
 ghost use Rattle.blk_sched.specs.Policies.{Policy};
 ghost use Rattle.blk_sched.specs.Meaning.{Waiting, Meaning, HasCandidate, HasNoCandidate, Enters, Joins, JoinsBy, ServesNothing, Picks, RequeuesPick, joined_waiting, opened, open_of, requeued_of, unfinished};
 
-pub mod fits;
+mod fits;
 pub mod picks;
 
 pub use crate::fits::side_of_fit;

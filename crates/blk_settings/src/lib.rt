@@ -20,7 +20,7 @@ mod option_names;
 pub mod options;
 pub mod sched;
 pub mod setting;
-pub mod settling;
+mod settling;
 
 pub use crate::fault::LoadFault;
 pub use crate::given::Given;

@@ -6,8 +6,8 @@
 //! waits for another. Who takes and gives has a seat, which remembers what it holds; no two seats hold one tag.
 #![tactic(auto)]
 
-pub mod held;
-pub mod laws;
+mod held;
+mod laws;
 
 ghost use Rattle.std.specs.Prelude.{◌≡◌, ◌<◌, ◌≤◌, ◌+◌, ◌-◌, ◌/◌, ◌%◌, ◌^◌, ◌++◌, ◌∷◌, [], ◌⊎◌, ◌↔◌, ℕ, List, replicate, true, false, None, Some, Err, IsTrue, IfOk, IfSome, IfNone, Contains};
 ghost use Rattle.std.specs.Bool.{OnTrue, OnFalse};

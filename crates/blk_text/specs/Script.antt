@@ -17,7 +17,7 @@ use Rattle.blk_lists.specs.declared.fault.Why.{Why}
 use Rattle.blk_lists.specs.declared.fault.Why.TheVariants as why
 use Rattle.parts.specs.declared.Repeats.TheVariants as repeats
 use Rattle.parts.specs.Parts.{Part, then, tested, seen_as, Spells}
-use Rattle.blk_lists.specs.declared.fields.TheConstants.{MAX_TAGS}
+use Rattle.blk_trace.specs.declared.event.TheConstants.{MAX_TAGS}
 use Rattle.blk_text.specs.StepKinds.{StepKind, step_word, StepStandsIn, StepTold, step_fields}
 use Rattle.blk_text.specs.StepKinds as kind
 use Rattle.blk_text.specs.declared.script.TheConstants.{MAX_RUN, MAX_STEPS}

@@ -13,7 +13,7 @@ use Rattle.blk_lists.specs.Sources.{Row}
 use Rattle.blk_text.specs.BioRecord.{bio_row}
 use Rattle.blk_text.specs.SetupRecord.{setup_row, IsWholeSetup}
 use Rattle.blk_text.specs.declared.setup.TheConstants.{LATEST}
-use Rattle.blk_lists.specs.declared.fields.TheConstants.{MAX_TAGS}
+use Rattle.blk_trace.specs.declared.event.TheConstants.{MAX_TAGS}
 use Rattle.blk_text.specs.declared.bios.TheConstants.{MAX_SUBMITTERS}
 
 -- a record of a word and two fields; the other three are empty

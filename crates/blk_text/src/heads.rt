@@ -11,10 +11,10 @@ use crate::bios::push_bio;
 use crate::setup::{DEPTHS, QUEUES, WIDTH};
 use blk_bio::{Bio, MAX_SEGMENTS, Request};
 use blk_lists::fault::Why;
-use blk_lists::fields::{ANY_SLOT, Slot, TAG_SLOT, field, read_fields, without_word};
+use blk_lists::fields::{ANY_SLOT, Slot, field, read_fields, without_word};
 use blk_lists::items::LineForm;
 use blk_lists::kinds::Kind;
-use blk_trace::{Event, MAX_EVENTS};
+use blk_trace::{Event, MAX_EVENTS, MAX_TAGS};
 use csv::ByteRecord;
 use drafts::Block;
 use std::alloc::{AllocError, Allocator};
@@ -54,13 +54,19 @@ const ALONE: [Slot; WIDTH] = [Slot::Given, BLANK, BLANK, BLANK, BLANK, BLANK];
 const GROUP: [Slot; WIDTH] = [Slot::Given, ANY_SLOT, BIOS, BLANK, BLANK, BLANK];
 
 /// Any number, and a tag.
-const PLACED: [Slot; WIDTH] = [Slot::Given, ANY_SLOT, TAG_SLOT, BLANK, BLANK, BLANK];
+const PLACED: [Slot; WIDTH] = [Slot::Given, ANY_SLOT, TAG, BLANK, BLANK, BLANK];
 
 /// A tag.
-const TAGGED: [Slot; WIDTH] = [Slot::Given, TAG_SLOT, BLANK, BLANK, BLANK, BLANK];
+const TAGGED: [Slot; WIDTH] = [Slot::Given, TAG, BLANK, BLANK, BLANK, BLANK];
 
 /// Any number.
 pub(crate) const ONE: [Slot; WIDTH] = [Slot::Given, ANY_SLOT, BLANK, BLANK, BLANK, BLANK];
+
+/// A tag.
+const TAG: Slot = Slot::Number {
+    least: 0,
+    most: MAX_TAGS - 1,
+};
 
 /// How many bios a group has.
 const BIOS: Slot = Slot::Number {

@@ -6,6 +6,9 @@ ghost use Rattle.blk_trace.specs.Kinds.{releases, joins, enters, issues, ends, c
 use blk_bio::{Bio, Request};
 use std::alloc::Allocator;
 
+/// Every tag lies below this: tags are the numbers of 16 bits.
+pub const MAX_TAGS: u64 = 1 << 16;
+
 /// One thing that happened. `R` is what is known of a request that enters: the request itself, in a trace.
 #[derive(Debug, Drop)]
 pub enum Event<R> {

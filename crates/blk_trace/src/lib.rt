@@ -10,7 +10,7 @@ mod tags;
 pub mod trace;
 
 pub use blk_bio::TraceRule;
-pub use event::Event;
+pub use event::{Event, MAX_TAGS};
 pub use rule::{PushFault, TraceFault};
 pub use setup::{MAX_EXPIRIES, Setup, SetupFault};
 pub use trace::{MAX_EVENTS, Prepared, Trace};

@@ -2,7 +2,7 @@
 #![tactic(auto)]
 
 pub mod block;
-pub mod draft;
+mod draft;
 pub mod fault;
 mod mark;
 pub mod output;

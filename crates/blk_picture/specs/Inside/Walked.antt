@@ -5,7 +5,7 @@ use Rattle.blk_trace.specs.Happened.{Happened}
 use Rattle.blk_trace.specs.Setups.{Setup}
 use Rattle.blk_trace.specs.Events.{round_of, goes_back}
 use Rattle.blk_picture.specs.declared.boxes.IssueBox.{IssueBox}
-use Rattle.blk_picture.specs.declared.boxes.TheConstants.{MAX_TAGS}
+use Rattle.blk_trace.specs.declared.event.TheConstants.{MAX_TAGS}
 use Rattle.blk_picture.specs.Boxes.{boxes_from}
 
 -- the boxes of the events that were walked, the round of the others, and whether the next end of each tag is a requeue

@@ -6,7 +6,7 @@ use Rattle.blk_trace.specs.Setups.{Setup}
 use Rattle.blk_picture.specs.Inside.Facts.{Knows}
 use Rattle.blk_picture.specs.Inside.Walked.{IsWalked}
 use Rattle.blk_picture.proofs.Walk.{filled_up, walked_none, walked_all}
-use Rattle.blk_picture.specs.declared.boxes.TheConstants.{MAX_TAGS}
+use Rattle.blk_trace.specs.declared.event.TheConstants.{MAX_TAGS}
 use Rattle.blk_picture.proofs.boxes.boxes.Goals as goal
 
 pub loop-left-init : goal.loop-left-init

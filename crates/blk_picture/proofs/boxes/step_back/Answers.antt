@@ -5,7 +5,7 @@ use Rattle.std.specs.BTreeMap.{get}
 use Rattle.std.proofs.lemmas.List.{get_or_read}
 use Rattle.blk_trace.specs.Happened.{Happened}
 use Rattle.blk_picture.proofs.Walk.{tick_round, walked_tick, walked_end, walked_still, walked_issue}
-use Rattle.blk_picture.specs.declared.boxes.TheConstants.{MAX_TAGS}
+use Rattle.blk_trace.specs.declared.event.TheConstants.{MAX_TAGS}
 use Rattle.blk_picture.proofs.boxes.step_back.Goals as goal
 
 pub overflow_sub-result : goal.overflow_sub-result

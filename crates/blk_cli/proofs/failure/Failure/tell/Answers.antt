@@ -1,4 +1,4 @@
 use Rattle.blk_cli.proofs.failure.Failure.tell.Goals as goal
 
-pub returns-in-NotFixed : goal.returns-in-NotFixed
-returns-in-NotFixed g c = rw c.in-NotFixed.is c.tell_name-in-NotFixed.ensures
+pub returns-in-Unlisted : goal.returns-in-Unlisted
+returns-in-Unlisted g c = rw c.in-Unlisted.is c.tell_name-in-Unlisted.ensures
