@@ -46,7 +46,7 @@ SaysLine line old new false = IsCut line old new
 
 -- a run ended with this status and said this line
 abbrev pub EndsSaying : ℕ → List ℕ → Stream → Stream → Ended → Type 0
-EndsSaying status line old new ended = (ended.status ≡ status) × SaysLine line old new ended.told
+EndsSaying status line old new ended = (ended.status ≡ status) × SaysLine line old new ended.said
 
 -- with those of a failure; and with those of why there is nothing
 abbrev pub EndsFailing : Failure → Stream → Stream → Ended → Type 0
@@ -61,13 +61,13 @@ status_with good = if good then 0 else 1
 
 -- its note was said, where it has one
 abbrev pub SaysBeside : Option (List ℕ) → Stream → Stream → Bool → Type 0
-SaysBeside None old new told = (new ≡ old) × (told ≡ true)
-SaysBeside (Some line) old new told = SaysLine line old new told
+SaysBeside None old new said = (new ≡ old) × (said ≡ true)
+SaysBeside (Some line) old new said = SaysLine line old new said
 
 -- its text was written whole, and its note said; or the writer of the text failed, and took a first part of it and nothing else
 abbrev pub EndsPut : Said → Stream → Stream → Stream → Stream → Ended → Type 0
 EndsPut s old new faults_old faults_new ended =
-    (IsWritten s.text old new × (ended.status ≡ status_with s.good) × SaysBeside s.note faults_old faults_new ended.told)
+    (IsWritten s.text old new × (ended.status ≡ status_with s.good) × SaysBeside s.note faults_old faults_new ended.said)
     ⊎ (IsCut s.text old new × EndsSaying 3 write_fault faults_old faults_new ended)
 
 -- how a run ends, given its input and what both writers hold before and after: it wrote the text of its answer, or nothing at all

@@ -145,10 +145,10 @@ impl Failure {
     {
         let status = self.status();
         match self.tell(faults) {
-            Ok(()) => Ended { status, told: true },
+            Ok(()) => Ended { status, said: true },
             Err(_) => Ended {
                 status,
-                told: false,
+                said: false,
             },
         }
     }

@@ -63,7 +63,7 @@ pub struct Ended {
     /// Its exit status.
     pub status: u8,
     /// Whether all that it had to say was written; true where it had nothing to say.
-    pub told: bool,
+    pub said: bool,
 }
 
 /// What a job answers.
@@ -99,17 +99,17 @@ impl Answered {
     /// Says the note, where there is one, and ends with the status of the answer, even where the note can't be said.
     fn say<F: Write>(&self, faults: &mut Output<F>) -> Ended
         ensures status { result.status ≡ status_with self.now.good }
-        ensures says { SaysBeside (said_of self.now).note (stream_of F.contents faults.old) (stream_of F.contents faults.new) result.told }
+        ensures says { SaysBeside (said_of self.now).note (stream_of F.contents faults.old) (stream_of F.contents faults.new) result.said }
         ensures quiet { IsAlone (said_of self.now) → faults.new ≡ faults.old }
     {
         let status = self.status();
         match &self.note {
-            None => Ended { status, told: true },
+            None => Ended { status, said: true },
             Some(note) => match faults.put(note.as_slice()) {
-                Ok(()) => Ended { status, told: true },
+                Ok(()) => Ended { status, said: true },
                 Err(_) => Ended {
                     status,
-                    told: false,
+                    said: false,
                 },
             },
         }
@@ -148,11 +148,11 @@ fn refuse<F: Write>(line: &[u8], faults: &mut Output<F>) -> Ended
     match faults.put(line) {
         Ok(()) => Ended {
             status: COMMAND_LINE,
-            told: true,
+            said: true,
         },
         Err(_) => Ended {
             status: COMMAND_LINE,
-            told: false,
+            said: false,
         },
     }
 }

@@ -4,7 +4,7 @@ use Rattle.std.specs.Option.{option_map_or}
 use Rattle.csv.specs.Reading.{reader_source}
 use Rattle.csv.specs.declared.reader.Reader.{Reader}
 use Rattle.blk_lists.specs.Sources.{Row, Source, left_of}
-use Rattle.blk_lists.specs.declared.watched.Place.{Place}
+use Rattle.blk_lists.specs.declared.watched.Holder.{Holder}
 use Rattle.blk_lists.specs.declared.watched.Watched.{Watched}
 
 -- the bytes that it will give, where they are known, and whether a read of it has failed
@@ -14,15 +14,15 @@ remaining_of remaining w = remaining w.inner
 abbrev pub read_failed : {R : Type 0} → Watched R → Bool
 read_failed w = w.failed
 
--- the same of the one that is in a place; while it is out no byte is known
-abbrev pub left_in : {R : Type 0} → (R → Option (List ℕ)) → Place R → Option (List ℕ)
+-- the same of the one that a holder has; while it is out no byte is known
+abbrev pub left_in : {R : Type 0} → (R → Option (List ℕ)) → Holder R → Option (List ℕ)
 left_in remaining p = option_and_then (remaining_of remaining) p.held
 
-abbrev pub failed_in : {R : Type 0} → Place R → Bool
+abbrev pub failed_in : {R : Type 0} → Holder R → Bool
 failed_in p = option_map_or read_failed p.held false
 
--- what a CSV reader over a place has left, with these fields of the last record that was read, and this number of records asked for
-abbrev pub source_in : {R : Type 0} → (R → Option (List ℕ)) → Reader (Place R) → Row → ℕ → Source
+-- what a CSV reader over a holder has left, with these fields of the last record that was read, and this number of records asked for
+abbrev pub source_in : {R : Type 0} → (R → Option (List ℕ)) → Reader (Holder R) → Row → ℕ → Source
 source_in remaining reader fields at = record {
   left = left_of (left_in remaining) reader;
   bytes = left_in remaining (reader_source reader);

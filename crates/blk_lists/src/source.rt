@@ -9,7 +9,7 @@ ghost use Rattle.blk_lists.specs.Watching.{left_in, failed_in};
 ghost use Rattle.blk_lists.specs.Reads.{IsOutside};
 
 use crate::fault::{TextFault, Why};
-use crate::watched::{Place, Watched};
+use crate::watched::{Holder, Watched};
 use csv::{ByteRecord, ErrorKind, Reader, ReaderBuilder};
 use std::alloc::Global;
 use std::io::Read;
@@ -21,7 +21,7 @@ use std::mem::replace;
 /// from 1. A read that a signal interrupts is made again.
 #[derive(Drop)]
 pub struct Records<R: Read> {
-    rdr: Reader<Place<R>>,
+    rdr: Reader<Holder<R>>,
     row: ByteRecord,
     at: u64,
 }
@@ -40,15 +40,15 @@ impl<R: Read> Model for Records<R> {
 }
 
 /// The CSV reader over this, of which nothing is read yet.
-fn plain_over<R: Read>(alloc: Global, place: Place<R>) -> Reader<Place<R>>
+fn plain_over<R: Read>(alloc: Global, holder: Holder<R>) -> Reader<Holder<R>>
     ensures plain { IsPlainReader result }
-    ensures left { left_of (left_in R.remaining) result ≡ input_of (left_in R.remaining place) }
-    ensures place { reader_source result ≡ place }
+    ensures left { left_of (left_in R.remaining) result ≡ input_of (left_in R.remaining holder) }
+    ensures holder { reader_source result ≡ holder }
 {
     ReaderBuilder::new()
         .has_headers(false)
         .flexible(true)
-        .from_reader(alloc, place)
+        .from_reader(alloc, holder)
 }
 
 impl<R: Read> Records<R> {
@@ -60,7 +60,7 @@ impl<R: Read> Records<R> {
         ensures fresh { result.failed ≡ false }
     {
         Records {
-            rdr: plain_over(alloc, Place::of(Watched::new(reader))),
+            rdr: plain_over(alloc, Holder::of(Watched::new(reader))),
             row: ByteRecord::new(alloc),
             at: 0,
         }
@@ -129,11 +129,11 @@ impl<R: Read + Drop> Records<R> {
         // a read that failed is reported as nothing else
         ensures told { IfErr result (λ why. self.new.failed ≡ true → why ≡ Why.Read) }
     {
-        let out = replace(&mut self.rdr, plain_over(alloc, Place::empty()));
-        let mut place = out.into_inner();
+        let out = replace(&mut self.rdr, plain_over(alloc, Holder::empty()));
+        let mut holder = out.into_inner();
         let mut bytes = Vec::new(alloc);
-        let read = place.read_to_end(&mut bytes);
-        self.rdr = plain_over(alloc, place);
+        let read = holder.read_to_end(&mut bytes);
+        self.rdr = plain_over(alloc, holder);
         match read {
             Ok(_) => Ok(bytes),
             Err(_) => Err(self.outside()),

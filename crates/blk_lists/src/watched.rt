@@ -64,22 +64,22 @@ impl<R: Read> Read for Watched<R> {
 /// Holds such a reader so that it can be taken back: the CSV reader over it gives its own back only at its end. While it is out
 /// there is nothing to be read.
 #[derive(Drop)]
-pub struct Place<R> {
+pub struct Holder<R> {
     held: Option<Watched<R>>,
 }
 
-impl<R: Read> Place<R> {
-    /// The place with this reader in it.
-    pub fn of(reader: Watched<R>) -> Place<R>
+impl<R: Read> Holder<R> {
+    /// One that holds this reader.
+    pub fn of(reader: Watched<R>) -> Holder<R>
         ensures left { left_in R.remaining result ≡ remaining_of R.remaining reader }
         ensures failed { failed_in result ≡ read_failed reader }
     {
-        Place { held: Some(reader) }
+        Holder { held: Some(reader) }
     }
 
-    /// The place while it is out.
-    pub fn empty() -> Place<R> {
-        Place { held: None }
+    /// One whose reader is out.
+    pub fn empty() -> Holder<R> {
+        Holder { held: None }
     }
 
     /// Whether a read of the reader has failed.
@@ -93,7 +93,7 @@ impl<R: Read> Place<R> {
     }
 }
 
-impl<R: Read> Read for Place<R> {
+impl<R: Read> Read for Holder<R> {
     ghost remaining = { left_in R.remaining };
 
     fn read(&mut self, buf: &mut [u8]) -> io::Result<usize>

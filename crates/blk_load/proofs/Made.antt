@@ -12,7 +12,7 @@ use Rattle.blk_layer.specs.Seats.{CanMake, IsLayerFault}
 use Rattle.blk_layer.specs.declared.layer.LayerFault.{LayerFault}
 use Rattle.blk_layer.specs.declared.layer.LayerFault.TheVariants as layer
 use Rattle.blk_settings.specs.Faults.{IsLoadFault}
-use Rattle.blk_load.specs.Inside.Told.{IsTold}
+use Rattle.blk_load.specs.Inside.Outcomes.{IsOutcome}
 use Rattle.blk_settings.specs.Numbers.{IsLoad}
 use Rattle.blk_settings.specs.declared.fault.LoadFault.{LoadFault}
 use Rattle.blk_settings.specs.declared.fault.LoadFault.TheVariants as fault
@@ -91,8 +91,8 @@ no_range l fault.Stalled is ne = is
 no_range l fault.SeatMissing is ne = is
 no_range l fault.Differs is ne = is
 
--- nor is what is told of them
-pub told_in_range : {V : Type 0} (f : Option LoadFault) (s r : Result V LoadFault) → IsTold f s r → f ≢ Some fault.Range → IfErr s (λ e. e ≢ fault.Range) → IfErr r (λ e. e ≢ fault.Range)
-told_in_range f s (Ok v) t n h = tt
-told_in_range f (Ok v) (Err e) t n h = λ is. n (t ∙ ap Some is)
-told_in_range f (Err w) (Err e) t n h = λ is. elim t.among [ inl x ↦ n (sym x ∙ ap Some is) | inr x ↦ let same : e ≡ w = cc x in h (sym same ∙ is) ]
+-- nor is what comes of them
+pub outcome_in_range : {V : Type 0} (f : Option LoadFault) (s r : Result V LoadFault) → IsOutcome f s r → f ≢ Some fault.Range → IfErr s (λ e. e ≢ fault.Range) → IfErr r (λ e. e ≢ fault.Range)
+outcome_in_range f s (Ok v) t n h = tt
+outcome_in_range f (Ok v) (Err e) t n h = λ is. n (t ∙ ap Some is)
+outcome_in_range f (Err w) (Err e) t n h = λ is. elim t.among [ inl x ↦ n (sym x ∙ ap Some is) | inr x ↦ let same : e ≡ w = cc x in h (sym same ∙ is) ]

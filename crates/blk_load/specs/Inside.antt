@@ -1,4 +1,4 @@
 -- What private clauses and proofs need, and no promise names.
 pub mod Loads
 pub mod Ran
-pub mod Told
+pub mod Outcomes

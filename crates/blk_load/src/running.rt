@@ -6,7 +6,7 @@ ghost use Rattle.blk_layer.specs.Closing.{all_accepted};
 ghost use Rattle.blk_layer.specs.Seats.{CanMake};
 ghost use Rattle.blk_sched.specs.Meaning.{at_start};
 ghost use Rattle.blk_settings.specs.Faults.{IsLoadFault};
-ghost use Rattle.blk_load.specs.Inside.Told.{IsTold};
+ghost use Rattle.blk_load.specs.Inside.Outcomes.{IsOutcome};
 ghost use Rattle.blk_settings.specs.Numbers.{IsLoad};
 ghost use Rattle.blk_settings.specs.Settles.{IsSettled, served_bios, load_setup};
 ghost use Rattle.blk_trace.specs.Events.{AreOnce};
@@ -107,7 +107,7 @@ fn map_of(alloc: Global, load: &Load) -> Result<Map, AllocError>
 }
 
 /// Makes a layer, runs the load over it, and settles the accounts.
-#[tactic(auto, using(crate::proofs::Made::no_layer_fault, crate::proofs::Made::told_in_range))]
+#[tactic(auto, using(crate::proofs::Made::no_layer_fault, crate::proofs::Made::outcome_in_range))]
 fn on_layer<R: Threads + Wait + Sync, S: Scheduler<A = Global> + Send, L: Named + Send + Sync>(
     rt: &R,
     clock: HostRuntime,
@@ -143,13 +143,13 @@ fn on_layer<R: Threads + Wait + Sync, S: Scheduler<A = Global> + Send, L: Named 
     run_beside(rt, &site, submitters.as_mut_slice(), workers.as_mut_slice());
     let Site { layer, noted, .. } = site;
     let settled = settle(alloc, load, layer, submitters, workers);
-    told(noted.into_first(), settled)
+    outcome(noted.into_first(), settled)
 }
 
 /// The outcome of a load: where its threads met no fault, what it was settled to; else their fault, or that of its settling if it comes
 /// first by rank.
-fn told(fault: Option<LoadFault>, settled: Result<Loaded, LoadFault>) -> Result<Loaded, LoadFault>
-    ensures { IsTold fault settled result }
+fn outcome(fault: Option<LoadFault>, settled: Result<Loaded, LoadFault>) -> Result<Loaded, LoadFault>
+    ensures { IsOutcome fault settled result }
 {
     let Some(fault) = fault else {
         return settled;

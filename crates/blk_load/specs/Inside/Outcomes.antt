@@ -4,7 +4,7 @@ use Rattle.blk_settings.specs.declared.fault.LoadFault.{LoadFault}
 use Rattle.blk_settings.specs.Faults.{IsFirstOfTwo}
 
 -- what is reported of a load: what it came to where its threads met no fault and it could be settled, and else the first of the faults
-abbrev pub IsTold : {V : Type 0} → Option LoadFault → Result V LoadFault → Result V LoadFault → Type 0
-IsTold fault settled (Ok v) = (fault ≡ None) × (settled ≡ Ok v)
-IsTold fault (Ok v) (Err told) = fault ≡ Some told
-IsTold fault (Err why) (Err told) = IsFirstOfTwo fault (Some why) (Some told)
+abbrev pub IsOutcome : {V : Type 0} → Option LoadFault → Result V LoadFault → Result V LoadFault → Type 0
+IsOutcome fault settled (Ok v) = (fault ≡ None) × (settled ≡ Ok v)
+IsOutcome fault (Ok v) (Err why) = fault ≡ Some why
+IsOutcome fault (Err closing) (Err why) = IsFirstOfTwo fault (Some closing) (Some why)
