@@ -172,18 +172,18 @@ no_position : (ids : List ℕ) (k : ℕ) → length ids ≡ 0 → StandsIn ids k
 no_position [] k e (i, h) = cc
 no_position (x ∷ xs) k e h = omega arith
 
-module _ (dir : Dir) (found : Found) (ids : List ℕ) (gone : Bool) (line : IsFifoList dir found ids gone) where
+module _ (dir : Dir) (found : Found) (ids : List ℕ) (gone : Bool) (list : IsFifoList dir found ids gone) where
   pub first_oldest : (id : ℕ) → slice_get ids 0 ≡ Some id → IsOldest dir found id
   first_oldest id is =
-      let waits = line.first id is in record {
+      let waits = list.first id is in record {
         waiting = waits.0;
         is_found = waits.1;
         same_dir = waits.2;
-        least = λ k v lt there same. not_before ids id line.rising is k (line.all k (v, there, same)) lt;
+        least = λ k v lt there same. not_before ids id list.rising is k (list.all k (v, there, same)) lt;
       }
 
   pub no_first : length ids ≡ 0 → NoneOf dir found
-  no_first none k v there same = no_position ids k none (line.all k (v, there, same))
+  no_first none k v there same = no_position ids k none (list.all k (v, there, same))
 
 -- ---- requests come, go and are joined
 
@@ -215,32 +215,32 @@ module _ (old new : Found) (id : ℕ) (x : Option Waiting) (becomes : Becomes ol
 
 module _ (old new : Found) (id : ℕ) (w : Waiting) (becomes : Becomes old id (Some w) new) where
   -- a request more of the direction, and of the other
-  pub line_entered : (dir : Dir) (ids now : List ℕ) (gone : Bool) → IsFifoList dir old ids gone → old id ≡ None → dir ≡ dir_of w.bios → IsPut ids id now → IsFifoList dir new now gone
-  line_entered dir ids now gone line none own put = record {
+  pub list_entered : (dir : Dir) (ids now : List ℕ) (gone : Bool) → IsFifoList dir old ids gone → old id ≡ None → dir ≡ dir_of w.bios → IsPut ids id now → IsFifoList dir new now gone
+  list_entered dir ids now gone list none own put = record {
     rising = put.rising;
     all = λ k waits. elim (waits_then old new id (Some w) becomes dir k waits) [
       | inl here ↦ subst (StandsIn now) (sym here.0) put.listed
-      | inr before ↦ put.others k (line.all k before)
+      | inr before ↦ put.others k (list.all k before)
     ];
     first = λ k is. elim (put.first k is) [
       | inl here ↦ (w, at_id old new id (Some w) becomes k here, sym own)
-      | inr before ↦ let was = line.first k before in still_waits old new id (Some w) becomes dir k (λ same. let away : None ≡ Some was.0 = sym none ∙ ap old (sym same) ∙ was.1 in cc) was
+      | inr before ↦ let was = list.first k before in still_waits old new id (Some w) becomes dir k (λ same. let away : None ≡ Some was.0 = sym none ∙ ap old (sym same) ∙ was.1 in cc) was
     ];
     whole = λ e k there. elim (put.only k there) [
       | inl here ↦ (w, at_id old new id (Some w) becomes k here, sym own)
-      | inr before ↦ let was = line.whole e k before in still_waits old new id (Some w) becomes dir k (λ same. let away : None ≡ Some was.0 = sym none ∙ ap old (sym same) ∙ was.1 in cc) was
+      | inr before ↦ let was = list.whole e k before in still_waits old new id (Some w) becomes dir k (λ same. let away : None ≡ Some was.0 = sym none ∙ ap old (sym same) ∙ was.1 in cc) was
     ];
   }
 
-  pub line_beside : (dir : Dir) (ids : List ℕ) (gone : Bool) → IsFifoList dir old ids gone → old id ≡ None → (dir_of w.bios ≡ dir → ⊥) → IsFifoList dir new ids gone
-  line_beside dir ids gone line none other = record {
-    rising = line.rising;
+  pub list_beside : (dir : Dir) (ids : List ℕ) (gone : Bool) → IsFifoList dir old ids gone → old id ≡ None → (dir_of w.bios ≡ dir → ⊥) → IsFifoList dir new ids gone
+  list_beside dir ids gone list none other = record {
+    rising = list.rising;
     all = λ k waits. elim (waits_then old new id (Some w) becomes dir k waits) [
       | inl here ↦ let one : Some w ≡ Some here.1.0 = here.1.1 in let same : w ≡ here.1.0 = cc in absurd (other (ap (λ (u : Waiting). dir_of u.bios) same ∙ here.1.2))
-      | inr before ↦ line.all k before
+      | inr before ↦ list.all k before
     ];
-    first = λ k is. let was = line.first k is in still_waits old new id (Some w) becomes dir k (λ same. let away : None ≡ Some was.0 = sym none ∙ ap old (sym same) ∙ was.1 in cc) was;
-    whole = λ e k there. let was = line.whole e k there in still_waits old new id (Some w) becomes dir k (λ same. let away : None ≡ Some was.0 = sym none ∙ ap old (sym same) ∙ was.1 in cc) was;
+    first = λ k is. let was = list.first k is in still_waits old new id (Some w) becomes dir k (λ same. let away : None ≡ Some was.0 = sym none ∙ ap old (sym same) ∙ was.1 in cc) was;
+    whole = λ e k there. let was = list.whole e k there in still_waits old new id (Some w) becomes dir k (λ same. let away : None ≡ Some was.0 = sym none ∙ ap old (sym same) ∙ was.1 in cc) was;
   }
 
   -- a request is joined
@@ -255,28 +255,28 @@ module _ (old new : Found) (id : ℕ) (w : Waiting) (becomes : Becomes old id (S
     | false ↦ λ e. still_waits old new id (Some w) becomes dir k (λ is_id. let one : is_at (nat_cmp id) k ≡ true = at_itself id k is_id in cc) was
   ] refl
 
-  line_stayed : (dir : Dir) (ids : List ℕ) (gone : Bool) (v : Waiting) → IsFifoList dir old ids gone → old id ≡ Some v → dir_of w.bios ≡ dir_of v.bios → IsFifoList dir new ids gone
-  line_stayed dir ids gone v line found same = record {
-    rising = line.rising;
+  list_stayed : (dir : Dir) (ids : List ℕ) (gone : Bool) (v : Waiting) → IsFifoList dir old ids gone → old id ≡ Some v → dir_of w.bios ≡ dir_of v.bios → IsFifoList dir new ids gone
+  list_stayed dir ids gone v list found same = record {
+    rising = list.rising;
     all = λ k waits. elim (waits_then old new id (Some w) becomes dir k waits) [
-      | inl here ↦ let one : Some w ≡ Some here.1.0 = here.1.1 in let joined : w ≡ here.1.0 = cc in line.all k (v, ap old here.0 ∙ found, sym same ∙ ap (λ (u : Waiting). dir_of u.bios) joined ∙ here.1.2)
-      | inr before ↦ line.all k before
+      | inl here ↦ let one : Some w ≡ Some here.1.0 = here.1.1 in let joined : w ≡ here.1.0 = cc in list.all k (v, ap old here.0 ∙ found, sym same ∙ ap (λ (u : Waiting). dir_of u.bios) joined ∙ here.1.2)
+      | inr before ↦ list.all k before
     ];
-    first = λ k is. joined_waits dir v found same k (line.first k is);
-    whole = λ e k there. joined_waits dir v found same k (line.whole e k there);
+    first = λ k is. joined_waits dir v found same k (list.first k is);
+    whole = λ e k there. joined_waits dir v found same k (list.whole e k there);
   }
 
 -- an id is taken out, as its request went
-module _ (old new : Found) (id : ℕ) (becomes : Becomes old id None new) (dir : Dir) (ids : List ℕ) (gone : Bool) (line : IsFifoList dir old ids gone) where
+module _ (old new : Found) (id : ℕ) (becomes : Becomes old id None new) (dir : Dir) (ids : List ℕ) (gone : Bool) (list : IsFifoList dir old ids gone) where
   all_there : (k : ℕ) → WaitsAs dir new k → StandsIn ids k
   all_there k waits = elim (waits_then old new id None becomes dir k waits) [
     | inl here ↦ let none : None ≡ Some here.1.0 = here.1.1 in cc
-    | inr before ↦ line.all k before
+    | inr before ↦ list.all k before
   ]
 
   pub take_none : length ids ≡ 0 → IsFifoList dir new ids gone
   take_none none = record {
-    rising = line.rising;
+    rising = list.rising;
     all = all_there;
     first = λ k is. absurd (none_at_all ids k none is);
     whole = λ e k there. absurd (no_position ids k none there);
@@ -284,18 +284,18 @@ module _ (old new : Found) (id : ℕ) (becomes : Becomes old id None new) (dir :
 
   pub take_later : (first : ℕ) → slice_get ids 0 ≡ Some first → (first ≡ id → ⊥) → IsFifoList dir new ids true
   take_later first is other = record {
-    rising = line.rising;
+    rising = list.rising;
     all = all_there;
     first = λ k there. still_waits old new id None becomes dir k (λ same.
         let one : Some first ≡ Some k = sym is ∙ there in
         let both : first ≡ k = cc in
-        other (both ∙ same)) (line.first k there);
+        other (both ∙ same)) (list.first k there);
     whole = λ e. absurd (true≢false e);
   }
 
   module _ (first : ℕ) (rest : List ℕ) (is : ids ≡ first ∷ rest) (own : first ≡ id) where
     up : GoUp (first ∷ rest)
-    up = subst GoUp is line.rising
+    up = subst GoUp is list.rising
 
     all_after : (k : ℕ) → WaitsAs dir new k → StandsIn rest k
     all_after k waits =
@@ -306,7 +306,7 @@ module _ (old new : Found) (id : ℕ) (becomes : Becomes old id None new) (dir :
     take_first all_wait =
         let after : (k : ℕ) → StandsIn rest k → WaitsAs dir new k = λ k there.
         still_waits old new id None becomes dir k (λ same. let more = risen (first ∷ rest) 0 (suc there.0) first k up (omega arith) refl there.1 in omega (arith, more, same, own))
-        (line.whole all_wait k (subst (λ (l : List ℕ). StandsIn l k) (sym is) (suc there.0, there.1))) in
+        (list.whole all_wait k (subst (λ (l : List ℕ). StandsIn l k) (sym is) (suc there.0, there.1))) in
         record {
           rising = up_after dir new first rest up;
           all = all_after;
@@ -324,33 +324,33 @@ module _ (old new : Found) (id : ℕ) (becomes : Becomes old id None new) (dir :
 
 module _ (old new : Found) (id : ℕ) (w : Waiting) (found : old id ≡ Some w) (becomes : Becomes old id None new) where
   -- a request less of the other direction
-  pub line_apart : (dir : Dir) (ids : List ℕ) (gone : Bool) → IsFifoList dir old ids gone → (dir_of w.bios ≡ dir → ⊥) → IsFifoList dir new ids gone
-  line_apart dir ids gone line other =
+  pub list_apart : (dir : Dir) (ids : List ℕ) (gone : Bool) → IsFifoList dir old ids gone → (dir_of w.bios ≡ dir → ⊥) → IsFifoList dir new ids gone
+  list_apart dir ids gone list other =
       let still : (k : ℕ) → WaitsAs dir old k → WaitsAs dir new k = λ k was. still_waits old new id None becomes dir k (λ same.
       let one : Some w ≡ Some was.0 = sym found ∙ ap old (sym same) ∙ was.1 in
       let both : w ≡ was.0 = cc in
       other (ap (λ (u : Waiting). dir_of u.bios) both ∙ was.2)) was in
       record {
-        rising = line.rising;
+        rising = list.rising;
         all = λ k waits. elim (waits_then old new id None becomes dir k waits) [
           | inl here ↦ let none : None ≡ Some here.1.0 = here.1.1 in cc
-          | inr before ↦ line.all k before
+          | inr before ↦ list.all k before
         ];
-        first = λ k is. still k (line.first k is);
-        whole = λ e k there. still k (line.whole e k there);
+        first = λ k is. still k (list.first k is);
+        whole = λ e k there. still k (list.whole e k there);
       }
 
-pub line_same : (dir : Dir) (old new : Found) (ids : List ℕ) (gone : Bool) → IsFifoList dir old ids gone → ((k : ℕ) → new k ≡ old k) → IsFifoList dir new ids gone
-line_same dir old new ids gone line same = record {
-  rising = line.rising;
-  all = λ k waits. line.all k (waits.0, sym (same k) ∙ waits.1, waits.2);
-  first = λ k there. let was = line.first k there in (was.0, same k ∙ was.1, was.2);
-  whole = λ e k there. let was = line.whole e k there in (was.0, same k ∙ was.1, was.2);
+pub list_same : (dir : Dir) (old new : Found) (ids : List ℕ) (gone : Bool) → IsFifoList dir old ids gone → ((k : ℕ) → new k ≡ old k) → IsFifoList dir new ids gone
+list_same dir old new ids gone list same = record {
+  rising = list.rising;
+  all = λ k waits. list.all k (waits.0, sym (same k) ∙ waits.1, waits.2);
+  first = λ k there. let was = list.first k there in (was.0, same k ∙ was.1, was.2);
+  whole = λ e k there. let was = list.whole e k there in (was.0, same k ∙ was.1, was.2);
 }
 
 -- no requests
-pub line_empty : (dir : Dir) (found : Found) (ids : List ℕ) (gone : Bool) → ((k : ℕ) → found k ≡ None) → ids ≡ [] → IsFifoList dir found ids gone
-line_empty dir found ids gone none is = subst (λ (l : List ℕ). IsFifoList dir found l gone) (sym is) (record {
+pub list_empty : (dir : Dir) (found : Found) (ids : List ℕ) (gone : Bool) → ((k : ℕ) → found k ≡ None) → ids ≡ [] → IsFifoList dir found ids gone
+list_empty dir found ids gone none is = subst (λ (l : List ℕ). IsFifoList dir found l gone) (sym is) (record {
   rising = nothing_up;
   all = λ k waits. let e : None ≡ Some waits.0 = sym (none k) ∙ waits.1 in cc;
   first = λ k there. let e : None ≡ Some k = there in cc;
@@ -361,16 +361,16 @@ line_empty dir found ids gone none is = subst (λ (l : List ℕ). IsFifoList dir
 
 pub fifo_empty : {A : Type 0} (found : Found) (fifo : FifoLists A) → ((k : ℕ) → found k ≡ None) → fifo.reads.items ≡ [] → fifo.writes.items ≡ [] → AreFifoLists found fifo
 fifo_empty found fifo none reads writes = record {
-  reads = line_empty Read found fifo.reads.items fifo.reads_gone none reads;
-  writes = line_empty Write found fifo.writes.items fifo.writes_gone none writes;
+  reads = list_empty Read found fifo.reads.items fifo.reads_gone none reads;
+  writes = list_empty Write found fifo.writes.items fifo.writes_gone none writes;
 }
 
 module _ {A T E : Type 0} (r : Result T E) (fifo : FifoLists A) (ids : VecDeque ℕ A) (dir : Dir) (id : ℕ) where
   pub enter_read : dir ≡ Read → OnOk r (GoUp fifo.reads.items → IsPut fifo.reads.items id ids.items) → OnOk r ((old new : Found) (w : Waiting) → dir ≡ dir_of w.bios → AreFifoLists old fifo → old id ≡ None → Becomes old id (Some w) new → AreFifoLists new (record { reads = ids; writes = fifo.writes; reads_gone = fifo.reads_gone; writes_gone = fifo.writes_gone }))
   enter_read is put = elim r as (λ (x : Result T E). OnOk x (GoUp fifo.reads.items → IsPut fifo.reads.items id ids.items) → OnOk x ((old new : Found) (w : Waiting) → dir ≡ dir_of w.bios → AreFifoLists old fifo → old id ≡ None → Becomes old id (Some w) new → AreFifoLists new (record { reads = ids; writes = fifo.writes; reads_gone = fifo.reads_gone; writes_gone = fifo.writes_gone }))) [
     | Ok x ↦ λ put_in. λ old new w own are none becomes. record {
-      reads = line_entered old new id w becomes Read fifo.reads.items ids.items fifo.reads_gone are.reads none (sym is ∙ own) (put_in are.reads.rising);
-      writes = line_beside old new id w becomes Write fifo.writes.items fifo.writes_gone are.writes none (λ other. let e : Read ≡ Write = sym is ∙ own ∙ other in cc);
+      reads = list_entered old new id w becomes Read fifo.reads.items ids.items fifo.reads_gone are.reads none (sym is ∙ own) (put_in are.reads.rising);
+      writes = list_beside old new id w becomes Write fifo.writes.items fifo.writes_gone are.writes none (λ other. let e : Read ≡ Write = sym is ∙ own ∙ other in cc);
     }
     | Err x ↦ λ _. tt
   ] put
@@ -378,8 +378,8 @@ module _ {A T E : Type 0} (r : Result T E) (fifo : FifoLists A) (ids : VecDeque 
   pub enter_write : dir ≡ Write → OnOk r (GoUp fifo.writes.items → IsPut fifo.writes.items id ids.items) → OnOk r ((old new : Found) (w : Waiting) → dir ≡ dir_of w.bios → AreFifoLists old fifo → old id ≡ None → Becomes old id (Some w) new → AreFifoLists new (record { reads = fifo.reads; writes = ids; reads_gone = fifo.reads_gone; writes_gone = fifo.writes_gone }))
   enter_write is put = elim r as (λ (x : Result T E). OnOk x (GoUp fifo.writes.items → IsPut fifo.writes.items id ids.items) → OnOk x ((old new : Found) (w : Waiting) → dir ≡ dir_of w.bios → AreFifoLists old fifo → old id ≡ None → Becomes old id (Some w) new → AreFifoLists new (record { reads = fifo.reads; writes = ids; reads_gone = fifo.reads_gone; writes_gone = fifo.writes_gone }))) [
     | Ok x ↦ λ put_in. λ old new w own are none becomes. record {
-      reads = line_beside old new id w becomes Read fifo.reads.items fifo.reads_gone are.reads none (λ other. let e : Write ≡ Read = sym is ∙ own ∙ other in cc);
-      writes = line_entered old new id w becomes Write fifo.writes.items ids.items fifo.writes_gone are.writes none (sym is ∙ own) (put_in are.writes.rising);
+      reads = list_beside old new id w becomes Read fifo.reads.items fifo.reads_gone are.reads none (λ other. let e : Write ≡ Read = sym is ∙ own ∙ other in cc);
+      writes = list_entered old new id w becomes Write fifo.writes.items ids.items fifo.writes_gone are.writes none (sym is ∙ own) (put_in are.writes.rising);
     }
     | Err x ↦ λ _. tt
   ] put
@@ -388,12 +388,12 @@ module _ {A : Type 0} (fifo : FifoLists A) (ids : VecDeque ℕ A) (gone : Bool) 
   pub del_read : dir ≡ Read → TakesId dir id found fifo.reads.items fifo.reads_gone ids.items gone → DropsId dir id found fifo (record { reads = ids; writes = fifo.writes; reads_gone = gone; writes_gone = fifo.writes_gone })
   del_read is takes old w own are there becomes = record {
     reads = subst (λ (d : Dir). IsFifoList d found ids.items gone) is (takes old w (subst (λ (d : Dir). IsFifoList d old fifo.reads.items fifo.reads_gone) (sym is) are.reads) there becomes);
-    writes = line_apart old found id w there becomes Write fifo.writes.items fifo.writes_gone are.writes (λ other. let e : Read ≡ Write = sym is ∙ own ∙ other in cc);
+    writes = list_apart old found id w there becomes Write fifo.writes.items fifo.writes_gone are.writes (λ other. let e : Read ≡ Write = sym is ∙ own ∙ other in cc);
   }
 
   pub del_write : dir ≡ Write → TakesId dir id found fifo.writes.items fifo.writes_gone ids.items gone → DropsId dir id found fifo (record { reads = fifo.reads; writes = ids; reads_gone = fifo.reads_gone; writes_gone = gone })
   del_write is takes old w own are there becomes = record {
-    reads = line_apart old found id w there becomes Read fifo.reads.items fifo.reads_gone are.reads (λ other. let e : Write ≡ Read = sym is ∙ own ∙ other in cc);
+    reads = list_apart old found id w there becomes Read fifo.reads.items fifo.reads_gone are.reads (λ other. let e : Write ≡ Read = sym is ∙ own ∙ other in cc);
     writes = subst (λ (d : Dir). IsFifoList d found ids.items gone) is (takes old w (subst (λ (d : Dir). IsFifoList d old fifo.writes.items fifo.writes_gone) (sym is) are.writes) there becomes);
   }
 
@@ -421,14 +421,14 @@ none_first_write fifo dir None is none = λ found are. no_first dir found fifo.w
 
 pub fifo_stayed : {A : Type 0} (old new : Found) (id : ℕ) (fifo : FifoLists A) (v w : Waiting) → AreFifoLists old fifo → old id ≡ Some v → dir_of w.bios ≡ dir_of v.bios → Becomes old id (Some w) new → AreFifoLists new fifo
 fifo_stayed old new id fifo v w are found same becomes = record {
-  reads = line_stayed old new id w becomes Read fifo.reads.items fifo.reads_gone v are.reads found same;
-  writes = line_stayed old new id w becomes Write fifo.writes.items fifo.writes_gone v are.writes found same;
+  reads = list_stayed old new id w becomes Read fifo.reads.items fifo.reads_gone v are.reads found same;
+  writes = list_stayed old new id w becomes Write fifo.writes.items fifo.writes_gone v are.writes found same;
 }
 
 pub fifo_same : {A : Type 0} (old new : Found) (fifo : FifoLists A) → AreFifoLists old fifo → ((k : ℕ) → new k ≡ old k) → AreFifoLists new fifo
 fifo_same old new fifo are same = record {
-  reads = line_same Read old new fifo.reads.items fifo.reads_gone are.reads same;
-  writes = line_same Write old new fifo.writes.items fifo.writes_gone are.writes same;
+  reads = list_same Read old new fifo.reads.items fifo.reads_gone are.reads same;
+  writes = list_same Write old new fifo.writes.items fifo.writes_gone are.writes same;
 }
 
 pub oldest_then : {A : Type 0} (dir : Dir) (found : Found) (fifo : FifoLists A) (r : Option ℕ) → AreFifoLists found fifo → IfSome r (λ id. (f : Found) → AreFifoLists f fifo → IsOldest dir f id) → IfSome r (IsOldest dir found)
