@@ -1,5 +1,5 @@
 -- The laws of captures.
-use Rattle.std.proofs.Common.{◌≡◌, ◌+◌, ◌<◌, ◌≤◌, ◌∙◌, ℕ, zero, suc, List, [], ◌∷◌, ◌++◌, length, map, Bool, true, false, Option, Some, None, refl, sym, ap, subst, inl, inr, arith, codes, get_or, add-one}
+use Rattle.std.proofs.Common.{◌≡◌, ◌+◌, ◌<◌, ◌≤◌, ◌∙◌, ℕ, zero, suc, List, [], ◌∷◌, ◌++◌, length, map, Bool, true, false, Option, Some, None, refl, sym, ap, subst, inl, inr, arith, get_or, add-one}
 use Rattle.std.specs.Prelude.{IfSome, ◌⊎◌}
 use Rattle.std.proofs.lemmas.List.{length-map, map-append, get_or-map}
 use Rattle.csv.specs.Reading.{default_config, records, strip_bom}
@@ -9,7 +9,7 @@ use Rattle.blk_capture.specs.declared.record.Record.{Record}
 use Rattle.blk_lists.specs.Sources.{Row, TakesRecord}
 use Rattle.blk_lists.specs.Texts.{rows_text}
 use Rattle.blk_lists.specs.Reads.{IsOutside, Reads, Halts, Fails, HandFails, Gathers, AreGathered, IsOne, IsStopped, with_next, size_of, repeated}
-use Rattle.blk_lists.specs.Tables.{IsVersion, title_by}
+use Rattle.blk_lists.specs.Titles.{IsVersion, title_by, TakesTitle, StopsAtTitle}
 use Rattle.blk_lists.specs.declared.fault.Why.{Why}
 use Rattle.blk_lists.specs.declared.fault.Why.TheVariants as why
 use Rattle.parts.specs.declared.Repeats.{Repeats}
@@ -19,31 +19,39 @@ use Rattle.parts.specs.Laws.{Tells}
 use Rattle.parts.specs.Inside.Laws.{Decides}
 use Rattle.parts.proofs.Then.{then_tells, then_decides, record_decides}
 use Rattle.parts.proofs.Many.{HasRows, ended_tells, ended_decides}
-use Rattle.blk_lists.proofs.TableLaws.{IsTable, title_part, title_decides}
+use Rattle.blk_lists.proofs.TitleLaws.{IsTitleTable, title_tells, title_decides, title_reads, title_stops}
 use Rattle.blk_lists.proofs.Each.{one_record, one_version}
 use Rattle.blk_lists.proofs.Reading.{outside_fails, many_fails, past_wrong, full_stopped, then_reads, hand_reads, first_halts, second_halts, lines_halt}
 use Rattle.blk_lists.proofs.Texts.{text_back}
 use Rattle.blk_capture_text.specs.Steps.{time_at, record_at, IsStep, StepLacks}
-use Rattle.blk_capture_text.specs.Captures.{title_cells, capture_title_part, last_time, record_after, steps_body, capture_form, capture_rows, AreCapture, SpellsCapture, CaptureTextFault}
+use Rattle.blk_capture_text.specs.Captures.{capture_title_part, last_time, record_after, steps_body, capture_form, capture_rows, AreCapture, SpellsCapture, CaptureTextFault}
 use Rattle.blk_capture_text.specs.Inside.Taking.{HasSteps, HaveRows}
 use Rattle.blk_capture_text.specs.declared.reading.StepsRead.{StepsRead}
-use Rattle.blk_capture_text.specs.declared.reading.TheConstants.{MAX_RECORDS}
+use Rattle.blk_capture_text.specs.declared.reading.TheConstants.{CAPTURE, MAX_RECORDS}
 use Rattle.blk_capture_text.proofs.StepLaws.{step_tells, step_decided}
 
 -- the title
 
-title_table : (version : ℕ) → IsTable (title_cells version) (λ _. Unit {0})
-title_table version = record {
-  sized = (tt, (tt, (tt, (tt, (tt, (tt, tt))))));
-  within = λ v f. (tt, (tt, (tt, (tt, (tt, (tt, tt))))));
-  made = λ x. tt;
-  back = λ v f. refl;
-  forth = λ x. refl;
-  fits = λ x f. tt;
+title_table : IsTitleTable CAPTURE [] (λ _ (v : Unit {0}). Unit {0})
+title_table = record {
+  latest = omega arith;
+  slots = λ v. refl;
+  table = λ v. record {
+    sized = (tt, (tt, (tt, (tt, (tt, (tt, tt))))));
+    within = λ v f. (tt, (tt, (tt, (tt, (tt, (tt, tt))))));
+    made = λ x. tt;
+    back = λ v f. refl;
+    forth = λ x. refl;
+    fits = λ x f. tt;
+  };
+  fits = λ v u f. tt;
 }
 
-pub title_one : IsOne capture_title_part
-title_one = record { tells = title_part (codes "blk-capture") 1 title_cells (λ _ _. Unit {0}) (omega arith) title_table; plain = λ v rest fit. tt; one = λ v. refl }
+capture_title_tells : Tells capture_title_part
+capture_title_tells = title_tells CAPTURE [] (λ _ (v : Unit {0}). Unit {0}) title_table
+
+pub title_told : (left mid : Option (List Row)) (version : ℕ) (ns : List ℕ) → TakesTitle CAPTURE left mid version ns → Reads capture_title_part left mid (version, tt) × (IsVersion CAPTURE.latest version × Unit {0})
+title_told left mid version ns h = title_reads CAPTURE [] (λ _ (v : Unit {0}). Unit {0}) title_table left mid version tt ns h (tt, (tt, (tt, (tt, (tt, (tt, tt))))))
 
 -- a record
 
@@ -66,10 +74,10 @@ body_decides : Decides steps_body
 body_decides = ended_decides (repeats.AtMost MAX_RECORDS) why.TooLong record_after record_after with_next step_decides step_decides []
 
 pub capture_tells : Tells capture_form
-capture_tells = then_tells capture_title_part (λ _. steps_body) title_one.tells (λ t fit. body_tells)
+capture_tells = then_tells capture_title_part (λ _. steps_body) capture_title_tells (λ t fit. body_tells)
 
 capture_decides : Decides capture_form
-capture_decides = then_decides capture_title_part (λ _. steps_body) (title_decides (codes "blk-capture") 1 title_cells (λ _ _. Unit {0}) (omega arith) title_table) (λ t fit. body_decides)
+capture_decides = then_decides capture_title_part (λ _. steps_body) (title_decides CAPTURE [] (λ _ (v : Unit {0}). Unit {0}) title_table) (λ t fit. body_decides)
 
 -- the rows of records are themselves
 
@@ -112,7 +120,7 @@ spelled rows steps version v h = let one = one_version version v in subst (λ v.
 
 pub spelled_once : (rows : List Row) (c d : List Record) → SpellsCapture rows c → SpellsCapture rows d → c ≡ d
 spelled_once rows c d s t =
-    let e = (capture_tells.once rows ((1, tt), s.0) ((1, tt), t.0) [] [] s.2 t.2).0 in
+    let e = (capture_tells.once rows ((CAPTURE.latest, tt), s.0) ((CAPTURE.latest, tt), t.0) [] [] s.2 t.2).0 in
     s.1 ∙ ap (λ (z : List Row). map record_at z) (λ i. (e i).1) ∙ sym t.1
 
 pub spelled_or_wrong : (rows : List Row) → ((c : List Record) × SpellsCapture rows c) ⊎ ((at : ℕ) × (w : Why) × CaptureTextFault rows at w)
@@ -122,7 +130,7 @@ spelled_or_wrong rows = elim (capture_decides rows) [
 ]
 
 pub spelled_no_fault : (rows : List Row) (c : List Record) (at : ℕ) (w : Why) → SpellsCapture rows c → CaptureTextFault rows at w → ⊥
-spelled_no_fault rows c at w s f = capture_tells.apart rows ((1, tt), s.0) [] at w s.2 f
+spelled_no_fault rows c at w s f = capture_tells.apart rows ((CAPTURE.latest, tt), s.0) [] at w s.2 f
 
 pub one_fault : (rows : List Row) (at other : ℕ) (w v : Why) → CaptureTextFault rows at w → CaptureTextFault rows other v → (at ≡ other) × (w ≡ v)
 one_fault rows at other w v = capture_tells.first rows at other w v
@@ -138,7 +146,7 @@ rows_back s (v ∷ vs) f = let first = row_back (last_time s) v f.0 in let other
 pub read_back_is : (steps : List Row) → AreCapture (capture_rows steps) steps → SpellsCapture (records default_config (strip_bom (rows_text (capture_rows steps)))) (map record_at steps)
 unfolding rows_text
 read_back_is steps h =
-    let back : map read_back (capture_rows steps) ≡ capture_rows steps = ap (λ (t : List Row). title_by (codes "blk-capture") title_cells (1, tt) ∷ t) (rows_back [] steps h.fits.1.0.0) in
+    let back : map read_back (capture_rows steps) ≡ capture_rows steps = ap (λ (t : List Row). title_by {V = Unit {0}} CAPTURE [] (CAPTURE.latest, tt) ∷ t) (rows_back [] steps h.fits.1.0.0) in
     (steps, refl, rw (text_back (capture_rows steps) _ refl back) h)
 
 -- reading
@@ -217,8 +225,10 @@ taken_long s left mid start at over g = ap length g.0.1.0 ∙ length-map g.0.0 r
 
 -- where reading halts
 
-pub title_halts : (failed : Bool) (left : Option (List Row)) (start at : ℕ) (w : Why) → start ≡ 0 → Halts failed capture_title_part left start at w → Halts failed capture_form left 0 at w
-title_halts failed left start at w e h = first_halts failed capture_title_part (λ _. steps_body) left 0 at w (λ t fit. body_tells) (rw e at h)
+pub title_halts : (failed : Bool) (left : Option (List Row)) (at : ℕ) (w : Why) → at ≡ 1 → StopsAtTitle CAPTURE failed left w → Halts failed capture_form left 0 at w
+title_halts failed left at w e h =
+    first_halts failed capture_title_part (λ _. steps_body) left 0 at w (λ t fit. body_tells)
+    (title_stops CAPTURE [] (λ _ (v : Unit {0}). Unit {0}) title_table failed left 0 at w (omega (arith, e)) h)
 
 pub body_halts : (failed : Bool) (left mid : Option (List Row)) (t : ℕ × Unit {0}) (middle at : ℕ) (w : Why) → middle ≡ 1 → Reads capture_title_part left mid t → Halts failed steps_body mid middle at w → Halts failed capture_form left 0 at w
-body_halts failed left mid t middle at w e r h = second_halts failed capture_title_part (λ _. steps_body) left mid t 0 middle at w title_one.tells r (omega (arith, e)) h
+body_halts failed left mid t middle at w e r h = second_halts failed capture_title_part (λ _. steps_body) left mid t 0 middle at w capture_title_tells r (omega (arith, e)) h

@@ -1,22 +1,19 @@
 -- A capture: a title, and a record for each step of the block layer.
-use Rattle.std.specs.Prelude.{◌≡◌, ℕ, List, [], ◌∷◌, map, codes}
+use Rattle.std.specs.Prelude.{◌≡◌, ℕ, List, [], ◌∷◌, map}
 use Rattle.blk_capture.specs.declared.record.Record.{Record}
 use Rattle.blk_lists.specs.Sources.{Row}
 use Rattle.blk_lists.specs.Reads.{items_of}
-use Rattle.blk_lists.specs.Tables.{Cell, Blank, title_record}
+use Rattle.blk_lists.specs.Titles.{title_record}
 use Rattle.blk_lists.specs.declared.fault.Why.{Why}
 use Rattle.blk_lists.specs.declared.fault.Why.TheVariants as why
 use Rattle.parts.specs.declared.Repeats.TheVariants as repeats
 use Rattle.parts.specs.Parts.{Part, record_of, then, Spells}
 use Rattle.blk_capture_text.specs.Steps.{time_at, record_at, IsStep, StepLacks}
-use Rattle.blk_capture_text.specs.declared.reading.TheConstants.{MAX_RECORDS}
+use Rattle.blk_capture_text.specs.declared.reading.TheConstants.{CAPTURE, MAX_RECORDS}
 
--- title: blk-capture, 1, six empty fields
-abbrev pub title_cells : ℕ → List (Cell (Unit {0}))
-title_cells version = Blank ∷ Blank ∷ Blank ∷ Blank ∷ Blank ∷ Blank ∷ []
-
+-- title: blk-capture, version, six empty fields
 abbrev pub capture_title_part : Part Row Why (ℕ × Unit {0})
-capture_title_part = title_record (codes "blk-capture") 1 title_cells (λ _ _. Unit {0})
+capture_title_part = title_record CAPTURE [] (λ _ _. Unit {0})
 
 -- the time of the last of some records, 0 before the first
 abbrev pub last_time : List Row → ℕ
@@ -38,11 +35,11 @@ capture_form = then capture_title_part (λ _. steps_body)
 
 -- the rows of a capture of these records, each as its row
 abbrev pub capture_rows : List Row → List Row
-capture_rows steps = capture_form.rows_of ((1, tt), steps)
+capture_rows steps = capture_form.rows_of ((CAPTURE.latest, tt), steps)
 
 -- the rows are those of a capture
 abbrev pub AreCapture : List Row → List Row → Type 0
-AreCapture rows steps = Spells capture_form rows ((1, tt), steps)
+AreCapture rows steps = Spells capture_form rows ((CAPTURE.latest, tt), steps)
 
 -- the rows spell these records; and those that these steps tell
 abbrev pub SpellsCapture : List Row → List Record → Type 0

@@ -8,7 +8,7 @@ use Rattle.blk_lists.specs.Sources.{Row}
 use Rattle.blk_lists.specs.Fields.{EachField, IsNumber, IsInRange}
 use Rattle.blk_lists.specs.declared.fault.Why.{Why}
 use Rattle.blk_lists.specs.declared.fault.Why.TheVariants as why
-use Rattle.blk_capture_text.specs.declared.step.TheConstants.{STEP}
+use Rattle.blk_capture_text.specs.declared.step.TheConstants.{STEP, WIDTH}
 
 -- the number of a field
 abbrev pub number_at : ℕ → Row → ℕ
@@ -32,7 +32,7 @@ record_at cells = record {
 
 -- a record that may stand after one of a time
 pub record IsStep (last : ℕ) (cells : Row) : Type 0 where
-  pub width : length cells ≡ 8
+  pub width : length cells ≡ WIDTH
   pub numbers : EachField IsNumber STEP cells
   pub ranges : EachField IsInRange STEP cells
   pub order : last ≤ time_at cells
@@ -40,7 +40,7 @@ pub record IsStep (last : ℕ) (cells : Row) : Type 0 where
 -- the rules of a record, in the order in which they are looked at, each with its fault; its nanoseconds are one of its numbers
 abbrev pub step_cell_rules : ℕ → Row → List (Type 0 × Why)
 step_cell_rules last cells =
-    (length cells ≡ 8, why.Fields)
+    (length cells ≡ WIDTH, why.Fields)
     ∷ (EachField IsNumber STEP cells, why.Number)
     ∷ (EachField IsInRange STEP cells, why.Range)
     ∷ (last ≤ time_at cells, why.Order) ∷ []

@@ -8,11 +8,11 @@ ghost use Rattle.blk_capture_text.specs.Steps.{IsStep, StepLacks, record_at, tim
 ghost use Rattle.blk_capture_text.specs.Captures.{capture_form, steps_body, SpellsCapture, CaptureTextFault};
 ghost use Rattle.blk_capture_text.specs.Inside.Taking.{TellAll};
 
-use crate::step::read_step;
+use crate::step::{WIDTH, read_step};
 use blk_capture::Record;
-use blk_lists::fields::{Slot, read_fields, version_of};
-use blk_lists::items::{ItemForm, LineForm, gather, read_line};
-use blk_lists::kinds::Kind;
+use blk_lists::fields::Slot;
+use blk_lists::items::{ItemForm, gather};
+use blk_lists::titles::{TitleRow, read_title};
 use blk_lists::{Records, TextFault, Why};
 use csv::ByteRecord;
 use parts::Repeats;
@@ -23,9 +23,9 @@ use std::io::Read;
 pub const MAX_RECORDS: u64 = 16_000_000;
 
 /// The title record: the version, and nothing.
-pub const CAPTURE: Kind<11, 8> = Kind {
+pub const CAPTURE: TitleRow<11, WIDTH> = TitleRow {
     word: *b"blk-capture",
-    since: 1,
+    latest: 1,
     slots: [
         Slot::Given,
         Slot::Given,
@@ -36,34 +36,8 @@ pub const CAPTURE: Kind<11, 8> = Kind {
         Slot::Blank,
         Slot::Blank,
     ],
+    later: None,
 };
-
-/// The title record.
-#[derive(Clone, Copy, Drop)]
-struct TitleForm;
-
-impl LineForm for TitleForm {
-    ghost use Rattle.blk_capture_text.specs.Captures.{capture_title_part};
-
-    type Value = (u64, ());
-
-    ghost part = { λ _. capture_title_part };
-
-    #[tactic(auto, using(crate::proofs::CaptureLaws::title_one))]
-    fn gone(&self) -> Why {
-        Why::Title
-    }
-
-    fn line(&self, row: &ByteRecord) -> Result<(u64, ()), Why> {
-        let Some(version) = version_of(row, &CAPTURE.word, 1) else {
-            return Err(Why::Title);
-        };
-        match read_fields(row, &CAPTURE.slots) {
-            Ok(_) => Ok((version, ())),
-            Err(why) => Err(why),
-        }
-    }
-}
 
 /// The records that were read, and the time of the last one, 0 before the first.
 #[derive(Drop)]
@@ -194,10 +168,10 @@ pub fn read_capture<R: Read + Drop>(
     // the last thing that was asked for is the record after the steps, which there is not
     ensures end { IfOk result (λ v. records.new.at ≡ length v.items + 2) }
 {
-    let _ = match read_line(records, &TitleForm) {
-        Ok(title) => title,
+    match read_title(records, &CAPTURE) {
+        Ok(_) => {}
         Err(fault) => return Err(fault),
-    };
+    }
     match read_steps(alloc, records) {
         Ok(steps) => Ok(steps),
         Err(fault) => Err(fault),

@@ -10,6 +10,9 @@ use blk_lists::Why;
 use blk_lists::fields::{ANY_SLOT, Slot, field, read_fields};
 use csv::ByteRecord;
 
+/// How many fields a record of a capture has.
+pub const WIDTH: usize = 8;
+
 /// Whole seconds: with nanoseconds they fit 64 bits, some 544 years.
 pub const SECONDS: Slot = Slot::Number {
     least: 0,
@@ -17,7 +20,7 @@ pub const SECONDS: Slot = Slot::Number {
 };
 
 /// The fields of a record: seconds, nanoseconds, processor, action, process, rwbs, first sector, sectors.
-pub const STEP: [Slot; 8] = [
+pub const STEP: [Slot; WIDTH] = [
     SECONDS,
     Slot::Nanoseconds,
     ANY_SLOT,

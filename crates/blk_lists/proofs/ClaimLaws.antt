@@ -16,10 +16,11 @@ use Rattle.blk_lists.specs.Fields.{Lacks, IsSized}
 use Rattle.blk_lists.specs.Words.{StartsWith, HasNoWord, WordLacks}
 use Rattle.blk_lists.specs.Commands.{IsCommandInRange}
 use Rattle.blk_lists.specs.Reads.{IsOutside, Reads, Halts, IsWrongLine, IsOne, items_of, with_next}
-use Rattle.blk_lists.specs.Tables.{IsUpTo, IsVersion, FitsCells, row_by, slots_by, title_by}
-use Rattle.blk_lists.specs.Titles.{counted_cells, IsCounted}
+use Rattle.blk_lists.specs.Tables.{IsUpTo, FitsCells, row_by, slots_by}
+use Rattle.blk_lists.specs.Titles.{IsVersion, IsCounted, counted_numbers, title_by, TakesTitle, StopsAtTitle}
 use Rattle.blk_lists.specs.Certificate.{Claim, claim_rows, certificate_title_part, Bounded, NoBound, SomeBound, BoundSaid, TellsBound, bound_kind, kind_of, bound_cells, no_bound_row, last_round, bound, served_cells, served_record, IsServed, IsLateness, IsBound, IsClaim, claim_body, claim_told, claim_form, claim_value, SpellsClaim, ClaimFault}
 use Rattle.blk_lists.specs.Inside.Certificate.{bound_row}
+use Rattle.blk_lists.specs.declared.certificate.TheConstants.{CERTIFICATE}
 use Rattle.blk_lists.specs.declared.fault.Why.{Why}
 use Rattle.blk_lists.specs.declared.fault.Why.TheVariants as why
 use Rattle.blk_lists.specs.declared.fields.Slot.TheVariants as slot
@@ -34,7 +35,7 @@ use Rattle.blk_lists.proofs.Lacking.{both, same_number, same_row, no_word_lacks,
 use Rattle.blk_lists.proofs.TableLaws.{IsTable, table_tells, table_decides, word_tells, word_decides, next_starts, next_once}
 use Rattle.blk_lists.proofs.Each.{size_is, rows_map, all_fit, each_tells, each_decides, one_record, one_version}
 use Rattle.blk_lists.proofs.Reading.{then_reads, ends_halt, first_halts, second_halts}
-use Rattle.blk_lists.proofs.Counted.{counted_one, counted_decides}
+use Rattle.blk_lists.proofs.TitleLaws.{certificate_title, title_one, title_decides, title_reads, title_stops}
 use Rattle.blk_lists.proofs.Texts.{text_back, parts_back, begins_itself}
 use Rattle.edd_commands.specs.declared.TheConstants.{MAX_ROUNDS}
 
@@ -68,8 +69,8 @@ bound_table count = record {
   fits = λ x f. f;
 }
 
-pub title_one : IsOne certificate_title_part
-title_one = counted_one (codes "blk-certificate")
+pub certificate_one : IsOne certificate_title_part
+certificate_one = title_one CERTIFICATE counted_numbers (λ _. IsCounted) certificate_title
 
 pub served_one : IsOne served_record
 served_one = one_record (row_by served_cells) IsServed why.Count (Lacks (slots_by served_cells)) (table_tells served_cells IsServed served_table)
@@ -182,7 +183,7 @@ pub body_tells : (count : ℕ) → Tells (claim_body count)
 body_tells count = then_tells (bound count) (λ b. items_of (repeats.Exactly count) (λ _. served_record)) (bound_one count).tells (λ b fit. items_tell count)
 
 pub claim_tells : Tells claim_form
-claim_tells = then_tells certificate_title_part (λ t. claim_body t.1.1) title_one.tells (λ t fit. body_tells t.1.1)
+claim_tells = then_tells certificate_title_part (λ t. claim_body t.1.1) certificate_one.tells (λ t fit. body_tells t.1.1)
 
 pub served_record_decides : Decides served_record
 served_record_decides = record_decides (row_by served_cells) IsServed why.Count (Lacks (slots_by served_cells)) (table_decides served_cells IsServed served_table)
@@ -191,7 +192,7 @@ pub served_decides : (count : ℕ) → Decides (items_of (repeats.Exactly count)
 served_decides count = each_decides served_record served_record_decides (repeats.Exactly count)
 
 pub claim_decides : Decides claim_form
-claim_decides = then_decides certificate_title_part (λ t. claim_body t.1.1) (counted_decides (codes "blk-certificate"))
+claim_decides = then_decides certificate_title_part (λ t. claim_body t.1.1) (title_decides CERTIFICATE counted_numbers (λ _. IsCounted) certificate_title)
     (λ t fit. then_decides (bound t.1.1) (λ b. items_of (repeats.Exactly t.1.1) (λ _. served_record)) (bound_decides t.1.1) (λ b fit. served_decides t.1.1))
 
 pub all_zip : (cs : List Command) (rs : List ℕ) → All IsCommandInRange cs → All (λ x. x < MAX_ROUNDS) rs → All IsServed (zip cs rs)
@@ -247,7 +248,7 @@ bound_rows : (count : ℕ) (b : Option (ℤ × Window)) → (bound count).rows_o
 bound_rows count None = refl
 bound_rows count (Some b) = refl
 
-pub rows_are : (c : Claim) → claim_rows c ≡ (title_by (codes "blk-certificate") counted_cells (1, (c.depth, length c.commands)) ∷ bound_row c.bound ∷ []) ++ map (row_by served_cells) (zip c.commands c.rounds)
+pub rows_are : (c : Claim) → claim_rows c ≡ (title_by CERTIFICATE counted_numbers (CERTIFICATE.latest, (c.depth, length c.commands)) ∷ bound_row c.bound ∷ []) ++ map (row_by served_cells) (zip c.commands c.rounds)
 rows_are c = rw (bound_rows (length c.commands) c.bound, append-nil (all_rows (λ _. served_record) with_next [] (zip c.commands c.rounds)), rows_map served_record (row_by served_cells) (λ v. refl) [] (zip c.commands c.rounds)) refl
 
 bound_back_is : (count : ℕ) (b : Option (ℤ × Window)) → map read_back ((bound count).rows_of b) ≡ (bound count).rows_of b
@@ -260,7 +261,7 @@ read_back_is c h =
     let body = (bound (length c.commands)).rows_of c.bound in
     let lines = (items_of (repeats.Exactly (length c.commands)) (λ _. served_record)).rows_of (zip c.commands c.rounds) in
     let same : map read_back (body ++ lines) ≡ body ++ lines = rw (map-append read_back body lines, bound_back_is (length c.commands) c.bound, parts_back served_record (λ s. refl) (zip c.commands c.rounds)) refl in
-    let back : map read_back (claim_rows c) ≡ claim_rows c = ap (λ (t : List Row). title_by (codes "blk-certificate") counted_cells (1, (c.depth, length c.commands)) ∷ t) same in
+    let back : map read_back (claim_rows c) ≡ claim_rows c = ap (λ (t : List Row). title_by CERTIFICATE counted_numbers (CERTIFICATE.latest, (c.depth, length c.commands)) ∷ t) same in
     rw (text_back (claim_rows c) _ refl back) (rows_spell c h)
 
 -- reading
@@ -347,11 +348,17 @@ bound_gone count = inr (refl, no_kinds count, refl)
 
 -- where reading halts
 
-pub title_halts : (failed : Bool) (left : Option (List Row)) (start at : ℕ) (w : Why) → start ≡ 0 → Halts failed certificate_title_part left start at w → Halts failed claim_form left 0 at w
-title_halts failed left start at w e h = first_halts failed certificate_title_part (λ t. claim_body t.1.1) left 0 at w (λ t fit. body_tells t.1.1) (rw e at h)
+-- the title that a record tells by these numbers
+pub title_told : (left mid : Option (List Row)) (t : ℕ × List ℕ) → TakesTitle CERTIFICATE left mid t.0 t.1
+    → Reads certificate_title_part left mid (t.0, (get_or t.1 2 0, get_or t.1 3 0)) × (IsVersion CERTIFICATE.latest t.0 × IsCounted (get_or t.1 2 0, get_or t.1 3 0))
+title_told left mid t h = title_reads CERTIFICATE counted_numbers (λ _. IsCounted) certificate_title left mid t.0 (get_or t.1 2 0, get_or t.1 3 0) t.1 h (refl, (refl, tt))
+
+pub title_halts : (failed : Bool) (left : Option (List Row)) (at : ℕ) (w : Why) → at ≡ 1 → StopsAtTitle CERTIFICATE failed left w → Halts failed claim_form left 0 at w
+title_halts failed left at w e h =
+    first_halts failed certificate_title_part (λ t. claim_body t.1.1) left 0 at w (λ t fit. body_tells t.1.1) (title_stops CERTIFICATE counted_numbers (λ _. IsCounted) certificate_title failed left 0 at w (omega (arith, e)) h)
 
 pub body_halts : (failed : Bool) (left mid : Option (List Row)) (t : ℕ × (ℕ × ℕ)) (at : ℕ) (w : Why) → Reads certificate_title_part left mid t → Halts failed (claim_body t.1.1) mid 1 at w → Halts failed claim_form left 0 at w
-body_halts failed left mid t at w r h = second_halts failed certificate_title_part (λ t. claim_body t.1.1) left mid t 0 1 at w title_one.tells r refl h
+body_halts failed left mid t at w r h = second_halts failed certificate_title_part (λ t. claim_body t.1.1) left mid t 0 1 at w certificate_one.tells r refl h
 
 pub bound_halts : (failed : Bool) (left : Option (List Row)) (count start at : ℕ) (w : Why) → start ≡ 1 → Halts failed (bound count) left start at w → Halts failed (claim_body count) left 1 at w
 bound_halts failed left count start at w e h = first_halts failed (bound count) (λ b. items_of (repeats.Exactly count) (λ _. served_record)) left 1 at w (λ b fit. items_tell count) (rw e at h)

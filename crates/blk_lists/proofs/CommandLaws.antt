@@ -1,5 +1,5 @@
 -- The laws of command lists.
-use Rattle.std.proofs.Common.{◌≡◌, ◌∙◌, ℕ, List, [], ◌∷◌, map, Option, Some, None, refl, ap, subst, inl, inr, arith, codes, append-nil}
+use Rattle.std.proofs.Common.{◌≡◌, ◌∙◌, ℕ, List, [], ◌∷◌, map, Option, Some, None, refl, ap, subst, inl, inr, arith, append-nil, get_or}
 use Rattle.std.specs.Prelude.{IfSome, ◌⊎◌, Bool}
 use Rattle.csv.specs.Reading.{default_config, records, strip_bom}
 use Rattle.csv.specs.Writing.{read_back}
@@ -8,8 +8,10 @@ use Rattle.blk_lists.specs.Sources.{Row}
 use Rattle.blk_lists.specs.Texts.{rows_text}
 use Rattle.blk_lists.specs.Fields.{Lacks}
 use Rattle.blk_lists.specs.Reads.{Reads, Halts, IsOne, items_of}
-use Rattle.blk_lists.specs.Tables.{IsVersion, FitsCells, row_by, slots_by, title_by}
-use Rattle.blk_lists.specs.Commands.{depth_cells, IsDepth, commands_title_part, command_cells, command, command_list, IsCommandInRange, SpellsCommands, CommandsFault, AreCommands, commands_rows}
+use Rattle.blk_lists.specs.Tables.{FitsCells, row_by, slots_by}
+use Rattle.blk_lists.specs.Titles.{IsVersion, title_by, TakesTitle, StopsAtTitle}
+use Rattle.blk_lists.specs.declared.commands.TheConstants.{COMMANDS}
+use Rattle.blk_lists.specs.Commands.{depth_number, IsDepth, commands_title_part, command_cells, command, command_list, IsCommandInRange, SpellsCommands, CommandsFault, AreCommands, commands_rows}
 use Rattle.blk_lists.specs.declared.fault.Why.{Why}
 use Rattle.blk_lists.specs.declared.fault.Why.TheVariants as why
 use Rattle.parts.specs.declared.Repeats.TheVariants as repeats
@@ -17,14 +19,20 @@ use Rattle.parts.specs.Parts.{Begins, Spells}
 use Rattle.parts.specs.Laws.{Tells}
 use Rattle.parts.specs.Inside.Laws.{Decides}
 use Rattle.parts.proofs.Then.{then_tells, then_decides, record_decides}
-use Rattle.blk_lists.proofs.TableLaws.{IsTable, table_tells, table_decides, title_part, title_decides}
+use Rattle.blk_lists.proofs.TableLaws.{IsTable, table_tells, table_decides}
+use Rattle.blk_lists.proofs.TitleLaws.{IsTitleTable, title_tells, title_decides, title_reads, title_stops}
 use Rattle.blk_lists.proofs.Each.{rows_map, all_fit, each_tells, each_decides, one_record, one_version}
 use Rattle.blk_lists.proofs.Reading.{then_reads, first_halts, second_halts}
 use Rattle.blk_lists.proofs.Texts.{text_back, parts_back, begins_itself}
 use Rattle.edd_commands.specs.declared.TheConstants.{MAX_COMMANDS}
 
-pub title_table : (version : ℕ) → IsTable (depth_cells version) IsDepth
-title_table version = record { sized = (omega arith, tt); within = λ v f. (f, tt); made = λ x. x.0; back = λ v f. refl; forth = λ x. refl; fits = λ x f. f.0 }
+title : IsTitleTable COMMANDS depth_number (λ _. IsDepth)
+title = record {
+  latest = omega arith;
+  slots = λ v. refl;
+  table = λ v. record { sized = (omega arith, tt); within = λ v f. (f, tt); made = λ x. x.0; back = λ v f. refl; forth = λ x. refl; fits = λ x f. f.0 };
+  fits = λ v depth f. f.0;
+}
 
 pub command_fits : (c : Command) → FitsCells command_cells c → IsCommandInRange c
 command_fits c f = let id = f.0.1 in let release = f.1.0.1 in let due = f.1.1.0.1 in (omega (arith, id), omega (arith, release), omega (arith, due))
@@ -39,17 +47,17 @@ command_table = record {
   fits = λ x f. command_fits _ f;
 }
 
-pub title_one : IsOne commands_title_part
-title_one = record { tells = title_part (codes "blk-commands") 1 depth_cells (λ _. IsDepth) (omega arith) title_table; plain = λ v rest fit. tt; one = λ v. refl }
+commands_tell : Tells commands_title_part
+commands_tell = title_tells COMMANDS depth_number (λ _. IsDepth) title
 
 pub command_one : IsOne command
 command_one = one_record (row_by command_cells) IsCommandInRange why.Count (Lacks (slots_by command_cells)) (table_tells command_cells IsCommandInRange command_table)
 
 pub list_tells : Tells command_list
-list_tells = then_tells commands_title_part (λ t. items_of (repeats.AtMost MAX_COMMANDS) (λ _. command)) title_one.tells (λ t fit. each_tells command command_one (repeats.AtMost MAX_COMMANDS))
+list_tells = then_tells commands_title_part (λ t. items_of (repeats.AtMost MAX_COMMANDS) (λ _. command)) commands_tell (λ t fit. each_tells command command_one (repeats.AtMost MAX_COMMANDS))
 
 list_decides : Decides command_list
-list_decides = then_decides commands_title_part (λ t. items_of (repeats.AtMost MAX_COMMANDS) (λ _. command)) (title_decides (codes "blk-commands") 1 depth_cells (λ _. IsDepth) (omega arith) title_table)
+list_decides = then_decides commands_title_part (λ t. items_of (repeats.AtMost MAX_COMMANDS) (λ _. command)) (title_decides COMMANDS depth_number (λ _. IsDepth) title)
     (λ t fit. each_decides command (record_decides (row_by command_cells) IsCommandInRange why.Count (Lacks (slots_by command_cells)) (table_decides command_cells IsCommandInRange command_table)) (repeats.AtMost MAX_COMMANDS))
 
 -- records that were taken for a title and commands spell them
@@ -63,23 +71,23 @@ spelled_or_wrong rows = elim (list_decides rows) [
 ]
 
 -- the records of a depth and commands, one by one
-pub rows_are : (depth : ℕ) (commands : List Command) → commands_rows depth commands ≡ title_by (codes "blk-commands") depth_cells (1, depth) ∷ map (row_by command_cells) commands
-rows_are depth commands = ap (λ (t : List Row). title_by (codes "blk-commands") depth_cells (1, depth) ∷ t) (append-nil _ ∙ rows_map command (row_by command_cells) (λ v. refl) [] commands)
+pub rows_are : (depth : ℕ) (commands : List Command) → commands_rows depth commands ≡ title_by COMMANDS depth_number (COMMANDS.latest, depth) ∷ map (row_by command_cells) commands
+rows_are depth commands = ap (λ (t : List Row). title_by COMMANDS depth_number (COMMANDS.latest, depth) ∷ t) (append-nil _ ∙ rows_map command (row_by command_cells) (λ v. refl) [] commands)
 
 -- the records of a depth and commands spell them
 pub rows_spell : (depth : ℕ) (commands : List Command) → AreCommands depth commands → SpellsCommands (commands_rows depth commands) depth commands
-rows_spell depth commands h = begins_itself command_list ((1, depth), commands) (((omega arith, omega arith), (h.0, h.1)), ((all_fit command [] commands h.3, h.2), tt)) (tt, (inr refl, refl))
+rows_spell depth commands h = begins_itself command_list ((COMMANDS.latest, depth), commands) (((omega arith, omega arith), (h.0, h.1)), ((all_fit command [] commands h.3, h.2), tt)) (tt, (inr refl, refl))
 
 pub read_back_is : (depth : ℕ) (commands : List Command) → AreCommands depth commands
     → SpellsCommands (records default_config (strip_bom (rows_text (commands_rows depth commands)))) depth commands
 unfolding rows_text
 read_back_is depth commands h =
-    let back : map read_back (commands_rows depth commands) ≡ commands_rows depth commands = ap (λ (t : List Row). title_by (codes "blk-commands") depth_cells (1, depth) ∷ t) (parts_back command (λ c. refl) commands) in
+    let back : map read_back (commands_rows depth commands) ≡ commands_rows depth commands = ap (λ (t : List Row). title_by COMMANDS depth_number (COMMANDS.latest, depth) ∷ t) (parts_back command (λ c. refl) commands) in
     rw (text_back (commands_rows depth commands) _ refl back) (rows_spell depth commands h)
 
 pub spelled_once : (rows : List Row) (depth other : ℕ) (commands others : List Command) → SpellsCommands rows depth commands → SpellsCommands rows other others → (depth ≡ other) × (commands ≡ others)
 spelled_once rows depth other commands others s t =
-    let e = (list_tells.once rows ((1, depth), commands) ((1, other), others) [] [] s t).0 in
+    let e = (list_tells.once rows ((COMMANDS.latest, depth), commands) ((COMMANDS.latest, other), others) [] [] s t).0 in
     (λ i. (e i).0.1, λ i. (e i).1)
 
 -- reading
@@ -92,10 +100,15 @@ list_read (Some rows) mid version depth commands h v k =
 
 -- where reading halts
 
-pub title_halts : (failed : Bool) (left : Option (List Row)) (start at : ℕ) (w : Why) → start ≡ 0 → Halts failed commands_title_part left start at w → Halts failed command_list left 0 at w
-title_halts failed left start at w e h =
-    first_halts failed commands_title_part (λ t. items_of (repeats.AtMost MAX_COMMANDS) (λ _. command)) left 0 at w (λ t fit. each_tells command command_one (repeats.AtMost MAX_COMMANDS)) (rw e at h)
+-- the title that a record tells by its number
+pub title_told : (left mid : Option (List Row)) (t : ℕ × List ℕ) → TakesTitle COMMANDS left mid t.0 t.1 → Reads commands_title_part left mid (t.0, get_or t.1 2 0) × (IsVersion COMMANDS.latest t.0 × IsDepth (get_or t.1 2 0))
+title_told left mid t h = title_reads COMMANDS depth_number (λ _. IsDepth) title left mid t.0 (get_or t.1 2 0) t.1 h (refl, tt)
+
+pub title_halts : (failed : Bool) (left : Option (List Row)) (at : ℕ) (w : Why) → at ≡ 1 → StopsAtTitle COMMANDS failed left w → Halts failed command_list left 0 at w
+title_halts failed left at w e h =
+    first_halts failed commands_title_part (λ t. items_of (repeats.AtMost MAX_COMMANDS) (λ _. command)) left 0 at w (λ t fit. each_tells command command_one (repeats.AtMost MAX_COMMANDS))
+    (title_stops COMMANDS depth_number (λ _. IsDepth) title failed left 0 at w (omega (arith, e)) h)
 
 pub list_halts : (failed : Bool) (left mid : Option (List Row)) (t : ℕ × ℕ) (middle at : ℕ) (w : Why) → middle ≡ 1 → Reads commands_title_part left mid t → Halts failed (items_of (repeats.AtMost MAX_COMMANDS) (λ _. command)) mid middle at w
     → Halts failed command_list left 0 at w
-list_halts failed left mid t middle at w e r h = second_halts failed commands_title_part (λ t. items_of (repeats.AtMost MAX_COMMANDS) (λ _. command)) left mid t 0 middle at w title_one.tells r (omega (arith, e)) h
+list_halts failed left mid t middle at w e r h = second_halts failed commands_title_part (λ t. items_of (repeats.AtMost MAX_COMMANDS) (λ _. command)) left mid t 0 middle at w commands_tell r (omega (arith, e)) h

@@ -4,7 +4,7 @@ use Rattle.std.specs.Prelude.{All}
 use Rattle.std.proofs.lemmas.List.{length-append}
 use Rattle.blk_lists.specs.Sources.{Row}
 use Rattle.blk_lists.specs.Reads.{with_next, size_of, items_of, repeated, beyond_of, IsOne, IsStopped, Fails, Halts}
-use Rattle.blk_lists.specs.Tables.{IsVersion}
+use Rattle.blk_lists.specs.Titles.{IsVersion}
 use Rattle.blk_lists.specs.declared.fault.Why.{Why}
 use Rattle.parts.specs.Parts.{Part, record_of, all_rows, AllFit}
 use Rattle.parts.specs.declared.Repeats.{Repeats}

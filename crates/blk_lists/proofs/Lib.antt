@@ -6,6 +6,7 @@ pub mod Lacking
 pub mod TableLaws
 pub mod KindLaws
 pub mod Reading
+pub mod TitleLaws
 pub mod Each
 pub mod Texts
 pub mod PlainRows
@@ -13,7 +14,6 @@ pub mod Rows
 pub mod DraftLemmas
 pub mod CommandLaws
 pub mod ClaimLaws
-pub mod Counted
 pub mod OnTimeLaws
 pub mod ProofLaws
 pub mod ScheduleLaws

@@ -1,5 +1,5 @@
 -- The laws of certificates of the greatest number of commands on time.
-use Rattle.std.proofs.Common.{◌≡◌, ◌+◌, ◌∙◌, ℕ, List, [], ◌∷◌, ◌++◌, length, map, append-nil, Option, Some, None, refl, sym, ap, subst, inl, inr, arith, codes}
+use Rattle.std.proofs.Common.{get_or, ◌≡◌, ◌+◌, ◌∙◌, ℕ, List, [], ◌∷◌, ◌++◌, length, map, append-nil, Option, Some, None, refl, sym, ap, subst, inl, inr, arith, codes}
 use Rattle.std.specs.Prelude.{IfSome, All, ◌⊎◌, Bool}
 use Rattle.std.specs.List.{zip}
 use Rattle.std.proofs.lemmas.List.{length-map, length-append, map-append}
@@ -12,10 +12,11 @@ use Rattle.blk_lists.specs.Sources.{Row}
 use Rattle.blk_lists.specs.Texts.{rows_text}
 use Rattle.blk_lists.specs.Words.{WordLacks}
 use Rattle.blk_lists.specs.Reads.{IsOutside, Reads, Halts, IsOne, items_of, with_next}
-use Rattle.blk_lists.specs.Tables.{IsVersion, FitsCells, row_by, slots_by, title_by}
-use Rattle.blk_lists.specs.Titles.{counted_cells, IsCounted}
+use Rattle.blk_lists.specs.Tables.{FitsCells, row_by, slots_by}
+use Rattle.blk_lists.specs.Titles.{IsVersion, IsCounted, counted_numbers, title_by, TakesTitle, StopsAtTitle}
 use Rattle.blk_lists.specs.Certificate.{served_cells, served_record, IsServed}
 use Rattle.blk_lists.specs.OnTime.{OnTimeClaim, IsOnTimeClaim, AreFew, on_time_cells, window_cells, on_time_title, on_time_numbers, window, windows, cover_body, on_time_body, on_time_form, on_time_told, on_time_value, on_time_rows, SpellsOnTime, OnTimeClaimFault}
+use Rattle.blk_lists.specs.declared.on_time.TheConstants.{ON_TIME}
 use Rattle.blk_lists.specs.declared.fault.Why.{Why}
 use Rattle.blk_lists.specs.declared.fault.Why.TheVariants as why
 use Rattle.parts.specs.declared.Repeats.TheVariants as repeats
@@ -27,7 +28,7 @@ use Rattle.blk_lists.proofs.TableLaws.{IsTable, word_tells, word_decides}
 use Rattle.blk_lists.proofs.Each.{size_is, rows_map, all_fit, repeated_tells, repeated_decides, one_record, one_version}
 use Rattle.blk_lists.proofs.Reading.{then_reads, ends_halt, first_halts, second_halts}
 use Rattle.blk_lists.proofs.Texts.{text_back, items_back, parts_back, begins_itself}
-use Rattle.blk_lists.proofs.Counted.{counted_one, counted_decides}
+use Rattle.blk_lists.proofs.TitleLaws.{met_title, title_tells, title_decides, title_reads, title_stops}
 use Rattle.blk_lists.proofs.ClaimLaws.{served_one, served_decides, items_tell, firsts, seconds, all_zip, all_first, all_second, firsts_zip, seconds_zip, length_zip, zipped}
 
 -- the tables
@@ -79,10 +80,10 @@ pub body_tells : (count : ℕ) → Tells (on_time_body count)
 body_tells count = then_tells on_time_numbers (λ n. cover_body n.1 count) numbers_one.tells (λ n fit. cover_tells n.1 count)
 
 pub on_time_tells : Tells on_time_form
-on_time_tells = then_tells on_time_title (λ t. on_time_body t.1.1) (counted_one (codes "blk-met")).tells (λ t fit. body_tells t.1.1)
+on_time_tells = then_tells on_time_title (λ t. on_time_body t.1.1) (title_tells ON_TIME counted_numbers (λ _. IsCounted) met_title) (λ t fit. body_tells t.1.1)
 
 pub on_time_decides : Decides on_time_form
-on_time_decides = then_decides on_time_title (λ t. on_time_body t.1.1) (counted_decides (codes "blk-met"))
+on_time_decides = then_decides on_time_title (λ t. on_time_body t.1.1) (title_decides ON_TIME counted_numbers (λ _. IsCounted) met_title)
     (λ t fit. then_decides on_time_numbers (λ n. cover_body n.1 t.1.1) (record_decides numbers_row AreFew why.Word (WordLacks (codes "met") (slots_by on_time_cells)) (word_decides (codes "met") on_time_cells AreFew on_time_table))
     (λ n fits. then_decides (windows n.1) (λ _. items_of (repeats.Exactly t.1.1) (λ _. served_record))
     (repeated_decides window (record_decides window_row WindowInRange why.Count (WordLacks (codes "window") (slots_by window_cells)) (word_decides (codes "window") window_cells WindowInRange window_table)) (repeats.Exactly n.1))
@@ -120,7 +121,7 @@ rows_spell c h = (
 
 -- the records of a certificate, one by one
 pub rows_are : (c : OnTimeClaim)
-    → on_time_rows c ≡ title_by (codes "blk-met") counted_cells (1, (c.depth, length c.commands)) ∷ numbers_row (c.on_time, length c.cover) ∷ (map window_row c.cover ++ map (row_by served_cells) (zip c.commands c.rounds))
+    → on_time_rows c ≡ title_by ON_TIME counted_numbers (ON_TIME.latest, (c.depth, length c.commands)) ∷ numbers_row (c.on_time, length c.cover) ∷ (map window_row c.cover ++ map (row_by served_cells) (zip c.commands c.rounds))
 rows_are c =
     rw (append-nil (all_rows (λ _. served_record) with_next [] (zip c.commands c.rounds)), rows_map served_record (row_by served_cells) (λ v. refl) [] (zip c.commands c.rounds), rows_map window window_row (λ v. refl) [] c.cover) refl
 
@@ -130,7 +131,7 @@ read_back_is c h =
     let body = all_rows (λ _. window) with_next [] c.cover in
     let lines = (items_of (repeats.Exactly (length c.commands)) (λ _. served_record)).rows_of (zip c.commands c.rounds) in
     let same : map read_back (body ++ lines) ≡ body ++ lines = rw (map-append read_back body lines, items_back window (λ w. refl) [] c.cover, parts_back served_record (λ s. refl) (zip c.commands c.rounds)) refl in
-    let back : map read_back (on_time_rows c) ≡ on_time_rows c = ap (λ (t : List Row). title_by (codes "blk-met") counted_cells (1, (c.depth, length c.commands)) ∷ numbers_row (c.on_time, length c.cover) ∷ t) same in
+    let back : map read_back (on_time_rows c) ≡ on_time_rows c = ap (λ (t : List Row). title_by ON_TIME counted_numbers (ON_TIME.latest, (c.depth, length c.commands)) ∷ numbers_row (c.on_time, length c.cover) ∷ t) same in
     rw (text_back (on_time_rows c) _ refl back) (rows_spell c h)
 
 -- records that were taken for a title, numbers, windows and commands spell them
@@ -212,8 +213,14 @@ whole_halt failed left mid after count n ws lines at w a b c e o =
         let two = length-append ((windows n.1).rows_of ws) ((items_of (repeats.Exactly count) (λ _. served_record)).rows_of lines) in
         omega (arith, e, all, two, size_is window window_one ws)
 
-pub title_halts : (failed : Bool) (left : Option (List Row)) (start at : ℕ) (w : Why) → start ≡ 0 → Halts failed on_time_title left start at w → Halts failed on_time_form left 0 at w
-title_halts failed left start at w e h = first_halts failed on_time_title (λ t. on_time_body t.1.1) left 0 at w (λ t fit. body_tells t.1.1) (rw e at h)
+-- the title that a record tells by these numbers
+pub title_told : (left mid : Option (List Row)) (t : ℕ × List ℕ) → TakesTitle ON_TIME left mid t.0 t.1
+    → Reads on_time_title left mid (t.0, (get_or t.1 2 0, get_or t.1 3 0)) × (IsVersion ON_TIME.latest t.0 × IsCounted (get_or t.1 2 0, get_or t.1 3 0))
+title_told left mid t h = title_reads ON_TIME counted_numbers (λ _. IsCounted) met_title left mid t.0 (get_or t.1 2 0, get_or t.1 3 0) t.1 h (refl, (refl, tt))
+
+pub title_halts : (failed : Bool) (left : Option (List Row)) (at : ℕ) (w : Why) → at ≡ 1 → StopsAtTitle ON_TIME failed left w → Halts failed on_time_form left 0 at w
+title_halts failed left at w e h =
+    first_halts failed on_time_title (λ t. on_time_body t.1.1) left 0 at w (λ t fit. body_tells t.1.1) (title_stops ON_TIME counted_numbers (λ _. IsCounted) met_title failed left 0 at w (omega (arith, e)) h)
 
 pub body_halts : (failed : Bool) (left mid : Option (List Row)) (t : ℕ × (ℕ × ℕ)) (at : ℕ) (w : Why) → Reads on_time_title left mid t → Halts failed (on_time_body t.1.1) mid 1 at w → Halts failed on_time_form left 0 at w
-body_halts failed left mid t at w r h = second_halts failed on_time_title (λ t. on_time_body t.1.1) left mid t 0 1 at w (counted_one (codes "blk-met")).tells r refl h
+body_halts failed left mid t at w r h = second_halts failed on_time_title (λ t. on_time_body t.1.1) left mid t 0 1 at w (title_tells ON_TIME counted_numbers (λ _. IsCounted) met_title) r refl h

@@ -1,14 +1,16 @@
 -- The laws of certificates of either form.
-use Rattle.std.proofs.Common.{◌≡◌, ◌==◌, ◌∙◌, ℕ, List, [], ◌∷◌, Option, Some, None, refl, sym, ap, subst, inl, inr, arith, get_or, codes}
+use Rattle.std.proofs.Common.{◌≡◌, ◌==◌, ◌∙◌, ℕ, List, [], ◌∷◌, length, Option, Some, None, refl, sym, ap, subst, inl, inr, arith, get_or, codes}
 use Rattle.std.specs.Prelude.{IfSome, ◌⊎◌, Bool, if◌then◌else◌}
 use Rattle.blk_lists.specs.Sources.{Row}
 use Rattle.blk_lists.specs.Words.{StartsWith, NextStarts}
-use Rattle.blk_lists.specs.Reads.{Reads, Halts, IsOne, IsRowOf, IsWrongLine}
+use Rattle.blk_lists.specs.Reads.{Reads, Halts, IsOne}
 use Rattle.blk_lists.specs.Certificate.{Claim, certificate_title_part, claim_body, SpellsClaim}
-use Rattle.blk_lists.specs.Titles.{counted_title}
 use Rattle.blk_lists.specs.OnTime.{OnTimeClaim, on_time_title, on_time_body, SpellsOnTime}
 use Rattle.blk_lists.specs.Proof.{ProofClaim, OfLateness, OfOnTime, proof_name, Shown, form_of, StartsAs, IsUnnamed, proof_form, SpellsProof, ProofFault}
-use Rattle.blk_lists.specs.Inside.Proof.{proof_title}
+use Rattle.blk_lists.specs.Inside.Proof.{kind_title, proof_title}
+use Rattle.blk_lists.specs.Titles.{IsCounted, counted_numbers}
+use Rattle.blk_lists.specs.declared.certificate.TheConstants.{CERTIFICATE}
+use Rattle.blk_lists.specs.declared.on_time.TheConstants.{ON_TIME}
 use Rattle.blk_lists.specs.declared.proof.ProofKind.{ProofKind}
 use Rattle.blk_lists.specs.declared.proof.ProofKind.TheVariants as kind
 use Rattle.blk_lists.specs.declared.fault.Why.{Why}
@@ -18,7 +20,7 @@ use Rattle.parts.specs.Laws.{Tells}
 use Rattle.parts.proofs.Then.{reached_first, by_word_tells, kind_reached, kinds_reached}
 use Rattle.blk_lists.proofs.Lacking.{word_decided}
 use Rattle.blk_lists.proofs.TableLaws.{next_starts, next_same}
-use Rattle.blk_lists.proofs.Counted.{counted_one}
+use Rattle.blk_lists.proofs.TitleLaws.{certificate_title, met_title, title_tells}
 use Rattle.blk_lists.proofs.ClaimLaws as claim
 use Rattle.blk_lists.proofs.OnTimeLaws as on_time_laws
 
@@ -35,8 +37,13 @@ kind_is kind.OnTime = refl
 pub one_name : (j k : ProofKind) (rows : List Row) → StartsAs j rows → StartsAs k rows → j ≡ k
 one_name j k rows s t = sym (kind_is j) ∙ ap kind_at (next_same (proof_name j) (proof_name k) rows s t) ∙ kind_is k
 
-pub titles_start : (k : ProofKind) (rows : List Row) (v : ℕ × (ℕ × ℕ)) (a : List Row) → Begins (counted_title (proof_name k)) rows v a → StartsAs k rows
-titles_start k rows v a h = next_starts (proof_name k) _ rows a h.made
+pub titles_start : (k : ProofKind) (rows : List Row) (v : ℕ × (ℕ × ℕ)) (a : List Row) → Begins (kind_title k) rows v a → StartsAs k rows
+titles_start kind.Lateness rows v a h = next_starts CERTIFICATE.word _ rows a h.made
+titles_start kind.OnTime rows v a h = next_starts ON_TIME.word _ rows a h.made
+
+titles_tell : (k : ProofKind) → Tells (kind_title k)
+titles_tell kind.Lateness = title_tells CERTIFICATE counted_numbers (λ _. IsCounted) certificate_title
+titles_tell kind.OnTime = title_tells ON_TIME counted_numbers (λ _. IsCounted) met_title
 
 forms_start : (k : ProofKind) (rows : List Row) (v : Shown k) (a : List Row) → Begins (form_of k) rows v a → StartsAs k rows
 forms_start kind.Lateness rows v a h = next_starts (codes "blk-certificate") _ rows _ h.made
@@ -58,22 +65,23 @@ name_found (row ∷ rows) = elim (word_decided (codes "blk-certificate") row) [
 
 -- titles
 
+follows : (k : ProofKind) (t : ℕ × (ℕ × ℕ)) (rest : List Row) → (kind_title k).Follows t rest
+follows kind.Lateness t rest = tt
+follows kind.OnTime t rest = tt
+
+one_row : (k : ProofKind) (t : ℕ × (ℕ × ℕ)) → length ((kind_title k).rows_of t) ≡ 1
+one_row kind.Lateness t = refl
+one_row kind.OnTime t = refl
+
 pub title_one : IsOne proof_title
 title_one = record {
-  tells = by_word_tells (λ _. ℕ × (ℕ × ℕ)) StartsAs (λ k. counted_title (proof_name k)) IsUnnamed (λ k. (counted_one (proof_name k)).tells) one_name titles_start (λ rows w x a b. a ∙ sym b);
-  plain = λ t rest fit. tt;
-  one = λ t. refl;
+  tells = by_word_tells (λ _. ℕ × (ℕ × ℕ)) StartsAs kind_title IsUnnamed titles_tell one_name titles_start (λ rows w x a b. a ∙ sym b);
+  plain = λ t rest fit. follows t.0 t.1 rest;
+  one = λ t. one_row t.0 t.1;
 }
 
 pub title_gone : proof_title.Wrong [] 1 why.Title
 title_gone = inr (refl, (λ k s. s), refl)
-
--- a record of one of the names
-pub title_line : (k : ProofKind) (row : Row) (t : ℕ × (ℕ × ℕ)) → IsRowOf (counted_title (proof_name k)) row t → IsRowOf proof_title row (k, t)
-title_line k row t h = λ rest. record { fits = (h rest).fits; made = (h rest).made; follows = tt }
-
-pub title_wrong : (k : ProofKind) (row : Row) (w : Why) → StartsWith (proof_name k) row → IsWrongLine (counted_title (proof_name k)) row w → IsWrongLine proof_title row w
-title_wrong k row w s h = λ rest. inl (k, s, h rest)
 
 -- both forms
 
@@ -140,21 +148,21 @@ spelled_once rows (OfOnTime c) (OfOnTime d) s t = ap (λ z. OfOnTime z) (on_time
 -- reading
 
 -- a title of either kind, as one of its own
-pub title_reads : (left mid : Option (List Row)) (k : ProofKind) (t : ℕ × (ℕ × ℕ)) → Reads proof_title left mid (k, t) → Reads (counted_title (proof_name k)) left mid t
+pub title_reads : (left mid : Option (List Row)) (k : ProofKind) (t : ℕ × (ℕ × ℕ)) → Reads proof_title left mid (k, t) → Reads (kind_title k) left mid t
 title_reads None mid k t h = tt
-title_reads (Some rows) mid k t h = (h.0, h.1, record { fits = h.2.fits; made = h.2.made; follows = tt })
+title_reads (Some rows) mid k t h = (h.0, h.1, record { fits = h.2.fits; made = h.2.made; follows = follows k t h.0 })
 
-named : (left mid : Option (List Row)) (k : ProofKind) (t : ℕ × (ℕ × ℕ)) → Reads (counted_title (proof_name k)) left mid t → IfSome left (StartsAs k)
+named : (left mid : Option (List Row)) (k : ProofKind) (t : ℕ × (ℕ × ℕ)) → Reads (kind_title k) left mid t → IfSome left (StartsAs k)
 named None mid k t h = tt
 named (Some rows) mid k t h = titles_start k rows t h.0 h.2
 
 -- where reading halts
 
-title_lifts : (k : ProofKind) (rows : List Row) (at : ℕ) → GetsTo (counted_title (proof_name k)) rows at → GetsTo (form_of k) rows at
+title_lifts : (k : ProofKind) (rows : List Row) (at : ℕ) → GetsTo (kind_title k) rows at → GetsTo (form_of k) rows at
 title_lifts kind.Lateness rows at r = reached_first certificate_title_part (λ t. claim_body t.1.1) (λ t fit. claim.body_tells t.1.1) rows at r
 title_lifts kind.OnTime rows at r = reached_first on_time_title (λ t. on_time_body t.1.1) (λ t fit. on_time_laws.body_tells t.1.1) rows at r
 
-wrong_lifts : (k : ProofKind) (rows : List Row) (at : ℕ) (w : Why) → (counted_title (proof_name k)).Wrong rows at w → (form_of k).Wrong rows at w
+wrong_lifts : (k : ProofKind) (rows : List Row) (at : ℕ) (w : Why) → (kind_title k).Wrong rows at w → (form_of k).Wrong rows at w
 wrong_lifts kind.Lateness rows at w f = inl f
 wrong_lifts kind.OnTime rows at w f = inl f
 
@@ -167,7 +175,7 @@ title_halts failed None start at w e h = tt
 title_halts failed (Some rows) start at w e h = (
   h.0,
   (let is = h.1 in omega (arith, is, e)),
-  kinds_reached (λ _. ℕ × (ℕ × ℕ)) Shown StartsAs (λ k. counted_title (proof_name k)) form_of IsUnnamed forms_start title_lifts rows h.0 h.2,
+  kinds_reached (λ _. ℕ × (ℕ × ℕ)) Shown StartsAs kind_title form_of IsUnnamed forms_start title_lifts rows h.0 h.2,
   elim h.3 [
     | inl o ↦ inl o
     | inr f ↦ inr (fault_lifts rows h.0 w f)

@@ -1,5 +1,5 @@
 -- The laws of schedules.
-use Rattle.std.proofs.Common.{◌≡◌, ◌≢◌, ◌+◌, ◌-◌, ◌<◌, ◌≤◌, ◌∙◌, ℕ, List, [], ◌∷◌, ◌++◌, length, map, take, append-nil, append_assoc, Bool, true, false, cond, Option, Some, None, refl, sym, ap, subst, inl, inr, arith, codes, get_or}
+use Rattle.std.proofs.Common.{◌≡◌, ◌≢◌, ◌+◌, ◌-◌, ◌<◌, ◌≤◌, ◌∙◌, ℕ, List, [], ◌∷◌, ◌++◌, length, map, take, append-nil, append_assoc, Bool, true, false, cond, Option, Some, None, refl, sym, ap, subst, inl, inr, arith, get_or}
 use Rattle.std.specs.Prelude.{IfSome, All, ◌⊎◌, not, slice_get}
 use Rattle.std.specs.Bool.{OnTrue, MatchBool}
 use Rattle.std.specs.List.{zip, list_any}
@@ -18,11 +18,12 @@ use Rattle.blk_lists.specs.Sources.{Row, TakesRecord}
 use Rattle.blk_lists.specs.Texts.{rows_text}
 use Rattle.blk_lists.specs.Commands.{IsCommandInRange}
 use Rattle.blk_lists.specs.Reads.{IsOutside, Reads, Halts, Fails, HandFails, IsOne, IsRowOf, IsWrongLine, IsStopped, AreGathered, Gathers, with_next, size_of, repeated}
-use Rattle.blk_lists.specs.Tables.{IsVersion, row_by, title_by}
-use Rattle.blk_lists.specs.Titles.{counted_cells, IsCounted}
+use Rattle.blk_lists.specs.Tables.{row_by}
+use Rattle.blk_lists.specs.Titles.{IsVersion, IsCounted, counted_numbers, title_by, TakesTitle, StopsAtTitle}
 use Rattle.blk_lists.specs.Certificate.{served_cells, served_record, IsServed}
 use Rattle.blk_lists.specs.Schedule.{ScheduleView, AreDistinct, IsScheduleView, IsNew, IsRepeated, new_record, schedule_title, schedule_body, schedule_form, schedule_value, schedule_rows, SpellsSchedule, ScheduleFault}
 use Rattle.blk_lists.specs.Inside.Schedule.{AreFit, AreIds, DoRise}
+use Rattle.blk_lists.specs.declared.schedule.TheConstants.{SCHEDULE}
 use Rattle.blk_lists.specs.declared.fault.Why.{Why}
 use Rattle.blk_lists.specs.declared.fault.Why.TheVariants as why
 use Rattle.parts.specs.declared.Repeats.TheVariants as repeats
@@ -35,7 +36,7 @@ use Rattle.blk_lists.proofs.Lists.{head_of, tail_of, all_cons}
 use Rattle.blk_lists.proofs.Lacking.{same_number}
 use Rattle.blk_lists.proofs.Each.{size_is, rows_map, one_version}
 use Rattle.blk_lists.proofs.Reading.{then_reads, end_halts, first_halts, second_halts, many_fails, many_ends, full_ends, full_stopped, lines_halt, outside_fails, past_wrong, hand_reads}
-use Rattle.blk_lists.proofs.Counted.{counted_one, counted_decides}
+use Rattle.blk_lists.proofs.TitleLaws.{schedule_row, title_tells, title_decides, title_reads, title_stops}
 use Rattle.blk_lists.proofs.Texts.{text_back, parts_back, begins_itself}
 use Rattle.blk_lists.proofs.ClaimLaws.{served_one, served_record_decides, firsts, seconds, all_zip, all_first, all_second, firsts_zip, seconds_zip, length_zip, zipped}
 
@@ -77,10 +78,10 @@ body_decides : (count : ℕ) → Decides (schedule_body count)
 body_decides count = ended_decides (repeats.Exactly count) why.Count new_record new_record with_next new_decides new_decides []
 
 pub schedule_tells : Tells schedule_form
-schedule_tells = then_tells schedule_title (λ t. schedule_body t.1.1) (counted_one (codes "blk-schedule")).tells (λ t fit. body_tells t.1.1)
+schedule_tells = then_tells schedule_title (λ t. schedule_body t.1.1) (title_tells SCHEDULE counted_numbers (λ _. IsCounted) schedule_row) (λ t fit. body_tells t.1.1)
 
 schedule_decides : Decides schedule_form
-schedule_decides = then_decides schedule_title (λ t. schedule_body t.1.1) (counted_decides (codes "blk-schedule")) (λ t fit. body_decides t.1.1)
+schedule_decides = then_decides schedule_title (λ t. schedule_body t.1.1) (title_decides SCHEDULE counted_numbers (λ _. IsCounted) schedule_row) (λ t fit. body_decides t.1.1)
 
 -- the records of commands
 
@@ -181,7 +182,7 @@ rows_spell c h = (
 )
 
 -- the records of a schedule, one by one
-pub rows_are : (c : ScheduleView) → schedule_rows c ≡ title_by (codes "blk-schedule") counted_cells (1, (c.depth, length c.commands)) ∷ map (row_by served_cells) (zip c.commands c.rounds)
+pub rows_are : (c : ScheduleView) → schedule_rows c ≡ title_by SCHEDULE counted_numbers (SCHEDULE.latest, (c.depth, length c.commands)) ∷ map (row_by served_cells) (zip c.commands c.rounds)
 rows_are c = rw (append-nil (all_rows new_record with_next [] (zip c.commands c.rounds)), same_rows [] (zip c.commands c.rounds), rows_map served_record (row_by served_cells) (λ v. refl) [] (zip c.commands c.rounds)) refl
 
 pub read_back_is : (c : ScheduleView) → IsScheduleView c → SpellsSchedule (records default_config (strip_bom (rows_text (schedule_rows c)))) c
@@ -189,7 +190,7 @@ unfolding rows_text
 read_back_is c h =
     let lines = (schedule_body (length c.commands)).rows_of (zip c.commands c.rounds) in
     let same : map read_back lines ≡ lines = rw (same_rows [] (zip c.commands c.rounds)) (parts_back served_record (λ s. refl) (zip c.commands c.rounds)) in
-    let back : map read_back (schedule_rows c) ≡ schedule_rows c = ap (λ (t : List Row). title_by (codes "blk-schedule") counted_cells (1, (c.depth, length c.commands)) ∷ t) same in
+    let back : map read_back (schedule_rows c) ≡ schedule_rows c = ap (λ (t : List Row). title_by SCHEDULE counted_numbers (SCHEDULE.latest, (c.depth, length c.commands)) ∷ t) same in
     rw (text_back (schedule_rows c) _ refl back) (rows_spell c h)
 
 -- records that were taken for a title and commands spell them
@@ -425,11 +426,17 @@ past_halts failed count left mid new start at now vs row w got taken e (inr bad)
 
 -- where reading halts
 
-pub title_halts : (failed : Bool) (left : Option (List Row)) (start at : ℕ) (w : Why) → start ≡ 0 → Halts failed schedule_title left start at w → Halts failed schedule_form left 0 at w
-title_halts failed left start at w e h = first_halts failed schedule_title (λ t. schedule_body t.1.1) left 0 at w (λ t fit. body_tells t.1.1) (rw e at h)
+-- the title that a record tells by these numbers
+pub title_told : (left mid : Option (List Row)) (t : ℕ × List ℕ) → TakesTitle SCHEDULE left mid t.0 t.1
+    → Reads schedule_title left mid (t.0, (get_or t.1 2 0, get_or t.1 3 0)) × (IsVersion SCHEDULE.latest t.0 × IsCounted (get_or t.1 2 0, get_or t.1 3 0))
+title_told left mid t h = title_reads SCHEDULE counted_numbers (λ _. IsCounted) schedule_row left mid t.0 (get_or t.1 2 0, get_or t.1 3 0) t.1 h (refl, (refl, tt))
+
+pub title_halts : (failed : Bool) (left : Option (List Row)) (at : ℕ) (w : Why) → at ≡ 1 → StopsAtTitle SCHEDULE failed left w → Halts failed schedule_form left 0 at w
+title_halts failed left at w e h =
+    first_halts failed schedule_title (λ t. schedule_body t.1.1) left 0 at w (λ t fit. body_tells t.1.1) (title_stops SCHEDULE counted_numbers (λ _. IsCounted) schedule_row failed left 0 at w (omega (arith, e)) h)
 
 pub body_halts : (failed : Bool) (left mid : Option (List Row)) (t : ℕ × (ℕ × ℕ)) (middle at : ℕ) (w : Why) → middle ≡ 1 → Reads schedule_title left mid t → Halts failed (schedule_body t.1.1) mid middle at w → Halts failed schedule_form left 0 at w
-body_halts failed left mid t middle at w e r h = second_halts failed schedule_title (λ t. schedule_body t.1.1) left mid t 0 middle at w (counted_one (codes "blk-schedule")).tells r (omega (arith, e)) h
+body_halts failed left mid t middle at w e r h = second_halts failed schedule_title (λ t. schedule_body t.1.1) left mid t 0 middle at w (title_tells SCHEDULE counted_numbers (λ _. IsCounted) schedule_row) r (omega (arith, e)) h
 
 -- past the last record
 pub whole_halts : (failed : Bool) (left mid : Option (List Row)) (t : ℕ × (ℕ × ℕ)) (lines : List (Command × ℕ)) (at : ℕ) (w : Why) → Reads schedule_title left mid t → IfSome mid (λ rows. Begins (schedule_body t.1.1) rows lines [])

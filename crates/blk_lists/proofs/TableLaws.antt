@@ -13,14 +13,13 @@ use Rattle.blk_lists.specs.Words.{StartsWith, NextStarts, HasNoWord, WordLacks}
 use Rattle.blk_lists.specs.Reads.{IsRowOf}
 use Rattle.blk_lists.specs.declared.fields.Slot.TheVariants as slot
 use Rattle.blk_lists.specs.declared.fault.Why.{Why}
-use Rattle.blk_lists.specs.declared.fault.Why.TheVariants as why
 use Rattle.blk_lists.proofs.Lists.{cons_same}
-use Rattle.blk_lists.proofs.Lacking.{Good, Goods, Dec, both, same_as, at_most, same_text, number_decided, sized_once, lacks_once, goods_lack, goods_or_lacks, no_word_once, no_word_lacks, word_decided, starts_same, word_once}
+use Rattle.blk_lists.proofs.Lacking.{Good, Goods, Dec, both, same_text, sized_once, lacks_once, goods_lack, goods_or_lacks, no_word_once, no_word_lacks, word_decided, starts_same, word_once}
 use Rattle.parts.specs.Parts.{Part, NextWrong}
 use Rattle.parts.specs.Laws.{Tells}
 use Rattle.parts.specs.Inside.Laws.{TellsRecord, Decides, DecidesRecord}
 use Rattle.parts.proofs.Then.{record_tells, record_decides, by_word_tells, by_word_decides}
-use Rattle.blk_lists.specs.Tables.{Cell, Blank, Direction, Number, Signed, Text, Nanoseconds, cell_slot, field_of, row_by, slots_by, FitsCell, FitsCells, IsUpTo, IsTitled, IsVersion, title_by, TitleLacks, title_record, table_record, word_record, kinds_record}
+use Rattle.blk_lists.specs.Tables.{Cell, Blank, Direction, Number, Signed, Text, Nanoseconds, cell_slot, field_of, row_by, slots_by, FitsCell, FitsCells, IsUpTo, table_record, word_record, kinds_record}
 
 -- what a field tells of a value
 abbrev pub Told : {V : Type 0} → Cell V → Type 0
@@ -192,7 +191,7 @@ pub begins : (cells : Row) (word : List ℕ) → 0 < length word → get_or cell
 begins [] word l h = absurd (let none : 0 ≡ length word = ap length h in omega (arith, none, l))
 begins (f ∷ more) word l h = (more, ap (λ (g : List ℕ). g ∷ more) h)
 
-given_goods : {V : Type 0} (f : List ℕ) (cells : List (Cell V)) (v : V) → Sized cells → FitsCells cells v → Goods (slot.Given ∷ slots_by cells) (f ∷ row_by cells v)
+pub given_goods : {V : Type 0} (f : List ℕ) (cells : List (Cell V)) (v : V) → Sized cells → FitsCells cells v → Goods (slot.Given ∷ slots_by cells) (f ∷ row_by cells v)
 given_goods f cells v s k = ((tt, tt, tt, tt), goods_by cells v s k)
 
 pub word_tells : {V : Type 0} (word : List ℕ) (cells : List (Cell V)) (Fits : V → Type 0) → IsTable cells Fits → TellsRecord (λ v. word ∷ row_by cells v) Fits (WordLacks word (slots_by cells))
@@ -288,78 +287,6 @@ kinds_decide {K} V gone width Stands word_of cells pick tables =
       | inr n ↦ inr ((λ k s. n k s.0 (cons_same _ _ _ _ s.1.1).0), no_word_lacks width (f ∷ fs))
     ]
 
--- titles
-
-same_version : (name : List ℕ) (latest a b : ℕ) (row : Row) → latest < 2 ^ 64 → IsVersion latest a → IsVersion latest b → IsTitled name a row → IsTitled name b row → a ≡ b
-same_version name latest a b row l p q h k =
-    let e = cons_same _ _ _ _ (cons_same _ _ _ _ (sym h.1 ∙ k.1)).1 in
-    let high = p.1 in
-    let other = q.1 in
-    decimal_injective a b (omega (arith, high, l)) (omega (arith, other, l)) e.0
-
-title_apart : {V : Type 0} (name : List ℕ) (latest : ℕ) (cells : ℕ → List (Cell V)) (Fits : ℕ → V → Type 0) → latest < 2 ^ 64 → ((version : ℕ) → IsTable (cells version) (Fits version)) → (t : ℕ × V) (w : Why)
-    → IsVersion latest t.0 × Fits t.0 t.1 → TitleLacks name latest cells (title_by name cells t) w → ⊥
-title_apart name latest cells Fits l table t w f (inl bad) = bad.1 t.0 f.0 (_, refl)
-title_apart name latest cells Fits l table t w f (inr bad) =
-    let same = same_version name latest bad.0 t.0 (title_by name cells t) l bad.1 f.0 bad.2 (row_by (cells t.0) t.1, refl) in
-    goods_lack (slot.Given ∷ slot.Given ∷ slots_by (cells t.0)) (title_by name cells t) w
-    ((tt, tt, tt, tt), given_goods (decimal t.0) (cells t.0) t.1 (table t.0).sized ((table t.0).within t.1 f.1)) (rw same at bad.3)
-
-title_first : {V : Type 0} (name : List ℕ) (latest : ℕ) (cells : ℕ → List (Cell V)) → latest < 2 ^ 64 → (row : Row) (w x : Why) → TitleLacks name latest cells row w → TitleLacks name latest cells row x → w ≡ x
-title_first name latest cells l row w x (inl a) (inl b) = a.0 ∙ sym b.0
-title_first name latest cells l row w x (inl a) (inr b) = absurd (a.1 b.0 b.1 b.2)
-title_first name latest cells l row w x (inr a) (inl b) = absurd (b.1 a.0 a.1 a.2)
-title_first name latest cells l row w x (inr a) (inr b) =
-    let same = same_version name latest a.0 b.0 row l a.1 b.1 a.2 b.2 in
-    lacks_once (slot.Given ∷ slot.Given ∷ slots_by (cells b.0)) row w x (rw same at a.3) b.3
-
-pub title_part : {V : Type 0} (name : List ℕ) (latest : ℕ) (cells : ℕ → List (Cell V)) (Fits : ℕ → V → Type 0) → latest < 2 ^ 64 → ((version : ℕ) → IsTable (cells version) (Fits version))
-    → Tells (title_record name latest cells Fits)
-title_part {V} name latest cells Fits l table = record_tells (title_by name cells) (λ t. IsVersion latest t.0 × Fits t.0 t.1) why.Title (TitleLacks name latest cells) (record {
-  once = λ t u f g e. same t u f g e (same_version name latest t.0 u.0 (title_by name cells u) l f.0 g.0 (row_by (cells t.0) t.1, sym e) (row_by (cells u.0) u.1, refl));
-  apart = title_apart name latest cells Fits l table;
-  first = title_first name latest cells l;
-})
-  where
-    same : (t u : ℕ × V) → IsVersion latest t.0 × Fits t.0 t.1 → IsVersion latest u.0 × Fits u.0 u.1 → title_by name cells t ≡ title_by name cells u → t.0 ≡ u.0 → t ≡ u
-    same t u f g h e =
-        let value = one_by (cells u.0) (Fits u.0) (table u.0) t.1 u.1 (rw e at f.1) g.1 (rw e at (cons_same _ _ _ _ (cons_same _ _ _ _ h).1).1) in
-        λ i. (e i, value i)
-
-pub title_decides : {V : Type 0} (name : List ℕ) (latest : ℕ) (cells : ℕ → List (Cell V)) (Fits : ℕ → V → Type 0) → latest < 2 ^ 64 → ((version : ℕ) → IsTable (cells version) (Fits version))
-    → Decides (title_record name latest cells Fits)
-title_decides {V} name latest cells Fits l table = record_decides (title_by name cells) (λ t. IsVersion latest t.0 × Fits t.0 t.1) why.Title (TitleLacks name latest cells) (λ row. decided row (titled row))
-  where
-    titled : (row : Row) → Dec ((version : ℕ) × IsVersion latest version × IsTitled name version row)
-    titled [] = inr (λ t. (let e : [] ≡ name ∷ decimal t.0 ∷ t.2.0 = t.2.1 in cc e))
-    titled (f ∷ []) = inr (λ t. (let e : [] ≡ decimal t.0 ∷ t.2.0 = (cons_same _ _ _ _ t.2.1).1 in cc e))
-    titled (f ∷ g ∷ more) = elim (both (same_text f name) (number_decided g)) [
-      | inl d ↦ same_as (λ v. (d.1.0, v, (more, (let a = d.0 in let b = d.1.2 in cc (a, b)))))
-          (λ t. (let e = cons_same _ _ _ _ (cons_same _ _ _ _ t.2.1).1 in let high = t.1.1 in let is : t.0 ≡ d.1.0 = decimal_injective t.0 d.1.0 (omega (arith, high, l)) d.1.1 (sym e.0 ∙ d.1.2) in rw is at t.1))
-          (both (at_most 1 d.1.0) (at_most d.1.0 latest))
-      | inr n ↦ inr (λ t. (let e = cons_same _ _ _ _ t.2.1 in let high = t.1.1 in n (e.0, (t.0, omega (arith, high, l), (cons_same _ _ _ _ e.1).0))))
-    ]
-
-    starts : (version : ℕ) (row : Row) → IsVersion latest version → IsTitled name version row → Goods (slot.Given ∷ slot.Given ∷ slots_by (cells version)) row
-        → (t : ℕ × V) × (IsVersion latest t.0 × Fits t.0 t.1) × (row ≡ title_by name cells t)
-    starts version [] v t g = absurd g
-    starts version (f ∷ []) v t g = absurd g.1
-    starts version (f ∷ h ∷ fs) v t g =
-        let u = by_table (cells version) (Fits version) (table version) fs g.1.1 in
-        let e = cons_same _ _ _ _ t.1 in
-        let first = e.0 in
-        let second = (cons_same _ _ _ _ e.1).0 in
-        let others = u.2 in
-        ((version, u.0), (v, u.1), cc (first, second, others))
-
-    decided : (row : Row) → Dec ((version : ℕ) × IsVersion latest version × IsTitled name version row)
-        → ((t : ℕ × V) × (IsVersion latest t.0 × Fits t.0 t.1) × (row ≡ title_by name cells t)) ⊎ ((w : Why) × TitleLacks name latest cells row w)
-    decided row (inr n) = inr (why.Title, inl (refl, λ v i t. n (v, i, t)))
-    decided row (inl t) = elim (goods_or_lacks (slot.Given ∷ slot.Given ∷ slots_by (cells t.0)) row) [
-      | inl g ↦ inl (starts t.0 row t.1 t.2 g)
-      | inr w ↦ inr (w.0, inr (t.0, t.1, t.2, w.1))
-    ]
-
 -- what was read of a record
 
 -- a value has this in a field, which spells this number
@@ -385,7 +312,7 @@ cell_by (Text t) v f m s b = (b, tt)
 cell_by (Nanoseconds t) v f m s b = (b, rw b at s.2.0)
 
 -- a record whose fields spell the numbers of a value is its record
-fields_by : {V : Type 0} (cells : List (Cell V)) (v : V) (row : Row) (number : ℕ → ℕ) → length row ≡ length (slots_by cells)
+pub fields_by : {V : Type 0} (cells : List (Cell V)) (v : V) (row : Row) (number : ℕ → ℕ) → length row ≡ length (slots_by cells)
     → ((k : ℕ) → k < length (slots_by cells) → FieldSpells (get_or (slots_by cells) k slot.Given) (get_or row k []) (number k)) → IsBy cells v (λ k. get_or row k []) number → (row ≡ row_by cells v) × FitsCells cells v
 fields_by [] v [] number l s b = (refl, tt)
 fields_by [] v (f ∷ fs) number l s b = absurd (omega (arith, l))
@@ -419,18 +346,3 @@ pub word_line : {V : Type 0} (gone : Why) (word : List ℕ) (cells : List (Cell 
 word_line gone word cells Fits v row ns t s b f =
     let r = given_by cells v row ns s b word t in
     λ rest. record { fits = f r.1; made = ap (λ (x : Row). x ∷ rest) r.0; follows = tt }
-
-pub title_line : {V : Type 0} (name : List ℕ) (latest : ℕ) (cells : ℕ → List (Cell V)) (Fits : ℕ → V → Type 0) (version : ℕ) (v : V) (row : Row) (ns : List ℕ) → IsVersion latest version → IsTitled name version row
-    → FieldsSpell (slot.Given ∷ slot.Given ∷ slots_by (cells version)) row ns → IsBy (cells version) v (λ k. get_or row (suc (suc k)) []) (λ k. get_or ns (suc (suc k)) 0) → (FitsCells (cells version) v → Fits version v)
-    → IsRowOf (title_record name latest cells Fits) row (version, v)
-title_line name latest cells Fits version v [] ns i t s b f = absurd (let long = s.0 in omega (arith, long))
-title_line name latest cells Fits version v (g ∷ []) ns i t s b f = absurd (let long = s.0 in omega (arith, long))
-title_line name latest cells Fits version v (g ∷ h ∷ fs) ns i t s b f =
-    let long = s.0 in
-    let r = fields_by (cells version) v fs (λ k. get_or ns (suc (suc k)) 0) (omega (arith, long)) (λ k h. s.1 (suc (suc k)) (omega (arith, h))) b in
-    let e = cons_same _ _ _ _ t.1 in
-    let first = e.0 in
-    let second = (cons_same _ _ _ _ e.1).0 in
-    let others = r.0 in
-    let made : g ∷ h ∷ fs ≡ title_by name cells (version, v) = cc (first, second, others) in
-    λ rest. record { fits = (i, f r.1); made = ap (λ (x : Row). x ∷ rest) made; follows = tt }

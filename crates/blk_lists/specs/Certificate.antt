@@ -12,7 +12,7 @@ use Rattle.blk_lists.specs.Tables.{Cell, Number, Signed, FitsCells, cells_by, ta
 use Rattle.blk_lists.specs.Titles.{counted_title}
 use Rattle.blk_lists.specs.Words.{NextStarts, HasNoWord}
 use Rattle.blk_lists.specs.declared.certificate.Certificate.{Certificate}
-use Rattle.blk_lists.specs.declared.certificate.TheConstants.{SERVED}
+use Rattle.blk_lists.specs.declared.certificate.TheConstants.{CERTIFICATE, SERVED}
 use Rattle.blk_lists.specs.declared.fault.Why.{Why}
 use Rattle.blk_lists.specs.declared.fault.Why.TheVariants as why
 use Rattle.parts.specs.declared.Repeats.TheVariants as repeats
@@ -102,7 +102,7 @@ kind_of None = (NoBound, tt)
 kind_of (Some b) = (SomeBound, b)
 
 abbrev pub certificate_title_part : Part Row Why (ℕ × (ℕ × ℕ))
-certificate_title_part = counted_title (codes "blk-certificate")
+certificate_title_part = counted_title CERTIFICATE
 
 -- the bound beside this number of commands
 abbrev pub bound : ℕ → Part Row Why (Option (ℤ × Window))
@@ -125,7 +125,7 @@ claim_told c = (c.bound, zip c.commands c.rounds)
 
 -- and with it
 abbrev pub claim_value : Claim → (ℕ × (ℕ × ℕ)) × (Option (ℤ × Window) × List (Command × ℕ))
-claim_value c = ((1, (c.depth, length c.commands)), claim_told c)
+claim_value c = ((CERTIFICATE.latest, (c.depth, length c.commands)), claim_told c)
 
 -- the records of a certificate
 abbrev pub claim_rows : Claim → List Row

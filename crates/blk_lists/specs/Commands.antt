@@ -1,5 +1,5 @@
 -- A command list: a title, and a record for each command.
-use Rattle.std.specs.Prelude.{◌≡◌, ◌⊎◌, ◌≤◌, ◌<◌, ◌^◌, ℕ, List, [], ◌∷◌, length, codes, All}
+use Rattle.std.specs.Prelude.{◌≡◌, ◌⊎◌, ◌≤◌, ◌<◌, ◌^◌, ℕ, List, [], ◌∷◌, length, All}
 use Rattle.edd_commands.specs.declared.TheConstants.{MAX_COMMANDS, MAX_ROUNDS, MAX_RELEASES}
 use Rattle.edd_commands.specs.declared.steps.TheConstants.{MAX_DEPTH}
 use Rattle.edd_commands.specs.declared.Command.{Command}
@@ -7,16 +7,17 @@ use Rattle.csv.specs.Reading.{default_config, records, strip_bom}
 use Rattle.blk_lists.specs.Sources.{Row}
 use Rattle.blk_lists.specs.Texts.{rows_text}
 use Rattle.blk_lists.specs.Reads.{items_of}
-use Rattle.blk_lists.specs.Tables.{Cell, cells_by, table_record, title_record}
+use Rattle.blk_lists.specs.Tables.{Cell, cells_by, table_record}
+use Rattle.blk_lists.specs.Titles.{title_record}
 use Rattle.blk_lists.specs.declared.commands.TheConstants.{COMMAND, COMMANDS}
 use Rattle.blk_lists.specs.declared.fault.Why.{Why}
 use Rattle.blk_lists.specs.declared.fault.Why.TheVariants as why
 use Rattle.parts.specs.declared.Repeats.TheVariants as repeats
 use Rattle.parts.specs.Parts.{Part, then, Spells}
 
--- title: blk-commands, 1, depth
-abbrev pub depth_cells : ℕ → List (Cell ℕ)
-depth_cells version = cells_by COMMANDS.slots ((λ depth. depth) ∷ [])
+-- title: blk-commands, version, depth
+abbrev pub depth_number : List (ℕ → ℕ)
+depth_number = (λ depth. depth) ∷ []
 
 -- each command: id, release, due
 abbrev pub command_cells : List (Cell Command)
@@ -31,7 +32,7 @@ abbrev pub IsCommandInRange : Command → Type 0
 IsCommandInRange c = (c.id < 2 ^ 64) × (c.release < MAX_RELEASES) × (c.due < MAX_ROUNDS)
 
 abbrev pub commands_title_part : Part Row Why (ℕ × ℕ)
-commands_title_part = title_record (codes "blk-commands") 1 depth_cells (λ _. IsDepth)
+commands_title_part = title_record COMMANDS depth_number (λ _. IsDepth)
 
 abbrev pub command : Part Row Why Command
 command = table_record why.Count command_cells IsCommandInRange
@@ -46,11 +47,11 @@ AreCommands depth commands = (1 ≤ depth) × (depth ≤ MAX_DEPTH) × (length c
 
 -- the records of a depth and a list of commands
 abbrev pub commands_rows : ℕ → List Command → List Row
-commands_rows depth commands = command_list.rows_of ((1, depth), commands)
+commands_rows depth commands = command_list.rows_of ((COMMANDS.latest, depth), commands)
 
 -- the records spell this depth and these commands
 abbrev pub SpellsCommands : List Row → ℕ → List Command → Type 0
-SpellsCommands rows depth commands = Spells command_list rows ((1, depth), commands)
+SpellsCommands rows depth commands = Spells command_list rows ((COMMANDS.latest, depth), commands)
 
 -- the first fault of a command list
 abbrev pub CommandsFault : List Row → ℕ → Why → Type 0

@@ -15,7 +15,7 @@ use Rattle.blk_lists.specs.Tables.{Cell, cells_by, word_record}
 use Rattle.blk_lists.specs.Texts.{rows_text}
 use Rattle.blk_lists.specs.Titles.{counted_title}
 use Rattle.blk_lists.specs.declared.on_time.OnTimeCertificate.{OnTimeCertificate}
-use Rattle.blk_lists.specs.declared.on_time.TheConstants.{NUMBERS, WINDOW}
+use Rattle.blk_lists.specs.declared.on_time.TheConstants.{NUMBERS, ON_TIME, WINDOW}
 use Rattle.blk_lists.specs.declared.fault.Why.{Why}
 use Rattle.blk_lists.specs.declared.fault.Why.TheVariants as why
 use Rattle.parts.specs.declared.Repeats.TheVariants as repeats
@@ -56,7 +56,7 @@ pub record IsOnTimeClaim (c : OnTimeClaim) : Type 0 where
   pub rounds : All (λ x. x < MAX_ROUNDS) c.rounds
 
 abbrev pub on_time_title : Part Row Why (ℕ × (ℕ × ℕ))
-on_time_title = counted_title (codes "blk-met")
+on_time_title = counted_title ON_TIME
 
 abbrev pub on_time_numbers : Part Row Why (ℕ × ℕ)
 on_time_numbers = word_record why.Word (codes "met") on_time_cells AreFew
@@ -86,7 +86,7 @@ on_time_told c = ((c.on_time, length c.cover), (c.cover, zip c.commands c.rounds
 
 -- and with it
 abbrev pub on_time_value : OnTimeClaim → (ℕ × (ℕ × ℕ)) × ((ℕ × ℕ) × (List Window × List (Command × ℕ)))
-on_time_value c = ((1, (c.depth, length c.commands)), on_time_told c)
+on_time_value c = ((ON_TIME.latest, (c.depth, length c.commands)), on_time_told c)
 
 -- the records of such a certificate
 abbrev pub on_time_rows : OnTimeClaim → List Row

@@ -1,5 +1,5 @@
 -- A certificate of either form, told by its title.
-use Rattle.std.specs.Prelude.{◌≡◌, ◌+◌, ℕ, List, length, codes}
+use Rattle.std.specs.Prelude.{◌≡◌, ◌+◌, ℕ, List, length}
 use Rattle.edd_commands.specs.declared.Command.{Command}
 use Rattle.edd_check.specs.declared.Window.{Window}
 use Rattle.std.specs.Prelude.{ℤ, Option}
@@ -7,6 +7,8 @@ use Rattle.blk_lists.specs.Sources.{Row}
 use Rattle.blk_lists.specs.Words.{NextStarts}
 use Rattle.blk_lists.specs.Certificate.{Claim, IsClaim, SpellsClaim, claimed, claim_form}
 use Rattle.blk_lists.specs.OnTime.{OnTimeClaim, IsOnTimeClaim, SpellsOnTime, on_time_claimed, on_time_form}
+use Rattle.blk_lists.specs.declared.certificate.TheConstants.{CERTIFICATE}
+use Rattle.blk_lists.specs.declared.on_time.TheConstants.{ON_TIME}
 use Rattle.blk_lists.specs.declared.proof.Proof.{Proof}
 use Rattle.blk_lists.specs.declared.proof.Proof.TheVariants as proof
 use Rattle.blk_lists.specs.declared.proof.ProofKind.{ProofKind}
@@ -37,8 +39,8 @@ proof_size (OfOnTime c) = length c.cover + length c.commands + 2
 
 -- the name in the title of each kind
 abbrev pub proof_name : ProofKind → List ℕ
-proof_name kind.Lateness = codes "blk-certificate"
-proof_name kind.OnTime = codes "blk-met"
+proof_name kind.Lateness = CERTIFICATE.word
+proof_name kind.OnTime = ON_TIME.word
 
 -- what the records of each kind tell
 abbrev pub Shown : ProofKind → Type 0

@@ -1,5 +1,5 @@
 -- A schedule: a title, and a record for each command with its round.
-use Rattle.std.specs.Prelude.{◌≡◌, ◌≢◌, ◌≤◌, ◌<◌, ℕ, List, length, codes, All, slice_index_or}
+use Rattle.std.specs.Prelude.{◌≡◌, ◌≢◌, ◌≤◌, ◌<◌, ℕ, List, length, All, slice_index_or}
 use Rattle.std.specs.List.{zip}
 use Rattle.edd_commands.specs.declared.TheConstants.{MAX_COMMANDS, MAX_ROUNDS}
 use Rattle.edd_commands.specs.declared.steps.TheConstants.{MAX_DEPTH}
@@ -10,6 +10,7 @@ use Rattle.blk_lists.specs.Certificate.{served_record}
 use Rattle.blk_lists.specs.Reads.{items_of}
 use Rattle.blk_lists.specs.Titles.{counted_title}
 use Rattle.blk_lists.specs.declared.schedule.Schedule.{Schedule}
+use Rattle.blk_lists.specs.declared.schedule.TheConstants.{SCHEDULE}
 use Rattle.blk_lists.specs.declared.fault.Why.{Why}
 use Rattle.blk_lists.specs.declared.fault.Why.TheVariants as why
 use Rattle.parts.specs.declared.Repeats.TheVariants as repeats
@@ -46,7 +47,7 @@ abbrev pub IsRepeated : List (Command × ℕ) → Command × ℕ → ℕ → Why
 IsRepeated before s k w = (k ≡ 1) × (w ≡ why.RepeatedId) × ¬ IsNew before s
 
 abbrev pub schedule_title : Part Row Why (ℕ × (ℕ × ℕ))
-schedule_title = counted_title (codes "blk-schedule")
+schedule_title = counted_title SCHEDULE
 
 -- a command with its round, after those before it
 abbrev pub new_record : List (Command × ℕ) → Part Row Why (Command × ℕ)
@@ -62,7 +63,7 @@ schedule_form = then schedule_title (λ t. schedule_body t.1.1)
 
 -- what the records of a schedule tell
 abbrev pub schedule_value : ScheduleView → (ℕ × (ℕ × ℕ)) × List (Command × ℕ)
-schedule_value s = ((1, (s.depth, length s.commands)), zip s.commands s.rounds)
+schedule_value s = ((SCHEDULE.latest, (s.depth, length s.commands)), zip s.commands s.rounds)
 
 -- the records of a schedule
 abbrev pub schedule_rows : ScheduleView → List Row

@@ -1,5 +1,5 @@
 -- A record by a table of its fields.
-use Rattle.std.specs.Prelude.{◌≡◌, ◌⊎◌, ◌≤◌, ℕ, suc, ℤ, pos, negsuc, List, [], ◌∷◌, decimal}
+use Rattle.std.specs.Prelude.{◌≤◌, ℕ, suc, ℤ, pos, negsuc, List, [], ◌∷◌, decimal}
 use Rattle.std.specs.Fmt.{signed_decimal}
 use Rattle.blk_bio.specs.declared.bio.Dir.{Dir}
 use Rattle.blk_lists.specs.Sources.{Row}
@@ -7,7 +7,6 @@ use Rattle.blk_bio.specs.Letters.{direction_text}
 use Rattle.blk_lists.specs.Fields.{Lacks, IsNanoseconds}
 use Rattle.blk_lists.specs.Words.{NextStarts, HasNoWord, WordLacks}
 use Rattle.blk_lists.specs.declared.fault.Why.{Why}
-use Rattle.blk_lists.specs.declared.fault.Why.TheVariants as why
 use Rattle.blk_lists.specs.declared.fields.Slot.{Slot}
 use Rattle.blk_lists.specs.declared.fields.Slot.TheVariants as slot
 use Rattle.parts.specs.Parts.{Part, NextWrong, record_of, by_word}
@@ -87,32 +86,3 @@ word_record gone word cells Fits = record_of (λ v. word ∷ row_by cells v) Fit
 abbrev pub kinds_record : {K : Type 0} (V : K → Type 0) → Why → ℕ → (K → Type 0) → (K → List ℕ) → ((k : K) → List (Cell (V k))) → Part Row Why ((k : K) × V k)
 kinds_record V gone width Stands word_of cells =
     by_word V (λ k rows. Stands k × NextStarts (word_of k) rows) (λ k. word_record gone (word_of k) (cells k) (λ v. Stands k × FitsCells (cells k) v)) (NextWrong gone (HasNoWord width))
-
--- a title begins with the name of its form and a version of it
-abbrev pub IsTitled : List ℕ → ℕ → Row → Type 0
-IsTitled name version row = (more : Row) × (row ≡ name ∷ decimal version ∷ more)
-
--- a form has versions from 1 on
-abbrev pub IsVersion : ℕ → ℕ → Type 0
-IsVersion latest version = (1 ≤ version) × (version ≤ latest)
-
--- a title is that of a version of the form
-abbrev pub IsOfVersion : List ℕ → ℕ → Row → ℕ → Type 0
-IsOfVersion name latest row version = IsVersion latest version × IsTitled name version row
-
--- and of none
-abbrev pub HasNoVersion : List ℕ → ℕ → Row → Type 0
-HasNoVersion name latest row = (version : ℕ) → IsVersion latest version → ¬ IsTitled name version row
-
--- the title record of a version and what it tells
-abbrev pub title_by : {V : Type 0} → List ℕ → (ℕ → List (Cell V)) → ℕ × V → Row
-title_by name cells t = name ∷ decimal t.0 ∷ row_by (cells t.0) t.1
-
--- what is wrong with a title record: first its name and version
-abbrev pub TitleLacks : {V : Type 0} → List ℕ → ℕ → (ℕ → List (Cell V)) → Row → Why → Type 0
-TitleLacks name latest cells row w = ((w ≡ why.Title) × ((version : ℕ) → IsVersion latest version → ¬ IsTitled name version row))
-    ⊎ ((version : ℕ) × IsVersion latest version × IsTitled name version row × Lacks (slot.Given ∷ slot.Given ∷ slots_by (cells version)) row w)
-
--- a title record, whose value has the version
-abbrev pub title_record : {V : Type 0} → List ℕ → ℕ → (ℕ → List (Cell V)) → (ℕ → V → Type 0) → Part Row Why (ℕ × V)
-title_record name latest cells Fits = record_of (title_by name cells) (λ t. IsVersion latest t.0 × Fits t.0 t.1) why.Title (TitleLacks name latest cells)

@@ -25,7 +25,7 @@ use crate::fields::{
 use crate::items::{LineForm, read_line, read_lines};
 use crate::kinds::Kind;
 use crate::source::Records;
-use crate::titles::{COUNTED, CountedTitle};
+use crate::titles::{COUNTED, TitleRow, read_title};
 use crate::writing::push_numbers;
 use csv::ByteRecord;
 use drafts::pieces::{put, put_two};
@@ -37,10 +37,11 @@ use std::alloc::{AllocError, Global};
 use std::io::{Read, Write};
 
 /// The title record.
-pub const CERTIFICATE: Kind<15, 4> = Kind {
+pub const CERTIFICATE: TitleRow<15, 4> = TitleRow {
     word: *b"blk-certificate",
-    since: 1,
+    latest: 1,
     slots: COUNTED,
+    later: None,
 };
 
 /// The record of a bound.
@@ -282,12 +283,11 @@ pub fn read_certificate<R: Read + Drop>(
     // the last thing that was asked for is the record after the commands, which there is not
     ensures end { IfOk result (λ c. records.new.at ≡ length c.commands.items + 3) }
 {
-    let form = CountedTitle { kind: CERTIFICATE };
-    let (_, (depth, count)) = match read_line(records, &form) {
+    let (_, title) = match read_title(records, &CERTIFICATE) {
         Ok(title) => title,
         Err(fault) => return Err(fault),
     };
-    match read_claim_body(alloc, records, depth, count) {
+    match read_claim_body(alloc, records, title[2], title[3]) {
         Ok(certificate) => Ok(certificate),
         Err(fault) => Err(fault),
     }
@@ -355,7 +355,10 @@ pub fn certificate_text(alloc: Global, certificate: &Certificate) -> Result<Vec<
     let mut draft = Block::new(alloc);
     let commands = certificate.commands.as_slice();
     let rounds = certificate.rounds.as_slice();
-    CERTIFICATE.push(&mut draft, &[1, certificate.depth, commands.len() as u64])?;
+    CERTIFICATE.push(
+        &mut draft,
+        &[CERTIFICATE.latest, certificate.depth, commands.len() as u64],
+    )?;
     push_bound(alloc, &mut draft, certificate.bound)?;
     push_schedule(&mut draft, commands, rounds)?;
     draft.finish()

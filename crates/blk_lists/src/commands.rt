@@ -8,12 +8,10 @@ ghost use Rattle.blk_lists.specs.Reads.{FaultsBy, Reaches};
 ghost use Rattle.blk_lists.specs.Commands.{AreCommands, SpellsCommands, CommandsFault, command_list, commands_rows};
 
 use crate::fault::{TextFault, Why};
-use crate::fields::{
-    ANY_SLOT, DEPTH_SLOT, RELEASE_SLOT, ROUND_SLOT, Slot, read_fields, version_of,
-};
-use crate::items::{LineForm, read_line, read_lines};
-use crate::kinds::Kind;
+use crate::fields::{ANY_SLOT, DEPTH_SLOT, RELEASE_SLOT, ROUND_SLOT, Slot, read_fields};
+use crate::items::{LineForm, read_lines};
 use crate::source::Records;
+use crate::titles::{TitleRow, read_title};
 use crate::writing::push_numbers;
 use csv::ByteRecord;
 use drafts::{Block, WriteFault, write_whole};
@@ -23,41 +21,15 @@ use std::alloc::{AllocError, Global};
 use std::io::{Read, Write};
 
 /// The title record: the version and the depth.
-pub const COMMANDS: Kind<12, 3> = Kind {
+pub const COMMANDS: TitleRow<12, 3> = TitleRow {
     word: *b"blk-commands",
-    since: 1,
+    latest: 1,
     slots: [Slot::Given, Slot::Given, DEPTH_SLOT],
+    later: None,
 };
 
 /// The fields of a command: id, release, due.
 pub const COMMAND: [Slot; 3] = [ANY_SLOT, RELEASE_SLOT, ROUND_SLOT];
-
-/// The title record: the version and the depth.
-#[derive(Clone, Copy, Drop)]
-pub(crate) struct TitleForm;
-
-impl LineForm for TitleForm {
-    ghost use Rattle.blk_lists.specs.Commands.{commands_title_part};
-
-    type Value = (u64, u64);
-
-    ghost part = { λ _. commands_title_part };
-
-    #[tactic(auto, using(crate::proofs::CommandLaws::title_one))]
-    fn gone(&self) -> Why {
-        Why::Title
-    }
-
-    fn line(&self, row: &ByteRecord) -> Result<(u64, u64), Why> {
-        let Some(version) = version_of(row, &COMMANDS.word, 1) else {
-            return Err(Why::Title);
-        };
-        match read_fields(row, &COMMANDS.slots) {
-            Ok(numbers) => Ok((version, numbers[2])),
-            Err(why) => Err(why),
-        }
-    }
-}
 
 /// A record of a command list: id, release, due.
 #[derive(Clone, Copy, Drop)]
@@ -110,12 +82,12 @@ pub fn read_commands<R: Read + Drop>(
     // the last thing that was asked for is the record after the commands, which there is not
     ensures end { IfOk result (λ v. records.new.at ≡ length v.1.items + 2) }
 {
-    let (_, depth) = match read_line(records, &TitleForm) {
+    let (_, title) = match read_title(records, &COMMANDS) {
         Ok(title) => title,
         Err(fault) => return Err(fault),
     };
     match read_lines(alloc, records, CommandForm, Repeats::AtMost(MAX_COMMANDS)) {
-        Ok(commands) => Ok((depth, commands)),
+        Ok(commands) => Ok((title[2], commands)),
         Err(fault) => Err(fault),
     }
 }
@@ -125,7 +97,7 @@ pub fn commands_text(alloc: Global, depth: u64, commands: &[Command]) -> Result<
     ensures { IfOk result (λ v. v.items ≡ rows_text (commands_rows depth commands.now)) }
 {
     let mut draft = Block::new(alloc);
-    COMMANDS.push(&mut draft, &[1, depth])?;
+    COMMANDS.push(&mut draft, &[COMMANDS.latest, depth])?;
     for i in 0..commands.len() {
         let command = commands[i];
         push_numbers(&mut draft, command.id, &[command.release, command.due])?;

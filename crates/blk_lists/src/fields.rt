@@ -6,7 +6,6 @@ ghost use Rattle.csv.specs.Records.{fields_of};
 ghost use Rattle.blk_lists.specs.declared.fields.TheConstants.{MAX_SAFE_DIGITS};
 ghost use Rattle.blk_lists.specs.Fields.{EachField, IsSized, Lacks, FieldSpells, FieldsSpell, IsNanoseconds, TellsNanoseconds};
 ghost use Rattle.blk_lists.specs.Inside.Fields.{IsSeldom, IsGood, IsWhole, KeepsRule, WritesNumber, canonical};
-ghost use Rattle.blk_lists.specs.Tables.{HasNoVersion, IsOfVersion};
 ghost use Rattle.blk_lists.specs.Words.{StartsWith, HasNoWord};
 
 use crate::fault::Why;
@@ -383,23 +382,4 @@ pub fn begins_with(row: &ByteRecord, word: &[u8]) -> bool
     ensures { IsTrue result ↔ StartsWith word.now (fields_of row.now) }
 {
     field(row, 0) == word
-}
-
-/// The version of a title record of the form of this name, if the form has one like it.
-pub fn version_of(row: &ByteRecord, name: &[u8], latest: u64) -> Option<u64>
-    ensures { MatchOption result (HasNoVersion name.now latest (fields_of row.now)) (IsOfVersion name.now latest (fields_of row.now)) }
-{
-    if row.len() < 2 || field(row, 0) != name {
-        return None;
-    }
-    let Some(version) = parse_number(field(row, 1)) else {
-        return None;
-    };
-    if version < 1 {
-        return None;
-    }
-    if latest < version {
-        return None;
-    }
-    Some(version)
 }

@@ -12,7 +12,7 @@ pub mod on_time;
 mod proof;
 pub mod schedule;
 pub mod source;
-mod titles;
+pub mod titles;
 mod watched;
 mod writing;
 

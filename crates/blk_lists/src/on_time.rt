@@ -16,7 +16,7 @@ use crate::fields::{COUNT_SLOT, ROUND_SLOT, Slot, begins_with, read_fields, with
 use crate::items::{Each, LineForm, gather, read_line, read_lines};
 use crate::kinds::Kind;
 use crate::source::Records;
-use crate::titles::{COUNTED, CountedTitle};
+use crate::titles::{COUNTED, TitleRow, read_title};
 use csv::ByteRecord;
 use drafts::{Block, WriteFault, write_whole};
 use edd_check::Window;
@@ -26,10 +26,11 @@ use std::alloc::{AllocError, Global};
 use std::io::{Read, Write};
 
 /// The title record.
-pub const ON_TIME: Kind<7, 4> = Kind {
+pub const ON_TIME: TitleRow<7, 4> = TitleRow {
     word: *b"blk-met",
-    since: 1,
+    latest: 1,
     slots: COUNTED,
+    later: None,
 };
 
 /// A schedule of commands, with the claim that none has more of them on time.
@@ -209,12 +210,11 @@ pub fn read_on_time<R: Read + Drop>(
     // the last thing that was asked for is the record after the commands, which there is not
     ensures end { IfOk result (λ c. records.new.at ≡ length c.cover.items + length c.commands.items + 3) }
 {
-    let form = CountedTitle { kind: ON_TIME };
-    let (_, (depth, count)) = match read_line(records, &form) {
+    let (_, title) = match read_title(records, &ON_TIME) {
         Ok(title) => title,
         Err(fault) => return Err(fault),
     };
-    match read_on_time_body(alloc, records, depth, count) {
+    match read_on_time_body(alloc, records, title[2], title[3]) {
         Ok(certificate) => Ok(certificate),
         Err(fault) => Err(fault),
     }
@@ -239,7 +239,10 @@ pub fn on_time_text(alloc: Global, certificate: &OnTimeCertificate) -> Result<Ve
     let mut draft = Block::new(alloc);
     let commands = certificate.commands.as_slice();
     let cover = certificate.cover.as_slice();
-    ON_TIME.push(&mut draft, &[1, certificate.depth, commands.len() as u64])?;
+    ON_TIME.push(
+        &mut draft,
+        &[ON_TIME.latest, certificate.depth, commands.len() as u64],
+    )?;
     NUMBERS.push(&mut draft, &[certificate.on_time, cover.len() as u64])?;
     push_cover(&mut draft, cover)?;
     push_schedule(&mut draft, commands, certificate.rounds.as_slice())?;

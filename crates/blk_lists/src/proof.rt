@@ -10,7 +10,6 @@ use crate::fields::begins_with;
 use crate::items::{LineForm, read_line};
 use crate::on_time::{ON_TIME, OnTimeCertificate, read_on_time_body};
 use crate::source::Records;
-use crate::titles::counted_title;
 use csv::ByteRecord;
 use edd_commands::MAX_COMMANDS;
 use std::alloc::Global;
@@ -50,16 +49,12 @@ impl LineForm for ProofTitleForm {
 
     fn line(&self, row: &ByteRecord) -> Result<(ProofKind, (u64, (u64, u64))), Why> {
         if begins_with(row, &CERTIFICATE.word) {
-            return match counted_title(row, &CERTIFICATE) {
-                Ok(title) => Ok((ProofKind::Lateness, title)),
-                Err(why) => Err(why),
-            };
+            let (version, title) = CERTIFICATE.read(row)?;
+            return Ok((ProofKind::Lateness, (version, (title[2], title[3]))));
         }
         if begins_with(row, &ON_TIME.word) {
-            return match counted_title(row, &ON_TIME) {
-                Ok(title) => Ok((ProofKind::OnTime, title)),
-                Err(why) => Err(why),
-            };
+            let (version, title) = ON_TIME.read(row)?;
+            return Ok((ProofKind::OnTime, (version, (title[2], title[3]))));
         }
         Err(Why::Title)
     }

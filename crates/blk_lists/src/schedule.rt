@@ -12,10 +12,9 @@ ghost use Rattle.blk_lists.specs.Inside.Schedule.{IsPastCommands, IsAdded, AreFi
 
 use crate::certificate::{ServedForm, push_schedule, split};
 use crate::fault::{TextFault, Why};
-use crate::items::{ItemForm, LineForm, gather, read_line};
-use crate::kinds::Kind;
+use crate::items::{ItemForm, LineForm, gather};
 use crate::source::Records;
-use crate::titles::{COUNTED, CountedTitle};
+use crate::titles::{COUNTED, TitleRow, read_title};
 use csv::ByteRecord;
 use drafts::{Block, WriteFault, write_whole};
 use edd_commands::{Command, MAX_COMMANDS};
@@ -25,10 +24,11 @@ use std::collections::BTreeSet;
 use std::io::{Read, Write};
 
 /// The title record.
-pub const SCHEDULE: Kind<12, 4> = Kind {
+pub const SCHEDULE: TitleRow<12, 4> = TitleRow {
     word: *b"blk-schedule",
-    since: 1,
+    latest: 1,
     slots: COUNTED,
+    later: None,
 };
 
 /// A schedule of commands, of which nothing is claimed.
@@ -254,18 +254,17 @@ pub fn read_schedule<R: Read + Drop>(
     // the last thing that was asked for is the record after the commands, which there is not
     ensures end { IfOk result (λ s. records.new.at ≡ length s.commands.items + 2) }
 {
-    let form = CountedTitle { kind: SCHEDULE };
-    let (_, (depth, count)) = match read_line(records, &form) {
+    let (_, title) = match read_title(records, &SCHEDULE) {
         Ok(title) => title,
         Err(fault) => return Err(fault),
     };
-    let served = match read_new(alloc, records, count) {
+    let served = match read_new(alloc, records, title[3]) {
         Ok(served) => served,
         Err(fault) => return Err(fault),
     };
     match split(alloc, served.as_slice()) {
         Ok((commands, rounds)) => Ok(Schedule {
-            depth,
+            depth: title[2],
             commands,
             rounds,
         }),
@@ -280,7 +279,10 @@ pub fn schedule_text(alloc: Global, schedule: &Schedule) -> Result<Vec<u8>, Allo
 {
     let mut draft = Block::new(alloc);
     let commands = schedule.commands.as_slice();
-    SCHEDULE.push(&mut draft, &[1, schedule.depth, commands.len() as u64])?;
+    SCHEDULE.push(
+        &mut draft,
+        &[SCHEDULE.latest, schedule.depth, commands.len() as u64],
+    )?;
     push_schedule(&mut draft, commands, schedule.rounds.as_slice())?;
     draft.finish()
 }

@@ -1,57 +1,150 @@
-//! The titles of forms that give a depth and a number of commands.
+//! Titles, each a row of data: the name of a form, its latest version, and what may stand in the fields of its title record.
 
-ghost use Rattle.std.specs.Prelude.{◌≡◌, ◌<◌, IfOk, IfErr};
+ghost use Rattle.std.specs.Prelude.{◌≡◌, ◌+◌, ◌-◌, ◌≤◌, ◌<◌, ◌^◌, IfOk, IfErr, OnOk, MatchOption, length};
 ghost use Rattle.csv.specs.Records.{fields_of};
-ghost use Rattle.blk_lists.specs.Reads.{IsRowOf, IsWrongLine};
-ghost use Rattle.blk_lists.specs.Titles.{counted_title as title_part};
-ghost use Rattle.blk_lists.specs.declared.titles.TheConstants.{COUNTED as COUNTED_SLOTS};
+ghost use Rattle.blk_lists.specs.Cells.{IsPlainWord};
+ghost use Rattle.blk_lists.specs.Kinds.{AddsRecord};
+ghost use Rattle.blk_lists.specs.Titles.{slot_in, slots_in, HasNoVersion, IsOfVersion, TitleTells, TitleLacks, TakesTitle, StopsAtTitle};
 
-use crate::fault::Why;
-use crate::fields::{COUNT_SLOT, DEPTH_SLOT, Slot, read_fields, version_of};
-use crate::items::LineForm;
-use crate::kinds::Kind;
+use crate::fault::{TextFault, Why};
+use crate::fields::{COUNT_SLOT, DEPTH_SLOT, Slot, field, parse_number, read_fields};
+use crate::source::Records;
+use crate::writing::push_row;
 use csv::ByteRecord;
+use drafts::Block;
+use std::alloc::AllocError;
+use std::io::Read;
 
-/// The fields of such a title: the name, the version, the depth, the number of commands.
+/// A number of a title that may be greater from a version on.
+#[derive(Clone, Copy, Drop)]
+pub struct Wider {
+    /// The place of its field.
+    pub place: usize,
+    /// The first version in which it may.
+    pub since: u64,
+    /// The most that it may be from then on.
+    pub most: u64,
+}
+
+impl Wider {
+    /// What may stand in its field in a version, by what may in the first one.
+    pub fn slot_in(&self, version: u64, slot: Slot) -> Slot
+        ensures { result ≡ slot_in self.now version slot }
+    {
+        match slot {
+            Slot::Number { least, most } => Slot::Number {
+                least,
+                most: if self.since <= version {
+                    self.most
+                } else {
+                    most
+                },
+            },
+            Slot::Given
+            | Slot::Blank
+            | Slot::Direction
+            | Slot::Lateness { .. }
+            | Slot::Text
+            | Slot::Nanoseconds => slot,
+        }
+    }
+}
+
+/// The title of a form.
+#[derive(Clone, Copy, Drop)]
+pub struct TitleRow<const L: usize, const N: usize> {
+    /// The name of the form.
+    pub word: [u8; L],
+    /// Its latest version, which is written. The first one is 1.
+    pub latest: u64,
+    /// What may stand in its fields in version 1. The name is the first of them and the version the second.
+    pub slots: [Slot; N],
+    /// The number that may be greater in later versions, where there is one.
+    pub later: Option<Wider>,
+}
+
+/// The fields of a title with a depth and a number of commands.
 pub const COUNTED: [Slot; 4] = [Slot::Given, Slot::Given, DEPTH_SLOT, COUNT_SLOT];
 
-/// The version, the depth and the number of commands of a title record of this kind.
-pub fn counted_title<const L: usize>(
-    row: &ByteRecord,
-    kind: &Kind<L, 4>,
-) -> Result<(u64, (u64, u64)), Why>
-    requires { kind.now.slots ≡ COUNTED }
-    ensures ok { IfOk result (IsRowOf (title_part kind.now.word) (fields_of row.now)) }
-    ensures err { IfErr result (IsWrongLine (title_part kind.now.word) (fields_of row.now)) }
+/// The version of a title record of the form of this name, if the form has one like it.
+fn version_of(row: &ByteRecord, name: &[u8], latest: u64) -> Option<u64>
+    ensures { MatchOption result (HasNoVersion name.now latest (fields_of row.now)) (IsOfVersion name.now latest (fields_of row.now)) }
 {
-    let Some(version) = version_of(row, &kind.word, 1) else {
-        return Err(Why::Title);
+    if row.len() < 2 || field(row, 0) != name {
+        return None;
+    }
+    let Some(version) = parse_number(field(row, 1)) else {
+        return None;
     };
-    match read_fields(row, &kind.slots) {
-        Ok(numbers) => Ok((version, (numbers[2], numbers[3]))),
-        Err(why) => Err(why),
+    if version < 1 {
+        return None;
+    }
+    if latest < version {
+        return None;
+    }
+    Some(version)
+}
+
+impl<const L: usize, const N: usize> TitleRow<L, N> {
+    /// What may stand in its fields in a version.
+    fn slots_in(&self, version: u64) -> [Slot; N]
+        ensures { result ≡ slots_in self.now version }
+    {
+        let mut slots = self.slots;
+        if let Some(wider) = self.later {
+            if wider.place < N {
+                slots[wider.place] = wider.slot_in(version, slots[wider.place]);
+            }
+        }
+        slots
+    }
+
+    /// The version of a title record and the numbers of its fields by place, or the first thing that is wrong with it.
+    pub fn read(&self, row: &ByteRecord) -> Result<(u64, [u64; N]), Why>
+        ensures ok { IfOk result (λ t. TitleTells self.now (fields_of row.now) t.0 t.1) }
+        ensures err { IfErr result (TitleLacks self.now (fields_of row.now)) }
+    {
+        let Some(version) = version_of(row, &self.word, self.latest) else {
+            return Err(Why::Title);
+        };
+        match read_fields(row, &self.slots_in(version)) {
+            Ok(numbers) => Ok((version, numbers)),
+            Err(why) => Err(why),
+        }
+    }
+
+    /// Adds the title record with these numbers in the fields after its name, of which the version is the first, and empty
+    /// ones after them.
+    #[inline(always)]
+    pub fn push(&self, draft: &mut Block, numbers: &[u64]) -> Result<(), AllocError>
+        requires word { IsPlainWord self.now.word }
+        requires wide { (2 ≤ N) × (N ≤ 6) }
+        requires few { length numbers.now < N }
+        ensures text { OnOk result (AddsRecord draft.old draft.new self.now.word numbers.now (N - 1)) }
+    {
+        let word = self.word;
+        push_row(draft, word.as_slice(), numbers, N - 1 - numbers.len())
     }
 }
 
-/// The title record of this kind: the version, and with it the depth and the number of commands.
-#[derive(Clone, Copy, Drop)]
-pub struct CountedTitle<const L: usize> {
-    pub kind: Kind<L, 4>,
-    ghost counted: { kind.slots ≡ COUNTED_SLOTS },
-}
-
-impl<const L: usize> LineForm for CountedTitle<L> {
-    ghost use Rattle.blk_lists.specs.Titles.{counted_title as title_part};
-
-    type Value = (u64, (u64, u64));
-
-    ghost part = { λ f. title_part f.kind.word };
-
-    fn gone(&self) -> Why {
-        Why::Title
+/// The version and the numbers of the next record, a title of this row.
+pub fn read_title<R: Read + Drop, const L: usize, const N: usize>(
+    records: &mut Records<R>,
+    title: &TitleRow<L, N>,
+) -> Result<(u64, [u64; N]), TextFault>
+    requires { records.old.at < 2 ^ 64 - 1 }
+    ensures at { records.new.at ≡ records.old.at + 1 }
+    // the record that was taken tells them, also where the reader's bytes are not known
+    ensures ok { IfOk result (λ t. TakesTitle title.now records.old.left records.new.left t.0 t.1) }
+    // at the record that was asked for last: none was read past it
+    ensures last { IfErr result (λ f. f.at ≡ records.new.at) }
+    ensures err { IfErr result (λ f. StopsAtTitle title.now records.new.failed records.old.left f.why) }
+{
+    if !records.advance()? {
+        return Err(records.fault(Why::Title));
     }
-
-    fn line(&self, row: &ByteRecord) -> Result<(u64, (u64, u64)), Why> {
-        counted_title(row, &self.kind)
+    match title.read(records.row()) {
+        Ok(told) => Ok(told),
+        Err(why) => Err(records.fault(why)),
     }
 }

@@ -1,5 +1,5 @@
 -- The laws of the events of a trace, and of whole traces.
-use Rattle.std.proofs.Common.{◌≡◌, ◌+◌, ◌<◌, ◌≤◌, ◌∙◌, ℕ, List, [], ◌∷◌, length, refl, sym, ap, subst, inl, inr, arith, codes, Bool, true, false, Option, Some, None}
+use Rattle.std.proofs.Common.{◌≡◌, ◌+◌, ◌<◌, ◌≤◌, ◌∙◌, ℕ, List, [], ◌∷◌, length, refl, sym, ap, subst, inl, inr, arith, get_or, Bool, true, false, Option, Some, None}
 use Rattle.std.specs.Prelude.{◌⊎◌, IfSome, Err, unwrap_or}
 use Rattle.blk_bio.specs.Bios.{Bio}
 use Rattle.blk_bio.specs.Limits.{Limits}
@@ -14,19 +14,17 @@ use Rattle.blk_trace.specs.Traces.{Traced, IsPushAnswer}
 use Rattle.blk_trace.specs.declared.rule.PushFault.{PushFault}
 use Rattle.blk_trace.specs.declared.rule.PushFault.TheVariants as push_fault
 use Rattle.blk_lists.specs.Sources.{Row, TakesRecord}
-use Rattle.blk_lists.specs.Reads.{IsOutside, IsOne, IsRowOf, IsWrongLine, Reads, HandReads, HandFails, Fails, AreGathered, IsStopped, repeated, size_of, with_next}
+use Rattle.blk_lists.specs.Reads.{IsOutside, IsRowOf, IsWrongLine, Reads, HandReads, HandFails, Fails, AreGathered, IsStopped, repeated, size_of, with_next}
 use Rattle.blk_text.specs.SetupRecord.{setup}
-use Rattle.blk_lists.specs.Tables.{FitsCells, slots_by}
-use Rattle.blk_text.specs.TraceForm.{first_record, bios_after, group, event_told, plain_event, BreaksRule, event, alone, one_more, events_of, trace_cells, IsTraceTitle, trace_title_part, trace_body, trace_form}
+use Rattle.blk_lists.specs.Tables.{FitsCells}
+use Rattle.blk_lists.specs.Titles.{IsVersion, title_cells, TakesTitle}
+use Rattle.blk_text.specs.TraceForm.{first_record, bios_after, group, event_told, plain_event, BreaksRule, event, alone, one_more, events_of, TraceTitle, trace_numbers, IsTraceTitle, trace_title_part, trace_body, trace_form}
 use Rattle.blk_text.specs.Inside.TraceForm.{IsPast, refusal_of, IsRefused}
-use Rattle.blk_text.specs.Versions.{most_tags}
-use Rattle.blk_text.specs.declared.setup.TheConstants.{LATEST}
 use Rattle.blk_lists.specs.declared.fault.Why.{Why}
 use Rattle.blk_lists.specs.declared.fault.Why.TheVariants as why
-use Rattle.blk_lists.specs.declared.fields.Slot.TheVariants as slot
 use Rattle.blk_text.specs.TraceForm.{Head}
 use Rattle.blk_trace.specs.declared.event.Event.TheVariants as head
-use Rattle.blk_text.specs.declared.heads.TraceTitle.{TraceTitle}
+use Rattle.blk_text.specs.declared.heads.TheConstants.{TRACE}
 use Rattle.parts.specs.declared.Repeats.TheVariants as repeats
 use Rattle.parts.specs.Parts.{Part, Begins}
 use Rattle.parts.specs.Parts.{then as in_turn}
@@ -35,13 +33,12 @@ use Rattle.parts.specs.Inside.Laws.{Decides}
 use Rattle.parts.proofs.Then.{seen_tells, seen_decides, then_tells, then_decides, tested_tells, tested_decides, both_begin}
 use Rattle.parts.proofs.Many.{HasRows, ended_tells, ended_decides}
 use Rattle.blk_lists.proofs.Reading.{outside_fails, many_fails, many_ends, full_ends, past_wrong, full_stopped}
-use Rattle.blk_lists.proofs.TableLaws.{IsTable, title_part, title_decides}
-use Rattle.blk_text.proofs.ScriptLaws.{fewer_tags, setup_one, setup_decides}
+use Rattle.blk_lists.proofs.TitleLaws.{IsTitleTable, title_tells, title_decides, title_reads}
+use Rattle.blk_text.proofs.ScriptLaws.{fewer_tags, tags_are, setup_one, setup_decides}
 use Rattle.blk_text.proofs.HeadLaws.{head_tells, head_decides, head_gone}
 use Rattle.blk_text.proofs.GroupLaws.{group_tells, group_decides, group_size}
 use Rattle.blk_text.proofs.RuleLaws.{rule_at, rule_is, unbroken_or_first}
-use Rattle.blk_trace.specs.declared.trace.TheConstants.{MAX_EVENTS}
-use Rattle.blk_bio.specs.declared.limits.TheConstants.{MAX_QUEUES, MAX_SEGMENTS}
+use Rattle.blk_bio.specs.declared.limits.TheConstants.{MAX_SEGMENTS}
 
 -- the event of a first record and bios
 back : Head × List Bio → Happened
@@ -148,26 +145,33 @@ event_gone version setup before = inl (inl (head_gone version))
 
 -- whole traces
 
-pub title_fits : (version : ℕ) (t : TraceTitle) → FitsCells (trace_cells version) t → IsTraceTitle version t
-title_fits version t f = record { depth = f.0; hw = f.1.0; count = f.1.1.0.1 }
+title_fits : (version : ℕ) (t : TraceTitle) → FitsCells (title_cells TRACE trace_numbers version) t → IsTraceTitle version t
+title_fits version t f = record { depth = rw (tags_are version) at f.0; hw = f.1.0; count = f.1.1.0.1 }
 
-pub title_table : (version : ℕ) → IsTable (trace_cells version) (IsTraceTitle version)
-title_table version = record {
-  sized = (omega (arith, fewer_tags version), (omega arith, (omega arith, (tt, tt))));
-  within = λ t i. (i.depth, (i.hw, ((omega arith, i.count), (tt, tt))));
-  made = λ x. record { depth = x.0; hw = x.1.0; count = x.1.1.0 };
-  back = λ t i. refl;
-  forth = λ x. refl;
-  fits = λ x f. title_fits version _ f;
+title_table : IsTitleTable TRACE trace_numbers IsTraceTitle
+title_table = record {
+  latest = omega arith;
+  slots = λ v. refl;
+  table = λ v. record {
+    sized = (omega (arith, fewer_tags v, tags_are v), (omega arith, (omega arith, (tt, tt))));
+    within = λ t i. (rw (sym (tags_are v)) at i.depth, (i.hw, ((omega arith, i.count), (tt, tt))));
+    made = λ x. record { depth = x.0; hw = x.1.0; count = x.1.1.0 };
+    back = λ t i. refl;
+    forth = λ x. refl;
+    fits = λ x f. title_fits v _ f;
+  };
+  fits = title_fits;
 }
 
--- the slots of a title, by its greatest depth
-pub title_slots : (version depth : ℕ) → depth ≡ most_tags version
-    → slot.Given ∷ slot.Given ∷ slot.Number 1 depth ∷ slot.Number 1 MAX_QUEUES ∷ slot.Number 0 MAX_EVENTS ∷ slot.Blank ∷ [] ≡ slot.Given ∷ slot.Given ∷ slots_by (trace_cells version)
-title_slots version depth e = ap (λ n. slot.Given ∷ slot.Given ∷ slot.Number 1 n ∷ slot.Number 1 MAX_QUEUES ∷ slot.Number 0 MAX_EVENTS ∷ slot.Blank ∷ []) e
+pub trace_title_tells : Tells trace_title_part
+trace_title_tells = title_tells TRACE trace_numbers IsTraceTitle title_table
 
-pub title_one : IsOne trace_title_part
-title_one = record { tells = title_part (codes "blk-trace") LATEST trace_cells IsTraceTitle (omega arith) title_table; plain = λ t rest f. tt; one = λ t. refl }
+-- the title that a record tells by its numbers
+abbrev pub title_at : List ℕ → TraceTitle
+title_at ns = record { depth = get_or ns 2 0; hw = get_or ns 3 0; count = get_or ns 4 0 }
+
+pub title_told : (left mid : Option (List Row)) (t : ℕ × List ℕ) → TakesTitle TRACE left mid t.0 t.1 → Reads trace_title_part left mid (t.0, title_at t.1) × (IsVersion TRACE.latest t.0 × IsTraceTitle t.0 (title_at t.1))
+title_told left mid t h = title_reads TRACE trace_numbers IsTraceTitle title_table left mid t.0 (title_at t.1) t.1 h (refl, (refl, (refl, (tt, tt))))
 
 -- the depth of a title is one of a setup
 pub setup_depth : (t : ℕ × TraceTitle) → IsTraceTitle t.0 t.1 → (0 < t.1.depth) × (t.1.depth ≤ MAX_DEPTH)
@@ -177,10 +181,10 @@ pub body_tells : (t : ℕ × TraceTitle) → IsTraceTitle t.0 t.1 → Tells (tra
 body_tells t i = then_tells (setup t.1.depth t.1.hw) (λ s. events_of t.0 s t.1.count) (setup_one t.1.depth t.1.hw (setup_depth t i) i.hw).tells (λ s fit. events_tell t.0 s t.1.count)
 
 pub trace_tells : Tells trace_form
-trace_tells = then_tells trace_title_part trace_body title_one.tells (λ t fit. body_tells t fit.1)
+trace_tells = then_tells trace_title_part trace_body trace_title_tells (λ t fit. body_tells t fit.1)
 
 pub trace_decides : Decides trace_form
-trace_decides = then_decides trace_title_part trace_body (title_decides (codes "blk-trace") LATEST trace_cells IsTraceTitle (omega arith) title_table) (λ t fit. (let i = fit.1 in
+trace_decides = then_decides trace_title_part trace_body (title_decides TRACE trace_numbers IsTraceTitle title_table) (λ t fit. (let i = fit.1 in
     then_decides (setup t.1.depth t.1.hw) (λ s. events_of t.0 s t.1.count) (setup_decides t.1.depth t.1.hw (setup_depth t i) i.hw) (λ s fit. events_decide t.0 s t.1.count)))
 
 -- what was read of an event

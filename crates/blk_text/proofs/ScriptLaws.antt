@@ -1,6 +1,7 @@
 -- The laws of scripts.
 use Rattle.std.proofs.Common.{◌≡◌, ◌+◌, ◌<◌, ◌≤◌, ◌==◌, ◌∙◌, ℕ, zero, suc, List, [], ◌∷◌, length, map, Option, Some, None, refl, sym, ap, subst, inl, inr, arith, get_or, codes, true}
-use Rattle.std.specs.Prelude.{◌⊎◌, All, Err, IfSome, Bool, if◌then◌else◌}
+use Rattle.std.proofs.lemmas.Bool.{le-leb}
+use Rattle.std.specs.Prelude.{◌⊎◌, All, Err, IfSome, Bool, cond, if◌then◌else◌}
 use Rattle.csv.specs.Reading.{default_config, records, strip_bom}
 use Rattle.csv.specs.Writing.{read_back}
 use Rattle.blk_bio.specs.Bios.{Bio, IsBio, IsBioAnswer}
@@ -17,12 +18,13 @@ use Rattle.blk_lists.specs.Words.{StartsWith, WordLacks}
 use Rattle.blk_lists.specs.Fields.{Lacks, FieldsSpell}
 use Rattle.blk_lists.specs.Reads.{Reads, Halts, IsRowOf, IsWrongLine, IsOne, items_of}
 use Rattle.blk_lists.specs.Tables.{FitsCells, row_by, slots_by, kinds_record}
+use Rattle.blk_lists.specs.Titles.{IsVersion, most_in, title_cells, TakesTitle, StopsAtTitle}
 use Rattle.blk_text.specs.StepKinds.{StepKind, step_word, StepStandsIn, slots_for, StepTold, step_fields}
 use Rattle.blk_text.specs.StepKinds as kind
-use Rattle.blk_text.specs.Script.{step_said, LineFits, IsLineOf, IsRight, HasNoSuchBio, script_cells, IsTitle, IsEnough, TooFew, plain_title, script_title_part, plain_step, step, script_body, script_form, script_value, Scripted, title_of, script_rows, IsScript, IsScriptOf, SpellsVersion, SpellsScript, ScriptFault}
+use Rattle.blk_text.specs.Script.{step_said, LineFits, IsLineOf, IsRight, HasNoSuchBio, Title, title_numbers, IsTitle, IsEnough, TooFew, plain_title, script_title_part, plain_step, step, script_body, script_form, script_value, Scripted, title_of, script_rows, IsScript, IsScriptOf, SpellsVersion, SpellsScript, ScriptFault}
 use Rattle.blk_text.specs.Inside.BioTable.{bio_record}
 use Rattle.blk_text.specs.Versions.{most_tags}
-use Rattle.blk_text.specs.declared.setup.TheConstants.{LATEST}
+use Rattle.blk_text.specs.declared.setup.TheConstants.{LATEST, MAX_DEPTH_1, MORE_TAGS, WIDTH}
 use Rattle.blk_lists.specs.declared.fault.Why.{Why}
 use Rattle.blk_lists.specs.declared.fault.Why.TheVariants as why
 use Rattle.blk_lists.specs.declared.fields.Slot.TheVariants as slot
@@ -30,18 +32,18 @@ use Rattle.parts.specs.declared.Repeats.TheVariants as repeats
 use Rattle.parts.specs.Parts.{Part, Begins, Spells}
 use Rattle.parts.specs.Laws.{Tells}
 use Rattle.parts.specs.Inside.Laws.{Decides}
-use Rattle.parts.proofs.Then.{record_decides, then_tells, then_decides, tested_tells, tested_decides, seen_tells, seen_decides}
+use Rattle.parts.proofs.Then.{at_first, record_decides, then_tells, then_decides, tested_tells, tested_decides, seen_tells, seen_decides}
 use Rattle.blk_text.specs.declared.script.Line.{Line}
 use Rattle.blk_text.specs.declared.script.Line.TheVariants as line
-use Rattle.blk_text.specs.declared.script.Title.{Title}
 use Rattle.blk_lists.proofs.Lacking.{Dec, at_most}
 use Rattle.blk_lists.proofs.KindLaws.{SizedSlots, row_table}
-use Rattle.blk_lists.proofs.TableLaws.{IsTable, IsBy, begins, word_line, kinds_tell, kinds_decide, word_tells, word_decides, title_part, title_decides, words_tell, word_picked}
+use Rattle.blk_lists.proofs.TableLaws.{IsTable, IsBy, begins, word_line, kinds_tell, kinds_decide, word_tells, word_decides, words_tell, word_picked}
+use Rattle.blk_lists.proofs.TitleLaws.{IsTitleTable, title_tells, title_decides, title_reads}
 use Rattle.blk_lists.proofs.Each.{all_fit, each_tells, each_decides, one_record}
 use Rattle.blk_lists.proofs.Reading.{then_reads, first_halts, second_halts}
 use Rattle.blk_lists.proofs.Texts.{text_back, parts_back, begins_itself}
-use Rattle.blk_bio.specs.declared.limits.TheConstants.{MAX_QUEUES, MAX_SOFT_QUEUES, MAX_SOFT_DEPTH}
-use Rattle.blk_text.specs.declared.script.TheConstants.{MAX_STEPS}
+use Rattle.blk_bio.specs.declared.limits.TheConstants.{MAX_QUEUES, MAX_SOFT_QUEUES}
+use Rattle.blk_text.specs.declared.script.TheConstants.{MAX_STEPS, SCRIPT}
 
 -- the kind of a word, whatever it is
 abbrev kind_at : List ℕ → StepKind
@@ -97,7 +99,7 @@ held_back hw submitters kind.Bio v = refl
 held_back hw submitters k v = refl
 
 abbrev kinds : (version hw submitters : ℕ) → Part Row Why ((k : StepKind) × StepTold hw submitters k)
-kinds version hw submitters = kinds_record (StepTold hw submitters) why.Count 6 (StepStandsIn version) step_word (step_fields hw submitters)
+kinds version hw submitters = kinds_record (StepTold hw submitters) why.Count WIDTH (StepStandsIn version) step_word (step_fields hw submitters)
 
 one_bio : (b c : Bio) → line.Bio b ≡ line.Bio c → b ≡ c
 one_bio b c e = cc e
@@ -144,7 +146,7 @@ right_or_no_bio l = inl (λ b e. absurd (cc e))
 step_tells : (version hw submitters : ℕ) → hw ≤ MAX_QUEUES → submitters ≤ MAX_SOFT_QUEUES → Tells (step version hw submitters)
 step_tells version hw submitters g s = tested_tells (plain_step version hw submitters) IsRight HasNoSuchBio
     (seen_tells (step_said hw submitters) (kinds version hw submitters) (λ l m e. sym (line_back hw submitters l) ∙ ap (λ (h : (k : StepKind) × StepTold hw submitters k). line_with hw submitters h.0 h.1) e ∙ line_back hw submitters m)
-    (kinds_tell (StepTold hw submitters) why.Count 6 (StepStandsIn version) step_word (step_fields hw submitters) (words_tell step_word kind_at kind_is) (tables hw submitters g s)))
+    (kinds_tell (StepTold hw submitters) why.Count WIDTH (StepStandsIn version) step_word (step_fields hw submitters) (words_tell step_word kind_at kind_is) (tables hw submitters g s)))
     (λ l k j w x fit. no_bio_once l k j w x) (λ l k w good n. no_bio_is n.0 n.1 (good n.0 n.2) n.5) (λ l k w n. (let is = n.3 in (omega (arith, is), omega (arith, is))))
 
 pub step_one : (version hw submitters : ℕ) → hw ≤ MAX_QUEUES → submitters ≤ MAX_SOFT_QUEUES → IsOne (step version hw submitters)
@@ -153,7 +155,7 @@ step_one version hw submitters g s = record { tells = step_tells version hw subm
 step_decides : (version hw submitters : ℕ) → hw ≤ MAX_QUEUES → submitters ≤ MAX_SOFT_QUEUES → Decides (step version hw submitters)
 step_decides version hw submitters g s = tested_decides (plain_step version hw submitters) IsRight HasNoSuchBio
     (seen_decides (step_said hw submitters) (kinds version hw submitters) (λ v f. (line_with hw submitters v.0 v.1, held_back hw submitters v.0 v.1))
-    (kinds_decide (StepTold hw submitters) why.Count 6 (StepStandsIn version) step_word (step_fields hw submitters) (word_picked step_word kind_at (StepStandsIn version) kind_is (stands_decided version)) (tables hw submitters g s)))
+    (kinds_decide (StepTold hw submitters) why.Count WIDTH (StepStandsIn version) step_word (step_fields hw submitters) (word_picked step_word kind_at (StepStandsIn version) kind_is (stands_decided version)) (tables hw submitters g s)))
     (λ l fit. right_or_no_bio l)
 
 -- the numbers of a step, as its table and as the script say
@@ -230,48 +232,65 @@ step_no_bio version hw submitters row w t h rest = elim (h rest) [
 
 -- titles and setups
 
-pub title_fits : (version : ℕ) (t : Title) → FitsCells (script_cells version) t → IsTitle version t
-title_fits version t f = record { depth = f.0; hw = f.1.0; soft_depth = f.1.1.0; submitters = f.1.1.1.0 }
-
 -- a version has no more tags than the latest
 pub fewer_tags : (version : ℕ) → most_tags version ≤ MAX_DEPTH
 fewer_tags zero = omega arith
 fewer_tags (suc zero) = omega arith
 fewer_tags (suc (suc version)) = omega arith
 
-pub title_table : (version : ℕ) → IsTable (script_cells version) (IsTitle version)
-title_table version = record {
-  sized = (omega (arith, fewer_tags version), (omega arith, (omega arith, (omega arith, tt))));
-  within = λ t i. (i.depth, (i.hw, (i.soft_depth, (i.submitters, tt))));
-  made = λ x. record { depth = x.0; hw = x.1.0; soft_depth = x.1.1.0; submitters = x.1.1.1.0 };
-  back = λ t i. refl;
-  forth = λ x. refl;
-  fits = λ x f. title_fits version _ f;
+-- the row has as many
+pub tags_are : (version : ℕ) → most_in MORE_TAGS version MAX_DEPTH_1 ≡ most_tags version
+tags_are zero = refl
+tags_are (suc zero) = refl
+tags_are (suc (suc version)) = ap (λ b. cond b MAX_DEPTH MAX_DEPTH_1) (le-leb 2 (suc (suc version)) (omega arith))
+
+title_fits : (version : ℕ) (t : Title) → FitsCells (title_cells SCRIPT title_numbers version) t → IsTitle version t
+title_fits version t f = record { depth = rw (tags_are version) at f.0; hw = f.1.0; soft_depth = f.1.1.0; submitters = f.1.1.1.0 }
+
+title_table : IsTitleTable SCRIPT title_numbers IsTitle
+title_table = record {
+  latest = omega arith;
+  slots = λ v. refl;
+  table = λ v. record {
+    sized = (omega (arith, fewer_tags v, tags_are v), (omega arith, (omega arith, (omega arith, tt))));
+    within = λ t i. (rw (sym (tags_are v)) at i.depth, (i.hw, (i.soft_depth, (i.submitters, tt))));
+    made = λ x. record { depth = x.0; hw = x.1.0; soft_depth = x.1.1.0; submitters = x.1.1.1.0 };
+    back = λ t i. refl;
+    forth = λ x. refl;
+    fits = λ x f. title_fits v _ f;
+  };
+  fits = title_fits;
 }
 
--- the slots of a title, by its greatest depth
-pub title_slots : (version depth : ℕ) → depth ≡ most_tags version
-    → slot.Given ∷ slot.Given ∷ slot.Number 1 depth ∷ slot.Number 1 MAX_QUEUES ∷ slot.Number 1 MAX_SOFT_DEPTH ∷ slot.Number 1 MAX_SOFT_QUEUES ∷ [] ≡ slot.Given ∷ slot.Given ∷ slots_by (script_cells version)
-title_slots version depth e = ap (λ n. slot.Given ∷ slot.Given ∷ slot.Number 1 n ∷ slot.Number 1 MAX_QUEUES ∷ slot.Number 1 MAX_SOFT_DEPTH ∷ slot.Number 1 MAX_SOFT_QUEUES ∷ []) e
-
-pub title_one : IsOne script_title_part
-title_one = record {
-  tells = tested_tells plain_title IsEnough TooFew (title_part (codes "blk-script") LATEST script_cells IsTitle (omega arith) title_table)
-      (λ t k j w x fit f g. (f.0 ∙ sym g.0, f.1 ∙ sym g.1))
-      (λ t k w good f. (let few = f.2 in omega (arith, good, few)))
-      (λ t k w f. (let is = f.0 in (omega (arith, is), omega (arith, is))));
-  plain = λ t rest f. tt;
-  one = λ t. refl;
-}
+script_title_tells : Tells script_title_part
+script_title_tells = tested_tells plain_title IsEnough TooFew (title_tells SCRIPT title_numbers IsTitle title_table)
+    (λ t k j w x fit f g. (f.0 ∙ sym g.0, f.1 ∙ sym g.1))
+    (λ t k w good f. (let few = f.2 in omega (arith, good, few)))
+    (λ t k w f. (let is = f.0 in (omega (arith, is), omega (arith, is))))
 
 title_decided : Decides script_title_part
-title_decided = tested_decides plain_title IsEnough TooFew (title_decides (codes "blk-script") LATEST script_cells IsTitle (omega arith) title_table) (λ t fit. elim (at_most t.1.hw t.1.submitters) [
+title_decided = tested_decides plain_title IsEnough TooFew (title_decides SCRIPT title_numbers IsTitle title_table) (λ t fit. elim (at_most t.1.hw t.1.submitters) [
   | inl e ↦ inl e
   | inr n ↦ inr (1, why.Range, (refl, refl, few t.1.hw t.1.submitters n))
 ])
   where
     few : (a b : ℕ) → ¬ (a ≤ b) → b < a
     few a b h = grind (arith, h)
+
+-- what a record's numbers tell
+abbrev pub title_at : List ℕ → Title
+title_at ns = record { depth = get_or ns 2 0; hw = get_or ns 3 0; soft_depth = get_or ns 4 0; submitters = get_or ns 5 0 }
+
+plain_told : (left mid : Option (List Row)) (t : ℕ × List ℕ) → TakesTitle SCRIPT left mid t.0 t.1 → Reads plain_title left mid (t.0, title_at t.1) × (IsVersion SCRIPT.latest t.0 × IsTitle t.0 (title_at t.1))
+plain_told left mid t h = title_reads SCRIPT title_numbers IsTitle title_table left mid t.0 (title_at t.1) t.1 h (refl, (refl, (refl, (refl, tt))))
+
+-- with enough submitters
+pub title_told : (left mid : Option (List Row)) (t : ℕ × List ℕ) → TakesTitle SCRIPT left mid t.0 t.1 → get_or t.1 3 0 ≤ get_or t.1 5 0 → Reads script_title_part left mid (t.0, title_at t.1) × IsTitle t.0 (title_at t.1)
+title_told left mid t h e = let p = plain_told left mid t h in (enough left mid p.0, p.1.1)
+  where
+    enough : (left mid : Option (List Row)) → Reads plain_title left mid (t.0, title_at t.1) → Reads script_title_part left mid (t.0, title_at t.1)
+    enough None mid r = tt
+    enough (Some rows) mid r = (r.0, r.1, record { fits = (r.2.fits, e); made = r.2.made; follows = tt })
 
 pub setup_table : (depth hw : ℕ) → (0 < depth) × (depth ≤ MAX_DEPTH) → (0 < hw) × (hw ≤ MAX_QUEUES) → IsTable setup_cells (FitsSetup depth hw)
 setup_table depth hw d q = record {
@@ -323,7 +342,7 @@ setup_decides depth hw d q = record_decides setup_word (FitsSetup depth hw) why.
 -- whole scripts
 
 -- the depth of a title is one of a setup
-setup_depth : (t : ℕ × Title) → IsTitle t.0 t.1 → (0 < t.1.depth) × (t.1.depth ≤ MAX_DEPTH)
+pub setup_depth : (t : ℕ × Title) → IsTitle t.0 t.1 → (0 < t.1.depth) × (t.1.depth ≤ MAX_DEPTH)
 setup_depth t i = let high = i.depth.1 in (i.depth.0, omega (arith, high, fewer_tags t.0))
 
 steps_tell : (t : ℕ × Title) → IsTitle t.0 t.1 → Tells (items_of (repeats.AtMost MAX_STEPS) (λ _. step t.0 t.1.hw t.1.submitters))
@@ -333,7 +352,7 @@ pub body_tells : (t : ℕ × Title) → IsTitle t.0 t.1 → Tells (script_body t
 body_tells t i = then_tells (setup t.1.depth t.1.hw) (λ s. items_of (repeats.AtMost MAX_STEPS) (λ _. step t.0 t.1.hw t.1.submitters)) (setup_one t.1.depth t.1.hw (setup_depth t i) i.hw).tells (λ s fit. steps_tell t i)
 
 script_tells : Tells script_form
-script_tells = then_tells script_title_part script_body title_one.tells (λ t fit. body_tells t fit.0.1)
+script_tells = then_tells script_title_part script_body script_title_tells (λ t fit. body_tells t fit.0.1)
 
 script_decides : Decides script_form
 script_decides = then_decides script_title_part script_body title_decided (λ t fit. (let i = fit.0.1 in
@@ -419,16 +438,35 @@ script_read (Some rows) mid after t s lines h k a f =
 
 -- where reading halts
 
-pub title_halts : (failed : Bool) (left : Option (List Row)) (start at : ℕ) (w : Why) → start ≡ 0 → Halts failed script_title_part left start at w → Halts failed script_form left 0 at w
-title_halts failed left start at w e h = first_halts failed script_title_part script_body left 0 at w (λ t fit. body_tells t fit.0.1) (rw e at h)
+title_lifts : (failed : Bool) (left : Option (List Row)) (at : ℕ) (w : Why) → Halts failed script_title_part left 0 at w → Halts failed script_form left 0 at w
+title_lifts failed left at w h = first_halts failed script_title_part script_body left 0 at w (λ t fit. body_tells t fit.0.1) h
+
+pub title_halts : (failed : Bool) (left : Option (List Row)) (at : ℕ) (w : Why) → at ≡ 1 → StopsAtTitle SCRIPT failed left w → Halts failed script_form left 0 at w
+title_halts failed None at w e h = tt
+title_halts failed (Some rows) at w e h = title_lifts failed (Some rows) at w (
+  1,
+  e,
+  at_first script_title_part script_title_tells rows,
+  elim h [
+    | inl o ↦ inl o
+    | inr f ↦ inr (inl (refl, f))
+  ],
+)
+
+-- with too few submitters
+pub few_halts : (failed : Bool) (left mid : Option (List Row)) (t : ℕ × List ℕ) (at : ℕ) (w : Why) → at ≡ 1 → w ≡ why.Range → TakesTitle SCRIPT left mid t.0 t.1 → get_or t.1 5 0 < get_or t.1 3 0 → Halts failed script_form left 0 at w
+few_halts failed None mid t at w e r h l = tt
+few_halts failed (Some rows) mid t at w e r h l =
+    let p = (plain_told (Some rows) mid t h).0 in
+    title_lifts failed (Some rows) at w (1, e, at_first script_title_part script_title_tells rows, inr (inr ((t.0, title_at t.1), p.0, p.2, (refl, r, l))))
 
 pub setup_halts : (failed : Bool) (left mid : Option (List Row)) (t : ℕ × Title) (middle at : ℕ) (w : Why) → middle ≡ 1 → IsTitle t.0 t.1 → Reads script_title_part left mid t → Halts failed (setup t.1.depth t.1.hw) mid middle at w → Halts failed script_form left 0 at w
 setup_halts failed left mid t middle at w e i r h =
-    second_halts failed script_title_part script_body left mid t 0 middle at w title_one.tells r (omega (arith, e))
+    second_halts failed script_title_part script_body left mid t 0 middle at w script_title_tells r (omega (arith, e))
     (first_halts failed (setup t.1.depth t.1.hw) (λ s. items_of (repeats.AtMost MAX_STEPS) (λ _. step t.0 t.1.hw t.1.submitters)) mid middle at w (λ s fit. steps_tell t i) h)
 
 pub steps_halt : (failed : Bool) (left mid after : Option (List Row)) (t : ℕ × Title) (s : Setup) (middle start at : ℕ) (w : Why) → middle ≡ 1 → start ≡ 2 → IsTitle t.0 t.1 → Reads script_title_part left mid t → Reads (setup t.1.depth t.1.hw) mid after s
     → Halts failed (items_of (repeats.AtMost MAX_STEPS) (λ _. step t.0 t.1.hw t.1.submitters)) after start at w → Halts failed script_form left 0 at w
 steps_halt failed left mid after t s middle start at w e f i r k h =
-    second_halts failed script_title_part script_body left mid t 0 middle at w title_one.tells r (omega (arith, e))
+    second_halts failed script_title_part script_body left mid t 0 middle at w script_title_tells r (omega (arith, e))
     (second_halts failed (setup t.1.depth t.1.hw) (λ s. items_of (repeats.AtMost MAX_STEPS) (λ _. step t.0 t.1.hw t.1.submitters)) mid after s middle start at w (setup_one t.1.depth t.1.hw (setup_depth t i) i.hw).tells k (omega (arith, e, f)) h)

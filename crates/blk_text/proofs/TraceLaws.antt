@@ -28,24 +28,25 @@ use Rattle.blk_lists.specs.Sources.{Row}
 use Rattle.blk_lists.specs.Texts.{rows_text}
 use Rattle.blk_text.specs.BioRecord.{bio_row}
 use Rattle.blk_text.specs.SetupRecord.{setup_row, setup, FitsSetup, IsWholeSetup}
-use Rattle.blk_lists.specs.Reads.{IsOutside, Reads, Fails, AreItems, IsStopped, IsHeldAt, with_next, size_of}
+use Rattle.blk_lists.specs.Reads.{IsOutside, Reads, Halts, Fails, AreItems, IsStopped, IsHeldAt, with_next, size_of}
 use Rattle.blk_text.specs.TraceRecords.{word_row, event_rows, title_row, trace_rows, BioFits, EventFits, IsTrace}
-use Rattle.blk_text.specs.TraceForm.{Tiles, group_bio, plain_event, event, one_more, events_of, IsTraceTitle, trace_title_part, trace_body, trace_form, trace_value, IsEventOf, IsTraceOf, SpellsTraceIn, SpellsTrace, TraceTextFault}
+use Rattle.blk_text.specs.TraceForm.{Tiles, group_bio, plain_event, event, one_more, events_of, IsTraceTitle, trace_title_part, trace_body, trace_form, trace_value, IsEventOf, IsTraceOf, SpellsTraceIn, SpellsTrace, TraceTextFault, TraceTitle}
 use Rattle.blk_text.specs.BioTable.{bio_cells}
 use Rattle.blk_lists.specs.Tables.{FitsCells}
 use Rattle.blk_text.specs.declared.setup.TheConstants.{LATEST}
 use Rattle.blk_lists.specs.declared.fault.Why.{Why}
 use Rattle.blk_lists.specs.declared.fault.Why.TheVariants as why
-use Rattle.blk_text.specs.declared.heads.TraceTitle.{TraceTitle}
+use Rattle.blk_text.specs.declared.heads.TheConstants.{TRACE}
+use Rattle.blk_lists.specs.Titles.{StopsAtTitle}
 use Rattle.parts.specs.declared.Repeats.TheVariants as repeats
-use Rattle.parts.specs.Parts.{AllFit, Spells, all_rows}
+use Rattle.parts.specs.Parts.{Begins, AllFit, Spells, all_rows}
 use Rattle.parts.proofs.Many.{fit_more, ended_reached}
 use Rattle.parts.proofs.Then.{reached_second, at_first}
 use Rattle.blk_lists.proofs.Lists.{head_of, tail_of, all_cons}
-use Rattle.blk_lists.proofs.Reading.{after_all, second_fails}
+use Rattle.blk_lists.proofs.Reading.{after_all, first_halts, halts_err, second_fails, second_halts, then_reads}
 use Rattle.blk_lists.proofs.Texts.{text_back, begins_itself}
 use Rattle.blk_text.proofs.ScriptLaws.{setup_one}
-use Rattle.blk_text.proofs.EventLaws.{event_tells, event_plain, event_rows as some_rows, more_tells, title_one, setup_depth, body_tells, trace_tells, trace_decides}
+use Rattle.blk_text.proofs.EventLaws.{event_tells, event_plain, event_rows as some_rows, more_tells, trace_title_tells, setup_depth, body_tells, trace_tells, trace_decides, events_tell}
 use Rattle.blk_bio.specs.declared.limits.TheConstants.{MAX_SEGMENTS}
 
 -- the records of a trace's events, one after the other
@@ -313,6 +314,16 @@ spelled_or_wrong rows = elim (trace_decides rows) [
   | inr f ↦ inr f
 ]
 
+-- reading
+
+pub trace_read : (left mid next : Option (List Row)) (t : ℕ × TraceTitle) (n s : Setup) (r : Traced) → r.setup ≡ n → n ≡ s → FitsSetup t.1.depth t.1.hw s → length r.events ≡ t.1.count → Reads trace_title_part left mid t
+    → Reads (setup t.1.depth t.1.hw) mid next s → IfSome next (λ rows. Begins (events_of t.0 n t.1.count) rows r.events []) → IfSome left (λ rows. SpellsTrace rows r)
+trace_read None mid next t n s r d e f c h k b = tt
+trace_read (Some rows) mid next t n s r d e f c h k b =
+    let events = subst (λ z. IfSome next (λ rows. Begins (events_of t.0 z t.1.count) rows r.events [])) e b in
+    let body = then_reads (setup t.1.depth t.1.hw) (λ s. events_of t.0 s t.1.count) mid next s r.events k events in
+    (t.0, subst (Spells trace_form rows) (value_is r t s (d ∙ e) f c) (then_reads trace_title_part trace_body (Some rows) mid t (s, r.events) h body))
+
 -- where reading stops
 
 pub events_fail : (failed : Bool) (left mid next : Option (List Row)) (t : ℕ × TraceTitle) (s : Setup) (middle at : ℕ) (w : Why) → middle ≡ 1 → Reads trace_title_part left mid t → Reads (setup t.1.depth t.1.hw) mid next s
@@ -328,10 +339,17 @@ fails_err failed (Some rows) at w f = elim f [
   | inr k ↦ (let is = k.1 in let same : k.0 ≡ at = omega (arith, is) in inr (rw same at k.2))
 ]
 
+-- at the setup
+pub setup_fails : (failed : Bool) (left mid : Option (List Row)) (t : ℕ × TraceTitle) (middle at : ℕ) (w : Why) → middle ≡ 1 → Reads trace_title_part left mid t → Halts failed (setup t.1.depth t.1.hw) mid middle at w
+    → IfSome left (λ rows. IsOutside failed w ⊎ TraceTextFault rows at w)
+setup_fails failed left mid t middle at w e r h =
+    halts_err failed trace_form left at w (second_halts failed trace_title_part trace_body left mid t 0 middle at w trace_title_tells r (omega (arith, e))
+    (first_halts failed (setup t.1.depth t.1.hw) (λ s. events_of t.0 s t.1.count) mid middle at w (λ s fit. events_tell t.0 s t.1.count) h))
+
 -- no memory for a trace without events
 pub none_held : (left mid : Option (List Row)) (t : ℕ × TraceTitle) (at last : ℕ) → IsTraceTitle t.0 t.1 → Reads trace_title_part left mid t → at ≡ 2 → last ≡ 2 → IsHeldAt trace_form left MAX_SEGMENTS at last
 none_held None mid t at last i r e f = (2, omega (arith, e), omega (arith, e, f), omega (arith, f), tt)
-none_held (Some rows) mid t at last i r e f = (2, omega (arith, e), omega (arith, e, f), omega (arith, f), reached_second trace_title_part trace_body title_one.tells rows r.0 t 1 r.2 (at_first (trace_body t) (body_tells t i) r.0))
+none_held (Some rows) mid t at last i r e f = (2, omega (arith, e), omega (arith, e, f), omega (arith, f), reached_second trace_title_part trace_body trace_title_tells rows r.0 t 1 r.2 (at_first (trace_body t) (body_tells t i) r.0))
 
 pub events_held : (left mid next : Option (List Row)) (t : ℕ × TraceTitle) (s : Setup) (at last : ℕ) → IsTraceTitle t.0 t.1 → Reads trace_title_part left mid t → Reads (setup t.1.depth t.1.hw) mid next s
     → IsStopped (repeats.Exactly t.1.count) (event t.0 s) next 2 MAX_SEGMENTS at last → IsHeldAt trace_form left MAX_SEGMENTS at last
@@ -343,7 +361,7 @@ events_held (Some rows) mid next t s at last i r k h =
     let good = rw second.1 at h.4 in
     let reached = ended_reached (repeats.Exactly t.1.count) why.Count (event t.0 s) (one_more t.0 s) with_next (event_tells t.0 s) (event_plain t.0 s) (some_rows t.0 s) (more_tells t.0 s) [] second.0 h.0 good in
     let in_body = reached_second (setup t.1.depth t.1.hw) (λ s. events_of t.0 s t.1.count) (setup_one t.1.depth t.1.hw (setup_depth t i) i.hw).tells r.0 second.0 s h.0 second.2 reached in
-    (1 + (1 + h.0), omega (arith, low), h.2, omega (arith, high), reached_second trace_title_part trace_body title_one.tells rows r.0 t (1 + h.0) r.2 in_body)
+    (1 + (1 + h.0), omega (arith, low), h.2, omega (arith, high), reached_second trace_title_part trace_body trace_title_tells rows r.0 t (1 + h.0) r.2 in_body)
 
 -- of events that were read into a trace whose setup is this one
 

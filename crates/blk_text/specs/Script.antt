@@ -1,5 +1,5 @@
 -- A script: a title, a setup, and a record for each step.
-use Rattle.std.specs.Prelude.{◌≡◌, ◌≤◌, ◌<◌, ◌^◌, ℕ, List, [], ◌∷◌, length, codes, All}
+use Rattle.std.specs.Prelude.{◌≡◌, ◌≤◌, ◌<◌, ◌^◌, ℕ, List, [], ◌∷◌, length, All}
 use Rattle.std.specs.Prelude.{Err}
 use Rattle.blk_bio.specs.Bios.{Bio, IsBio, IsBioAnswer}
 use Rattle.blk_bio.specs.declared.bio.BioFault.{BioFault}
@@ -9,10 +9,11 @@ use Rattle.csv.specs.Reading.{default_config, records, strip_bom}
 use Rattle.blk_lists.specs.Sources.{Row}
 use Rattle.blk_lists.specs.Texts.{rows_text}
 use Rattle.blk_lists.specs.Reads.{items_of}
-use Rattle.blk_lists.specs.Tables.{Cell, Number, IsVersion, title_record, kinds_record}
+use Rattle.blk_lists.specs.Tables.{kinds_record}
+use Rattle.blk_lists.specs.Titles.{IsVersion, title_record}
 use Rattle.blk_text.specs.SetupRecord.{IsWholeSetup, setup}
 use Rattle.blk_text.specs.Versions.{most_tags}
-use Rattle.blk_text.specs.declared.setup.TheConstants.{LATEST}
+use Rattle.blk_text.specs.declared.setup.TheConstants.{LATEST, WIDTH}
 use Rattle.blk_lists.specs.declared.fault.Why.{Why}
 use Rattle.blk_lists.specs.declared.fault.Why.TheVariants as why
 use Rattle.parts.specs.declared.Repeats.TheVariants as repeats
@@ -20,15 +21,20 @@ use Rattle.parts.specs.Parts.{Part, then, tested, seen_as, Spells}
 use Rattle.blk_trace.specs.declared.event.TheConstants.{MAX_TAGS}
 use Rattle.blk_text.specs.StepKinds.{StepKind, step_word, StepStandsIn, StepTold, step_fields}
 use Rattle.blk_text.specs.StepKinds as kind
-use Rattle.blk_text.specs.declared.script.TheConstants.{MAX_RUN, MAX_STEPS}
+use Rattle.blk_text.specs.declared.script.TheConstants.{MAX_RUN, MAX_STEPS, SCRIPT}
 use Rattle.blk_text.specs.declared.script.Line.{Line}
 use Rattle.blk_text.specs.declared.script.Line.TheVariants as line
 use Rattle.blk_text.specs.declared.script.Script.{Script}
-use Rattle.blk_text.specs.declared.script.Title.{Title}
 
 -- title: blk-script, version, depth, hardware queues, soft depth, submitters
-abbrev pub script_cells : ℕ → List (Cell Title)
-script_cells version = Number 1 (most_tags version) (λ t. t.depth) ∷ Number 1 MAX_QUEUES (λ t. t.hw) ∷ Number 1 MAX_SOFT_DEPTH (λ t. t.soft_depth) ∷ Number 1 MAX_SOFT_QUEUES (λ t. t.submitters) ∷ []
+pub record Title : Type 0 where
+  pub depth : ℕ
+  pub hw : ℕ
+  pub soft_depth : ℕ
+  pub submitters : ℕ
+
+abbrev pub title_numbers : List (Title → ℕ)
+title_numbers = (λ t. t.depth) ∷ (λ t. t.hw) ∷ (λ t. t.soft_depth) ∷ (λ t. t.submitters) ∷ []
 
 -- the kind of a step, and what it says
 abbrev pub step_said : (hw submitters : ℕ) → Line → (k : StepKind) × StepTold hw submitters k
@@ -104,7 +110,7 @@ pub record IsScriptOf (version : ℕ) (s : Scripted) : Type 0 where
 
 -- a title whose numbers lie in their own ranges
 abbrev pub plain_title : Part Row Why (ℕ × Title)
-plain_title = title_record (codes "blk-script") LATEST script_cells IsTitle
+plain_title = title_record SCRIPT title_numbers IsTitle
 
 -- as many submitters as hardware queues at least
 abbrev pub IsEnough : ℕ × Title → Type 0
@@ -119,7 +125,7 @@ script_title_part = tested plain_title IsEnough TooFew
 
 -- a step by its table
 abbrev pub plain_step : ℕ → ℕ → ℕ → Part Row Why Line
-plain_step version hw submitters = seen_as (step_said hw submitters) (kinds_record (StepTold hw submitters) why.Count 6 (StepStandsIn version) step_word (step_fields hw submitters))
+plain_step version hw submitters = seen_as (step_said hw submitters) (kinds_record (StepTold hw submitters) why.Count WIDTH (StepStandsIn version) step_word (step_fields hw submitters))
 
 -- a step of a version, for these numbers of hardware queues and submitters
 abbrev pub step : ℕ → ℕ → ℕ → Part Row Why Line

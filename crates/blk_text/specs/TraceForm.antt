@@ -20,24 +20,30 @@ use Rattle.csv.specs.Reading.{default_config, records, strip_bom}
 use Rattle.blk_lists.specs.Reads.{ended_of, with_next}
 use Rattle.blk_lists.specs.Texts.{rows_text}
 use Rattle.blk_lists.specs.Words.{NextStarts}
-use Rattle.blk_lists.specs.Tables.{Cell, Blank, Number, FitsCells, IsVersion, title_record, kinds_record, word_record}
+use Rattle.blk_lists.specs.Tables.{FitsCells, kinds_record, word_record}
+use Rattle.blk_lists.specs.Titles.{IsVersion, title_record}
 use Rattle.blk_text.specs.BioTable.{bio_cells, IsNoSuchBio}
 use Rattle.blk_text.specs.SetupRecord.{setup}
 use Rattle.blk_text.specs.TraceRecords.{IsTrace}
 use Rattle.blk_text.specs.Versions.{most_tags}
-use Rattle.blk_text.specs.declared.setup.TheConstants.{LATEST}
+use Rattle.blk_text.specs.declared.setup.TheConstants.{LATEST, WIDTH}
 use Rattle.blk_text.specs.declared.bios.TheConstants.{MAX_SUBMITTERS}
 use Rattle.blk_lists.specs.declared.fault.Why.{Why}
 use Rattle.blk_lists.specs.declared.fault.Why.TheVariants as why
 use Rattle.blk_text.specs.EventKinds.{EventKind, EventStandsIn, event_word, Says, event_fields}
 use Rattle.blk_text.specs.EventKinds as kind
-use Rattle.blk_text.specs.declared.heads.TraceTitle.{TraceTitle}
+use Rattle.blk_text.specs.declared.heads.TheConstants.{TRACE}
 use Rattle.parts.specs.declared.Repeats.TheVariants as repeats
 use Rattle.parts.specs.Parts.{Part, NextWrong, then, many, over, seen_as, tested, by_word, Spells}
 
 -- title: blk-trace, version, depth, hardware queues, number of events, empty
-abbrev pub trace_cells : ℕ → List (Cell TraceTitle)
-trace_cells version = Number 1 (most_tags version) (λ t. t.depth) ∷ Number 1 MAX_QUEUES (λ t. t.hw) ∷ Number 0 MAX_EVENTS (λ t. t.count) ∷ Blank ∷ []
+pub record TraceTitle : Type 0 where
+  pub depth : ℕ
+  pub hw : ℕ
+  pub count : ℕ
+
+abbrev pub trace_numbers : List (TraceTitle → ℕ)
+trace_numbers = (λ t. t.depth) ∷ (λ t. t.hw) ∷ (λ t. t.count) ∷ []
 
 -- a title's numbers lie in their ranges
 pub record IsTraceTitle (version : ℕ) (t : TraceTitle) : Type 0 where
@@ -46,7 +52,7 @@ pub record IsTraceTitle (version : ℕ) (t : TraceTitle) : Type 0 where
   pub count : t.count ≤ MAX_EVENTS
 
 abbrev pub trace_title_part : Part Row Why (ℕ × TraceTitle)
-trace_title_part = title_record (codes "blk-trace") LATEST trace_cells IsTraceTitle
+trace_title_part = title_record TRACE trace_numbers IsTraceTitle
 
 -- the first record of an event tells it with the number of its bios in place of these
 abbrev pub Head : Type 0
@@ -64,7 +70,7 @@ said (Depth depth) = (kind.Depth, (depth, tt))
 
 -- the first record of an event
 abbrev pub first_record : ℕ → Part Row Why Head
-first_record version = seen_as said (kinds_record Says why.Count 6 (EventStandsIn version) event_word event_fields)
+first_record version = seen_as said (kinds_record Says why.Count WIDTH (EventStandsIn version) event_word event_fields)
 
 -- what is wrong with a record of a group that does not begin as a bio's: what is wrong with it as the first record of an
 -- event, and else that it came too soon

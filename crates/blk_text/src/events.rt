@@ -11,13 +11,13 @@ ghost use Rattle.blk_text.specs.Inside.TraceForm.{refusal_of, IsRefused, IsPushe
 ghost use Rattle.blk_text.specs.TraceRecords.{IsTrace, trace_rows};
 
 use crate::groups::read_group;
-use crate::heads::{HeadForm, TRACE, TraceTitle};
-use crate::setup::{LATEST, SetupForm, TAGS, most_tags};
+use crate::heads::{HeadForm, TRACE};
+use crate::setup::SetupForm;
 use blk_bio::{Limits, MAX_SEGMENTS, Request};
 use blk_lists::fault::{TextFault, Why};
-use blk_lists::fields::{Slot, read_fields, version_of};
 use blk_lists::items::{ItemForm, LineForm, gather, read_line};
 use blk_lists::source::Records;
+use blk_lists::titles::read_title;
 use blk_trace::{Event, MAX_EVENTS, PushFault, Setup, Trace};
 use csv::ByteRecord;
 use parts::Repeats;
@@ -154,45 +154,6 @@ fn past_fault(form: &EventForm, row: &ByteRecord, trace: &mut Trace) -> Why
     }
 }
 
-/// The title record: the version, and the numbers of a title, each in its own range.
-#[derive(Clone, Copy, Drop)]
-struct TraceTitleForm;
-
-impl LineForm for TraceTitleForm {
-    ghost use Rattle.blk_text.specs.TraceForm.{trace_title_part};
-
-    type Value = (u64, TraceTitle);
-
-    ghost part = { λ _. trace_title_part };
-
-    #[tactic(auto, using(crate::proofs::EventLaws::title_one))]
-    fn gone(&self) -> Why {
-        Why::Title
-    }
-
-    fn line(&self, row: &ByteRecord) -> Result<(u64, TraceTitle), Why> {
-        let Some(version) = version_of(row, &TRACE.word, LATEST) else {
-            return Err(Why::Title);
-        };
-        let mut slots = TRACE.slots;
-        slots[TAGS] = Slot::Number {
-            least: 1,
-            most: most_tags(version),
-        };
-        match read_fields(row, &slots) {
-            Ok(numbers) => {
-                let title = TraceTitle {
-                    depth: numbers[2],
-                    hw: numbers[3] as u8,
-                    count: numbers[4],
-                };
-                Ok((version, title))
-            }
-            Err(why) => Err(why),
-        }
-    }
-}
-
 /// The trace of a number of events, which are the rest of the text, from one without events.
 fn read_events<R: Read + Drop>(
     alloc: Global,
@@ -255,13 +216,14 @@ pub fn read_trace<R: Read + Drop>(
     // the last thing that was asked for is the record after the events, which there is not
     ensures end { IfOk result (λ t. records.new.at ≡ length (trace_rows t) + 1) }
 {
-    let (version, title) = match read_line(records, &TraceTitleForm) {
+    let (version, title) = match read_title(records, &TRACE) {
         Ok(title) => title,
         Err(fault) => return Err(fault),
     };
+    let [_, _, depth, queues, count, _] = title;
     let setup_form = SetupForm {
-        depth: title.depth,
-        hw: title.hw,
+        depth,
+        hw: queues as u8,
     };
     let setup = match read_line(records, &setup_form) {
         Ok(setup) => setup,
@@ -270,7 +232,7 @@ pub fn read_trace<R: Read + Drop>(
     let Ok(none) = Trace::empty(alloc, setup) else {
         return Err(records.fault(Why::Memory));
     };
-    match read_events(alloc, records, version, none, title.count) {
+    match read_events(alloc, records, version, none, count) {
         Ok(trace) => {
             // brings the prover the trace's invariant
             let _ = trace.events();

@@ -8,22 +8,22 @@ ghost use Rattle.drafts.specs.Drafts.{drafted};
 ghost use Rattle.blk_text.specs.TraceRecords.{group_rows, event_rows, BioFits, EventFits};
 
 use crate::bios::push_bio;
-use crate::setup::{DEPTHS, QUEUES, WIDTH};
+use crate::setup::{DEPTHS, LATEST, MORE_TAGS, QUEUES, WIDTH};
 use blk_bio::{Bio, MAX_SEGMENTS, Request};
 use blk_lists::fault::Why;
 use blk_lists::fields::{ANY_SLOT, Slot, field, read_fields, without_word};
 use blk_lists::items::LineForm;
 use blk_lists::kinds::Kind;
+use blk_lists::titles::TitleRow;
 use blk_trace::{Event, MAX_EVENTS, MAX_TAGS};
 use csv::ByteRecord;
 use drafts::Block;
 use std::alloc::{AllocError, Allocator};
 
-/// The title record: the version, the tags, the hardware queues, how many events follow, and an empty field. An earlier
-/// version may have fewer tags.
-pub const TRACE: Kind<9, WIDTH> = Kind {
+/// The title record: the version, the tags, the hardware queues, how many events follow, and an empty field.
+pub const TRACE: TitleRow<9, WIDTH> = TitleRow {
     word: *b"blk-trace",
-    since: 1,
+    latest: LATEST,
     slots: [
         Slot::Given,
         Slot::Given,
@@ -35,15 +35,8 @@ pub const TRACE: Kind<9, WIDTH> = Kind {
         },
         Slot::Blank,
     ],
+    later: Some(MORE_TAGS),
 };
-
-/// The numbers of a trace's title: tags, hardware queues, and events.
-#[derive(Clone, Copy, Debug, PartialEq, Eq)]
-pub(crate) struct TraceTitle {
-    pub depth: u64,
-    pub hw: u8,
-    pub count: u64,
-}
 
 const BLANK: Slot = Slot::Blank;
 

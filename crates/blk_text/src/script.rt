@@ -13,13 +13,14 @@ ghost use Rattle.blk_bio.specs.declared.limits.TheConstants.{MAX_QUEUES as MAX_Q
 
 use crate::bios::{BIO, push_bio, read_bio};
 use crate::heads::{BACK, DEPTH, DONE, ISSUE, ONE, TICK};
-use crate::setup::{DEPTHS, LATEST, QUEUES, SetupForm, TAGS, WIDTH, most_tags};
+use crate::setup::{DEPTHS, LATEST, MORE_TAGS, QUEUES, SetupForm, WIDTH};
 use blk_bio::{Bio, MAX_SOFT_DEPTH, MAX_SOFT_QUEUES};
 use blk_lists::fault::{TextFault, Why};
-use blk_lists::fields::{Slot, field, read_fields, version_of, without_word};
+use blk_lists::fields::{Slot, field, read_fields, without_word};
 use blk_lists::items::{LineForm, read_line, read_lines};
 use blk_lists::kinds::Kind;
 use blk_lists::source::Records;
+use blk_lists::titles::{TitleRow, read_title};
 use blk_trace::{MAX_EVENTS, Setup};
 use csv::ByteRecord;
 use drafts::Block;
@@ -106,10 +107,10 @@ const ROUNDS: Slot = Slot::Number {
 };
 
 /// The title record: the version, the tags, the hardware queues, how many requests a software queue has room for, and the
-/// submitters. An earlier version may have fewer tags.
-pub const SCRIPT: Kind<10, WIDTH> = Kind {
+/// submitters.
+pub const SCRIPT: TitleRow<10, WIDTH> = TitleRow {
     word: *b"blk-script",
-    since: 1,
+    latest: LATEST,
     slots: [
         Slot::Given,
         Slot::Given,
@@ -124,16 +125,8 @@ pub const SCRIPT: Kind<10, WIDTH> = Kind {
             most: MAX_SOFT_QUEUES,
         },
     ],
+    later: Some(MORE_TAGS),
 };
-
-/// The numbers of a script's title.
-#[derive(Clone, Copy, Debug, PartialEq, Eq)]
-pub(crate) struct Title {
-    pub depth: u64,
-    pub hw: u8,
-    pub soft_depth: u64,
-    pub submitters: u64,
-}
 
 /// The steps of a version, for these numbers of hardware queues and submitters.
 #[derive(Clone, Copy, Drop)]
@@ -232,50 +225,6 @@ pub fn push_step(draft: &mut Block, step: &Line) -> Result<(), AllocError>
     }
 }
 
-/// The title record: the version, and the numbers of a title, each in its own range, and at least as many submitters
-/// as hardware queues.
-#[derive(Clone, Copy, Drop)]
-pub(crate) struct TitleForm;
-
-impl LineForm for TitleForm {
-    ghost use Rattle.blk_text.specs.Script.{script_title_part};
-
-    type Value = (u64, Title);
-
-    ghost part = { λ _. script_title_part };
-
-    #[tactic(auto, using(crate::proofs::ScriptLaws::title_one))]
-    fn gone(&self) -> Why {
-        Why::Title
-    }
-
-    fn line(&self, row: &ByteRecord) -> Result<(u64, Title), Why> {
-        let Some(version) = version_of(row, &SCRIPT.word, LATEST) else {
-            return Err(Why::Title);
-        };
-        let mut slots = SCRIPT.slots;
-        slots[TAGS] = Slot::Number {
-            least: 1,
-            most: most_tags(version),
-        };
-        match read_fields(row, &slots) {
-            Ok(numbers) => {
-                let title = Title {
-                    depth: numbers[2],
-                    hw: numbers[3] as u8,
-                    soft_depth: numbers[4],
-                    submitters: numbers[5],
-                };
-                if title.submitters < title.hw as u64 {
-                    return Err(Why::Range);
-                }
-                Ok((version, title))
-            }
-            Err(why) => Err(why),
-        }
-    }
-}
-
 /// The script of a text of records of six fields, in version 1 or 2: a title with the depth (to 64 in version 1, to 256
 /// in version 2), the hardware queues, the soft depth and the submitters, a setup, and at most 999,998 steps, which set a
 /// depth in version 2 alone. No record was read before.
@@ -300,28 +249,30 @@ pub fn read_script<R: Read + Drop>(
     // the last thing that was asked for is the record after the steps, which there is not
     ensures end { IfOk result (λ s. records.new.at ≡ length s.lines.items + 3) }
 {
-    let (version, title) = match read_line(records, &TitleForm) {
+    let (version, title) = match read_title(records, &SCRIPT) {
         Ok(title) => title,
         Err(fault) => return Err(fault),
     };
-    let setup_form = SetupForm {
-        depth: title.depth,
-        hw: title.hw,
-    };
+    let [_, _, depth, queues, soft_depth, submitters] = title;
+    if submitters < queues {
+        return Err(records.fault(Why::Range));
+    }
+    let hw = queues as u8;
+    let setup_form = SetupForm { depth, hw };
     let setup = match read_line(records, &setup_form) {
         Ok(setup) => setup,
         Err(fault) => return Err(fault),
     };
     let form = StepForm {
         version,
-        hw: title.hw,
-        submitters: title.submitters,
+        hw,
+        submitters,
     };
     match read_lines(alloc, records, form, Repeats::AtMost(MAX_STEPS)) {
         Ok(lines) => Ok(Script {
             setup,
-            soft_depth: title.soft_depth,
-            submitters: title.submitters,
+            soft_depth,
+            submitters,
             lines,
         }),
         Err(fault) => Err(fault),

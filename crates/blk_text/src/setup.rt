@@ -7,7 +7,6 @@ ghost use Rattle.blk_lists.specs.Reads.{IsRowOf, IsWrongLine};
 ghost use Rattle.blk_lists.specs.Texts.{rows_text};
 ghost use Rattle.blk_lists.specs.Words.{StartsWith};
 ghost use Rattle.blk_text.specs.SetupRecord.{setup_cells, setup_row, IsWholeSetup, setup as setup_part};
-ghost use Rattle.blk_text.specs.Versions.{most_tags};
 ghost use Rattle.drafts.specs.Drafts.{drafted};
 ghost use Rattle.blk_bio.specs.declared.limits.TheConstants.{MAX_QUEUES as MAX_QUEUES};
 ghost use Rattle.edd_commands.specs.declared.steps.TheConstants.{MAX_DEPTH as MAX_DEPTH};
@@ -19,6 +18,7 @@ use blk_lists::fault::Why;
 use blk_lists::fields::{Slot, begins_with, read_fields, without_word};
 use blk_lists::items::LineForm;
 use blk_lists::kinds::Kind;
+use blk_lists::titles::Wider;
 use blk_trace::{MAX_EXPIRIES, Setup};
 use csv::ByteRecord;
 use drafts::Block;
@@ -31,12 +31,16 @@ pub const WIDTH: usize = 6;
 /// The latest version of scripts and of traces, which is written.
 pub const LATEST: u64 = 2;
 
-/// Where the tags stand in a title of a script or a trace.
-pub const TAGS: usize = 2;
-
-/// The tags of a title, in the latest version.
+/// The tags of a title, in version 1.
 pub const DEPTHS: Slot = Slot::Number {
     least: 1,
+    most: MAX_DEPTH_1,
+};
+
+/// The tags of a title, from version 2 on.
+pub const MORE_TAGS: Wider = Wider {
+    place: 2,
+    since: 2,
     most: MAX_DEPTH,
 };
 
@@ -48,16 +52,6 @@ pub const QUEUES: Slot = Slot::Number {
 
 /// The most tags of a version 1 script or trace.
 pub const MAX_DEPTH_1: u64 = 64;
-
-/// The most tags that a title may have in a version of scripts and of traces.
-pub fn most_tags(version: u64) -> u64
-    ensures { result ≡ most_tags version }
-{
-    match version {
-        1 => MAX_DEPTH_1,
-        _ => MAX_DEPTH,
-    }
-}
 
 /// A number of rounds after which a request is due.
 const EXPIRY: Slot = Slot::Number {

@@ -1,9 +1,10 @@
-use Rattle.std.proofs.Common.{◌≡◌, ◌++◌, ◌∷◌, ◌∙◌, [], List, ℕ, codes, length, map, ap, sym}
+use Rattle.std.proofs.Common.{◌≡◌, ◌++◌, ◌∷◌, ◌∙◌, [], List, ℕ, length, map, ap, sym}
 use Rattle.std.specs.List.{zip}
-use Rattle.blk_lists.specs.Titles.{counted_cells}
+use Rattle.blk_lists.specs.Titles.{counted_numbers, title_by}
+use Rattle.blk_lists.specs.declared.certificate.TheConstants.{CERTIFICATE}
 use Rattle.blk_lists.specs.Certificate.{claimed, served_cells}
 use Rattle.blk_lists.specs.Inside.Certificate.{bound_row}
-use Rattle.blk_lists.specs.Tables.{row_by, title_by}
+use Rattle.blk_lists.specs.Tables.{row_by}
 use Rattle.blk_lists.specs.Texts.{rows_text}
 use Rattle.blk_lists.proofs.DraftLemmas.{two_first, rows_text-append}
 use Rattle.blk_lists.proofs.ClaimLaws.{rows_are}
@@ -15,7 +16,7 @@ returns c =
     let certificate = c.args.certificate.now in
     let commands = c.as_slice-commands.ensures.value in
     let rounds = c.as_slice-rounds.ensures.value in
-    let title = title_by (codes "blk-certificate") counted_cells (1, (certificate.depth, length certificate.commands.items)) in
+    let title = title_by CERTIFICATE counted_numbers (CERTIFICATE.latest, (certificate.depth, length certificate.commands.items)) in
     let bound = bound_row certificate.bound in
     let lines = map (row_by served_cells) (zip certificate.commands.items certificate.rounds.items) in
     let first = two_first title (bound ∷ []) (drafted c.new-draft.result) (drafted c.push.new.draft) (drafted c.push_bound.new.draft) c.new-draft.ensures (rw commands at c.in_ok-push.ensures.text) c.in_ok-push_bound.ensures.text in

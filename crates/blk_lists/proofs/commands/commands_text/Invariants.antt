@@ -1,11 +1,13 @@
-use Rattle.std.proofs.Common.{[], ◌∷◌, codes}
-use Rattle.blk_lists.specs.Commands.{command_cells, depth_cells}
-use Rattle.blk_lists.specs.Tables.{row_by, title_by}
+use Rattle.std.proofs.Common.{[], ◌∷◌}
+use Rattle.blk_lists.specs.Commands.{command_cells, depth_number}
+use Rattle.blk_lists.specs.Tables.{row_by}
+use Rattle.blk_lists.specs.Titles.{title_by}
+use Rattle.blk_lists.specs.declared.commands.TheConstants.{COMMANDS}
 use Rattle.blk_lists.proofs.DraftLemmas.{IsSoFar}
 use Rattle.drafts.specs.Drafts.{drafted}
 use Rattle.blk_lists.proofs.commands.commands_text.Given as goal
 
 abbrev pub invariant-loop-i : goal.invariant-loop-i
 invariant-loop-i l = record {
-  text : IsSoFar (λ c. row_by command_cells c ∷ []) [] (title_by (codes "blk-commands") depth_cells (1, l.fn.depth) ∷ []) l.commands l.i (drafted l.draft);
+  text : IsSoFar (λ c. row_by command_cells c ∷ []) [] (title_by COMMANDS depth_number (COMMANDS.latest, l.fn.depth) ∷ []) l.commands l.i (drafted l.draft);
 }

@@ -1,11 +1,12 @@
-use Rattle.std.proofs.Common.{◌≡◌, ◌∙◌, ◌∷◌, ◌++◌, [], List, ℕ, codes, length, map, ap, sym}
+use Rattle.std.proofs.Common.{◌≡◌, ◌∙◌, ◌∷◌, ◌++◌, [], List, ℕ, length, map, ap, sym}
 use Rattle.std.specs.List.{zip}
 use Rattle.blk_lists.specs.Certificate.{served_cells}
 use Rattle.drafts.specs.Drafts.{drafted}
 use Rattle.blk_lists.specs.OnTime.{on_time_claimed}
-use Rattle.blk_lists.specs.Tables.{row_by, title_by}
+use Rattle.blk_lists.specs.Tables.{row_by}
 use Rattle.blk_lists.specs.Texts.{rows_text}
-use Rattle.blk_lists.specs.Titles.{counted_cells}
+use Rattle.blk_lists.specs.Titles.{counted_numbers, title_by}
+use Rattle.blk_lists.specs.declared.on_time.TheConstants.{ON_TIME}
 use Rattle.blk_lists.proofs.DraftLemmas.{two_first, rows_text-append}
 use Rattle.blk_lists.proofs.OnTimeLaws.{numbers_row, window_row, rows_are}
 use Rattle.blk_lists.proofs.on_time.on_time_text.Goals as goal
@@ -16,7 +17,7 @@ returns c =
     let commands = c.as_slice-commands.ensures.value in
     let cover = c.as_slice-cover.ensures.value in
     let rounds = c.as_slice.ensures.value in
-    let title = title_by (codes "blk-met") counted_cells (1, (certificate.depth, length certificate.commands.items)) in
+    let title = title_by ON_TIME counted_numbers (ON_TIME.latest, (certificate.depth, length certificate.commands.items)) in
     let numbers = numbers_row (certificate.on_time, length certificate.cover.items) in
     let windows = map window_row certificate.cover.items in
     let lines = map (row_by served_cells) (zip certificate.commands.items certificate.rounds.items) in

@@ -2,7 +2,7 @@ use Rattle.std.proofs.Common.{rules, ◌≡◌, ◌≤◌, ◌∙◌, length, ar
 use Rattle.std.proofs.lemmas.Fmt.{decimal_injective}
 use Rattle.csv.specs.Records.{fields_of}
 use Rattle.blk_lists.proofs.FieldLemmas.{titled, not_titled}
-use Rattle.blk_lists.proofs.fields.version_of.Goals as goal
+use Rattle.blk_lists.proofs.titles.version_of.Goals as goal
 
 pub returns-then-version-lt1 : goal.returns-then-version-lt1
 returns-then-version-lt1 c = λ v h t. (
