@@ -15,7 +15,7 @@ use Rattle.blk_lists.specs.Texts.{rows_text}
 use Rattle.blk_lists.specs.Fields.{Lacks, IsSized}
 use Rattle.blk_lists.specs.Words.{StartsWith, HasNoWord, WordLacks}
 use Rattle.blk_lists.specs.Commands.{IsCommandInRange}
-use Rattle.blk_lists.specs.Reads.{IsOutside, Reads, Halts, IsWrongLine, IsOne, items_of, with_next}
+use Rattle.blk_lists.specs.Reads.{IsOutside, Reads, Halts, IsWrongRecord, IsOne, items_of, with_next}
 use Rattle.blk_lists.specs.Tables.{IsUpTo, FitsCells, row_by, slots_by}
 use Rattle.blk_lists.specs.Titles.{IsVersion, IsCounted, counted_numbers, title_by, TakesTitle, StopsAtTitle}
 use Rattle.blk_lists.specs.Certificate.{Claim, claim_rows, certificate_title_part, Bounded, NoBound, SomeBound, BoundSaid, TellsBound, bound_kind, kind_of, bound_cells, no_bound_row, last_round, bound, served_cells, served_record, IsServed, IsLateness, IsBound, IsClaim, claim_body, claim_told, claim_form, claim_value, SpellsClaim, ClaimFault}
@@ -340,7 +340,7 @@ paired cs rs i d e l = get_or-zip cs rs i (d, 0) l (omega (arith, e, l))
 
 -- a record of a bound
 
-pub bound_lacks : (count : ℕ) (row : Row) (w : Why) → StartsWith (codes "bound") row → ¬ ((count ≡ 0) × (row ≡ no_bound_row)) → Lacks (slot.Given ∷ slots_by (bound_cells count)) row w → IsWrongLine (bound count) row w
+pub bound_lacks : (count : ℕ) (row : Row) (w : Why) → StartsWith (codes "bound") row → ¬ ((count ≡ 0) × (row ≡ no_bound_row)) → Lacks (slot.Given ∷ slots_by (bound_cells count)) row w → IsWrongRecord (bound count) row w
 bound_lacks count row w t n l = λ rest. inl (SomeBound, (t, λ s. n (s.0, (cons_same _ _ _ _ s.1.1).0)), (refl, inl (t, l)))
 
 pub bound_gone : (count : ℕ) → (bound count).Wrong [] 1 why.Word

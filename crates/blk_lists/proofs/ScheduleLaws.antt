@@ -17,7 +17,7 @@ use Rattle.edd_commands.specs.declared.TheConstants.{MAX_ROUNDS}
 use Rattle.blk_lists.specs.Sources.{Row, TakesRecord}
 use Rattle.blk_lists.specs.Texts.{rows_text}
 use Rattle.blk_lists.specs.Commands.{IsCommandInRange}
-use Rattle.blk_lists.specs.Reads.{IsOutside, Reads, Halts, Fails, HandFails, IsOne, IsRowOf, IsWrongLine, IsStopped, AreGathered, Gathers, with_next, size_of, repeated}
+use Rattle.blk_lists.specs.Reads.{IsOutside, Reads, Halts, Fails, HandFails, IsOne, IsRowOf, IsWrongRecord, IsStopped, AreGathered, Gathers, with_next, size_of, repeated}
 use Rattle.blk_lists.specs.Tables.{row_by}
 use Rattle.blk_lists.specs.Titles.{IsVersion, IsCounted, counted_numbers, title_by, TakesTitle, StopsAtTitle}
 use Rattle.blk_lists.specs.Certificate.{served_cells, served_record, IsServed}
@@ -338,13 +338,13 @@ when_not P Q true e h = absurd (cc)
 pub new_row : (before : List (Command × ℕ)) (row : Row) (v : Command × ℕ) → IsRowOf served_record row v → IsNew before v → IsRowOf (new_record before) row v
 new_row before row v h new rest = let b = h rest in record { fits = (b.fits, new); made = b.made; follows = b.follows }
 
-pub old_line : (before : List (Command × ℕ)) (row : Row) (v : Command × ℕ) → IsRowOf served_record row v → ¬ IsNew before v → IsWrongLine (new_record before) row why.RepeatedId
+pub old_line : (before : List (Command × ℕ)) (row : Row) (v : Command × ℕ) → IsRowOf served_record row v → ¬ IsNew before v → IsWrongRecord (new_record before) row why.RepeatedId
 old_line before row v h old rest = inr (v, rest, h rest, (refl, refl, old))
 
-pub wrong_line : (before : List (Command × ℕ)) (row : Row) (w : Why) → IsWrongLine served_record row w → IsWrongLine (new_record before) row w
+pub wrong_line : (before : List (Command × ℕ)) (row : Row) (w : Why) → IsWrongRecord served_record row w → IsWrongRecord (new_record before) row w
 wrong_line before row w h rest = inl (h rest)
 
-hand_wrong : (failed : Bool) (before : List (Command × ℕ)) (left : Option (List Row)) (row : Row) (start at : ℕ) (w : Why) → at ≡ start → IsWrongLine (new_record before) row w → HandFails failed (new_record before) left row start at w
+hand_wrong : (failed : Bool) (before : List (Command × ℕ)) (left : Option (List Row)) (row : Row) (start at : ℕ) (w : Why) → at ≡ start → IsWrongRecord (new_record before) row w → HandFails failed (new_record before) left row start at w
 hand_wrong failed before None row start at w e h = tt
 hand_wrong failed before (Some rows) row start at w e h = inr (1, omega (arith, e), h rows)
 
@@ -353,7 +353,7 @@ hand_outside failed before None row start at w o = tt
 hand_outside failed before (Some rows) row start at w o = inl o
 
 -- a record that is wrong by itself
-pub line_fails : (failed : Bool) (before : List (Command × ℕ)) (left : Option (List Row)) (row : Row) (start at : ℕ) (w : Why) → at ≡ start → IsWrongLine served_record row w → HandFails failed (new_record before) left row start at w
+pub line_fails : (failed : Bool) (before : List (Command × ℕ)) (left : Option (List Row)) (row : Row) (start at : ℕ) (w : Why) → at ≡ start → IsWrongRecord served_record row w → HandFails failed (new_record before) left row start at w
 line_fails failed before left row start at w e h = hand_wrong failed before left row start at w e (wrong_line before row w h)
 
 -- one whose id stood before, or for which memory ran out
@@ -377,7 +377,7 @@ new_gathers before now left row v at h new e = record {
 abbrev IsOver : List (Command × ℕ) → Row → Why → Type 0
 IsOver before row w = (rest : List Row) → (over why.Count (new_record before)).Wrong (row ∷ rest) 1 w
 
-pub past_line : (before : List (Command × ℕ)) (row : Row) (w : Why) → IsWrongLine served_record row w → IsOver before row w
+pub past_line : (before : List (Command × ℕ)) (row : Row) (w : Why) → IsWrongRecord served_record row w → IsOver before row w
 past_line before row w h rest = (λ e. (cc e), inl (inl (h rest)))
 
 pub past_new : (before : List (Command × ℕ)) (row : Row) (v : Command × ℕ) → IsRowOf served_record row v → IsNew before v → IsOver before row why.Count

@@ -54,8 +54,8 @@ pub record Gathers {V : Type 0} (q : List V → Part Row Why V) (old new : List 
   pub end : at + 1 ≡ start + length ((q old).rows_of item)
 
 -- a record by itself is wrong, whatever follows
-abbrev pub IsWrongLine : {V : Type 0} → Part Row Why V → Row → Why → Type 0
-IsWrongLine p row w = (rest : List Row) → p.Wrong (row ∷ rest) 1 w
+abbrev pub IsWrongRecord : {V : Type 0} → Part Row Why V → Row → Why → Type 0
+IsWrongRecord p row w = (rest : List Row) → p.Wrong (row ∷ rest) 1 w
 
 -- a part of one record, which any may follow
 pub record IsOne {V : Type 0} (p : Part Row Why V) : Type 0 where

@@ -5,7 +5,7 @@ ghost use Rattle.std.specs.Fmt.{signed_decimal};
 ghost use Rattle.std.specs.List.{zip};
 ghost use Rattle.std.specs.Io.KnownBytes.{Appends};
 ghost use Rattle.csv.specs.Records.{fields_of};
-ghost use Rattle.blk_lists.specs.Reads.{FaultsBy, IsRowOf, IsWrongLine, ReadsAll, Halts, Reaches};
+ghost use Rattle.blk_lists.specs.Reads.{FaultsBy, IsRowOf, IsWrongRecord, ReadsAll, Halts, Reaches};
 ghost use Rattle.blk_lists.specs.Tables.{IsUpTo, FitsCells, row_by, slots_by};
 ghost use Rattle.blk_lists.specs.Fields.{IsSized, FieldsSpell};
 ghost use Rattle.blk_lists.specs.declared.fields.Slot.TheVariants as slot;
@@ -22,7 +22,7 @@ use crate::fields::{
     ANY_SLOT, RELEASE_SLOT, ROUND_SLOT, Slot, after_minus, begins_with, field, read_fields,
     without_word,
 };
-use crate::items::{LineForm, read_line, read_lines};
+use crate::items::{RecordForm, read_record, read_records};
 use crate::kinds::Kind;
 use crate::source::Records;
 use crate::titles::{COUNTED, TitleRow, read_title};
@@ -75,7 +75,7 @@ pub(crate) struct BoundForm {
     count: u64,
 }
 
-impl LineForm for BoundForm {
+impl RecordForm for BoundForm {
     ghost use Rattle.blk_lists.specs.Certificate.{bound as bound_part};
 
     type Value = Option<(i64, Window)>;
@@ -86,7 +86,7 @@ impl LineForm for BoundForm {
         Why::Word
     }
 
-    fn line(&self, row: &ByteRecord) -> Result<Option<(i64, Window)>, Why> {
+    fn value(&self, row: &ByteRecord) -> Result<Option<(i64, Window)>, Why> {
         if !begins_with(row, &BOUND.word) {
             return Err(without_word(row, 4));
         }
@@ -101,7 +101,7 @@ pub const SERVED: [Slot; 4] = [ANY_SLOT, RELEASE_SLOT, ROUND_SLOT, ROUND_SLOT];
 #[derive(Clone, Copy, Drop)]
 pub(crate) struct ServedForm;
 
-impl LineForm for ServedForm {
+impl RecordForm for ServedForm {
     ghost use Rattle.blk_lists.specs.Certificate.{served_record};
 
     type Value = (Command, u64);
@@ -113,7 +113,7 @@ impl LineForm for ServedForm {
         Why::Count
     }
 
-    fn line(&self, row: &ByteRecord) -> Result<(Command, u64), Why> {
+    fn value(&self, row: &ByteRecord) -> Result<(Command, u64), Why> {
         match read_fields(row, &SERVED) {
             Ok(numbers) => {
                 let command = Command {
@@ -184,7 +184,7 @@ fn bound_slots(count: u64) -> [Slot; 4]
 fn bound_of(row: &ByteRecord, count: u64) -> Result<Option<(i64, Window)>, Why>
     requires { StartsWith (codes "bound") (fields_of row.now) }
     ensures ok { IfOk result (IsRowOf (bound_part count) (fields_of row.now)) }
-    ensures err { IfErr result (IsWrongLine (bound_part count) (fields_of row.now)) }
+    ensures err { IfErr result (IsWrongRecord (bound_part count) (fields_of row.now)) }
 {
     if is_no_bound(row, count) {
         return Ok(None);
@@ -240,11 +240,11 @@ pub(crate) fn read_claim_body<R: Read + Drop>(
     ensures reads { (2 ≤ records.new.at) × (records.new.at ≤ MAX_COMMANDS + 3) }
     ensures end { IfOk result (λ c. records.new.at ≡ length c.commands.items + 3) }
 {
-    let bound = match read_line(records, &BoundForm { count }) {
+    let bound = match read_record(records, &BoundForm { count }) {
         Ok(bound) => bound,
         Err(fault) => return Err(fault),
     };
-    let served = match read_lines(alloc, records, ServedForm, Repeats::Exactly(count)) {
+    let served = match read_records(alloc, records, ServedForm, Repeats::Exactly(count)) {
         Ok(served) => served,
         Err(fault) => return Err(fault),
     };

@@ -9,7 +9,7 @@ ghost use Rattle.blk_lists.specs.Commands.{AreCommands, SpellsCommands, Commands
 
 use crate::fault::{TextFault, Why};
 use crate::fields::{ANY_SLOT, DEPTH_SLOT, RELEASE_SLOT, ROUND_SLOT, Slot, read_fields};
-use crate::items::{LineForm, read_lines};
+use crate::items::{RecordForm, read_records};
 use crate::source::Records;
 use crate::titles::{TitleRow, read_title};
 use crate::writing::push_numbers;
@@ -35,7 +35,7 @@ pub const COMMAND: [Slot; 3] = [ANY_SLOT, RELEASE_SLOT, ROUND_SLOT];
 #[derive(Clone, Copy, Drop)]
 pub(crate) struct CommandForm;
 
-impl LineForm for CommandForm {
+impl RecordForm for CommandForm {
     ghost use Rattle.blk_lists.specs.Commands.{command};
 
     type Value = Command;
@@ -47,7 +47,7 @@ impl LineForm for CommandForm {
         Why::Count
     }
 
-    fn line(&self, row: &ByteRecord) -> Result<Command, Why> {
+    fn value(&self, row: &ByteRecord) -> Result<Command, Why> {
         match read_fields(row, &COMMAND) {
             Ok(numbers) => Ok(Command {
                 id: numbers[0],
@@ -86,7 +86,7 @@ pub fn read_commands<R: Read + Drop>(
         Ok(title) => title,
         Err(fault) => return Err(fault),
     };
-    match read_lines(alloc, records, CommandForm, Repeats::AtMost(MAX_COMMANDS)) {
+    match read_records(alloc, records, CommandForm, Repeats::AtMost(MAX_COMMANDS)) {
         Ok(commands) => Ok((title[2], commands)),
         Err(fault) => Err(fault),
     }

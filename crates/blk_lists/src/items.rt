@@ -5,7 +5,7 @@ ghost use Rattle.csv.specs.Records.{fields_of};
 ghost use Rattle.blk_lists.specs.Sources.{Row};
 ghost use Rattle.blk_lists.specs.declared.fault.Why.{Why as AWhy};
 ghost use Rattle.parts.specs.Parts.{Part, IsCount, most_of};
-ghost use Rattle.blk_lists.specs.Reads.{Reads, ReadsAll, NextFailsBy, FailsBy, Halts, HaltsBy, GathersBy, AreGatheredBy, IsRowOf, IsWrongLine, IsOne, IsStopped, beyond_of, items_of, repeated};
+ghost use Rattle.blk_lists.specs.Reads.{Reads, ReadsAll, NextFailsBy, FailsBy, Halts, HaltsBy, GathersBy, AreGatheredBy, IsRowOf, IsWrongRecord, IsOne, IsStopped, beyond_of, items_of, repeated};
 
 use crate::fault::{TextFault, Why};
 use crate::source::Records;
@@ -15,7 +15,7 @@ use std::alloc::Global;
 use std::io::Read;
 
 /// A kind of record by itself.
-pub trait LineForm {
+pub trait RecordForm {
     /// What a record tells.
     type Value;
 
@@ -27,13 +27,13 @@ pub trait LineForm {
         ensures one { IsOne (part self.now) };
 
     /// The value that a record spells, or the first thing that is wrong with it.
-    fn line(&self, row: &ByteRecord) -> Result<Self::Value, Why>
+    fn value(&self, row: &ByteRecord) -> Result<Self::Value, Why>
         ensures ok { IfOk result (IsRowOf (part self.now) (fields_of row.now)) }
-        ensures err { IfErr result (IsWrongLine (part self.now) (fields_of row.now)) };
+        ensures err { IfErr result (IsWrongRecord (part self.now) (fields_of row.now)) };
 }
 
-/// The line of the next record.
-pub fn read_line<R: Read + Drop, F: LineForm>(
+/// What the next record tells.
+pub fn read_record<R: Read + Drop, F: RecordForm>(
     records: &mut Records<R>,
     form: &F,
 ) -> Result<F::Value, TextFault>
@@ -50,8 +50,8 @@ pub fn read_line<R: Read + Drop, F: LineForm>(
     if !records.advance()? {
         return Err(records.fault(gone));
     }
-    match form.line(records.row()) {
-        Ok(line) => Ok(line),
+    match form.value(records.row()) {
+        Ok(value) => Ok(value),
         Err(why) => Err(records.fault(why)),
     }
 }
@@ -136,7 +136,7 @@ pub struct Each<F> {
     pub form: F,
 }
 
-impl<F: LineForm> ItemForm for Each<F>
+impl<F: RecordForm> ItemForm for Each<F>
 where
     F::Value: Drop,
 {
@@ -165,11 +165,11 @@ where
         records: &mut Records<R>,
         items: &mut Vec<F::Value>,
     ) -> Result<(), TextFault> {
-        // `gone` brings the prover which fault the form tells where a line is missing
+        // `gone` brings the prover which fault the form tells where a record is missing
         let _ = (alloc, self.form.gone());
-        match self.form.line(records.row()) {
-            Ok(line) => {
-                if items.push(line).is_err() {
+        match self.form.value(records.row()) {
+            Ok(value) => {
+                if items.push(value).is_err() {
                     return Err(records.fault(Why::Memory));
                 }
                 Ok(())
@@ -189,8 +189,8 @@ pub fn beyond(repeats: Repeats) -> Why
     }
 }
 
-/// The lines that are left, to the end of the text.
-pub fn read_lines<R: Read + Drop, F: LineForm>(
+/// What the records tell that are left, to the end of the text.
+pub fn read_records<R: Read + Drop, F: RecordForm>(
     alloc: Global,
     records: &mut Records<R>,
     form: F,
@@ -207,24 +207,24 @@ where
     // also where the reader's bytes are not known
     ensures fit { IfOk result (λ v. All (F.part form).Fits v.items × IsCount repeats (length v.items)) }
     ensures reads { (records.old.at < records.new.at) × (records.new.at ≤ records.old.at + most_of repeats + 1) }
-    // the last thing that was asked for is the record after the lines, which there is not
+    // the last thing that was asked for is the record after these, which there is not
     ensures end { IfOk result (λ v. records.new.at ≡ records.old.at + length v.items + 1) }
 {
     let each = Each { form };
-    let mut lines = Vec::new(alloc);
-    // brings the prover which fault the form tells where a line is missing
+    let mut values = Vec::new(alloc);
+    // brings the prover which fault the form tells where a record is missing
     let _ = each.form.gone();
-    match gather(alloc, records, &each, repeats, &mut lines) {
-        Ok(true) => return Ok(lines),
+    match gather(alloc, records, &each, repeats, &mut values) {
+        Ok(true) => return Ok(values),
         Ok(false) => {}
         Err(fault) => return Err(fault),
     }
     match records.advance() {
         Ok(true) => {}
-        Ok(false) => return Ok(lines),
+        Ok(false) => return Ok(values),
         Err(fault) => return Err(fault),
     }
-    match each.form.line(records.row()) {
+    match each.form.value(records.row()) {
         Ok(_) => Err(records.fault(beyond(repeats))),
         Err(why) => Err(records.fault(why)),
     }

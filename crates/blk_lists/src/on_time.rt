@@ -13,7 +13,7 @@ ghost use Rattle.blk_lists.specs.OnTime.{on_time_claimed, on_time_form, IsOnTime
 use crate::certificate::{ServedForm, push_schedule, split};
 use crate::fault::{TextFault, Why};
 use crate::fields::{COUNT_SLOT, ROUND_SLOT, Slot, begins_with, read_fields, without_word};
-use crate::items::{Each, LineForm, gather, read_line, read_lines};
+use crate::items::{Each, RecordForm, gather, read_record, read_records};
 use crate::kinds::Kind;
 use crate::source::Records;
 use crate::titles::{COUNTED, TitleRow, read_title};
@@ -66,7 +66,7 @@ pub const WINDOW: Kind<6, 4> = Kind {
 #[derive(Clone, Copy, Drop)]
 struct NumbersForm;
 
-impl LineForm for NumbersForm {
+impl RecordForm for NumbersForm {
     ghost use Rattle.blk_lists.specs.OnTime.{on_time_numbers};
 
     type Value = (u64, u64);
@@ -78,7 +78,7 @@ impl LineForm for NumbersForm {
         Why::Word
     }
 
-    fn line(&self, row: &ByteRecord) -> Result<(u64, u64), Why> {
+    fn value(&self, row: &ByteRecord) -> Result<(u64, u64), Why> {
         if !begins_with(row, &NUMBERS.word) {
             return Err(without_word(row, 4));
         }
@@ -93,7 +93,7 @@ impl LineForm for NumbersForm {
 #[derive(Clone, Copy, Drop)]
 struct WindowForm;
 
-impl LineForm for WindowForm {
+impl RecordForm for WindowForm {
     ghost use Rattle.blk_lists.specs.OnTime.{window as window_part};
 
     type Value = Window;
@@ -105,7 +105,7 @@ impl LineForm for WindowForm {
         Why::Count
     }
 
-    fn line(&self, row: &ByteRecord) -> Result<Window, Why> {
+    fn value(&self, row: &ByteRecord) -> Result<Window, Why> {
         if !begins_with(row, &WINDOW.word) {
             return Err(without_word(row, 4));
         }
@@ -159,7 +159,7 @@ pub(crate) fn read_on_time_body<R: Read + Drop>(
     ensures reads { (2 ≤ records.new.at) × (records.new.at ≤ 2 * MAX_COMMANDS + 3) }
     ensures end { IfOk result (λ c. records.new.at ≡ length c.cover.items + length c.commands.items + 3) }
 {
-    let (on_time, many) = match read_line(records, &NumbersForm) {
+    let (on_time, many) = match read_record(records, &NumbersForm) {
         Ok(numbers) => numbers,
         Err(fault) => return Err(fault),
     };
@@ -167,7 +167,7 @@ pub(crate) fn read_on_time_body<R: Read + Drop>(
         Ok(cover) => cover,
         Err(fault) => return Err(fault),
     };
-    let served = match read_lines(alloc, records, ServedForm, Repeats::Exactly(count)) {
+    let served = match read_records(alloc, records, ServedForm, Repeats::Exactly(count)) {
         Ok(served) => served,
         Err(fault) => return Err(fault),
     };

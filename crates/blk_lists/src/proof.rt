@@ -7,7 +7,7 @@ ghost use Rattle.blk_lists.specs.Proof.{proof_claimed, proof_form, proof_size, I
 use crate::certificate::{CERTIFICATE, Certificate, read_claim_body};
 use crate::fault::{TextFault, Why};
 use crate::fields::begins_with;
-use crate::items::{LineForm, read_line};
+use crate::items::{RecordForm, read_record};
 use crate::on_time::{ON_TIME, OnTimeCertificate, read_on_time_body};
 use crate::source::Records;
 use csv::ByteRecord;
@@ -35,7 +35,7 @@ pub(crate) enum ProofKind {
 #[derive(Clone, Copy, Drop)]
 struct ProofTitleForm;
 
-impl LineForm for ProofTitleForm {
+impl RecordForm for ProofTitleForm {
     ghost use Rattle.blk_lists.specs.Inside.Proof.{proof_title};
 
     type Value = (ProofKind, (u64, (u64, u64)));
@@ -47,7 +47,7 @@ impl LineForm for ProofTitleForm {
         Why::Title
     }
 
-    fn line(&self, row: &ByteRecord) -> Result<(ProofKind, (u64, (u64, u64))), Why> {
+    fn value(&self, row: &ByteRecord) -> Result<(ProofKind, (u64, (u64, u64))), Why> {
         if begins_with(row, &CERTIFICATE.word) {
             let (version, title) = CERTIFICATE.read(row)?;
             return Ok((ProofKind::Lateness, (version, (title[2], title[3]))));
@@ -82,7 +82,7 @@ pub fn read_proof<R: Read + Drop>(
     // the last thing that was asked for is the record after the commands, which there is not
     ensures end { IfOk result (λ p. records.new.at ≡ proof_size (proof_claimed p) + 1) }
 {
-    let (kind, (_, (depth, count))) = match read_line(records, &ProofTitleForm) {
+    let (kind, (_, (depth, count))) = match read_record(records, &ProofTitleForm) {
         Ok(title) => title,
         Err(fault) => return Err(fault),
     };

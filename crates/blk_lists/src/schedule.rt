@@ -12,7 +12,7 @@ ghost use Rattle.blk_lists.specs.Inside.Schedule.{IsPastCommands, IsAdded, AreFi
 
 use crate::certificate::{ServedForm, push_schedule, split};
 use crate::fault::{TextFault, Why};
-use crate::items::{ItemForm, LineForm, gather};
+use crate::items::{ItemForm, RecordForm, gather};
 use crate::source::Records;
 use crate::titles::{COUNTED, TitleRow, read_title};
 use csv::ByteRecord;
@@ -163,7 +163,7 @@ impl ItemForm for NewForm {
         items: &mut ServedCommands,
     ) -> Result<(), TextFault> {
         let form = ServedForm;
-        let served = match form.line(records.row()) {
+        let served = match form.value(records.row()) {
             Ok(served) => served,
             Err(why) => return Err(records.fault(why)),
         };
@@ -181,7 +181,7 @@ fn past_fault(alloc: Global, row: &ByteRecord, known: &mut ServedCommands) -> Wh
     ensures { (result ≡ Why.Memory) ⊎ IsPastCommands known.old.served.items (fields_of row.now) result }
 {
     let form = ServedForm;
-    let served = match form.line(row) {
+    let served = match form.value(row) {
         Ok(served) => served,
         Err(why) => return why,
     };

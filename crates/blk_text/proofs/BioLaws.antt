@@ -8,7 +8,7 @@ use Rattle.blk_bio.specs.Letters.{direction_text}
 use Rattle.blk_lists.specs.Sources.{Row}
 use Rattle.blk_lists.specs.Fields.{Lacks, FieldsSpell}
 use Rattle.blk_lists.specs.Words.{StartsWith}
-use Rattle.blk_lists.specs.Reads.{IsRowOf, IsWrongLine}
+use Rattle.blk_lists.specs.Reads.{IsRowOf, IsWrongRecord}
 use Rattle.blk_lists.specs.Tables.{FitsCells, slots_by}
 use Rattle.blk_lists.specs.declared.fault.Why.{Why}
 use Rattle.blk_lists.specs.declared.fault.Why.TheVariants as why
@@ -40,10 +40,10 @@ bio_of_numbers submitters dir row ns b t s d e i rest =
     rw e (record { fits = (line.0, rw e at i); made = line.1; follows = tt })
 
 pub no_bio_of_numbers : (submitters : ℕ) (dir : Dir) (row : Row) (ns : List ℕ) (f : BioFault) → StartsWith (codes "bio") row → FieldsSpell (slot.Given ∷ slots_by (bio_cells submitters)) row ns → get_or ns 3 0 ∷ [] ≡ direction_text dir
-    → IsBioAnswer (bio_with ns dir).id dir (bio_with ns dir).first (bio_with ns dir).sectors (Err f) → IsWrongLine (bio_record submitters) row (why.Bio f)
+    → IsBioAnswer (bio_with ns dir).id dir (bio_with ns dir).first (bio_with ns dir).sectors (Err f) → IsWrongRecord (bio_record submitters) row (why.Bio f)
 no_bio_of_numbers submitters dir row ns f t s d a rest =
     let line = plain_line submitters dir row ns t s d rest in
     inr (bio_with ns dir, rest, record { fits = line.0; made = line.1; follows = tt }, (f, refl, refl, a))
 
-pub bio_lacks : (submitters : ℕ) (row : Row) (w : Why) → StartsWith (codes "bio") row → Lacks (slot.Given ∷ slots_by (bio_cells submitters)) row w → IsWrongLine (bio_record submitters) row w
+pub bio_lacks : (submitters : ℕ) (row : Row) (w : Why) → StartsWith (codes "bio") row → Lacks (slot.Given ∷ slots_by (bio_cells submitters)) row w → IsWrongRecord (bio_record submitters) row w
 bio_lacks submitters row w t l rest = inl (refl, inl (t, l))

@@ -14,7 +14,7 @@ use Rattle.blk_trace.specs.Traces.{Traced, IsPushAnswer}
 use Rattle.blk_trace.specs.declared.rule.PushFault.{PushFault}
 use Rattle.blk_trace.specs.declared.rule.PushFault.TheVariants as push_fault
 use Rattle.blk_lists.specs.Sources.{Row, TakesRecord}
-use Rattle.blk_lists.specs.Reads.{IsOutside, IsRowOf, IsWrongLine, Reads, HandReads, HandFails, Fails, AreGathered, IsStopped, repeated, size_of, with_next}
+use Rattle.blk_lists.specs.Reads.{IsOutside, IsRowOf, IsWrongRecord, Reads, HandReads, HandFails, Fails, AreGathered, IsStopped, repeated, size_of, with_next}
 use Rattle.blk_text.specs.SetupRecord.{setup}
 use Rattle.blk_lists.specs.Tables.{FitsCells}
 use Rattle.blk_lists.specs.Titles.{IsVersion, title_cells, TakesTitle}
@@ -189,7 +189,7 @@ trace_decides = then_decides trace_title_part trace_body (title_decides TRACE tr
 
 -- what was read of an event
 
-pub head_fails : (version : ℕ) (limits : Limits) (failed : Bool) (left : Option (List Row)) (row : Row) (start at : ℕ) (w : Why) → IsWrongLine (first_record version) row w → at ≡ start
+pub head_fails : (version : ℕ) (limits : Limits) (failed : Bool) (left : Option (List Row)) (row : Row) (start at : ℕ) (w : Why) → IsWrongRecord (first_record version) row w → at ≡ start
     → HandFails failed (plain_event version limits) left row start at w
 head_fails version limits failed None row start at w h e = tt
 head_fails version limits failed (Some rows) row start at w h e = inr (1, omega (arith, e), inl (h rows))
@@ -272,7 +272,7 @@ hand_outside failed p (Some rows) row start at w o = inl o
 
 -- a record after the last event
 
-pub past_head : (version : ℕ) (setup : Setup) (before : List Happened) (row : Row) (w : Why) → IsWrongLine (first_record version) row w → IsPast version setup before row w
+pub past_head : (version : ℕ) (setup : Setup) (before : List Happened) (row : Row) (w : Why) → IsWrongRecord (first_record version) row w → IsPast version setup before row w
 past_head version setup before row w l = λ rest. ((λ z. (cc z)), inl (inl (l rest)))
 
 pub past_group : (version : ℕ) (setup : Setup) (before : List Happened) (row : Row) (h : Head) → alone h ≡ None → IsRowOf (first_record version) row h → IsPast version setup before row why.Count

@@ -9,7 +9,7 @@ use Rattle.blk_lists.specs.Sources.{Row}
 use Rattle.blk_text.specs.BioTable.{bio_cells, IsNoSuchBio}
 use Rattle.blk_text.specs.Inside.BioTable.{bio_record}
 use Rattle.blk_lists.specs.Words.{StartsWith, NextStarts, WordLacks}
-use Rattle.blk_lists.specs.Reads.{IsRowOf, IsWrongLine, HandFails, Gathers, with_next}
+use Rattle.blk_lists.specs.Reads.{IsRowOf, IsWrongRecord, HandFails, Gathers, with_next}
 use Rattle.blk_lists.specs.Tables.{FitsCells, row_by, slots_by, word_record}
 use Rattle.blk_text.specs.TraceForm.{Tiles, IsAstray, IsNoBio, first_record, plain_bio, whole_bio, group_bio, group}
 use Rattle.blk_text.specs.Inside.TraceForm.{gathered_bios}
@@ -130,7 +130,7 @@ group_size version limits count bios = sizes version limits [] bios
 pub group_line : (version : ℕ) (b : Bio) (row : Row) → IsRowOf (bio_record (2 ^ 8)) row b → IsRowOf (whole_bio version) row b
 group_line version b row h rest = let k = h rest in record { fits = k.fits; made = k.made; follows = tt }
 
-pub group_wrong : (version : ℕ) (row : Row) (w : Why) → StartsWith (codes "bio") row → IsWrongLine (bio_record (2 ^ 8)) row w → IsWrongLine (whole_bio version) row w
+pub group_wrong : (version : ℕ) (row : Row) (w : Why) → StartsWith (codes "bio") row → IsWrongRecord (bio_record (2 ^ 8)) row w → IsWrongRecord (whole_bio version) row w
 group_wrong version row w t h rest = elim (h rest) [
   | inl f ↦ inl (inl (tt, t, f))
   | inr g ↦ inr (g.0, g.1, record { fits = g.2.fits; made = g.2.made; follows = tt }, g.3)
@@ -141,28 +141,28 @@ pub group_ok : (version : ℕ) (row : Row) (r : Result Bio Why) → IfOk r (IsRo
 group_ok version row (Ok b) h = group_line version b row h
 group_ok version row (Err w) h = tt
 
-pub group_err : (version : ℕ) (row : Row) (r : Result Bio Why) → StartsWith (codes "bio") row → IfErr r (IsWrongLine (bio_record (2 ^ 8)) row) → IfErr r (IsWrongLine (whole_bio version) row)
+pub group_err : (version : ℕ) (row : Row) (r : Result Bio Why) → StartsWith (codes "bio") row → IfErr r (IsWrongRecord (bio_record (2 ^ 8)) row) → IfErr r (IsWrongRecord (whole_bio version) row)
 group_err version row (Ok b) t h = tt
 group_err version row (Err w) t h = group_wrong version row w t h
 
 -- a record that is another event's, or no event's
-pub event_too_soon : (version : ℕ) (h : Head) (row : Row) → ¬ StartsWith (codes "bio") row → IsRowOf (first_record version) row h → IsWrongLine (whole_bio version) row why.Count
+pub event_too_soon : (version : ℕ) (h : Head) (row : Row) → ¬ StartsWith (codes "bio") row → IsRowOf (first_record version) row h → IsWrongRecord (whole_bio version) row why.Count
 event_too_soon version h row n l = λ rest. inl (inr (refl, (λ i s. n s), ((λ z. (cc z)), inr (refl, refl, (h, [], l [])))))
 
-pub no_event_there : (version : ℕ) (row : Row) (w : Why) → ¬ StartsWith (codes "bio") row → IsWrongLine (first_record version) row w → IsWrongLine (whole_bio version) row w
+pub no_event_there : (version : ℕ) (row : Row) (w : Why) → ¬ StartsWith (codes "bio") row → IsWrongRecord (first_record version) row w → IsWrongRecord (whole_bio version) row w
 no_event_there version row w n l = λ rest. inl (inr (refl, (λ i s. n s), ((λ z. (cc z)), inl (l []))))
 
 -- a bio that tiles, and one that does not
 pub tiles_line : (version : ℕ) (limits : Limits) (before : List Bio) (b : Bio) (row : Row) → IsRowOf (whole_bio version) row b → Tiles limits before b → IsRowOf (group_bio version limits before) row b
 tiles_line version limits before b row l t = λ rest. record { fits = ((l rest).fits, t); made = (l rest).made; follows = tt }
 
-pub astray_line : (version : ℕ) (limits : Limits) (before : List Bio) (b : Bio) (row : Row) → IsRowOf (whole_bio version) row b → ¬ Tiles limits before b → IsWrongLine (group_bio version limits before) row why.Tile
+pub astray_line : (version : ℕ) (limits : Limits) (before : List Bio) (b : Bio) (row : Row) → IsRowOf (whole_bio version) row b → ¬ Tiles limits before b → IsWrongRecord (group_bio version limits before) row why.Tile
 astray_line version limits before b row l n = λ rest. inr (b, rest, l rest, (refl, refl, n))
 
-pub wrong_line : (version : ℕ) (limits : Limits) (before : List Bio) (row : Row) (w : Why) → IsWrongLine (whole_bio version) row w → IsWrongLine (group_bio version limits before) row w
+pub wrong_line : (version : ℕ) (limits : Limits) (before : List Bio) (row : Row) (w : Why) → IsWrongRecord (whole_bio version) row w → IsWrongRecord (group_bio version limits before) row w
 wrong_line version limits before row w l = λ rest. inl (l rest)
 
-pub line_fails : {V : Type 0} (failed : Bool) (p : Part Row Why V) (left : Option (List Row)) (row : Row) (start at : ℕ) (w : Why) → IsWrongLine p row w → at ≡ start → HandFails failed p left row start at w
+pub line_fails : {V : Type 0} (failed : Bool) (p : Part Row Why V) (left : Option (List Row)) (row : Row) (start at : ℕ) (w : Why) → IsWrongRecord p row w → at ≡ start → HandFails failed p left row start at w
 line_fails failed p None row start at w h e = tt
 line_fails failed p (Some rows) row start at w h e = inr (1, omega (arith, e), h rows)
 

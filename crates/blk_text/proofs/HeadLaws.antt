@@ -4,7 +4,7 @@ use Rattle.std.specs.Prelude.{if◌then◌else◌}
 use Rattle.blk_lists.specs.Sources.{Row}
 use Rattle.blk_lists.specs.Words.{StartsWith, HasNoWord}
 use Rattle.blk_lists.specs.Fields.{Lacks, FieldsSpell}
-use Rattle.blk_lists.specs.Reads.{IsRowOf, IsWrongLine, IsOne}
+use Rattle.blk_lists.specs.Reads.{IsRowOf, IsWrongRecord, IsOne}
 use Rattle.blk_lists.specs.Tables.{FitsCells, slots_by, kinds_record}
 use Rattle.blk_text.specs.EventKinds.{EventKind, event_row, event_word, EventStandsIn, Says, event_fields}
 use Rattle.blk_text.specs.EventKinds as kind
@@ -107,13 +107,13 @@ head_line version h cells f ns at is s b =
     (subst (λ ss. FieldsSpell ss cells ns) (slots_are k) s) b (λ x. (of.0, x)) in
     λ rest. record { fits = (line rest).fits; made = (line rest).made; follows = tt }
 
-pub head_lacks : (version : ℕ) (k : EventKind) (cells : Row) (f : List ℕ) (w : Why) → f ≡ get_or cells 0 [] → (true ≡ true → Of version f k) → Lacks (event_row k).slots cells w → IsWrongLine (first_record version) cells w
+pub head_lacks : (version : ℕ) (k : EventKind) (cells : Row) (f : List ℕ) (w : Why) → f ≡ get_or cells 0 [] → (true ≡ true → Of version f k) → Lacks (event_row k).slots cells w → IsWrongRecord (first_record version) cells w
 head_lacks version k cells f w at is l =
     let of = is refl in
     let begun = starts k cells f at of.1 in
     λ rest. inl (k, (of.0, begun), (refl, inl (begun, subst (λ ss. Lacks ss cells w) (slots_are k) l)))
 
-pub no_head : (version : ℕ) (cells : Row) (f : List ℕ) (w : Why) → f ≡ get_or cells 0 [] → ((k : EventKind) → ¬ Of version f k) → HasNoWord 6 cells w → IsWrongLine (first_record version) cells w
+pub no_head : (version : ℕ) (cells : Row) (f : List ℕ) (w : Why) → f ≡ get_or cells 0 [] → ((k : EventKind) → ¬ Of version f k) → HasNoWord 6 cells w → IsWrongRecord (first_record version) cells w
 no_head version cells f w at n h = λ rest. inr (refl, (λ k s. n k (s.0, at ∙ first_is cells (event_word k) s.1)), h)
 
 pub head_gone : (version : ℕ) → (first_record version).Wrong [] 1 why.Count

@@ -16,7 +16,7 @@ use Rattle.edd_commands.specs.declared.steps.TheConstants.{MAX_DEPTH}
 use Rattle.blk_text.specs.SetupRecord.{setup_cells, setup, FitsSetup}
 use Rattle.blk_lists.specs.Words.{StartsWith, WordLacks}
 use Rattle.blk_lists.specs.Fields.{Lacks, FieldsSpell}
-use Rattle.blk_lists.specs.Reads.{Reads, Halts, IsRowOf, IsWrongLine, IsOne, items_of}
+use Rattle.blk_lists.specs.Reads.{Reads, Halts, IsRowOf, IsWrongRecord, IsOne, items_of}
 use Rattle.blk_lists.specs.Tables.{FitsCells, row_by, slots_by, kinds_record}
 use Rattle.blk_lists.specs.Titles.{IsVersion, most_in, title_cells, TakesTitle, StopsAtTitle}
 use Rattle.blk_text.specs.StepKinds.{StepKind, step_word, StepStandsIn, slots_for, StepTold, step_fields}
@@ -211,7 +211,7 @@ step_line version hw submitters l row f ns at is s b r =
 pub bio_right : (b : Bio) → IsBio b → IsRight (line.Bio b)
 bio_right b i = λ c e. subst IsBio (one_bio b c e) i
 
-pub step_lacks : (version hw submitters : ℕ) (k : StepKind) (row : Row) (f : List ℕ) (w : Why) → f ≡ get_or row (0) [] → (true ≡ true → Of version f k) → Lacks (slots_for hw submitters k) row w → IsWrongLine (step version hw submitters) row w
+pub step_lacks : (version hw submitters : ℕ) (k : StepKind) (row : Row) (f : List ℕ) (w : Why) → f ≡ get_or row (0) [] → (true ≡ true → Of version f k) → Lacks (slots_for hw submitters k) row w → IsWrongRecord (step version hw submitters) row w
 step_lacks version hw submitters k row f w at is l =
     let of = is refl in
     let begun = starts version k row f at of in
@@ -224,7 +224,7 @@ step_gone version hw submitters = inl (inr (refl, (λ k s. s.1), refl))
 pub step_bio : (version hw submitters : ℕ) (b : Bio) (row : Row) → IsRowOf (bio_record submitters) row b → IsRowOf (step version hw submitters) row (line.Bio b)
 step_bio version hw submitters b row h rest = let k = h rest in record { fits = ((tt, k.fits.0), bio_right b k.fits.1); made = k.made; follows = tt }
 
-pub step_no_bio : (version hw submitters : ℕ) (row : Row) (w : Why) → StartsWith (codes "bio") row → IsWrongLine (bio_record submitters) row w → IsWrongLine (step version hw submitters) row w
+pub step_no_bio : (version hw submitters : ℕ) (row : Row) (w : Why) → StartsWith (codes "bio") row → IsWrongRecord (bio_record submitters) row w → IsWrongRecord (step version hw submitters) row w
 step_no_bio version hw submitters row w t h rest = elim (h rest) [
   | inl f ↦ inl (inl (kind.Bio, (tt, t), f))
   | inr g ↦ inr (line.Bio g.0, g.1, record { fits = (tt, g.2.fits); made = g.2.made; follows = tt }, (g.0, g.3.0, refl, g.3.1, g.3.2, g.3.3))

@@ -4,7 +4,7 @@ ghost use Rattle.std.specs.Prelude.{◌≡◌, ◌++◌, ◌∷◌, ◌≤◌, [
 ghost use Rattle.csv.specs.Records.{fields_of};
 ghost use Rattle.blk_bio.specs.Letters.{direction_text};
 ghost use Rattle.blk_bio.specs.declared.bio.Dir.{Dir as Direction};
-ghost use Rattle.blk_lists.specs.Reads.{IsRowOf, IsWrongLine};
+ghost use Rattle.blk_lists.specs.Reads.{IsRowOf, IsWrongRecord};
 ghost use Rattle.blk_lists.specs.Texts.{rows_text};
 ghost use Rattle.blk_lists.specs.Words.{StartsWith};
 ghost use Rattle.blk_text.specs.BioRecord.{bio_row};
@@ -57,7 +57,7 @@ pub fn read_bio(row: &ByteRecord, submitters: u64) -> Result<Bio, Why>
     requires some { (1 ≤ submitters) × (submitters ≤ MAX_SUBMITTERS) }
     requires starts { StartsWith (codes "bio") (fields_of row.now) }
     ensures ok { IfOk result (IsRowOf (bio_record submitters) (fields_of row.now)) }
-    ensures err { IfErr result (IsWrongLine (bio_record submitters) (fields_of row.now)) }
+    ensures err { IfErr result (IsWrongRecord (bio_record submitters) (fields_of row.now)) }
 {
     let slots = BIO.below(submitters);
     let numbers = match read_fields(row, &slots) {

@@ -15,7 +15,7 @@ use crate::heads::{HeadForm, TRACE};
 use crate::setup::SetupForm;
 use blk_bio::{Limits, MAX_SEGMENTS, Request};
 use blk_lists::fault::{TextFault, Why};
-use blk_lists::items::{ItemForm, LineForm, gather, read_line};
+use blk_lists::items::{ItemForm, RecordForm, gather, read_record};
 use blk_lists::source::Records;
 use blk_lists::titles::read_title;
 use blk_trace::{Event, MAX_EVENTS, PushFault, Setup, Trace};
@@ -39,7 +39,7 @@ fn read_event<R: Read + Drop>(
     ensures last { IfErr result (λ f. (records.old.at ≤ f.at) × (f.at ≤ records.new.at)) }
     ensures reads { (records.old.at ≤ records.new.at) × (records.new.at ≤ records.old.at + MAX_SEGMENTS) }
 {
-    let head = match form.line(records.row()) {
+    let head = match form.value(records.row()) {
         Ok(head) => head,
         Err(why) => return Err(records.fault(why)),
     };
@@ -140,7 +140,7 @@ fn past_fault(form: &EventForm, row: &ByteRecord, trace: &mut Trace) -> Why
     requires { trace.old.setup ≡ form.now.setup }
     ensures { (result ≡ Why.Memory) ⊎ IsPast form.now.head.version form.now.setup trace.old.events (fields_of row.now) result }
 {
-    let head = match form.head.line(row) {
+    let head = match form.head.value(row) {
         Ok(head) => head,
         Err(why) => return why,
     };
@@ -225,7 +225,7 @@ pub fn read_trace<R: Read + Drop>(
         depth,
         hw: queues as u8,
     };
-    let setup = match read_line(records, &setup_form) {
+    let setup = match read_record(records, &setup_form) {
         Ok(setup) => setup,
         Err(fault) => return Err(fault),
     };

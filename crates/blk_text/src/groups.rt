@@ -3,7 +3,7 @@
 ghost use Rattle.std.specs.Prelude.{◌≡◌, ◌≤◌, ◌<◌, ◌^◌, ◌-◌, ◌+◌, ◌++◌, ◌∷◌, [], length, IsTrue, OnOk, IfOk, IfErr};
 ghost use Rattle.csv.specs.Records.{fields_of};
 ghost use Rattle.blk_bio.specs.Requests.{Fits};
-ghost use Rattle.blk_lists.specs.Reads.{IsRowOf, IsWrongLine, Reads, Fails};
+ghost use Rattle.blk_lists.specs.Reads.{IsRowOf, IsWrongRecord, Reads, Fails};
 ghost use Rattle.blk_text.specs.TraceForm.{whole_bio, group};
 
 use crate::bios::{MAX_SUBMITTERS, read_bio};
@@ -11,7 +11,7 @@ use crate::heads::HeadForm;
 use blk_bio::{Bio, Limits, MAX_SEGMENTS, Request, Side};
 use blk_lists::fault::{TextFault, Why};
 use blk_lists::fields::begins_with;
-use blk_lists::items::{ItemForm, LineForm, gather};
+use blk_lists::items::{ItemForm, RecordForm, gather};
 use blk_lists::source::Records;
 use csv::ByteRecord;
 use parts::Repeats;
@@ -21,12 +21,12 @@ use std::io::Read;
 /// The bio of a record of a group. Another event's record comes too soon there.
 fn bio_line(form: &HeadForm, row: &ByteRecord) -> Result<Bio, Why>
     ensures ok { IfOk result (IsRowOf (whole_bio form.now.version) (fields_of row.now)) }
-    ensures err { IfErr result (IsWrongLine (whole_bio form.now.version) (fields_of row.now)) }
+    ensures err { IfErr result (IsWrongRecord (whole_bio form.now.version) (fields_of row.now)) }
 {
     if begins_with(row, b"bio") {
         return read_bio(row, MAX_SUBMITTERS);
     }
-    match form.line(row) {
+    match form.value(row) {
         Ok(_) => Err(Why::Count),
         Err(why) => Err(why),
     }

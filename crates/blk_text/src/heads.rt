@@ -12,7 +12,7 @@ use crate::setup::{DEPTHS, LATEST, MORE_TAGS, QUEUES, WIDTH};
 use blk_bio::{Bio, MAX_SEGMENTS, Request};
 use blk_lists::fault::Why;
 use blk_lists::fields::{ANY_SLOT, Slot, field, read_fields, without_word};
-use blk_lists::items::LineForm;
+use blk_lists::items::RecordForm;
 use blk_lists::kinds::Kind;
 use blk_lists::titles::TitleRow;
 use blk_trace::{Event, MAX_EVENTS, MAX_TAGS};
@@ -125,7 +125,7 @@ pub(crate) struct HeadForm {
     pub version: u64,
 }
 
-impl LineForm for HeadForm {
+impl RecordForm for HeadForm {
     ghost use Rattle.blk_text.specs.TraceForm.{first_record};
 
     type Value = Event<u64>;
@@ -137,7 +137,7 @@ impl LineForm for HeadForm {
     }
 
     // Each kind lends the slots of its row: to copy them took half as long as to read a record by them.
-    fn line(&self, row: &ByteRecord) -> Result<Event<u64>, Why> {
+    fn value(&self, row: &ByteRecord) -> Result<Event<u64>, Why> {
         let word = field(row, 0);
         if TICK.is(word, self.version) {
             read_fields(row, &ALONE)?;

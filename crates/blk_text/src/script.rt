@@ -2,7 +2,7 @@
 
 ghost use Rattle.std.specs.Prelude.{◌≡◌, ◌+◌, ◌++◌, ◌∷◌, ◌≤◌, [], IfOk, IfErr, IfSome, OnOk, get_or, length};
 ghost use Rattle.csv.specs.Records.{fields_of};
-ghost use Rattle.blk_lists.specs.Reads.{FaultsBy, IsRowOf, IsWrongLine, Reaches};
+ghost use Rattle.blk_lists.specs.Reads.{FaultsBy, IsRowOf, IsWrongRecord, Reaches};
 ghost use Rattle.blk_lists.specs.Texts.{rows_text};
 ghost use Rattle.blk_text.specs.StepKinds.{step_word};
 ghost use Rattle.blk_text.specs.StepKinds as kind;
@@ -17,7 +17,7 @@ use crate::setup::{DEPTHS, LATEST, MORE_TAGS, QUEUES, SetupForm, WIDTH};
 use blk_bio::{Bio, MAX_SOFT_DEPTH, MAX_SOFT_QUEUES};
 use blk_lists::fault::{TextFault, Why};
 use blk_lists::fields::{Slot, field, read_fields, without_word};
-use blk_lists::items::{LineForm, read_line, read_lines};
+use blk_lists::items::{RecordForm, read_record, read_records};
 use blk_lists::kinds::Kind;
 use blk_lists::source::Records;
 use blk_lists::titles::{TitleRow, read_title};
@@ -143,7 +143,7 @@ pub(crate) struct StepForm {
 fn short_line(form: &StepForm, row: &ByteRecord) -> Result<Line, Why>
     requires other { ¬ (get_or (fields_of row.now) 0 [] ≡ step_word kind.Bio) }
     ensures ok { IfOk result (IsRowOf (step form.now.version form.now.hw form.now.submitters) (fields_of row.now)) }
-    ensures err { IfErr result (IsWrongLine (step form.now.version form.now.hw form.now.submitters) (fields_of row.now)) }
+    ensures err { IfErr result (IsWrongRecord (step form.now.version form.now.hw form.now.submitters) (fields_of row.now)) }
 {
     let word = field(row, 0);
     if FLUSH.is(word, form.version) {
@@ -186,7 +186,7 @@ fn short_line(form: &StepForm, row: &ByteRecord) -> Result<Line, Why>
     Err(without_word(row, WIDTH))
 }
 
-impl LineForm for StepForm {
+impl RecordForm for StepForm {
     ghost use Rattle.blk_text.specs.Script.{step};
 
     type Value = Line;
@@ -197,7 +197,7 @@ impl LineForm for StepForm {
         Why::Count
     }
 
-    fn line(&self, row: &ByteRecord) -> Result<Line, Why> {
+    fn value(&self, row: &ByteRecord) -> Result<Line, Why> {
         if BIO.is(field(row, 0), self.version) {
             return match read_bio(row, self.submitters) {
                 Ok(bio) => Ok(Line::Bio(bio)),
@@ -259,7 +259,7 @@ pub fn read_script<R: Read + Drop>(
     }
     let hw = queues as u8;
     let setup_form = SetupForm { depth, hw };
-    let setup = match read_line(records, &setup_form) {
+    let setup = match read_record(records, &setup_form) {
         Ok(setup) => setup,
         Err(fault) => return Err(fault),
     };
@@ -268,7 +268,7 @@ pub fn read_script<R: Read + Drop>(
         hw,
         submitters,
     };
-    match read_lines(alloc, records, form, Repeats::AtMost(MAX_STEPS)) {
+    match read_records(alloc, records, form, Repeats::AtMost(MAX_STEPS)) {
         Ok(lines) => Ok(Script {
             setup,
             soft_depth,

@@ -3,7 +3,7 @@
 ghost use Rattle.std.specs.Prelude.{◌≡◌, ◌++◌, ◌≤◌, ◌<◌, ◌∷◌, [], IfOk, IfErr, OnOk, codes};
 ghost use Rattle.csv.specs.Records.{fields_of};
 ghost use Rattle.blk_lists.specs.Fields.{FieldsSpell};
-ghost use Rattle.blk_lists.specs.Reads.{IsRowOf, IsWrongLine};
+ghost use Rattle.blk_lists.specs.Reads.{IsRowOf, IsWrongRecord};
 ghost use Rattle.blk_lists.specs.Texts.{rows_text};
 ghost use Rattle.blk_lists.specs.Words.{StartsWith};
 ghost use Rattle.blk_text.specs.SetupRecord.{setup_cells, setup_row, IsWholeSetup, setup as setup_part};
@@ -16,7 +16,7 @@ ghost use Rattle.blk_lists.specs.declared.fields.Slot.TheVariants as slot;
 use blk_bio::{Limits, MAX_QUEUES, MAX_SECTORS, MAX_SEGMENTS};
 use blk_lists::fault::Why;
 use blk_lists::fields::{Slot, begins_with, read_fields, without_word};
-use blk_lists::items::LineForm;
+use blk_lists::items::RecordForm;
 use blk_lists::kinds::Kind;
 use blk_lists::titles::Wider;
 use blk_trace::{MAX_EXPIRIES, Setup};
@@ -101,7 +101,7 @@ fn setup_at(row: &ByteRecord, depth: u64, hw: u8) -> Result<Setup, Why>
     requires depth { (0 < depth) × (depth ≤ MAX_DEPTH) }
     requires hw { (0 < hw) × (hw ≤ MAX_QUEUES) }
     ensures ok { IfOk result (IsRowOf (setup_part depth hw) (fields_of row.now)) }
-    ensures err { IfErr result (IsWrongLine (setup_part depth hw) (fields_of row.now)) }
+    ensures err { IfErr result (IsWrongRecord (setup_part depth hw) (fields_of row.now)) }
 {
     if !begins_with(row, SETUP.word.as_slice()) {
         return Err(without_word(row, WIDTH));
@@ -121,7 +121,7 @@ pub(crate) struct SetupForm {
     ghost hw_in: { (0 < hw) × (hw ≤ MAX_QUEUES) },
 }
 
-impl LineForm for SetupForm {
+impl RecordForm for SetupForm {
     ghost use Rattle.blk_text.specs.SetupRecord.{setup as setup_part};
 
     type Value = Setup;
@@ -133,7 +133,7 @@ impl LineForm for SetupForm {
         Why::Word
     }
 
-    fn line(&self, row: &ByteRecord) -> Result<Setup, Why> {
+    fn value(&self, row: &ByteRecord) -> Result<Setup, Why> {
         setup_at(row, self.depth, self.hw)
     }
 }

@@ -9,20 +9,20 @@ invariant_of-setup_form g c =
     let is = (title_told c.args.records.now.left c.read_title.new.records.left c.in-Ok.title c.in-Ok.ensures.ok).1.1 in
     record { depth_in = setup_depth (c.in-Ok.title.0, title_at c.in-Ok.title.1) is; hw_in = is.hw }
 
-pub returns-in-Err-read_line-clause-err : goal.returns-in-Err-read_line-clause-err
-returns-in-Err-read_line-clause-err g c =
-    setup_fails c.read_line.new.records.failed c.args.records.now.left c.read_title.new.records.left (c.in-Ok.title.0, title_at c.in-Ok.title.1) c.read_title.new.records.at c.in-Err-read_line.fault.at c.in-Err-read_line.fault.why
-    (omega (arith, c.requires, c.read_title.ensures.at)) (title_told c.args.records.now.left c.read_title.new.records.left c.in-Ok.title c.in-Ok.ensures.ok).0 c.in-Err-read_line.ensures.err
+pub returns-in-Err-read_record-clause-err : goal.returns-in-Err-read_record-clause-err
+returns-in-Err-read_record-clause-err g c =
+    setup_fails c.read_record.new.records.failed c.args.records.now.left c.read_title.new.records.left (c.in-Ok.title.0, title_at c.in-Ok.title.1) c.read_title.new.records.at c.in-Err-read_record.fault.at c.in-Err-read_record.fault.why
+    (omega (arith, c.requires, c.read_title.ensures.at)) (title_told c.args.records.now.left c.read_title.new.records.left c.in-Ok.title c.in-Ok.ensures.ok).0 c.in-Err-read_record.ensures.err
 
 pub returns-in-Ok-read_events-clause-ok : goal.returns-in-Ok-read_events-clause-ok
 returns-in-Ok-read_events-clause-ok g c =
-    trace_read c.args.records.now.left c.read_title.new.records.left c.read_line.new.records.left (c.in-Ok.title.0, title_at c.in-Ok.title.1) c.in-Ok-empty.none.setup c.in-Ok-read_line.setup c.in-Ok-read_events.trace
-    c.in-Ok-read_events.ensures.setup (ap (λ (t : Traced). t.setup) c.in-Ok-empty.ensures) c.in-Ok-read_line.ensures.fits c.in-Ok-read_events.ensures.fit.1 (title_told c.args.records.now.left c.read_title.new.records.left c.in-Ok.title c.in-Ok.ensures.ok).0 c.in-Ok-read_line.ensures.ok c.in-Ok-read_events.ensures.ok
+    trace_read c.args.records.now.left c.read_title.new.records.left c.read_record.new.records.left (c.in-Ok.title.0, title_at c.in-Ok.title.1) c.in-Ok-empty.none.setup c.in-Ok-read_record.setup c.in-Ok-read_events.trace
+    c.in-Ok-read_events.ensures.setup (ap (λ (t : Traced). t.setup) c.in-Ok-empty.ensures) c.in-Ok-read_record.ensures.fits c.in-Ok-read_events.ensures.fit.1 (title_told c.args.records.now.left c.read_title.new.records.left c.in-Ok.title c.in-Ok.ensures.ok).0 c.in-Ok-read_record.ensures.ok c.in-Ok-read_events.ensures.ok
 
 pub returns-in-Ok-read_events-clause-in_range : goal.returns-in-Ok-read_events-clause-in_range
 returns-in-Ok-read_events-clause-in_range g c =
-    trace_in c.in-Ok-read_events.trace c.in-Ok.title.0 (get_or c.in-Ok.title.1 2 0) (get_or c.in-Ok.title.1 3 0) (get_or c.in-Ok.title.1 4 0) c.in-Ok-empty.none.setup c.in-Ok-read_line.setup c.in-Ok-read_events.ensures.setup (ap (λ (t : Traced). t.setup) c.in-Ok-empty.ensures)
-    c.in-Ok-read_line.ensures.fits c.in-Ok-read_events.ensures.fit c.events.ensures.legal
+    trace_in c.in-Ok-read_events.trace c.in-Ok.title.0 (get_or c.in-Ok.title.1 2 0) (get_or c.in-Ok.title.1 3 0) (get_or c.in-Ok.title.1 4 0) c.in-Ok-empty.none.setup c.in-Ok-read_record.setup c.in-Ok-read_events.ensures.setup (ap (λ (t : Traced). t.setup) c.in-Ok-empty.ensures)
+    c.in-Ok-read_record.ensures.fits c.in-Ok-read_events.ensures.fit c.events.ensures.legal
 
 pub returns-in-Ok-read_events-clause-end : goal.returns-in-Ok-read_events-clause-end
 returns-in-Ok-read_events-clause-end g c =
@@ -31,10 +31,10 @@ returns-in-Ok-read_events-clause-end g c =
 
 pub returns-in-Err-read_events-clause-err : goal.returns-in-Err-read_events-clause-err
 returns-in-Err-read_events-clause-err g c =
-    events_fail_of _ c.args.records.now.left c.read_title.new.records.left c.read_line.new.records.left (c.in-Ok.title.0, title_at c.in-Ok.title.1) c.in-Ok-empty.none.setup c.in-Ok-read_line.setup c.read_title.new.records.at c.in-Err-read_events.fault.at c.in-Err-read_events.fault.why
-    (ap (λ (t : Traced). t.setup) c.in-Ok-empty.ensures) (omega arith) (title_told c.args.records.now.left c.read_title.new.records.left c.in-Ok.title c.in-Ok.ensures.ok).0 c.in-Ok-read_line.ensures.ok c.in-Err-read_events.ensures.err
+    events_fail_of _ c.args.records.now.left c.read_title.new.records.left c.read_record.new.records.left (c.in-Ok.title.0, title_at c.in-Ok.title.1) c.in-Ok-empty.none.setup c.in-Ok-read_record.setup c.read_title.new.records.at c.in-Err-read_events.fault.at c.in-Err-read_events.fault.why
+    (ap (λ (t : Traced). t.setup) c.in-Ok-empty.ensures) (omega arith) (title_told c.args.records.now.left c.read_title.new.records.left c.in-Ok.title c.in-Ok.ensures.ok).0 c.in-Ok-read_record.ensures.ok c.in-Err-read_events.ensures.err
 
 pub returns-in-Err-read_events-clause-before : goal.returns-in-Err-read_events-clause-before
 returns-in-Err-read_events-clause-before g c =
-    events_held_of c.args.records.now.left c.read_title.new.records.left c.read_line.new.records.left (c.in-Ok.title.0, title_at c.in-Ok.title.1) c.in-Ok-empty.none.setup c.in-Ok-read_line.setup c.in-Err-read_events.fault.at c.read_events.new.records.at
-    (ap (λ (t : Traced). t.setup) c.in-Ok-empty.ensures) (title_told c.args.records.now.left c.read_title.new.records.left c.in-Ok.title c.in-Ok.ensures.ok).1.1 (title_told c.args.records.now.left c.read_title.new.records.left c.in-Ok.title c.in-Ok.ensures.ok).0 c.in-Ok-read_line.ensures.ok c.in-Err-read_events.ensures.before
+    events_held_of c.args.records.now.left c.read_title.new.records.left c.read_record.new.records.left (c.in-Ok.title.0, title_at c.in-Ok.title.1) c.in-Ok-empty.none.setup c.in-Ok-read_record.setup c.in-Err-read_events.fault.at c.read_events.new.records.at
+    (ap (λ (t : Traced). t.setup) c.in-Ok-empty.ensures) (title_told c.args.records.now.left c.read_title.new.records.left c.in-Ok.title c.in-Ok.ensures.ok).1.1 (title_told c.args.records.now.left c.read_title.new.records.left c.in-Ok.title c.in-Ok.ensures.ok).0 c.in-Ok-read_record.ensures.ok c.in-Err-read_events.ensures.before

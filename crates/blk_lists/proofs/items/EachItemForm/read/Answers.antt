@@ -5,16 +5,16 @@ use Rattle.blk_lists.proofs.items.EachItemForm.read.Goals as goal
 
 pub returns-else-is_err-clause-ok : goal.returns-else-is_err-clause-ok
 returns-else-is_err-clause-ok g c =
-    let p = g.F.LineForm.part c.args.self.now.form in
+    let p = g.F.RecordForm.part c.args.self.now.form in
     let good : is_ok c.push.result ≡ true = search rules in
-    let one = c.gone.ensures.one.one c.in-Ok.line in
+    let one = c.gone.ensures.one.one c.in-Ok.value in
     λ k. (
       k,
       record {
-        item = c.in-Ok.line;
+        item = c.in-Ok.value;
         gathered = rw good at c.push.ensures.items;
         fits = (c.in-Ok.ensures.ok []).fits;
-        read = hand_reads p c.args.records.now.left c.args.records.now.fields c.in-Ok.line (rw c.row.ensures at c.in-Ok.ensures.ok);
+        read = hand_reads p c.args.records.now.left c.args.records.now.fields c.in-Ok.value (rw c.row.ensures at c.in-Ok.ensures.ok);
         end = omega (arith, one);
       },
     )

@@ -4,7 +4,7 @@ use Rattle.blk_lists.specs.Words.{StartsWith}
 use Rattle.blk_lists.specs.OnTime.{on_time_cells, AreFew}
 use Rattle.blk_lists.specs.declared.fault.Why.TheVariants as why
 use Rattle.blk_lists.proofs.TableLaws.{word_line}
-use Rattle.blk_lists.proofs.on_time.NumbersFormLineForm.line.Goals as goal
+use Rattle.blk_lists.proofs.on_time.NumbersFormRecordForm.value.Goals as goal
 
 pub returns-in-Ok-clause-ok : goal.returns-in-Ok-clause-ok
 returns-in-Ok-clause-ok c =

@@ -1,5 +1,5 @@
 use Rattle.blk_text.proofs.HeadLaws.{head_one, head_gone}
-use Rattle.blk_text.proofs.heads.HeadFormLineForm.gone.Goals as goal
+use Rattle.blk_text.proofs.heads.HeadFormRecordForm.gone.Goals as goal
 
 pub returns-clause-one : goal.returns-clause-one
 returns-clause-one c = head_one c.args.self.now.version

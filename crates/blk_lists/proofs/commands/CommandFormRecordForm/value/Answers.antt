@@ -4,7 +4,7 @@ use Rattle.blk_lists.specs.Commands.{command_cells, IsCommandInRange}
 use Rattle.blk_lists.specs.declared.fault.Why.TheVariants as why
 use Rattle.blk_lists.proofs.CommandLaws.{command_fits}
 use Rattle.blk_lists.proofs.TableLaws.{table_line}
-use Rattle.blk_lists.proofs.commands.CommandFormLineForm.line.Goals as goal
+use Rattle.blk_lists.proofs.commands.CommandFormRecordForm.value.Goals as goal
 
 pub returns-in-Ok-clause-ok : goal.returns-in-Ok-clause-ok
 returns-in-Ok-clause-ok c =

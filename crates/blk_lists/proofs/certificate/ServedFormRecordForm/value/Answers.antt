@@ -4,7 +4,7 @@ use Rattle.blk_lists.specs.Certificate.{served_cells, IsServed}
 use Rattle.blk_lists.specs.declared.fault.Why.TheVariants as why
 use Rattle.blk_lists.proofs.ClaimLaws.{served_fits}
 use Rattle.blk_lists.proofs.TableLaws.{table_line}
-use Rattle.blk_lists.proofs.certificate.ServedFormLineForm.line.Goals as goal
+use Rattle.blk_lists.proofs.certificate.ServedFormRecordForm.value.Goals as goal
 
 pub returns-in-Ok-clause-ok : goal.returns-in-Ok-clause-ok
 returns-in-Ok-clause-ok c =

@@ -2,7 +2,7 @@ use Rattle.std.proofs.Common.{◌≡◌, ◌∙◌, [], refl, sym, codes, arith,
 use Rattle.csv.specs.Records.{fields_of}
 use Rattle.blk_lists.proofs.TableLaws.{begins}
 use Rattle.blk_text.proofs.ScriptLaws.{step_bio, step_no_bio}
-use Rattle.blk_text.proofs.script.StepFormLineForm.line.Goals as goal
+use Rattle.blk_text.proofs.script.StepFormRecordForm.value.Goals as goal
 
 pub returns-in-Ok-clause-ok : goal.returns-in-Ok-clause-ok
 returns-in-Ok-clause-ok c = step_bio c.args.self.now.version c.args.self.now.hw c.args.self.now.submitters c.in-Ok.bio (fields_of c.args.row.now) c.in-Ok.ensures.ok

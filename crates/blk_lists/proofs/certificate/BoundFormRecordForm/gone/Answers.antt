@@ -1,5 +1,5 @@
 use Rattle.blk_lists.proofs.ClaimLaws.{bound_one, bound_gone}
-use Rattle.blk_lists.proofs.certificate.BoundFormLineForm.gone.Goals as goal
+use Rattle.blk_lists.proofs.certificate.BoundFormRecordForm.gone.Goals as goal
 
 pub returns-clause-one : goal.returns-clause-one
 returns-clause-one c = bound_one c.args.self.now.count

@@ -3,7 +3,7 @@ use Rattle.std.proofs.lemmas.Result.{err_from_is_err_and}
 use Rattle.csv.specs.Records.{fields_of}
 use Rattle.blk_text.specs.EventKinds as kind
 use Rattle.blk_text.proofs.HeadLaws.{head_line, head_lacks}
-use Rattle.blk_text.proofs.heads.HeadFormLineForm.line.Goals as goal
+use Rattle.blk_text.proofs.heads.HeadFormRecordForm.value.Goals as goal
 
 pub returns-in_err-read_fields-clause-err : goal.returns-in_err-read_fields-clause-err
 returns-in_err-read_fields-clause-err c =

@@ -6,7 +6,7 @@ use Rattle.blk_lists.specs.OnTime.{window_cells}
 use Rattle.blk_lists.specs.declared.fault.Why.TheVariants as why
 use Rattle.blk_lists.proofs.OnTimeLaws.{window_fits}
 use Rattle.blk_lists.proofs.TableLaws.{word_line}
-use Rattle.blk_lists.proofs.on_time.WindowFormLineForm.line.Goals as goal
+use Rattle.blk_lists.proofs.on_time.WindowFormRecordForm.value.Goals as goal
 
 pub returns-in-Ok-clause-ok : goal.returns-in-Ok-clause-ok
 returns-in-Ok-clause-ok c =
