@@ -23,12 +23,12 @@ use Rattle.blk_lists.proofs.TitleLaws.{IsTitleTable, title_tells, title_decides,
 use Rattle.blk_lists.proofs.Each.{one_record, one_version}
 use Rattle.blk_lists.proofs.Reading.{outside_fails, many_fails, past_wrong, full_stopped, then_reads, hand_reads, first_halts, second_halts, lines_halt}
 use Rattle.blk_lists.proofs.Texts.{text_back}
-use Rattle.blk_capture_text.specs.Steps.{time_at, record_at, IsStep, StepLacks}
-use Rattle.blk_capture_text.specs.Captures.{capture_title_part, last_time, record_after, steps_body, capture_form, capture_rows, AreCapture, SpellsCapture, CaptureTextFault}
-use Rattle.blk_capture_text.specs.Inside.Taking.{HasSteps, HaveRows}
-use Rattle.blk_capture_text.specs.declared.reading.StepsRead.{StepsRead}
+use Rattle.blk_capture_text.specs.Recorded.{time_at, record_at, IsRecordAfter, RecordLacks}
+use Rattle.blk_capture_text.specs.Captures.{capture_title_part, last_time, record_after, records_body, capture_form, capture_rows, AreCapture, SpellsCapture, CaptureTextFault}
+use Rattle.blk_capture_text.specs.Inside.Taking.{HasRecords, HaveRows}
+use Rattle.blk_capture_text.specs.declared.reading.RecordsRead.{RecordsRead}
 use Rattle.blk_capture_text.specs.declared.reading.TheConstants.{CAPTURE, MAX_RECORDS}
-use Rattle.blk_capture_text.proofs.StepLaws.{step_tells, step_decided}
+use Rattle.blk_capture_text.proofs.RowLaws.{row_tells, row_decided}
 
 -- the title
 
@@ -55,11 +55,11 @@ title_told left mid version ns h = title_reads CAPTURE [] (λ _ (v : Unit {0}). 
 
 -- a record
 
-pub step_one : (before : List Row) → IsOne (record_after before)
-step_one before = one_record (λ row. row) (IsStep (last_time before)) why.Count (StepLacks (last_time before)) (step_tells (last_time before))
+pub row_one : (before : List Row) → IsOne (record_after before)
+row_one before = one_record (λ row. row) (IsRecordAfter (last_time before)) why.Count (RecordLacks (last_time before)) (row_tells (last_time before))
 
-step_decides : (before : List Row) → Decides (record_after before)
-step_decides before = record_decides (λ row. row) (IsStep (last_time before)) why.Count (StepLacks (last_time before)) (λ row. elim (step_decided (last_time before) row) [
+row_decides : (before : List Row) → Decides (record_after before)
+row_decides before = record_decides (λ row. row) (IsRecordAfter (last_time before)) why.Count (RecordLacks (last_time before)) (λ row. elim (row_decided (last_time before) row) [
   | inl s ↦ inl (row, s, refl)
   | inr w ↦ inr w
 ])
@@ -67,17 +67,17 @@ step_decides before = record_decides (λ row. row) (IsStep (last_time before)) w
 some_rows : HasRows record_after
 some_rows s v fit e = cc e
 
-body_tells : Tells steps_body
-body_tells = ended_tells (repeats.AtMost MAX_RECORDS) why.TooLong record_after record_after with_next (λ s. (step_one s).tells) (λ s. (step_one s).plain) some_rows (λ s. (step_one s).tells) []
+body_tells : Tells records_body
+body_tells = ended_tells (repeats.AtMost MAX_RECORDS) why.TooLong record_after record_after with_next (λ s. (row_one s).tells) (λ s. (row_one s).plain) some_rows (λ s. (row_one s).tells) []
 
-body_decides : Decides steps_body
-body_decides = ended_decides (repeats.AtMost MAX_RECORDS) why.TooLong record_after record_after with_next step_decides step_decides []
+body_decides : Decides records_body
+body_decides = ended_decides (repeats.AtMost MAX_RECORDS) why.TooLong record_after record_after with_next row_decides row_decides []
 
 pub capture_tells : Tells capture_form
-capture_tells = then_tells capture_title_part (λ _. steps_body) capture_title_tells (λ t fit. body_tells)
+capture_tells = then_tells capture_title_part (λ _. records_body) capture_title_tells (λ t fit. body_tells)
 
 capture_decides : Decides capture_form
-capture_decides = then_decides capture_title_part (λ _. steps_body) (title_decides CAPTURE [] (λ _ (v : Unit {0}). Unit {0}) title_table) (λ t fit. body_decides)
+capture_decides = then_decides capture_title_part (λ _. records_body) (title_decides CAPTURE [] (λ _ (v : Unit {0}). Unit {0}) title_table) (λ t fit. body_decides)
 
 -- the rows of records are themselves
 
@@ -85,8 +85,8 @@ same_rows : (s vs : List Row) → all_rows record_after with_next s vs ≡ vs
 same_rows s [] = refl
 same_rows s (v ∷ vs) = ap (λ (t : List Row). v ∷ t) (same_rows (s ++ v ∷ []) vs)
 
-pub size_steps : (vs : List Row) → size_of record_after vs ≡ length vs
-size_steps vs = ap length (same_rows [] vs)
+pub size_rows : (vs : List Row) → size_of record_after vs ≡ length vs
+size_rows vs = ap length (same_rows [] vs)
 
 last_after : (s : List Row) (v : Row) → last_time (s ++ v ∷ []) ≡ time_at v
 last_after [] v = refl
@@ -115,8 +115,8 @@ fit_in_order vs cs e f = rw e (λ k d l. ordered k d (omega (arith, l, length-ma
 
 -- whole captures
 
-spelled : (rows steps : List Row) (version : ℕ) → IsVersion 1 version → Spells capture_form rows ((version, tt), steps) → AreCapture rows steps
-spelled rows steps version v h = let one = one_version version v in subst (λ v. Spells capture_form rows v) (λ i. ((one i, tt), steps)) h
+spelled : (rows body : List Row) (version : ℕ) → IsVersion 1 version → Spells capture_form rows ((version, tt), body) → AreCapture rows body
+spelled rows body version v h = let one = one_version version v in subst (λ v. Spells capture_form rows v) (λ i. ((one i, tt), body)) h
 
 pub spelled_once : (rows : List Row) (c d : List Record) → SpellsCapture rows c → SpellsCapture rows d → c ≡ d
 spelled_once rows c d s t =
@@ -135,7 +135,7 @@ spelled_no_fault rows c at w s f = capture_tells.apart rows ((CAPTURE.latest, tt
 pub one_fault : (rows : List Row) (at other : ℕ) (w v : Why) → CaptureTextFault rows at w → CaptureTextFault rows other v → (at ≡ other) × (w ≡ v)
 one_fault rows at other w v = capture_tells.first rows at other w v
 
-row_back : (last : ℕ) (row : Row) → IsStep last row → read_back row ≡ row
+row_back : (last : ℕ) (row : Row) → IsRecordAfter last row → read_back row ≡ row
 row_back last [] s = absurd (let none : 0 ≡ 8 = s.width in omega (arith, none))
 row_back last (x ∷ xs) s = refl
 
@@ -143,26 +143,26 @@ rows_back : (s vs : List Row) → AllFit record_after with_next s vs → map rea
 rows_back s [] f = refl
 rows_back s (v ∷ vs) f = let first = row_back (last_time s) v f.0 in let others = rows_back (s ++ v ∷ []) vs f.1 in cc (first, others)
 
-pub read_back_is : (steps : List Row) → AreCapture (capture_rows steps) steps → SpellsCapture (records default_config (strip_bom (rows_text (capture_rows steps)))) (map record_at steps)
+pub read_back_is : (body : List Row) → AreCapture (capture_rows body) body → SpellsCapture (records default_config (strip_bom (rows_text (capture_rows body)))) (map record_at body)
 unfolding rows_text
-read_back_is steps h =
-    let back : map read_back (capture_rows steps) ≡ capture_rows steps = ap (λ (t : List Row). title_by {V = Unit {0}} CAPTURE [] (CAPTURE.latest, tt) ∷ t) (rows_back [] steps h.fits.1.0.0) in
-    (steps, refl, rw (text_back (capture_rows steps) _ refl back) h)
+read_back_is body h =
+    let back : map read_back (capture_rows body) ≡ capture_rows body = ap (λ (t : List Row). title_by {V = Unit {0}} CAPTURE [] (CAPTURE.latest, tt) ∷ t) (rows_back [] body h.fits.1.0.0) in
+    (body, refl, rw (text_back (capture_rows body) _ refl back) h)
 
 -- reading
 
-pub capture_read : (left mid : Option (List Row)) (version : ℕ) (steps : List Row) (cs : List Record) → Reads capture_title_part left mid (version, tt) → IsVersion 1 version → cs ≡ map record_at steps
-    → IfSome mid (λ rows. Begins steps_body rows steps []) → IfSome left (λ rows. SpellsCapture rows cs)
-capture_read None mid version steps cs h v e k = tt
-capture_read (Some rows) mid version steps cs h v e k = (steps, e, spelled rows steps version v (then_reads capture_title_part (λ _. steps_body) (Some rows) mid (version, tt) steps h k))
+pub capture_read : (left mid : Option (List Row)) (version : ℕ) (body : List Row) (cs : List Record) → Reads capture_title_part left mid (version, tt) → IsVersion 1 version → cs ≡ map record_at body
+    → IfSome mid (λ rows. Begins records_body rows body []) → IfSome left (λ rows. SpellsCapture rows cs)
+capture_read None mid version body cs h v e k = tt
+capture_read (Some rows) mid version body cs h v e k = (body, e, spelled rows body version v (then_reads capture_title_part (λ _. records_body) (Some rows) mid (version, tt) body h k))
 
 -- one record more
 
-pub step_gathers : (old now : StepsRead) (known : HaveRows old) (left : Option (List Row)) (row : Row) (at : ℕ) → IsStep old.last row → now.records.items ≡ old.records.items ++ record_at row ∷ [] → now.last ≡ time_at row
+pub row_gathers : (old now : RecordsRead) (known : HaveRows old) (left : Option (List Row)) (row : Row) (at : ℕ) → IsRecordAfter old.last row → now.records.items ≡ old.records.items ++ record_at row ∷ [] → now.last ≡ time_at row
     → (next : HaveRows now) × Gathers record_after known.0 next.0 left row left at at
-step_gathers old now known left row at step items last =
-    let fits : IsStep (last_time known.0) row = rw known.1.1 at step in
-    let has : HasSteps now (known.0 ++ row ∷ []) = (items ∙ ap (λ (z : List Record). z ++ record_at row ∷ []) known.1.0 ∙ sym (map-append record_at known.0 (row ∷ [])), last ∙ sym (last_after known.0 row)) in (
+row_gathers old now known left row at after items last =
+    let fits : IsRecordAfter (last_time known.0) row = rw known.1.1 at after in
+    let has : HasRecords now (known.0 ++ row ∷ []) = (items ∙ ap (λ (z : List Record). z ++ record_at row ∷ []) known.1.0 ∙ sym (map-append record_at known.0 (row ∷ [])), last ∙ sym (last_after known.0 row)) in (
       (known.0 ++ row ∷ [], has),
       record {
         item = row;
@@ -173,10 +173,10 @@ step_gathers old now known left row at step items last =
       },
     )
 
-pub step_fails : (failed : Bool) (old : StepsRead) (known : HaveRows old) (left : Option (List Row)) (row : Row) (start at : ℕ) (w : Why) → at ≡ start → (w ≡ why.Memory) ⊎ StepLacks old.last row w → HandFails failed (record_after known.0) left row start at w
-step_fails failed old known None row start at w e h = tt
-step_fails failed old known (Some rows) row start at w e (inl m) = inl (inr m)
-step_fails failed old known (Some rows) row start at w e (inr bad) = inr (1, omega (arith, e), (refl, rw known.1.1 at bad))
+pub row_fails : (failed : Bool) (old : RecordsRead) (known : HaveRows old) (left : Option (List Row)) (row : Row) (start at : ℕ) (w : Why) → at ≡ start → (w ≡ why.Memory) ⊎ RecordLacks old.last row w → HandFails failed (record_after known.0) left row start at w
+row_fails failed old known None row start at w e h = tt
+row_fails failed old known (Some rows) row start at w e (inl m) = inl (inr m)
+row_fails failed old known (Some rows) row start at w e (inr bad) = inr (1, omega (arith, e), (refl, rw known.1.1 at bad))
 
 -- records to the end of the text
 
@@ -184,51 +184,51 @@ abbrev at_most : Repeats
 at_most = repeats.AtMost MAX_RECORDS
 
 -- rows were read, and the records are theirs
-abbrev pub AreTaken : StepsRead → Option (List Row) → Option (List Row) → ℕ → ℕ → Bool → Type 0
+abbrev pub AreTaken : RecordsRead → Option (List Row) → Option (List Row) → ℕ → ℕ → Bool → Type 0
 AreTaken s left new start at over = (known : HaveRows s) × AreGathered (repeats.AtMost MAX_RECORDS) record_after left new start at known.0 over
 
-halted : (failed : Bool) (left : Option (List Row)) (start at last : ℕ) (w : Why) → IsStopped (repeats.AtMost MAX_RECORDS) record_after left start 0 at last → Fails failed steps_body left start at w → Halts failed steps_body left start at w
-halted failed left start at last w = lines_halt failed record_after at_most left start at last w (λ s. (step_one s).tells) (λ s. (step_one s).plain) some_rows
+halted : (failed : Bool) (left : Option (List Row)) (start at last : ℕ) (w : Why) → IsStopped (repeats.AtMost MAX_RECORDS) record_after left start 0 at last → Fails failed records_body left start at w → Halts failed records_body left start at w
+halted failed left start at last w = lines_halt failed record_after at_most left start at last w (λ s. (row_one s).tells) (λ s. (row_one s).plain) some_rows
 
 pub taking_halts : (failed : Bool) (left : Option (List Row)) (start at last : ℕ) (w : Why) → IsStopped (repeats.AtMost MAX_RECORDS) record_after left start 0 at last → Fails failed (repeated (repeats.AtMost MAX_RECORDS) record_after) left start at w
-    → Halts failed steps_body left start at w
+    → Halts failed records_body left start at w
 taking_halts failed left start at last w s f = halted failed left start at last w s (many_fails failed record_after record_after at_most left start at w f)
 
-full : (s : StepsRead) (left mid : Option (List Row)) (start now at : ℕ) → AreTaken s left mid start now false → at ≡ now + 1 → IsStopped (repeats.AtMost MAX_RECORDS) record_after left start 0 at at
+full : (s : RecordsRead) (left mid : Option (List Row)) (start now at : ℕ) → AreTaken s left mid start now false → at ≡ now + 1 → IsStopped (repeats.AtMost MAX_RECORDS) record_after left start 0 at at
 full s left mid start now at g e = let is = g.1.3 in full_stopped record_after at_most left mid g.0.0 start 0 at g.1.0 g.1.2 (omega (arith, is, e))
 
-pub end_outside : (failed : Bool) (s : StepsRead) (left mid : Option (List Row)) (start now at : ℕ) (w : Why) → AreTaken s left mid start now false → at ≡ now + 1 → IsOutside failed w → Halts failed steps_body left start at w
-end_outside failed s left mid start now at w g e o = halted failed left start at at w (full s left mid start now at g e) (outside_fails failed steps_body left start at w o)
+pub end_outside : (failed : Bool) (s : RecordsRead) (left mid : Option (List Row)) (start now at : ℕ) (w : Why) → AreTaken s left mid start now false → at ≡ now + 1 → IsOutside failed w → Halts failed records_body left start at w
+end_outside failed s left mid start now at w g e o = halted failed left start at at w (full s left mid start now at g e) (outside_fails failed records_body left start at w o)
 
-past_halts : (failed : Bool) (s : StepsRead) (left mid new : Option (List Row)) (start now at : ℕ) (row : Row) (w : Why) (g : AreTaken s left mid start now false) → TakesRecord mid new row true → at ≡ now + 1
-    → ((rest : List Row) → (over why.TooLong (record_after g.0.0)).Wrong (row ∷ rest) 1 w) → Halts failed steps_body left start at w
+past_halts : (failed : Bool) (s : RecordsRead) (left mid new : Option (List Row)) (start now at : ℕ) (row : Row) (w : Why) (g : AreTaken s left mid start now false) → TakesRecord mid new row true → at ≡ now + 1
+    → ((rest : List Row) → (over why.TooLong (record_after g.0.0)).Wrong (row ∷ rest) 1 w) → Halts failed records_body left start at w
 past_halts failed s left mid new start now at row w g taken e bad =
     let is = g.1.3 in
     halted failed left start at at w (full s left mid start now at g e)
     (past_wrong failed record_after record_after at_most left mid new g.0.0 row start at w g.1.0 taken (omega (arith, is, e)) bad)
 
 -- one record too many, and one that is wrong by itself
-pub past_long : (failed : Bool) (s : StepsRead) (left mid new : Option (List Row)) (start now at : ℕ) (row : Row) → AreTaken s left mid start now false → TakesRecord mid new row true → at ≡ now + 1 → IsStep s.last row
-    → Halts failed steps_body left start at why.TooLong
-past_long failed s left mid new start now at row g taken e step =
-    let fits : IsStep (last_time g.0.0) row = rw g.0.1.1 at step in
+pub past_long : (failed : Bool) (s : RecordsRead) (left mid new : Option (List Row)) (start now at : ℕ) (row : Row) → AreTaken s left mid start now false → TakesRecord mid new row true → at ≡ now + 1 → IsRecordAfter s.last row
+    → Halts failed records_body left start at why.TooLong
+past_long failed s left mid new start now at row g taken e after =
+    let fits : IsRecordAfter (last_time g.0.0) row = rw g.0.1.1 at after in
     past_halts failed s left mid new start now at row why.TooLong g taken e (λ rest. ((λ z. (cc z)), inr (refl, refl, (row, rest, record { fits = fits; made = refl; follows = tt }))))
 
-pub past_lacks : (failed : Bool) (s : StepsRead) (left mid new : Option (List Row)) (start now at : ℕ) (row : Row) (w : Why) → AreTaken s left mid start now false → TakesRecord mid new row true → at ≡ now + 1 → StepLacks s.last row w
-    → Halts failed steps_body left start at w
+pub past_lacks : (failed : Bool) (s : RecordsRead) (left mid new : Option (List Row)) (start now at : ℕ) (row : Row) (w : Why) → AreTaken s left mid start now false → TakesRecord mid new row true → at ≡ now + 1 → RecordLacks s.last row w
+    → Halts failed records_body left start at w
 past_lacks failed s left mid new start now at row w g taken e bad =
-    let lacks : StepLacks (last_time g.0.0) row w = rw g.0.1.1 at bad in
+    let lacks : RecordLacks (last_time g.0.0) row w = rw g.0.1.1 at bad in
     past_halts failed s left mid new start now at row w g taken e (λ rest. ((λ z. (cc z)), inl (refl, lacks)))
 
-pub taken_long : (s : StepsRead) (left mid : Option (List Row)) (start at : ℕ) (over : Bool) (g : AreTaken s left mid start at over) → length s.records.items ≡ length g.0.0
+pub taken_long : (s : RecordsRead) (left mid : Option (List Row)) (start at : ℕ) (over : Bool) (g : AreTaken s left mid start at over) → length s.records.items ≡ length g.0.0
 taken_long s left mid start at over g = ap length g.0.1.0 ∙ length-map g.0.0 record_at
 
 -- where reading halts
 
 pub title_halts : (failed : Bool) (left : Option (List Row)) (at : ℕ) (w : Why) → at ≡ 1 → StopsAtTitle CAPTURE failed left w → Halts failed capture_form left 0 at w
 title_halts failed left at w e h =
-    first_halts failed capture_title_part (λ _. steps_body) left 0 at w (λ t fit. body_tells)
+    first_halts failed capture_title_part (λ _. records_body) left 0 at w (λ t fit. body_tells)
     (title_stops CAPTURE [] (λ _ (v : Unit {0}). Unit {0}) title_table failed left 0 at w (omega (arith, e)) h)
 
-pub body_halts : (failed : Bool) (left mid : Option (List Row)) (t : ℕ × Unit {0}) (middle at : ℕ) (w : Why) → middle ≡ 1 → Reads capture_title_part left mid t → Halts failed steps_body mid middle at w → Halts failed capture_form left 0 at w
-body_halts failed left mid t middle at w e r h = second_halts failed capture_title_part (λ _. steps_body) left mid t 0 middle at w capture_title_tells r (omega (arith, e)) h
+pub body_halts : (failed : Bool) (left mid : Option (List Row)) (t : ℕ × Unit {0}) (middle at : ℕ) (w : Why) → middle ≡ 1 → Reads capture_title_part left mid t → Halts failed records_body mid middle at w → Halts failed capture_form left 0 at w
+body_halts failed left mid t middle at w e r h = second_halts failed capture_title_part (λ _. records_body) left mid t 0 middle at w capture_title_tells r (omega (arith, e)) h

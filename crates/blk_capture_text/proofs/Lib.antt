@@ -1,3 +1,3 @@
-pub mod StepLaws
+pub mod RowLaws
 pub mod CaptureLaws
 pub mod Imported

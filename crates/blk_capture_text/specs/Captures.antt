@@ -8,7 +8,7 @@ use Rattle.blk_lists.specs.declared.fault.Why.{Why}
 use Rattle.blk_lists.specs.declared.fault.Why.TheVariants as why
 use Rattle.parts.specs.declared.Repeats.TheVariants as repeats
 use Rattle.parts.specs.Parts.{Part, record_of, then, Spells}
-use Rattle.blk_capture_text.specs.Steps.{time_at, record_at, IsStep, StepLacks}
+use Rattle.blk_capture_text.specs.Recorded.{time_at, record_at, IsRecordAfter, RecordLacks}
 use Rattle.blk_capture_text.specs.declared.reading.TheConstants.{CAPTURE, MAX_RECORDS}
 
 -- title: blk-capture, version, six empty fields
@@ -23,34 +23,34 @@ last_time (row ∷ next ∷ rows) = last_time (next ∷ rows)
 
 -- a record after those before it, by its row
 abbrev pub record_after : List Row → Part Row Why Row
-record_after before = record_of (λ row. row) (IsStep (last_time before)) why.Count (StepLacks (last_time before))
+record_after before = record_of (λ row. row) (IsRecordAfter (last_time before)) why.Count (RecordLacks (last_time before))
 
 -- records, at most this number, to the end of the text
-abbrev pub steps_body : Part Row Why (List Row)
-steps_body = items_of (repeats.AtMost MAX_RECORDS) record_after
+abbrev pub records_body : Part Row Why (List Row)
+records_body = items_of (repeats.AtMost MAX_RECORDS) record_after
 
 -- a title, and records whose times don't fall
 abbrev pub capture_form : Part Row Why ((ℕ × Unit {0}) × List Row)
-capture_form = then capture_title_part (λ _. steps_body)
+capture_form = then capture_title_part (λ _. records_body)
 
 -- the rows of a capture of these records, each as its row
 abbrev pub capture_rows : List Row → List Row
-capture_rows steps = capture_form.rows_of ((CAPTURE.latest, tt), steps)
+capture_rows body = capture_form.rows_of ((CAPTURE.latest, tt), body)
 
 -- the rows are those of a capture
 abbrev pub AreCapture : List Row → List Row → Type 0
-AreCapture rows steps = Spells capture_form rows ((CAPTURE.latest, tt), steps)
+AreCapture rows body = Spells capture_form rows ((CAPTURE.latest, tt), body)
 
--- the rows spell these records; and those that these steps tell
+-- the rows spell these records; and those that these body tell
 abbrev pub SpellsCapture : List Row → List Record → Type 0
-SpellsCapture rows records = (steps : List Row) × (records ≡ map record_at steps) × AreCapture rows steps
+SpellsCapture rows records = (body : List Row) × (records ≡ map record_at body) × AreCapture rows body
 
-abbrev pub TellsSteps : List Row → List Row → Type 0
-TellsSteps rows steps = SpellsCapture rows (map record_at steps)
+abbrev pub TellsRecords : List Row → List Row → Type 0
+TellsRecords rows body = SpellsCapture rows (map record_at body)
 
 -- rows that, behind a title, make a capture
 abbrev pub MakeCapture : List Row → Type 0
-MakeCapture steps = AreCapture (capture_rows steps) steps
+MakeCapture body = AreCapture (capture_rows body) body
 
 -- the first fault of a capture
 abbrev pub CaptureTextFault : List Row → ℕ → Why → Type 0

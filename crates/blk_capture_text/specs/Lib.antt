@@ -1,4 +1,4 @@
-pub mod Steps
+pub mod Recorded
 pub mod Captures
 pub mod Names
 pub mod TableText

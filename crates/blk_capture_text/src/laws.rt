@@ -1,7 +1,7 @@
 //! Laws of the form, each the contract of a function that does nothing.
 
 ghost use Rattle.blk_lists.specs.Laws.{OneValue, ReadsBack, ValueOrFault, NeverBoth, OneFault};
-ghost use Rattle.blk_capture_text.specs.Captures.{MakeCapture, TellsSteps, SpellsCapture, CaptureTextFault, capture_rows};
+ghost use Rattle.blk_capture_text.specs.Captures.{MakeCapture, TellsRecords, SpellsCapture, CaptureTextFault, capture_rows};
 
 /// A list of rows spells the records of one capture at most.
 pub fn captures_are_spelled_once()
@@ -10,7 +10,7 @@ pub fn captures_are_spelled_once()
 
 /// The text of the rows of a capture reads back as the records that they tell.
 pub fn captures_read_back()
-    ensures { ReadsBack MakeCapture capture_rows TellsSteps }
+    ensures { ReadsBack MakeCapture capture_rows TellsRecords }
 {}
 
 /// Rows either spell a capture or have a fault as one.

@@ -4,11 +4,11 @@ ghost use Rattle.std.specs.Prelude.{◌≡◌, ◌⊎◌, ◌+◌, ◌++◌, ◌
 ghost use Rattle.csv.specs.Records.{fields_of};
 ghost use Rattle.blk_lists.specs.Reads.{FaultsBy, Halts, Reaches};
 ghost use Rattle.blk_capture.specs.Requests.{AreInOrder};
-ghost use Rattle.blk_capture_text.specs.Steps.{IsStep, StepLacks, record_at, time_at};
-ghost use Rattle.blk_capture_text.specs.Captures.{capture_form, steps_body, SpellsCapture, CaptureTextFault};
+ghost use Rattle.blk_capture_text.specs.Recorded.{IsRecordAfter, RecordLacks, record_at, time_at};
+ghost use Rattle.blk_capture_text.specs.Captures.{capture_form, records_body, SpellsCapture, CaptureTextFault};
 ghost use Rattle.blk_capture_text.specs.Inside.Taking.{TellAll};
 
-use crate::step::{WIDTH, read_step};
+use crate::record::{WIDTH, read_row};
 use blk_capture::Record;
 use blk_lists::fields::Slot;
 use blk_lists::items::{ItemForm, gather};
@@ -41,24 +41,24 @@ pub const CAPTURE: TitleRow<11, WIDTH> = TitleRow {
 
 /// The records that were read, and the time of the last one, 0 before the first.
 #[derive(Drop)]
-pub(crate) struct StepsRead {
+pub(crate) struct RecordsRead {
     records: Vec<Record>,
     last: u64,
 }
 
 /// Adds the record of a row, where its time is not before the last one's.
-fn take_step(steps: &mut StepsRead, row: &ByteRecord) -> Result<(), Why>
-    ensures step { OnOk result (IsStep steps.old.last (fields_of row.now)) }
-    ensures records { OnOk result (steps.new.records.items ≡ steps.old.records.items ++ record_at (fields_of row.now) ∷ []) }
-    ensures last { OnOk result (steps.new.last ≡ time_at (fields_of row.now)) }
-    ensures err { IfErr result (λ w. (w ≡ Why.Memory) ⊎ StepLacks steps.old.last (fields_of row.now) w) }
+fn take_row(read: &mut RecordsRead, row: &ByteRecord) -> Result<(), Why>
+    ensures after { OnOk result (IsRecordAfter read.old.last (fields_of row.now)) }
+    ensures records { OnOk result (read.new.records.items ≡ read.old.records.items ++ record_at (fields_of row.now) ∷ []) }
+    ensures last { OnOk result (read.new.last ≡ time_at (fields_of row.now)) }
+    ensures err { IfErr result (λ w. (w ≡ Why.Memory) ⊎ RecordLacks read.old.last (fields_of row.now) w) }
 {
-    let record = match read_step(row, steps.last) {
+    let record = match read_row(row, read.last) {
         Ok(record) => record,
         Err(why) => return Err(why),
     };
-    steps.last = record.time;
-    match steps.records.push(record) {
+    read.last = record.time;
+    match read.records.push(record) {
         Ok(()) => Ok(()),
         Err(_) => Err(Why::Memory),
     }
@@ -66,18 +66,18 @@ fn take_step(steps: &mut StepsRead, row: &ByteRecord) -> Result<(), Why>
 
 /// The records of a capture, each after those before it. Of a row they keep seven numbers, and the form speaks of the whole row.
 #[derive(Clone, Copy, Drop)]
-struct StepForm;
+struct RowForm;
 
-impl ItemForm for StepForm {
+impl ItemForm for RowForm {
     ghost use Rattle.blk_lists.specs.Sources.{Row};
     ghost use Rattle.blk_capture_text.specs.Captures.{record_after};
     ghost use Rattle.blk_capture_text.specs.Inside.Taking.{HaveRows};
 
-    type Items = StepsRead;
+    type Items = RecordsRead;
 
     ghost View = { Row };
 
-    ghost known = { λ _ steps. HaveRows steps };
+    ghost known = { λ _ read. HaveRows read };
 
     ghost seen = { λ _ _ known. known.0 };
 
@@ -85,7 +85,7 @@ impl ItemForm for StepForm {
 
     ghost more = { 0 };
 
-    fn gone(&self, items: &StepsRead) -> Why {
+    fn gone(&self, items: &RecordsRead) -> Why {
         let _ = items;
         Why::Count
     }
@@ -94,10 +94,10 @@ impl ItemForm for StepForm {
         &self,
         alloc: Global,
         records: &mut Records<R>,
-        items: &mut StepsRead,
+        items: &mut RecordsRead,
     ) -> Result<(), TextFault> {
         let _ = alloc;
-        match take_step(items, records.row()) {
+        match take_row(items, records.row()) {
             Ok(()) => Ok(()),
             Err(why) => Err(records.fault(why)),
         }
@@ -105,45 +105,45 @@ impl ItemForm for StepForm {
 }
 
 /// The records after the title, to the end of the text.
-fn read_steps<R: Read + Drop>(
+fn read_body<R: Read + Drop>(
     alloc: Global,
     records: &mut Records<R>,
 ) -> Result<Vec<Record>, TextFault>
     requires { records.old.at + MAX_RECORDS + 1 < 2 ^ 64 - 1 }
     ensures ok { IfOk result (λ v. TellAll records.old.left v.items) }
     ensures in_order { IfOk result (λ v. AreInOrder v.items (length v.items)) }
-    ensures err { IfErr result (λ f. Halts records.new.failed steps_body records.old.left records.old.at f.at f.why) }
+    ensures err { IfErr result (λ f. Halts records.new.failed records_body records.old.left records.old.at f.at f.why) }
     ensures last { IfErr result (λ f. f.at ≡ records.new.at) }
     ensures reads { (records.old.at < records.new.at) × (records.new.at ≤ records.old.at + MAX_RECORDS + 1) }
     ensures end { IfOk result (λ v. records.new.at ≡ records.old.at + length v.items + 1) }
 {
-    let mut steps = StepsRead {
+    let mut read = RecordsRead {
         records: Vec::new(alloc),
         last: 0,
     };
     match gather(
         alloc,
         records,
-        &StepForm,
+        &RowForm,
         Repeats::AtMost(MAX_RECORDS),
-        &mut steps,
+        &mut read,
     ) {
-        Ok(true) => return Ok(steps.records),
+        Ok(true) => return Ok(read.records),
         Ok(false) => {}
         Err(fault) => return Err(fault),
     }
     match records.advance() {
         Ok(true) => {}
-        Ok(false) => return Ok(steps.records),
+        Ok(false) => return Ok(read.records),
         Err(fault) => return Err(fault),
     }
-    match read_step(records.row(), steps.last) {
+    match read_row(records.row(), read.last) {
         Ok(_) => Err(records.fault(Why::TooLong)),
         Err(why) => Err(records.fault(why)),
     }
 }
 
-/// The records of a capture, a text of records of eight fields: a title, and each step's seconds, nanoseconds in nine digits,
+/// The records of a capture, a text of records of eight fields: a title, and each record's seconds, nanoseconds in nine digits,
 /// processor, action, process, rwbs, first sector and sectors, by times that don't fall. No record was read before. A time is in
 /// nanoseconds; action and rwbs may be any texts, of which [`blk_capture::Action::of_letters`] and [`blk_capture::Op::of_letters`] tell
 /// what they say.
@@ -165,15 +165,15 @@ pub fn read_capture<R: Read + Drop>(
     // also where it came from outside: at most one past the last record, and no record before it is wrong
     ensures reached { IfErr result (λ f. Reaches capture_form records.old.left 0 f.at) }
     ensures reads { (1 ≤ records.new.at) × (records.new.at ≤ MAX_RECORDS + 2) }
-    // the last thing that was asked for is the record after the steps, which there is not
+    // the last thing that was asked for is the record after these, which there is not
     ensures end { IfOk result (λ v. records.new.at ≡ length v.items + 2) }
 {
     match read_title(records, &CAPTURE) {
         Ok(_) => {}
         Err(fault) => return Err(fault),
     }
-    match read_steps(alloc, records) {
-        Ok(steps) => Ok(steps),
+    match read_body(alloc, records) {
+        Ok(body) => Ok(body),
         Err(fault) => Err(fault),
     }
 }

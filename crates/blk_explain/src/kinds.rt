@@ -12,7 +12,7 @@ use crate::fields::Field::{
     Tag, Tags, Title, Until, Version, Windows, Word, WriteExpire,
 };
 use crate::rows::{RecordRow, named};
-use blk_capture_text::{CAPTURE, STEP};
+use blk_capture_text::{CAPTURE, RECORD};
 use blk_lists::certificate::{BOUND, CERTIFICATE, SERVED};
 use blk_lists::commands::{COMMAND, COMMANDS};
 use blk_lists::kinds::Kind;
@@ -101,10 +101,10 @@ const WORDLESS_SERVED: Kind<0, 4> = Kind {
 };
 
 /// A record of a capture, which begins with no word.
-const WORDLESS_STEP: Kind<0, 8> = Kind {
+const WORDLESS_RECORD: Kind<0, 8> = Kind {
     word: *b"",
     since: 1,
-    slots: STEP,
+    slots: RECORD,
 };
 
 /// A record with none of the words of its form, of whose fields nothing is known.
@@ -131,7 +131,7 @@ impl RecordKind {
             Self::Window => named(&WINDOW, &[Word, From, Until]),
             Self::CaptureTitle => named(&CAPTURE, &[Title, FirstVersion]),
             Self::Capture => named(
-                &WORDLESS_STEP,
+                &WORDLESS_RECORD,
                 &[
                     Seconds,
                     Nanoseconds,

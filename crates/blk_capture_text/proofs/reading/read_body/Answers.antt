@@ -1,7 +1,7 @@
 use Rattle.std.proofs.Common.{rules, [], refl, true, false, arith}
 use Rattle.blk_lists.specs.Sources.{TakesRecord}
-use Rattle.blk_capture_text.proofs.CaptureLaws.{AreTaken, fit_in_order, size_steps, taken_long, taking_halts, end_outside, past_long, past_lacks}
-use Rattle.blk_capture_text.proofs.reading.read_steps.Goals as goal
+use Rattle.blk_capture_text.proofs.CaptureLaws.{AreTaken, fit_in_order, size_rows, taken_long, taking_halts, end_outside, past_long, past_lacks}
+use Rattle.blk_capture_text.proofs.reading.read_body.Goals as goal
 
 -- no rows have no records
 pub gather-requires-clause-none : goal.gather-requires-clause-none
@@ -16,7 +16,7 @@ pub returns-in-Ok-true-clause-end : goal.returns-in-Ok-true-clause-end
 returns-in-Ok-true-clause-end g c =
     let got : AreTaken c.gather.new.items c.args.records.now.left c.gather.new.records.left c.args.records.now.at c.gather.new.records.at true = rw c.in-Ok-true.field-0-test at c.in-Ok-true.ensures.ok in
     let at = got.1.2 in
-    omega (arith, at, size_steps got.0.0, taken_long c.gather.new.items c.args.records.now.left c.gather.new.records.left c.args.records.now.at c.gather.new.records.at true got)
+    omega (arith, at, size_rows got.0.0, taken_long c.gather.new.items c.args.records.now.left c.gather.new.records.left c.args.records.now.at c.gather.new.records.at true got)
 
 pub returns-in-Err-clause-err : goal.returns-in-Err-clause-err
 returns-in-Err-clause-err g c =
@@ -31,7 +31,7 @@ pub returns-in-Ok-false-advance-clause-end : goal.returns-in-Ok-false-advance-cl
 returns-in-Ok-false-advance-clause-end g c =
     let got : AreTaken c.gather.new.items c.args.records.now.left c.gather.new.records.left c.args.records.now.at c.gather.new.records.at false = rw c.in-Ok-false.field-0-test at c.in-Ok-false.ensures.ok in
     let at = got.1.3 in
-    omega (arith, at, size_steps got.0.0, taken_long c.gather.new.items c.args.records.now.left c.gather.new.records.left c.args.records.now.at c.gather.new.records.at false got)
+    omega (arith, at, size_rows got.0.0, taken_long c.gather.new.items c.args.records.now.left c.gather.new.records.left c.args.records.now.at c.gather.new.records.at false got)
 
 pub returns-in-Err-advance-clause-err : goal.returns-in-Err-advance-clause-err
 returns-in-Err-advance-clause-err g c =
@@ -46,12 +46,12 @@ returns-in-Ok-clause-err g c =
     let taken : TakesRecord c.gather.new.records.left c.advance.new.self.left c.advance.new.self.fields true = search rules in
     rw c.fault.ensures.why
     (past_long _ c.gather.new.items c.args.records.now.left c.gather.new.records.left c.advance.new.self.left c.args.records.now.at c.gather.new.records.at c.fault.result.at c.advance.new.self.fields got taken (omega (arith, c.fault.ensures.at))
-    (rw c.row.ensures at c.in-Ok.ensures.step))
+    (rw c.row.ensures at c.in-Ok.ensures.after))
 
 pub returns-clause-err : goal.returns-clause-err
 returns-clause-err g c =
     let got : AreTaken c.gather.new.items c.args.records.now.left c.gather.new.records.left c.args.records.now.at c.gather.new.records.at false = rw c.in-Ok-false.field-0-test at c.in-Ok-false.ensures.ok in
     let taken : TakesRecord c.gather.new.records.left c.advance.new.self.left c.advance.new.self.fields true = search rules in
-    rw c.fault-in-Err-read_step.ensures.why
-    (past_lacks _ c.gather.new.items c.args.records.now.left c.gather.new.records.left c.advance.new.self.left c.args.records.now.at c.gather.new.records.at c.fault-in-Err-read_step.result.at c.advance.new.self.fields _ got taken
-    (omega (arith, c.fault-in-Err-read_step.ensures.at)) (rw c.row.ensures at c.in-Err-read_step.ensures.err))
+    rw c.fault-in-Err-read_row.ensures.why
+    (past_lacks _ c.gather.new.items c.args.records.now.left c.gather.new.records.left c.advance.new.self.left c.args.records.now.at c.gather.new.records.at c.fault-in-Err-read_row.result.at c.advance.new.self.fields _ got taken
+    (omega (arith, c.fault-in-Err-read_row.ensures.at)) (rw c.row.ensures at c.in-Err-read_row.ensures.err))

@@ -14,12 +14,12 @@ use Rattle.blk_lists.specs.declared.fields.Slot.TheVariants as slot
 use Rattle.blk_lists.proofs.Decimals.{own}
 use Rattle.blk_lists.proofs.Lacking.{at_most, goods_all, goods_or_lacks, first_once}
 use Rattle.parts.specs.Inside.Laws.{TellsRecord}
-use Rattle.blk_capture_text.specs.Steps.{number_at, time_at, record_at, IsStep, step_cell_rules, StepLacks}
-use Rattle.blk_capture_text.specs.declared.step.TheConstants.{STEP}
+use Rattle.blk_capture_text.specs.Recorded.{number_at, time_at, record_at, IsRecordAfter, record_rules, RecordLacks}
+use Rattle.blk_capture_text.specs.declared.record.TheConstants.{RECORD}
 
 -- no field has to be empty or a direction
 
-each_blank : (cells : Row) → EachField IsBlank STEP cells
+each_blank : (cells : Row) → EachField IsBlank RECORD cells
 each_blank cells zero l = tt
 each_blank cells (suc zero) l = tt
 each_blank cells (suc (suc zero)) l = tt
@@ -30,7 +30,7 @@ each_blank cells (suc (suc (suc (suc (suc (suc zero)))))) l = tt
 each_blank cells (suc (suc (suc (suc (suc (suc (suc zero))))))) l = tt
 each_blank cells (suc (suc (suc (suc (suc (suc (suc (suc k)))))))) l = absurd (omega (arith, l))
 
-each_direction : (cells : Row) → EachField IsDirection STEP cells
+each_direction : (cells : Row) → EachField IsDirection RECORD cells
 each_direction cells zero l = tt
 each_direction cells (suc zero) l = tt
 each_direction cells (suc (suc zero)) l = tt
@@ -43,7 +43,7 @@ each_direction cells (suc (suc (suc (suc (suc (suc (suc (suc k)))))))) l = absur
 
 -- what a record lacks of its slots
 
-pub lack_is : (last : ℕ) (cells : Row) (w : Why) → Lacks STEP cells w → StepLacks last cells w
+pub lack_is : (last : ℕ) (cells : Row) (w : Why) → Lacks RECORD cells w → RecordLacks last cells w
 lack_is last cells w bad = elim bad [
   | inl f ↦ inl (f.0, λ l. f.1 (l, each_blank cells))
   | inr p ↦ elim p.1 [
@@ -71,7 +71,7 @@ spelled_good least most n f m h =
 spelled_value : (least most n : ℕ) (f : List ℕ) → most < 2 ^ 64 → FieldSpells (slot.Number least most) f n → digits_value 10 f ≡ n
 spelled_value least most n f m h = let high = h.3.1 in ap (digits_value 10) h.2 ∙ digits_value-decimal own n (omega (arith, high, m))
 
-any_good : (cells : Row) (ns : List ℕ) → FieldsSpell STEP cells ns → (k : ℕ) → k < 8 → IsNumber (get_or STEP k slot.Given) (get_or cells k []) × IsInRange (get_or STEP k slot.Given) (get_or cells k [])
+any_good : (cells : Row) (ns : List ℕ) → FieldsSpell RECORD cells ns → (k : ℕ) → k < 8 → IsNumber (get_or RECORD k slot.Given) (get_or cells k []) × IsInRange (get_or RECORD k slot.Given) (get_or cells k [])
 any_good cells ns s zero l = spelled_good 0 (2 ^ 34 - 1) (get_or ns 0 0) (get_or cells 0 []) (omega arith) (s.1 0 (omega arith))
 any_good cells ns s (suc zero) l = ((s.1 1 (omega arith)).2.0, tt)
 any_good cells ns s (suc (suc zero)) l = spelled_good 0 (2 ^ 64 - 1) (get_or ns 2 0) (get_or cells 2 []) (omega arith) (s.1 2 (omega arith))
@@ -82,24 +82,24 @@ any_good cells ns s (suc (suc (suc (suc (suc (suc zero)))))) l = spelled_good 0 
 any_good cells ns s (suc (suc (suc (suc (suc (suc (suc zero))))))) l = spelled_good 0 (2 ^ 64 - 1) (get_or ns 7 0) (get_or cells 7 []) (omega arith) (s.1 7 (omega arith))
 any_good cells ns s (suc (suc (suc (suc (suc (suc (suc (suc k)))))))) l = absurd (omega (arith, l))
 
-pub spelled_numbers : (cells : Row) (ns : List ℕ) → FieldsSpell STEP cells ns → EachField IsNumber STEP cells
+pub spelled_numbers : (cells : Row) (ns : List ℕ) → FieldsSpell RECORD cells ns → EachField IsNumber RECORD cells
 spelled_numbers cells ns s k l = (any_good cells ns s k (omega (arith, l))).0
 
-pub spelled_step : (last : ℕ) (cells : Row) (ns : List ℕ) → FieldsSpell STEP cells ns → last ≤ time_at cells → IsStep last cells
-spelled_step last cells ns s order = record {
+pub spelled_row : (last : ℕ) (cells : Row) (ns : List ℕ) → FieldsSpell RECORD cells ns → last ≤ time_at cells → IsRecordAfter last cells
+spelled_row last cells ns s order = record {
   width = s.0;
   numbers = spelled_numbers cells ns s;
   ranges = λ k l. (any_good cells ns s k (omega (arith, l))).1;
   order = order;
 }
 
-pub seconds_is : (cells : Row) (ns : List ℕ) → FieldsSpell STEP cells ns → number_at 0 cells ≡ get_or ns 0 0
+pub seconds_is : (cells : Row) (ns : List ℕ) → FieldsSpell RECORD cells ns → number_at 0 cells ≡ get_or ns 0 0
 seconds_is cells ns s = spelled_value 0 (2 ^ 34 - 1) (get_or ns 0 0) (get_or cells 0 []) (omega arith) (s.1 0 (omega arith))
 
-pub nanoseconds_are : (cells : Row) (ns : List ℕ) → FieldsSpell STEP cells ns → number_at 1 cells ≡ get_or ns 1 0
+pub nanoseconds_are : (cells : Row) (ns : List ℕ) → FieldsSpell RECORD cells ns → number_at 1 cells ≡ get_or ns 1 0
 nanoseconds_are cells ns s = sym (s.1 1 (omega arith)).2.1
 
-pub told_record : (cells : Row) (ns : List ℕ) (time : ℕ) (a : Action) (o : Op) → FieldsSpell STEP cells ns → time ≡ time_at cells → a ≡ action_by (get_or cells 3 []) → o ≡ op_by (get_or cells 5 [])
+pub told_record : (cells : Row) (ns : List ℕ) (time : ℕ) (a : Action) (o : Op) → FieldsSpell RECORD cells ns → time ≡ time_at cells → a ≡ action_by (get_or cells 3 []) → o ≡ op_by (get_or cells 5 [])
     → record { time = time; cpu = get_or ns 2 0; action = a; pid = get_or ns 4 0; op = o; first = get_or ns 6 0; sectors = get_or ns 7 0 } ≡ record_at cells
 told_record cells ns time a o s e f g i = record {
   time = e i;
@@ -113,16 +113,16 @@ told_record cells ns time a o s e f g i = record {
 
 -- the first of the rules that is broken
 
-pub late_step : (last : ℕ) (cells : Row) (ns : List ℕ) → FieldsSpell STEP cells ns → time_at cells < last → StepLacks last cells why.Order
-late_step last cells ns s order =
+pub late_row : (last : ℕ) (cells : Row) (ns : List ℕ) → FieldsSpell RECORD cells ns → time_at cells < last → RecordLacks last cells why.Order
+late_row last cells ns s order =
     inr (s.0, inr (spelled_numbers cells ns s, inr ((λ k l. (any_good cells ns s k (omega (arith, l))).1), inl (refl, λ up. omega (arith, up, order)))))
 
--- a record is a step's, or it lacks one thing first
+-- a row is a record's, or it lacks one thing first
 
-pub step_tells : (last : ℕ) → TellsRecord {R = Row} (λ cells. cells) (IsStep last) (StepLacks last)
-step_tells last = record { once = λ v u f g e. e; apart = apart; first = λ cells. first_once (step_cell_rules last cells) }
+pub row_tells : (last : ℕ) → TellsRecord {R = Row} (λ cells. cells) (IsRecordAfter last) (RecordLacks last)
+row_tells last = record { once = λ v u f g e. e; apart = apart; first = λ cells. first_once (record_rules last cells) }
   where
-    apart : (v : Row) (w : Why) → IsStep last v → StepLacks last v w → ⊥
+    apart : (v : Row) (w : Why) → IsRecordAfter last v → RecordLacks last v w → ⊥
     apart v w s bad = elim bad [
       | inl f ↦ f.1 s.width
       | inr p ↦ elim p.1 [
@@ -137,10 +137,10 @@ step_tells last = record { once = λ v u f g e. e; apart = apart; first = λ cel
       ]
     ]
 
-pub step_decided : (last : ℕ) (cells : Row) → IsStep last cells ⊎ ((w : Why) × StepLacks last cells w)
-step_decided last cells = elim (goods_or_lacks STEP cells) [
+pub row_decided : (last : ℕ) (cells : Row) → IsRecordAfter last cells ⊎ ((w : Why) × RecordLacks last cells w)
+row_decided last cells = elim (goods_or_lacks RECORD cells) [
   | inl g ↦
-      let all = goods_all STEP cells g in
+      let all = goods_all RECORD cells g in
       elim (at_most last (time_at cells)) [
         | inl up ↦ inl (record { width = all.0.0; numbers = all.2; ranges = all.3; order = up })
         | inr down ↦ inr (why.Order, inr (all.0.0, inr (all.2, inr (all.3, inl (refl, down)))))

@@ -8,7 +8,7 @@ use Rattle.blk_lists.specs.Sources.{Row}
 use Rattle.blk_lists.specs.Fields.{EachField, IsNumber, IsInRange}
 use Rattle.blk_lists.specs.declared.fault.Why.{Why}
 use Rattle.blk_lists.specs.declared.fault.Why.TheVariants as why
-use Rattle.blk_capture_text.specs.declared.step.TheConstants.{STEP, WIDTH}
+use Rattle.blk_capture_text.specs.declared.record.TheConstants.{RECORD, WIDTH}
 
 -- the number of a field
 abbrev pub number_at : ℕ → Row → ℕ
@@ -31,20 +31,20 @@ record_at cells = record {
 }
 
 -- a record that may stand after one of a time
-pub record IsStep (last : ℕ) (cells : Row) : Type 0 where
+pub record IsRecordAfter (last : ℕ) (cells : Row) : Type 0 where
   pub width : length cells ≡ WIDTH
-  pub numbers : EachField IsNumber STEP cells
-  pub ranges : EachField IsInRange STEP cells
+  pub numbers : EachField IsNumber RECORD cells
+  pub ranges : EachField IsInRange RECORD cells
   pub order : last ≤ time_at cells
 
 -- the rules of a record, in the order in which they are looked at, each with its fault; its nanoseconds are one of its numbers
-abbrev pub step_cell_rules : ℕ → Row → List (Type 0 × Why)
-step_cell_rules last cells =
+abbrev pub record_rules : ℕ → Row → List (Type 0 × Why)
+record_rules last cells =
     (length cells ≡ WIDTH, why.Fields)
-    ∷ (EachField IsNumber STEP cells, why.Number)
-    ∷ (EachField IsInRange STEP cells, why.Range)
+    ∷ (EachField IsNumber RECORD cells, why.Number)
+    ∷ (EachField IsInRange RECORD cells, why.Range)
     ∷ (last ≤ time_at cells, why.Order) ∷ []
 
 -- the first thing that a record lacks
-abbrev pub StepLacks : ℕ → Row → Why → Type 0
-StepLacks last cells = IsFirstFault (step_cell_rules last cells)
+abbrev pub RecordLacks : ℕ → Row → Why → Type 0
+RecordLacks last cells = IsFirstFault (record_rules last cells)

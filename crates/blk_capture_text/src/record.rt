@@ -3,7 +3,7 @@
 ghost use Rattle.std.specs.Prelude.{◌≡◌, [], IfOk, IfErr, get_or};
 ghost use Rattle.csv.specs.Records.{fields_of};
 ghost use Rattle.blk_capture.specs.Passing.{action_by, op_by};
-ghost use Rattle.blk_capture_text.specs.Steps.{IsStep, StepLacks, record_at};
+ghost use Rattle.blk_capture_text.specs.Recorded.{IsRecordAfter, RecordLacks, record_at};
 
 use blk_capture::{Action, Op, Record};
 use blk_lists::Why;
@@ -20,7 +20,7 @@ pub const SECONDS: Slot = Slot::Number {
 };
 
 /// The fields of a record: seconds, nanoseconds, processor, action, process, rwbs, first sector, sectors.
-pub const STEP: [Slot; WIDTH] = [
+pub const RECORD: [Slot; WIDTH] = [
     SECONDS,
     Slot::Nanoseconds,
     ANY_SLOT,
@@ -46,12 +46,12 @@ fn op_at(row: &ByteRecord) -> Op
 }
 
 /// The record of a row whose time is not before `last`, or the first thing that is wrong with the row.
-pub(crate) fn read_step(row: &ByteRecord, last: u64) -> Result<Record, Why>
-    ensures step { IfOk result (λ r. IsStep last (fields_of row.now)) }
+pub(crate) fn read_row(row: &ByteRecord, last: u64) -> Result<Record, Why>
+    ensures after { IfOk result (λ r. IsRecordAfter last (fields_of row.now)) }
     ensures value { IfOk result (λ r. r ≡ record_at (fields_of row.now)) }
-    ensures err { IfErr result (StepLacks last (fields_of row.now)) }
+    ensures err { IfErr result (RecordLacks last (fields_of row.now)) }
 {
-    let numbers = match read_fields(row, &STEP) {
+    let numbers = match read_fields(row, &RECORD) {
         Ok(numbers) => numbers,
         Err(why) => return Err(why),
     };
