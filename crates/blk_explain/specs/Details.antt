@@ -12,9 +12,9 @@ use Rattle.blk_lists.specs.declared.fault.Why.{Why}
 use Rattle.blk_lists.specs.declared.fault.Why.TheVariants as why
 use Rattle.blk_lists.specs.declared.fields.Slot.{Slot}
 use Rattle.blk_lists.specs.declared.fields.Slot.TheVariants as slot
-use Rattle.blk_text.specs.Versions.{most_tags}
+use Rattle.blk_lists.specs.Titles.{slot_in}
 use Rattle.blk_text.specs.declared.bios.TheConstants.{MAX_SUBMITTERS}
-use Rattle.blk_text.specs.declared.setup.TheConstants.{LATEST}
+use Rattle.blk_text.specs.declared.setup.TheConstants.{MORE_TAGS}
 use Rattle.blk_explain.specs.Names.{name_text}
 use Rattle.blk_explain.specs.Fields.{field_name, want_of}
 use Rattle.blk_explain.specs.Kinds.{record_row, kind_word, slot_at, field_at}
@@ -131,21 +131,19 @@ IsNumberIn row k n = (get_or row k [] ≡ decimal n) ⊎ ((n ≡ 0) × ((m : ℕ
 abbrev pub beside_commands : ℕ → Slot → Allowed
 beside_commands n t = if n == 0 then allowed.NoNumber else allowed.Slot t
 
--- what may stand in a field of a text with this title, by the version that its record came with and by its slot
-abbrev pub IsAllowedBy : Row → ℕ → Slot → Want → Allowed → Type 0
-IsAllowedBy title since s want.Row a = a ≡ allowed.Slot s
-IsAllowedBy title since s want.OnlyVersion a = a ≡ allowed.Slot (slot.Number since since)
-IsAllowedBy title since s want.Version a = a ≡ allowed.Slot (slot.Number since LATEST)
-IsAllowedBy title since s want.Tags a = (v : ℕ) × IsNumberIn title 1 v × (a ≡ allowed.Slot (slot.Number 1 (most_tags v)))
-IsAllowedBy title since s want.Queue a = (n : ℕ) × IsNumberIn title 3 n × (a ≡ allowed.Slot (slot.Number 0 (n - 1)))
-IsAllowedBy title since s want.Submitter a = (n : ℕ) × IsNumberIn title 5 n × (a ≡ allowed.Slot (slot.Number 0 (n - 1)))
-IsAllowedBy title since s want.AnySubmitter a = a ≡ allowed.Slot (slot.Number 0 (MAX_SUBMITTERS - 1))
-IsAllowedBy title since s want.Bound a = (n : ℕ) × IsNumberIn title 3 n × (a ≡ beside_commands n s)
-IsAllowedBy title since s want.Text a = a ≡ allowed.Slot slot.Text
+-- what may stand in a field of a text with this title, by its slot
+abbrev pub IsAllowedBy : Row → Slot → Want → Allowed → Type 0
+IsAllowedBy title s want.Row a = a ≡ allowed.Slot s
+IsAllowedBy title s want.Tags a = (v : ℕ) × IsNumberIn title 1 v × (a ≡ allowed.Slot (slot_in MORE_TAGS v s))
+IsAllowedBy title s want.Queue a = (n : ℕ) × IsNumberIn title 3 n × (a ≡ allowed.Slot (slot.Number 0 (n - 1)))
+IsAllowedBy title s want.Submitter a = (n : ℕ) × IsNumberIn title 5 n × (a ≡ allowed.Slot (slot.Number 0 (n - 1)))
+IsAllowedBy title s want.AnySubmitter a = a ≡ allowed.Slot (slot.Number 0 (MAX_SUBMITTERS - 1))
+IsAllowedBy title s want.Bound a = (n : ℕ) × IsNumberIn title 3 n × (a ≡ beside_commands n s)
+IsAllowedBy title s want.Text a = a ≡ allowed.Slot slot.Text
 
 -- what may stand in the field at a place of a kind of record
 abbrev pub IsAllowedIn : Row → RecordKind → ℕ → Allowed → Type 0
-IsAllowedIn title kind k a = IsAllowedBy title (record_row kind).kind.since (slot_at kind k) (want_of (field_at kind k)) a
+IsAllowedIn title kind k a = IsAllowedBy title (slot_at kind k) (want_of (field_at kind k)) a
 
 -- the field at a place does not have the fault, and it does
 abbrev pub IsKeptAt : Row → RecordKind → Why → Row → ℕ → Type 0

@@ -10,7 +10,6 @@ abbrev pub field_name : Field → List ℕ
 field_name field.Unused = codes "unused"
 field_name field.Word = codes "word"
 field_name field.Title = codes "title"
-field_name field.FirstVersion = codes "version"
 field_name field.Version = codes "version"
 field_name field.Room = codes "depth"
 field_name field.Commands = codes "commands"
@@ -62,8 +61,7 @@ abbrev pub want_of : Field → Want
 want_of field.Unused = want.Row
 want_of field.Word = want.Row
 want_of field.Title = want.Row
-want_of field.FirstVersion = want.OnlyVersion
-want_of field.Version = want.Version
+want_of field.Version = want.Row
 want_of field.Room = want.Row
 want_of field.Commands = want.Row
 want_of field.Id = want.Row

@@ -11,7 +11,7 @@ use Rattle.blk_text.specs.declared.bios.TheConstants.{BIO}
 use Rattle.blk_text.specs.declared.heads.TheConstants.{BACK, DEPTH, DONE, ISSUE, JOIN, RELEASE, TICK, TRACE}
 use Rattle.blk_text.specs.declared.script.TheConstants.{DRAIN, FLUSH, RUN, SCRIPT}
 use Rattle.blk_text.specs.declared.setup.TheConstants.{SETUP}
-use Rattle.blk_explain.specs.Rows.{TableRow, named_row}
+use Rattle.blk_explain.specs.Rows.{TableRow, named_row, titled_row}
 use Rattle.blk_explain.specs.declared.fields.Field.{Field}
 use Rattle.blk_explain.specs.declared.fields.Field.TheVariants as field
 use Rattle.blk_explain.specs.declared.kinds.RecordKind.{RecordKind}
@@ -20,19 +20,19 @@ use Rattle.blk_explain.specs.declared.kinds.TheConstants.{UNKNOWN, WORDLESS_COMM
 
 -- the row of a kind: that which the reader of its form goes by, and what its fields are called
 abbrev pub record_row : RecordKind → TableRow
-record_row kind.CommandsTitle = named_row COMMANDS (field.Title ∷ field.FirstVersion ∷ field.Room ∷ [])
+record_row kind.CommandsTitle = titled_row COMMANDS (field.Title ∷ field.Version ∷ field.Room ∷ [])
 record_row kind.Command = named_row WORDLESS_COMMAND (field.Id ∷ field.Release ∷ field.Due ∷ [])
-record_row kind.CertificateTitle = named_row CERTIFICATE (field.Title ∷ field.FirstVersion ∷ field.Room ∷ field.Commands ∷ [])
-record_row kind.OnTimeTitle = named_row ON_TIME (field.Title ∷ field.FirstVersion ∷ field.Room ∷ field.Commands ∷ [])
-record_row kind.ScheduleTitle = named_row SCHEDULE (field.Title ∷ field.FirstVersion ∷ field.Room ∷ field.Commands ∷ [])
+record_row kind.CertificateTitle = titled_row CERTIFICATE (field.Title ∷ field.Version ∷ field.Room ∷ field.Commands ∷ [])
+record_row kind.OnTimeTitle = titled_row ON_TIME (field.Title ∷ field.Version ∷ field.Room ∷ field.Commands ∷ [])
+record_row kind.ScheduleTitle = titled_row SCHEDULE (field.Title ∷ field.Version ∷ field.Room ∷ field.Commands ∷ [])
 record_row kind.Served = named_row WORDLESS_SERVED (field.Id ∷ field.Release ∷ field.Due ∷ field.Round ∷ [])
 record_row kind.Bound = named_row BOUND (field.Bound ∷ field.Lateness ∷ field.BoundFrom ∷ field.BoundUntil ∷ [])
 record_row kind.OnTime = named_row NUMBERS (field.OnTime ∷ field.CommandsOnTime ∷ field.Windows ∷ [])
 record_row kind.Window = named_row WINDOW (field.Word ∷ field.From ∷ field.Until ∷ [])
-record_row kind.CaptureTitle = named_row CAPTURE (field.Title ∷ field.FirstVersion ∷ [])
+record_row kind.CaptureTitle = titled_row CAPTURE (field.Title ∷ field.Version ∷ [])
 record_row kind.Capture = named_row WORDLESS_STEP (field.Seconds ∷ field.Nanoseconds ∷ field.Processor ∷ field.Action ∷ field.Process ∷ field.Rwbs ∷ field.First ∷ field.Sectors ∷ [])
-record_row kind.ScriptTitle = named_row SCRIPT (field.Title ∷ field.Version ∷ field.Tags ∷ field.Queues ∷ field.SoftDepth ∷ field.Submitters ∷ [])
-record_row kind.TraceTitle = named_row TRACE (field.Title ∷ field.Version ∷ field.Tags ∷ field.Queues ∷ field.Events ∷ [])
+record_row kind.ScriptTitle = titled_row SCRIPT (field.Title ∷ field.Version ∷ field.Tags ∷ field.Queues ∷ field.SoftDepth ∷ field.Submitters ∷ [])
+record_row kind.TraceTitle = titled_row TRACE (field.Title ∷ field.Version ∷ field.Tags ∷ field.Queues ∷ field.Events ∷ [])
 record_row kind.Setup = named_row SETUP (field.Setup ∷ field.ReadExpire ∷ field.WriteExpire ∷ field.MaxSectors ∷ field.MaxSegments ∷ [])
 record_row kind.Step = named_row UNKNOWN (field.Step ∷ [])
 record_row kind.Bio = named_row BIO (field.Word ∷ field.Submitter ∷ field.Serial ∷ field.Direction ∷ field.First ∷ field.Sectors ∷ [])

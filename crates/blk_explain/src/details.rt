@@ -14,7 +14,7 @@ use crate::words::push_words;
 use blk_bio::{BioFault, Dir, MAX_END, TraceRule};
 use blk_lists::Why;
 use blk_lists::fields::{Slot, field, parse_nanoseconds, parse_number, parse_sized};
-use blk_text::{LATEST, MAX_SUBMITTERS, most_tags};
+use blk_text::{MAX_SUBMITTERS, MORE_TAGS};
 use csv::ByteRecord;
 use drafts::Draft;
 use std::alloc::{AllocError, Global};
@@ -285,22 +285,13 @@ fn below(count: u64) -> Allowed
     })
 }
 
-/// A number from the least to the most.
-fn between(least: u64, most: u64) -> Allowed
-    ensures { result ≡ Allowed.Slot (slot.Number least most) }
-{
-    Allowed::Slot(Slot::Number { least, most })
-}
-
-/// What may stand in a field of a text with this title, by the version that its record came with and by its slot.
-fn allowed_by(title: &ByteRecord, since: u64, slot: Slot, want: Want) -> Allowed
-    ensures { IsAllowedBy (fields_of title.now) since slot want result }
+/// What may stand in a field of a text with this title, by its slot.
+fn allowed_by(title: &ByteRecord, slot: Slot, want: Want) -> Allowed
+    ensures { IsAllowedBy (fields_of title.now) slot want result }
 {
     match want {
         Want::Row => Allowed::Slot(slot),
-        Want::OnlyVersion => between(since, since),
-        Want::Version => between(since, LATEST),
-        Want::Tags => between(1, most_tags(number_in(title, 1))),
+        Want::Tags => Allowed::Slot(MORE_TAGS.slot_in(number_in(title, 1), slot)),
         Want::Queue => below(number_in(title, 3)),
         Want::Submitter => below(number_in(title, 5)),
         Want::AnySubmitter => below(MAX_SUBMITTERS),
@@ -327,7 +318,7 @@ fn broken_at(
 {
     let kept = kind.row();
     let want = kept.field(place).want();
-    let allowed = allowed_by(title, kept.since(), kept.slot(place), want);
+    let allowed = allowed_by(title, kept.slot(place), want);
     if keeps(why, allowed, field(row, place)) {
         None
     } else {

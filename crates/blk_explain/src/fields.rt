@@ -10,11 +10,7 @@ use blk_lists::fields::Slot;
 pub enum Want {
     /// What the row says.
     Row,
-    /// The version of a form that has one.
-    OnlyVersion,
-    /// A version of a script or a trace.
-    Version,
-    /// A number of tags that the version has.
+    /// What the row says, or more where the version has more tags.
     Tags,
     /// One of the hardware queues.
     Queue,
@@ -46,8 +42,6 @@ pub enum Field {
     Word,
     /// The field `title`.
     Title,
-    /// The field `version`.
-    FirstVersion,
     /// The field `version`.
     Version,
     /// The field `depth`.
@@ -149,7 +143,6 @@ impl Field {
             Field::Unused => b"unused",
             Field::Word => b"word",
             Field::Title => b"title",
-            Field::FirstVersion => b"version",
             Field::Version => b"version",
             Field::Room => b"depth",
             Field::Commands => b"commands",
@@ -203,8 +196,6 @@ impl Field {
         ensures { result ≡ want_of self }
     {
         match self {
-            Field::FirstVersion => Want::OnlyVersion,
-            Field::Version => Want::Version,
             Field::Lateness => Want::Bound,
             Field::BoundFrom => Want::Bound,
             Field::BoundUntil => Want::Bound,
@@ -216,6 +207,7 @@ impl Field {
             Field::Unused
             | Field::Word
             | Field::Title
+            | Field::Version
             | Field::Room
             | Field::Commands
             | Field::Id

@@ -6,12 +6,12 @@ ghost use Rattle.blk_explain.specs.Kinds.{record_row, kind_word};
 
 use crate::fields::Field::{
     Action, AnySubmitter, Bios, Bound, BoundFrom, BoundUntil, Commands, CommandsOnTime, Depth,
-    Direction, Due, Event, Events, First, FirstVersion, From, Id, Lateness, MaxSectors,
-    MaxSegments, Nanoseconds, OnTime, Process, Processor, Queue, Queues, ReadExpire, Release, Room,
-    Round, Rounds, Rwbs, Seconds, Sectors, Serial, Setup, SoftDepth, Step, Submitter, Submitters,
-    Tag, Tags, Title, Until, Version, Windows, Word, WriteExpire,
+    Direction, Due, Event, Events, First, From, Id, Lateness, MaxSectors, MaxSegments, Nanoseconds,
+    OnTime, Process, Processor, Queue, Queues, ReadExpire, Release, Room, Round, Rounds, Rwbs,
+    Seconds, Sectors, Serial, Setup, SoftDepth, Step, Submitter, Submitters, Tag, Tags, Title,
+    Until, Version, Windows, Word, WriteExpire,
 };
-use crate::rows::{RecordRow, named};
+use crate::rows::{RecordRow, named, titled};
 use blk_capture_text::{CAPTURE, RECORD};
 use blk_lists::certificate::{BOUND, CERTIFICATE, SERVED};
 use blk_lists::commands::{COMMAND, COMMANDS};
@@ -120,16 +120,16 @@ impl RecordKind {
         ensures { result ≡ record_row self }
     {
         match self {
-            Self::CommandsTitle => named(&COMMANDS, &[Title, FirstVersion, Room]),
+            Self::CommandsTitle => titled(&COMMANDS, &[Title, Version, Room]),
             Self::Command => named(&WORDLESS_COMMAND, &[Id, Release, Due]),
-            Self::CertificateTitle => named(&CERTIFICATE, &[Title, FirstVersion, Room, Commands]),
-            Self::OnTimeTitle => named(&ON_TIME, &[Title, FirstVersion, Room, Commands]),
-            Self::ScheduleTitle => named(&SCHEDULE, &[Title, FirstVersion, Room, Commands]),
+            Self::CertificateTitle => titled(&CERTIFICATE, &[Title, Version, Room, Commands]),
+            Self::OnTimeTitle => titled(&ON_TIME, &[Title, Version, Room, Commands]),
+            Self::ScheduleTitle => titled(&SCHEDULE, &[Title, Version, Room, Commands]),
             Self::Served => named(&WORDLESS_SERVED, &[Id, Release, Due, Round]),
             Self::Bound => named(&BOUND, &[Bound, Lateness, BoundFrom, BoundUntil]),
             Self::OnTime => named(&NUMBERS, &[OnTime, CommandsOnTime, Windows]),
             Self::Window => named(&WINDOW, &[Word, From, Until]),
-            Self::CaptureTitle => named(&CAPTURE, &[Title, FirstVersion]),
+            Self::CaptureTitle => titled(&CAPTURE, &[Title, Version]),
             Self::Capture => named(
                 &WORDLESS_RECORD,
                 &[
@@ -143,11 +143,11 @@ impl RecordKind {
                     Sectors,
                 ],
             ),
-            Self::ScriptTitle => named(
+            Self::ScriptTitle => titled(
                 &SCRIPT,
                 &[Title, Version, Tags, Queues, SoftDepth, Submitters],
             ),
-            Self::TraceTitle => named(&TRACE, &[Title, Version, Tags, Queues, Events]),
+            Self::TraceTitle => titled(&TRACE, &[Title, Version, Tags, Queues, Events]),
             Self::Setup => named(
                 &SETUP,
                 &[Setup, ReadExpire, WriteExpire, MaxSectors, MaxSegments],

@@ -1,13 +1,14 @@
 //! The row of a kind of record: the row that the reader of its form goes by, and what its fields are called.
 
-ghost use Rattle.std.specs.Prelude.{◌≡◌, ◌≤◌, length, take, get_or};
+ghost use Rattle.std.specs.Prelude.{◌≡◌, ◌≤◌, ◌<◌, length, take, get_or};
 ghost use Rattle.blk_lists.specs.declared.fields.Slot.TheVariants as slot;
 ghost use Rattle.blk_explain.specs.declared.fields.Field.TheVariants as field;
-ghost use Rattle.blk_explain.specs.Rows.{named_row};
+ghost use Rattle.blk_explain.specs.Rows.{named_row, titled_row};
 
 use crate::fields::Field;
 use blk_lists::fields::Slot;
 use blk_lists::kinds::Kind;
+use blk_lists::titles::TitleRow;
 use std::marker::Model;
 
 /// The most letters of a word.
@@ -68,6 +69,28 @@ pub(crate) fn named<const L: usize, const N: usize>(
         width: N,
         fields,
     }
+}
+
+/// A title's row, whose version has a range too, and what its fields are called.
+pub(crate) fn titled<const L: usize, const N: usize>(
+    title: &TitleRow<L, N>,
+    fields: &'static [Field],
+) -> RecordRow
+    requires word { L ≤ MAX_LETTERS }
+    requires width { (1 < N) × (N ≤ MAX_FIELDS) }
+    ensures { result ≡ titled_row title.now fields.now }
+{
+    let mut slots = title.slots;
+    slots[1] = Slot::Number {
+        least: 1,
+        most: title.latest,
+    };
+    let kind = Kind {
+        word: title.word,
+        since: 1,
+        slots,
+    };
+    named(&kind, fields)
 }
 
 impl RecordRow {

@@ -283,11 +283,11 @@ pub fn read_certificate<R: Read + Drop>(
     // the last thing that was asked for is the record after the commands, which there is not
     ensures end { IfOk result (λ c. records.new.at ≡ length c.commands.items + 3) }
 {
-    let (_, title) = match read_title(records, &CERTIFICATE) {
+    let (_, [_, _, depth, count]) = match read_title(records, &CERTIFICATE) {
         Ok(title) => title,
         Err(fault) => return Err(fault),
     };
-    match read_claim_body(alloc, records, title[2], title[3]) {
+    match read_claim_body(alloc, records, depth, count) {
         Ok(certificate) => Ok(certificate),
         Err(fault) => Err(fault),
     }

@@ -82,12 +82,12 @@ pub fn read_commands<R: Read + Drop>(
     // the last thing that was asked for is the record after the commands, which there is not
     ensures end { IfOk result (λ v. records.new.at ≡ length v.1.items + 2) }
 {
-    let (_, title) = match read_title(records, &COMMANDS) {
+    let (_, [_, _, depth]) = match read_title(records, &COMMANDS) {
         Ok(title) => title,
         Err(fault) => return Err(fault),
     };
     match read_records(alloc, records, CommandForm, Repeats::AtMost(MAX_COMMANDS)) {
-        Ok(commands) => Ok((title[2], commands)),
+        Ok(commands) => Ok((depth, commands)),
         Err(fault) => Err(fault),
     }
 }

@@ -210,11 +210,11 @@ pub fn read_on_time<R: Read + Drop>(
     // the last thing that was asked for is the record after the commands, which there is not
     ensures end { IfOk result (λ c. records.new.at ≡ length c.cover.items + length c.commands.items + 3) }
 {
-    let (_, title) = match read_title(records, &ON_TIME) {
+    let (_, [_, _, depth, count]) = match read_title(records, &ON_TIME) {
         Ok(title) => title,
         Err(fault) => return Err(fault),
     };
-    match read_on_time_body(alloc, records, title[2], title[3]) {
+    match read_on_time_body(alloc, records, depth, count) {
         Ok(certificate) => Ok(certificate),
         Err(fault) => Err(fault),
     }

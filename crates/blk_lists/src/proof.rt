@@ -49,12 +49,12 @@ impl RecordForm for ProofTitleForm {
 
     fn value(&self, row: &ByteRecord) -> Result<(ProofKind, (u64, (u64, u64))), Why> {
         if begins_with(row, &CERTIFICATE.word) {
-            let (version, title) = CERTIFICATE.read(row)?;
-            return Ok((ProofKind::Lateness, (version, (title[2], title[3]))));
+            let (version, [_, _, depth, count]) = CERTIFICATE.read(row)?;
+            return Ok((ProofKind::Lateness, (version, (depth, count))));
         }
         if begins_with(row, &ON_TIME.word) {
-            let (version, title) = ON_TIME.read(row)?;
-            return Ok((ProofKind::OnTime, (version, (title[2], title[3]))));
+            let (version, [_, _, depth, count]) = ON_TIME.read(row)?;
+            return Ok((ProofKind::OnTime, (version, (depth, count))));
         }
         Err(Why::Title)
     }

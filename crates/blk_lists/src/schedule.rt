@@ -254,17 +254,17 @@ pub fn read_schedule<R: Read + Drop>(
     // the last thing that was asked for is the record after the commands, which there is not
     ensures end { IfOk result (λ s. records.new.at ≡ length s.commands.items + 2) }
 {
-    let (_, title) = match read_title(records, &SCHEDULE) {
+    let (_, [_, _, depth, count]) = match read_title(records, &SCHEDULE) {
         Ok(title) => title,
         Err(fault) => return Err(fault),
     };
-    let served = match read_new(alloc, records, title[3]) {
+    let served = match read_new(alloc, records, count) {
         Ok(served) => served,
         Err(fault) => return Err(fault),
     };
     match split(alloc, served.as_slice()) {
         Ok((commands, rounds)) => Ok(Schedule {
-            depth: title[2],
+            depth,
             commands,
             rounds,
         }),

@@ -36,8 +36,6 @@ use Rattle.blk_lists.specs.Tables.{FitsCells}
 use Rattle.blk_text.specs.declared.setup.TheConstants.{LATEST}
 use Rattle.blk_lists.specs.declared.fault.Why.{Why}
 use Rattle.blk_lists.specs.declared.fault.Why.TheVariants as why
-use Rattle.blk_text.specs.declared.heads.TheConstants.{TRACE}
-use Rattle.blk_lists.specs.Titles.{StopsAtTitle}
 use Rattle.parts.specs.declared.Repeats.TheVariants as repeats
 use Rattle.parts.specs.Parts.{Begins, AllFit, Spells, all_rows}
 use Rattle.parts.proofs.Many.{fit_more, ended_reached}

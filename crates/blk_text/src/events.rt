@@ -216,11 +216,10 @@ pub fn read_trace<R: Read + Drop>(
     // the last thing that was asked for is the record after the events, which there is not
     ensures end { IfOk result (λ t. records.new.at ≡ length (trace_rows t) + 1) }
 {
-    let (version, title) = match read_title(records, &TRACE) {
+    let (version, [_, _, depth, queues, count, _]) = match read_title(records, &TRACE) {
         Ok(title) => title,
         Err(fault) => return Err(fault),
     };
-    let [_, _, depth, queues, count, _] = title;
     let setup_form = SetupForm {
         depth,
         hw: queues as u8,

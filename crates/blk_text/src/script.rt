@@ -249,11 +249,12 @@ pub fn read_script<R: Read + Drop>(
     // the last thing that was asked for is the record after the steps, which there is not
     ensures end { IfOk result (λ s. records.new.at ≡ length s.lines.items + 3) }
 {
-    let (version, title) = match read_title(records, &SCRIPT) {
+    let (version, [_, _, depth, queues, soft_depth, submitters]) = match read_title(
+        records, &SCRIPT,
+    ) {
         Ok(title) => title,
         Err(fault) => return Err(fault),
     };
-    let [_, _, depth, queues, soft_depth, submitters] = title;
     if submitters < queues {
         return Err(records.fault(Why::Range));
     }

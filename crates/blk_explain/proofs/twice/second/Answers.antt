@@ -1,4 +1,4 @@
-use Rattle.std.proofs.Common.{◌≡◌, ◌+◌, ◌∙◌, false, sym, subst, arith}
+use Rattle.std.proofs.Common.{◌≡◌, ◌+◌, ◌∙◌, sym, subst, arith}
 use Rattle.blk_ids.specs.IdSet.{set_has}
 use Rattle.blk_explain.specs.Twice.{HasNoRepeat}
 use Rattle.blk_explain.specs.Inside.Seen.{AreSeen}
