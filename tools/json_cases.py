@@ -177,7 +177,10 @@ def beside(case, sibling):
     if case.status:
         same = case.status == sibling.status and case.bytes_wanted("stderr") == sibling.bytes_wanted("stderr")
         return "" if same else f"    it is refused otherwise than {sibling.name}\n"
-    return compared(form_of(sibling), sibling.bytes_wanted("stdout"), case.bytes_wanted("stdout"))
+    form = form_of(sibling)
+    if form is None:
+        raise Fault("FORMS of tools/json_cases.py has nothing that reads the text form")
+    return compared(form, sibling.bytes_wanted("stdout"), case.bytes_wanted("stdout"))
 
 
 def once_more(case):

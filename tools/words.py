@@ -223,7 +223,7 @@ def takers_of(form, commands):
 
 def takers_listed(commands):
     """Where the subcommands that `explain` lists for a form and those of the table differ."""
-    phrases = dict(re.findall(r'Name::Take(\w+) => b"([^"]*)"', PHRASES.read_text()))
+    phrases = dict(re.findall(r'Name::Take(\w+) =>\s*b"([^"]*)"', PHRASES.read_text()))
     for name, form in FORMS.items():
         listed, takers = set(phrases.get(name, "").split(", ")), set(takers_of(form, commands))
         yield from (f"explain doesn't list that {it} takes {form}" for it in sorted(takers - listed))
