@@ -1,4 +1,4 @@
-use Rattle.std.proofs.Common.{None, Some, true, false, [], ◌∷◌}
+use Rattle.std.proofs.Common.{None, Some, true, false}
 use Rattle.blk_settings.specs.declared.lists.ListFault.TheVariants as list
 use Rattle.blk_words.specs.declared.inputs.FiguresAsked.TheVariants as figures
 use Rattle.blk_words.specs.declared.inputs.Running.TheVariants as running
