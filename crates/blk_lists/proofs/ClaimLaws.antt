@@ -35,7 +35,7 @@ use Rattle.blk_lists.proofs.Lacking.{both, same_number, same_row, no_word_lacks,
 use Rattle.blk_lists.proofs.TableLaws.{IsTable, table_tells, table_decides, word_tells, word_decides, next_starts, next_once}
 use Rattle.blk_lists.proofs.Each.{size_is, rows_map, all_fit, each_tells, each_decides, one_record, one_version}
 use Rattle.blk_lists.proofs.Reading.{then_reads, ends_halt, first_halts, second_halts}
-use Rattle.blk_lists.proofs.TitleLaws.{certificate_title, title_one, title_decides, title_reads, title_stops}
+use Rattle.blk_lists.proofs.TitleLaws.{is_certificate_title, title_tells, title_decides, title_reads, title_stops}
 use Rattle.blk_lists.proofs.Texts.{text_back, parts_back, begins_itself}
 use Rattle.edd_commands.specs.declared.TheConstants.{MAX_ROUNDS}
 
@@ -69,8 +69,8 @@ bound_table count = record {
   fits = λ x f. f;
 }
 
-pub certificate_one : IsOne certificate_title_part
-certificate_one = title_one CERTIFICATE counted_numbers (λ _. IsCounted) certificate_title
+certificate_title_tells : Tells certificate_title_part
+certificate_title_tells = title_tells CERTIFICATE counted_numbers (λ _. IsCounted) is_certificate_title
 
 pub served_one : IsOne served_record
 served_one = one_record (row_by served_cells) IsServed why.Count (Lacks (slots_by served_cells)) (table_tells served_cells IsServed served_table)
@@ -183,7 +183,7 @@ pub body_tells : (count : ℕ) → Tells (claim_body count)
 body_tells count = then_tells (bound count) (λ b. items_of (repeats.Exactly count) (λ _. served_record)) (bound_one count).tells (λ b fit. items_tell count)
 
 pub claim_tells : Tells claim_form
-claim_tells = then_tells certificate_title_part (λ t. claim_body t.1.1) certificate_one.tells (λ t fit. body_tells t.1.1)
+claim_tells = then_tells certificate_title_part (λ t. claim_body t.1.1) certificate_title_tells (λ t fit. body_tells t.1.1)
 
 pub served_record_decides : Decides served_record
 served_record_decides = record_decides (row_by served_cells) IsServed why.Count (Lacks (slots_by served_cells)) (table_decides served_cells IsServed served_table)
@@ -192,7 +192,7 @@ pub served_decides : (count : ℕ) → Decides (items_of (repeats.Exactly count)
 served_decides count = each_decides served_record served_record_decides (repeats.Exactly count)
 
 pub claim_decides : Decides claim_form
-claim_decides = then_decides certificate_title_part (λ t. claim_body t.1.1) (title_decides CERTIFICATE counted_numbers (λ _. IsCounted) certificate_title)
+claim_decides = then_decides certificate_title_part (λ t. claim_body t.1.1) (title_decides CERTIFICATE counted_numbers (λ _. IsCounted) is_certificate_title)
     (λ t fit. then_decides (bound t.1.1) (λ b. items_of (repeats.Exactly t.1.1) (λ _. served_record)) (bound_decides t.1.1) (λ b fit. served_decides t.1.1))
 
 pub all_zip : (cs : List Command) (rs : List ℕ) → All IsCommandInRange cs → All (λ x. x < MAX_ROUNDS) rs → All IsServed (zip cs rs)
@@ -351,14 +351,14 @@ bound_gone count = inr (refl, no_kinds count, refl)
 -- the title that a record tells by these numbers
 pub title_told : (left mid : Option (List Row)) (t : ℕ × List ℕ) → TakesTitle CERTIFICATE left mid t.0 t.1
     → Reads certificate_title_part left mid (t.0, (get_or t.1 2 0, get_or t.1 3 0)) × (IsVersion CERTIFICATE.latest t.0 × IsCounted (get_or t.1 2 0, get_or t.1 3 0))
-title_told left mid t h = title_reads CERTIFICATE counted_numbers (λ _. IsCounted) certificate_title left mid t.0 (get_or t.1 2 0, get_or t.1 3 0) t.1 h (refl, (refl, tt))
+title_told left mid t h = title_reads CERTIFICATE counted_numbers (λ _. IsCounted) is_certificate_title left mid t.0 (get_or t.1 2 0, get_or t.1 3 0) t.1 h (refl, (refl, tt))
 
 pub title_halts : (failed : Bool) (left : Option (List Row)) (at : ℕ) (w : Why) → at ≡ 1 → StopsAtTitle CERTIFICATE failed left w → Halts failed claim_form left 0 at w
 title_halts failed left at w e h =
-    first_halts failed certificate_title_part (λ t. claim_body t.1.1) left 0 at w (λ t fit. body_tells t.1.1) (title_stops CERTIFICATE counted_numbers (λ _. IsCounted) certificate_title failed left 0 at w (omega (arith, e)) h)
+    first_halts failed certificate_title_part (λ t. claim_body t.1.1) left 0 at w (λ t fit. body_tells t.1.1) (title_stops CERTIFICATE counted_numbers (λ _. IsCounted) is_certificate_title failed left 0 at w (omega (arith, e)) h)
 
 pub body_halts : (failed : Bool) (left mid : Option (List Row)) (t : ℕ × (ℕ × ℕ)) (at : ℕ) (w : Why) → Reads certificate_title_part left mid t → Halts failed (claim_body t.1.1) mid 1 at w → Halts failed claim_form left 0 at w
-body_halts failed left mid t at w r h = second_halts failed certificate_title_part (λ t. claim_body t.1.1) left mid t 0 1 at w certificate_one.tells r refl h
+body_halts failed left mid t at w r h = second_halts failed certificate_title_part (λ t. claim_body t.1.1) left mid t 0 1 at w certificate_title_tells r refl h
 
 pub bound_halts : (failed : Bool) (left : Option (List Row)) (count start at : ℕ) (w : Why) → start ≡ 1 → Halts failed (bound count) left start at w → Halts failed (claim_body count) left 1 at w
 bound_halts failed left count start at w e h = first_halts failed (bound count) (λ b. items_of (repeats.Exactly count) (λ _. served_record)) left 1 at w (λ b fit. items_tell count) (rw e at h)

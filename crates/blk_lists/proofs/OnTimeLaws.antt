@@ -28,7 +28,7 @@ use Rattle.blk_lists.proofs.TableLaws.{IsTable, word_tells, word_decides}
 use Rattle.blk_lists.proofs.Each.{size_is, rows_map, all_fit, repeated_tells, repeated_decides, one_record, one_version}
 use Rattle.blk_lists.proofs.Reading.{then_reads, ends_halt, first_halts, second_halts}
 use Rattle.blk_lists.proofs.Texts.{text_back, items_back, parts_back, begins_itself}
-use Rattle.blk_lists.proofs.TitleLaws.{met_title, title_tells, title_decides, title_reads, title_stops}
+use Rattle.blk_lists.proofs.TitleLaws.{is_on_time_title, title_tells, title_decides, title_reads, title_stops}
 use Rattle.blk_lists.proofs.ClaimLaws.{served_one, served_decides, items_tell, firsts, seconds, all_zip, all_first, all_second, firsts_zip, seconds_zip, length_zip, zipped}
 
 -- the tables
@@ -80,10 +80,10 @@ pub body_tells : (count : ℕ) → Tells (on_time_body count)
 body_tells count = then_tells on_time_numbers (λ n. cover_body n.1 count) numbers_one.tells (λ n fit. cover_tells n.1 count)
 
 pub on_time_tells : Tells on_time_form
-on_time_tells = then_tells on_time_title (λ t. on_time_body t.1.1) (title_tells ON_TIME counted_numbers (λ _. IsCounted) met_title) (λ t fit. body_tells t.1.1)
+on_time_tells = then_tells on_time_title (λ t. on_time_body t.1.1) (title_tells ON_TIME counted_numbers (λ _. IsCounted) is_on_time_title) (λ t fit. body_tells t.1.1)
 
 pub on_time_decides : Decides on_time_form
-on_time_decides = then_decides on_time_title (λ t. on_time_body t.1.1) (title_decides ON_TIME counted_numbers (λ _. IsCounted) met_title)
+on_time_decides = then_decides on_time_title (λ t. on_time_body t.1.1) (title_decides ON_TIME counted_numbers (λ _. IsCounted) is_on_time_title)
     (λ t fit. then_decides on_time_numbers (λ n. cover_body n.1 t.1.1) (record_decides numbers_row AreFew why.Word (WordLacks (codes "met") (slots_by on_time_cells)) (word_decides (codes "met") on_time_cells AreFew on_time_table))
     (λ n fits. then_decides (windows n.1) (λ _. items_of (repeats.Exactly t.1.1) (λ _. served_record))
     (repeated_decides window (record_decides window_row WindowInRange why.Count (WordLacks (codes "window") (slots_by window_cells)) (word_decides (codes "window") window_cells WindowInRange window_table)) (repeats.Exactly n.1))
@@ -216,11 +216,11 @@ whole_halt failed left mid after count n ws lines at w a b c e o =
 -- the title that a record tells by these numbers
 pub title_told : (left mid : Option (List Row)) (t : ℕ × List ℕ) → TakesTitle ON_TIME left mid t.0 t.1
     → Reads on_time_title left mid (t.0, (get_or t.1 2 0, get_or t.1 3 0)) × (IsVersion ON_TIME.latest t.0 × IsCounted (get_or t.1 2 0, get_or t.1 3 0))
-title_told left mid t h = title_reads ON_TIME counted_numbers (λ _. IsCounted) met_title left mid t.0 (get_or t.1 2 0, get_or t.1 3 0) t.1 h (refl, (refl, tt))
+title_told left mid t h = title_reads ON_TIME counted_numbers (λ _. IsCounted) is_on_time_title left mid t.0 (get_or t.1 2 0, get_or t.1 3 0) t.1 h (refl, (refl, tt))
 
 pub title_halts : (failed : Bool) (left : Option (List Row)) (at : ℕ) (w : Why) → at ≡ 1 → StopsAtTitle ON_TIME failed left w → Halts failed on_time_form left 0 at w
 title_halts failed left at w e h =
-    first_halts failed on_time_title (λ t. on_time_body t.1.1) left 0 at w (λ t fit. body_tells t.1.1) (title_stops ON_TIME counted_numbers (λ _. IsCounted) met_title failed left 0 at w (omega (arith, e)) h)
+    first_halts failed on_time_title (λ t. on_time_body t.1.1) left 0 at w (λ t fit. body_tells t.1.1) (title_stops ON_TIME counted_numbers (λ _. IsCounted) is_on_time_title failed left 0 at w (omega (arith, e)) h)
 
 pub body_halts : (failed : Bool) (left mid : Option (List Row)) (t : ℕ × (ℕ × ℕ)) (at : ℕ) (w : Why) → Reads on_time_title left mid t → Halts failed (on_time_body t.1.1) mid 1 at w → Halts failed on_time_form left 0 at w
-body_halts failed left mid t at w r h = second_halts failed on_time_title (λ t. on_time_body t.1.1) left mid t 0 1 at w (title_tells ON_TIME counted_numbers (λ _. IsCounted) met_title) r refl h
+body_halts failed left mid t at w r h = second_halts failed on_time_title (λ t. on_time_body t.1.1) left mid t 0 1 at w (title_tells ON_TIME counted_numbers (λ _. IsCounted) is_on_time_title) r refl h

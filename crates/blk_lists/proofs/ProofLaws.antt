@@ -20,7 +20,7 @@ use Rattle.parts.specs.Laws.{Tells}
 use Rattle.parts.proofs.Then.{reached_first, by_word_tells, kind_reached, kinds_reached}
 use Rattle.blk_lists.proofs.Lacking.{word_decided}
 use Rattle.blk_lists.proofs.TableLaws.{next_starts, next_same}
-use Rattle.blk_lists.proofs.TitleLaws.{certificate_title, met_title, title_tells}
+use Rattle.blk_lists.proofs.TitleLaws.{is_certificate_title, is_on_time_title, title_tells}
 use Rattle.blk_lists.proofs.ClaimLaws as claim
 use Rattle.blk_lists.proofs.OnTimeLaws as on_time_laws
 
@@ -42,8 +42,8 @@ titles_start kind.Lateness rows v a h = next_starts CERTIFICATE.word _ rows a h.
 titles_start kind.OnTime rows v a h = next_starts ON_TIME.word _ rows a h.made
 
 titles_tell : (k : ProofKind) → Tells (kind_title k)
-titles_tell kind.Lateness = title_tells CERTIFICATE counted_numbers (λ _. IsCounted) certificate_title
-titles_tell kind.OnTime = title_tells ON_TIME counted_numbers (λ _. IsCounted) met_title
+titles_tell kind.Lateness = title_tells CERTIFICATE counted_numbers (λ _. IsCounted) is_certificate_title
+titles_tell kind.OnTime = title_tells ON_TIME counted_numbers (λ _. IsCounted) is_on_time_title
 
 forms_start : (k : ProofKind) (rows : List Row) (v : Shown k) (a : List Row) → Begins (form_of k) rows v a → StartsAs k rows
 forms_start kind.Lateness rows v a h = next_starts (codes "blk-certificate") _ rows _ h.made

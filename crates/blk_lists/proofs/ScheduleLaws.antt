@@ -36,7 +36,7 @@ use Rattle.blk_lists.proofs.Lists.{head_of, tail_of, all_cons}
 use Rattle.blk_lists.proofs.Lacking.{same_number}
 use Rattle.blk_lists.proofs.Each.{size_is, rows_map, one_version}
 use Rattle.blk_lists.proofs.Reading.{then_reads, end_halts, first_halts, second_halts, many_fails, many_ends, full_ends, full_stopped, lines_halt, outside_fails, past_wrong, hand_reads}
-use Rattle.blk_lists.proofs.TitleLaws.{schedule_row, title_tells, title_decides, title_reads, title_stops}
+use Rattle.blk_lists.proofs.TitleLaws.{is_schedule_title, title_tells, title_decides, title_reads, title_stops}
 use Rattle.blk_lists.proofs.Texts.{text_back, parts_back, begins_itself}
 use Rattle.blk_lists.proofs.ClaimLaws.{served_one, served_record_decides, firsts, seconds, all_zip, all_first, all_second, firsts_zip, seconds_zip, length_zip, zipped}
 
@@ -78,10 +78,10 @@ body_decides : (count : ℕ) → Decides (schedule_body count)
 body_decides count = ended_decides (repeats.Exactly count) why.Count new_record new_record with_next new_decides new_decides []
 
 pub schedule_tells : Tells schedule_form
-schedule_tells = then_tells schedule_title (λ t. schedule_body t.1.1) (title_tells SCHEDULE counted_numbers (λ _. IsCounted) schedule_row) (λ t fit. body_tells t.1.1)
+schedule_tells = then_tells schedule_title (λ t. schedule_body t.1.1) (title_tells SCHEDULE counted_numbers (λ _. IsCounted) is_schedule_title) (λ t fit. body_tells t.1.1)
 
 schedule_decides : Decides schedule_form
-schedule_decides = then_decides schedule_title (λ t. schedule_body t.1.1) (title_decides SCHEDULE counted_numbers (λ _. IsCounted) schedule_row) (λ t fit. body_decides t.1.1)
+schedule_decides = then_decides schedule_title (λ t. schedule_body t.1.1) (title_decides SCHEDULE counted_numbers (λ _. IsCounted) is_schedule_title) (λ t fit. body_decides t.1.1)
 
 -- the records of commands
 
@@ -429,14 +429,14 @@ past_halts failed count left mid new start at now vs row w got taken e (inr bad)
 -- the title that a record tells by these numbers
 pub title_told : (left mid : Option (List Row)) (t : ℕ × List ℕ) → TakesTitle SCHEDULE left mid t.0 t.1
     → Reads schedule_title left mid (t.0, (get_or t.1 2 0, get_or t.1 3 0)) × (IsVersion SCHEDULE.latest t.0 × IsCounted (get_or t.1 2 0, get_or t.1 3 0))
-title_told left mid t h = title_reads SCHEDULE counted_numbers (λ _. IsCounted) schedule_row left mid t.0 (get_or t.1 2 0, get_or t.1 3 0) t.1 h (refl, (refl, tt))
+title_told left mid t h = title_reads SCHEDULE counted_numbers (λ _. IsCounted) is_schedule_title left mid t.0 (get_or t.1 2 0, get_or t.1 3 0) t.1 h (refl, (refl, tt))
 
 pub title_halts : (failed : Bool) (left : Option (List Row)) (at : ℕ) (w : Why) → at ≡ 1 → StopsAtTitle SCHEDULE failed left w → Halts failed schedule_form left 0 at w
 title_halts failed left at w e h =
-    first_halts failed schedule_title (λ t. schedule_body t.1.1) left 0 at w (λ t fit. body_tells t.1.1) (title_stops SCHEDULE counted_numbers (λ _. IsCounted) schedule_row failed left 0 at w (omega (arith, e)) h)
+    first_halts failed schedule_title (λ t. schedule_body t.1.1) left 0 at w (λ t fit. body_tells t.1.1) (title_stops SCHEDULE counted_numbers (λ _. IsCounted) is_schedule_title failed left 0 at w (omega (arith, e)) h)
 
 pub body_halts : (failed : Bool) (left mid : Option (List Row)) (t : ℕ × (ℕ × ℕ)) (middle at : ℕ) (w : Why) → middle ≡ 1 → Reads schedule_title left mid t → Halts failed (schedule_body t.1.1) mid middle at w → Halts failed schedule_form left 0 at w
-body_halts failed left mid t middle at w e r h = second_halts failed schedule_title (λ t. schedule_body t.1.1) left mid t 0 middle at w (title_tells SCHEDULE counted_numbers (λ _. IsCounted) schedule_row) r (omega (arith, e)) h
+body_halts failed left mid t middle at w e r h = second_halts failed schedule_title (λ t. schedule_body t.1.1) left mid t 0 middle at w (title_tells SCHEDULE counted_numbers (λ _. IsCounted) is_schedule_title) r (omega (arith, e)) h
 
 -- past the last record
 pub whole_halts : (failed : Bool) (left mid : Option (List Row)) (t : ℕ × (ℕ × ℕ)) (lines : List (Command × ℕ)) (at : ℕ) (w : Why) → Reads schedule_title left mid t → IfSome mid (λ rows. Begins (schedule_body t.1.1) rows lines [])

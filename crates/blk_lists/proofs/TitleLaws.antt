@@ -4,7 +4,7 @@ use Rattle.std.specs.Prelude.{◌⊎◌}
 use Rattle.std.proofs.lemmas.Fmt.{decimal_injective}
 use Rattle.blk_lists.specs.Sources.{Row, TakesRecord}
 use Rattle.blk_lists.specs.Fields.{Lacks, FieldsSpell}
-use Rattle.blk_lists.specs.Reads.{IsOne, IsRowOf, Reads, Halts}
+use Rattle.blk_lists.specs.Reads.{IsRowOf, Reads, Halts}
 use Rattle.blk_lists.specs.Tables.{FitsCells, cells_by, row_by, slots_by}
 use Rattle.blk_lists.specs.Titles.{IsTitled, IsVersion, slots_in, title_cells, title_by, TitleLacks, TitleTells, TakesTitle, StopsAtTitle, title_record, IsCounted, counted_numbers}
 use Rattle.blk_lists.specs.declared.fields.Slot.TheVariants as slot
@@ -67,9 +67,6 @@ title_tells {letters} {fields} {V} title numbers Fits is = record_tells (title_b
     same t u f g h e =
         let value = one_by (title_cells title numbers u.0) (Fits u.0) (is.table u.0) t.1 u.1 (rw e at f.1) g.1 (rw e at (cons_same _ _ _ _ (cons_same _ _ _ _ h).1).1) in
         λ i. (e i, value i)
-
-pub title_one : {letters fields : ℕ} {V : Type 0} (title : TitleRow letters fields) (numbers : List (V → ℕ)) (Fits : ℕ → V → Type 0) → IsTitleTable title numbers Fits → IsOne (title_record title numbers Fits)
-title_one title numbers Fits is = record { tells = title_tells title numbers Fits is; plain = λ t rest fit. tt; one = λ t. refl }
 
 pub title_decides : {letters fields : ℕ} {V : Type 0} (title : TitleRow letters fields) (numbers : List (V → ℕ)) (Fits : ℕ → V → Type 0) → IsTitleTable title numbers Fits → Decides (title_record title numbers Fits)
 title_decides {letters} {fields} {V} title numbers Fits is = record_decides (title_by title numbers) (λ t. IsVersion title.latest t.0 × Fits t.0 t.1) why.Title (TitleLacks title) (λ row. decided row (titled row))
@@ -164,11 +161,11 @@ counted_table = record {
   fits = λ x f. (f.0.0, f.0.1, f.1.0.1);
 }
 
-pub certificate_title : IsTitleTable CERTIFICATE counted_numbers (λ _. IsCounted)
-certificate_title = record { latest = omega arith; slots = λ v. refl; table = λ v. counted_table; fits = λ v t f. (f.0.0, f.0.1, f.1.0.1) }
+pub is_certificate_title : IsTitleTable CERTIFICATE counted_numbers (λ _. IsCounted)
+is_certificate_title = record { latest = omega arith; slots = λ v. refl; table = λ v. counted_table; fits = λ v t f. (f.0.0, f.0.1, f.1.0.1) }
 
-pub met_title : IsTitleTable ON_TIME counted_numbers (λ _. IsCounted)
-met_title = record { latest = omega arith; slots = λ v. refl; table = λ v. counted_table; fits = λ v t f. (f.0.0, f.0.1, f.1.0.1) }
+pub is_on_time_title : IsTitleTable ON_TIME counted_numbers (λ _. IsCounted)
+is_on_time_title = record { latest = omega arith; slots = λ v. refl; table = λ v. counted_table; fits = λ v t f. (f.0.0, f.0.1, f.1.0.1) }
 
-pub schedule_row : IsTitleTable SCHEDULE counted_numbers (λ _. IsCounted)
-schedule_row = record { latest = omega arith; slots = λ v. refl; table = λ v. counted_table; fits = λ v t f. (f.0.0, f.0.1, f.1.0.1) }
+pub is_schedule_title : IsTitleTable SCHEDULE counted_numbers (λ _. IsCounted)
+is_schedule_title = record { latest = omega arith; slots = λ v. refl; table = λ v. counted_table; fits = λ v t f. (f.0.0, f.0.1, f.1.0.1) }

@@ -12,11 +12,11 @@ use std::alloc::AllocError;
 /// A kind of record.
 #[derive(Clone, Copy, Drop)]
 pub struct Kind<const L: usize, const N: usize> {
-    /// The word that its records begin with; of a title, the name of its form.
+    /// The word that its records begin with.
     pub word: [u8; L],
     /// The first version that has it.
     pub since: u64,
-    /// What may stand in its fields, of which the word is the first, and of a title the version the second.
+    /// What may stand in its fields, of which the word is the first.
     pub slots: [Slot; N],
 }
 
