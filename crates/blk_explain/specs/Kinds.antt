@@ -16,7 +16,7 @@ use Rattle.blk_explain.specs.declared.fields.Field.{Field}
 use Rattle.blk_explain.specs.declared.fields.Field.TheVariants as field
 use Rattle.blk_explain.specs.declared.kinds.RecordKind.{RecordKind}
 use Rattle.blk_explain.specs.declared.kinds.RecordKind.TheVariants as kind
-use Rattle.blk_explain.specs.declared.kinds.TheConstants.{UNKNOWN, WORDLESS_COMMAND, WORDLESS_SERVED, WORDLESS_STEP}
+use Rattle.blk_explain.specs.declared.kinds.TheConstants.{UNKNOWN, WORDLESS_COMMAND, WORDLESS_SERVED, WORDLESS_RECORD}
 
 -- the row of a kind: that which the reader of its form goes by, and what its fields are called
 abbrev pub record_row : RecordKind → TableRow
@@ -30,7 +30,7 @@ record_row kind.Bound = named_row BOUND (field.Bound ∷ field.Lateness ∷ fiel
 record_row kind.OnTime = named_row NUMBERS (field.OnTime ∷ field.CommandsOnTime ∷ field.Windows ∷ [])
 record_row kind.Window = named_row WINDOW (field.Word ∷ field.From ∷ field.Until ∷ [])
 record_row kind.CaptureTitle = titled_row CAPTURE (field.Title ∷ field.Version ∷ [])
-record_row kind.Capture = named_row WORDLESS_STEP (field.Seconds ∷ field.Nanoseconds ∷ field.Processor ∷ field.Action ∷ field.Process ∷ field.Rwbs ∷ field.First ∷ field.Sectors ∷ [])
+record_row kind.Capture = named_row WORDLESS_RECORD (field.Seconds ∷ field.Nanoseconds ∷ field.Processor ∷ field.Action ∷ field.Process ∷ field.Rwbs ∷ field.First ∷ field.Sectors ∷ [])
 record_row kind.ScriptTitle = titled_row SCRIPT (field.Title ∷ field.Version ∷ field.Tags ∷ field.Queues ∷ field.SoftDepth ∷ field.Submitters ∷ [])
 record_row kind.TraceTitle = titled_row TRACE (field.Title ∷ field.Version ∷ field.Tags ∷ field.Queues ∷ field.Events ∷ [])
 record_row kind.Setup = named_row SETUP (field.Setup ∷ field.ReadExpire ∷ field.WriteExpire ∷ field.MaxSectors ∷ field.MaxSegments ∷ [])
