@@ -21,9 +21,9 @@ use std::alloc::{AllocError, Allocator, Global};
 #[derive(Clone, Copy, Debug, PartialEq, Eq)]
 pub struct Tunables {
     /// How many requests go in one batch, 1 at least.
-    pub fifo_batch: u64,
+    pub fifo_batch: u16,
     /// How often a batch of reads begins while writes wait, before the writes' batch comes.
-    pub writes_starved: u64,
+    pub writes_starved: u16,
     /// Whether a newcomer may join at the front.
     pub front_merges: bool,
 }
@@ -63,9 +63,9 @@ pub struct BatchState {
     /// What was picked last.
     pub last: Option<Last>,
     /// How many requests went in the batch.
-    pub batching: u64,
+    pub batching: u16,
     /// How often reads went first while writes waited.
-    pub starved: u64,
+    pub starved: u16,
 }
 
 /// Requests by sectors within a batch, and by due rounds between them.
@@ -166,7 +166,7 @@ impl<A: Allocator + Clone> Deadline<A> {
 
     /// The choice, by its id, how many went in the batch then, and how often reads went first.
     #[inline(always)]
-    fn choose(&self, now: u64) -> Option<(u64, u64, u64)>
+    fn choose(&self, now: u64) -> Option<(u64, u16, u16)>
         ensures some { IfSome result (IsBatchChoice (map.get self.now.index) (choice_at self.now now)) }
         ensures none { IfNone result (choice_at self.now now ≡ None) }
         ensures all { IfNone result ((k : ℕ) (w : Waiting) → map.get self.now.index k ≡ Some w → ⊥) }
@@ -195,7 +195,7 @@ impl<A: Allocator + Clone> Deadline<A> {
 }
 
 /// Where the scheduler stands after a pick.
-fn batch_state<A: Allocator + Clone>(queued: &Queued<A>, batching: u64, starved: u64) -> BatchState
+fn batch_state<A: Allocator + Clone>(queued: &Queued<A>, batching: u16, starved: u16) -> BatchState
     ensures { result ≡ (taken queued.now batching starved).1 }
 {
     let last = Last {

@@ -13,7 +13,7 @@ use std::process::Abort;
 pub type Under<A> = Core<Deadline<A>>;
 
 /// The settings: the batch, how often reads go first, and whether a newcomer may join at the front.
-pub fn tuned(fifo_batch: u64, writes_starved: u64, front_merges: bool) -> Tunables {
+pub fn tuned(fifo_batch: u16, writes_starved: u16, front_merges: bool) -> Tunables {
     Tunables {
         fifo_batch,
         writes_starved,
