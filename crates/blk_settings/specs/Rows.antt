@@ -1,5 +1,5 @@
 -- The table of schedulers: what each is called, its settings, what it does, and how it starts.
-use Rattle.std.specs.Prelude.{ℕ, ◌==◌, ◌++◌, Bool, true, false, List, [], ◌∷◌, Option, None, Some, codes, get_or, map, option_map}
+use Rattle.std.specs.Prelude.{ℕ, ◌==◌, ◌++◌, Bool, true, false, List, [], ◌∷◌, Option, None, Some, codes, get_or, map, min, option_map}
 use Rattle.blk_sched.specs.Meaning.{Meaning, at_start}
 use Rattle.blk_sched.specs.Policies.{Policy}
 use Rattle.blk_none.specs.Choice.{none_policy}
@@ -8,6 +8,7 @@ use Rattle.blk_deadline.specs.declared.Tunables.{Tunables}
 use Rattle.blk_kyber.specs.State.{state_at_first, numbers_of, kyber_policy}
 use Rattle.blk_kyber.specs.declared.Targets.{Targets}
 use Rattle.blk_earliest.specs.Choice.{earliest_policy, earliest_kept}
+use Rattle.blk_settings.specs.declared.given.TheConstants.{MAX_SHORT}
 use Rattle.blk_settings.specs.declared.options.TheConstants.{MAX_TARGET}
 use Rattle.blk_settings.specs.declared.rows.ListRow.{ListRow}
 use Rattle.blk_settings.specs.declared.rows.SchedKind.{SchedKind}
@@ -74,16 +75,20 @@ setting_of s = record { name = s.name.now; option = s.option.now; range = range_
 abbrev pub row_of : SchedRow → RowOf
 row_of r = record { kind = r.kind; name = r.name.now; flag = option_map (λ f. f.now) r.flag; settings = map setting_of r.settings.now }
 
--- the settings by their places: the value of one, and whether one is on
+-- the settings by their places: the value of one; one of 16 bits, as which the greatest of these stands for any greater one, that no option
+-- gives; and whether one is on
 abbrev pub value_at : ℕ → List ℕ → ℕ
 value_at place values = get_or values place 0
+
+abbrev pub short_at : ℕ → List ℕ → ℕ
+short_at place values = min (value_at place values) MAX_SHORT
 
 abbrev pub is_on : ℕ → Bool
 is_on n = n == 1
 
 -- what schedulers are made of
 abbrev pub tunables_of : List ℕ → Tunables
-tunables_of v = record { fifo_batch = value_at 0 v; writes_starved = value_at 1 v; front_merges = is_on (value_at 2 v) }
+tunables_of v = record { fifo_batch = short_at 0 v; writes_starved = short_at 1 v; front_merges = is_on (value_at 2 v) }
 
 abbrev pub targets_of : List ℕ → Targets
 targets_of v = record { read = value_at 0 v; write = value_at 1 v }

@@ -1,17 +1,18 @@
 //! Schedulers with their settings: what is wrong with these, and how one is made of them. Of whoever does something with the scheduler of some
 //! settings, [`with_made`](crate::with_made) has the match on its kind.
 
-ghost use Rattle.std.specs.Prelude.{◌≡◌, ◌≤◌, [], IfOk, IfErr};
+ghost use Rattle.std.specs.Prelude.{◌≡◌, ◌≤◌, ◌<◌, [], IfOk, IfErr};
 ghost use Rattle.blk_deadline.specs.Shown.{meaning_of as deadline_meaning, kept_in as deadline_kept};
 ghost use Rattle.blk_kyber.specs.Shown.{meaning_of as kyber_meaning, state_of};
 ghost use Rattle.blk_kyber.specs.State.{numbers_of};
 ghost use Rattle.blk_earliest.specs.Shown.{meaning_of as earliest_meaning, late_last_of};
 ghost use Rattle.blk_earliest.specs.Choice.{earliest_kept};
-ghost use Rattle.blk_settings.specs.Rows.{setting_of};
+ghost use Rattle.blk_settings.specs.Rows.{setting_of, short_at};
 ghost use Rattle.blk_settings.specs.Scheds.{name_of, settings_of, told, in_turn};
 ghost use Rattle.blk_settings.specs.Made.{fault_of, zero_fault, IsUnmade, IsStart};
 ghost use Rattle.blk_settings.specs.Names.{sched_fault_name};
 
+use crate::given::MAX_SHORT;
 use crate::rows::{SCHED_COUNT, SchedKind, SettingRange, SettingRow};
 use crate::setting::{MAX_SETTINGS, Setting, Settings};
 use blk_deadline::{Deadline, DeadlineFault, Tunables};
@@ -94,6 +95,14 @@ impl Sched {
         all
     }
 
+    /// The value of a setting of 16 bits. The greatest of these stands for any greater value, which no option gives.
+    fn short_at(&self, place: usize) -> u16
+        requires { place < MAX_SETTINGS }
+        ensures { result ≡ short_at place self.now.values }
+    {
+        self.values[place].min(MAX_SHORT) as u16
+    }
+
     /// What is wrong with the first of its settings with which something is, which alone are looked at: so never `Memory`.
     pub fn fault(&self) -> Option<SchedFault>
         ensures { result ≡ fault_of self.now }
@@ -150,8 +159,8 @@ pub fn deadline(alloc: Global, sched: Sched, _depth: u64) -> Result<Deadline, Sc
     ensures unmade { IfErr result (IsUnmade sched) }
 {
     let tunables = Tunables {
-        fifo_batch: sched.values[0],
-        writes_starved: sched.values[1],
+        fifo_batch: sched.short_at(0),
+        writes_starved: sched.short_at(1),
         front_merges: sched.values[2] == 1,
     };
     match Deadline::new(alloc, tunables) {
