@@ -5,7 +5,7 @@ use Rattle.std.proofs.Math.Seq.{take-suc}
 use Rattle.std.proofs.lemmas.List.Elements.{All-nil, All-cons}
 use Rattle.blk_settings.specs.declared.sched.Lineup.{Lineup}
 use Rattle.blk_settings.specs.declared.sched.Sched.{Sched}
-use Rattle.blk_settings.specs.Rows.{name_of, in_turn, policy_of}
+use Rattle.blk_settings.specs.Scheds.{name_of, in_turn, policy_of}
 use Rattle.blk_runs.specs.declared.fault.RunFault.{RunFault}
 use Rattle.blk_runs.specs.declared.fault.RunFault.TheVariants as run
 use Rattle.blk_runs.specs.Runs.{IsTraceOfScript, IsUnrunBy}

@@ -15,7 +15,7 @@ use Rattle.blk_runs.specs.Runs.{IsTraceOfScript}
 use Rattle.blk_runs.specs.Firsts.{AreUnmade, IsFirstRefused}
 use Rattle.blk_settings.specs.declared.sched.Lineup.{Lineup}
 use Rattle.blk_settings.specs.declared.sched.Sched.{Sched}
-use Rattle.blk_settings.specs.Rows.{name_of, in_turn}
+use Rattle.blk_settings.specs.Scheds.{name_of, in_turn}
 use Rattle.blk_cli.specs.declared.failure.Failure.{Failure}
 use Rattle.blk_cli.specs.declared.failure.Failure.TheVariants as failure
 use Rattle.blk_cli.specs.Scripts.{IsSimText, FailsToRun}

@@ -2,7 +2,7 @@
 use Rattle.std.specs.Prelude.{◌≡◌, ◌⊎◌, ℕ, Bool, List, Option}
 use Rattle.blk_lists.specs.Sources.{Row as Record}
 use Rattle.blk_text.specs.Script.{Scripted, SpellsScript, ScriptFault}
-use Rattle.blk_settings.specs.Grids.{Gridded, grid_rows}
+use Rattle.blk_settings.specs.declared.sched.Sched.{Sched}
 use Rattle.blk_settings.specs.Wanted.{Wanted}
 use Rattle.blk_tune.specs.declared.row.TrialRow.{TrialRow}
 use Rattle.blk_tune.specs.Tuned.{AreTuned, IsTuned}
@@ -17,7 +17,7 @@ use Rattle.blk_cli.specs.Comparing.{IsUncompared}
 use Rattle.blk_cli.specs.Inputs.{FailsOver}
 
 -- what is asked of a trial with this grid
-abbrev pub wanted_by : Tuning → Gridded → Wanted
+abbrev pub wanted_by : Tuning → List Sched → Wanted
 wanted_by t g = record { grid = g; by = t.by; top = t.top }
 
 -- the rows of a trial as a JSON value, and in a form
@@ -32,13 +32,13 @@ IsTunedIn form.Json w script text = IsTunedJson w script text
 
 -- what `tune` writes: the rows of the grid that the words ask for
 pub record IsTrial (words : List (List ℕ)) (t : Tuning) (script : Scripted) (text : List ℕ) : Type 0 where
-  pub grid : Gridded
+  pub grid : List Sched
   pub asked : AsksGrid words grid
   pub is_text : IsTunedIn t.form (wanted_by t grid) script text
 
 -- why it writes nothing: the script isn't run under each setting of this grid, or memory ran out, which may be before there is a grid
 abbrev pub IsUntried : List (List ℕ) → Scripted → Failure → Type 0
-IsUntried words script f = ((grid : Gridded) × AsksGrid words grid × IsUncompared (grid_rows grid) script f) ⊎ (f ≡ failure.Memory)
+IsUntried words script f = ((grid : List Sched) × AsksGrid words grid × IsUncompared grid script f) ⊎ (f ≡ failure.Memory)
 
 -- why there is no trial of a text
 abbrev pub FailsToTry : List (List ℕ) → Option (List Record) → Bool → Failure → Type 0

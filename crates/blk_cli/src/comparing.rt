@@ -3,7 +3,7 @@
 ghost use Rattle.std.specs.Prelude.{◌≡◌, IfOk, IfErr, All, map, length};
 ghost use Rattle.blk_text.specs.Script.{IsScript, scripted};
 ghost use Rattle.blk_settings.specs.Made.{IsMade};
-ghost use Rattle.blk_settings.specs.Rows.{name_of, in_turn};
+ghost use Rattle.blk_settings.specs.Scheds.{name_of, in_turn};
 ghost use Rattle.blk_runs.specs.Runs.{IsUnrun};
 ghost use Rattle.blk_runs.specs.Firsts.{AreUnrun};
 ghost use Rattle.blk_cli.specs.Comparing.{IsReportUnder, AreReports, IsUncompared, IsTableIn, IsComparedText};

@@ -3,7 +3,7 @@
 ghost use Rattle.std.specs.Prelude.{IfOk, IfErr, All};
 ghost use Rattle.blk_text.specs.Script.{IsScript, scripted};
 ghost use Rattle.blk_settings.specs.Made.{IsMade};
-ghost use Rattle.blk_settings.specs.Rows.{in_turn};
+ghost use Rattle.blk_settings.specs.Scheds.{in_turn};
 ghost use Rattle.blk_runs.specs.Firsts.{AreUnrun};
 ghost use Rattle.blk_cli.specs.Comparing.{AreTraces, IsUncompared, ArePicturesText};
 

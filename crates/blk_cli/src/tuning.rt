@@ -2,7 +2,6 @@
 
 ghost use Rattle.std.specs.Prelude.{◌≡◌, IfOk, IfErr, map, string_bytes};
 ghost use Rattle.blk_text.specs.Script.{IsScript, SpellsScript, scripted};
-ghost use Rattle.blk_settings.specs.Grids.{grid_rows};
 ghost use Rattle.blk_settings.specs.Wanted.{as_wanted};
 ghost use Rattle.blk_runs.specs.Firsts.{AreUnrun};
 ghost use Rattle.blk_cli.specs.Inputs.{Of};
@@ -30,7 +29,7 @@ fn json_of<T: Threads + Sync, P: Progress>(
 ) -> Result<Vec<u8>, RunFault>
     requires { IsScript (scripted script.now) }
     ensures text { IfOk result (λ text. IsTunedJson (as_wanted asked.now) (scripted script.now) text.items) }
-    ensures unrun { IfErr result (AreUnrun (grid_rows (as_wanted asked.now).grid) (scripted script.now)) }
+    ensures unrun { IfErr result (AreUnrun (as_wanted asked.now).grid (scripted script.now)) }
 {
     let rows = match rows(rt, alloc, asked, script, progress) {
         Ok(rows) => rows,
@@ -53,7 +52,7 @@ fn tuned_in<T: Threads + Sync, P: Progress>(
 ) -> Result<Vec<u8>, RunFault>
     requires { IsScript (scripted script.now) }
     ensures text { IfOk result (λ text. IsTunedIn form (as_wanted asked.now) (scripted script.now) text.items) }
-    ensures unrun { IfErr result (AreUnrun (grid_rows (as_wanted asked.now).grid) (scripted script.now)) }
+    ensures unrun { IfErr result (AreUnrun (as_wanted asked.now).grid (scripted script.now)) }
 {
     match form {
         Form::Lines => tune(rt, alloc, asked, script, progress),

@@ -3,7 +3,7 @@ use Rattle.std.specs.Prelude.{ℕ, Bool, List, [], ◌∷◌, ◌++◌, Option, 
 use Rattle.json.specs.Json as json
 use Rattle.edd_figures.specs.Figures.{shortfall_in}
 use Rattle.blk_report.specs.declared.missing.Tally.{Tally}
-use Rattle.blk_settings.specs.Rows.{name_of, settings_of}
+use Rattle.blk_settings.specs.Scheds.{name_of, settings_of}
 use Rattle.blk_settings.specs.Settings.{NamedSetting}
 use Rattle.blk_settings.specs.declared.sched.Sched.{Sched}
 use Rattle.blk_settings.specs.declared.setting.SettingValue.{SettingValue}

@@ -1,18 +1,16 @@
 //! Rows of a trial, put together by hand.
 
-use blk_deadline::Tunables;
 use blk_json::trial_json;
-use blk_kyber::Targets;
 use blk_report::{Report, Tally};
-use blk_settings::{By, Sched};
+use blk_settings::{By, Sched, SchedKind};
 use blk_tune::TrialRow;
 use edd_check::Window;
 use edd_figures::Figures;
 
 /// A row of two reads: how many are late, how many of those could have been avoided, and how long they waited.
-fn row(sched: Sched, shortfall: i64, late: u64, avoidable: u64, wait: i64) -> TrialRow {
+fn row(kind: SchedKind, values: [u64; 3], shortfall: i64, late: u64, avoidable: u64, wait: i64) -> TrialRow {
     TrialRow {
-        sched,
+        sched: Sched { kind, values },
         report: Report {
             commands: 2,
             waiting: 1,
@@ -42,17 +40,11 @@ fn row(sched: Sched, shortfall: i64, late: u64, avoidable: u64, wait: i64) -> Tr
 /// Each scheduler; three of the rows are shown, and the best one is proved to be.
 #[test]
 fn trials(rt: HostRuntime) {
-    let with = Tunables {
-        fifo_batch: 16,
-        writes_starved: 2,
-        front_merges: true,
-    };
-    let targets = Targets { read: 2, write: 10 };
     let rows = [
-        row(Sched::Deadline(with), 0, 1, 0, 3),
-        row(Sched::Earliest { late_last: false }, 0, 2, 1, 3),
-        row(Sched::Kyber(targets), 1, 2, 1, 5),
-        row(Sched::None, 4, 2, 1, 7),
+        row(SchedKind::Deadline, [16, 2, 1], 0, 1, 0, 3),
+        row(SchedKind::Earliest, [0, 0, 0], 0, 2, 1, 3),
+        row(SchedKind::Kyber, [2, 10, 0], 1, 2, 1, 5),
+        row(SchedKind::None, [0, 0, 0], 4, 2, 1, 7),
     ];
     let text = trial_json(rt.alloc(), By::Misses, Some(3), rows.as_slice()).expect(&rt, "memory");
     let told =
@@ -63,7 +55,7 @@ fn trials(rt: HostRuntime) {
 /// A best row of which nothing is proved, one that is not less late than another schedule, and no row at all.
 #[test]
 fn best_of_trials(rt: HostRuntime) {
-    let none = [row(Sched::None, 0, 2, 1, 7)];
+    let none = [row(SchedKind::None, [0, 0, 0], 0, 2, 1, 7)];
     let nothing = trial_json(rt.alloc(), By::Misses, Some(0), none.as_slice()).expect(
         &rt, "memory",
     );

@@ -2,8 +2,7 @@
 
 ghost use Rattle.std.specs.Prelude.{IfOk, OnOk, IfErr};
 ghost use Rattle.blk_settings.specs.Numbers.{IsLoad};
-ghost use Rattle.blk_settings.specs.Made.{IsUnmade, IsUnsettled};
-ghost use Rattle.blk_settings.specs.Rows.{IsStart};
+ghost use Rattle.blk_settings.specs.Made.{IsUnmade, IsUnsettled, IsStart};
 ghost use Rattle.blk_settings.specs.Settles.{IsSettled, served_bios};
 ghost use Rattle.blk_trace.specs.Events.{AreOnce};
 ghost use Rattle.blk_load.specs.Inside.Ran.{RanBy, RanUnder};
@@ -42,7 +41,6 @@ fn load_by<R: Threads + Wait + Sync, S: Scheduler<A = Global> + Send>(
 }
 
 /// Runs a load under a scheduler by its settings. Refused as [`load`] is, after `Range` as the scheduler is where it isn't made.
-#[tactic(auto, using(crate::proofs::RanUnder::loaded_under))]
 pub fn load_under<R: Threads + Wait + Sync>(
     rt: &R,
     clock: HostRuntime,
@@ -60,7 +58,7 @@ pub fn load_under<R: Threads + Wait + Sync>(
         return Err(Unsettled::Load(LoadFault::Range));
     }
     let depth = amounts.depth;
-    with_made!(sched, alloc, depth, (row, made) => load_by(rt, clock, alloc, row, made, amounts))
+    with_made!(sched, alloc, depth, (sched, made) => load_by(rt, clock, alloc, sched, made, amounts))
 }
 
 /// Loads over a layer whose submitters and workers are threads of the runtime.

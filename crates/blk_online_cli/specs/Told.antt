@@ -7,7 +7,7 @@ use Rattle.edd_figures.specs.Figures.{shortfall_in}
 use Rattle.blk_trace.specs.Traces.{Traced}
 use Rattle.blk_text.specs.Script.{Scripted, SpellsScript}
 use Rattle.blk_text.specs.TraceForm.{SpellsTrace}
-use Rattle.blk_settings.specs.declared.sched.Sched.TheVariants as sched
+use Rattle.blk_settings.specs.Defaults.{earliest_by}
 use Rattle.blk_words.specs.declared.inputs.FiguresAsked.{FiguresAsked}
 use Rattle.blk_words.specs.declared.inputs.Running.TheVariants as running
 use Rattle.blk_words.specs.declared.inputs.Telling.TheVariants as telling
@@ -30,7 +30,7 @@ SpellByRounds bytes = (script : Scripted) × SpellsScript (rows_in bytes) script
 
 -- the run of a script under `earliest`, late last or not, and figures of a trace in lines
 abbrev pub earliest_run : Bool → Job
-earliest_run late_last = job.OfScript (running.One (sched.Earliest late_last))
+earliest_run late_last = job.OfScript (running.One (earliest_by late_last))
 
 abbrev pub figures_in_lines : FiguresAsked → Job
 figures_in_lines k = job.OfTrace (telling.Figures k form.Lines)

@@ -5,7 +5,8 @@ use Rattle.std.proofs.lemmas.List.{take-append-drop, drop_more}
 use Rattle.blk_settings.specs.declared.sched.Sched.{Sched}
 use Rattle.blk_settings.specs.declared.sched.SchedFault.{SchedFault}
 use Rattle.blk_settings.specs.Made.{IsMade, HasFault}
-use Rattle.blk_settings.specs.Rows.{policy_of}
+use Rattle.blk_settings.specs.Rows.{sched_for}
+use Rattle.blk_settings.specs.declared.rows.SchedKind.{SchedKind}
 use Rattle.blk_settings.proofs.Unmade.{made_memory}
 use Rattle.blk_text.specs.Script.{Scripted}
 use Rattle.blk_trace.specs.Traces.{Traced}
@@ -29,6 +30,6 @@ unrun_at ss i d s (run.Step f) h made whole r =
     record { before = take i ss; under = get_or ss i d; after = drop (i + 1) ss; turn = split_at ss i d h; made = made; whole = whole; refused = r }
 unrun_at ss i d s run.Memory h made whole r = tt
 
--- a run under the row of a scheduler's settings is one under that scheduler
-pub ran_under : {E : Type 0} (x y : Sched) (r : Result Traced E) (script : Scripted) → x ≡ y → IfOk r (λ t. RunsBy (policy_of y) y script t) → IfOk r (λ t. RunsUnder x script t)
-ran_under {E} x y r script same h = subst (λ (s : Sched). IfOk r (λ t. RunsUnder s script t)) (sym same) h
+-- a run by the policy of a scheduler's kind is one under that scheduler
+pub ran_under : {E : Type 0} (x : Sched) (k : SchedKind) (r : Result Traced E) (script : Scripted) → x.kind ≡ k → IfOk r (λ t. RunsBy (sched_for k).policy x script t) → IfOk r (λ t. RunsUnder x script t)
+ran_under {E} x k r script same h = subst (λ (j : SchedKind). IfOk r (λ t. RunsBy (sched_for j).policy x script t)) (sym same) h

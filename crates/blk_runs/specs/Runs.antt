@@ -11,7 +11,7 @@ use Rattle.blk_sim.specs.State.{SimState, start_of}
 use Rattle.blk_sim.specs.Runs.{Runs}
 use Rattle.blk_sim.specs.Refusals.{IsSimFault}
 use Rattle.blk_settings.specs.Made.{IsMade, IsUnmade}
-use Rattle.blk_settings.specs.Rows.{policy_of, first_meaning, numbers_at_first}
+use Rattle.blk_settings.specs.Scheds.{policy_of, first_meaning, numbers_at_first}
 use Rattle.blk_settings.specs.declared.sched.Sched.{Sched}
 use Rattle.blk_runs.specs.declared.fault.RunFault.{RunFault}
 use Rattle.blk_runs.specs.declared.fault.RunFault.TheVariants as run

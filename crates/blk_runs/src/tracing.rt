@@ -3,8 +3,7 @@
 ghost use Rattle.std.specs.Prelude.{◌≡◌, IfOk, IfErr, IfSome, IfNone, All, IsPermutation, sum_by};
 ghost use Rattle.blk_trace.specs.Events.{entered, round_of};
 ghost use Rattle.blk_text.specs.Script.{IsScript, scripted};
-ghost use Rattle.blk_settings.specs.Made.{IsMade, IsUnmade};
-ghost use Rattle.blk_settings.specs.Rows.{IsStart};
+ghost use Rattle.blk_settings.specs.Made.{IsMade, IsUnmade, IsStart};
 ghost use Rattle.blk_sim.specs.Simulation.{released_bios, ticks_of};
 ghost use Rattle.blk_runs.specs.Runs.{RunsBy, RunsUnder, IsUnrunBy, IsUnrun};
 ghost use Rattle.blk_runs.specs.Firsts.{IsFirstUnmade};
@@ -45,7 +44,6 @@ fn traced_by<S: Scheduler<A = Global>>(
 
 /// The trace of a script under a scheduler. Refused, by the first of these that applies: as `Sched` where the scheduler isn't made of
 /// its settings; as `Step` at the first step that is refused, with its record and its reason.
-#[tactic(auto, using(crate::proofs::Turns::ran_under))]
 pub fn traced(alloc: Global, sched: Sched, script: &Script) -> Result<Trace, RunFault>
     requires { IsScript (scripted script.now) }
     ensures ran { IfOk result (λ trace. RunsUnder sched (scripted script.now) trace) }
@@ -55,7 +53,7 @@ pub fn traced(alloc: Global, sched: Sched, script: &Script) -> Result<Trace, Run
     ensures unrun { IfErr result (IsUnrun sched (scripted script.now)) }
 {
     let depth = script.setup.depth();
-    with_made!(sched, alloc, depth, (row, made) => traced_by(alloc, row, made, script))
+    with_made!(sched, alloc, depth, (sched, made) => traced_by(alloc, sched, made, script))
 }
 
 /// What is wrong with the settings of the first of these schedulers that isn't made of them.

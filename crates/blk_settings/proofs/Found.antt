@@ -1,6 +1,6 @@
 -- What is found in a list, item by item.
-use Rattle.std.proofs.Common.{◌≡◌, ◌∙◌, List, [], ◌∷◌, Some, None, ap, refl, true, false, cond, ℕ, zero, suc, ◌+◌, ◌<◌, arith, length, take, get_or}
-use Rattle.std.specs.Prelude.{Bool, find}
+use Rattle.std.proofs.Common.{◌≡◌, ◌∙◌, List, [], ◌∷◌, Some, None, ap, refl, true, false, cond, map, option_map, ℕ, zero, suc, ◌+◌, ◌<◌, arith, length, take, get_or}
+use Rattle.std.specs.Prelude.{Bool, Option, find}
 
 -- what is found after an item that is not it
 after : {X : Type 0} (test : X → Bool) (x y : X) (xs front : List X) (b : Bool) → test x ≡ b → cond b (Some x) (find test front) ≡ None → (find test front ≡ None → find test xs ≡ Some y) → find test (x ∷ xs) ≡ Some y
@@ -24,3 +24,12 @@ not_yet test (x ∷ xs) (suc i) d lt none is = still test x (take (suc i) xs) (t
 
 pub none_more : {X : Type 0} (test : X → Bool) (xs : List X) (i : ℕ) (d : X) → i < length xs → find test (take i xs) ≡ None → test (get_or xs i d) ≡ false → find test (take (i + 1) xs) ≡ None
 none_more test xs i d lt none is = let on : i + 1 ≡ suc i = omega arith in ap (λ n. find test (take n xs)) on ∙ not_yet test xs i d lt none is
+
+-- what is found among the values of a list
+of_either : {X Y : Type 0} (f : X → Y) (b : Bool) (x : X) (o : Option X) (p : Option Y) → p ≡ option_map f o → cond b (Some (f x)) p ≡ option_map f (cond b (Some x) o)
+of_either f true x o p e = refl
+of_either f false x o p e = e
+
+pub find_map : {X Y : Type 0} (test : Y → Bool) (f : X → Y) (xs : List X) → find test (map f xs) ≡ option_map f (find (λ x. test (f x)) xs)
+find_map test f [] = refl
+find_map test f (x ∷ xs) = of_either f (test (f x)) x (find (λ x. test (f x)) xs) (find test (map f xs)) (find_map test f xs)

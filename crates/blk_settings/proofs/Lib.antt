@@ -1,4 +1,5 @@
 pub mod Unmade
 pub mod Entered
 pub mod Found
+mod Compared
 pub mod Tries

@@ -1,15 +1,14 @@
 -- Schedulers that are listed, name by name.
 use Rattle.std.proofs.Common.{◌≡◌, ◌∙◌, ◌∷◌, ◌+◌, ◌<◌, drop, get_or, ℕ, List, Option, Some, length, sym, ap, arith}
 use Rattle.std.proofs.lemmas.List.{at_drop_all, at_drop_more}
-use Rattle.std.specs.Prelude.{option_and_then}
-use Rattle.blk_settings.specs.declared.lists.Tried.{Tried}
+use Rattle.std.specs.Prelude.{Bool, option_and_then}
 use Rattle.blk_settings.specs.Lists.{with_name, with_names}
 
 -- schedulers of names that come
-pub takes_name : (t : Tried) (texts : List (List ℕ)) (k : ℕ) (text : List ℕ) (o : Option Tried) → (k < length texts) × (text ≡ get_or texts k text) → o ≡ with_name t text
+pub takes_name : (t : List Bool) (texts : List (List ℕ)) (k : ℕ) (text : List ℕ) (o : Option (List Bool)) → (k < length texts) × (text ≡ get_or texts k text) → o ≡ with_name t text
     → with_names t (drop k texts) ≡ option_and_then (λ s. with_names s (drop (k + 1) texts)) o
 takes_name t texts k text o h e =
     at_drop_more (with_names t) texts k text h.0 ∙ ap (λ (x : List ℕ). with_names t (x ∷ drop (k + 1) texts)) (sym h.1) ∙ ap (option_and_then (λ s. with_names s (drop (k + 1) texts))) (sym e)
 
-pub all_named : (t : Tried) (texts : List (List ℕ)) (k : ℕ) → k ≡ length texts → with_names t (drop k texts) ≡ Some t
+pub all_named : (t : List Bool) (texts : List (List ℕ)) (k : ℕ) → k ≡ length texts → with_names t (drop k texts) ≡ Some t
 all_named t texts k e = at_drop_all (with_names t) texts k (omega (arith, e))

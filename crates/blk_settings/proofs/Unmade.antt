@@ -1,19 +1,16 @@
--- Why schedulers aren't made.
-use Rattle.std.proofs.Common.{◌≡◌, refl, arith, inl, inr}
+-- Why schedulers aren't made; and the scheduler that the checker names where a list has none.
+use Rattle.std.proofs.Common.{◌≡◌, ◌∙◌, [], None, Some, sym, inl, inr}
+use Rattle.std.specs.Prelude.{Option}
 use Rattle.blk_settings.specs.Made.{IsMade, IsUnmade}
+use Rattle.blk_settings.specs.declared.rows.SchedKind.TheVariants as kind
 use Rattle.blk_settings.specs.declared.sched.Sched.{Sched}
-use Rattle.blk_settings.specs.declared.sched.Sched.TheVariants as sched
 use Rattle.blk_settings.specs.declared.sched.SchedFault.{SchedFault}
 use Rattle.blk_settings.specs.declared.sched.SchedFault.TheVariants as setting
 
 -- what is made of its settings is refused only when out of memory
 pub made_memory : (x : Sched) (f : SchedFault) → IsMade x → IsUnmade x f → f ≡ setting.Memory
-made_memory sched.None setting.ZeroBatch made h = absurd h
-made_memory sched.None setting.ZeroTarget made h = absurd h
-made_memory (sched.Deadline t) setting.ZeroBatch made h = absurd (omega (arith, made, h))
-made_memory (sched.Deadline t) setting.ZeroTarget made h = absurd h
-made_memory (sched.Kyber t) setting.ZeroBatch made h = absurd h
-made_memory (sched.Kyber t) setting.ZeroTarget made h = elim h [ inl z ↦ absurd (omega (arith, made.0, z)) | inr z ↦ absurd (omega (arith, made.1, z)) ]
-made_memory (sched.Earliest l) setting.ZeroBatch made h = absurd h
-made_memory (sched.Earliest l) setting.ZeroTarget made h = absurd h
-made_memory x setting.Memory made h = refl
+made_memory x f made h = elim h [ inl e ↦ e | inr e ↦ let no : None ≡ Some f = sym made ∙ e in cc no ]
+
+-- what stands behind the end of a list of schedulers
+abbrev pub no_sched : Sched
+no_sched = record { kind = kind.None; values = [] }

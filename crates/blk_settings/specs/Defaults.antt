@@ -1,72 +1,86 @@
--- Schedulers and grids as they are where no option sets them: what the defaults of the options spell.
-use Rattle.std.specs.Prelude.{ℕ, Bool, true, false, List, map, Some, None}
+-- Schedulers and grids as they are where no option sets them: what the defaults of the settings spell.
+use Rattle.std.specs.Prelude.{ℕ, ◌∷◌, Bool, true, false, List, [], Option, None, Some, map, set, if◌then◌else◌}
+use Rattle.std.specs.List.{flat_map, slice_get}
+use Rattle.std.specs.Option.{option_map_or}
 use Rattle.std.specs.Str.Parse.{digits_value}
-use Rattle.blk_deadline.specs.declared.Tunables.{Tunables}
-use Rattle.blk_kyber.specs.declared.Targets.{Targets}
-use Rattle.blk_settings.specs.Grids.{Gridded}
-use Rattle.blk_settings.specs.Lists.{parts, grid_of}
-use Rattle.blk_settings.specs.Options.{OptionOf, default_text, default_number, fifo_batch_option, writes_starved_option, read_target_option, write_target_option, fifo_batch_list, writes_starved_list, read_target_list, write_target_list}
-use Rattle.blk_settings.specs.declared.lists.Tried.{Tried}
+use Rattle.blk_settings.specs.Given.{switched}
+use Rattle.blk_settings.specs.Grids.{with_each}
+use Rattle.blk_settings.specs.Lists.{parts}
+use Rattle.blk_settings.specs.Rows.{RangeOf, Short, UpTo, Switch, SettingOf, ListOf, row_for, tried_kinds}
+use Rattle.blk_settings.specs.declared.rows.SchedKind.{SchedKind}
+use Rattle.blk_settings.specs.declared.rows.SchedKind.TheVariants as kind
 use Rattle.blk_settings.specs.declared.sched.Lineup.{Lineup}
 use Rattle.blk_settings.specs.declared.sched.Sched.{Sched}
-use Rattle.blk_settings.specs.declared.sched.Sched.TheVariants as sched
 
--- what deadline and kyber are set to
-abbrev pub default_tunables : Tunables
-default_tunables = record {
-  fifo_batch = default_number fifo_batch_option;
-  writes_starved = default_number writes_starved_option;
-  front_merges = true;
-}
+-- what a setting is set to, and what is tried of it
+abbrev pub default_in : RangeOf → ℕ
+default_in (Short default list) = digits_value 10 default
+default_in (UpTo most default list) = digits_value 10 default
+default_in (Switch turned) = switched turned false
 
-abbrev pub default_targets : Targets
-default_targets = record { read = default_number read_target_option; write = default_number write_target_option }
+abbrev pub default_numbers : ListOf → List ℕ
+default_numbers list = map (digits_value 10) (parts list.default)
+
+abbrev pub tried_in : RangeOf → List ℕ
+tried_in (Short default list) = default_numbers list
+tried_in (UpTo most default list) = default_numbers list
+tried_in (Switch turned) = 1 ∷ 0 ∷ []
+
+-- the same of the setting in a place of a scheduler's row, 0 where there is none
+abbrev pub default_at : SchedKind → ℕ → ℕ
+default_at k place = option_map_or (λ s. default_in s.range) (slice_get (row_for k).settings place) 0
+
+abbrev pub tried_at : SchedKind → ℕ → List ℕ
+tried_at k place = option_map_or (λ s. tried_in s.range) (slice_get (row_for k).settings place) (0 ∷ [])
+
+-- a scheduler where no option sets it, and with another value of its first setting
+abbrev pub default_of : SchedKind → Sched
+default_of k = record { kind = k; values = default_at k 0 ∷ default_at k 1 ∷ default_at k 2 ∷ [] }
+
+abbrev pub with_first : ℕ → Sched → Sched
+with_first n s = record s { values = set s.values 0 n }
 
 -- the scheduler that runs where none is named, and each of the others
 abbrev pub default_sched : Sched
-default_sched = sched.None
+default_sched = default_of kind.None
 
 abbrev pub default_deadline : Sched
-default_deadline = sched.Deadline default_tunables
+default_deadline = default_of kind.Deadline
 
 abbrev pub default_kyber : Sched
-default_kyber = sched.Kyber default_targets
+default_kyber = default_of kind.Kyber
 
 abbrev pub default_earliest : Sched
-default_earliest = sched.Earliest false
+default_earliest = default_of kind.Earliest
 
--- deadline with batches of this size, kyber with this target for reads, and earliest late last
+-- deadline with batches of this size, kyber with this target for reads, and earliest late last or not
 abbrev pub deadline_in : ℕ → Sched
-deadline_in batch = sched.Deadline (record default_tunables { fifo_batch = batch })
+deadline_in batch = with_first batch default_deadline
 
 abbrev pub kyber_within : ℕ → Sched
-kyber_within target = sched.Kyber (record default_targets { read = target })
+kyber_within target = with_first target default_kyber
 
-abbrev pub earliest_late_last : Sched
-earliest_late_last = sched.Earliest true
+abbrev pub earliest_by : Bool → Sched
+earliest_by late_last = with_first (if late_last then 1 else 0) default_earliest
 
--- the schedulers that run in turn, the same with earliest, and some with this batch size
+-- the schedulers that run in turn: with this deadline and perhaps earliest; where no option sets them; with earliest, late last or not; and
+-- with this batch size and earliest
+abbrev pub lineup_with : Sched → Option Sched → Lineup
+lineup_with deadline earliest = record { scheds = Some default_sched ∷ Some deadline ∷ Some default_kyber ∷ earliest ∷ [] }
+
 abbrev pub default_lineup : Lineup
-default_lineup = record { deadline = default_tunables; kyber = default_targets; earliest = None }
+default_lineup = lineup_with default_deadline None
 
 abbrev pub with_earliest : Bool → Lineup
-with_earliest late_last = record default_lineup { earliest = Some late_last }
+with_earliest late_last = lineup_with default_deadline (Some (earliest_by late_last))
 
-abbrev pub in_batches : ℕ → Lineup → Lineup
-in_batches n lineup = record lineup { deadline = record lineup.deadline { fifo_batch = n } }
+abbrev pub in_batches : ℕ → Lineup
+in_batches n = lineup_with (deadline_in n) (Some default_earliest)
 
--- the whole grid: all schedulers, and the numbers of the lists
-abbrev pub default_numbers : OptionOf → List ℕ
-default_numbers o = map (digits_value 10) (parts (default_text o.kind))
+-- the whole grid: all schedulers, with each choice of what is tried of their settings
+abbrev pub whole : List Sched
+whole = flat_map (λ k. with_each k (tried_at k 0) (tried_at k 1) (tried_at k 2)) tried_kinds
 
-abbrev pub all_tried : Tried
-all_tried = record { none = true; earliest = true; deadline = true; kyber = true }
-
-abbrev pub whole : Gridded
-whole = grid_of all_tried (default_numbers fifo_batch_list) (default_numbers writes_starved_list) (default_numbers read_target_list) (default_numbers write_target_list)
-
--- the same without earliest and kyber, with these batch sizes, numbers of batches of reads before the writes' turn, and targets of writes,
--- which are for kyber
-abbrev pub none_and_deadline : List ℕ → List ℕ → List ℕ → Gridded
-none_and_deadline batches starved writes =
-    record whole { has_earliest = false; has_kyber = false; batches = batches; starved = starved; writes = writes }
+-- none, and deadline with these batch sizes and numbers of batches of reads before the writes' turn
+abbrev pub none_and_deadline : List ℕ → List ℕ → List Sched
+none_and_deadline batches starved = default_sched ∷ with_each kind.Deadline batches starved (1 ∷ 0 ∷ [])

@@ -1,13 +1,13 @@
 -- The schedulers that the options of a command line ask for.
-use Rattle.std.specs.Prelude.{ℕ, ◌∷◌, Bool, not, List, [], find, Option, Some, None, option_map, option_and_then, if◌then◌else◌}
+use Rattle.std.specs.Prelude.{ℕ, ◌∷◌, Bool, true, false, List, [], find, Option, Some, None, option_map, option_and_then, if◌then◌else◌}
+use Rattle.std.specs.List.{slice_get}
+use Rattle.std.specs.Option.{option_map_or}
 use Rattle.std.specs.Str.{bytes_eq}
-use Rattle.blk_deadline.specs.declared.Tunables.{Tunables}
-use Rattle.blk_kyber.specs.declared.Targets.{Targets}
-use Rattle.blk_settings.specs.Options.{sched_option, added_option, fifo_batch_option, writes_starved_option, no_front_merges_option, read_target_option, write_target_option, late_last_option}
-use Rattle.blk_settings.specs.Rows.{name_of}
+use Rattle.blk_settings.specs.Options.{sched_option}
+use Rattle.blk_settings.specs.Rows.{RangeOf, Short, UpTo, Switch, SettingOf, RowOf, table, is_on}
+use Rattle.blk_settings.specs.declared.rows.SchedKind.{SchedKind}
 use Rattle.blk_settings.specs.declared.sched.Lineup.{Lineup}
 use Rattle.blk_settings.specs.declared.sched.Sched.{Sched}
-use Rattle.blk_settings.specs.declared.sched.Sched.TheVariants as sched
 
 -- what options are given by their names: a text; a number of 16 bits, and one of 64 bits; a list of numbers up to a most; and whether a
 -- flag is set
@@ -18,40 +18,48 @@ pub record GivenOptions : Type 0 where
   pub list : ℕ → List ℕ → Option (List ℕ)
   pub is_set : List ℕ → Bool
 
--- the settings of `deadline` of these numbers
-abbrev pub tuned : Bool → Option ℕ → Option ℕ → Option Tunables
-tuned front batch starved = option_and_then (λ b. option_map (λ s. record { fifo_batch = b; writes_starved = s; front_merges = front }) starved) batch
+-- the value of a setting, for a switch 1 where it is on: turned as its flag says where this is set, else the other way
+abbrev pub switched : Bool → Bool → ℕ
+switched true is_set = if is_set then 1 else 0
+switched false is_set = if is_set then 0 else 1
 
-abbrev pub tunables_given : GivenOptions → Option Tunables
-tunables_given o = tuned (not (o.is_set no_front_merges_option.name)) (o.short fifo_batch_option.name) (o.short writes_starved_option.name)
+abbrev pub value_in : GivenOptions → RangeOf → List ℕ → Option ℕ
+value_in o (Short default list) option = o.short option
+value_in o (UpTo most default list) option = o.number option
+value_in o (Switch turned) option = Some (switched turned (o.is_set option))
 
--- the settings of `kyber` of these numbers
-abbrev pub aimed : Option ℕ → Option ℕ → Option Targets
-aimed read write = option_and_then (λ r. option_map (λ w. record { read = r; write = w }) write) read
+abbrev pub value_given : GivenOptions → SettingOf → Option ℕ
+value_given o s = value_in o s.range s.option
 
-abbrev pub targets_given : GivenOptions → Option Targets
-targets_given o = aimed (o.number read_target_option.name) (o.number write_target_option.name)
+-- that of the setting in a place, 0 where there is none
+abbrev pub given_at : GivenOptions → List SettingOf → ℕ → Option ℕ
+given_at o settings place = option_map_or (value_given o) (slice_get settings place) (Some 0)
 
--- the schedulers of these settings, and the one that has this name
-abbrev pub scheds_of : Tunables → Targets → Bool → List Sched
-scheds_of t k late_last = sched.None ∷ sched.Deadline t ∷ sched.Kyber k ∷ sched.Earliest late_last ∷ []
+-- a scheduler with these values, and the one of a row with those that are given
+abbrev pub valued : SchedKind → Option ℕ → Option ℕ → Option ℕ → Option Sched
+valued k first second third = option_and_then (λ a. option_and_then (λ b. option_map (λ c. record { kind = k; values = a ∷ b ∷ c ∷ [] }) third) second) first
 
-abbrev pub sched_named : List ℕ → Option Tunables → Option Targets → Bool → Option Sched
-sched_named name t k late_last = option_and_then (λ t. option_and_then (λ k. find (λ s. bytes_eq name (name_of s)) (scheds_of t k late_last)) k) t
+abbrev pub sched_by : GivenOptions → RowOf → Option Sched
+sched_by o r = valued r.kind (given_at o r.settings 0) (given_at o r.settings 1) (given_at o r.settings 2)
 
--- the scheduler that the options name
+-- the row of a name, and the scheduler that the options name
+abbrev pub row_named : List ℕ → Option RowOf
+row_named name = find (λ r. bytes_eq name r.name) table
+
 abbrev pub sched_given : GivenOptions → Option Sched
-sched_given o = option_and_then (λ name. sched_named name (tunables_given o) (targets_given o) (o.is_set late_last_option.name)) (o.text sched_option.name)
+sched_given o = option_and_then (λ name. option_and_then (sched_by o) (row_named name)) (o.text sched_option.name)
 
--- whether earliest runs too, and then whether late last; the schedulers that run a script in turn, with these settings
-abbrev pub earliest_of : Bool → Bool → Option Bool
-earliest_of runs late_last = if runs then Some late_last else None
+-- whether the scheduler of a row is compared, and it with its settings where it is
+abbrev pub is_compared : GivenOptions → RowOf → Bool
+is_compared o r = option_map_or o.is_set r.flag true
 
-abbrev pub earliest_given : GivenOptions → Option Bool
-earliest_given o = earliest_of (o.is_set added_option.name) (o.is_set late_last_option.name)
+abbrev pub compared_by : GivenOptions → RowOf → Option (Option Sched)
+compared_by o r = option_map (λ s. if is_compared o r then Some s else None) (sched_by o r)
 
-abbrev pub lineup_of : Option Tunables → Option Targets → Option Bool → Option Lineup
-lineup_of tunables targets earliest = option_and_then (λ t. option_map (λ g. record { deadline = t; kyber = g; earliest = earliest }) targets) tunables
+-- those of these rows, where all settings are given; and all that run a script in turn
+abbrev pub all_compared : GivenOptions → List RowOf → Option (List (Option Sched))
+all_compared o [] = Some []
+all_compared o (r ∷ rows) = option_and_then (λ s. option_map (λ rest. s ∷ rest) (all_compared o rows)) (compared_by o r)
 
 abbrev pub lineup_given : GivenOptions → Option Lineup
-lineup_given o = lineup_of (tunables_given o) (targets_given o) (earliest_given o)
+lineup_given o = option_map (λ scheds. record { scheds = scheds }) (all_compared o table)

@@ -1,60 +1,43 @@
--- The settings of a grid, each once, in their order.
-use Rattle.std.specs.Prelude.{ℕ, ◌++◌, ◌∷◌, Bool, true, false, List, []}
+-- The settings of a grid, in the order in which they are tried.
+use Rattle.std.specs.Prelude.{ℕ, ◌∷◌, Bool, true, false, List, [], Option, None, Some, get_or, map, option_map}
 use Rattle.std.specs.List.{flat_map}
+use Rattle.std.specs.Option.{option_map_or}
+use Rattle.blk_settings.specs.Given.{GivenOptions}
+use Rattle.blk_settings.specs.Lists.{tried_given, numbers_at, list_fault}
+use Rattle.blk_settings.specs.Rows.{row_for, place_of, tried_kinds}
+use Rattle.blk_settings.specs.declared.lists.ListFault.{ListFault}
+use Rattle.blk_settings.specs.declared.rows.SchedKind.{SchedKind}
 use Rattle.blk_settings.specs.declared.sched.Sched.{Sched}
-use Rattle.blk_settings.specs.declared.sched.Sched.TheVariants as sched
-use Rattle.blk_settings.specs.declared.grid.Grid.{Grid}
 
--- a grid as lists
-pub record Gridded : Type 0 where
-  pub has_none : Bool
-  pub has_earliest : Bool
-  pub has_deadline : Bool
-  pub has_kyber : Bool
-  pub batches : List ℕ
-  pub starved : List ℕ
-  pub reads : List ℕ
-  pub writes : List ℕ
+-- a scheduler with these values of its settings, once for each pair of the others, and once for each choice: the last one's change first
+abbrev pub with_values : SchedKind → ℕ → ℕ → ℕ → Sched
+with_values k first second third = record { kind = k; values = first ∷ second ∷ third ∷ [] }
 
-abbrev pub gridded : Grid → Gridded
-gridded g = record {
-  has_none = g.none;
-  has_earliest = g.earliest;
-  has_deadline = g.deadline;
-  has_kyber = g.kyber;
-  batches = g.fifo_batch.items;
-  starved = g.writes_starved.items;
-  reads = g.read_target.items;
-  writes = g.write_target.items;
-}
+abbrev pub in_first : SchedKind → List ℕ → List ℕ → ℕ → List Sched
+in_first k seconds thirds first = flat_map (λ second. map (with_values k first second) thirds) seconds
 
--- deadline with a batch and a number of batches of reads, with front merges and without
-abbrev pub both_ways : ℕ → ℕ → List Sched
-both_ways batch starved =
-    sched.Deadline (record { fifo_batch = batch; writes_starved = starved; front_merges = true })
-    ∷ sched.Deadline (record { fifo_batch = batch; writes_starved = starved; front_merges = false })
-    ∷ []
+abbrev pub with_each : SchedKind → List ℕ → List ℕ → List ℕ → List Sched
+with_each k firsts seconds thirds = flat_map (in_first k seconds thirds) firsts
 
--- deadline with a batch and each of these
-abbrev pub batch_rows : List ℕ → ℕ → List Sched
-batch_rows starved batch = flat_map (λ w. both_ways batch w) starved
+-- a scheduler with the values that the options list
+abbrev pub rows_of_kind : GivenOptions → SchedKind → List Sched
+rows_of_kind o k =
+    let settings = (row_for k).settings in
+    with_each k (numbers_at o settings 0) (numbers_at o settings 1) (numbers_at o settings 2)
 
--- kyber with two targets, and with a target of reads and each of these
-abbrev pub target_row : ℕ → ℕ → List Sched
-target_row read write = sched.Kyber (record { read = read; write = write }) ∷ []
-
-abbrev pub read_rows : List ℕ → ℕ → List Sched
-read_rows writes read = flat_map (λ w. target_row read w) writes
-
--- those rows where they are asked for
+-- those rows where the scheduler is tried
 abbrev pub rows_if : Bool → List Sched → List Sched
 rows_if true rows = rows
 rows_if false rows = []
 
--- all of them: none; earliest late last and not; deadline; kyber
-abbrev pub grid_rows : Gridded → List Sched
-grid_rows g =
-    ((rows_if g.has_none (sched.None ∷ [])
-    ++ rows_if g.has_earliest (sched.Earliest true ∷ sched.Earliest false ∷ []))
-    ++ rows_if g.has_deadline (flat_map (λ f. batch_rows g.starved f) g.batches))
-    ++ rows_if g.has_kyber (flat_map (λ r. read_rows g.writes r) g.reads)
+-- all of them: of the schedulers that are tried, by their places in the table, in the order of trials
+abbrev pub grid_rows : GivenOptions → List Bool → List Sched
+grid_rows o tried = flat_map (λ k. rows_if (get_or tried (place_of k) false) (rows_of_kind o k)) tried_kinds
+
+-- those that the options list, where each option is given a list
+abbrev pub grid_unless : Option ListFault → Option (List Sched) → Option (List Sched)
+grid_unless None grid = grid
+grid_unless (Some f) grid = None
+
+abbrev pub grid_given : GivenOptions → Option (List Sched)
+grid_given o = grid_unless (list_fault o) (option_map (grid_rows o) (tried_given o))

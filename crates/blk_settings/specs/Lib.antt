@@ -4,6 +4,7 @@ pub mod Made
 pub mod Names
 pub mod Settings
 pub mod Rows
+pub mod Scheds
 pub mod Ran
 pub mod Settles
 pub mod Options

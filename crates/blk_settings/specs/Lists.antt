@@ -1,74 +1,79 @@
 -- The lists that the options of a trial give.
-use Rattle.std.specs.Prelude.{◌≤◌, ℕ, All, true, false, not, ◌&&◌, ◌==◌, ◌∷◌, List, [], Option, Some, None, Result, Ok, Err, codes, option_and_then, if◌then◌else◌}
-use Rattle.std.specs.List.{slice_split}
-use Rattle.std.specs.Str.{bytes_eq}
-use Rattle.blk_settings.specs.Given.{GivenOptions}
-use Rattle.blk_settings.specs.Grids.{Gridded}
-use Rattle.blk_settings.specs.Options.{scheds_list, fifo_batch_list, writes_starved_list, read_target_list, write_target_list}
+use Rattle.std.specs.Prelude.{ℕ, ◌+◌, ◌==◌, ◌∷◌, Bool, true, false, List, [], Option, Some, None, codes, get_or, map, set, option_and_then, if◌then◌else◌}
+use Rattle.std.specs.List.{slice_split, slice_get}
+use Rattle.std.specs.Option.{option_or, option_map_or, is_none}
+use Rattle.blk_settings.specs.Given.{GivenOptions, row_named}
+use Rattle.blk_settings.specs.Options.{scheds_list}
+use Rattle.blk_settings.specs.Rows.{RangeOf, Short, UpTo, Switch, SettingOf, RowOf, table, row_for, place_of}
 use Rattle.blk_settings.specs.declared.given.TheConstants.{MAX_SHORT}
 use Rattle.blk_settings.specs.declared.lists.ListFault.{ListFault}
 use Rattle.blk_settings.specs.declared.lists.ListFault.TheVariants as list
-use Rattle.blk_settings.specs.declared.lists.Lists.{Lists}
-use Rattle.blk_settings.specs.declared.lists.Tried.{Tried}
-use Rattle.blk_settings.specs.declared.options.TheConstants.{MAX_TARGET}
+use Rattle.blk_settings.specs.declared.rows.SchedKind.{SchedKind}
 
 -- what stands between the commas of a text
 abbrev pub parts : List ℕ → List (List ℕ)
 parts text = slice_split (λ b. b == 44) text
 
--- schedulers with the one of this name, which is not among them yet
-abbrev pub with_name : Tried → List ℕ → Option Tried
-with_name t name =
-    if bytes_eq name (codes "none") && not t.none then Some (record t { none = true })
-    else (if bytes_eq name (codes "earliest") && not t.earliest then Some (record t { earliest = true })
-    else (if bytes_eq name (codes "deadline") && not t.deadline then Some (record t { deadline = true })
-    else (if bytes_eq name (codes "kyber") && not t.kyber then Some (record t { kyber = true })
-    else None)))
+-- schedulers, by whether each is among them, in its place in the table: with one that is not among them yet, and with the one of this name
+abbrev pub with_place : List Bool → ℕ → Option (List Bool)
+with_place tried place = if get_or tried place false then None else Some (set tried place true)
+
+abbrev pub with_name : List Bool → List ℕ → Option (List Bool)
+with_name tried name = option_and_then (λ r. with_place tried (place_of r.kind)) (row_named name)
 
 -- and with those of these names
-abbrev pub with_names : Tried → List (List ℕ) → Option Tried
-with_names t [] = Some t
-with_names t (name ∷ names) = option_and_then (λ s. with_names s names) (with_name t name)
+abbrev pub with_names : List Bool → List (List ℕ) → Option (List Bool)
+with_names tried [] = Some tried
+with_names tried (name ∷ names) = option_and_then (λ s. with_names s names) (with_name tried name)
 
 -- no scheduler, those of a list, each named once, and those that the options list
-abbrev pub no_schedulers : Tried
-no_schedulers = record { none = false; earliest = false; deadline = false; kyber = false }
+abbrev pub no_schedulers : List Bool
+no_schedulers = map (λ r. false) table
 
-abbrev pub tried_of : List ℕ → Option Tried
+abbrev pub tried_of : List ℕ → Option (List Bool)
 tried_of text = with_names no_schedulers (parts text)
 
-abbrev pub tried_given : GivenOptions → Option Tried
+abbrev pub tried_given : GivenOptions → Option (List Bool)
 tried_given o = option_and_then tried_of (o.text scheds_list.name)
 
--- the grid of some schedulers and lists
-abbrev pub grid_of : Tried → List ℕ → List ℕ → List ℕ → List ℕ → Gridded
-grid_of t b s r w = record { has_none = t.none; has_earliest = t.earliest; has_deadline = t.deadline; has_kyber = t.kyber; batches = b; starved = s; reads = r; writes = w }
+-- the values of a setting that are tried: those that its option lists, or both of a switch, on and off
+abbrev pub numbers_in : GivenOptions → RangeOf → List ℕ → Option (List ℕ)
+numbers_in o (Short default list) option = o.list MAX_SHORT option
+numbers_in o (UpTo most default list) option = o.list most option
+numbers_in o (Switch turned) option = Some (1 ∷ 0 ∷ [])
 
--- the grid of those that are given, or the first that there isn't
-abbrev pub grid_by : Option Tried → Option (List ℕ) → Option (List ℕ) → Option (List ℕ) → Option (List ℕ) → Result Gridded ListFault
-grid_by None b s r w = Err list.Scheds
-grid_by (Some t) None s r w = Err list.FifoBatch
-grid_by (Some t) (Some b) None r w = Err list.WritesStarved
-grid_by (Some t) (Some b) (Some s) None w = Err list.ReadTarget
-grid_by (Some t) (Some b) (Some s) (Some r) None = Err list.WriteTarget
-grid_by (Some t) (Some b) (Some s) (Some r) (Some w) = Ok (grid_of t b s r w)
+abbrev pub numbers_tried : GivenOptions → SettingOf → Option (List ℕ)
+numbers_tried o s = numbers_in o s.range s.option
 
-abbrev pub grid_given : GivenOptions → Result Gridded ListFault
-grid_given o =
-    grid_by (tried_given o) (o.list MAX_SHORT fifo_batch_list.name) (o.list MAX_SHORT writes_starved_list.name) (o.list MAX_TARGET read_target_list.name)
-    (o.list MAX_TARGET write_target_list.name)
+-- those of the setting in a place: 0 alone where there is none, and none where its option is given no list
+abbrev pub numbers_at : GivenOptions → List SettingOf → ℕ → List ℕ
+numbers_at o settings place = option_map_or (λ s. option_map_or (λ n. n) (numbers_tried o s) []) (slice_get settings place) (0 ∷ [])
 
--- lists whose numbers of 16 bits are such, and the grid of lists
-abbrev pub AreShort : Lists → Type 0
-AreShort l = All (λ n. n ≤ MAX_SHORT) l.fifo_batch.items × All (λ n. n ≤ MAX_SHORT) l.writes_starved.items
+-- the first of these settings of a scheduler, from a place on, whose option is given no list; that of a row; and of these rows
+abbrev pub unlisted_from : GivenOptions → SchedKind → ℕ → List SettingOf → Option ListFault
+unlisted_from o k place [] = None
+unlisted_from o k place (s ∷ settings) = option_map_or (λ n. unlisted_from o k (place + 1) settings) (numbers_tried o s) (Some (list.Numbers k place))
 
-abbrev pub grid_of_lists : Lists → Gridded
-grid_of_lists l = grid_of l.tried l.fifo_batch.items l.writes_starved.items l.read_target.items l.write_target.items
+abbrev pub unlisted_in : GivenOptions → RowOf → Option ListFault
+unlisted_in o r = unlisted_from o r.kind 0 r.settings
+
+abbrev pub unlisted_among : GivenOptions → List RowOf → Option ListFault
+unlisted_among o [] = None
+unlisted_among o (r ∷ rows) = option_or (unlisted_in o r) (unlisted_among o rows)
+
+-- the first option that is given no list: that of the schedulers, and then those of their settings
+abbrev pub list_fault : GivenOptions → Option ListFault
+list_fault o = option_map_or (λ t. unlisted_among o table) (tried_given o) (Some list.Scheds)
 
 -- what an option takes that is given no list
+abbrev pub fault_in : RangeOf → List ℕ
+fault_in (Short default list) = list.fault
+fault_in (UpTo most default list) = list.fault
+fault_in (Switch turned) = []
+
+abbrev pub numbers_fault_text : SettingOf → List ℕ
+numbers_fault_text s = fault_in s.range
+
 abbrev pub list_fault_text : ListFault → List ℕ
 list_fault_text list.Scheds = codes "--sched takes names of schedulers with commas between, each once"
-list_fault_text list.FifoBatch = codes "--fifo-batch takes 1 to 64 numbers of 0 to 65535 with commas between, each once"
-list_fault_text list.WritesStarved = codes "--writes-starved takes 1 to 64 numbers of 0 to 65535 with commas between, each once"
-list_fault_text list.ReadTarget = codes "--read-target takes 1 to 64 numbers of 0 to 1000000 with commas between, each once"
-list_fault_text list.WriteTarget = codes "--write-target takes 1 to 64 numbers of 0 to 1000000 with commas between, each once"
+list_fault_text (list.Numbers k place) = option_map_or numbers_fault_text (slice_get (row_for k).settings place) []

@@ -1,10 +1,13 @@
 -- The options of the schedulers.
-use Rattle.std.specs.Prelude.{ℕ, List, [], ◌∷◌, codes}
+use Rattle.std.specs.Prelude.{ℕ, List, [], ◌∷◌, Bool, Option, None, Some, codes, map}
+use Rattle.std.specs.List.{flat_map, join_with_byte}
+use Rattle.std.specs.Option.{option_to_list}
 use Rattle.std.specs.Str.Parse.{digits_value}
 use Rattle.blk_settings.specs.declared.options.Takes.{Takes}
 use Rattle.blk_settings.specs.declared.options.Takes.TheVariants as takes
 use Rattle.blk_settings.specs.declared.options.OptionRow.{OptionRow}
-use Rattle.blk_settings.specs.declared.options.TheConstants.{MAX_TARGET}
+use Rattle.blk_settings.specs.Rows.{RangeOf, SettingOf, row_for, table, tried_kinds}
+use Rattle.blk_settings.specs.Rows as rows
 
 -- what an option takes: nothing, since it is a flag; a scheduler's name; a number of 16 bits; one from the least to the most; a text;
 -- each with a default but for those that may be left out
@@ -37,7 +40,7 @@ option_of row = record { name = row.name.now; kind = option_kind row.takes }
 
 -- the names of the schedulers
 abbrev pub sched_names : List (List ℕ)
-sched_names = codes "none" ∷ codes "deadline" ∷ codes "kyber" ∷ codes "earliest" ∷ []
+sched_names = map (λ r. r.name) table
 
 -- the option that names one, by default none; and the one that adds earliest to those that run in turn
 abbrev pub sched_option : OptionOf
@@ -46,48 +49,38 @@ sched_option = record { name = codes "sched"; kind = Name (codes "none") }
 abbrev pub added_option : OptionOf
 added_option = record { name = codes "earliest"; kind = Flag }
 
--- the options that set deadline, kyber and earliest
-abbrev pub fifo_batch_option : OptionOf
-fifo_batch_option = record { name = codes "fifo-batch"; kind = Short (codes "16") }
+-- the option that sets a setting
+abbrev pub kind_in : RangeOf → OptionKind
+kind_in (rows.Short default list) = Short default
+kind_in (rows.UpTo most default list) = Number 0 most default
+kind_in (rows.Switch turned) = Flag
 
-abbrev pub writes_starved_option : OptionOf
-writes_starved_option = record { name = codes "writes-starved"; kind = Short (codes "2") }
+abbrev pub setting_option : SettingOf → OptionOf
+setting_option s = record { name = s.option; kind = kind_in s.range }
 
-abbrev pub no_front_merges_option : OptionOf
-no_front_merges_option = record { name = codes "no-front-merges"; kind = Flag }
+-- the one that lists the numbers of it that are tried, if it is a number
+abbrev pub list_in : RangeOf → List ℕ → Option OptionOf
+list_in (rows.Short default list) name = Some (record { name = name; kind = Words list.default })
+list_in (rows.UpTo most default list) name = Some (record { name = name; kind = Words list.default })
+list_in (rows.Switch turned) name = None
 
-abbrev pub read_target_option : OptionOf
-read_target_option = record { name = codes "read-target"; kind = Number 0 MAX_TARGET (codes "2") }
+abbrev pub list_option : SettingOf → Option OptionOf
+list_option s = list_in s.range s.option
 
-abbrev pub write_target_option : OptionOf
-write_target_option = record { name = codes "write-target"; kind = Number 0 MAX_TARGET (codes "10") }
+abbrev pub lists_of : List SettingOf → List OptionOf
+lists_of settings = flat_map (λ s. option_to_list (list_option s)) settings
 
-abbrev pub late_last_option : OptionOf
-late_last_option = record { name = codes "late-last"; kind = Flag }
-
--- all of them
+-- those of all settings
 abbrev pub tuning : List OptionOf
-tuning =
-    fifo_batch_option ∷ writes_starved_option ∷ no_front_merges_option ∷ read_target_option ∷ write_target_option ∷ late_last_option ∷ []
+tuning = flat_map (λ r. map setting_option r.settings) table
 
--- those that list which schedulers are tried, and under which settings, each under the name of the one that takes one value
+-- the option that lists which schedulers are tried, by default all in the order of trials with commas between, under the name of the one that takes one; and those
+-- that list under which settings
 abbrev pub scheds_list : OptionOf
-scheds_list = record { name = sched_option.name; kind = Words (codes "none,earliest,deadline,kyber") }
-
-abbrev pub fifo_batch_list : OptionOf
-fifo_batch_list = record { name = fifo_batch_option.name; kind = Words (codes "1,2,4,8,16,32,64") }
-
-abbrev pub writes_starved_list : OptionOf
-writes_starved_list = record { name = writes_starved_option.name; kind = Words (codes "0,1,2,4,8") }
-
-abbrev pub read_target_list : OptionOf
-read_target_list = record { name = read_target_option.name; kind = Words (codes "1,2,5,10,20,50,100") }
-
-abbrev pub write_target_list : OptionOf
-write_target_list = record { name = write_target_option.name; kind = Words (codes "1,2,5,10,20,50,100") }
+scheds_list = record { name = sched_option.name; kind = Words (join_with_byte 44 (map (λ k. (row_for k).name) tried_kinds)) }
 
 abbrev pub listing : List OptionOf
-listing = scheds_list ∷ fifo_batch_list ∷ writes_starved_list ∷ read_target_list ∷ write_target_list ∷ []
+listing = scheds_list ∷ flat_map (λ r. lists_of r.settings) table
 
 -- the default of an option that has one
 abbrev pub default_text : OptionKind → List ℕ

@@ -2,7 +2,7 @@
 use Rattle.std.specs.Prelude.{ℕ}
 use Rattle.blk_trace.specs.Traces.{Traced}
 use Rattle.blk_policy.specs.Runs.{IsRunBy}
-use Rattle.blk_settings.specs.Rows.{policy_of, first_meaning, numbers_at_first}
+use Rattle.blk_settings.specs.Scheds.{policy_of, first_meaning, numbers_at_first}
 use Rattle.blk_settings.specs.declared.sched.Sched.{Sched}
 
 -- a trace is one that a scheduler of these settings makes, which begins with this depth: each command in it is one that it chose

@@ -1,74 +1,192 @@
--- The rows of the table of schedulers: what each is called, its settings, what it does, and how it starts.
-use Rattle.std.specs.Prelude.{ℕ, ◌≡◌, Bool, true, List, [], ◌∷◌, Option, None, Some, codes}
+-- The table of schedulers: what each is called, its settings, what it does, and how it starts.
+use Rattle.std.specs.Prelude.{ℕ, ◌==◌, ◌++◌, Bool, true, false, List, [], ◌∷◌, Option, None, Some, codes, get_or, map, min, option_map}
 use Rattle.blk_sched.specs.Meaning.{Meaning, at_start}
 use Rattle.blk_sched.specs.Policies.{Policy}
 use Rattle.blk_none.specs.Choice.{none_policy}
 use Rattle.blk_deadline.specs.Choice.{deadline_policy, deadline_kept}
+use Rattle.blk_deadline.specs.declared.Tunables.{Tunables}
 use Rattle.blk_kyber.specs.State.{state_at_first, numbers_of, kyber_policy}
+use Rattle.blk_kyber.specs.declared.Targets.{Targets}
 use Rattle.blk_earliest.specs.Choice.{earliest_policy, earliest_kept}
-use Rattle.blk_settings.specs.Made.{IsMade}
-use Rattle.blk_settings.specs.Settings.{NamedSetting, number_setting, switch_setting}
-use Rattle.blk_settings.specs.declared.sched.Lineup.{Lineup}
-use Rattle.blk_settings.specs.declared.sched.Sched.{Sched}
-use Rattle.blk_settings.specs.declared.sched.Sched.TheVariants as sched
+use Rattle.blk_settings.specs.declared.given.TheConstants.{MAX_SHORT}
+use Rattle.blk_settings.specs.declared.options.TheConstants.{MAX_TARGET}
+use Rattle.blk_settings.specs.declared.rows.ListRow.{ListRow}
+use Rattle.blk_settings.specs.declared.rows.SchedKind.{SchedKind}
+use Rattle.blk_settings.specs.declared.rows.SchedKind.TheVariants as kind
+use Rattle.blk_settings.specs.declared.rows.SchedRow.{SchedRow}
+use Rattle.blk_settings.specs.declared.rows.SettingRange.{SettingRange}
+use Rattle.blk_settings.specs.declared.rows.SettingRange.TheVariants as range
+use Rattle.blk_settings.specs.declared.rows.SettingRow.{SettingRow}
+use Rattle.blk_settings.specs.declared.sched.SchedFault.{SchedFault}
+use Rattle.blk_settings.specs.declared.sched.SchedFault.TheVariants as setting
 
--- a row: its name, its settings in the order in which they are written, its policy, what it means before it has any request, and what it
--- keeps then at a depth
-pub record SchedRow : Type 1 where
+-- the numbers that are tried of a setting: those where its option lists none, and what is said of a text that is no such list
+pub record ListOf : Type 0 where
+  pub default : List ℕ
+  pub fault : List ℕ
+
+-- what a setting may be: a number of 16 bits, or one up to a most, with a default; or on or off, turned to this by a flag
+pub data RangeOf : Type 0 where
+  Short : (default : List ℕ) → (list : ListOf) → RangeOf
+  UpTo : (most : ℕ) → (default : List ℕ) → (list : ListOf) → RangeOf
+  Switch : (turned : Bool) → RangeOf
+
+-- a setting: its name, the option that sets it, what it may be, and why there is no scheduler where it is 0, if there is none
+pub record SettingOf : Type 0 where
   pub name : List ℕ
-  pub settings : List NamedSetting
+  pub option : List ℕ
+  pub range : RangeOf
+  pub zero : Option SchedFault
+
+-- a scheduler's row: which it is, its name, the flag that adds it to those that are compared, if it isn't always, and its settings in the
+-- order in which they are written
+pub record RowOf : Type 0 where
+  pub kind : SchedKind
+  pub name : List ℕ
+  pub flag : Option (List ℕ)
+  pub settings : List SettingOf
+
+-- those that an option lists by default, of numbers up to the most that this text spells
+abbrev pub listed : List ℕ → List ℕ → List ℕ → ListOf
+listed option most default = record {
+  default = default;
+  fault = codes "--" ++ option ++ codes " takes 1 to 64 numbers of 0 to " ++ most ++ codes " with commas between, each once";
+}
+
+-- a number of 16 bits, and a target in rounds
+abbrev pub short : List ℕ → List ℕ → List ℕ → RangeOf
+short option default tried = Short default (listed option (codes "65535") tried)
+
+abbrev pub target : List ℕ → List ℕ → List ℕ → RangeOf
+target option default tried = UpTo MAX_TARGET default (listed option (codes "1000000") tried)
+
+-- those of the program's rows
+abbrev pub list_of : ListRow → ListOf
+list_of l = record { default = l.default.now; fault = l.fault.now }
+
+abbrev pub range_of : SettingRange → RangeOf
+range_of (range.Short default list) = Short default.now (list_of list)
+range_of (range.UpTo most default list) = UpTo most default.now (list_of list)
+range_of (range.Switch turned) = Switch turned
+
+abbrev pub setting_of : SettingRow → SettingOf
+setting_of s = record { name = s.name.now; option = s.option.now; range = range_of s.range; zero = s.zero }
+
+abbrev pub row_of : SchedRow → RowOf
+row_of r = record { kind = r.kind; name = r.name.now; flag = option_map (λ f. f.now) r.flag; settings = map setting_of r.settings.now }
+
+-- the settings by their places: the value of one; one of 16 bits, as which the greatest of these stands for any greater one, that no option
+-- gives; and whether one is on
+abbrev pub value_at : ℕ → List ℕ → ℕ
+value_at place values = get_or values place 0
+
+abbrev pub short_at : ℕ → List ℕ → ℕ
+short_at place values = min (value_at place values) MAX_SHORT
+
+abbrev pub is_on : ℕ → Bool
+is_on n = n == 1
+
+-- what schedulers are made of
+abbrev pub tunables_of : List ℕ → Tunables
+tunables_of v = record { fifo_batch = short_at 0 v; writes_starved = short_at 1 v; front_merges = is_on (value_at 2 v) }
+
+abbrev pub targets_of : List ℕ → Targets
+targets_of v = record { read = value_at 0 v; write = value_at 1 v }
+
+abbrev pub is_late_last : List ℕ → Bool
+is_late_last v = is_on (value_at 0 v)
+
+-- a scheduler: its row; and by the values of its settings its policy, what it means before it has any request, and what it keeps then at a
+-- depth
+pub record SchedOf : Type 1 where
+  pub row : RowOf
   pub policy : Policy
-  pub meaning : Meaning
-  pub kept : ℕ → List ℕ
+  pub meaning : List ℕ → Meaning
+  pub kept : List ℕ → ℕ → List ℕ
 
-abbrev pub row_for : Sched → SchedRow
-row_for sched.None = record { name = codes "none"; settings = []; policy = none_policy; meaning = at_start true; kept = λ _. [] }
-row_for (sched.Deadline t) = record {
-  name = codes "deadline";
-  settings =
-      number_setting (codes "fifo_batch") t.fifo_batch ∷ number_setting (codes "writes_starved") t.writes_starved ∷ switch_setting (codes "front_merges") t.front_merges ∷ [];
+abbrev pub sched_for : SchedKind → SchedOf
+sched_for kind.None = record {
+  row = record { kind = kind.None; name = codes "none"; flag = None; settings = [] };
+  policy = none_policy;
+  meaning = λ v. at_start true;
+  kept = λ v depth. [];
+}
+sched_for kind.Deadline = record {
+  row = record {
+    kind = kind.Deadline;
+    name = codes "deadline";
+    flag = None;
+    settings =
+        record {
+          name = codes "fifo_batch";
+          option = codes "fifo-batch";
+          range = short (codes "fifo-batch") (codes "16") (codes "1,2,4,8,16,32,64");
+          zero = Some setting.ZeroBatch;
+        }
+        ∷ record {
+          name = codes "writes_starved";
+          option = codes "writes-starved";
+          range = short (codes "writes-starved") (codes "2") (codes "0,1,2,4,8");
+          zero = None;
+        }
+        ∷ record { name = codes "front_merges"; option = codes "no-front-merges"; range = Switch false; zero = None }
+        ∷ [];
+  };
   policy = deadline_policy;
-  meaning = at_start t.front_merges;
-  kept = λ _. deadline_kept (record { last = None; batching = 0; starved = 0 }) t;
+  meaning = λ v. at_start (tunables_of v).front_merges;
+  kept = λ v depth. deadline_kept (record { last = None; batching = 0; starved = 0 }) (tunables_of v);
 }
-row_for (sched.Kyber t) = record {
-  name = codes "kyber";
-  settings = number_setting (codes "read_target") t.read ∷ number_setting (codes "write_target") t.write ∷ [];
+sched_for kind.Kyber = record {
+  row = record {
+    kind = kind.Kyber;
+    name = codes "kyber";
+    flag = None;
+    settings =
+        record {
+          name = codes "read_target";
+          option = codes "read-target";
+          range = target (codes "read-target") (codes "2") (codes "1,2,5,10,20,50,100");
+          zero = Some setting.ZeroTarget;
+        }
+        ∷ record {
+          name = codes "write_target";
+          option = codes "write-target";
+          range = target (codes "write-target") (codes "10") (codes "1,2,5,10,20,50,100");
+          zero = Some setting.ZeroTarget;
+        }
+        ∷ [];
+  };
   policy = kyber_policy;
-  meaning = at_start true;
-  kept = λ depth. numbers_of (state_at_first t depth);
+  meaning = λ v. at_start true;
+  kept = λ v depth. numbers_of (state_at_first (targets_of v) depth);
 }
-row_for (sched.Earliest late_last) = record {
-  name = codes "earliest";
-  settings = switch_setting (codes "late_last") late_last ∷ [];
+sched_for kind.Earliest = record {
+  row = record {
+    kind = kind.Earliest;
+    name = codes "earliest";
+    flag = Some (codes "earliest");
+    settings = record { name = codes "late_last"; option = codes "late-last"; range = Switch true; zero = None } ∷ [];
+  };
   policy = earliest_policy;
-  meaning = at_start true;
-  kept = λ _. earliest_kept late_last;
+  meaning = λ v. at_start true;
+  kept = λ v depth. earliest_kept (is_late_last v);
 }
 
-abbrev pub name_of : Sched → List ℕ
-name_of s = (row_for s).name
+-- its place in the table, the order of trials, and the table
+abbrev pub place_of : SchedKind → ℕ
+place_of kind.None = 0
+place_of kind.Deadline = 1
+place_of kind.Kyber = 2
+place_of kind.Earliest = 3
 
-abbrev pub settings_of : Sched → List NamedSetting
-settings_of s = (row_for s).settings
+abbrev pub kinds : List SchedKind
+kinds = kind.None ∷ kind.Deadline ∷ kind.Kyber ∷ kind.Earliest ∷ []
 
-abbrev pub policy_of : Sched → Policy
-policy_of s = (row_for s).policy
+abbrev pub tried_kinds : List SchedKind
+tried_kinds = kind.None ∷ kind.Earliest ∷ kind.Deadline ∷ kind.Kyber ∷ []
 
-abbrev pub first_meaning : Sched → Meaning
-first_meaning s = (row_for s).meaning
+abbrev pub row_for : SchedKind → RowOf
+row_for k = (sched_for k).row
 
-abbrev pub numbers_at_first : Sched → ℕ → List ℕ
-numbers_at_first s depth = (row_for s).kept depth
-
--- one that is made and has no request yet
-abbrev pub IsStart : Sched → ℕ → Meaning → List ℕ → Type 0
-IsStart s depth meaning kept = IsMade s × (meaning ≡ first_meaning s) × (kept ≡ numbers_at_first s depth)
-
--- the schedulers that are compared, in the order in which they run
-abbrev pub earliest_row : Option Bool → List Sched
-earliest_row None = []
-earliest_row (Some late_last) = sched.Earliest late_last ∷ []
-
-abbrev pub in_turn : Lineup → List Sched
-in_turn l = sched.None ∷ sched.Deadline l.deadline ∷ sched.Kyber l.kyber ∷ earliest_row l.earliest
+abbrev pub table : List RowOf
+table = map row_for kinds

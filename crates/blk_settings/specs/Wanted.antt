@@ -1,14 +1,14 @@
 -- What is asked of a trial.
-use Rattle.std.specs.Prelude.{ℕ, Option}
+use Rattle.std.specs.Prelude.{ℕ, List, Option}
 use Rattle.blk_settings.specs.declared.grid.By.{By}
 use Rattle.blk_settings.specs.declared.grid.TrialAsked.{TrialAsked}
-use Rattle.blk_settings.specs.Grids.{Gridded, gridded}
+use Rattle.blk_settings.specs.declared.sched.Sched.{Sched}
 
 -- how many runs go side by side is none of it: the rows don't turn on that
 pub record Wanted : Type 0 where
-  pub grid : Gridded
+  pub grid : List Sched
   pub by : By
   pub top : Option ℕ
 
 abbrev pub as_wanted : TrialAsked → Wanted
-as_wanted a = record { grid = gridded a.grid; by = a.by; top = a.top }
+as_wanted a = record { grid = a.grid.items; by = a.by; top = a.top }

@@ -1,15 +1,13 @@
 //! Schedulers by what the options of a command line are given.
 
-ghost use Rattle.std.specs.Prelude.{◌≡◌, ◌≤◌, All, IfSome, find, option_map};
-ghost use Rattle.std.specs.Str.{bytes_eq};
-ghost use Rattle.blk_settings.specs.Rows.{name_of};
-ghost use Rattle.blk_settings.specs.Given.{GivenOptions, tunables_given, targets_given, sched_given, earliest_given, lineup_given};
+ghost use Rattle.std.specs.Prelude.{◌≡◌, ◌≤◌, All, IfSome, map, option_map};
+ghost use Rattle.blk_settings.specs.Rows.{setting_of, row_of};
+ghost use Rattle.blk_settings.specs.Given.{GivenOptions, value_given, given_at, sched_by, row_named, sched_given, is_compared, compared_by, lineup_given};
 
-use crate::option_names;
+use crate::options::SCHED_NAME;
+use crate::rows::{SCHED_COUNT, SchedRow, SettingRange, SettingRow, rows};
 use crate::sched::{Lineup, Sched};
 use arrayvec::ArrayVec;
-use blk_deadline::Tunables;
-use blk_kyber::Targets;
 
 /// How many numbers a list has at most.
 pub const MAX_LISTED: usize = 64;
@@ -47,48 +45,84 @@ pub trait Given {
         ensures { result ≡ (given self.now).is_set option.now };
 }
 
-/// The settings of `deadline`.
-fn tunables_given<G: Given>(options: &G) -> Option<Tunables>
-    ensures { result ≡ tunables_given (G.given options.now) }
+impl SettingRow {
+    /// The value that its option gives.
+    fn given<G: Given>(&self, options: &G) -> Option<u64>
+        ensures { result ≡ value_given (G.given options.now) (setting_of self.now) }
+    {
+        match self.range {
+            SettingRange::Short(_, _) => match options.short(self.option) {
+                Some(number) => Some(number as u64),
+                None => None,
+            },
+            SettingRange::UpTo(_, _, _) => options.number(self.option),
+            SettingRange::Switch(turned) => {
+                let is_on = options.is_set(self.option) == turned;
+                Some(is_on as u64)
+            }
+        }
+    }
+}
+
+/// The value of the setting in this place, 0 where there is none.
+fn given_at<G: Given>(options: &G, settings: &[SettingRow], place: usize) -> Option<u64>
+    ensures { result ≡ given_at (G.given options.now) (map setting_of settings.now) place }
 {
-    let fifo_batch = options.short(option_names::FIFO_BATCH)?;
-    let writes_starved = options.short(option_names::WRITES_STARVED)?;
-    let front_merges = !options.is_set(option_names::NO_FRONT_MERGES);
-    Some(Tunables {
-        fifo_batch,
-        writes_starved,
-        front_merges,
+    if place < settings.len() {
+        settings[place].given(options)
+    } else {
+        Some(0)
+    }
+}
+
+/// The scheduler of this row, with the settings that the options give.
+fn sched_by<G: Given>(options: &G, row: &SchedRow) -> Option<Sched>
+    ensures { result ≡ sched_by (G.given options.now) (row_of row.now) }
+{
+    let values = [
+        given_at(options, row.settings, 0)?,
+        given_at(options, row.settings, 1)?,
+        given_at(options, row.settings, 2)?,
+    ];
+    Some(Sched {
+        kind: row.kind,
+        values,
     })
 }
 
-/// The settings of `kyber`.
-fn targets_given<G: Given>(options: &G) -> Option<Targets>
-    ensures { result ≡ targets_given (G.given options.now) }
+/// The row of this name.
+pub(crate) fn row_named(name: &str) -> Option<&'static SchedRow>
+    ensures { option_map (λ r. row_of r.now) result ≡ row_named name.now }
 {
-    let read = options.number(option_names::READ_TARGET)?;
-    let write = options.number(option_names::WRITE_TARGET)?;
-    Some(Targets { read, write })
-}
-
-/// Whether earliest runs too, and then whether late last.
-fn earliest_given<G: Given>(options: &G) -> Option<bool>
-    ensures { result ≡ earliest_given (G.given options.now) }
-{
-    let runs = options.is_set(option_names::EARLIEST);
-    let late_last = options.is_set(option_names::LATE_LAST);
-    if runs { Some(late_last) } else { None }
-}
-
-/// The scheduler of this name.
-fn sched_named(name: &str, scheds: &[Sched]) -> Option<Sched>
-    ensures { result ≡ find (λ s. bytes_eq name.now (name_of s)) scheds.now }
-{
-    for i in 0..scheds.len() {
-        if name == scheds[i].name() {
-            return Some(scheds[i]);
+    let rows = rows();
+    for i in 0..rows.len() {
+        if name == rows[i].name {
+            return Some(&rows[i]);
         }
     }
     None
+}
+
+/// Whether the scheduler of this row is compared.
+fn is_compared<G: Given>(options: &G, row: &SchedRow) -> bool
+    ensures { result ≡ is_compared (G.given options.now) (row_of row.now) }
+{
+    match row.flag {
+        Some(flag) => options.is_set(flag),
+        None => true,
+    }
+}
+
+/// It with its settings, where it is compared. None where a setting is missing.
+fn compared_by<G: Given>(options: &G, row: &SchedRow) -> Option<Option<Sched>>
+    ensures { result ≡ compared_by (G.given options.now) (row_of row.now) }
+{
+    let sched = sched_by(options, row)?;
+    if is_compared(options, row) {
+        Some(Some(sched))
+    } else {
+        Some(None)
+    }
 }
 
 impl Sched {
@@ -97,17 +131,9 @@ impl Sched {
     pub fn given<G: Given>(options: &G) -> Option<Sched>
         ensures { result ≡ sched_given (G.given options.now) }
     {
-        let name = options.text(option_names::SCHED)?;
-        let tunables = tunables_given(options)?;
-        let targets = targets_given(options)?;
-        let late_last = options.is_set(option_names::LATE_LAST);
-        let scheds = [
-            Sched::None,
-            Sched::Deadline(tunables),
-            Sched::Kyber(targets),
-            Sched::Earliest { late_last },
-        ];
-        sched_named(name, scheds.as_slice())
+        let name = options.text(SCHED_NAME)?;
+        let row = row_named(name)?;
+        sched_by(options, row)
     }
 }
 
@@ -116,13 +142,11 @@ impl Lineup {
     pub fn given<G: Given>(options: &G) -> Option<Lineup>
         ensures { result ≡ lineup_given (G.given options.now) }
     {
-        let deadline = tunables_given(options)?;
-        let kyber = targets_given(options)?;
-        let earliest = earliest_given(options);
-        Some(Lineup {
-            deadline,
-            kyber,
-            earliest,
-        })
+        let rows = rows();
+        let mut scheds = [None; SCHED_COUNT];
+        for i in 0..rows.len() {
+            scheds[i] = compared_by(options, &rows[i])?;
+        }
+        Some(Lineup { scheds })
     }
 }

@@ -1,12 +1,21 @@
-//! The options of the schedulers, a row for each: its name, what it takes, and what help says of it.
+//! The options of the schedulers: their names, what they take, and what help says of them. Those of settings are made of the table's rows.
 
-ghost use Rattle.std.specs.Prelude.{◌≡◌, map};
-ghost use Rattle.blk_settings.specs.Options.{option_of, sched_names, tuning, listing};
+ghost use Rattle.std.specs.Prelude.{◌≡◌, ◌++◌, map, IfOk, OnOk, option_map};
+ghost use Rattle.blk_settings.specs.Rows.{setting_of};
+ghost use Rattle.blk_settings.specs.Options.{option_of, sched_names, tuning, listing, setting_option, list_option, lists_of};
 
-use crate::option_names;
+use crate::rows::{SettingRange, SettingRow, rows};
+use std::alloc::{AllocError, Global};
 
 /// The greatest target of `kyber`, in rounds.
 pub const MAX_TARGET: u64 = 1_000_000;
+
+/// The option that says which scheduler, or which ones are tried. Such names are constants of their own, since no constant can be made of
+/// another's field.
+pub(crate) const SCHED_NAME: &str = "sched";
+
+/// The flag that `earliest` runs as well.
+pub(crate) const EARLIEST_NAME: &str = "earliest";
 
 /// What an option takes.
 #[derive(Clone, Copy)]
@@ -40,83 +49,83 @@ pub struct OptionRow {
 
 /// The option that names the scheduler.
 pub const SCHED: OptionRow = OptionRow {
-    name: option_names::SCHED,
+    name: SCHED_NAME,
     takes: Takes::Sched("none"),
     help: "The scheduler",
 };
 
 /// The option that adds a scheduler to those of a [`crate::Lineup`].
 pub const ADDED: OptionRow = OptionRow {
-    name: option_names::EARLIEST,
+    name: EARLIEST_NAME,
     takes: Takes::Nothing,
     help: "Runs it under earliest as well",
 };
 
-/// The names of the schedulers.
+/// The option that lists which schedulers are tried.
+const SCHEDS: OptionRow = OptionRow {
+    name: SCHED_NAME,
+    takes: Takes::Text("none,earliest,deadline,kyber"),
+    help: "The schedulers to try: names with commas between",
+};
+
+/// The names of the schedulers, which the rows have too: a command line borrows them as one slice.
 static SCHEDULERS: [&str; 4] = ["none", "deadline", "kyber", "earliest"];
 
-/// The options that set the schedulers.
-static TUNING: [OptionRow; 6] = [
-    OptionRow {
-        name: option_names::FIFO_BATCH,
-        takes: Takes::Short("16"),
-        help: "Under deadline, how many requests go in one batch",
-    },
-    OptionRow {
-        name: option_names::WRITES_STARVED,
-        takes: Takes::Short("2"),
-        help: "Under deadline, how often reads go first while writes wait",
-    },
-    OptionRow {
-        name: option_names::NO_FRONT_MERGES,
-        takes: Takes::Nothing,
-        help: "Under deadline, lets no newcomer join at the front",
-    },
-    OptionRow {
-        name: option_names::READ_TARGET,
-        takes: Takes::Number(0, MAX_TARGET, "2"),
-        help: "Under kyber, how many rounds a read may wait",
-    },
-    OptionRow {
-        name: option_names::WRITE_TARGET,
-        takes: Takes::Number(0, MAX_TARGET, "10"),
-        help: "Under kyber, how many rounds a write may wait",
-    },
-    OptionRow {
-        name: option_names::LATE_LAST,
-        takes: Takes::Nothing,
-        help: "Under earliest, lets what is late already wait for what can be on time",
-    },
-];
+impl SettingRow {
+    /// The option that sets it.
+    fn setting_option(&self) -> OptionRow
+        ensures { option_of result ≡ setting_option (setting_of self.now) }
+    {
+        let takes = match self.range {
+            SettingRange::Short(default, _) => Takes::Short(default),
+            SettingRange::UpTo(most, default, _) => Takes::Number(0, most, default),
+            SettingRange::Switch(_) => Takes::Nothing,
+        };
+        OptionRow {
+            name: self.option,
+            takes,
+            help: self.help,
+        }
+    }
 
-/// The options that list schedulers and their settings.
-static LISTS: [OptionRow; 5] = [
-    OptionRow {
-        name: option_names::SCHED,
-        takes: Takes::Text("none,earliest,deadline,kyber"),
-        help: "The schedulers to try: names with commas between",
-    },
-    OptionRow {
-        name: option_names::FIFO_BATCH,
-        takes: Takes::Text("1,2,4,8,16,32,64"),
-        help: "Under deadline, how many requests go in one batch: numbers with commas between",
-    },
-    OptionRow {
-        name: option_names::WRITES_STARVED,
-        takes: Takes::Text("0,1,2,4,8"),
-        help: "Under deadline, how often reads go first while writes wait: numbers with commas between",
-    },
-    OptionRow {
-        name: option_names::READ_TARGET,
-        takes: Takes::Text("1,2,5,10,20,50,100"),
-        help: "Under kyber, how many rounds a read may wait: numbers with commas between",
-    },
-    OptionRow {
-        name: option_names::WRITE_TARGET,
-        takes: Takes::Text("1,2,5,10,20,50,100"),
-        help: "Under kyber, how many rounds a write may wait: numbers with commas between",
-    },
-];
+    /// The option that lists the numbers of it that are tried, if it is a number.
+    fn list_option(&self) -> Option<OptionRow>
+        ensures { option_map option_of result ≡ list_option (setting_of self.now) }
+    {
+        let list = match self.range {
+            SettingRange::Short(_, list) => list,
+            SettingRange::UpTo(_, _, list) => list,
+            SettingRange::Switch(_) => return None,
+        };
+        Some(OptionRow {
+            name: self.option,
+            takes: Takes::Text(list.default),
+            help: list.help,
+        })
+    }
+}
+
+/// Adds the options that set these.
+fn push_options(all: &mut Vec<OptionRow>, settings: &[SettingRow]) -> Result<(), AllocError>
+    ensures { OnOk result (map option_of all.new.items ≡ map option_of all.old.items ++ map setting_option (map setting_of settings.now)) }
+{
+    for setting in settings {
+        all.push(setting.setting_option())?;
+    }
+    Ok(())
+}
+
+/// Adds the options that list the numbers of these.
+fn push_lists(all: &mut Vec<OptionRow>, settings: &[SettingRow]) -> Result<(), AllocError>
+    ensures { OnOk result (map option_of all.new.items ≡ map option_of all.old.items ++ lists_of (map setting_of settings.now)) }
+{
+    for setting in settings {
+        if let Some(list) = setting.list_option() {
+            all.push(list)?;
+        }
+    }
+    Ok(())
+}
 
 /// The names of the schedulers.
 pub fn scheduler_names() -> &'static [&'static str]
@@ -126,15 +135,23 @@ pub fn scheduler_names() -> &'static [&'static str]
 }
 
 /// The options that set the schedulers.
-pub fn tuning_options() -> &'static [OptionRow]
-    ensures { map option_of result.now ≡ tuning }
+pub fn tuning_options(alloc: Global) -> Result<Vec<OptionRow>, AllocError>
+    ensures { IfOk result (λ all. map option_of all.items ≡ tuning) }
 {
-    TUNING.as_slice()
+    let mut all = Vec::new(alloc);
+    for row in rows() {
+        push_options(&mut all, row.settings)?;
+    }
+    Ok(all)
 }
 
 /// The options that list which schedulers are tried, and under which settings.
-pub fn list_options() -> &'static [OptionRow]
-    ensures { map option_of result.now ≡ listing }
+pub fn list_options(alloc: Global) -> Result<Vec<OptionRow>, AllocError>
+    ensures { IfOk result (λ all. map option_of all.items ≡ listing) }
 {
-    LISTS.as_slice()
+    let mut all = vec![in alloc; SCHEDS]?;
+    for row in rows() {
+        push_lists(&mut all, row.settings)?;
+    }
+    Ok(all)
 }

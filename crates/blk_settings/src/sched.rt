@@ -1,17 +1,20 @@
-//! The schedulers, a row for each: its name, its settings, what is wrong with these, and how it is made. Of whoever does something with the
-//! scheduler of some settings, [`with_made`](crate::with_made) has the match on these.
+//! Schedulers with their settings: what is wrong with these, and how one is made of them. Of whoever does something with the scheduler of some
+//! settings, [`with_made`](crate::with_made) has the match on its kind.
 
-ghost use Rattle.std.specs.Prelude.{◌≡◌, ◌≤◌, [], IfOk, IfErr, IfSome, IfNone};
+ghost use Rattle.std.specs.Prelude.{◌≡◌, ◌≤◌, ◌<◌, [], IfOk, IfErr};
 ghost use Rattle.blk_deadline.specs.Shown.{meaning_of as deadline_meaning, kept_in as deadline_kept};
 ghost use Rattle.blk_kyber.specs.Shown.{meaning_of as kyber_meaning, state_of};
 ghost use Rattle.blk_kyber.specs.State.{numbers_of};
 ghost use Rattle.blk_earliest.specs.Shown.{meaning_of as earliest_meaning, late_last_of};
 ghost use Rattle.blk_earliest.specs.Choice.{earliest_kept};
-ghost use Rattle.blk_settings.specs.Made.{IsMade, IsUnmade, HasFault};
-ghost use Rattle.blk_settings.specs.Rows.{name_of, settings_of, IsStart, in_turn};
+ghost use Rattle.blk_settings.specs.Rows.{setting_of, short_at};
+ghost use Rattle.blk_settings.specs.Scheds.{name_of, settings_of, told, in_turn};
+ghost use Rattle.blk_settings.specs.Made.{fault_of, zero_fault, IsUnmade, IsStart};
 ghost use Rattle.blk_settings.specs.Names.{sched_fault_name};
 
-use crate::setting::{Setting, Settings};
+use crate::given::MAX_SHORT;
+use crate::rows::{SCHED_COUNT, SchedKind, SettingRange, SettingRow};
+use crate::setting::{MAX_SETTINGS, Setting, Settings};
 use blk_deadline::{Deadline, DeadlineFault, Tunables};
 use blk_earliest::Earliest;
 use blk_kyber::{Kyber, KyberFault, Targets};
@@ -43,20 +46,33 @@ impl SchedFault {
     }
 }
 
-/// A scheduler by its settings.
+/// A scheduler with its settings.
 #[derive(Clone, Copy, Debug, PartialEq, Eq)]
-pub enum Sched {
-    /// `none`: in the order of entry.
-    None,
-    /// `deadline`: by sectors within a batch, and by due rounds between batches.
-    Deadline(Tunables),
-    /// `kyber`: by turns of reads and writes, within limits on what is in flight.
-    Kyber(Targets),
-    /// `earliest`: by due rounds alone.
-    Earliest {
-        /// Whether what can't be on time any more waits until all has gone out that can.
-        late_last: bool,
-    },
+pub struct Sched {
+    /// Which scheduler it is.
+    pub kind: SchedKind,
+    /// The values of its row's settings, in their places: a number, or for a switch 1 where it is on. 0 in the places behind them.
+    pub values: [u64; MAX_SETTINGS],
+}
+
+impl SettingRow {
+    /// The setting of this value.
+    fn told(&self, value: u64) -> Setting
+        ensures { result ≡ told (setting_of self.now) value }
+    {
+        match self.range {
+            SettingRange::Short(_, _) => Setting::number(self.name, value),
+            SettingRange::UpTo(_, _, _) => Setting::number(self.name, value),
+            SettingRange::Switch(_) => Setting::switch(self.name, value == 1),
+        }
+    }
+
+    /// What is wrong with this value.
+    fn fault(&self, value: u64) -> Option<SchedFault>
+        ensures { result ≡ zero_fault (setting_of self.now) value }
+    {
+        if value == 0 { self.zero } else { None }
+    }
 }
 
 impl Sched {
@@ -64,57 +80,49 @@ impl Sched {
     pub fn name(&self) -> &'static str
         ensures { result.now ≡ name_of self.now }
     {
-        match self {
-            Sched::None => "none",
-            Sched::Deadline(_) => "deadline",
-            Sched::Kyber(_) => "kyber",
-            Sched::Earliest { .. } => "earliest",
-        }
+        self.kind.row().name
     }
 
     /// Its settings, in the order in which they are written.
     pub fn settings(&self) -> Settings
         ensures { result.items ≡ settings_of self.now }
     {
+        let rows = self.kind.row().settings;
         let mut all = Settings::new();
-        match self {
-            Sched::None => {}
-            Sched::Deadline(tunables) => {
-                all.push(Setting::number("fifo_batch", tunables.fifo_batch as u64));
-                all.push(Setting::number("writes_starved", tunables.writes_starved as u64));
-                all.push(Setting::switch("front_merges", tunables.front_merges));
-            }
-            Sched::Kyber(targets) => {
-                all.push(Setting::number("read_target", targets.read));
-                all.push(Setting::number("write_target", targets.write));
-            }
-            Sched::Earliest { late_last } => all.push(Setting::switch("late_last", *late_last)),
+        for i in 0..rows.len() {
+            all.push(rows[i].told(self.values[i]));
         }
         all
     }
 
-    /// What is wrong with its settings, which alone are looked at: so never `Memory`.
-    pub fn fault(&self) -> Option<SchedFault>
-        ensures fault { IfSome result (HasFault self.now) }
-        ensures made { IfNone result (IsMade self.now) }
+    /// The value of a setting of 16 bits. The greatest of these stands for any greater value, which no option gives.
+    fn short_at(&self, place: usize) -> u16
+        requires { place < MAX_SETTINGS }
+        ensures { result ≡ short_at place self.now.values }
     {
-        match self {
-            Sched::Deadline(tunables) if tunables.has_zero_batch() => Some(SchedFault::ZeroBatch),
-            Sched::Kyber(targets) if targets.has_zero_target() => Some(SchedFault::ZeroTarget),
-            _ => None,
+        self.values[place].min(MAX_SHORT) as u16
+    }
+
+    /// What is wrong with the first of its settings with which something is, which alone are looked at: so never `Memory`.
+    pub fn fault(&self) -> Option<SchedFault>
+        ensures { result ≡ fault_of self.now }
+    {
+        let rows = self.kind.row().settings;
+        for i in 0..rows.len() {
+            if let Some(fault) = rows[i].fault(self.values[i]) {
+                return Some(fault);
+            }
         }
+        None
     }
 }
 
-/// The schedulers that are compared, each with its settings: `none`, `deadline`, `kyber`, and `earliest` where it is asked for.
+/// The schedulers that are compared, each with its settings, in the places of their rows: those that are always compared, and those whose flags
+/// are set.
 #[derive(Clone, Copy, Debug, PartialEq, Eq)]
 pub struct Lineup {
-    /// What `deadline` is tuned by.
-    pub deadline: Tunables,
-    /// What `kyber` aims at.
-    pub kyber: Targets,
-    /// Whether `earliest` runs too, and then whether late last.
-    pub earliest: Option<bool>,
+    /// The scheduler of each row, where it is compared.
+    pub scheds: [Option<Sched>; SCHED_COUNT],
 }
 
 impl Lineup {
@@ -122,22 +130,21 @@ impl Lineup {
     pub fn in_turn(&self, alloc: Global) -> Result<Vec<Sched>, AllocError>
         ensures { IfOk result (λ all. all.items ≡ in_turn self.now) }
     {
-        let mut all = vec![in alloc;
-            Sched::None,
-            Sched::Deadline(self.deadline),
-            Sched::Kyber(self.kyber),
-        ]?;
-        if let Some(late_last) = self.earliest {
-            all.push(Sched::Earliest { late_last })?;
+        let mut all = Vec::new(alloc);
+        for sched in &self.scheds {
+            if let Some(sched) = sched {
+                all.push(*sched)?;
+            }
         }
         Ok(all)
     }
 }
 
-/// `none` before anything waits. Each of these functions takes the depth of the device, which only `kyber` uses.
-pub fn none(alloc: Global, _depth: u64) -> Result<NoneSched, SchedFault>
-    ensures start { IfOk result (λ s. IsStart Sched.None _depth s []) }
-    ensures unmade { IfErr result (IsUnmade Sched.None) }
+/// `none` before anything waits. Each of these functions takes settings of its kind, and the depth of the device, which only `kyber` uses.
+pub fn none(alloc: Global, sched: Sched, _depth: u64) -> Result<NoneSched, SchedFault>
+    requires { sched.kind ≡ SchedKind.None }
+    ensures start { IfOk result (λ s. IsStart sched _depth s []) }
+    ensures unmade { IfErr result (IsUnmade sched) }
 {
     match NoneSched::new(alloc) {
         Ok(scheduler) => Ok(scheduler),
@@ -146,10 +153,16 @@ pub fn none(alloc: Global, _depth: u64) -> Result<NoneSched, SchedFault>
 }
 
 /// `deadline` before anything waits.
-pub fn deadline(alloc: Global, tunables: Tunables, _depth: u64) -> Result<Deadline, SchedFault>
-    ensures start { IfOk result (λ s. IsStart (Sched.Deadline tunables) _depth (deadline_meaning s) (deadline_kept s)) }
-    ensures unmade { IfErr result (IsUnmade (Sched.Deadline tunables)) }
+pub fn deadline(alloc: Global, sched: Sched, _depth: u64) -> Result<Deadline, SchedFault>
+    requires { sched.kind ≡ SchedKind.Deadline }
+    ensures start { IfOk result (λ s. IsStart sched _depth (deadline_meaning s) (deadline_kept s)) }
+    ensures unmade { IfErr result (IsUnmade sched) }
 {
+    let tunables = Tunables {
+        fifo_batch: sched.short_at(0),
+        writes_starved: sched.short_at(1),
+        front_merges: sched.values[2] == 1,
+    };
     match Deadline::new(alloc, tunables) {
         Ok(scheduler) => Ok(scheduler),
         Err(DeadlineFault::ZeroBatch) => Err(SchedFault::ZeroBatch),
@@ -158,12 +171,17 @@ pub fn deadline(alloc: Global, tunables: Tunables, _depth: u64) -> Result<Deadli
 }
 
 /// `kyber` before anything waits, with both limits at the depth.
-pub fn kyber(alloc: Global, targets: Targets, depth: u64) -> Result<Kyber, SchedFault>
+pub fn kyber(alloc: Global, sched: Sched, depth: u64) -> Result<Kyber, SchedFault>
+    requires kind { sched.kind ≡ SchedKind.Kyber }
     requires least { 1 ≤ depth }
     requires most { depth ≤ MAX_OPEN }
-    ensures start { IfOk result (λ s. IsStart (Sched.Kyber targets) depth (kyber_meaning s) (numbers_of (state_of s))) }
-    ensures unmade { IfErr result (IsUnmade (Sched.Kyber targets)) }
+    ensures start { IfOk result (λ s. IsStart sched depth (kyber_meaning s) (numbers_of (state_of s))) }
+    ensures unmade { IfErr result (IsUnmade sched) }
 {
+    let targets = Targets {
+        read: sched.values[0],
+        write: sched.values[1],
+    };
     match Kyber::new(alloc, targets, depth) {
         Ok(scheduler) => Ok(scheduler),
         Err(KyberFault::ZeroTarget) => Err(SchedFault::ZeroTarget),
@@ -172,43 +190,41 @@ pub fn kyber(alloc: Global, targets: Targets, depth: u64) -> Result<Kyber, Sched
 }
 
 /// `earliest` before anything waits.
-pub fn earliest(alloc: Global, late_last: bool, _depth: u64) -> Result<Earliest, SchedFault>
-    ensures start { IfOk result (λ s. IsStart (Sched.Earliest late_last) _depth (earliest_meaning s) (earliest_kept (late_last_of s))) }
-    ensures unmade { IfErr result (IsUnmade (Sched.Earliest late_last)) }
+pub fn earliest(alloc: Global, sched: Sched, _depth: u64) -> Result<Earliest, SchedFault>
+    requires { sched.kind ≡ SchedKind.Earliest }
+    ensures start { IfOk result (λ s. IsStart sched _depth (earliest_meaning s) (earliest_kept (late_last_of s))) }
+    ensures unmade { IfErr result (IsUnmade sched) }
 {
-    match Earliest::new(alloc, late_last) {
+    match Earliest::new(alloc, sched.values[0] == 1) {
         Ok(scheduler) => Ok(scheduler),
         Err(_) => Err(SchedFault::Memory),
     }
 }
 
-/// Makes the scheduler of some settings, a [`Sched`], for a device of this depth, 1 to [`MAX_OPEN`], and hands the settings and what came of it
-/// (a `Result` of the row's own type, with a [`SchedFault`]) to an expression by the two names that stand before it. A macro, since a scheduler
+/// Makes a scheduler, a [`Sched`], for a device of this depth, 1 to [`MAX_OPEN`], and hands it and what came of it
+/// (a `Result` of the kind's own type, with a [`SchedFault`]) to an expression by the two names that stand before it. A macro, since a scheduler
 /// has a type of its own, so what goes on with it is a generic function, whose bounds (as `Send`) are those of the caller.
 #[macro_export]
 macro_rules! with_made {
-    ($sched:expr, $alloc:expr, $depth:expr, ($row:ident, $made:ident) => $then:expr) => {
-        match $sched {
-            $crate::Sched::None => {
-                let $row = $crate::Sched::None;
-                let $made = $crate::sched::none($alloc, $depth);
+    ($sched:expr, $alloc:expr, $depth:expr, ($own:ident, $made:ident) => $then:expr) => {{
+        let $own = $sched;
+        match $own.kind {
+            $crate::SchedKind::None => {
+                let $made = $crate::sched::none($alloc, $own, $depth);
                 $then
             }
-            $crate::Sched::Deadline(tunables) => {
-                let $row = $crate::Sched::Deadline(tunables);
-                let $made = $crate::sched::deadline($alloc, tunables, $depth);
+            $crate::SchedKind::Deadline => {
+                let $made = $crate::sched::deadline($alloc, $own, $depth);
                 $then
             }
-            $crate::Sched::Kyber(targets) => {
-                let $row = $crate::Sched::Kyber(targets);
-                let $made = $crate::sched::kyber($alloc, targets, $depth);
+            $crate::SchedKind::Kyber => {
+                let $made = $crate::sched::kyber($alloc, $own, $depth);
                 $then
             }
-            $crate::Sched::Earliest { late_last } => {
-                let $row = $crate::Sched::Earliest { late_last };
-                let $made = $crate::sched::earliest($alloc, late_last, $depth);
+            $crate::SchedKind::Earliest => {
+                let $made = $crate::sched::earliest($alloc, $own, $depth);
                 $then
             }
         }
-    };
+    }};
 }

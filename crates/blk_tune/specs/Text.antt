@@ -7,7 +7,7 @@ use Rattle.drafts.specs.Drafts.{next_field}
 use Rattle.edd_figures.specs.Figures.{greatest_in, least_in, shortfall_in}
 use Rattle.blk_report.specs.declared.figures.Report.{Report}
 use Rattle.blk_report.specs.declared.missing.Tally.{Tally}
-use Rattle.blk_settings.specs.Rows.{name_of, settings_of}
+use Rattle.blk_settings.specs.Scheds.{name_of, settings_of}
 use Rattle.blk_settings.specs.Settings.{NamedSetting}
 use Rattle.blk_settings.specs.declared.sched.Sched.{Sched}
 use Rattle.blk_settings.specs.declared.setting.SettingValue.{SettingValue}

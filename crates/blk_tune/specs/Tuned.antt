@@ -1,7 +1,6 @@
 -- What a trial of a script answers.
 use Rattle.std.specs.Prelude.{◌≡◌, ℕ, List}
 use Rattle.blk_text.specs.Script.{Scripted}
-use Rattle.blk_settings.specs.Grids.{grid_rows}
 use Rattle.blk_settings.specs.Wanted.{Wanted}
 use Rattle.blk_tune.specs.declared.row.TrialRow.{TrialRow}
 use Rattle.blk_tune.specs.Row.{AreRowsUnder}
@@ -11,7 +10,7 @@ use Rattle.blk_tune.specs.Text.{table_text}
 -- the rows of the grid, each once, the best first; of those that are as good in the grid's order
 pub record AreTuned (w : Wanted) (script : Scripted) (rows : List TrialRow) : Type 0 where
   pub in_turn : List TrialRow
-  pub are_rows : AreRowsUnder (grid_rows w.grid) script in_turn
+  pub are_rows : AreRowsUnder w.grid script in_turn
   pub best_first : AreBestFirst w.by in_turn rows
 
 -- their table

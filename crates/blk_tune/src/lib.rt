@@ -5,7 +5,6 @@
 
 ghost use Rattle.std.specs.Prelude.{IfOk, IfErr};
 ghost use Rattle.blk_text.specs.Script.{IsScript, scripted};
-ghost use Rattle.blk_settings.specs.Grids.{grid_rows};
 ghost use Rattle.blk_settings.specs.Wanted.{as_wanted};
 ghost use Rattle.blk_runs.specs.Firsts.{AreUnrun};
 ghost use Rattle.blk_tune.specs.Tuned.{AreTuned, IsTuned};
@@ -41,19 +40,16 @@ pub fn rows<T: Threads + Sync, P: Progress>(
 ) -> Result<Vec<TrialRow>, RunFault>
     requires { IsScript (scripted script.now) }
     ensures rows { IfOk result (λ rows. AreTuned (as_wanted asked.now) (scripted script.now) rows.items) }
-    ensures unrun { IfErr result (AreUnrun (grid_rows (as_wanted asked.now).grid) (scripted script.now)) }
+    ensures unrun { IfErr result (AreUnrun (as_wanted asked.now).grid (scripted script.now)) }
 {
-    let Ok(scheds) = asked.grid.rows(alloc) else {
-        return Err(RunFault::Memory);
-    };
-    match unmade(scheds.as_slice()) {
+    match unmade(asked.grid.as_slice()) {
         Some(fault) => return Err(RunFault::Sched(fault)),
         None => {}
     }
     let all = tried(
         rt,
         alloc,
-        scheds.as_slice(),
+        asked.grid.as_slice(),
         asked.threads,
         script,
         progress,
@@ -79,7 +75,7 @@ pub fn tune<T: Threads + Sync, P: Progress>(
 ) -> Result<Vec<u8>, RunFault>
     requires { IsScript (scripted script.now) }
     ensures text { IfOk result (λ text. IsTuned (as_wanted asked.now) (scripted script.now) text.items) }
-    ensures unrun { IfErr result (AreUnrun (grid_rows (as_wanted asked.now).grid) (scripted script.now)) }
+    ensures unrun { IfErr result (AreUnrun (as_wanted asked.now).grid (scripted script.now)) }
 {
     let rows = match rows(rt, alloc, asked, script, progress) {
         Ok(rows) => rows,

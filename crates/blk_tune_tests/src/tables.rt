@@ -2,7 +2,7 @@
 
 use blk_lists::Records;
 use blk_runs::RunFault;
-use blk_settings::{By, Grid, SchedFault, TrialAsked};
+use blk_settings::{By, Sched, SchedFault, SchedKind, TrialAsked};
 use blk_sim::{SimFault, SimWhy};
 use blk_text::{Script, read_script};
 use blk_tune::{ProgressLine, Quiet, tune};
@@ -55,23 +55,33 @@ fn script(rt: &impl Abort, alloc: Global, text: &str) -> Script
 
 ghost use Rattle.blk_text.specs.Script.{IsScript, scripted};
 
+/// A scheduler with these settings.
+fn sched(kind: SchedKind, values: [u64; 3]) -> Sched {
+    Sched { kind, values }
+}
+
 /// What is asked: `none` alone, or with `earliest` and `deadline` beside it, with batches of this number of requests.
 fn asked(
     rt: &impl Abort,
     alloc: Global,
     alone: bool,
-    batch: u16,
+    batch: u64,
     by: By,
     top: Option<u64>,
     threads: u64,
 ) -> TrialAsked {
-    let mut grid = Grid::all(alloc).expect(rt, "memory");
-    grid.kyber = false;
-    grid.earliest = !alone;
-    grid.deadline = !alone;
-    grid.fifo_batch.truncate(0);
-    grid.fifo_batch.push(batch).expect(rt, "memory");
-    grid.writes_starved.truncate(2);
+    let mut grid = vec![in alloc; sched(SchedKind::None, [0, 0, 0])].expect(rt, "memory");
+    if !alone {
+        grid.extend_from_slice(&[
+            sched(SchedKind::Earliest, [1, 0, 0]),
+            sched(SchedKind::Earliest, [0, 0, 0]),
+            sched(SchedKind::Deadline, [batch, 0, 1]),
+            sched(SchedKind::Deadline, [batch, 0, 0]),
+            sched(SchedKind::Deadline, [batch, 1, 1]),
+            sched(SchedKind::Deadline, [batch, 1, 0]),
+        ])
+        .expect(rt, "memory");
+    }
     TrialAsked {
         grid,
         by,

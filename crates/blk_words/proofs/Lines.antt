@@ -24,8 +24,7 @@ use Rattle.blk_words.specs.CommandLine.{Names, AreSchedulers, Subcommand, option
 use Rattle.blk_words.specs.declared.words.Job.{Job}
 use Rattle.blk_words.specs.declared.words.Job.TheVariants as job
 use Rattle.blk_words.specs.Times.{number_in}
-use Rattle.blk_settings.specs.Grids.{Gridded}
-use Rattle.blk_settings.specs.Lists.{grid_given}
+use Rattle.blk_settings.specs.Grids.{grid_given}
 use Rattle.blk_settings.specs.Options.{OptionOf, option_of}
 use Rattle.blk_settings.specs.declared.numbers.Load.{Load}
 use Rattle.blk_settings.specs.declared.options.OptionRow.{OptionRow}
@@ -147,15 +146,6 @@ pub number_by : (bits most : ℕ) → IsGreatest bits most → {E : Type 0} (giv
     → (one_text f id ≡ None → r ≡ None) → ((t : Text) → one_text f id ≡ Some t → ReadsOne gives t r) → r ≡ option_and_then (number_in most) (one_of id (rows_of f))
 number_by bits most g gives w f id r none value = read_number bits most g gives w (one_text f id) r none value ∙ ap (option_and_then (number_in most)) (one_text-rows f id)
 
--- what is found among what a function gives
-of_either : {X Y : Type 0} (f : X → Y) (b : Bool) (x : X) (o : Option X) (p : Option Y) → p ≡ option_map f o → cond b (Some (f x)) p ≡ option_map f (cond b (Some x) o)
-of_either f true x o p e = refl
-of_either f false x o p e = e
-
-pub find_map : {X Y : Type 0} (test : Y → Bool) (f : X → Y) (xs : List X) → find test (map f xs) ≡ option_map f (find (λ x. test (f x)) xs)
-find_map test f [] = refl
-find_map test f (x ∷ xs) = of_either f (test (f x)) x (find (λ x. test (f x)) xs) (find test (map f xs)) (find_map test f xs)
-
 -- the job that is made where it is known what makes it, and where nothing does
 pub made : (o : Option Subcommand) (m : Makes) (rows : List Row) → Some m ≡ option_map (λ s. s.makes) o → job_made m rows ≡ option_and_then (λ s. job_made s.makes rows) o
 made None m rows e = cc e
@@ -217,13 +207,13 @@ named_in g test xs ys a b e f =
     ap (λ o. option_or o b) e ∙ ap (option_or (option_map g (find test xs))) f ∙ sym (map_or g (find test xs) (find test ys)) ∙ ap (option_map g) (sym (find_append test xs ys))
 
 -- words that were parsed ask for the grid of their lists
-pub asks_grid_by : (names : Names) (a : App) (words : List Text) (m : ArgMatches) (g : Gridded) → AreSchedulers names → a ≡ blk_app names → HasMatchesOf a words m
-    → (is_simple_and_free a ≡ true → fault_of a words ≡ []) → option_and_then (λ p. result_ok (grid_given (given_options p.1))) (subcommand_rows_of m) ≡ Some g → AsksGrid words g
+pub asks_grid_by : (names : Names) (a : App) (words : List Text) (m : ArgMatches) (g : List Sched) → AreSchedulers names → a ≡ blk_app names → HasMatchesOf a words m
+    → (is_simple_and_free a ≡ true → fault_of a words ≡ []) → option_and_then (λ p. grid_given (given_options p.1)) (subcommand_rows_of m) ≡ Some g → AsksGrid words g
 asks_grid_by names a words m g are e has kinds is =
     let h = (rw e at has) (simple names) in
     let f : fault_of (blk_app names) words ≡ [] = (rw e at kinds) (free names) in
-    let read : option_and_then (λ p. result_ok (grid_given (given_options p.1))) (subcommand_rows_of m) ≡ grid_read names words =
-    ap (option_and_then (λ p. result_ok (grid_given (given_options p.1)))) {y = subcommand_of (blk_app names) words} h.1 in
+    let read : option_and_then (λ p. grid_given (given_options p.1)) (subcommand_rows_of m) ≡ grid_read names words =
+    ap (option_and_then (λ p. grid_given (given_options p.1))) {y = subcommand_of (blk_app names) words} h.1 in
     (names, are, f, sym read ∙ is)
 
 -- what an Ok is, where it is something else

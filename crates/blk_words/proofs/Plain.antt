@@ -18,8 +18,9 @@ use Rattle.blk_words.specs.declared.words.Refusal.TheVariants as refusal
 use Rattle.blk_words.specs.declared.words.Written.TheVariants as written
 use Rattle.blk_words.specs.CommandLine.{Names, AreSchedulers, blk_app}
 use Rattle.blk_settings.specs.Options.{sched_names}
-use Rattle.blk_settings.specs.Grids.{Gridded}
-use Rattle.blk_settings.specs.Defaults.{default_sched, default_deadline, default_kyber, default_earliest, deadline_in, kyber_within, earliest_late_last, default_lineup, with_earliest, in_batches, whole}
+use Rattle.blk_settings.specs.declared.sched.Sched.{Sched}
+use Rattle.blk_settings.specs.declared.rows.SchedKind.TheVariants as sched
+use Rattle.blk_settings.specs.Defaults.{default_sched, default_deadline, default_kyber, default_earliest, deadline_in, kyber_within, earliest_by, default_lineup, with_earliest, in_batches, whole}
 use Rattle.blk_words.specs.Asked.{Asks, AsksGrid, grid_read, job_read}
 use Rattle.blk_words.specs.Plain.{words_in, AsksFor, AsksForGrid, AsksForNothing, default_trial, five_by_lateness, whole_import, hundred_queued, default_load, own_grid}
 
@@ -70,10 +71,10 @@ asks_nothing words h j a =
     elim a.2 [ inl x ↦ let e : Some j ≡ None = sym x.1 ∙ g.1 in cc e | inr x ↦ absurd (rw g.0 at x.0) ]
 
 -- a line is read as a grid, whatever the places; then it asks for that grid alone
-abbrev pub IsReadAsGrid : List Text → Gridded → Names → Type 0
+abbrev pub IsReadAsGrid : List Text → List Sched → Names → Type 0
 IsReadAsGrid words g names = (fault_of (blk_app names) words ≡ []) × (grid_read names words ≡ Some g)
 
-pub asks_grid_alone : (words : List Text) (k : Gridded) → ((p : ℕ × ℕ) (f : ℕ → ℕ × ℕ) → IsReadAsGrid words k (at_places p f)) → (g : Gridded) → AsksGrid words g ↔ (g ≡ k)
+pub asks_grid_alone : (words : List Text) (k : List Sched) → ((p : ℕ × ℕ) (f : ℕ → ℕ × ℕ) → IsReadAsGrid words k (at_places p f)) → (g : List Sched) → AsksGrid words g ↔ (g ≡ k)
 asks_grid_alone words k h g = (
   λ a. let f = any_names (IsReadAsGrid words k) h a.0 a.1 in let e : Some g ≡ Some k = sym a.3 ∙ f.1 in cc e,
   λ e. let z : ℕ × ℕ = (0, 0) in let f = h z (λ n. z) in (at_places z (λ n. z), refl, f.0, rw e f.1),
@@ -83,7 +84,7 @@ asks_grid_alone words k h g = (
 abbrev pub IsReadSo : String → Job → Type 0
 IsReadSo line j = (name : Text) (p : ℕ × ℕ) (f : ℕ → ℕ × ℕ) → IsReadAs (name ∷ words_in line) j (at_places p f)
 
-abbrev pub IsReadAsGridSo : String → Gridded → Type 0
+abbrev pub IsReadAsGridSo : String → List Sched → Type 0
 IsReadAsGridSo line g = (name : Text) (p : ℕ × ℕ) (f : ℕ → ℕ × ℕ) → IsReadAsGrid (name ∷ words_in line) g (at_places p f)
 
 abbrev pub IsReadAsNothingSo : String → Type 0
@@ -92,7 +93,7 @@ IsReadAsNothingSo line = (name : Text) (p : ℕ × ℕ) (f : ℕ → ℕ × ℕ)
 pub asks_for : (line : String) (k : Job) → IsReadSo line k → AsksFor line k
 asks_for line k h name = asks_alone (name ∷ words_in line) k (h name)
 
-pub asks_for_grid : (line : String) (k : Gridded) → IsReadAsGridSo line k → AsksForGrid line k
+pub asks_for_grid : (line : String) (k : List Sched) → IsReadAsGridSo line k → AsksForGrid line k
 asks_for_grid line k h name = asks_grid_alone (name ∷ words_in line) k (h name)
 
 pub asks_for_nothing : (line : String) → IsReadAsNothingSo line → AsksForNothing line
@@ -118,7 +119,7 @@ pub earliest_line : IsReadSo "sim --sched earliest" (job.OfScript (running.One d
 unfolding clap_on_literals
 earliest_line name p f = (refl, refl)
 
-pub late_last_line : IsReadSo "sim --sched earliest --late-last" (job.OfScript (running.One earliest_late_last))
+pub late_last_line : IsReadSo "sim --sched earliest --late-last" (job.OfScript (running.One (earliest_by true)))
 unfolding clap_on_literals
 late_last_line name p f = (refl, refl)
 
@@ -162,11 +163,11 @@ pub tune_unknown_line : IsReadSo "tune --sched none,cfq" (job.Refuse (refusal.Li
 unfolding clap_on_literals
 tune_unknown_line name p f = (refl, refl)
 
-pub tune_no_list_line : IsReadSo "tune --fifo-batch 1,x" (job.Refuse (refusal.Lists list.FifoBatch))
+pub tune_no_list_line : IsReadSo "tune --fifo-batch 1,x" (job.Refuse (refusal.Lists (list.Numbers sched.Deadline 0)))
 unfolding clap_on_literals
 tune_no_list_line name p f = (refl, refl)
 
-pub tune_twice_line : IsReadSo "tune --read-target 2,5,2" (job.Refuse (refusal.Lists list.ReadTarget))
+pub tune_twice_line : IsReadSo "tune --read-target 2,5,2" (job.Refuse (refusal.Lists (list.Numbers sched.Kyber 0)))
 unfolding clap_on_literals
 tune_twice_line name p f = (refl, refl)
 
@@ -218,7 +219,7 @@ pub picture_line : IsReadSo "picture" (job.OfTrace telling.Picture)
 unfolding clap_on_literals
 picture_line name p f = (refl, refl)
 
-pub drawn_line : IsReadSo "picture --script --earliest --fifo-batch 1" (job.OfScript (running.Drawn (in_batches 1 (with_earliest false))))
+pub drawn_line : IsReadSo "picture --script --earliest --fifo-batch 1" (job.OfScript (running.Drawn (in_batches 1)))
 unfolding clap_on_literals
 drawn_line name p f = (refl, refl)
 

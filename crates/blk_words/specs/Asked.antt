@@ -1,6 +1,5 @@
 -- What the words of a command line ask for.
 use Rattle.std.specs.Prelude.{◌≡◌, ◌≢◌, ◌⊎◌, ◌&&◌, ◌||◌, ◌==◌, ⊤, ℕ, Bool, true, false, not, List, [], find, Option, Some, None, Result, Ok, Err, codes, option_map, option_and_then, if◌then◌else◌}
-use Rattle.std.specs.Result.{result_ok}
 use Rattle.std.specs.Option.{option_map_or}
 use Rattle.std.specs.Str.{bytes_eq}
 use Rattle.blk_settings.specs.declared.given.TheConstants.{MAX_SHORT}
@@ -10,9 +9,9 @@ use Rattle.clap.specs.declared.error.kind.ErrorKind.{ErrorKind}
 use Rattle.clap.specs.declared.error.kind.ErrorKind.TheVariants as kind
 use Rattle.blk_settings.specs.declared.grid.By.{By}
 use Rattle.blk_settings.specs.declared.grid.By.TheVariants as by
-use Rattle.blk_settings.specs.Grids.{Gridded}
 use Rattle.blk_settings.specs.Given.{GivenOptions, sched_given, lineup_given}
-use Rattle.blk_settings.specs.Lists.{grid_given}
+use Rattle.blk_settings.specs.Grids.{grid_given}
+use Rattle.blk_settings.specs.Lists.{list_fault}
 use Rattle.blk_settings.specs.declared.lists.ListFault.{ListFault}
 use Rattle.blk_settings.specs.declared.sched.Lineup.{Lineup}
 use Rattle.blk_settings.specs.declared.sched.Sched.{Sched}
@@ -185,14 +184,14 @@ by_named text =
 abbrev pub by_given : List Row → Option By
 by_given rows = option_and_then by_named (first_of by_option.name rows)
 
--- the trial of a grid, or the refusal of the first option of it that can't be done
-abbrev pub tune_by : Result Gridded ListFault → Option By → Option ℕ → Option ℕ → Form → Job
-tune_by (Err r) b top threads f = job.Refuse (refusal.Lists r)
-tune_by (Ok g) None top threads f = job.Refuse refusal.By
-tune_by (Ok g) (Some b) top threads f = job.Tune (record { by = b; top = top; threads = threads; form = f })
+-- a trial, or the refusal of the first option of it that can't be done
+abbrev pub tune_by : Option ListFault → Option By → Option ℕ → Option ℕ → Form → Job
+tune_by (Some r) b top threads f = job.Refuse (refusal.Lists r)
+tune_by None None top threads f = job.Refuse refusal.By
+tune_by None (Some b) top threads f = job.Tune (record { by = b; top = top; threads = threads; form = f })
 
 abbrev pub tune_job : List Row → Job
-tune_job rows = tune_by (grid_given (given_options rows)) (by_given rows) (number_given top_option.name rows) (number_given threads_option.name rows) (form_asked rows)
+tune_job rows = tune_by (list_fault (given_options rows)) (by_given rows) (number_given top_option.name rows) (number_given threads_option.name rows) (form_asked rows)
 
 -- the job of `oracle` by whether its flags are given, the first two of which may not stand together, nor the last without the first
 abbrev pub oracle_job : Bool → Bool → Bool → Option Job
@@ -207,7 +206,8 @@ oracle_given rows = oracle_job (is_flagged trace_option.name rows) (is_flagged m
 
 -- the job that a subcommand makes of what its options are given
 abbrev pub job_made : Makes → List Row → Option Job
-job_made (makes.Plain j) rows = Some j
+job_made (makes.Told t) rows = Some (job.OfTrace t)
+job_made makes.Explain rows = Some job.Explain
 job_made (makes.Formed k) rows = Some (job.OfTrace (telling.Figures k (form_asked rows)))
 job_made makes.Sim rows = option_map (λ s. job.OfScript (running.One s)) (sched_asked rows)
 job_made makes.Compare rows = compared (form_asked rows) (lineup_asked rows)
@@ -259,12 +259,12 @@ IsNoJob words (no.Usage text) = AreFaulty words
 IsNoJob words no.Nothing = NameNone words
 
 -- the grid by what the options of a subcommand are given, and the one that the command line reads in words
-abbrev pub grid_behind : Option (Text × List Row) → Option Gridded
-grid_behind p = option_and_then (λ p. result_ok (grid_given (given_options p.1))) p
+abbrev pub grid_behind : Option (Text × List Row) → Option (List Sched)
+grid_behind p = option_and_then (λ p. grid_given (given_options p.1)) p
 
-abbrev pub grid_read : Names → List Text → Option Gridded
+abbrev pub grid_read : Names → List Text → Option (List Sched)
 grid_read names words = grid_behind (subcommand_of (blk_app names) words)
 
 -- the words ask for a trial of this grid, whose lists are those of their options, or else those of the whole grid
-abbrev pub AsksGrid : List Text → Gridded → Type 0
+abbrev pub AsksGrid : List Text → List Sched → Type 0
 AsksGrid words g = (names : Names) × AreSchedulers names × (fault_of (blk_app names) words ≡ []) × (grid_read names words ≡ Some g)

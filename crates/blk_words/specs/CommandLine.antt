@@ -10,8 +10,6 @@ use Rattle.blk_settings.specs.Options.{OptionKind, Flag, Name, Short, Number, Ma
 use Rattle.blk_words.specs.declared.inputs.FiguresAsked.{FiguresAsked}
 use Rattle.blk_words.specs.declared.inputs.FiguresAsked.TheVariants as figures
 use Rattle.blk_words.specs.declared.inputs.Telling.TheVariants as telling
-use Rattle.blk_words.specs.declared.words.Job.{Job}
-use Rattle.blk_words.specs.declared.words.Job.TheVariants as job
 use Rattle.blk_words.specs.declared.table.Makes.{Makes}
 use Rattle.blk_words.specs.declared.table.Makes.TheVariants as makes
 use Rattle.blk_words.specs.Options.{json_option, script_option, trace_option, by_option, top_option, threads_option, met_option, each_option, read_expire_option, write_expire_option, from_option, skip_option, first_option, table_option, summary_option, round_option, depth_option, submitters_option, workers_option, bios_option, load_depth_option, busy_option, service_option}
@@ -82,8 +80,8 @@ pub record Subcommand : Type 0 where
 abbrev pub taking : Names → Text → List OptionOf → Makes → Subcommand
 taking names name options m = record { name = name; rules = map (option_rule names) options; makes = m }
 
-abbrev pub plain : Text → Job → Subcommand
-plain name j = record { name = name; rules = []; makes = makes.Plain j }
+abbrev pub plain : Text → Makes → Subcommand
+plain name m = record { name = name; rules = []; makes = m }
 
 -- one over a trace, whose one option is the flag that asks for JSON
 abbrev pub formed : Names → Text → FiguresAsked → Subcommand
@@ -109,8 +107,8 @@ run_table names =
     taking names (codes "sim") (sched_option ∷ tuning) makes.Sim
     ∷ taking names (codes "compare") (added_option ∷ json_option ∷ tuning) makes.Compare
     ∷ taking names (codes "tune") (listing ++ trying) makes.Tune
-    ∷ plain (codes "migrate") (job.OfTrace telling.Whole)
-    ∷ plain (codes "commands") (job.OfTrace telling.Commands)
+    ∷ plain (codes "migrate") (makes.Told telling.Whole)
+    ∷ plain (codes "commands") (makes.Told telling.Commands)
     ∷ formed names (codes "late") figures.Late
     ∷ formed names (codes "misses") figures.Misses
     ∷ formed names (codes "spread") figures.Spread
@@ -124,7 +122,7 @@ other_table names =
     ∷ taking names (codes "check") (json_option ∷ []) makes.Check
     ∷ taking names (codes "import") importing makes.Import
     ∷ taking names (codes "judge") (each_option ∷ []) makes.Judge
-    ∷ plain (codes "explain") job.Explain
+    ∷ plain (codes "explain") makes.Explain
     ∷ taking names (codes "load") (sched_option ∷ trace_option ∷ json_option ∷ (amount_options ++ tuning)) makes.Load
     ∷ []
 

@@ -5,7 +5,7 @@ use Rattle.std.specs.List.{slice_split}
 use Rattle.clap.specs.Words.{Text}
 use Rattle.blk_settings.specs.declared.grid.By.TheVariants as by
 use Rattle.blk_settings.specs.Defaults.{none_and_deadline}
-use Rattle.blk_settings.specs.Grids.{Gridded}
+use Rattle.blk_settings.specs.declared.sched.Sched.{Sched}
 use Rattle.blk_settings.specs.Options.{default_number}
 use Rattle.blk_settings.specs.declared.numbers.Load.{Load}
 use Rattle.blk_words.specs.declared.words.Form.{Form}
@@ -26,8 +26,8 @@ words_in line = slice_split (λ c. c == 32) (codes line)
 abbrev pub AsksFor : String → Job → Type 0
 AsksFor line job = (name : Text) → (j : Job) → Asks (name ∷ words_in line) j ↔ (j ≡ job)
 
-abbrev pub AsksForGrid : String → Gridded → Type 0
-AsksForGrid line grid = (name : Text) → (g : Gridded) → AsksGrid (name ∷ words_in line) g ↔ (g ≡ grid)
+abbrev pub AsksForGrid : String → List Sched → Type 0
+AsksForGrid line grid = (name : Text) → (g : List Sched) → AsksGrid (name ∷ words_in line) g ↔ (g ≡ grid)
 
 abbrev pub AsksForNothing : String → Type 0
 AsksForNothing line = (name : Text) → (j : Job) → Asks (name ∷ words_in line) j → ⊥
@@ -40,8 +40,8 @@ abbrev pub five_by_lateness : Job
 five_by_lateness = job.Tune (record { by = by.Lateness; top = Some 5; threads = Some 4; form = form.Lines })
 
 -- a grid of lists of its own
-abbrev pub own_grid : Gridded
-own_grid = none_and_deadline (16 ∷ 1 ∷ []) (3 ∷ []) (7 ∷ 0 ∷ [])
+abbrev pub own_grid : List Sched
+own_grid = none_and_deadline (16 ∷ 1 ∷ []) (3 ∷ [])
 
 -- an import of all requests where no option says how, in nanoseconds; and one of the first 100 that went out after 2 ms, from when they
 -- were queued, reads due after 150 us

@@ -2,13 +2,13 @@
 
 ghost use Rattle.std.specs.Prelude.{◌∷◌, [], true, false, None, Some, codes};
 ghost use Rattle.clap.specs.Words.{Text};
-ghost use Rattle.blk_settings.specs.Defaults.{default_sched, default_deadline, default_kyber, default_earliest, deadline_in, kyber_within, earliest_late_last, default_lineup, with_earliest, in_batches, whole};
+ghost use Rattle.blk_settings.specs.Defaults.{default_sched, default_deadline, default_kyber, default_earliest, deadline_in, kyber_within, earliest_by, default_lineup, with_earliest, in_batches, whole};
 ghost use Rattle.blk_words.specs.Asked.{Asks};
 ghost use Rattle.blk_words.specs.Plain.{AsksFor, AsksForGrid, AsksForNothing, default_trial, five_by_lateness, whole_import, hundred_queued, default_load, own_grid};
 
 use crate::inputs::{FiguresAsked, Running, Solving, Telling};
 use crate::words::{Form, Job, Refusal, ShownLoad, Written};
-use blk_settings::ListFault;
+use blk_settings::{ListFault, SchedKind};
 
 /// Each of these lines asks for its job and, all but `--version`, for no other; `oracle --trace --met` asks for none. `tune` asks for the
 /// whole grid, or for that of its lists, and for no other.
@@ -18,7 +18,7 @@ pub fn plain_lines()
     ensures deadline { AsksFor "sim --sched deadline" (Job.OfScript (Running.One default_deadline)) }
     ensures kyber { AsksFor "sim --sched kyber" (Job.OfScript (Running.One default_kyber)) }
     ensures earliest { AsksFor "sim --sched earliest" (Job.OfScript (Running.One default_earliest)) }
-    ensures late_last { AsksFor "sim --sched earliest --late-last" (Job.OfScript (Running.One earliest_late_last)) }
+    ensures late_last { AsksFor "sim --sched earliest --late-last" (Job.OfScript (Running.One (earliest_by true))) }
     ensures batch { AsksFor "sim --sched deadline --fifo-batch 1" (Job.OfScript (Running.One (deadline_in 1))) }
     ensures target { AsksFor "sim --sched kyber --read-target 1000000" (Job.OfScript (Running.One (kyber_within 1_000_000))) }
     ensures compare { AsksFor "compare" (Job.OfScript (Running.Each default_lineup Form.Lines)) }
@@ -29,8 +29,8 @@ pub fn plain_lines()
     ensures tune_so { AsksFor "tune --sched deadline,none --fifo-batch 16,1 --by lateness --top 5 --threads 4" five_by_lateness }
     ensures tune_json { AsksFor "tune --json" (default_trial Form.Json) }
     ensures tune_unknown { AsksFor "tune --sched none,cfq" (Job.Refuse (Refusal.Lists ListFault.Scheds)) }
-    ensures tune_no_list { AsksFor "tune --fifo-batch 1,x" (Job.Refuse (Refusal.Lists ListFault.FifoBatch)) }
-    ensures tune_twice { AsksFor "tune --read-target 2,5,2" (Job.Refuse (Refusal.Lists ListFault.ReadTarget)) }
+    ensures tune_no_list { AsksFor "tune --fifo-batch 1,x" (Job.Refuse (Refusal.Lists (ListFault.Numbers SchedKind.Deadline 0))) }
+    ensures tune_twice { AsksFor "tune --read-target 2,5,2" (Job.Refuse (Refusal.Lists (ListFault.Numbers SchedKind.Kyber 0))) }
     ensures tune_by_what { AsksFor "tune --by wait" (Job.Refuse Refusal.By) }
     ensures whole_grid { AsksForGrid "tune" whole }
     ensures own_grid { AsksForGrid "tune --sched deadline,none --fifo-batch 16,1 --writes-starved 3 --write-target 7,0" own_grid }
@@ -43,7 +43,7 @@ pub fn plain_lines()
     ensures spread { AsksFor "spread" (Job.OfTrace (Telling.Figures FiguresAsked.Spread Form.Lines)) }
     ensures spread_json { AsksFor "spread --json" (Job.OfTrace (Telling.Figures FiguresAsked.Spread Form.Json)) }
     ensures picture { AsksFor "picture" (Job.OfTrace Telling.Picture) }
-    ensures drawn { AsksFor "picture --script --earliest --fifo-batch 1" (Job.OfScript (Running.Drawn (in_batches 1 (with_earliest false)))) }
+    ensures drawn { AsksFor "picture --script --earliest --fifo-batch 1" (Job.OfScript (Running.Drawn (in_batches 1))) }
     ensures oracle { AsksFor "oracle" (Job.OfList Solving.Least) }
     ensures report { AsksFor "oracle --trace" (Job.OfTrace (Telling.Figures FiguresAsked.Report Form.Lines)) }
     ensures report_json { AsksFor "oracle --trace --json" (Job.OfTrace (Telling.Figures FiguresAsked.Report Form.Json)) }

@@ -20,8 +20,8 @@ struct Among<'a> {
 }
 
 /// The argument of an option.
-fn option_arg<'a>(alloc: Global, row: &'a OptionRow, among: Among<'a>) -> Arg<'a>
-    ensures rule { rule_of result ≡ rule_for among.entry.names row.now }
+fn option_arg<'a>(alloc: Global, row: OptionRow, among: Among<'a>) -> Arg<'a>
+    ensures rule { rule_of result ≡ rule_for among.entry.names row }
     ensures local { result.global ≡ false }
 {
     let bare = Arg::new(alloc, row.name).long(row.name).help(row.help);
@@ -56,7 +56,7 @@ fn option_arg<'a>(alloc: Global, row: &'a OptionRow, among: Among<'a>) -> Arg<'a
 fn with_options<'a>(
     alloc: Global,
     command: Command<'a>,
-    rows: &'a [OptionRow],
+    rows: &[OptionRow],
     among: Among<'a>,
 ) -> Result<Command<'a>, AllocError>
     requires { (fields_of command).has_globals ≡ false }
@@ -65,7 +65,7 @@ fn with_options<'a>(
 {
     let mut grown = command;
     for i in 0..rows.len() {
-        grown = grown.arg(option_arg(alloc, &rows[i], among))?;
+        grown = grown.arg(option_arg(alloc, rows[i], among))?;
     }
     Ok(grown)
 }
@@ -83,12 +83,14 @@ fn command_of<'a>(
     match row.of_scheds {
         OfScheds::None => with_options(alloc, bare, row.options, among),
         OfScheds::Settings => {
+            let tuning = tuning_options(alloc)?;
             let own = with_options(alloc, bare, row.options, among)?;
-            let all = with_options(alloc, own, tuning_options(), among)?;
+            let all = with_options(alloc, own, tuning.as_slice(), among)?;
             Ok(all)
         }
         OfScheds::Lists => {
-            let lists = with_options(alloc, bare, list_options(), among)?;
+            let listing = list_options(alloc)?;
+            let lists = with_options(alloc, bare, listing.as_slice(), among)?;
             let all = with_options(alloc, lists, row.options, among)?;
             Ok(all)
         }

@@ -2,7 +2,6 @@
 
 use crate::inputs::{FiguresAsked, Telling};
 use crate::option_names;
-use crate::words::Job;
 use blk_settings::numbers::{
     MAX_LOAD_BIOS, MAX_LOAD_DEPTH, MAX_LOAD_SERVICE, MAX_LOAD_SUBMITTERS, MAX_LOAD_WORKERS,
 };
@@ -24,12 +23,14 @@ pub const MAX_THREADS: u64 = 256;
 /// What job the options of a subcommand make.
 #[derive(Clone, Copy)]
 pub enum Makes {
-    /// This one: there are none.
-    Plain(Job),
-    /// These figures of a trace, in the form that is asked for: the flag of JSON is the one option.
-    Formed(FiguresAsked),
     /// A script's run under the scheduler that they name.
     Sim,
+    /// These figures of a trace, in the form that is asked for: the flag of JSON is the one option.
+    Formed(FiguresAsked),
+    /// This of a trace: there are none.
+    Told(Telling),
+    /// What is wrong with a text: there are none.
+    Explain,
     /// The comparison of schedulers of their settings.
     Compare,
     /// The trial of the settings of their lists, if these are lists.
@@ -126,14 +127,14 @@ pub static RUN_COMMANDS: [CommandRow; 9] = [
         about: "Writes a trace in the latest version",
         options: &[],
         of_scheds: OfScheds::None,
-        makes: Makes::Plain(Job::OfTrace(Telling::Whole)),
+        makes: Makes::Told(Telling::Whole),
     },
     CommandRow {
         name: "commands",
         about: "Writes the command list of a trace",
         options: &[],
         of_scheds: OfScheds::None,
-        makes: Makes::Plain(Job::OfTrace(Telling::Commands)),
+        makes: Makes::Told(Telling::Commands),
     },
     CommandRow {
         name: "late",
@@ -278,7 +279,7 @@ pub static OTHER_COMMANDS: [CommandRow; 6] = [
         about: "Tells what a text is, or which record breaks which rule, and what was expected there",
         options: &[],
         of_scheds: OfScheds::None,
-        makes: Makes::Plain(Job::Explain),
+        makes: Makes::Explain,
     },
     CommandRow {
         name: "load",

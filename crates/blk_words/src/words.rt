@@ -3,8 +3,6 @@
 ghost use Rattle.std.specs.Prelude.{◌≡◌, ◌≤◌, map, All, IfOk, IfErr, IfSome, Some, option_map, option_and_then, string_bytes};
 ghost use Rattle.std.specs.Option.{option_or};
 ghost use Rattle.clap.specs.Words.{subcommand_rows_of};
-ghost use Rattle.blk_settings.specs.Grids.{gridded};
-ghost use Rattle.blk_settings.specs.Lists.{AreShort, grid_of_lists};
 ghost use Rattle.blk_words.specs.CommandLine.{Names, table as all_commands};
 ghost use Rattle.blk_words.specs.Inside.Tables.{subcommand_of, makes_among};
 ghost use Rattle.blk_words.specs.Asked.{Asks, AsksGrid, IsNoJob, list_given, by_named, by_given, tune_job, short_given, number_given, is_flagged, given_options, sched_asked, lineup_asked, compared, pictured, amounts_of, shown_of, loaded, load_given, form_by, form_asked, time_given, entry_named, from_given, round_by, round_given, script_asked, unscripted, written_of, takes_all, import_of, import_job, oracle_given, grid_behind, job_made, job_of};
@@ -19,7 +17,8 @@ use crate::option_names;
 use crate::table::{CommandRow, Makes};
 use crate::times::time_of;
 use blk_settings::given::Numbers;
-use blk_settings::{By, Given, Grid, Lineup, ListFault, Lists, Load, Sched};
+use blk_settings::grid::grid_given;
+use blk_settings::{By, Given, Lineup, ListFault, Load, Sched};
 use clap::ArgMatches;
 use clap::error::ErrorKind;
 use std::alloc::{AllocError, Global};
@@ -536,9 +535,8 @@ fn by_given(options: &ArgMatches<'_>) -> Option<By>
 fn tune_job(options: &ArgMatches<'_>) -> Job
     ensures { result ≡ tune_job (given options.now) }
 {
-    match Lists::given(&MatchedOptions { matches: options }) {
-        Ok(_) => {}
-        Err(fault) => return Job::Refuse(Refusal::Lists(fault)),
+    if let Some(fault) = ListFault::first(&MatchedOptions { matches: options }) {
+        return Job::Refuse(Refusal::Lists(fault));
     }
     let Some(by) = by_given(options) else {
         return Job::Refuse(Refusal::By);
@@ -576,7 +574,8 @@ fn job_made(makes: Makes, options: &ArgMatches<'_>) -> Option<Job>
     ensures { result ≡ job_made makes (given options.now) }
 {
     match makes {
-        Makes::Plain(job) => Some(job),
+        Makes::Told(telling) => Some(Job::OfTrace(telling)),
+        Makes::Explain => Some(Job::Explain),
         Makes::Formed(figures) => {
             let form = form_asked(options);
             Some(Job::OfTrace(Telling::Figures(figures, form)))
@@ -659,27 +658,15 @@ pub fn choose(alloc: Global, words: &[String]) -> Result<Job, NoJob>
     }
 }
 
-/// The lists of the subcommand that was read.
-fn lists_of(matches: &ArgMatches<'_>) -> Option<Lists>
-    ensures lists { IfSome result (λ l. grid_behind (subcommand_rows_of matches.now) ≡ Some (grid_of_lists l)) }
-    ensures range { IfSome result AreShort }
-{
-    let (_, options) = matches.subcommand()?;
-    match Lists::given(&MatchedOptions { matches: options }) {
-        Ok(lists) => Some(lists),
-        Err(_) => None,
-    }
-}
-
 /// The grid that the words of a trial ask for, which are read once more. [`AllocError`] where memory ran out, and where the words ask for no
 /// trial: `choose` says whether they do.
-pub fn grid_asked(alloc: Global, words: &[String]) -> Result<Grid, AllocError>
-    ensures { IfOk result (λ g. AsksGrid (map string_bytes words.now) (gridded g)) }
+pub fn grid_asked(alloc: Global, words: &[String]) -> Result<Vec<Sched>, AllocError>
+    ensures { IfOk result (λ g. AsksGrid (map string_bytes words.now) g.items) }
 {
     let command = blk_command(alloc)?;
     match command.try_get_matches_from(words) {
-        Ok(matches) => match lists_of(&matches) {
-            Some(lists) => lists.grid(alloc),
+        Ok(matches) => match matches.subcommand() {
+            Some((_, options)) => grid_given(alloc, &MatchedOptions { matches: options }),
             None => Err(AllocError),
         },
         Err(_) => Err(AllocError),

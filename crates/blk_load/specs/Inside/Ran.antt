@@ -3,7 +3,7 @@ use Rattle.std.specs.Prelude.{ℕ}
 use Rattle.blk_policy.specs.Runs.{IsRunBy}
 use Rattle.blk_sched.specs.Policies.{Policy}
 use Rattle.blk_settings.specs.Ran.{IsRunUnder}
-use Rattle.blk_settings.specs.Rows.{first_meaning, numbers_at_first}
+use Rattle.blk_settings.specs.Scheds.{first_meaning, numbers_at_first}
 use Rattle.blk_settings.specs.declared.Loaded.{Loaded}
 use Rattle.blk_settings.specs.declared.sched.Sched.{Sched}
 

@@ -2,7 +2,7 @@ use Rattle.std.proofs.Common.{◌≡◌, ◌∙◌, List, ap, sym, subst, length
 use Rattle.blk_text.specs.Script.{scripted}
 use Rattle.blk_report.specs.declared.figures.Report.{Report}
 use Rattle.blk_settings.specs.declared.sched.Sched.{Sched}
-use Rattle.blk_settings.specs.Rows.{in_turn}
+use Rattle.blk_settings.specs.Scheds.{in_turn}
 use Rattle.blk_cli.specs.Comparing.{IsReportUnder, AreReports, IsUncompared}
 use Rattle.blk_cli.proofs.Compared.{as_many, table_is, said_of_runs}
 use Rattle.blk_cli.proofs.comparing.table_of.Goals as goal

@@ -3,7 +3,7 @@ use Rattle.std.proofs.lemmas.List.{length-map}
 use Rattle.blk_text.specs.Script.{scripted}
 use Rattle.blk_trace.specs.Traces.{Traced}
 use Rattle.blk_settings.specs.declared.sched.Sched.{Sched}
-use Rattle.blk_settings.specs.Rows.{name_of, in_turn}
+use Rattle.blk_settings.specs.Scheds.{name_of, in_turn}
 use Rattle.blk_runs.specs.Runs.{IsTraceOfScript}
 use Rattle.blk_cli.specs.Comparing.{AreTraces, IsUncompared}
 use Rattle.blk_cli.proofs.Compared.{as_many, pictures_are, said_of_runs}

@@ -1,5 +1,5 @@
 use Rattle.std.specs.Prelude.{codes}
-use Rattle.blk_settings.specs.Rows.{name_of}
+use Rattle.blk_settings.specs.Scheds.{name_of}
 use Rattle.blk_json.specs.Trials.{settings_members}
 use Rattle.blk_json.proofs.Tokens.{text_and_object}
 use Rattle.blk_json.proofs.trial.write_sched.Goals as goal

@@ -1,6 +1,6 @@
 use Rattle.std.proofs.Common.{◌∙◌, ◌++◌, ap, sym}
 use Rattle.std.specs.List.{flat_map}
-use Rattle.blk_settings.specs.Rows.{settings_of}
+use Rattle.blk_settings.specs.Scheds.{settings_of}
 use Rattle.blk_json.specs.Inside.Tokens.{setting_tokens}
 use Rattle.blk_json.proofs.Tokens.{settings_written}
 use Rattle.blk_json.proofs.trial.write_settings.Goals as goal

@@ -6,7 +6,7 @@ use Rattle.blk_runs.specs.declared.fault.RunFault.{RunFault}
 use Rattle.blk_tune.specs.declared.row.TrialRow.{TrialRow}
 use Rattle.blk_tune.specs.Inside.Shares.{AreAnswers}
 use Rattle.blk_tune.proofs.Shares.{one_more_answer, next_place}
-use Rattle.blk_settings.specs.declared.sched.Sched.TheVariants as sched
+use Rattle.blk_settings.proofs.Unmade.{no_sched}
 use Rattle.blk_tune.proofs.trial.share.Goals as goal
 use Rattle.blk_tune.proofs.trial.share.Goals.{else-loop-place-test, then-loop-place-test+in_ok-push+then-until-place}
 
@@ -16,7 +16,7 @@ loop-place-preserved c =
     let old : List (Result TrialRow RunFault) = c.loop-place.all.items in
     let all : List (Result TrialRow RunFault) = old ++ c.row_under.result ∷ [] in
     let more : AreAnswers s c.args.scheds.now c.args.from c.args.step all =
-    one_more_answer s c.args.scheds.now c.args.from c.args.step old c.row_under.result c.loop-place.place c.loop-place.invariant.at (omega arith) c.loop-place.invariant.are sched.None c.row_under.ensures in
+    one_more_answer s c.args.scheds.now c.args.from c.args.step old c.row_under.result c.loop-place.place c.loop-place.invariant.at (omega arith) c.loop-place.invariant.are no_sched c.row_under.ensures in
     let at : c.loop-place.place + c.args.step ≡ c.args.from + length all * c.args.step =
     next_place s c.args.scheds.now c.args.from c.args.step (length old) c.loop-place.place c.loop-place.invariant.at
     ∙ ap (λ n. c.args.from + n * c.args.step) (sym (length_push old c.row_under.result)) in
@@ -30,7 +30,7 @@ returns c = elim c.loop-place-test.branch [
       let old : List (Result TrialRow RunFault) = c.loop-place.all.items in
       let all : List (Result TrialRow RunFault) = old ++ w.row_under.result ∷ [] in
       let more : AreAnswers s c.args.scheds.now c.args.from c.args.step all =
-      one_more_answer s c.args.scheds.now c.args.from c.args.step old w.row_under.result c.loop-place.place c.loop-place.invariant.at (omega arith) c.loop-place.invariant.are sched.None w.row_under.ensures in
+      one_more_answer s c.args.scheds.now c.args.from c.args.step old w.row_under.result c.loop-place.place c.loop-place.invariant.at (omega arith) c.loop-place.invariant.are no_sched w.row_under.ensures in
       let at : c.loop-place.place + c.args.step ≡ c.args.from + length all * c.args.step =
       next_place s c.args.scheds.now c.args.from c.args.step (length old) c.loop-place.place c.loop-place.invariant.at
       ∙ ap (λ n. c.args.from + n * c.args.step) (sym (length_push old w.row_under.result)) in

@@ -1,5 +1,6 @@
 use Rattle.std.proofs.Common.{None, Some, true, false}
 use Rattle.blk_settings.specs.declared.lists.ListFault.TheVariants as list
+use Rattle.blk_settings.specs.declared.rows.SchedKind.TheVariants as sched
 use Rattle.blk_words.specs.declared.inputs.FiguresAsked.TheVariants as figures
 use Rattle.blk_words.specs.declared.inputs.Running.TheVariants as running
 use Rattle.blk_words.specs.declared.inputs.Solving.TheVariants as solving
@@ -9,7 +10,7 @@ use Rattle.blk_words.specs.declared.words.Form.TheVariants as form
 use Rattle.blk_words.specs.declared.words.ShownLoad.TheVariants as shown
 use Rattle.blk_words.specs.declared.words.Refusal.TheVariants as refusal
 use Rattle.blk_words.specs.declared.words.Written.TheVariants as written
-use Rattle.blk_settings.specs.Defaults.{default_sched, default_deadline, default_kyber, default_earliest, deadline_in, kyber_within, earliest_late_last, default_lineup, with_earliest, in_batches, whole}
+use Rattle.blk_settings.specs.Defaults.{default_sched, default_deadline, default_kyber, default_earliest, deadline_in, kyber_within, earliest_by, default_lineup, with_earliest, in_batches, whole}
 use Rattle.blk_words.specs.Plain.{default_trial, five_by_lateness, whole_import, hundred_queued, default_load, own_grid}
 use Rattle.blk_words.proofs.Plain.{asks_for, asks_for_grid, asks_for_nothing, sim_line, none_line, deadline_line, kyber_line, earliest_line, late_last_line, batch_line, target_line, compare_line, compare_earliest_line, compare_late_last_line, compare_json_line, tune_line, tune_so_line, tune_json_line, tune_unknown_line, tune_no_list_line, tune_twice_line, tune_by_what_line, whole_grid_line, own_grid_line, migrate_line, commands_line, late_line, late_json_line, misses_line, misses_json_line, spread_line, spread_json_line, picture_line, drawn_line, oracle_line, report_line, report_json_line, on_time_line, report_and_on_time_line, certificate_json_line, check_line, check_json_line, import_line, import_so_line, summary_line, no_time_line, no_entry_line, table_and_summary_line, script_line, script_alone_line, depth_alone_line, judge_line, judge_each_line, explain_line, load_line, load_json_line, busy_line, traced_line, traced_json_line, version_line}
 use Rattle.blk_words.proofs.asking.plain_lines.Goals as goal
@@ -21,7 +22,7 @@ returns c = record {
   deadline = asks_for "sim --sched deadline" (job.OfScript (running.One default_deadline)) deadline_line;
   kyber = asks_for "sim --sched kyber" (job.OfScript (running.One default_kyber)) kyber_line;
   earliest = asks_for "sim --sched earliest" (job.OfScript (running.One default_earliest)) earliest_line;
-  late_last = asks_for "sim --sched earliest --late-last" (job.OfScript (running.One earliest_late_last)) late_last_line;
+  late_last = asks_for "sim --sched earliest --late-last" (job.OfScript (running.One (earliest_by true))) late_last_line;
   batch = asks_for "sim --sched deadline --fifo-batch 1" (job.OfScript (running.One (deadline_in 1))) batch_line;
   target = asks_for "sim --sched kyber --read-target 1000000" (job.OfScript (running.One (kyber_within 1_000_000))) target_line;
   compare = asks_for "compare" (job.OfScript (running.Each default_lineup form.Lines)) compare_line;
@@ -32,8 +33,8 @@ returns c = record {
   tune_so = asks_for "tune --sched deadline,none --fifo-batch 16,1 --by lateness --top 5 --threads 4" five_by_lateness tune_so_line;
   tune_json = asks_for "tune --json" (default_trial form.Json) tune_json_line;
   tune_unknown = asks_for "tune --sched none,cfq" (job.Refuse (refusal.Lists list.Scheds)) tune_unknown_line;
-  tune_no_list = asks_for "tune --fifo-batch 1,x" (job.Refuse (refusal.Lists list.FifoBatch)) tune_no_list_line;
-  tune_twice = asks_for "tune --read-target 2,5,2" (job.Refuse (refusal.Lists list.ReadTarget)) tune_twice_line;
+  tune_no_list = asks_for "tune --fifo-batch 1,x" (job.Refuse (refusal.Lists (list.Numbers sched.Deadline 0))) tune_no_list_line;
+  tune_twice = asks_for "tune --read-target 2,5,2" (job.Refuse (refusal.Lists (list.Numbers sched.Kyber 0))) tune_twice_line;
   tune_by_what = asks_for "tune --by wait" (job.Refuse refusal.By) tune_by_what_line;
   whole_grid = asks_for_grid "tune" whole whole_grid_line;
   own_grid = asks_for_grid "tune --sched deadline,none --fifo-batch 16,1 --writes-starved 3 --write-target 7,0" own_grid own_grid_line;
@@ -46,7 +47,7 @@ returns c = record {
   spread = asks_for "spread" (job.OfTrace (telling.Figures figures.Spread form.Lines)) spread_line;
   spread_json = asks_for "spread --json" (job.OfTrace (telling.Figures figures.Spread form.Json)) spread_json_line;
   picture = asks_for "picture" (job.OfTrace telling.Picture) picture_line;
-  drawn = asks_for "picture --script --earliest --fifo-batch 1" (job.OfScript (running.Drawn (in_batches 1 (with_earliest false)))) drawn_line;
+  drawn = asks_for "picture --script --earliest --fifo-batch 1" (job.OfScript (running.Drawn (in_batches 1))) drawn_line;
   oracle = asks_for "oracle" (job.OfList solving.Least) oracle_line;
   report = asks_for "oracle --trace" (job.OfTrace (telling.Figures figures.Report form.Lines)) report_line;
   report_json = asks_for "oracle --trace --json" (job.OfTrace (telling.Figures figures.Report form.Json)) report_json_line;

@@ -3,7 +3,6 @@ use Rattle.std.proofs.lemmas.List.{take_all}
 use Rattle.std.proofs.lemmas.List.Sums.{fold_more}
 use Rattle.std.proofs.lemmas.List.Folds.{fold-map}
 use Rattle.clap.specs.Words.{App, app_of}
-use Rattle.blk_words.specs.declared.words.Job.TheVariants as job
 use Rattle.blk_words.specs.declared.table.CommandRow.{CommandRow}
 use Rattle.blk_words.specs.declared.table.Makes.TheVariants as makes
 use Rattle.blk_words.specs.declared.table.OfScheds.TheVariants as of
@@ -14,7 +13,7 @@ use Rattle.blk_words.proofs.command.with_commands.Goals as goal
 
 -- the row where there is none
 abbrev none : CommandRow
-none = record { name = record { ref_ptr = (0, 0); now = [] }; about = record { ref_ptr = (0, 0); now = [] }; options = record { ref_ptr = (0, 0); now = [] }; of_scheds = of.None; makes = makes.Plain job.Version }
+none = record { name = record { ref_ptr = (0, 0); now = [] }; about = record { ref_ptr = (0, 0); now = [] }; options = record { ref_ptr = (0, 0); now = [] }; of_scheds = of.None; makes = makes.Sim }
 
 pub loop-i-preserved : goal.loop-i-preserved
 loop-i-preserved c =

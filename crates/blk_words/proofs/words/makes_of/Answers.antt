@@ -1,18 +1,16 @@
 use Rattle.std.proofs.Common.{◌∙◌, ap, sym, arith, [], option_map}
 use Rattle.std.proofs.lemmas.List.{take_all}
 use Rattle.std.specs.Str.{bytes_eq}
-use Rattle.blk_words.specs.declared.words.Job.TheVariants as job
 use Rattle.blk_words.specs.declared.table.CommandRow.{CommandRow}
 use Rattle.blk_words.specs.declared.table.Makes.TheVariants as makes
 use Rattle.blk_words.specs.declared.table.OfScheds.TheVariants as of
 use Rattle.blk_words.specs.Inside.Tables.{subcommand_of}
-use Rattle.blk_settings.proofs.Found.{found_next, none_more}
-use Rattle.blk_words.proofs.Lines.{find_map}
+use Rattle.blk_settings.proofs.Found.{found_next, none_more, find_map}
 use Rattle.blk_words.proofs.words.makes_of.Goals as goal
 
 -- the row where there is none
 abbrev none : CommandRow
-none = record { name = record { ref_ptr = (0, 0); now = [] }; about = record { ref_ptr = (0, 0); now = [] }; options = record { ref_ptr = (0, 0); now = [] }; of_scheds = of.None; makes = makes.Plain job.Version }
+none = record { name = record { ref_ptr = (0, 0); now = [] }; about = record { ref_ptr = (0, 0); now = [] }; options = record { ref_ptr = (0, 0); now = [] }; of_scheds = of.None; makes = makes.Sim }
 
 pub returns-then-eq : goal.returns-then-eq
 returns-then-eq c names =

@@ -1,0 +1,10 @@
+use Rattle.std.proofs.Common.{◌≡◌, Some, map, take, length}
+use Rattle.blk_settings.specs.Given.{all_compared}
+use Rattle.blk_settings.specs.Rows.{row_of}
+use Rattle.blk_settings.proofs.sched.Lineup.given.Given as goal
+
+abbrev pub invariant-loop-i : goal.invariant-loop-i
+invariant-loop-i g l = record {
+  whole : length l.scheds ≡ 4;
+  given : all_compared (g.G.Given.given l.options) (map row_of (take l.i l.rows)) ≡ Some (take l.i l.scheds);
+}

@@ -1,0 +1,48 @@
+-- Schedulers with their settings.
+use Rattle.std.specs.Prelude.{ℕ, ◌+◌, List, [], ◌∷◌, Option, None, Some}
+use Rattle.blk_sched.specs.Meaning.{Meaning}
+use Rattle.blk_sched.specs.Policies.{Policy}
+use Rattle.blk_settings.specs.Rows.{SettingOf, RangeOf, Short, UpTo, Switch, row_for, sched_for, value_at, is_on}
+use Rattle.blk_settings.specs.Settings.{NamedSetting, number_setting, switch_setting}
+use Rattle.blk_settings.specs.declared.sched.Lineup.{Lineup}
+use Rattle.blk_settings.specs.declared.sched.Sched.{Sched}
+
+-- a setting of this value
+abbrev pub told_in : RangeOf → List ℕ → ℕ → NamedSetting
+told_in (Short default list) name n = number_setting name n
+told_in (UpTo most default list) name n = number_setting name n
+told_in (Switch turned) name n = switch_setting name (is_on n)
+
+abbrev pub told : SettingOf → ℕ → NamedSetting
+told s n = told_in s.range s.name n
+
+-- settings from a place on, by their values
+abbrev pub told_from : ℕ → List SettingOf → List ℕ → List NamedSetting
+told_from place [] values = []
+told_from place (s ∷ settings) values = told s (value_at place values) ∷ told_from (place + 1) settings values
+
+-- of a scheduler: its settings as they are, its name, its policy, what it means before it has any request, and what it keeps then at a depth
+abbrev pub settings_of : Sched → List NamedSetting
+settings_of s = told_from 0 (row_for s.kind).settings s.values
+
+abbrev pub name_of : Sched → List ℕ
+name_of s = (row_for s.kind).name
+
+abbrev pub policy_of : Sched → Policy
+policy_of s = (sched_for s.kind).policy
+
+abbrev pub first_meaning : Sched → Meaning
+first_meaning s = (sched_for s.kind).meaning s.values
+
+abbrev pub numbers_at_first : Sched → ℕ → List ℕ
+numbers_at_first s depth = (sched_for s.kind).kept s.values depth
+
+-- those of some that there are
+abbrev pub those_there : List (Option Sched) → List Sched
+those_there [] = []
+those_there (None ∷ scheds) = those_there scheds
+those_there (Some s ∷ scheds) = s ∷ those_there scheds
+
+-- the schedulers that are compared, in the order in which they run
+abbrev pub in_turn : Lineup → List Sched
+in_turn l = those_there l.scheds
