@@ -1,12 +1,13 @@
 //! A capture, read from its text.
 
-ghost use Rattle.std.specs.Prelude.{◌≡◌, ◌⊎◌, ◌+◌, ◌++◌, ◌∷◌, ◌≤◌, ◌<◌, ◌-◌, ◌^◌, [], IfOk, IfErr, IfSome, OnOk, OnErr, length};
+ghost use Rattle.std.specs.Prelude.{◌≡◌, ◌⊎◌, ◌+◌, ◌++◌, ◌∷◌, ◌≤◌, ◌<◌, ◌-◌, ◌^◌, [], IfOk, IfErr, IfSome, OnOk, OnErr, length, codes};
 ghost use Rattle.csv.specs.Records.{fields_of};
 ghost use Rattle.blk_lists.specs.Reads.{FaultsBy, Halts, Reaches};
 ghost use Rattle.blk_capture.specs.Requests.{AreInOrder};
 ghost use Rattle.blk_capture_text.specs.Recorded.{IsRecordAfter, RecordLacks, record_at, time_at};
 ghost use Rattle.blk_capture_text.specs.Captures.{capture_form, records_body, SpellsCapture, CaptureTextFault};
 ghost use Rattle.blk_capture_text.specs.Inside.Taking.{TellAll};
+ghost use Rattle.blk_lists.specs.Titles.{IsTitleOf};
 
 use crate::record::{WIDTH, read_row};
 use blk_capture::Record;
@@ -167,6 +168,8 @@ pub fn read_capture<R: Read + Drop>(
     ensures reads { (1 ≤ records.new.at) × (records.new.at ≤ MAX_RECORDS + 2) }
     // the last thing that was asked for is the record after these, which there is not
     ensures end { IfOk result (λ v. records.new.at ≡ length v.items + 2) }
+    // the title is that of the form, by its name and its latest version
+    ensures title { IsTitleOf CAPTURE (codes "blk-capture") 1 }
 {
     match read_title(records, &CAPTURE) {
         Ok(_) => {}

@@ -31,6 +31,10 @@ IsOfVersion name latest row version = IsVersion latest version × IsTitled name 
 abbrev pub HasNoVersion : List ℕ → ℕ → Row → Type 0
 HasNoVersion name latest row = (version : ℕ) → IsVersion latest version → ¬ IsTitled name version row
 
+-- a row is the title of the form of this name, whose latest version is this
+abbrev pub IsTitleOf : {letters fields : ℕ} → TitleRow letters fields → List ℕ → ℕ → Type 0
+IsTitleOf title name latest = (title.word ≡ name) × (title.latest ≡ latest)
+
 -- the most that a number may be in a version, where it may be this much in the first one
 abbrev pub most_in : Wider → ℕ → ℕ → ℕ
 most_in wider version most = cond (nat_le wider.since version) wider.most most

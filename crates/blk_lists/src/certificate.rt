@@ -13,7 +13,7 @@ ghost use Rattle.blk_lists.specs.Words.{StartsWith};
 ghost use Rattle.blk_lists.specs.Texts.{rows_text, AddsRows};
 ghost use Rattle.drafts.specs.Parts.{AppendsPart};
 ghost use Rattle.drafts.specs.Drafts.{drafted};
-ghost use Rattle.blk_lists.specs.Titles.{IsCounted};
+ghost use Rattle.blk_lists.specs.Titles.{IsCounted, IsTitleOf};
 ghost use Rattle.blk_lists.specs.Certificate.{claimed, claim_form, IsClaim, SpellsClaim, ClaimFault, claim_rows, claim_body, claim_told, bound as bound_part, bound_cells, no_bound_row, served_cells};
 ghost use Rattle.blk_lists.specs.Inside.Certificate.{bound_row};
 
@@ -282,6 +282,8 @@ pub fn read_certificate<R: Read + Drop>(
     ensures reads { (1 ≤ records.new.at) × (records.new.at ≤ MAX_COMMANDS + 3) }
     // the last thing that was asked for is the record after the commands, which there is not
     ensures end { IfOk result (λ c. records.new.at ≡ length c.commands.items + 3) }
+    // the title is that of the form, by its name and its latest version
+    ensures title { IsTitleOf CERTIFICATE (codes "blk-certificate") 1 }
 {
     let (_, [_, _, depth, count]) = match read_title(records, &CERTIFICATE) {
         Ok(title) => title,

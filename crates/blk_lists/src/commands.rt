@@ -1,11 +1,12 @@
 //! Command lists.
 
-ghost use Rattle.std.specs.Prelude.{◌≡◌, ◌+◌, ◌≤◌, ◌<◌, ◌^◌, IfOk, IfErr, IfSome, OnOk, length};
+ghost use Rattle.std.specs.Prelude.{◌≡◌, ◌+◌, ◌≤◌, ◌<◌, ◌^◌, IfOk, IfErr, IfSome, OnOk, length, codes};
 ghost use Rattle.std.specs.Io.KnownBytes.{Appends};
 ghost use Rattle.blk_lists.specs.Texts.{rows_text};
 ghost use Rattle.drafts.specs.Parts.{AppendsPart};
 ghost use Rattle.blk_lists.specs.Reads.{FaultsBy, Reaches};
 ghost use Rattle.blk_lists.specs.Commands.{AreCommands, SpellsCommands, CommandsFault, command_list, commands_rows};
+ghost use Rattle.blk_lists.specs.Titles.{IsTitleOf};
 
 use crate::fault::{TextFault, Why};
 use crate::fields::{ANY_SLOT, DEPTH_SLOT, RELEASE_SLOT, ROUND_SLOT, Slot, read_fields};
@@ -81,6 +82,8 @@ pub fn read_commands<R: Read + Drop>(
     ensures reads { (1 ≤ records.new.at) × (records.new.at ≤ MAX_COMMANDS + 2) }
     // the last thing that was asked for is the record after the commands, which there is not
     ensures end { IfOk result (λ v. records.new.at ≡ length v.1.items + 2) }
+    // the title is that of the form, by its name and its latest version
+    ensures title { IsTitleOf COMMANDS (codes "blk-commands") 1 }
 {
     let (_, [_, _, depth]) = match read_title(records, &COMMANDS) {
         Ok(title) => title,

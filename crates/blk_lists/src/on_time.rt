@@ -7,7 +7,7 @@ ghost use Rattle.blk_lists.specs.Reads.{FaultsBy, Reads, ReadsAll, Halts, Reache
 ghost use Rattle.blk_lists.specs.Tables.{row_by};
 ghost use Rattle.blk_lists.specs.Texts.{rows_text, AddsRows};
 ghost use Rattle.drafts.specs.Parts.{AppendsPart};
-ghost use Rattle.blk_lists.specs.Titles.{IsCounted};
+ghost use Rattle.blk_lists.specs.Titles.{IsCounted, IsTitleOf};
 ghost use Rattle.blk_lists.specs.OnTime.{on_time_claimed, on_time_form, IsOnTimeClaim, SpellsOnTime, OnTimeClaimFault, on_time_rows, text_of, window_cells, windows, on_time_body, on_time_told};
 
 use crate::certificate::{ServedForm, push_schedule, split};
@@ -209,6 +209,8 @@ pub fn read_on_time<R: Read + Drop>(
     ensures reads { (1 ≤ records.new.at) × (records.new.at ≤ 2 * MAX_COMMANDS + 3) }
     // the last thing that was asked for is the record after the commands, which there is not
     ensures end { IfOk result (λ c. records.new.at ≡ length c.cover.items + length c.commands.items + 3) }
+    // the title is that of the form, by its name and its latest version
+    ensures title { IsTitleOf ON_TIME (codes "blk-met") 1 }
 {
     let (_, [_, _, depth, count]) = match read_title(records, &ON_TIME) {
         Ok(title) => title,

@@ -1,6 +1,6 @@
 //! Schedules, by whatever scheduler.
 
-ghost use Rattle.std.specs.Prelude.{◌≡◌, ◌⊎◌, ◌+◌, ◌≤◌, ◌<◌, ◌-◌, ◌^◌, false, All, IfOk, IfErr, IfSome, OnOk, length};
+ghost use Rattle.std.specs.Prelude.{◌≡◌, ◌⊎◌, ◌+◌, ◌≤◌, ◌<◌, ◌-◌, ◌^◌, false, All, IfOk, IfErr, IfSome, OnOk, length, codes};
 ghost use Rattle.std.specs.Bool.{OnTrue};
 ghost use Rattle.std.specs.Io.KnownBytes.{Appends};
 ghost use Rattle.csv.specs.Records.{fields_of};
@@ -9,6 +9,7 @@ ghost use Rattle.blk_lists.specs.Texts.{rows_text};
 ghost use Rattle.drafts.specs.Parts.{AppendsPart};
 ghost use Rattle.blk_lists.specs.Schedule.{viewed, schedule_form, schedule_body, schedule_rows, IsNew, IsScheduleView, SpellsSchedule, ScheduleFault};
 ghost use Rattle.blk_lists.specs.Inside.Schedule.{IsPastCommands, IsAdded, AreFit, AreIds, DoRise, HasIds};
+ghost use Rattle.blk_lists.specs.Titles.{IsTitleOf};
 
 use crate::certificate::{ServedForm, push_schedule, split};
 use crate::fault::{TextFault, Why};
@@ -253,6 +254,8 @@ pub fn read_schedule<R: Read + Drop>(
     ensures reads { (1 ≤ records.new.at) × (records.new.at ≤ MAX_COMMANDS + 2) }
     // the last thing that was asked for is the record after the commands, which there is not
     ensures end { IfOk result (λ s. records.new.at ≡ length s.commands.items + 2) }
+    // the title is that of the form, by its name and its latest version
+    ensures title { IsTitleOf SCHEDULE (codes "blk-schedule") 1 }
 {
     let (_, [_, _, depth, count]) = match read_title(records, &SCHEDULE) {
         Ok(title) => title,

@@ -1,6 +1,6 @@
 //! Scripts.
 
-ghost use Rattle.std.specs.Prelude.{◌≡◌, ◌+◌, ◌++◌, ◌∷◌, ◌≤◌, [], IfOk, IfErr, IfSome, OnOk, get_or, length};
+ghost use Rattle.std.specs.Prelude.{◌≡◌, ◌+◌, ◌++◌, ◌∷◌, ◌≤◌, [], IfOk, IfErr, IfSome, OnOk, get_or, length, codes};
 ghost use Rattle.csv.specs.Records.{fields_of};
 ghost use Rattle.blk_lists.specs.Reads.{FaultsBy, IsRowOf, IsWrongRecord, Reaches};
 ghost use Rattle.blk_lists.specs.Texts.{rows_text};
@@ -10,6 +10,7 @@ ghost use Rattle.blk_text.specs.Script.{step, IsScript, SpellsScript, ScriptFaul
 ghost use Rattle.blk_text.specs.StepRecords.{step_row};
 ghost use Rattle.drafts.specs.Drafts.{drafted};
 ghost use Rattle.blk_bio.specs.declared.limits.TheConstants.{MAX_QUEUES as MAX_QUEUES, MAX_SOFT_QUEUES as MAX_SOFT_QUEUES};
+ghost use Rattle.blk_lists.specs.Titles.{IsTitleOf};
 
 use crate::bios::{BIO, push_bio, read_bio};
 use crate::heads::{BACK, DEPTH, DONE, ISSUE, ONE, TICK};
@@ -248,6 +249,8 @@ pub fn read_script<R: Read + Drop>(
     ensures reads { (1 ≤ records.new.at) × (records.new.at ≤ MAX_STEPS + 3) }
     // the last thing that was asked for is the record after the steps, which there is not
     ensures end { IfOk result (λ s. records.new.at ≡ length s.lines.items + 3) }
+    // the title is that of the form, by its name and its latest version
+    ensures title { IsTitleOf SCRIPT (codes "blk-script") LATEST }
 {
     let (version, [_, _, depth, queues, soft_depth, submitters]) = match read_title(
         records, &SCRIPT,
