@@ -16,7 +16,7 @@ use Rattle.edd_check.specs.declared.Crowding.{Crowding}
 use Rattle.edd_check.specs.declared.CheckFault.{CheckFault}
 use Rattle.edd_check.specs.Check.{IsAnswer, IsCrowding}
 use Rattle.edd_commands.proofs.InForce.{carried_fixed}
-use Rattle.blk_words.specs.declared.words.Form.{Form}
+use Rattle.blk_settings.specs.declared.form.Form.{Form}
 use Rattle.blk_cli.specs.Certificates.{IsProof, IsRefusedBound, bound_in, verdict_in}
 use Rattle.blk_cli.specs.Inside.Certificates.{IsCrowdingOf}
 use Rattle.edd_oracle.specs.Answer.{IsBest}

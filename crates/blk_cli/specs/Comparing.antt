@@ -9,8 +9,8 @@ use Rattle.blk_picture.specs.Pictures.{IsPictures}
 use Rattle.blk_json.specs.Tables.{IsTableJson}
 use Rattle.blk_words.specs.declared.inputs.Running.{Running}
 use Rattle.blk_words.specs.declared.inputs.Running.TheVariants as running
-use Rattle.blk_words.specs.declared.words.Form.{Form}
-use Rattle.blk_words.specs.declared.words.Form.TheVariants as form
+use Rattle.blk_settings.specs.declared.form.Form.{Form}
+use Rattle.blk_settings.specs.declared.form.Form.TheVariants as form
 use Rattle.blk_runs.specs.Runs.{IsTraceOfScript}
 use Rattle.blk_runs.specs.Firsts.{AreUnmade, IsFirstRefused}
 use Rattle.blk_settings.specs.declared.sched.Lineup.{Lineup}

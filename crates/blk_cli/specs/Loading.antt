@@ -12,8 +12,8 @@ use Rattle.blk_settings.specs.declared.numbers.Load.{Load}
 use Rattle.blk_trace.specs.Events.{AreOnce}
 use Rattle.blk_trace.specs.Traces.{Traced}
 use Rattle.blk_json.specs.Loads.{load_json}
-use Rattle.blk_words.specs.declared.words.Form.{Form}
-use Rattle.blk_words.specs.declared.words.Form.TheVariants as form
+use Rattle.blk_settings.specs.declared.form.Form.{Form}
+use Rattle.blk_settings.specs.declared.form.Form.TheVariants as form
 use Rattle.blk_words.specs.declared.words.ShownLoad.{ShownLoad}
 use Rattle.blk_words.specs.declared.words.ShownLoad.TheVariants as shown
 use Rattle.blk_cli.specs.OfTraces.{IsTraceText}

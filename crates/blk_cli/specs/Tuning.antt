@@ -8,8 +8,8 @@ use Rattle.blk_tune.specs.declared.row.TrialRow.{TrialRow}
 use Rattle.blk_tune.specs.Tuned.{AreTuned, IsTuned}
 use Rattle.blk_json.specs.Trials.{trial_json}
 use Rattle.blk_words.specs.Asked.{AsksGrid}
-use Rattle.blk_words.specs.declared.words.Form.{Form}
-use Rattle.blk_words.specs.declared.words.Form.TheVariants as form
+use Rattle.blk_settings.specs.declared.form.Form.{Form}
+use Rattle.blk_settings.specs.declared.form.Form.TheVariants as form
 use Rattle.blk_words.specs.declared.words.Tuning.{Tuning}
 use Rattle.blk_cli.specs.declared.failure.Failure.{Failure}
 use Rattle.blk_cli.specs.declared.failure.Failure.TheVariants as failure

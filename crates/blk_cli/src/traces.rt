@@ -5,16 +5,12 @@ ghost use Rattle.blk_text.specs.TraceForm.{SpellsTrace, TraceTextFault};
 ghost use Rattle.blk_text.specs.TraceRecords.{IsTrace};
 ghost use Rattle.blk_cli.specs.Inputs.{Of, FailsOver};
 ghost use Rattle.blk_cli.specs.Names.{unlisted_fault_name};
-ghost use Rattle.blk_cli.specs.OfTraces.{IsTellingText, IsUntold, late_in, misses_in, spread_in, report_in};
+ghost use Rattle.blk_cli.specs.OfTraces.{IsTellingText, IsUntold};
 
 use crate::failure::Failure;
-use blk_json::{late_json, misses_json, report_json, spread_json};
+use blk_json::{late_answer, misses_answer, report_answer, spread_answer};
 use blk_lists::{Records, commands_text};
 use blk_picture::picture;
-use blk_report::{
-    LateCommand, Missed, Report, Spreads, late, late_lines, misses, misses_lines, report,
-    report_lines, services, spread, spread_lines,
-};
 use blk_text::{read_trace, trace_text};
 use blk_trace::Trace;
 use blk_words::{FiguresAsked, Form, Telling};
@@ -70,105 +66,6 @@ fn whole_of(alloc: Global, trace: &Trace) -> Result<Vec<u8>, Failure>
     }
 }
 
-/// The late commands in this form.
-fn late_text(alloc: Global, form: Form, late: &[LateCommand]) -> Result<Vec<u8>, AllocError>
-    ensures { IfOk result (λ text. text.items ≡ late_in form late.now) }
-{
-    match form {
-        Form::Lines => late_lines(alloc, late),
-        Form::Json => late_json(alloc, late),
-    }
-}
-
-/// Which commands of a trace were late.
-fn late_of(alloc: Global, form: Form, trace: &Trace) -> Result<Vec<u8>, Failure>
-    ensures text { IfOk result (λ text. IsTellingText (Telling.Figures FiguresAsked.Late form) trace.now text.items) }
-    ensures untold { IfErr result (IsUntold (Telling.Figures FiguresAsked.Late form) trace.now) }
-{
-    let Ok(late) = late(trace) else {
-        return Err(Failure::Memory);
-    };
-    match late_text(alloc, form, late.as_slice()) {
-        Ok(text) => Ok(text),
-        Err(_) => Err(Failure::Memory),
-    }
-}
-
-/// The misses in this form.
-fn misses_text(alloc: Global, form: Form, misses: &Missed<Global>) -> Result<Vec<u8>, AllocError>
-    ensures { IfOk result (λ text. text.items ≡ misses_in form misses.now.tally misses.now.windows.items) }
-{
-    match form {
-        Form::Lines => misses_lines(alloc, misses),
-        Form::Json => misses_json(alloc, misses),
-    }
-}
-
-/// How many commands of a trace were late.
-fn misses_of(alloc: Global, form: Form, trace: &Trace) -> Result<Vec<u8>, Failure>
-    ensures text { IfOk result (λ text. IsTellingText (Telling.Figures FiguresAsked.Misses form) trace.now text.items) }
-    ensures untold { IfErr result (IsUntold (Telling.Figures FiguresAsked.Misses form) trace.now) }
-{
-    let Ok(missed) = misses(trace) else {
-        return Err(Failure::Memory);
-    };
-    match misses_text(alloc, form, &missed) {
-        Ok(text) => Ok(text),
-        Err(_) => Err(Failure::Memory),
-    }
-}
-
-/// The quantiles in this form.
-fn spread_text(alloc: Global, form: Form, spread: &Spreads) -> Result<Vec<u8>, AllocError>
-    ensures { IfOk result (λ text. text.items ≡ spread_in form spread.now) }
-{
-    match form {
-        Form::Lines => spread_lines(alloc, spread),
-        Form::Json => spread_json(alloc, spread),
-    }
-}
-
-/// How long the commands of a trace waited, and how late they were.
-fn spread_of(alloc: Global, form: Form, trace: &Trace) -> Result<Vec<u8>, Failure>
-    ensures text { IfOk result (λ text. IsTellingText (Telling.Figures FiguresAsked.Spread form) trace.now text.items) }
-    ensures untold { IfErr result (IsUntold (Telling.Figures FiguresAsked.Spread form) trace.now) }
-{
-    let Ok(services) = services(trace) else {
-        return Err(Failure::Memory);
-    };
-    let Ok(spreads) = spread(alloc, services.as_slice()) else {
-        return Err(Failure::Memory);
-    };
-    match spread_text(alloc, form, &spreads) {
-        Ok(text) => Ok(text),
-        Err(_) => Err(Failure::Memory),
-    }
-}
-
-/// The report in this form.
-fn report_text(alloc: Global, form: Form, report: &Report) -> Result<Vec<u8>, AllocError>
-    ensures { IfOk result (λ text. text.items ≡ report_in form report.now) }
-{
-    match form {
-        Form::Lines => report_lines(alloc, report),
-        Form::Json => report_json(alloc, report),
-    }
-}
-
-/// How far a trace fell short.
-fn report_of(alloc: Global, form: Form, trace: &Trace) -> Result<Vec<u8>, Failure>
-    ensures text { IfOk result (λ text. IsTellingText (Telling.Figures FiguresAsked.Report form) trace.now text.items) }
-    ensures untold { IfErr result (IsUntold (Telling.Figures FiguresAsked.Report form) trace.now) }
-{
-    let Ok(report) = report(trace) else {
-        return Err(Failure::Memory);
-    };
-    match report_text(alloc, form, &report) {
-        Ok(text) => Ok(text),
-        Err(_) => Err(Failure::Memory),
-    }
-}
-
 /// The picture of a trace.
 fn picture_of(alloc: Global, trace: &Trace) -> Result<Vec<u8>, Failure>
     ensures text { IfOk result (λ text. IsTellingText Telling.Picture trace.now text.items) }
@@ -177,6 +74,23 @@ fn picture_of(alloc: Global, trace: &Trace) -> Result<Vec<u8>, Failure>
     match picture(alloc, trace) {
         Ok(text) => Ok(text),
         Err(_) => Err(Failure::Memory),
+    }
+}
+
+/// Figures of a trace in this form.
+fn figures_of(
+    alloc: Global,
+    asked: FiguresAsked,
+    form: Form,
+    trace: &Trace,
+) -> Result<Vec<u8>, AllocError>
+    ensures { IfOk result (λ text. IsTellingText (Telling.Figures asked form) trace.now text.items) }
+{
+    match asked {
+        FiguresAsked::Late => late_answer(alloc, form, trace),
+        FiguresAsked::Misses => misses_answer(alloc, form, trace),
+        FiguresAsked::Spread => spread_answer(alloc, form, trace),
+        FiguresAsked::Report => report_answer(alloc, form, trace),
     }
 }
 
@@ -190,10 +104,10 @@ fn told_of(alloc: Global, telling: Telling, trace: &Trace) -> Result<Vec<u8>, Fa
         Telling::Whole => whole_of(alloc, trace),
         Telling::Commands => list_of(alloc, trace),
         Telling::Picture => picture_of(alloc, trace),
-        Telling::Figures(FiguresAsked::Late, form) => late_of(alloc, form, trace),
-        Telling::Figures(FiguresAsked::Misses, form) => misses_of(alloc, form, trace),
-        Telling::Figures(FiguresAsked::Spread, form) => spread_of(alloc, form, trace),
-        Telling::Figures(FiguresAsked::Report, form) => report_of(alloc, form, trace),
+        Telling::Figures(asked, form) => match figures_of(alloc, asked, form, trace) {
+            Ok(text) => Ok(text),
+            Err(_) => Err(Failure::Memory),
+        },
     }
 }
 

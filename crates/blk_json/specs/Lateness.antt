@@ -1,11 +1,18 @@
--- The late commands as JSON.
-use Rattle.std.specs.Prelude.{ℕ, List, [], ◌∷◌, ◌++◌, codes, map}
+-- The late commands as JSON, and the answer on a trace's.
+use Rattle.std.specs.Prelude.{◌≡◌, ℕ, List, [], ◌∷◌, ◌++◌, codes, map}
 use Rattle.json.specs.Json as json
 use Rattle.edd_verdict.specs.declared.Verdict.{Verdict}
 use Rattle.edd_verdict.specs.declared.Verdict.TheVariants.{Arrival, Spare, Full}
 use Rattle.blk_bio.specs.Letters.{direction_text}
+use Rattle.blk_trace.specs.Depths.{capacity_of}
+use Rattle.blk_trace.specs.Traces.{Traced}
 use Rattle.blk_report.specs.declared.delays.LateCommand.{LateCommand}
 use Rattle.blk_report.specs.declared.serving.Service.{Service}
+use Rattle.blk_report.specs.Late.{AreAllLate}
+use Rattle.blk_report.specs.LateText.{late_lines}
+use Rattle.blk_report.specs.Services.{services_of}
+use Rattle.blk_settings.specs.declared.form.Form.{Form}
+use Rattle.blk_settings.specs.declared.form.Form.TheVariants as form
 use Rattle.blk_json.specs.Values.{count, array_of, object_of, value_line}
 
 -- the members of its request and its rounds
@@ -33,3 +40,14 @@ late_list late = object_of ((codes "late", array_of (map late_value late)) ∷ [
 
 abbrev pub late_json : List LateCommand → List ℕ
 late_json late = value_line (late_list late)
+
+-- in either form
+abbrev pub late_in : Form → List LateCommand → List ℕ
+late_in form.Lines late = late_lines late
+late_in form.Json late = late_json late
+
+-- the trace's commands that were late
+pub record IsLateText (f : Form) (trace : Traced) (text : List ℕ) : Type 0 where
+  pub late : List LateCommand
+  pub are_late : AreAllLate (services_of trace.setup trace.events) (capacity_of trace.setup trace.events) late
+  pub is_text : text ≡ late_in f late

@@ -1,10 +1,15 @@
--- A report as JSON.
-use Rattle.std.specs.Prelude.{ℕ, List, [], ◌∷◌, Option, None, Some, codes}
+-- A report as JSON, and the answer on a trace's.
+use Rattle.std.specs.Prelude.{◌≡◌, ℕ, List, [], ◌∷◌, Option, None, Some, codes}
 use Rattle.json.specs.Json as json
 use Rattle.edd_check.specs.declared.Window.{Window}
 use Rattle.edd_figures.specs.Figures.{greatest_in, least_in, shortfall_in}
 use Rattle.edd_figures.specs.declared.lateness.Figures.{Figures}
+use Rattle.blk_trace.specs.Traces.{Traced}
 use Rattle.blk_report.specs.declared.figures.Report.{Report}
+use Rattle.blk_report.specs.Lines.{report_text}
+use Rattle.blk_report.specs.Shortfall.{IsReport}
+use Rattle.blk_settings.specs.declared.form.Form.{Form}
+use Rattle.blk_settings.specs.declared.form.Form.TheVariants as form
 use Rattle.blk_json.specs.Values.{count, figure, count_or_null, object_of, value_line}
 
 -- the first round of a window and the one in which it is due, or `null` where there is none
@@ -35,3 +40,14 @@ report_value r =
 
 abbrev pub report_json : Report → List ℕ
 report_json r = value_line (report_value r)
+
+-- in either form
+abbrev pub report_in : Form → Report → List ℕ
+report_in form.Lines report = report_text report
+report_in form.Json report = report_json report
+
+-- the trace's report
+pub record IsReportText (f : Form) (trace : Traced) (text : List ℕ) : Type 0 where
+  pub report : Report
+  pub is_report : IsReport trace.setup trace.events report
+  pub is_text : text ≡ report_in f report

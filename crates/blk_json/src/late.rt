@@ -1,16 +1,18 @@
-//! The late commands as JSON.
+//! The late commands as JSON, and the answer on a trace's.
 
 ghost use Rattle.std.specs.Prelude.{◌≡◌, ◌++◌, IfOk, OnOk, codes};
 ghost use Rattle.std.specs.List.{flat_map};
 ghost use Rattle.json.specs.Json as value;
 ghost use Rattle.json.specs.Tree.{json_tokens};
 ghost use Rattle.blk_bio.specs.Letters.{direction_text};
-ghost use Rattle.blk_json.specs.Lateness.{service_members, verdict_members, late_value, late_json};
+ghost use Rattle.blk_json.specs.Lateness.{service_members, verdict_members, late_value, late_json, late_in, IsLateText};
 ghost use Rattle.blk_json.specs.Inside.Tokens.{member_tokens, tokens_of};
 
 use crate::page::Page;
 use blk_bio::Dir;
-use blk_report::{LateCommand, Service};
+use blk_report::{LateCommand, Service, late, late_lines};
+use blk_settings::Form;
+use blk_trace::Trace;
 use edd_verdict::Verdict;
 use std::alloc::{AllocError, Global};
 
@@ -101,4 +103,22 @@ pub fn late_json(alloc: Global, late: &[LateCommand]) -> Result<Vec<u8>, AllocEr
     page.end_array()?;
     page.end_object()?;
     page.finish()
+}
+
+/// The late commands in this form.
+fn late_in(alloc: Global, form: Form, late: &[LateCommand]) -> Result<Vec<u8>, AllocError>
+    ensures { IfOk result (λ v. v.items ≡ late_in form late.now) }
+{
+    match form {
+        Form::Lines => late_lines(alloc, late),
+        Form::Json => late_json(alloc, late),
+    }
+}
+
+/// Which commands of a trace were late, in lines ([`late_lines`]) or as JSON ([`late_json`]). Fails only when out of memory.
+pub fn late_answer(alloc: Global, form: Form, trace: &Trace) -> Result<Vec<u8>, AllocError>
+    ensures { IfOk result (λ v. IsLateText form trace.now v.items) }
+{
+    let late = late(trace)?;
+    late_in(alloc, form, late.as_slice())
 }

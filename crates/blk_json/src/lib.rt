@@ -1,4 +1,4 @@
-//! The program's answers as JSON: one object in one line.
+//! The program's answers as JSON: one object in one line; and its answers on a trace's figures, in lines or as JSON.
 //!
 //! Each value is the one of the text form under that form's own word: a number is a number, also where it is greater than 2^53, and
 //! what the text form has as `none` or leaves empty is `null`.
@@ -14,11 +14,11 @@ mod spread;
 mod table;
 mod trial;
 
-pub use crate::late::late_json;
+pub use crate::late::{late_answer, late_json};
 pub use crate::load::load_json;
-pub use crate::misses::misses_json;
+pub use crate::misses::{misses_answer, misses_json};
 pub use crate::proof::{bound_json, no_commands_json, on_time_json};
-pub use crate::report::report_json;
-pub use crate::spread::spread_json;
+pub use crate::report::{report_answer, report_json};
+pub use crate::spread::{spread_answer, spread_json};
 pub use crate::table::table_json;
 pub use crate::trial::trial_json;

@@ -1,13 +1,15 @@
-//! What was late as JSON.
+//! What was late as JSON, and the answer on a trace's misses.
 
 ghost use Rattle.std.specs.Prelude.{◌≡◌, ◌++◌, IfOk, OnOk};
 ghost use Rattle.std.specs.List.{flat_map};
 ghost use Rattle.json.specs.Tree.{json_tokens};
-ghost use Rattle.blk_json.specs.Missing.{crowd_value, tally_members, misses_json};
+ghost use Rattle.blk_json.specs.Missing.{crowd_value, tally_members, misses_json, misses_in, IsMissesText};
 ghost use Rattle.blk_json.specs.Inside.Tokens.{tokens_of};
 
 use crate::page::Page;
-use blk_report::{Missed, Tally};
+use blk_report::{Missed, Tally, misses, misses_lines};
+use blk_settings::Form;
+use blk_trace::Trace;
 use edd_figures::Crowd;
 use std::alloc::{AllocError, Allocator, Global};
 
@@ -63,4 +65,23 @@ pub fn misses_json<A: Allocator>(alloc: Global, missed: &Missed<A>) -> Result<Ve
     page.end_array()?;
     page.end_object()?;
     page.finish()
+}
+
+/// Misses in this form.
+fn misses_in(alloc: Global, form: Form, missed: &Missed<Global>) -> Result<Vec<u8>, AllocError>
+    ensures { IfOk result (λ v. v.items ≡ misses_in form missed.now.tally missed.now.windows.items) }
+{
+    match form {
+        Form::Lines => misses_lines(alloc, missed),
+        Form::Json => misses_json(alloc, missed),
+    }
+}
+
+/// How many commands of a trace were late and had to be, in lines ([`misses_lines`]) or as JSON ([`misses_json`]). Fails only when
+/// out of memory.
+pub fn misses_answer(alloc: Global, form: Form, trace: &Trace) -> Result<Vec<u8>, AllocError>
+    ensures { IfOk result (λ v. IsMissesText form trace.now v.items) }
+{
+    let missed = misses(trace)?;
+    misses_in(alloc, form, &missed)
 }

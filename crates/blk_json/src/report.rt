@@ -1,11 +1,13 @@
-//! A report as JSON.
+//! A report as JSON, and the answer on a trace's.
 
 ghost use Rattle.std.specs.Prelude.{◌≡◌, ◌++◌, IfOk, OnOk, codes};
-ghost use Rattle.blk_json.specs.Reports.{window_value, window_in, load_in, figures_members, report_json};
+ghost use Rattle.blk_json.specs.Reports.{window_value, window_in, load_in, figures_members, report_json, report_in, IsReportText};
 ghost use Rattle.blk_json.specs.Inside.Tokens.{member_tokens, tokens_of};
 
 use crate::page::Page;
-use blk_report::Report;
+use blk_report::{Report, report, report_lines};
+use blk_settings::Form;
+use blk_trace::Trace;
 use edd_check::Window;
 use std::alloc::{AllocError, Global};
 
@@ -69,4 +71,22 @@ pub fn report_json(alloc: Global, report: &Report) -> Result<Vec<u8>, AllocError
     write_figures_or_null(&mut page, report)?;
     page.end_object()?;
     page.finish()
+}
+
+/// A report in this form.
+fn report_in(alloc: Global, form: Form, report: &Report) -> Result<Vec<u8>, AllocError>
+    ensures { IfOk result (λ v. v.items ≡ report_in form report.now) }
+{
+    match form {
+        Form::Lines => report_lines(alloc, report),
+        Form::Json => report_json(alloc, report),
+    }
+}
+
+/// How far a trace fell short, in lines ([`report_lines`]) or as JSON ([`report_json`]). Fails only when out of memory.
+pub fn report_answer(alloc: Global, form: Form, trace: &Trace) -> Result<Vec<u8>, AllocError>
+    ensures { IfOk result (λ v. IsReportText form trace.now v.items) }
+{
+    let report = report(trace)?;
+    report_in(alloc, form, &report)
 }

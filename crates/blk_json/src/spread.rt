@@ -1,11 +1,13 @@
-//! The spread of waits and latenesses as JSON.
+//! The spread of waits and latenesses as JSON, and the answer on a trace's.
 
 ghost use Rattle.std.specs.Prelude.{◌≡◌, ◌++◌, IfOk, OnOk};
-ghost use Rattle.blk_json.specs.Spreading.{quantiles_value, by_dir_value, spread_json};
+ghost use Rattle.blk_json.specs.Spreading.{quantiles_value, by_dir_value, spread_json, spread_in, IsSpreadText};
 ghost use Rattle.blk_json.specs.Inside.Tokens.{member_tokens};
 
 use crate::page::Page;
-use blk_report::{ByDir, Quantiles, Spreads};
+use blk_report::{ByDir, Quantiles, Spreads, services, spread, spread_lines};
+use blk_settings::Form;
+use blk_trace::Trace;
 use std::alloc::{AllocError, Global};
 
 /// Writes some quantiles.
@@ -47,4 +49,24 @@ pub fn spread_json(alloc: Global, spread: &Spreads) -> Result<Vec<u8>, AllocErro
     write_by_dir(&mut page, "lateness", &spread.lateness)?;
     page.end_object()?;
     page.finish()
+}
+
+/// A spread in this form.
+fn spread_in(alloc: Global, form: Form, spread: &Spreads) -> Result<Vec<u8>, AllocError>
+    ensures { IfOk result (λ v. v.items ≡ spread_in form spread.now) }
+{
+    match form {
+        Form::Lines => spread_lines(alloc, spread),
+        Form::Json => spread_json(alloc, spread),
+    }
+}
+
+/// How long the commands of a trace waited and how late they were, in lines ([`spread_lines`]) or as JSON ([`spread_json`]). Fails
+/// only when out of memory.
+pub fn spread_answer(alloc: Global, form: Form, trace: &Trace) -> Result<Vec<u8>, AllocError>
+    ensures { IfOk result (λ v. IsSpreadText form trace.now v.items) }
+{
+    let services = services(trace)?;
+    let spreads = spread(alloc, services.as_slice())?;
+    spread_in(alloc, form, &spreads)
 }

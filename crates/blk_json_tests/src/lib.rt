@@ -6,4 +6,6 @@ mod answers;
 #[cfg(test)]
 mod lists;
 #[cfg(test)]
+mod traces;
+#[cfg(test)]
 mod trials;

@@ -11,13 +11,14 @@ use Rattle.blk_settings.specs.Defaults.{earliest_by}
 use Rattle.blk_words.specs.declared.inputs.FiguresAsked.{FiguresAsked}
 use Rattle.blk_words.specs.declared.inputs.Running.TheVariants as running
 use Rattle.blk_words.specs.declared.inputs.Telling.TheVariants as telling
-use Rattle.blk_words.specs.declared.words.Form.TheVariants as form
+use Rattle.blk_settings.specs.declared.form.Form.TheVariants as form
 use Rattle.blk_words.specs.declared.words.Job.{Job}
 use Rattle.blk_words.specs.declared.words.Job.TheVariants as job
 use Rattle.blk_words.specs.Asked.{Asks}
 use Rattle.blk_cli.specs.declared.Ended.{Ended}
 use Rattle.blk_cli.specs.Ends.{RunEnds}
-use Rattle.blk_cli.specs.OfTraces.{IsReportText, IsMissesText}
+use Rattle.blk_json.specs.Missing.{IsMissesText}
+use Rattle.blk_json.specs.Reports.{IsReportText}
 use Rattle.blk_online_sim.specs.ByRounds.{IsByRounds}
 
 -- the records of these bytes

@@ -12,6 +12,7 @@ ghost use Rattle.blk_settings.specs.Settles.{IsSettled, served_bios};
 ghost use Rattle.blk_trace.specs.Events.{AreOnce};
 
 pub mod fault;
+pub mod form;
 pub mod given;
 pub mod grid;
 pub mod lists;
@@ -23,6 +24,7 @@ pub mod setting;
 mod settling;
 
 pub use crate::fault::LoadFault;
+pub use crate::form::Form;
 pub use crate::given::Given;
 pub use crate::grid::{By, TrialAsked};
 pub use crate::lists::ListFault;

@@ -19,8 +19,8 @@ use Rattle.blk_words.specs.declared.words.Job.{Job}
 use Rattle.blk_words.specs.declared.words.Job.TheVariants as job
 use Rattle.blk_words.specs.declared.words.NoJob.{NoJob}
 use Rattle.blk_words.specs.declared.words.NoJob.TheVariants as no
-use Rattle.blk_words.specs.declared.words.Form.{Form}
-use Rattle.blk_words.specs.declared.words.Form.TheVariants as form
+use Rattle.blk_settings.specs.declared.form.Form.{Form}
+use Rattle.blk_settings.specs.declared.form.Form.TheVariants as form
 use Rattle.blk_words.specs.declared.words.ShownLoad.{ShownLoad}
 use Rattle.blk_words.specs.declared.words.ShownLoad.TheVariants as shown
 use Rattle.blk_words.specs.declared.inputs.FiguresAsked.TheVariants as figures

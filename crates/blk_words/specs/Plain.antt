@@ -8,8 +8,8 @@ use Rattle.blk_settings.specs.Defaults.{none_and_deadline}
 use Rattle.blk_settings.specs.declared.sched.Sched.{Sched}
 use Rattle.blk_settings.specs.Options.{default_number}
 use Rattle.blk_settings.specs.declared.numbers.Load.{Load}
-use Rattle.blk_words.specs.declared.words.Form.{Form}
-use Rattle.blk_words.specs.declared.words.Form.TheVariants as form
+use Rattle.blk_settings.specs.declared.form.Form.{Form}
+use Rattle.blk_settings.specs.declared.form.Form.TheVariants as form
 use Rattle.blk_words.specs.declared.words.Import.{Import}
 use Rattle.blk_words.specs.declared.words.Job.{Job}
 use Rattle.blk_words.specs.declared.words.Job.TheVariants as job

@@ -7,8 +7,8 @@ ghost use Rattle.blk_words.specs.Asked.{Asks};
 ghost use Rattle.blk_words.specs.Plain.{AsksFor, AsksForGrid, AsksForNothing, default_trial, five_by_lateness, whole_import, hundred_queued, default_load, own_grid};
 
 use crate::inputs::{FiguresAsked, Running, Solving, Telling};
-use crate::words::{Form, Job, Refusal, ShownLoad, Written};
-use blk_settings::{ListFault, SchedKind};
+use crate::words::{Job, Refusal, ShownLoad, Written};
+use blk_settings::{Form, ListFault, SchedKind};
 
 /// Each of these lines asks for its job and, all but `--version`, for no other; `oracle --trace --met` asks for none. `tune` asks for the
 /// whole grid, or for that of its lists, and for no other.

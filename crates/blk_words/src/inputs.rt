@@ -1,7 +1,6 @@
 //! What is asked of an input: of a script, of a trace, of a command list.
 
-use crate::words::Form;
-use blk_settings::{Lineup, Sched};
+use blk_settings::{Form, Lineup, Sched};
 
 /// What is asked of a script.
 #[derive(Clone, Copy, Debug, PartialEq, Eq)]

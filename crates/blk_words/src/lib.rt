@@ -13,5 +13,6 @@ pub mod words;
 
 pub use crate::inputs::{FiguresAsked, Running, Solving, Telling};
 pub use crate::words::{
-    Form, Import, Job, NoJob, Refusal, ShownLoad, Tuning, VERSION, Written, choose, grid_asked,
+    Import, Job, NoJob, Refusal, ShownLoad, Tuning, VERSION, Written, choose, grid_asked,
 };
+pub use blk_settings::Form;

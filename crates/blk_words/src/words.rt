@@ -18,7 +18,7 @@ use crate::table::{CommandRow, Makes};
 use crate::times::time_of;
 use blk_settings::given::Numbers;
 use blk_settings::grid::grid_given;
-use blk_settings::{By, Given, Lineup, ListFault, Load, Sched};
+use blk_settings::{By, Form, Given, Lineup, ListFault, Load, Sched};
 use clap::ArgMatches;
 use clap::error::ErrorKind;
 use std::alloc::{AllocError, Global};
@@ -54,15 +54,6 @@ pub enum Job {
     Explain,
     /// Run a load on a layer under a scheduler, and write what is asked of it.
     Load(Sched, Load, ShownLoad),
-}
-
-/// In which form figures are written.
-#[derive(Clone, Copy, Debug, PartialEq, Eq)]
-pub enum Form {
-    /// In lines, to be read at a terminal.
-    Lines,
-    /// As a JSON value, to be read by programs.
-    Json,
 }
 
 /// How a trial of settings is written.
