@@ -8,7 +8,14 @@ use edd_check::Window;
 use edd_figures::Figures;
 
 /// A row of two reads: how many are late, how many of those could have been avoided, and how long they waited.
-fn row(kind: SchedKind, values: [u64; 3], shortfall: i64, late: u64, avoidable: u64, wait: i64) -> TrialRow {
+fn row(
+    kind: SchedKind,
+    values: [u64; 3],
+    shortfall: i64,
+    late: u64,
+    avoidable: u64,
+    wait: i64,
+) -> TrialRow {
     TrialRow {
         sched: Sched { kind, values },
         report: Report {

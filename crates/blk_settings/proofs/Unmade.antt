@@ -1,6 +1,5 @@
 -- Why schedulers aren't made; and the scheduler that the checker names where a list has none.
 use Rattle.std.proofs.Common.{◌≡◌, ◌∙◌, [], None, Some, sym, inl, inr}
-use Rattle.std.specs.Prelude.{Option}
 use Rattle.blk_settings.specs.Made.{IsMade, IsUnmade}
 use Rattle.blk_settings.specs.declared.rows.SchedKind.TheVariants as kind
 use Rattle.blk_settings.specs.declared.sched.Sched.{Sched}

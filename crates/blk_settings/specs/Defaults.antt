@@ -1,12 +1,12 @@
 -- Schedulers and grids as they are where no option sets them: what the defaults of the settings spell.
-use Rattle.std.specs.Prelude.{ℕ, ◌∷◌, Bool, true, false, List, [], Option, None, Some, map, set, if◌then◌else◌}
+use Rattle.std.specs.Prelude.{ℕ, ◌∷◌, Bool, false, List, [], Option, None, Some, map, set, if◌then◌else◌}
 use Rattle.std.specs.List.{flat_map, slice_get}
 use Rattle.std.specs.Option.{option_map_or}
 use Rattle.std.specs.Str.Parse.{digits_value}
 use Rattle.blk_settings.specs.Given.{switched}
 use Rattle.blk_settings.specs.Grids.{with_each}
 use Rattle.blk_settings.specs.Lists.{parts}
-use Rattle.blk_settings.specs.Rows.{RangeOf, Short, UpTo, Switch, SettingOf, ListOf, row_for, tried_kinds}
+use Rattle.blk_settings.specs.Rows.{RangeOf, Short, UpTo, Switch, ListOf, row_for, tried_kinds}
 use Rattle.blk_settings.specs.declared.rows.SchedKind.{SchedKind}
 use Rattle.blk_settings.specs.declared.rows.SchedKind.TheVariants as kind
 use Rattle.blk_settings.specs.declared.sched.Lineup.{Lineup}

@@ -1,7 +1,6 @@
 -- The settings of a grid, in the order in which they are tried.
 use Rattle.std.specs.Prelude.{ℕ, ◌∷◌, Bool, true, false, List, [], Option, None, Some, get_or, map, option_map}
 use Rattle.std.specs.List.{flat_map}
-use Rattle.std.specs.Option.{option_map_or}
 use Rattle.blk_settings.specs.Given.{GivenOptions}
 use Rattle.blk_settings.specs.Lists.{tried_given, numbers_at, list_fault}
 use Rattle.blk_settings.specs.Rows.{row_for, place_of, tried_kinds}

@@ -1,7 +1,7 @@
 -- The lists that the options of a trial give.
 use Rattle.std.specs.Prelude.{ℕ, ◌+◌, ◌==◌, ◌∷◌, Bool, true, false, List, [], Option, Some, None, codes, get_or, map, set, option_and_then, if◌then◌else◌}
 use Rattle.std.specs.List.{slice_split, slice_get}
-use Rattle.std.specs.Option.{option_or, option_map_or, is_none}
+use Rattle.std.specs.Option.{option_or, option_map_or}
 use Rattle.blk_settings.specs.Given.{GivenOptions, row_named}
 use Rattle.blk_settings.specs.Options.{scheds_list}
 use Rattle.blk_settings.specs.Rows.{RangeOf, Short, UpTo, Switch, SettingOf, RowOf, table, row_for, place_of}

@@ -1,8 +1,6 @@
 //! The settings under which a script is tried, and what is asked of the trial.
 
 ghost use Rattle.std.specs.Prelude.{◌≡◌, ◌++◌, Some, IfOk, OnOk, map};
-ghost use Rattle.std.specs.List.{flat_map};
-ghost use Rattle.blk_settings.specs.Rows.{setting_of};
 ghost use Rattle.blk_settings.specs.Grids.{with_values, in_first, rows_of_kind, grid_given};
 
 use crate::given::Given;

@@ -3,7 +3,6 @@ use Rattle.std.proofs.Common.{◌≡◌, ◌∙◌, List, [], ◌∷◌, Some, N
 use Rattle.std.proofs.lemmas.List.Sums.{fold-append}
 use Rattle.std.specs.Prelude.{◌≢◌, ◌&&◌, Bool, Result, Ok, Err, IfOk, find, fold, option_and_then, if◌then◌else◌}
 use Rattle.std.specs.Option.{option_map_or, option_or}
-use Rattle.std.specs.Result.{result_ok}
 use Rattle.std.specs.Str.{bytes_eq}
 use Rattle.std.specs.Str.Parse.{IsNumeral, ParsesUnsigned, digits_value, without_leading_plus}
 use Rattle.clap.specs.ValueTests.{accepts}

@@ -1,6 +1,6 @@
-use Rattle.std.proofs.Common.{rules, ◌≡◌, ◌∙◌, ◌<◌, ap, sym, arith, length, List, Option, Some, option_map}
+use Rattle.std.proofs.Common.{rules, ◌∙◌, ◌<◌, ap, sym, arith, length, Some, option_map}
 use Rattle.std.proofs.lemmas.List.{take_more_set}
-use Rattle.blk_settings.specs.Given.{all_compared, lineup_given}
+use Rattle.blk_settings.specs.Given.{all_compared}
 use Rattle.blk_settings.proofs.Compared.{one_more, one_missing}
 use Rattle.blk_settings.proofs.sched.Lineup.given.Goals as goal
 

@@ -1,4 +1,4 @@
-use Rattle.std.proofs.Common.{◌≡◌, ◌++◌, ℕ, length, map, drop}
+use Rattle.std.proofs.Common.{◌≡◌, ◌++◌, length, map, drop}
 use Rattle.blk_settings.specs.Rows.{setting_of}
 use Rattle.blk_settings.specs.Scheds.{settings_of, told_from}
 use Rattle.blk_settings.proofs.sched.Sched.settings.Given as goal
