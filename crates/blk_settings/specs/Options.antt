@@ -58,6 +58,9 @@ kind_in (rows.Switch turned) = Flag
 abbrev pub setting_option : SettingOf → OptionOf
 setting_option s = record { name = s.option; kind = kind_in s.range }
 
+abbrev pub options_of : List SettingOf → List OptionOf
+options_of = map setting_option
+
 -- the one that lists the numbers of it that are tried, if it is a number
 abbrev pub list_in : RangeOf → List ℕ → Option OptionOf
 list_in (rows.Short default list) name = Some (record { name = name; kind = Words list.default })
@@ -72,7 +75,7 @@ lists_of settings = flat_map (λ s. option_to_list (list_option s)) settings
 
 -- those of all settings
 abbrev pub tuning : List OptionOf
-tuning = flat_map (λ r. map setting_option r.settings) table
+tuning = flat_map (λ r. options_of r.settings) table
 
 -- the option that lists which schedulers are tried, by default all in the order of trials with commas between, under the name of the one that takes one; and those
 -- that list under which settings

@@ -2,7 +2,7 @@
 
 ghost use Rattle.std.specs.Prelude.{◌≡◌, ◌++◌, map, IfOk, OnOk, option_map};
 ghost use Rattle.blk_settings.specs.Rows.{setting_of};
-ghost use Rattle.blk_settings.specs.Options.{option_of, sched_names, tuning, listing, setting_option, list_option, lists_of};
+ghost use Rattle.blk_settings.specs.Options.{option_of, sched_names, tuning, listing, setting_option, options_of, list_option, lists_of};
 
 use crate::rows::{SettingRange, SettingRow, rows};
 use std::alloc::{AllocError, Global};
@@ -107,7 +107,7 @@ impl SettingRow {
 
 /// Adds the options that set these.
 fn push_options(all: &mut Vec<OptionRow>, settings: &[SettingRow]) -> Result<(), AllocError>
-    ensures { OnOk result (map option_of all.new.items ≡ map option_of all.old.items ++ map setting_option (map setting_of settings.now)) }
+    ensures { OnOk result (map option_of all.new.items ≡ map option_of all.old.items ++ options_of (map setting_of settings.now)) }
 {
     for setting in settings {
         all.push(setting.setting_option())?;
