@@ -148,7 +148,10 @@ fn on_layer<R: Threads + Wait + Sync, S: Scheduler<A = Global> + Send, L: Named 
 
 /// The outcome of a load: where its threads met no fault, what it was settled to; else their fault, or that of its settling if it comes
 /// first by rank.
-fn outcome(fault: Option<LoadFault>, settled: Result<Loaded, LoadFault>) -> Result<Loaded, LoadFault>
+fn outcome(
+    fault: Option<LoadFault>,
+    settled: Result<Loaded, LoadFault>,
+) -> Result<Loaded, LoadFault>
     ensures { IsOutcome fault settled result }
 {
     let Some(fault) = fault else {
