@@ -1,5 +1,5 @@
 -- The queues of a load: a map that serves each hardware queue, and a layer that can be made.
-use Rattle.std.proofs.Common.{ℕ, ◌≡◌, ◌∙◌, ◌<◌, ◌≤◌, ◌%◌, ◌↔◌, ◌≢◌, sym, ap, refl, subst, arith, inl, inr, List, Option, Some, length, min, slice_index_or}
+use Rattle.std.proofs.Common.{ℕ, ◌≡◌, ◌∙◌, ◌<◌, ◌≤◌, ◌%◌, ◌≢◌, sym, ap, refl, subst, arith, inl, inr, List, Option, Some, length, min, slice_index_or}
 use native.Mathlib.Nat as nat
 use Rattle.std.specs.Prelude.{All, Result, Ok, Err, IfErr}
 use Rattle.std.proofs.Math.Nat.{min-le_left}

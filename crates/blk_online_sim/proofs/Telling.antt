@@ -16,9 +16,8 @@ use Rattle.blk_trace.proofs.Scheduling.{legal-schedule}
 use Rattle.blk_report.specs.declared.figures.Report.{Report}
 use Rattle.edd_figures.specs.declared.lateness.Figures.{Figures}
 use Rattle.edd_figures.specs.Figures.{HasFigures, shortfall_in}
-use Rattle.edd_figures.specs.declared.missing.Crowd.{Crowd}
 use Rattle.blk_report.specs.Shortfall.{IsReport}
-use Rattle.edd_figures.specs.Misses.{number_late, AreMisses}
+use Rattle.edd_figures.specs.Misses.{number_late}
 use Rattle.blk_online.specs.Best.{HasLeastLateness, HasMostOnTime}
 use Rattle.blk_online_sim.specs.Told.{HasNoShortfall, HasNoneAvoidable}
 

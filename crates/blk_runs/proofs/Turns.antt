@@ -1,5 +1,5 @@
 -- Runs under the rows of schedulers; for which of some schedulers a script isn't run, from what became of it at one place.
-use Rattle.std.proofs.Common.{ℕ, ◌≡◌, ◌∙◌, ◌∷◌, ◌++◌, List, Result, IfOk, sym, ap, subst, arith, take, drop, length, get_or, inl, inr, ◌<◌, ◌+◌}
+use Rattle.std.proofs.Common.{ℕ, ◌≡◌, ◌∙◌, ◌∷◌, ◌++◌, List, Result, IfOk, sym, ap, subst, take, drop, length, get_or, inr, ◌<◌, ◌+◌}
 use Rattle.std.specs.Prelude.{All}
 use Rattle.std.proofs.lemmas.List.{take-append-drop, drop_more}
 use Rattle.blk_settings.specs.declared.sched.Sched.{Sched}

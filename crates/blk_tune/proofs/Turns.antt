@@ -1,8 +1,8 @@
 -- Rows of some settings, one after another.
-use Rattle.std.proofs.Common.{ℕ, ◌≡◌, ◌∙◌, ◌∷◌, ◌++◌, [], List, refl, sym, ap, subst, take, length, get_or, ◌<◌, ◌+◌, map}
+use Rattle.std.proofs.Common.{ℕ, ◌≡◌, ◌∙◌, ◌∷◌, ◌++◌, [], List, sym, ap, take, length, get_or, ◌<◌, ◌+◌, map}
 use Rattle.std.specs.Prelude.{All}
 use Rattle.std.proofs.lemmas.List.{map-append, take_more}
-use Rattle.std.proofs.lemmas.List.Elements.{All-nil, All-push, All-map, All-weaker, All-same}
+use Rattle.std.proofs.lemmas.List.Elements.{All-push, All-map, All-weaker, All-same}
 use Rattle.blk_settings.specs.declared.sched.Sched.{Sched}
 use Rattle.blk_text.specs.Script.{Scripted}
 use Rattle.blk_runs.specs.Firsts.{RunsWhole}

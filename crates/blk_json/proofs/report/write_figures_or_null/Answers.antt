@@ -1,6 +1,5 @@
-use Rattle.std.proofs.Common.{◌≡◌, ◌++◌, ◌∙◌, List, ap}
+use Rattle.std.proofs.Common.{◌++◌, ◌∙◌, ap}
 use Rattle.std.specs.Prelude.{codes}
-use Rattle.json.specs.Token as token
 use Rattle.blk_json.specs.Inside.Tokens.{member_tokens}
 use Rattle.blk_json.specs.Reports.{window_value}
 use Rattle.blk_json.specs.Values.{figure, count_or_null}

@@ -1,4 +1,4 @@
-use Rattle.std.proofs.Common.{◌≡◌, ◌<◌, length}
+use Rattle.std.proofs.Common.{◌<◌}
 use Rattle.std.specs.Prelude.{All}
 use Rattle.blk_load.specs.Inside.Loads.{AreInTurn}
 use Rattle.blk_load.proofs.running.in_turn.Given as goal

@@ -1,4 +1,4 @@
-use Rattle.std.proofs.Common.{rules, ◌≡◌, ◌∙◌, ap, refl, min}
+use Rattle.std.proofs.Common.{rules, ◌≡◌, ◌∙◌, ap, refl}
 use Rattle.blk_trace.specs.Setups.{Setup}
 use Rattle.blk_settings.specs.Numbers.{IsLoad}
 use Rattle.blk_load.proofs.Made.{can_make_of}

@@ -1,4 +1,4 @@
-use Rattle.std.proofs.Common.{◌≡◌, ◌+◌, ◌-◌, ◌<◌, ◌/◌, ◌%◌, ◌∷◌, ◌++◌, [], ℕ, List, Result, Ok, Err, arith, take, length, get_or, sym, subst}
+use Rattle.std.proofs.Common.{◌≡◌, ◌+◌, ◌<◌, ◌%◌, ◌∷◌, ◌++◌, [], ℕ, List, Result, Ok, Err, arith, take, length, get_or, sym, subst}
 use Rattle.std.specs.Prelude.{IfOk}
 use Rattle.std.proofs.lemmas.Nat.{mod_below}
 use Rattle.blk_settings.specs.declared.sched.Sched.{Sched}

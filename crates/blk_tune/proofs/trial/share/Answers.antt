@@ -1,6 +1,5 @@
-use Rattle.std.proofs.Common.{ℕ, List, Result, ◌≡◌, ◌<◌, ◌≤◌, ◌+◌, ◌*◌, ◌∷◌, ◌++◌, [], length, get_or, arith, sym, ap, ◌∙◌, subst}
+use Rattle.std.proofs.Common.{List, Result, ◌≡◌, ◌≤◌, ◌+◌, ◌*◌, ◌∷◌, ◌++◌, [], length, arith, sym, ap, ◌∙◌}
 use Rattle.std.proofs.lemmas.List.{length_push}
-use Rattle.blk_settings.specs.declared.sched.Sched.{Sched}
 use Rattle.blk_text.specs.Script.{scripted}
 use Rattle.blk_runs.specs.declared.fault.RunFault.{RunFault}
 use Rattle.blk_tune.specs.declared.row.TrialRow.{TrialRow}

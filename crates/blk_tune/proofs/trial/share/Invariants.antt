@@ -1,4 +1,4 @@
-use Rattle.std.proofs.Common.{◌≡◌, ◌≤◌, ◌-◌, ◌+◌, ◌*◌, length}
+use Rattle.std.proofs.Common.{◌≡◌, ◌-◌, ◌+◌, ◌*◌, length}
 use Rattle.blk_text.specs.Script.{scripted}
 use Rattle.blk_tune.specs.Inside.Shares.{AreAnswers}
 use Rattle.blk_tune.proofs.trial.share.Given as goal
