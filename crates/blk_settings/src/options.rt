@@ -4,7 +4,7 @@ ghost use Rattle.std.specs.Prelude.{◌≡◌, ◌++◌, map, IfOk, OnOk, option
 ghost use Rattle.blk_settings.specs.Rows.{setting_of};
 ghost use Rattle.blk_settings.specs.Options.{option_of, sched_names, tuning, listing, setting_option, options_of, list_option, lists_of};
 
-use crate::rows::{SettingRange, SettingRow, rows};
+use crate::rows::{SCHED_COUNT, SettingRange, SettingRow, rows};
 use std::alloc::{AllocError, Global};
 
 /// The greatest target of `kyber`, in rounds.
@@ -69,7 +69,7 @@ const SCHEDS: OptionRow = OptionRow {
 };
 
 /// The names of the schedulers, which the rows have too: a command line borrows them as one slice.
-static SCHEDULERS: [&str; 4] = ["none", "deadline", "kyber", "earliest"];
+static SCHEDULERS: [&str; SCHED_COUNT] = ["none", "deadline", "kyber", "earliest"];
 
 impl SettingRow {
     /// The option that sets it.
