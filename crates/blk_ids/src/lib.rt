@@ -4,9 +4,7 @@
 
 mod by_id;
 mod id_set;
-mod scattered;
 mod serials;
 
 pub use crate::by_id::ById;
 pub use crate::id_set::IdSet;
-pub use crate::scattered::Scattered;

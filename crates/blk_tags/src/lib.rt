@@ -7,7 +7,7 @@
 #![tactic(auto)]
 
 mod held;
-mod laws;
+pub mod laws;
 
 ghost use Rattle.std.specs.Prelude.{◌≡◌, ◌<◌, ◌≤◌, ◌+◌, ◌-◌, ◌/◌, ◌%◌, ◌^◌, ◌++◌, ◌∷◌, [], ◌⊎◌, ◌↔◌, ℕ, List, replicate, true, false, None, Some, Err, IsTrue, IfOk, IfSome, IfNone, Contains};
 ghost use Rattle.std.specs.Bool.{OnTrue, OnFalse};
