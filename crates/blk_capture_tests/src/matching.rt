@@ -128,7 +128,7 @@ fn inserted_by_size(rt: HostRuntime) {
     assert!(rt; gives(&rt, rt.alloc(), &usual(), &lines, "001110u01", &rows));
 }
 
-/// Handed back, it counts from its next dispatch; a completion in parts ends it when all are done; what is left goes out and is completed
+/// Requeued, it counts from its next dispatch; a completion in parts ends it when all are done; what is left goes out and is completed
 /// by its own range.
 #[test]
 fn back_and_in_parts(rt: HostRuntime) {

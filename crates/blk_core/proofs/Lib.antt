@@ -1,7 +1,7 @@
 mod Pushed
 mod Waits
 mod Flights
-mod Held
+mod RequeueLists
 mod Requeued
 mod Flown
 mod Ties

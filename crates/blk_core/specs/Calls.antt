@@ -12,7 +12,7 @@ use Rattle.blk_trace.specs.Meaning.{commands_of}
 use Rattle.blk_trace.specs.Waits.{released_count}
 use Rattle.blk_sched.specs.Meaning.{Waiting, Meaning, HasNoCandidate, ServesNothing, Picks, RequeuesPick, Joins, opened}
 use Rattle.blk_sched.specs.Policies.{Choice, OfDone, OfTick}
-use Rattle.blk_hw.specs.Held.{held_in, held_total}
+use Rattle.blk_hw.specs.Requeued.{requeued_in, requeued_total}
 use Rattle.blk_core.specs.declared.calls.Placed.{Placed}
 use Rattle.blk_core.specs.declared.calls.Placed.TheVariants.{New, Joined as JoinedTo}
 use Rattle.blk_core.specs.State.{Flight, CoreState, InFlightAs}
@@ -40,35 +40,35 @@ Places serves old bios hw (New id) new =
     × (new.meaning ≡ record old.meaning { pending = map.insert old.meaning.pending id (newcomer old bios hw) })
     × (new.kept ≡ old.kept)
     × (new.flights ≡ old.flights)
-    × (new.held ≡ old.held)
+    × (new.requeued ≡ old.requeued)
 Places serves old bios hw (JoinedTo id side) new =
     Joins serves hw (round_of old.events) old.setup.limits bios old.meaning id side new.meaning
     × AddsEvent old (Join id bios) new
     × (new.kept ≡ old.kept)
     × (new.flights ≡ old.flights)
-    × (new.held ≡ old.held)
+    × (new.requeued ≡ old.requeued)
 
--- which request goes to the device for a hardware queue: the first of those that are held for it, whose pick is then open again,
--- or, where none is held for it, the one that the scheduler chooses in this round
+-- which request goes to the device for a hardware queue: the first of those that are requeued for it, whose pick is then open again,
+-- or, where none is requeued for it, the one that the scheduler chooses in this round
 abbrev pub SendsFrom : (ℕ → Waiting → Bool) → Choice → ℕ → ℕ → List Waiting → Meaning → List ℕ → List (List Waiting) → Waiting → Meaning → List ℕ → List (List Waiting) → Type 0
-SendsFrom serves chooses hw round [] m kept held w new_m new_kept new_held =
-    Picks serves hw m w new_m × chooses kept m hw round (Some w) new_kept × (new_held ≡ held)
-SendsFrom serves chooses hw round (first ∷ rest) m kept held w new_m new_kept new_held =
-    (first ≡ w) × RequeuesPick (dir_of w.bios) new_m m × (new_kept ≡ kept) × (new_held ≡ slice_set held hw rest)
+SendsFrom serves chooses hw round [] m kept requeued w new_m new_kept new_requeued =
+    Picks serves hw m w new_m × chooses kept m hw round (Some w) new_kept × (new_requeued ≡ requeued)
+SendsFrom serves chooses hw round (first ∷ rest) m kept requeued w new_m new_kept new_requeued =
+    (first ≡ w) × RequeuesPick (dir_of w.bios) new_m m × (new_kept ≡ kept) × (new_requeued ≡ slice_set requeued hw rest)
 
 -- the same of a core, before and after
 abbrev pub Sends : (ℕ → Waiting → Bool) → Choice → CoreState → ℕ → Waiting → CoreState → Type 0
 Sends serves chooses old hw w new =
-    SendsFrom serves chooses hw (round_of old.events) (held_in old.held hw) old.meaning old.kept old.held w new.meaning new.kept new.held
+    SendsFrom serves chooses hw (round_of old.events) (requeued_in old.requeued hw) old.meaning old.kept old.requeued w new.meaning new.kept new.requeued
 
 -- what an issue does: an Issue of the request that goes to the device, whose command is then the last one and in flight under the
--- tag; or nothing, where none is held for the hardware queue and the scheduler chose none for it in this round
+-- tag; or nothing, where none is requeued for the hardware queue and the scheduler chose none for it in this round
 abbrev pub Issues : (ℕ → Waiting → Bool) → Choice → CoreState → ℕ → ℕ → Option Command → CoreState → Type 0
 Issues serves chooses old hw tag None new =
     (new ≡ old)
-    × (held_in old.held hw ≡ [])
+    × (requeued_in old.requeued hw ≡ [])
     × chooses old.kept old.meaning hw (round_of old.events) None old.kept
-    × ((0 < open_count old.events) ⊎ (0 < held_total old.held) ⊎ ServesNothing serves hw old.meaning)
+    × ((0 < open_count old.events) ⊎ (0 < requeued_total old.requeued) ⊎ ServesNothing serves hw old.meaning)
 Issues serves chooses old hw tag (Some command) new =
     (w : Waiting) × Sends serves chooses old hw w new
     × AddsEvent old (Issue w.id tag) new
@@ -86,13 +86,13 @@ Completes told old tag new =
     × (old.meaning ≡ record new.meaning { open_picks = opened (dir_of f.request.bios) new.meaning.open_picks })
     × told f.hw (dir_of f.request.bios) (round_of old.events - f.request.release) old.kept new.kept
     × (new.flights ≡ slice_set old.flights tag None)
-    × (new.held ≡ old.held)
+    × (new.requeued ≡ old.requeued)
 
 -- the request in flight under a tag, which is handed out at its completion, has these bios
 abbrev pub HandsOut : CoreState → ℕ → List Bio → Type 0
 HandsOut c tag bios = (f : Flight) × (slice_get c.flights tag ≡ Some (Some f)) × (f.request.bios ≡ bios)
 
--- what a Back does: a Back of the command in flight under the tag, whose pick is then requeued; its request is held, as it was
+-- what a Back does: the command in flight under the tag is requeued, and so is its pick; its request is as it was
 -- picked, behind those requeued before from the hardware queue that it was issued for
 abbrev pub RequeuesTag : CoreState → ℕ → ℕ → CoreState → Type 0
 RequeuesTag old tag id new =
@@ -103,7 +103,7 @@ RequeuesTag old tag id new =
     × RequeuesPick (dir_of f.request.bios) old.meaning new.meaning
     × (new.kept ≡ old.kept)
     × (new.flights ≡ slice_set old.flights tag None)
-    × (new.held ≡ slice_set old.held f.hw (held_in old.held f.hw ++ f.request ∷ []))
+    × (new.requeued ≡ slice_set old.requeued f.hw (requeued_in old.requeued f.hw ++ f.request ∷ []))
 
 -- what the end of a round does: a Tick; the scheduler hears, once, of the round that begins
 abbrev pub Ends : OfTick → CoreState → CoreState → Type 0
@@ -112,7 +112,7 @@ Ends told old new =
     × (new.meaning ≡ old.meaning)
     × told (round_of new.events) old.kept new.kept
     × (new.flights ≡ old.flights)
-    × (new.held ≡ old.held)
+    × (new.requeued ≡ old.requeued)
 
 -- what a new depth does: a Depth, and nothing else; it is in force from the next round on
 abbrev pub SetsDepth : CoreState → ℕ → CoreState → Type 0
@@ -121,4 +121,4 @@ SetsDepth old depth new =
     × (new.meaning ≡ old.meaning)
     × (new.kept ≡ old.kept)
     × (new.flights ≡ old.flights)
-    × (new.held ≡ old.held)
+    × (new.requeued ≡ old.requeued)

@@ -16,7 +16,7 @@ use Rattle.blk_trace.specs.Meaning.{release_of, due_of}
 use Rattle.blk_trace.specs.Waits.{Entered, waits_at, was_issued, unissued_at, waiting_count}
 use Rattle.blk_trace.specs.Setups.{same_dir}
 use Rattle.blk_sched.specs.Meaning.{Waiting, Meaning, requeued_of, waiting_code, meaning_code}
-use Rattle.blk_hw.specs.Held.{held_in, held_total, held_count}
+use Rattle.blk_hw.specs.Requeued.{requeued_in, requeued_total, requeued_count}
 use Rattle.blk_core.specs.Opens.{open_issues_of}
 
 -- a command in flight: the hardware queue that it was issued for, and its request as it was picked
@@ -32,17 +32,17 @@ pub record CoreState : Type 0 where
   pub meaning : Meaning
   pub kept : List ℕ
   pub flights : List (Option Flight)
-  pub held : List (List Waiting)
+  pub requeued : List (List Waiting)
 
 -- a core with this trace, over a scheduler that means and keeps this, with these commands in flight and these requeue lists
 abbrev pub core_of : Traced → Meaning → List ℕ → List (Option Flight) → List (List Waiting) → CoreState
-core_of trace meaning kept flights held =
-    record { setup = trace.setup; events = trace.events; meaning = meaning; kept = kept; flights = flights; held = held }
+core_of trace meaning kept flights requeued =
+    record { setup = trace.setup; events = trace.events; meaning = meaning; kept = kept; flights = flights; requeued = requeued }
 
 -- a core without events over a scheduler that means and keeps this
 abbrev pub new_core : Setup → Meaning → List ℕ → CoreState
 new_core setup meaning kept =
-    record { setup = setup; events = []; meaning = meaning; kept = kept; flights = replicate setup.depth None; held = replicate setup.hw [] }
+    record { setup = setup; events = []; meaning = meaning; kept = kept; flights = replicate setup.depth None; requeued = replicate setup.hw [] }
 
 -- a setup's code
 abbrev pub setup_code : Coded Setup
@@ -54,7 +54,7 @@ flight_code = code_by (ℕ × Waiting) (coded× coded_ℕ waiting_code) (λ f. (
 
 -- a core's code
 abbrev pub core_code : Coded CoreState
-core_code = code_by (Setup × (List Happened × (Meaning × (List ℕ × (List (Option Flight) × List (List Waiting)))))) (coded× setup_code (coded× (coded_list happened_code) (coded× meaning_code (coded× (coded_list coded_ℕ) (coded× (coded_list (coded_option flight_code)) (coded_list (coded_list waiting_code))))))) (λ c. (c.setup, (c.events, (c.meaning, (c.kept, (c.flights, c.held)))))) (λ p. record { setup = p.0; events = p.1.0; meaning = p.1.1.0; kept = p.1.1.1.0; flights = p.1.1.1.1.0; held = p.1.1.1.1.1 }) (λ _. refl)
+core_code = code_by (Setup × (List Happened × (Meaning × (List ℕ × (List (Option Flight) × List (List Waiting)))))) (coded× setup_code (coded× (coded_list happened_code) (coded× meaning_code (coded× (coded_list coded_ℕ) (coded× (coded_list (coded_option flight_code)) (coded_list (coded_list waiting_code))))))) (λ c. (c.setup, (c.events, (c.meaning, (c.kept, (c.flights, c.requeued)))))) (λ p. record { setup = p.0; events = p.1.0; meaning = p.1.1.0; kept = p.1.1.1.0; flights = p.1.1.1.1.0; requeued = p.1.1.1.1.1 }) (λ _. refl)
 
 -- a waiting request as the trace knows it
 abbrev pub entered_of : Waiting → Entered
@@ -77,20 +77,20 @@ abbrev pub is_named : ℕ → Waiting → Bool
 is_named id w = id == w.id
 
 -- the scheduler and the requeue lists together hold exactly what waits in the trace, as it was joined
-pub record HoldsWhatWaits (setup : Setup) (events : List Happened) (m : Meaning) (held : List (List Waiting)) : Type 0 where
+pub record HoldsWhatWaits (setup : Setup) (events : List Happened) (m : Meaning) (requeued : List (List Waiting)) : Type 0 where
   -- the scheduler has what was never issued
   pub pending : (id : ℕ) → option_map entered_of (map.get m.pending id) ≡ unissued_at setup events id
   -- the requeue lists have what was requeued, and each such request once
-  pub requeued : (hw place : ℕ) (w : Waiting) → slice_get (held_in held hw) place ≡ Some w → requeued_at setup events w.id ≡ Some (entered_of w)
-  pub held_once : (id : ℕ) → held_count (is_named id) held ≡ cond (is_some (requeued_at setup events id)) 1 0
-  pub count : map.len m.pending + held_total held ≡ waiting_count events
+  pub requeued : (hw place : ℕ) (w : Waiting) → slice_get (requeued_in requeued hw) place ≡ Some w → requeued_at setup events w.id ≡ Some (entered_of w)
+  pub requeued_once : (id : ℕ) → requeued_count (is_named id) requeued ≡ cond (is_some (requeued_at setup events id)) 1 0
+  pub count : map.len m.pending + requeued_total requeued ≡ waiting_count events
   -- the scheduler's open picks are the open Issues, and its requeued picks are the requests of the requeue lists
   pub reads : m.open_picks.reads ≡ open_issues_of events Read
   pub writes : m.open_picks.writes ≡ open_issues_of events Write
-  pub requeued_picks : (dir : Dir) → requeued_of dir m.open_picks ≡ held_count (is_of dir) held
+  pub requeued_picks : (dir : Dir) → requeued_of dir m.open_picks ≡ requeued_count (is_of dir) requeued
 
 -- whoever holds what waits has as many picks open as there are open Issues
 abbrev pub PicksAreOpenIssues : Setup → List Happened → Type 0
 PicksAreOpenIssues setup events =
-    (m : Meaning) → (held : List (List Waiting)) → HoldsWhatWaits setup events m held
+    (m : Meaning) → (requeued : List (List Waiting)) → HoldsWhatWaits setup events m requeued
     → m.open_picks.reads + m.open_picks.writes ≡ open_count events

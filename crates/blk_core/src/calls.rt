@@ -4,7 +4,7 @@ ghost use Rattle.std.specs.Prelude.{◌≡◌, ◌<◌, ◌+◌, [], None, OnOk,
 ghost use Rattle.blk_trace.specs.declared.trace.Prepared.{Prepared};
 ghost use Rattle.blk_bio.specs.declared.bio.Dir.{Dir as Way};
 ghost use Rattle.blk_sched.specs.Meaning.{requeued_of};
-ghost use Rattle.blk_hw.specs.Held.{held_in, held_count};
+ghost use Rattle.blk_hw.specs.Requeued.{requeued_in, requeued_count};
 ghost use Rattle.blk_core.specs.State.{is_of};
 ghost use Rattle.blk_core.specs.Inside.Calls.{Dispatches};
 ghost use Rattle.blk_core.specs.Inside.Ties.{MayPickNone};
@@ -38,7 +38,7 @@ pub struct Core<S: Scheduler> {
     /// How each tag stands.
     tags: Vec<TagState<S::A>, S::A>,
     /// The requests that were requeued, by the hardware queue that they were issued for.
-    held: RequeueLists<S::A>,
+    requeued: RequeueLists<S::A>,
     /// How many requests were released: the next id.
     released: u64,
 }
@@ -52,9 +52,9 @@ impl<S: Scheduler> Model for Core<S> {
 
     ghost coded = { core_code };
 
-    ghost view = { λ c. core_of c.trace (S.meaning c.scheduler) (S.kept c.scheduler) (map flight_of c.tags.items) c.held };
+    ghost view = { λ c. core_of c.trace (S.meaning c.scheduler) (S.kept c.scheduler) (map flight_of c.tags.items) c.requeued };
 
-    ghost invariant = { λ c. IsTied c.trace.setup c.trace.events (S.meaning c.scheduler) c.tags.items c.held c.released };
+    ghost invariant = { λ c. IsTied c.trace.setup c.trace.events (S.meaning c.scheduler) c.tags.items c.requeued c.released };
 }
 
 impl<S: Scheduler> Core<S> {
@@ -85,7 +85,7 @@ impl<S: Scheduler> Core<S> {
         let Ok(spare) = alloc.clone() else {
             return Err((scheduler, AllocError));
         };
-        let Ok(held) = RequeueLists::new(spare, setup.hw()) else {
+        let Ok(requeued) = RequeueLists::new(spare, setup.hw()) else {
             return Err((scheduler, AllocError));
         };
         match Trace::empty(alloc, setup) {
@@ -93,7 +93,7 @@ impl<S: Scheduler> Core<S> {
                 scheduler,
                 trace,
                 tags,
-                held,
+                requeued,
                 released: 0,
             }),
             Err(_) => Err((scheduler, AllocError)),
@@ -262,8 +262,8 @@ impl<S: Scheduler> Core<S> {
 
     /// Issues a request for a hardware queue, under a tag that was not issued in this round, and answers its command: the
     /// first of those that were requeued from this queue, as Linux's blk-mq sends the list `hctx->dispatch`
-    /// first, or, where there is none, the one that the scheduler picks. None, and no event, only where none is held for
-    /// the queue, and a command is in flight, a request is held for another queue, or the scheduler serves nothing for
+    /// first, or, where there is none, the one that the scheduler picks. None, and no event, only where none is requeued for
+    /// the queue, and a command is in flight, a request is requeued for another queue, or the scheduler serves nothing for
     /// this one.
     ///
     /// Refused, by the first of these that applies: as `NoQueue` where `hw` is not below the number of hardware queues;
@@ -284,7 +284,7 @@ impl<S: Scheduler> Core<S> {
             return Err(IssueFault::Memory);
         };
         let now = self.trace.round();
-        let Some(queued) = dispatch(&mut self.scheduler, &mut self.held, hw, now) else {
+        let Some(queued) = dispatch(&mut self.scheduler, &mut self.requeued, hw, now) else {
             return Ok(None);
         };
         let command = Command {
@@ -368,12 +368,12 @@ impl<S: Scheduler> Core<S> {
         Ok(request)
     }
 
-    /// Requeues the command in flight under a tag, since the device was busy, and answers its id. Its request is held for the
+    /// Requeues the command in flight under a tag, since the device was busy, and answers its id. Its request waits in the requeue list of the
     /// hardware queue that it was issued for, behind those requeued before, and is issued from there again, under another
     /// tag or in a later round. This is no completion, and no bio joins the request any more.
     ///
     /// Refused, by the first of these that applies: as `NotIssued` exactly where no command is in flight under the tag;
-    /// and as `Memory` where the list of held requests can't grow. Nothing is changed then.
+    /// and as `Memory` where the requeue list can't grow. Nothing is changed then.
     pub fn back(&mut self, tag: u16) -> Result<u64, BackFault>
         ensures back { IfOk result (λ id. RequeuesTag self.old tag id self.new) }
         ensures no_fault { OnOk result (IsInFlight self.old tag) }
@@ -388,7 +388,7 @@ impl<S: Scheduler> Core<S> {
             return Err(BackFault::NotIssued);
         };
         let (id, dir) = (queued.id, queued.request.dir());
-        let Ok(()) = requeue(&mut self.tags[slot], &mut self.held) else {
+        let Ok(()) = requeue(&mut self.tags[slot], &mut self.requeued) else {
             return Err(BackFault::Memory);
         };
         self.trace.add(Event::Back { tag });
@@ -451,14 +451,14 @@ impl<S: Scheduler> Core<S> {
 
     /// The events so far, which are legal: the commands that they issue, in the rounds in which they do, are a legal
     /// schedule, and each bio that entered stands once in a command or among the requests that wait. The scheduler and
-    /// the lists of requeued requests hold exactly these.
+    /// the requeue lists hold exactly these.
     pub fn trace(&self) -> &Trace<S::A>
         ensures setup { result.now.setup ≡ self.now.setup }
         ensures events { result.now.events ≡ self.now.events }
         ensures legal { IsLegalTrace self.now.setup self.now.events }
         ensures schedule { IsScheduled self.now.setup self.now.events }
         ensures accounted { IsAccounted self.now.events }
-        ensures holds { HoldsWhatWaits self.now.setup self.now.events self.now.meaning self.now.held }
+        ensures holds { HoldsWhatWaits self.now.setup self.now.events self.now.meaning self.now.requeued }
     {
         &self.trace
     }
@@ -469,8 +469,8 @@ impl<S: Scheduler> Core<S> {
     {
         // Reads nothing: the prover gets the invariant, by which the sum is what waits in the trace.
         let _ = &self.trace;
-        let held = self.scheduler.requeued(Dir::Read) + self.scheduler.requeued(Dir::Write);
-        self.scheduler.pending() + held
+        let requeued = self.scheduler.requeued(Dir::Read) + self.scheduler.requeued(Dir::Write);
+        self.scheduler.pending() + requeued
     }
 
     /// The events, which are legal, without the scheduler; nothing is prepared in the trace.
@@ -487,26 +487,26 @@ impl<S: Scheduler> Core<S> {
     }
 }
 
-/// Takes the request that is dispatched next for a hardware queue: the first that is held for it, whose pick is then open
+/// Takes the request that is dispatched next for a hardware queue: the first that is requeued for it, whose pick is then open
 /// again, or else the scheduler's pick.
 fn dispatch<S: Scheduler>(
     scheduler: &mut S,
-    held: &mut RequeueLists<S::A>,
+    requeued: &mut RequeueLists<S::A>,
     hw: u8,
     now: u64,
 ) -> Option<Queued<S::A>>
     requires queue { hw < MAX_QUEUES }
-    requires list { hw < length held.old }
+    requires list { hw < length requeued.old }
     requires few { (S.meaning scheduler.old).open_picks.reads + (S.meaning scheduler.old).open_picks.writes < MAX_OPEN }
-    requires requeued { (dir : Way) → requeued_of dir (S.meaning scheduler.old).open_picks ≡ held_count (is_of dir) held.old }
-    ensures some { IfSome result (λ w. Dispatches S.policy S.meaning S.kept hw now scheduler.old held.old w scheduler.new held.new) }
-    ensures none { IfNone result (held_in held.old hw ≡ []) }
+    requires requeued { (dir : Way) → requeued_of dir (S.meaning scheduler.old).open_picks ≡ requeued_count (is_of dir) requeued.old }
+    ensures some { IfSome result (λ w. Dispatches S.policy S.meaning S.kept hw now scheduler.old requeued.old w scheduler.new requeued.new) }
+    ensures none { IfNone result (requeued_in requeued.old hw ≡ []) }
     ensures chosen { IfNone result (S.policy.chooses (S.kept scheduler.old) (S.meaning scheduler.old) hw now None (S.kept scheduler.old)) }
     ensures waits { IfNone result (MayPickNone S.policy.serves hw (S.meaning scheduler.old)) }
     ensures same { IfNone result ((S.meaning scheduler.new ≡ S.meaning scheduler.old) × (S.kept scheduler.new ≡ S.kept scheduler.old)) }
-    ensures same_held { IfNone result (held.new ≡ held.old) }
+    ensures same_requeued { IfNone result (requeued.new ≡ requeued.old) }
 {
-    match held.take_first(hw) {
+    match requeued.take_first(hw) {
         Some(queued) => {
             scheduler.on_reissue(queued.request.dir());
             Some(queued)

@@ -28,9 +28,9 @@ fn requeued_and_issued_again(rt: HostRuntime) {
     follows(&rt, rt.alloc(), setup(&rt, 2, 1, 0), &calls);
 }
 
-/// A held request is given to the queue that issued it alone, and no bio joins it.
+/// A requeued request goes out for the queue that issued it alone, and no bio joins it.
 #[test]
-fn held_for_its_own_queue(rt: HostRuntime) {
+fn requeued_for_its_own_queue(rt: HostRuntime) {
     let calls = [
         CoreCall::Read(0, 0, 8, 1, Ok(Placed::New(0))),
         CoreCall::Back(0, Err(BackFault::NotIssued)),
@@ -58,7 +58,7 @@ fn held_for_its_own_queue(rt: HostRuntime) {
 
 /// Those that came back first go out first, whatever their ids; one that comes back twice stands last.
 #[test]
-fn held_in_the_order_of_return(rt: HostRuntime) {
+fn issued_in_the_order_of_requeueing(rt: HostRuntime) {
     let calls = [
         CoreCall::Read(0, 0, 8, 0, Ok(Placed::New(0))),
         CoreCall::Read(1, 100, 8, 0, Ok(Placed::New(1))),

@@ -27,7 +27,7 @@ pub enum CoreCall<'a> {
     Done(u16, Result<(), NotIssued>),
     /// Completes what is in flight under the tags below this one.
     AllDone(u16),
-    /// Takes what is in flight under a tag back.
+    /// Requeues what is in flight under a tag.
     Back(u16, Result<u64, BackFault>),
     /// Sets the depth of the rounds to come.
     Depth(u64, Result<(), DepthFault>),
@@ -231,7 +231,7 @@ fn are_done<S: Scheduler>(core: &mut Core<S>, tags: u16) -> bool {
     true
 }
 
-/// Takes what is in flight under a tag back.
+/// Requeues what is in flight under a tag.
 fn back<S: Scheduler>(core: &mut Core<S>, tag: u16) -> Result<u64, BackFault> {
     match core.back(tag) {
         Err(BackFault::Memory) => core.back(tag),

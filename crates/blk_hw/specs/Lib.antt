@@ -1,3 +1,3 @@
 pub mod Maps
-pub mod Held
+pub mod Requeued
 pub mod Inside

@@ -8,7 +8,7 @@ ghost use Rattle.std.specs.Prelude.{◌≡◌, ◌<◌, ◌≤◌, ◌+◌, ◌+
 ghost use Rattle.std.specs.Bool.{OnTrue, OnFalse};
 ghost use Rattle.blk_hw.specs.Maps.{greatest_hw, IsMap, IsHwCount, IsMapAnswer};
 ghost use Rattle.blk_hw.specs.Inside.{IsCountedMap};
-ghost use Rattle.blk_hw.specs.Held.{held_in, TakesFirst};
+ghost use Rattle.blk_hw.specs.Requeued.{requeued_in, TakesFirst};
 
 use blk_bio::{MAX_QUEUES, MAX_SOFT_QUEUES};
 use blk_sched::Queued;
@@ -225,7 +225,7 @@ impl<A: Allocator + Clone> RequeueLists<A> {
     /// the lists are then as they were, and the request is handed back.
     pub fn push(&mut self, hw: u8, queued: Queued<A>) -> Result<(), (Queued<A>, AllocError)>
         requires { hw < length self.old }
-        ensures ok { OnOk result (self.new ≡ slice_set self.old hw (held_in self.old hw ++ queued ∷ [])) }
+        ensures ok { OnOk result (self.new ≡ slice_set self.old hw (requeued_in self.old hw ++ queued ∷ [])) }
         ensures err { IfErr result (λ e. e.0 ≡ queued) }
         ensures same { OnErr result (self.new ≡ self.old) }
     {
@@ -237,7 +237,7 @@ impl<A: Allocator + Clone> RequeueLists<A> {
     pub fn take_first(&mut self, hw: u8) -> Option<Queued<A>>
         requires { hw < length self.old }
         ensures some { IfSome result (λ first. TakesFirst self.old hw first self.new) }
-        ensures none { IfNone result (held_in self.old hw ≡ []) }
+        ensures none { IfNone result (requeued_in self.old hw ≡ []) }
         ensures same { IfNone result (self.new ≡ self.old) }
     {
         self.lists[hw as usize].take_first()

@@ -12,7 +12,7 @@ use Rattle.blk_trace.specs.Happened.{Happened}
 use Rattle.blk_trace.specs.declared.event.Event.TheVariants.{Tick, Release, Join, Issue, Done, Back, Depth}
 use Rattle.blk_trace.specs.Kinds.{ends, requeues, is_done_of}
 use Rattle.blk_trace.specs.Setups.{Setup}
-use Rattle.blk_trace.specs.Events.{At, EndsAt, IsOpen, IsReleased, goes_back}
+use Rattle.blk_trace.specs.Events.{At, EndsAt, IsOpen, IsReleased, ends_requeued}
 use Rattle.blk_trace.specs.Legal.{IsLegalTrace}
 use Rattle.blk_trace.specs.Rules.{IsUnbroken}
 use Rattle.blk_trace.specs.Meaning.{issued_ids}
@@ -97,8 +97,8 @@ ended_stays tag (e ∷ es) fs h = elim (cases_Bool (is_done_of tag e)) [
   | inr n ↦ let rest : ended tag es ≡ true = rw n at h in let more = ended_stays tag es fs rest in rw n more
 ]
 
-ended_stays_gone : (tag : ℕ) (es : List Happened) → ended tag es ≡ true → goes_back tag es ≡ false
-unfolding goes_back
+ended_stays_gone : (tag : ℕ) (es : List Happened) → ended tag es ≡ true → ends_requeued tag es ≡ false
+unfolding ends_requeued
 ended_stays_gone tag [] h = refl
 ended_stays_gone tag (e ∷ es) h = elim (cases_Bool (is_done_of tag e)) [
   | inl y ↦ let here : not (is_some (requeues e)) ≡ true = rw y at h in rw y (turned (is_some (requeues e)) here)

@@ -213,7 +213,7 @@ fn issued<R: Wait, S: Scheduler, L: Named>(
     }
 }
 
-/// What a worker's hand-back answers, once more where memory was refused.
+/// What a worker's requeue answers, once more where memory was refused.
 fn back<R: Wait, S: Scheduler, L: Named>(
     rt: &R,
     layer: &Layer<S, L>,

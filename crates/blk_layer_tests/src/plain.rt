@@ -66,7 +66,7 @@ impl<'a> Tags<'a> {
         Ok(())
     }
 
-    /// Hands a tag's command back, where it is held.
+    /// Requeues a tag's command, where the seat holds the tag.
     pub fn back(&mut self, core: &mut Core<NoneSched>, tag: u16) -> Result<u64, BackFault> {
         if !self.seat.holds(tag) {
             return Err(BackFault::NotIssued);

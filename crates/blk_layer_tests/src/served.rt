@@ -1,4 +1,4 @@
-//! Commands that workers are issued, report done and hand back.
+//! Commands that workers are issued, report done and requeue.
 
 use crate::closed::other_than;
 use crate::listed::{LayerCall, flushed};

@@ -16,7 +16,7 @@ use Rattle.blk_trace.specs.declared.trace.TheConstants.{MAX_EVENTS}
 use Rattle.blk_trace.specs.Happened.{Happened}
 use Rattle.blk_trace.specs.declared.event.Event.TheVariants.{Tick, Release, Issue, Done}
 use Rattle.blk_trace.specs.Setups.{IsSetup}
-use Rattle.blk_trace.specs.Events.{At, EntersRequest, IsReleased, round_of, entered, request_of, open_count, goes_back}
+use Rattle.blk_trace.specs.Events.{At, EntersRequest, IsReleased, round_of, entered, request_of, open_count, ends_requeued}
 use Rattle.blk_trace.specs.Depths.{changes_of, depth_in, depth_now, capacity_of}
 use Rattle.blk_trace.specs.Legal.{IsLegalTrace}
 use Rattle.blk_trace.specs.Meaning.{timed, served, release_of, due_of, command_of, released_ids, issued_ids, commands_of, rounds_of}
@@ -91,7 +91,7 @@ unfolding open_count flying_of seat_at this_round request_of
 round_over = next es4 Tick write_done (refl, refl) tt (omega arith)
 
 pub legal : IsLegalTrace one_tag read_too_late
-unfolding open_count released_ids issued_ids served goes_back waits_at depth_now depth_in depth_at changes_of timed round_of seat_at this_round
+unfolding open_count released_ids issued_ids served ends_requeued waits_at depth_now depth_in depth_at changes_of timed round_of seat_at this_round
 legal = next es5 (Issue 1 0) round_over (_, refl, omega arith, refl) tt (omega arith)
 
 -- ---- each came first of what waited
@@ -107,7 +107,7 @@ ticked (suc (suc (suc (suc (suc zero))))) h = absurd (cc)
 ticked (suc (suc (suc (suc (suc (suc k)))))) h = absurd (cc)
 
 full_here : IsRoundFull one_tag (take 4 read_too_late)
-unfolding places_at rounds_of served goes_back round_of depth_now depth_in depth_at changes_of timed
+unfolding places_at rounds_of served ends_requeued round_of depth_now depth_in depth_at changes_of timed
 full_here = refl
 
 full_at : (k : ℕ) → At read_too_late k Tick → IsRoundFull one_tag (take k read_too_late)
@@ -125,7 +125,7 @@ of_two id h gone = elim (or_cases (0 == id) (has_id (1 ∷ []) id) h) [
 
 -- what waits as a command goes out is that command alone
 alone : (k i tag id : ℕ) (w : Entered) → At read_too_late k (Issue i tag) → waits_at one_tag (take k read_too_late) id ≡ Some w → id ≡ i
-unfolding released_ids issued_ids served goes_back
+unfolding released_ids issued_ids served ends_requeued
 alone zero i tag id w h waits = absurd (cc)
 alone (suc zero) i tag id w h waits =
     let first : 0 ≡ i = cc in
@@ -167,11 +167,11 @@ abbrev one_place : List Step
 one_place = record { «from» = 0; depth = 1 } ∷ []
 
 commands_are : commands_of one_tag read_too_late ≡ two
-unfolding commands_of issued_ids served goes_back release_of due_of timed
+unfolding commands_of issued_ids served ends_requeued release_of due_of timed
 commands_are = refl
 
 rounds_are : rounds_of read_too_late ≡ 0 ∷ 1 ∷ []
-unfolding rounds_of served goes_back
+unfolding rounds_of served ends_requeued
 rounds_are = refl
 
 capacity_is : capacity_of one_tag read_too_late ≡ one_place

@@ -9,7 +9,7 @@ use Rattle.blk_trace.specs.Happened.{Happened}
 use Rattle.blk_trace.specs.declared.event.Event.TheVariants.{Tick, Issue}
 use Rattle.blk_trace.specs.Kinds.{issues, ends, requeues, is_done_of}
 use Rattle.blk_trace.specs.Setups.{Setup}
-use Rattle.blk_trace.specs.Events.{At, EndsAt, IsOpen, is_tick, round_of, goes_back}
+use Rattle.blk_trace.specs.Events.{At, EndsAt, IsOpen, is_tick, round_of, ends_requeued}
 use Rattle.blk_trace.specs.Legal.{IsLegalTrace}
 use Rattle.blk_trace.specs.Meaning.{service, served}
 use Rattle.blk_trace.proofs.More.{round_cons}
@@ -91,13 +91,13 @@ ended_before setup before after legal k id tag at =
 
 -- ---- the services before it are those of the events before it
 
-goes_back_kept : (tag : ℕ) (es fs : List Happened) (j : ℕ) → EndsAt es j tag → goes_back tag (es ++ fs) ≡ goes_back tag es
-unfolding goes_back
+goes_back_kept : (tag : ℕ) (es fs : List Happened) (j : ℕ) → EndsAt es j tag → ends_requeued tag (es ++ fs) ≡ ends_requeued tag es
+unfolding ends_requeued
 goes_back_kept tag [] fs j d = absurd (let e : None ≡ Some d.0 = d.1 in cc)
 goes_back_kept tag (e ∷ es) fs j d =
-    elim (is_done_of tag e) as (λ b. is_done_of tag e ≡ b → cond b (is_some (requeues e)) (goes_back tag (es ++ fs)) ≡ cond b (is_some (requeues e)) (goes_back tag es)) [
+    elim (is_done_of tag e) as (λ b. is_done_of tag e ≡ b → cond b (is_some (requeues e)) (ends_requeued tag (es ++ fs)) ≡ cond b (is_some (requeues e)) (ends_requeued tag es)) [
       | true ↦ λ _. refl
-      | false ↦ λ no. (elim j as (λ (i : ℕ). EndsAt (e ∷ es) i tag → goes_back tag (es ++ fs) ≡ goes_back tag es) [
+      | false ↦ λ no. (elim j as (λ (i : ℕ). EndsAt (e ∷ es) i tag → ends_requeued tag (es ++ fs) ≡ ends_requeued tag es) [
         | zero ↦ λ c.
             let same : e ≡ c.0 = let s : Some e ≡ Some c.0 = c.1 in cc in
             let yes_is : is_done_of tag e ≡ true = done_by tag e tag (ap ends same ∙ c.2) ∙ eq-eqb tag tag refl in
@@ -127,10 +127,10 @@ served_split r (e ∷ es) fs ended =
 
 -- ---- the rounds of services
 
-service_round : (r : ℕ) (o : Option (ℕ × ℕ)) (later : List Happened) (y : ℕ × ℕ) → option_and_then {U = ℕ × ℕ} (λ p. cond (goes_back p.1 later) None (Some (r, p.0))) o ≡ Some y → y.0 ≡ r
+service_round : (r : ℕ) (o : Option (ℕ × ℕ)) (later : List Happened) (y : ℕ × ℕ) → option_and_then {U = ℕ × ℕ} (λ p. cond (ends_requeued p.1 later) None (Some (r, p.0))) o ≡ Some y → y.0 ≡ r
 service_round r None later y h = absurd (cc)
 service_round r (Some p) later y h =
-    elim (goes_back p.1 later) as (λ b. cond b None (Some (r, p.0)) ≡ Some y → y.0 ≡ r) [
+    elim (ends_requeued p.1 later) as (λ b. cond b None (Some (r, p.0)) ≡ Some y → y.0 ≡ r) [
       | true ↦ λ g. absurd (cc)
       | false ↦ λ g. let same : ◌≡◌ {A = ℕ × ℕ} (r, p.0) y = cc in ap (λ (s : ℕ × ℕ). s.0) (sym same)
     ] h

@@ -8,7 +8,7 @@ use Rattle.blk_bio.specs.Requests.{dir_of}
 use Rattle.blk_sched.specs.Meaning.{Waiting, Pending, Meaning, Picks, joined_waiting}
 use Rattle.blk_sched.proofs.Maps.{one_test}
 use Rattle.blk_index.proofs.Indexed.{becomes_given, becomes_taken}
-use Rattle.blk_hw.specs.Held.{held_in}
+use Rattle.blk_hw.specs.Requeued.{requeued_in}
 use Rattle.blk_trace.specs.Happened.{Happened}
 use Rattle.blk_trace.specs.declared.event.Event.TheVariants.{Tick, Release, Join, Issue, Done, Depth}
 use Rattle.blk_trace.specs.Setups.{Setup, expire_of}
@@ -33,13 +33,13 @@ due_waiting setup events id = option_map (λ (w : Entered). w.due) (waits_at set
 abbrev pub AreNamed : Pending → Type 0
 AreNamed pending = (id : ℕ) (w : Waiting) → map.get pending id ≡ Some w → w.id ≡ id
 
--- the two agree, nothing is held, and the scheduler keeps this
+-- the two agree, nothing is requeued, and the scheduler keeps this
 pub record IsBooked (setup : Setup) (kept : List ℕ) (c : CoreState) : Type 0 where
   pub setup_is : c.setup ≡ setup
   pub kept_is : c.kept ≡ kept
   pub dues : (id : ℕ) → due_in c.meaning.pending id ≡ due_waiting setup c.events id
   pub named : AreNamed c.meaning.pending
-  pub none_held : (hw : ℕ) → held_in c.held hw ≡ []
+  pub none_requeued : (hw : ℕ) → requeued_in c.requeued hw ≡ []
 
 -- ---- maps
 
@@ -110,19 +110,19 @@ held_then setup kept c id e booked waits =
 
 module _ (setup : Setup) (kept : List ℕ) (old new : CoreState) (booked : IsBooked setup kept old) where
   -- by what it does to what waits
-  after : (e : Happened) → new.setup ≡ old.setup → new.kept ≡ old.kept → new.held ≡ old.held → new.events ≡ old.events ++ e ∷ [] → AreNamed new.meaning.pending → ((q : ℕ) → due_in new.meaning.pending q ≡ due_waiting setup (old.events ++ e ∷ []) q) → IsBooked setup kept new
-  after e setup_same kept_same held_same more named agree = record {
+  after : (e : Happened) → new.setup ≡ old.setup → new.kept ≡ old.kept → new.requeued ≡ old.requeued → new.events ≡ old.events ++ e ∷ [] → AreNamed new.meaning.pending → ((q : ℕ) → due_in new.meaning.pending q ≡ due_waiting setup (old.events ++ e ∷ []) q) → IsBooked setup kept new
+  after e setup_same kept_same requeued_same more named agree = record {
     setup_is = setup_same ∙ booked.setup_is;
     kept_is = kept_same ∙ booked.kept_is;
     dues = λ q. agree q ∙ ap (λ l. due_waiting setup l q) (sym more);
     named = named;
-    none_held = λ hw. ap (λ l. held_in l hw) held_same ∙ booked.none_held hw;
+    none_requeued = λ hw. ap (λ l. requeued_in l hw) requeued_same ∙ booked.none_requeued hw;
   }
 
   -- where what waits stays
-  pub unchanged : (e : Happened) → new.setup ≡ old.setup → new.kept ≡ old.kept → new.held ≡ old.held → new.events ≡ old.events ++ e ∷ [] → new.meaning.pending ≡ old.meaning.pending → ((q : ℕ) → waits_at setup (old.events ++ e ∷ []) q ≡ waits_at setup old.events q) → IsBooked setup kept new
-  unchanged e setup_same kept_same held_same more same waits =
-      after e setup_same kept_same held_same more (subst AreNamed (sym same) booked.named)
+  pub unchanged : (e : Happened) → new.setup ≡ old.setup → new.kept ≡ old.kept → new.requeued ≡ old.requeued → new.events ≡ old.events ++ e ∷ [] → new.meaning.pending ≡ old.meaning.pending → ((q : ℕ) → waits_at setup (old.events ++ e ∷ []) q ≡ waits_at setup old.events q) → IsBooked setup kept new
+  unchanged e setup_same kept_same requeued_same more same waits =
+      after e setup_same kept_same requeued_same more (subst AreNamed (sym same) booked.named)
       (λ q. ap (λ P. due_in P q) same ∙ booked.dues q ∙ ap (option_map (λ (x : Entered). x.due)) (sym (waits q)))
 
   pub placed_booked : (bios : List Bio) (hw : ℕ) (placed : Placed) → IsLegalTrace setup new.events → Places serves_all old bios hw placed new → IsBooked setup kept new
@@ -147,11 +147,11 @@ module _ (setup : Setup) (kept : List ℕ) (old new : CoreState) (booked : IsBoo
       (subst AreNamed (sym is) (named_given old.meaning.pending id joined (booked.named id w there) booked.named))
       (λ q. ap (λ P. due_in P q) is ∙ agree_given old.meaning.pending (waits_at setup old.events) (waits_at setup (old.events ++ Join id bios ∷ [])) id joined _ waits.2 booked.dues (waits-joined setup old.events id bios legal' waits.0 waits.1) q)
 
-  pub sent_booked : (w : Waiting) (hw tag : ℕ) (new_meaning : Meaning) → new_meaning ≡ new.meaning → new.setup ≡ old.setup → new.kept ≡ old.kept → new.held ≡ old.held → new.events ≡ old.events ++ Issue w.id tag ∷ [] → IsLegalTrace setup new.events → Picks serves_all hw old.meaning w new_meaning → IsBooked setup kept new
-  sent_booked w hw tag new_meaning own setup_same kept_same held_same more legal picks =
+  pub sent_booked : (w : Waiting) (hw tag : ℕ) (new_meaning : Meaning) → new_meaning ≡ new.meaning → new.setup ≡ old.setup → new.kept ≡ old.kept → new.requeued ≡ old.requeued → new.events ≡ old.events ++ Issue w.id tag ∷ [] → IsLegalTrace setup new.events → Picks serves_all hw old.meaning w new_meaning → IsBooked setup kept new
+  sent_booked w hw tag new_meaning own setup_same kept_same requeued_same more legal picks =
       let legal' : IsLegalTrace setup (old.events ++ Issue w.id tag ∷ []) = subst (λ l. IsLegalTrace setup l) more legal in
       let is : new.meaning.pending ≡ map.remove old.meaning.pending w.id = ap (λ (m : Meaning). m.pending) (sym own ∙ picks.2) in
-      after (Issue w.id tag) setup_same kept_same held_same more
+      after (Issue w.id tag) setup_same kept_same requeued_same more
       (subst AreNamed (sym is) (named_taken old.meaning.pending w.id booked.named))
       (λ q. ap (λ P. due_in P q) is ∙ agree_taken old.meaning.pending (waits_at setup old.events) (waits_at setup (old.events ++ Issue w.id tag ∷ [])) w.id booked.dues (waits-issued setup old.events w.id tag legal') q)
 

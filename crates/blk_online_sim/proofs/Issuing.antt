@@ -96,7 +96,7 @@ due_kept setup es id tag i = (same_entered setup es (Issue id tag) i refl).due
 
 -- one more goes out
 module _ (late_last : Bool) (setup : Setup) (round depth : ℕ) (old new : CoreState) where
-  sent : (hw n : ℕ) (w : Waiting) → IsIssuing late_last setup round depth n old → IsLegalTrace setup new.events → new.setup ≡ old.setup → new.events ≡ old.events ++ Issue w.id n ∷ [] → SendsFrom serves_all earliest_chooses hw (round_of old.events) [] old.meaning old.kept old.held w new.meaning new.kept new.held → IsIssuing late_last setup round depth (suc n) new
+  sent : (hw n : ℕ) (w : Waiting) → IsIssuing late_last setup round depth n old → IsLegalTrace setup new.events → new.setup ≡ old.setup → new.events ≡ old.events ++ Issue w.id n ∷ [] → SendsFrom serves_all earliest_chooses hw (round_of old.events) [] old.meaning old.kept old.requeued w new.meaning new.kept new.requeued → IsIssuing late_last setup round depth (suc n) new
   sent hw n w so_far legal setup_same more sends =
       let es : List Happened = old.events in
       let picks : Picks serves_all hw old.meaning w new.meaning = sends.0 in
@@ -144,7 +144,7 @@ module _ (late_last : Bool) (setup : Setup) (round depth : ℕ) (old new : CoreS
       let w : Waiting = a.0 in
       let hw : ℕ = (((n % old.setup.hw) + gave.place) % old.setup.hw) in
       sent hw n w so_far legal a.2.0 a.2.1
-      (subst (λ (l : List Waiting). SendsFrom serves_all earliest_chooses hw (round_of old.events) l old.meaning old.kept old.held w new.meaning new.kept new.held) (so_far.booked.none_held hw) a.1)
+      (subst (λ (l : List Waiting). SendsFrom serves_all earliest_chooses hw (round_of old.events) l old.meaning old.kept old.requeued w new.meaning new.kept new.requeued) (so_far.booked.none_requeued hw) a.1)
 
 pub issued_in_turn : (late_last : Bool) (setup : Setup) (round depth n : ℕ) (old new : CoreState) → IsIssuing late_last setup round depth 0 old → IsLegalTrace setup new.events → IssueInTurn earliest_policy n old new → IsIssuing late_last setup round depth n new
 unfolding IssueInTurn

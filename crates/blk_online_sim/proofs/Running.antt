@@ -40,7 +40,7 @@ start_track late_last script = record {
     kept_is = refl;
     dues = λ id. ap (option_map (λ (w : Waiting). w.due)) (map.get-empty nat_cmp id) ∙ sym (ap (option_map (λ (e : Entered). e.due)) (nothing_waits script.setup id));
     named = λ id w h. let e : None ≡ Some w = sym (map.get-empty nat_cmp id) ∙ h in cc;
-    none_held = λ hw. nobody_held script.setup.hw hw;
+    none_requeued = λ hw. nobody_held script.setup.hw hw;
   };
   ticks = λ k at. let e : None ≡ Some Tick = at in cc;
   fresh = fresh_start [] refl;

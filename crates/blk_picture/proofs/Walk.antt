@@ -10,7 +10,7 @@ use Rattle.blk_trace.specs.declared.event.Event.TheVariants.{Tick, Release, Join
 use Rattle.blk_trace.specs.Kinds.{is_tick, issues, ends, requeues, is_done_of}
 use Rattle.blk_trace.specs.Setups.{Setup}
 use Rattle.blk_trace.specs.declared.trace.TheConstants.{MAX_EVENTS}
-use Rattle.blk_trace.specs.Events.{round_of, goes_back, request_of}
+use Rattle.blk_trace.specs.Events.{round_of, ends_requeued, request_of}
 use Rattle.blk_trace.specs.Meaning.{release_of, due_of}
 use Rattle.blk_trace.proofs.More.{round_more}
 use Rattle.blk_picture.specs.declared.boxes.IssueBox.{IssueBox}
@@ -28,9 +28,9 @@ boxes_back setup events round k e l is =
     ap (boxes_from setup events round) (drop_more events k e l ∙ ap (λ x. x ∷ drop (k + 1) events) is)
 
 -- how a tag's next end is from a place on
-pub back_back : (events : List Happened) (tag k : ℕ) (e : Happened) → k < length events → get_or events k e ≡ e → goes_back tag (drop k events) ≡ cond (is_done_of tag e) (is_some (requeues e)) (goes_back tag (drop (k + 1) events))
-unfolding goes_back
-back_back events tag k e l is = ap (goes_back tag) (drop_more events k e l ∙ ap (λ x. x ∷ drop (k + 1) events) is)
+pub back_back : (events : List Happened) (tag k : ℕ) (e : Happened) → k < length events → get_or events k e ≡ e → ends_requeued tag (drop k events) ≡ cond (is_done_of tag e) (is_some (requeues e)) (ends_requeued tag (drop (k + 1) events))
+unfolding ends_requeued
+back_back events tag k e l is = ap (ends_requeued tag) (drop_more events k e l ∙ ap (λ x. x ∷ drop (k + 1) events) is)
 
 -- the round after the events up to a place
 pub round_back : (events : List Happened) (k : ℕ) (e : Happened) → k < length events → get_or events k e ≡ e → round_of (take (k + 1) events) ≡ round_of (take k events) + cond (is_tick e) 1 0
@@ -81,14 +81,14 @@ boxes_push setup events round k id tag e items new b l is quiet some h box n =
     ∙ ap (λ o. boxes_from setup events round (drop (k + 1) events) ++ cons_option (option_map (box_of setup events round (drop (k + 1) events)) o) []) some)
 
 -- no tag's end changes where none ends
-pub back_still : (events : List Happened) (tag k : ℕ) (e : Happened) (b : Bool) → k < length events → get_or events k e ≡ e → ends e ≡ None → b ≡ goes_back tag (drop (k + 1) events) → b ≡ goes_back tag (drop k events)
+pub back_still : (events : List Happened) (tag k : ℕ) (e : Happened) (b : Bool) → k < length events → get_or events k e ≡ e → ends e ≡ None → b ≡ ends_requeued tag (drop (k + 1) events) → b ≡ ends_requeued tag (drop k events)
 back_still events tag k e b l is none h =
-    h ∙ sym (back_back events tag k e l is ∙ ap (λ o. cond (option_map_or (λ t. t == tag) o false) (is_some (requeues e)) (goes_back tag (drop (k + 1) events))) none)
+    h ∙ sym (back_back events tag k e l is ∙ ap (λ o. cond (option_map_or (λ t. t == tag) o false) (is_some (requeues e)) (ends_requeued tag (drop (k + 1) events))) none)
 
 -- where one ends, that changes alone
-pub back_ends : (events : List Happened) (tag k t : ℕ) (e : Happened) → k < length events → get_or events k e ≡ e → ends e ≡ Some t → goes_back tag (drop k events) ≡ cond (t == tag) (is_some (requeues e)) (goes_back tag (drop (k + 1) events))
+pub back_ends : (events : List Happened) (tag k t : ℕ) (e : Happened) → k < length events → get_or events k e ≡ e → ends e ≡ Some t → ends_requeued tag (drop k events) ≡ cond (t == tag) (is_some (requeues e)) (ends_requeued tag (drop (k + 1) events))
 back_ends events tag k t e l is some =
-    back_back events tag k e l is ∙ ap (λ o. cond (option_map_or (λ t. t == tag) o false) (is_some (requeues e)) (goes_back tag (drop (k + 1) events))) some
+    back_back events tag k e l is ∙ ap (λ o. cond (option_map_or (λ t. t == tag) o false) (is_some (requeues e)) (ends_requeued tag (drop (k + 1) events))) some
 
 -- over a Tick
 pub walked_tick : (setup : Setup) (events : List Happened) (place round : ℕ) (e : Happened) (backs : List Bool) (boxes : List IssueBox) → place < length events → e ≡ get_or events place e → is_tick e ≡ true → IsWalked setup events (place + 1) round backs boxes → IsWalked setup events place (round - 1) backs boxes
@@ -122,16 +122,16 @@ walked_end setup events place round t e b backs new boxes l here quiet some low 
       tags = ap length n ∙ length-set backs t b ∙ w.tags;
       backs_are = λ tag h.
           ap (λ x. get_or x tag false) n
-          ∙ elim (cases_Bool (t == tag)) as (λ _. get_or (set backs t b) tag false ≡ goes_back tag (drop place events)) [
+          ∙ elim (cases_Bool (t == tag)) as (λ _. get_or (set backs t b) tag false ≡ ends_requeued tag (drop place events)) [
             | inl y ↦
                 ap (λ j. get_or (set backs t b) j false) (sym (eqb-true t tag y))
                 ∙ get_or-set_same backs t b false (omega (arith, w.tags, low))
                 ∙ back
-                ∙ sym (back_ends events tag place t e l is some ∙ ap (λ x. cond x (is_some (requeues e)) (goes_back tag (drop (place + 1) events))) y)
+                ∙ sym (back_ends events tag place t e l is some ∙ ap (λ x. cond x (is_some (requeues e)) (ends_requeued tag (drop (place + 1) events))) y)
             | inr f ↦
                 get_or-set_other backs t tag b false (λ same. eqb-false t tag f (sym same))
                 ∙ w.backs_are tag h
-                ∙ sym (back_ends events tag place t e l is some ∙ ap (λ x. cond x (is_some (requeues e)) (goes_back tag (drop (place + 1) events))) f)
+                ∙ sym (back_ends events tag place t e l is some ∙ ap (λ x. cond x (is_some (requeues e)) (ends_requeued tag (drop (place + 1) events))) f)
           ];
     }
 
@@ -171,7 +171,7 @@ walked_issue setup events place round id tag e o f back backs boxes new l here q
 
 -- at the end of the events
 pub walked_none : (setup : Setup) (events : List Happened) (n : ℕ) (backs : List Bool) (boxes : List IssueBox) → n ≡ length events → round_of events ≤ MAX_EVENTS → backs ≡ replicate MAX_TAGS false → boxes ≡ [] → IsWalked setup events n (round_of events) backs boxes
-unfolding boxes_from goes_back
+unfolding boxes_from ends_requeued
 walked_none setup events n backs boxes all few b none =
     let end : drop n events ≡ [] = drop_all n events (omega (arith, all)) in
     record {
@@ -180,7 +180,7 @@ walked_none setup events n backs boxes all few b none =
       few = omega (arith, all, ap length none);
       boxes_are = none ∙ sym (ap (boxes_from setup events (round_of events)) end);
       tags = ap length b ∙ length-replicate MAX_TAGS false;
-      backs_are = λ tag h. ap (λ x. get_or x tag false) b ∙ get_or-replicate MAX_TAGS tag false false h ∙ sym (ap (goes_back tag) end);
+      backs_are = λ tag h. ap (λ x. get_or x tag false) b ∙ get_or-replicate MAX_TAGS tag false false h ∙ sym (ap (ends_requeued tag) end);
     }
 
 -- at their start

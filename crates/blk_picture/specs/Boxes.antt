@@ -5,7 +5,7 @@ use Rattle.blk_bio.specs.Requests.{dir_of, first_of, last_of}
 use Rattle.blk_trace.specs.Happened.{Happened}
 use Rattle.blk_trace.specs.Kinds.{issues, is_tick}
 use Rattle.blk_trace.specs.Setups.{Setup}
-use Rattle.blk_trace.specs.Events.{goes_back, request_of}
+use Rattle.blk_trace.specs.Events.{ends_requeued, request_of}
 use Rattle.blk_trace.specs.Meaning.{release_of, due_of}
 use Rattle.blk_picture.specs.declared.boxes.IssueBox.{IssueBox}
 
@@ -20,7 +20,7 @@ box_of setup events round later p = record {
   due = due_of setup events p.0;
   round = round;
   tag = p.1;
-  back = goes_back p.1 later;
+  back = ends_requeued p.1 later;
 }
 
 -- the boxes of the Issues among these events, the first of which stands in the round, the last Issue first

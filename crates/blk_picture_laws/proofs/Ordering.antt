@@ -9,7 +9,7 @@ use Rattle.blk_bio.specs.Requests.{dir_of, first_of, last_of}
 use Rattle.blk_trace.specs.Happened.{Happened}
 use Rattle.blk_trace.specs.Kinds.{is_tick, issues}
 use Rattle.blk_trace.specs.Setups.{Setup}
-use Rattle.blk_trace.specs.Events.{goes_back, request_of}
+use Rattle.blk_trace.specs.Events.{ends_requeued, request_of}
 use Rattle.blk_trace.specs.Legal.{IsLegalTrace}
 use Rattle.blk_trace.specs.Meaning.{timed, release_of, due_of, served, issued_ids, command_of, commands_of, rounds_of}
 use Rattle.blk_report.specs.declared.serving.Service.{Service}
@@ -72,9 +72,9 @@ module _ {Y : Type 0} (setup : Setup) (events : List Happened) (f : IssueBox →
   by_back false b q rest pairs e h = ap (λ l. f b ∷ l) h ∙ ap (λ y. y ∷ map k pairs) e
 
   by_issue : (round : ℕ) (later : List Happened) (o : Option (ℕ × ℕ)) (rest : List IssueBox) (pairs : List (ℕ × ℕ)) → map f (filter kept rest) ≡ map k pairs
-      → map f (filter kept (cons_option (option_map (box_of setup events round later) o) rest)) ≡ map k (cons_option (option_and_then (λ p. cond (goes_back p.1 later) None (Some (round, p.0))) o) pairs)
+      → map f (filter kept (cons_option (option_map (box_of setup events round later) o) rest)) ≡ map k (cons_option (option_and_then (λ p. cond (ends_requeued p.1 later) None (Some (round, p.0))) o) pairs)
   by_issue round later None rest pairs h = h
-  by_issue round later (Some p) rest pairs h = by_back (goes_back p.1 later) (box_of setup events round later p) (round, p.0) rest pairs (is round later p) h
+  by_issue round later (Some p) rest pairs h = by_back (ends_requeued p.1 later) (box_of setup events round later p) (round, p.0) rest pairs (is round later p) h
 
   as_served : (round : ℕ) (es : List Happened) → map f (filter kept (ahead setup events round es)) ≡ map k (served round es)
   unfolding ahead served

@@ -13,8 +13,8 @@ ghost use Rattle.blk_picture.specs.Pictures.{rounds_shown, most_rounds};
 ghost use Rattle.blk_picture_laws.specs.Served.{boxes_in_order, boxes_kept, boxed_command, issue_of, timed_issues, BoxesAreServices};
 ghost use Rattle.blk_picture_laws.specs.Sums.{ShowsAll, ShowsAllOfEach, WhereAllIsShown, ReadsAddUp, WritesAddUp, LatesAddUp, BacksAddUp, BoxesAddUp, RoomsAddUp, ColumnsFit, IdlePlacesAddUp};
 
-/// The boxes of a picture are those of the trace: one for each Issue, in its round and under its tag; and those that were not handed
-/// back are the trace's commands in their rounds, in the order of their Issues. In a legal trace they are its services, each with
+/// The boxes of a picture are those of the trace: one for each Issue, in its round and under its tag; and those that were not requeued
+/// are the trace's commands in their rounds, in the order of their Issues. In a legal trace they are its services, each with
 /// its sectors.
 ///
 /// A law: it does nothing when it runs, and a caller has its clauses.

@@ -1,4 +1,4 @@
-//! Maps from software queues to hardware queues, and held lists.
+//! Maps from software queues to hardware queues, and requeue lists.
 
 use crate::given::{Heap, bio, request};
 use blk_bio::Dir;
@@ -55,45 +55,48 @@ fn queued<'a>(rt: &impl Abort, heap: Heap<'a>, id: u64) -> Queued<Heap<'a>> {
     }
 }
 
-/// Requests are held and leave in the order in which they came, which is not that of their ids.
+/// Requests leave in the order in which they were requeued, which is not that of their ids.
 fn holds(rt: &impl Abort, heap: Heap<'_>) {
-    let mut held = RequeueList::new(heap);
-    assert_eq!(rt; held.len(), 0);
+    let mut requeued = RequeueList::new(heap);
+    assert_eq!(rt; requeued.len(), 0);
     for id in 0..20u64 {
         let id = 19 - id;
         let queued = queued(rt, heap, id);
         let armed = heap.is_armed();
-        if let Err((back, _)) = held.push(queued) {
+        if let Err((back, _)) = requeued.push(queued) {
             assert!(rt; armed && !heap.is_armed());
             assert_eq!(rt; back.id, id);
-            assert!(rt; held.push(back).is_ok());
+            assert!(rt; requeued.push(back).is_ok());
         }
     }
-    assert_eq!(rt; held.len(), 20);
+    assert_eq!(rt; requeued.len(), 20);
     for id in 0..20u64 {
-        let first = held.take_first().expect(rt, "a request");
+        let first = requeued.take_first().expect(rt, "a request");
         assert_eq!(rt;
             (first.id, first.hw, first.release, first.due),
             (19 - id, 0, 1, 5)
         );
     }
-    assert!(rt; held.take_first().is_none());
+    assert!(rt; requeued.take_first().is_none());
 }
 
-/// What came back from a hardware queue goes out to that one alone, first come first.
+/// What was requeued from a hardware queue goes out to that one alone, in the order in which it was requeued.
 #[test]
-fn held_by_hardware_queue(rt: HostRuntime) {
+fn requeued_by_hardware_queue(rt: HostRuntime) {
     let heap = Refusing::new(rt.alloc());
-    let mut held = RequeueLists::new(&heap, 3).expect(&rt, "memory");
-    assert!(rt; held.push(2, queued(&rt, &heap, 7)).is_ok());
-    assert!(rt; held.push(0, queued(&rt, &heap, 4)).is_ok());
-    assert!(rt; held.push(2, queued(&rt, &heap, 5)).is_ok());
-    assert!(rt; held.take_first(1).is_none());
-    assert_eq!(rt; held.take_first(2).expect(&rt, "the first of two").id, 7);
-    assert_eq!(rt; held.take_first(0).expect(&rt, "the only one").id, 4);
-    assert_eq!(rt; held.take_first(2).expect(&rt, "the second").id, 5);
-    assert!(rt; held.take_first(2).is_none());
-    assert!(rt; held.take_first(0).is_none());
+    let mut requeued = RequeueLists::new(&heap, 3).expect(&rt, "memory");
+    assert!(rt; requeued.push(2, queued(&rt, &heap, 7)).is_ok());
+    assert!(rt; requeued.push(0, queued(&rt, &heap, 4)).is_ok());
+    assert!(rt; requeued.push(2, queued(&rt, &heap, 5)).is_ok());
+    assert!(rt; requeued.take_first(1).is_none());
+    assert_eq!(rt;
+        requeued.take_first(2).expect(&rt, "the first of two").id,
+        7
+    );
+    assert_eq!(rt; requeued.take_first(0).expect(&rt, "the only one").id, 4);
+    assert_eq!(rt; requeued.take_first(2).expect(&rt, "the second").id, 5);
+    assert!(rt; requeued.take_first(2).is_none());
+    assert!(rt; requeued.take_first(0).is_none());
 }
 
 #[test]

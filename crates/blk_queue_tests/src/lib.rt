@@ -1,4 +1,4 @@
-//! Tests of what lies between a submitter and a scheduler: bios, requests, plugs, software queues, maps and held lists.
+//! Tests of what lies between a submitter and a scheduler: bios, requests, plugs, software queues, maps and requeue lists.
 #![tactic(auto)]
 
 #[cfg(test)]

@@ -18,7 +18,7 @@ use Rattle.blk_trace.specs.Happened.{Happened}
 use Rattle.blk_trace.specs.declared.event.Event.TheVariants.{Release, Join}
 use Rattle.blk_trace.specs.Kinds.{is_tick, issues}
 use Rattle.blk_trace.specs.Setups.{Setup}
-use Rattle.blk_trace.specs.Events.{join_up, request_of, goes_back, EntersRequest}
+use Rattle.blk_trace.specs.Events.{join_up, request_of, ends_requeued, EntersRequest}
 use Rattle.blk_trace.specs.Legal.{IsLegalTrace}
 use Rattle.blk_trace.specs.Rules.{IsUnbroken}
 use Rattle.blk_trace.specs.Meaning.{service, served, command_of, issued_ids, released_ids, commands_of, rounds_of}
@@ -191,7 +191,7 @@ served_from : (r : ℕ) (es : List Happened) (k : ℕ) (d : ℕ × ℕ) → k < 
 unfolding served
 served_from r [] k d h = absurd (omega arith)
 served_from r (x ∷ es) k d h =
-    from_first r (service r x es) (served (cond (is_tick x) (r + 1) r) es) (λ s e. round_told r (issues x) (λ t. goes_back t es) s e)
+    from_first r (service r x es) (served (cond (is_tick x) (r + 1) r) es) (λ s e. round_told r (issues x) (λ t. ends_requeued t es) s e)
     (λ j e low. omega (arith, tick_up (is_tick x) r, served_from (cond (is_tick x) (r + 1) r) es j e low)) k d h
 
 up_first : (r : ℕ) (o : Option (ℕ × ℕ)) (xs : List (ℕ × ℕ)) → ((s : ℕ × ℕ) → o ≡ Some s → s.0 ≡ r) → ((k : ℕ) (d : ℕ × ℕ) → k < length xs → r ≤ (get_or xs k d).0)
@@ -206,7 +206,7 @@ served_up : (r : ℕ) (es : List Happened) (j k : ℕ) (d : ℕ × ℕ) → j �
 unfolding served
 served_up r [] j k d l h = absurd (omega arith)
 served_up r (x ∷ es) j k d l h =
-    up_first r (service r x es) (served (cond (is_tick x) (r + 1) r) es) (λ s e. round_told r (issues x) (λ t. goes_back t es) s e)
+    up_first r (service r x es) (served (cond (is_tick x) (r + 1) r) es) (λ s e. round_told r (issues x) (λ t. ends_requeued t es) s e)
     (λ i e low. omega (arith, tick_up (is_tick x) r, served_from (cond (is_tick x) (r + 1) r) es i e low))
     (λ i m e a b. served_up (cond (is_tick x) (r + 1) r) es i m e a b) j k d l h
 

@@ -62,8 +62,7 @@ fn outstays<A: Allocator + Clone>(
     }
 }
 
-/// The ids of the requests that wait past their due round, rising. `gone` are those of the requests that were issued and not handed
-/// back.
+/// The ids of the requests that wait past their due round, rising. `gone` are those of the requests that were issued and not requeued.
 fn overdue_ids<A: Allocator + Clone>(
     alloc: A,
     trace: &Trace<A>,

@@ -25,5 +25,5 @@ abbrev pub start_of : Scripted → Meaning → List ℕ → SimState
 start_of script meaning kept = record {
   plugs = replicate script.submitters (empty_plug script.setup.limits);
   queues = replicate script.submitters (empty_queue script.soft_depth script.setup.limits);
-  core = record { setup = script.setup; events = []; meaning = meaning; kept = kept; flights = replicate script.setup.depth None; held = replicate script.setup.hw [] };
+  core = record { setup = script.setup; events = []; meaning = meaning; kept = kept; flights = replicate script.setup.depth None; requeued = replicate script.setup.hw [] };
 }

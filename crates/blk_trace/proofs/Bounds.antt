@@ -15,7 +15,7 @@ use Rattle.blk_trace.specs.declared.setup.TheConstants.{MAX_EXPIRIES}
 use Rattle.blk_trace.specs.Happened.{Happened}
 use Rattle.blk_trace.specs.Kinds.{is_tick, issues}
 use Rattle.blk_trace.specs.Setups.{Setup, IsSetup, expire_of}
-use Rattle.blk_trace.specs.Events.{round_of, goes_back, request_of, IsReleased}
+use Rattle.blk_trace.specs.Events.{round_of, ends_requeued, request_of, IsReleased}
 use Rattle.blk_trace.specs.Legal.{IsLegalTrace}
 use Rattle.blk_trace.specs.Meaning.{service, served, issued_ids, command_of, commands_of, rounds_of}
 use Rattle.blk_trace.specs.Waits.{has_id}
@@ -52,9 +52,9 @@ now_or_not false p s h = let same : p ≡ s = cc in ap (λ (x : ℕ × ℕ). x.0
 served_now : (r : ℕ) (x : Happened) (es : List Happened) (s : ℕ × ℕ) → service r x es ≡ Some s → s.0 ≡ r
 served_now r x es s h = by_issue (issues x) h
   where
-    by_issue : (o : Option (ℕ × ℕ)) → option_and_then {U = ℕ × ℕ} (λ p. cond (goes_back p.1 es) None (Some (r, p.0))) o ≡ Some s → s.0 ≡ r
+    by_issue : (o : Option (ℕ × ℕ)) → option_and_then {U = ℕ × ℕ} (λ p. cond (ends_requeued p.1 es) None (Some (r, p.0))) o ≡ Some s → s.0 ≡ r
     by_issue None h = absurd (cc)
-    by_issue (Some p) h = now_or_not (goes_back p.1 es) (r, p.0) s h
+    by_issue (Some p) h = now_or_not (ends_requeued p.1 es) (r, p.0) s h
 
 service_early : (r B : ℕ) (x : Happened) (es : List Happened) (xs : List (ℕ × ℕ)) → r ≤ B → All (λ (s : ℕ × ℕ). s.0 ≤ B) xs → All (λ (s : ℕ × ℕ). s.0 ≤ B) (cons_option (service r x es) xs)
 service_early r B x es xs h rest = by_some (service r x es) (λ s e. served_now r x es s e)

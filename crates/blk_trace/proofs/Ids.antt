@@ -9,7 +9,7 @@ use Rattle.blk_bio.specs.Bios.{Bio}
 use Rattle.blk_trace.specs.Happened.{Happened, Release, Issue}
 use Rattle.blk_trace.specs.Kinds.{releases, issues, requeues, is_tick}
 use Rattle.blk_trace.specs.Setups.{Setup}
-use Rattle.blk_trace.specs.Events.{At, goes_back, IsReleased, IsIssued, AreRequeued}
+use Rattle.blk_trace.specs.Events.{At, ends_requeued, IsReleased, IsIssued, AreRequeued}
 use Rattle.blk_trace.specs.Legal.{IsLegalTrace}
 use Rattle.blk_trace.specs.Rules.{IsUnbroken}
 use Rattle.blk_trace.specs.Meaning.{service, served, issued_ids, released_ids}
@@ -94,7 +94,7 @@ pub record IsServed (es : List Happened) (id : ℕ) : Type 0 where
   pub place : ℕ
   pub tag : ℕ
   pub issued : At es place (Issue id tag)
-  pub stays : goes_back tag (drop (suc place) es) ≡ false
+  pub stays : ends_requeued tag (drop (suc place) es) ≡ false
 
 served_later : (x : Happened) (es : List Happened) (id : ℕ) → IsServed es id → IsServed (x ∷ es) id
 served_later x es id p = record { place = suc p.place; tag = p.tag; issued = p.issued; stays = p.stays }
@@ -106,7 +106,7 @@ more_ids : (o : Option (ℕ × ℕ)) (xs : List (ℕ × ℕ)) (id : ℕ) → has
 more_ids None xs id h = h
 more_ids (Some s) xs id h = or_right (s.1 == id) _ h
 
-serves : (r : ℕ) (es : List Happened) (k id tag : ℕ) → At es k (Issue id tag) → goes_back tag (drop (suc k) es) ≡ false → has_id (ids_from r es) id ≡ true
+serves : (r : ℕ) (es : List Happened) (k id tag : ℕ) → At es k (Issue id tag) → ends_requeued tag (drop (suc k) es) ≡ false → has_id (ids_from r es) id ≡ true
 unfolding served
 serves r [] k id tag h g = absurd (cc)
 serves r (x ∷ es) zero id tag h g =
@@ -118,10 +118,10 @@ serves r (x ∷ es) zero id tag h g =
 serves r (x ∷ es) (suc k) id tag h g = more_ids (service r x es) (served (cond (is_tick x) (r + 1) r) es) id (serves (cond (is_tick x) (r + 1) r) es k id tag h g)
 
 serving : (r : ℕ) (x : Happened) (es : List Happened) (id : ℕ) (xs : List (ℕ × ℕ)) (o : Option (ℕ × ℕ)) → issues x ≡ o → (has_id (map (λ (s : ℕ × ℕ). s.1) xs) id ≡ true → IsServed es id)
-    → has_id (map (λ (s : ℕ × ℕ). s.1) (cons_option (option_and_then (λ p. cond (goes_back p.1 es) None (Some (r, p.0))) o) xs)) id ≡ true → IsServed (x ∷ es) id
+    → has_id (map (λ (s : ℕ × ℕ). s.1) (cons_option (option_and_then (λ p. cond (ends_requeued p.1 es) None (Some (r, p.0))) o) xs)) id ≡ true → IsServed (x ∷ es) id
 serving r x es id xs None none ih h = served_later x es id (ih h)
 serving r x es id xs (Some p) is ih h =
-    elim (cases_Bool (goes_back p.1 es)) [
+    elim (cases_Bool (ends_requeued p.1 es)) [
       | inl b ↦ served_later x es id (ih (rw b at h))
       | inr b ↦
           let found : ((p.0 == id) || has_id (map (λ (s : ℕ × ℕ). s.1) xs) id) ≡ true = rw b at h in
@@ -142,7 +142,7 @@ pub has_served : (es : List Happened) (id : ℕ) → has_id (issued_ids es) id �
 unfolding issued_ids
 has_served es id h = has_serving 0 es id h
 
-pub served_has : (es : List Happened) (k id tag : ℕ) → At es k (Issue id tag) → goes_back tag (drop (suc k) es) ≡ false → has_id (issued_ids es) id ≡ true
+pub served_has : (es : List Happened) (k id tag : ℕ) → At es k (Issue id tag) → ends_requeued tag (drop (suc k) es) ≡ false → has_id (issued_ids es) id ≡ true
 unfolding issued_ids
 served_has es k id tag h g = serves 0 es k id tag h g
 
@@ -151,11 +151,11 @@ has_issued es id h = let p = has_served es id h in (p.place, (p.tag, p.issued))
 
 -- an id whose Issues were all requeued
 pub all_back : (es : List Happened) (id : ℕ) → AreRequeued es id → has_id (issued_ids es) id ≡ false
-all_back es id back = false_from_ne_true _ (λ t. let p = has_served es id t in let b : goes_back p.tag (drop (suc p.place) es) ≡ true = back p.place p.tag p.issued in let n = p.stays in absurd (cc))
+all_back es id back = false_from_ne_true _ (λ t. let p = has_served es id t in let b : ends_requeued p.tag (drop (suc p.place) es) ≡ true = back p.place p.tag p.issued in let n = p.stays in absurd (cc))
 
 pub back_all : (es : List Happened) (id : ℕ) → has_id (issued_ids es) id ≡ false → AreRequeued es id
 back_all es id h k tag at =
-    elim (cases_Bool (goes_back tag (drop (suc k) es))) [
+    elim (cases_Bool (ends_requeued tag (drop (suc k) es))) [
       | inl b ↦ b
       | inr b ↦ absurd (let t : has_id (issued_ids es) id ≡ true = served_has es k id tag at b in cc)
     ]

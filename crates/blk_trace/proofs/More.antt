@@ -10,7 +10,7 @@ use Rattle.std.proofs.lemmas.List.Sums.{sum_by-cons, sum_by-append, fold-append,
 use Rattle.blk_trace.specs.Happened.{Happened}
 use Rattle.blk_trace.specs.Kinds.{releases, issues, requeues, is_done_of, enters_under}
 use Rattle.blk_trace.specs.Setups.{Setup}
-use Rattle.blk_trace.specs.Events.{is_tick, round_of, goes_back, join_up, request_of}
+use Rattle.blk_trace.specs.Events.{is_tick, round_of, ends_requeued, join_up, request_of}
 use Rattle.blk_trace.specs.Meaning.{timed, entry_round, entry_due, release_of, due_of, service, served, issued_ids, released_ids, rounds_of, greatest, least}
 use Rattle.blk_trace.specs.Waits.{was_issued}
 use Rattle.blk_trace.specs.Inside.Seats.{after_last_tick, this_round}
@@ -71,8 +71,8 @@ no_back : (b : Bool) (o : Option ℕ) → o ≡ None → cond b (is_some o) fals
 no_back true o h = ap is_some h
 no_back false o h = refl
 
-pub goes_back_more : (t : ℕ) (es : List Happened) (e : Happened) → requeues e ≡ None → goes_back t (es ++ e ∷ []) ≡ goes_back t es
-unfolding goes_back
+pub goes_back_more : (t : ℕ) (es : List Happened) (e : Happened) → requeues e ≡ None → ends_requeued t (es ++ e ∷ []) ≡ ends_requeued t es
+unfolding ends_requeued
 goes_back_more t [] e h = no_back (is_done_of t e) (requeues e) h
 goes_back_more t (x ∷ es) e h = ap (λ b. cond (is_done_of t x) (is_some (requeues x)) b) (goes_back_more t es e h)
 
@@ -81,15 +81,15 @@ prepend : {X : Type 0} (o : Option X) (xs ys : List X) → cons_option o (xs ++ 
 prepend None xs ys = refl
 prepend (Some x) xs ys = refl
 
-service_same : (r : ℕ) (x : Happened) (es fs : List Happened) → ((t : ℕ) → goes_back t es ≡ goes_back t fs) → service r x es ≡ service r x fs
+service_same : (r : ℕ) (x : Happened) (es fs : List Happened) → ((t : ℕ) → ends_requeued t es ≡ ends_requeued t fs) → service r x es ≡ service r x fs
 service_same r x es fs h = by_issue (issues x)
   where
-    by_issue : (o : Option (ℕ × ℕ)) → option_and_then {U = ℕ × ℕ} (λ p. cond (goes_back p.1 es) None (Some (r, p.0))) o ≡ option_and_then {U = ℕ × ℕ} (λ p. cond (goes_back p.1 fs) None (Some (r, p.0))) o
+    by_issue : (o : Option (ℕ × ℕ)) → option_and_then {U = ℕ × ℕ} (λ p. cond (ends_requeued p.1 es) None (Some (r, p.0))) o ≡ option_and_then {U = ℕ × ℕ} (λ p. cond (ends_requeued p.1 fs) None (Some (r, p.0))) o
     by_issue None = refl
     by_issue (Some p) = ap (λ b. cond b None (Some (r, p.0))) (h p.1)
 
-last_issue : (r : ℕ) (o : Option (ℕ × ℕ)) → option_and_then {U = ℕ × ℕ} (λ p. cond (goes_back p.1 []) None (Some (r, p.0))) o ≡ option_map (λ p. (r, p.0)) o
-unfolding goes_back
+last_issue : (r : ℕ) (o : Option (ℕ × ℕ)) → option_and_then {U = ℕ × ℕ} (λ p. cond (ends_requeued p.1 []) None (Some (r, p.0))) o ≡ option_map (λ p. (r, p.0)) o
+unfolding ends_requeued
 last_issue r None = refl
 last_issue r (Some p) = refl
 

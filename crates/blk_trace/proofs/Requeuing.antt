@@ -11,7 +11,7 @@ use Rattle.blk_bio.specs.declared.rule.TraceRule.TheVariants.{TagUsed, AlreadyIs
 use Rattle.blk_trace.specs.Happened.{Happened, Issue, Back}
 use Rattle.blk_trace.specs.Kinds.{issues, ends, requeues, is_done_of, is_tick}
 use Rattle.blk_trace.specs.Setups.{Setup}
-use Rattle.blk_trace.specs.Events.{At, EndsAt, goes_back, IsOpen, IsUsed, IsOpenBy}
+use Rattle.blk_trace.specs.Events.{At, EndsAt, ends_requeued, IsOpen, IsUsed, IsOpenBy}
 use Rattle.blk_trace.specs.Legal.{IsLegalTrace}
 use Rattle.blk_trace.specs.Rules.{IsUnbroken}
 use Rattle.blk_trace.specs.Meaning.{service, served, issued_ids, rounds_of}
@@ -79,25 +79,25 @@ first_end : (b e x g n u : Bool) → n ≡ cond e g u → cond b x n ≡ cond (b
 first_end true e x g n u h = refl
 first_end false e x g n u h = h
 
-back_more : (t s : ℕ) (es : List Happened) → goes_back s (es ++ Back t ∷ []) ≡ cond (ended_in s es) (goes_back s es) (t == s)
-unfolding goes_back
+back_more : (t s : ℕ) (es : List Happened) → ends_requeued s (es ++ Back t ∷ []) ≡ cond (ended_in s es) (ends_requeued s es) (t == s)
+unfolding ends_requeued
 back_more t s [] = if_true (t == s)
-back_more t s (x ∷ es) = first_end (is_done_of s x) (ended_in s es) (is_some (requeues x)) (goes_back s es) (goes_back s (es ++ Back t ∷ [])) (t == s) (back_more t s es)
+back_more t s (x ∷ es) = first_end (is_done_of s x) (ended_in s es) (is_some (requeues x)) (ends_requeued s es) (ends_requeued s (es ++ Back t ∷ [])) (t == s) (back_more t s es)
 
-not_ended : (s : ℕ) (es : List Happened) → ended_in s es ≡ false → goes_back s es ≡ false
-unfolding goes_back
+not_ended : (s : ℕ) (es : List Happened) → ended_in s es ≡ false → ends_requeued s es ≡ false
+unfolding ends_requeued
 not_ended s [] h = refl
 not_ended s (x ∷ es) h =
     let parts = or_parts (is_done_of s x) (ended_in s es) h in
-    ap (λ b. cond b (is_some (requeues x)) (goes_back s es)) parts.0 ∙ not_ended s es parts.1
+    ap (λ b. cond b (is_some (requeues x)) (ends_requeued s es)) parts.0 ∙ not_ended s es parts.1
 
-same_back : (t s : ℕ) (es : List Happened) → ((t == s) ≡ true → ended_in s es ≡ true) → goes_back s (es ++ Back t ∷ []) ≡ goes_back s es
+same_back : (t s : ℕ) (es : List Happened) → ((t == s) ≡ true → ended_in s es ≡ true) → ends_requeued s (es ++ Back t ∷ []) ≡ ends_requeued s es
 same_back t s es h =
     elim (cases_Bool (ended_in s es)) [
-      | inl b ↦ back_more t s es ∙ ap (λ e. cond e (goes_back s es) (t == s)) b
+      | inl b ↦ back_more t s es ∙ ap (λ e. cond e (ends_requeued s es) (t == s)) b
       | inr b ↦
           let other : (t == s) ≡ false = false_from_ne_true (t == s) (λ u. let over : ended_in s es ≡ true = h u in absurd (cc)) in
-          back_more t s es ∙ ap (λ e. cond e (goes_back s es) (t == s)) b ∙ other ∙ sym (not_ended s es b)
+          back_more t s es ∙ ap (λ e. cond e (ends_requeued s es) (t == s)) b ∙ other ∙ sym (not_ended s es b)
     ]
 
 -- an Issue that is over, or that is another tag's, is served as before
@@ -108,7 +108,7 @@ service_back r t x es h = by_issue (issues x) h
     over true i h = refl
     over false i h = absurd (cc)
 
-    by_issue : (o : Option (ℕ × ℕ)) → cond (ended_in t es) None (option_and_then (λ p. cond (p.1 == t) (Some p.0) None) o) ≡ None → option_and_then {U = ℕ × ℕ} (λ p. cond (goes_back p.1 (es ++ Back t ∷ [])) None (Some (r, p.0))) o ≡ option_and_then {U = ℕ × ℕ} (λ p. cond (goes_back p.1 es) None (Some (r, p.0))) o
+    by_issue : (o : Option (ℕ × ℕ)) → cond (ended_in t es) None (option_and_then (λ p. cond (p.1 == t) (Some p.0) None) o) ≡ None → option_and_then {U = ℕ × ℕ} (λ p. cond (ends_requeued p.1 (es ++ Back t ∷ [])) None (Some (r, p.0))) o ≡ option_and_then {U = ℕ × ℕ} (λ p. cond (ends_requeued p.1 es) None (Some (r, p.0))) o
     by_issue None h = refl
     by_issue (Some p) h =
         ap (λ b. cond b None (Some (r, p.0)))
@@ -178,8 +178,8 @@ one_out r t id (x ∷ es) h =
       | inr p ↦
           let on = is_on (ended_in t es) (issued_by t x) id p.0 in
           let is : x ≡ Issue id t = issued_by_is t x id on.1 in
-          let stays : goes_back t es ≡ false = not_ended t es on.0 in
-          let goes : goes_back t (es ++ Back t ∷ []) ≡ true = back_more t t es ∙ ap (λ b. cond b (goes_back t es) (t == t)) on.0 ∙ eq-eqb t t refl in
+          let stays : ends_requeued t es ≡ false = not_ended t es on.0 in
+          let goes : ends_requeued t (es ++ Back t ∷ []) ≡ true = back_more t t es ∙ ap (λ b. cond b (ends_requeued t es) (t == t)) on.0 ∙ eq-eqb t t refl in
           let was : service r x es ≡ Some (r, id) = ap (λ y. service r y es) is ∙ ap (λ b. cond b None (Some (r, id))) stays in
           let now : service r x (es ++ Back t ∷ []) ≡ None = ap (λ y. service r y (es ++ Back t ∷ [])) is ∙ ap (λ b. cond b None (Some (r, id))) goes in
           record {

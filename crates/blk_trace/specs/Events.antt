@@ -51,13 +51,13 @@ abbrev pub EndsAt : List Happened → ℕ → ℕ → Type 0
 EndsAt events k tag = (e : Happened) × At events k e × (ends e ≡ Some tag)
 
 -- whether the first of these events that ends the tag's Issue requeues its request
-unfoldable pub goes_back : ℕ → List Happened → Bool
-goes_back tag [] = false
-goes_back tag (e ∷ es) = cond (is_done_of tag e) (is_some (requeues e)) (goes_back tag es)
+unfoldable pub ends_requeued : ℕ → List Happened → Bool
+ends_requeued tag [] = false
+ends_requeued tag (e ∷ es) = cond (is_done_of tag e) (is_some (requeues e)) (ends_requeued tag es)
 
 -- the request of the tag's Issue at the place was requeued
 abbrev pub IsRequeued : List Happened → ℕ → ℕ → Type 0
-IsRequeued events k tag = IsTrue (goes_back tag (drop (suc k) events))
+IsRequeued events k tag = IsTrue (ends_requeued tag (drop (suc k) events))
 
 -- whenever the id was issued, it was requeued
 abbrev pub AreRequeued : List Happened → ℕ → Type 0

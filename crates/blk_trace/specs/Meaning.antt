@@ -8,7 +8,7 @@ use Rattle.edd_commands.specs.declared.Command.{Command}
 use Rattle.blk_trace.specs.Happened.{Happened}
 use Rattle.blk_trace.specs.Kinds.{releases, issues, is_tick, enters_under}
 use Rattle.blk_trace.specs.Setups.{Setup, expire_of}
-use Rattle.blk_trace.specs.Events.{At, round_at, goes_back, request_of}
+use Rattle.blk_trace.specs.Events.{At, round_at, ends_requeued, request_of}
 
 -- each event with its round, where the first one's round is given
 unfoldable pub timed : ℕ → List Happened → List (ℕ × Happened)
@@ -54,7 +54,7 @@ command_of setup events id = record { id = id; release = release_of events id; d
 
 -- the round and id of an Issue in this round, unless these later events requeue its request
 abbrev pub service : ℕ → Happened → List Happened → Option (ℕ × ℕ)
-service round e later = option_and_then (λ p. cond (goes_back p.1 later) None (Some (round, p.0))) (issues e)
+service round e later = option_and_then (λ p. cond (ends_requeued p.1 later) None (Some (round, p.0))) (issues e)
 
 -- the rounds and ids of the Issues that were not requeued, in their order, where the first event's round is given
 unfoldable pub served : ℕ → List Happened → List (ℕ × ℕ)

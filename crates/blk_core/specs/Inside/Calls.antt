@@ -2,10 +2,10 @@
 use Rattle.std.specs.Prelude.{ℕ, List}
 use Rattle.blk_sched.specs.Meaning.{Waiting, Meaning}
 use Rattle.blk_sched.specs.Policies.{Policy}
-use Rattle.blk_hw.specs.Held.{held_in}
+use Rattle.blk_hw.specs.Requeued.{requeued_in}
 use Rattle.blk_core.specs.Calls.{SendsFrom}
 
 -- which request goes to the device for a hardware queue, by what a scheduler of a policy means and keeps, before and after
 abbrev pub Dispatches : {S : Type 0} → Policy → (S → Meaning) → (S → List ℕ) → ℕ → ℕ → S → List (List Waiting) → Waiting → S → List (List Waiting) → Type 0
-Dispatches policy meaning kept hw round old held w new new_held =
-    SendsFrom policy.serves policy.chooses hw round (held_in held hw) (meaning old) (kept old) held w (meaning new) (kept new) new_held
+Dispatches policy meaning kept hw round old requeued w new new_requeued =
+    SendsFrom policy.serves policy.chooses hw round (requeued_in requeued hw) (meaning old) (kept old) requeued w (meaning new) (kept new) new_requeued

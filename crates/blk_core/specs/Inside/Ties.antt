@@ -12,7 +12,7 @@ use Rattle.blk_trace.specs.Inside.Seats.{RoundSeat, seat_at}
 use Rattle.blk_trace.specs.Waits.{released_count}
 use Rattle.blk_trace.specs.Setups.{same_dir}
 use Rattle.blk_sched.specs.Meaning.{Waiting, Meaning, ServesNothing, unfinished}
-use Rattle.blk_hw.specs.Held.{held_in}
+use Rattle.blk_hw.specs.Requeued.{requeued_in}
 use Rattle.blk_core.specs.declared.tags.TagState.{TagState}
 use Rattle.blk_core.specs.declared.tags.TagState.TheVariants.{Free, InFlight, Spent}
 use Rattle.blk_core.specs.State.{Flight, InFlightAs, HoldsWhatWaits}
@@ -40,10 +40,10 @@ abbrev pub IfInFlight : {A : Type 0} → TagState A → (ℕ → Waiting → Typ
 IfInFlight (InFlight hw queued) P = P hw queued
 IfInFlight _ P = ⊥
 
--- a requeue: the request in flight is held behind the others of its hardware queue, and its tag is spent
+-- a requeue: the request in flight goes behind the others in the requeue list of its hardware queue, and its tag is spent
 abbrev pub Requeues : {A : Type 0} → TagState A → List (List Waiting) → TagState A → List (List Waiting) → Type 0
-Requeues old held new new_held =
-    IfInFlight old (λ hw w. (new ≡ Spent (dir_of w.bios)) × (new_held ≡ slice_set held hw (held_in held hw ++ w ∷ [])))
+Requeues old requeued new new_requeued =
+    IfInFlight old (λ hw w. (new ≡ Spent (dir_of w.bios)) × (new_requeued ≡ slice_set requeued hw (requeued_in requeued hw ++ w ∷ [])))
 
 -- a scheduler may pick none for a hardware queue: a pick is open or requeued, or it serves nothing for this one
 abbrev pub MayPickNone : (ℕ → Waiting → Bool) → ℕ → Meaning → Type 0
@@ -56,16 +56,16 @@ flying dir (InFlight hw queued) = cond (same_dir dir (dir_of queued.bios)) 1 0
 flying dir (Spent d) = 0
 
 -- a core's own fields say what its trace says
-pub record IsTied {A : Type 0} (setup : Setup) (events : List Happened) (m : Meaning) (tags : List (TagState A)) (held : List (List Waiting)) (released : ℕ) : Type 0 where
+pub record IsTied {A : Type 0} (setup : Setup) (events : List Happened) (m : Meaning) (tags : List (TagState A)) (requeued : List (List Waiting)) (released : ℕ) : Type 0 where
   pub legal : IsLegalTrace setup events
   pub ranges : IsSetup setup
-  pub holds : HoldsWhatWaits setup events m held
+  pub holds : HoldsWhatWaits setup events m requeued
   pub next : released ≡ released_count events
   pub few : released ≤ length events
   pub known : (id : ℕ) → IsReleased events id → id < released
   pub fresh : (id : ℕ) → released ≤ id → map.get m.pending id ≡ None
   pub room : length tags ≡ setup.depth
-  pub lists : length held ≡ setup.hw
+  pub lists : length requeued ≡ setup.hw
   pub seats : (tag : ℕ) → tag < length tags → seat_of (slice_index_or tags tag Free) ≡ seat_at events tag
   pub flown : (tag hw : ℕ) (w : Waiting) → slice_index_or tags tag Free ≡ InFlight hw w → InFlightAs setup events tag w
   pub reads : sum_by (flying Read) tags ≡ m.open_picks.reads

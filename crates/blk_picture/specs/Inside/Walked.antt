@@ -3,7 +3,7 @@ use Rattle.std.specs.Prelude.{ℕ, ◌≡◌, ◌≤◌, ◌<◌, ◌+◌, Bool,
 use Rattle.blk_trace.specs.declared.trace.TheConstants.{MAX_EVENTS}
 use Rattle.blk_trace.specs.Happened.{Happened}
 use Rattle.blk_trace.specs.Setups.{Setup}
-use Rattle.blk_trace.specs.Events.{round_of, goes_back}
+use Rattle.blk_trace.specs.Events.{round_of, ends_requeued}
 use Rattle.blk_picture.specs.declared.boxes.IssueBox.{IssueBox}
 use Rattle.blk_trace.specs.declared.event.TheConstants.{MAX_TAGS}
 use Rattle.blk_picture.specs.Boxes.{boxes_from}
@@ -15,4 +15,4 @@ pub record IsWalked (setup : Setup) (events : List Happened) (place round : ℕ)
   pub few : length boxes + place ≤ length events
   pub boxes_are : boxes ≡ boxes_from setup events round (drop place events)
   pub tags : length backs ≡ MAX_TAGS
-  pub backs_are : (tag : ℕ) → tag < MAX_TAGS → slice_index_or backs tag false ≡ goes_back tag (drop place events)
+  pub backs_are : (tag : ℕ) → tag < MAX_TAGS → slice_index_or backs tag false ≡ ends_requeued tag (drop place events)

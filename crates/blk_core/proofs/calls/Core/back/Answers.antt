@@ -3,7 +3,7 @@ use Rattle.std.proofs.lemmas.List.{map-set}
 use Rattle.blk_bio.specs.declared.bio.Dir.{Dir}
 use Rattle.blk_bio.specs.Requests.{dir_of}
 use Rattle.blk_sched.specs.Meaning.{Waiting, Meaning, RequeuesPick, open_of}
-use Rattle.blk_hw.specs.Held.{held_in}
+use Rattle.blk_hw.specs.Requeued.{requeued_in}
 use Rattle.blk_core.specs.declared.tags.TagState.{TagState}
 use Rattle.blk_core.specs.declared.tags.TagState.TheVariants.{Free, InFlight, Spent}
 use Rattle.blk_core.specs.Inside.Ties.{flight_of, queue_of, IsTied}
@@ -26,7 +26,7 @@ returns-then-slot-len-clause-fault g c =
 pub add-requires-clause-unbroken : goal.add-requires-clause-unbroken
 add-requires-clause-unbroken g c =
     let lt : c.args.tag < length c.self.inside.tags.items = search rules in
-    end_unbroken c.self.inside.trace.setup c.self.inside.trace.events (Back c.args.tag) _ c.self.inside.tags.items c.self.inside.held c.self.inside.released c.args.tag c.in-InFlight.hw c.in-InFlight.queued c.self.invariant lt
+    end_unbroken c.self.inside.trace.setup c.self.inside.trace.events (Back c.args.tag) _ c.self.inside.tags.items c.self.inside.requeued c.self.inside.released c.args.tag c.in-InFlight.hw c.in-InFlight.queued c.self.invariant lt
     (read_at c.self.inside.tags.items c.args.tag c.in-InFlight.hw c.index.result.now c.in-InFlight.queued lt c.index.ensures c.in-InFlight.is) (λ seat. (dir_of c.in-InFlight.queued.bios, seat)) refl
 
 pub on_requeue-requires-clause-is_open : goal.on_requeue-requires-clause-is_open
@@ -34,13 +34,13 @@ on_requeue-requires-clause-is_open g c =
     let lt : c.args.tag < length c.self.inside.tags.items = search rules in
     let dir_is : c.dir-dir.result ≡ dir_of c.in-InFlight.queued.bios = c.dir-dir.ensures ∙ ap (λ (x : Waiting). dir_of x.bios) c.queued.view_is in
     subst (λ d. 0 < open_of d (g.S.Scheduler.meaning c.self.inside.scheduler).open_picks) (sym dir_is)
-    (open_flight c.self.inside.trace.setup c.self.inside.trace.events _ c.self.inside.tags.items c.self.inside.held c.self.inside.released c.args.tag c.in-InFlight.hw c.in-InFlight.queued c.self.invariant lt
+    (open_flight c.self.inside.trace.setup c.self.inside.trace.events _ c.self.inside.tags.items c.self.inside.requeued c.self.inside.released c.args.tag c.in-InFlight.hw c.in-InFlight.queued c.self.invariant lt
     (read_at c.self.inside.tags.items c.args.tag c.in-InFlight.hw c.index.result.now c.in-InFlight.queued lt c.index.ensures c.in-InFlight.is))
 
 pub on_requeue-requires-clause-few : goal.on_requeue-requires-clause-few
 on_requeue-requires-clause-few g c =
     let lt : c.args.tag < length c.self.inside.tags.items = search rules in
-    few_requeued c.self.inside.trace.setup c.self.inside.trace.events _ c.self.inside.tags.items c.self.inside.held c.self.inside.released c.args.tag c.in-InFlight.hw c.in-InFlight.queued c.self.invariant
+    few_requeued c.self.inside.trace.setup c.self.inside.trace.events _ c.self.inside.tags.items c.self.inside.requeued c.self.inside.released c.args.tag c.in-InFlight.hw c.in-InFlight.queued c.self.invariant
     (read_at c.self.inside.tags.items c.args.tag c.in-InFlight.hw c.index.result.now c.in-InFlight.queued lt c.index.ensures c.in-InFlight.is)
 
 queue_below : {A : Type 0} (count hw : ℕ) (s : TagState A) (w : Waiting) → s ≡ InFlight hw w → queue_of s < count → hw < count
@@ -52,10 +52,10 @@ invariant_of-self-2 g c =
     let lt : c.args.tag < length c.self.inside.tags.items = search rules in
     let at : get_or c.self.inside.tags.items c.args.tag Free ≡ InFlight c.in-InFlight.hw w = read_at c.self.inside.tags.items c.args.tag c.in-InFlight.hw c.index.result.now w lt c.index.ensures c.in-InFlight.is in
     let dir_is : c.dir-dir.result ≡ dir_of w.bios = c.dir-dir.ensures ∙ ap (λ (x : Waiting). dir_of x.bios) c.queued.view_is in
-    let held = of_flying (λ hw w. (c.requeue.new.tag ≡ Spent (dir_of w.bios)) × (c.requeue.new.held ≡ slice_set c.self.inside.held hw (held_in c.self.inside.held hw ++ w ∷ []))) c.self.inside.tags.items c.args.tag c.in-InFlight.hw c.index_mut.result.now w lt c.index_mut.ensures.value at c.in-Ok.ensures.ok in
-    subst (λ s. IsTied c.add.new.self.setup c.add.new.self.events (g.S.Scheduler.meaning c.on_requeue.new.self) (set c.self.inside.tags.items c.args.tag s) c.requeue.new.held c.self.inside.released) (sym held.0)
-    (tied_back c.self.inside.trace.setup c.add.new.self.setup c.self.inside.trace.events c.add.new.self.events (g.S.Scheduler.meaning c.self.inside.scheduler) (g.S.Scheduler.meaning c.on_requeue.new.self) c.self.inside.tags.items c.self.inside.held c.requeue.new.held c.self.inside.released c.args.tag c.in-InFlight.hw w c.dir-dir.result
-    (pushed_at_once c.self.inside.trace c.add.new.self (Back c.args.tag) _ c.add.ensures.added c.add.ensures.legal) c.self.invariant lt at dir_is c.on_requeue.ensures.back held.1
+    let requeued = of_flying (λ hw w. (c.requeue.new.tag ≡ Spent (dir_of w.bios)) × (c.requeue.new.requeued ≡ slice_set c.self.inside.requeued hw (requeued_in c.self.inside.requeued hw ++ w ∷ []))) c.self.inside.tags.items c.args.tag c.in-InFlight.hw c.index_mut.result.now w lt c.index_mut.ensures.value at c.in-Ok.ensures.ok in
+    subst (λ s. IsTied c.add.new.self.setup c.add.new.self.events (g.S.Scheduler.meaning c.on_requeue.new.self) (set c.self.inside.tags.items c.args.tag s) c.requeue.new.requeued c.self.inside.released) (sym requeued.0)
+    (tied_back c.self.inside.trace.setup c.add.new.self.setup c.self.inside.trace.events c.add.new.self.events (g.S.Scheduler.meaning c.self.inside.scheduler) (g.S.Scheduler.meaning c.on_requeue.new.self) c.self.inside.tags.items c.self.inside.requeued c.requeue.new.requeued c.self.inside.released c.args.tag c.in-InFlight.hw w c.dir-dir.result
+    (pushed_at_once c.self.inside.trace c.add.new.self (Back c.args.tag) _ c.add.ensures.added c.add.ensures.legal) c.self.invariant lt at dir_is c.on_requeue.ensures.back requeued.1
     (queue_below c.self.inside.trace.setup.hw c.in-InFlight.hw (get_or c.self.inside.tags.items c.args.tag Free) w at (c.self.invariant.queues c.args.tag)))
 
 pub returns-clause-back : goal.returns-clause-back
@@ -64,7 +64,7 @@ returns-clause-back g c =
     let lt : c.args.tag < length c.self.inside.tags.items = search rules in
     let at : get_or c.self.inside.tags.items c.args.tag Free ≡ InFlight c.in-InFlight.hw w = read_at c.self.inside.tags.items c.args.tag c.in-InFlight.hw c.index.result.now w lt c.index.ensures c.in-InFlight.is in
     let dir_is : c.dir-dir.result ≡ dir_of w.bios = c.dir-dir.ensures ∙ ap (λ (x : Waiting). dir_of x.bios) c.queued.view_is in
-    let held = of_flying (λ hw w. (c.requeue.new.tag ≡ Spent (dir_of w.bios)) × (c.requeue.new.held ≡ slice_set c.self.inside.held hw (held_in c.self.inside.held hw ++ w ∷ []))) c.self.inside.tags.items c.args.tag c.in-InFlight.hw c.index_mut.result.now w lt c.index_mut.ensures.value at c.in-Ok.ensures.ok in
+    let requeued = of_flying (λ hw w. (c.requeue.new.tag ≡ Spent (dir_of w.bios)) × (c.requeue.new.requeued ≡ slice_set c.self.inside.requeued hw (requeued_in c.self.inside.requeued hw ++ w ∷ []))) c.self.inside.tags.items c.args.tag c.in-InFlight.hw c.index_mut.result.now w lt c.index_mut.ensures.value at c.in-Ok.ensures.ok in
     let p = pushed_at_once c.self.inside.trace c.add.new.self (Back c.args.tag) _ c.add.ensures.added c.add.ensures.legal in
     rw (← c.self.view_is) (
       record { hw = c.in-InFlight.hw; request = w },
@@ -74,23 +74,23 @@ returns-clause-back g c =
       (p.same, p.added),
       back_by (g.S.Scheduler.meaning c.self.inside.scheduler) (g.S.Scheduler.meaning c.on_requeue.new.self) c.dir-dir.result (dir_of w.bios) dir_is c.on_requeue.ensures.back,
       c.on_requeue.ensures.kept,
-      map-set flight_of c.self.inside.tags.items c.args.tag c.requeue.new.tag ∙ ap (λ s. set (map flight_of c.self.inside.tags.items) c.args.tag (flight_of s)) held.0,
-      held.1,
+      map-set flight_of c.self.inside.tags.items c.args.tag c.requeue.new.tag ∙ ap (λ s. set (map flight_of c.self.inside.tags.items) c.args.tag (flight_of s)) requeued.0,
+      requeued.1,
     )
 
 pub returns-in_default-clause-fault : goal.returns-in_default-clause-fault
 returns-in_default-clause-fault g c =
     let lt : c.args.tag < length c.self.inside.tags.items = search rules in
-    rw (← c.self.view_is) (not_flying c.self.inside.trace.setup c.self.inside.trace.events _ c.self.inside.tags.items c.self.inside.held c.self.inside.released c.args.tag c.index.result.now c.self.invariant lt c.index.ensures c.in_default.not-InFlight)
+    rw (← c.self.view_is) (not_flying c.self.inside.trace.setup c.self.inside.trace.events _ c.self.inside.tags.items c.self.inside.requeued c.self.inside.released c.args.tag c.index.result.now c.self.invariant lt c.index.ensures c.in_default.not-InFlight)
 
 pub returns-in_default-requeue-clause-fault : goal.returns-in_default-requeue-clause-fault
 returns-in_default-requeue-clause-fault g c =
     let lt : c.args.tag < length c.self.inside.tags.items = search rules in
     let at : get_or c.self.inside.tags.items c.args.tag Free ≡ InFlight c.in-InFlight.hw c.in-InFlight.queued = read_at c.self.inside.tags.items c.args.tag c.in-InFlight.hw c.index.result.now c.in-InFlight.queued lt c.index.ensures c.in-InFlight.is in
-    rw (← c.self.view_is) (flying_open c.self.inside.trace.setup c.self.inside.trace.events _ c.self.inside.tags.items c.self.inside.held c.self.inside.released c.args.tag c.in-InFlight.hw c.in-InFlight.queued c.self.invariant at)
+    rw (← c.self.view_is) (flying_open c.self.inside.trace.setup c.self.inside.trace.events _ c.self.inside.tags.items c.self.inside.requeued c.self.inside.released c.args.tag c.in-InFlight.hw c.in-InFlight.queued c.self.invariant at)
 
 pub returns-clause-no_fault : goal.returns-clause-no_fault
 returns-clause-no_fault g c =
     let lt : c.args.tag < length c.self.inside.tags.items = search rules in
     let at : get_or c.self.inside.tags.items c.args.tag Free ≡ InFlight c.in-InFlight.hw c.in-InFlight.queued = read_at c.self.inside.tags.items c.args.tag c.in-InFlight.hw c.index.result.now c.in-InFlight.queued lt c.index.ensures c.in-InFlight.is in
-    rw (← c.self.view_is) (flying_open c.self.inside.trace.setup c.self.inside.trace.events _ c.self.inside.tags.items c.self.inside.held c.self.inside.released c.args.tag c.in-InFlight.hw c.in-InFlight.queued c.self.invariant at)
+    rw (← c.self.view_is) (flying_open c.self.inside.trace.setup c.self.inside.trace.events _ c.self.inside.tags.items c.self.inside.requeued c.self.inside.released c.args.tag c.in-InFlight.hw c.in-InFlight.queued c.self.invariant at)

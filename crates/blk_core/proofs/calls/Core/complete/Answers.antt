@@ -32,7 +32,7 @@ returns-then-slot-len-clause-accepted g c =
 pub add-requires-clause-unbroken : goal.add-requires-clause-unbroken
 add-requires-clause-unbroken g c =
     let lt : c.args.tag < length c.self.inside.tags.items = search rules in
-    end_unbroken c.self.inside.trace.setup c.self.inside.trace.events (Done c.args.tag) _ c.self.inside.tags.items c.self.inside.held c.self.inside.released c.args.tag c.in-InFlight.hw c.in-InFlight.queued c.self.invariant lt
+    end_unbroken c.self.inside.trace.setup c.self.inside.trace.events (Done c.args.tag) _ c.self.inside.tags.items c.self.inside.requeued c.self.inside.released c.args.tag c.in-InFlight.hw c.in-InFlight.queued c.self.invariant lt
     (read_at c.self.inside.tags.items c.args.tag c.in-InFlight.hw c.index.result.now c.in-InFlight.queued lt c.index.ensures c.in-InFlight.is) (λ seat. (dir_of c.in-InFlight.queued.bios, seat)) refl
 
 pub on_done-requires-clause-is_open : goal.on_done-requires-clause-is_open
@@ -40,7 +40,7 @@ on_done-requires-clause-is_open g c =
     let lt : c.args.tag < length c.self.inside.tags.items = search rules in
     let dir_is : c.dir-dir.result ≡ dir_of c.in-InFlight.queued.bios = c.dir-dir.ensures ∙ ap (λ (x : Waiting). dir_of x.bios) c.queued.view_is in
     subst (λ d. 0 < open_of d (g.S.Scheduler.meaning c.self.inside.scheduler).open_picks) (sym dir_is)
-    (open_flight c.self.inside.trace.setup c.self.inside.trace.events _ c.self.inside.tags.items c.self.inside.held c.self.inside.released c.args.tag c.in-InFlight.hw c.in-InFlight.queued c.self.invariant lt
+    (open_flight c.self.inside.trace.setup c.self.inside.trace.events _ c.self.inside.tags.items c.self.inside.requeued c.self.inside.released c.args.tag c.in-InFlight.hw c.in-InFlight.queued c.self.invariant lt
     (read_at c.self.inside.tags.items c.args.tag c.in-InFlight.hw c.index.result.now c.in-InFlight.queued lt c.index.ensures c.in-InFlight.is))
 
 pub invariant_of-self : goal.invariant_of-self
@@ -50,8 +50,8 @@ invariant_of-self g c =
     let at : get_or c.self.inside.tags.items c.args.tag Free ≡ InFlight c.in-InFlight.hw w = read_at c.self.inside.tags.items c.args.tag c.in-InFlight.hw c.index.result.now w lt c.index.ensures c.in-InFlight.is in
     let dir_is : c.dir-dir.result ≡ dir_of w.bios = c.dir-dir.ensures ∙ ap (λ (x : Waiting). dir_of x.bios) c.queued.view_is in
     let landed = of_flying (λ hw w. (c.completed-request.new.tag ≡ Spent (dir_of w.bios)) × (c.completed-request.result ≡ w.bios)) c.self.inside.tags.items c.args.tag c.in-InFlight.hw c.index_mut.result.now w lt c.index_mut.ensures.value at c.completed-request.ensures in
-    subst (λ s. IsTied c.add.new.self.setup c.add.new.self.events (g.S.Scheduler.meaning c.on_done.new.self) (set c.self.inside.tags.items c.args.tag s) c.self.inside.held c.self.inside.released) (ap Spent dir_is ∙ sym landed.0)
-    (tied_done_at c.self.inside.trace.setup c.add.new.self.setup c.self.inside.trace.events c.add.new.self.events (g.S.Scheduler.meaning c.self.inside.scheduler) (g.S.Scheduler.meaning c.on_done.new.self) c.self.inside.tags.items c.self.inside.held c.self.inside.released c.args.tag c.in-InFlight.hw w c.dir-dir.result
+    subst (λ s. IsTied c.add.new.self.setup c.add.new.self.events (g.S.Scheduler.meaning c.on_done.new.self) (set c.self.inside.tags.items c.args.tag s) c.self.inside.requeued c.self.inside.released) (ap Spent dir_is ∙ sym landed.0)
+    (tied_done_at c.self.inside.trace.setup c.add.new.self.setup c.self.inside.trace.events c.add.new.self.events (g.S.Scheduler.meaning c.self.inside.scheduler) (g.S.Scheduler.meaning c.on_done.new.self) c.self.inside.tags.items c.self.inside.requeued c.self.inside.released c.args.tag c.in-InFlight.hw w c.dir-dir.result
     (pushed_at_once c.self.inside.trace c.add.new.self (Done c.args.tag) _ c.add.ensures.added c.add.ensures.legal) c.self.invariant lt at dir_is c.on_done.ensures.done)
 
 pub returns-clause-done : goal.returns-clause-done
@@ -85,10 +85,10 @@ returns-clause-request g c =
 pub returns-in_default-clause-accepted : goal.returns-in_default-clause-accepted
 returns-in_default-clause-accepted g c =
     let lt : c.args.tag < length c.self.inside.tags.items = search rules in
-    rw (← c.self.view_is) ((λ e. two_differ e), λ o. absurd (not_flying c.self.inside.trace.setup c.self.inside.trace.events _ c.self.inside.tags.items c.self.inside.held c.self.inside.released c.args.tag c.index.result.now c.self.invariant lt c.index.ensures c.in_default.not-InFlight o))
+    rw (← c.self.view_is) ((λ e. two_differ e), λ o. absurd (not_flying c.self.inside.trace.setup c.self.inside.trace.events _ c.self.inside.tags.items c.self.inside.requeued c.self.inside.released c.args.tag c.index.result.now c.self.invariant lt c.index.ensures c.in_default.not-InFlight o))
 
 pub returns-clause-accepted : goal.returns-clause-accepted
 returns-clause-accepted g c =
     let lt : c.args.tag < length c.self.inside.tags.items = search rules in
     let at : get_or c.self.inside.tags.items c.args.tag Free ≡ InFlight c.in-InFlight.hw c.in-InFlight.queued = read_at c.self.inside.tags.items c.args.tag c.in-InFlight.hw c.index.result.now c.in-InFlight.queued lt c.index.ensures c.in-InFlight.is in
-    rw (← c.self.view_is) ((λ _. flying_open c.self.inside.trace.setup c.self.inside.trace.events _ c.self.inside.tags.items c.self.inside.held c.self.inside.released c.args.tag c.in-InFlight.hw c.in-InFlight.queued c.self.invariant at), λ _. refl)
+    rw (← c.self.view_is) ((λ _. flying_open c.self.inside.trace.setup c.self.inside.trace.events _ c.self.inside.tags.items c.self.inside.requeued c.self.inside.released c.args.tag c.in-InFlight.hw c.in-InFlight.queued c.self.invariant at), λ _. refl)

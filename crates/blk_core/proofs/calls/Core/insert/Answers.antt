@@ -14,7 +14,7 @@ use Rattle.blk_core.proofs.calls.Core.insert.Goals as goal
 
 pub add-requires-clause-unbroken : goal.add-requires-clause-unbroken
 add-requires-clause-unbroken g c =
-    let can : CanRelease (record { setup = c.self.inside.trace.setup; events = c.self.inside.trace.events; meaning = g.S.Scheduler.meaning c.self.inside.scheduler; kept = g.S.Scheduler.kept c.self.inside.scheduler; flights = map flight_of c.self.inside.tags.items; held = c.self.inside.held }) c.args.request c.args.hw = subst (λ (v : CoreState). CanRelease v c.args.request c.args.hw) (sym c.self.view_is) c.requires.can in
+    let can : CanRelease (record { setup = c.self.inside.trace.setup; events = c.self.inside.trace.events; meaning = g.S.Scheduler.meaning c.self.inside.scheduler; kept = g.S.Scheduler.kept c.self.inside.scheduler; flights = map flight_of c.self.inside.tags.items; requeued = c.self.inside.requeued }) c.args.request c.args.hw = subst (λ (v : CoreState). CanRelease v c.args.request c.args.hw) (sym c.self.view_is) c.requires.can in
     let once : AreOnce (entered c.self.inside.trace.events ++ c.args.copy) = subst (λ x. AreOnce (entered c.self.inside.trace.events ++ x)) (sym c.requires.copied) can.once in
     let room = can.room in
     let given : IsWithin c.self.inside.trace.setup.limits c.args.request = subst (λ (v : CoreState). IsWithin v.setup.limits c.args.request) (sym c.self.view_is) c.requires.within in
@@ -33,7 +33,7 @@ invariant_of-self-2 g c =
     let expire : c.expire-expire.result ≡ expire_of c.self.inside.trace.setup (dir_of c.args.request) =
     c.expire-expire.ensures.value ∙ ap (λ d. expire_of c.setup.result d) c.dir.ensures
     ∙ ap (λ s. expire_of s (dir_of c.args.request)) (c.setup.ensures ∙ ap (λ (t : Traced). t.setup) c.in-Ok.ensures.ok) in
-    tied_release c.self.inside.trace.setup c.add.new.self.setup c.self.inside.trace.events c.add.new.self.events (g.S.Scheduler.meaning c.self.inside.scheduler) (g.S.Scheduler.meaning c.insert.new.self) c.self.inside.tags.items c.self.inside.held c.self.inside.released c.args.copy entry
+    tied_release c.self.inside.trace.setup c.add.new.self.setup c.self.inside.trace.events c.add.new.self.events (g.S.Scheduler.meaning c.self.inside.scheduler) (g.S.Scheduler.meaning c.insert.new.self) c.self.inside.tags.items c.self.inside.requeued c.self.inside.released c.args.copy entry
     (pushed c.self.inside.trace.setup c.self.inside.trace.events c.prepare_bios.new.trace c.add.new.self (Release c.self.inside.released c.args.copy) _ _ c.in-Ok.ensures.ok c.add.ensures.added c.add.ensures.legal)
     c.self.invariant
     (entered_at c.self.inside.trace.setup c.self.inside.trace.events c.self.inside.released c.args.hw c.round-release.result c.expire-expire.result c.args.request c.args.copy now_is (sym c.requires.copied) expire)

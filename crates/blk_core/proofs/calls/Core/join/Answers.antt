@@ -13,7 +13,7 @@ use Rattle.blk_core.proofs.calls.Core.join.Goals as goal
 
 pub add-requires-clause-unbroken : goal.add-requires-clause-unbroken
 add-requires-clause-unbroken g c =
-    let can : CanRelease (record { setup = c.self.inside.trace.setup; events = c.self.inside.trace.events; meaning = g.S.Scheduler.meaning c.self.inside.scheduler; kept = g.S.Scheduler.kept c.self.inside.scheduler; flights = map flight_of c.self.inside.tags.items; held = c.self.inside.held }) c.args.request c.args.hw = subst (λ (v : CoreState). CanRelease v c.args.request c.args.hw) (sym c.self.view_is) c.requires.can in
+    let can : CanRelease (record { setup = c.self.inside.trace.setup; events = c.self.inside.trace.events; meaning = g.S.Scheduler.meaning c.self.inside.scheduler; kept = g.S.Scheduler.kept c.self.inside.scheduler; flights = map flight_of c.self.inside.tags.items; requeued = c.self.inside.requeued }) c.args.request c.args.hw = subst (λ (v : CoreState). CanRelease v c.args.request c.args.hw) (sym c.self.view_is) c.requires.can in
     let once : AreOnce (entered c.self.inside.trace.events ++ c.args.copy) = subst (λ x. AreOnce (entered c.self.inside.trace.events ++ x)) (sym c.requires.copied) can.once in
     let room = can.room in
     let lim : c.limits-limits.result ≡ c.self.inside.trace.setup.limits = c.limits-limits.ensures ∙ ap (λ (s : Setup). s.limits) c.setup.ensures ∙ ap (λ (t : Traced). t.setup.limits) c.in-Ok.ensures.ok in
@@ -29,7 +29,7 @@ pub invariant_of-self-2 : goal.invariant_of-self-2
 invariant_of-self-2 g c =
     let now_is : c.round-now.result ≡ round_of c.self.inside.trace.events = c.round-now.ensures.value ∙ ap (λ (t : Traced). round_of t.events) c.in-Ok.ensures.ok in
     let lim : c.limits-limits.result ≡ c.self.inside.trace.setup.limits = c.limits-limits.ensures ∙ ap (λ (s : Setup). s.limits) c.setup.ensures ∙ ap (λ (t : Traced). t.setup.limits) c.in-Ok.ensures.ok in
-    tied_join c.self.inside.trace.setup c.add.new.self.setup c.self.inside.trace.events c.add.new.self.events (g.S.Scheduler.meaning c.self.inside.scheduler) (g.S.Scheduler.meaning c.join.new.self) c.self.inside.tags.items c.self.inside.held c.self.inside.released g.S.Scheduler.policy.serves c.args.hw c.round-now.result c.args.copy c.args.id c.args.side
+    tied_join c.self.inside.trace.setup c.add.new.self.setup c.self.inside.trace.events c.add.new.self.events (g.S.Scheduler.meaning c.self.inside.scheduler) (g.S.Scheduler.meaning c.join.new.self) c.self.inside.tags.items c.self.inside.requeued c.self.inside.released g.S.Scheduler.policy.serves c.args.hw c.round-now.result c.args.copy c.args.id c.args.side
     (pushed c.self.inside.trace.setup c.self.inside.trace.events c.prepare_bios.new.trace c.add.new.self (Join c.args.id c.args.copy) _ _ c.in-Ok.ensures.ok c.add.ensures.added c.add.ensures.legal)
     c.self.invariant now_is
     (joins_at g.S.Scheduler.policy.serves c.args.hw c.round-now.result c.limits-limits.result c.self.inside.trace.setup.limits c.args.request c.args.copy (g.S.Scheduler.meaning c.self.inside.scheduler) (g.S.Scheduler.meaning c.join.new.self) c.args.id c.args.side lim (sym c.requires.copied) c.in_default-join.ensures.joined)

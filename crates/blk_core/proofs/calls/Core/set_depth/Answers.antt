@@ -15,7 +15,7 @@ add-requires-clause-prepared g c = ready_for c.self.inside.trace.setup c.self.in
 
 pub invariant_of-self-2 : goal.invariant_of-self-2
 invariant_of-self-2 g c =
-    tied_set c.self.inside.trace.setup c.add.new.self.setup c.self.inside.trace.events c.add.new.self.events (g.S.Scheduler.meaning c.self.inside.scheduler) c.self.inside.tags.items c.self.inside.held c.self.inside.released c.args.depth
+    tied_set c.self.inside.trace.setup c.add.new.self.setup c.self.inside.trace.events c.add.new.self.events (g.S.Scheduler.meaning c.self.inside.scheduler) c.self.inside.tags.items c.self.inside.requeued c.self.inside.released c.args.depth
     (pushed c.self.inside.trace.setup c.self.inside.trace.events c.prepare.new.trace c.add.new.self (Depth c.args.depth) _ _ c.in-Ok.ensures.ok c.add.ensures.added c.add.ensures.legal)
     c.self.invariant
 

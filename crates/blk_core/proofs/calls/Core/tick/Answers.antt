@@ -26,7 +26,7 @@ add-requires-clause-prepared g c = ready_for c.self.inside.trace.setup c.self.in
 
 pub invariant_of-self-2 : goal.invariant_of-self-2
 invariant_of-self-2 g c =
-    tied_tick c.self.inside.trace.setup c.add.new.self.setup c.self.inside.trace.events c.add.new.self.events (g.S.Scheduler.meaning c.self.inside.scheduler) (g.S.Scheduler.meaning c.on_tick.new.self) c.self.inside.tags.items _ c.self.inside.held c.self.inside.released
+    tied_tick c.self.inside.trace.setup c.add.new.self.setup c.self.inside.trace.events c.add.new.self.events (g.S.Scheduler.meaning c.self.inside.scheduler) (g.S.Scheduler.meaning c.on_tick.new.self) c.self.inside.tags.items _ c.self.inside.requeued c.self.inside.released
     (pushed c.self.inside.trace.setup c.self.inside.trace.events c.prepare.new.trace c.add.new.self Tick _ _ c.in-Ok.ensures.ok c.add.ensures.added c.add.ensures.legal)
     c.self.invariant c.on_tick.ensures.same
     (put_back Free c.clear.new.tags c.self.inside.tags.items c.self.inside.tags.len (length c.self.inside.tags.items) (c.clear.ensures ∙ ap (λ x. replicate (length x) Free) c.deref_mut.ensures.value) (sym c.deref_mut.ensures.len ∙ ap length c.deref_mut.ensures.value))
@@ -41,6 +41,6 @@ returns-clause-ended g c =
       told_at g.S.Scheduler.policy.told_tick c.round-now.result (round_of c.add.new.self.events) (g.S.Scheduler.kept c.self.inside.scheduler) (g.S.Scheduler.kept c.on_tick.new.self) c.round-now.ensures.value c.on_tick.ensures.told,
       ap (map flight_of) (put_back Free c.clear.new.tags c.self.inside.tags.items c.self.inside.tags.len (length c.self.inside.tags.items) (c.clear.ensures ∙ ap (λ x. replicate (length x) Free) c.deref_mut.ensures.value) (sym c.deref_mut.ensures.len ∙ ap length c.deref_mut.ensures.value))
           ∙ free_flights _ (length c.self.inside.tags.items)
-          ∙ sym (none_in_flight c.self.inside.trace.setup c.self.inside.trace.events _ c.self.inside.tags.items c.self.inside.held c.self.inside.released c.self.invariant none),
+          ∙ sym (none_in_flight c.self.inside.trace.setup c.self.inside.trace.events _ c.self.inside.tags.items c.self.inside.requeued c.self.inside.released c.self.invariant none),
       refl,
     )

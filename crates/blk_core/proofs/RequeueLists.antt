@@ -1,4 +1,4 @@
--- Held lists: what one more held request, or one fewer, changes.
+-- Requeue lists: what one more requeued request, or one fewer, changes.
 use Rattle.std.proofs.Common.{◌≡◌, ◌≢◌, ◌∙◌, sym, ap, subst, refl, inl, inr, zero, suc, ℕ, ◌+◌, ◌<◌, arith, Bool, true, false, cond, List, [], ◌∷◌, ◌++◌, length, length-append, Option, Some, None, is_some, get_or, get_or-set_same, get_or-set_other, set, ◌⊎◌, ◌==◌}
 use Rattle.std.specs.Prelude.{count_by}
 use Rattle.std.specs.List.{slice_get}
@@ -12,7 +12,7 @@ use Rattle.blk_bio.specs.Requests.{dir_of}
 use Rattle.blk_trace.specs.Waits.{Entered}
 use Rattle.blk_trace.specs.Setups.{same_dir}
 use Rattle.blk_sched.specs.Meaning.{Waiting}
-use Rattle.blk_hw.specs.Held.{held_total, held_count}
+use Rattle.blk_hw.specs.Requeued.{requeued_total, requeued_count}
 use Rattle.blk_core.specs.State.{entered_of, is_of, is_named}
 use Rattle.blk_core.proofs.Pushed.{get_more}
 
@@ -22,34 +22,34 @@ one_if b = cond b 1 0
 
 -- one more, at the back of the list of a hardware queue
 abbrev pub with_one : List (List Waiting) → ℕ → Waiting → List (List Waiting)
-with_one held hw w = set held hw (get_or held hw [] ++ w ∷ [])
+with_one requeued hw w = set requeued hw (get_or requeued hw [] ++ w ∷ [])
 
-pub count_with : (p : Waiting → Bool) (held : List (List Waiting)) (hw : ℕ) (w : Waiting) → hw < length held → held_count p (with_one held hw w) ≡ held_count p held + cond (p w) 1 0
-count_with p held hw w lt =
-    let one = sum_by-set (count_by p) held hw (get_or held hw [] ++ w ∷ []) [] lt in
-    let push : count_by p (get_or held hw [] ++ w ∷ []) ≡ count_by p (get_or held hw []) + one_if (p w) = sum_by_push (λ (x : Waiting). one_if (p x)) (get_or held hw []) w in
+pub count_with : (p : Waiting → Bool) (requeued : List (List Waiting)) (hw : ℕ) (w : Waiting) → hw < length requeued → requeued_count p (with_one requeued hw w) ≡ requeued_count p requeued + cond (p w) 1 0
+count_with p requeued hw w lt =
+    let one = sum_by-set (count_by p) requeued hw (get_or requeued hw [] ++ w ∷ []) [] lt in
+    let push : count_by p (get_or requeued hw [] ++ w ∷ []) ≡ count_by p (get_or requeued hw []) + one_if (p w) = sum_by_push (λ (x : Waiting). one_if (p x)) (get_or requeued hw []) w in
     omega arith
 
-pub total_with : (held : List (List Waiting)) (hw : ℕ) (w : Waiting) → hw < length held → held_total (with_one held hw w) ≡ held_total held + 1
-total_with held hw w lt =
-    let one = sum_by-set length held hw (get_or held hw [] ++ w ∷ []) [] lt in
-    let push : length (get_or held hw [] ++ w ∷ []) ≡ length (get_or held hw []) + 1 = length-append (get_or held hw []) (w ∷ []) in
+pub total_with : (requeued : List (List Waiting)) (hw : ℕ) (w : Waiting) → hw < length requeued → requeued_total (with_one requeued hw w) ≡ requeued_total requeued + 1
+total_with requeued hw w lt =
+    let one = sum_by-set length requeued hw (get_or requeued hw [] ++ w ∷ []) [] lt in
+    let push : length (get_or requeued hw [] ++ w ∷ []) ≡ length (get_or requeued hw []) + 1 = length-append (get_or requeued hw []) (w ∷ []) in
     omega arith
 
 -- one fewer, at the front
-pub count_without : (p : Waiting → Bool) (held : List (List Waiting)) (hw : ℕ) (w : Waiting) (rest : List Waiting) → hw < length held → get_or held hw [] ≡ w ∷ rest → held_count p (set held hw rest) + cond (p w) 1 0 ≡ held_count p held
-count_without p held hw w rest lt at =
-    let one = sum_by-set (count_by p) held hw rest [] lt in
-    let had : count_by p (get_or held hw []) ≡ one_if (p w) + count_by p rest = ap (count_by p) at ∙ sum_by-cons (λ (x : Waiting). one_if (p x)) w rest in
+pub count_without : (p : Waiting → Bool) (requeued : List (List Waiting)) (hw : ℕ) (w : Waiting) (rest : List Waiting) → hw < length requeued → get_or requeued hw [] ≡ w ∷ rest → requeued_count p (set requeued hw rest) + cond (p w) 1 0 ≡ requeued_count p requeued
+count_without p requeued hw w rest lt at =
+    let one = sum_by-set (count_by p) requeued hw rest [] lt in
+    let had : count_by p (get_or requeued hw []) ≡ one_if (p w) + count_by p rest = ap (count_by p) at ∙ sum_by-cons (λ (x : Waiting). one_if (p x)) w rest in
     omega arith
 
-pub total_without : (held : List (List Waiting)) (hw : ℕ) (w : Waiting) (rest : List Waiting) → hw < length held → get_or held hw [] ≡ w ∷ rest → held_total (set held hw rest) + 1 ≡ held_total held
-total_without held hw w rest lt at =
-    let one = sum_by-set length held hw rest [] lt in
-    let had : length (get_or held hw []) ≡ length rest + 1 = ap length at ∙ omega arith in
+pub total_without : (requeued : List (List Waiting)) (hw : ℕ) (w : Waiting) (rest : List Waiting) → hw < length requeued → get_or requeued hw [] ≡ w ∷ rest → requeued_total (set requeued hw rest) + 1 ≡ requeued_total requeued
+total_without requeued hw w rest lt at =
+    let one = sum_by-set length requeued hw rest [] lt in
+    let had : length (get_or requeued hw []) ≡ length rest + 1 = ap length at ∙ omega arith in
     omega arith
 
--- what is held is counted
+-- what is requeued is counted
 in_list : (p : Waiting → Bool) (xs : List Waiting) (k : ℕ) (w : Waiting) → slice_get xs k ≡ Some w → p w ≡ true → 0 < count_by p xs
 in_list p [] k w at is = absurd (cc)
 in_list p (x ∷ xs) zero w at is =
@@ -58,14 +58,14 @@ in_list p (x ∷ xs) zero w at is =
     omega (arith, sum_by-cons (λ (y : Waiting). one_if (p y)) x xs)
 in_list p (x ∷ xs) (suc k) w at is = omega (arith, in_list p xs k w at is, sum_by-cons (λ (y : Waiting). one_if (p y)) x xs)
 
-pub counted : (p : Waiting → Bool) (held : List (List Waiting)) (hw k : ℕ) (w : Waiting) → slice_get (get_or held hw []) k ≡ Some w → p w ≡ true → 0 < held_count p held
+pub counted : (p : Waiting → Bool) (requeued : List (List Waiting)) (hw k : ℕ) (w : Waiting) → slice_get (get_or requeued hw []) k ≡ Some w → p w ≡ true → 0 < requeued_count p requeued
 counted p [] hw k w at is = absurd (cc)
-counted p (l ∷ held) zero k w at is = omega (arith, in_list p l k w at is, sum_by-cons (count_by p) l held)
-counted p (l ∷ held) (suc hw) k w at is = omega (arith, counted p held hw k w at is, sum_by-cons (count_by p) l held)
+counted p (l ∷ requeued) zero k w at is = omega (arith, in_list p l k w at is, sum_by-cons (count_by p) l requeued)
+counted p (l ∷ requeued) (suc hw) k w at is = omega (arith, counted p requeued hw k w at is, sum_by-cons (count_by p) l requeued)
 
 -- the first of a list stands in it
-pub first_stands : (held : List (List Waiting)) (hw : ℕ) (w : Waiting) (rest : List Waiting) → get_or held hw [] ≡ w ∷ rest → slice_get (get_or held hw []) 0 ≡ Some w
-first_stands held hw w rest at = ap (λ l. slice_get l 0) at
+pub first_stands : (requeued : List (List Waiting)) (hw : ℕ) (w : Waiting) (rest : List Waiting) → get_or requeued hw [] ≡ w ∷ rest → slice_get (get_or requeued hw []) 0 ≡ Some w
+first_stands requeued hw w rest at = ap (λ l. slice_get l 0) at
 
 -- by directions all are counted
 by_dir : (d : Dir) → one_if (same_dir Read d) + one_if (same_dir Write d) ≡ 1
@@ -77,23 +77,23 @@ list_by_dirs [] = refl
 list_by_dirs (x ∷ xs) =
     omega (arith, by_dir (dir_of x.bios), list_by_dirs xs, sum_by-cons (λ (y : Waiting). one_if (is_of Read y)) x xs, sum_by-cons (λ (y : Waiting). one_if (is_of Write y)) x xs)
 
-pub by_dirs : (held : List (List Waiting)) → held_count (is_of Read) held + held_count (is_of Write) held ≡ held_total held
+pub by_dirs : (requeued : List (List Waiting)) → requeued_count (is_of Read) requeued + requeued_count (is_of Write) requeued ≡ requeued_total requeued
 by_dirs [] = refl
-by_dirs (l ∷ held) =
-    omega (arith, list_by_dirs l, by_dirs held, sum_by-cons (count_by (is_of Read)) l held, sum_by-cons (count_by (is_of Write)) l held, sum_by-cons length l held)
+by_dirs (l ∷ requeued) =
+    omega (arith, list_by_dirs l, by_dirs requeued, sum_by-cons (count_by (is_of Read)) l requeued, sum_by-cons (count_by (is_of Write)) l requeued, sum_by-cons length l requeued)
 
--- each held request is what a word of the trace says of its id, and stands once
+-- each requeued request is what a word of the trace says of its id, and stands once
 abbrev pub AreAs : (ℕ → Option Entered) → List (List Waiting) → Type 0
-AreAs R held = (hw k : ℕ) (w : Waiting) → slice_get (get_or held hw []) k ≡ Some w → R w.id ≡ Some (entered_of w)
+AreAs R requeued = (hw k : ℕ) (w : Waiting) → slice_get (get_or requeued hw []) k ≡ Some w → R w.id ≡ Some (entered_of w)
 
 abbrev pub AreOnce : (ℕ → Option Entered) → List (List Waiting) → Type 0
-AreOnce R held = (id : ℕ) → held_count (is_named id) held ≡ cond (is_some (R id)) 1 0
+AreOnce R requeued = (id : ℕ) → requeued_count (is_named id) requeued ≡ cond (is_some (R id)) 1 0
 
-pub as_same : (R V : ℕ → Option Entered) (held : List (List Waiting)) → ((q : ℕ) → V q ≡ R q) → AreAs R held → AreAs V held
-as_same R V held same h hw k w at = same w.id ∙ h hw k w at
+pub as_same : (R V : ℕ → Option Entered) (requeued : List (List Waiting)) → ((q : ℕ) → V q ≡ R q) → AreAs R requeued → AreAs V requeued
+as_same R V requeued same h hw k w at = same w.id ∙ h hw k w at
 
-pub once_same : (R V : ℕ → Option Entered) (held : List (List Waiting)) → ((q : ℕ) → V q ≡ R q) → AreOnce R held → AreOnce V held
-once_same R V held same h id = h id ∙ ap (λ o. one_if (is_some o)) (sym (same id))
+pub once_same : (R V : ℕ → Option Entered) (requeued : List (List Waiting)) → ((q : ℕ) → V q ≡ R q) → AreOnce R requeued → AreOnce V requeued
+once_same R V requeued same h id = h id ∙ ap (λ o. one_if (is_some o)) (sym (same id))
 
 -- an id that nothing is said of is taken out in vain
 pub none_gone : (R V : ℕ → Option Entered) (id : ℕ) → R id ≡ None → ((q : ℕ) → V q ≡ cond (id == q) None (R q)) → (q : ℕ) → V q ≡ R q
@@ -113,9 +113,9 @@ kept_id : (R V : ℕ → Option Entered) (w : Waiting) (o : Option Entered) (v :
 kept_id R V w o v none step h =
     step v.id ∙ ap (λ b. cond b o (R v.id)) (ne_eqb w.id v.id (λ e. absurd (let n : R v.id ≡ None = subst (λ x. R x ≡ None) e none in cc))) ∙ h
 
-pub as_with : (R V : ℕ → Option Entered) (held : List (List Waiting)) (hw : ℕ) (w : Waiting) → hw < length held → R w.id ≡ None → ((q : ℕ) → V q ≡ cond (w.id == q) (Some (entered_of w)) (R q)) → AreAs R held → AreAs V (with_one held hw w)
-as_with R V held hw w lt none step h q k v at = elim (at_place held hw q k (get_or held hw [] ++ w ∷ []) v lt at) [
-  | inl here ↦ elim (get_more (get_or held hw []) w k v here.1) [
+pub as_with : (R V : ℕ → Option Entered) (requeued : List (List Waiting)) (hw : ℕ) (w : Waiting) → hw < length requeued → R w.id ≡ None → ((q : ℕ) → V q ≡ cond (w.id == q) (Some (entered_of w)) (R q)) → AreAs R requeued → AreAs V (with_one requeued hw w)
+as_with R V requeued hw w lt none step h q k v at = elim (at_place requeued hw q k (get_or requeued hw [] ++ w ∷ []) v lt at) [
+  | inl here ↦ elim (get_more (get_or requeued hw []) w k v here.1) [
     | inl old ↦ kept_id R V w (Some (entered_of w)) v none step (h hw k v old)
     | inr new ↦ subst (λ x. V x.id ≡ Some (entered_of x)) new.1 (step w.id ∙ ap (λ b. cond b (Some (entered_of w)) (R w.id)) (eq-eqb w.id w.id refl))
   ]
@@ -128,9 +128,9 @@ named id w = elim (eqb_tells id w.id) [
   | inr n ↦ inr (n.0, ne_eqb w.id id (λ e. n.1 (sym e)))
 ]
 
-pub once_with : (R V : ℕ → Option Entered) (held : List (List Waiting)) (hw : ℕ) (w : Waiting) → hw < length held → R w.id ≡ None → ((q : ℕ) → V q ≡ cond (w.id == q) (Some (entered_of w)) (R q)) → AreOnce R held → AreOnce V (with_one held hw w)
-once_with R V held hw w lt none step h id =
-    let more = count_with (is_named id) held hw w lt in
+pub once_with : (R V : ℕ → Option Entered) (requeued : List (List Waiting)) (hw : ℕ) (w : Waiting) → hw < length requeued → R w.id ≡ None → ((q : ℕ) → V q ≡ cond (w.id == q) (Some (entered_of w)) (R q)) → AreOnce R requeued → AreOnce V (with_one requeued hw w)
+once_with R V requeued hw w lt none step h id =
+    let more = count_with (is_named id) requeued hw w lt in
     let had = h id in
     elim (named id w) [
       | inl y ↦
@@ -145,13 +145,13 @@ once_with R V held hw w lt none step h id =
     ]
 
 -- one fewer
-pub once_without : (R V : ℕ → Option Entered) (held : List (List Waiting)) (hw : ℕ) (w : Waiting) (rest : List Waiting) → hw < length held → get_or held hw [] ≡ w ∷ rest → ((q : ℕ) → V q ≡ cond (w.id == q) None (R q)) → AreAs R held → AreOnce R held → AreOnce V (set held hw rest)
-once_without R V held hw w rest lt is step are h id =
-    let less = count_without (is_named id) held hw w rest lt is in
+pub once_without : (R V : ℕ → Option Entered) (requeued : List (List Waiting)) (hw : ℕ) (w : Waiting) (rest : List Waiting) → hw < length requeued → get_or requeued hw [] ≡ w ∷ rest → ((q : ℕ) → V q ≡ cond (w.id == q) None (R q)) → AreAs R requeued → AreOnce R requeued → AreOnce V (set requeued hw rest)
+once_without R V requeued hw w rest lt is step are h id =
+    let less = count_without (is_named id) requeued hw w rest lt is in
     let had = h id in
     elim (named id w) [
       | inl y ↦
-          let r : one_if (is_some (R id)) ≡ 1 = ap (λ o. one_if (is_some o)) (ap R y.1 ∙ are hw 0 w (first_stands held hw w rest is)) in
+          let r : one_if (is_some (R id)) ≡ 1 = ap (λ o. one_if (is_some o)) (ap R y.1 ∙ are hw 0 w (first_stands requeued hw w rest is)) in
           let v : one_if (is_some (V id)) ≡ 0 = ap (λ o. one_if (is_some o)) (step id ∙ ap (λ b. cond b None (R id)) (eq-eqb w.id id (sym y.1))) in
           let one : one_if (is_named id w) ≡ 1 = ap one_if y.0 in
           omega arith
@@ -161,11 +161,11 @@ once_without R V held hw w rest lt is step are h id =
           omega arith
     ]
 
-pub as_without : (R V : ℕ → Option Entered) (held : List (List Waiting)) (hw : ℕ) (w : Waiting) (rest : List Waiting) → hw < length held → get_or held hw [] ≡ w ∷ rest → ((q : ℕ) → V q ≡ cond (w.id == q) None (R q)) → AreAs R held → AreOnce R held → AreAs V (set held hw rest)
-as_without R V held hw w rest lt is step are once q k v at =
-    let some : 0 < held_count (is_named v.id) (set held hw rest) = counted (is_named v.id) (set held hw rest) q k v at (eq-eqb v.id v.id refl) in
-    let number = once_without R V held hw w rest lt is step are once v.id in
-    let stands : R v.id ≡ Some (entered_of v) = elim (at_place held hw q k rest v lt at) [
+pub as_without : (R V : ℕ → Option Entered) (requeued : List (List Waiting)) (hw : ℕ) (w : Waiting) (rest : List Waiting) → hw < length requeued → get_or requeued hw [] ≡ w ∷ rest → ((q : ℕ) → V q ≡ cond (w.id == q) None (R q)) → AreAs R requeued → AreOnce R requeued → AreAs V (set requeued hw rest)
+as_without R V requeued hw w rest lt is step are once q k v at =
+    let some : 0 < requeued_count (is_named v.id) (set requeued hw rest) = counted (is_named v.id) (set requeued hw rest) q k v at (eq-eqb v.id v.id refl) in
+    let number = once_without R V requeued hw w rest lt is step are once v.id in
+    let stands : R v.id ≡ Some (entered_of v) = elim (at_place requeued hw q k rest v lt at) [
       | inl here ↦ are hw (suc k) v (ap (λ l. slice_get l (suc k)) is ∙ here.1)
       | inr other ↦ are q k v other.1
     ] in
@@ -174,7 +174,7 @@ as_without R V held hw w rest lt is step are once q k v at =
       | inr n ↦ step v.id ∙ ap (λ b. cond b None (R v.id)) n.1 ∙ stands
     ]
 
--- at first nothing is held
+-- at first nothing is requeued
 abbrev nothing : List Waiting
 nothing = []
 
@@ -183,10 +183,10 @@ empty_list zero hw = refl
 empty_list (suc n) zero = refl
 empty_list (suc n) (suc hw) = empty_list n hw
 
-pub none_counted : (p : Waiting → Bool) (n : ℕ) → held_count p (replicate n nothing) ≡ 0
+pub none_counted : (p : Waiting → Bool) (n : ℕ) → requeued_count p (replicate n nothing) ≡ 0
 none_counted p zero = refl
 none_counted p (suc n) = omega (arith, none_counted p n, sum_by-cons (count_by p) nothing (replicate n nothing))
 
-pub none_held : (n : ℕ) → held_total (replicate n nothing) ≡ 0
-none_held zero = refl
-none_held (suc n) = omega (arith, none_held n, sum_by-cons length nothing (replicate n nothing))
+pub none_requeued : (n : ℕ) → requeued_total (replicate n nothing) ≡ 0
+none_requeued zero = refl
+none_requeued (suc n) = omega (arith, none_requeued n, sum_by-cons length nothing (replicate n nothing))
