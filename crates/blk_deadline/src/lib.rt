@@ -30,7 +30,7 @@ pub struct Tunables {
 
 impl Tunables {
     /// Whether a batch is of no request: there is no scheduler of such tunables.
-    pub fn has_zero_batch(&self) -> bool
+    fn has_zero_batch(&self) -> bool
         ensures { IsTrue result ↔ (self.now.fifo_batch ≡ 0) }
     {
         self.fifo_batch == 0

@@ -7,7 +7,8 @@ ghost use Rattle.blk_sched.specs.Meaning.{Waiting, Picks, ServesNothing, at_star
 ghost use Rattle.blk_index.specs.Inside.Search.{IsIdOf};
 ghost use Rattle.blk_earliest.specs.Choice.{first_due, on_time, earliest_choice, earliest_chooses, earliest_policy, earliest_kept, IsEarliest, IsFirstOnTime};
 ghost use Rattle.blk_sched.specs.Policies.{serves_all};
-ghost use Rattle.blk_earliest.specs.Shown.{pending_of, late_last_of, setting_of, meaning_of};
+ghost use Rattle.blk_earliest.specs.Shown.{late_last_of, meaning_of};
+ghost use Rattle.blk_earliest.specs.Inside.Shown.{pending_of, setting_of};
 
 mod by_due;
 mod due;

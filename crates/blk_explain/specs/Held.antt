@@ -18,8 +18,3 @@ pub record HoldsAfter (script : Scripted) (n s held : ℕ) : Type 0 where
   pub state : SimState
   pub runs : Runs none_policy (take n script.lines) (start_of script (at_start true) []) state
   pub there : HoldsIn state s held
-
--- it holds this many in whatever state these steps lead to
-abbrev pub HoldsWherever : Scripted → ℕ → ℕ → ℕ → Type 0
-HoldsWherever script n s held =
-    (state : SimState) → Runs none_policy (take n script.lines) (start_of script (at_start true) []) state → HoldsIn state s held

@@ -1,15 +1,8 @@
 -- Bios that enter twice.
-use Rattle.std.specs.Prelude.{◌≡◌, ◌<◌, ◌≤◌, ℕ, List, Option, Some, MatchOption, slice_get}
+use Rattle.std.specs.Prelude.{◌≡◌, ◌<◌, ◌≤◌, ℕ, List, Some, slice_get}
 use Rattle.blk_bio.specs.Bios.{Bio}
 use Rattle.blk_text.specs.declared.script.Line.{Line}
 use Rattle.blk_text.specs.declared.script.Line.TheVariants as line
-
--- the step at a place is this bio; it is none
-abbrev pub IsBioAt : List Line → ℕ → Bio → Type 0
-IsBioAt lines place b = slice_get lines place ≡ Some (line.Bio b)
-
-abbrev pub IsNoBioAt : List Line → ℕ → Type 0
-IsNoBioAt lines place = (b : Bio) → ¬ IsBioAt lines place b
 
 -- of two steps, one after the other, both are bios, of the same id
 pub record AreOneBio (lines : List Line) (i j : ℕ) : Type 0 where
@@ -23,10 +16,3 @@ pub record AreOneBio (lines : List Line) (i j : ℕ) : Type 0 where
 -- no two of the first n steps are
 abbrev pub HasNoRepeat : List Line → ℕ → Type 0
 HasNoRepeat lines n = (i j : ℕ) → AreOneBio lines i j → n ≤ j
-
--- of the first n steps these are the first whose bio entered before and the step by which it did; and where there are none
-abbrev pub IsFirstRepeat : List Line → ℕ → ℕ → ℕ → Type 0
-IsFirstRepeat lines n i j = (j < n) × HasNoRepeat lines j × AreOneBio lines i j
-
-abbrev pub IsFirstPairOf : List Line → ℕ → Option (ℕ × ℕ) → Type 0
-IsFirstPairOf lines n o = MatchOption o (HasNoRepeat lines n) (λ p. IsFirstRepeat lines n p.0 p.1)

@@ -2,7 +2,7 @@
 
 ghost use Rattle.std.specs.Prelude.{◌≤◌, ◌<◌, IfOk, length};
 ghost use Rattle.blk_text.specs.Script.{scripted, IsScript};
-ghost use Rattle.blk_explain.specs.Held.{HoldsWherever};
+ghost use Rattle.blk_explain.specs.Inside.Held.{HoldsWherever};
 ghost use Rattle.blk_explain.specs.Inside.Followed.{FollowsStep};
 
 use blk_plug::Plug;

@@ -7,7 +7,7 @@ ghost use Rattle.blk_text.specs.declared.script.Line.TheVariants as line;
 ghost use Rattle.blk_explain.specs.Findings.{rows_of, IsRefusedStep, IsRefusedScript};
 ghost use Rattle.blk_explain.specs.Steps.{step_wanted, plain_text, held_text, entered_text, IsSoftState, IsTwiceState, IsStateAt, IsState, IsFlushAt, IsNoFlushAt};
 ghost use Rattle.blk_explain.specs.Inside.Entered.{IsEntryText};
-ghost use Rattle.blk_explain.specs.Twice.{IsBioAt};
+ghost use Rattle.blk_explain.specs.Inside.Twice.{IsBioAt};
 ghost use Rattle.blk_explain.specs.Inside.Before.{RunsTo};
 ghost use Rattle.blk_explain.specs.Lines.{line_at};
 

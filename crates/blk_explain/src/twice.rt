@@ -1,7 +1,8 @@
 //! Bios that enter twice.
 
 ghost use Rattle.std.specs.Prelude.{MatchOption, IfOk};
-ghost use Rattle.blk_explain.specs.Twice.{HasNoRepeat, IsBioAt, IsNoBioAt, IsFirstPairOf};
+ghost use Rattle.blk_explain.specs.Twice.{HasNoRepeat};
+ghost use Rattle.blk_explain.specs.Inside.Twice.{IsBioAt, IsNoBioAt, IsFirstPairOf};
 ghost use Rattle.blk_explain.specs.Inside.Entered.{HasBioAt, HasNoBio, IsFirstAgain};
 
 use blk_bio::{Bio, BioId};

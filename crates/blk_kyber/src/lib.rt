@@ -36,7 +36,7 @@ pub struct Targets {
 
 impl Targets {
     /// Whether a request may wait for no round: there is no scheduler of such targets.
-    pub fn has_zero_target(&self) -> bool
+    fn has_zero_target(&self) -> bool
         ensures { IsTrue result ↔ ((self.now.read ≡ 0) ⊎ (self.now.write ≡ 0)) }
     {
         self.read == 0 || self.write == 0

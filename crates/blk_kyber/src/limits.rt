@@ -72,7 +72,7 @@ impl DomainLimits {
 
     /// Sets the limits anew: a miss of either direction halves the other one's limit, and without any miss both rise. The
     /// misses are forgotten.
-    pub fn set_anew(&mut self)
+    pub(crate) fn set_anew(&mut self)
         ensures { self.new ≡ set_anew self.old }
     {
         let (reads, writes) = (self.missed_reads, self.missed_writes);

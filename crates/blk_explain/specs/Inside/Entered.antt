@@ -2,7 +2,8 @@
 use Rattle.std.specs.Prelude.{◌≡◌, ◌<◌, ℕ, List}
 use Rattle.blk_bio.specs.Bios.{Bio}
 use Rattle.blk_text.specs.declared.script.Line.{Line}
-use Rattle.blk_explain.specs.Twice.{AreOneBio, HasNoRepeat, IsBioAt}
+use Rattle.blk_explain.specs.Twice.{AreOneBio, HasNoRepeat}
+use Rattle.blk_explain.specs.Inside.Twice.{IsBioAt}
 use Rattle.blk_explain.specs.Steps.{entered_text}
 use Rattle.blk_bio.specs.declared.bio.BioId.{BioId}
 
