@@ -30,7 +30,7 @@ fn main(rt: HostRuntime) -> ExitCode {
         Ok(args) => args,
         Err(error) => {
             if error.kind() == ErrorKind::OutOfMemory {
-                return ExitCode::from(Failure::Memory.report(&mut faults).status);
+                return ExitCode::from(Failure::Memory.say(&mut faults).status);
             }
             // A word that is no UTF-8.
             let _ = faults.put(b"blk: the command line could not be read\n");
@@ -38,7 +38,7 @@ fn main(rt: HostRuntime) -> ExitCode {
         }
     };
     let Ok(words) = args.collect::<Vec<String>>(alloc) else {
-        return ExitCode::from(Failure::Memory.report(&mut faults).status);
+        return ExitCode::from(Failure::Memory.say(&mut faults).status);
     };
     let is_terminal = says_to_a_terminal(&rt);
     let ended = blk_cli::run(

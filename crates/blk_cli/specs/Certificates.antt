@@ -19,7 +19,7 @@ use Rattle.blk_lists.specs.Commands.{SpellsCommands}
 use Rattle.blk_lists.specs.Certificate.{Claim, claim_rows, SpellsClaim}
 use Rattle.blk_lists.specs.OnTime.{OnTimeClaim, on_time_rows, SpellsOnTime}
 use Rattle.blk_lists.specs.Proof.{ProofClaim, OfLateness, OfOnTime}
-use Rattle.blk_json.specs.Proofs.{bound_json, no_commands_json, on_time_json}
+use Rattle.blk_answers.specs.Proofs.{bound_json, no_commands_json, on_time_json}
 use Rattle.blk_settings.specs.declared.form.Form.{Form}
 use Rattle.blk_settings.specs.declared.form.Form.TheVariants as form
 use Rattle.blk_cli.specs.declared.failure.Failure.{Failure}

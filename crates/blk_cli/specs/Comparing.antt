@@ -6,7 +6,7 @@ use Rattle.blk_report.specs.declared.figures.Report.{Report}
 use Rattle.blk_report.specs.Shortfall.{IsReport}
 use Rattle.blk_report.specs.Table.{IsTable}
 use Rattle.blk_picture.specs.Pictures.{IsPictures}
-use Rattle.blk_json.specs.Tables.{IsTableJson}
+use Rattle.blk_answers.specs.Tables.{IsTableJson}
 use Rattle.blk_words.specs.declared.inputs.Running.{Running}
 use Rattle.blk_words.specs.declared.inputs.Running.TheVariants as running
 use Rattle.blk_settings.specs.declared.form.Form.{Form}

@@ -9,12 +9,8 @@ use Rattle.blk_lists.specs.Texts.{rows_text}
 use Rattle.blk_text.specs.TraceForm.{SpellsTraceIn}
 use Rattle.blk_text.specs.TraceRecords.{trace_rows}
 use Rattle.blk_text.specs.declared.setup.TheConstants.{LATEST}
-use Rattle.blk_json.specs.Lateness.{IsLateText}
-use Rattle.blk_json.specs.Missing.{IsMissesText}
-use Rattle.blk_json.specs.Reports.{IsReportText}
-use Rattle.blk_json.specs.Spreading.{IsSpreadText}
+use Rattle.blk_answers.specs.Figures.{IsFiguresText}
 use Rattle.blk_picture.specs.Pictures.{IsPicture}
-use Rattle.blk_words.specs.declared.inputs.FiguresAsked.TheVariants as figures
 use Rattle.blk_words.specs.declared.inputs.Telling.{Telling}
 use Rattle.blk_words.specs.declared.inputs.Telling.TheVariants as telling
 use Rattle.blk_cli.specs.declared.failure.Failure.{Failure}
@@ -38,10 +34,7 @@ abbrev pub IsTellingText : Telling → Traced → List ℕ → Type 0
 IsTellingText telling.Whole trace text = IsTraceText trace text
 IsTellingText telling.Commands trace text = IsCommandsText trace text
 IsTellingText telling.Picture trace text = IsPicture trace text
-IsTellingText (telling.Figures figures.Late f) trace text = IsLateText f trace text
-IsTellingText (telling.Figures figures.Misses f) trace text = IsMissesText f trace text
-IsTellingText (telling.Figures figures.Spread f) trace text = IsSpreadText f trace text
-IsTellingText (telling.Figures figures.Report f) trace text = IsReportText f trace text
+IsTellingText (telling.Figures asked f) trace text = IsFiguresText asked f trace text
 
 -- why a trace has no command list: an event sets a depth
 abbrev pub IsUnlisted : Traced → Failure → Type 0

@@ -6,7 +6,7 @@ use Rattle.blk_settings.specs.declared.sched.Sched.{Sched}
 use Rattle.blk_settings.specs.Wanted.{Wanted}
 use Rattle.blk_tune.specs.declared.row.TrialRow.{TrialRow}
 use Rattle.blk_tune.specs.Tuned.{AreTuned, IsTuned}
-use Rattle.blk_json.specs.Trials.{trial_json}
+use Rattle.blk_answers.specs.Trials.{trial_json}
 use Rattle.blk_words.specs.Asked.{AsksGrid}
 use Rattle.blk_settings.specs.declared.form.Form.{Form}
 use Rattle.blk_settings.specs.declared.form.Form.TheVariants as form

@@ -10,7 +10,7 @@ ghost use Rattle.blk_cli.specs.Certificates.{IsProved, IsOnTimeProved, IsUnprove
 ghost use Rattle.blk_cli.specs.Inside.Certificates.{IsCrowdingOf, IsBoundOf};
 
 use crate::failure::Failure;
-use blk_json::{bound_json, no_commands_json, on_time_json};
+use blk_answers::{bound_json, no_commands_json, on_time_json};
 use blk_lists::{Certificate, OnTimeCertificate, Proof, Records, read_proof};
 use blk_words::Form;
 use edd_check::{Bound, Crowding, check, check_on_time};

@@ -9,7 +9,7 @@ ghost use Rattle.blk_runs.specs.Firsts.{AreUnrun};
 ghost use Rattle.blk_cli.specs.Comparing.{IsReportUnder, AreReports, IsUncompared, IsTableIn, IsComparedText};
 
 use crate::failure::Failure;
-use blk_json::table_json;
+use blk_answers::table_json;
 use blk_report::{Report, report, table_lines};
 use blk_runs::{RunFault, traced, unmade};
 use blk_settings::{Lineup, Sched};

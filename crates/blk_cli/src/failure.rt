@@ -139,7 +139,7 @@ impl Failure {
     }
 
     /// Writes the failure's line and ends with its status, even where the line can't be written.
-    pub fn report<F: Write>(&self, faults: &mut Output<F>) -> Ended
+    pub fn say<F: Write>(&self, faults: &mut Output<F>) -> Ended
         ensures ends { EndsFailing self.now (stream_of F.contents faults.old) (stream_of F.contents faults.new) result }
         ensures range { (1 ≤ result.status) × (result.status ≤ 3) }
     {

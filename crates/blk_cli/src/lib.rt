@@ -129,12 +129,12 @@ pub enum NoText {
 
 impl NoText {
     /// Writes the line that says so and ends with its status, even where the line can't be written.
-    pub fn report<F: Write>(&self, faults: &mut Output<F>) -> Ended
+    pub fn say<F: Write>(&self, faults: &mut Output<F>) -> Ended
         ensures ends { EndsWithout self.now (stream_of F.contents faults.old) (stream_of F.contents faults.new) result }
         ensures range { (1 ≤ result.status) × (result.status ≤ 3) }
     {
         match self {
-            NoText::Failure(failure) => failure.report(faults),
+            NoText::Failure(failure) => failure.say(faults),
             NoText::Usage(text) => refuse(text.as_bytes(), faults),
             NoText::Excluded => refuse(NO_JOB, faults),
         }
@@ -251,7 +251,7 @@ fn put_out<W: Write, F: Write>(
 {
     match out.put(answer.text.as_slice()) {
         Ok(()) => answer.say(faults),
-        Err(_) => Failure::Write.report(faults),
+        Err(_) => Failure::Write.say(faults),
     }
 }
 
@@ -279,6 +279,6 @@ pub fn run<L: Loads, T: Threads + Wait + Sync, R: Read + Drop, W: Write, F: Writ
 {
     match answer(loads, rt, alloc, words, records, progress) {
         Ok(answer) => put_out(&answer, out, faults),
-        Err(none) => none.report(faults),
+        Err(none) => none.say(faults),
     }
 }

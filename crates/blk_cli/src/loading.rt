@@ -4,7 +4,7 @@ ghost use Rattle.std.specs.Prelude.{◌≡◌, IfOk, IfErr};
 ghost use Rattle.blk_cli.specs.Loading.{IsLoadText, IsLoadOf, IsUnloaded, account_in};
 
 use crate::failure::Failure;
-use blk_json::load_json;
+use blk_answers::load_json;
 use blk_settings::{Load, Loaded, Loads, Sched, Settled, Unsettled};
 use blk_text::trace_text;
 use blk_words::{Form, ShownLoad};

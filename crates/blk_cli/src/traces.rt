@@ -8,13 +8,13 @@ ghost use Rattle.blk_cli.specs.Names.{unlisted_fault_name};
 ghost use Rattle.blk_cli.specs.OfTraces.{IsTellingText, IsUntold};
 
 use crate::failure::Failure;
-use blk_json::{late_answer, misses_answer, report_answer, spread_answer};
+use blk_answers::figures_answer;
 use blk_lists::{Records, commands_text};
 use blk_picture::picture;
 use blk_text::{read_trace, trace_text};
 use blk_trace::Trace;
-use blk_words::{FiguresAsked, Form, Telling};
-use std::alloc::{AllocError, Global};
+use blk_words::Telling;
+use std::alloc::Global;
 use std::io::Read;
 
 /// Why a trace has no command list.
@@ -77,23 +77,6 @@ fn picture_of(alloc: Global, trace: &Trace) -> Result<Vec<u8>, Failure>
     }
 }
 
-/// Figures of a trace in this form.
-fn figures_of(
-    alloc: Global,
-    asked: FiguresAsked,
-    form: Form,
-    trace: &Trace,
-) -> Result<Vec<u8>, AllocError>
-    ensures { IfOk result (λ text. IsTellingText (Telling.Figures asked form) trace.now text.items) }
-{
-    match asked {
-        FiguresAsked::Late => late_answer(alloc, form, trace),
-        FiguresAsked::Misses => misses_answer(alloc, form, trace),
-        FiguresAsked::Spread => spread_answer(alloc, form, trace),
-        FiguresAsked::Report => report_answer(alloc, form, trace),
-    }
-}
-
 /// What is said about a trace.
 fn told_of(alloc: Global, telling: Telling, trace: &Trace) -> Result<Vec<u8>, Failure>
     requires { IsTrace trace.now }
@@ -104,7 +87,7 @@ fn told_of(alloc: Global, telling: Telling, trace: &Trace) -> Result<Vec<u8>, Fa
         Telling::Whole => whole_of(alloc, trace),
         Telling::Commands => list_of(alloc, trace),
         Telling::Picture => picture_of(alloc, trace),
-        Telling::Figures(asked, form) => match figures_of(alloc, asked, form, trace) {
+        Telling::Figures(asked, form) => match figures_answer(alloc, asked, form, trace) {
             Ok(text) => Ok(text),
             Err(_) => Err(Failure::Memory),
         },

@@ -8,7 +8,7 @@ ghost use Rattle.blk_cli.specs.Inputs.{Of};
 ghost use Rattle.blk_cli.specs.Tuning.{IsTunedJson, IsTunedIn, IsTrial, IsUntried, FailsToTry};
 
 use crate::failure::Failure;
-use blk_json::trial_json;
+use blk_answers::trial_json;
 use blk_lists::Records;
 use blk_runs::RunFault;
 use blk_settings::TrialAsked;

@@ -8,7 +8,7 @@ use Rattle.blk_trace.specs.Traces.{Traced}
 use Rattle.blk_text.specs.Script.{Scripted, SpellsScript}
 use Rattle.blk_text.specs.TraceForm.{SpellsTrace}
 use Rattle.blk_settings.specs.Defaults.{earliest_by}
-use Rattle.blk_words.specs.declared.inputs.FiguresAsked.{FiguresAsked}
+use Rattle.blk_settings.specs.declared.figures.FiguresAsked.{FiguresAsked}
 use Rattle.blk_words.specs.declared.inputs.Running.TheVariants as running
 use Rattle.blk_words.specs.declared.inputs.Telling.TheVariants as telling
 use Rattle.blk_settings.specs.declared.form.Form.TheVariants as form
@@ -17,8 +17,8 @@ use Rattle.blk_words.specs.declared.words.Job.TheVariants as job
 use Rattle.blk_words.specs.Asked.{Asks}
 use Rattle.blk_cli.specs.declared.Ended.{Ended}
 use Rattle.blk_cli.specs.Ends.{RunEnds}
-use Rattle.blk_json.specs.Missing.{IsMissesText}
-use Rattle.blk_json.specs.Reports.{IsReportText}
+use Rattle.blk_answers.specs.Missing.{IsMissesText}
+use Rattle.blk_answers.specs.Reports.{IsReportText}
 use Rattle.blk_online_sim.specs.ByRounds.{IsByRounds}
 
 -- the records of these bytes

@@ -90,7 +90,7 @@ pub fn report_of_earliest<L: Loads, T: Threads + Wait + Sync, R: Read + Drop, W:
     let second = to_report(alloc)?;
     let traced = match answer(loads, rt, alloc, first.as_slice(), records, &mut Quiet) {
         Ok(traced) => traced,
-        Err(none) => return Ok(none.report(faults)),
+        Err(none) => return Ok(none.say(faults)),
     };
     let mut read = Records::new(alloc, traced.text.as_slice());
     Ok(run(
@@ -123,7 +123,7 @@ pub fn misses_of_late_last<L: Loads, T: Threads + Wait + Sync, R: Read + Drop, W
     let second = to_count(alloc)?;
     let traced = match answer(loads, rt, alloc, first.as_slice(), records, &mut Quiet) {
         Ok(traced) => traced,
-        Err(none) => return Ok(none.report(faults)),
+        Err(none) => return Ok(none.say(faults)),
     };
     let mut read = Records::new(alloc, traced.text.as_slice());
     Ok(run(

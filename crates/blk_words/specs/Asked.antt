@@ -23,7 +23,7 @@ use Rattle.blk_settings.specs.declared.form.Form.{Form}
 use Rattle.blk_settings.specs.declared.form.Form.TheVariants as form
 use Rattle.blk_words.specs.declared.words.ShownLoad.{ShownLoad}
 use Rattle.blk_words.specs.declared.words.ShownLoad.TheVariants as shown
-use Rattle.blk_words.specs.declared.inputs.FiguresAsked.TheVariants as figures
+use Rattle.blk_settings.specs.declared.figures.FiguresAsked.TheVariants as figures
 use Rattle.blk_words.specs.declared.inputs.Running.TheVariants as running
 use Rattle.blk_words.specs.declared.inputs.Solving.TheVariants as solving
 use Rattle.blk_words.specs.declared.inputs.Telling.TheVariants as telling

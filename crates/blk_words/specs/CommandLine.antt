@@ -7,8 +7,8 @@ use Rattle.clap.specs.declared.builder.value_parser.ValueParser.{ValueParser}
 use Rattle.clap.specs.declared.builder.value_parser.ValueParser.TheVariants as vp
 use Rattle.blk_settings.specs.declared.given.TheConstants.{MAX_SHORT}
 use Rattle.blk_settings.specs.Options.{OptionKind, Flag, Name, Short, Number, MaybeNumber, Words, MaybeWords, OptionOf, sched_names, sched_option, added_option, tuning, listing}
-use Rattle.blk_words.specs.declared.inputs.FiguresAsked.{FiguresAsked}
-use Rattle.blk_words.specs.declared.inputs.FiguresAsked.TheVariants as figures
+use Rattle.blk_settings.specs.declared.figures.FiguresAsked.{FiguresAsked}
+use Rattle.blk_settings.specs.declared.figures.FiguresAsked.TheVariants as figures
 use Rattle.blk_words.specs.declared.inputs.Telling.TheVariants as telling
 use Rattle.blk_words.specs.declared.table.Makes.{Makes}
 use Rattle.blk_words.specs.declared.table.Makes.TheVariants as makes

@@ -6,7 +6,7 @@ ghost use Rattle.blk_settings.specs.Defaults.{default_sched, default_deadline, d
 ghost use Rattle.blk_words.specs.Asked.{Asks};
 ghost use Rattle.blk_words.specs.Plain.{AsksFor, AsksForGrid, AsksForNothing, default_trial, five_by_lateness, whole_import, hundred_queued, default_load, own_grid};
 
-use crate::inputs::{FiguresAsked, Running, Solving, Telling};
+use crate::inputs::{Running, Solving, Telling};
 use crate::words::{Job, Refusal, ShownLoad, Written};
 use blk_settings::{Form, ListFault, SchedKind};
 

@@ -1,6 +1,6 @@
 //! What is asked of an input: of a script, of a trace, of a command list.
 
-use blk_settings::{Form, Lineup, Sched};
+use blk_settings::{FiguresAsked, Form, Lineup, Sched};
 
 /// What is asked of a script.
 #[derive(Clone, Copy, Debug, PartialEq, Eq)]
@@ -24,19 +24,6 @@ pub enum Telling {
     Picture,
     /// Figures of it, in this form.
     Figures(FiguresAsked, Form),
-}
-
-/// Figures of a trace.
-#[derive(Clone, Copy, Debug, PartialEq, Eq)]
-pub enum FiguresAsked {
-    /// Which of its commands were late, and what the rounds that they waited went to.
-    Late,
-    /// How many were late, and how many had to be.
-    Misses,
-    /// How long its commands waited and how late they were, by quantiles.
-    Spread,
-    /// How far it fell short.
-    Report,
 }
 
 /// What is asked of a command list.

@@ -11,8 +11,8 @@ pub mod table;
 mod times;
 pub mod words;
 
-pub use crate::inputs::{FiguresAsked, Running, Solving, Telling};
+pub use crate::inputs::{Running, Solving, Telling};
 pub use crate::words::{
     Import, Job, NoJob, Refusal, ShownLoad, Tuning, VERSION, Written, choose, grid_asked,
 };
-pub use blk_settings::Form;
+pub use blk_settings::{FiguresAsked, Form};

@@ -1,7 +1,8 @@
 //! The command line, as a table: a row for each subcommand, with its options and what these make.
 
-use crate::inputs::{FiguresAsked, Telling};
+use crate::inputs::Telling;
 use crate::option_names;
+use blk_settings::FiguresAsked;
 use blk_settings::numbers::{
     MAX_LOAD_BIOS, MAX_LOAD_DEPTH, MAX_LOAD_SERVICE, MAX_LOAD_SUBMITTERS, MAX_LOAD_WORKERS,
 };

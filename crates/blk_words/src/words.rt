@@ -11,14 +11,14 @@ ghost use Rattle.blk_words.specs.Refusals.{refusal_text};
 ghost use Rattle.blk_words.specs.Inside.Options.{given};
 
 use crate::command::{blk_command, other_commands, run_commands};
-use crate::inputs::{FiguresAsked, Running, Solving, Telling};
+use crate::inputs::{Running, Solving, Telling};
 use crate::lists::numbers_of;
 use crate::option_names;
 use crate::table::{CommandRow, Makes};
 use crate::times::time_of;
 use blk_settings::given::Numbers;
 use blk_settings::grid::grid_given;
-use blk_settings::{By, Form, Given, Lineup, ListFault, Load, Sched};
+use blk_settings::{By, FiguresAsked, Form, Given, Lineup, ListFault, Load, Sched};
 use clap::ArgMatches;
 use clap::error::ErrorKind;
 use std::alloc::{AllocError, Global};

@@ -1,5 +1,5 @@
 use Rattle.std.proofs.Common.{◌∙◌, ℕ, Bor, List, ap, map}
-use Rattle.blk_json.specs.Tables.{IsTableJson}
+use Rattle.blk_answers.specs.Tables.{IsTableJson}
 use Rattle.blk_cli.proofs.Named.{as_long, named_as}
 use Rattle.blk_cli.proofs.comparing.json_of.Goals as goal
 

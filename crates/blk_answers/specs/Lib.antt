@@ -1,0 +1,11 @@
+pub mod Values
+pub mod Reports
+pub mod Spreading
+pub mod Lateness
+pub mod Missing
+pub mod Figures
+pub mod Tables
+pub mod Trials
+pub mod Proofs
+pub mod Loads
+pub mod Inside
