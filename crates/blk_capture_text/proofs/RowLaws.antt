@@ -14,7 +14,7 @@ use Rattle.blk_lists.specs.declared.fields.Slot.TheVariants as slot
 use Rattle.blk_lists.proofs.Decimals.{own}
 use Rattle.blk_lists.proofs.Lacking.{at_most, goods_all, goods_or_lacks, first_once}
 use Rattle.parts.specs.Inside.Laws.{TellsRecord}
-use Rattle.blk_capture_text.specs.Recorded.{number_at, time_at, record_at, IsRecordAfter, record_rules, RecordLacks}
+use Rattle.blk_capture_text.specs.Recorded.{number_at, time_at, record_at, IsRecordAfter, capture_rules, RecordLacks}
 use Rattle.blk_capture_text.specs.declared.record.TheConstants.{RECORD}
 
 -- no field has to be empty or a direction
@@ -120,7 +120,7 @@ late_row last cells ns s order =
 -- a row is a record's, or it lacks one thing first
 
 pub row_tells : (last : ℕ) → TellsRecord {R = Row} (λ cells. cells) (IsRecordAfter last) (RecordLacks last)
-row_tells last = record { once = λ v u f g e. e; apart = apart; first = λ cells. first_once (record_rules last cells) }
+row_tells last = record { once = λ v u f g e. e; apart = apart; first = λ cells. first_once (capture_rules last cells) }
   where
     apart : (v : Row) (w : Why) → IsRecordAfter last v → RecordLacks last v w → ⊥
     apart v w s bad = elim bad [

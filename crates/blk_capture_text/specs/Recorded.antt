@@ -38,8 +38,8 @@ pub record IsRecordAfter (last : ℕ) (cells : Row) : Type 0 where
   pub order : last ≤ time_at cells
 
 -- the rules of a record, in the order in which they are looked at, each with its fault; its nanoseconds are one of its numbers
-abbrev pub record_rules : ℕ → Row → List (Type 0 × Why)
-record_rules last cells =
+abbrev pub capture_rules : ℕ → Row → List (Type 0 × Why)
+capture_rules last cells =
     (length cells ≡ WIDTH, why.Fields)
     ∷ (EachField IsNumber RECORD cells, why.Number)
     ∷ (EachField IsInRange RECORD cells, why.Range)
@@ -47,4 +47,4 @@ record_rules last cells =
 
 -- the first thing that a record lacks
 abbrev pub RecordLacks : ℕ → Row → Why → Type 0
-RecordLacks last cells = IsFirstFault (record_rules last cells)
+RecordLacks last cells = IsFirstFault (capture_rules last cells)

@@ -1,8 +1,9 @@
 //! Traces whose depth changes from round to round.
 
-use crate::given::{Happening, Heap, empty, limits, made};
+use crate::given::Happening::{Bare, Read};
+use crate::given::{Heap, empty, limits, made};
 use crate::looks::{Look, command, first_other};
-use blk_trace::{Setup, Trace, TraceFault, TraceRule};
+use blk_trace::{Event, Setup, Trace, TraceFault, TraceRule};
 use refusing::Refusing;
 use std::process::Abort;
 
@@ -16,7 +17,7 @@ fn of_reads<'a>(rt: &impl Abort, heap: Heap<'a>, depth: u64, reads: u8) -> Trace
     let mut trace = empty(rt, heap, of_depth(rt, depth));
     for read in 0..reads {
         let id = read as u64;
-        let enters = [Look::Push(Happening::Read(id, 100 * id, 8))];
+        let enters = [Look::Push(Read(id, 100 * id, 8))];
         assert_eq!(rt; first_other(heap, &mut trace, &enters), None);
     }
     trace
@@ -32,19 +33,19 @@ fn in_force_from_the_next_round(rt: HostRuntime) {
         Look::Carries(0, 2),
         Look::Carries(1, 2),
         Look::Carries(2, 2),
-        Look::Push(Happening::Depth(1)),
-        Look::Push(Happening::Issue(0, 0)),
-        Look::Push(Happening::Issue(1, 1)),
-        Look::Push(Happening::Done(0)),
-        Look::Push(Happening::Done(1)),
+        Look::Push(Bare(Event::Depth { depth: 1 })),
+        Look::Push(Bare(Event::Issue { id: 0, tag: 0 })),
+        Look::Push(Bare(Event::Issue { id: 1, tag: 1 })),
+        Look::Push(Bare(Event::Done { tag: 0 })),
+        Look::Push(Bare(Event::Done { tag: 1 })),
         Look::DepthNow(2),
-        Look::Push(Happening::Tick),
+        Look::Push(Bare(Event::Tick)),
         Look::DepthNow(1),
-        Look::Breaks(Happening::Issue(2, 1), TraceRule::TagRange),
-        Look::Push(Happening::Depth(2)),
-        Look::Breaks(Happening::Issue(2, 1), TraceRule::TagRange),
-        Look::Push(Happening::Tick),
-        Look::Push(Happening::Issue(2, 1)),
+        Look::Breaks(Bare(Event::Issue { id: 2, tag: 1 }), TraceRule::TagRange),
+        Look::Push(Bare(Event::Depth { depth: 2 })),
+        Look::Breaks(Bare(Event::Issue { id: 2, tag: 1 }), TraceRule::TagRange),
+        Look::Push(Bare(Event::Tick)),
+        Look::Push(Bare(Event::Issue { id: 2, tag: 1 })),
         Look::DepthNow(2),
         Look::Fixed(false),
         Look::Carries(0, 2),
@@ -65,20 +66,23 @@ fn tags_by_the_depth_of_the_round(rt: HostRuntime) {
     let heap = Refusing::new(rt.alloc());
     let mut trace = of_reads(&rt, &heap, 4, 4);
     let looks = [
-        Look::Push(Happening::Depth(2)),
-        Look::Push(Happening::Tick),
-        Look::Breaks(Happening::Issue(0, 3), TraceRule::TagRange),
-        Look::Breaks(Happening::Issue(0, 2), TraceRule::TagRange),
-        Look::Push(Happening::Issue(0, 1)),
-        Look::Breaks(Happening::Issue(0, 3), TraceRule::AlreadyIssued),
-        Look::Breaks(Happening::Issue(1, 1), TraceRule::TagUsed),
-        Look::Breaks(Happening::Done(3), TraceRule::NotIssued),
-        Look::Breaks(Happening::Back(2), TraceRule::NotIssued),
-        Look::Push(Happening::Depth(3)),
-        Look::Push(Happening::Done(1)),
-        Look::Push(Happening::Tick),
-        Look::Push(Happening::Issue(1, 2)),
-        Look::Breaks(Happening::Issue(2, 3), TraceRule::TagRange),
+        Look::Push(Bare(Event::Depth { depth: 2 })),
+        Look::Push(Bare(Event::Tick)),
+        Look::Breaks(Bare(Event::Issue { id: 0, tag: 3 }), TraceRule::TagRange),
+        Look::Breaks(Bare(Event::Issue { id: 0, tag: 2 }), TraceRule::TagRange),
+        Look::Push(Bare(Event::Issue { id: 0, tag: 1 })),
+        Look::Breaks(
+            Bare(Event::Issue { id: 0, tag: 3 }),
+            TraceRule::AlreadyIssued,
+        ),
+        Look::Breaks(Bare(Event::Issue { id: 1, tag: 1 }), TraceRule::TagUsed),
+        Look::Breaks(Bare(Event::Done { tag: 3 }), TraceRule::NotIssued),
+        Look::Breaks(Bare(Event::Back { tag: 2 }), TraceRule::NotIssued),
+        Look::Push(Bare(Event::Depth { depth: 3 })),
+        Look::Push(Bare(Event::Done { tag: 1 })),
+        Look::Push(Bare(Event::Tick)),
+        Look::Push(Bare(Event::Issue { id: 1, tag: 2 })),
+        Look::Breaks(Bare(Event::Issue { id: 2, tag: 3 }), TraceRule::TagRange),
         Look::Carries(0, 4),
         Look::Carries(1, 2),
         Look::Carries(2, 3),
@@ -93,15 +97,15 @@ fn set_under_way(rt: HostRuntime) {
     let heap = Refusing::new(rt.alloc());
     let mut trace = of_reads(&rt, &heap, 2, 2);
     let looks = [
-        Look::Push(Happening::Issue(0, 0)),
-        Look::Push(Happening::Depth(1)),
+        Look::Push(Bare(Event::Issue { id: 0, tag: 0 })),
+        Look::Push(Bare(Event::Depth { depth: 1 })),
         Look::Stands(4, 0, 1),
-        Look::Breaks(Happening::Issue(1, 0), TraceRule::TagUsed),
-        Look::Breaks(Happening::Tick, TraceRule::InFlight),
-        Look::Push(Happening::Issue(1, 1)),
-        Look::Push(Happening::Done(1)),
-        Look::Push(Happening::Done(0)),
-        Look::Push(Happening::Tick),
+        Look::Breaks(Bare(Event::Issue { id: 1, tag: 0 }), TraceRule::TagUsed),
+        Look::Breaks(Bare(Event::Tick), TraceRule::InFlight),
+        Look::Push(Bare(Event::Issue { id: 1, tag: 1 })),
+        Look::Push(Bare(Event::Done { tag: 1 })),
+        Look::Push(Bare(Event::Done { tag: 0 })),
+        Look::Push(Bare(Event::Tick)),
         Look::Commands(2),
         Look::Ran(0, command(0, 0, 0), 0),
         Look::Ran(1, command(1, 0, 0), 0),
@@ -115,19 +119,19 @@ fn the_last_of_a_round(rt: HostRuntime) {
     let heap = Refusing::new(rt.alloc());
     let mut trace = empty(&rt, &heap, of_depth(&rt, 256));
     let looks = [
-        Look::Push(Happening::Depth(3)),
-        Look::Push(Happening::Depth(256)),
+        Look::Push(Bare(Event::Depth { depth: 3 })),
+        Look::Push(Bare(Event::Depth { depth: 256 })),
         Look::Fixed(false),
         Look::Carries(0, 256),
         Look::Carries(1, 256),
         Look::Carries(2, 256),
-        Look::Push(Happening::Tick),
-        Look::Push(Happening::Tick),
-        Look::Push(Happening::Depth(7)),
-        Look::Push(Happening::Depth(1)),
-        Look::Push(Happening::Depth(5)),
-        Look::Push(Happening::Tick),
-        Look::Push(Happening::Depth(4)),
+        Look::Push(Bare(Event::Tick)),
+        Look::Push(Bare(Event::Tick)),
+        Look::Push(Bare(Event::Depth { depth: 7 })),
+        Look::Push(Bare(Event::Depth { depth: 1 })),
+        Look::Push(Bare(Event::Depth { depth: 5 })),
+        Look::Push(Bare(Event::Tick)),
+        Look::Push(Bare(Event::Depth { depth: 4 })),
         Look::Carries(0, 256),
         Look::Carries(1, 256),
         Look::Carries(2, 256),
@@ -147,12 +151,18 @@ fn out_of_range(rt: HostRuntime) {
     for depth in [1, 2, 256] {
         let mut trace = empty(&rt, &heap, of_depth(&rt, depth));
         let looks = [
-            Look::Breaks(Happening::Depth(0), TraceRule::DepthRange),
-            Look::Breaks(Happening::Depth(depth + 1), TraceRule::DepthRange),
-            Look::Breaks(Happening::Depth(257), TraceRule::DepthRange),
-            Look::Breaks(Happening::Depth(u64::MAX), TraceRule::DepthRange),
-            Look::Push(Happening::Depth(1)),
-            Look::Push(Happening::Depth(depth)),
+            Look::Breaks(Bare(Event::Depth { depth: 0 }), TraceRule::DepthRange),
+            Look::Breaks(
+                Bare(Event::Depth { depth: depth + 1 }),
+                TraceRule::DepthRange,
+            ),
+            Look::Breaks(Bare(Event::Depth { depth: 257 }), TraceRule::DepthRange),
+            Look::Breaks(
+                Bare(Event::Depth { depth: u64::MAX }),
+                TraceRule::DepthRange,
+            ),
+            Look::Push(Bare(Event::Depth { depth: 1 })),
+            Look::Push(Bare(Event::Depth { depth })),
             Look::Carries(0, depth),
             Look::Carries(1, depth),
         ];
@@ -165,11 +175,11 @@ fn out_of_range(rt: HostRuntime) {
 fn of_a_list(rt: HostRuntime) {
     let heap = Refusing::new(rt.alloc());
     let steps = [
-        Happening::Read(0, 0, 8),
-        Happening::Depth(1),
-        Happening::Issue(0, 1),
-        Happening::Done(1),
-        Happening::Tick,
+        Read(0, 0, 8),
+        Bare(Event::Depth { depth: 1 }),
+        Bare(Event::Issue { id: 0, tag: 1 }),
+        Bare(Event::Done { tag: 1 }),
+        Bare(Event::Tick),
     ];
     let Ok(mut trace) = made(&rt, &heap, of_depth(&rt, 2), &steps) else {
         panic!(rt; "refused");
@@ -187,21 +197,21 @@ fn of_a_list(rt: HostRuntime) {
 fn of_a_list_that_breaks_a_rule(rt: HostRuntime) {
     let heap = Refusing::new(rt.alloc());
     let above = [
-        Happening::Read(0, 0, 8),
-        Happening::Depth(1),
-        Happening::Issue(0, 1),
-        Happening::Done(1),
-        Happening::Tick,
-        Happening::Depth(3),
+        Read(0, 0, 8),
+        Bare(Event::Depth { depth: 1 }),
+        Bare(Event::Issue { id: 0, tag: 1 }),
+        Bare(Event::Done { tag: 1 }),
+        Bare(Event::Tick),
+        Bare(Event::Depth { depth: 3 }),
     ];
     let rule = TraceRule::DepthRange;
     let answer = made(&rt, &heap, of_depth(&rt, 2), &above);
     assert_eq!(rt; answer.err(), Some(TraceFault::Rule { at: 5, rule }));
     let late = [
-        Happening::Read(0, 0, 8),
-        Happening::Depth(1),
-        Happening::Tick,
-        Happening::Issue(0, 1),
+        Read(0, 0, 8),
+        Bare(Event::Depth { depth: 1 }),
+        Bare(Event::Tick),
+        Bare(Event::Issue { id: 0, tag: 1 }),
     ];
     let rule = TraceRule::TagRange;
     let answer = made(&rt, &heap, of_depth(&rt, 2), &late);

@@ -10,10 +10,8 @@ use std::process::Abort;
 pub type Heap<'a> = &'a Refusing<Global>;
 
 /// An event, whose request is of one bio: of submitter 0, and its serial number is its first sector.
-#[derive(Clone, Copy)]
+#[derive(Drop)]
 pub enum Happening {
-    /// A round ends.
-    Tick,
     /// A read of this first sector and length enters under an id.
     Read(u64, u64, u64),
     /// Such a write does.
@@ -22,14 +20,8 @@ pub enum Happening {
     JoinRead(u64, u64, u64),
     /// Such a write does.
     JoinWrite(u64, u64, u64),
-    /// The request of an id goes out under a tag.
-    Issue(u64, u16),
-    /// The command under a tag is done.
-    Done(u16),
-    /// The request under a tag is requeued.
-    Back(u16),
-    /// A depth is set for the rounds after.
-    Depth(u64),
+    /// An event by which no request enters.
+    Bare(Event<()>),
 }
 
 /// A bio of submitter 0, whose serial number is its first sector, if there may be such a one.
@@ -65,62 +57,72 @@ pub fn request<'a>(
 }
 
 /// The event of a step.
-pub fn event<'a>(heap: Heap<'a>, step: Happening) -> Option<Event<Request<Heap<'a>>>> {
+pub fn event<'a>(heap: Heap<'a>, step: &Happening) -> Option<Event<Request<Heap<'a>>>> {
     match step {
-        Happening::Tick => Some(Event::Tick),
         Happening::Read(id, first, sectors) => Some(Event::Release {
-            id,
-            request: request(heap, Dir::Read, first, sectors)?,
+            id: *id,
+            request: request(heap, Dir::Read, *first, *sectors)?,
         }),
         Happening::Write(id, first, sectors) => Some(Event::Release {
-            id,
-            request: request(heap, Dir::Write, first, sectors)?,
+            id: *id,
+            request: request(heap, Dir::Write, *first, *sectors)?,
         }),
         Happening::JoinRead(id, first, sectors) => Some(Event::Join {
-            id,
-            request: request(heap, Dir::Read, first, sectors)?,
+            id: *id,
+            request: request(heap, Dir::Read, *first, *sectors)?,
         }),
         Happening::JoinWrite(id, first, sectors) => Some(Event::Join {
-            id,
-            request: request(heap, Dir::Write, first, sectors)?,
+            id: *id,
+            request: request(heap, Dir::Write, *first, *sectors)?,
         }),
-        Happening::Issue(id, tag) => Some(Event::Issue { id, tag }),
-        Happening::Done(tag) => Some(Event::Done { tag }),
-        Happening::Back(tag) => Some(Event::Back { tag }),
-        Happening::Depth(depth) => Some(Event::Depth { depth }),
+        Happening::Bare(event) => event.bare(),
     }
 }
 
-/// Whether the same bios enter under the same id, or none by either.
-fn enter_alike(
-    one: Option<(u64, &Request<Heap<'_>>)>,
-    other: Option<(u64, &Request<Heap<'_>>)>,
-) -> bool {
-    match (one, other) {
-        (Some((id, request)), Some((id_there, there))) => {
-            id == id_there && request.bios() == there.bios()
-        }
-        (None, None) => true,
+/// Whether what entered is this bio alone, under this id.
+fn is_bio(entered: Option<(u64, &Request<Heap<'_>>)>, id: u64, bio: Option<Bio>) -> bool {
+    match (entered, bio) {
+        (Some((there, request)), Some(bio)) => there == id && request.bios() == [bio].as_slice(),
         _ => false,
     }
 }
 
-/// Whether two events are the same.
-fn is_same(one: &Event<Request<Heap<'_>>>, other: &Event<Request<Heap<'_>>>) -> bool {
-    one.is_tick() == other.is_tick()
-        && enter_alike(one.releases(), other.releases())
-        && enter_alike(one.joins(), other.joins())
-        && one.issues() == other.issues()
-        && one.completes() == other.completes()
-        && one.requeues() == other.requeues()
-        && one.sets_depth() == other.sets_depth()
+/// What `Debug` prints of an event: its kind and its numbers, so that no kind is named here. There is no text where memory was
+/// refused twice.
+fn printed<'a>(heap: Heap<'a>, event: &Event<()>) -> Option<String<Heap<'a>>> {
+    match format!(in heap; "{event:?}") {
+        Ok(text) => Some(text),
+        Err(_) => format!(in heap; "{event:?}").ok(),
+    }
+}
+
+/// Whether the first event is the other one, by which no request enters.
+fn is_bare<'a>(heap: Heap<'a>, event: &Event<Request<Heap<'a>>>, wanted: &Event<()>) -> bool {
+    let Some(bare) = event.bare() else {
+        return false;
+    };
+    match (printed(heap, &bare), printed(heap, wanted)) {
+        (Some(text), Some(wanted)) => text.as_str() == wanted.as_str(),
+        _ => false,
+    }
 }
 
 /// Whether the event is the one of the step.
-pub fn is_event<'a>(heap: Heap<'a>, event: &Event<Request<Heap<'a>>>, step: Happening) -> bool {
-    match self::event(heap, step) {
-        Some(wanted) => is_same(event, &wanted),
-        None => false,
+pub fn is_event<'a>(heap: Heap<'a>, event: &Event<Request<Heap<'a>>>, step: &Happening) -> bool {
+    match step {
+        Happening::Read(id, first, sectors) => {
+            is_bio(event.releases(), *id, bio(Dir::Read, *first, *sectors))
+        }
+        Happening::Write(id, first, sectors) => {
+            is_bio(event.releases(), *id, bio(Dir::Write, *first, *sectors))
+        }
+        Happening::JoinRead(id, first, sectors) => {
+            is_bio(event.joins(), *id, bio(Dir::Read, *first, *sectors))
+        }
+        Happening::JoinWrite(id, first, sectors) => {
+            is_bio(event.joins(), *id, bio(Dir::Write, *first, *sectors))
+        }
+        Happening::Bare(wanted) => is_bare(heap, event, wanted),
     }
 }
 
@@ -131,7 +133,7 @@ pub fn has_events<'a>(heap: Heap<'a>, trace: &Trace<Heap<'a>>, steps: &[Happenin
         return false;
     }
     for i in 0..events.len() {
-        if !is_event(heap, &events[i], steps[i]) {
+        if !is_event(heap, &events[i], &steps[i]) {
             return false;
         }
     }
@@ -158,7 +160,7 @@ pub fn empty<'a>(rt: &impl Abort, heap: Heap<'a>, setup: Setup) -> Trace<Heap<'a
 }
 
 /// Pushes the event of a step that breaks no rule; where memory is refused it comes back, nothing is changed, and it is pushed again.
-pub fn is_pushed<'a>(heap: Heap<'a>, trace: &mut Trace<Heap<'a>>, step: Happening) -> bool {
+pub fn is_pushed<'a>(heap: Heap<'a>, trace: &mut Trace<Heap<'a>>, step: &Happening) -> bool {
     let Some(event) = event(heap, step) else {
         return false;
     };
@@ -186,7 +188,7 @@ pub fn made<'a>(
 ) -> Result<Trace<Heap<'a>>, TraceFault> {
     let mut events = Vec::new(heap);
     for step in steps {
-        let Some(event) = event(heap, *step) else {
+        let Some(event) = event(heap, step) else {
             panic!(rt; "no such event");
         };
         if let Err(refused) = events.push(event) {

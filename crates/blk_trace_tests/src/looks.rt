@@ -6,7 +6,7 @@ use blk_trace::{PushFault, Trace, TraceRule};
 use edd_commands::Command;
 
 /// What is done to a trace, or has to be seen of it.
-#[derive(Clone, Copy)]
+#[derive(Drop)]
 pub enum Look {
     /// An event is pushed that breaks no rule.
     Push(Happening),
@@ -46,7 +46,7 @@ pub fn first_other<'a>(
     looks: &[Look],
 ) -> Option<usize> {
     for (place, look) in looks.iter().enumerate() {
-        if !is_seen(heap, trace, *look) {
+        if !is_seen(heap, trace, look) {
             return Some(place);
         }
     }
@@ -54,20 +54,20 @@ pub fn first_other<'a>(
 }
 
 /// Whether that is seen.
-fn is_seen<'a>(heap: Heap<'a>, trace: &mut Trace<Heap<'a>>, look: Look) -> bool {
+fn is_seen<'a>(heap: Heap<'a>, trace: &mut Trace<Heap<'a>>, look: &Look) -> bool {
     match look {
         Look::Push(step) => is_pushed(heap, trace, step),
-        Look::Breaks(step, rule) => breaks(heap, trace, step, rule),
-        Look::Stands(len, round, unfinished) => standing(trace) == (len, round, unfinished),
-        Look::Entered(place, dir, first, sectors) => entered(trace, place, dir, first, sectors),
-        Look::Waiting(count) => are_waiting(trace, count),
-        Look::Waits(place, dir, first, sectors) => waits(trace, place, dir, first, sectors),
-        Look::Commands(count) => are_commands(trace, count),
-        Look::Ran(place, command, round) => ran(trace, place, command, round),
-        Look::DepthNow(depth) => trace.depth_now() == depth,
-        Look::Fixed(fixed) => trace.fixed() == fixed,
-        Look::Carries(round, depth) => carries(trace, round, depth),
-        Look::HasBio(serial, there) => has_bio(trace, serial) == Some(there),
+        Look::Breaks(step, rule) => breaks(heap, trace, step, *rule),
+        Look::Stands(len, round, unfinished) => standing(trace) == (*len, *round, *unfinished),
+        Look::Entered(place, dir, first, sectors) => entered(trace, *place, *dir, *first, *sectors),
+        Look::Waiting(count) => are_waiting(trace, *count),
+        Look::Waits(place, dir, first, sectors) => waits(trace, *place, *dir, *first, *sectors),
+        Look::Commands(count) => are_commands(trace, *count),
+        Look::Ran(place, command, round) => ran(trace, *place, *command, *round),
+        Look::DepthNow(depth) => trace.depth_now() == *depth,
+        Look::Fixed(fixed) => trace.fixed() == *fixed,
+        Look::Carries(round, depth) => carries(trace, *round, *depth),
+        Look::HasBio(serial, there) => has_bio(trace, *serial) == Some(*there),
     }
 }
 
@@ -75,7 +75,7 @@ fn is_seen<'a>(heap: Heap<'a>, trace: &mut Trace<Heap<'a>>, look: Look) -> bool 
 fn breaks<'a>(
     heap: Heap<'a>,
     trace: &mut Trace<Heap<'a>>,
-    step: Happening,
+    step: &Happening,
     rule: TraceRule,
 ) -> bool {
     let Some(event) = event(heap, step) else {

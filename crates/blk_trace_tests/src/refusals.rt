@@ -1,5 +1,6 @@
 //! Traces where allocations are refused.
 
+use crate::given::Happening::{Bare, JoinRead, Read};
 use crate::given::{Happening, Heap, empty, event, has_events, is_pushed, limits, made, setup};
 use crate::looks::{Look, command, first_other};
 use blk_bio::Dir;
@@ -14,7 +15,7 @@ const REQUESTS: u64 = 4;
 fn is_prepared_and_pushed<'a>(
     heap: Heap<'a>,
     trace: &mut Trace<Heap<'a>>,
-    step: Happening,
+    step: &Happening,
 ) -> bool {
     let Some(event) = event(heap, step) else {
         return false;
@@ -31,12 +32,12 @@ fn is_prepared_and_pushed<'a>(
 fn come_and_go<'a>(rt: &impl Abort, heap: Heap<'a>) -> Trace<Heap<'a>> {
     let mut trace = empty(rt, heap, setup(rt, 5, 50, limits(rt, 256, 128)));
     for id in 0..REQUESTS {
-        for step in [
-            Happening::Read(id, 4 * id, 1),
-            Happening::JoinRead(id, 4 * id + 1, 1),
-            Happening::Issue(id, 0),
-            Happening::Done(0),
-            Happening::Tick,
+        for step in &[
+            Read(id, 4 * id, 1),
+            JoinRead(id, 4 * id + 1, 1),
+            Bare(Event::Issue { id, tag: 0 }),
+            Bare(Event::Done { tag: 0 }),
+            Bare(Event::Tick),
         ] {
             if id % 2 == 0 {
                 assert!(rt; is_pushed(heap, &mut trace, step));
@@ -69,8 +70,8 @@ fn remade<'a>(rt: &impl Abort, heap: Heap<'a>, steps: &[Happening]) -> Trace<Hea
 fn all_of_it(rt: &impl Abort, heap: Heap<'_>) {
     let mut trace = come_and_go(rt, heap);
     let looks = [
-        Look::Push(Happening::Depth(1)),
-        Look::Push(Happening::Read(4, 16, 1)),
+        Look::Push(Bare(Event::Depth { depth: 1 })),
+        Look::Push(Read(4, 16, 1)),
         Look::Stands(22, 4, 0),
         Look::Commands(4),
         Look::Ran(0, command(0, 0, 5), 0),
@@ -87,9 +88,9 @@ fn all_of_it(rt: &impl Abort, heap: Heap<'_>) {
     ];
     assert_eq!(rt; first_other(heap, &mut trace, &looks), None);
     let steps = [
-        Happening::Read(0, 16, 1),
-        Happening::JoinRead(0, 17, 1),
-        Happening::Issue(0, 0),
+        Read(0, 16, 1),
+        JoinRead(0, 17, 1),
+        Bare(Event::Issue { id: 0, tag: 0 }),
     ];
     assert!(rt; has_events(heap, &remade(rt, heap, &steps), &steps));
 }

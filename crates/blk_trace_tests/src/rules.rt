@@ -1,5 +1,6 @@
 //! The rules that an event may break.
 
+use crate::given::Happening::{Bare, JoinRead, JoinWrite, Read};
 use crate::given::{
     Happening, Heap, empty, event, has_events, is_pushed, limits, request, setup, standing,
 };
@@ -12,30 +13,33 @@ use std::process::Abort;
 /// A read that went out and one that waits.
 fn one_of_two_issued() -> [Happening; 3] {
     [
-        Happening::Read(0, 0, 4),
-        Happening::Read(1, 100, 4),
-        Happening::Issue(0, 0),
+        Read(0, 0, 4),
+        Read(1, 100, 4),
+        Bare(Event::Issue { id: 0, tag: 0 }),
     ]
 }
 
 /// Each rule but those that need a list of their own, with the rules after it broken too.
 fn one_broken_each() -> [Look; 17] {
     [
-        Look::Breaks(Happening::Read(0, 104, 4), TraceRule::ReleasedTwice),
-        Look::Breaks(Happening::Read(1, 100, 4), TraceRule::ReleasedTwice),
-        Look::Breaks(Happening::JoinRead(2, 104, 4), TraceRule::Unknown),
-        Look::Breaks(Happening::Issue(2, 9), TraceRule::Unknown),
-        Look::Breaks(Happening::JoinRead(0, 104, 4), TraceRule::AlreadyIssued),
-        Look::Breaks(Happening::Issue(0, 9), TraceRule::AlreadyIssued),
-        Look::Breaks(Happening::Read(2, 0, 4), TraceRule::BioTwice),
-        Look::Breaks(Happening::JoinRead(1, 0, 4), TraceRule::BioTwice),
-        Look::Breaks(Happening::JoinWrite(1, 104, 4), TraceRule::Fit),
-        Look::Breaks(Happening::JoinRead(1, 105, 4), TraceRule::Fit),
-        Look::Breaks(Happening::JoinRead(1, 104, 5), TraceRule::Fit),
-        Look::Breaks(Happening::Issue(1, 1), TraceRule::TagRange),
-        Look::Breaks(Happening::Issue(1, 0), TraceRule::TagUsed),
-        Look::Breaks(Happening::Done(1), TraceRule::NotIssued),
-        Look::Breaks(Happening::Tick, TraceRule::InFlight),
+        Look::Breaks(Read(0, 104, 4), TraceRule::ReleasedTwice),
+        Look::Breaks(Read(1, 100, 4), TraceRule::ReleasedTwice),
+        Look::Breaks(JoinRead(2, 104, 4), TraceRule::Unknown),
+        Look::Breaks(Bare(Event::Issue { id: 2, tag: 9 }), TraceRule::Unknown),
+        Look::Breaks(JoinRead(0, 104, 4), TraceRule::AlreadyIssued),
+        Look::Breaks(
+            Bare(Event::Issue { id: 0, tag: 9 }),
+            TraceRule::AlreadyIssued,
+        ),
+        Look::Breaks(Read(2, 0, 4), TraceRule::BioTwice),
+        Look::Breaks(JoinRead(1, 0, 4), TraceRule::BioTwice),
+        Look::Breaks(JoinWrite(1, 104, 4), TraceRule::Fit),
+        Look::Breaks(JoinRead(1, 105, 4), TraceRule::Fit),
+        Look::Breaks(JoinRead(1, 104, 5), TraceRule::Fit),
+        Look::Breaks(Bare(Event::Issue { id: 1, tag: 1 }), TraceRule::TagRange),
+        Look::Breaks(Bare(Event::Issue { id: 1, tag: 0 }), TraceRule::TagUsed),
+        Look::Breaks(Bare(Event::Done { tag: 1 }), TraceRule::NotIssued),
+        Look::Breaks(Bare(Event::Tick), TraceRule::InFlight),
         Look::Stands(3, 0, 1),
         Look::Fixed(true),
     ]
@@ -46,15 +50,15 @@ fn each_rule_refuses(rt: HostRuntime) {
     let heap = Refusing::new(rt.alloc());
     let mut trace = empty(&rt, &heap, setup(&rt, 5, 50, limits(&rt, 8, 2)));
     let steps = one_of_two_issued();
-    for step in steps {
+    for step in &steps {
         assert!(rt; is_pushed(&heap, &mut trace, step));
     }
     assert_eq!(rt; first_other(&heap, &mut trace, &one_broken_each()), None);
     assert!(rt; has_events(&heap, &trace, &steps));
     let done = [
-        Look::Push(Happening::Done(0)),
-        Look::Breaks(Happening::Done(0), TraceRule::NotIssued),
-        Look::Breaks(Happening::Issue(1, 0), TraceRule::TagUsed),
+        Look::Push(Bare(Event::Done { tag: 0 })),
+        Look::Breaks(Bare(Event::Done { tag: 0 }), TraceRule::NotIssued),
+        Look::Breaks(Bare(Event::Issue { id: 1, tag: 0 }), TraceRule::TagUsed),
     ];
     assert_eq!(rt; first_other(&heap, &mut trace, &done), None);
 }
@@ -66,23 +70,23 @@ fn requeued_and_issued_again(rt: HostRuntime) {
     let made = Setup::new(2, 1, 0, 0, limits(&rt, 256, 128)).expect(&rt, "a setup");
     let mut trace = empty(&rt, &heap, made);
     let looks = [
-        Look::Push(Happening::Read(0, 0, 8)),
-        Look::Push(Happening::Read(1, 100, 8)),
-        Look::Push(Happening::Issue(0, 0)),
-        Look::Push(Happening::Back(0)),
+        Look::Push(Read(0, 0, 8)),
+        Look::Push(Read(1, 100, 8)),
+        Look::Push(Bare(Event::Issue { id: 0, tag: 0 })),
+        Look::Push(Bare(Event::Back { tag: 0 })),
         Look::Stands(4, 0, 0),
         Look::Waiting(2),
         Look::Waits(0, Dir::Read, 0, 8),
         Look::Waits(1, Dir::Read, 100, 8),
         Look::Commands(0),
-        Look::Breaks(Happening::JoinRead(0, 8, 8), TraceRule::AlreadyIssued),
-        Look::Breaks(Happening::Issue(0, 0), TraceRule::TagUsed),
-        Look::Breaks(Happening::Back(0), TraceRule::NotIssued),
-        Look::Breaks(Happening::Back(1), TraceRule::NotIssued),
-        Look::Push(Happening::Issue(0, 1)),
-        Look::Push(Happening::Done(1)),
-        Look::Push(Happening::Tick),
-        Look::Push(Happening::Issue(1, 0)),
+        Look::Breaks(JoinRead(0, 8, 8), TraceRule::AlreadyIssued),
+        Look::Breaks(Bare(Event::Issue { id: 0, tag: 0 }), TraceRule::TagUsed),
+        Look::Breaks(Bare(Event::Back { tag: 0 }), TraceRule::NotIssued),
+        Look::Breaks(Bare(Event::Back { tag: 1 }), TraceRule::NotIssued),
+        Look::Push(Bare(Event::Issue { id: 0, tag: 1 })),
+        Look::Push(Bare(Event::Done { tag: 1 })),
+        Look::Push(Bare(Event::Tick)),
+        Look::Push(Bare(Event::Issue { id: 1, tag: 0 })),
         Look::Commands(2),
         Look::Ran(0, command(0, 0, 0), 0),
         Look::Ran(1, command(1, 0, 0), 1),
@@ -97,13 +101,13 @@ fn handed_back_in_a_round_before(rt: HostRuntime) {
     let heap = Refusing::new(rt.alloc());
     let mut trace = empty(&rt, &heap, setup(&rt, 0, 0, limits(&rt, 256, 128)));
     let looks = [
-        Look::Push(Happening::Read(0, 0, 8)),
-        Look::Push(Happening::Issue(0, 0)),
-        Look::Push(Happening::Back(0)),
-        Look::Push(Happening::Tick),
-        Look::Push(Happening::Issue(0, 0)),
-        Look::Push(Happening::Done(0)),
-        Look::Push(Happening::Tick),
+        Look::Push(Read(0, 0, 8)),
+        Look::Push(Bare(Event::Issue { id: 0, tag: 0 })),
+        Look::Push(Bare(Event::Back { tag: 0 })),
+        Look::Push(Bare(Event::Tick)),
+        Look::Push(Bare(Event::Issue { id: 0, tag: 0 })),
+        Look::Push(Bare(Event::Done { tag: 0 })),
+        Look::Push(Bare(Event::Tick)),
         Look::Commands(1),
         Look::Ran(0, command(0, 0, 0), 1),
     ];
@@ -134,21 +138,21 @@ fn longer_than_the_limits(rt: HostRuntime) {
 fn too_long(rt: HostRuntime) {
     let heap = Refusing::new(rt.alloc());
     let mut trace = empty(&rt, &heap, setup(&rt, 0, 0, limits(&rt, 256, 128)));
-    assert!(rt; is_pushed(&heap, &mut trace, Happening::Read(0, 0, 1)));
+    assert!(rt; is_pushed(&heap, &mut trace, &Read(0, 0, 1)));
     for _ in 2..MAX_EVENTS {
-        assert!(rt; is_pushed(&heap, &mut trace, Happening::Tick));
+        assert!(rt; is_pushed(&heap, &mut trace, &Bare(Event::Tick)));
     }
     let looks = [
         Look::Stands(999_999, 999_998, 0),
-        Look::Breaks(Happening::Issue(0, 0), TraceRule::TooLong),
-        Look::Breaks(Happening::Depth(0), TraceRule::DepthRange),
-        Look::Push(Happening::Depth(1)),
+        Look::Breaks(Bare(Event::Issue { id: 0, tag: 0 }), TraceRule::TooLong),
+        Look::Breaks(Bare(Event::Depth { depth: 0 }), TraceRule::DepthRange),
+        Look::Push(Bare(Event::Depth { depth: 1 })),
         Look::Stands(1_000_000, 999_998, 0),
-        Look::Breaks(Happening::Tick, TraceRule::TooLong),
-        Look::Breaks(Happening::Read(1, 1, 1), TraceRule::TooLong),
-        Look::Breaks(Happening::JoinRead(0, 1, 1), TraceRule::TooLong),
-        Look::Breaks(Happening::Depth(1), TraceRule::TooLong),
-        Look::Breaks(Happening::Depth(0), TraceRule::TooLong),
+        Look::Breaks(Bare(Event::Tick), TraceRule::TooLong),
+        Look::Breaks(Read(1, 1, 1), TraceRule::TooLong),
+        Look::Breaks(JoinRead(0, 1, 1), TraceRule::TooLong),
+        Look::Breaks(Bare(Event::Depth { depth: 1 }), TraceRule::TooLong),
+        Look::Breaks(Bare(Event::Depth { depth: 0 }), TraceRule::TooLong),
     ];
     assert_eq!(rt; first_other(&heap, &mut trace, &looks), None);
 }

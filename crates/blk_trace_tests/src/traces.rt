@@ -1,10 +1,11 @@
 //! What traces of a few events say: the worked rows.
 
+use crate::given::Happening::{Bare, JoinRead, Read, Write};
 use crate::given::{Happening, Heap, empty, has_events, limits, made, setup, standing};
 use crate::looks::{Look, command, first_other};
 use blk_bio::Dir;
 use blk_trace::laws::{depths_by_places, timed_by_the_ticks_before};
-use blk_trace::{Setup, SetupFault, Trace, TraceFault, TraceRule};
+use blk_trace::{Event, Setup, SetupFault, Trace, TraceFault, TraceRule};
 use refusing::Refusing;
 use std::process::Abort;
 
@@ -36,14 +37,14 @@ fn constructors_refuse(rt: HostRuntime) {
 /// A write released before a read, and issued before it at depth 1.
 fn write_then_read() -> [Happening; 8] {
     [
-        Happening::Write(0, 100, 8),
-        Happening::Read(1, 200, 8),
-        Happening::Issue(0, 0),
-        Happening::Done(0),
-        Happening::Tick,
-        Happening::Issue(1, 0),
-        Happening::Done(0),
-        Happening::Tick,
+        Write(0, 100, 8),
+        Read(1, 200, 8),
+        Bare(Event::Issue { id: 0, tag: 0 }),
+        Bare(Event::Done { tag: 0 }),
+        Bare(Event::Tick),
+        Bare(Event::Issue { id: 1, tag: 0 }),
+        Bare(Event::Done { tag: 0 }),
+        Bare(Event::Tick),
     ]
 }
 
@@ -79,17 +80,17 @@ fn write_before_read_in_turn(rt: HostRuntime) {
     let heap = Refusing::new(rt.alloc());
     let mut trace = empty(&rt, &heap, setup(&rt, 0, 9, limits(&rt, 256, 128)));
     let looks = [
-        Look::Push(Happening::Write(0, 100, 8)),
-        Look::Push(Happening::Read(1, 200, 8)),
+        Look::Push(Write(0, 100, 8)),
+        Look::Push(Read(1, 200, 8)),
         Look::Waiting(2),
         Look::Waits(0, Dir::Write, 100, 8),
         Look::Waits(1, Dir::Read, 200, 8),
-        Look::Push(Happening::Issue(0, 0)),
-        Look::Push(Happening::Done(0)),
-        Look::Push(Happening::Tick),
-        Look::Push(Happening::Issue(1, 0)),
-        Look::Push(Happening::Done(0)),
-        Look::Push(Happening::Tick),
+        Look::Push(Bare(Event::Issue { id: 0, tag: 0 })),
+        Look::Push(Bare(Event::Done { tag: 0 })),
+        Look::Push(Bare(Event::Tick)),
+        Look::Push(Bare(Event::Issue { id: 1, tag: 0 })),
+        Look::Push(Bare(Event::Done { tag: 0 })),
+        Look::Push(Bare(Event::Tick)),
     ];
     assert_eq!(rt; first_other(&heap, &mut trace, &looks), None);
     assert_eq!(rt; first_other(&heap, &mut trace, &seen_of_it()), None);
@@ -99,7 +100,7 @@ fn write_before_read_in_turn(rt: HostRuntime) {
 #[test]
 fn trace_cut_short(rt: HostRuntime) {
     let heap = Refusing::new(rt.alloc());
-    let [a, b, c, d, _, e, f, g] = write_then_read();
+    let [a, b, c, d, _tick, e, f, g] = write_then_read();
     let setup = setup(&rt, 0, 9, limits(&rt, 256, 128));
     let answer = made(&rt, &heap, setup, &[a, b, c, d, e, f, g]);
     let rule = TraceRule::TagUsed;
@@ -111,15 +112,15 @@ fn joined_on_entry(rt: HostRuntime) {
     let heap = Refusing::new(rt.alloc());
     let mut trace = empty(&rt, &heap, setup(&rt, 5, 50, limits(&rt, 256, 128)));
     let looks = [
-        Look::Push(Happening::Read(0, 0, 4)),
-        Look::Push(Happening::Tick),
-        Look::Push(Happening::Tick),
-        Look::Push(Happening::Tick),
-        Look::Push(Happening::JoinRead(0, 4, 4)),
+        Look::Push(Read(0, 0, 4)),
+        Look::Push(Bare(Event::Tick)),
+        Look::Push(Bare(Event::Tick)),
+        Look::Push(Bare(Event::Tick)),
+        Look::Push(JoinRead(0, 4, 4)),
         Look::Waiting(2),
         Look::Waits(0, Dir::Read, 0, 4),
         Look::Waits(1, Dir::Read, 4, 4),
-        Look::Push(Happening::Issue(0, 0)),
+        Look::Push(Bare(Event::Issue { id: 0, tag: 0 })),
         Look::Commands(1),
         Look::Ran(0, command(0, 3, 5), 3),
     ];
@@ -132,10 +133,10 @@ fn waiting_by_id_and_sector(rt: HostRuntime) {
     let heap = Refusing::new(rt.alloc());
     let mut trace = empty(&rt, &heap, setup(&rt, 5, 50, limits(&rt, 256, 128)));
     let looks = [
-        Look::Push(Happening::Read(5, 8, 2)),
-        Look::Push(Happening::Read(3, 100, 4)),
-        Look::Push(Happening::JoinRead(5, 6, 2)),
-        Look::Push(Happening::JoinRead(5, 10, 2)),
+        Look::Push(Read(5, 8, 2)),
+        Look::Push(Read(3, 100, 4)),
+        Look::Push(JoinRead(5, 6, 2)),
+        Look::Push(JoinRead(5, 10, 2)),
         Look::Entered(0, Dir::Read, 8, 2),
         Look::Entered(1, Dir::Read, 100, 4),
         Look::Entered(3, Dir::Read, 10, 2),
@@ -144,7 +145,7 @@ fn waiting_by_id_and_sector(rt: HostRuntime) {
         Look::Waits(1, Dir::Read, 6, 2),
         Look::Waits(2, Dir::Read, 8, 2),
         Look::Waits(3, Dir::Read, 10, 2),
-        Look::Push(Happening::Issue(3, 0)),
+        Look::Push(Bare(Event::Issue { id: 3, tag: 0 })),
         Look::Waiting(3),
         Look::Waits(0, Dir::Read, 6, 2),
         Look::Waits(1, Dir::Read, 8, 2),
