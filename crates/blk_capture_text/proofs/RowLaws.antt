@@ -15,7 +15,7 @@ use Rattle.blk_lists.proofs.Decimals.{own}
 use Rattle.blk_lists.proofs.Lacking.{at_most, goods_all, goods_or_lacks, first_once}
 use Rattle.parts.specs.Inside.Laws.{TellsRecord}
 use Rattle.blk_capture_text.specs.Recorded.{number_at, time_at, record_at, IsRecordAfter, capture_rules, RecordLacks}
-use Rattle.blk_capture_text.specs.declared.record.TheConstants.{RECORD}
+use Rattle.blk_capture_text.specs.declared.record.TheConstants.{MAX_SECONDS, RECORD}
 
 -- no field has to be empty or a direction
 
@@ -72,7 +72,7 @@ spelled_value : (least most n : ℕ) (f : List ℕ) → most < 2 ^ 64 → FieldS
 spelled_value least most n f m h = let high = h.3.1 in ap (digits_value 10) h.2 ∙ digits_value-decimal own n (omega (arith, high, m))
 
 any_good : (cells : Row) (ns : List ℕ) → FieldsSpell RECORD cells ns → (k : ℕ) → k < 8 → IsNumber (get_or RECORD k slot.Given) (get_or cells k []) × IsInRange (get_or RECORD k slot.Given) (get_or cells k [])
-any_good cells ns s zero l = spelled_good 0 (2 ^ 34 - 1) (get_or ns 0 0) (get_or cells 0 []) (omega arith) (s.1 0 (omega arith))
+any_good cells ns s zero l = spelled_good 0 (MAX_SECONDS - 1) (get_or ns 0 0) (get_or cells 0 []) (omega arith) (s.1 0 (omega arith))
 any_good cells ns s (suc zero) l = ((s.1 1 (omega arith)).2.0, tt)
 any_good cells ns s (suc (suc zero)) l = spelled_good 0 (2 ^ 64 - 1) (get_or ns 2 0) (get_or cells 2 []) (omega arith) (s.1 2 (omega arith))
 any_good cells ns s (suc (suc (suc zero))) l = (tt, tt)
@@ -94,7 +94,7 @@ spelled_row last cells ns s order = record {
 }
 
 pub seconds_is : (cells : Row) (ns : List ℕ) → FieldsSpell RECORD cells ns → number_at 0 cells ≡ get_or ns 0 0
-seconds_is cells ns s = spelled_value 0 (2 ^ 34 - 1) (get_or ns 0 0) (get_or cells 0 []) (omega arith) (s.1 0 (omega arith))
+seconds_is cells ns s = spelled_value 0 (MAX_SECONDS - 1) (get_or ns 0 0) (get_or cells 0 []) (omega arith) (s.1 0 (omega arith))
 
 pub nanoseconds_are : (cells : Row) (ns : List ℕ) → FieldsSpell RECORD cells ns → number_at 1 cells ≡ get_or ns 1 0
 nanoseconds_are cells ns s = sym (s.1 1 (omega arith)).2.1

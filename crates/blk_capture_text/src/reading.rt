@@ -151,7 +151,7 @@ fn read_body<R: Read + Drop>(
 ///
 /// The fault is the first one: of the least record, and in it the first in the order of [`Why`], where [`Why::Order`] says that its time is
 /// earlier than that of the record before. [`Why::Read`] and [`Why::Memory`] come at the record that is being read. No record is asked for
-/// past that of the fault, and never more than 16,000,002.
+/// past that of the fault, and never more than [`MAX_RECORDS`] + 2.
 pub fn read_capture<R: Read + Drop>(
     alloc: Global,
     records: &mut Records<R>,

@@ -13,10 +13,13 @@ use csv::ByteRecord;
 /// How many fields a record of a capture has.
 pub const WIDTH: usize = 8;
 
-/// Whole seconds: with nanoseconds they fit 64 bits, some 544 years.
+/// Whole seconds lie below this number: with nanoseconds they fit 64 bits, some 544 years.
+pub const MAX_SECONDS: u64 = 1 << 34;
+
+/// Whole seconds.
 pub const SECONDS: Slot = Slot::Number {
     least: 0,
-    most: (1 << 34) - 1,
+    most: MAX_SECONDS - 1,
 };
 
 /// The fields of a record: seconds, nanoseconds, processor, action, process, rwbs, first sector, sectors.

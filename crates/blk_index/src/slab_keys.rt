@@ -10,7 +10,7 @@ use std::collections::{HashMap, VecDeque};
 
 /// How many ids a run may pass over for each of its keys. To pass over these and to drop them again costs less than a place
 /// in the hash table.
-const SPARE: usize = 4;
+const MAX_PASSED: usize = 4;
 
 /// The keys of ids: those of a run of rising ids, and in a hash table those of others. Requests mostly enter by rising ids, of
 /// which each hardware queue gets a few in a row, and then all stand in the run, where a key is found at once.
@@ -157,7 +157,7 @@ fn pass_over<A: Allocator + Clone>(
     if index < run.len() || index - run.len() > *spare {
         return false;
     }
-    *spare = (*spare - (index - run.len())).saturating_add(SPARE);
+    *spare = (*spare - (index - run.len())).saturating_add(MAX_PASSED);
     while run.len() < index {
         let Ok(()) = run.push_back(None) else {
             return false;

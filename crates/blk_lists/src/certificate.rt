@@ -265,7 +265,7 @@ pub(crate) fn read_claim_body<R: Read + Drop>(
 /// The fault is the first one: of the least record, and in it the first in the order of [`Why`].
 /// [`Why::Read`] and [`Why::Memory`] come at the record that is being read.
 /// Fewer commands than announced is a fault one past the last record. No record is asked for past
-/// that of the fault, and never more than 1,000,003.
+/// that of the fault, and never more than [`MAX_COMMANDS`] + 3.
 pub fn read_certificate<R: Read + Drop>(
     alloc: Global,
     records: &mut Records<R>,
@@ -368,7 +368,7 @@ pub fn certificate_text(alloc: Global, certificate: &Certificate) -> Result<Vec<
 
 /// Writes the text of a certificate once all of it is built.
 ///
-/// There are at most 1,000,000 commands with a round each, the numbers lie in the ranges of the
+/// There are at most [`MAX_COMMANDS`] commands with a round each, the numbers lie in the ranges of the
 /// form, and there is no bound exactly where there are no commands.
 ///
 /// [`WriteFault::Write`]: the writer answered a fault, and a prefix of the text, of unknown length, may be out.

@@ -60,12 +60,12 @@ impl RecordForm for CommandForm {
     }
 }
 
-/// The depth and the commands of a text of records of three fields: a title with the depth, 1 to 256,
-/// and at most 1,000,000 commands by id, release round and due round. No record was read before.
+/// The depth and the commands of a text of records of three fields: a title with the depth, 1 to
+/// [`edd_commands::MAX_DEPTH`], and at most [`MAX_COMMANDS`] commands by id, release round and due round. No record was read before.
 ///
 /// The fault is the first one: of the least record, and in it the first in the order of [`Why`].
 /// [`Why::Read`] and [`Why::Memory`] come at the record that is being read. No record is asked for past
-/// that of the fault, and never more than 1,000,002.
+/// that of the fault, and never more than [`MAX_COMMANDS`] + 2.
 pub fn read_commands<R: Read + Drop>(
     alloc: Global,
     records: &mut Records<R>,
@@ -110,8 +110,8 @@ pub fn commands_text(alloc: Global, depth: u64, commands: &[Command]) -> Result<
 
 /// Writes the text of a depth and a list of commands once all of it is built.
 ///
-/// There are at most 1,000,000 commands, and the numbers lie in the ranges of the form: a depth of
-/// 1 to 256, releases below round 2^40, dues below round 2^41.
+/// There are at most [`MAX_COMMANDS`] commands, and the numbers lie in the ranges of the form: a depth of 1 to
+/// [`edd_commands::MAX_DEPTH`], releases below round [`edd_commands::MAX_RELEASES`], dues below [`edd_commands::MAX_ROUNDS`].
 ///
 /// [`WriteFault::Write`]: the writer answered a fault, and a prefix of the text, of unknown length, may be out.
 /// [`WriteFault::Memory`]: nothing was handed to the writer.

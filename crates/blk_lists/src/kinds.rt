@@ -1,6 +1,7 @@
 //! Kinds of records, each a row of data: the word that its records begin with, and what may stand in their fields.
 
 ghost use Rattle.std.specs.Prelude.{◌≡◌, ◌-◌, ◌≤◌, ◌<◌, ◌↔◌, OnOk, IsTrue, length};
+ghost use Rattle.drafts.specs.declared.block.TheConstants.{MAX_ROW_FIELDS};
 ghost use Rattle.blk_lists.specs.Cells.{IsPlainWord};
 ghost use Rattle.blk_lists.specs.Kinds.{StandsFrom, below, AddsRecord};
 
@@ -61,7 +62,7 @@ impl<const L: usize, const N: usize> Kind<L, N> {
     #[inline(always)]
     pub fn push(&self, draft: &mut Block, numbers: &[u64]) -> Result<(), AllocError>
         requires word { IsPlainWord self.now.word }
-        requires wide { (2 ≤ N) × (N ≤ 6) }
+        requires wide { (2 ≤ N) × (N ≤ MAX_ROW_FIELDS) }
         requires few { length numbers.now < N }
         ensures text { OnOk result (AddsRecord draft.old draft.new self.now.word numbers.now (N - 1)) }
     {

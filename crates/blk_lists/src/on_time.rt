@@ -192,7 +192,7 @@ pub(crate) fn read_on_time_body<R: Read + Drop>(
 /// [`Why::Read`] and [`Why::Memory`] come at the record that is being read. A second record that isn't there or begins
 /// with another word than `met`, or another word in the place of an announced window, is [`Why::Word`]; a text that ends
 /// before an announced window or command came is [`Why::Count`], one past the last record. No record is asked for past
-/// that of the fault, and never more than 2,000,003.
+/// that of the fault, and never more than 2 * [`MAX_COMMANDS`] + 3.
 pub fn read_on_time<R: Read + Drop>(
     alloc: Global,
     records: &mut Records<R>,
@@ -253,8 +253,8 @@ pub fn on_time_text(alloc: Global, certificate: &OnTimeCertificate) -> Result<Ve
 
 /// Writes the text of a certificate once all of it is built.
 ///
-/// There are at most 1,000,000 commands with a round each and at most 1,000,000 windows, and the numbers lie in the ranges
-/// of the form.
+/// There are at most [`MAX_COMMANDS`] commands with a round each and at most as many windows, and the numbers lie in the
+/// ranges of the form.
 ///
 /// [`WriteFault::Write`]: the writer answered a fault, and a prefix of the text, of unknown length, may be out.
 /// [`WriteFault::Memory`]: nothing was handed to the writer.

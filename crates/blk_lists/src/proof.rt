@@ -64,7 +64,7 @@ impl RecordForm for ProofTitleForm {
 /// [`read_on_time`](crate::read_on_time), with the faults of that form. No record was read before.
 ///
 /// A text that begins with neither name is [`Why::Title`] at record 1. No record is asked for past that of the fault, and
-/// never more than 2,000,003.
+/// never more than 2 * [`MAX_COMMANDS`] + 3.
 pub fn read_proof<R: Read + Drop>(
     alloc: Global,
     records: &mut Records<R>,

@@ -231,13 +231,13 @@ fn read_new<R: Read + Drop>(
     Err(records.fault(why))
 }
 
-/// The schedule of a text of records of four fields: a title with the depth, 1 to 256, and the number of commands, and each
-/// command with its round, by any order. No record was read before.
+/// The schedule of a text of records of four fields: a title with the depth, 1 to [`edd_commands::MAX_DEPTH`], and the number
+/// of commands, and each command with its round, by any order. No record was read before.
 ///
 /// Whether the schedule is legal isn't looked at. The fault is the first one: of the least record, and in it the first in the
 /// order of [`Why`]; an id that stood before is [`Why::RepeatedId`] at the later record. [`Why::Read`] and [`Why::Memory`]
 /// come at the record that is being read. Fewer commands than announced is a fault one past the last record. No record is
-/// asked for past that of the fault, and never more than 1,000,002.
+/// asked for past that of the fault, and never more than [`MAX_COMMANDS`] + 2.
 pub fn read_schedule<R: Read + Drop>(
     alloc: Global,
     records: &mut Records<R>,
@@ -292,8 +292,9 @@ pub fn schedule_text(alloc: Global, schedule: &Schedule) -> Result<Vec<u8>, Allo
 
 /// Writes the text of a schedule once all of it is built.
 ///
-/// There are at most 1,000,000 commands, no two of one id, with a round each, and the numbers lie in the ranges of the
-/// form: a depth of 1 to 256, releases below round 2^40, dues and rounds below 2^41.
+/// There are at most [`MAX_COMMANDS`] commands, no two of one id, with a round each, and the numbers lie in the ranges of the
+/// form: a depth of 1 to [`edd_commands::MAX_DEPTH`], releases below round [`edd_commands::MAX_RELEASES`], dues and rounds below
+/// [`edd_commands::MAX_ROUNDS`].
 ///
 /// [`WriteFault::Write`]: the writer answered a fault, and a prefix of the text, of unknown length, may be out.
 /// [`WriteFault::Memory`]: nothing was handed to the writer.

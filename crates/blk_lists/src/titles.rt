@@ -2,6 +2,7 @@
 
 ghost use Rattle.std.specs.Prelude.{◌≡◌, ◌+◌, ◌-◌, ◌≤◌, ◌<◌, ◌^◌, IfOk, IfErr, OnOk, MatchOption, length};
 ghost use Rattle.csv.specs.Records.{fields_of};
+ghost use Rattle.drafts.specs.declared.block.TheConstants.{MAX_ROW_FIELDS};
 ghost use Rattle.blk_lists.specs.Cells.{IsPlainWord};
 ghost use Rattle.blk_lists.specs.Kinds.{AddsRecord};
 ghost use Rattle.blk_lists.specs.Titles.{slot_in, slots_in, HasNoVersion, IsOfVersion, TitleTells, TitleLacks, TakesTitle, StopsAtTitle};
@@ -118,7 +119,7 @@ impl<const L: usize, const N: usize> TitleRow<L, N> {
     #[inline(always)]
     pub fn push(&self, draft: &mut Block, numbers: &[u64]) -> Result<(), AllocError>
         requires word { IsPlainWord self.now.word }
-        requires wide { (2 ≤ N) × (N ≤ 6) }
+        requires wide { (2 ≤ N) × (N ≤ MAX_ROW_FIELDS) }
         requires few { length numbers.now < N }
         ensures text { OnOk result (AddsRecord draft.old draft.new self.now.word numbers.now (N - 1)) }
     {

@@ -1,7 +1,9 @@
 //! Records that are written.
 
-ghost use Rattle.std.specs.Prelude.{◌≡◌, ◌+◌, ◌*◌, ◌++◌, ◌≤◌, ◌∷◌, [], OnOk, length, take, decimal};
+ghost use Rattle.std.specs.Prelude.{◌≡◌, ◌+◌, ◌*◌, ◌++◌, ◌≤◌, ◌<◌, ◌∷◌, [], OnOk, length, take, decimal};
 ghost use Rattle.drafts.specs.Drafts.{drafted};
+ghost use Rattle.drafts.specs.declared.block.TheConstants.{MAX_ROW_FIELDS};
+ghost use Rattle.drafts.specs.declared.pieces.TheConstants.{MAX_DIGITS};
 ghost use Rattle.blk_lists.specs.Cells.{IsPlainWord, number_cells};
 ghost use Rattle.blk_lists.specs.Inside.Cells.{rest_of_line};
 ghost use Rattle.blk_lists.specs.Texts.{rows_text};
@@ -13,8 +15,8 @@ use std::alloc::AllocError;
 /// Writes numbers and then this number of empty fields, each after a comma, and a line end; answers where that ends.
 #[inline(always)]
 fn put_rest(numbers: &[u64], blanks: usize, buf: &mut [u8], at: usize) -> usize
-    requires { at + 21 * length numbers.now + blanks + 1 ≤ length buf.old }
-    ensures end { result ≤ at + 21 * length numbers.now + blanks + 1 }
+    requires { at + (MAX_DIGITS + 1) * length numbers.now + blanks + 1 ≤ length buf.old }
+    ensures end { result ≤ at + (MAX_DIGITS + 1) * length numbers.now + blanks + 1 }
     ensures written { take result buf.new ≡ take at buf.old ++ rest_of_line numbers.now blanks }
 {
     let mut end = at;
@@ -28,7 +30,7 @@ fn put_rest(numbers: &[u64], blanks: usize, buf: &mut [u8], at: usize) -> usize
     put(b"\n", buf, end)
 }
 
-/// Adds the record of a word, numbers and this number of empty fields, five fields at most after the word.
+/// Adds the record of a word, numbers and this number of empty fields.
 #[inline(always)]
 pub fn push_row(
     draft: &mut Block,
@@ -38,7 +40,7 @@ pub fn push_row(
 ) -> Result<(), AllocError>
     requires word { IsPlainWord word.now }
     requires some { 1 ≤ length numbers.now + blanks }
-    requires few { length numbers.now + blanks ≤ 5 }
+    requires few { length numbers.now + blanks < MAX_ROW_FIELDS }
     ensures text { OnOk result (drafted draft.new ≡ drafted draft.old ++ rows_text ((word.now ∷ number_cells numbers.now blanks) ∷ [])) }
 {
     let start = draft.room()?;
@@ -48,11 +50,11 @@ pub fn push_row(
     Ok(())
 }
 
-/// Adds the record of numbers, of which there are six at most.
+/// Adds the record of numbers.
 #[inline(always)]
 pub fn push_numbers(draft: &mut Block, first: u64, others: &[u64]) -> Result<(), AllocError>
     requires some { 1 ≤ length others.now }
-    requires few { length others.now ≤ 5 }
+    requires few { length others.now < MAX_ROW_FIELDS }
     ensures text { OnOk result (drafted draft.new ≡ drafted draft.old ++ rows_text ((decimal first ∷ number_cells others.now 0) ∷ [])) }
 {
     let start = draft.room()?;

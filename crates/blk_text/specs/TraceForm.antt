@@ -1,5 +1,5 @@
 -- A trace: a title, a setup, and events, each of which has one record, or one and those of its bios.
-use Rattle.std.specs.Prelude.{◌≡◌, ◌≤◌, ℕ, List, [], ◌∷◌, length, codes, All, Option, Some, IfSome, unwrap_or}
+use Rattle.std.specs.Prelude.{◌≡◌, ◌≤◌, ℕ, List, [], ◌∷◌, length, All, Option, Some, IfSome, unwrap_or}
 use Rattle.std.specs.Option.{option_map_or}
 use Rattle.blk_bio.specs.Bios.{Bio, IsBio}
 use Rattle.blk_bio.specs.Limits.{Limits}
@@ -27,7 +27,7 @@ use Rattle.blk_text.specs.SetupRecord.{setup}
 use Rattle.blk_text.specs.TraceRecords.{IsTrace}
 use Rattle.blk_text.specs.Versions.{most_tags}
 use Rattle.blk_text.specs.declared.setup.TheConstants.{LATEST, WIDTH}
-use Rattle.blk_text.specs.declared.bios.TheConstants.{MAX_SUBMITTERS}
+use Rattle.blk_text.specs.declared.bios.TheConstants.{BIO, MAX_SUBMITTERS}
 use Rattle.blk_lists.specs.declared.fault.Why.{Why}
 use Rattle.blk_lists.specs.declared.fault.Why.TheVariants as why
 use Rattle.blk_text.specs.EventKinds.{EventKind, EventStandsIn, event_word, Says, event_fields}
@@ -80,7 +80,7 @@ IsNoBio version = NextWrong why.Count (λ row w. (over why.Count (first_record v
 -- the record of a bio of a group, by its table
 abbrev pub plain_bio : ℕ → Part Row Why Bio
 plain_bio version =
-    seen_as (λ b. (tt, b)) (by_word {K = Unit {0}} (λ _. Bio) (λ _. NextStarts (codes "bio")) (λ _. word_record why.Count (codes "bio") (bio_cells MAX_SUBMITTERS) (FitsCells (bio_cells MAX_SUBMITTERS))) (IsNoBio version))
+    seen_as (λ b. (tt, b)) (by_word {K = Unit {0}} (λ _. Bio) (λ _. NextStarts BIO.word) (λ _. word_record why.Count BIO.word (bio_cells MAX_SUBMITTERS) (FitsCells (bio_cells MAX_SUBMITTERS))) (IsNoBio version))
 
 -- the record of a bio that there is
 abbrev pub whole_bio : ℕ → Part Row Why Bio

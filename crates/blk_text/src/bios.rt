@@ -1,6 +1,6 @@
 //! The record of a bio, in a script and in a group of a trace.
 
-ghost use Rattle.std.specs.Prelude.{◌≡◌, ◌++◌, ◌∷◌, ◌≤◌, [], IfOk, IfErr, OnOk, codes};
+ghost use Rattle.std.specs.Prelude.{◌≡◌, ◌++◌, ◌∷◌, ◌≤◌, [], IfOk, IfErr, OnOk};
 ghost use Rattle.csv.specs.Records.{fields_of};
 ghost use Rattle.blk_bio.specs.Letters.{direction_text};
 ghost use Rattle.blk_bio.specs.declared.bio.Dir.{Dir as Direction};
@@ -9,6 +9,7 @@ ghost use Rattle.blk_lists.specs.Texts.{rows_text};
 ghost use Rattle.blk_lists.specs.Words.{StartsWith};
 ghost use Rattle.blk_text.specs.BioRecord.{bio_row};
 ghost use Rattle.blk_text.specs.Inside.BioTable.{bio_record};
+ghost use Rattle.blk_text.specs.declared.bios.TheConstants.{BIO};
 ghost use Rattle.blk_text.specs.TraceRecords.{BioFits};
 ghost use Rattle.drafts.specs.Drafts.{drafted};
 
@@ -55,7 +56,7 @@ fn direction_of(letter: u64) -> Dir
 /// The bio of a record that begins with its word, of a submitter below this number.
 pub fn read_bio(row: &ByteRecord, submitters: u64) -> Result<Bio, Why>
     requires some { (1 ≤ submitters) × (submitters ≤ MAX_SUBMITTERS) }
-    requires starts { StartsWith (codes "bio") (fields_of row.now) }
+    requires starts { StartsWith BIO.word (fields_of row.now) }
     ensures ok { IfOk result (IsRowOf (bio_record submitters) (fields_of row.now)) }
     ensures err { IfErr result (IsWrongRecord (bio_record submitters) (fields_of row.now)) }
 {

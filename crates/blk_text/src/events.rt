@@ -192,15 +192,16 @@ fn read_events<R: Read + Drop>(
     Err(records.fault(why))
 }
 
-/// The trace of a text of records of six fields, in version 1 or 2: a title with the depth (to 64 in version 1, to 256
-/// in version 2), the hardware queues and the number of events, a setup, and exactly that many events, each of which obeys the
-/// rules of a trace after those before it; a depth is set in version 2 alone. No record was read before.
+/// The trace of a text of records of six fields, in version 1 or 2: a title with the depth (to [`crate::MAX_DEPTH_1`] in
+/// version 1, to [`edd_commands::MAX_DEPTH`] in version 2), the hardware queues and the number of events, a setup, and exactly that
+/// many events, each of which obeys the rules of a trace after those before it; a depth is set in version 2 alone. No record was
+/// read before.
 ///
 /// The fault is the first one: of the least record, and in it the first in the order of [`Why`]. A rule that an event
 /// breaks is reported at its first record and looked for once its group is whole, so a fault of a bio in the group comes
 /// before it. Of an event past the announced number its own fault and, where it has one record, its rule come before
 /// [`Why::Count`]. [`Why::Read`] and [`Why::Memory`] come at the record that is being read. No record is asked for past
-/// those of the event that is being read, and never more than 129,000,003.
+/// those of the event that is being read, and never more than [`MAX_EVENTS`] * ([`MAX_SEGMENTS`] + 1) + 3.
 pub fn read_trace<R: Read + Drop>(
     alloc: Global,
     records: &mut Records<R>,

@@ -6,11 +6,11 @@ ghost use Rattle.blk_bio.specs.Requests.{Fits};
 ghost use Rattle.blk_lists.specs.Reads.{IsRowOf, IsWrongRecord, Reads, Fails};
 ghost use Rattle.blk_text.specs.TraceForm.{whole_bio, group};
 
-use crate::bios::{MAX_SUBMITTERS, read_bio};
+use crate::bios::{BIO, MAX_SUBMITTERS, read_bio};
 use crate::heads::HeadForm;
 use blk_bio::{Bio, Limits, MAX_SEGMENTS, Request, Side};
 use blk_lists::fault::{TextFault, Why};
-use blk_lists::fields::begins_with;
+use blk_lists::fields::field;
 use blk_lists::items::{ItemForm, RecordForm, gather};
 use blk_lists::source::Records;
 use csv::ByteRecord;
@@ -23,7 +23,7 @@ fn bio_line(form: &HeadForm, row: &ByteRecord) -> Result<Bio, Why>
     ensures ok { IfOk result (IsRowOf (whole_bio form.now.version) (fields_of row.now)) }
     ensures err { IfErr result (IsWrongRecord (whole_bio form.now.version) (fields_of row.now)) }
 {
-    if begins_with(row, b"bio") {
+    if BIO.is(field(row, 0), form.version) {
         return read_bio(row, MAX_SUBMITTERS);
     }
     match form.value(row) {

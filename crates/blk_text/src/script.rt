@@ -226,13 +226,13 @@ pub fn push_step(draft: &mut Block, step: &Line) -> Result<(), AllocError>
     }
 }
 
-/// The script of a text of records of six fields, in version 1 or 2: a title with the depth (to 64 in version 1, to 256
-/// in version 2), the hardware queues, the soft depth and the submitters, a setup, and at most 999,998 steps, which set a
-/// depth in version 2 alone. No record was read before.
+/// The script of a text of records of six fields, in version 1 or 2: a title with the depth (to [`crate::MAX_DEPTH_1`] in
+/// version 1, to [`edd_commands::MAX_DEPTH`] in version 2), the hardware queues, the soft depth and the submitters, a setup, and at
+/// most [`MAX_STEPS`] steps, which set a depth in version 2 alone. No record was read before.
 ///
 /// The fault is the first one: of the least record, and in it the first in the order of [`Why`].
 /// [`Why::Read`] and [`Why::Memory`] come at the record that is being read. No record is asked for past
-/// that of the fault, and never more than 1,000,001.
+/// that of the fault, and never more than [`MAX_STEPS`] + 3.
 pub fn read_script<R: Read + Drop>(
     alloc: Global,
     records: &mut Records<R>,

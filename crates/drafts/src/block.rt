@@ -3,14 +3,17 @@
 ghost use Rattle.std.specs.Prelude.{◌≡◌, ◌+◌, ◌++◌, ◌≤◌, OnOk, IfOk, decimal};
 ghost use Rattle.drafts.specs.declared.block.TheConstants.{BLOCK_BYTES};
 
-use crate::pieces::{put, put_number};
+use crate::pieces::{MAX_DIGITS, put, put_number};
 use std::alloc::{AllocError, Global};
 
 /// How many bytes are gathered before they join the text.
 const BLOCK_BYTES: usize = 4096;
 
-/// Room for a record of six fields of at most 20 bytes, with a byte after each.
-const RECORD_BYTES: usize = 128;
+/// How many fields a record has at most that is put together in the block.
+pub const MAX_ROW_FIELDS: usize = 6;
+
+/// Room for a record: fields no longer than numbers, with a byte after each.
+const RECORD_BYTES: usize = MAX_ROW_FIELDS * (MAX_DIGITS + 1);
 
 /// A text, of which the last bytes stand in a block.
 #[derive(Drop)]

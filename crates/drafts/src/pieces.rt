@@ -1,7 +1,11 @@
 //! The pieces of a record, each written from a place on.
 
-ghost use Rattle.std.specs.Prelude.{◌≡◌, ◌++◌, ◌∷◌, ◌+◌, ◌<◌, ◌≤◌, take, length, decimal};
+ghost use Rattle.std.specs.Prelude.{◌≡◌, ◌++◌, ◌∷◌, ◌+◌, ◌*◌, ◌<◌, ◌≤◌, take, length, decimal};
+ghost use Rattle.drafts.specs.declared.pieces.TheConstants.{MAX_DIGITS};
 ghost use Rattle.drafts.specs.Inside.Digits.{pair_of, four_of, eight_of};
+
+/// How many decimal digits a number of 64 bits has at most.
+pub const MAX_DIGITS: usize = 20;
 
 /// The numbers below 100 in two digits each.
 const PAIRS: &[u8; 200] =
@@ -115,8 +119,8 @@ fn put_upper(number: u64, buf: &mut [u8], at: usize) -> usize
 /// Writes a number of any length, and says where it ends.
 #[inline(never)]
 fn put_long(number: u64, buf: &mut [u8], at: usize) -> usize
-    requires { at + 20 ≤ length buf.old }
-    ensures end { result ≤ at + 20 }
+    requires { at + MAX_DIGITS ≤ length buf.old }
+    ensures end { result ≤ at + MAX_DIGITS }
     ensures written { take result buf.new ≡ take at buf.old ++ decimal number }
 {
     if number < 100_000_000 {
@@ -127,11 +131,11 @@ fn put_long(number: u64, buf: &mut [u8], at: usize) -> usize
     end + 8
 }
 
-/// Writes a number in decimal digits, of which there are at most 20, and says where they end.
+/// Writes a number in decimal digits, and says where they end.
 #[inline]
 pub fn put_number(number: u64, buf: &mut [u8], at: usize) -> usize
-    requires { at + 20 ≤ length buf.old }
-    ensures end { result ≤ at + 20 }
+    requires { at + MAX_DIGITS ≤ length buf.old }
+    ensures end { result ≤ at + MAX_DIGITS }
     ensures written { take result buf.new ≡ take at buf.old ++ decimal number }
 {
     if number < 100 {
@@ -143,8 +147,8 @@ pub fn put_number(number: u64, buf: &mut [u8], at: usize) -> usize
 /// Writes two numbers with a comma between them, and says where they end.
 #[inline]
 pub fn put_two(first: u64, second: u64, buf: &mut [u8], at: usize) -> usize
-    requires { at + 41 ≤ length buf.old }
-    ensures end { result ≤ at + 41 }
+    requires { at + (2 * MAX_DIGITS + 1) ≤ length buf.old }
+    ensures end { result ≤ at + (2 * MAX_DIGITS + 1) }
     ensures written { take result buf.new ≡ take at buf.old ++ (decimal first ++ 44 ∷ decimal second) }
 {
     let comma = put_number(first, buf, at);

@@ -1,5 +1,5 @@
 -- The record of a bio, as it is read.
-use Rattle.std.specs.Prelude.{ℕ, codes}
+use Rattle.std.specs.Prelude.{ℕ}
 use Rattle.blk_bio.specs.Bios.{Bio, IsBio}
 use Rattle.blk_lists.specs.Sources.{Row}
 use Rattle.blk_lists.specs.Tables.{FitsCells, word_record}
@@ -7,7 +7,8 @@ use Rattle.blk_lists.specs.declared.fault.Why.{Why}
 use Rattle.blk_lists.specs.declared.fault.Why.TheVariants as why
 use Rattle.parts.specs.Parts.{Part, tested}
 use Rattle.blk_text.specs.BioTable.{bio_cells, IsNoSuchBio}
+use Rattle.blk_text.specs.declared.bios.TheConstants.{BIO}
 
 -- the record of a bio of a submitter below this number
 abbrev pub bio_record : ℕ → Part Row Why Bio
-bio_record submitters = tested (word_record why.Count (codes "bio") (bio_cells submitters) (FitsCells (bio_cells submitters))) IsBio IsNoSuchBio
+bio_record submitters = tested (word_record why.Count BIO.word (bio_cells submitters) (FitsCells (bio_cells submitters))) IsBio IsNoSuchBio

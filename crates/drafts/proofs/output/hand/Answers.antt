@@ -1,4 +1,4 @@
-use Rattle.std.proofs.Common.{◌∙◌, ◌++◌, ◌+◌, ap, sym, take, length, refl, arith}
+use Rattle.std.proofs.Common.{◌∙◌, ◌++◌, ap, sym, take, length, refl, arith}
 use Rattle.std.proofs.lemmas.List.{take_rest, length-drop}
 use Rattle.std.proofs.KnownBytes.{Appends-trans}
 use Rattle.drafts.proofs.Written.{part_taken, split_at, less_taken, none_more, some_left}
