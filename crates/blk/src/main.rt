@@ -32,7 +32,7 @@ fn main(rt: HostRuntime) -> ExitCode {
             if error.kind() == ErrorKind::OutOfMemory {
                 return ExitCode::from(Failure::Memory.say(&mut faults).status);
             }
-            // A word that is no UTF-8.
+            // A word that isn't UTF-8.
             let _ = faults.put(b"blk: the command line could not be read\n");
             return ExitCode::from(blk_cli::COMMAND_LINE);
         }

@@ -91,7 +91,7 @@ fn write_late_commands(page: &mut Page, late: &[LateCommand]) -> Result<(), Allo
 /// Late commands as an object of one array, `late`, with an object for each, in their order: `id`, `dir` (`"R"` or `"W"`), `first`
 /// and `sectors`, `release`, `due` and `issue` (rounds), `lateness` (rounds), `sooner`, `later` and `idle` (places), `verdict`
 /// (`"arrival"`, `"spare"` or `"full"`), and `from` and `until`, the first and the last round of its window, or `null` where the
-/// verdict has none. Fails only when out of memory. The time is as the number of commands.
+/// verdict has none. Fails only when out of memory. The time grows with the number of commands.
 pub fn late_json(alloc: Global, late: &[LateCommand]) -> Result<Vec<u8>, AllocError>
     ensures { IfOk result (λ v. v.items ≡ late_json late.now) }
 {

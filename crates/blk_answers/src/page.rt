@@ -11,7 +11,7 @@ use json::Writer;
 use std::alloc::{AllocError, Global};
 use std::marker::Model;
 
-/// The tokens that were written, in their order. Each call that writes some answers out of memory where the text can't grow.
+/// The tokens that were written, in their order. Each call that writes some fails when out of memory, where the text can't grow.
 #[derive(Drop)]
 pub struct Page {
     writer: Writer,

@@ -168,7 +168,7 @@ fn write_proved(page: &mut Page, by: By, rows: &[TrialRow]) -> Result<(), AllocE
 /// of the waits (rounds, or `null` without commands of that direction); `best`, the first row's `sched` and `settings`, or `null`
 /// without rows, also where none is shown; and `proved`, what the text form says of that row, or `null` where it says nothing. The
 /// settings are those of the command line, by their names and in their order: each a number, or `true` or `false`; of a scheduler without
-/// any the object is empty. Fails only when out of memory. The time is as the number of rows that are shown.
+/// any the object is empty. Fails only when out of memory. The time grows with the number of rows that are shown.
 pub fn trial_json(
     alloc: Global,
     by: By,

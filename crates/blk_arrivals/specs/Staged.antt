@@ -9,7 +9,7 @@ use Rattle.blk_arrivals.specs.declared.going.TheConstants.{PLUGGED}
 abbrev pub AreEmpty : List ℕ → Type 0
 AreEmpty held = All (λ h. h ≡ 0) held
 
--- with so many bios in the plugs at first, no plug overflows, and all are empty whenever rounds run and at the end
+-- with this many bios in each plug at first, no plug overflows, and all are empty whenever rounds run and at the end
 unfoldable pub KeepPlugs : List ℕ → List Line → Type 0
 KeepPlugs held [] = AreEmpty held
 KeepPlugs held (line.Bio b ∷ lines) = (slice_index held b.id.submitter < PLUGGED) × KeepPlugs (slice_set held b.id.submitter (slice_index held b.id.submitter + 1)) lines

@@ -10,7 +10,7 @@ use blk_capture::{Action, Record};
 use blk_text::MAX_RUN;
 use std::alloc::{AllocError, Global};
 
-/// By what submitters are told apart.
+/// What tells submitters apart.
 #[derive(Clone, Copy, Debug, PartialEq, Eq)]
 pub enum ToldBy {
     /// The process that queued the bio.
@@ -20,7 +20,7 @@ pub enum ToldBy {
 }
 
 impl ToldBy {
-    /// What tells the submitter of a record.
+    /// The key of the submitter of a record.
     pub(crate) fn key_of(self, record: &Record) -> u64
         ensures { result ≡ key_of self record.now }
     {
@@ -38,7 +38,7 @@ fn has_range(record: &Record) -> bool
     record.sectors != 0 && record.first <= MAX_END && record.sectors <= MAX_END - record.first
 }
 
-/// Which way the data of a bio goes that comes in by a record, if one does.
+/// The direction of the bio that a record brings in, if it brings one in.
 pub(crate) fn way_of(record: &Record) -> Option<Dir>
     ensures way { result ≡ way_of record.now }
     ensures range { IfSome result (λ _. (0 < record.now.sectors) × (record.now.first + record.now.sectors ≤ MAX_END)) }
@@ -82,7 +82,7 @@ pub(crate) fn round_of_time(begin: u64, span: u64, record: &Record) -> u64
     record.time.saturating_sub(begin) / span
 }
 
-/// Whether no bio comes in by a record after the last round of which a script can tell.
+/// Whether a record brings in no bio after the last round that a script can have.
 fn is_in_time(begin: u64, span: u64, record: &Record) -> bool
     requires { 0 < span }
     ensures { IsTrue result ↔ IfSome (way_of record.now) (λ _. round_of_time begin span record.now.time ≤ MAX_RUN) }
@@ -93,7 +93,7 @@ fn is_in_time(begin: u64, span: u64, record: &Record) -> bool
     }
 }
 
-/// Whether no bio comes in after the last round of which a script can tell.
+/// Whether no bio comes in after the last round that a script can have.
 pub(crate) fn come_in_time(begin: u64, span: u64, records: &[Record]) -> bool
     requires { 0 < span }
     ensures { IsTrue result ↔ ComeInTime begin span records.now }
@@ -129,14 +129,14 @@ fn keys_of(alloc: Global, told: ToldBy, records: &[Record]) -> Result<Option<Vec
     Ok(Some(keys))
 }
 
-/// By what the submitters of a capture are told apart, and their keys.
+/// What tells the submitters of a capture apart, and their keys.
 #[derive(Drop)]
 pub(crate) struct Submitters {
     pub(crate) told: ToldBy,
     pub(crate) keys: Vec<u64>,
 }
 
-/// The submitters of a capture, by their processes or else by the processors; none where both are too many.
+/// The submitters of a capture: its processes, or, where those are too many, its processors; none where both are.
 pub(crate) fn submitters_of(
     alloc: Global,
     records: &[Record],

@@ -11,7 +11,7 @@ use blk_capture::{Action, Record};
 /// What a record does.
 #[derive(Clone, Copy)]
 pub(crate) enum Deed {
-    /// A bio of a submitter comes in, whose data goes this way.
+    /// A submitter's bio of this direction comes in.
     Comes(usize, Dir),
     /// The plug of a submitter is flushed.
     Unplugs(usize),
@@ -27,7 +27,7 @@ fn submitter_number(keys: &[u64], key: u64) -> Option<usize>
     keys.iter().position(|other| *other == key)
 }
 
-/// What a record does, of submitters with these keys.
+/// What a record does, where the submitters have these keys.
 pub(crate) fn deed_of(told: ToldBy, keys: &[u64], record: &Record) -> Deed
     ensures value { result ≡ deed_of told keys.now record.now }
     ensures deed { IsDeed (length keys.now) record.now result }

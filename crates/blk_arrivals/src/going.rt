@@ -1,4 +1,4 @@
-//! The steps of a capture's records, as they are gone through.
+//! The steps that a capture's records make, one record after the other.
 
 ghost use Rattle.std.specs.Prelude.{◌≡◌, ◌⊎◌, ◌≤◌, ◌<◌, ◌+◌, ◌-◌, ◌^◌, ◌++◌, ◌∷◌, [], All, IfOk, IfErr, OnOk, length, max};
 ghost use Rattle.std.proofs.Math.ListN.{replicate};
@@ -19,10 +19,10 @@ use blk_plug::MAX_STAGED;
 use blk_text::{Line, MAX_STEPS};
 use std::alloc::{AllocError, Global};
 
-/// As many requests as a plug holds.
+/// How many requests a plug holds.
 pub(crate) const PLUGGED: u64 = MAX_STAGED as u64;
 
-/// The steps so far, the round that it is, how many bios came in, and how many stand in the plug of each submitter.
+/// The steps so far, the current round, how many bios came in, and how many stand in each submitter's plug.
 #[derive(Drop)]
 pub(crate) struct Going {
     lines: Vec<Line>,
@@ -31,7 +31,7 @@ pub(crate) struct Going {
     held: Vec<u64>,
 }
 
-/// Empty plugs, in this number.
+/// This many empty plugs.
 fn empty_plugs(alloc: Global, count: usize) -> Result<Vec<u64>, AllocError>
     ensures { IfOk result (λ held. held.items ≡ replicate count 0) }
 {
@@ -143,7 +143,7 @@ impl Going {
         })
     }
 
-    /// Ends the rounds up to one, where it is later than the one that it is.
+    /// Ends rounds up to the given one, where that is later than the current one.
     fn turn(&mut self, round: u64) -> Result<(), AllocError>
         requires { AreFewSubmitters self.old.held.items }
         ensures lines { OnOk result (self.new.lines.items ≡ self.old.lines.items ++ turning round (plugs_of self.old)) }
@@ -159,7 +159,7 @@ impl Going {
         Ok(())
     }
 
-    /// A bio of a submitter comes in by a record.
+    /// A record brings in a submitter's bio.
     fn arrive(&mut self, submitter: usize, way: Dir, record: &Record) -> Result<(), AllocError>
         requires submitter { submitter < length self.old.held.items }
         requires few { AreFewSubmitters self.old.held.items }

@@ -37,7 +37,7 @@ pub struct Terms {
     pub write_expire: u64,
 }
 
-/// Why a capture becomes no script, in the order in which the reasons are looked for.
+/// Why a capture can't become a script, in the order in which the reasons are looked for.
 #[derive(Clone, Copy, Debug, PartialEq, Eq)]
 pub enum ArrivalsFault {
     /// A round has no length.

@@ -1,4 +1,4 @@
-//! The time of a capture, and what went out to the device at which.
+//! The time of a capture, and which request went out to the device when.
 
 ghost use Rattle.std.specs.Prelude.{◌≡◌, ◌≤◌, ◌↔◌, IsTrue, All};
 ghost use Rattle.std.specs.List.Sorted.{IsNonDecreasingBy};
@@ -14,10 +14,10 @@ pub(crate) struct Dispatch {
     pub(crate) time: u64,
 }
 
-/// The time that it is, which never falls, and the dispatches so far.
+/// The current time, which never falls, and the dispatches so far.
 #[derive(Drop)]
 pub(crate) struct Clock<A: Allocator = Global> {
-    /// The time that it is.
+    /// The current time.
     pub(crate) now: u64,
     /// The dispatches, in their order.
     pub(crate) dispatches: Vec<Dispatch, A>,

@@ -14,7 +14,7 @@ use std::alloc::{AllocError, Allocator, Global};
 pub struct TimedRequest {
     /// When it came in.
     pub entry: u64,
-    /// When it ought to have gone out by; it may lie before the entry.
+    /// When it should have gone out at the latest; this may lie before the entry.
     pub deadline: u64,
     /// When it went out to the device.
     pub dispatch: u64,

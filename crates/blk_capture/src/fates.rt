@@ -11,9 +11,9 @@ use crate::record::{Action, PassReason, Record};
 pub enum Fate {
     /// It is of the request at this place, or of a bio that went out with it.
     Taken(usize),
-    /// It was matched, but what it is of is not taken.
+    /// It was matched, but its request is not taken.
     LeftOut,
-    /// What it speaks of isn't known, mostly since that began before the capture.
+    /// Its request or bio isn't known, mostly because that began before the capture.
     Unmatched,
     /// It was passed over.
     PassedOver(PassReason),
@@ -26,7 +26,7 @@ pub struct ActionTally {
     pub records: u64,
     /// How many are of requests that are taken, or of their bios.
     pub taken: u64,
-    /// How many were matched to what is not taken.
+    /// How many were matched to requests that are not taken.
     pub left_out: u64,
     /// How many were not matched.
     pub unmatched: u64,

@@ -11,7 +11,7 @@ use blk_bio::Side;
 use std::alloc::{AllocError, Allocator, Global};
 use std::collections::BTreeMap;
 
-/// What something is looked for by; what it is not looked for by is 0.
+/// The key of a search; a part that isn't searched by is 0.
 #[derive(Clone, Copy, Debug, PartialEq, Eq, PartialOrd, Ord)]
 pub(crate) struct LookupKey {
     /// A sector, the first one or the one after the last. It comes first, since it tells most keys apart.
@@ -58,7 +58,7 @@ struct Standing {
     place: usize,
 }
 
-/// Whether two keys are one.
+/// Whether two keys are equal.
 fn is_same(a: LookupKey, b: LookupKey) -> bool
     ensures { result ≡ is_eq (lookup_cmp a b) }
 {

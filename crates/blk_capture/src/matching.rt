@@ -14,21 +14,21 @@ use crate::record::{Action, PassReason, Range, Record};
 use blk_bio::Side;
 use std::alloc::{AllocError, Allocator, Global};
 
-/// What a record of a capture is of.
+/// What a record of a capture belongs to.
 #[derive(Clone, Copy, Debug, PartialEq, Eq)]
 pub(crate) enum Role {
     /// It made the bio of a number.
     Bio(usize),
-    /// It is of the request of a number.
+    /// It belongs to the request of a number.
     Request(usize),
-    /// What it speaks of isn't known.
+    /// Its bio or request isn't known.
     Unmatched,
     /// It is passed over.
     PassedOver(PassReason),
 }
 
 impl Role {
-    /// Of a record that made a bio, if it did.
+    /// The role of a record that made this bio, if any.
     fn of_bio(bio: Option<usize>) -> Role
         ensures known { is_known result ≡ is_some bio }
         ensures passed { passed_role result ≡ None }
@@ -39,7 +39,7 @@ impl Role {
         }
     }
 
-    /// Of a record that is of a request, if it is.
+    /// The role of a record that belongs to this request, if any.
     fn of_request(request: Option<usize>) -> Role
         ensures known { is_known result ≡ is_some request }
         ensures passed { passed_role result ≡ None }
@@ -80,9 +80,9 @@ pub(crate) struct Opened {
     /// When it was completed, if it was.
     pub(crate) completed: Option<u64>,
     pub(crate) stage: Stage,
-    /// What of it was not completed yet.
+    /// The part of it that is not completed yet.
     left: Range,
-    /// The number of the record by which it came to where it waits, or was opened.
+    /// The number of the record that put it where it waits, or opened it.
     age: u64,
 }
 
@@ -118,11 +118,11 @@ pub(crate) struct Matching<A: Allocator = Global> {
     waiting: KeyIndex<A>,
     /// Requests that were opened and not inserted, by who opened them.
     opened: MergeIndex<A>,
-    /// The same by where they begin, whoever opened them.
+    /// The same by where they begin, no matter who opened them.
     starts: KeyIndex<A>,
     /// Requests that were inserted and did not go out, or were requeued.
     inserted: MergeIndex<A>,
-    /// Requests at the device, by what of them was not completed yet.
+    /// Requests at the device, by the part that is not completed yet.
     in_flight: KeyIndex<A>,
 }
 
@@ -146,7 +146,7 @@ impl<A: Allocator + Clone> Matching<A> {
         })
     }
 
-    /// Takes in a record, the one of a number, at the time of the clock.
+    /// Takes in the record of a number, at the clock's time.
     #[tactic(auto, using(crate::proofs::Telling::opened_none, crate::proofs::Telling::made_none))]
     pub(crate) fn take(&mut self, number: u64, record: &Record) -> Result<Role, AllocError>
         ensures opens { IfOk result (λ r. OpensIf (opens_role «record».now.action r) self.old self.new) }
@@ -299,7 +299,7 @@ impl<A: Allocator + Clone> Matching<A> {
     }
 
     /// A bio is merged into a request that it abuts, or, where no bio of the range waits, a request into the one that ends where it
-    /// begins. A bio of which that request isn't known waits no more.
+    /// begins. A bio whose request isn't known waits no more.
     fn merge(&mut self, pid: u64, range: Range, side: Side) -> Result<Option<usize>, AllocError>
         ensures same { length self.new.requests.items ≡ length self.old.requests.items }
         ensures bios { length self.new.members.bios.items ≡ length self.old.members.bios.items }
@@ -476,7 +476,7 @@ impl<A: Allocator + Clone> Matching<A> {
         self.replace(request, Opened { stage, ..opened })
     }
 
-    /// A waiting bio is cut where the range ends, of which it is the beginning. Both parts wait since the bio was queued.
+    /// A waiting bio that begins with the range is cut where the range ends. Both parts wait since the bio was queued.
     fn split(&mut self, range: Range) -> Result<Option<usize>, AllocError>
         ensures same { length self.new.requests.items ≡ length self.old.requests.items }
         ensures bios { IfOk result (λ bio. MakesIf (is_some bio) self.old self.new) }

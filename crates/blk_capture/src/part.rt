@@ -28,7 +28,7 @@ fn place_in(from: usize, count: usize, place: Option<usize>) -> Option<usize>
     }
 }
 
-/// A bio of which the request may be taken or not.
+/// A bio whose request may or may not be taken.
 fn bio_in(from: usize, count: usize, bio: &CapturedBio) -> CapturedBio
     ensures { result ≡ bio_in from count bio.now }
 {
@@ -65,7 +65,7 @@ fn requests_in<A: Allocator>(
     rest[..count].iter().copied().collect(alloc)
 }
 
-/// The bios, of which the requests are taken or not.
+/// The bios, by whether their requests are taken.
 fn bios_in<A: Allocator>(
     alloc: A,
     bios: &[CapturedBio],
@@ -79,7 +79,7 @@ fn bios_in<A: Allocator>(
         .collect(alloc)
 }
 
-/// The fates, of which the requests are taken or not.
+/// The fates, by whether their requests are taken.
 fn fates_in<A: Allocator>(
     alloc: A,
     fates: &[Fate],

@@ -21,7 +21,7 @@ use crate::record::{Action, MAX_TIME, Record};
 use blk_bio::Dir;
 use std::alloc::{AllocError, Allocator, Global};
 
-/// From when on a request counts as come in.
+/// From when a request counts as having come in.
 #[derive(Clone, Copy, Debug, PartialEq, Eq)]
 pub enum Entry {
     /// From its insertion into the scheduler, or, where it was never inserted, from the queueing of its first bio.
@@ -37,7 +37,7 @@ pub struct Options {
     pub read_expire: u64,
     /// The same of a write: `write_expire`.
     pub write_expire: u64,
-    /// From when on a request counts as come in.
+    /// From when a request counts as having come in.
     pub entry: Entry,
 }
 
@@ -100,7 +100,7 @@ pub struct CapturedBio {
     pub request: Option<usize>,
 }
 
-/// What became of a request beside others.
+/// What merges made of a request.
 #[derive(Clone, Copy, Debug)]
 struct Life {
     /// The request that it was merged into in the end, or itself.
@@ -139,7 +139,7 @@ fn sooner(earlier: Option<u64>, time: u64) -> u64
     }
 }
 
-/// By when a request was due that came in at a time.
+/// When a request that came in at a time was due.
 fn deadline_of(options: &Options, dir: Dir, entry: u64, earlier: Option<u64>) -> u64
     ensures { result ≡ deadline_of options.now dir entry earlier }
 {
@@ -180,7 +180,7 @@ fn lives<A: Allocator + Clone>(
     Ok(lives)
 }
 
-/// By when a request that was merged into another was due.
+/// When a request that was merged into another was due.
 fn deadline_at<A: Allocator + Clone>(
     matching: &Matching<A>,
     lives: &[Life],
@@ -250,7 +250,7 @@ fn request_of<A: Allocator + Clone>(
     })
 }
 
-/// The requests that are taken, in the order of their dispatches, and by request its place among them, if it is taken.
+/// The requests that are taken, in the order of their dispatches, and for each request its place among them, if it is taken.
 #[derive(Drop)]
 struct Taken<A: Allocator = Global> {
     requests: Vec<CapturedRequest, A>,
@@ -321,7 +321,7 @@ fn count_others(lives: &[Life], places: &[Option<usize>]) -> (u64, u64)
     (absorbed, left_out)
 }
 
-/// The place of the request that a bio went out with, which went into a request at first.
+/// The place of the request that a bio went out with, by the request that it first went into.
 fn place_of(lives: &[Life], places: &[Option<usize>], request: Option<usize>) -> Option<usize>
     ensures own { IsPlaceOfOwn lives.now places.now request result }
     ensures within { (n : ℕ) → AreWithin n places.now → IfSome result (λ k. k < n) }
@@ -383,7 +383,7 @@ fn fate_at(place: Option<usize>) -> Fate
     }
 }
 
-/// What became of a record, as its bio or its request was taken or not.
+/// What became of a record, by whether its bio or its request was taken.
 fn fate_of(role: Role, bios: &[CapturedBio], lives: &[Life], places: &[Option<usize>]) -> Fate
     ensures matched { is_matched result ≡ is_known role }
     ensures passed { passed_by result ≡ passed_role role }
@@ -519,7 +519,8 @@ fn settle<A: Allocator + Clone>(
 /// Matches the records of a capture to bios and requests, and takes those that went out. Which record belongs to which
 /// request is found by the rules of the crate's page. What a record speaks of may be unknown, which stops nothing.
 ///
-/// Refused as `Order` where a record has an earlier time than the one before it, and when out of memory. The time grows as n log n in the number of records.
+/// Refused as `Order` where a record has an earlier time than the one before it, and when out of memory. The time grows as n log n in
+/// the number of records.
 pub fn match_records<A: Allocator + Clone>(
     alloc: A,
     records: &[Record],
@@ -597,7 +598,7 @@ pub fn rounds_of<A: Allocator + Clone>(
     count_rounds(alloc, served.as_slice())
 }
 
-/// What of requests is counted in rounds.
+/// The parts of requests that are counted in rounds.
 fn served<A: Allocator>(
     alloc: A,
     requests: &[CapturedRequest],

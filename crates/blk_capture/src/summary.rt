@@ -38,7 +38,7 @@ pub struct Spread {
     pub max: Option<u64>,
 }
 
-/// A capture in numbers: how many records it has, and of the requests that are taken the others.
+/// A capture in numbers: how many records it has, and figures of the requests that are taken.
 #[derive(Clone, Copy, Debug, PartialEq, Eq)]
 pub struct Summary {
     /// How many records there are.
@@ -136,7 +136,7 @@ fn of_sorted(sorted: &[u64]) -> Spread
     }
 }
 
-/// The waits of the requests of which both ends are known.
+/// The waits of the requests whose ends are both known.
 fn waits<A: Allocator>(
     alloc: A,
     requests: &[CapturedRequest],
@@ -159,7 +159,7 @@ fn spread_of(values: &mut [u64]) -> Spread
     of_sorted(values)
 }
 
-/// How long the requests waited, of those of which both ends are known. At most [`edd_commands::MAX_COMMANDS`] requests. Fails only when
+/// How long those requests waited whose ends are both known. At most [`edd_commands::MAX_COMMANDS`] requests. Fails only when
 /// out of memory. The time grows as n log n.
 #[tactic(auto, using(crate::proofs::Flying::few_known))]
 fn spread_waits<A: Allocator>(
@@ -180,12 +180,12 @@ fn put_in_order(requests: &[CapturedRequest], times: &mut [u64])
     ensures rising { IsNonDecreasingBy (λ x. x) times.new }
     ensures counted { (t : ℕ) → count_by (λ x. nat_le x t) times.new ≡ count_by (back_by t) requests.now }
 {
-    // `requests` only says in the clauses of which times these are
+    // `requests` only tells the clauses whose times these are
     let _ = requests;
     times.sort_unstable();
 }
 
-/// When the requests were completed that were.
+/// When the completed ones of the requests were completed.
 fn completions<A: Allocator>(
     alloc: A,
     requests: &[CapturedRequest],

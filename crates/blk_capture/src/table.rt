@@ -30,7 +30,7 @@ pub struct RequestRow {
     pub dispatched: u64,
     /// When it was completed.
     pub completed: Option<u64>,
-    /// By when it was due.
+    /// When it was due.
     pub due: u64,
 }
 

@@ -12,9 +12,9 @@ use std::alloc::Global;
 /// How a capture is imported.
 #[derive(Clone, Copy, Debug, PartialEq, Eq)]
 pub struct ImportAsked {
-    /// How soon requests are due, and from when on they count as come in.
+    /// How soon requests are due, and from when they count as having come in.
     pub options: Options,
-    /// Requests that went out sooner after the first record are left out, in nanoseconds.
+    /// Requests that went out sooner than this after the first record, in nanoseconds, are left out.
     pub skip: u64,
     /// The most of the others that are taken, those that went out first.
     pub first: u64,
@@ -51,7 +51,7 @@ pub fn first_time(records: &[Record]) -> u64
     }
 }
 
-/// From when on requests are taken.
+/// From when requests are taken.
 fn begin_after(skip: u64, records: &[Record]) -> u64
     ensures { result ≡ begin_after skip records.now }
 {

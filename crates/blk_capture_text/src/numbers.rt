@@ -84,7 +84,7 @@ fn count_all_passed(fates: &[Fate]) -> u64
     count
 }
 
-/// What became of the records that are of no request that is known.
+/// What became of the records of no known request.
 pub fn count_fates(fates: &[Fate]) -> UnusedCounts
     ensures { result ≡ counts_of fates.now }
 {

@@ -145,7 +145,7 @@ fn read_body<R: Read + Drop>(
 }
 
 /// The records of a capture, a text of records of eight fields: a title, and each record's seconds, nanoseconds in nine digits,
-/// processor, action, process, rwbs, first sector and sectors, by times that don't fall. No record was read before. A time is in
+/// processor, action, process, rwbs, first sector and sectors, by times that don't fall. No record may have been read before. A time is in
 /// nanoseconds; action and rwbs may be any texts, of which [`blk_capture::Action::of_letters`] and [`blk_capture::Op::of_letters`] tell
 /// what they say.
 ///

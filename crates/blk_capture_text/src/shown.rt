@@ -20,7 +20,7 @@ pub enum ShownImport {
     Schedule,
     /// A row a request.
     Table,
-    /// It in numbers.
+    /// The import in numbers.
     Summary,
 }
 

@@ -18,7 +18,7 @@ use edd_commands::Capacity;
 use std::alloc::{AllocError, Global};
 use std::io::Read;
 
-/// How crowded the window of a certificate is that proves its lateness least; nothing of one that has no commands.
+/// How crowded the window is that proves a certificate's lateness least; nothing where it has no commands.
 fn verify(alloc: Global, certificate: &Certificate) -> Result<Option<Crowding>, Failure>
     requires { IsClaim (claimed certificate.now) }
     ensures proved { OnOk result (IsProved (claimed certificate.now)) }

@@ -54,7 +54,7 @@ pub const COMMAND_LINE: u8 = 2;
 /// The exit status of a read fault, of a write fault, and when out of memory.
 pub const FAILED: u8 = 3;
 
-/// The line where the words are taken and name no job: no other words than these two flags do so.
+/// The line for words that clap takes and that name no job: only these two flags do.
 const NO_JOB: &[u8] = b"blk: --trace and --met exclude one another\n";
 
 /// How a run ended.
@@ -78,7 +78,7 @@ pub struct Answered {
 }
 
 impl Answered {
-    /// A text alone, of what is good.
+    /// A text alone, with nothing wrong.
     pub fn alone(text: Vec<u8>) -> Answered
         ensures { said_of result ≡ only text.items }
     {

@@ -1,4 +1,4 @@
-//! How the tags of a core stand in the round that is on.
+//! How the tags of a core stand in the current round.
 
 ghost use Rattle.std.specs.Prelude.{◌≡◌, ◌<◌, ⊤, IfOk, OnOk, OnErr, length, replicate};
 ghost use Rattle.blk_bio.specs.Requests.{dir_of};
@@ -10,7 +10,7 @@ use blk_sched::Queued;
 use std::alloc::{AllocError, Allocator};
 use std::mem;
 
-/// How a tag stands in the round that is on.
+/// How a tag stands in the current round.
 #[derive(Drop)]
 pub(crate) enum TagState<A: Allocator> {
     /// It was not issued.
@@ -22,7 +22,7 @@ pub(crate) enum TagState<A: Allocator> {
         /// Its request.
         queued: Queued<A>,
     },
-    /// A command of this direction was issued, and is completed or requeued since.
+    /// A command of this direction was issued, and has been completed or requeued since.
     Spent(Dir),
 }
 

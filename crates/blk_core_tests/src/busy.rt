@@ -56,7 +56,7 @@ fn requeued_for_its_own_queue(rt: HostRuntime) {
     follows(&rt, rt.alloc(), setup(&rt, 2, 2, 0), &calls);
 }
 
-/// Those that came back first go out first, whatever their ids; one that comes back twice stands last.
+/// Those requeued first go out first, whatever their ids; one requeued twice stands last.
 #[test]
 fn issued_in_the_order_of_requeueing(rt: HostRuntime) {
     let calls = [

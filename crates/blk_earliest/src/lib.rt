@@ -29,7 +29,7 @@ pub struct Earliest<A: Allocator = Global> {
 
 impl<A: Allocator + Clone> Earliest<A> {
     /// A scheduler in which nothing waits and no pick is open. With `late_last` a request whose due round is past waits
-    /// until none is there that can still be on time. It fails only when out of memory.
+    /// while any is there that can still be on time. It fails only when out of memory.
     pub fn new(alloc: A, late_last: bool) -> Result<Earliest<A>, AllocError>
         ensures ok { IfOk result (λ s. meaning_of s ≡ at_start true) }
         ensures setting { IfOk result (λ s. late_last_of s ≡ late_last) }

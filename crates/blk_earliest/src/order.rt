@@ -16,7 +16,7 @@ use std::alloc::{AllocError, Allocator, Global};
 use std::collections::{BTreeSet, VecDeque};
 use std::ops::Bound;
 
-/// How many stand in a FIFO list at most: one that goes from the middle of it moves half of the others.
+/// The most that stand in a FIFO list: taking one out of the middle moves half of the others.
 const MAX_FIFO: usize = 256;
 
 /// Due rounds with ids, as the set of them. Under one expiry requests mostly come in by rising due rounds. So each direction has a FIFO list of
@@ -95,7 +95,7 @@ fn comes_before(one: Due, other: Due) -> bool
     one.cmp(&other).is_lt()
 }
 
-/// Whether two are one.
+/// Whether two are equal.
 #[inline(always)]
 fn is_same(one: Due, other: Due) -> bool
     ensures { result ≡ eq_by_cmp pair_cmp one other }

@@ -196,7 +196,7 @@ fn is_within(slot: Slot, field: &[u8]) -> bool
     }
 }
 
-/// Whether a field does not have a fault, beside its slot.
+/// Whether a field is free of a fault, given its slot.
 fn keeps_slot(why: Why, slot: Slot, field: &[u8]) -> bool
     ensures { IsTrue result ↔ KeepsSlot why slot field.now }
 {
@@ -275,7 +275,7 @@ pub fn number_in(row: &ByteRecord, place: usize) -> u64
     }
 }
 
-/// A number up to the greatest below a count, which is 0 where the count is.
+/// A number below a count, or 0 alone where the count is 0.
 fn below(count: u64) -> Allowed
     ensures { result ≡ Allowed.Slot (slot.Number 0 (count - 1)) }
 {

@@ -30,7 +30,7 @@ pub struct Explained {
     pub good: bool,
 }
 
-/// How many edits lead to the name of a form.
+/// How many edits away the name of a form is.
 fn edits_to(alloc: Global, found: &[u8], form: TextForm) -> Result<usize, AllocError>
     ensures { IfOk result (λ n. n ≡ edits_to found.now form) }
 {
@@ -38,7 +38,7 @@ fn edits_to(alloc: Global, found: &[u8], form: TextForm) -> Result<usize, AllocE
     generic_levenshtein(alloc, found, name.as_slice())
 }
 
-/// The one of two forms to whose name fewer edits lead.
+/// Of two forms the one whose name is fewer edits away.
 fn nearer(
     alloc: Global,
     found: &[u8],
@@ -56,7 +56,7 @@ fn nearer(
     }
 }
 
-/// The form to whose name the fewest edits lead.
+/// The form whose name is the fewest edits away.
 fn nearest(alloc: Global, found: &[u8]) -> Result<TextForm, AllocError>
     ensures { IfOk result (IsNearest found.now) }
 {
@@ -272,8 +272,8 @@ fn is_good(finding: Finding) -> bool
 /// out of memory.
 ///
 /// The form is the one whose name the text begins with, and the fault the one that the reader of that form answers; a good script is run
-/// under the scheduler `none`. For a text that begins with no such name the nearest one is wanted, that to which the fewest edits lead, and for one whose
-/// first field is empty a title.
+/// under the scheduler `none`. For a text that begins with no such name the nearest name is wanted, the one that is the fewest edits
+/// away, and for one whose first field is empty a title.
 pub fn explain(alloc: Global, bytes: &[u8]) -> Result<Explained, AllocError>
     ensures { IfOk result (λ e. IsExplained bytes.now e.good e.text.items) }
 {

@@ -18,7 +18,7 @@ pub enum Want {
     Submitter,
     /// A submitter that a trace may name.
     AnySubmitter,
-    /// What the row says beside commands, and `none` beside none.
+    /// What the row says where there are commands, and `none` where there are none.
     Bound,
     /// Any text: what else the reader wants of it is said of the whole record.
     Text,

@@ -1,4 +1,4 @@
-//! The kinds of records. Each has one row: that which the reader of its form goes by, with its word, the version that it came with and what may
+//! The kinds of records. Each has one row: the one that its form's reader uses, with its word, the version that it came with and what may
 //! stand in its fields; and what these are called.
 
 ghost use Rattle.std.specs.Prelude.{◌≡◌, ◌++◌, IfOk, OnOk};

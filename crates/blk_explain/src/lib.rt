@@ -1,4 +1,4 @@
-//! What a text is, or what is wrong with it, told to whoever wrote it by hand.
+//! What a text is, or what is wrong with it, for an author who wrote it by hand.
 #![tactic(auto)]
 
 mod counts;

@@ -1,4 +1,4 @@
-//! The row of a kind of record: the row that the reader of its form goes by, and what its fields are called.
+//! The row of a kind of record: the row that its form's reader uses, and what its fields are called.
 
 ghost use Rattle.std.specs.Prelude.{◌≡◌, ◌≤◌, ◌<◌, length, take, get_or};
 ghost use Rattle.blk_lists.specs.declared.fields.Slot.TheVariants as slot;

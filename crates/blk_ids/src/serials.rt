@@ -10,9 +10,8 @@ use std::collections::BTreeSet;
 /// No list of flags gets longer than this.
 const MAX_FLAGS: u64 = 1 << 40;
 
-/// A set of numbers: a flag for each of the first ones, and an ordered set for the others. The flags are at most sixteen times
-/// as many as the numbers that they mark, and some hundred, so a list of them is what numbers take that count up, in whatever order
-/// they come.
+/// A set of numbers: a flag for each of the first ones, and an ordered set for the others. There are at most sixteen times as many
+/// flags as numbers marked, and some hundred more. So numbers that count up go into a list of flags, in whatever order they come.
 #[derive(Drop)]
 pub struct Serials<A: Allocator = Global> {
     /// Whether each number from 0 on is in the set.

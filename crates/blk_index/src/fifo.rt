@@ -23,9 +23,9 @@ pub struct FifoLists<A: Allocator = Global> {
     pub reads: VecDeque<u64, A>,
     /// Those of writes.
     pub writes: VecDeque<u64, A>,
-    /// Whether one of reads may be listed that has gone.
+    /// Whether a read that has gone may be listed.
     pub reads_gone: bool,
-    /// Whether one of writes may be listed that has gone.
+    /// Whether a write that has gone may be listed.
     pub writes_gone: bool,
 }
 
@@ -181,8 +181,8 @@ fn put_at<A: Allocator + Clone>(
     }
 }
 
-/// Takes an id out where it is the first, with those after it that went before, and leaves it listed where it isn't.
-/// `gone` says whether one may be listed that went, and so does the answer: where each waits, none is looked up.
+/// Takes an id out where it is the first, with those after it that have gone, and leaves it listed where it isn't.
+/// `gone` and the answer say whether one that has gone may be listed: where each waits, none is looked up.
 #[inline(always)]
 fn take_id<A: Allocator + Clone>(
     ids: &mut VecDeque<u64, A>,

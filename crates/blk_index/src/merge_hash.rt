@@ -276,7 +276,7 @@ fn spot_on<A: Allocator + Clone>(spots: &BTreeSet<Spot, A>, place: (bool, u64)) 
     Some(spot)
 }
 
-/// Whether two places are one.
+/// Whether two places are equal.
 fn is_place(one: (bool, u64), other: (bool, u64)) -> bool
     ensures { result ≡ eq_by_cmp place_cmp one other }
 {
@@ -318,7 +318,7 @@ pub fn end_spot(extent: Extent, id: u64) -> Spot
 }
 
 impl<A: Allocator + Clone> MergeHashes<A> {
-    /// No edges. It takes no memory but for the allocators.
+    /// No spots. It takes no memory but for the allocators.
     pub fn new(alloc: A) -> Result<MergeHashes<A>, AllocError>
         ensures { IfOk result (λ e. (found : ℕ → Option Waiting) → ((k : ℕ) → found k ≡ None) → IsEdges found e) }
     {
@@ -328,7 +328,7 @@ impl<A: Allocator + Clone> MergeHashes<A> {
         })
     }
 
-    /// Adds the edges of a request that isn't there, with the number of its sectors. On a refusal nothing is changed.
+    /// Adds both spots of a request that isn't there, with the number of its sectors. On a refusal nothing is changed.
     #[inline(always)]
     pub fn add(&mut self, extent: Extent, sectors: u64, id: u64) -> Result<(), AllocError>
         ensures ok { OnOk result (AddsEdges extent sectors id self.old self.new) }
@@ -343,7 +343,7 @@ impl<A: Allocator + Clone> MergeHashes<A> {
         Ok(())
     }
 
-    /// Takes out the edges of a request.
+    /// Takes out both spots of a request.
     #[inline(always)]
     pub fn del(&mut self, extent: Extent, id: u64)
         ensures { DropsEdges extent id self.old self.new }

@@ -64,7 +64,7 @@ impl<A: Allocator + Clone> SlabKeys<A> {
         put_other(&mut self.others, id, key)
     }
 
-    /// Lets a run of no ids begin with this one.
+    /// Lets an empty run begin with this id.
     #[inline(always)]
     fn begin_at(&mut self, id: u64)
         ensures { entries_of self.new ≡ entries_of self.old }

@@ -15,7 +15,7 @@ use std::marker::Model;
 /// How a layer hashes: by numbers alone, so that it needs no source of randomness.
 pub(crate) type LayerHashing = BuildHasherDefault<FoldHasher>;
 
-/// Bios of which no two have one id, in the order in which they came, beside their ids.
+/// Bios with distinct ids, in the order in which they came, beside their ids.
 #[derive(Drop)]
 pub(crate) struct Account<A: Allocator = Global> {
     bios: Vec<Bio, A>,

@@ -62,8 +62,8 @@ pub enum CloseRefused<S: Scheduler, L: Named> {
     },
     /// The accounts disagree; the layer is spent.
     Differs {
-        /// A bio on which they do: another number of it was accepted than was issued and is left, or its command stands
-        /// another number of times in the workers' accounts than it is done.
+        /// A bio on which they disagree: it was not accepted as often as it was issued and is left, or its command
+        /// stands in the workers' accounts more or less often than it was done.
         bio: BioId,
         /// What the layer leaves.
         closed: Closed<S::A>,
@@ -247,7 +247,7 @@ fn settle<S: Scheduler, L: Named>(
     Ok(Settlement { left, differs })
 }
 
-/// A bio of a command that stands another number of times in the workers' accounts than it is done. The accounts have as many
+/// A bio of a command that stands in the workers' accounts more or less often than it was done. The accounts have as many
 /// commands as are done. Fails only when memory runs out.
 fn command_bio<L: Named, A: Allocator + Clone>(
     alloc: &A,
@@ -422,7 +422,7 @@ fn released_as<A: Allocator + Clone>(event: &Event<Request<A>>, id: u64) -> Opti
     Some(request.bios()[0].id())
 }
 
-/// The id of a bio that stands another number of times in the one list than in the other. Fails only when memory runs out.
+/// The id of a bio that stands in the one list more or less often than in the other. Fails only when memory runs out.
 fn differing_bio<A: Allocator + Clone>(
     alloc: &A,
     accepted: &[Bio],
@@ -440,7 +440,7 @@ fn differing_bio<A: Allocator + Clone>(
     }
 }
 
-/// A command of those that are done which stands another number of times among those that were run. The two lists are of one
+/// A command that stands among those that are done more or less often than among those that were run. The two lists are of one
 /// length. Fails only when memory runs out.
 fn differing_command<A: Allocator + Clone>(
     alloc: &A,

@@ -88,7 +88,7 @@ pub struct Worked {
     pub finished: bool,
 }
 
-/// Why a worker's work ended before its time: by the first refusal of the core that it met.
+/// Why a worker's work ended early: the core's first refusal.
 #[derive(Clone, Copy, Debug, PartialEq, Eq)]
 pub enum WorkFault {
     /// The trace has no places for an event.
@@ -352,7 +352,7 @@ impl<S: Scheduler, L: Named> Layer<S, L> {
                 None => return Ok(served),
             }
         }
-        // can't come: no trace has places for so many Issues, but what lay under the lock no clause can name
+        // can't happen: no trace has places for that many Issues, but no clause can name what lay under the lock
         Err(WorkFault::Memory)
     }
 

@@ -57,7 +57,7 @@ pub fn law_of_late_last_traces()
         → IsOnTimeFirstTrace setup events → HasMostOnTime setup events }
 {}
 
-/// Read as each command goes out, and not as its round ends, what waits is too little: both laws would be false. In a legal trace a
+/// If what waits were read as each command goes out, and not as its round ends, both laws would be false. In a legal trace a
 /// write goes out while nothing else waits, and then a read comes in that is due sooner. Each command came first of what waited as it
 /// went out, and the round was full as it ended; but the read is a round late, and it need not have been.
 ///

@@ -1,4 +1,4 @@
-//! What stands round the boxes of a picture, as text: its heading, its axis and its windows.
+//! What stands around the boxes of a picture, as text: its heading, its axis and its windows.
 
 ghost use Rattle.std.specs.Prelude.{◌≡◌, ◌<◌, ◌++◌, OnOk, length};
 ghost use Rattle.blk_picture.specs.Around.{numbers_text, legend, heading_text, tick_text, axis_text, column_at, line_text, named_text, bracket_text, crowded_text, crowd_text, crowds_text, foot_text, windows_text};

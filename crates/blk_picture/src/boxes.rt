@@ -53,7 +53,7 @@ fn known(facts: &BTreeMap<u64, Facts>, id: u64) -> Facts
     }
 }
 
-/// Goes back over the event at a place, in the round, and says which round is on before it.
+/// Steps back over the event at a place, in the round, and says which round it is before that.
 fn step_back(
     trace: &Trace,
     facts: &BTreeMap<u64, Facts>,

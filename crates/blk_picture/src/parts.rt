@@ -25,7 +25,7 @@ use std::alloc::{AllocError, Global};
 /// How many traces are drawn below one another at most.
 const MAX_TRACES: usize = 1000;
 
-/// How many rounds of a trace are shown: the one that is on is the last.
+/// How many rounds of a trace are shown: the current one is the last.
 fn rounds_shown(trace: &Trace) -> u32
     ensures value { result ≡ rounds_shown trace.now }
     ensures small { result ≤ MAX_EVENTS + 1 }

@@ -13,7 +13,7 @@ pub const MAX_WIDE: u32 = 1200;
 /// How many pixels a column is wide at most.
 const MAX_COLUMN_WIDE: u32 = 40;
 
-/// How many pixels all tags take at most, but for so many that each has the least height.
+/// How many pixels all tags take at most, unless each already has the least height.
 const MAX_TALL: u32 = 384;
 
 /// How many pixels a tag is high at least.

@@ -98,7 +98,7 @@ fn halves_of<A: Allocator>(
     Ok(halves)
 }
 
-/// Counts what is asked of numbers, of bounds up to a limit. Each step halves the limit: the numbers are parted by a pivot in its
+/// Answers such questions, with bounds up to a limit. Each step halves the limit: the numbers are parted by a pivot in its
 /// middle, and each question goes on in one of the parts. So the time grows as the number of numbers and questions times the
 /// binary digits of the limit.
 pub(crate) fn count_below<A: Allocator + Clone>(

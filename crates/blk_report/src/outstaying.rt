@@ -120,7 +120,7 @@ fn bios_under<A: Allocator + Clone>(
     Ok(bios)
 }
 
-/// The bios that wait in the end though the round that is on then is above the round in which their request is due, in the order in
+/// The bios that wait at the end, in a round after the one in which their request is due, in the order in
 /// which they entered. Fails only when out of memory. The time grows as n log n in the number of events.
 pub(crate) fn overdue<A: Allocator + Clone>(
     trace: &Trace<A>,

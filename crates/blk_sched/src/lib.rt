@@ -204,7 +204,7 @@ pub trait Scheduler: Drop {
 
     /// Takes out one request that is served for the hardware queue and opens one pick of its direction: the one that the
     /// scheduler chooses. None only where a pick is open or requeued, of either direction, or no served request waits.
-    /// Each request is served for the hardware queue that it entered at, at least. `now` is the core's round, and fewer
+    /// Each request is served at least for the hardware queue that it entered at. `now` is the core's round, and fewer
     /// than [`MAX_OPEN`] picks may be open.
     fn pick(&mut self, hw: u8, now: u64) -> Option<Queued<Self::A>>
         requires hw { hw < MAX_QUEUES }

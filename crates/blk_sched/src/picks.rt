@@ -1,5 +1,5 @@
-//! How many picks of each direction are open, handed out and not yet reported done, and how many a busy device made
-//! requeue.
+//! How many picks of each direction are open (handed out and not yet reported done), and how many are requeued, since
+//! the device was busy.
 
 ghost use Rattle.std.specs.Prelude.{◌≡◌, ◌<◌, ◌+◌};
 ghost use Rattle.blk_sched.specs.Meaning.{no_picks, open_of, requeued_of, opened, after_requeue};

@@ -89,7 +89,7 @@ pub(crate) fn why_issued(fault: IssueFault) -> SimWhy
     }
 }
 
-/// Why the core takes no command back.
+/// Why the core requeues no command.
 pub(crate) fn why_kept(fault: BackFault) -> SimWhy
     ensures { result ≡ back_why fault }
 {

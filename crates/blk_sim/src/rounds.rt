@@ -39,7 +39,7 @@ fn issue_tag<S: Scheduler>(core: &mut Core<S>, tag: u16) -> Result<bool, SimWhy>
     Ok(false)
 }
 
-/// Whether an issue was refused since its tag was used in the round.
+/// Whether an issue was refused because its tag was used in the round.
 fn is_used(why: SimWhy) -> bool
     ensures { IsTrue result ↔ (why ≡ SimWhy.SlotUsed) }
 {

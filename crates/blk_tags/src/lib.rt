@@ -3,7 +3,7 @@
 //! After the driver tags of Linux blk-mq (`struct sbitmap_queue` of a `struct blk_mq_tags`): a request at the device is named
 //! by a tag below the queue's depth, which comes back when it is done and is used again. A set has its tags as the bits of
 //! four words, that of tag t in word t / 64. A take is one `fetch_or` on a word and a give one `fetch_and`, so no thread ever
-//! waits for another. Who takes and gives has a seat, which remembers what it holds; no two seats hold one tag.
+//! waits for another. Each taker has a seat, which remembers what it holds; no two seats hold one tag.
 #![tactic(auto)]
 
 mod held;

@@ -46,8 +46,8 @@ pub enum Event<R> {
         /// The tag of a command that is in flight.
         tag: u16,
     },
-    /// From the next round on the device takes as many commands in a round, until another Depth (blk-mq's depth of a
-    /// queue, that is set while it runs). Of several in one round the last stands.
+    /// From the next round on the device takes as many commands in a round, until another Depth (blk-mq's queue
+    /// depth, set while it runs). Of several in one round the last stands.
     Depth {
         /// How many: at least 1, and no more than the setup's depth.
         depth: u64,

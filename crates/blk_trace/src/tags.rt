@@ -4,7 +4,7 @@ ghost use Rattle.std.specs.Prelude.{◌≡◌};
 ghost use Rattle.std.specs.List.{list_any};
 ghost use Rattle.blk_trace.specs.Inside.Kept.{is_open_use};
 
-/// How a tag stands in the round that is on.
+/// How a tag stands in the current round.
 #[derive(Clone, Copy, Debug, PartialEq, Eq)]
 pub enum TagUse {
     /// No Issue had it.

@@ -55,9 +55,9 @@ pub struct Trace<A: Allocator = Global> {
     known: ById<Known, A>,
     /// The ids of the bios that entered.
     ids: IdSet<A>,
-    /// How each tag stands in the round that is on.
+    /// How each tag stands in the current round.
     tags: Vec<TagUse, A>,
-    /// The round that is on.
+    /// The current round.
     round: u64,
     /// How many commands it carries.
     depth: u64,
@@ -245,7 +245,7 @@ impl<A: Allocator + Clone> Trace<A> {
         self.events.len() as u64
     }
 
-    /// The round that is on: how many Ticks there are.
+    /// The current round: how many Ticks there are.
     pub fn round(&self) -> u64
         ensures value { result ≡ round_of self.now.events }
         ensures few { result ≤ MAX_EVENTS }
@@ -253,7 +253,7 @@ impl<A: Allocator + Clone> Trace<A> {
         self.round
     }
 
-    /// How many commands the round that is on carries: as many as the last Depth of a round before it sets, or as there are
+    /// How many commands the current round carries: as many as the last Depth of a round before it sets, or as there are
     /// tags where there is none.
     pub fn depth_now(&self) -> u64
         ensures value { result ≡ depth_now self.now.setup self.now.events }

@@ -187,9 +187,9 @@ pub fn shown(top: Option<u64>, rows: &[TrialRow]) -> &[TrialRow]
 }
 
 /// The table of rows that stand best first: a head line; a line for each that is shown, of its scheduler, its settings, how many commands
-/// and bios waiting it has, its greatest lateness, the least and the shortfall, how many commands were late, had to be and didn't, and
-/// how long 99 of 100 reads and of 100 writes waited at most, in rounds, `none` where there is no such number; and a last line that names
-/// the best one, and says so where no schedule of its commands is better.
+/// and bios waiting it has, its greatest lateness, the least and the shortfall, how many commands were late, how many of those had to be
+/// and how many didn't, and how long 99 of 100 reads and of 100 writes waited at most, in rounds, `none` where there is no such number; and a
+/// last line that names the best one, and says so where no schedule of its commands is better.
 pub fn table(
     alloc: Global,
     by: By,

@@ -1,4 +1,4 @@
-//! Checks a claim of least lateness from whoever made it.
+//! Checks a claim of least lateness, whoever made it.
 //!
 //! The objective is Pinedo's greatest lateness Lmax (Scheduling), of the commands and capacities of `edd_commands`. All
 //! calls go by place in the lists, and don't look at whether ids repeat.
@@ -144,7 +144,7 @@ fn block_stays_within<A: Allocator>(rounds: &[u64], capacity: &Capacity<A>, from
     true
 }
 
-/// Whether each round stands in at most as many places as it carries.
+/// Whether each round stands in no more places than it carries.
 fn stays_within<A: Allocator>(rounds: &[u64], capacity: &Capacity<A>) -> bool
     ensures { IsTrue result ↔ ((x : ℕ) → IsWithinDepth rounds.now capacity.now x) }
 {

@@ -210,7 +210,7 @@ pub fn schedule<A: Allocator + Clone, B: Allocator>(
     settled(alloc, rounds.as_slice())
 }
 
-/// A round for each command so that as many as possible are on time: earliest due first, passing over what can no more be on time,
+/// A round for each command so that as many as possible are on time: earliest due first, passing over what can no longer be on time,
 /// and from the round after the last one on time on earliest due first of what was passed over.
 pub fn schedule_on_time<A: Allocator + Clone, B: Allocator>(
     alloc: A,

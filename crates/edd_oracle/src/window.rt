@@ -13,7 +13,7 @@ use edd_check::Window;
 use edd_commands::{Capacity, Command};
 use std::alloc::{AllocError, Allocator};
 
-/// Whether the one command at its round comes before the other at its: by lateness, the later first, then by
+/// Whether one command in its round comes before another in its own: by lateness, the later first, then by
 /// round, then by id.
 fn is_later(one: Command, x: u64, other: Command, y: u64) -> bool
     requires one_due { one.due < MAX_ROUNDS }

@@ -63,8 +63,8 @@ fn latest_due(served: &[Served], first: usize, past: usize) -> u64
     due
 }
 
-/// The rounds that are full, each with the latest due round of those that run in it: the last of them stands for the round. Of a full round as many stand side by
-/// side as it carries, the last of them at the place at which it is found.
+/// The rounds that are full, each with the latest due round of those that run in it: the last of them stands for the round. Of a full
+/// round as many stand side by side as it carries, the last of them at the place at which it is found.
 fn full_rounds<A: Allocator, B: Allocator>(
     alloc: A,
     served: &[Served],
@@ -95,7 +95,7 @@ fn full_rounds<A: Allocator, B: Allocator>(
     Ok(full)
 }
 
-/// Where a round doesn't follow on the last full one, the round before it has room: whatever ends later can't hold it.
+/// Where a round doesn't follow the last full one, the round before it has room: whatever ends later can't hold it.
 fn cross_gap<A: Allocator>(
     peaks: &mut Vec<Served, A>,
     next: u64,

@@ -169,7 +169,7 @@ impl<A: Allocator + Clone> Trace<A> {
         self.prepared = Prepared::Nothing;
     }
 
-    /// Adds a Depth: the rounds after the one that is on carry `depth` commands.
+    /// Adds a Depth: the rounds after the current one carry `depth` commands.
     fn add_depth(&mut self, depth: u64)
         requires unbroken { IsUnbroken self.old.setup self.old.events (Depth depth) }
         requires prepared { IsPreparedFor self.old.prepared (Depth depth) }
@@ -215,7 +215,7 @@ fn requeue<A: Allocator + Clone>(known: &mut ById<Known, A>, command: &Command)
 }
 
 /// The place of the command of an id, which is there. It looks from the end on, since what is in flight was issued in
-/// the round that is on.
+/// the current round.
 fn place_of(commands: &[Command], id: u64) -> usize
     requires { (k : ℕ) × ((x : Job) × (slice_get commands.now k ≡ Some x) × (x.id ≡ id)) }
     ensures { (x : Job) × (slice_get commands.now result ≡ Some x) × (x.id ≡ id) }
