@@ -37,9 +37,9 @@ use Rattle.blk_trace.proofs.TagUses.{by_open}
 use Rattle.blk_trace.proofs.Steps as step
 
 -- an event that ends the Issue of a command in flight breaks no rule
-pub end_unbroken : {A : Type 0} (setup : Setup) (es : List Happened) (e : Happened) (m : Meaning) (fl : List (TagState A)) (requeued : List (List Waiting)) (rel tag hw : ℕ) (w : Waiting) → IsTied setup es m fl requeued rel → tag < length fl → get_or fl tag Free ≡ InFlight hw w → (seat_at es tag ≡ Some (record { dir = dir_of w.bios; in_flight = true }) → IsAllowed setup es e) → places_of e ≡ 0 → IsUnbroken setup es e
-end_unbroken setup es e m fl requeued rel tag hw w t lt at allowed none =
-    step.allowed-unbroken setup es e t.legal (allowed (seated setup es m fl requeued rel tag hw w t lt at)) (let l = t.legal.not_too_long in omega arith)
+pub end_unbroken : {A : Type 0} (setup : Setup) (es : List Happened) (e : Happened) (m : Meaning) (fl : List (TagState A)) (requeue_lists : List (List Waiting)) (rel tag hw : ℕ) (w : Waiting) → IsTied setup es m fl requeue_lists rel → tag < length fl → get_or fl tag Free ≡ InFlight hw w → (seat_at es tag ≡ Some (record { dir = dir_of w.bios; in_flight = true }) → IsAllowed setup es e) → places_of e ≡ 0 → IsUnbroken setup es e
+end_unbroken setup es e m fl requeue_lists rel tag hw w t lt at allowed none =
+    step.allowed-unbroken setup es e t.legal (allowed (seated setup es m fl requeue_lists rel tag hw w t lt at)) (let l = t.legal.not_too_long in omega arith)
 
 -- one pick of the direction fewer is open
 record IsClosed (m m' : Meaning) (dir : Dir) : Type 0 where
@@ -48,20 +48,20 @@ record IsClosed (m m' : Meaning) (dir : Dir) : Type 0 where
   pending : m'.pending ≡ m.pending
 
 -- what the scheduler and the requeue lists hold then
-record IsLeft (setup : Setup) (fs : List Happened) (m' : Meaning) (requeued' : List (List Waiting)) : Type 0 where
+record IsLeft (setup : Setup) (fs : List Happened) (m' : Meaning) (requeue_lists' : List (List Waiting)) : Type 0 where
   pending : (q : ℕ) → option_map entered_of (map.get m'.pending q) ≡ unissued_at setup fs q
-  are : AreAs (requeued_at setup fs) requeued'
-  once : AreOnce (requeued_at setup fs) requeued'
-  count : map.len m'.pending + requeued_total requeued' ≡ waiting_count fs
-  requeued_picks : (d : Dir) → requeued_of d m'.open_picks ≡ requeued_count (is_of d) requeued'
-  lists : length requeued' ≡ setup.hw
+  are : AreAs (requeued_at setup fs) requeue_lists'
+  once : AreOnce (requeued_at setup fs) requeue_lists'
+  count : map.len m'.pending + requeued_total requeue_lists' ≡ waiting_count fs
+  requeued_picks : (d : Dir) → requeued_of d m'.open_picks ≡ requeued_count (is_of d) requeue_lists'
+  lists : length requeue_lists' ≡ setup.hw
 
-tied_end : {A : Type 0} (setup setup' : Setup) (es es' : List Happened) (e : Happened) (m m' : Meaning) (fl : List (TagState A)) (requeued requeued' : List (List Waiting)) (rel tag hw : ℕ) (w : Waiting) → IsPushed setup es e setup' es' → ends e ≡ Some tag → released_count (es ++ e ∷ []) ≡ released_count es → ((id : ℕ) (bios : List Bio) → e ≡ Release id bios → ⊥) → IsTied setup es m fl requeued rel → tag < length fl → get_or fl tag Free ≡ InFlight hw w → IsClosed m m' (dir_of w.bios) → IsLeft setup (es ++ e ∷ []) m' requeued' → IsTied setup' es' m' (set fl tag (Spent (dir_of w.bios))) requeued' rel
-tied_end {A} setup setup' es es' e m m' fl requeued requeued' rel tag hw w p end more other t lt at o s =
+tied_end : {A : Type 0} (setup setup' : Setup) (es es' : List Happened) (e : Happened) (m m' : Meaning) (fl : List (TagState A)) (requeue_lists requeue_lists' : List (List Waiting)) (rel tag hw : ℕ) (w : Waiting) → IsPushed setup es e setup' es' → ends e ≡ Some tag → released_count (es ++ e ∷ []) ≡ released_count es → ((id : ℕ) (bios : List Bio) → e ≡ Release id bios → ⊥) → IsTied setup es m fl requeue_lists rel → tag < length fl → get_or fl tag Free ≡ InFlight hw w → IsClosed m m' (dir_of w.bios) → IsLeft setup (es ++ e ∷ []) m' requeue_lists' → IsTied setup' es' m' (set fl tag (Spent (dir_of w.bios))) requeue_lists' rel
+tied_end {A} setup setup' es es' e m m' fl requeue_lists requeue_lists' rel tag hw w p end more other t lt at o s =
     let fs : List Happened = es ++ e ∷ [] in
     let g : TagState A = Spent (dir_of w.bios) in
     let seat : RoundSeat = record { dir = dir_of w.bios; in_flight = true } in
-    let here : seat_at es tag ≡ Some seat = seated setup es m fl requeued rel tag hw w t lt at in
+    let here : seat_at es tag ≡ Some seat = seated setup es m fl requeue_lists rel tag hw w t lt at in
     let r0 : flying Read (get_or fl tag Free) ≡ cond (same_dir Read (dir_of w.bios)) 1 0 = ap (flying Read) at in
     let s0 : flying Write (get_or fl tag Free) ≡ cond (same_dir Write (dir_of w.bios)) 1 0 = ap (flying Write) at in
     let rs : sum_by (flying Read) (set fl tag g) + flying Read (get_or fl tag Free) ≡ sum_by (flying Read) fl + 0 = sum_by-set (flying Read) fl tag g Free lt in
@@ -79,7 +79,7 @@ tied_end {A} setup setup' es es' e m m' fl requeued requeued' rel tag hw w p end
     let few = t.few in
     let some = t.ranges.some_queues in
     let mp = o.pending in
-    tied_at setup setup' es es' e m' (set fl tag g) requeued' rel p
+    tied_at setup setup' es es' e m' (set fl tag g) requeue_lists' rel p
     (record {
       legal = p.legal;
       ranges = t.ranges;
@@ -109,13 +109,13 @@ tied_end {A} setup setup' es es' e m m' fl requeued requeued' rel tag hw w p end
     })
 
 -- after a completion the core is tied
-tied_done : {A : Type 0} (setup setup' : Setup) (es es' : List Happened) (m m' : Meaning) (fl : List (TagState A)) (requeued : List (List Waiting)) (rel tag hw : ℕ) (w : Waiting) → IsPushed setup es (Done tag) setup' es' → IsTied setup es m fl requeued rel → tag < length fl → get_or fl tag Free ≡ InFlight hw w → m ≡ record m' { open_picks = opened (dir_of w.bios) m'.open_picks } → IsTied setup' es' m' (set fl tag (Spent (dir_of w.bios))) requeued rel
-tied_done setup setup' es es' m m' fl requeued rel tag hw w p t lt at m_is =
+tied_done : {A : Type 0} (setup setup' : Setup) (es es' : List Happened) (m m' : Meaning) (fl : List (TagState A)) (requeue_lists : List (List Waiting)) (rel tag hw : ℕ) (w : Waiting) → IsPushed setup es (Done tag) setup' es' → IsTied setup es m fl requeue_lists rel → tag < length fl → get_or fl tag Free ≡ InFlight hw w → m ≡ record m' { open_picks = opened (dir_of w.bios) m'.open_picks } → IsTied setup' es' m' (set fl tag (Spent (dir_of w.bios))) requeue_lists rel
+tied_done setup setup' es es' m m' fl requeue_lists rel tag hw w p t lt at m_is =
     let fs : List Happened = es ++ Done tag ∷ [] in
     let mp : m'.pending ≡ m.pending = sym (ap (λ (x : Meaning). x.pending) m_is) in
     let same : (q : ℕ) → requeued_at setup fs q ≡ requeued_at setup es q = λ q. requeued-finished setup es tag q in
     let count = step.count-finished setup es tag p.legal in
-    tied_end setup setup' es es' (Done tag) m m' fl requeued requeued rel tag hw w p refl (released-finished es tag) (λ i b e. cc) t lt at
+    tied_end setup setup' es es' (Done tag) m m' fl requeue_lists requeue_lists rel tag hw w p refl (released-finished es tag) (λ i b e. cc) t lt at
     (record {
       reads = ap (λ (x : Meaning). x.open_picks.reads) m_is ∙ opened_reads (dir_of w.bios) m'.open_picks;
       writes = ap (λ (x : Meaning). x.open_picks.writes) m_is ∙ opened_writes (dir_of w.bios) m'.open_picks;
@@ -123,35 +123,35 @@ tied_done setup setup' es es' m m' fl requeued rel tag hw w p t lt at m_is =
     })
     (record {
       pending = λ q. ap (λ (x : Pending). option_map entered_of (map.get x q)) mp ∙ t.holds.pending q ∙ sym (step.unissued-finished setup es tag p.legal q);
-      are = as_same (requeued_at setup es) (requeued_at setup fs) requeued same t.holds.requeued;
-      once = once_same (requeued_at setup es) (requeued_at setup fs) requeued same t.holds.requeued_once;
-      count = ap (λ x. map.len x + requeued_total requeued) mp ∙ t.holds.count ∙ sym count;
+      are = as_same (requeued_at setup es) (requeued_at setup fs) requeue_lists same t.holds.requeued;
+      once = once_same (requeued_at setup es) (requeued_at setup fs) requeue_lists same t.holds.requeued_once;
+      count = ap (λ x. map.len x + requeued_total requeue_lists) mp ∙ t.holds.count ∙ sym count;
       requeued_picks = λ d. sym (opened_requeued d (dir_of w.bios) m'.open_picks) ∙ sym (ap (λ (x : Meaning). requeued_of d x.open_picks) m_is) ∙ t.holds.requeued_picks d;
       lists = t.lists;
     })
 
 -- the same of what the code calls its direction
-pub tied_done_at : {A : Type 0} (setup setup' : Setup) (es es' : List Happened) (m m' : Meaning) (fl : List (TagState A)) (requeued : List (List Waiting)) (rel tag hw : ℕ) (w : Waiting) (dir : Dir) → IsPushed setup es (Done tag) setup' es' → IsTied setup es m fl requeued rel → tag < length fl → get_or fl tag Free ≡ InFlight hw w → dir ≡ dir_of w.bios → m ≡ record m' { open_picks = opened dir m'.open_picks } → IsTied setup' es' m' (set fl tag (Spent dir)) requeued rel
-tied_done_at setup setup' es es' m m' fl requeued rel tag hw w dir p t lt at is m_is =
-    subst (λ d. m ≡ record m' { open_picks = opened d m'.open_picks } → IsTied setup' es' m' (set fl tag (Spent d)) requeued rel) (sym is) (λ h. tied_done setup setup' es es' m m' fl requeued rel tag hw w p t lt at h) m_is
+pub tied_done_at : {A : Type 0} (setup setup' : Setup) (es es' : List Happened) (m m' : Meaning) (fl : List (TagState A)) (requeue_lists : List (List Waiting)) (rel tag hw : ℕ) (w : Waiting) (dir : Dir) → IsPushed setup es (Done tag) setup' es' → IsTied setup es m fl requeue_lists rel → tag < length fl → get_or fl tag Free ≡ InFlight hw w → dir ≡ dir_of w.bios → m ≡ record m' { open_picks = opened dir m'.open_picks } → IsTied setup' es' m' (set fl tag (Spent dir)) requeue_lists rel
+tied_done_at setup setup' es es' m m' fl requeue_lists rel tag hw w dir p t lt at is m_is =
+    subst (λ d. m ≡ record m' { open_picks = opened d m'.open_picks } → IsTied setup' es' m' (set fl tag (Spent d)) requeue_lists rel) (sym is) (λ h. tied_done setup setup' es es' m m' fl requeue_lists rel tag hw w p t lt at h) m_is
 
 -- after a Back, which requeues the request, the core is tied
-pub tied_back : {A : Type 0} (setup setup' : Setup) (es es' : List Happened) (m m' : Meaning) (fl : List (TagState A)) (requeued requeued' : List (List Waiting)) (rel tag hw : ℕ) (w : Waiting) (dir : Dir) → IsPushed setup es (Back tag) setup' es' → IsTied setup es m fl requeued rel → tag < length fl → get_or fl tag Free ≡ InFlight hw w → dir ≡ dir_of w.bios → RequeuesPick dir m m' → requeued' ≡ with_one requeued hw w → hw < setup.hw → IsTied setup' es' m' (set fl tag (Spent (dir_of w.bios))) requeued' rel
-tied_back setup setup' es es' m m' fl requeued requeued' rel tag hw w dir p t lt at dir_is hands requeued_are small =
+pub tied_back : {A : Type 0} (setup setup' : Setup) (es es' : List Happened) (m m' : Meaning) (fl : List (TagState A)) (requeue_lists requeue_lists' : List (List Waiting)) (rel tag hw : ℕ) (w : Waiting) (dir : Dir) → IsPushed setup es (Back tag) setup' es' → IsTied setup es m fl requeue_lists rel → tag < length fl → get_or fl tag Free ≡ InFlight hw w → dir ≡ dir_of w.bios → RequeuesPick dir m m' → requeue_lists' ≡ with_one requeue_lists hw w → hw < setup.hw → IsTied setup' es' m' (set fl tag (Spent (dir_of w.bios))) requeue_lists' rel
+tied_back setup setup' es es' m m' fl requeue_lists requeue_lists' rel tag hw w dir p t lt at dir_is hands lists_are small =
     let fs : List Happened = es ++ Back tag ∷ [] in
     let back : RequeuesPick (dir_of w.bios) m m' = subst (λ d. RequeuesPick d m m') dir_is hands in
     let f : InFlightAs setup es tag w = t.flown tag hw w at in
-    let in_lists : hw < length requeued = (let x = t.lists in omega arith) in
+    let in_lists : hw < length requeue_lists = (let x = t.lists in omega arith) in
     let mp : m'.pending ≡ m.pending = ap (λ (x : Meaning). x.pending) back in
     let none = flown_not_requeued setup es tag w.id t.legal f.by in
     let step_is : (q : ℕ) → requeued_at setup fs q ≡ cond (w.id == q) (Some (entered_of w)) (requeued_at setup es q) =
     λ q. subst (λ x. requeued_at setup fs q ≡ cond (w.id == q) (Some x) (requeued_at setup es q)) (sym f.known) (requeued-requeued setup es tag w.id t.legal f.by q) in
     let had = t.holds.count in
     let len : map.len m'.pending ≡ map.len m.pending = ap map.len mp in
-    let more = total_with requeued hw w in_lists in
+    let more = total_with requeue_lists hw w in_lists in
     let count = step.count_requeued setup es tag w.id t.legal f.by in
-    subst (λ x. IsTied setup' es' m' (set fl tag (Spent (dir_of w.bios))) x rel) (sym requeued_are)
-    (tied_end setup setup' es es' (Back tag) m m' fl requeued (with_one requeued hw w) rel tag hw w p refl (released-requeued es tag) (λ i b e. cc) t lt at
+    subst (λ x. IsTied setup' es' m' (set fl tag (Spent (dir_of w.bios))) x rel) (sym lists_are)
+    (tied_end setup setup' es es' (Back tag) m m' fl requeue_lists (with_one requeue_lists hw w) rel tag hw w p refl (released-requeued es tag) (λ i b e. cc) t lt at
     (record {
       reads = sym (requeued_reads (dir_of w.bios) m.open_picks) ∙ sym (ap (λ (x : Meaning). x.open_picks.reads) back) ∙ opened_reads (dir_of w.bios) m'.open_picks;
       writes = sym (requeued_writes (dir_of w.bios) m.open_picks) ∙ sym (ap (λ (x : Meaning). x.open_picks.writes) back) ∙ opened_writes (dir_of w.bios) m'.open_picks;
@@ -159,26 +159,26 @@ tied_back setup setup' es es' m m' fl requeued requeued' rel tag hw w dir p t lt
     })
     (record {
       pending = λ q. ap (λ (x : Pending). option_map entered_of (map.get x q)) mp ∙ t.holds.pending q ∙ sym (step.unissued_requeued setup es tag w.id t.legal f.by q);
-      are = as_with (requeued_at setup es) (requeued_at setup fs) requeued hw w in_lists none step_is t.holds.requeued;
-      once = once_with (requeued_at setup es) (requeued_at setup fs) requeued hw w in_lists none step_is t.holds.requeued_once;
+      are = as_with (requeued_at setup es) (requeued_at setup fs) requeue_lists hw w in_lists none step_is t.holds.requeued;
+      once = once_with (requeued_at setup es) (requeued_at setup fs) requeue_lists hw w in_lists none step_is t.holds.requeued_once;
       count = omega arith;
       requeued_picks = λ d.
           let picks : requeued_of d (opened (dir_of w.bios) m'.open_picks) ≡ requeued_of d (after_requeue (dir_of w.bios) m.open_picks) = ap (λ (x : Meaning). requeued_of d x.open_picks) back in
           let before = opened_requeued d (dir_of w.bios) m'.open_picks in
           let after = requeued_more d (dir_of w.bios) m.open_picks in
-          let counts = count_with (is_of d) requeued hw w in_lists in
+          let counts = count_with (is_of d) requeue_lists hw w in_lists in
           let was = t.holds.requeued_picks d in
           omega arith;
-      lists = length-set requeued hw (get_or requeued hw [] ++ w ∷ []) ∙ t.lists;
+      lists = length-set requeue_lists hw (get_or requeue_lists hw [] ++ w ∷ []) ∙ t.lists;
     }))
 
 -- where a command is in flight, one more may be requeued
-pub few_requeued : {A : Type 0} (setup : Setup) (es : List Happened) (m : Meaning) (fl : List (TagState A)) (requeued : List (List Waiting)) (rel tag hw : ℕ) (w : Waiting) → IsTied setup es m fl requeued rel → get_or fl tag Free ≡ InFlight hw w → m.open_picks.requeued_reads + m.open_picks.requeued_writes < MAX_REQUEUED
-few_requeued setup es m fl requeued rel tag hw w t at =
+pub few_requeued : {A : Type 0} (setup : Setup) (es : List Happened) (m : Meaning) (fl : List (TagState A)) (requeue_lists : List (List Waiting)) (rel tag hw : ℕ) (w : Waiting) → IsTied setup es m fl requeue_lists rel → get_or fl tag Free ≡ InFlight hw w → m.open_picks.requeued_reads + m.open_picks.requeued_writes < MAX_REQUEUED
+few_requeued setup es m fl requeue_lists rel tag hw w t at =
     let f : InFlightAs setup es tag w = t.flown tag hw w at in
     let some = open_positive setup es tag t.legal (by_open es tag w.id f.by) in
     let room = t.legal.not_too_long in
-    let waits = pending_is setup es m fl requeued rel (map.len m.pending) (requeued_of Read m.open_picks) (requeued_of Write m.open_picks) t refl refl refl in
+    let waits = pending_is setup es m fl requeue_lists rel (map.len m.pending) (requeued_of Read m.open_picks) (requeued_of Write m.open_picks) t refl refl refl in
     let all = waits.0 in
     let few = waits.1 in
     omega arith

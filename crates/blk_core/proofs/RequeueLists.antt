@@ -22,31 +22,31 @@ one_if b = cond b 1 0
 
 -- one more, at the back of the list of a hardware queue
 abbrev pub with_one : List (List Waiting) → ℕ → Waiting → List (List Waiting)
-with_one requeued hw w = set requeued hw (get_or requeued hw [] ++ w ∷ [])
+with_one requeue_lists hw w = set requeue_lists hw (get_or requeue_lists hw [] ++ w ∷ [])
 
-pub count_with : (p : Waiting → Bool) (requeued : List (List Waiting)) (hw : ℕ) (w : Waiting) → hw < length requeued → requeued_count p (with_one requeued hw w) ≡ requeued_count p requeued + cond (p w) 1 0
-count_with p requeued hw w lt =
-    let one = sum_by-set (count_by p) requeued hw (get_or requeued hw [] ++ w ∷ []) [] lt in
-    let push : count_by p (get_or requeued hw [] ++ w ∷ []) ≡ count_by p (get_or requeued hw []) + one_if (p w) = sum_by_push (λ (x : Waiting). one_if (p x)) (get_or requeued hw []) w in
+pub count_with : (p : Waiting → Bool) (requeue_lists : List (List Waiting)) (hw : ℕ) (w : Waiting) → hw < length requeue_lists → requeued_count p (with_one requeue_lists hw w) ≡ requeued_count p requeue_lists + cond (p w) 1 0
+count_with p requeue_lists hw w lt =
+    let one = sum_by-set (count_by p) requeue_lists hw (get_or requeue_lists hw [] ++ w ∷ []) [] lt in
+    let push : count_by p (get_or requeue_lists hw [] ++ w ∷ []) ≡ count_by p (get_or requeue_lists hw []) + one_if (p w) = sum_by_push (λ (x : Waiting). one_if (p x)) (get_or requeue_lists hw []) w in
     omega arith
 
-pub total_with : (requeued : List (List Waiting)) (hw : ℕ) (w : Waiting) → hw < length requeued → requeued_total (with_one requeued hw w) ≡ requeued_total requeued + 1
-total_with requeued hw w lt =
-    let one = sum_by-set length requeued hw (get_or requeued hw [] ++ w ∷ []) [] lt in
-    let push : length (get_or requeued hw [] ++ w ∷ []) ≡ length (get_or requeued hw []) + 1 = length-append (get_or requeued hw []) (w ∷ []) in
+pub total_with : (requeue_lists : List (List Waiting)) (hw : ℕ) (w : Waiting) → hw < length requeue_lists → requeued_total (with_one requeue_lists hw w) ≡ requeued_total requeue_lists + 1
+total_with requeue_lists hw w lt =
+    let one = sum_by-set length requeue_lists hw (get_or requeue_lists hw [] ++ w ∷ []) [] lt in
+    let push : length (get_or requeue_lists hw [] ++ w ∷ []) ≡ length (get_or requeue_lists hw []) + 1 = length-append (get_or requeue_lists hw []) (w ∷ []) in
     omega arith
 
 -- one fewer, at the front
-pub count_without : (p : Waiting → Bool) (requeued : List (List Waiting)) (hw : ℕ) (w : Waiting) (rest : List Waiting) → hw < length requeued → get_or requeued hw [] ≡ w ∷ rest → requeued_count p (set requeued hw rest) + cond (p w) 1 0 ≡ requeued_count p requeued
-count_without p requeued hw w rest lt at =
-    let one = sum_by-set (count_by p) requeued hw rest [] lt in
-    let had : count_by p (get_or requeued hw []) ≡ one_if (p w) + count_by p rest = ap (count_by p) at ∙ sum_by-cons (λ (x : Waiting). one_if (p x)) w rest in
+pub count_without : (p : Waiting → Bool) (requeue_lists : List (List Waiting)) (hw : ℕ) (w : Waiting) (rest : List Waiting) → hw < length requeue_lists → get_or requeue_lists hw [] ≡ w ∷ rest → requeued_count p (set requeue_lists hw rest) + cond (p w) 1 0 ≡ requeued_count p requeue_lists
+count_without p requeue_lists hw w rest lt at =
+    let one = sum_by-set (count_by p) requeue_lists hw rest [] lt in
+    let had : count_by p (get_or requeue_lists hw []) ≡ one_if (p w) + count_by p rest = ap (count_by p) at ∙ sum_by-cons (λ (x : Waiting). one_if (p x)) w rest in
     omega arith
 
-pub total_without : (requeued : List (List Waiting)) (hw : ℕ) (w : Waiting) (rest : List Waiting) → hw < length requeued → get_or requeued hw [] ≡ w ∷ rest → requeued_total (set requeued hw rest) + 1 ≡ requeued_total requeued
-total_without requeued hw w rest lt at =
-    let one = sum_by-set length requeued hw rest [] lt in
-    let had : length (get_or requeued hw []) ≡ length rest + 1 = ap length at ∙ omega arith in
+pub total_without : (requeue_lists : List (List Waiting)) (hw : ℕ) (w : Waiting) (rest : List Waiting) → hw < length requeue_lists → get_or requeue_lists hw [] ≡ w ∷ rest → requeued_total (set requeue_lists hw rest) + 1 ≡ requeued_total requeue_lists
+total_without requeue_lists hw w rest lt at =
+    let one = sum_by-set length requeue_lists hw rest [] lt in
+    let had : length (get_or requeue_lists hw []) ≡ length rest + 1 = ap length at ∙ omega arith in
     omega arith
 
 -- what is requeued is counted
@@ -58,14 +58,14 @@ in_list p (x ∷ xs) zero w at is =
     omega (arith, sum_by-cons (λ (y : Waiting). one_if (p y)) x xs)
 in_list p (x ∷ xs) (suc k) w at is = omega (arith, in_list p xs k w at is, sum_by-cons (λ (y : Waiting). one_if (p y)) x xs)
 
-pub counted : (p : Waiting → Bool) (requeued : List (List Waiting)) (hw k : ℕ) (w : Waiting) → slice_get (get_or requeued hw []) k ≡ Some w → p w ≡ true → 0 < requeued_count p requeued
+pub counted : (p : Waiting → Bool) (requeue_lists : List (List Waiting)) (hw k : ℕ) (w : Waiting) → slice_get (get_or requeue_lists hw []) k ≡ Some w → p w ≡ true → 0 < requeued_count p requeue_lists
 counted p [] hw k w at is = absurd (cc)
-counted p (l ∷ requeued) zero k w at is = omega (arith, in_list p l k w at is, sum_by-cons (count_by p) l requeued)
-counted p (l ∷ requeued) (suc hw) k w at is = omega (arith, counted p requeued hw k w at is, sum_by-cons (count_by p) l requeued)
+counted p (l ∷ requeue_lists) zero k w at is = omega (arith, in_list p l k w at is, sum_by-cons (count_by p) l requeue_lists)
+counted p (l ∷ requeue_lists) (suc hw) k w at is = omega (arith, counted p requeue_lists hw k w at is, sum_by-cons (count_by p) l requeue_lists)
 
 -- the first of a list stands in it
-pub first_stands : (requeued : List (List Waiting)) (hw : ℕ) (w : Waiting) (rest : List Waiting) → get_or requeued hw [] ≡ w ∷ rest → slice_get (get_or requeued hw []) 0 ≡ Some w
-first_stands requeued hw w rest at = ap (λ l. slice_get l 0) at
+pub first_stands : (requeue_lists : List (List Waiting)) (hw : ℕ) (w : Waiting) (rest : List Waiting) → get_or requeue_lists hw [] ≡ w ∷ rest → slice_get (get_or requeue_lists hw []) 0 ≡ Some w
+first_stands requeue_lists hw w rest at = ap (λ l. slice_get l 0) at
 
 -- by directions all are counted
 by_dir : (d : Dir) → one_if (same_dir Read d) + one_if (same_dir Write d) ≡ 1
@@ -77,23 +77,23 @@ list_by_dirs [] = refl
 list_by_dirs (x ∷ xs) =
     omega (arith, by_dir (dir_of x.bios), list_by_dirs xs, sum_by-cons (λ (y : Waiting). one_if (is_of Read y)) x xs, sum_by-cons (λ (y : Waiting). one_if (is_of Write y)) x xs)
 
-pub by_dirs : (requeued : List (List Waiting)) → requeued_count (is_of Read) requeued + requeued_count (is_of Write) requeued ≡ requeued_total requeued
+pub by_dirs : (requeue_lists : List (List Waiting)) → requeued_count (is_of Read) requeue_lists + requeued_count (is_of Write) requeue_lists ≡ requeued_total requeue_lists
 by_dirs [] = refl
-by_dirs (l ∷ requeued) =
-    omega (arith, list_by_dirs l, by_dirs requeued, sum_by-cons (count_by (is_of Read)) l requeued, sum_by-cons (count_by (is_of Write)) l requeued, sum_by-cons length l requeued)
+by_dirs (l ∷ requeue_lists) =
+    omega (arith, list_by_dirs l, by_dirs requeue_lists, sum_by-cons (count_by (is_of Read)) l requeue_lists, sum_by-cons (count_by (is_of Write)) l requeue_lists, sum_by-cons length l requeue_lists)
 
 -- each requeued request is what a word of the trace says of its id, and stands once
 abbrev pub AreAs : (ℕ → Option Entered) → List (List Waiting) → Type 0
-AreAs R requeued = (hw k : ℕ) (w : Waiting) → slice_get (get_or requeued hw []) k ≡ Some w → R w.id ≡ Some (entered_of w)
+AreAs R requeue_lists = (hw k : ℕ) (w : Waiting) → slice_get (get_or requeue_lists hw []) k ≡ Some w → R w.id ≡ Some (entered_of w)
 
 abbrev pub AreOnce : (ℕ → Option Entered) → List (List Waiting) → Type 0
-AreOnce R requeued = (id : ℕ) → requeued_count (is_named id) requeued ≡ cond (is_some (R id)) 1 0
+AreOnce R requeue_lists = (id : ℕ) → requeued_count (is_named id) requeue_lists ≡ cond (is_some (R id)) 1 0
 
-pub as_same : (R V : ℕ → Option Entered) (requeued : List (List Waiting)) → ((q : ℕ) → V q ≡ R q) → AreAs R requeued → AreAs V requeued
-as_same R V requeued same h hw k w at = same w.id ∙ h hw k w at
+pub as_same : (R V : ℕ → Option Entered) (requeue_lists : List (List Waiting)) → ((q : ℕ) → V q ≡ R q) → AreAs R requeue_lists → AreAs V requeue_lists
+as_same R V requeue_lists same h hw k w at = same w.id ∙ h hw k w at
 
-pub once_same : (R V : ℕ → Option Entered) (requeued : List (List Waiting)) → ((q : ℕ) → V q ≡ R q) → AreOnce R requeued → AreOnce V requeued
-once_same R V requeued same h id = h id ∙ ap (λ o. one_if (is_some o)) (sym (same id))
+pub once_same : (R V : ℕ → Option Entered) (requeue_lists : List (List Waiting)) → ((q : ℕ) → V q ≡ R q) → AreOnce R requeue_lists → AreOnce V requeue_lists
+once_same R V requeue_lists same h id = h id ∙ ap (λ o. one_if (is_some o)) (sym (same id))
 
 -- an id that nothing is said of is taken out in vain
 pub none_gone : (R V : ℕ → Option Entered) (id : ℕ) → R id ≡ None → ((q : ℕ) → V q ≡ cond (id == q) None (R q)) → (q : ℕ) → V q ≡ R q
@@ -113,9 +113,9 @@ kept_id : (R V : ℕ → Option Entered) (w : Waiting) (o : Option Entered) (v :
 kept_id R V w o v none step h =
     step v.id ∙ ap (λ b. cond b o (R v.id)) (ne_eqb w.id v.id (λ e. absurd (let n : R v.id ≡ None = subst (λ x. R x ≡ None) e none in cc))) ∙ h
 
-pub as_with : (R V : ℕ → Option Entered) (requeued : List (List Waiting)) (hw : ℕ) (w : Waiting) → hw < length requeued → R w.id ≡ None → ((q : ℕ) → V q ≡ cond (w.id == q) (Some (entered_of w)) (R q)) → AreAs R requeued → AreAs V (with_one requeued hw w)
-as_with R V requeued hw w lt none step h q k v at = elim (at_place requeued hw q k (get_or requeued hw [] ++ w ∷ []) v lt at) [
-  | inl here ↦ elim (get_more (get_or requeued hw []) w k v here.1) [
+pub as_with : (R V : ℕ → Option Entered) (requeue_lists : List (List Waiting)) (hw : ℕ) (w : Waiting) → hw < length requeue_lists → R w.id ≡ None → ((q : ℕ) → V q ≡ cond (w.id == q) (Some (entered_of w)) (R q)) → AreAs R requeue_lists → AreAs V (with_one requeue_lists hw w)
+as_with R V requeue_lists hw w lt none step h q k v at = elim (at_place requeue_lists hw q k (get_or requeue_lists hw [] ++ w ∷ []) v lt at) [
+  | inl here ↦ elim (get_more (get_or requeue_lists hw []) w k v here.1) [
     | inl old ↦ kept_id R V w (Some (entered_of w)) v none step (h hw k v old)
     | inr new ↦ subst (λ x. V x.id ≡ Some (entered_of x)) new.1 (step w.id ∙ ap (λ b. cond b (Some (entered_of w)) (R w.id)) (eq-eqb w.id w.id refl))
   ]
@@ -128,9 +128,9 @@ named id w = elim (eqb_tells id w.id) [
   | inr n ↦ inr (n.0, ne_eqb w.id id (λ e. n.1 (sym e)))
 ]
 
-pub once_with : (R V : ℕ → Option Entered) (requeued : List (List Waiting)) (hw : ℕ) (w : Waiting) → hw < length requeued → R w.id ≡ None → ((q : ℕ) → V q ≡ cond (w.id == q) (Some (entered_of w)) (R q)) → AreOnce R requeued → AreOnce V (with_one requeued hw w)
-once_with R V requeued hw w lt none step h id =
-    let more = count_with (is_named id) requeued hw w lt in
+pub once_with : (R V : ℕ → Option Entered) (requeue_lists : List (List Waiting)) (hw : ℕ) (w : Waiting) → hw < length requeue_lists → R w.id ≡ None → ((q : ℕ) → V q ≡ cond (w.id == q) (Some (entered_of w)) (R q)) → AreOnce R requeue_lists → AreOnce V (with_one requeue_lists hw w)
+once_with R V requeue_lists hw w lt none step h id =
+    let more = count_with (is_named id) requeue_lists hw w lt in
     let had = h id in
     elim (named id w) [
       | inl y ↦
@@ -145,13 +145,13 @@ once_with R V requeued hw w lt none step h id =
     ]
 
 -- one fewer
-pub once_without : (R V : ℕ → Option Entered) (requeued : List (List Waiting)) (hw : ℕ) (w : Waiting) (rest : List Waiting) → hw < length requeued → get_or requeued hw [] ≡ w ∷ rest → ((q : ℕ) → V q ≡ cond (w.id == q) None (R q)) → AreAs R requeued → AreOnce R requeued → AreOnce V (set requeued hw rest)
-once_without R V requeued hw w rest lt is step are h id =
-    let less = count_without (is_named id) requeued hw w rest lt is in
+pub once_without : (R V : ℕ → Option Entered) (requeue_lists : List (List Waiting)) (hw : ℕ) (w : Waiting) (rest : List Waiting) → hw < length requeue_lists → get_or requeue_lists hw [] ≡ w ∷ rest → ((q : ℕ) → V q ≡ cond (w.id == q) None (R q)) → AreAs R requeue_lists → AreOnce R requeue_lists → AreOnce V (set requeue_lists hw rest)
+once_without R V requeue_lists hw w rest lt is step are h id =
+    let less = count_without (is_named id) requeue_lists hw w rest lt is in
     let had = h id in
     elim (named id w) [
       | inl y ↦
-          let r : one_if (is_some (R id)) ≡ 1 = ap (λ o. one_if (is_some o)) (ap R y.1 ∙ are hw 0 w (first_stands requeued hw w rest is)) in
+          let r : one_if (is_some (R id)) ≡ 1 = ap (λ o. one_if (is_some o)) (ap R y.1 ∙ are hw 0 w (first_stands requeue_lists hw w rest is)) in
           let v : one_if (is_some (V id)) ≡ 0 = ap (λ o. one_if (is_some o)) (step id ∙ ap (λ b. cond b None (R id)) (eq-eqb w.id id (sym y.1))) in
           let one : one_if (is_named id w) ≡ 1 = ap one_if y.0 in
           omega arith
@@ -161,11 +161,11 @@ once_without R V requeued hw w rest lt is step are h id =
           omega arith
     ]
 
-pub as_without : (R V : ℕ → Option Entered) (requeued : List (List Waiting)) (hw : ℕ) (w : Waiting) (rest : List Waiting) → hw < length requeued → get_or requeued hw [] ≡ w ∷ rest → ((q : ℕ) → V q ≡ cond (w.id == q) None (R q)) → AreAs R requeued → AreOnce R requeued → AreAs V (set requeued hw rest)
-as_without R V requeued hw w rest lt is step are once q k v at =
-    let some : 0 < requeued_count (is_named v.id) (set requeued hw rest) = counted (is_named v.id) (set requeued hw rest) q k v at (eq-eqb v.id v.id refl) in
-    let number = once_without R V requeued hw w rest lt is step are once v.id in
-    let stands : R v.id ≡ Some (entered_of v) = elim (at_place requeued hw q k rest v lt at) [
+pub as_without : (R V : ℕ → Option Entered) (requeue_lists : List (List Waiting)) (hw : ℕ) (w : Waiting) (rest : List Waiting) → hw < length requeue_lists → get_or requeue_lists hw [] ≡ w ∷ rest → ((q : ℕ) → V q ≡ cond (w.id == q) None (R q)) → AreAs R requeue_lists → AreOnce R requeue_lists → AreAs V (set requeue_lists hw rest)
+as_without R V requeue_lists hw w rest lt is step are once q k v at =
+    let some : 0 < requeued_count (is_named v.id) (set requeue_lists hw rest) = counted (is_named v.id) (set requeue_lists hw rest) q k v at (eq-eqb v.id v.id refl) in
+    let number = once_without R V requeue_lists hw w rest lt is step are once v.id in
+    let stands : R v.id ≡ Some (entered_of v) = elim (at_place requeue_lists hw q k rest v lt at) [
       | inl here ↦ are hw (suc k) v (ap (λ l. slice_get l (suc k)) is ∙ here.1)
       | inr other ↦ are q k v other.1
     ] in
@@ -187,6 +187,6 @@ pub none_counted : (p : Waiting → Bool) (n : ℕ) → requeued_count p (replic
 none_counted p zero = refl
 none_counted p (suc n) = omega (arith, none_counted p n, sum_by-cons (count_by p) nothing (replicate n nothing))
 
-pub none_requeued : (n : ℕ) → requeued_total (replicate n nothing) ≡ 0
-none_requeued zero = refl
-none_requeued (suc n) = omega (arith, none_requeued n, sum_by-cons length nothing (replicate n nothing))
+pub none_listed : (n : ℕ) → requeued_total (replicate n nothing) ≡ 0
+none_listed zero = refl
+none_listed (suc n) = omega (arith, none_listed n, sum_by-cons length nothing (replicate n nothing))

@@ -40,17 +40,17 @@ record IsOpened (m m' : Meaning) (dir : Dir) : Type 0 where
   writes : m'.open_picks.writes ≡ m.open_picks.writes + cond (same_dir Write dir) 1 0
 
 -- what the scheduler and the requeue lists hold once the request went
-record IsSent (setup : Setup) (es fs : List Happened) (m' : Meaning) (requeued' : List (List Waiting)) (rel : ℕ) : Type 0 where
+record IsSent (setup : Setup) (es fs : List Happened) (m' : Meaning) (requeue_lists' : List (List Waiting)) (rel : ℕ) : Type 0 where
   pending : (q : ℕ) → option_map entered_of (map.get m'.pending q) ≡ unissued_at setup fs q
   fresh : (q : ℕ) → rel < q + 1 → map.get m'.pending q ≡ None
-  are : AreAs (requeued_at setup fs) requeued'
-  once : AreOnce (requeued_at setup fs) requeued'
-  count : map.len m'.pending + requeued_total requeued' + 1 ≡ waiting_count es
-  requeued_picks : (d : Dir) → requeued_of d m'.open_picks ≡ requeued_count (is_of d) requeued'
-  lists : length requeued' ≡ setup.hw
+  are : AreAs (requeued_at setup fs) requeue_lists'
+  once : AreOnce (requeued_at setup fs) requeue_lists'
+  count : map.len m'.pending + requeued_total requeue_lists' + 1 ≡ waiting_count es
+  requeued_picks : (d : Dir) → requeued_of d m'.open_picks ≡ requeued_count (is_of d) requeue_lists'
+  lists : length requeue_lists' ≡ setup.hw
 
-tied_sent : {A : Type 0} (setup setup' : Setup) (es es' : List Happened) (m m' : Meaning) (fl : List (TagState A)) (requeued requeued' : List (List Waiting)) (rel hw tag : ℕ) (w : Waiting) → IsPushed setup es (Issue w.id tag) setup' es' → IsTied setup es m fl requeued rel → waits_at setup es w.id ≡ Some (entered_of w) → IsOpened m m' (dir_of w.bios) → IsSent setup es (es ++ Issue w.id tag ∷ []) m' requeued' rel → tag < length fl → get_or fl tag Free ≡ Free → hw < setup.hw → IsTied setup' es' m' (set fl tag (InFlight hw w)) requeued' rel
-tied_sent {A} setup setup' es es' m m' fl requeued requeued' rel hw tag w p t waits o s lt none small =
+tied_sent : {A : Type 0} (setup setup' : Setup) (es es' : List Happened) (m m' : Meaning) (fl : List (TagState A)) (requeue_lists requeue_lists' : List (List Waiting)) (rel hw tag : ℕ) (w : Waiting) → IsPushed setup es (Issue w.id tag) setup' es' → IsTied setup es m fl requeue_lists rel → waits_at setup es w.id ≡ Some (entered_of w) → IsOpened m m' (dir_of w.bios) → IsSent setup es (es ++ Issue w.id tag ∷ []) m' requeue_lists' rel → tag < length fl → get_or fl tag Free ≡ Free → hw < setup.hw → IsTied setup' es' m' (set fl tag (InFlight hw w)) requeue_lists' rel
+tied_sent {A} setup setup' es es' m m' fl requeue_lists requeue_lists' rel hw tag w p t waits o s lt none small =
     let fs : List Happened = es ++ Issue w.id tag ∷ [] in
     let f : TagState A = InFlight hw w in
     let r0 : flying Read (get_or fl tag Free) ≡ 0 = ap (flying Read) none in
@@ -71,7 +71,7 @@ tied_sent {A} setup setup' es es' m m' fl requeued requeued' rel hw tag w p t wa
     let more = released-issued es w.id tag in
     let next = t.next in
     let few = t.few in
-    tied_at setup setup' es es' (Issue w.id tag) m' (set fl tag f) requeued' rel p
+    tied_at setup setup' es es' (Issue w.id tag) m' (set fl tag f) requeue_lists' rel p
     (record {
       legal = p.legal;
       ranges = t.ranges;
@@ -104,12 +104,12 @@ tied_sent {A} setup setup' es es' m m' fl requeued requeued' rel hw tag w p t wa
     same_request h v e = cc
 
 -- the scheduler's choice goes
-picked_goes : {A : Type 0} (setup : Setup) (es : List Happened) (m m' : Meaning) (fl : List (TagState A)) (requeued : List (List Waiting)) (rel hw tag : ℕ) (serves : ℕ → Waiting → Bool) (w : Waiting) → (let fs : List Happened = es ++ Issue w.id tag ∷ [] in (q : ℕ) → unissued_at setup fs q ≡ cond (w.id == q) None (unissued_at setup es q)) → (let fs : List Happened = es ++ Issue w.id tag ∷ [] in (q : ℕ) → requeued_at setup fs q ≡ cond (w.id == q) None (requeued_at setup es q)) → IsTied setup es m fl requeued rel → Picks serves hw m w m' → IsSent setup es (es ++ Issue w.id tag ∷ []) m' requeued rel
-picked_goes setup es m m' fl requeued rel hw tag serves w unissued requeued t picks =
+picked_goes : {A : Type 0} (setup : Setup) (es : List Happened) (m m' : Meaning) (fl : List (TagState A)) (requeue_lists : List (List Waiting)) (rel hw tag : ℕ) (serves : ℕ → Waiting → Bool) (w : Waiting) → (let fs : List Happened = es ++ Issue w.id tag ∷ [] in (q : ℕ) → unissued_at setup fs q ≡ cond (w.id == q) None (unissued_at setup es q)) → (let fs : List Happened = es ++ Issue w.id tag ∷ [] in (q : ℕ) → requeued_at setup fs q ≡ cond (w.id == q) None (requeued_at setup es q)) → IsTied setup es m fl requeue_lists rel → Picks serves hw m w m' → IsSent setup es (es ++ Issue w.id tag ∷ []) m' requeue_lists rel
+picked_goes setup es m m' fl requeue_lists rel hw tag serves w unissued requeued t picks =
     let fs : List Happened = es ++ Issue w.id tag ∷ [] in
     let mp : m'.pending ≡ map.remove m.pending w.id = ap (λ (x : Meaning). x.pending) picks.2 in
     let mo : m'.open_picks ≡ opened (dir_of w.bios) m.open_picks = ap (λ (x : Meaning). x.open_picks) picks.2 in
-    let none : requeued_at setup es w.id ≡ None = unissued_not_requeued setup es w.id (entered_of w) (never_issued setup es m fl requeued rel w.id w t picks.0) in
+    let none : requeued_at setup es w.id ≡ None = unissued_not_requeued setup es w.id (entered_of w) (never_issued setup es m fl requeue_lists rel w.id w t picks.0) in
     let same : (q : ℕ) → requeued_at setup fs q ≡ requeued_at setup es q = none_gone (requeued_at setup es) (requeued_at setup fs) w.id none requeued in
     let had = t.holds.count in
     let len = len_taken m.pending w.id w picks.0 in
@@ -117,8 +117,8 @@ picked_goes setup es m m' fl requeued rel hw tag serves w unissued requeued t pi
     record {
       pending = λ q. ap (λ (x : Pending). option_map entered_of (map.get x q)) mp ∙ agree_taken m.pending (unissued_at setup es) (unissued_at setup fs) w.id t.holds.pending unissued q;
       fresh = λ q h. ap (λ (x : Pending). map.get x q) mp ∙ still_none m.pending w.id q (t.fresh q (omega arith));
-      are = as_same (requeued_at setup es) (requeued_at setup fs) requeued same t.holds.requeued;
-      once = once_same (requeued_at setup es) (requeued_at setup fs) requeued same t.holds.requeued_once;
+      are = as_same (requeued_at setup es) (requeued_at setup fs) requeue_lists same t.holds.requeued;
+      once = once_same (requeued_at setup es) (requeued_at setup fs) requeue_lists same t.holds.requeued_once;
       count = omega arith;
       requeued_picks = λ d. ap (requeued_of d) mo ∙ opened_requeued d (dir_of w.bios) m.open_picks ∙ t.holds.requeued_picks d;
       lists = t.lists;
@@ -131,29 +131,29 @@ picked_opened serves hw m m' w picks = record {
 }
 
 -- the first of a requeue list goes
-again_goes : {A : Type 0} (setup : Setup) (es : List Happened) (m m' : Meaning) (fl : List (TagState A)) (requeued : List (List Waiting)) (rel hw tag : ℕ) (w : Waiting) (rest : List Waiting) → (let fs : List Happened = es ++ Issue w.id tag ∷ [] in (q : ℕ) → unissued_at setup fs q ≡ cond (w.id == q) None (unissued_at setup es q)) → (let fs : List Happened = es ++ Issue w.id tag ∷ [] in (q : ℕ) → requeued_at setup fs q ≡ cond (w.id == q) None (requeued_at setup es q)) → IsTied setup es m fl requeued rel → hw < length requeued → get_or requeued hw [] ≡ w ∷ rest → RequeuesPick (dir_of w.bios) m' m → IsSent setup es (es ++ Issue w.id tag ∷ []) m' (set requeued hw rest) rel
-again_goes setup es m m' fl requeued rel hw tag w rest unissued requeued t lt is back =
+again_goes : {A : Type 0} (setup : Setup) (es : List Happened) (m m' : Meaning) (fl : List (TagState A)) (requeue_lists : List (List Waiting)) (rel hw tag : ℕ) (w : Waiting) (rest : List Waiting) → (let fs : List Happened = es ++ Issue w.id tag ∷ [] in (q : ℕ) → unissued_at setup fs q ≡ cond (w.id == q) None (unissued_at setup es q)) → (let fs : List Happened = es ++ Issue w.id tag ∷ [] in (q : ℕ) → requeued_at setup fs q ≡ cond (w.id == q) None (requeued_at setup es q)) → IsTied setup es m fl requeue_lists rel → hw < length requeue_lists → get_or requeue_lists hw [] ≡ w ∷ rest → RequeuesPick (dir_of w.bios) m' m → IsSent setup es (es ++ Issue w.id tag ∷ []) m' (set requeue_lists hw rest) rel
+again_goes setup es m m' fl requeue_lists rel hw tag w rest unissued requeued t lt is back =
     let fs : List Happened = es ++ Issue w.id tag ∷ [] in
     let mp : m'.pending ≡ m.pending = sym (ap (λ (x : Meaning). x.pending) back) in
-    let stands : requeued_at setup es w.id ≡ Some (entered_of w) = t.holds.requeued hw 0 w (first_stands requeued hw w rest is) in
+    let stands : requeued_at setup es w.id ≡ Some (entered_of w) = t.holds.requeued hw 0 w (first_stands requeue_lists hw w rest is) in
     let same : (q : ℕ) → unissued_at setup fs q ≡ unissued_at setup es q = none_gone (unissued_at setup es) (unissued_at setup fs) w.id (requeued_not_unissued setup es w.id (entered_of w) stands) unissued in
     let had = t.holds.count in
     let len : map.len m'.pending ≡ map.len m.pending = ap map.len mp in
-    let fewer = total_without requeued hw w rest lt is in
+    let fewer = total_without requeue_lists hw w rest lt is in
     record {
       pending = λ q. ap (λ (x : Pending). option_map entered_of (map.get x q)) mp ∙ t.holds.pending q ∙ sym (same q);
       fresh = λ q h. ap (λ (x : Pending). map.get x q) mp ∙ t.fresh q (omega arith);
-      are = as_without (requeued_at setup es) (requeued_at setup fs) requeued hw w rest lt is requeued t.holds.requeued t.holds.requeued_once;
-      once = once_without (requeued_at setup es) (requeued_at setup fs) requeued hw w rest lt is requeued t.holds.requeued t.holds.requeued_once;
+      are = as_without (requeued_at setup es) (requeued_at setup fs) requeue_lists hw w rest lt is requeued t.holds.requeued t.holds.requeued_once;
+      once = once_without (requeued_at setup es) (requeued_at setup fs) requeue_lists hw w rest lt is requeued t.holds.requeued t.holds.requeued_once;
       count = omega arith;
       requeued_picks = λ d.
           let picks : requeued_of d (opened (dir_of w.bios) m.open_picks) ≡ requeued_of d (after_requeue (dir_of w.bios) m'.open_picks) = ap (λ (x : Meaning). requeued_of d x.open_picks) back in
           let before = opened_requeued d (dir_of w.bios) m.open_picks in
           let after = requeued_more d (dir_of w.bios) m'.open_picks in
-          let counts = count_without (is_of d) requeued hw w rest lt is in
+          let counts = count_without (is_of d) requeue_lists hw w rest lt is in
           let was = t.holds.requeued_picks d in
           omega arith;
-      lists = length-set requeued hw rest ∙ t.lists;
+      lists = length-set requeue_lists hw rest ∙ t.lists;
     }
 
 again_opened : (m m' : Meaning) (dir : Dir) → RequeuesPick dir m' m → IsOpened m m' dir
@@ -163,28 +163,28 @@ again_opened m m' dir back = record {
 }
 
 -- a request that goes waits in the trace
-pub sent_waits : {A : Type 0} (setup : Setup) (es : List Happened) (m m' : Meaning) (fl : List (TagState A)) (requeued requeued' : List (List Waiting)) (rel : ℕ) (serves : ℕ → Waiting → Bool) (chooses : Choice) (kept kept' : List ℕ) (hw round : ℕ) (w : Waiting) (own : List Waiting) → IsTied setup es m fl requeued rel → get_or requeued hw [] ≡ own → SendsFrom serves chooses hw round own m kept requeued w m' kept' requeued' → waits_at setup es w.id ≡ Some (entered_of w)
-sent_waits setup es m m' fl requeued requeued' rel serves chooses kept kept' hw round w [] t is sends = waits_there setup es m fl requeued rel w.id w t sends.0.0
-sent_waits setup es m m' fl requeued requeued' rel serves chooses kept kept' hw round w (first ∷ rest) t is sends =
-    (requeued_from setup es w.id (entered_of w) (t.holds.requeued hw 0 w (first_stands requeued hw w rest (is ∙ ap (λ x. x ∷ rest) sends.0)))).1
+pub sent_waits : {A : Type 0} (setup : Setup) (es : List Happened) (m m' : Meaning) (fl : List (TagState A)) (requeue_lists requeue_lists' : List (List Waiting)) (rel : ℕ) (serves : ℕ → Waiting → Bool) (chooses : Choice) (kept kept' : List ℕ) (hw round : ℕ) (w : Waiting) (own : List Waiting) → IsTied setup es m fl requeue_lists rel → get_or requeue_lists hw [] ≡ own → SendsFrom serves chooses hw round own m kept requeue_lists w m' kept' requeue_lists' → waits_at setup es w.id ≡ Some (entered_of w)
+sent_waits setup es m m' fl requeue_lists requeue_lists' rel serves chooses kept kept' hw round w [] t is sends = waits_there setup es m fl requeue_lists rel w.id w t sends.0.0
+sent_waits setup es m m' fl requeue_lists requeue_lists' rel serves chooses kept kept' hw round w (first ∷ rest) t is sends =
+    (requeued_from setup es w.id (entered_of w) (t.holds.requeued hw 0 w (first_stands requeue_lists hw w rest (is ∙ ap (λ x. x ∷ rest) sends.0)))).1
 
 -- after an issue the core is tied
-pub tied_issue : {A : Type 0} (setup setup' : Setup) (es es' : List Happened) (m m' : Meaning) (fl : List (TagState A)) (requeued requeued' : List (List Waiting)) (rel : ℕ) (serves : ℕ → Waiting → Bool) (chooses : Choice) (kept kept' : List ℕ) (hw round tag : ℕ) (w : Waiting) (own : List Waiting) → IsPushed setup es (Issue w.id tag) setup' es' → IsTied setup es m fl requeued rel → get_or requeued hw [] ≡ own → SendsFrom serves chooses hw round own m kept requeued w m' kept' requeued' → tag < length fl → get_or fl tag Free ≡ Free → hw < setup.hw → IsTied setup' es' m' (set fl tag (InFlight hw w)) requeued' rel
-tied_issue {A} setup setup' es es' m m' fl requeued requeued' rel serves chooses kept kept' hw round tag w [] p t is sends lt none small =
-    let waits = sent_waits setup es m m' fl requeued requeued' rel serves chooses kept kept' hw round w [] t is sends in
+pub tied_issue : {A : Type 0} (setup setup' : Setup) (es es' : List Happened) (m m' : Meaning) (fl : List (TagState A)) (requeue_lists requeue_lists' : List (List Waiting)) (rel : ℕ) (serves : ℕ → Waiting → Bool) (chooses : Choice) (kept kept' : List ℕ) (hw round tag : ℕ) (w : Waiting) (own : List Waiting) → IsPushed setup es (Issue w.id tag) setup' es' → IsTied setup es m fl requeue_lists rel → get_or requeue_lists hw [] ≡ own → SendsFrom serves chooses hw round own m kept requeue_lists w m' kept' requeue_lists' → tag < length fl → get_or fl tag Free ≡ Free → hw < setup.hw → IsTied setup' es' m' (set fl tag (InFlight hw w)) requeue_lists' rel
+tied_issue {A} setup setup' es es' m m' fl requeue_lists requeue_lists' rel serves chooses kept kept' hw round tag w [] p t is sends lt none small =
+    let waits = sent_waits setup es m m' fl requeue_lists requeue_lists' rel serves chooses kept kept' hw round w [] t is sends in
     subst (λ x. IsTied setup' es' m' (set fl tag (InFlight hw w)) x rel) (sym sends.2)
-    (tied_sent setup setup' es es' m m' fl requeued requeued rel hw tag w p t waits (picked_opened serves hw m m' w sends.0)
-    (picked_goes setup es m m' fl requeued rel hw tag serves w (step.unissued-issued setup es w.id tag p.legal) (requeued-issued setup es w.id tag p.legal) t sends.0) lt none small)
-tied_issue {A} setup setup' es es' m m' fl requeued requeued' rel serves chooses kept kept' hw round tag w (first ∷ rest) p t is sends lt none small =
-    let waits = sent_waits setup es m m' fl requeued requeued' rel serves chooses kept kept' hw round w (first ∷ rest) t is sends in
+    (tied_sent setup setup' es es' m m' fl requeue_lists requeue_lists rel hw tag w p t waits (picked_opened serves hw m m' w sends.0)
+    (picked_goes setup es m m' fl requeue_lists rel hw tag serves w (step.unissued-issued setup es w.id tag p.legal) (requeued-issued setup es w.id tag p.legal) t sends.0) lt none small)
+tied_issue {A} setup setup' es es' m m' fl requeue_lists requeue_lists' rel serves chooses kept kept' hw round tag w (first ∷ rest) p t is sends lt none small =
+    let waits = sent_waits setup es m m' fl requeue_lists requeue_lists' rel serves chooses kept kept' hw round w (first ∷ rest) t is sends in
     let lists = t.lists in
     subst (λ x. IsTied setup' es' m' (set fl tag (InFlight hw w)) x rel) (sym sends.3)
-    (tied_sent setup setup' es es' m m' fl requeued (set requeued hw rest) rel hw tag w p t waits (again_opened m m' (dir_of w.bios) sends.1)
-    (again_goes setup es m m' fl requeued rel hw tag w rest (step.unissued-issued setup es w.id tag p.legal) (requeued-issued setup es w.id tag p.legal) t (omega arith) (is ∙ ap (λ x. x ∷ rest) sends.0) sends.1) lt none small)
+    (tied_sent setup setup' es es' m m' fl requeue_lists (set requeue_lists hw rest) rel hw tag w p t waits (again_opened m m' (dir_of w.bios) sends.1)
+    (again_goes setup es m m' fl requeue_lists rel hw tag w rest (step.unissued-issued setup es w.id tag p.legal) (requeued-issued setup es w.id tag p.legal) t (omega arith) (is ∙ ap (λ x. x ∷ rest) sends.0) sends.1) lt none small)
 
 -- what goes is an Issue that the trace allows
-pub issue_allowed : {A : Type 0} (setup : Setup) (es : List Happened) (m : Meaning) (fl : List (TagState A)) (requeued : List (List Waiting)) (rel tag : ℕ) (w : Waiting) → IsTied setup es m fl requeued rel → waits_at setup es w.id ≡ Some (entered_of w) → tag < depth_now setup es → tag < length fl → get_or fl tag Free ≡ Free → IsAllowed setup es (Issue w.id tag)
-issue_allowed setup es m fl requeued rel tag w t waits below lt none =
+pub issue_allowed : {A : Type 0} (setup : Setup) (es : List Happened) (m : Meaning) (fl : List (TagState A)) (requeue_lists : List (List Waiting)) (rel tag : ℕ) (w : Waiting) → IsTied setup es m fl requeue_lists rel → waits_at setup es w.id ≡ Some (entered_of w) → tag < depth_now setup es → tag < length fl → get_or fl tag Free ≡ Free → IsAllowed setup es (Issue w.id tag)
+issue_allowed setup es m fl requeue_lists rel tag w t waits below lt none =
     (entered_of w, waits, below, sym (t.seats tag lt) ∙ ap seat_of none)
 
 -- its command is the last one
@@ -194,6 +194,6 @@ last_command setup setup' es es' tag w p waits =
     ∙ step.commands-issued setup es w.id tag p.legal (entered_of w) waits
 
 -- what goes, under the name that the code has for it
-pub sends_at : (serves : ℕ → Waiting → Bool) (chooses : Choice) (hw now round : ℕ) (own : List Waiting) (m m' : Meaning) (kept kept' : List ℕ) (requeued requeued' : List (List Waiting)) (v w : Waiting) → now ≡ round → v ≡ w → SendsFrom serves chooses hw now own m kept requeued v m' kept' requeued' → SendsFrom serves chooses hw round own m kept requeued w m' kept' requeued'
-sends_at serves chooses hw now round own m m' kept kept' requeued requeued' v w now_is is sends =
-    subst (λ n. SendsFrom serves chooses hw n own m kept requeued w m' kept' requeued') now_is (subst (λ x. SendsFrom serves chooses hw now own m kept requeued x m' kept' requeued') is sends)
+pub sends_at : (serves : ℕ → Waiting → Bool) (chooses : Choice) (hw now round : ℕ) (own : List Waiting) (m m' : Meaning) (kept kept' : List ℕ) (requeue_lists requeue_lists' : List (List Waiting)) (v w : Waiting) → now ≡ round → v ≡ w → SendsFrom serves chooses hw now own m kept requeue_lists v m' kept' requeue_lists' → SendsFrom serves chooses hw round own m kept requeue_lists w m' kept' requeue_lists'
+sends_at serves chooses hw now round own m m' kept kept' requeue_lists requeue_lists' v w now_is is sends =
+    subst (λ n. SendsFrom serves chooses hw n own m kept requeue_lists w m' kept' requeue_lists') now_is (subst (λ x. SendsFrom serves chooses hw now own m kept requeue_lists x m' kept' requeue_lists') is sends)

@@ -38,7 +38,7 @@ use Rattle.blk_core.specs.Inside.Ties.{IsTied, flight_of, seat_of, queue_of, fly
 use Rattle.blk_core.proofs.Pushed.{IsPushed, get_more, released-released, released-joined, released-ticked, released-set}
 use Rattle.blk_core.proofs.Waits.{agree_given, len_new, len_given, still_absent, joined_up}
 use Rattle.blk_core.proofs.Flights.{free_flies, all_free, any_default, unused, none_flies}
-use Rattle.blk_core.proofs.RequeueLists.{by_dirs, as_same, once_same, empty_list, none_counted, none_requeued}
+use Rattle.blk_core.proofs.RequeueLists.{by_dirs, as_same, once_same, empty_list, none_counted, none_listed}
 use Rattle.blk_core.proofs.Requeued.{requeued-released, requeued-joined, requeued-ticked, requeued-set}
 use Rattle.blk_core.proofs.Flown.{flown_kept}
 use Rattle.blk_core.proofs.Opens.{open_by_dir}
@@ -71,20 +71,20 @@ opens_same : (setup : Setup) (es fs : List Happened) (d : Dir) (n : ℕ) → IsL
 opens_same setup es fs d n old new same is = is ∙ sym (open_by_dir setup es d old) ∙ sym same ∙ open_by_dir setup fs d new
 
 -- a tie at the values that the code's are equal to
-pub tied_at : {A : Type 0} (setup setup' : Setup) (es es' : List Happened) (e : Happened) (m : Meaning) (fl : List (TagState A)) (requeued : List (List Waiting)) (rel : ℕ) → IsPushed setup es e setup' es' → IsTied setup (es ++ e ∷ []) m fl requeued rel → IsTied setup' es' m fl requeued rel
-tied_at setup setup' es es' e m fl requeued rel p t =
-    subst (λ s. IsTied s es' m fl requeued rel) (sym p.same) (subst (λ x. IsTied setup x m fl requeued rel) (sym p.added) t)
+pub tied_at : {A : Type 0} (setup setup' : Setup) (es es' : List Happened) (e : Happened) (m : Meaning) (fl : List (TagState A)) (requeue_lists : List (List Waiting)) (rel : ℕ) → IsPushed setup es e setup' es' → IsTied setup (es ++ e ∷ []) m fl requeue_lists rel → IsTied setup' es' m fl requeue_lists rel
+tied_at setup setup' es es' e m fl requeue_lists rel p t =
+    subst (λ s. IsTied s es' m fl requeue_lists rel) (sym p.same) (subst (λ x. IsTied setup x m fl requeue_lists rel) (sym p.added) t)
 
 -- a request that the scheduler has waits in the trace, and was never issued
-pub never_issued : {A : Type 0} (setup : Setup) (es : List Happened) (m : Meaning) (fl : List (TagState A)) (requeued : List (List Waiting)) (rel id : ℕ) (w : Waiting) → IsTied setup es m fl requeued rel → map.get m.pending id ≡ Some w → unissued_at setup es id ≡ Some (entered_of w)
-never_issued setup es m fl requeued rel id w t there = sym (t.holds.pending id) ∙ ap (option_map entered_of) there
+pub never_issued : {A : Type 0} (setup : Setup) (es : List Happened) (m : Meaning) (fl : List (TagState A)) (requeue_lists : List (List Waiting)) (rel id : ℕ) (w : Waiting) → IsTied setup es m fl requeue_lists rel → map.get m.pending id ≡ Some w → unissued_at setup es id ≡ Some (entered_of w)
+never_issued setup es m fl requeue_lists rel id w t there = sym (t.holds.pending id) ∙ ap (option_map entered_of) there
 
-pub waits_there : {A : Type 0} (setup : Setup) (es : List Happened) (m : Meaning) (fl : List (TagState A)) (requeued : List (List Waiting)) (rel id : ℕ) (w : Waiting) → IsTied setup es m fl requeued rel → map.get m.pending id ≡ Some w → waits_at setup es id ≡ Some (entered_of w)
-waits_there setup es m fl requeued rel id w t there = (unissued_from setup es id (entered_of w) (never_issued setup es m fl requeued rel id w t there)).1
+pub waits_there : {A : Type 0} (setup : Setup) (es : List Happened) (m : Meaning) (fl : List (TagState A)) (requeue_lists : List (List Waiting)) (rel id : ℕ) (w : Waiting) → IsTied setup es m fl requeue_lists rel → map.get m.pending id ≡ Some w → waits_at setup es id ≡ Some (entered_of w)
+waits_there setup es m fl requeue_lists rel id w t there = (unissued_from setup es id (entered_of w) (never_issued setup es m fl requeue_lists rel id w t there)).1
 
 -- after a release the core is tied
-pub tied_release : {A : Type 0} (setup setup' : Setup) (es es' : List Happened) (m m' : Meaning) (fl : List (TagState A)) (requeued : List (List Waiting)) (rel : ℕ) (bios : List Bio) (w : Waiting) → IsPushed setup es (Release rel bios) setup' es' → IsTied setup es m fl requeued rel → entered_of w ≡ record { release = round_of es; due = round_of es + expire_of setup (dir_of bios); bios = bios } → m' ≡ record m { pending = map.insert m.pending rel w } → IsTied setup' es' m' fl requeued (rel + 1)
-tied_release setup setup' es es' m m' fl requeued rel bios w p t is m_is =
+pub tied_release : {A : Type 0} (setup setup' : Setup) (es es' : List Happened) (m m' : Meaning) (fl : List (TagState A)) (requeue_lists : List (List Waiting)) (rel : ℕ) (bios : List Bio) (w : Waiting) → IsPushed setup es (Release rel bios) setup' es' → IsTied setup es m fl requeue_lists rel → entered_of w ≡ record { release = round_of es; due = round_of es + expire_of setup (dir_of bios); bios = bios } → m' ≡ record m { pending = map.insert m.pending rel w } → IsTied setup' es' m' fl requeue_lists (rel + 1)
+tied_release setup setup' es es' m m' fl requeue_lists rel bios w p t is m_is =
     let fs : List Happened = es ++ Release rel bios ∷ [] in
     let absent : map.get m.pending rel ≡ None = t.fresh rel (omega arith) in
     let longer = one_longer es (Release rel bios) in
@@ -95,16 +95,16 @@ tied_release setup setup' es es' m m' fl requeued rel bios w p t is m_is =
     let next = t.next in
     let few = t.few in
     let same : (q : ℕ) → requeued_at setup fs q ≡ requeued_at setup es q = λ q. requeued-released setup es rel bios p.legal q in
-    tied_at setup setup' es es' (Release rel bios) m' fl requeued (rel + 1) p
-    (subst (λ x. IsTied setup fs x fl requeued (rel + 1)) (sym m_is)
+    tied_at setup setup' es es' (Release rel bios) m' fl requeue_lists (rel + 1) p
+    (subst (λ x. IsTied setup fs x fl requeue_lists (rel + 1)) (sym m_is)
     (record {
       legal = p.legal;
       ranges = t.ranges;
       holds = record {
         pending = agree_given m.pending (unissued_at setup es) (unissued_at setup fs) rel w t.holds.pending
             (λ q. subst (λ x. unissued_at setup fs q ≡ cond (rel == q) (Some x) (unissued_at setup es q)) (sym is) (step.unissued-released setup es rel bios p.legal q));
-        requeued = as_same (requeued_at setup es) (requeued_at setup fs) requeued same t.holds.requeued;
-        requeued_once = once_same (requeued_at setup es) (requeued_at setup fs) requeued same t.holds.requeued_once;
+        requeued = as_same (requeued_at setup es) (requeued_at setup fs) requeue_lists same t.holds.requeued;
+        requeued_once = once_same (requeued_at setup es) (requeued_at setup fs) requeue_lists same t.holds.requeued_once;
         count = omega arith;
         reads = opens_same setup es fs Read m.open_picks.reads t.legal p.legal (step.open-released setup es rel bios p.legal Read) t.holds.reads;
         writes = opens_same setup es fs Write m.open_picks.writes t.legal p.legal (step.open-released setup es rel bios p.legal Write) t.holds.writes;
@@ -124,13 +124,13 @@ tied_release setup setup' es es' m m' fl requeued rel bios w p t is m_is =
     }))
 
 -- after a join the core is tied
-pub tied_join : {A : Type 0} (setup setup' : Setup) (es es' : List Happened) (m m' : Meaning) (fl : List (TagState A)) (requeued : List (List Waiting)) (rel : ℕ) (serves : ℕ → Waiting → Bool) (hw now : ℕ) (bios : List Bio) (id : ℕ) (side : Side) → IsPushed setup es (Join id bios) setup' es' → IsTied setup es m fl requeued rel → now ≡ round_of es → Joins serves hw now setup.limits bios m id side m' → IsTied setup' es' m' fl requeued rel
-tied_join setup setup' es es' m m' fl requeued rel serves hw now bios id side p t now_is joins =
+pub tied_join : {A : Type 0} (setup setup' : Setup) (es es' : List Happened) (m m' : Meaning) (fl : List (TagState A)) (requeue_lists : List (List Waiting)) (rel : ℕ) (serves : ℕ → Waiting → Bool) (hw now : ℕ) (bios : List Bio) (id : ℕ) (side : Side) → IsPushed setup es (Join id bios) setup' es' → IsTied setup es m fl requeue_lists rel → now ≡ round_of es → Joins serves hw now setup.limits bios m id side m' → IsTied setup' es' m' fl requeue_lists rel
+tied_join setup setup' es es' m m' fl requeue_lists rel serves hw now bios id side p t now_is joins =
     let fs : List Happened = es ++ Join id bios ∷ [] in
     let w = joins.0 in
     let candidate = joins.1 in
     let new : Waiting = joined_waiting side now bios w in
-    let waits : waits_at setup es id ≡ Some (entered_of w) = waits_there setup es m fl requeued rel id w t candidate.pending in
+    let waits : waits_at setup es id ≡ Some (entered_of w) = waits_there setup es m fl requeue_lists rel id w t candidate.pending in
     let up : join_up w.bios bios ≡ new.bios = joined_up setup.limits w.bios bios side candidate.fits candidate.back_first in
     let is : entered_of new ≡ record { release = round_of es; due = w.due; bios = join_up w.bios bios } = cc in
     let longer = one_longer es (Join id bios) in
@@ -141,16 +141,16 @@ tied_join setup setup' es es' m m' fl requeued rel serves hw now bios id side p 
     let next = t.next in
     let few = t.few in
     let same : (q : ℕ) → requeued_at setup fs q ≡ requeued_at setup es q = λ q. requeued-joined setup es id bios p.legal (entered_of w) waits q in
-    tied_at setup setup' es es' (Join id bios) m' fl requeued rel p
-    (subst (λ x. IsTied setup fs x fl requeued rel) (sym joins.2)
+    tied_at setup setup' es es' (Join id bios) m' fl requeue_lists rel p
+    (subst (λ x. IsTied setup fs x fl requeue_lists rel) (sym joins.2)
     (record {
       legal = p.legal;
       ranges = t.ranges;
       holds = record {
         pending = agree_given m.pending (unissued_at setup es) (unissued_at setup fs) id new t.holds.pending
             (λ q. subst (λ x. unissued_at setup fs q ≡ cond (id == q) (Some x) (unissued_at setup es q)) (sym is) (step.unissued-joined setup es id bios p.legal (entered_of w) waits q));
-        requeued = as_same (requeued_at setup es) (requeued_at setup fs) requeued same t.holds.requeued;
-        requeued_once = once_same (requeued_at setup es) (requeued_at setup fs) requeued same t.holds.requeued_once;
+        requeued = as_same (requeued_at setup es) (requeued_at setup fs) requeue_lists same t.holds.requeued;
+        requeued_once = once_same (requeued_at setup es) (requeued_at setup fs) requeue_lists same t.holds.requeued_once;
         count = omega arith;
         reads = opens_same setup es fs Read m.open_picks.reads t.legal p.legal (step.open-joined setup es id bios p.legal Read) t.holds.reads;
         writes = opens_same setup es fs Write m.open_picks.writes t.legal p.legal (step.open-joined setup es id bios p.legal Write) t.holds.writes;
@@ -173,16 +173,16 @@ tied_join setup setup' es es' m m' fl requeued rel serves hw now bios id side p 
     elsewhere q h e = let a : map.get m.pending q ≡ None = t.fresh q h in let b : map.get m.pending id ≡ Some joins.0 = joins.1.pending in let c : map.get m.pending id ≡ map.get m.pending q = ap (map.get m.pending) e in cc
 
 -- the seat of a tag whose command is in flight
-pub seated : {A : Type 0} (setup : Setup) (es : List Happened) (m : Meaning) (fl : List (TagState A)) (requeued : List (List Waiting)) (rel tag hw : ℕ) (w : Waiting) → IsTied setup es m fl requeued rel → tag < length fl → get_or fl tag Free ≡ InFlight hw w → seat_at es tag ≡ Some (record { dir = dir_of w.bios; in_flight = true })
-seated setup es m fl requeued rel tag hw w t lt at = sym (t.seats tag lt) ∙ ap seat_of at
+pub seated : {A : Type 0} (setup : Setup) (es : List Happened) (m : Meaning) (fl : List (TagState A)) (requeue_lists : List (List Waiting)) (rel tag hw : ℕ) (w : Waiting) → IsTied setup es m fl requeue_lists rel → tag < length fl → get_or fl tag Free ≡ InFlight hw w → seat_at es tag ≡ Some (record { dir = dir_of w.bios; in_flight = true })
+seated setup es m fl requeue_lists rel tag hw w t lt at = sym (t.seats tag lt) ∙ ap seat_of at
 
 -- what the code reads under a tag
 pub read_at : {A : Type 0} (fl : List (TagState A)) (tag hw : ℕ) (seen : TagState A) (w : Waiting) → tag < length fl → seen ≡ get_or fl tag seen → seen ≡ InFlight hw w → get_or fl tag Free ≡ InFlight hw w
 read_at fl tag hw seen w lt e is = any_default fl tag Free seen lt ∙ sym e ∙ is
 
 -- a pick of its direction is open
-pub open_flight : {A : Type 0} (setup : Setup) (es : List Happened) (m : Meaning) (fl : List (TagState A)) (requeued : List (List Waiting)) (rel tag hw : ℕ) (w : Waiting) → IsTied setup es m fl requeued rel → tag < length fl → get_or fl tag Free ≡ InFlight hw w → 0 < open_picks_of (dir_of w.bios) m.open_picks
-open_flight {A} setup es m fl requeued rel tag hw w t lt at = by_dir (dir_of w.bios) refl
+pub open_flight : {A : Type 0} (setup : Setup) (es : List Happened) (m : Meaning) (fl : List (TagState A)) (requeue_lists : List (List Waiting)) (rel tag hw : ℕ) (w : Waiting) → IsTied setup es m fl requeue_lists rel → tag < length fl → get_or fl tag Free ≡ InFlight hw w → 0 < open_picks_of (dir_of w.bios) m.open_picks
+open_flight {A} setup es m fl requeue_lists rel tag hw w t lt at = by_dir (dir_of w.bios) refl
   where
     by_dir : (d : Dir) → dir_of w.bios ≡ d → 0 < open_picks_of d m.open_picks
     by_dir Read is =
@@ -202,8 +202,8 @@ none_flown : {A : Type 0} (P : Type 0) (s : TagState A) (hw : ℕ) (w : Waiting)
 none_flown P s hw w is at = absurd (cc)
 
 -- after a tick the core is tied
-pub tied_tick : {A : Type 0} (setup setup' : Setup) (es es' : List Happened) (m m' : Meaning) (fl fl' : List (TagState A)) (requeued : List (List Waiting)) (rel : ℕ) → IsPushed setup es Tick setup' es' → IsTied setup es m fl requeued rel → m' ≡ m → fl' ≡ replicate (length fl) Free → IsTied setup' es' m' fl' requeued rel
-tied_tick {A} setup setup' es es' m m' fl fl' requeued rel p t m_is fl_is =
+pub tied_tick : {A : Type 0} (setup setup' : Setup) (es es' : List Happened) (m m' : Meaning) (fl fl' : List (TagState A)) (requeue_lists : List (List Waiting)) (rel : ℕ) → IsPushed setup es Tick setup' es' → IsTied setup es m fl requeue_lists rel → m' ≡ m → fl' ≡ replicate (length fl) Free → IsTied setup' es' m' fl' requeue_lists rel
+tied_tick {A} setup setup' es es' m m' fl fl' requeue_lists rel p t m_is fl_is =
     let fs : List Happened = es ++ Tick ∷ [] in
     let n : ℕ = length fl in
     let l : length (replicate n (unused {A = A})) ≡ n = length-replicate n (unused {A = A}) in
@@ -222,16 +222,16 @@ tied_tick {A} setup setup' es es' m m' fl fl' requeued rel p t m_is fl_is =
     let next = t.next in
     let few = t.few in
     let same : (q : ℕ) → requeued_at setup fs q ≡ requeued_at setup es q = λ q. requeued-ticked setup es q in
-    tied_at setup setup' es es' Tick m' fl' requeued rel p
-    (subst (λ x. IsTied setup fs x fl' requeued rel) (sym m_is)
-    (subst (λ x. IsTied setup fs m x requeued rel) (sym fl_is)
+    tied_at setup setup' es es' Tick m' fl' requeue_lists rel p
+    (subst (λ x. IsTied setup fs x fl' requeue_lists rel) (sym m_is)
+    (subst (λ x. IsTied setup fs m x requeue_lists rel) (sym fl_is)
     (record {
       legal = p.legal;
       ranges = t.ranges;
       holds = record {
         pending = λ q. t.holds.pending q ∙ sym (step.unissued-ticked setup es p.legal q);
-        requeued = as_same (requeued_at setup es) (requeued_at setup fs) requeued same t.holds.requeued;
-        requeued_once = once_same (requeued_at setup es) (requeued_at setup fs) requeued same t.holds.requeued_once;
+        requeued = as_same (requeued_at setup es) (requeued_at setup fs) requeue_lists same t.holds.requeued;
+        requeued_once = once_same (requeued_at setup es) (requeued_at setup fs) requeue_lists same t.holds.requeued_once;
         count = t.holds.count ∙ sym count;
         reads = omega arith;
         writes = omega arith;
@@ -251,8 +251,8 @@ tied_tick {A} setup setup' es es' m m' fl fl' requeued rel p t m_is fl_is =
     })))
 
 -- after a Depth the core is tied
-pub tied_set : {A : Type 0} (setup setup' : Setup) (es es' : List Happened) (m : Meaning) (fl : List (TagState A)) (requeued : List (List Waiting)) (rel depth : ℕ) → IsPushed setup es (Depth depth) setup' es' → IsTied setup es m fl requeued rel → IsTied setup' es' m fl requeued rel
-tied_set setup setup' es es' m fl requeued rel depth p t =
+pub tied_set : {A : Type 0} (setup setup' : Setup) (es es' : List Happened) (m : Meaning) (fl : List (TagState A)) (requeue_lists : List (List Waiting)) (rel depth : ℕ) → IsPushed setup es (Depth depth) setup' es' → IsTied setup es m fl requeue_lists rel → IsTied setup' es' m fl requeue_lists rel
+tied_set setup setup' es es' m fl requeue_lists rel depth p t =
     let e : Happened = Depth depth in
     let fs : List Happened = es ++ e ∷ [] in
     let longer = one_longer es e in
@@ -261,14 +261,14 @@ tied_set setup setup' es es' m fl requeued rel depth p t =
     let next = t.next in
     let few = t.few in
     let same : (q : ℕ) → requeued_at setup fs q ≡ requeued_at setup es q = λ q. requeued-set setup es depth q in
-    tied_at setup setup' es es' e m fl requeued rel p
+    tied_at setup setup' es es' e m fl requeue_lists rel p
     (record {
       legal = p.legal;
       ranges = t.ranges;
       holds = record {
         pending = λ q. t.holds.pending q ∙ sym (unissued_kept setup es e refl refl refl refl q);
-        requeued = as_same (requeued_at setup es) (requeued_at setup fs) requeued same t.holds.requeued;
-        requeued_once = once_same (requeued_at setup es) (requeued_at setup fs) requeued same t.holds.requeued_once;
+        requeued = as_same (requeued_at setup es) (requeued_at setup fs) requeue_lists same t.holds.requeued;
+        requeued_once = once_same (requeued_at setup es) (requeued_at setup fs) requeue_lists same t.holds.requeued_once;
         count = t.holds.count ∙ sym count;
         reads = opens_same setup es fs Read m.open_picks.reads t.legal p.legal (open_kept setup es e p.legal refl refl refl Read) t.holds.reads;
         writes = opens_same setup es fs Write m.open_picks.writes t.legal p.legal (open_kept setup es e p.legal refl refl refl Write) t.holds.writes;
@@ -332,7 +332,7 @@ at_first {A} setup m n k start ranges d h_is =
     let w : m.open_picks.writes ≡ 0 = ap (λ (x : OpenPicks). x.writes) parts.1 in
     let len : map.len m.pending ≡ 0 = ap map.len parts.0 ∙ map.len-empty nat_cmp Waiting in
     let waiting = no_count in
-    let requeued = none_requeued k in
+    let requeue_lists = none_listed k in
     record {
       legal = empty_legal setup;
       ranges = ranges;
@@ -359,35 +359,35 @@ at_first {A} setup m n k start ranges d h_is =
     }
 
 -- at first the core is tied
-pub tied_new : {A : Type 0} (s s' : Setup) (es : List Happened) (m : Meaning) (fl : List (TagState A)) (requeued : List (List Waiting)) (n k : ℕ) → s' ≡ s → es ≡ [] → m ≡ at_start m.front → IsSetup s → n ≡ s.depth → fl ≡ replicate n Free → k ≡ s.hw → requeued ≡ replicate k [] → IsTied s' es m fl requeued 0
-tied_new {A} s s' es m fl requeued n k p q start ranges d f h_is h =
-    subst (λ x. IsTied x es m fl requeued 0) (sym p) (subst (λ x. IsTied s x m fl requeued 0) (sym q) (subst (λ x. IsTied s [] m x requeued 0) (sym f) (subst (λ x. IsTied s [] m (replicate n (unused {A = A})) x 0) (sym h) (at_first {A = A} s m n k start ranges d h_is))))
+pub tied_new : {A : Type 0} (s s' : Setup) (es : List Happened) (m : Meaning) (fl : List (TagState A)) (requeue_lists : List (List Waiting)) (n k : ℕ) → s' ≡ s → es ≡ [] → m ≡ at_start m.front → IsSetup s → n ≡ s.depth → fl ≡ replicate n Free → k ≡ s.hw → requeue_lists ≡ replicate k [] → IsTied s' es m fl requeue_lists 0
+tied_new {A} s s' es m fl requeue_lists n k p q start ranges d f h_is h =
+    subst (λ x. IsTied x es m fl requeue_lists 0) (sym p) (subst (λ x. IsTied s x m fl requeue_lists 0) (sym q) (subst (λ x. IsTied s [] m x requeue_lists 0) (sym f) (subst (λ x. IsTied s [] m (replicate n (unused {A = A})) x 0) (sym h) (at_first {A = A} s m n k start ranges d h_is))))
 
 -- what a core is at first
-pub at_start_of : (s s' : Setup) (es : List Happened) (m : Meaning) (kept : List ℕ) (flights now : List (Option Flight)) (requeued then : List (List Waiting)) → s' ≡ s → es ≡ [] → flights ≡ now → requeued ≡ then → (let c : CoreState = record { setup = s'; events = es; meaning = m; kept = kept; flights = flights; requeued = requeued } in c ≡ record { setup = s; events = []; meaning = m; kept = kept; flights = now; requeued = then })
-at_start_of s s' es m kept flights now requeued then p q r h = cc
+pub at_start_of : (s s' : Setup) (es : List Happened) (m : Meaning) (kept : List ℕ) (flights now : List (Option Flight)) (requeue_lists then : List (List Waiting)) → s' ≡ s → es ≡ [] → flights ≡ now → requeue_lists ≡ then → (let c : CoreState = record { setup = s'; events = es; meaning = m; kept = kept; flights = flights; requeued = requeue_lists } in c ≡ record { setup = s; events = []; meaning = m; kept = kept; flights = now; requeue_lists = then })
+at_start_of s s' es m kept flights now requeue_lists then p q r h = cc
 
 -- a scheduler's join is one that the trace allows
-pub join_allowed : {A : Type 0} (setup : Setup) (es : List Happened) (m m' : Meaning) (fl : List (TagState A)) (requeued : List (List Waiting)) (rel : ℕ) (serves : ℕ → Waiting → Bool) (hw now : ℕ) (bios : List Bio) (id : ℕ) (side : Side) → IsTied setup es m fl requeued rel → Joins serves hw now setup.limits bios m id side m' → AreOnce (entered es ++ bios) → IsAllowed setup es (Join id bios)
-join_allowed setup es m m' fl requeued rel serves hw now bios id side t joins once =
-    (entered_of joins.0, side, never_issued setup es m fl requeued rel id joins.0 t joins.1.pending, joins.1.fits, once)
+pub join_allowed : {A : Type 0} (setup : Setup) (es : List Happened) (m m' : Meaning) (fl : List (TagState A)) (requeue_lists : List (List Waiting)) (rel : ℕ) (serves : ℕ → Waiting → Bool) (hw now : ℕ) (bios : List Bio) (id : ℕ) (side : Side) → IsTied setup es m fl requeue_lists rel → Joins serves hw now setup.limits bios m id side m' → AreOnce (entered es ++ bios) → IsAllowed setup es (Join id bios)
+join_allowed setup es m m' fl requeue_lists rel serves hw now bios id side t joins once =
+    (entered_of joins.0, side, never_issued setup es m fl requeue_lists rel id joins.0 t joins.1.pending, joins.1.fits, once)
 
 -- a Tick is allowed where nothing is in flight
-pub tick_allowed : {A : Type 0} (setup : Setup) (es : List Happened) (m : Meaning) (fl : List (TagState A)) (requeued : List (List Waiting)) (rel : ℕ) → IsTied setup es m fl requeued rel → open_count es ≡ 0 → IsAllowed setup es Tick
-tick_allowed setup es m fl requeued rel t none = let both = step.open-both setup es t.legal in ((let r : flying_of es Read ≡ 0 = omega arith in r), (let w : flying_of es Write ≡ 0 = omega arith in w))
+pub tick_allowed : {A : Type 0} (setup : Setup) (es : List Happened) (m : Meaning) (fl : List (TagState A)) (requeue_lists : List (List Waiting)) (rel : ℕ) → IsTied setup es m fl requeue_lists rel → open_count es ≡ 0 → IsAllowed setup es Tick
+tick_allowed setup es m fl requeue_lists rel t none = let both = step.open-both setup es t.legal in ((let r : flying_of es Read ≡ 0 = omega arith in r), (let w : flying_of es Write ≡ 0 = omega arith in w))
 
 -- a tag below the depth of the round that is on is one of the core's
-pub tag_there : {A : Type 0} (setup : Setup) (es : List Happened) (m : Meaning) (fl : List (TagState A)) (requeued : List (List Waiting)) (rel tag : ℕ) → IsTied setup es m fl requeued rel → tag < depth_now setup es → tag < length fl
-tag_there setup es m fl requeued rel tag t below =
+pub tag_there : {A : Type 0} (setup : Setup) (es : List Happened) (m : Meaning) (fl : List (TagState A)) (requeue_lists : List (List Waiting)) (rel tag : ℕ) → IsTied setup es m fl requeue_lists rel → tag < depth_now setup es → tag < length fl
+tag_there setup es m fl requeue_lists rel tag t below =
     let is = depth_now_is setup es in let few = depth_few setup es (round_of es) t.legal in let room = t.room in omega arith
 
 -- where a tag is free, a scheduler can open one more pick
-pub few_open : {A : Type 0} (setup : Setup) (es : List Happened) (m : Meaning) (fl : List (TagState A)) (requeued : List (List Waiting)) (rel tag : ℕ) → IsTied setup es m fl requeued rel → tag < length fl → get_or fl tag Free ≡ Free → m.open_picks.reads + m.open_picks.writes < MAX_OPEN
-few_open setup es m fl requeued rel tag t lt none = let a = free_flies fl tag lt none in let b = t.reads in let c = t.writes in let d = t.room in let e = t.ranges.few_tags in omega arith
+pub few_open : {A : Type 0} (setup : Setup) (es : List Happened) (m : Meaning) (fl : List (TagState A)) (requeue_lists : List (List Waiting)) (rel tag : ℕ) → IsTied setup es m fl requeue_lists rel → tag < length fl → get_or fl tag Free ≡ Free → m.open_picks.reads + m.open_picks.writes < MAX_OPEN
+few_open setup es m fl requeue_lists rel tag t lt none = let a = free_flies fl tag lt none in let b = t.reads in let c = t.writes in let d = t.room in let e = t.ranges.few_tags in omega arith
 
 -- a tag that wasn't issued in the round is free
-pub free_slot : {A : Type 0} (setup : Setup) (es : List Happened) (m : Meaning) (fl : List (TagState A)) (requeued : List (List Waiting)) (rel tag : ℕ) → IsTied setup es m fl requeued rel → tag < length fl → (IsUsed es tag → ⊥) → get_or fl tag Free ≡ Free
-free_slot {A} setup es m fl requeued rel tag t lt free = by_state (get_or fl tag Free) (t.seats tag lt ∙ (free_unused es tag).1 free)
+pub free_slot : {A : Type 0} (setup : Setup) (es : List Happened) (m : Meaning) (fl : List (TagState A)) (requeue_lists : List (List Waiting)) (rel tag : ℕ) → IsTied setup es m fl requeue_lists rel → tag < length fl → (IsUsed es tag → ⊥) → get_or fl tag Free ≡ Free
+free_slot {A} setup es m fl requeue_lists rel tag t lt free = by_state (get_or fl tag Free) (t.seats tag lt ∙ (free_unused es tag).1 free)
   where
     by_state : (s : TagState A) → seat_of s ≡ None → s ≡ Free
     by_state Free e = refl
@@ -395,23 +395,23 @@ free_slot {A} setup es m fl requeued rel tag t lt free = by_state (get_or fl tag
     by_state (Spent d) e = absurd (cc)
 
 -- the requeued requests are those in the requeue lists, and as many wait
-pub all_requeued : {A : Type 0} (setup : Setup) (es : List Happened) (m : Meaning) (fl : List (TagState A)) (requeued : List (List Waiting)) (rel : ℕ) → IsTied setup es m fl requeued rel → m.open_picks.requeued_reads + m.open_picks.requeued_writes ≡ requeued_total requeued
-all_requeued setup es m fl requeued rel t = let r = t.holds.requeued_picks Read in let w = t.holds.requeued_picks Write in let all = by_dirs requeued in omega arith
+pub all_requeued : {A : Type 0} (setup : Setup) (es : List Happened) (m : Meaning) (fl : List (TagState A)) (requeue_lists : List (List Waiting)) (rel : ℕ) → IsTied setup es m fl requeue_lists rel → m.open_picks.requeued_reads + m.open_picks.requeued_writes ≡ requeued_total requeue_lists
+all_requeued setup es m fl requeue_lists rel t = let r = t.holds.requeued_picks Read in let w = t.holds.requeued_picks Write in let all = by_dirs requeue_lists in omega arith
 
 -- no more wait than were released
 few_wait : (es : List Happened) → waiting_count es ≤ released_count es
 few_wait es = let is = waiting_is es in let few = count_by-le-length (λ id. not (has_id (issued_ids es) id)) (released_ids es) in omega arith
 
 -- how many wait
-pub pending_is : {A : Type 0} (setup : Setup) (es : List Happened) (m : Meaning) (fl : List (TagState A)) (requeued : List (List Waiting)) (rel pending reads writes : ℕ) → IsTied setup es m fl requeued rel → pending ≡ map.len m.pending → reads ≡ requeued_of Read m.open_picks → writes ≡ requeued_of Write m.open_picks → (pending + (reads + writes) ≡ waiting_count es) × (waiting_count es ≤ length es)
-pending_is setup es m fl requeued rel pending reads writes t p r w =
-    let all = all_requeued setup es m fl requeued rel t in let count = t.holds.count in let few = few_wait es in let next = t.next in let known = t.few in
+pub pending_is : {A : Type 0} (setup : Setup) (es : List Happened) (m : Meaning) (fl : List (TagState A)) (requeue_lists : List (List Waiting)) (rel pending reads writes : ℕ) → IsTied setup es m fl requeue_lists rel → pending ≡ map.len m.pending → reads ≡ requeued_of Read m.open_picks → writes ≡ requeued_of Write m.open_picks → (pending + (reads + writes) ≡ waiting_count es) × (waiting_count es ≤ length es)
+pending_is setup es m fl requeue_lists rel pending reads writes t p r w =
+    let all = all_requeued setup es m fl requeue_lists rel t in let count = t.holds.count in let few = few_wait es in let next = t.next in let known = t.few in
     (omega arith, omega arith)
 
 -- a pick is open where an Issue is, and requeued where a request stands in a requeue list
-pub open_issue : {A : Type 0} (setup : Setup) (es : List Happened) (m : Meaning) (fl : List (TagState A)) (requeued : List (List Waiting)) (rel : ℕ) (P : Type 0) → IsTied setup es m fl requeued rel → (0 < unfinished m.open_picks) ⊎ P → (0 < open_count es) ⊎ (0 < requeued_total requeued) ⊎ P
-open_issue setup es m fl requeued rel P t h =
-    let both = step.open-both setup es t.legal in let r = t.holds.reads in let w = t.holds.writes in let all = all_requeued setup es m fl requeued rel t in
+pub open_issue : {A : Type 0} (setup : Setup) (es : List Happened) (m : Meaning) (fl : List (TagState A)) (requeue_lists : List (List Waiting)) (rel : ℕ) (P : Type 0) → IsTied setup es m fl requeue_lists rel → (0 < unfinished m.open_picks) ⊎ P → (0 < open_count es) ⊎ (0 < requeued_total requeue_lists) ⊎ P
+open_issue setup es m fl requeue_lists rel P t h =
+    let both = step.open-both setup es t.legal in let r = t.holds.reads in let w = t.holds.writes in let all = all_requeued setup es m fl requeue_lists rel t in
     let br = open_by_dir setup es Read t.legal in let bw = open_by_dir setup es Write t.legal in
     elim h [
       | inl o ↦ elim (cases_lt 0 (open_count es)) [ inl a ↦ inl a | inr b ↦ inr (inl (omega arith)) ]
@@ -419,19 +419,19 @@ open_issue setup es m fl requeued rel P t h =
     ]
 
 -- a core without open Issues has nothing in flight
-pub none_in_flight : {A : Type 0} (setup : Setup) (es : List Happened) (m : Meaning) (fl : List (TagState A)) (requeued : List (List Waiting)) (rel : ℕ) → IsTied setup es m fl requeued rel → open_count es ≡ 0 → list_map flight_of fl ≡ replicate (length fl) None
-none_in_flight setup es m fl requeued rel t none =
+pub none_in_flight : {A : Type 0} (setup : Setup) (es : List Happened) (m : Meaning) (fl : List (TagState A)) (requeue_lists : List (List Waiting)) (rel : ℕ) → IsTied setup es m fl requeue_lists rel → open_count es ≡ 0 → list_map flight_of fl ≡ replicate (length fl) None
+none_in_flight setup es m fl requeue_lists rel t none =
     let both = step.open-both setup es t.legal in let r = t.holds.reads in let w = t.holds.writes in let fr = t.reads in let fw = t.writes in
     let br = open_by_dir setup es Read t.legal in let bw = open_by_dir setup es Write t.legal in
     none_flies fl (omega arith)
 
 -- a tag that the code reads as free was not issued in the round, and another was
-pub slot_free : {A : Type 0} (setup : Setup) (es : List Happened) (m : Meaning) (fl : List (TagState A)) (requeued : List (List Waiting)) (rel tag : ℕ) (seen : TagState A) → IsTied setup es m fl requeued rel → tag < length fl → seen ≡ get_or fl tag seen → seen ≡ Free → IsUsed es tag → ⊥
-slot_free setup es m fl requeued rel tag seen t lt e is =
+pub slot_free : {A : Type 0} (setup : Setup) (es : List Happened) (m : Meaning) (fl : List (TagState A)) (requeue_lists : List (List Waiting)) (rel tag : ℕ) (seen : TagState A) → IsTied setup es m fl requeue_lists rel → tag < length fl → seen ≡ get_or fl tag seen → seen ≡ Free → IsUsed es tag → ⊥
+slot_free setup es m fl requeue_lists rel tag seen t lt e is =
     (free_unused es tag).0 (sym (t.seats tag lt) ∙ ap seat_of (any_default fl tag Free seen lt ∙ sym e ∙ is))
 
-pub slot_used : {A : Type 0} (setup : Setup) (es : List Happened) (m : Meaning) (fl : List (TagState A)) (requeued : List (List Waiting)) (rel tag : ℕ) (seen : TagState A) → IsTied setup es m fl requeued rel → tag < length fl → seen ≡ get_or fl tag seen → (seen ≡ Free → ⊥) → IsUsed es tag
-slot_used {A} setup es m fl requeued rel tag seen t lt e other =
+pub slot_used : {A : Type 0} (setup : Setup) (es : List Happened) (m : Meaning) (fl : List (TagState A)) (requeue_lists : List (List Waiting)) (rel tag : ℕ) (seen : TagState A) → IsTied setup es m fl requeue_lists rel → tag < length fl → seen ≡ get_or fl tag seen → (seen ≡ Free → ⊥) → IsUsed es tag
+slot_used {A} setup es m fl requeue_lists rel tag seen t lt e other =
     seat_used es tag (ap is_some (sym (t.seats tag lt) ∙ ap seat_of (any_default fl tag Free seen lt ∙ sym e)) ∙ by_state seen other)
   where
     by_state : (s : TagState A) → (s ≡ Free → ⊥) → is_some (seat_of s) ≡ true
@@ -440,15 +440,15 @@ slot_used {A} setup es m fl requeued rel tag seen t lt e other =
     by_state (Spent d) n = refl
 
 -- an Issue is open under a tag whose command is in flight, and under no other
-pub flying_open : {A : Type 0} (setup : Setup) (es : List Happened) (m : Meaning) (fl : List (TagState A)) (requeued : List (List Waiting)) (rel tag hw : ℕ) (w : Waiting) → IsTied setup es m fl requeued rel → get_or fl tag Free ≡ InFlight hw w → IsOpen es tag
-flying_open setup es m fl requeued rel tag hw w t at = by_open es tag w.id (t.flown tag hw w at).by
+pub flying_open : {A : Type 0} (setup : Setup) (es : List Happened) (m : Meaning) (fl : List (TagState A)) (requeue_lists : List (List Waiting)) (rel tag hw : ℕ) (w : Waiting) → IsTied setup es m fl requeue_lists rel → get_or fl tag Free ≡ InFlight hw w → IsOpen es tag
+flying_open setup es m fl requeue_lists rel tag hw w t at = by_open es tag w.id (t.flown tag hw w at).by
 
 abbrev flies_now : Option RoundSeat → Bool
 flies_now None = false
 flies_now (Some seat) = seat.in_flight
 
-pub not_flying : {A : Type 0} (setup : Setup) (es : List Happened) (m : Meaning) (fl : List (TagState A)) (requeued : List (List Waiting)) (rel tag : ℕ) (seen : TagState A) → IsTied setup es m fl requeued rel → tag < length fl → seen ≡ get_or fl tag seen → ((hw : ℕ) (w : Waiting) → seen ≡ InFlight hw w → ⊥) → IsOpen es tag → ⊥
-not_flying {A} setup es m fl requeued rel tag seen t lt e other o =
+pub not_flying : {A : Type 0} (setup : Setup) (es : List Happened) (m : Meaning) (fl : List (TagState A)) (requeue_lists : List (List Waiting)) (rel tag : ℕ) (seen : TagState A) → IsTied setup es m fl requeue_lists rel → tag < length fl → seen ≡ get_or fl tag seen → ((hw : ℕ) (w : Waiting) → seen ≡ InFlight hw w → ⊥) → IsOpen es tag → ⊥
+not_flying {A} setup es m fl requeue_lists rel tag seen t lt e other o =
     let seat = open_seat setup es tag t.legal o in
     let flies : flies_now (seat_of seen) ≡ true = ap flies_now (ap seat_of (e ∙ any_default fl tag seen Free lt) ∙ t.seats tag lt ∙ seat.1) in
     by_state seen other flies
@@ -459,8 +459,8 @@ not_flying {A} setup es m fl requeued rel tag seen t lt e other o =
     by_state (Spent d) n f = absurd (let x : false ≡ true = f in cc)
 
 -- past the tags none is open
-pub beyond : {A : Type 0} (setup : Setup) (es : List Happened) (m : Meaning) (fl : List (TagState A)) (requeued : List (List Waiting)) (rel tag : ℕ) → IsTied setup es m fl requeued rel → length fl ≤ tag → IsOpen es tag → ⊥
-beyond setup es m fl requeued rel tag t past o =
+pub beyond : {A : Type 0} (setup : Setup) (es : List Happened) (m : Meaning) (fl : List (TagState A)) (requeue_lists : List (List Waiting)) (rel tag : ℕ) → IsTied setup es m fl requeue_lists rel → length fl ≤ tag → IsOpen es tag → ⊥
+beyond setup es m fl requeue_lists rel tag t past o =
     let seat = open_seat setup es tag t.legal o in
     let b = step.seat-below setup es t.legal tag _ seat.1 in
     let r = t.room in

@@ -51,10 +51,10 @@ Places serves old bios hw (JoinedTo id side) new =
 -- which request goes to the device for a hardware queue: the first of those that are requeued for it, whose pick is then open again,
 -- or, where none is requeued for it, the one that the scheduler chooses in this round
 abbrev pub SendsFrom : (ℕ → Waiting → Bool) → Choice → ℕ → ℕ → List Waiting → Meaning → List ℕ → List (List Waiting) → Waiting → Meaning → List ℕ → List (List Waiting) → Type 0
-SendsFrom serves chooses hw round [] m kept requeued w new_m new_kept new_requeued =
-    Picks serves hw m w new_m × chooses kept m hw round (Some w) new_kept × (new_requeued ≡ requeued)
-SendsFrom serves chooses hw round (first ∷ rest) m kept requeued w new_m new_kept new_requeued =
-    (first ≡ w) × RequeuesPick (dir_of w.bios) new_m m × (new_kept ≡ kept) × (new_requeued ≡ slice_set requeued hw rest)
+SendsFrom serves chooses hw round [] m kept requeue_lists w new_m new_kept new_lists =
+    Picks serves hw m w new_m × chooses kept m hw round (Some w) new_kept × (new_lists ≡ requeue_lists)
+SendsFrom serves chooses hw round (first ∷ rest) m kept requeue_lists w new_m new_kept new_lists =
+    (first ≡ w) × RequeuesPick (dir_of w.bios) new_m m × (new_kept ≡ kept) × (new_lists ≡ slice_set requeue_lists hw rest)
 
 -- the same of a core, before and after
 abbrev pub Sends : (ℕ → Waiting → Bool) → Choice → CoreState → ℕ → Waiting → CoreState → Type 0

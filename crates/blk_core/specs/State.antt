@@ -36,8 +36,8 @@ pub record CoreState : Type 0 where
 
 -- a core with this trace, over a scheduler that means and keeps this, with these commands in flight and these requeue lists
 abbrev pub core_of : Traced → Meaning → List ℕ → List (Option Flight) → List (List Waiting) → CoreState
-core_of trace meaning kept flights requeued =
-    record { setup = trace.setup; events = trace.events; meaning = meaning; kept = kept; flights = flights; requeued = requeued }
+core_of trace meaning kept flights requeue_lists =
+    record { setup = trace.setup; events = trace.events; meaning = meaning; kept = kept; flights = flights; requeued = requeue_lists }
 
 -- a core without events over a scheduler that means and keeps this
 abbrev pub new_core : Setup → Meaning → List ℕ → CoreState
@@ -77,20 +77,20 @@ abbrev pub is_named : ℕ → Waiting → Bool
 is_named id w = id == w.id
 
 -- the scheduler and the requeue lists together hold exactly what waits in the trace, as it was joined
-pub record HoldsWhatWaits (setup : Setup) (events : List Happened) (m : Meaning) (requeued : List (List Waiting)) : Type 0 where
+pub record HoldsWhatWaits (setup : Setup) (events : List Happened) (m : Meaning) (requeue_lists : List (List Waiting)) : Type 0 where
   -- the scheduler has what was never issued
   pub pending : (id : ℕ) → option_map entered_of (map.get m.pending id) ≡ unissued_at setup events id
   -- the requeue lists have what was requeued, and each such request once
-  pub requeued : (hw place : ℕ) (w : Waiting) → slice_get (requeued_in requeued hw) place ≡ Some w → requeued_at setup events w.id ≡ Some (entered_of w)
-  pub requeued_once : (id : ℕ) → requeued_count (is_named id) requeued ≡ cond (is_some (requeued_at setup events id)) 1 0
-  pub count : map.len m.pending + requeued_total requeued ≡ waiting_count events
+  pub requeued : (hw place : ℕ) (w : Waiting) → slice_get (requeued_in requeue_lists hw) place ≡ Some w → requeued_at setup events w.id ≡ Some (entered_of w)
+  pub requeued_once : (id : ℕ) → requeued_count (is_named id) requeue_lists ≡ cond (is_some (requeued_at setup events id)) 1 0
+  pub count : map.len m.pending + requeued_total requeue_lists ≡ waiting_count events
   -- the scheduler's open picks are the open Issues, and its requeued picks are the requests of the requeue lists
   pub reads : m.open_picks.reads ≡ open_issues_of events Read
   pub writes : m.open_picks.writes ≡ open_issues_of events Write
-  pub requeued_picks : (dir : Dir) → requeued_of dir m.open_picks ≡ requeued_count (is_of dir) requeued
+  pub requeued_picks : (dir : Dir) → requeued_of dir m.open_picks ≡ requeued_count (is_of dir) requeue_lists
 
 -- whoever holds what waits has as many picks open as there are open Issues
 abbrev pub PicksAreOpenIssues : Setup → List Happened → Type 0
 PicksAreOpenIssues setup events =
-    (m : Meaning) → (requeued : List (List Waiting)) → HoldsWhatWaits setup events m requeued
+    (m : Meaning) → (requeue_lists : List (List Waiting)) → HoldsWhatWaits setup events m requeue_lists
     → m.open_picks.reads + m.open_picks.writes ≡ open_count events

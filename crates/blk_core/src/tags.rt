@@ -57,18 +57,18 @@ pub(crate) fn completed<A: Allocator + Clone>(tag: &mut TagState<A>) -> Request<
 /// then on. Fails only when memory runs out, and changes nothing then.
 pub(crate) fn requeue<A: Allocator + Clone>(
     tag: &mut TagState<A>,
-    requeued: &mut RequeueLists<A>,
+    requeue_lists: &mut RequeueLists<A>,
 ) -> Result<(), AllocError>
-    requires { IfInFlight tag.old (λ hw w. hw < length requeued.old) }
-    ensures ok { OnOk result (Requeues tag.old requeued.old tag.new requeued.new) }
-    ensures same { OnErr result ((tag.new ≡ tag.old) × (requeued.new ≡ requeued.old)) }
+    requires { IfInFlight tag.old (λ hw w. hw < length requeue_lists.old) }
+    ensures ok { OnOk result (Requeues tag.old requeue_lists.old tag.new requeue_lists.new) }
+    ensures same { OnErr result ((tag.new ≡ tag.old) × (requeue_lists.new ≡ requeue_lists.old)) }
 {
     let state = mem::replace(tag, TagState::Free);
     let TagState::InFlight { hw, queued } = state else {
         unreachable!()
     };
     let dir = queued.request.dir();
-    match requeued.push(hw, queued) {
+    match requeue_lists.push(hw, queued) {
         Ok(()) => {
             *tag = TagState::Spent(dir);
             Ok(())

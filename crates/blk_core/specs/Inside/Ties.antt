@@ -42,8 +42,8 @@ IfInFlight _ P = ⊥
 
 -- a requeue: the request in flight goes behind the others in the requeue list of its hardware queue, and its tag is spent
 abbrev pub Requeues : {A : Type 0} → TagState A → List (List Waiting) → TagState A → List (List Waiting) → Type 0
-Requeues old requeued new new_requeued =
-    IfInFlight old (λ hw w. (new ≡ Spent (dir_of w.bios)) × (new_requeued ≡ slice_set requeued hw (requeued_in requeued hw ++ w ∷ [])))
+Requeues old requeue_lists new new_lists =
+    IfInFlight old (λ hw w. (new ≡ Spent (dir_of w.bios)) × (new_lists ≡ slice_set requeue_lists hw (requeued_in requeue_lists hw ++ w ∷ [])))
 
 -- a scheduler may pick none for a hardware queue: a pick is open or requeued, or it serves nothing for this one
 abbrev pub MayPickNone : (ℕ → Waiting → Bool) → ℕ → Meaning → Type 0
@@ -56,16 +56,16 @@ flying dir (InFlight hw queued) = cond (same_dir dir (dir_of queued.bios)) 1 0
 flying dir (Spent d) = 0
 
 -- a core's own fields say what its trace says
-pub record IsTied {A : Type 0} (setup : Setup) (events : List Happened) (m : Meaning) (tags : List (TagState A)) (requeued : List (List Waiting)) (released : ℕ) : Type 0 where
+pub record IsTied {A : Type 0} (setup : Setup) (events : List Happened) (m : Meaning) (tags : List (TagState A)) (requeue_lists : List (List Waiting)) (released : ℕ) : Type 0 where
   pub legal : IsLegalTrace setup events
   pub ranges : IsSetup setup
-  pub holds : HoldsWhatWaits setup events m requeued
+  pub holds : HoldsWhatWaits setup events m requeue_lists
   pub next : released ≡ released_count events
   pub few : released ≤ length events
   pub known : (id : ℕ) → IsReleased events id → id < released
   pub fresh : (id : ℕ) → released ≤ id → map.get m.pending id ≡ None
   pub room : length tags ≡ setup.depth
-  pub lists : length requeued ≡ setup.hw
+  pub lists : length requeue_lists ≡ setup.hw
   pub seats : (tag : ℕ) → tag < length tags → seat_of (slice_index_or tags tag Free) ≡ seat_at events tag
   pub flown : (tag hw : ℕ) (w : Waiting) → slice_index_or tags tag Free ≡ InFlight hw w → InFlightAs setup events tag w
   pub reads : sum_by (flying Read) tags ≡ m.open_picks.reads

@@ -9,5 +9,5 @@ pub returns-clause-all : goal.returns-clause-all
 returns-clause-all c setup events legal = open_listed setup events legal
 
 pub returns-clause-picks : goal.returns-clause-picks
-returns-clause-picks c setup events legal m requeued holds =
+returns-clause-picks c setup events legal m requeue_lists holds =
     let both = open_by_dirs setup events legal in let reads = holds.reads in let writes = holds.writes in omega arith

@@ -52,10 +52,10 @@ invariant_of-self-2 g c =
     let lt : c.args.tag < length c.self.inside.tags.items = search rules in
     let at : get_or c.self.inside.tags.items c.args.tag Free ≡ InFlight c.in-InFlight.hw w = read_at c.self.inside.tags.items c.args.tag c.in-InFlight.hw c.index.result.now w lt c.index.ensures c.in-InFlight.is in
     let dir_is : c.dir-dir.result ≡ dir_of w.bios = c.dir-dir.ensures ∙ ap (λ (x : Waiting). dir_of x.bios) c.queued.view_is in
-    let requeued = of_flying (λ hw w. (c.requeue.new.tag ≡ Spent (dir_of w.bios)) × (c.requeue.new.requeued ≡ slice_set c.self.inside.requeued hw (requeued_in c.self.inside.requeued hw ++ w ∷ []))) c.self.inside.tags.items c.args.tag c.in-InFlight.hw c.index_mut.result.now w lt c.index_mut.ensures.value at c.in-Ok.ensures.ok in
-    subst (λ s. IsTied c.add.new.self.setup c.add.new.self.events (g.S.Scheduler.meaning c.on_requeue.new.self) (set c.self.inside.tags.items c.args.tag s) c.requeue.new.requeued c.self.inside.released) (sym requeued.0)
-    (tied_back c.self.inside.trace.setup c.add.new.self.setup c.self.inside.trace.events c.add.new.self.events (g.S.Scheduler.meaning c.self.inside.scheduler) (g.S.Scheduler.meaning c.on_requeue.new.self) c.self.inside.tags.items c.self.inside.requeued c.requeue.new.requeued c.self.inside.released c.args.tag c.in-InFlight.hw w c.dir-dir.result
-    (pushed_at_once c.self.inside.trace c.add.new.self (Back c.args.tag) _ c.add.ensures.added c.add.ensures.legal) c.self.invariant lt at dir_is c.on_requeue.ensures.back requeued.1
+    let requeue_lists = of_flying (λ hw w. (c.requeue.new.tag ≡ Spent (dir_of w.bios)) × (c.requeue.new.requeue_lists ≡ slice_set c.self.inside.requeued hw (requeued_in c.self.inside.requeued hw ++ w ∷ []))) c.self.inside.tags.items c.args.tag c.in-InFlight.hw c.index_mut.result.now w lt c.index_mut.ensures.value at c.in-Ok.ensures.ok in
+    subst (λ s. IsTied c.add.new.self.setup c.add.new.self.events (g.S.Scheduler.meaning c.on_requeue.new.self) (set c.self.inside.tags.items c.args.tag s) c.requeue.new.requeue_lists c.self.inside.released) (sym requeue_lists.0)
+    (tied_back c.self.inside.trace.setup c.add.new.self.setup c.self.inside.trace.events c.add.new.self.events (g.S.Scheduler.meaning c.self.inside.scheduler) (g.S.Scheduler.meaning c.on_requeue.new.self) c.self.inside.tags.items c.self.inside.requeued c.requeue.new.requeue_lists c.self.inside.released c.args.tag c.in-InFlight.hw w c.dir-dir.result
+    (pushed_at_once c.self.inside.trace c.add.new.self (Back c.args.tag) _ c.add.ensures.added c.add.ensures.legal) c.self.invariant lt at dir_is c.on_requeue.ensures.back requeue_lists.1
     (queue_below c.self.inside.trace.setup.hw c.in-InFlight.hw (get_or c.self.inside.tags.items c.args.tag Free) w at (c.self.invariant.queues c.args.tag)))
 
 pub returns-clause-back : goal.returns-clause-back
@@ -64,7 +64,7 @@ returns-clause-back g c =
     let lt : c.args.tag < length c.self.inside.tags.items = search rules in
     let at : get_or c.self.inside.tags.items c.args.tag Free ≡ InFlight c.in-InFlight.hw w = read_at c.self.inside.tags.items c.args.tag c.in-InFlight.hw c.index.result.now w lt c.index.ensures c.in-InFlight.is in
     let dir_is : c.dir-dir.result ≡ dir_of w.bios = c.dir-dir.ensures ∙ ap (λ (x : Waiting). dir_of x.bios) c.queued.view_is in
-    let requeued = of_flying (λ hw w. (c.requeue.new.tag ≡ Spent (dir_of w.bios)) × (c.requeue.new.requeued ≡ slice_set c.self.inside.requeued hw (requeued_in c.self.inside.requeued hw ++ w ∷ []))) c.self.inside.tags.items c.args.tag c.in-InFlight.hw c.index_mut.result.now w lt c.index_mut.ensures.value at c.in-Ok.ensures.ok in
+    let requeue_lists = of_flying (λ hw w. (c.requeue.new.tag ≡ Spent (dir_of w.bios)) × (c.requeue.new.requeue_lists ≡ slice_set c.self.inside.requeued hw (requeued_in c.self.inside.requeued hw ++ w ∷ []))) c.self.inside.tags.items c.args.tag c.in-InFlight.hw c.index_mut.result.now w lt c.index_mut.ensures.value at c.in-Ok.ensures.ok in
     let p = pushed_at_once c.self.inside.trace c.add.new.self (Back c.args.tag) _ c.add.ensures.added c.add.ensures.legal in
     rw (← c.self.view_is) (
       record { hw = c.in-InFlight.hw; request = w },
@@ -74,8 +74,8 @@ returns-clause-back g c =
       (p.same, p.added),
       back_by (g.S.Scheduler.meaning c.self.inside.scheduler) (g.S.Scheduler.meaning c.on_requeue.new.self) c.dir-dir.result (dir_of w.bios) dir_is c.on_requeue.ensures.back,
       c.on_requeue.ensures.kept,
-      map-set flight_of c.self.inside.tags.items c.args.tag c.requeue.new.tag ∙ ap (λ s. set (map flight_of c.self.inside.tags.items) c.args.tag (flight_of s)) requeued.0,
-      requeued.1,
+      map-set flight_of c.self.inside.tags.items c.args.tag c.requeue.new.tag ∙ ap (λ s. set (map flight_of c.self.inside.tags.items) c.args.tag (flight_of s)) requeue_lists.0,
+      requeue_lists.1,
     )
 
 pub returns-in_default-clause-fault : goal.returns-in_default-clause-fault
