@@ -364,7 +364,7 @@ tied_new {A} s s' es m fl requeue_lists n k p q start ranges d f h_is h =
     subst (λ x. IsTied x es m fl requeue_lists 0) (sym p) (subst (λ x. IsTied s x m fl requeue_lists 0) (sym q) (subst (λ x. IsTied s [] m x requeue_lists 0) (sym f) (subst (λ x. IsTied s [] m (replicate n (unused {A = A})) x 0) (sym h) (at_first {A = A} s m n k start ranges d h_is))))
 
 -- what a core is at first
-pub at_start_of : (s s' : Setup) (es : List Happened) (m : Meaning) (kept : List ℕ) (flights now : List (Option Flight)) (requeue_lists then : List (List Waiting)) → s' ≡ s → es ≡ [] → flights ≡ now → requeue_lists ≡ then → (let c : CoreState = record { setup = s'; events = es; meaning = m; kept = kept; flights = flights; requeued = requeue_lists } in c ≡ record { setup = s; events = []; meaning = m; kept = kept; flights = now; requeue_lists = then })
+pub at_start_of : (s s' : Setup) (es : List Happened) (m : Meaning) (kept : List ℕ) (flights now : List (Option Flight)) (requeue_lists then : List (List Waiting)) → s' ≡ s → es ≡ [] → flights ≡ now → requeue_lists ≡ then → (let c : CoreState = record { setup = s'; events = es; meaning = m; kept = kept; flights = flights; requeued = requeue_lists } in c ≡ record { setup = s; events = []; meaning = m; kept = kept; flights = now; requeued = then })
 at_start_of s s' es m kept flights now requeue_lists then p q r h = cc
 
 -- a scheduler's join is one that the trace allows

@@ -22,7 +22,7 @@ chosen_at : (chooses : Choice) (kept : List ℕ) (m : Meaning) (hw now round : �
 chosen_at chooses kept m hw now round now_is h = subst (λ n. chooses kept m hw n None kept) now_is h
 
 -- a core of which each part is as it was
-same_core : (s s' : Setup) (es es' : List Happened) (m m' : Meaning) (k k' : List ℕ) (f : List (Option Flight)) (h h' : List (List Waiting)) → s ≡ s' → es ≡ es' → m ≡ m' → k ≡ k' → h ≡ h' → ◌≡◌ {A = CoreState} (record { setup = s; events = es; meaning = m; kept = k; flights = f; requeue_lists = h }) (record { setup = s'; events = es'; meaning = m'; kept = k'; flights = f; requeue_lists = h' })
+same_core : (s s' : Setup) (es es' : List Happened) (m m' : Meaning) (k k' : List ℕ) (f : List (Option Flight)) (h h' : List (List Waiting)) → s ≡ s' → es ≡ es' → m ≡ m' → k ≡ k' → h ≡ h' → ◌≡◌ {A = CoreState} (record { setup = s; events = es; meaning = m; kept = k; flights = f; requeued = h }) (record { setup = s'; events = es'; meaning = m'; kept = k'; flights = f; requeued = h' })
 same_core s s' es es' m m' k k' f h h' a b c d e = cc
 
 pub dispatch-requires-clause-few : goal.dispatch-requires-clause-few
