@@ -4,6 +4,7 @@ use Rattle.std.specs.Prelude.{All, nat_lt, slice_index, slice_set}
 use Rattle.std.proofs.lemmas.List.{length-replicate}
 use Rattle.std.proofs.lemmas.List.Elements.{All-nil, All-replicate}
 use Rattle.blk_bio.specs.declared.bio.Dir.{Dir}
+use Rattle.blk_plug.specs.declared.plug.TheConstants.{MAX_STAGED}
 use Rattle.blk_capture.specs.declared.record.Action.{Action}
 use Rattle.blk_capture.specs.declared.record.Action.TheVariants as action
 use Rattle.blk_capture.specs.declared.record.Record.{Record}
@@ -17,7 +18,6 @@ use Rattle.blk_arrivals.specs.Staged.{AreEmpty, KeepPlugs, no_bios}
 use Rattle.blk_arrivals.specs.declared.coming.ToldBy.{ToldBy}
 use Rattle.blk_arrivals.specs.declared.deeds.Deed.{Deed}
 use Rattle.blk_arrivals.specs.declared.deeds.Deed.TheVariants as deed
-use Rattle.blk_arrivals.specs.declared.going.TheConstants.{PLUGGED}
 use Rattle.blk_arrivals.specs.declared.terms.Terms.{Terms}
 use Rattle.blk_arrivals.proofs.Comes.{place_below}
 use Rattle.blk_arrivals.proofs.Stepping.{held_stay}
@@ -67,10 +67,10 @@ ending_keeps true round p rest k =
 
 -- a bio comes in
 
-bio_keeps : (p : Plugs) (s : ℕ) (way : Dir) (r : Record) (b : Bool) (rest : List Line) → s < length p.held → nat_lt (slice_index p.held s) PLUGGED ≡ b
+bio_keeps : (p : Plugs) (s : ℕ) (way : Dir) (r : Record) (b : Bool) (rest : List Line) → s < length p.held → nat_lt (slice_index p.held s) MAX_STAGED ≡ b
     → KeepPlugs (slice_set p.held s (cond b (slice_index p.held s + 1) 1)) rest → KeepPlugs p.held (cond b [] (out_of s) ++ (line.Bio (bio_of s p.bios way r) ∷ rest))
 unfolding KeepPlugs
-bio_keeps p s way r true rest h is k = (ltb-true (slice_index p.held s) PLUGGED is, k)
+bio_keeps p s way r true rest h is k = (ltb-true (slice_index p.held s) MAX_STAGED is, k)
 bio_keeps p s way r false rest h is k =
     let none : get_or (set p.held s 0) s 0 ≡ 0 = get_or-set_same p.held s 0 0 h in
     rw (none, set-set p.held s 0 1) (omega arith, k)
@@ -78,7 +78,7 @@ bio_keeps p s way r false rest h is k =
 arrival_keeps : (p : Plugs) (s : ℕ) (way : Dir) (r : Record) (rest : List Line) → s < length p.held → KeepPlugs (plugs_with p s).held rest → KeepPlugs p.held (arrival_of p s way r ++ rest)
 arrival_keeps p s way r rest h k =
     subst (λ (ls : List Line). KeepPlugs p.held ls) (sym (append_assoc (room_for s (slice_index p.held s)) (line.Bio (bio_of s p.bios way r) ∷ []) rest))
-    (bio_keeps p s way r (nat_lt (slice_index p.held s) PLUGGED) rest h refl k)
+    (bio_keeps p s way r (nat_lt (slice_index p.held s) MAX_STAGED) rest h refl k)
 
 -- a plug is flushed
 

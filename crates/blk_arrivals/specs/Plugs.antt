@@ -3,6 +3,7 @@ use Rattle.std.specs.Prelude.{ℕ, ◌+◌, ◌-◌, ◌==◌, ◌++◌, List, [
 use Rattle.std.proofs.Math.ListN.{replicate}
 use Rattle.blk_bio.specs.Bios.{Bio}
 use Rattle.blk_bio.specs.declared.bio.Dir.{Dir}
+use Rattle.blk_plug.specs.declared.plug.TheConstants.{MAX_STAGED}
 use Rattle.blk_capture.specs.declared.record.Record.{Record}
 use Rattle.blk_text.specs.declared.script.Line.{Line}
 use Rattle.blk_text.specs.declared.script.Line.TheVariants as line
@@ -11,7 +12,6 @@ use Rattle.blk_arrivals.specs.Deeds.{deed_of}
 use Rattle.blk_arrivals.specs.declared.coming.ToldBy.{ToldBy}
 use Rattle.blk_arrivals.specs.declared.deeds.Deed.{Deed}
 use Rattle.blk_arrivals.specs.declared.deeds.Deed.TheVariants as deed
-use Rattle.blk_arrivals.specs.declared.going.TheConstants.{PLUGGED}
 
 -- the round that it is, how many bios came in, and how many stand in the plug of each submitter
 pub record Plugs : Type 0 where
@@ -58,10 +58,10 @@ out_of s = line.Flush s ∷ line.Drain 0 ∷ []
 
 -- a plug that holds as many requests as it may is flushed before one more bio
 abbrev pub room_for : ℕ → ℕ → List Line
-room_for s held = cond (nat_lt held PLUGGED) [] (out_of s)
+room_for s held = cond (nat_lt held MAX_STAGED) [] (out_of s)
 
 abbrev pub held_with : ℕ → ℕ
-held_with held = cond (nat_lt held PLUGGED) (held + 1) 1
+held_with held = cond (nat_lt held MAX_STAGED) (held + 1) 1
 
 -- the bio of a record, by its submitter and its number among all bios
 abbrev pub bio_of : ℕ → ℕ → Dir → Record → Bio

@@ -19,9 +19,6 @@ use blk_plug::MAX_STAGED;
 use blk_text::{Line, MAX_STEPS};
 use std::alloc::{AllocError, Global};
 
-/// How many requests a plug holds.
-pub(crate) const PLUGGED: u64 = MAX_STAGED as u64;
-
 /// The steps so far, the current round, how many bios came in, and how many stand in each submitter's plug.
 #[derive(Drop)]
 pub(crate) struct Going {
@@ -89,7 +86,7 @@ fn push_room(lines: &mut Vec<Line>, submitter: usize, held: u64) -> Result<(), A
     requires { submitter < MAX_SOFT_QUEUES }
     ensures { OnOk result (lines.new.items ≡ lines.old.items ++ room_for submitter held) }
 {
-    if held < PLUGGED {
+    if held < MAX_STAGED as u64 {
         return Ok(());
     }
     push_out(lines, submitter)
@@ -110,7 +107,11 @@ fn push_unplug(lines: &mut Vec<Line>, submitter: usize, held: u64) -> Result<(),
 fn held_with(held: u64) -> u64
     ensures { result ≡ held_with held }
 {
-    if held < PLUGGED { held + 1 } else { 1 }
+    if held < MAX_STAGED as u64 {
+        held + 1
+    } else {
+        1
+    }
 }
 
 /// The bio of a record.

@@ -7,8 +7,8 @@ ghost use Rattle.blk_arrivals.specs.Names.{fault_name};
 ghost use Rattle.blk_arrivals.specs.Scripts.{usual_limits, expiry_rounds, script_setup};
 ghost use Rattle.blk_arrivals.specs.Inside.Scripts.{term_rules};
 
-use crate::going::PLUGGED;
 use blk_bio::{Limits, MAX_SEGMENTS};
+use blk_plug::MAX_STAGED;
 use blk_text::MAX_DEPTH_1;
 use blk_trace::{Setup, SetupFault};
 
@@ -22,7 +22,7 @@ pub const USUAL_SECTORS: u64 = 2_560;
 pub const USUAL_SEGMENTS: u64 = MAX_SEGMENTS;
 
 /// How many requests a software queue has room for: as many as two full plugs.
-pub const USUAL_SOFT_DEPTH: u64 = 2 * PLUGGED;
+pub const USUAL_SOFT_DEPTH: u64 = 2 * MAX_STAGED as u64;
 
 /// How a capture becomes a script.
 #[derive(Clone, Copy, Debug, PartialEq, Eq)]

@@ -11,7 +11,7 @@ ghost use Rattle.blk_bio.specs.declared.bio.Dir.{Dir as Direction};
 use crate::extent::Extent;
 use std::marker::Model;
 
-/// No bio reaches past this sector: 2^48, in sectors from the device's beginning.
+/// No bio reaches past this sector, counted from the device's beginning.
 pub const MAX_END: u64 = 1 << 48;
 
 /// Which way a bio's data goes, as `REQ_OP_READ` and `REQ_OP_WRITE` of Linux say.
@@ -135,7 +135,7 @@ impl Bio {
         self.dir
     }
 
-    /// Its first sector, below 2^48.
+    /// Its first sector, below [`MAX_END`].
     pub fn first(&self) -> u64
         ensures value { result ≡ self.now.first }
         ensures is_bio { IsBio self.now }
@@ -143,7 +143,7 @@ impl Bio {
         self.first
     }
 
-    /// How many sectors it has, 1 to 2^48.
+    /// How many sectors it has, 1 to [`MAX_END`].
     pub fn sectors(&self) -> u64
         ensures value { result ≡ self.now.sectors }
         ensures is_bio { IsBio self.now }

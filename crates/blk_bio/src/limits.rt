@@ -51,8 +51,8 @@ impl Model for Limits {
 }
 
 impl Limits {
-    /// Limits of 1 to 65,535 sectors and 1 to 128 segments. Refused as `Sectors` where the first number is out of its
-    /// range, and then as `Segments` where the second one is.
+    /// Limits of 1 to [`MAX_SECTORS`] sectors and 1 to [`MAX_SEGMENTS`] segments. Refused as `Sectors` where the first number is
+    /// out of its range, and then as `Segments` where the second one is.
     pub fn new(max_sectors: u64, max_segments: u64) -> Result<Limits, LimitsFault>
         ensures { IsLimitsAnswer max_sectors max_segments result }
     {
@@ -68,7 +68,7 @@ impl Limits {
         })
     }
 
-    /// The most sectors, 1 to 65,535.
+    /// The most sectors, 1 to [`MAX_SECTORS`].
     pub fn max_sectors(&self) -> u64
         ensures value { result ≡ self.now.max_sectors }
         ensures is_limits { IsLimits self.now }
@@ -76,7 +76,7 @@ impl Limits {
         self.max_sectors
     }
 
-    /// The most bios, 1 to 128.
+    /// The most bios, 1 to [`MAX_SEGMENTS`].
     pub fn max_segments(&self) -> u64
         ensures value { result ≡ self.now.max_segments }
         ensures is_limits { IsLimits self.now }

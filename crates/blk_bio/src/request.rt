@@ -104,7 +104,7 @@ impl<A: Allocator + Clone> Request<A> {
         last.first() + last.sectors()
     }
 
-    /// How many sectors its bios have together, 1 to 2^48; they fill its range.
+    /// How many sectors its bios have together, 1 to [`crate::MAX_END`]; they fill its range.
     pub fn sectors(&self) -> u64
         ensures value { result ≡ sectors_of self.now }
         ensures some { 0 < result }

@@ -4,11 +4,9 @@ ghost use Rattle.std.specs.Prelude.{◌≡◌, ◌++◌, IfOk, IfErr, OnOk, deci
 ghost use Rattle.std.specs.List.{flat_map};
 ghost use Rattle.std.specs.Io.KnownBytes.{Appends};
 ghost use Rattle.drafts.specs.Parts.{AppendsPart};
-ghost use Rattle.blk_bio.specs.Letters.{direction_text};
 ghost use Rattle.blk_capture_text.specs.TableText.{known_text, range_fields, time_fields, row_line, table_lines};
 ghost use Rattle.drafts.specs.Drafts.{next_field};
 
-use blk_bio::Dir;
 use blk_capture::RequestRow;
 use drafts::{Draft, WriteFault, write_whole};
 use std::alloc::{AllocError, Global};
@@ -32,19 +30,12 @@ fn push_known(draft: &mut Draft, number: Option<u64>) -> Result<(), AllocError>
     }
 }
 
-/// Adds one more field, of a direction.
-fn push_dir(draft: &mut Draft, dir: Dir) -> Result<(), AllocError>
-    ensures { OnOk result (draft.new ≡ draft.old ++ next_field (direction_text dir)) }
-{
-    draft.text(&[b',', dir.letter()])
-}
-
 /// Adds the fields up to the process.
 fn push_range(draft: &mut Draft, row: &RequestRow) -> Result<(), AllocError>
     ensures { OnOk result (draft.new ≡ draft.old ++ range_fields row.now) }
 {
     draft.number(row.id)?;
-    push_dir(draft, row.dir)?;
+    draft.next_letter(row.dir.letter())?;
     push_number(draft, row.first)?;
     push_number(draft, row.sectors)?;
     push_number(draft, row.bios)?;

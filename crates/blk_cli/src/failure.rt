@@ -15,7 +15,7 @@ use blk_runs::RunFault;
 use blk_settings::{LoadFault, SchedFault};
 use blk_sim::{SimFault, SimWhy};
 use blk_words::Refusal;
-use drafts::pieces::put_number;
+use drafts::pieces::{MAX_DIGITS, put_number};
 use drafts::{Output, WriteFault};
 use edd_check::{CheckFault, OnTimeFault};
 use edd_oracle::OracleFault;
@@ -26,9 +26,6 @@ const START: &[u8] = b"blk: ";
 
 /// What each line ends with.
 const END: &[u8] = b"\n";
-
-/// How many digits a number has at most.
-const MAX_DIGITS: usize = 20;
 
 /// Why there is no output, or not all of it.
 #[derive(Clone, Copy, Debug, PartialEq, Eq)]

@@ -22,7 +22,7 @@ pub struct Judged<A: Allocator = Global> {
 
 /// Judges a schedule of commands, by the place of each: how many are late, how many of these had to be, and how late the latest is and
 /// had to be, all measured against the legal schedules of the same commands. The commands are as the oracle takes them, and the rounds
-/// below 2^41.
+/// below [`edd_commands::MAX_ROUNDS`].
 ///
 /// Refused, in this order: a command that runs before its release (`BeforeRelease`, the first one by place), running out of
 /// memory (`Memory`), which may come in place of any later answer, and a round with more commands than it carries (`OverDepth`, the least

@@ -60,7 +60,8 @@ fn misses<A: Allocator>(
 }
 
 /// The late commands of a schedule, in the order of the list, each with its round, by how much it is late, and why: the one verdict
-/// that is right of it. The commands are as the oracle takes them, and the rounds below 2^41.
+/// that is right of it. The commands are as the oracle takes them, and the rounds below
+/// [`edd_commands::MAX_ROUNDS`].
 ///
 /// Refused as [`judge`](crate::judge) refuses. The time grows as n log n in the number of commands.
 pub fn late_of<A: Allocator + Clone, B: Allocator>(

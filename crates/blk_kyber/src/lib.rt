@@ -73,8 +73,8 @@ pub struct Kyber<A: Allocator = Global> {
 }
 
 impl<A: Allocator + Clone> Kyber<A> {
-    /// A scheduler for the hardware queues 0 to 15, in which nothing waits and no pick is open, with both limits at the
-    /// depth. Refused as `ZeroTarget` where a target is 0, and as `Memory` where memory runs out.
+    /// A scheduler for the hardware queues below [`MAX_QUEUES`], in which nothing waits and no pick is open, with both limits at
+    /// the depth. Refused as `ZeroTarget` where a target is 0, and as `Memory` where memory runs out.
     pub fn new(alloc: A, targets: Targets, depth: u64) -> Result<Kyber<A>, KyberFault>
         requires least { 1 ≤ depth }
         requires most { depth ≤ MAX_OPEN }

@@ -4,30 +4,20 @@ ghost use Rattle.std.specs.Prelude.{◌≡◌, ◌++◌, IfOk, IfErr, OnOk};
 ghost use Rattle.std.specs.List.{flat_map};
 ghost use Rattle.std.specs.Io.KnownBytes.{Appends};
 ghost use Rattle.drafts.specs.Parts.{AppendsPart};
-ghost use Rattle.blk_bio.specs.Letters.{direction_text};
-ghost use Rattle.drafts.specs.Drafts.{next_field};
 ghost use Rattle.blk_report.specs.LateText.{request_fields, round_fields, wait_fields, late_line, late_lines};
 
 use crate::{LateCommand, Service};
-use blk_bio::Dir;
 use drafts::{Draft, WriteFault, write_whole};
 use edd_figures::lines::{push_field, push_verdict};
 use std::alloc::{AllocError, Global};
 use std::io::Write;
-
-/// Adds one more field, of a direction.
-fn push_dir(draft: &mut Draft, dir: Dir) -> Result<(), AllocError>
-    ensures { OnOk result (draft.new ≡ draft.old ++ next_field (direction_text dir)) }
-{
-    draft.text(&[b',', dir.letter()])
-}
 
 /// Adds the fields of a request.
 fn push_request(draft: &mut Draft, service: &Service) -> Result<(), AllocError>
     ensures { OnOk result (draft.new ≡ draft.old ++ request_fields service.now) }
 {
     draft.number(service.id)?;
-    push_dir(draft, service.dir)?;
+    draft.next_letter(service.dir.letter())?;
     push_field(draft, service.first)?;
     push_field(draft, service.sectors)
 }

@@ -15,7 +15,7 @@ use circular_buffer::HeapCircularBuffer;
 use std::alloc::{AllocError, Allocator, Global};
 use std::marker::Model;
 
-/// The most bios that a software queue takes in over its life: 2^40.
+/// The most bios that a software queue takes in over its life.
 pub const MAX_BIOS: u64 = 1 << 40;
 
 /// At most as many requests as its depth, in the order in which they came, each within the queue's limits, and how many

@@ -51,9 +51,9 @@ impl Model for Setup {
 }
 
 impl Setup {
-    /// A setup of 1 to [`MAX_DEPTH`] tags and 1 to 16 hardware queues, with expiries below 2^40 rounds. Refused as `Depth` where the
-    /// number of tags is out of its range, then as `Queues` where that of the hardware queues is, and then as `Expire`
-    /// where one of the expiries is.
+    /// A setup of 1 to [`MAX_DEPTH`] tags and 1 to [`MAX_QUEUES`] hardware queues, with expiries below [`MAX_EXPIRIES`] rounds.
+    /// Refused as `Depth` where the number of tags is out of its range, then as `Queues` where that of the hardware queues is, and
+    /// then as `Expire` where one of the expiries is.
     pub fn new(
         depth: u64,
         hw: u8,
@@ -89,7 +89,7 @@ impl Setup {
         self.depth
     }
 
-    /// How many hardware queues there are: 1 to 16.
+    /// How many hardware queues there are: 1 to [`MAX_QUEUES`].
     pub fn hw(&self) -> u8
         ensures value { result ≡ self.now.hw }
         ensures is_setup { IsSetup self.now }
@@ -97,7 +97,7 @@ impl Setup {
         self.hw
     }
 
-    /// After how many rounds a read is due: fewer than 2^40.
+    /// After how many rounds a read is due: fewer than [`MAX_EXPIRIES`].
     pub fn read_expire(&self) -> u64
         ensures value { result ≡ self.now.read_expire }
         ensures is_setup { IsSetup self.now }
@@ -105,7 +105,7 @@ impl Setup {
         self.read_expire
     }
 
-    /// After how many rounds a write is due: fewer than 2^40.
+    /// After how many rounds a write is due: fewer than [`MAX_EXPIRIES`].
     pub fn write_expire(&self) -> u64
         ensures value { result ≡ self.now.write_expire }
         ensures is_setup { IsSetup self.now }

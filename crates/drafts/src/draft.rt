@@ -1,8 +1,9 @@
 //! A text that is being made, piece by piece.
 
-ghost use Rattle.std.specs.Prelude.{◌≡◌, ◌++◌, ◌-◌, [], OnOk, IfOk, decimal, length};
+ghost use Rattle.std.specs.Prelude.{◌≡◌, ◌++◌, ◌-◌, ◌∷◌, [], OnOk, IfOk, decimal, length};
 ghost use Rattle.std.specs.Fmt.{signed_decimal};
 ghost use Rattle.std.proofs.Math.ListN.{replicate};
+ghost use Rattle.drafts.specs.Drafts.{next_field};
 
 use crate::block::Block;
 use std::alloc::{AllocError, Global};
@@ -46,6 +47,13 @@ impl Draft {
         ensures { OnOk result (self.new ≡ self.old ++ decimal number) }
     {
         self.block.push_number(number)
+    }
+
+    /// Adds one more field of a record, of one letter.
+    pub fn next_letter(&mut self, letter: u8) -> Result<(), AllocError>
+        ensures { OnOk result (self.new ≡ self.old ++ next_field (letter ∷ [])) }
+    {
+        self.block.push(&[b',', letter])
     }
 
     /// Adds a signed number, with a minus where it is below 0.

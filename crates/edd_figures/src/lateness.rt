@@ -58,8 +58,8 @@ fn compared<A: Allocator, B: Allocator>(
 }
 
 /// How late the latest command of a legal schedule is, and how late it had to be; there is nothing to tell exactly where there are no
-/// commands. The commands are as the oracle takes them, and the rounds below 2^41. The window is that of the latest command in the
-/// oracle's own schedule ([`solve`]). Fails only when out of memory. The time grows as n log n in the number of commands.
+/// commands. The commands are as the oracle takes them, and the rounds below [`edd_commands::MAX_ROUNDS`]. The window is that of the
+/// latest command in the oracle's own schedule ([`solve`]). Fails only when out of memory. The time grows as n log n in the number of commands.
 pub fn figures_of<A: Allocator + Clone, B: Allocator>(
     alloc: A,
     commands: &[Command],

@@ -74,10 +74,10 @@ pub struct Answer<A: Allocator = Global> {
 /// of those in one round, of the one of the least id. Its `from` is the earliest round from which every round before that command's
 /// is full of commands due by `due`.
 ///
-/// There is no answer exactly where there are no commands. Releases are rounds below 2^40 and due rounds below 2^41; all
-/// rounds of the answer are below 2^41. Refused are, in this order: more than 1,000,000 commands (`TooMany`), a release
-/// or due round out of range (`RoundRange`), an id that stands twice (`RepeatedId`), and running out of memory (`Memory`),
-/// which may also come in place of `RepeatedId`.
+/// There is no answer exactly where there are no commands. Releases are rounds below [`edd_commands::MAX_RELEASES`] and due rounds
+/// below [`edd_commands::MAX_ROUNDS`], as all rounds of the answer are. Refused are, in this order: more than
+/// [`edd_commands::MAX_COMMANDS`] commands (`TooMany`), a release or due round out of range (`RoundRange`), an id that stands twice
+/// (`RepeatedId`), and running out of memory (`Memory`), which may also come in place of `RepeatedId`.
 ///
 /// The released commands wait in a heap, and rounds in which nothing is released and nothing waits are jumped over. So
 /// the time grows as n log n in the number of commands, whatever their rounds.
@@ -161,9 +161,9 @@ pub struct MostOnTime<A: Allocator = Global> {
 /// with that due round, and begins one past the last round up to there in which fewer commands due by then run than it
 /// carries, or in round 0; windows that overlap or touch are one.
 ///
-/// Refused as [`solve`] refuses: more than 1,000,000 commands (`TooMany`), a release or due round out of range
-/// (`RoundRange`), an id that stands twice (`RepeatedId`), and running out of memory (`Memory`), which may also come in place of
-/// `RepeatedId`. No command is no fault: then none is on time and there is no window.
+/// Refused as [`solve`] refuses: more than [`edd_commands::MAX_COMMANDS`] commands (`TooMany`), a release or due round out of
+/// range (`RoundRange`), an id that stands twice (`RepeatedId`), and running out of memory (`Memory`), which may also come in place
+/// of `RepeatedId`. No command is no fault: then none is on time and there is no window.
 ///
 /// The time grows as n log n in the number of commands, whatever their rounds.
 pub fn most_on_time<A: Allocator + Clone, B: Allocator>(
