@@ -3,7 +3,7 @@ use Rattle.std.specs.Prelude.{ℕ, ◌∷◌, Bool, true, false, List, [], Optio
 use Rattle.std.specs.List.{flat_map}
 use Rattle.blk_settings.specs.Given.{GivenOptions}
 use Rattle.blk_settings.specs.Lists.{tried_given, numbers_at, list_fault}
-use Rattle.blk_settings.specs.Rows.{row_for, place_of, tried_kinds}
+use Rattle.blk_settings.specs.Rows.{row_for, sched_place, tried_kinds}
 use Rattle.blk_settings.specs.declared.lists.ListFault.{ListFault}
 use Rattle.blk_settings.specs.declared.rows.SchedKind.{SchedKind}
 use Rattle.blk_settings.specs.declared.sched.Sched.{Sched}
@@ -31,7 +31,7 @@ rows_if false rows = []
 
 -- all of them: of the schedulers that are tried, by their places in the table, in the order of trials
 abbrev pub grid_rows : GivenOptions → List Bool → List Sched
-grid_rows o tried = flat_map (λ k. rows_if (get_or tried (place_of k) false) (rows_of_kind o k)) tried_kinds
+grid_rows o tried = flat_map (λ k. rows_if (get_or tried (sched_place k) false) (rows_of_kind o k)) tried_kinds
 
 -- those that the options list, where each option is given a list
 abbrev pub grid_unless : Option ListFault → Option (List Sched) → Option (List Sched)

@@ -47,33 +47,33 @@ pub record RowOf : Type 0 where
   pub settings : List SettingOf
 
 -- those that an option lists by default, of numbers up to the most that this text spells
-abbrev pub listed : List ℕ → List ℕ → List ℕ → ListOf
-listed option most default = record {
+abbrev pub numbers_list : List ℕ → List ℕ → List ℕ → ListOf
+numbers_list option most default = record {
   default = default;
   fault = codes "--" ++ option ++ codes " takes 1 to 64 numbers of 0 to " ++ most ++ codes " with commas between, each once";
 }
 
 -- a number of 16 bits, and a target in rounds
-abbrev pub short : List ℕ → List ℕ → List ℕ → RangeOf
-short option default tried = Short default (listed option (codes "65535") tried)
+abbrev pub short_range : List ℕ → List ℕ → List ℕ → RangeOf
+short_range option default tried = Short default (numbers_list option (codes "65535") tried)
 
 abbrev pub target : List ℕ → List ℕ → List ℕ → RangeOf
-target option default tried = UpTo MAX_TARGET default (listed option (codes "1000000") tried)
+target option default tried = UpTo MAX_TARGET default (numbers_list option (codes "1000000") tried)
 
 -- those of the program's rows
-abbrev pub list_of : ListRow → ListOf
-list_of l = record { default = l.default.now; fault = l.fault.now }
+abbrev pub tried_list_of : ListRow → ListOf
+tried_list_of l = record { default = l.default.now; fault = l.fault.now }
 
-abbrev pub range_of : SettingRange → RangeOf
-range_of (range.Short default list) = Short default.now (list_of list)
-range_of (range.UpTo most default list) = UpTo most default.now (list_of list)
-range_of (range.Switch turned) = Switch turned
+abbrev pub setting_range_of : SettingRange → RangeOf
+setting_range_of (range.Short default list) = Short default.now (tried_list_of list)
+setting_range_of (range.UpTo most default list) = UpTo most default.now (tried_list_of list)
+setting_range_of (range.Switch turned) = Switch turned
 
-abbrev pub setting_of : SettingRow → SettingOf
-setting_of s = record { name = s.name.now; option = s.option.now; range = range_of s.range; zero = s.zero }
+abbrev pub setting_row_of : SettingRow → SettingOf
+setting_row_of s = record { name = s.name.now; option = s.option.now; range = setting_range_of s.range; zero = s.zero }
 
-abbrev pub row_of : SchedRow → RowOf
-row_of r = record { kind = r.kind; name = r.name.now; flag = option_map (λ f. f.now) r.flag; settings = map setting_of r.settings.now }
+abbrev pub sched_row_of : SchedRow → RowOf
+sched_row_of r = record { kind = r.kind; name = r.name.now; flag = option_map (λ f. f.name.now) r.flag; settings = map setting_row_of r.settings.now }
 
 -- the settings by their places: the value of one; one of 16 bits, as which the greatest of these stands for any greater one, that no option
 -- gives; and whether one is on
@@ -87,8 +87,8 @@ abbrev pub is_on : ℕ → Bool
 is_on n = n == 1
 
 -- what schedulers are made of
-abbrev pub tunables_of : List ℕ → Tunables
-tunables_of v = record { fifo_batch = short_at 0 v; writes_starved = short_at 1 v; front_merges = is_on (value_at 2 v) }
+abbrev pub deadline_tunables : List ℕ → Tunables
+deadline_tunables v = record { fifo_batch = short_at 0 v; writes_starved = short_at 1 v; front_merges = is_on (value_at 2 v) }
 
 abbrev pub targets_of : List ℕ → Targets
 targets_of v = record { read = value_at 0 v; write = value_at 1 v }
@@ -120,21 +120,21 @@ sched_for kind.Deadline = record {
         record {
           name = codes "fifo_batch";
           option = codes "fifo-batch";
-          range = short (codes "fifo-batch") (codes "16") (codes "1,2,4,8,16,32,64");
+          range = short_range (codes "fifo-batch") (codes "16") (codes "1,2,4,8,16,32,64");
           zero = Some setting.ZeroBatch;
         }
         ∷ record {
           name = codes "writes_starved";
           option = codes "writes-starved";
-          range = short (codes "writes-starved") (codes "2") (codes "0,1,2,4,8");
+          range = short_range (codes "writes-starved") (codes "2") (codes "0,1,2,4,8");
           zero = None;
         }
         ∷ record { name = codes "front_merges"; option = codes "no-front-merges"; range = Switch false; zero = None }
         ∷ [];
   };
   policy = deadline_policy;
-  meaning = λ v. at_start (tunables_of v).front_merges;
-  kept = λ v depth. deadline_kept (record { last = None; batching = 0; starved = 0 }) (tunables_of v);
+  meaning = λ v. at_start (deadline_tunables v).front_merges;
+  kept = λ v depth. deadline_kept (record { last = None; batching = 0; starved = 0 }) (deadline_tunables v);
 }
 sched_for kind.Kyber = record {
   row = record {
@@ -173,11 +173,11 @@ sched_for kind.Earliest = record {
 }
 
 -- its place in the table, the order of trials, and the table
-abbrev pub place_of : SchedKind → ℕ
-place_of kind.None = 0
-place_of kind.Deadline = 1
-place_of kind.Kyber = 2
-place_of kind.Earliest = 3
+abbrev pub sched_place : SchedKind → ℕ
+sched_place kind.None = 0
+sched_place kind.Deadline = 1
+sched_place kind.Kyber = 2
+sched_place kind.Earliest = 3
 
 abbrev pub kinds : List SchedKind
 kinds = kind.None ∷ kind.Deadline ∷ kind.Kyber ∷ kind.Earliest ∷ []
@@ -188,5 +188,5 @@ tried_kinds = kind.None ∷ kind.Earliest ∷ kind.Deadline ∷ kind.Kyber ∷ [
 abbrev pub row_for : SchedKind → RowOf
 row_for k = (sched_for k).row
 
-abbrev pub table : List RowOf
-table = map row_for kinds
+abbrev pub sched_table : List RowOf
+sched_table = map row_for kinds

@@ -2,9 +2,9 @@
 //! that are tried of them. What a row does is the kind's: [`with_made`](crate::with_made) makes the scheduler.
 
 ghost use Rattle.std.specs.Prelude.{◌≡◌, ◌≤◌, ◌<◌, map, length};
-ghost use Rattle.blk_settings.specs.Rows.{row_of, row_for, table, place_of, tried_kinds};
+ghost use Rattle.blk_settings.specs.Rows.{sched_row_of, row_for, sched_table, sched_place, tried_kinds};
 
-use crate::options::{EARLIEST_NAME, MAX_TARGET};
+use crate::options::MAX_TARGET;
 use crate::sched::SchedFault;
 use crate::setting::MAX_SETTINGS;
 
@@ -58,6 +58,15 @@ pub struct SettingRow {
     pub zero: Option<SchedFault>,
 }
 
+/// The flag that adds a scheduler to those that are compared.
+#[derive(Clone, Copy)]
+pub struct FlagRow {
+    /// Its name, behind two dashes.
+    pub name: &'static str,
+    /// What help says of it.
+    pub help: &'static str,
+}
+
 /// A scheduler's row.
 #[derive(Clone, Copy)]
 pub struct SchedRow {
@@ -66,7 +75,7 @@ pub struct SchedRow {
     /// Its name, on the command line and in tables.
     pub name: &'static str,
     /// The flag that adds it to the schedulers that are compared. One without is always compared.
-    pub flag: Option<&'static str>,
+    pub flag: Option<FlagRow>,
     /// Its settings, [`MAX_SETTINGS`] at most, in the order in which they are written.
     pub settings: &'static [SettingRow],
 }
@@ -164,7 +173,10 @@ static ROWS: [SchedRow; SCHED_COUNT] = [
     SchedRow {
         kind: SchedKind::Earliest,
         name: "earliest",
-        flag: Some(EARLIEST_NAME),
+        flag: Some(FlagRow {
+            name: "earliest",
+            help: "Runs it under earliest as well",
+        }),
         settings: &[SettingRow {
             name: "late_last",
             option: "late-last",
@@ -185,7 +197,7 @@ static TRIED: [SchedKind; SCHED_COUNT] = [
 
 /// All rows, in the order in which schedulers are named and compared.
 pub(crate) fn rows() -> &'static [SchedRow]
-    ensures rows { map row_of result.now ≡ table }
+    ensures rows { map sched_row_of result.now ≡ sched_table }
     ensures count { length result.now ≡ SCHED_COUNT }
 {
     ROWS.as_slice()
@@ -201,7 +213,7 @@ pub(crate) fn tried_kinds() -> &'static [SchedKind]
 impl SchedKind {
     /// Its place in the table.
     pub fn place(self) -> usize
-        ensures place { result ≡ place_of self }
+        ensures place { result ≡ sched_place self }
         ensures range { result < SCHED_COUNT }
     {
         self as usize
@@ -209,7 +221,7 @@ impl SchedKind {
 
     /// Its row.
     pub fn row(self) -> &'static SchedRow
-        ensures row { row_of result.now ≡ row_for self }
+        ensures row { sched_row_of result.now ≡ row_for self }
         ensures few { length result.now.settings.now ≤ MAX_SETTINGS }
     {
         &ROWS[self.place()]

@@ -7,8 +7,8 @@ ghost use Rattle.blk_kyber.specs.Shown.{meaning_of as kyber_meaning, state_of};
 ghost use Rattle.blk_kyber.specs.State.{numbers_of};
 ghost use Rattle.blk_earliest.specs.Shown.{meaning_of as earliest_meaning, late_last_of};
 ghost use Rattle.blk_earliest.specs.Choice.{earliest_kept};
-ghost use Rattle.blk_settings.specs.Rows.{setting_of, short_at};
-ghost use Rattle.blk_settings.specs.Scheds.{name_of, settings_of, told, in_turn};
+ghost use Rattle.blk_settings.specs.Rows.{setting_row_of, short_at};
+ghost use Rattle.blk_settings.specs.Scheds.{name_of, settings_of, as_setting, in_turn};
 ghost use Rattle.blk_settings.specs.Made.{fault_of, zero_fault, IsUnmade, IsStart};
 ghost use Rattle.blk_settings.specs.Names.{sched_fault_name};
 
@@ -57,8 +57,8 @@ pub struct Sched {
 
 impl SettingRow {
     /// The setting of this value.
-    fn told(&self, value: u64) -> Setting
-        ensures { result ≡ told (setting_of self.now) value }
+    fn as_setting(&self, value: u64) -> Setting
+        ensures { result ≡ as_setting (setting_row_of self.now) value }
     {
         match self.range {
             SettingRange::Short(_, _) => Setting::number(self.name, value),
@@ -69,7 +69,7 @@ impl SettingRow {
 
     /// What is wrong with this value.
     fn fault(&self, value: u64) -> Option<SchedFault>
-        ensures { result ≡ zero_fault (setting_of self.now) value }
+        ensures { result ≡ zero_fault (setting_row_of self.now) value }
     {
         if value == 0 { self.zero } else { None }
     }
@@ -90,7 +90,7 @@ impl Sched {
         let rows = self.kind.row().settings;
         let mut all = Settings::new();
         for i in 0..rows.len() {
-            all.push(rows[i].told(self.values[i]));
+            all.push(rows[i].as_setting(self.values[i]));
         }
         all
     }
