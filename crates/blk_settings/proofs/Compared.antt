@@ -3,7 +3,7 @@ use Rattle.std.proofs.Common.{◌≡◌, ◌∙◌, ◌∷◌, [], ◌++◌, ◌
 use Rattle.std.proofs.lemmas.List.{map-append, take_more}
 use Rattle.std.specs.Prelude.{option_and_then}
 use Rattle.blk_settings.specs.Given.{GivenOptions, compared_by, all_compared}
-use Rattle.blk_settings.specs.Rows.{RowOf, sched_row_of}
+use Rattle.blk_settings.specs.Row.{RowOf, sched_row_of}
 use Rattle.blk_settings.specs.declared.rows.SchedRow.{SchedRow}
 use Rattle.blk_settings.specs.declared.sched.Sched.{Sched}
 

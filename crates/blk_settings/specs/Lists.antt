@@ -4,7 +4,8 @@ use Rattle.std.specs.List.{slice_split, slice_get}
 use Rattle.std.specs.Option.{option_or, option_map_or}
 use Rattle.blk_settings.specs.Given.{GivenOptions, row_named}
 use Rattle.blk_settings.specs.Options.{scheds_list}
-use Rattle.blk_settings.specs.Rows.{RangeOf, Short, UpTo, Switch, SettingOf, RowOf, sched_table, row_for, sched_place}
+use Rattle.blk_settings.specs.Row.{RangeOf, Short, UpTo, Switch, SettingOf, RowOf}
+use Rattle.blk_settings.specs.Rows.{sched_table, row_for, sched_place}
 use Rattle.blk_settings.specs.declared.given.TheConstants.{MAX_SHORT}
 use Rattle.blk_settings.specs.declared.lists.ListFault.{ListFault}
 use Rattle.blk_settings.specs.declared.lists.ListFault.TheVariants as list

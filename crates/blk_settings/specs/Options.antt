@@ -6,8 +6,9 @@ use Rattle.std.specs.Str.Parse.{digits_value}
 use Rattle.blk_settings.specs.declared.options.Takes.{Takes}
 use Rattle.blk_settings.specs.declared.options.Takes.TheVariants as takes
 use Rattle.blk_settings.specs.declared.options.OptionRow.{OptionRow}
-use Rattle.blk_settings.specs.Rows.{RangeOf, SettingOf, RowOf, row_for, sched_table, tried_kinds}
-use Rattle.blk_settings.specs.Rows as rows
+use Rattle.blk_settings.specs.Row.{RangeOf, SettingOf, RowOf}
+use Rattle.blk_settings.specs.Rows.{row_for, sched_table, tried_kinds}
+use Rattle.blk_settings.specs.Row as rows
 
 -- what an option takes: nothing, since it is a flag; a scheduler's name; a number of 16 bits; one from the least to the most; a text;
 -- each with a default but for those that may be left out

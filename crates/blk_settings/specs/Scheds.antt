@@ -2,7 +2,8 @@
 use Rattle.std.specs.Prelude.{ℕ, ◌+◌, List, [], ◌∷◌, Option, None, Some}
 use Rattle.blk_sched.specs.Meaning.{Meaning}
 use Rattle.blk_sched.specs.Policies.{Policy}
-use Rattle.blk_settings.specs.Rows.{SettingOf, RangeOf, Short, UpTo, Switch, row_for, sched_for, value_at, is_on}
+use Rattle.blk_settings.specs.Row.{SettingOf, RangeOf, Short, UpTo, Switch, value_at, is_on}
+use Rattle.blk_settings.specs.Rows.{row_for, sched_for}
 use Rattle.blk_settings.specs.Settings.{NamedSetting, number_setting, switch_setting}
 use Rattle.blk_settings.specs.declared.sched.Lineup.{Lineup}
 use Rattle.blk_settings.specs.declared.sched.Sched.{Sched}

@@ -1,7 +1,7 @@
 //! Schedulers by what the options of a command line are given.
 
 ghost use Rattle.std.specs.Prelude.{◌≡◌, ◌≤◌, All, IfSome, map, option_map};
-ghost use Rattle.blk_settings.specs.Rows.{setting_row_of, sched_row_of};
+ghost use Rattle.blk_settings.specs.Row.{setting_row_of, sched_row_of};
 ghost use Rattle.blk_settings.specs.Given.{GivenOptions, value_given, given_at, sched_by, row_named, sched_given, is_compared, compared_by, lineup_given};
 
 use crate::options::SCHED_NAME;

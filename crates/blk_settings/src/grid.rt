@@ -93,8 +93,9 @@ fn push_kind<G: Given>(all: &mut Vec<Sched>, options: &G, kind: SchedKind) -> Re
 fn grid_rows<G: Given>(alloc: Global, options: &G, tried: Tried) -> Result<Vec<Sched>, AllocError>
     ensures { IfOk result (λ all. all.items ≡ grid_rows (G.given options.now) tried) }
 {
+    let kinds = tried_kinds(alloc)?;
     let mut all = Vec::new(alloc);
-    for kind in tried_kinds() {
+    for kind in &kinds {
         if tried[kind.place()] {
             push_kind(&mut all, options, *kind)?;
         }

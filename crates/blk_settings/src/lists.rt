@@ -1,7 +1,7 @@
 //! The lists of a trial: which schedulers are tried, and under which settings.
 
 ghost use Rattle.std.specs.Prelude.{◌≡◌, map, option_map};
-ghost use Rattle.blk_settings.specs.Rows.{setting_row_of, sched_row_of};
+ghost use Rattle.blk_settings.specs.Row.{setting_row_of, sched_row_of};
 ghost use Rattle.blk_settings.specs.Lists.{with_name, tried_of, tried_given, numbers_tried, numbers_at, unlisted_in, list_fault, numbers_fault_text, list_fault_text};
 
 use crate::given::{Given, MAX_SHORT, Numbers, row_named};

@@ -1,14 +1,11 @@
 //! The options of the schedulers: their names, what they take, and what help says of them. Those of settings are made of the table's rows.
 
 ghost use Rattle.std.specs.Prelude.{◌≡◌, ◌++◌, map, IfOk, OnOk, option_map, string_bytes};
-ghost use Rattle.blk_settings.specs.Rows.{setting_row_of};
+ghost use Rattle.blk_settings.specs.Row.{setting_row_of};
 ghost use Rattle.blk_settings.specs.Options.{option_of, sched_names, tried_names, flags, tuning, listing, setting_option, options_of, list_option, lists_of};
 
 use crate::rows::{SettingRange, SettingRow, rows, tried_kinds};
 use std::alloc::{AllocError, Global};
-
-/// The greatest target of `kyber`, in rounds.
-pub const MAX_TARGET: u64 = 1_000_000;
 
 /// The option that says which scheduler, or which ones are tried. Its name is a constant of its own, since no constant can be made of
 /// another's field.
@@ -125,7 +122,7 @@ pub fn scheduler_names(alloc: Global) -> Result<Vec<&'static str>, AllocError>
 pub fn tried_names(alloc: Global) -> Result<String, AllocError>
     ensures { IfOk result (λ names. string_bytes names ≡ tried_names) }
 {
-    let kinds = tried_kinds();
+    let kinds = tried_kinds(alloc)?;
     let mut names = String::new(alloc);
     for i in 0..kinds.len() {
         if i > 0 {

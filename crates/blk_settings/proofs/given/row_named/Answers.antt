@@ -1,7 +1,7 @@
 use Rattle.std.proofs.Common.{◌∙◌, ap, sym, [], None, option_map}
 use Rattle.std.specs.Prelude.{find}
 use Rattle.std.specs.Str.{bytes_eq}
-use Rattle.blk_settings.specs.Rows.{RowOf, sched_row_of}
+use Rattle.blk_settings.specs.Row.{RowOf, sched_row_of}
 use Rattle.blk_settings.specs.declared.rows.SchedKind.TheVariants as kind
 use Rattle.blk_settings.specs.declared.rows.SchedRow.{SchedRow}
 use Rattle.blk_settings.proofs.Found.{found_next, none_more, find_map}
@@ -9,7 +9,7 @@ use Rattle.blk_settings.proofs.given.row_named.Goals as goal
 
 -- the row where there is none
 abbrev none : SchedRow
-none = record { kind = kind.None; name = record { ref_ptr = (0, 0); now = [] }; flag = None; settings = record { ref_ptr = (0, 0); now = [] } }
+none = record { kind = kind.None; name = record { ref_ptr = (0, 0); now = [] }; flag = None; tried = 0; settings = record { ref_ptr = (0, 0); now = [] } }
 
 pub returns-then-eq : goal.returns-then-eq
 returns-then-eq c =

@@ -1,6 +1,6 @@
 use Rattle.std.proofs.Common.{◌≡◌, map, drop}
 use Rattle.blk_settings.specs.Lists.{unlisted_in, unlisted_from}
-use Rattle.blk_settings.specs.Rows.{setting_row_of, sched_row_of}
+use Rattle.blk_settings.specs.Row.{setting_row_of, sched_row_of}
 use Rattle.blk_settings.proofs.lists.unlisted_in.Given as goal
 
 abbrev pub invariant-loop-i : goal.invariant-loop-i

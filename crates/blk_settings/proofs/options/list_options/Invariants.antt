@@ -1,7 +1,7 @@
 use Rattle.std.proofs.Common.{◌≡◌, ◌∷◌, map, take}
 use Rattle.std.specs.List.{flat_map}
 use Rattle.blk_settings.specs.Options.{option_of, lists_of, scheds_list}
-use Rattle.blk_settings.specs.Rows.{sched_row_of}
+use Rattle.blk_settings.specs.Row.{sched_row_of}
 use Rattle.blk_settings.proofs.options.list_options.Given as goal
 
 abbrev pub invariant-loop-row : goal.invariant-loop-row

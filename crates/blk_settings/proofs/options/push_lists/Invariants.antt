@@ -1,6 +1,6 @@
 use Rattle.std.proofs.Common.{◌≡◌, ◌++◌, map, take}
 use Rattle.blk_settings.specs.Options.{option_of, lists_of}
-use Rattle.blk_settings.specs.Rows.{setting_row_of}
+use Rattle.blk_settings.specs.Row.{setting_row_of}
 use Rattle.blk_settings.proofs.options.push_lists.Given as goal
 
 abbrev pub invariant-loop-setting : goal.invariant-loop-setting

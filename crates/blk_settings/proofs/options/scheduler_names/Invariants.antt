@@ -1,5 +1,5 @@
 use Rattle.std.proofs.Common.{◌≡◌, map, take}
-use Rattle.blk_settings.specs.Rows.{sched_row_of}
+use Rattle.blk_settings.specs.Row.{sched_row_of}
 use Rattle.blk_settings.proofs.options.scheduler_names.Given as goal
 
 abbrev pub invariant-loop-row : goal.invariant-loop-row

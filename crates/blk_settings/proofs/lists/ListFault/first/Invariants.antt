@@ -1,6 +1,7 @@
 use Rattle.std.proofs.Common.{◌≡◌, map, drop}
 use Rattle.blk_settings.specs.Lists.{unlisted_among}
-use Rattle.blk_settings.specs.Rows.{sched_row_of, sched_table}
+use Rattle.blk_settings.specs.Row.{sched_row_of}
+use Rattle.blk_settings.specs.Rows.{sched_table}
 use Rattle.blk_settings.proofs.lists.ListFault.first.Given as goal
 
 abbrev pub invariant-loop-i : goal.invariant-loop-i

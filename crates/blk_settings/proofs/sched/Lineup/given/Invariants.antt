@@ -1,6 +1,6 @@
 use Rattle.std.proofs.Common.{◌≡◌, Some, map, take, length}
 use Rattle.blk_settings.specs.Given.{all_compared}
-use Rattle.blk_settings.specs.Rows.{sched_row_of}
+use Rattle.blk_settings.specs.Row.{sched_row_of}
 use Rattle.blk_settings.specs.declared.rows.TheConstants.{SCHED_COUNT}
 use Rattle.blk_settings.proofs.sched.Lineup.given.Given as goal
 

@@ -1,5 +1,5 @@
 use Rattle.std.proofs.Common.{◌≡◌, ◌++◌, length, map, drop}
-use Rattle.blk_settings.specs.Rows.{setting_row_of}
+use Rattle.blk_settings.specs.Row.{setting_row_of}
 use Rattle.blk_settings.specs.Scheds.{settings_of, settings_from}
 use Rattle.blk_settings.proofs.sched.Sched.settings.Given as goal
 
