@@ -17,7 +17,7 @@ use Rattle.blk_text.specs.declared.setup.TheConstants.{LATEST}
 use Rattle.blk_text.proofs.ScriptLaws as scripts
 use Rattle.blk_text.proofs.TraceLaws as traces
 use Rattle.blk_settings.specs.Defaults.{earliest_by}
-use Rattle.blk_settings.specs.Rows.{is_late_last}
+use Rattle.blk_settings.specs.Rows.Earliest.{is_late_last}
 use Rattle.blk_online.specs.Ticks.{AtTicks}
 use Rattle.blk_online_sim.specs.ByRounds.{IsByRounds, HoldsNow}
 use Rattle.blk_online_sim.proofs.Running.{trace_holds, least_late, has_most_on_time}

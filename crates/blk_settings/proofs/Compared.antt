@@ -3,7 +3,7 @@ use Rattle.std.proofs.Common.{◌≡◌, ◌∙◌, ◌∷◌, [], ◌++◌, ◌
 use Rattle.std.proofs.lemmas.List.{map-append, take_more}
 use Rattle.std.specs.Prelude.{option_and_then}
 use Rattle.blk_settings.specs.Given.{GivenOptions, compared_by, all_compared}
-use Rattle.blk_settings.specs.Rows.{RowOf, row_of}
+use Rattle.blk_settings.specs.Row.{RowOf, sched_row_of}
 use Rattle.blk_settings.specs.declared.rows.SchedRow.{SchedRow}
 use Rattle.blk_settings.specs.declared.sched.Sched.{Sched}
 
@@ -29,15 +29,15 @@ with_row o [] r = begins (compared_by o r)
 with_row o (x ∷ rows) r = grows (compared_by o x) (all_compared o rows) (all_compared o (rows ++ r ∷ [])) (compared_by o r) (with_row o rows r)
 
 pub one_more : (o : GivenOptions) (rows : List SchedRow) (i : ℕ) (d : SchedRow) (ss : List (Option Sched)) (s : Option Sched) → i < length rows
-    → all_compared o (map row_of (take i rows)) ≡ Some ss → Some s ≡ compared_by o (row_of (get_or rows i d)) → all_compared o (map row_of (take (i + 1) rows)) ≡ Some (ss ++ s ∷ [])
+    → all_compared o (map sched_row_of (take i rows)) ≡ Some ss → Some s ≡ compared_by o (sched_row_of (get_or rows i d)) → all_compared o (map sched_row_of (take (i + 1) rows)) ≡ Some (ss ++ s ∷ [])
 one_more o rows i d ss s lt so is =
     let x = get_or rows i d in
-    ap (λ (xs : List SchedRow). all_compared o (map row_of xs)) (take_more rows i d lt) ∙ ap (all_compared o) (map-append row_of (take i rows) (x ∷ []))
-    ∙ with_row o (map row_of (take i rows)) (row_of x)
-    ∙ ap (option_and_then (λ ss. option_map (λ s. ss ++ s ∷ []) (compared_by o (row_of x)))) so ∙ ap (option_map (λ s. ss ++ s ∷ [])) (sym is)
+    ap (λ (xs : List SchedRow). all_compared o (map sched_row_of xs)) (take_more rows i d lt) ∙ ap (all_compared o) (map-append sched_row_of (take i rows) (x ∷ []))
+    ∙ with_row o (map sched_row_of (take i rows)) (sched_row_of x)
+    ∙ ap (option_and_then (λ ss. option_map (λ s. ss ++ s ∷ []) (compared_by o (sched_row_of x)))) so ∙ ap (option_map (λ s. ss ++ s ∷ [])) (sym is)
 
 -- where one has no scheduler, they have none
-pub one_missing : (o : GivenOptions) (rows : List SchedRow) (i : ℕ) (d : SchedRow) → i < length rows → None ≡ compared_by o (row_of (get_or rows i d)) → all_compared o (map row_of rows) ≡ None
+pub one_missing : (o : GivenOptions) (rows : List SchedRow) (i : ℕ) (d : SchedRow) → i < length rows → None ≡ compared_by o (sched_row_of (get_or rows i d)) → all_compared o (map sched_row_of rows) ≡ None
 one_missing o [] i d lt is = absurd (omega (arith, lt))
 one_missing o (x ∷ rows) zero d lt is = rw (sym is) refl
-one_missing o (x ∷ rows) (suc i) d lt is = stays_none (compared_by o (row_of x)) (all_compared o (map row_of rows)) (one_missing o rows i d (omega (arith, lt)) is)
+one_missing o (x ∷ rows) (suc i) d lt is = stays_none (compared_by o (sched_row_of x)) (all_compared o (map sched_row_of rows)) (one_missing o rows i d (omega (arith, lt)) is)

@@ -1,12 +1,13 @@
 -- Schedulers and grids as they are where no option sets them: what the defaults of the settings spell.
-use Rattle.std.specs.Prelude.{ℕ, ◌∷◌, Bool, false, List, [], Option, None, Some, map, set, if◌then◌else◌}
+use Rattle.std.specs.Prelude.{ℕ, ◌∷◌, Bool, false, List, [], None, Some, map, set, if◌then◌else◌}
 use Rattle.std.specs.List.{flat_map, slice_get}
 use Rattle.std.specs.Option.{option_map_or}
 use Rattle.std.specs.Str.Parse.{digits_value}
 use Rattle.blk_settings.specs.Given.{switched}
 use Rattle.blk_settings.specs.Grids.{with_each}
 use Rattle.blk_settings.specs.Lists.{parts}
-use Rattle.blk_settings.specs.Rows.{RangeOf, Short, UpTo, Switch, ListOf, row_for, tried_kinds}
+use Rattle.blk_settings.specs.Row.{RangeOf, Short, UpTo, Switch, ListOf}
+use Rattle.blk_settings.specs.Rows.{row_for, sched_place, kinds, tried_kinds}
 use Rattle.blk_settings.specs.declared.rows.SchedKind.{SchedKind}
 use Rattle.blk_settings.specs.declared.rows.SchedKind.TheVariants as kind
 use Rattle.blk_settings.specs.declared.sched.Lineup.{Lineup}
@@ -63,19 +64,19 @@ kyber_within target = with_first target default_kyber
 abbrev pub earliest_by : Bool → Sched
 earliest_by late_last = with_first (if late_last then 1 else 0) default_earliest
 
--- the schedulers that run in turn: with this deadline and perhaps earliest; where no option sets them; with earliest, late last or not; and
--- with this batch size and earliest
-abbrev pub lineup_with : Sched → Option Sched → Lineup
-lineup_with deadline earliest = record { scheds = Some default_sched ∷ Some deadline ∷ Some default_kyber ∷ earliest ∷ [] }
-
+-- the schedulers that run in turn: where no option sets them, those that no flag adds; the same with this one in its place; with earliest, late
+-- last or not; and with this batch size and earliest
 abbrev pub default_lineup : Lineup
-default_lineup = lineup_with default_deadline None
+default_lineup = record { scheds = map (λ k. option_map_or (λ _. None) (row_for k).flag (Some (default_of k))) kinds }
+
+abbrev pub lineup_with : Sched → Lineup → Lineup
+lineup_with s l = record { scheds = set l.scheds (sched_place s.kind) (Some s) }
 
 abbrev pub with_earliest : Bool → Lineup
-with_earliest late_last = lineup_with default_deadline (Some (earliest_by late_last))
+with_earliest late_last = lineup_with (earliest_by late_last) default_lineup
 
 abbrev pub in_batches : ℕ → Lineup
-in_batches n = lineup_with (deadline_in n) (Some default_earliest)
+in_batches n = lineup_with (deadline_in n) (lineup_with default_earliest default_lineup)
 
 -- the whole grid: all schedulers, with each choice of what is tried of their settings
 abbrev pub whole : List Sched

@@ -4,7 +4,8 @@ use Rattle.std.specs.List.{slice_get}
 use Rattle.std.specs.Option.{option_map_or}
 use Rattle.std.specs.Str.{bytes_eq}
 use Rattle.blk_settings.specs.Options.{sched_option}
-use Rattle.blk_settings.specs.Rows.{RangeOf, Short, UpTo, Switch, SettingOf, RowOf, table}
+use Rattle.blk_settings.specs.Row.{RangeOf, Short, UpTo, Switch, SettingOf, RowOf}
+use Rattle.blk_settings.specs.Rows.{sched_table}
 use Rattle.blk_settings.specs.declared.rows.SchedKind.{SchedKind}
 use Rattle.blk_settings.specs.declared.sched.Lineup.{Lineup}
 use Rattle.blk_settings.specs.declared.sched.Sched.{Sched}
@@ -44,7 +45,7 @@ sched_by o r = valued r.kind (given_at o r.settings 0) (given_at o r.settings 1)
 
 -- the row of a name, and the scheduler that the options name
 abbrev pub row_named : List ℕ → Option RowOf
-row_named name = find (λ r. bytes_eq name r.name) table
+row_named name = find (λ r. bytes_eq name r.name) sched_table
 
 abbrev pub sched_given : GivenOptions → Option Sched
 sched_given o = option_and_then (λ name. option_and_then (sched_by o) (row_named name)) (o.text sched_option.name)
@@ -62,4 +63,4 @@ all_compared o [] = Some []
 all_compared o (r ∷ rows) = option_and_then (λ s. option_map (λ rest. s ∷ rest) (all_compared o rows)) (compared_by o r)
 
 abbrev pub lineup_given : GivenOptions → Option Lineup
-lineup_given o = option_map (λ scheds. record { scheds = scheds }) (all_compared o table)
+lineup_given o = option_map (λ scheds. record { scheds = scheds }) (all_compared o sched_table)

@@ -1,9 +1,11 @@
 -- The settings of a grid, in the order in which they are tried.
-use Rattle.std.specs.Prelude.{ℕ, ◌∷◌, Bool, true, false, List, [], Option, None, Some, get_or, map, option_map}
+use Rattle.std.specs.Prelude.{ℕ, ◌≡◌, ◌∷◌, Bool, true, false, List, [], Option, None, Some, get_or, map, option_map}
 use Rattle.std.specs.List.{flat_map}
 use Rattle.blk_settings.specs.Given.{GivenOptions}
 use Rattle.blk_settings.specs.Lists.{tried_given, numbers_at, list_fault}
-use Rattle.blk_settings.specs.Rows.{row_for, place_of, tried_kinds}
+use Rattle.blk_settings.specs.Rows.{row_for, sched_place, tried_kinds}
+use Rattle.blk_settings.specs.declared.grid.GridFault.{GridFault}
+use Rattle.blk_settings.specs.declared.grid.GridFault.TheVariants as fault
 use Rattle.blk_settings.specs.declared.lists.ListFault.{ListFault}
 use Rattle.blk_settings.specs.declared.rows.SchedKind.{SchedKind}
 use Rattle.blk_settings.specs.declared.sched.Sched.{Sched}
@@ -31,7 +33,7 @@ rows_if false rows = []
 
 -- all of them: of the schedulers that are tried, by their places in the table, in the order of trials
 abbrev pub grid_rows : GivenOptions → List Bool → List Sched
-grid_rows o tried = flat_map (λ k. rows_if (get_or tried (place_of k) false) (rows_of_kind o k)) tried_kinds
+grid_rows o tried = flat_map (λ k. rows_if (get_or tried (sched_place k) false) (rows_of_kind o k)) tried_kinds
 
 -- those that the options list, where each option is given a list
 abbrev pub grid_unless : Option ListFault → Option (List Sched) → Option (List Sched)
@@ -40,3 +42,8 @@ grid_unless (Some f) grid = None
 
 abbrev pub grid_given : GivenOptions → Option (List Sched)
 grid_given o = grid_unless (list_fault o) (option_map (grid_rows o) (tried_given o))
+
+-- why there is none: the first option that is given no list; or memory ran out, where each is given one
+abbrev pub IsGridFault : GivenOptions → GridFault → Type 0
+IsGridFault o (fault.List f) = list_fault o ≡ Some f
+IsGridFault o fault.Memory = list_fault o ≡ None

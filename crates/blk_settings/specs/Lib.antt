@@ -3,6 +3,7 @@ pub mod Faults
 pub mod Made
 pub mod Names
 pub mod Settings
+pub mod Row
 pub mod Rows
 pub mod Scheds
 pub mod Ran

@@ -4,7 +4,8 @@ use Rattle.std.specs.List.{slice_split, slice_get}
 use Rattle.std.specs.Option.{option_or, option_map_or}
 use Rattle.blk_settings.specs.Given.{GivenOptions, row_named}
 use Rattle.blk_settings.specs.Options.{scheds_list}
-use Rattle.blk_settings.specs.Rows.{RangeOf, Short, UpTo, Switch, SettingOf, RowOf, table, row_for, place_of}
+use Rattle.blk_settings.specs.Row.{RangeOf, Short, UpTo, Switch, SettingOf, RowOf}
+use Rattle.blk_settings.specs.Rows.{sched_table, row_for, sched_place}
 use Rattle.blk_settings.specs.declared.given.TheConstants.{MAX_SHORT}
 use Rattle.blk_settings.specs.declared.lists.ListFault.{ListFault}
 use Rattle.blk_settings.specs.declared.lists.ListFault.TheVariants as list
@@ -19,7 +20,7 @@ abbrev pub with_place : List Bool → ℕ → Option (List Bool)
 with_place tried place = if get_or tried place false then None else Some (set tried place true)
 
 abbrev pub with_name : List Bool → List ℕ → Option (List Bool)
-with_name tried name = option_and_then (λ r. with_place tried (place_of r.kind)) (row_named name)
+with_name tried name = option_and_then (λ r. with_place tried (sched_place r.kind)) (row_named name)
 
 -- and with those of these names
 abbrev pub with_names : List Bool → List (List ℕ) → Option (List Bool)
@@ -28,7 +29,7 @@ with_names tried (name ∷ names) = option_and_then (λ s. with_names s names) (
 
 -- no scheduler, those of a list, each named once, and those that the options list
 abbrev pub no_schedulers : List Bool
-no_schedulers = map (λ r. false) table
+no_schedulers = map (λ r. false) sched_table
 
 abbrev pub tried_of : List ℕ → Option (List Bool)
 tried_of text = with_names no_schedulers (parts text)
@@ -37,13 +38,13 @@ abbrev pub tried_given : GivenOptions → Option (List Bool)
 tried_given o = option_and_then tried_of (o.text scheds_list.name)
 
 -- the values of a setting that are tried: those that its option lists, or both of a switch, on and off
-abbrev pub numbers_in : GivenOptions → RangeOf → List ℕ → Option (List ℕ)
-numbers_in o (Short default list) option = o.list MAX_SHORT option
-numbers_in o (UpTo most default list) option = o.list most option
-numbers_in o (Switch turned) option = Some (1 ∷ 0 ∷ [])
+abbrev pub tried_numbers_in : GivenOptions → RangeOf → List ℕ → Option (List ℕ)
+tried_numbers_in o (Short default list) option = o.list MAX_SHORT option
+tried_numbers_in o (UpTo most default list) option = o.list most option
+tried_numbers_in o (Switch turned) option = Some (1 ∷ 0 ∷ [])
 
 abbrev pub numbers_tried : GivenOptions → SettingOf → Option (List ℕ)
-numbers_tried o s = numbers_in o s.range s.option
+numbers_tried o s = tried_numbers_in o s.range s.option
 
 -- those of the setting in a place: 0 alone where there is none, and none where its option is given no list
 abbrev pub numbers_at : GivenOptions → List SettingOf → ℕ → List ℕ
@@ -63,7 +64,7 @@ unlisted_among o (r ∷ rows) = option_or (unlisted_in o r) (unlisted_among o ro
 
 -- the first option that is given no list: that of the schedulers, and then those of their settings
 abbrev pub list_fault : GivenOptions → Option ListFault
-list_fault o = option_map_or (λ t. unlisted_among o table) (tried_given o) (Some list.Scheds)
+list_fault o = option_map_or (λ t. unlisted_among o sched_table) (tried_given o) (Some list.Scheds)
 
 -- what an option takes that is given no list
 abbrev pub fault_in : RangeOf → List ℕ

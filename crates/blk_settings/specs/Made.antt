@@ -3,7 +3,8 @@ use Rattle.std.specs.Prelude.{◌≡◌, ◌⊎◌, ◌+◌, ◌==◌, ℕ, List
 use Rattle.std.specs.Option.{option_or}
 use Rattle.blk_sched.specs.Meaning.{Meaning}
 use Rattle.blk_settings.specs.Faults.{IsLoadFault}
-use Rattle.blk_settings.specs.Rows.{SettingOf, row_for, value_at}
+use Rattle.blk_settings.specs.Row.{SettingOf, value_at}
+use Rattle.blk_settings.specs.Rows.{row_for}
 use Rattle.blk_settings.specs.Scheds.{first_meaning, numbers_at_first}
 use Rattle.blk_settings.specs.declared.Unsettled.{Unsettled}
 use Rattle.blk_settings.specs.declared.Unsettled.TheVariants as un

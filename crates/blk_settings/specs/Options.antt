@@ -1,13 +1,14 @@
 -- The options of the schedulers.
-use Rattle.std.specs.Prelude.{ℕ, List, [], ◌∷◌, Option, None, Some, codes, map}
+use Rattle.std.specs.Prelude.{ℕ, List, [], ◌∷◌, Option, None, Some, codes, map, option_map}
 use Rattle.std.specs.List.{flat_map, join_with_byte}
 use Rattle.std.specs.Option.{option_to_list}
 use Rattle.std.specs.Str.Parse.{digits_value}
 use Rattle.blk_settings.specs.declared.options.Takes.{Takes}
 use Rattle.blk_settings.specs.declared.options.Takes.TheVariants as takes
 use Rattle.blk_settings.specs.declared.options.OptionRow.{OptionRow}
-use Rattle.blk_settings.specs.Rows.{RangeOf, SettingOf, row_for, table, tried_kinds}
-use Rattle.blk_settings.specs.Rows as rows
+use Rattle.blk_settings.specs.Row.{RangeOf, SettingOf, RowOf}
+use Rattle.blk_settings.specs.Rows.{row_for, sched_table, tried_kinds}
+use Rattle.blk_settings.specs.Row as rows
 
 -- what an option takes: nothing, since it is a flag; a scheduler's name; a number of 16 bits; one from the least to the most; a text;
 -- each with a default but for those that may be left out
@@ -40,14 +41,22 @@ option_of row = record { name = row.name.now; kind = option_kind row.takes }
 
 -- the names of the schedulers
 abbrev pub sched_names : List (List ℕ)
-sched_names = map (λ r. r.name) table
+sched_names = map (λ r. r.name) sched_table
 
--- the option that names one, by default none; and the one that adds earliest to those that run in turn
+-- those names in the order of trials, with commas between
+abbrev pub tried_names : List ℕ
+tried_names = join_with_byte 44 (map (λ k. (row_for k).name) tried_kinds)
+
+-- the option that names one, by default none
 abbrev pub sched_option : OptionOf
 sched_option = record { name = codes "sched"; kind = Name (codes "none") }
 
-abbrev pub added_option : OptionOf
-added_option = record { name = codes "earliest"; kind = Flag }
+-- the flag that adds the scheduler of a row to those that are compared, if it isn't always; and those of all rows
+abbrev pub flag_option : RowOf → Option OptionOf
+flag_option r = option_map (λ name. record { name = name; kind = Flag }) r.flag
+
+abbrev pub flags : List OptionOf
+flags = flat_map (λ r. option_to_list (flag_option r)) sched_table
 
 -- the option that sets a setting
 abbrev pub kind_in : RangeOf → OptionKind
@@ -75,15 +84,15 @@ lists_of settings = flat_map (λ s. option_to_list (list_option s)) settings
 
 -- those of all settings
 abbrev pub tuning : List OptionOf
-tuning = flat_map (λ r. options_of r.settings) table
+tuning = flat_map (λ r. options_of r.settings) sched_table
 
--- the option that lists which schedulers are tried, by default all in the order of trials with commas between, under the name of the one that takes one; and those
--- that list under which settings
+-- the option that lists which schedulers are tried, by default all of them, under the name of the one that takes one; and those that list
+-- under which settings
 abbrev pub scheds_list : OptionOf
-scheds_list = record { name = sched_option.name; kind = Words (join_with_byte 44 (map (λ k. (row_for k).name) tried_kinds)) }
+scheds_list = record { name = sched_option.name; kind = Words tried_names }
 
 abbrev pub listing : List OptionOf
-listing = scheds_list ∷ flat_map (λ r. lists_of r.settings) table
+listing = scheds_list ∷ flat_map (λ r. lists_of r.settings) sched_table
 
 -- the default of an option that has one
 abbrev pub default_text : OptionKind → List ℕ

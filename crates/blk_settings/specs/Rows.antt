@@ -1,192 +1,42 @@
--- The table of schedulers: what each is called, its settings, what it does, and how it starts.
-use Rattle.std.specs.Prelude.{ℕ, ◌==◌, ◌++◌, Bool, true, false, List, [], ◌∷◌, Option, None, Some, codes, get_or, map, min, option_map}
-use Rattle.blk_sched.specs.Meaning.{Meaning, at_start}
-use Rattle.blk_sched.specs.Policies.{Policy}
-use Rattle.blk_none.specs.Choice.{none_policy}
-use Rattle.blk_deadline.specs.Choice.{deadline_policy, deadline_kept}
-use Rattle.blk_deadline.specs.declared.Tunables.{Tunables}
-use Rattle.blk_kyber.specs.State.{state_at_first, numbers_of, kyber_policy}
-use Rattle.blk_kyber.specs.declared.Targets.{Targets}
-use Rattle.blk_earliest.specs.Choice.{earliest_policy, earliest_kept}
-use Rattle.blk_settings.specs.declared.given.TheConstants.{MAX_SHORT}
-use Rattle.blk_settings.specs.declared.options.TheConstants.{MAX_TARGET}
-use Rattle.blk_settings.specs.declared.rows.ListRow.{ListRow}
+-- The table of schedulers, and the order of trials.
+pub mod None
+pub mod Deadline
+pub mod Kyber
+pub mod Earliest
+use Rattle.std.specs.Prelude.{ℕ, ◌==◌, ◌∷◌, List, [], filter, length, map}
+use Rattle.std.specs.List.{flat_map, position_or_len, range_with_len}
+use Rattle.std.specs.Str.{bytes_eq}
+use Rattle.blk_settings.specs.Row.{RowOf, SchedOf}
+use Rattle.blk_settings.specs.Rows.None.{none_sched}
+use Rattle.blk_settings.specs.Rows.Deadline.{deadline_sched}
+use Rattle.blk_settings.specs.Rows.Kyber.{kyber_sched}
+use Rattle.blk_settings.specs.Rows.Earliest.{earliest_sched}
 use Rattle.blk_settings.specs.declared.rows.SchedKind.{SchedKind}
 use Rattle.blk_settings.specs.declared.rows.SchedKind.TheVariants as kind
-use Rattle.blk_settings.specs.declared.rows.SchedRow.{SchedRow}
-use Rattle.blk_settings.specs.declared.rows.SettingRange.{SettingRange}
-use Rattle.blk_settings.specs.declared.rows.SettingRange.TheVariants as range
-use Rattle.blk_settings.specs.declared.rows.SettingRow.{SettingRow}
-use Rattle.blk_settings.specs.declared.sched.SchedFault.{SchedFault}
-use Rattle.blk_settings.specs.declared.sched.SchedFault.TheVariants as setting
 
--- the numbers that are tried of a setting: those where its option lists none, and what is said of a text that is no such list
-pub record ListOf : Type 0 where
-  pub default : List ℕ
-  pub fault : List ℕ
-
--- what a setting may be: a number of 16 bits, or one up to a most, with a default; or on or off, turned to this by a flag
-pub data RangeOf : Type 0 where
-  Short : (default : List ℕ) → (list : ListOf) → RangeOf
-  UpTo : (most : ℕ) → (default : List ℕ) → (list : ListOf) → RangeOf
-  Switch : (turned : Bool) → RangeOf
-
--- a setting: its name, the option that sets it, what it may be, and why there is no scheduler where it is 0, if there is none
-pub record SettingOf : Type 0 where
-  pub name : List ℕ
-  pub option : List ℕ
-  pub range : RangeOf
-  pub zero : Option SchedFault
-
--- a scheduler's row: which it is, its name, the flag that adds it to those that are compared, if it isn't always, and its settings in the
--- order in which they are written
-pub record RowOf : Type 0 where
-  pub kind : SchedKind
-  pub name : List ℕ
-  pub flag : Option (List ℕ)
-  pub settings : List SettingOf
-
--- those that an option lists by default, of numbers up to the most that this text spells
-abbrev pub listed : List ℕ → List ℕ → List ℕ → ListOf
-listed option most default = record {
-  default = default;
-  fault = codes "--" ++ option ++ codes " takes 1 to 64 numbers of 0 to " ++ most ++ codes " with commas between, each once";
-}
-
--- a number of 16 bits, and a target in rounds
-abbrev pub short : List ℕ → List ℕ → List ℕ → RangeOf
-short option default tried = Short default (listed option (codes "65535") tried)
-
-abbrev pub target : List ℕ → List ℕ → List ℕ → RangeOf
-target option default tried = UpTo MAX_TARGET default (listed option (codes "1000000") tried)
-
--- those of the program's rows
-abbrev pub list_of : ListRow → ListOf
-list_of l = record { default = l.default.now; fault = l.fault.now }
-
-abbrev pub range_of : SettingRange → RangeOf
-range_of (range.Short default list) = Short default.now (list_of list)
-range_of (range.UpTo most default list) = UpTo most default.now (list_of list)
-range_of (range.Switch turned) = Switch turned
-
-abbrev pub setting_of : SettingRow → SettingOf
-setting_of s = record { name = s.name.now; option = s.option.now; range = range_of s.range; zero = s.zero }
-
-abbrev pub row_of : SchedRow → RowOf
-row_of r = record { kind = r.kind; name = r.name.now; flag = option_map (λ f. f.now) r.flag; settings = map setting_of r.settings.now }
-
--- the settings by their places: the value of one; one of 16 bits, as which the greatest of these stands for any greater one, that no option
--- gives; and whether one is on
-abbrev pub value_at : ℕ → List ℕ → ℕ
-value_at place values = get_or values place 0
-
-abbrev pub short_at : ℕ → List ℕ → ℕ
-short_at place values = min (value_at place values) MAX_SHORT
-
-abbrev pub is_on : ℕ → Bool
-is_on n = n == 1
-
--- what schedulers are made of
-abbrev pub tunables_of : List ℕ → Tunables
-tunables_of v = record { fifo_batch = short_at 0 v; writes_starved = short_at 1 v; front_merges = is_on (value_at 2 v) }
-
-abbrev pub targets_of : List ℕ → Targets
-targets_of v = record { read = value_at 0 v; write = value_at 1 v }
-
-abbrev pub is_late_last : List ℕ → Bool
-is_late_last v = is_on (value_at 0 v)
-
--- a scheduler: its row; and by the values of its settings its policy, what it means before it has any request, and what it keeps then at a
--- depth
-pub record SchedOf : Type 1 where
-  pub row : RowOf
-  pub policy : Policy
-  pub meaning : List ℕ → Meaning
-  pub kept : List ℕ → ℕ → List ℕ
-
+-- each scheduler, and all in the order in which they are named and compared
 abbrev pub sched_for : SchedKind → SchedOf
-sched_for kind.None = record {
-  row = record { kind = kind.None; name = codes "none"; flag = None; settings = [] };
-  policy = none_policy;
-  meaning = λ v. at_start true;
-  kept = λ v depth. [];
-}
-sched_for kind.Deadline = record {
-  row = record {
-    kind = kind.Deadline;
-    name = codes "deadline";
-    flag = None;
-    settings =
-        record {
-          name = codes "fifo_batch";
-          option = codes "fifo-batch";
-          range = short (codes "fifo-batch") (codes "16") (codes "1,2,4,8,16,32,64");
-          zero = Some setting.ZeroBatch;
-        }
-        ∷ record {
-          name = codes "writes_starved";
-          option = codes "writes-starved";
-          range = short (codes "writes-starved") (codes "2") (codes "0,1,2,4,8");
-          zero = None;
-        }
-        ∷ record { name = codes "front_merges"; option = codes "no-front-merges"; range = Switch false; zero = None }
-        ∷ [];
-  };
-  policy = deadline_policy;
-  meaning = λ v. at_start (tunables_of v).front_merges;
-  kept = λ v depth. deadline_kept (record { last = None; batching = 0; starved = 0 }) (tunables_of v);
-}
-sched_for kind.Kyber = record {
-  row = record {
-    kind = kind.Kyber;
-    name = codes "kyber";
-    flag = None;
-    settings =
-        record {
-          name = codes "read_target";
-          option = codes "read-target";
-          range = target (codes "read-target") (codes "2") (codes "1,2,5,10,20,50,100");
-          zero = Some setting.ZeroTarget;
-        }
-        ∷ record {
-          name = codes "write_target";
-          option = codes "write-target";
-          range = target (codes "write-target") (codes "10") (codes "1,2,5,10,20,50,100");
-          zero = Some setting.ZeroTarget;
-        }
-        ∷ [];
-  };
-  policy = kyber_policy;
-  meaning = λ v. at_start true;
-  kept = λ v depth. numbers_of (state_at_first (targets_of v) depth);
-}
-sched_for kind.Earliest = record {
-  row = record {
-    kind = kind.Earliest;
-    name = codes "earliest";
-    flag = Some (codes "earliest");
-    settings = record { name = codes "late_last"; option = codes "late-last"; range = Switch true; zero = None } ∷ [];
-  };
-  policy = earliest_policy;
-  meaning = λ v. at_start true;
-  kept = λ v depth. earliest_kept (is_late_last v);
-}
-
--- its place in the table, the order of trials, and the table
-abbrev pub place_of : SchedKind → ℕ
-place_of kind.None = 0
-place_of kind.Deadline = 1
-place_of kind.Kyber = 2
-place_of kind.Earliest = 3
+sched_for kind.None = none_sched
+sched_for kind.Deadline = deadline_sched
+sched_for kind.Kyber = kyber_sched
+sched_for kind.Earliest = earliest_sched
 
 abbrev pub kinds : List SchedKind
 kinds = kind.None ∷ kind.Deadline ∷ kind.Kyber ∷ kind.Earliest ∷ []
 
-abbrev pub tried_kinds : List SchedKind
-tried_kinds = kind.None ∷ kind.Earliest ∷ kind.Deadline ∷ kind.Kyber ∷ []
-
+-- their rows, which are the table; and the place of one in it, by its name
 abbrev pub row_for : SchedKind → RowOf
 row_for k = (sched_for k).row
 
-abbrev pub table : List RowOf
-table = map row_for kinds
+abbrev pub sched_table : List RowOf
+sched_table = map row_for kinds
+
+abbrev pub sched_place : SchedKind → ℕ
+sched_place k = position_or_len (λ r. bytes_eq (row_for k).name r.name) sched_table
+
+-- the schedulers of a place in the order of trials, and all in that order
+abbrev pub kinds_at : ℕ → List SchedKind
+kinds_at place = map (λ r. r.kind) (filter (λ r. r.tried == place) sched_table)
+
+abbrev pub tried_kinds : List SchedKind
+tried_kinds = flat_map kinds_at (range_with_len 0 (length kinds))

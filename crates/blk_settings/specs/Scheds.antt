@@ -2,28 +2,29 @@
 use Rattle.std.specs.Prelude.{ℕ, ◌+◌, List, [], ◌∷◌, Option, None, Some}
 use Rattle.blk_sched.specs.Meaning.{Meaning}
 use Rattle.blk_sched.specs.Policies.{Policy}
-use Rattle.blk_settings.specs.Rows.{SettingOf, RangeOf, Short, UpTo, Switch, row_for, sched_for, value_at, is_on}
+use Rattle.blk_settings.specs.Row.{SettingOf, RangeOf, Short, UpTo, Switch, value_at, is_on}
+use Rattle.blk_settings.specs.Rows.{row_for, sched_for}
 use Rattle.blk_settings.specs.Settings.{NamedSetting, number_setting, switch_setting}
 use Rattle.blk_settings.specs.declared.sched.Lineup.{Lineup}
 use Rattle.blk_settings.specs.declared.sched.Sched.{Sched}
 
 -- a setting of this value
-abbrev pub told_in : RangeOf → List ℕ → ℕ → NamedSetting
-told_in (Short default list) name n = number_setting name n
-told_in (UpTo most default list) name n = number_setting name n
-told_in (Switch turned) name n = switch_setting name (is_on n)
+abbrev pub setting_in : RangeOf → List ℕ → ℕ → NamedSetting
+setting_in (Short default list) name n = number_setting name n
+setting_in (UpTo most default list) name n = number_setting name n
+setting_in (Switch turned) name n = switch_setting name (is_on n)
 
-abbrev pub told : SettingOf → ℕ → NamedSetting
-told s n = told_in s.range s.name n
+abbrev pub as_setting : SettingOf → ℕ → NamedSetting
+as_setting s n = setting_in s.range s.name n
 
 -- settings from a place on, by their values
-abbrev pub told_from : ℕ → List SettingOf → List ℕ → List NamedSetting
-told_from place [] values = []
-told_from place (s ∷ settings) values = told s (value_at place values) ∷ told_from (place + 1) settings values
+abbrev pub settings_from : ℕ → List SettingOf → List ℕ → List NamedSetting
+settings_from place [] values = []
+settings_from place (s ∷ settings) values = as_setting s (value_at place values) ∷ settings_from (place + 1) settings values
 
 -- of a scheduler: its settings as they are, its name, its policy, what it means before it has any request, and what it keeps then at a depth
 abbrev pub settings_of : Sched → List NamedSetting
-settings_of s = told_from 0 (row_for s.kind).settings s.values
+settings_of s = settings_from 0 (row_for s.kind).settings s.values
 
 abbrev pub name_of : Sched → List ℕ
 name_of s = (row_for s.kind).name

@@ -1,7 +1,7 @@
 //! Schedulers by what the options of a command line are given.
 
 ghost use Rattle.std.specs.Prelude.{◌≡◌, ◌≤◌, All, IfSome, map, option_map};
-ghost use Rattle.blk_settings.specs.Rows.{setting_of, row_of};
+ghost use Rattle.blk_settings.specs.Row.{setting_row_of, sched_row_of};
 ghost use Rattle.blk_settings.specs.Given.{GivenOptions, value_given, given_at, sched_by, row_named, sched_given, is_compared, compared_by, lineup_given};
 
 use crate::options::SCHED_NAME;
@@ -48,7 +48,7 @@ pub trait Given {
 impl SettingRow {
     /// The value that its option gives.
     fn given<G: Given>(&self, options: &G) -> Option<u64>
-        ensures { result ≡ value_given (G.given options.now) (setting_of self.now) }
+        ensures { result ≡ value_given (G.given options.now) (setting_row_of self.now) }
     {
         match self.range {
             SettingRange::Short(_, _) => match options.short(self.option) {
@@ -66,7 +66,7 @@ impl SettingRow {
 
 /// The value of the setting in this place, 0 where there is none.
 fn given_at<G: Given>(options: &G, settings: &[SettingRow], place: usize) -> Option<u64>
-    ensures { result ≡ given_at (G.given options.now) (map setting_of settings.now) place }
+    ensures { result ≡ given_at (G.given options.now) (map setting_row_of settings.now) place }
 {
     if place < settings.len() {
         settings[place].given(options)
@@ -77,7 +77,7 @@ fn given_at<G: Given>(options: &G, settings: &[SettingRow], place: usize) -> Opt
 
 /// The scheduler of this row, with the settings that the options give.
 fn sched_by<G: Given>(options: &G, row: &SchedRow) -> Option<Sched>
-    ensures { result ≡ sched_by (G.given options.now) (row_of row.now) }
+    ensures { result ≡ sched_by (G.given options.now) (sched_row_of row.now) }
 {
     let values = [
         given_at(options, row.settings, 0)?,
@@ -92,7 +92,7 @@ fn sched_by<G: Given>(options: &G, row: &SchedRow) -> Option<Sched>
 
 /// The row of this name.
 pub(crate) fn row_named(name: &str) -> Option<&'static SchedRow>
-    ensures { option_map (λ r. row_of r.now) result ≡ row_named name.now }
+    ensures { option_map (λ r. sched_row_of r.now) result ≡ row_named name.now }
 {
     let rows = rows();
     for i in 0..rows.len() {
@@ -105,17 +105,17 @@ pub(crate) fn row_named(name: &str) -> Option<&'static SchedRow>
 
 /// Whether the scheduler of this row is compared.
 fn is_compared<G: Given>(options: &G, row: &SchedRow) -> bool
-    ensures { result ≡ is_compared (G.given options.now) (row_of row.now) }
+    ensures { result ≡ is_compared (G.given options.now) (sched_row_of row.now) }
 {
     match row.flag {
-        Some(flag) => options.is_set(flag),
+        Some(flag) => options.is_set(flag.name),
         None => true,
     }
 }
 
 /// It with its settings, where it is compared. None where a setting is missing.
 fn compared_by<G: Given>(options: &G, row: &SchedRow) -> Option<Option<Sched>>
-    ensures { result ≡ compared_by (G.given options.now) (row_of row.now) }
+    ensures { result ≡ compared_by (G.given options.now) (sched_row_of row.now) }
 {
     let sched = sched_by(options, row)?;
     if is_compared(options, row) {

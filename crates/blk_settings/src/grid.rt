@@ -1,10 +1,10 @@
 //! The settings under which a script is tried, and what is asked of the trial.
 
-ghost use Rattle.std.specs.Prelude.{◌≡◌, ◌++◌, Some, IfOk, OnOk, map};
-ghost use Rattle.blk_settings.specs.Grids.{with_values, in_first, rows_of_kind, grid_given};
+ghost use Rattle.std.specs.Prelude.{◌≡◌, ◌++◌, Some, IfOk, IfErr, OnOk, map};
+ghost use Rattle.blk_settings.specs.Grids.{with_values, in_first, rows_of_kind, grid_rows, grid_given, IsGridFault};
 
 use crate::given::Given;
-use crate::lists::{ListFault, numbers_at, tried_given};
+use crate::lists::{ListFault, Tried, numbers_at, tried_given};
 use crate::rows::{SchedKind, tried_kinds};
 use crate::sched::Sched;
 use std::alloc::{AllocError, Global};
@@ -16,6 +16,15 @@ pub enum By {
     Misses,
     /// By how much later the latest command was than it had to be.
     Lateness,
+}
+
+/// Why there is no grid, in the order in which the reasons are looked for.
+#[derive(Clone, Copy, Debug, PartialEq, Eq)]
+pub enum GridFault {
+    /// The first option that is given no list.
+    List(ListFault),
+    /// Memory ran out.
+    Memory,
 }
 
 /// What is asked of a trial.
@@ -80,22 +89,33 @@ fn push_kind<G: Given>(all: &mut Vec<Sched>, options: &G, kind: SchedKind) -> Re
     Ok(())
 }
 
-/// The schedulers that the options list, each with its settings, in the order of trials. [`AllocError`] where memory ran out, and where an
-/// option is given no list: [`ListFault::first`] says whether one is.
-pub fn grid_given<G: Given>(alloc: Global, options: &G) -> Result<Vec<Sched>, AllocError>
-    ensures { IfOk result (λ all. grid_given (G.given options.now) ≡ Some all.items) }
+/// These schedulers, each with the settings that the options list, in the order of trials.
+fn grid_rows<G: Given>(alloc: Global, options: &G, tried: Tried) -> Result<Vec<Sched>, AllocError>
+    ensures { IfOk result (λ all. all.items ≡ grid_rows (G.given options.now) tried) }
 {
-    if ListFault::first(options).is_some() {
-        return Err(AllocError);
-    }
-    let Some(tried) = tried_given(options) else {
-        return Err(AllocError);
-    };
+    let kinds = tried_kinds(alloc)?;
     let mut all = Vec::new(alloc);
-    for kind in tried_kinds() {
+    for kind in &kinds {
         if tried[kind.place()] {
             push_kind(&mut all, options, *kind)?;
         }
     }
     Ok(all)
+}
+
+/// The schedulers that the options list, each with its settings, in the order of trials.
+pub fn grid_given<G: Given>(alloc: Global, options: &G) -> Result<Vec<Sched>, GridFault>
+    ensures grid { IfOk result (λ all. grid_given (G.given options.now) ≡ Some all.items) }
+    ensures fault { IfErr result (IsGridFault (G.given options.now)) }
+{
+    if let Some(fault) = ListFault::first(options) {
+        return Err(GridFault::List(fault));
+    }
+    let Some(tried) = tried_given(options) else {
+        unreachable!()
+    };
+    match grid_rows(alloc, options, tried) {
+        Ok(rows) => Ok(rows),
+        Err(_) => Err(GridFault::Memory),
+    }
 }

@@ -28,7 +28,7 @@ pub use crate::fault::LoadFault;
 pub use crate::figures::FiguresAsked;
 pub use crate::form::Form;
 pub use crate::given::Given;
-pub use crate::grid::{By, TrialAsked};
+pub use crate::grid::{By, GridFault, TrialAsked};
 pub use crate::lists::ListFault;
 pub use crate::numbers::Load;
 pub use crate::options::{OptionRow, Takes};

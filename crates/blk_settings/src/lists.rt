@@ -1,7 +1,7 @@
 //! The lists of a trial: which schedulers are tried, and under which settings.
 
 ghost use Rattle.std.specs.Prelude.{◌≡◌, map, option_map};
-ghost use Rattle.blk_settings.specs.Rows.{setting_of, row_of};
+ghost use Rattle.blk_settings.specs.Row.{setting_row_of, sched_row_of};
 ghost use Rattle.blk_settings.specs.Lists.{with_name, tried_of, tried_given, numbers_tried, numbers_at, unlisted_in, list_fault, numbers_fault_text, list_fault_text};
 
 use crate::given::{Given, MAX_SHORT, Numbers, row_named};
@@ -20,7 +20,7 @@ pub enum ListFault {
 impl SettingRow {
     /// What the program says of a text that is no list of its values.
     fn list_fault(&self) -> &'static str
-        ensures { result.now ≡ numbers_fault_text (setting_of self.now) }
+        ensures { result.now ≡ numbers_fault_text (setting_row_of self.now) }
     {
         match self.range {
             SettingRange::Short(_, list) => list.fault,
@@ -31,7 +31,7 @@ impl SettingRow {
 
     /// The values of it that are tried: those that its option lists, or both of a switch, on and off.
     fn tried<G: Given>(&self, options: &G) -> Option<Numbers>
-        ensures { option_map (λ n. n.items) result ≡ numbers_tried (G.given options.now) (setting_of self.now) }
+        ensures { option_map (λ n. n.items) result ≡ numbers_tried (G.given options.now) (setting_row_of self.now) }
     {
         match self.range {
             SettingRange::Short(_, _) => options.list(self.option, MAX_SHORT),
@@ -120,7 +120,7 @@ pub(crate) fn tried_given<G: Given>(options: &G) -> Option<Tried>
 
 /// The values that are tried of the setting in this place: 0 alone where there is none, and no value where its option is given none.
 pub(crate) fn numbers_at<G: Given>(options: &G, settings: &[SettingRow], place: usize) -> Numbers
-    ensures { result.items ≡ numbers_at (G.given options.now) (map setting_of settings.now) place }
+    ensures { result.items ≡ numbers_at (G.given options.now) (map setting_row_of settings.now) place }
 {
     if place < settings.len() {
         match settings[place].tried(options) {
@@ -136,7 +136,7 @@ pub(crate) fn numbers_at<G: Given>(options: &G, settings: &[SettingRow], place: 
 
 /// The first of the settings of a row whose option is given no list.
 fn unlisted_in<G: Given>(options: &G, row: &SchedRow) -> Option<ListFault>
-    ensures { result ≡ unlisted_in (G.given options.now) (row_of row.now) }
+    ensures { result ≡ unlisted_in (G.given options.now) (sched_row_of row.now) }
 {
     let settings = row.settings;
     for i in 0..settings.len() {

@@ -1,80 +1,57 @@
 //! The options of the schedulers: their names, what they take, and what help says of them. Those of settings are made of the table's rows.
 
-ghost use Rattle.std.specs.Prelude.{◌≡◌, ◌++◌, map, IfOk, OnOk, option_map};
-ghost use Rattle.blk_settings.specs.Rows.{setting_of};
-ghost use Rattle.blk_settings.specs.Options.{option_of, sched_names, tuning, listing, setting_option, options_of, list_option, lists_of};
+ghost use Rattle.std.specs.Prelude.{◌≡◌, ◌++◌, map, IfOk, OnOk, option_map, string_bytes};
+ghost use Rattle.blk_settings.specs.Row.{setting_row_of};
+ghost use Rattle.blk_settings.specs.Options.{option_of, sched_names, tried_names, flags, tuning, listing, setting_option, options_of, list_option, lists_of};
 
-use crate::rows::{SCHED_COUNT, SettingRange, SettingRow, rows};
+use crate::rows::{SettingRange, SettingRow, rows, tried_kinds};
 use std::alloc::{AllocError, Global};
 
-/// The greatest target of `kyber`, in rounds.
-pub const MAX_TARGET: u64 = 1_000_000;
-
-/// The option that says which scheduler, or which ones are tried. Such names are constants of their own, since no constant can be made of
+/// The option that says which scheduler, or which ones are tried. Its name is a constant of its own, since no constant can be made of
 /// another's field.
 pub(crate) const SCHED_NAME: &str = "sched";
 
-/// The flag that `earliest` runs as well.
-pub(crate) const EARLIEST_NAME: &str = "earliest";
-
 /// What an option takes.
 #[derive(Clone, Copy)]
-pub enum Takes {
+pub enum Takes<'a> {
     /// Nothing: it is a flag.
     Nothing,
     /// The name of a scheduler, with a default.
-    Sched(&'static str),
+    Sched(&'a str),
     /// A number of 16 bits, with a default.
-    Short(&'static str),
+    Short(&'a str),
     /// A number from the least to the most, with a default.
-    Number(u64, u64, &'static str),
+    Number(u64, u64, &'a str),
     /// A number from the least to the most, or none.
     Maybe(u64, u64),
     /// A text, with a default: which ones it may be is looked at where it is read.
-    Text(&'static str),
+    Text(&'a str),
     /// A text, or none.
     MaybeText,
 }
 
-/// An option.
+/// An option. Its texts are those of the rows, but for the default of the one that lists schedulers, which is made of their names.
 #[derive(Clone, Copy)]
-pub struct OptionRow {
+pub struct OptionRow<'a> {
     /// Its name, behind two dashes.
-    pub name: &'static str,
+    pub name: &'a str,
     /// What it takes.
-    pub takes: Takes,
+    pub takes: Takes<'a>,
     /// What help says of it.
-    pub help: &'static str,
+    pub help: &'a str,
 }
 
 /// The option that names the scheduler.
-pub const SCHED: OptionRow = OptionRow {
+pub const SCHED: OptionRow<'static> = OptionRow {
     name: SCHED_NAME,
     takes: Takes::Sched("none"),
     help: "The scheduler",
 };
 
-/// The option that adds a scheduler to those of a [`crate::Lineup`].
-pub const ADDED: OptionRow = OptionRow {
-    name: EARLIEST_NAME,
-    takes: Takes::Nothing,
-    help: "Runs it under earliest as well",
-};
-
-/// The option that lists which schedulers are tried.
-const SCHEDS: OptionRow = OptionRow {
-    name: SCHED_NAME,
-    takes: Takes::Text("none,earliest,deadline,kyber"),
-    help: "The schedulers to try: names with commas between",
-};
-
-/// The names of the schedulers, which the rows have too: a command line borrows them as one slice.
-static SCHEDULERS: [&str; SCHED_COUNT] = ["none", "deadline", "kyber", "earliest"];
-
 impl SettingRow {
     /// The option that sets it.
-    fn setting_option(&self) -> OptionRow
-        ensures { option_of result ≡ setting_option (setting_of self.now) }
+    fn setting_option(&self) -> OptionRow<'static>
+        ensures { option_of result ≡ setting_option (setting_row_of self.now) }
     {
         let takes = match self.range {
             SettingRange::Short(default, _) => Takes::Short(default),
@@ -89,8 +66,8 @@ impl SettingRow {
     }
 
     /// The option that lists the numbers of it that are tried, if it is a number.
-    fn list_option(&self) -> Option<OptionRow>
-        ensures { option_map option_of result ≡ list_option (setting_of self.now) }
+    fn list_option(&self) -> Option<OptionRow<'static>>
+        ensures { option_map option_of result ≡ list_option (setting_row_of self.now) }
     {
         let list = match self.range {
             SettingRange::Short(_, list) => list,
@@ -106,8 +83,11 @@ impl SettingRow {
 }
 
 /// Adds the options that set these.
-fn push_options(all: &mut Vec<OptionRow>, settings: &[SettingRow]) -> Result<(), AllocError>
-    ensures { OnOk result (map option_of all.new.items ≡ map option_of all.old.items ++ options_of (map setting_of settings.now)) }
+fn push_options(
+    all: &mut Vec<OptionRow<'static>>,
+    settings: &[SettingRow],
+) -> Result<(), AllocError>
+    ensures { OnOk result (map option_of all.new.items ≡ map option_of all.old.items ++ options_of (map setting_row_of settings.now)) }
 {
     for setting in settings {
         all.push(setting.setting_option())?;
@@ -116,8 +96,8 @@ fn push_options(all: &mut Vec<OptionRow>, settings: &[SettingRow]) -> Result<(),
 }
 
 /// Adds the options that list the numbers of these.
-fn push_lists(all: &mut Vec<OptionRow>, settings: &[SettingRow]) -> Result<(), AllocError>
-    ensures { OnOk result (map option_of all.new.items ≡ map option_of all.old.items ++ lists_of (map setting_of settings.now)) }
+fn push_lists<'a>(all: &mut Vec<OptionRow<'a>>, settings: &[SettingRow]) -> Result<(), AllocError>
+    ensures { OnOk result (map option_of all.new.items ≡ map option_of all.old.items ++ lists_of (map setting_row_of settings.now)) }
 {
     for setting in settings {
         if let Some(list) = setting.list_option() {
@@ -127,15 +107,51 @@ fn push_lists(all: &mut Vec<OptionRow>, settings: &[SettingRow]) -> Result<(), A
     Ok(())
 }
 
-/// The names of the schedulers.
-pub fn scheduler_names() -> &'static [&'static str]
-    ensures { map (λ name. name.now) result.now ≡ sched_names }
+/// The names of the schedulers, in the order of their rows.
+pub fn scheduler_names(alloc: Global) -> Result<Vec<&'static str>, AllocError>
+    ensures { IfOk result (λ names. map (λ name. name.now) names.items ≡ sched_names) }
 {
-    SCHEDULERS.as_slice()
+    let mut names = Vec::new(alloc);
+    for row in rows() {
+        names.push(row.name)?;
+    }
+    Ok(names)
+}
+
+/// The names of the schedulers in the order of trials, with commas between.
+pub fn tried_names(alloc: Global) -> Result<String, AllocError>
+    ensures { IfOk result (λ names. string_bytes names ≡ tried_names) }
+{
+    let kinds = tried_kinds(alloc)?;
+    let mut names = String::new(alloc);
+    for i in 0..kinds.len() {
+        if i > 0 {
+            names.push_str(",")?;
+        }
+        names.push_str(kinds[i].row().name)?;
+    }
+    Ok(names)
+}
+
+/// The flags that add schedulers to those that are compared.
+pub fn flag_options(alloc: Global) -> Result<Vec<OptionRow<'static>>, AllocError>
+    ensures { IfOk result (λ all. map option_of all.items ≡ flags) }
+{
+    let mut all = Vec::new(alloc);
+    for row in rows() {
+        if let Some(flag) = row.flag {
+            all.push(OptionRow {
+                name: flag.name,
+                takes: Takes::Nothing,
+                help: flag.help,
+            })?;
+        }
+    }
+    Ok(all)
 }
 
 /// The options that set the schedulers.
-pub fn tuning_options(alloc: Global) -> Result<Vec<OptionRow>, AllocError>
+pub fn tuning_options(alloc: Global) -> Result<Vec<OptionRow<'static>>, AllocError>
     ensures { IfOk result (λ all. map option_of all.items ≡ tuning) }
 {
     let mut all = Vec::new(alloc);
@@ -145,11 +161,17 @@ pub fn tuning_options(alloc: Global) -> Result<Vec<OptionRow>, AllocError>
     Ok(all)
 }
 
-/// The options that list which schedulers are tried, and under which settings.
-pub fn list_options(alloc: Global) -> Result<Vec<OptionRow>, AllocError>
+/// The options that list which schedulers are tried, by default those of [`tried_names`], and under which settings.
+pub fn list_options<'a>(alloc: Global, tried: &'a str) -> Result<Vec<OptionRow<'a>>, AllocError>
+    requires { tried.now ≡ tried_names }
     ensures { IfOk result (λ all. map option_of all.items ≡ listing) }
 {
-    let mut all = vec![in alloc; SCHEDS]?;
+    let scheds = OptionRow {
+        name: SCHED_NAME,
+        takes: Takes::Text(tried),
+        help: "The schedulers to try: names with commas between",
+    };
+    let mut all = vec![in alloc; scheds]?;
     for row in rows() {
         push_lists(&mut all, row.settings)?;
     }

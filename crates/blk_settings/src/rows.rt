@@ -1,12 +1,19 @@
 //! The table of schedulers, a row of data for each: what it is called, and its settings, with the options that give them and the values
-//! that are tried of them. What a row does is the kind's: [`with_made`](crate::with_made) makes the scheduler.
+//! that are tried of them. Each row stands in a module of its own, beside the function that makes the scheduler; here are what a row has and
+//! the lists of them all.
 
-ghost use Rattle.std.specs.Prelude.{◌≡◌, ◌≤◌, ◌<◌, map, length};
-ghost use Rattle.blk_settings.specs.Rows.{row_of, row_for, table, place_of, tried_kinds};
+ghost use Rattle.std.specs.Prelude.{◌≡◌, ◌++◌, ◌≤◌, ◌<◌, IfOk, OnOk, map, length};
+ghost use Rattle.blk_settings.specs.Row.{sched_row_of};
+ghost use Rattle.blk_settings.specs.Rows.{row_for, sched_table, sched_place, kinds_at, tried_kinds};
 
-use crate::options::{EARLIEST_NAME, MAX_TARGET};
+pub mod deadline;
+pub mod earliest;
+pub mod kyber;
+pub mod none;
+
 use crate::sched::SchedFault;
 use crate::setting::MAX_SETTINGS;
+use std::alloc::{AllocError, Global};
 
 /// A scheduler, whatever its settings.
 #[derive(Clone, Copy, Debug, PartialEq, Eq)]
@@ -58,6 +65,15 @@ pub struct SettingRow {
     pub zero: Option<SchedFault>,
 }
 
+/// The flag that adds a scheduler to those that are compared.
+#[derive(Clone, Copy)]
+pub struct FlagRow {
+    /// Its name, behind two dashes.
+    pub name: &'static str,
+    /// What help says of it.
+    pub help: &'static str,
+}
+
 /// A scheduler's row.
 #[derive(Clone, Copy)]
 pub struct SchedRow {
@@ -66,7 +82,9 @@ pub struct SchedRow {
     /// Its name, on the command line and in tables.
     pub name: &'static str,
     /// The flag that adds it to the schedulers that are compared. One without is always compared.
-    pub flag: Option<&'static str>,
+    pub flag: Option<FlagRow>,
+    /// Its place in the order of trials, below [`SCHED_COUNT`].
+    pub tried: usize,
     /// Its settings, [`MAX_SETTINGS`] at most, in the order in which they are written.
     pub settings: &'static [SettingRow],
 }
@@ -75,133 +93,72 @@ pub struct SchedRow {
 pub const SCHED_COUNT: usize = 4;
 
 /// The rows, in the order in which schedulers are named and compared.
-static ROWS: [SchedRow; SCHED_COUNT] = [
-    SchedRow {
-        kind: SchedKind::None,
-        name: "none",
-        flag: None,
-        settings: &[],
-    },
-    SchedRow {
-        kind: SchedKind::Deadline,
-        name: "deadline",
-        flag: None,
-        settings: &[
-            SettingRow {
-                name: "fifo_batch",
-                option: "fifo-batch",
-                help: "Under deadline, how many requests go in one batch",
-                range: SettingRange::Short(
-                    "16",
-                    ListRow {
-                        default: "1,2,4,8,16,32,64",
-                        help: "Under deadline, how many requests go in one batch: numbers with commas between",
-                        fault: "--fifo-batch takes 1 to 64 numbers of 0 to 65535 with commas between, each once",
-                    },
-                ),
-                zero: Some(SchedFault::ZeroBatch),
-            },
-            SettingRow {
-                name: "writes_starved",
-                option: "writes-starved",
-                help: "Under deadline, how often reads go first while writes wait",
-                range: SettingRange::Short(
-                    "2",
-                    ListRow {
-                        default: "0,1,2,4,8",
-                        help: "Under deadline, how often reads go first while writes wait: numbers with commas between",
-                        fault: "--writes-starved takes 1 to 64 numbers of 0 to 65535 with commas between, each once",
-                    },
-                ),
-                zero: None,
-            },
-            SettingRow {
-                name: "front_merges",
-                option: "no-front-merges",
-                help: "Under deadline, lets no newcomer join at the front",
-                range: SettingRange::Switch(false),
-                zero: None,
-            },
-        ],
-    },
-    SchedRow {
-        kind: SchedKind::Kyber,
-        name: "kyber",
-        flag: None,
-        settings: &[
-            SettingRow {
-                name: "read_target",
-                option: "read-target",
-                help: "Under kyber, how many rounds a read may wait",
-                range: SettingRange::UpTo(
-                    MAX_TARGET,
-                    "2",
-                    ListRow {
-                        default: "1,2,5,10,20,50,100",
-                        help: "Under kyber, how many rounds a read may wait: numbers with commas between",
-                        fault: "--read-target takes 1 to 64 numbers of 0 to 1000000 with commas between, each once",
-                    },
-                ),
-                zero: Some(SchedFault::ZeroTarget),
-            },
-            SettingRow {
-                name: "write_target",
-                option: "write-target",
-                help: "Under kyber, how many rounds a write may wait",
-                range: SettingRange::UpTo(
-                    MAX_TARGET,
-                    "10",
-                    ListRow {
-                        default: "1,2,5,10,20,50,100",
-                        help: "Under kyber, how many rounds a write may wait: numbers with commas between",
-                        fault: "--write-target takes 1 to 64 numbers of 0 to 1000000 with commas between, each once",
-                    },
-                ),
-                zero: Some(SchedFault::ZeroTarget),
-            },
-        ],
-    },
-    SchedRow {
-        kind: SchedKind::Earliest,
-        name: "earliest",
-        flag: Some(EARLIEST_NAME),
-        settings: &[SettingRow {
-            name: "late_last",
-            option: "late-last",
-            help: "Under earliest, lets what is late already wait for what can be on time",
-            range: SettingRange::Switch(true),
-            zero: None,
-        }],
-    },
-];
+static ROWS: [SchedRow; SCHED_COUNT] = [none::ROW, deadline::ROW, kyber::ROW, earliest::ROW];
 
-/// The schedulers in the order in which a trial has them, in which the default of the option that lists them names them.
-static TRIED: [SchedKind; SCHED_COUNT] = [
-    SchedKind::None,
-    SchedKind::Earliest,
-    SchedKind::Deadline,
-    SchedKind::Kyber,
-];
+/// Makes the scheduler of a [`Sched`](crate::Sched), for a device of this depth, 1 to [`blk_sched::MAX_OPEN`], and hands these settings and what
+/// came of it (a `Result` of the kind's own type, with a [`SchedFault`]) to an expression by the two names that stand before it. A macro, since
+/// a scheduler has a type of its own, so what goes on with it is a generic function, whose bounds (as `Send`) are those of the caller.
+#[macro_export]
+macro_rules! with_made {
+    ($sched:expr, $alloc:expr, $depth:expr, ($own:ident, $made:ident) => $then:expr) => {{
+        let $own = $sched;
+        match $own.kind {
+            $crate::SchedKind::None => {
+                let $made = $crate::rows::none::make($alloc, $own, $depth);
+                $then
+            }
+            $crate::SchedKind::Deadline => {
+                let $made = $crate::rows::deadline::make($alloc, $own, $depth);
+                $then
+            }
+            $crate::SchedKind::Kyber => {
+                let $made = $crate::rows::kyber::make($alloc, $own, $depth);
+                $then
+            }
+            $crate::SchedKind::Earliest => {
+                let $made = $crate::rows::earliest::make($alloc, $own, $depth);
+                $then
+            }
+        }
+    }};
+}
 
 /// All rows, in the order in which schedulers are named and compared.
 pub(crate) fn rows() -> &'static [SchedRow]
-    ensures rows { map row_of result.now ≡ table }
+    ensures rows { map sched_row_of result.now ≡ sched_table }
     ensures count { length result.now ≡ SCHED_COUNT }
 {
     ROWS.as_slice()
 }
 
-/// The schedulers in the order in which a trial has them.
-pub(crate) fn tried_kinds() -> &'static [SchedKind]
-    ensures { result.now ≡ tried_kinds }
+/// Adds the schedulers of this place in the order of trials.
+fn push_tried(kinds: &mut Vec<SchedKind>, place: usize) -> Result<(), AllocError>
+    ensures { OnOk result (kinds.new.items ≡ kinds.old.items ++ kinds_at place) }
 {
-    TRIED.as_slice()
+    for row in rows() {
+        if row.tried == place {
+            kinds.push(row.kind)?;
+        }
+    }
+    Ok(())
+}
+
+/// The schedulers in the order of trials, none of them left out.
+pub(crate) fn tried_kinds(alloc: Global) -> Result<Vec<SchedKind>, AllocError>
+    ensures kinds { IfOk result (λ kinds. kinds.items ≡ tried_kinds) }
+    ensures each { IfOk result (λ kinds. length kinds.items ≡ SCHED_COUNT) }
+{
+    let mut kinds = Vec::new(alloc);
+    for place in 0..SCHED_COUNT {
+        push_tried(&mut kinds, place)?;
+    }
+    Ok(kinds)
 }
 
 impl SchedKind {
     /// Its place in the table.
     pub fn place(self) -> usize
-        ensures place { result ≡ place_of self }
+        ensures place { result ≡ sched_place self }
         ensures range { result < SCHED_COUNT }
     {
         self as usize
@@ -209,7 +166,7 @@ impl SchedKind {
 
     /// Its row.
     pub fn row(self) -> &'static SchedRow
-        ensures row { row_of result.now ≡ row_for self }
+        ensures row { sched_row_of result.now ≡ row_for self }
         ensures few { length result.now.settings.now ≤ MAX_SETTINGS }
     {
         &ROWS[self.place()]

@@ -1,25 +1,14 @@
-//! Schedulers with their settings: what is wrong with these, and how one is made of them. Of whoever does something with the scheduler of some
-//! settings, [`with_made`](crate::with_made) has the match on its kind.
+//! Schedulers with their settings: what these are, and what is wrong with them.
 
-ghost use Rattle.std.specs.Prelude.{◌≡◌, ◌≤◌, ◌<◌, [], IfOk, IfErr};
-ghost use Rattle.blk_deadline.specs.Shown.{meaning_of as deadline_meaning, kept_in as deadline_kept};
-ghost use Rattle.blk_kyber.specs.Shown.{meaning_of as kyber_meaning, state_of};
-ghost use Rattle.blk_kyber.specs.State.{numbers_of};
-ghost use Rattle.blk_earliest.specs.Shown.{meaning_of as earliest_meaning, late_last_of};
-ghost use Rattle.blk_earliest.specs.Choice.{earliest_kept};
-ghost use Rattle.blk_settings.specs.Rows.{setting_of, short_at};
-ghost use Rattle.blk_settings.specs.Scheds.{name_of, settings_of, told, in_turn};
-ghost use Rattle.blk_settings.specs.Made.{fault_of, zero_fault, IsUnmade, IsStart};
+ghost use Rattle.std.specs.Prelude.{◌≡◌, ◌<◌, IfOk};
+ghost use Rattle.blk_settings.specs.Row.{setting_row_of, short_at};
+ghost use Rattle.blk_settings.specs.Scheds.{name_of, settings_of, as_setting, in_turn};
+ghost use Rattle.blk_settings.specs.Made.{fault_of, zero_fault};
 ghost use Rattle.blk_settings.specs.Names.{sched_fault_name};
 
 use crate::given::MAX_SHORT;
 use crate::rows::{SCHED_COUNT, SchedKind, SettingRange, SettingRow};
 use crate::setting::{MAX_SETTINGS, Setting, Settings};
-use blk_deadline::{Deadline, DeadlineFault, Tunables};
-use blk_earliest::Earliest;
-use blk_kyber::{Kyber, KyberFault, Targets};
-use blk_none::NoneSched;
-use blk_sched::MAX_OPEN;
 use std::alloc::{AllocError, Global};
 
 /// Why a scheduler is not made, in the order in which the reasons are looked for.
@@ -57,8 +46,8 @@ pub struct Sched {
 
 impl SettingRow {
     /// The setting of this value.
-    fn told(&self, value: u64) -> Setting
-        ensures { result ≡ told (setting_of self.now) value }
+    fn as_setting(&self, value: u64) -> Setting
+        ensures { result ≡ as_setting (setting_row_of self.now) value }
     {
         match self.range {
             SettingRange::Short(_, _) => Setting::number(self.name, value),
@@ -69,7 +58,7 @@ impl SettingRow {
 
     /// What is wrong with this value.
     fn fault(&self, value: u64) -> Option<SchedFault>
-        ensures { result ≡ zero_fault (setting_of self.now) value }
+        ensures { result ≡ zero_fault (setting_row_of self.now) value }
     {
         if value == 0 { self.zero } else { None }
     }
@@ -90,13 +79,13 @@ impl Sched {
         let rows = self.kind.row().settings;
         let mut all = Settings::new();
         for i in 0..rows.len() {
-            all.push(rows[i].told(self.values[i]));
+            all.push(rows[i].as_setting(self.values[i]));
         }
         all
     }
 
     /// The value of a setting of 16 bits. The greatest of these stands for any greater value, which no option gives.
-    fn short_at(&self, place: usize) -> u16
+    pub(crate) fn short_at(&self, place: usize) -> u16
         requires { place < MAX_SETTINGS }
         ensures { result ≡ short_at place self.now.values }
     {
@@ -138,93 +127,4 @@ impl Lineup {
         }
         Ok(all)
     }
-}
-
-/// `none` before anything waits. Each of these functions takes settings of its kind, and the depth of the device, which only `kyber` uses.
-pub fn none(alloc: Global, sched: Sched, _depth: u64) -> Result<NoneSched, SchedFault>
-    requires { sched.kind ≡ SchedKind.None }
-    ensures start { IfOk result (λ s. IsStart sched _depth s []) }
-    ensures unmade { IfErr result (IsUnmade sched) }
-{
-    match NoneSched::new(alloc) {
-        Ok(scheduler) => Ok(scheduler),
-        Err(_) => Err(SchedFault::Memory),
-    }
-}
-
-/// `deadline` before anything waits.
-pub fn deadline(alloc: Global, sched: Sched, _depth: u64) -> Result<Deadline, SchedFault>
-    requires { sched.kind ≡ SchedKind.Deadline }
-    ensures start { IfOk result (λ s. IsStart sched _depth (deadline_meaning s) (deadline_kept s)) }
-    ensures unmade { IfErr result (IsUnmade sched) }
-{
-    let tunables = Tunables {
-        fifo_batch: sched.short_at(0),
-        writes_starved: sched.short_at(1),
-        front_merges: sched.values[2] == 1,
-    };
-    match Deadline::new(alloc, tunables) {
-        Ok(scheduler) => Ok(scheduler),
-        Err(DeadlineFault::ZeroBatch) => Err(SchedFault::ZeroBatch),
-        Err(DeadlineFault::Memory) => Err(SchedFault::Memory),
-    }
-}
-
-/// `kyber` before anything waits, with both limits at the depth.
-pub fn kyber(alloc: Global, sched: Sched, depth: u64) -> Result<Kyber, SchedFault>
-    requires kind { sched.kind ≡ SchedKind.Kyber }
-    requires least { 1 ≤ depth }
-    requires most { depth ≤ MAX_OPEN }
-    ensures start { IfOk result (λ s. IsStart sched depth (kyber_meaning s) (numbers_of (state_of s))) }
-    ensures unmade { IfErr result (IsUnmade sched) }
-{
-    let targets = Targets {
-        read: sched.values[0],
-        write: sched.values[1],
-    };
-    match Kyber::new(alloc, targets, depth) {
-        Ok(scheduler) => Ok(scheduler),
-        Err(KyberFault::ZeroTarget) => Err(SchedFault::ZeroTarget),
-        Err(KyberFault::Memory) => Err(SchedFault::Memory),
-    }
-}
-
-/// `earliest` before anything waits.
-pub fn earliest(alloc: Global, sched: Sched, _depth: u64) -> Result<Earliest, SchedFault>
-    requires { sched.kind ≡ SchedKind.Earliest }
-    ensures start { IfOk result (λ s. IsStart sched _depth (earliest_meaning s) (earliest_kept (late_last_of s))) }
-    ensures unmade { IfErr result (IsUnmade sched) }
-{
-    match Earliest::new(alloc, sched.values[0] == 1) {
-        Ok(scheduler) => Ok(scheduler),
-        Err(_) => Err(SchedFault::Memory),
-    }
-}
-
-/// Makes a scheduler, a [`Sched`], for a device of this depth, 1 to [`MAX_OPEN`], and hands it and what came of it
-/// (a `Result` of the kind's own type, with a [`SchedFault`]) to an expression by the two names that stand before it. A macro, since a scheduler
-/// has a type of its own, so what goes on with it is a generic function, whose bounds (as `Send`) are those of the caller.
-#[macro_export]
-macro_rules! with_made {
-    ($sched:expr, $alloc:expr, $depth:expr, ($own:ident, $made:ident) => $then:expr) => {{
-        let $own = $sched;
-        match $own.kind {
-            $crate::SchedKind::None => {
-                let $made = $crate::sched::none($alloc, $own, $depth);
-                $then
-            }
-            $crate::SchedKind::Deadline => {
-                let $made = $crate::sched::deadline($alloc, $own, $depth);
-                $then
-            }
-            $crate::SchedKind::Kyber => {
-                let $made = $crate::sched::kyber($alloc, $own, $depth);
-                $then
-            }
-            $crate::SchedKind::Earliest => {
-                let $made = $crate::sched::earliest($alloc, $own, $depth);
-                $then
-            }
-        }
-    }};
 }

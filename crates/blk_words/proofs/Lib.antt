@@ -1,4 +1,5 @@
 pub mod Lines
 pub mod Plain
+mod Grown
 mod Listed
 mod Timed

@@ -1,7 +1,8 @@
 -- What the command line reads of words.
-use Rattle.std.proofs.Common.{◌≡◌, ◌∙◌, List, [], ◌∷◌, Some, None, Option, box_value, option_map, ap, sym, subst, refl, codes, true, false, cond, inl, inr, ℕ, suc, ◌<◌, ◌^◌, ◌++◌, arith, map}
+use Rattle.std.proofs.Common.{◌≡◌, ◌∙◌, List, [], Some, None, Option, box_value, option_map, ap, sym, subst, refl, codes, true, false, inl, inr, ℕ, suc, ◌<◌, ◌^◌, ◌++◌, arith}
+use Rattle.std.proofs.lemmas.List.Folds.{find-append}
 use Rattle.std.proofs.lemmas.List.Sums.{fold-append}
-use Rattle.std.specs.Prelude.{◌≢◌, ◌&&◌, Bool, Result, Ok, Err, IfOk, find, fold, option_and_then, if◌then◌else◌}
+use Rattle.std.specs.Prelude.{◌≢◌, ◌&&◌, Bool, Result, Ok, Err, IfOk, IfErr, find, fold, option_and_then, if◌then◌else◌}
 use Rattle.std.specs.Option.{option_map_or, option_or}
 use Rattle.std.specs.Str.{bytes_eq}
 use Rattle.std.specs.Str.Parse.{IsNumeral, ParsesUnsigned, digits_value, without_leading_plus}
@@ -10,29 +11,24 @@ use Rattle.clap.proofs.ValueTestLemmas.{accepts-Accepts, Accepts-accepts}
 use Rattle.clap.specs.declared.builder.value_parser.ValueParser.TheVariants as vp
 use Rattle.clap.proofs.WalkLemmas.{first_value-rows, one_text-rows}
 use Rattle.clap.specs.declared.parser.matches.Found.{Found}
-use Rattle.clap.specs.declared.builder.command.Command.{Command}
-use Rattle.clap.specs.Words.{App, Row, Rule, Text, app_of, new_app, with_rule, with_subcommand, ReadsOne, first_of, one_of, one_text, first_value, IsAmong, HasKind, subcommand_rows_of, subcommand_of, subcommand_name_of, is_simple, is_simple_and_free, fault_of, kind_of, rows_of, found_of, HasMatchesOf}
+use Rattle.clap.specs.Words.{App, Row, Text, new_app, ReadsOne, first_of, one_of, one_text, first_value, IsAmong, HasKind, subcommand_rows_of, subcommand_of, subcommand_name_of, is_simple, is_simple_and_free, fault_of, kind_of, rows_of, found_of, HasMatchesOf}
 use Rattle.clap.specs.declared.parser.matches.ArgMatches.{ArgMatches}
 use Rattle.clap.specs.declared.parser.matches.ArgMatches.TheViews.{out-ArgMatches, out-SubCommand}
 use Rattle.clap.specs.declared.error.Error.{Error}
 use Rattle.clap.specs.declared.error.kind.ErrorKind.{ErrorKind}
 use Rattle.clap.specs.declared.error.kind.ErrorKind.TheVariants as kind
 use Rattle.blk_words.specs.declared.table.Makes.{Makes}
-use Rattle.blk_words.specs.Inside.Tables.{rule_for}
-use Rattle.blk_words.specs.CommandLine.{Names, AreSchedulers, Subcommand, option_rule, topmost, run_table, other_table, table, with_one, blk_app}
+use Rattle.blk_words.specs.CommandLine.{Names, AreSchedulers, Subcommand, topmost, run_table, other_table, with_one, blk_app}
 use Rattle.blk_words.specs.declared.words.Job.{Job}
 use Rattle.blk_words.specs.declared.words.Job.TheVariants as job
 use Rattle.blk_words.specs.Times.{number_in}
-use Rattle.blk_settings.specs.Grids.{grid_given}
-use Rattle.blk_settings.specs.Options.{OptionOf, option_of}
 use Rattle.blk_settings.specs.declared.numbers.Load.{Load}
-use Rattle.blk_settings.specs.declared.options.OptionRow.{OptionRow}
 use Rattle.blk_settings.specs.declared.sched.Sched.{Sched}
 use Rattle.blk_words.specs.declared.words.Refusal.{Refusal}
 use Rattle.blk_words.specs.declared.words.Refusal.TheVariants as refusal
 use Rattle.blk_words.specs.declared.words.ShownLoad.{ShownLoad}
 use Rattle.blk_words.specs.declared.words.Written.TheVariants as written
-use Rattle.blk_words.specs.Asked.{Asks, AsksGrid, unscripted, written_with, grid_read, AreFaulty, NameNone, is_flagged, given_options, loaded, shown_of, load_job, job_made, job_of, job_read}
+use Rattle.blk_words.specs.Asked.{AsksNoGrid, unscripted, written_with, AreFaulty, Asks, is_flagged, loaded, shown_of, load_job, job_made}
 
 simple : (names : Names) → is_simple (blk_app names) ≡ true
 simple names = refl
@@ -55,22 +51,10 @@ both (Some p) name rows e f = let a : name ≡ p.0 = cc e in let b : rows ≡ p.
 pub subcommand_read : (m : ArgMatches) (name : Text) (rows : List Row) → Some name ≡ subcommand_name_of m → Some rows ≡ option_map (λ p. p.1) (subcommand_rows_of m) → subcommand_rows_of m ≡ Some (name, rows)
 subcommand_read m name rows e f = both (subcommand_rows_of m) name rows (e ∙ named m) f
 
--- words that were parsed ask for the job that they name, and are refused where they name none
-pub asks_by : (names : Names) (a : App) (words : List Text) (m : ArgMatches) (j : Job) → AreSchedulers names → a ≡ blk_app names → HasMatchesOf a words m
-    → (is_simple_and_free a ≡ true → fault_of a words ≡ []) → Some j ≡ option_and_then (job_of names) (subcommand_rows_of m) → Asks words j
-asks_by names a words m j are e has kinds is =
-    let h = (rw e at has) (simple names) in
-    let f : fault_of (blk_app names) words ≡ [] = (rw e at kinds) (free names) in
-    let read : option_and_then (job_of names) (subcommand_rows_of m) ≡ job_read names words = ap (option_and_then (job_of names)) {y = subcommand_of (blk_app names) words} h.1 in
-    (names, are, inl (f, sym (is ∙ read)))
-
-pub refused_by : (names : Names) (a : App) (words : List Text) (m : ArgMatches) → AreSchedulers names → a ≡ blk_app names → HasMatchesOf a words m
-    → (is_simple_and_free a ≡ true → fault_of a words ≡ []) → None ≡ option_and_then (job_of names) (subcommand_rows_of m) → NameNone words
-refused_by names a words m are e has kinds is =
-    let h = (rw e at has) (simple names) in
-    let f : fault_of (blk_app names) words ≡ [] = (rw e at kinds) (free names) in
-    let read : option_and_then (job_of names) (subcommand_rows_of m) ≡ job_read names words = ap (option_and_then (job_of names)) {y = subcommand_of (blk_app names) words} h.1 in
-    (names, are, (f, sym (is ∙ read)))
+-- words that were parsed have no fault, and the subcommand that was read is theirs
+pub parsed : (names : Names) (a : App) (words : List Text) (m : ArgMatches) → a ≡ blk_app names → HasMatchesOf a words m → (is_simple_and_free a ≡ true → fault_of a words ≡ [])
+    → (fault_of (blk_app names) words ≡ []) × (subcommand_rows_of m ≡ subcommand_of (blk_app names) words)
+parsed names a words m e has kinds = ((rw e at kinds) (free names), ((rw e at has) (simple names)).1)
 
 among : (names : Names) (a : App) (words : List Text) (error : Error) (k : ErrorKind) → a ≡ blk_app names → (is_simple_and_free a ≡ true → HasKind (fault_of a words) error)
     → k ≡ kind_of error → k ≢ kind.OutOfMemory → IsAmong k (fault_of (blk_app names) words)
@@ -154,71 +138,33 @@ pub not_made : (o : Option Subcommand) (rows : List Row) → None ≡ option_map
 not_made None rows e = refl
 not_made (Some s) rows e = cc e
 
--- a command with options behind others, and with options before others
-pub rules_behind : (x a b : App) (xs ys zs : List Rule) → ys ≡ zs → b ≡ fold with_rule a xs → x ≡ fold with_rule b ys → x ≡ fold with_rule a (xs ++ zs)
-rules_behind x a b xs ys zs e own all =
-    all ∙ ap (λ (y : App). fold with_rule y ys) own ∙ ap (fold with_rule (fold with_rule a xs)) e ∙ sym (fold-append with_rule a xs zs)
-
-pub rules_before : (x a b : App) (xs ys zs : List Rule) → xs ≡ zs → b ≡ fold with_rule a xs → x ≡ fold with_rule b ys → x ≡ fold with_rule a (zs ++ ys)
-rules_before x a b xs ys zs e lists all =
-    all ∙ ap (λ (y : App). fold with_rule y ys) lists ∙ ap (λ (l : List Rule). fold with_rule (fold with_rule a l) ys) e ∙ sym (fold-append with_rule a zs ys)
-
--- the rules of options by their rows
-ruled : (names : Names) (rows : List OptionRow) → map (rule_for names) rows ≡ map (option_rule names) (map option_of rows)
-ruled names [] = refl
-ruled names (row ∷ rows) = ap (λ (l : List Rule). option_rule names (option_of row) ∷ l) (ruled names rows)
-
-pub rules_of : (names : Names) (rows : List OptionRow) (options : List OptionOf) → map option_of rows ≡ options → map (rule_for names) rows ≡ map (option_rule names) options
-rules_of names rows options e = ruled names rows ∙ ap (map (option_rule names)) e
-
--- a command with one subcommand more, and with one rule more
-pub adds_command : (x a b p q : App) → x ≡ with_subcommand a p.top → a ≡ b → p ≡ q → x ≡ with_subcommand b q.top
-adds_command x a b p q e f g = e ∙ ap (λ (y : App). with_subcommand y p.top) f ∙ ap (λ (r : App). with_subcommand b r.top) g
-
-pub adds_rule : (x a b : App) (p q : Rule) → x ≡ with_rule a p → a ≡ b → p ≡ q → x ≡ with_rule b q
-adds_rule x a b p q e f g = e ∙ ap (λ (y : App). with_rule y p) f ∙ ap (λ (r : Rule). with_rule b r) g
-
 -- the command line of the program, by its subcommands
-pub blk_made : (c : Command) (names : Names) (a b : App) (xs ys : List Subcommand) → AreSchedulers names → a ≡ topmost (new_app (codes "blk")) → xs ≡ run_table names → ys ≡ other_table names
-    → b ≡ fold with_one a xs → app_of c ≡ fold with_one b ys → (n : Names) × AreSchedulers n × (app_of c ≡ blk_app n)
-blk_made c names a b xs ys are e f g first second =
-    let base : App = topmost (new_app (codes "blk")) in
-    let own : b ≡ fold with_one base (run_table names) = first ∙ ap (λ (x : App). fold with_one x xs) e ∙ ap (fold with_one base) f in
-    let all : app_of c ≡ fold with_one (fold with_one base (run_table names)) (other_table names) =
-    second ∙ ap (λ (x : App). fold with_one x ys) own ∙ ap (fold with_one (fold with_one base (run_table names))) g in
-    (names, are, all ∙ sym (fold-append with_one base (run_table names) (other_table names)))
+pub blk_made : (names : Names) (a b c : App) (xs ys : List Subcommand) → a ≡ topmost (new_app (codes "blk")) → xs ≡ run_table → ys ≡ other_table → b ≡ fold (with_one names) a xs → c ≡ fold (with_one names) b ys
+    → c ≡ blk_app names
+blk_made names a b c xs ys base e f runs all = all ∙ rw (runs, base, e, f) (sym (fold-append (with_one names) (topmost (new_app (codes "blk"))) run_table other_table))
 
 -- what is found among some and others
-first_or : {X : Type 0} (b : Bool) (x : X) (o p q : Option X) → p ≡ option_or o q → cond b (Some x) p ≡ option_or (cond b (Some x) o) q
-first_or true x o p q e = refl
-first_or false x o p q e = e
-
-find_append : {X : Type 0} (test : X → Bool) (xs ys : List X) → find test (xs ++ ys) ≡ option_or (find test xs) (find test ys)
-find_append test [] ys = refl
-find_append test (x ∷ xs) ys = first_or (test x) x (find test xs) (find test (xs ++ ys)) (find test ys) (find_append test xs ys)
-
 map_or : {X Y : Type 0} (g : X → Y) (o p : Option X) → option_map g (option_or o p) ≡ option_or (option_map g o) (option_map g p)
 map_or g None p = refl
 map_or g (Some x) p = refl
 
 pub named_in : {X Y : Type 0} (g : X → Y) (test : X → Bool) (xs ys : List X) (a b : Option Y) → a ≡ option_map g (find test xs) → b ≡ option_map g (find test ys) → option_or a b ≡ option_map g (find test (xs ++ ys))
 named_in g test xs ys a b e f =
-    ap (λ o. option_or o b) e ∙ ap (option_or (option_map g (find test xs))) f ∙ sym (map_or g (find test xs) (find test ys)) ∙ ap (option_map g) (sym (find_append test xs ys))
+    ap (λ o. option_or o b) e ∙ ap (option_or (option_map g (find test xs))) f ∙ sym (map_or g (find test xs) (find test ys)) ∙ ap (option_map g) (sym (find-append test xs ys))
 
--- words that were parsed ask for the grid of their lists
-pub asks_grid_by : (names : Names) (a : App) (words : List Text) (m : ArgMatches) (g : List Sched) → AreSchedulers names → a ≡ blk_app names → HasMatchesOf a words m
-    → (is_simple_and_free a ≡ true → fault_of a words ≡ []) → option_and_then (λ p. grid_given (given_options p.1)) (subcommand_rows_of m) ≡ Some g → AsksGrid words g
-asks_grid_by names a words m g are e has kinds is =
-    let h = (rw e at has) (simple names) in
-    let f : fault_of (blk_app names) words ≡ [] = (rw e at kinds) (free names) in
-    let read : option_and_then (λ p. grid_given (given_options p.1)) (subcommand_rows_of m) ≡ grid_read names words =
-    ap (option_and_then (λ p. grid_given (given_options p.1))) {y = subcommand_of (blk_app names) words} h.1 in
-    (names, are, f, sym read ∙ is)
+-- words that were not parsed, for another kind of error than out of memory, ask for no grid
+pub faulty_by : (names : Names) (a : App) (words : List Text) (error : Error) (k : ErrorKind) → AreSchedulers names → a ≡ blk_app names
+    → (is_simple_and_free a ≡ true → HasKind (fault_of a words) error) → k ≡ kind_of error → k ≢ kind.OutOfMemory → AsksNoGrid words
+faulty_by names a words error k are e kinds is not = (names, are, inl (λ none. rw none at (among names a words error k e kinds is not)))
 
--- what an Ok is, where it is something else
+-- what an Ok is, and what an Err is, where it is something else
 pub ok_so : {X E : Type 0} (r : Result X E) (P Q : X → Type 0) → ((x : X) → P x → Q x) → IfOk r P → IfOk r Q
 ok_so (Ok x) P Q f h = f x h
 ok_so (Err e) P Q f h = h
+
+pub err_so : {X E : Type 0} (r : Result X E) (P Q : E → Type 0) → ((e : E) → P e → Q e) → IfErr r P → IfErr r Q
+err_so (Ok x) P Q f h = h
+err_so (Err e) P Q f h = f e h
 
 -- a load whose trace and JSON are not both asked for
 pub not_first : (a b : Bool) → a ≡ false → (a && b) ≡ false

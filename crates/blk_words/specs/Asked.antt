@@ -34,7 +34,7 @@ use Rattle.blk_words.specs.declared.words.Written.{Written}
 use Rattle.blk_words.specs.declared.words.Written.TheVariants as written
 use Rattle.blk_words.specs.declared.table.Makes.{Makes}
 use Rattle.blk_words.specs.declared.table.Makes.TheVariants as makes
-use Rattle.blk_words.specs.CommandLine.{Names, AreSchedulers, table, blk_app}
+use Rattle.blk_words.specs.CommandLine.{Names, AreSchedulers, command_table, blk_app}
 use Rattle.blk_words.specs.Options.{json_option, script_option, trace_option, by_option, top_option, threads_option, met_option, each_option, read_expire_option, write_expire_option, from_option, skip_option, first_option, table_option, summary_option, round_option, depth_option, submitters_option, workers_option, bios_option, load_depth_option, busy_option, service_option}
 use Rattle.blk_words.specs.Lists.{list_of}
 use Rattle.blk_words.specs.Times.{MAX_NUMBER, number_in, time_of}
@@ -220,12 +220,12 @@ job_made makes.Judge rows = Some (job.Judge (is_flagged each_option.name rows))
 job_made makes.Load rows = load_given rows
 
 -- the job of the subcommand of a name, by what its options are given
-abbrev pub job_of : Names → Text × List Row → Option Job
-job_of names p = option_and_then (λ s. job_made s.makes p.1) (find (λ s. bytes_eq p.0 s.name) (table names))
+abbrev pub job_of : Text × List Row → Option Job
+job_of p = option_and_then (λ s. job_made s.makes p.1) (find (λ s. bytes_eq p.0 s.name) command_table)
 
 -- the job that the command line reads in words
 abbrev pub job_read : Names → List Text → Option Job
-job_read names words = option_and_then (job_of names) (subcommand_of (blk_app names) words)
+job_read names words = option_and_then job_of (subcommand_of (blk_app names) words)
 
 -- the command line takes the words for this job, or they ask for the version
 abbrev pub TakesFor : Names → List Text → Job → Type 0
@@ -268,3 +268,7 @@ grid_read names words = grid_behind (subcommand_of (blk_app names) words)
 -- the words ask for a trial of this grid, whose lists are those of their options, or else those of the whole grid
 abbrev pub AsksGrid : List Text → List Sched → Type 0
 AsksGrid words g = (names : Names) × AreSchedulers names × (fault_of (blk_app names) words ≡ []) × (grid_read names words ≡ Some g)
+
+-- they ask for none: they have a fault, or the command line reads no grid in them
+abbrev pub AsksNoGrid : List Text → Type 0
+AsksNoGrid words = (names : Names) × AreSchedulers names × ((fault_of (blk_app names) words ≢ []) ⊎ (grid_read names words ≡ None))

@@ -6,7 +6,7 @@ use Rattle.clap.specs.declared.builder.ArgAction.TheVariants.{Set, SetTrue}
 use Rattle.clap.specs.declared.builder.value_parser.ValueParser.{ValueParser}
 use Rattle.clap.specs.declared.builder.value_parser.ValueParser.TheVariants as vp
 use Rattle.blk_settings.specs.declared.given.TheConstants.{MAX_SHORT}
-use Rattle.blk_settings.specs.Options.{OptionKind, Flag, Name, Short, Number, MaybeNumber, Words, MaybeWords, OptionOf, sched_names, sched_option, added_option, tuning, listing}
+use Rattle.blk_settings.specs.Options.{OptionKind, Flag, Name, Short, Number, MaybeNumber, Words, MaybeWords, OptionOf, sched_names, sched_option, flags, tuning, listing}
 use Rattle.blk_settings.specs.declared.figures.FiguresAsked.{FiguresAsked}
 use Rattle.blk_settings.specs.declared.figures.FiguresAsked.TheVariants as figures
 use Rattle.blk_words.specs.declared.inputs.Telling.TheVariants as telling
@@ -62,30 +62,22 @@ kind_rule names name MaybeWords = maybe_text_rule name
 abbrev pub option_rule : Names → OptionOf → Rule
 option_rule names o = kind_rule names o.name o.kind
 
--- the options that set schedulers
-abbrev pub tuning_rules : Names → List Rule
-tuning_rules names = map (option_rule names) tuning
-
--- those that list which schedulers are tried
-abbrev pub listing_rules : Names → List Rule
-listing_rules names = map (option_rule names) listing
-
 -- a subcommand: its name, its options, and what these make
 pub record Subcommand : Type 0 where
   pub name : Text
-  pub rules : List Rule
+  pub options : List OptionOf
   pub makes : Makes
 
 -- one with these options, and one without any
-abbrev pub taking : Names → Text → List OptionOf → Makes → Subcommand
-taking names name options m = record { name = name; rules = map (option_rule names) options; makes = m }
+abbrev pub taking : Text → List OptionOf → Makes → Subcommand
+taking name options m = record { name = name; options = options; makes = m }
 
 abbrev pub plain : Text → Makes → Subcommand
-plain name m = record { name = name; rules = []; makes = m }
+plain name m = taking name [] m
 
 -- one over a trace, whose one option is the flag that asks for JSON
-abbrev pub formed : Names → Text → FiguresAsked → Subcommand
-formed names name k = taking names name (json_option ∷ []) (makes.Formed k)
+abbrev pub formed : Text → FiguresAsked → Subcommand
+formed name k = taking name (json_option ∷ []) (makes.Formed k)
 
 -- how the rows of a trial are put in order, how many are written, and how many runs go side by side
 abbrev pub trying : List OptionOf
@@ -102,45 +94,48 @@ abbrev pub amount_options : List OptionOf
 amount_options = submitters_option ∷ workers_option ∷ bios_option ∷ load_depth_option ∷ busy_option ∷ service_option ∷ []
 
 -- the subcommands over scripts and over traces
-abbrev pub run_table : Names → List Subcommand
-run_table names =
-    taking names (codes "sim") (sched_option ∷ tuning) makes.Sim
-    ∷ taking names (codes "compare") (added_option ∷ json_option ∷ tuning) makes.Compare
-    ∷ taking names (codes "tune") (listing ++ trying) makes.Tune
+abbrev pub run_table : List Subcommand
+run_table =
+    taking (codes "sim") (sched_option ∷ tuning) makes.Sim
+    ∷ taking (codes "compare") (flags ++ json_option ∷ tuning) makes.Compare
+    ∷ taking (codes "tune") (listing ++ trying) makes.Tune
     ∷ plain (codes "migrate") (makes.Told telling.Whole)
     ∷ plain (codes "commands") (makes.Told telling.Commands)
-    ∷ formed names (codes "late") figures.Late
-    ∷ formed names (codes "misses") figures.Misses
-    ∷ formed names (codes "spread") figures.Spread
-    ∷ taking names (codes "picture") (script_option ∷ added_option ∷ tuning) makes.Picture
+    ∷ formed (codes "late") figures.Late
+    ∷ formed (codes "misses") figures.Misses
+    ∷ formed (codes "spread") figures.Spread
+    ∷ taking (codes "picture") (script_option ∷ (flags ++ tuning)) makes.Picture
     ∷ []
 
 -- the others: over command lists and certificates, over captures and schedules, over texts of any form, and over the running layer
-abbrev pub other_table : Names → List Subcommand
-other_table names =
-    taking names (codes "oracle") (trace_option ∷ met_option ∷ json_option ∷ []) makes.Oracle
-    ∷ taking names (codes "check") (json_option ∷ []) makes.Check
-    ∷ taking names (codes "import") importing makes.Import
-    ∷ taking names (codes "judge") (each_option ∷ []) makes.Judge
+abbrev pub other_table : List Subcommand
+other_table =
+    taking (codes "oracle") (trace_option ∷ met_option ∷ json_option ∷ []) makes.Oracle
+    ∷ taking (codes "check") (json_option ∷ []) makes.Check
+    ∷ taking (codes "import") importing makes.Import
+    ∷ taking (codes "judge") (each_option ∷ []) makes.Judge
     ∷ plain (codes "explain") makes.Explain
-    ∷ taking names (codes "load") (sched_option ∷ trace_option ∷ json_option ∷ (amount_options ++ tuning)) makes.Load
+    ∷ taking (codes "load") (sched_option ∷ trace_option ∷ json_option ∷ (amount_options ++ tuning)) makes.Load
     ∷ []
 
 -- all of them
-abbrev pub table : Names → List Subcommand
-table names = run_table names ++ other_table names
+abbrev pub command_table : List Subcommand
+command_table = run_table ++ other_table
 
 -- a command with a version, which wants a subcommand
 abbrev pub topmost : App → App
 topmost a = record a { top = record a.top { has_version = true; subcommand_required = true } }
 
--- a subcommand as a command of its own, and a command with it
-abbrev pub app_for : Subcommand → App
-app_for s = fold with_rule (new_app s.name) s.rules
+-- a command with one option more, a subcommand as a command of its own, and a command with one more of these
+abbrev pub with_option : Names → App → OptionOf → App
+with_option names a o = with_rule a (option_rule names o)
 
-abbrev pub with_one : App → Subcommand → App
-with_one a s = with_subcommand a (app_for s).top
+abbrev pub app_for : Names → Subcommand → App
+app_for names s = fold (with_option names) (new_app s.name) s.options
+
+abbrev pub with_one : Names → App → Subcommand → App
+with_one names a s = with_subcommand a (app_for names s).top
 
 -- the command and its subcommands
 abbrev pub blk_app : Names → App
-blk_app names = fold with_one (topmost (new_app (codes "blk"))) (table names)
+blk_app names = fold (with_one names) (topmost (new_app (codes "blk"))) command_table

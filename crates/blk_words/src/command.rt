@@ -1,27 +1,31 @@
 //! The command line as clap has it, made of the table.
 
 ghost use Rattle.std.specs.Prelude.{◌≡◌, false, fold, map, IfOk};
-ghost use Rattle.clap.specs.Words.{app_of, rule_of, with_rule};
+ghost use Rattle.clap.specs.Words.{app_of, rule_of};
 ghost use Rattle.clap.specs.declared.builder.command.Command.TheViews.{out-Command as fields_of};
-ghost use Rattle.blk_words.specs.CommandLine.{Names, AreSchedulers, app_for, with_one, run_table, other_table, blk_app};
-ghost use Rattle.blk_words.specs.Inside.Tables.{rule_for, subcommand_of};
+ghost use Rattle.blk_settings.specs.Options.{option_of, tried_names};
+ghost use Rattle.blk_words.specs.CommandLine.{Names, AreSchedulers, option_rule, with_option, app_for, with_one, run_table, other_table, blk_app};
+ghost use Rattle.blk_words.specs.Inside.Tables.{options_in, subcommand_of};
 
-use crate::table::{CommandRow, OTHER_COMMANDS, OfScheds, RUN_COMMANDS};
+use crate::table::{CommandRow, OTHER_COMMANDS, Part, RUN_COMMANDS};
 use crate::words::VERSION;
-use blk_settings::options::{OptionRow, Takes, list_options, scheduler_names, tuning_options};
+use blk_settings::options::{OptionRow, Takes, flag_options, list_options, tuning_options};
 use clap::builder::ValueParser;
 use clap::{Arg, ArgAction, Command, value_parser};
 use std::alloc::{AllocError, Global};
 
-/// The names that an option may take.
+/// The names of the schedulers, which the command line borrows.
 #[derive(Clone, Copy)]
-struct Among<'a> {
-    names: &'a [&'a str],
+struct SchedNames<'a> {
+    /// Those that an option may take.
+    all: &'a [&'a str],
+    /// Those in the order of trials, with commas between.
+    tried: &'a str,
 }
 
 /// The argument of an option.
-fn option_arg<'a>(alloc: Global, row: OptionRow, among: Among<'a>) -> Arg<'a>
-    ensures rule { rule_of result ≡ rule_for among.entry.names row }
+fn option_arg<'a, 'b: 'a>(alloc: Global, row: OptionRow<'b>, names: SchedNames<'a>) -> Arg<'a>
+    ensures rule { rule_of result ≡ option_rule names.entry.all (option_of row.entry) }
     ensures local { result.global ≡ false }
 {
     let bare = Arg::new(alloc, row.name).long(row.name).help(row.help);
@@ -29,7 +33,7 @@ fn option_arg<'a>(alloc: Global, row: OptionRow, among: Among<'a>) -> Arg<'a>
         Takes::Nothing => bare.action(ArgAction::SetTrue),
         Takes::Sched(default) => bare
             .action(ArgAction::Set)
-            .value_parser(among.names)
+            .value_parser(names.all)
             .default_value(default),
         Takes::Short(default) => bare
             .action(ArgAction::Set)
@@ -53,48 +57,61 @@ fn option_arg<'a>(alloc: Global, row: OptionRow, among: Among<'a>) -> Arg<'a>
 }
 
 /// A command with these options too.
-fn with_options<'a>(
+fn with_options<'a, 'b: 'a>(
     alloc: Global,
     command: Command<'a>,
-    rows: &[OptionRow],
-    among: Among<'a>,
+    rows: &[OptionRow<'b>],
+    names: SchedNames<'a>,
 ) -> Result<Command<'a>, AllocError>
     requires { (fields_of command).has_globals ≡ false }
-    ensures app { IfOk result (λ c. app_of c ≡ fold with_rule (app_of command.entry) (map (rule_for among.entry.names) rows.now)) }
+    ensures app { IfOk result (λ c. app_of c ≡ fold (with_option names.entry.all) (app_of command.entry) (map option_of rows.now)) }
     ensures local { IfOk result (λ c. (fields_of c).has_globals ≡ false) }
 {
     let mut grown = command;
-    for i in 0..rows.len() {
-        grown = grown.arg(option_arg(alloc, rows[i], among))?;
+    for row in rows {
+        grown = grown.arg(option_arg(alloc, *row, names))?;
     }
     Ok(grown)
+}
+
+/// A command with the options of a part too.
+fn with_part<'a>(
+    alloc: Global,
+    command: Command<'a>,
+    part: Part,
+    names: SchedNames<'a>,
+) -> Result<Command<'a>, AllocError>
+    requires local { (fields_of command).has_globals ≡ false }
+    requires tried { names.tried.now ≡ tried_names }
+    ensures app { IfOk result (λ c. app_of c ≡ fold (with_option names.entry.all) (app_of command.entry) (options_in part)) }
+    ensures local { IfOk result (λ c. (fields_of c).has_globals ≡ false) }
+{
+    match part {
+        Part::Own(row) => with_options(alloc, command, &[row], names),
+        Part::Flags => with_options(alloc, command, flag_options(alloc)?.as_slice(), names),
+        Part::Settings => with_options(alloc, command, tuning_options(alloc)?.as_slice(), names),
+        Part::Lists => {
+            let rows = list_options(alloc, names.tried)?;
+            with_options(alloc, command, rows.as_slice(), names)
+        }
+    }
 }
 
 /// A subcommand with its options.
 fn command_of<'a>(
     alloc: Global,
     row: &'a CommandRow,
-    among: Among<'a>,
+    names: SchedNames<'a>,
 ) -> Result<Command<'a>, AllocError>
-    ensures app { IfOk result (λ c. app_of c ≡ app_for (subcommand_of among.entry.names row.now)) }
+    requires { names.tried.now ≡ tried_names }
+    ensures app { IfOk result (λ c. app_of c ≡ app_for names.entry.all (subcommand_of row.now)) }
     ensures local { IfOk result (λ c. (fields_of c).has_globals ≡ false) }
 {
-    let bare = Command::new(alloc, row.name).about(row.about);
-    match row.of_scheds {
-        OfScheds::None => with_options(alloc, bare, row.options, among),
-        OfScheds::Settings => {
-            let tuning = tuning_options(alloc)?;
-            let own = with_options(alloc, bare, row.options, among)?;
-            let all = with_options(alloc, own, tuning.as_slice(), among)?;
-            Ok(all)
-        }
-        OfScheds::Lists => {
-            let listing = list_options(alloc)?;
-            let lists = with_options(alloc, bare, listing.as_slice(), among)?;
-            let all = with_options(alloc, lists, row.options, among)?;
-            Ok(all)
-        }
+    let mut grown = Command::new(alloc, row.name).about(row.about);
+    for part in row.options {
+        grown = with_part(alloc, grown, *part, names)?;
     }
+    Ok(grown)
 }
 
 /// A command with these subcommands too.
@@ -102,43 +119,48 @@ fn with_commands<'a>(
     alloc: Global,
     command: Command<'a>,
     rows: &'a [CommandRow],
-    among: Among<'a>,
+    names: SchedNames<'a>,
 ) -> Result<Command<'a>, AllocError>
-    ensures { IfOk result (λ c. app_of c ≡ fold with_one (app_of command.entry) (map (subcommand_of among.entry.names) rows.now)) }
+    requires { names.tried.now ≡ tried_names }
+    ensures { IfOk result (λ c. app_of c ≡ fold (with_one names.entry.all) (app_of command.entry) (map subcommand_of rows.now)) }
 {
     let mut grown = command;
-    for i in 0..rows.len() {
-        grown = grown.subcommand(command_of(alloc, &rows[i], among)?)?;
+    for row in rows {
+        grown = grown.subcommand(command_of(alloc, row, names)?)?;
     }
     Ok(grown)
 }
 
 /// The rows of the subcommands over scripts and over traces.
 pub fn run_commands() -> &'static [CommandRow]
-    ensures { (names : Names) → map (subcommand_of names) result.now ≡ run_table names }
+    ensures { map subcommand_of result.now ≡ run_table }
 {
     RUN_COMMANDS.as_slice()
 }
 
 /// Those of the others.
 pub fn other_commands() -> &'static [CommandRow]
-    ensures { (names : Names) → map (subcommand_of names) result.now ≡ other_table names }
+    ensures { map subcommand_of result.now ≡ other_table }
 {
     OTHER_COMMANDS.as_slice()
 }
 
-/// The command line of the program.
-pub fn blk_command<'a>(alloc: Global) -> Result<Command<'a>, AllocError>
+/// The command line of the program, which borrows the names of the schedulers, and those in the order of trials, with commas between.
+pub fn blk_command<'a>(
+    alloc: Global,
+    names: &'a [&'static str],
+    tried: &'a str,
+) -> Result<Command<'a>, AllocError>
+    requires names { AreSchedulers names }
+    requires tried { tried.now ≡ tried_names }
     ensures { IfOk result (λ c. (names : Names) × AreSchedulers names × (app_of c ≡ blk_app names)) }
 {
     let blk = Command::new(alloc, "blk")
         .version(VERSION)
         .about("A multiqueue block layer, and how far its schedules fall short of the best")
         .subcommand_required(true);
-    let among = Among {
-        names: scheduler_names(),
-    };
-    let runs = with_commands(alloc, blk, run_commands(), among)?;
-    let all = with_commands(alloc, runs, other_commands(), among)?;
+    let borrowed = SchedNames { all: names, tried };
+    let runs = with_commands(alloc, blk, run_commands(), borrowed)?;
+    let all = with_commands(alloc, runs, other_commands(), borrowed)?;
     Ok(all)
 }

@@ -13,6 +13,6 @@ pub mod words;
 
 pub use crate::inputs::{Running, Solving, Telling};
 pub use crate::words::{
-    Import, Job, NoJob, Refusal, ShownLoad, Tuning, VERSION, Written, choose, grid_asked,
+    Import, Job, NoGrid, NoJob, Refusal, ShownLoad, Tuning, VERSION, Written, choose, grid_asked,
 };
 pub use blk_settings::{FiguresAsked, Form};

@@ -6,7 +6,7 @@ use blk_settings::FiguresAsked;
 use blk_settings::numbers::{
     MAX_LOAD_BIOS, MAX_LOAD_DEPTH, MAX_LOAD_SERVICE, MAX_LOAD_SUBMITTERS, MAX_LOAD_WORKERS,
 };
-use blk_settings::options::{ADDED, OptionRow, SCHED, Takes};
+use blk_settings::options::{OptionRow, SCHED, Takes};
 use edd_commands::{MAX_COMMANDS, MAX_DEPTH};
 
 /// The greatest number of `--busy`.
@@ -50,14 +50,16 @@ pub enum Makes {
     Load,
 }
 
-/// Which options of the schedulers a subcommand has beside its own.
+/// A part of a subcommand's options.
 #[derive(Clone, Copy)]
-pub enum OfScheds {
-    /// None.
-    None,
-    /// Those that set the schedulers, behind its own.
+pub enum Part {
+    /// An option of its own.
+    Own(OptionRow<'static>),
+    /// The flags of the schedulers that have one.
+    Flags,
+    /// The options that set the schedulers.
     Settings,
-    /// Those that list which schedulers are tried, and under which settings, before its own.
+    /// The options that list which schedulers are tried, and under which settings.
     Lists,
 }
 
@@ -68,16 +70,14 @@ pub struct CommandRow {
     pub name: &'static str,
     /// What help says of it.
     pub about: &'static str,
-    /// Its own options.
-    pub options: &'static [OptionRow],
-    /// Which options of the schedulers there are beside them.
-    pub of_scheds: OfScheds,
+    /// Its options, in the order in which help shows them.
+    pub options: &'static [Part],
     /// What its options make.
     pub makes: Makes,
 }
 
 /// The option that asks for JSON.
-const JSON: OptionRow = OptionRow {
+const JSON: OptionRow<'static> = OptionRow {
     name: option_names::JSON,
     takes: Takes::Nothing,
     help: "Writes it as JSON",
@@ -88,88 +88,81 @@ pub static RUN_COMMANDS: [CommandRow; 9] = [
     CommandRow {
         name: "sim",
         about: "Runs a script and writes its trace",
-        options: &[SCHED],
-        of_scheds: OfScheds::Settings,
+        options: &[Part::Own(SCHED), Part::Settings],
         makes: Makes::Sim,
     },
     CommandRow {
         name: "compare",
         about: "Runs a script under each scheduler, and writes how late each was and had to be",
-        options: &[ADDED, JSON],
-        of_scheds: OfScheds::Settings,
+        options: &[Part::Flags, Part::Own(JSON), Part::Settings],
         makes: Makes::Compare,
     },
     CommandRow {
         name: "tune",
         about: "Runs a script under each of many settings, and writes a table of them, the best first",
         options: &[
-            OptionRow {
+            Part::Lists,
+            Part::Own(OptionRow {
                 name: option_names::BY,
                 takes: Takes::Text("misses"),
                 help: "What the best has least of: misses, late commands that could have been on time; lateness, how much later than it had to be the latest was",
-            },
-            OptionRow {
+            }),
+            Part::Own(OptionRow {
                 name: option_names::TOP,
                 takes: Takes::Maybe(1, MAX_TOP),
                 help: "Writes only so many rows, the best ones; without it, all",
-            },
-            OptionRow {
+            }),
+            Part::Own(OptionRow {
                 name: option_names::THREADS,
                 takes: Takes::Maybe(1, MAX_THREADS),
                 help: "How many runs go side by side; without it, as many as there are processors, 16 at most",
-            },
-            JSON,
+            }),
+            Part::Own(JSON),
         ],
-        of_scheds: OfScheds::Lists,
         makes: Makes::Tune,
     },
     CommandRow {
         name: "migrate",
         about: "Writes a trace in the latest version",
         options: &[],
-        of_scheds: OfScheds::None,
         makes: Makes::Told(Telling::Whole),
     },
     CommandRow {
         name: "commands",
         about: "Writes the command list of a trace",
         options: &[],
-        of_scheds: OfScheds::None,
         makes: Makes::Told(Telling::Commands),
     },
     CommandRow {
         name: "late",
         about: "Writes which commands of a trace were late, and what went before them",
-        options: &[JSON],
-        of_scheds: OfScheds::None,
+        options: &[Part::Own(JSON)],
         makes: Makes::Formed(FiguresAsked::Late),
     },
     CommandRow {
         name: "misses",
         about: "Writes how many commands of a trace were late, and how many had to be",
-        options: &[JSON],
-        of_scheds: OfScheds::None,
+        options: &[Part::Own(JSON)],
         makes: Makes::Formed(FiguresAsked::Misses),
     },
     CommandRow {
         name: "spread",
         about: "Writes how long the commands of a trace waited and how late they were, by quantiles",
-        options: &[JSON],
-        of_scheds: OfScheds::None,
+        options: &[Part::Own(JSON)],
         makes: Makes::Formed(FiguresAsked::Spread),
     },
     CommandRow {
         name: "picture",
         about: "Draws a trace as an SVG picture: its commands by round and tag, what waited, and which were late",
         options: &[
-            OptionRow {
+            Part::Own(OptionRow {
                 name: option_names::SCRIPT,
                 takes: Takes::Nothing,
                 help: "Reads a script instead, and draws its trace under each scheduler, one below the other",
-            },
-            ADDED,
+            }),
+            Part::Flags,
+            Part::Settings,
         ],
-        of_scheds: OfScheds::Settings,
         makes: Makes::Picture,
     },
 ];
@@ -180,151 +173,146 @@ pub static OTHER_COMMANDS: [CommandRow; 6] = [
         name: "oracle",
         about: "Writes a least schedule of a command list, with its certificate",
         options: &[
-            OptionRow {
+            Part::Own(OptionRow {
                 name: option_names::TRACE,
                 takes: Takes::Nothing,
                 help: "Reads a trace instead, and writes how late it was and had to be",
-            },
-            OptionRow {
+            }),
+            Part::Own(OptionRow {
                 name: option_names::MET,
                 takes: Takes::Nothing,
                 help: "Writes how many commands can be met, with its certificate",
-            },
-            OptionRow {
+            }),
+            Part::Own(OptionRow {
                 name: option_names::JSON,
                 takes: Takes::Nothing,
                 help: "With --trace, writes it as JSON",
-            },
+            }),
         ],
-        of_scheds: OfScheds::None,
         makes: Makes::Oracle,
     },
     CommandRow {
         name: "check",
         about: "Checks a certificate",
-        options: &[JSON],
-        of_scheds: OfScheds::None,
+        options: &[Part::Own(JSON)],
         makes: Makes::Check,
     },
     CommandRow {
         name: "import",
         about: "Reads a capture of a machine's requests, and writes their schedule",
         options: &[
-            OptionRow {
+            Part::Own(OptionRow {
                 name: option_names::READ_EXPIRE,
                 takes: Takes::Text("500ms"),
                 help: "How long after it came in a read is due: a number with ns, us, ms or s",
-            },
-            OptionRow {
+            }),
+            Part::Own(OptionRow {
                 name: option_names::WRITE_EXPIRE,
                 takes: Takes::Text("5s"),
                 help: "How long after it came in a write is due",
-            },
-            OptionRow {
+            }),
+            Part::Own(OptionRow {
                 name: option_names::FROM,
                 takes: Takes::Text("insert"),
                 help: "When a request came in: insert, when it was inserted into the scheduler; queue, when its first bio was queued",
-            },
-            OptionRow {
+            }),
+            Part::Own(OptionRow {
                 name: option_names::SKIP,
                 takes: Takes::Text("0s"),
                 help: "Leaves out what went out sooner than so long after the first record",
-            },
-            OptionRow {
+            }),
+            Part::Own(OptionRow {
                 name: option_names::FIRST,
                 takes: Takes::Maybe(1, MAX_FIRST),
                 help: "Takes only so many requests, those that went out first; without it, all",
-            },
-            OptionRow {
+            }),
+            Part::Own(OptionRow {
                 name: option_names::TABLE,
                 takes: Takes::Nothing,
                 help: "Writes a record for each request instead, with its times",
-            },
-            OptionRow {
+            }),
+            Part::Own(OptionRow {
                 name: option_names::SUMMARY,
                 takes: Takes::Nothing,
                 help: "Writes the capture in numbers instead",
-            },
-            OptionRow {
+            }),
+            Part::Own(OptionRow {
                 name: option_names::SCRIPT,
                 takes: Takes::Nothing,
                 help: "Writes the bios that came in as a script instead, to be run by sim and compare; needs --round",
-            },
-            OptionRow {
+            }),
+            Part::Own(OptionRow {
                 name: option_names::ROUND,
                 takes: Takes::MaybeText,
                 help: "How long a round of the script is",
-            },
-            OptionRow {
+            }),
+            Part::Own(OptionRow {
                 name: option_names::DEPTH,
                 takes: Takes::Maybe(1, MAX_DEPTH),
                 help: "How many commands a round of the script carries; without it, 64",
-            },
+            }),
         ],
-        of_scheds: OfScheds::None,
         makes: Makes::Import,
     },
     CommandRow {
         name: "judge",
         about: "Judges a schedule: how many commands were late, how late the latest was, and what had to be",
-        options: &[OptionRow {
+        options: &[Part::Own(OptionRow {
             name: option_names::EACH,
             takes: Takes::Nothing,
             help: "Writes each late command instead, and why it was late",
-        }],
-        of_scheds: OfScheds::None,
+        })],
         makes: Makes::Judge,
     },
     CommandRow {
         name: "explain",
         about: "Tells what a text is, or which record breaks which rule, and what was expected there",
         options: &[],
-        of_scheds: OfScheds::None,
         makes: Makes::Explain,
     },
     CommandRow {
         name: "load",
         about: "Runs a load of threads on a layer, and writes how many bios were accepted, served and left",
         options: &[
-            SCHED,
-            OptionRow {
+            Part::Own(SCHED),
+            Part::Own(OptionRow {
                 name: option_names::TRACE,
                 takes: Takes::Nothing,
                 help: "Writes the trace of what the layer did instead",
-            },
-            JSON,
-            OptionRow {
+            }),
+            Part::Own(JSON),
+            Part::Own(OptionRow {
                 name: option_names::SUBMITTERS,
                 takes: Takes::Number(1, MAX_LOAD_SUBMITTERS, "2"),
                 help: "How many threads submit",
-            },
-            OptionRow {
+            }),
+            Part::Own(OptionRow {
                 name: option_names::WORKERS,
                 takes: Takes::Number(1, MAX_LOAD_WORKERS, "2"),
                 help: "How many threads issue commands and run them",
-            },
-            OptionRow {
+            }),
+            Part::Own(OptionRow {
                 name: option_names::BIOS,
                 takes: Takes::Number(1, MAX_LOAD_BIOS, "1000"),
                 help: "How many bios each submitter has",
-            },
-            OptionRow {
+            }),
+            Part::Own(OptionRow {
                 name: option_names::DEPTH,
                 takes: Takes::Number(1, MAX_LOAD_DEPTH, "8"),
                 help: "How many tags there are",
-            },
-            OptionRow {
+            }),
+            Part::Own(OptionRow {
                 name: option_names::BUSY,
                 takes: Takes::Maybe(2, MAX_BUSY),
                 help: "Lets each worker's device hand every so many-th command back; without it, none",
-            },
-            OptionRow {
+            }),
+            Part::Own(OptionRow {
                 name: option_names::SERVICE,
                 takes: Takes::Number(0, MAX_LOAD_SERVICE, "0"),
                 help: "How many microseconds each device takes for a command",
-            },
+            }),
+            Part::Settings,
         ],
-        of_scheds: OfScheds::Settings,
         makes: Makes::Load,
     },
 ];

@@ -1,11 +1,12 @@
 //! The words of the command line, as a job.
 
-ghost use Rattle.std.specs.Prelude.{◌≡◌, ◌≤◌, map, All, IfOk, IfErr, IfSome, Some, option_map, option_and_then, string_bytes};
+ghost use Rattle.std.specs.Prelude.{◌≡◌, ◌≤◌, map, All, IfOk, IfErr, IfSome, Some, None, option_map, option_and_then, string_bytes};
 ghost use Rattle.std.specs.Option.{option_or};
 ghost use Rattle.clap.specs.Words.{subcommand_rows_of};
-ghost use Rattle.blk_words.specs.CommandLine.{Names, table as all_commands};
+ghost use Rattle.blk_settings.specs.Grids.{grid_given};
+ghost use Rattle.blk_words.specs.CommandLine.{command_table};
 ghost use Rattle.blk_words.specs.Inside.Tables.{subcommand_of, makes_among};
-ghost use Rattle.blk_words.specs.Asked.{Asks, AsksGrid, IsNoJob, list_given, by_named, by_given, tune_job, short_given, number_given, is_flagged, given_options, sched_asked, lineup_asked, compared, pictured, amounts_of, shown_of, loaded, load_given, form_by, form_asked, time_given, entry_named, from_given, round_by, round_given, script_asked, unscripted, written_of, takes_all, import_of, import_job, oracle_given, job_made, job_of};
+ghost use Rattle.blk_words.specs.Asked.{Asks, AsksGrid, AsksNoGrid, IsNoJob, list_given, by_named, by_given, tune_job, short_given, number_given, is_flagged, given_options, sched_asked, lineup_asked, compared, pictured, amounts_of, shown_of, loaded, load_given, form_by, form_asked, time_given, entry_named, from_given, round_by, round_given, script_asked, unscripted, written_of, takes_all, import_of, import_job, oracle_given, job_made, job_of};
 ghost use Rattle.blk_words.specs.Options.{script_option};
 ghost use Rattle.blk_words.specs.Refusals.{refusal_text};
 ghost use Rattle.blk_words.specs.Inside.Options.{given};
@@ -18,10 +19,11 @@ use crate::table::{CommandRow, Makes};
 use crate::times::time_of;
 use blk_settings::given::Numbers;
 use blk_settings::grid::grid_given;
-use blk_settings::{By, FiguresAsked, Form, Given, Lineup, ListFault, Load, Sched};
+use blk_settings::options::{scheduler_names, tried_names};
+use blk_settings::{By, FiguresAsked, Form, Given, GridFault, Lineup, ListFault, Load, Sched};
 use clap::ArgMatches;
 use clap::error::ErrorKind;
-use std::alloc::{AllocError, Global};
+use std::alloc::Global;
 
 /// The version of the program.
 pub const VERSION: &str = "1.0.0";
@@ -179,6 +181,15 @@ pub enum NoJob {
     /// The words are no command line of the program, or ask for its help: what clap says of them.
     Usage(String),
     /// They are taken and name no job: flags exclude one another, those of `oracle --trace --met`.
+    Nothing,
+}
+
+/// Why there is no grid.
+#[derive(Clone, Copy, Debug, PartialEq, Eq)]
+pub enum NoGrid {
+    /// Memory ran out.
+    Memory,
+    /// The words ask for none: they are no command line of the program, or an option that lists what is tried is given no list.
     Nothing,
 }
 
@@ -590,7 +601,7 @@ fn job_made(makes: Makes, options: &ArgMatches<'_>) -> Option<Job>
 
 /// What the subcommand of this name makes of its options.
 fn makes_of(name: &str, rows: &[CommandRow]) -> Option<Makes>
-    ensures { (names : Names) → result ≡ makes_among name.now (map (subcommand_of names) rows.now) }
+    ensures { result ≡ makes_among name.now (map subcommand_of rows.now) }
 {
     for i in 0..rows.len() {
         if name == rows[i].name {
@@ -609,7 +620,7 @@ fn first_of(first: Option<Makes>, second: Option<Makes>) -> Option<Makes>
 
 /// The same of all subcommands.
 fn makes_named(name: &str) -> Option<Makes>
-    ensures { (names : Names) → result ≡ makes_among name.now (all_commands names) }
+    ensures { result ≡ makes_among name.now command_table }
 {
     let first = makes_of(name, run_commands());
     let second = makes_of(name, other_commands());
@@ -618,7 +629,7 @@ fn makes_named(name: &str) -> Option<Makes>
 
 /// The job of the subcommand that was read.
 fn job_of(matches: &ArgMatches<'_>) -> Option<Job>
-    ensures { (names : Names) → result ≡ option_and_then (job_of names) (subcommand_rows_of matches.now) }
+    ensures { result ≡ option_and_then job_of (subcommand_rows_of matches.now) }
 {
     let (name, options) = matches.subcommand()?;
     let makes = makes_named(name)?;
@@ -630,7 +641,13 @@ pub fn choose(alloc: Global, words: &[String]) -> Result<Job, NoJob>
     ensures asked { IfOk result (Asks (map string_bytes words.now)) }
     ensures refused { IfErr result (IsNoJob (map string_bytes words.now)) }
 {
-    let Ok(command) = blk_command(alloc) else {
+    let Ok(names) = scheduler_names(alloc) else {
+        return Err(NoJob::Memory);
+    };
+    let Ok(tried) = tried_names(alloc) else {
+        return Err(NoJob::Memory);
+    };
+    let Ok(command) = blk_command(alloc, names.as_slice(), tried.as_str()) else {
         return Err(NoJob::Memory);
     };
     match command.try_get_matches_from(words) {
@@ -649,17 +666,40 @@ pub fn choose(alloc: Global, words: &[String]) -> Result<Job, NoJob>
     }
 }
 
-/// The grid that the words of a trial ask for, which are read once more. [`AllocError`] where memory ran out, and where the words ask for no
-/// trial: `choose` says whether they do.
-pub fn grid_asked(alloc: Global, words: &[String]) -> Result<Vec<Sched>, AllocError>
-    ensures { IfOk result (λ g. AsksGrid (map string_bytes words.now) g.items) }
+/// The grid that the options of `tune` ask for.
+fn grid_of(alloc: Global, options: &ArgMatches<'_>) -> Result<Vec<Sched>, NoGrid>
+    ensures grid { IfOk result (λ g. grid_given (given_options (given options.now)) ≡ Some g.items) }
+    ensures none { IfErr result (λ n. n ≡ NoGrid.Nothing → grid_given (given_options (given options.now)) ≡ None) }
 {
-    let command = blk_command(alloc)?;
+    match grid_given(alloc, &MatchedOptions { matches: options }) {
+        Ok(grid) => Ok(grid),
+        Err(GridFault::List(_)) => Err(NoGrid::Nothing),
+        Err(GridFault::Memory) => Err(NoGrid::Memory),
+    }
+}
+
+/// The grid that the words of a trial ask for, which are read once more.
+pub fn grid_asked(alloc: Global, words: &[String]) -> Result<Vec<Sched>, NoGrid>
+    ensures asked { IfOk result (λ g. AsksGrid (map string_bytes words.now) g.items) }
+    ensures none { IfErr result (λ n. n ≡ NoGrid.Nothing → AsksNoGrid (map string_bytes words.now)) }
+{
+    let Ok(names) = scheduler_names(alloc) else {
+        return Err(NoGrid::Memory);
+    };
+    let Ok(tried) = tried_names(alloc) else {
+        return Err(NoGrid::Memory);
+    };
+    let Ok(command) = blk_command(alloc, names.as_slice(), tried.as_str()) else {
+        return Err(NoGrid::Memory);
+    };
     match command.try_get_matches_from(words) {
         Ok(matches) => match matches.subcommand() {
-            Some((_, options)) => grid_given(alloc, &MatchedOptions { matches: options }),
-            None => Err(AllocError),
+            Some((_, options)) => grid_of(alloc, options),
+            None => Err(NoGrid::Nothing),
         },
-        Err(_) => Err(AllocError),
+        Err(error) => match error.kind() {
+            ErrorKind::OutOfMemory => Err(NoGrid::Memory),
+            _ => Err(NoGrid::Nothing),
+        },
     }
 }

@@ -1,28 +1,25 @@
 -- Subcommands and options by the rows of the program's table.
-use Rattle.std.specs.Prelude.{◌++◌, List, Option, find, map, option_map}
+use Rattle.std.specs.Prelude.{◌∷◌, [], List, Option, find, option_map}
+use Rattle.std.specs.List.{flat_map}
 use Rattle.std.specs.Str.{bytes_eq}
-use Rattle.clap.specs.Words.{Rule, Text}
-use Rattle.blk_settings.specs.declared.options.OptionRow.{OptionRow}
-use Rattle.blk_settings.specs.Options.{option_of}
+use Rattle.clap.specs.Words.{Text}
+use Rattle.blk_settings.specs.Options.{OptionOf, option_of, flags, tuning, listing}
 use Rattle.blk_words.specs.declared.table.Makes.{Makes}
-use Rattle.blk_words.specs.declared.table.OfScheds.{OfScheds}
-use Rattle.blk_words.specs.declared.table.OfScheds.TheVariants as of
+use Rattle.blk_words.specs.declared.table.Part.{Part}
+use Rattle.blk_words.specs.declared.table.Part.TheVariants as part
 use Rattle.blk_words.specs.declared.table.CommandRow.{CommandRow}
-use Rattle.blk_words.specs.CommandLine.{Names, option_rule, tuning_rules, listing_rules, Subcommand}
+use Rattle.blk_words.specs.CommandLine.{Subcommand, taking}
 
--- the rule of an option by its row
-abbrev pub rule_for : Names → OptionRow → Rule
-rule_for names row = option_rule names (option_of row)
-
--- the options of a subcommand with those of the schedulers
-abbrev pub rules_beside : Names → OfScheds → List Rule → List Rule
-rules_beside names of.None own = own
-rules_beside names of.Settings own = own ++ tuning_rules names
-rules_beside names of.Lists own = listing_rules names ++ own
+-- the options of a part
+abbrev pub options_in : Part → List OptionOf
+options_in (part.Own row) = option_of row ∷ []
+options_in part.Flags = flags
+options_in part.Settings = tuning
+options_in part.Lists = listing
 
 -- the subcommand of a row
-abbrev pub subcommand_of : Names → CommandRow → Subcommand
-subcommand_of names row = record { name = row.name.now; rules = rules_beside names row.of_scheds (map (rule_for names) row.options.now); makes = row.makes }
+abbrev pub subcommand_of : CommandRow → Subcommand
+subcommand_of row = taking row.name.now (flat_map options_in row.options.now) row.makes
 
 -- what the subcommand of a name makes of its options
 abbrev pub makes_among : Text → List Subcommand → Option Makes

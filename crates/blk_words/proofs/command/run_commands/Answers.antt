@@ -2,4 +2,4 @@ use Rattle.std.proofs.Common.{rules}
 use Rattle.blk_words.proofs.command.run_commands.Goals as goal
 
 pub returns : goal.returns
-returns c names = search rules
+returns c = search rules

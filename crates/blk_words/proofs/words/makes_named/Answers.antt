@@ -5,6 +5,6 @@ use Rattle.blk_words.proofs.Lines.{named_in}
 use Rattle.blk_words.proofs.words.makes_named.Goals as goal
 
 pub returns : goal.returns
-returns c names =
-    c.first_of.ensures ∙ named_in (λ s. s.makes) (λ s. bytes_eq c.args.name.now s.name) (run_table names) (other_table names) c.makes_of-first.result c.makes_of-second.result
-    (rw (c.run_commands.ensures names) at (c.makes_of-first.ensures names)) (rw (c.other_commands.ensures names) at (c.makes_of-second.ensures names))
+returns c =
+    c.first_of.ensures ∙ named_in (λ s. s.makes) (λ s. bytes_eq c.args.name.now s.name) run_table other_table c.makes_of-first.result c.makes_of-second.result
+    (rw c.run_commands.ensures at c.makes_of-first.ensures) (rw c.other_commands.ensures at c.makes_of-second.ensures)

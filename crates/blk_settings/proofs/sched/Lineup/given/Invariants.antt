@@ -1,11 +1,11 @@
 use Rattle.std.proofs.Common.{◌≡◌, Some, map, take, length}
 use Rattle.blk_settings.specs.Given.{all_compared}
-use Rattle.blk_settings.specs.Rows.{row_of}
+use Rattle.blk_settings.specs.Row.{sched_row_of}
 use Rattle.blk_settings.specs.declared.rows.TheConstants.{SCHED_COUNT}
 use Rattle.blk_settings.proofs.sched.Lineup.given.Given as goal
 
 abbrev pub invariant-loop-i : goal.invariant-loop-i
 invariant-loop-i g l = record {
   whole : length l.scheds ≡ SCHED_COUNT;
-  given : all_compared (g.G.Given.given l.options) (map row_of (take l.i l.rows)) ≡ Some (take l.i l.scheds);
+  given : all_compared (g.G.Given.given l.options) (map sched_row_of (take l.i l.rows)) ≡ Some (take l.i l.scheds);
 }

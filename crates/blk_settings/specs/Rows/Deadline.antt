@@ -1,0 +1,41 @@
+-- deadline: by sectors within a batch, and by due rounds between batches.
+use Rattle.std.specs.Prelude.{ℕ, List, [], ◌∷◌, None, Some, false, codes}
+use Rattle.blk_sched.specs.Meaning.{at_start}
+use Rattle.blk_deadline.specs.Choice.{deadline_policy, deadline_kept}
+use Rattle.blk_deadline.specs.declared.Tunables.{Tunables}
+use Rattle.blk_settings.specs.Row.{SchedOf, Switch, short_range, short_at, is_on, value_at}
+use Rattle.blk_settings.specs.declared.rows.SchedKind.TheVariants as kind
+use Rattle.blk_settings.specs.declared.sched.SchedFault.TheVariants as setting
+
+-- what it is made of
+abbrev pub deadline_tunables : List ℕ → Tunables
+deadline_tunables v = record { fifo_batch = short_at 0 v; writes_starved = short_at 1 v; front_merges = is_on (value_at 2 v) }
+
+-- the scheduler
+abbrev pub deadline_sched : SchedOf
+deadline_sched = record {
+  row = record {
+    kind = kind.Deadline;
+    name = codes "deadline";
+    flag = None;
+    tried = 2;
+    settings =
+        record {
+          name = codes "fifo_batch";
+          option = codes "fifo-batch";
+          range = short_range (codes "fifo-batch") (codes "16") (codes "1,2,4,8,16,32,64");
+          zero = Some setting.ZeroBatch;
+        }
+        ∷ record {
+          name = codes "writes_starved";
+          option = codes "writes-starved";
+          range = short_range (codes "writes-starved") (codes "2") (codes "0,1,2,4,8");
+          zero = None;
+        }
+        ∷ record { name = codes "front_merges"; option = codes "no-front-merges"; range = Switch false; zero = None }
+        ∷ [];
+  };
+  policy = deadline_policy;
+  meaning = λ v. at_start (deadline_tunables v).front_merges;
+  kept = λ v depth. deadline_kept (record { last = None; batching = 0; starved = 0 }) (deadline_tunables v);
+}

@@ -1,0 +1,45 @@
+-- kyber: by turns of reads and writes, within limits on what is in flight.
+use Rattle.std.specs.Prelude.{ℕ, List, [], ◌∷◌, None, Some, true, codes}
+use Rattle.blk_sched.specs.Meaning.{at_start}
+use Rattle.blk_kyber.specs.State.{state_at_first, numbers_of, kyber_policy}
+use Rattle.blk_kyber.specs.declared.Targets.{Targets}
+use Rattle.blk_settings.specs.Row.{RangeOf, UpTo, SchedOf, numbers_list, value_at}
+use Rattle.blk_settings.specs.declared.rows.kyber.TheConstants.{MAX_TARGET}
+use Rattle.blk_settings.specs.declared.rows.SchedKind.TheVariants as kind
+use Rattle.blk_settings.specs.declared.sched.SchedFault.TheVariants as setting
+
+-- a target in rounds
+abbrev pub target : List ℕ → List ℕ → List ℕ → RangeOf
+target option default tried = UpTo MAX_TARGET default (numbers_list option (codes "1000000") tried)
+
+-- what it is made of
+abbrev pub targets_of : List ℕ → Targets
+targets_of v = record { read = value_at 0 v; write = value_at 1 v }
+
+-- the scheduler
+abbrev pub kyber_sched : SchedOf
+kyber_sched = record {
+  row = record {
+    kind = kind.Kyber;
+    name = codes "kyber";
+    flag = None;
+    tried = 3;
+    settings =
+        record {
+          name = codes "read_target";
+          option = codes "read-target";
+          range = target (codes "read-target") (codes "2") (codes "1,2,5,10,20,50,100");
+          zero = Some setting.ZeroTarget;
+        }
+        ∷ record {
+          name = codes "write_target";
+          option = codes "write-target";
+          range = target (codes "write-target") (codes "10") (codes "1,2,5,10,20,50,100");
+          zero = Some setting.ZeroTarget;
+        }
+        ∷ [];
+  };
+  policy = kyber_policy;
+  meaning = λ v. at_start true;
+  kept = λ v depth. numbers_of (state_at_first (targets_of v) depth);
+}

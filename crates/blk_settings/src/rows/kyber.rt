@@ -1,0 +1,74 @@
+//! `kyber`: by turns of reads and writes, within limits on what is in flight.
+
+ghost use Rattle.std.specs.Prelude.{◌≡◌, ◌≤◌, IfOk, IfErr};
+ghost use Rattle.blk_kyber.specs.Shown.{meaning_of, state_of};
+ghost use Rattle.blk_kyber.specs.State.{numbers_of};
+ghost use Rattle.blk_settings.specs.Made.{IsUnmade, IsStart};
+
+use crate::rows::{ListRow, SchedKind, SchedRow, SettingRange, SettingRow};
+use crate::sched::{Sched, SchedFault};
+use blk_kyber::{Kyber, KyberFault, Targets};
+use blk_sched::MAX_OPEN;
+use std::alloc::Global;
+
+/// The greatest target, in rounds.
+pub const MAX_TARGET: u64 = 1_000_000;
+
+/// Its row.
+pub(crate) const ROW: SchedRow = SchedRow {
+    kind: SchedKind::Kyber,
+    name: "kyber",
+    flag: None,
+    tried: 3,
+    settings: &[
+        SettingRow {
+            name: "read_target",
+            option: "read-target",
+            help: "Under kyber, how many rounds a read may wait",
+            range: SettingRange::UpTo(
+                MAX_TARGET,
+                "2",
+                ListRow {
+                    default: "1,2,5,10,20,50,100",
+                    help: "Under kyber, how many rounds a read may wait: numbers with commas between",
+                    fault: "--read-target takes 1 to 64 numbers of 0 to 1000000 with commas between, each once",
+                },
+            ),
+            zero: Some(SchedFault::ZeroTarget),
+        },
+        SettingRow {
+            name: "write_target",
+            option: "write-target",
+            help: "Under kyber, how many rounds a write may wait",
+            range: SettingRange::UpTo(
+                MAX_TARGET,
+                "10",
+                ListRow {
+                    default: "1,2,5,10,20,50,100",
+                    help: "Under kyber, how many rounds a write may wait: numbers with commas between",
+                    fault: "--write-target takes 1 to 64 numbers of 0 to 1000000 with commas between, each once",
+                },
+            ),
+            zero: Some(SchedFault::ZeroTarget),
+        },
+    ],
+};
+
+/// One of settings of its kind before anything waits, with both limits at the depth.
+pub fn make(alloc: Global, sched: Sched, depth: u64) -> Result<Kyber, SchedFault>
+    requires kind { sched.kind ≡ SchedKind.Kyber }
+    requires least { 1 ≤ depth }
+    requires most { depth ≤ MAX_OPEN }
+    ensures start { IfOk result (λ s. IsStart sched depth (meaning_of s) (numbers_of (state_of s))) }
+    ensures unmade { IfErr result (IsUnmade sched) }
+{
+    let targets = Targets {
+        read: sched.values[0],
+        write: sched.values[1],
+    };
+    match Kyber::new(alloc, targets, depth) {
+        Ok(scheduler) => Ok(scheduler),
+        Err(KyberFault::ZeroTarget) => Err(SchedFault::ZeroTarget),
+        Err(KyberFault::Memory) => Err(SchedFault::Memory),
+    }
+}
