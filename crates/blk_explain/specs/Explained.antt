@@ -40,13 +40,13 @@ fault_text line name at detail why =
 
 -- what is said about a text whose first field is empty, or that has none
 abbrev pub empty_text : List ℕ → List ℕ
-empty_text bytes = fault_text (line_at bytes 1) (codes "blk") 1 (codes "found nothing, wanted a title") (codes "Title")
+empty_text bytes = fault_text (line_at bytes 1) (codes "blk") 1 (codes "found nothing, wanted a title") (why_name why.Title)
 
 -- what is said about a text that begins with another name: the nearest one
 abbrev pub IsNamedText : List ℕ → List ℕ → Type 0
 IsNamedText bytes text =
     (near : TextForm) × IsNearest (name_in (rows_of bytes)) near
-    × (text ≡ fault_text (line_at bytes 1) (form_name near) 1 (field_text 0 (codes "title") (name_in (rows_of bytes)) ++ form_name near) (codes "Title"))
+    × (text ≡ fault_text (line_at bytes 1) (form_name near) 1 (field_text 0 (codes "title") (name_in (rows_of bytes)) ++ form_name near) (why_name why.Title))
 
 -- what is said about a text that begins with the name of no form
 abbrev pub IsUntitledText : List ℕ → List ℕ → Type 0

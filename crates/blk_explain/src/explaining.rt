@@ -216,7 +216,7 @@ fn empty_told(alloc: Global, bytes: &[u8]) -> Result<Vec<u8>, AllocError>
         b"blk",
         1,
         b"found nothing, wanted a title",
-        b"Title",
+        Why::Title.name().as_bytes(),
     )
 }
 
@@ -230,7 +230,14 @@ fn named_told(alloc: Global, bytes: &[u8]) -> Result<Vec<u8>, AllocError>
     let name = word_of(alloc, near.row().title)?;
     let detail = title_detail(alloc, found, name.as_slice())?;
     let line = line_at(bytes, 1);
-    fault_text(alloc, line, name.as_slice(), 1, detail.as_slice(), b"Title")
+    fault_text(
+        alloc,
+        line,
+        name.as_slice(),
+        1,
+        detail.as_slice(),
+        Why::Title.name().as_bytes(),
+    )
 }
 
 /// What is said about a text that begins with the name of no form.

@@ -94,8 +94,8 @@ impl<S: Scheduler, L: Named> Layer<S, L> {
     /// worker that a layer may have; the blank is spent, even where the layer is refused.
     ///
     /// Refused, by the first of these that applies: as `Queues` where the map has another number of hardware queues than
-    /// the core; as `SoftDepth` where `soft_depth` is not 1 to 1,024; as `Workers` where there are none or more than
-    /// [`MAX_WORKERS`]; as `WorkerQueue` with the first worker whose hardware queue is not there; and as `Memory`. The core
+    /// the core; as `SoftDepth` where `soft_depth` is not 1 to [`MAX_SOFT_DEPTH`]; as `Workers` where there are none or more
+    /// than [`MAX_WORKERS`]; as `WorkerQueue` with the first worker whose hardware queue is not there; and as `Memory`. The core
     /// comes back then.
     pub fn new(
         alloc: S::A,

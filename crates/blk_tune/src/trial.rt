@@ -23,7 +23,8 @@ const MAX_DEFAULT_THREADS: usize = 16;
 /// How many runs a thread makes before the next word of progress. At each the threads wait for the slowest of them, and new ones begin.
 const RUNS_EACH: usize = 8;
 
-/// How many runs go side by side: as many as are asked for, and where nobody says, as there are processors, 16 at most; 1 at least.
+/// How many runs go side by side: as many as are asked for, and where nobody says, as there are processors,
+/// [`MAX_DEFAULT_THREADS`] at most; 1 at least.
 fn side_by_side(rt: &impl Threads, threads: Option<u64>) -> usize
     ensures { 1 ≤ result }
 {
