@@ -6,32 +6,46 @@ use std::alloc::Global;
 use std::process::Abort;
 
 /// What happens in a trace.
-#[derive(Clone, Copy)]
+#[derive(Drop)]
 pub enum Happening {
     /// A read of 8 sectors enters under an id, which is its serial number as well and, times 8, its first sector.
     Read(u64),
     /// Such a write enters.
     Write(u64),
-    /// A request goes out under a tag.
-    Issue(u64, u16),
-    /// What went out under a tag is done.
-    Done(u16),
-    /// What went out under a tag is requeued.
-    Back(u16),
-    /// The rounds to come have another depth.
-    Depth(u64),
+    /// An event by which no request enters.
+    Bare(Event<()>),
     /// This number of rounds end.
     Ticks(u64),
 }
 
-/// A request of one bio.
-fn request(rt: &impl Abort, alloc: Global, id: u64, dir: Dir) -> Request {
+/// An event is added, which breaks no rule.
+fn push(rt: &impl Abort, trace: &mut Trace, event: Event<Request>) {
+    assert!(rt; trace.push(event).is_ok());
+}
+
+/// A request of one bio enters.
+fn enter(rt: &impl Abort, alloc: Global, trace: &mut Trace, id: u64, dir: Dir) {
     let name = BioId {
         submitter: 0,
         serial: id,
     };
     let bio = Bio::new(name, dir, id.wrapping_mul(8), 8).expect(rt, "a bio");
-    Request::of(alloc, bio).expect(rt, "memory")
+    let request = Request::of(alloc, bio).expect(rt, "memory");
+    push(rt, trace, Event::Release { id, request });
+}
+
+/// A step's events are added.
+fn take(rt: &impl Abort, alloc: Global, trace: &mut Trace, step: &Happening) {
+    match step {
+        Happening::Read(id) => enter(rt, alloc, trace, *id, Dir::Read),
+        Happening::Write(id) => enter(rt, alloc, trace, *id, Dir::Write),
+        Happening::Bare(event) => push(rt, trace, event.bare().expect(rt, "no request")),
+        Happening::Ticks(count) => {
+            for _ in 0..*count {
+                push(rt, trace, Event::Tick);
+            }
+        }
+    }
 }
 
 /// A trace of this depth with these events. Reads are due at once, writes after 9 rounds.
@@ -40,25 +54,7 @@ pub fn trace_of(rt: &impl Abort, alloc: Global, depth: u64, steps: &[Happening])
     let setup = Setup::new(depth, 1, 0, 9, limits).expect(rt, "a setup");
     let mut trace = Trace::empty(alloc, setup).expect(rt, "memory");
     for step in steps {
-        let (count, event) = match *step {
-            Happening::Read(id) => {
-                let request = request(rt, alloc, id, Dir::Read);
-                (0, Event::Release { id, request })
-            }
-            Happening::Write(id) => {
-                let request = request(rt, alloc, id, Dir::Write);
-                (0, Event::Release { id, request })
-            }
-            Happening::Issue(id, tag) => (0, Event::Issue { id, tag }),
-            Happening::Done(tag) => (0, Event::Done { tag }),
-            Happening::Back(tag) => (0, Event::Back { tag }),
-            Happening::Depth(depth) => (0, Event::Depth { depth }),
-            Happening::Ticks(count) => (count.saturating_sub(1), Event::Tick),
-        };
-        assert!(rt; trace.push(event).is_ok());
-        for _ in 0..count {
-            assert!(rt; trace.push(Event::Tick).is_ok());
-        }
+        take(rt, alloc, &mut trace, step);
     }
     trace
 }

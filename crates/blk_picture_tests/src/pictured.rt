@@ -1,15 +1,17 @@
 //! Boxes, columns and strips worked by hand.
 
-use crate::given::{Happening, count_of, trace_of};
+use crate::given::Happening::{Bare, Read, Ticks, Write};
+use crate::given::{count_of, trace_of};
 use blk_picture::{picture, pictures};
+use blk_trace::Event;
 
 /// A read goes out under tag 1 in round 0, on time: 40 pixels a round, 24 a tag.
 #[test]
 fn a_read_on_time(rt: HostRuntime) {
     let steps = [
-        Happening::Read(0),
-        Happening::Issue(0, 1),
-        Happening::Done(1),
+        Read(0),
+        Bare(Event::Issue { id: 0, tag: 1 }),
+        Bare(Event::Done { tag: 1 }),
     ];
     let trace = trace_of(&rt, rt.alloc(), 2, &steps);
     let text = picture(rt.alloc(), &trace).expect(&rt, "memory");
@@ -23,13 +25,13 @@ fn a_read_on_time(rt: HostRuntime) {
 #[test]
 fn handed_back_and_late(rt: HostRuntime) {
     let steps = [
-        Happening::Read(0),
-        Happening::Write(1),
-        Happening::Issue(0, 0),
-        Happening::Back(0),
-        Happening::Ticks(1),
-        Happening::Issue(0, 0),
-        Happening::Done(0),
+        Read(0),
+        Write(1),
+        Bare(Event::Issue { id: 0, tag: 0 }),
+        Bare(Event::Back { tag: 0 }),
+        Bare(Event::Tick),
+        Bare(Event::Issue { id: 0, tag: 0 }),
+        Bare(Event::Done { tag: 0 }),
     ];
     let trace = trace_of(&rt, rt.alloc(), 1, &steps);
     let text = picture(rt.alloc(), &trace).expect(&rt, "memory");
@@ -54,12 +56,12 @@ fn handed_back_and_late(rt: HostRuntime) {
 #[test]
 fn columns_of_two_rounds(rt: HostRuntime) {
     let steps = [
-        Happening::Read(0),
-        Happening::Issue(0, 0),
-        Happening::Done(0),
-        Happening::Ticks(400),
-        Happening::Depth(1),
-        Happening::Ticks(1),
+        Read(0),
+        Bare(Event::Issue { id: 0, tag: 0 }),
+        Bare(Event::Done { tag: 0 }),
+        Ticks(400),
+        Bare(Event::Depth { depth: 1 }),
+        Bare(Event::Tick),
     ];
     let trace = trace_of(&rt, rt.alloc(), 2, &steps);
     let text = picture(rt.alloc(), &trace).expect(&rt, "memory");
@@ -76,14 +78,14 @@ fn columns_of_two_rounds(rt: HostRuntime) {
 #[test]
 fn two_on_one_scale(rt: HostRuntime) {
     let short = [
-        Happening::Read(0),
-        Happening::Issue(0, 0),
-        Happening::Done(0),
+        Read(0),
+        Bare(Event::Issue { id: 0, tag: 0 }),
+        Bare(Event::Done { tag: 0 }),
     ];
     let long = [
-        Happening::Write(0),
-        Happening::Ticks(1),
-        Happening::Issue(0, 0),
+        Write(0),
+        Bare(Event::Tick),
+        Bare(Event::Issue { id: 0, tag: 0 }),
     ];
     let traces = [
         trace_of(&rt, rt.alloc(), 1, &short),
