@@ -1,18 +1,15 @@
--- Runs under the rows of schedulers; for which of some schedulers a script isn't run, from what became of it at one place.
-use Rattle.std.proofs.Common.{ℕ, ◌≡◌, ◌∙◌, ◌∷◌, ◌++◌, List, Result, IfOk, sym, ap, subst, take, drop, length, get_or, inr, ◌<◌, ◌+◌}
+-- For which of some schedulers a script isn't run, from what became of it at one place.
+use Rattle.std.proofs.Common.{ℕ, ◌≡◌, ◌∙◌, ◌∷◌, ◌++◌, List, sym, ap, take, drop, length, get_or, inr, ◌<◌, ◌+◌}
 use Rattle.std.specs.Prelude.{All}
 use Rattle.std.proofs.lemmas.List.{take-append-drop, drop_more}
 use Rattle.blk_settings.specs.declared.sched.Sched.{Sched}
 use Rattle.blk_settings.specs.declared.sched.SchedFault.{SchedFault}
 use Rattle.blk_settings.specs.Made.{IsMade, HasFault}
-use Rattle.blk_settings.specs.Rows.{sched_for}
-use Rattle.blk_settings.specs.declared.rows.SchedKind.{SchedKind}
 use Rattle.blk_settings.proofs.Unmade.{made_memory}
 use Rattle.blk_text.specs.Script.{Scripted}
-use Rattle.blk_trace.specs.Traces.{Traced}
 use Rattle.blk_runs.specs.declared.fault.RunFault.{RunFault}
 use Rattle.blk_runs.specs.declared.fault.RunFault.TheVariants as run
-use Rattle.blk_runs.specs.Runs.{RunsBy, RunsUnder, IsUnrun}
+use Rattle.blk_runs.specs.Runs.{IsUnrun}
 use Rattle.blk_runs.specs.Firsts.{IsFirstUnmade, RunsWhole, AreUnrun}
 
 -- a list, split at a place
@@ -29,7 +26,3 @@ unrun_at ss i d s (run.Sched f) h made whole r = inr (made_memory (get_or ss i d
 unrun_at ss i d s (run.Step f) h made whole r =
     record { before = take i ss; under = get_or ss i d; after = drop (i + 1) ss; turn = split_at ss i d h; made = made; whole = whole; refused = r }
 unrun_at ss i d s run.Memory h made whole r = tt
-
--- a run by the policy of a scheduler's kind is one under that scheduler
-pub ran_under : {E : Type 0} (x : Sched) (k : SchedKind) (r : Result Traced E) (script : Scripted) → x.kind ≡ k → IfOk r (λ t. RunsBy (sched_for k).policy x script t) → IfOk r (λ t. RunsUnder x script t)
-ran_under {E} x k r script same h = subst (λ (j : SchedKind). IfOk r (λ t. RunsBy (sched_for j).policy x script t)) (sym same) h

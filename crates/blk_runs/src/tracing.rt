@@ -26,7 +26,7 @@ fn traced_by<S: Scheduler<A = Global>>(
     requires script { IsScript (scripted script.now) }
     requires start { IfOk made (λ s. IsStart sched script.now.setup.depth (S.meaning s) (S.kept s)) }
     requires unmade { IfErr made (IsUnmade sched) }
-    ensures ran { IfOk result (λ trace. RunsBy S.policy sched (scripted script.now) trace) }
+    ensures ran { IfOk result (RunsBy S.policy sched (scripted script.now)) }
     ensures setup { IfOk result (λ trace. trace.setup ≡ script.now.setup) }
     ensures bios { IfOk result (λ trace. IsPermutation (entered trace.events) (released_bios script.now.setup.hw script.now.lines.items)) }
     ensures ticks { IfOk result (λ trace. round_of trace.events ≡ sum_by ticks_of script.now.lines.items) }
@@ -46,7 +46,7 @@ fn traced_by<S: Scheduler<A = Global>>(
 /// its settings; as `Step` at the first step that is refused, with its record and its reason.
 pub fn traced(alloc: Global, sched: Sched, script: &Script) -> Result<Trace, RunFault>
     requires { IsScript (scripted script.now) }
-    ensures ran { IfOk result (λ trace. RunsUnder sched (scripted script.now) trace) }
+    ensures ran { IfOk result (RunsUnder sched (scripted script.now)) }
     ensures setup { IfOk result (λ trace. trace.setup ≡ script.now.setup) }
     ensures bios { IfOk result (λ trace. IsPermutation (entered trace.events) (released_bios script.now.setup.hw script.now.lines.items)) }
     ensures ticks { IfOk result (λ trace. round_of trace.events ≡ sum_by ticks_of script.now.lines.items) }
