@@ -73,7 +73,7 @@ fn trial_of<T: Threads + Sync, P: Progress>(
     ensures text { IfOk result (λ text. IsTrial (map string_bytes words.now) tuning (scripted script.now) text.items) }
     ensures untried { IfErr result (IsUntried (map string_bytes words.now) (scripted script.now)) }
 {
-    // the words were read as a trial before, so they ask for a grid, and only memory can be wanting
+    // `choose` found a trial in these words, so they ask for a grid, and only memory can run out.
     let Ok(grid) = grid_asked(alloc, words) else {
         return Err(Failure::Memory);
     };

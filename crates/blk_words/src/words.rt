@@ -603,9 +603,9 @@ fn job_made(makes: Makes, options: &ArgMatches<'_>) -> Option<Job>
 fn makes_of(name: &str, rows: &[CommandRow]) -> Option<Makes>
     ensures { result ≡ makes_among name.now (map subcommand_of rows.now) }
 {
-    for i in 0..rows.len() {
-        if name == rows[i].name {
-            return Some(rows[i].makes);
+    for row in rows {
+        if name == row.name {
+            return Some(row.makes);
         }
     }
     None
