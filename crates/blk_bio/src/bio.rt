@@ -35,7 +35,7 @@ impl Dir {
         }
     }
 
-    /// The direction that a field of a text names; None for any other field than R and W.
+    /// The direction that a field of a text names; None for any field but R and W.
     #[inline]
     pub fn of_letter(field: &[u8]) -> Option<Dir>
         ensures some { IfSome result (λ dir. field.now ≡ direction_text dir) }
@@ -50,12 +50,12 @@ impl Dir {
 }
 
 /// A bio's name: who submitted it, and its number among that submitter's. Any two numbers make a name; that no name
-/// stands twice is looked after where bios are accepted.
+/// is used twice is checked where bios are accepted.
 #[derive(Clone, Copy, Debug, PartialEq, Eq, PartialOrd, Ord, Hash)]
 pub struct BioId {
     /// Who submitted it, 0 to 255; a block layer has submitters from 0 on.
     pub submitter: u8,
-    /// Its number among that submitter's bios, of whatever order.
+    /// Its number among that submitter's bios, in any order.
     pub serial: u64,
 }
 

@@ -1,4 +1,4 @@
-//! The bios of a request, of which one alone stands in the request itself.
+//! The bios of a request; a single one stands in the request itself.
 
 ghost use Rattle.std.specs.Prelude.{◌≡◌, ◌++◌, ◌∷◌, [], OnOk, OnErr, IfOk};
 

@@ -262,9 +262,9 @@ impl<S: Scheduler> Core<S> {
 
     /// Issues a request for a hardware queue, under a tag that was not issued in this round, and answers its command: the
     /// first of those that were requeued from this queue, as Linux's blk-mq sends the list `hctx->dispatch`
-    /// first, or, where there is none, the one that the scheduler picks. None, and no event, only where none is requeued for
-    /// the queue, and a command is in flight, a request is requeued for another queue, or the scheduler serves nothing for
-    /// this one.
+    /// first, or, where there is none, the one that the scheduler picks. None, and no event, only where the queue's
+    /// requeue list is empty, and a command is in flight, another queue's requeue list isn't empty, or the scheduler
+    /// serves nothing for this one.
     ///
     /// Refused, by the first of these that applies: as `NoQueue` where `hw` is not below the number of hardware queues;
     /// as `TagRange` where the tag is not below the depth of this round; as `SlotUsed` where the tag was issued in this

@@ -1,4 +1,4 @@
-//! A schedule of anyone's, judged: whether it is legal, how many of its commands are late and how many of these had to be, how late
+//! Anyone's schedule, judged: whether it is legal, how many of its commands are late and how many of these had to be, how late
 //! the latest one is and had to be, and why each late command is late.
 //!
 //! Commands are unit jobs with release and due rounds on as many machines as a round has (Pinedo, Scheduling: Lmax and the number of

@@ -187,7 +187,7 @@ impl<S: Scheduler, L: Named> Layer<S, L> {
     }
 
     /// Takes the core's lock, for those who take it for each command. It tries for a while before it sleeps: the lock is held for
-    /// a shorter time than a sleep and a wake-up take, and a thread that comes again at once finds the core in its caches.
+    /// a shorter time than a sleep and a wake-up take, and a thread that comes back at once finds the core in its caches.
     pub(crate) fn lock_core<R: Wait>(&self, rt: &R) -> MutexGuard<'_, LockedCore<S, L>> {
         for _ in 0..MAX_TRIES {
             if let Some(core) = self.core.try_lock() {

@@ -260,7 +260,7 @@ pub(crate) fn read_claim_body<R: Read + Drop>(
 }
 
 /// The certificate of a text of records of four fields: a title with the depth and the number of
-/// commands, a bound, and each command with its round. No record was read before.
+/// commands, a bound, and each command with its round. No record may have been read before.
 ///
 /// The fault is the first one: of the least record, and in it the first in the order of [`Why`].
 /// [`Why::Read`] and [`Why::Memory`] come at the record that is being read.

@@ -61,7 +61,7 @@ impl RecordForm for CommandForm {
 }
 
 /// The depth and the commands of a text of records of three fields: a title with the depth, 1 to
-/// [`edd_commands::MAX_DEPTH`], and at most [`MAX_COMMANDS`] commands by id, release round and due round. No record was read before.
+/// [`edd_commands::MAX_DEPTH`], and at most [`MAX_COMMANDS`] commands by id, release round and due round. No record may have been read before.
 ///
 /// The fault is the first one: of the least record, and in it the first in the order of [`Why`].
 /// [`Why::Read`] and [`Why::Memory`] come at the record that is being read. No record is asked for past

@@ -115,7 +115,7 @@ fn long_number(field: &[u8]) -> Option<u64>
     Some(number)
 }
 
-/// The most digits of which every number fits.
+/// The most digits with which every number fits.
 const MAX_SAFE_DIGITS: usize = 19;
 
 /// The number that a field of few digits writes: few enough for any of them to fit.

@@ -63,7 +63,7 @@ pub trait ItemForm {
 
     ghost View: { Type 0 };
 
-    // what is known of the items that this form has gathered; where they keep less than what was read, also that
+    // what is known of the items that this form has gathered, and of what was read and they don't keep
     ghost known: { Self → Self.Items → Type 0 };
 
     // the items, each as what was read of it
@@ -189,7 +189,7 @@ pub fn beyond(repeats: Repeats) -> Why
     }
 }
 
-/// What the records tell that are left, to the end of the text.
+/// What the remaining records tell, to the end of the text.
 pub fn read_records<R: Read + Drop, F: RecordForm>(
     alloc: Global,
     records: &mut Records<R>,

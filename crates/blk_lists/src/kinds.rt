@@ -43,7 +43,7 @@ impl<const L: usize, const N: usize> Kind<L, N> {
         stands(self.since, version) && field == word.as_slice()
     }
 
-    /// Its slots, but its first number lies below a count.
+    /// Its slots, with its first number below a count.
     #[inline(always)]
     pub fn below(&self, count: u64) -> [Slot; N]
         requires some { 1 ≤ count }

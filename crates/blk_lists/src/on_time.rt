@@ -184,7 +184,7 @@ pub(crate) fn read_on_time_body<R: Read + Drop>(
 }
 
 /// The certificate of a text of records of four fields: a title with the depth and the number of commands, how many of
-/// them are on time and how many windows there are, each window, and each command with its round. No record was read before.
+/// them are on time and how many windows there are, each window, and each command with its round. No record may have been read before.
 ///
 /// Whether the windows bound how many are on time is left to [`edd_check::check_on_time`]: here they are numbers alone.
 ///

@@ -61,7 +61,7 @@ impl RecordForm for ProofTitleForm {
 }
 
 /// The certificate of a text of either form: by its title that of [`read_certificate`](crate::read_certificate) or that of
-/// [`read_on_time`](crate::read_on_time), with the faults of that form. No record was read before.
+/// [`read_on_time`](crate::read_on_time), with the faults of that form. No record may have been read before.
 ///
 /// A text that begins with neither name is [`Why::Title`] at record 1. No record is asked for past that of the fault, and
 /// never more than 2 * [`MAX_COMMANDS`] + 3.

@@ -232,7 +232,7 @@ fn read_new<R: Read + Drop>(
 }
 
 /// The schedule of a text of records of four fields: a title with the depth, 1 to [`edd_commands::MAX_DEPTH`], and the number
-/// of commands, and each command with its round, by any order. No record was read before.
+/// of commands, and each command with its round, by any order. No record may have been read before.
 ///
 /// Whether the schedule is legal isn't looked at. The fault is the first one: of the least record, and in it the first in the
 /// order of [`Why`]; an id that stood before is [`Why::RepeatedId`] at the later record. [`Why::Read`] and [`Why::Memory`]

@@ -88,7 +88,7 @@ impl<R: Read> Records<R> {
         TextFault { at: self.at, why }
     }
 
-    /// Why the CSV reader stopped: its reader failed, or else a growth was refused.
+    /// Why the CSV reader stopped: its reader failed, or else memory ran out.
     fn outside(&self) -> Why
         ensures read { self.now.failed ≡ true → result ≡ Why.Read }
         ensures memory { self.now.failed ≡ false → result ≡ Why.Memory }

@@ -8,7 +8,7 @@ ghost use Rattle.blk_lists.specs.Watching.{remaining_of, read_failed, left_in, f
 use std::io;
 use std::io::{ErrorKind, Read};
 
-/// A reader that remembers whether a read of it has failed: the CSV reader doesn't tell that from a refused growth. A read that a
+/// A reader that remembers whether a read of it has failed: the CSV reader doesn't tell that from running out of memory. A read that a
 /// signal interrupts is made again; the CSV reader would take it for one that failed.
 #[derive(Drop)]
 pub struct Watched<R> {

@@ -11,7 +11,7 @@ use std::alloc::Global;
 use std::sync::Wait;
 use std::thread::{Threads, for_each_mut};
 
-/// How often a worker works at most.
+/// How often a worker calls `work` at most.
 const MAX_WORKS: u64 = 1000;
 
 /// How many passes it makes each time at most.

@@ -10,6 +10,6 @@ pub enum RunFault {
     Sched(SchedFault),
     /// A step of the script is refused, or memory ran out at it.
     Step(SimFault),
-    /// Memory ran out over what is made of the runs. No run by itself ends so.
+    /// Memory ran out while something was made of the runs. No single run ends so.
     Memory,
 }

@@ -1,4 +1,4 @@
-//! Schedulers by what the options of a command line are given.
+//! Schedulers, as the options of a command line give them.
 
 ghost use Rattle.std.specs.Prelude.{◌≡◌, ◌≤◌, All, IfSome, map, option_map};
 ghost use Rattle.blk_settings.specs.Row.{setting_row_of, sched_row_of};
@@ -18,7 +18,7 @@ pub const MAX_SHORT: u64 = 65_535;
 /// The numbers of a list.
 pub type Numbers = ArrayVec<u64, MAX_LISTED>;
 
-/// What the options of a command line are given, each by its name. An option that isn't there is given nothing.
+/// The values of the options of a command line, each by its name. An option that isn't there has none.
 pub trait Given {
     /// What they are given.
     ghost given: { Self → GivenOptions };

@@ -9,7 +9,7 @@ use crate::rows::{SchedKind, tried_kinds};
 use crate::sched::Sched;
 use std::alloc::{AllocError, Global};
 
-/// By what the rows are put in order first.
+/// What the rows are ordered by first.
 #[derive(Clone, Copy, Debug, PartialEq, Eq)]
 pub enum By {
     /// By how many late commands could have been on time.
@@ -32,7 +32,7 @@ pub enum GridFault {
 pub struct TrialAsked {
     /// Under what the script runs: schedulers with their settings, in the order in which they are tried.
     pub grid: Vec<Sched>,
-    /// By what its rows are put in order first.
+    /// What its rows are ordered by first.
     pub by: By,
     /// How many of them are shown at most, the best ones; without it all are.
     pub top: Option<u64>,

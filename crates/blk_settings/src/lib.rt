@@ -45,7 +45,7 @@ use std::thread::Threads;
 pub struct Settled {
     /// How many bios were accepted.
     pub accepted: u64,
-    /// How many bios the commands have that are done.
+    /// How many bios are in the commands that are done.
     pub served: u64,
     /// How many bios still wait.
     pub left: u64,
@@ -60,7 +60,7 @@ pub struct Loaded {
     pub settled: Settled,
 }
 
-/// Why a load came to nothing.
+/// Why a load has no result.
 #[derive(Clone, Copy, Debug, PartialEq, Eq)]
 pub enum Unsettled {
     /// The scheduler is not made of its settings.

@@ -8,7 +8,7 @@ use crate::given::{Given, MAX_SHORT, Numbers, row_named};
 use crate::options::SCHED_NAME;
 use crate::rows::{SCHED_COUNT, SchedKind, SchedRow, SettingRange, SettingRow, rows};
 
-/// Which option of a trial is given no list.
+/// Which option of a trial has a value that is no list.
 #[derive(Clone, Copy, Debug, PartialEq, Eq)]
 pub enum ListFault {
     /// `--sched` is no list of schedulers' names, each once.
@@ -64,7 +64,7 @@ impl ListFault {
         }
     }
 
-    /// The first option that is given none: `--sched`, and then those of the settings.
+    /// The first option whose value is no list: `--sched`, and then those of the settings.
     pub fn first<G: Given>(options: &G) -> Option<ListFault>
         ensures { result ≡ list_fault (G.given options.now) }
     {

@@ -46,7 +46,7 @@ pub enum SettingRange {
     Short(&'static str, ListRow),
     /// A number up to the most, with its default.
     UpTo(u64, &'static str, ListRow),
-    /// On or off: its option is a flag, which turns it to this. Both are tried.
+    /// On or off: its option is a flag that sets it to this. Both are tried.
     Switch(bool),
 }
 

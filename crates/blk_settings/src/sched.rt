@@ -92,7 +92,7 @@ impl Sched {
         self.values[place].min(MAX_SHORT) as u16
     }
 
-    /// What is wrong with the first of its settings with which something is, which alone are looked at: so never `Memory`.
+    /// What is wrong with the first of its settings that is wrong. Nothing else is looked at, so it is never `Memory`.
     pub fn fault(&self) -> Option<SchedFault>
         ensures { result ≡ fault_of self.now }
     {

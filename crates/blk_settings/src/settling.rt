@@ -70,7 +70,7 @@ impl Load {
         }
     }
 
-    /// The account of these numbers, where they are even.
+    /// The account of these numbers, where they agree.
     fn balanced(
         &self,
         accepted: u64,

@@ -20,7 +20,7 @@ use atomic_table::{Join, Play, Seat, Split, Table, TableRule};
 use std::alloc::{AllocError, Allocator, Global};
 use std::marker::Model;
 
-/// The most tags of a set.
+/// The most tags of a set: as many as a round carries commands at most, `MAX_DEPTH` of `edd_commands`, on which this crate doesn't stand.
 pub const MAX_TAG_DEPTH: u64 = 256;
 
 /// Why a set is not made, in the order in which the reasons are looked for.

@@ -71,7 +71,7 @@ fn refusal(fault: PushFault) -> Why
     }
 }
 
-/// Adds an event to a trace, where it breaks no rule: else the first that it breaks.
+/// Adds an event to a trace where it breaks no rule; else answers the first that it breaks.
 fn add(trace: &mut Trace, event: Event<Request>) -> Result<(), Why>
     ensures ok { OnOk result (IsPushed trace.old trace.new event) }
     ensures err { IfErr result (IsRefused trace.old.setup trace.old.events event) }

@@ -136,7 +136,7 @@ impl RecordForm for HeadForm {
         Why::Count
     }
 
-    // Each kind lends the slots of its row: to copy them took half as long as to read a record by them.
+    // Each kind lends the slots of its row: copying them took half as long as reading a record by them.
     fn value(&self, row: &ByteRecord) -> Result<Event<u64>, Why> {
         let word = field(row, 0);
         if TICK.is(word, self.version) {

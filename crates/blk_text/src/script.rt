@@ -48,7 +48,7 @@ pub enum Line {
     Issue { hw: u8, tag: u16 },
     /// The command under a tag has completed.
     Done(u16),
-    /// The device hands the command under a tag back.
+    /// The device requeues the command under a tag.
     Back(u16),
     /// How many tags may be issued in a round, from the next one on: version 2 alone.
     Depth(u64),
@@ -228,7 +228,7 @@ pub fn push_step(draft: &mut Block, step: &Line) -> Result<(), AllocError>
 
 /// The script of a text of records of six fields, in version 1 or 2: a title with the depth (to [`crate::MAX_DEPTH_1`] in
 /// version 1, to [`edd_commands::MAX_DEPTH`] in version 2), the hardware queues, the soft depth and the submitters, a setup, and at
-/// most [`MAX_STEPS`] steps, which set a depth in version 2 alone. No record was read before.
+/// most [`MAX_STEPS`] steps, which set a depth in version 2 alone. No record may have been read before.
 ///
 /// The fault is the first one: of the least record, and in it the first in the order of [`Why`].
 /// [`Why::Read`] and [`Why::Memory`] come at the record that is being read. No record is asked for past

@@ -4,7 +4,7 @@
 /// Whether figures are written as JSON.
 pub const JSON: &str = "json";
 
-/// By what the rows of a trial are put in order.
+/// What the rows of a trial are ordered by.
 pub const BY: &str = "by";
 
 /// How many of them are written.

@@ -28,9 +28,9 @@ pub enum Makes {
     Sim,
     /// These figures of a trace, in the form that is asked for: the flag of JSON is the one option.
     Formed(FiguresAsked),
-    /// This of a trace: there are none.
+    /// This of a trace; there are no options.
     Told(Telling),
-    /// What is wrong with a text: there are none.
+    /// What is wrong with a text; there are no options.
     Explain,
     /// The comparison of schedulers of their settings.
     Compare,

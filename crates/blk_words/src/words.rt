@@ -61,7 +61,7 @@ pub enum Job {
 /// How a trial of settings is written.
 #[derive(Clone, Copy, Debug, PartialEq, Eq)]
 pub struct Tuning {
-    /// By what its rows are put in order first.
+    /// What its rows are ordered by first.
     pub by: By,
     /// How many rows are written at most, the best ones, 1 to [`crate::table::MAX_TOP`]; without it all are.
     pub top: Option<u64>,
@@ -80,7 +80,7 @@ pub struct Import {
     pub write_expire: u64,
     /// Whether a request came in when its first bio was queued, in place of when it was inserted.
     pub from_queue: bool,
-    /// Requests that went out sooner after the first record are left out.
+    /// Requests that went out sooner than this after the first record are left out.
     pub skip: u64,
     /// How many of the others are taken, those that went out first; without it all are.
     pub first: Option<u64>,
@@ -95,7 +95,7 @@ pub enum Written {
     Schedule,
     /// A record for each request, with its times.
     Table,
-    /// It in numbers.
+    /// The capture in numbers.
     Summary,
     /// Its arrivals as a script.
     Script {
@@ -442,7 +442,7 @@ fn written_of(options: &ArgMatches<'_>) -> Result<Written, Refusal>
     }
 }
 
-/// Whether all requests are taken, as they were inserted: what has no bearing on a script is not asked for.
+/// Whether all requests are taken, as they were inserted, so that nothing is asked for that has no bearing on a script.
 fn takes_all(wanted: &Import) -> bool
     ensures { result ≡ takes_all wanted.now }
 {
@@ -510,7 +510,7 @@ fn list_given(options: &ArgMatches<'_>, id: &str, most: u64) -> Option<Numbers>
     }
 }
 
-/// By what rows are put in order, by the text of `--by`.
+/// What rows are ordered by, from the text of `--by`.
 fn by_named(text: &str) -> Option<By>
     ensures { result ≡ by_named text.now }
 {

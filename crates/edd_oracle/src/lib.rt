@@ -1,7 +1,7 @@
 //! Schedules unit commands with the least greatest lateness, and shows by a window that it is least.
 //!
 //! The rule is earliest due date first, of what is released (Pinedo, Scheduling, on minimising Lmax). Jackson's and
-//! Horn's rules are the like for one machine: Jackson's where all jobs are there from the beginning, Horn's where they
+//! Horn's rules are the same for one machine: Jackson's where all jobs are there from the beginning, Horn's where they
 //! may be interrupted. The case here, unit commands with whole release rounds on identical machines whose number may
 //! change from round to round, is proved in this crate.
 #![tactic(auto)]
