@@ -491,22 +491,22 @@ impl<S: Scheduler> Core<S> {
 /// again, or else the scheduler's pick.
 fn dispatch<S: Scheduler>(
     scheduler: &mut S,
-    requeue_lists: &mut RequeueLists<S::A>,
+    lists: &mut RequeueLists<S::A>,
     hw: u8,
     now: u64,
 ) -> Option<Queued<S::A>>
     requires queue { hw < MAX_QUEUES }
-    requires list { hw < length requeue_lists.old }
+    requires list { hw < length lists.old }
     requires few { (S.meaning scheduler.old).open_picks.reads + (S.meaning scheduler.old).open_picks.writes < MAX_OPEN }
-    requires requeued { (dir : Way) → requeued_of dir (S.meaning scheduler.old).open_picks ≡ requeued_count (is_of dir) requeue_lists.old }
-    ensures some { IfSome result (λ w. Dispatches S.policy S.meaning S.kept hw now scheduler.old requeue_lists.old w scheduler.new requeue_lists.new) }
-    ensures none { IfNone result (requeued_in requeue_lists.old hw ≡ []) }
+    requires requeued { (dir : Way) → requeued_of dir (S.meaning scheduler.old).open_picks ≡ requeued_count (is_of dir) lists.old }
+    ensures some { IfSome result (λ w. Dispatches S.policy S.meaning S.kept hw now scheduler.old lists.old w scheduler.new lists.new) }
+    ensures none { IfNone result (requeued_in lists.old hw ≡ []) }
     ensures chosen { IfNone result (S.policy.chooses (S.kept scheduler.old) (S.meaning scheduler.old) hw now None (S.kept scheduler.old)) }
     ensures waits { IfNone result (MayPickNone S.policy.serves hw (S.meaning scheduler.old)) }
     ensures same { IfNone result ((S.meaning scheduler.new ≡ S.meaning scheduler.old) × (S.kept scheduler.new ≡ S.kept scheduler.old)) }
-    ensures same_lists { IfNone result (requeue_lists.new ≡ requeue_lists.old) }
+    ensures same_lists { IfNone result (lists.new ≡ lists.old) }
 {
-    match requeue_lists.take_first(hw) {
+    match lists.take_first(hw) {
         Some(queued) => {
             scheduler.on_reissue(queued.request.dir());
             Some(queued)

@@ -36,7 +36,7 @@ pub returns-in_default-dispatch-clause-issued : goal.returns-in_default-dispatch
 returns-in_default-dispatch-clause-issued g c =
     let same = c.in_default-dispatch.ensures.same in
     rw (← c.self.view_is) (
-      same_core c.prepare.new.trace.setup c.self.inside.trace.setup c.prepare.new.trace.events c.self.inside.trace.events (g.S.Scheduler.meaning c.dispatch.new.scheduler) (g.S.Scheduler.meaning c.self.inside.scheduler) (g.S.Scheduler.kept c.dispatch.new.scheduler) (g.S.Scheduler.kept c.self.inside.scheduler) (map flight_of c.self.inside.tags.items) c.dispatch.new.requeue_lists c.self.inside.requeued
+      same_core c.prepare.new.trace.setup c.self.inside.trace.setup c.prepare.new.trace.events c.self.inside.trace.events (g.S.Scheduler.meaning c.dispatch.new.scheduler) (g.S.Scheduler.meaning c.self.inside.scheduler) (g.S.Scheduler.kept c.dispatch.new.scheduler) (g.S.Scheduler.kept c.self.inside.scheduler) (map flight_of c.self.inside.tags.items) c.dispatch.new.lists c.self.inside.requeued
           (ap (λ (t : Traced). t.setup) c.in-Ok.ensures.ok) (ap (λ (t : Traced). t.events) c.in-Ok.ensures.ok) same.0 same.1 c.in_default-dispatch.ensures.same_lists,
       c.in_default-dispatch.ensures.none,
       chosen_at g.S.Scheduler.policy.chooses (g.S.Scheduler.kept c.self.inside.scheduler) (g.S.Scheduler.meaning c.self.inside.scheduler) c.args.hw c.round-now.result (round_of c.self.inside.trace.events)
@@ -49,9 +49,9 @@ add-requires-clause-unbroken g c =
     let can : CanIssue (record { setup = c.self.inside.trace.setup; events = c.self.inside.trace.events; meaning = g.S.Scheduler.meaning c.self.inside.scheduler; kept = g.S.Scheduler.kept c.self.inside.scheduler; flights = map flight_of c.self.inside.tags.items; requeued = c.self.inside.requeued }) c.args.hw c.args.tag = subst (λ (v : CoreState). CanIssue v c.args.hw c.args.tag) (sym c.self.view_is) c.in_default.ensures.none in
     let lt : c.args.tag < length c.self.inside.tags.items = tag_there c.self.inside.trace.setup c.self.inside.trace.events _ c.self.inside.tags.items c.self.inside.requeued c.self.inside.released c.args.tag c.self.invariant can.range in
     let w : Waiting = record { id = c.queued.inside.id; hw = c.queued.inside.hw; release = c.queued.inside.release; due = c.queued.inside.due; bios = c.queued.inside.request } in
-    let sends = sends_at g.S.Scheduler.policy.serves g.S.Scheduler.policy.chooses c.args.hw c.round-now.result (round_of c.self.inside.trace.events) (get_or c.self.inside.requeued c.args.hw []) (g.S.Scheduler.meaning c.self.inside.scheduler) (g.S.Scheduler.meaning c.dispatch.new.scheduler) (g.S.Scheduler.kept c.self.inside.scheduler) (g.S.Scheduler.kept c.dispatch.new.scheduler) c.self.inside.requeued c.dispatch.new.requeue_lists c.in-Some-dispatch.queued w
+    let sends = sends_at g.S.Scheduler.policy.serves g.S.Scheduler.policy.chooses c.args.hw c.round-now.result (round_of c.self.inside.trace.events) (get_or c.self.inside.requeued c.args.hw []) (g.S.Scheduler.meaning c.self.inside.scheduler) (g.S.Scheduler.meaning c.dispatch.new.scheduler) (g.S.Scheduler.kept c.self.inside.scheduler) (g.S.Scheduler.kept c.dispatch.new.scheduler) c.self.inside.requeued c.dispatch.new.lists c.in-Some-dispatch.queued w
     (c.round-now.ensures.value ∙ ap (λ (t : Traced). round_of t.events) c.in-Ok.ensures.ok) (sym c.queued.view_is) c.in-Some-dispatch.ensures.some in
-    let waits : waits_at c.self.inside.trace.setup c.self.inside.trace.events w.id ≡ Some (entered_of w) = sent_waits c.self.inside.trace.setup c.self.inside.trace.events _ _ c.self.inside.tags.items c.self.inside.requeued c.dispatch.new.requeue_lists c.self.inside.released g.S.Scheduler.policy.serves g.S.Scheduler.policy.chooses _ _ c.args.hw (round_of c.self.inside.trace.events) w (get_or c.self.inside.requeued c.args.hw []) c.self.invariant refl sends in
+    let waits : waits_at c.self.inside.trace.setup c.self.inside.trace.events w.id ≡ Some (entered_of w) = sent_waits c.self.inside.trace.setup c.self.inside.trace.events _ _ c.self.inside.tags.items c.self.inside.requeued c.dispatch.new.lists c.self.inside.released g.S.Scheduler.policy.serves g.S.Scheduler.policy.chooses _ _ c.args.hw (round_of c.self.inside.trace.events) w (get_or c.self.inside.requeued c.args.hw []) c.self.invariant refl sends in
     unbroken c.self.inside.trace.setup c.self.inside.trace.events c.prepare.new.trace _ (Issue c.queued.inside.id c.args.tag) c.in-Ok.ensures.ok c.self.invariant.legal
     (issue_allowed c.self.inside.trace.setup c.self.inside.trace.events _ c.self.inside.tags.items c.self.inside.requeued c.self.inside.released c.args.tag w c.self.invariant waits can.range lt
     (free_slot c.self.inside.trace.setup c.self.inside.trace.events _ c.self.inside.tags.items c.self.inside.requeued c.self.inside.released c.args.tag c.self.invariant lt can.free))
@@ -65,10 +65,10 @@ invariant_of-self-2 g c =
     let can : CanIssue (record { setup = c.self.inside.trace.setup; events = c.self.inside.trace.events; meaning = g.S.Scheduler.meaning c.self.inside.scheduler; kept = g.S.Scheduler.kept c.self.inside.scheduler; flights = map flight_of c.self.inside.tags.items; requeued = c.self.inside.requeued }) c.args.hw c.args.tag = subst (λ (v : CoreState). CanIssue v c.args.hw c.args.tag) (sym c.self.view_is) c.in_default.ensures.none in
     let lt : c.args.tag < length c.self.inside.tags.items = tag_there c.self.inside.trace.setup c.self.inside.trace.events _ c.self.inside.tags.items c.self.inside.requeued c.self.inside.released c.args.tag c.self.invariant can.range in
     let w : Waiting = record { id = c.queued.inside.id; hw = c.queued.inside.hw; release = c.queued.inside.release; due = c.queued.inside.due; bios = c.queued.inside.request } in
-    let sends = sends_at g.S.Scheduler.policy.serves g.S.Scheduler.policy.chooses c.args.hw c.round-now.result (round_of c.self.inside.trace.events) (get_or c.self.inside.requeued c.args.hw []) (g.S.Scheduler.meaning c.self.inside.scheduler) (g.S.Scheduler.meaning c.dispatch.new.scheduler) (g.S.Scheduler.kept c.self.inside.scheduler) (g.S.Scheduler.kept c.dispatch.new.scheduler) c.self.inside.requeued c.dispatch.new.requeue_lists c.in-Some-dispatch.queued w
+    let sends = sends_at g.S.Scheduler.policy.serves g.S.Scheduler.policy.chooses c.args.hw c.round-now.result (round_of c.self.inside.trace.events) (get_or c.self.inside.requeued c.args.hw []) (g.S.Scheduler.meaning c.self.inside.scheduler) (g.S.Scheduler.meaning c.dispatch.new.scheduler) (g.S.Scheduler.kept c.self.inside.scheduler) (g.S.Scheduler.kept c.dispatch.new.scheduler) c.self.inside.requeued c.dispatch.new.lists c.in-Some-dispatch.queued w
     (c.round-now.ensures.value ∙ ap (λ (t : Traced). round_of t.events) c.in-Ok.ensures.ok) (sym c.queued.view_is) c.in-Some-dispatch.ensures.some in
-    subst (λ x. IsTied c.add.new.self.setup c.add.new.self.events (g.S.Scheduler.meaning c.dispatch.new.scheduler) (set c.self.inside.tags.items c.args.tag (InFlight c.args.hw x)) c.dispatch.new.requeue_lists c.self.inside.released) c.queued.view_is
-    (tied_issue c.self.inside.trace.setup c.add.new.self.setup c.self.inside.trace.events c.add.new.self.events (g.S.Scheduler.meaning c.self.inside.scheduler) (g.S.Scheduler.meaning c.dispatch.new.scheduler) c.self.inside.tags.items c.self.inside.requeued c.dispatch.new.requeue_lists c.self.inside.released g.S.Scheduler.policy.serves g.S.Scheduler.policy.chooses _ _ c.args.hw (round_of c.self.inside.trace.events) c.args.tag w (get_or c.self.inside.requeued c.args.hw [])
+    subst (λ x. IsTied c.add.new.self.setup c.add.new.self.events (g.S.Scheduler.meaning c.dispatch.new.scheduler) (set c.self.inside.tags.items c.args.tag (InFlight c.args.hw x)) c.dispatch.new.lists c.self.inside.released) c.queued.view_is
+    (tied_issue c.self.inside.trace.setup c.add.new.self.setup c.self.inside.trace.events c.add.new.self.events (g.S.Scheduler.meaning c.self.inside.scheduler) (g.S.Scheduler.meaning c.dispatch.new.scheduler) c.self.inside.tags.items c.self.inside.requeued c.dispatch.new.lists c.self.inside.released g.S.Scheduler.policy.serves g.S.Scheduler.policy.chooses _ _ c.args.hw (round_of c.self.inside.trace.events) c.args.tag w (get_or c.self.inside.requeued c.args.hw [])
     (pushed c.self.inside.trace.setup c.self.inside.trace.events c.prepare.new.trace c.add.new.self (Issue c.queued.inside.id c.args.tag) _ _ c.in-Ok.ensures.ok c.add.ensures.added c.add.ensures.legal)
     c.self.invariant refl sends lt
     (free_slot c.self.inside.trace.setup c.self.inside.trace.events _ c.self.inside.tags.items c.self.inside.requeued c.self.inside.released c.args.tag c.self.invariant lt can.free)
@@ -77,9 +77,9 @@ invariant_of-self-2 g c =
 pub returns-clause-issued : goal.returns-clause-issued
 returns-clause-issued g c =
     let w : Waiting = record { id = c.queued.inside.id; hw = c.queued.inside.hw; release = c.queued.inside.release; due = c.queued.inside.due; bios = c.queued.inside.request } in
-    let sends = sends_at g.S.Scheduler.policy.serves g.S.Scheduler.policy.chooses c.args.hw c.round-now.result (round_of c.self.inside.trace.events) (get_or c.self.inside.requeued c.args.hw []) (g.S.Scheduler.meaning c.self.inside.scheduler) (g.S.Scheduler.meaning c.dispatch.new.scheduler) (g.S.Scheduler.kept c.self.inside.scheduler) (g.S.Scheduler.kept c.dispatch.new.scheduler) c.self.inside.requeued c.dispatch.new.requeue_lists c.in-Some-dispatch.queued w
+    let sends = sends_at g.S.Scheduler.policy.serves g.S.Scheduler.policy.chooses c.args.hw c.round-now.result (round_of c.self.inside.trace.events) (get_or c.self.inside.requeued c.args.hw []) (g.S.Scheduler.meaning c.self.inside.scheduler) (g.S.Scheduler.meaning c.dispatch.new.scheduler) (g.S.Scheduler.kept c.self.inside.scheduler) (g.S.Scheduler.kept c.dispatch.new.scheduler) c.self.inside.requeued c.dispatch.new.lists c.in-Some-dispatch.queued w
     (c.round-now.ensures.value ∙ ap (λ (t : Traced). round_of t.events) c.in-Ok.ensures.ok) (sym c.queued.view_is) c.in-Some-dispatch.ensures.some in
-    let waits : waits_at c.self.inside.trace.setup c.self.inside.trace.events w.id ≡ Some (entered_of w) = sent_waits c.self.inside.trace.setup c.self.inside.trace.events _ _ c.self.inside.tags.items c.self.inside.requeued c.dispatch.new.requeue_lists c.self.inside.released g.S.Scheduler.policy.serves g.S.Scheduler.policy.chooses _ _ c.args.hw (round_of c.self.inside.trace.events) w (get_or c.self.inside.requeued c.args.hw []) c.self.invariant refl sends in
+    let waits : waits_at c.self.inside.trace.setup c.self.inside.trace.events w.id ≡ Some (entered_of w) = sent_waits c.self.inside.trace.setup c.self.inside.trace.events _ _ c.self.inside.tags.items c.self.inside.requeued c.dispatch.new.lists c.self.inside.released g.S.Scheduler.policy.serves g.S.Scheduler.policy.chooses _ _ c.args.hw (round_of c.self.inside.trace.events) w (get_or c.self.inside.requeued c.args.hw []) c.self.invariant refl sends in
     let p : IsPushed c.self.inside.trace.setup c.self.inside.trace.events (Issue c.queued.inside.id c.args.tag) c.add.new.self.setup c.add.new.self.events = pushed c.self.inside.trace.setup c.self.inside.trace.events c.prepare.new.trace c.add.new.self (Issue c.queued.inside.id c.args.tag) _ _ c.in-Ok.ensures.ok c.add.ensures.added c.add.ensures.legal in
     rw (← c.self.view_is) (
       w,
