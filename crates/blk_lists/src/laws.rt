@@ -34,8 +34,7 @@ pub fn certificates()
 {}
 
 /// Certificates of the greatest number on time: records spell one at most, and its text reads back as its records, which spell it.
-/// Records either spell one
-/// or have a fault as one, and not both; and they have one first fault at most.
+/// Records either spell one or have a fault as one, and not both; and they have one first fault at most.
 pub fn on_time_certificates()
     ensures once { OneValue SpellsOnTime }
     ensures back { ReadsBack IsOnTimeClaim on_time_rows SpellsOnTime }

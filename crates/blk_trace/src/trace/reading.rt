@@ -40,8 +40,7 @@ impl<A: Allocator + Clone> Trace<A> {
     }
 
     /// The requests that were issued and not requeued since, in the order of their last Issues: each released in the last round in
-    /// which it was released or
-    /// joined, and due in the first in which one of its bios is. Fails only when out of memory.
+    /// which it was released or joined, and due in the first in which one of its bios is. Fails only when out of memory.
     pub fn commands(&self) -> Result<Vec<Command, A>, AllocError>
         ensures commands { IfOk result (λ v. v.items ≡ commands_of self.now.setup self.now.events) }
         // in the rounds of `rounds` they are a legal schedule
