@@ -2,4 +2,3 @@ pub mod Seated
 pub mod Counted
 pub mod Made
 mod Ruled
-pub mod RanUnder

@@ -1,4 +1,3 @@
 -- What private clauses and proofs need, and no promise names.
 pub mod Loads
-pub mod Ran
 pub mod Outcomes

@@ -5,7 +5,7 @@ ghost use Rattle.blk_settings.specs.Numbers.{IsLoad};
 ghost use Rattle.blk_settings.specs.Made.{IsUnmade, IsUnsettled, IsStart};
 ghost use Rattle.blk_settings.specs.Settles.{IsSettled, served_bios};
 ghost use Rattle.blk_trace.specs.Events.{AreOnce};
-ghost use Rattle.blk_load.specs.Inside.Ran.{RanBy, RanUnder};
+ghost use Rattle.blk_load.specs.Ran.{RanBy, RanUnder};
 
 use crate::running::load;
 use blk_sched::Scheduler;

@@ -2,8 +2,7 @@
 use Rattle.std.specs.Prelude.{ℕ}
 use Rattle.blk_policy.specs.Runs.{IsRunBy}
 use Rattle.blk_sched.specs.Policies.{Policy}
-use Rattle.blk_settings.specs.Ran.{IsRunUnder}
-use Rattle.blk_settings.specs.Scheds.{first_meaning, numbers_at_first}
+use Rattle.blk_settings.specs.Scheds.{policy_of, first_meaning, numbers_at_first}
 use Rattle.blk_settings.specs.declared.Loaded.{Loaded}
 use Rattle.blk_settings.specs.declared.sched.Sched.{Sched}
 
@@ -13,4 +12,4 @@ abbrev pub RanBy : Policy → Sched → ℕ → Loaded → Type 0
 RanBy policy s depth l = IsRunBy policy (first_meaning s) (numbers_at_first s depth) l.trace
 
 abbrev pub RanUnder : Sched → ℕ → Loaded → Type 0
-RanUnder s depth l = IsRunUnder s depth l.trace
+RanUnder s depth l = RanBy (policy_of s) s depth l
