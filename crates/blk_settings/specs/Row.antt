@@ -1,8 +1,8 @@
 -- What a scheduler's row has: what it is called, its settings, what it does, and how it starts.
-use Rattle.std.specs.Prelude.{ℕ, ◌==◌, ◌++◌, Bool, List, Option, codes, decimal, get_or, map, min, option_map}
+use Rattle.std.specs.Prelude.{ℕ, ◌==◌, ◌++◌, Bool, List, Option, codes, get_or, map, min, option_map}
 use Rattle.blk_sched.specs.Meaning.{Meaning}
 use Rattle.blk_sched.specs.Policies.{Policy}
-use Rattle.blk_settings.specs.declared.given.TheConstants.{MAX_LISTED, MAX_SHORT}
+use Rattle.blk_settings.specs.declared.given.TheConstants.{MAX_SHORT}
 use Rattle.blk_settings.specs.declared.rows.ListRow.{ListRow}
 use Rattle.blk_settings.specs.declared.rows.SchedKind.{SchedKind}
 use Rattle.blk_settings.specs.declared.rows.SchedRow.{SchedRow}
@@ -46,18 +46,16 @@ pub record SchedOf : Type 1 where
   pub meaning : List ℕ → Meaning
   pub kept : List ℕ → ℕ → List ℕ
 
--- those that an option lists by default, of numbers up to a most
-abbrev pub numbers_list : List ℕ → ℕ → List ℕ → ListOf
+-- those that an option lists by default, of numbers up to the most that this text spells
+abbrev pub numbers_list : List ℕ → List ℕ → List ℕ → ListOf
 numbers_list option most default = record {
   default = default;
-  fault =
-      codes "--" ++ option ++ codes " takes 1 to " ++ decimal MAX_LISTED ++ codes " numbers of 0 to " ++ decimal most
-      ++ codes " with commas between, each once";
+  fault = codes "--" ++ option ++ codes " takes 1 to 64 numbers of 0 to " ++ most ++ codes " with commas between, each once";
 }
 
 -- a number of 16 bits
 abbrev pub short_range : List ℕ → List ℕ → List ℕ → RangeOf
-short_range option default tried = Short default (numbers_list option MAX_SHORT tried)
+short_range option default tried = Short default (numbers_list option (codes "65535") tried)
 
 -- those of the program's rows
 abbrev pub tried_list_of : ListRow → ListOf

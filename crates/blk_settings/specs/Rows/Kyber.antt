@@ -10,7 +10,7 @@ use Rattle.blk_settings.specs.declared.sched.SchedFault.TheVariants as setting
 
 -- a target in rounds
 abbrev pub target : List ℕ → List ℕ → List ℕ → RangeOf
-target option default tried = UpTo MAX_TARGET default (numbers_list option MAX_TARGET tried)
+target option default tried = UpTo MAX_TARGET default (numbers_list option (codes "1000000") tried)
 
 -- what it is made of
 abbrev pub targets_of : List ℕ → Targets
