@@ -8,7 +8,7 @@ ghost use Rattle.blk_words.specs.Plain.{AsksFor, AsksForGrid, AsksForNothing, de
 
 use crate::inputs::{Running, Solving, Telling};
 use crate::words::{Job, Refusal, ShownLoad, Written};
-use blk_settings::{Form, ListFault, SchedKind};
+use blk_settings::{FiguresAsked, Form, ListFault, SchedKind};
 
 /// Each of these lines asks for its job and, all but `--version`, for no other; `oracle --trace --met` asks for none. `tune` asks for the
 /// whole grid, or for that of its lists, and for no other.
