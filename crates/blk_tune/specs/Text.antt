@@ -62,10 +62,13 @@ abbrev pub remark_of : By → TrialRow → List ℕ
 remark_of by.Misses r = if nat_lt 0 r.tally.commands && (r.tally.avoidable == 0) then codes " (no schedule misses fewer)" else []
 remark_of by.Lateness r = if is_none (shortfall_in r.report.figures) then codes " (no schedule is less late)" else []
 
--- the last line
+-- the last line: of a best row, and of rows that stand best first
+abbrev pub line_of_best : By → TrialRow → List ℕ
+line_of_best b r = ((((codes "best " ++ name_of r.sched) ++ 32 ∷ []) ++ settings_text r.sched) ++ remark_of b r) ++ 10 ∷ []
+
 abbrev pub best_row_line : By → List TrialRow → List ℕ
 best_row_line b [] = codes "best none-served" ++ 10 ∷ []
-best_row_line b (r ∷ rs) = ((((codes "best " ++ name_of r.sched) ++ 32 ∷ []) ++ settings_text r.sched) ++ remark_of b r) ++ 10 ∷ []
+best_row_line b (r ∷ rs) = line_of_best b r
 
 -- the rows that are shown
 abbrev pub shown : Option ℕ → List TrialRow → List TrialRow

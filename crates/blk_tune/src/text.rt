@@ -4,7 +4,7 @@ ghost use Rattle.std.specs.Prelude.{◌≡◌, ◌++◌, OnOk, IfOk};
 ghost use Rattle.std.specs.List.{flat_map};
 ghost use Rattle.edd_figures.specs.Lines.{late_text};
 ghost use Rattle.drafts.specs.Drafts.{next_field};
-ghost use Rattle.blk_tune.specs.Text.{value_text, setting_text, next_setting, with_spaces, settings_text, report_fields, tally_fields, trial_line, remark_of, best_row_line, shown, row_head, table_text, on_off};
+ghost use Rattle.blk_tune.specs.Text.{value_text, setting_text, next_setting, with_spaces, settings_text, report_fields, tally_fields, trial_line, remark_of, line_of_best, best_row_line, shown, row_head, table_text, on_off};
 
 use crate::row::TrialRow;
 use blk_report::{Report, Tally};
@@ -153,20 +153,25 @@ fn remark(by: By, row: &TrialRow) -> &'static [u8]
     }
 }
 
+/// Adds the line that names the best row.
+fn push_best_row(draft: &mut Draft, by: By, row: &TrialRow) -> Result<(), AllocError>
+    ensures { OnOk result (draft.new ≡ draft.old ++ line_of_best by row.now) }
+{
+    draft.text(b"best ")?;
+    draft.text(row.sched.name().as_bytes())?;
+    draft.text(b" ")?;
+    push_settings(draft, row.sched)?;
+    draft.text(remark(by, row))?;
+    draft.text(b"\n")
+}
+
 /// Adds the last line, which names the best row.
 fn push_best(draft: &mut Draft, by: By, rows: &[TrialRow]) -> Result<(), AllocError>
     ensures { OnOk result (draft.new ≡ draft.old ++ best_row_line by rows.now) }
 {
     match rows.first() {
         None => draft.text(b"best none-served\n"),
-        Some(row) => {
-            draft.text(b"best ")?;
-            draft.text(row.sched.name().as_bytes())?;
-            draft.text(b" ")?;
-            push_settings(draft, row.sched)?;
-            draft.text(remark(by, row))?;
-            draft.text(b"\n")
-        }
+        Some(row) => push_best_row(draft, by, row),
     }
 }
 
