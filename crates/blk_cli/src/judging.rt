@@ -7,7 +7,7 @@ ghost use Rattle.blk_cli.specs.Inputs.{Of, FailsOver};
 ghost use Rattle.blk_cli.specs.Judging.{IsWholeText, IsEachText, IsJudgedText, IsUnjudged};
 
 use crate::failure::Failure;
-use blk_judge::{judge, judged_lines, late_lines, late_of};
+use blk_judge::{judge, judged_lines, late_of, miss_lines};
 use blk_lists::{Records, Schedule, read_schedule};
 use edd_commands::Capacity;
 use std::alloc::Global;
@@ -53,7 +53,7 @@ fn each_late(
         Ok(misses) => misses,
         Err(fault) => return Err(Failure::Check(fault)),
     };
-    match late_lines(alloc, misses.as_slice()) {
+    match miss_lines(alloc, misses.as_slice()) {
         Ok(text) => Ok(text),
         Err(_) => Err(Failure::Memory),
     }

@@ -41,7 +41,7 @@ fn list_of(alloc: Global, trace: &Trace) -> Result<Vec<u8>, Failure>
     ensures text { IfOk result (λ text. IsTellingText Telling.Commands trace.now text.items) }
     ensures untold { IfErr result (IsUntold Telling.Commands trace.now) }
 {
-    if !trace.fixed() {
+    if !trace.is_fixed() {
         return Err(Failure::Unlisted(UnlistedFault::NotFixed));
     }
     let Ok(commands) = trace.commands() else {

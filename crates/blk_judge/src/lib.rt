@@ -12,4 +12,4 @@ mod texts;
 
 pub use crate::judging::{Judged, judge};
 pub use crate::missing::{Miss, late_of};
-pub use crate::texts::{judged_lines, late_lines};
+pub use crate::texts::{judged_lines, miss_lines};

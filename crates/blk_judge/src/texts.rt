@@ -60,7 +60,7 @@ fn push_misses(draft: &mut Draft, misses: &[Miss]) -> Result<(), AllocError>
 /// The records of late commands: the head line `id,release,due,round,lateness,verdict,from,until`, and a line for each in their order.
 /// The verdict is `arrival` or `spare` before two empty fields, or `full` before the first and the last round of its window. Fails
 /// only when out of memory.
-pub fn late_lines(alloc: Global, misses: &[Miss]) -> Result<Vec<u8>, AllocError>
+pub fn miss_lines(alloc: Global, misses: &[Miss]) -> Result<Vec<u8>, AllocError>
     ensures { IfOk result (λ v. v.items ≡ miss_records misses.now) }
 {
     let mut draft = Draft::new(alloc);

@@ -1,6 +1,6 @@
 //! Schedules that the tests are made of, and their judgements.
 
-use blk_judge::{judge, judged_lines, late_lines, late_of};
+use blk_judge::{judge, judged_lines, late_of, miss_lines};
 use edd_check::{CheckFault, Window, in_range};
 use edd_commands::{Capacity, Command};
 use edd_oracle::solve;
@@ -49,7 +49,7 @@ pub fn late(
     assert!(rt; rounds.len() == commands.len());
     assert!(rt; in_range(commands, rounds, Window { from: 0, due: 0 }));
     match late_of(alloc, commands, rounds, &capacity) {
-        Ok(misses) => late_lines(alloc, misses.as_slice()).expect(rt, "out of memory"),
+        Ok(misses) => miss_lines(alloc, misses.as_slice()).expect(rt, "out of memory"),
         Err(_) => panic!(rt; "refused"),
     }
 }

@@ -65,7 +65,7 @@ fn is_seen<'a>(heap: Heap<'a>, trace: &mut Trace<Heap<'a>>, look: &Look) -> bool
         Look::Commands(count) => are_commands(trace, *count),
         Look::Ran(place, command, round) => ran(trace, *place, *command, *round),
         Look::DepthNow(depth) => trace.depth_now() == *depth,
-        Look::Fixed(fixed) => trace.fixed() == *fixed,
+        Look::Fixed(fixed) => trace.is_fixed() == *fixed,
         Look::Carries(round, depth) => carries(trace, *round, *depth),
         Look::HasBio(serial, there) => has_bio(trace, *serial) == Some(*there),
     }

@@ -7,7 +7,7 @@ ghost use Rattle.blk_settings.specs.Options.{option_of, tried_names};
 ghost use Rattle.blk_words.specs.CommandLine.{Names, AreSchedulers, option_rule, with_option, app_for, with_one, run_table, other_table, blk_app};
 ghost use Rattle.blk_words.specs.Inside.Tables.{options_in, subcommand_of};
 
-use crate::table::{CommandRow, OTHER_COMMANDS, Part, RUN_COMMANDS};
+use crate::table::{CommandRow, OTHER_COMMANDS, OptionGroup, RUN_COMMANDS};
 use crate::words::VERSION;
 use blk_settings::options::{OptionRow, Takes, flag_options, list_options, tuning_options};
 use clap::builder::ValueParser;
@@ -74,23 +74,28 @@ fn with_options<'a, 'b: 'a>(
     Ok(grown)
 }
 
-/// A command with the options of a part too.
-fn with_part<'a>(
+/// A command with the options of a group too.
+fn with_group<'a>(
     alloc: Global,
     command: Command<'a>,
-    part: Part,
+    group: OptionGroup,
     names: SchedNames<'a>,
 ) -> Result<Command<'a>, AllocError>
     requires local { (fields_of command).has_globals ≡ false }
     requires tried { names.tried.now ≡ tried_names }
-    ensures app { IfOk result (λ c. app_of c ≡ fold (with_option names.entry.all) (app_of command.entry) (options_in part)) }
+    ensures app { IfOk result (λ c. app_of c ≡ fold (with_option names.entry.all) (app_of command.entry) (options_in group)) }
     ensures local { IfOk result (λ c. (fields_of c).has_globals ≡ false) }
 {
-    match part {
-        Part::Own(row) => with_options(alloc, command, &[row], names),
-        Part::Flags => with_options(alloc, command, flag_options(alloc)?.as_slice(), names),
-        Part::Settings => with_options(alloc, command, tuning_options(alloc)?.as_slice(), names),
-        Part::Lists => {
+    match group {
+        OptionGroup::Own(row) => with_options(alloc, command, &[row], names),
+        OptionGroup::Flags => with_options(alloc, command, flag_options(alloc)?.as_slice(), names),
+        OptionGroup::Settings => with_options(
+            alloc,
+            command,
+            tuning_options(alloc)?.as_slice(),
+            names,
+        ),
+        OptionGroup::Lists => {
             let rows = list_options(alloc, names.tried)?;
             with_options(alloc, command, rows.as_slice(), names)
         }
@@ -108,8 +113,8 @@ fn command_of<'a>(
     ensures local { IfOk result (λ c. (fields_of c).has_globals ≡ false) }
 {
     let mut grown = Command::new(alloc, row.name).about(row.about);
-    for part in row.options {
-        grown = with_part(alloc, grown, *part, names)?;
+    for group in row.options {
+        grown = with_group(alloc, grown, *group, names)?;
     }
     Ok(grown)
 }

@@ -52,7 +52,7 @@ pub enum Makes {
 
 /// A part of a subcommand's options.
 #[derive(Clone, Copy)]
-pub enum Part {
+pub enum OptionGroup {
     /// An option of its own.
     Own(OptionRow<'static>),
     /// The flags of the schedulers that have one.
@@ -71,7 +71,7 @@ pub struct CommandRow {
     /// What help says of it.
     pub about: &'static str,
     /// Its options, in the order in which help shows them.
-    pub options: &'static [Part],
+    pub options: &'static [OptionGroup],
     /// What its options make.
     pub makes: Makes,
 }
@@ -88,36 +88,40 @@ pub static RUN_COMMANDS: [CommandRow; 9] = [
     CommandRow {
         name: "sim",
         about: "Runs a script and writes its trace",
-        options: &[Part::Own(SCHED), Part::Settings],
+        options: &[OptionGroup::Own(SCHED), OptionGroup::Settings],
         makes: Makes::Sim,
     },
     CommandRow {
         name: "compare",
         about: "Runs a script under each scheduler, and writes how late each was and had to be",
-        options: &[Part::Flags, Part::Own(JSON), Part::Settings],
+        options: &[
+            OptionGroup::Flags,
+            OptionGroup::Own(JSON),
+            OptionGroup::Settings,
+        ],
         makes: Makes::Compare,
     },
     CommandRow {
         name: "tune",
         about: "Runs a script under each of many settings, and writes a table of them, the best first",
         options: &[
-            Part::Lists,
-            Part::Own(OptionRow {
+            OptionGroup::Lists,
+            OptionGroup::Own(OptionRow {
                 name: option_names::BY,
                 takes: Takes::Text("misses"),
                 help: "What the best has least of: misses, late commands that could have been on time; lateness, how much later than it had to be the latest was",
             }),
-            Part::Own(OptionRow {
+            OptionGroup::Own(OptionRow {
                 name: option_names::TOP,
                 takes: Takes::Maybe(1, MAX_TOP),
                 help: "Writes only so many rows, the best ones; without it, all",
             }),
-            Part::Own(OptionRow {
+            OptionGroup::Own(OptionRow {
                 name: option_names::THREADS,
                 takes: Takes::Maybe(1, MAX_THREADS),
                 help: "How many runs go side by side; without it, as many as there are processors, 16 at most",
             }),
-            Part::Own(JSON),
+            OptionGroup::Own(JSON),
         ],
         makes: Makes::Tune,
     },
@@ -136,32 +140,32 @@ pub static RUN_COMMANDS: [CommandRow; 9] = [
     CommandRow {
         name: "late",
         about: "Writes which commands of a trace were late, and what went before them",
-        options: &[Part::Own(JSON)],
+        options: &[OptionGroup::Own(JSON)],
         makes: Makes::Formed(FiguresAsked::Late),
     },
     CommandRow {
         name: "misses",
         about: "Writes how many commands of a trace were late, and how many had to be",
-        options: &[Part::Own(JSON)],
+        options: &[OptionGroup::Own(JSON)],
         makes: Makes::Formed(FiguresAsked::Misses),
     },
     CommandRow {
         name: "spread",
         about: "Writes how long the commands of a trace waited and how late they were, by quantiles",
-        options: &[Part::Own(JSON)],
+        options: &[OptionGroup::Own(JSON)],
         makes: Makes::Formed(FiguresAsked::Spread),
     },
     CommandRow {
         name: "picture",
         about: "Draws a trace as an SVG picture: its commands by round and tag, what waited, and which were late",
         options: &[
-            Part::Own(OptionRow {
+            OptionGroup::Own(OptionRow {
                 name: option_names::SCRIPT,
                 takes: Takes::Nothing,
                 help: "Reads a script instead, and draws its trace under each scheduler, one below the other",
             }),
-            Part::Flags,
-            Part::Settings,
+            OptionGroup::Flags,
+            OptionGroup::Settings,
         ],
         makes: Makes::Picture,
     },
@@ -173,17 +177,17 @@ pub static OTHER_COMMANDS: [CommandRow; 6] = [
         name: "oracle",
         about: "Writes a least schedule of a command list, with its certificate",
         options: &[
-            Part::Own(OptionRow {
+            OptionGroup::Own(OptionRow {
                 name: option_names::TRACE,
                 takes: Takes::Nothing,
                 help: "Reads a trace instead, and writes how late it was and had to be",
             }),
-            Part::Own(OptionRow {
+            OptionGroup::Own(OptionRow {
                 name: option_names::MET,
                 takes: Takes::Nothing,
                 help: "Writes how many commands can be met, with its certificate",
             }),
-            Part::Own(OptionRow {
+            OptionGroup::Own(OptionRow {
                 name: option_names::JSON,
                 takes: Takes::Nothing,
                 help: "With --trace, writes it as JSON",
@@ -194,59 +198,59 @@ pub static OTHER_COMMANDS: [CommandRow; 6] = [
     CommandRow {
         name: "check",
         about: "Checks a certificate",
-        options: &[Part::Own(JSON)],
+        options: &[OptionGroup::Own(JSON)],
         makes: Makes::Check,
     },
     CommandRow {
         name: "import",
         about: "Reads a capture of a machine's requests, and writes their schedule",
         options: &[
-            Part::Own(OptionRow {
+            OptionGroup::Own(OptionRow {
                 name: option_names::READ_EXPIRE,
                 takes: Takes::Text("500ms"),
                 help: "How long after it came in a read is due: a number with ns, us, ms or s",
             }),
-            Part::Own(OptionRow {
+            OptionGroup::Own(OptionRow {
                 name: option_names::WRITE_EXPIRE,
                 takes: Takes::Text("5s"),
                 help: "How long after it came in a write is due",
             }),
-            Part::Own(OptionRow {
+            OptionGroup::Own(OptionRow {
                 name: option_names::FROM,
                 takes: Takes::Text("insert"),
                 help: "When a request came in: insert, when it was inserted into the scheduler; queue, when its first bio was queued",
             }),
-            Part::Own(OptionRow {
+            OptionGroup::Own(OptionRow {
                 name: option_names::SKIP,
                 takes: Takes::Text("0s"),
                 help: "Leaves out what went out sooner than so long after the first record",
             }),
-            Part::Own(OptionRow {
+            OptionGroup::Own(OptionRow {
                 name: option_names::FIRST,
                 takes: Takes::Maybe(1, MAX_FIRST),
                 help: "Takes only so many requests, those that went out first; without it, all",
             }),
-            Part::Own(OptionRow {
+            OptionGroup::Own(OptionRow {
                 name: option_names::TABLE,
                 takes: Takes::Nothing,
                 help: "Writes a record for each request instead, with its times",
             }),
-            Part::Own(OptionRow {
+            OptionGroup::Own(OptionRow {
                 name: option_names::SUMMARY,
                 takes: Takes::Nothing,
                 help: "Writes the capture in numbers instead",
             }),
-            Part::Own(OptionRow {
+            OptionGroup::Own(OptionRow {
                 name: option_names::SCRIPT,
                 takes: Takes::Nothing,
                 help: "Writes the bios that came in as a script instead, to be run by sim and compare; needs --round",
             }),
-            Part::Own(OptionRow {
+            OptionGroup::Own(OptionRow {
                 name: option_names::ROUND,
                 takes: Takes::MaybeText,
                 help: "How long a round of the script is",
             }),
-            Part::Own(OptionRow {
+            OptionGroup::Own(OptionRow {
                 name: option_names::DEPTH,
                 takes: Takes::Maybe(1, MAX_DEPTH),
                 help: "How many commands a round of the script carries; without it, 64",
@@ -257,7 +261,7 @@ pub static OTHER_COMMANDS: [CommandRow; 6] = [
     CommandRow {
         name: "judge",
         about: "Judges a schedule: how many commands were late, how late the latest was, and what had to be",
-        options: &[Part::Own(OptionRow {
+        options: &[OptionGroup::Own(OptionRow {
             name: option_names::EACH,
             takes: Takes::Nothing,
             help: "Writes each late command instead, and why it was late",
@@ -274,44 +278,44 @@ pub static OTHER_COMMANDS: [CommandRow; 6] = [
         name: "load",
         about: "Runs a load of threads on a layer, and writes how many bios were accepted, served and left",
         options: &[
-            Part::Own(SCHED),
-            Part::Own(OptionRow {
+            OptionGroup::Own(SCHED),
+            OptionGroup::Own(OptionRow {
                 name: option_names::TRACE,
                 takes: Takes::Nothing,
                 help: "Writes the trace of what the layer did instead",
             }),
-            Part::Own(JSON),
-            Part::Own(OptionRow {
+            OptionGroup::Own(JSON),
+            OptionGroup::Own(OptionRow {
                 name: option_names::SUBMITTERS,
                 takes: Takes::Number(1, MAX_LOAD_SUBMITTERS, "2"),
                 help: "How many threads submit",
             }),
-            Part::Own(OptionRow {
+            OptionGroup::Own(OptionRow {
                 name: option_names::WORKERS,
                 takes: Takes::Number(1, MAX_LOAD_WORKERS, "2"),
                 help: "How many threads issue commands and run them",
             }),
-            Part::Own(OptionRow {
+            OptionGroup::Own(OptionRow {
                 name: option_names::BIOS,
                 takes: Takes::Number(1, MAX_LOAD_BIOS, "1000"),
                 help: "How many bios each submitter has",
             }),
-            Part::Own(OptionRow {
+            OptionGroup::Own(OptionRow {
                 name: option_names::DEPTH,
                 takes: Takes::Number(1, MAX_LOAD_DEPTH, "8"),
                 help: "How many tags there are",
             }),
-            Part::Own(OptionRow {
+            OptionGroup::Own(OptionRow {
                 name: option_names::BUSY,
                 takes: Takes::Maybe(2, MAX_BUSY),
                 help: "Lets each worker's device hand every so many-th command back; without it, none",
             }),
-            Part::Own(OptionRow {
+            OptionGroup::Own(OptionRow {
                 name: option_names::SERVICE,
                 takes: Takes::Number(0, MAX_LOAD_SERVICE, "0"),
                 help: "How many microseconds each device takes for a command",
             }),
-            Part::Settings,
+            OptionGroup::Settings,
         ],
         makes: Makes::Load,
     },

@@ -139,7 +139,7 @@ fn tell<A: Allocator>(verdicts: &mut Vec<Option<Verdict>, A>, place: usize, wind
 }
 
 /// The verdict of each command that is late, by place: the first of these windows around it, and `Spare` where there is none.
-pub fn judge<A: Allocator + Clone>(
+pub fn verdicts_around<A: Allocator + Clone>(
     alloc: A,
     commands: &[Command],
     rounds: &[u64],

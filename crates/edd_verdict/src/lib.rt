@@ -19,7 +19,7 @@ ghost use Rattle.edd_verdict.specs.Laws.{OfEachLate, HasOneVerdict, SpareMeansFr
 mod around;
 mod tight;
 
-use around::judge;
+use around::verdicts_around;
 use edd_check::Window;
 use edd_commands::{Capacity, Command};
 use edd_oracle::solve;
@@ -93,7 +93,7 @@ fn on_time<A: Allocator>(
 
 /// The windows that the commands on time fill, by rising `due`: each filled window ends with one of these, which begins no later.
 /// Whatever schedule has these commands on time, the windows are the same, and so they are found in that by earliest due date first.
-fn filled<A: Allocator + Clone, B: Allocator>(
+fn filled_windows<A: Allocator + Clone, B: Allocator>(
     alloc: A,
     commands: &[Command],
     rounds: &[u64],
@@ -136,7 +136,7 @@ pub fn verdicts<A: Allocator + Clone, B: Allocator>(
     ensures { IfOk result (λ v. AreVerdicts commands.now rounds.now capacity.now v.items) }
 {
     law_of_capacities(capacity);
-    let windows = filled(alloc.clone()?, commands, rounds, capacity)?;
-    let verdicts = judge(alloc, commands, rounds, windows.as_slice())?;
+    let windows = filled_windows(alloc.clone()?, commands, rounds, capacity)?;
+    let verdicts = verdicts_around(alloc, commands, rounds, windows.as_slice())?;
     Ok(verdicts)
 }

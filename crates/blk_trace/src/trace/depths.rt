@@ -32,7 +32,7 @@ impl<A: Allocator + Clone> Trace<A> {
     }
 
     /// Whether no Depth was set, so that each round carries as many commands as there are tags.
-    pub fn fixed(&self) -> bool
+    pub fn is_fixed(&self) -> bool
         ensures exactly { IsTrue result ↔ IsFixed self.now.events }
         ensures one_depth { IsTrue result → capacity_of self.now.setup self.now.events ≡ fixed self.now.setup.depth }
     {

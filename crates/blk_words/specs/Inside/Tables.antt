@@ -5,17 +5,17 @@ use Rattle.std.specs.Str.{bytes_eq}
 use Rattle.clap.specs.Words.{Text}
 use Rattle.blk_settings.specs.Options.{OptionOf, option_of, flags, tuning, listing}
 use Rattle.blk_words.specs.declared.table.Makes.{Makes}
-use Rattle.blk_words.specs.declared.table.Part.{Part}
-use Rattle.blk_words.specs.declared.table.Part.TheVariants as part
+use Rattle.blk_words.specs.declared.table.OptionGroup.{OptionGroup}
+use Rattle.blk_words.specs.declared.table.OptionGroup.TheVariants as group
 use Rattle.blk_words.specs.declared.table.CommandRow.{CommandRow}
 use Rattle.blk_words.specs.CommandLine.{Subcommand, taking}
 
 -- the options of a part
-abbrev pub options_in : Part → List OptionOf
-options_in (part.Own row) = option_of row ∷ []
-options_in part.Flags = flags
-options_in part.Settings = tuning
-options_in part.Lists = listing
+abbrev pub options_in : OptionGroup → List OptionOf
+options_in (group.Own row) = option_of row ∷ []
+options_in group.Flags = flags
+options_in group.Settings = tuning
+options_in group.Lists = listing
 
 -- the subcommand of a row
 abbrev pub subcommand_of : CommandRow → Subcommand

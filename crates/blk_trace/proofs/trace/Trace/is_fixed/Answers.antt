@@ -7,7 +7,7 @@ use Rattle.blk_trace.specs.Kinds.{sets_depth}
 use Rattle.blk_trace.specs.Depths.{IsFixed, capacity_of}
 use Rattle.blk_trace.specs.Traces.{Traced}
 use Rattle.blk_trace.proofs.Changes.{is_fixed, fixed_none, capacity_fixed}
-use Rattle.blk_trace.proofs.trace.Trace.fixed.Goals as goal
+use Rattle.blk_trace.proofs.trace.Trace.is_fixed.Goals as goal
 
 none_set : (b : Bool) → not b ≡ true → b ≡ false
 none_set true h = absurd (cc)

@@ -7,7 +7,7 @@ use Rattle.edd_verdict.specs.declared.around.Ask.{Ask}
 use Rattle.edd_verdict.specs.Inside.Open.{IsAsk, AreAsked, IsInnermost}
 use Rattle.edd_verdict.proofs.Freeing.{nobody}
 use Rattle.edd_verdict.proofs.Opening.{pending_first, pending_none, pending_full}
-use Rattle.edd_verdict.proofs.around.judge.Goals as goal
+use Rattle.edd_verdict.proofs.around.verdicts_around.Goals as goal
 
 abbrev none : Ask
 none = record { release = 0; due = 0; place = 0 }

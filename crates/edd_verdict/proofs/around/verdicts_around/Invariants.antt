@@ -1,5 +1,5 @@
 use Rattle.edd_verdict.proofs.Opening.{ArePending}
-use Rattle.edd_verdict.proofs.around.judge.Given as goal
+use Rattle.edd_verdict.proofs.around.verdicts_around.Given as goal
 
 abbrev pub invariant-loop-next : goal.invariant-loop-next
 invariant-loop-next g l = ArePending l.commands l.rounds l.windows l.asks l.next l.left l.opened.items l.verdicts.items

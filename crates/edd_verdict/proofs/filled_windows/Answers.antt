@@ -2,7 +2,7 @@ use Rattle.std.proofs.Common.{ap, sym, ◌∙◌}
 use Rattle.std.specs.Option.{is_some}
 use Rattle.edd_commands.proofs.InForce.{depth_bounds}
 use Rattle.edd_verdict.proofs.Subset.{best_on_time, best_windows, none_filled}
-use Rattle.edd_verdict.proofs.filled.Goals as goal
+use Rattle.edd_verdict.proofs.filled_windows.Goals as goal
 
 pub filled-requires-clause-some : goal.filled-requires-clause-some
 filled-requires-clause-some g c = λ y. (depth_bounds c.args.capacity.now y c.requires.capacity).0
