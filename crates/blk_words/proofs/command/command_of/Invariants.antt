@@ -7,8 +7,8 @@ use Rattle.blk_words.specs.CommandLine.{with_option}
 use Rattle.blk_words.specs.Inside.Tables.{options_in}
 use Rattle.blk_words.proofs.command.command_of.Given as goal
 
-abbrev pub invariant-loop-part : goal.invariant-loop-part
-invariant-loop-part l = record {
-  app : app_of l.grown ≡ fold (with_option l.names.all) (new_app l.fn.row.name.now) (flat_map options_in (take l.part-index l.part-items));
+abbrev pub invariant-loop-group : goal.invariant-loop-group
+invariant-loop-group l = record {
+  app : app_of l.grown ≡ fold (with_option l.names.all) (new_app l.fn.row.name.now) (flat_map options_in (take l.group-index l.part-items));
   local : (fields_of l.grown).has_globals ≡ false;
 }
