@@ -9,6 +9,6 @@ use Rattle.blk_words.proofs.command.command_of.Given as goal
 
 abbrev pub invariant-loop-group : goal.invariant-loop-group
 invariant-loop-group l = record {
-  app : app_of l.grown ≡ fold (with_option l.names.all) (new_app l.fn.row.name.now) (flat_map options_in (take l.group-index l.part-items));
+  app : app_of l.grown ≡ fold (with_option l.names.all) (new_app l.fn.row.name.now) (flat_map options_in (take l.group-index l.group-items));
   local : (fields_of l.grown).has_globals ≡ false;
 }
