@@ -183,20 +183,23 @@ def held_by_cases():
 
 # The names that are no variant's, by the fault that has each: `Stalled` says what became of a load, where the others name a broken rule.
 OWN_NAMES = {"LoadFault::Stalled": "stalled"}
-# A variant with the text that is printed for it.
-NAMED = re.compile(r'\b(\w+::\w+)(?:\([^)]*\)| \{[^}]*\})? => "(\w+)"')
+# A method that answers a fault's name; in it the list of the fault's variants; and one of these, with what gives its name where that isn't its own.
+NAME = re.compile(r"fn name\(self\) -> &'static str.*?\n    }\n", re.S)
+LIST = re.compile(r"variant_name!\(self: (\w+) \{(.*?),?\s*\}\)", re.S)
+VARIANT = re.compile(r"\s*(\w+)(?:\(\w+\))?(?: => (.+))?")
 
 
 def printed_names():
-    """The faults of the sources that have a name, each with that name."""
+    """The faults of the sources that have a name, each with that name; one that hands on another fault's has none."""
     for it in sorted(TOP.glob("crates/*/src/**/*.rt")):
-        text = it.read_text()
-        blocks = re.findall(r"fn name\(self\) -> &'static str.*?\n    }\n", text, re.S)
-        for block in blocks:
-            found = NAMED.findall(block)
-            if len(found) != block.count('"') // 2:
+        for block in NAME.findall(it.read_text()):
+            listed = LIST.search(block)
+            found = [VARIANT.fullmatch(one) for one in listed[2].split(",")] if listed else [None]
+            if None in found:
                 raise Fault(f"{it.relative_to(TOP)}: these names of faults aren't understood: {block}")
-            yield from found
+            for variant, name in (one.groups() for one in found):
+                if not name or name.startswith('"'):
+                    yield f"{listed[1]}::{variant}", (name or variant).strip('"')
 
 
 def names_of_faults():

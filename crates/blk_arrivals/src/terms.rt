@@ -11,6 +11,7 @@ use blk_bio::{Limits, MAX_SEGMENTS};
 use blk_plug::MAX_STAGED;
 use blk_text::MAX_DEPTH_1;
 use blk_trace::{Setup, SetupFault};
+use faults::variant_name;
 
 /// The depth where none is asked for: the most tags of a version 1 script.
 pub const USUAL_DEPTH: u64 = MAX_DEPTH_1;
@@ -61,15 +62,15 @@ impl ArrivalsFault {
     pub fn name(self) -> &'static str
         ensures { result.now ≡ fault_name self }
     {
-        match self {
-            ArrivalsFault::Round => "Round",
-            ArrivalsFault::Depth => "Depth",
-            ArrivalsFault::Expire => "Expire",
-            ArrivalsFault::TooMany => "TooMany",
-            ArrivalsFault::TraceFull => "TraceFull",
-            ArrivalsFault::TooLong => "TooLong",
-            ArrivalsFault::Memory => "Memory",
-        }
+        variant_name!(self: ArrivalsFault {
+            Round,
+            Depth,
+            Expire,
+            TooMany,
+            TraceFull,
+            TooLong,
+            Memory,
+        })
     }
 }
 

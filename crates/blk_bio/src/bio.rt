@@ -9,6 +9,7 @@ ghost use Rattle.blk_bio.specs.Letters.{direction_text};
 ghost use Rattle.blk_bio.specs.declared.bio.Dir.{Dir as Direction};
 
 use crate::extent::Extent;
+use faults::variant_name;
 use std::marker::Model;
 
 /// No bio reaches past this sector, counted from the device's beginning.
@@ -73,10 +74,7 @@ impl BioFault {
     pub fn name(self) -> &'static str
         ensures { result.now ≡ bio_fault_name self }
     {
-        match self {
-            BioFault::Empty => "Empty",
-            BioFault::Range => "Range",
-        }
+        variant_name!(self: BioFault { Empty, Range })
     }
 }
 

@@ -3,6 +3,8 @@
 ghost use Rattle.std.specs.Prelude.{◌≡◌};
 ghost use Rattle.blk_bio.specs.Names.{rule_name};
 
+use faults::variant_name;
+
 /// The rule that an event would break, in the order in which the rules are looked for.
 #[derive(Clone, Copy, Debug, PartialEq, Eq)]
 pub enum TraceRule {
@@ -36,18 +38,18 @@ impl TraceRule {
     pub fn name(self) -> &'static str
         ensures { result.now ≡ rule_name self }
     {
-        match self {
-            TraceRule::ReleasedTwice => "ReleasedTwice",
-            TraceRule::Unknown => "Unknown",
-            TraceRule::AlreadyIssued => "AlreadyIssued",
-            TraceRule::BioTwice => "BioTwice",
-            TraceRule::Fit => "Fit",
-            TraceRule::TagRange => "TagRange",
-            TraceRule::TagUsed => "TagUsed",
-            TraceRule::NotIssued => "NotIssued",
-            TraceRule::InFlight => "InFlight",
-            TraceRule::TooLong => "TooLong",
-            TraceRule::DepthRange => "DepthRange",
-        }
+        variant_name!(self: TraceRule {
+            ReleasedTwice,
+            Unknown,
+            AlreadyIssued,
+            BioTwice,
+            Fit,
+            TagRange,
+            TagUsed,
+            NotIssued,
+            InFlight,
+            TooLong,
+            DepthRange,
+        })
     }
 }

@@ -7,6 +7,7 @@ ghost use Rattle.blk_capture_text.specs.Names.{import_fault_name};
 
 use blk_capture::{Matched, Options, Record, match_records, part_of};
 use edd_commands::MAX_COMMANDS;
+use faults::variant_name;
 use std::alloc::Global;
 
 /// How a capture is imported.
@@ -34,10 +35,7 @@ impl ImportFault {
     pub fn name(self) -> &'static str
         ensures { result.now ≡ import_fault_name self }
     {
-        match self {
-            ImportFault::TooMany => "TooMany",
-            ImportFault::Memory => "Memory",
-        }
+        variant_name!(self: ImportFault { TooMany, Memory })
     }
 }
 

@@ -14,6 +14,7 @@ use blk_picture::picture;
 use blk_text::{read_trace, trace_text};
 use blk_trace::Trace;
 use blk_words::Telling;
+use faults::variant_name;
 use std::alloc::Global;
 use std::io::Read;
 
@@ -29,9 +30,7 @@ impl UnlistedFault {
     pub fn name(self) -> &'static str
         ensures { result.now ≡ unlisted_fault_name self }
     {
-        match self {
-            UnlistedFault::NotFixed => "NotFixed",
-        }
+        variant_name!(self: UnlistedFault { NotFixed })
     }
 }
 

@@ -4,6 +4,7 @@ ghost use Rattle.std.specs.Prelude.{◌≡◌};
 ghost use Rattle.blk_lists.specs.Names.{why_name};
 
 use blk_bio::{BioFault, TraceRule};
+use faults::variant_name;
 
 /// What is wrong with a record, in the order in which it is looked for.
 #[derive(Debug, Clone, Copy, PartialEq, Eq)]
@@ -44,22 +45,22 @@ impl Why {
     pub fn name(self) -> &'static str
         ensures { result.now ≡ why_name self }
     {
-        match self {
-            Why::Title => "Title",
-            Why::Fields => "Fields",
-            Why::Word => "Word",
-            Why::Number => "Number",
-            Why::Range => "Range",
-            Why::Bio(fault) => fault.name(),
-            Why::Tile => "Tile",
-            Why::Rule(rule) => rule.name(),
-            Why::RepeatedId => "RepeatedId",
-            Why::Order => "Order",
-            Why::Count => "Count",
-            Why::TooLong => "TooLong",
-            Why::Read => "Read",
-            Why::Memory => "Memory",
-        }
+        variant_name!(self: Why {
+            Title,
+            Fields,
+            Word,
+            Number,
+            Range,
+            Bio(fault) => fault.name(),
+            Tile,
+            Rule(rule) => rule.name(),
+            RepeatedId,
+            Order,
+            Count,
+            TooLong,
+            Read,
+            Memory,
+        })
     }
 }
 

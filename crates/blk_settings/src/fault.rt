@@ -4,6 +4,8 @@ ghost use Rattle.std.specs.Prelude.{◌≡◌};
 ghost use Rattle.blk_settings.specs.Names.{load_fault_name};
 ghost use Rattle.blk_settings.specs.Faults.{fault_rank, IsFirstOfTwo};
 
+use faults::variant_name;
+
 /// Why a load fails. Of several reasons the first is reported.
 #[derive(Clone, Copy, Debug, PartialEq, Eq)]
 pub enum LoadFault {
@@ -28,15 +30,15 @@ impl LoadFault {
     pub fn name(self) -> &'static str
         ensures { result.now ≡ load_fault_name self }
     {
-        match self {
-            LoadFault::Range => "Range",
-            LoadFault::Memory => "Memory",
-            LoadFault::TraceFull => "TraceFull",
-            LoadFault::Repeated => "Repeated",
-            LoadFault::Stalled => "stalled",
-            LoadFault::SeatMissing => "SeatMissing",
-            LoadFault::Differs => "Differs",
-        }
+        variant_name!(self: LoadFault {
+            Range,
+            Memory,
+            TraceFull,
+            Repeated,
+            Stalled => "stalled",
+            SeatMissing,
+            Differs,
+        })
     }
 }
 

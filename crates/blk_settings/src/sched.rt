@@ -9,6 +9,7 @@ ghost use Rattle.blk_settings.specs.Names.{sched_fault_name};
 use crate::given::MAX_SHORT;
 use crate::rows::{SCHED_COUNT, SchedKind, SettingRange, SettingRow};
 use crate::setting::{MAX_SETTINGS, Setting, Settings};
+use faults::variant_name;
 use std::alloc::{AllocError, Global};
 
 /// Why a scheduler is not made, in the order in which the reasons are looked for.
@@ -27,11 +28,7 @@ impl SchedFault {
     pub fn name(self) -> &'static str
         ensures { result.now ≡ sched_fault_name self }
     {
-        match self {
-            SchedFault::ZeroBatch => "ZeroBatch",
-            SchedFault::ZeroTarget => "ZeroTarget",
-            SchedFault::Memory => "Memory",
-        }
+        variant_name!(self: SchedFault { ZeroBatch, ZeroTarget, Memory })
     }
 }
 

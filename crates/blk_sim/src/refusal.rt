@@ -6,6 +6,7 @@ ghost use Rattle.blk_sim.specs.Refusals.{added_why, released_why, issued_why, ba
 
 use blk_core::{BackFault, CoreFault, DepthFault, IssueFault, TickFault};
 use blk_plug::PlugFault;
+use faults::variant_name;
 
 /// Why a step of a script is refused.
 #[derive(Clone, Copy, Debug, PartialEq, Eq)]
@@ -37,18 +38,18 @@ impl SimWhy {
     pub fn name(self) -> &'static str
         ensures { result.now ≡ step_name self }
     {
-        match self {
-            SimWhy::Full => "Full",
-            SimWhy::SoftFull => "SoftFull",
-            SimWhy::Repeated => "Repeated",
-            SimWhy::TraceFull => "TraceFull",
-            SimWhy::TagRange => "TagRange",
-            SimWhy::SlotUsed => "SlotUsed",
-            SimWhy::NotIssued => "NotIssued",
-            SimWhy::InFlight => "InFlight",
-            SimWhy::DepthRange => "DepthRange",
-            SimWhy::Memory => "Memory",
-        }
+        variant_name!(self: SimWhy {
+            Full,
+            SoftFull,
+            Repeated,
+            TraceFull,
+            TagRange,
+            SlotUsed,
+            NotIssued,
+            InFlight,
+            DepthRange,
+            Memory,
+        })
     }
 }
 

@@ -16,6 +16,7 @@ ghost use Rattle.edd_check.specs.Check.{IsAnswer, AcceptsClaim};
 mod on_time;
 
 use edd_commands::{Capacity, Command, MAX_ROUNDS};
+use faults::variant_name;
 pub use on_time::{
     Bound, OnTimeFault, carried_by, carried_in, check_on_time, cover_in_range, inside,
     law_of_covers, number_on_time, outside,
@@ -65,14 +66,14 @@ impl CheckFault {
     pub fn name(self) -> &'static str
         ensures { result.now ≡ check_fault_name self }
     {
-        match self {
-            CheckFault::Length => "Length",
-            CheckFault::BeforeRelease(_) => "BeforeRelease",
-            CheckFault::Memory => "Memory",
-            CheckFault::OverDepth(_) => "OverDepth",
-            CheckFault::WrongLateness(_) => "WrongLateness",
-            CheckFault::NotCrowded(_) => "NotCrowded",
-        }
+        variant_name!(self: CheckFault {
+            Length,
+            BeforeRelease(_),
+            Memory,
+            OverDepth(_),
+            WrongLateness(_),
+            NotCrowded(_),
+        })
     }
 }
 

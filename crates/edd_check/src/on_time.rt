@@ -13,6 +13,7 @@ ghost use Rattle.edd_check.specs.CheckOnTime.{IsOnTimeAnswer, AcceptsOnTimeClaim
 
 use crate::{Window, first_early, least_over_deep};
 use edd_commands::{Capacity, Command, MAX_DEPTH, MAX_ROUNDS};
+use faults::variant_name;
 use std::alloc::Allocator;
 
 /// The bound of a good claim's cover: together the number of commands that the claim says are on time.
@@ -48,15 +49,15 @@ impl OnTimeFault {
     pub fn name(self) -> &'static str
         ensures { result.now ≡ on_time_fault_name self }
     {
-        match self {
-            OnTimeFault::Length => "Length",
-            OnTimeFault::BeforeRelease(_) => "BeforeRelease",
-            OnTimeFault::Memory => "Memory",
-            OnTimeFault::OverDepth(_) => "OverDepth",
-            OnTimeFault::WrongMet(_) => "WrongMet",
-            OnTimeFault::Windows(_) => "Windows",
-            OnTimeFault::Loose(_) => "Loose",
-        }
+        variant_name!(self: OnTimeFault {
+            Length,
+            BeforeRelease(_),
+            Memory,
+            OverDepth(_),
+            WrongMet(_),
+            Windows(_),
+            Loose(_),
+        })
     }
 }
 

@@ -24,6 +24,7 @@ mod window;
 pub use cover::Served;
 use edd_check::{Window, law_of_covers, law_of_crowded_windows, number_on_time};
 use edd_commands::{Capacity, Command};
+use faults::variant_name;
 use std::alloc::{Allocator, Global};
 
 /// Why a list is refused, in the order in which the reasons are looked for.
@@ -45,12 +46,12 @@ impl OracleFault {
     pub fn name(self) -> &'static str
         ensures { result.now ≡ oracle_fault_name self }
     {
-        match self {
-            OracleFault::TooMany => "TooMany",
-            OracleFault::RoundRange(_) => "RoundRange",
-            OracleFault::RepeatedId(_) => "RepeatedId",
-            OracleFault::Memory => "Memory",
-        }
+        variant_name!(self: OracleFault {
+            TooMany,
+            RoundRange(_),
+            RepeatedId(_),
+            Memory,
+        })
     }
 }
 
