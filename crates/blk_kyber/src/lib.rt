@@ -15,7 +15,7 @@ ghost use Rattle.blk_kyber.specs.Shown.{meaning_of, state_of};
 ghost use Rattle.blk_kyber.specs.Inside.Parts.{IsTurnChoice, head_in};
 ghost use Rattle.blk_index.specs.Queues.{served_of};
 
-pub mod limits;
+mod limits;
 mod turn;
 
 use crate::limits::{DomainLimits, ROUNDS_BETWEEN};

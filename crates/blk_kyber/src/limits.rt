@@ -8,11 +8,11 @@ use blk_sched::MAX_OPEN;
 use std::marker::Model;
 
 /// The limits are adjusted every this many rounds.
-pub const ROUNDS_BETWEEN: u64 = 8;
+pub(crate) const ROUNDS_BETWEEN: u64 = 8;
 
 /// The limits of both directions, and which of them had a miss since they were last set.
 #[derive(Drop)]
-pub struct DomainLimits {
+pub(crate) struct DomainLimits {
     depth: u64,
     reads: u64,
     writes: u64,

@@ -11,7 +11,7 @@ ghost use Rattle.blk_sched.specs.Policies.{Policy};
 ghost use Rattle.blk_sched.specs.Meaning.{Waiting, Meaning, HasCandidate, HasNoCandidate, Enters, Joins, JoinsBy, ServesNothing, Picks, RequeuesPick, joined_waiting, opened, open_of, requeued_of, unfinished};
 
 mod fits;
-pub mod picks;
+mod picks;
 
 pub use crate::fits::side_of_fit;
 pub use crate::picks::{MAX_OPEN, MAX_REQUEUED, OpenPicks};
