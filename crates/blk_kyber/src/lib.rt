@@ -157,7 +157,7 @@ impl<A: Allocator + Clone> Scheduler for Kyber<A> {
 
     ghost kept = { λ s. numbers_of (state_of s) };
 
-    fn enter(&mut self, slot: &mut Option<Queued<A>>) -> Result<(), AllocError> {
+    fn insert_from(&mut self, slot: &mut Option<Queued<A>>) -> Result<(), AllocError> {
         let Some(queued) = slot.take() else {
             unreachable!()
         };

@@ -96,7 +96,7 @@ pub trait Scheduler: Drop {
     ghost kept: { Self → List ℕ } = { λ _. [] };
 
     /// What an implementation writes for `insert`: takes the request out of the slot, and on a refusal leaves it there.
-    fn enter(&mut self, slot: &mut Option<Queued<Self::A>>) -> Result<(), AllocError>
+    fn insert_from(&mut self, slot: &mut Option<Queued<Self::A>>) -> Result<(), AllocError>
         requires some { IsSome slot.old }
         requires new { IfSome slot.old (λ w. map.get (meaning self.old).pending w.id ≡ None) }
         requires hw { IfSome slot.old (λ w. w.hw < MAX_QUEUES) }
@@ -116,7 +116,7 @@ pub trait Scheduler: Drop {
         ensures same { OnErr result (self.new ≡ self.old) }
     {
         let mut slot = Some(queued);
-        match self.enter(&mut slot) {
+        match self.insert_from(&mut slot) {
             Ok(()) => Ok(()),
             Err(why) => Err((slot.unwrap(), why)),
         }
