@@ -124,7 +124,11 @@ fn push_figure(draft: &mut Draft, number: Option<u64>) -> Result<(), AllocError>
 }
 
 /// Adds the line of percentiles.
-fn push_percentiles_line(draft: &mut Draft, word: &[u8], percentiles: &Percentiles) -> Result<(), AllocError>
+fn push_percentiles_line(
+    draft: &mut Draft,
+    word: &[u8],
+    percentiles: &Percentiles,
+) -> Result<(), AllocError>
     ensures { OnOk result (draft.new ≡ draft.old ++ percentiles_line word.now percentiles.now) }
 {
     draft.text(word)?;
