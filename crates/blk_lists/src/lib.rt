@@ -11,7 +11,7 @@ pub mod laws;
 pub mod on_time;
 mod proof;
 pub mod schedule;
-mod source;
+pub mod source;
 pub mod titles;
 mod watched;
 mod writing;
