@@ -23,17 +23,12 @@ pub(crate) struct DomainLimits {
 impl Model for DomainLimits {
     ghost use Rattle.std.specs.Prelude.{◌≤◌};
     ghost use Rattle.blk_kyber.specs.Limits.{DirLimits};
+    ghost use Rattle.blk_kyber.specs.Inside.Limits.{dir_limits};
     ghost use Rattle.blk_sched.specs.declared.picks.TheConstants.{MAX_OPEN};
 
     ghost Value = { DirLimits };
 
-    ghost view = { λ s. record {
-      depth = s.depth;
-      reads = s.reads;
-      writes = s.writes;
-      missed_reads = s.missed_reads;
-      missed_writes = s.missed_writes;
-    } };
+    ghost view = { λ s. dir_limits s.depth s.reads s.writes s.missed_reads s.missed_writes };
 
     ghost invariant = { λ s. (s.depth ≤ MAX_OPEN) × (1 ≤ s.reads) × (s.reads ≤ s.depth) × (1 ≤ s.writes) × (s.writes ≤ s.depth) };
 }
