@@ -1,3 +1,3 @@
--- What clauses of parts of a pick, and how limits are kept, alone need.
+-- What only clauses of the parts of a pick need, and how limits are kept.
 pub mod Parts
 pub mod Limits
