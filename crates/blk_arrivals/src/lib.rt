@@ -13,7 +13,5 @@ mod text;
 
 pub use coming::ToldBy;
 pub use script::script_of;
-pub use terms::{
-    ArrivalsFault, Terms, USUAL_DEPTH, USUAL_SECTORS, USUAL_SEGMENTS, USUAL_SOFT_DEPTH,
-};
+pub use terms::{ArrivalsFault, Terms, USUAL_DEPTH};
 pub use text::script_text;

@@ -17,13 +17,13 @@ use faults::variant_name;
 pub const USUAL_DEPTH: u64 = MAX_DEPTH_1;
 
 /// The most sectors of a request of several bios: Linux's default `max_sectors_kb` of 1,280.
-pub const USUAL_SECTORS: u64 = 2_560;
+const USUAL_SECTORS: u64 = 2_560;
 
 /// The most bios of a request: Linux's default of segments.
-pub const USUAL_SEGMENTS: u64 = MAX_SEGMENTS;
+const USUAL_SEGMENTS: u64 = MAX_SEGMENTS;
 
 /// How many requests a software queue has room for: as many as two full plugs.
-pub const USUAL_SOFT_DEPTH: u64 = 2 * MAX_STAGED as u64;
+pub(crate) const USUAL_SOFT_DEPTH: u64 = 2 * MAX_STAGED as u64;
 
 /// How a capture becomes a script.
 #[derive(Clone, Copy, Debug, PartialEq, Eq)]

@@ -6,12 +6,12 @@
 //! queue, `max_sectors` and `max_segments`, each bio being one segment. No data is moved here, only ranges are kept.
 #![tactic(auto)]
 
-pub mod bio;
-pub mod extent;
-pub mod limits;
+mod bio;
+mod extent;
+mod limits;
 mod list;
-pub mod request;
-pub mod rule;
+mod request;
+mod rule;
 
 pub use crate::bio::{Bio, BioFault, BioId, Dir, MAX_END};
 pub use crate::extent::Extent;

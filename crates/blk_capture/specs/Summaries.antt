@@ -11,10 +11,10 @@ use Rattle.blk_capture.specs.declared.record.Action.TheVariants.{BackMerge, Fron
 use Rattle.blk_capture.specs.declared.record.Record.{Record}
 use Rattle.blk_capture.specs.declared.requests.CapturedBio.{CapturedBio}
 use Rattle.blk_capture.specs.declared.requests.CapturedRequest.{CapturedRequest}
-use Rattle.blk_capture.specs.declared.summary.Spread.{Spread}
+use Rattle.blk_capture.specs.declared.summary.Percentiles.{Percentiles}
+use Rattle.blk_capture.specs.declared.summary.Phase.TheVariants.{Tag, Scheduler, Device}
+use Rattle.blk_capture.specs.declared.summary.Phase.{Phase}
 use Rattle.blk_capture.specs.declared.summary.Summary.{Summary}
-use Rattle.blk_capture.specs.declared.summary.Wait.{Wait}
-use Rattle.blk_capture.specs.declared.summary.Wait.TheVariants.{Tag, Scheduler, Device}
 
 abbrev pub goes : Dir → Dir → Bool
 goes Read Read = true
@@ -41,11 +41,11 @@ abbrev pub until_known : ℕ → Option ℕ → Option ℕ
 until_known from None = None
 until_known from (Some until) = between from until
 
--- how long a request waited
-abbrev pub wait_by : Wait → CapturedRequest → Option ℕ
-wait_by Tag q = between q.queued q.got
-wait_by Scheduler q = from_known q.inserted q.dispatched
-wait_by Device q = until_known q.dispatched q.completed
+-- how long a phase of a request took
+abbrev pub time_in : Phase → CapturedRequest → Option ℕ
+time_in Tag q = between q.queued q.got
+time_in Scheduler q = from_known q.inserted q.dispatched
+time_in Device q = until_known q.dispatched q.completed
 
 -- the nearest rank: these hundredths of n, rounded up
 abbrev pub percent_rank : ℕ → ℕ → ℕ
@@ -55,15 +55,15 @@ percent_rank percent n = (percent * n + 99) / 100
 abbrev pub at_percent : ℕ → List ℕ → Option ℕ
 at_percent percent sorted = slice_get sorted (percent_rank percent (length sorted) - 1)
 
-abbrev pub spread_of : List ℕ → Spread
-spread_of sorted = record { count = length sorted; p50 = at_percent 50 sorted; p99 = at_percent 99 sorted; max = at_percent 100 sorted }
+abbrev pub percentiles_of : List ℕ → Percentiles
+percentiles_of sorted = record { count = length sorted; p50 = at_percent 50 sorted; p99 = at_percent 99 sorted; max = at_percent 100 sorted }
 
--- the quantiles of the numbers, put in their order
-pub record IsSpread (values : List ℕ) (s : Spread) : Type 0 where
+-- the percentiles of the numbers, put in their order
+pub record ArePercentiles (values : List ℕ) (s : Percentiles) : Type 0 where
   pub sorted : List ℕ
   pub same : IsPermutation values sorted
   pub rising : IsSorted nat_cmp sorted
-  pub are : s ≡ spread_of sorted
+  pub are : s ≡ percentiles_of sorted
 
 -- out by a time, and back by a time
 abbrev pub out_by : ℕ → CapturedRequest → Bool
@@ -98,7 +98,7 @@ pub record IsSummary (records : List Record) (requests : List CapturedRequest) (
   pub merges_are : s.merges ≡ (tally_of BackMerge records fates).taken + (tally_of FrontMerge records fates).taken
   pub late_reads_are : s.late_reads ≡ count_by (is_late_request Read) requests
   pub late_writes_are : s.late_writes ≡ count_by (is_late_request Write) requests
-  pub tag_is : IsSpread (filter_map (wait_by Tag) requests) s.tag
-  pub scheduler_is : IsSpread (filter_map (wait_by Scheduler) requests) s.scheduler
-  pub device_is : IsSpread (filter_map (wait_by Device) requests) s.device
+  pub tag_is : ArePercentiles (filter_map (time_in Tag) requests) s.tag
+  pub scheduler_is : ArePercentiles (filter_map (time_in Scheduler) requests) s.scheduler
+  pub device_is : ArePercentiles (filter_map (time_in Device) requests) s.device
   pub in_flight_is : IsMostInFlight requests s.in_flight

@@ -24,5 +24,5 @@ pub use record::{Action, MAX_TIME, Op, PassReason, Record};
 pub use requests::{
     CaptureFault, CapturedBio, CapturedRequest, Entry, Matched, Options, match_records, rounds_of,
 };
-pub use summary::{Spread, Summary, Wait, summarize};
+pub use summary::{Percentiles, Phase, Summary, summarize};
 pub use table::{RequestRow, rows_of};

@@ -5,7 +5,7 @@ ghost use Rattle.std.specs.List.{filter_map};
 ghost use Rattle.std.specs.List.Sorted.{IsNonDecreasingBy};
 ghost use Rattle.edd_commands.specs.declared.TheConstants.{MAX_COMMANDS};
 ghost use Rattle.blk_capture.specs.Requests.{AreTimed};
-ghost use Rattle.blk_capture.specs.Summaries.{is_late_request, is_dispatched, wait_by, at_percent, spread_of, IsSpread, IsMostInFlight, in_flight_at, back_by, out_by};
+ghost use Rattle.blk_capture.specs.Summaries.{is_late_request, is_dispatched, time_in, at_percent, percentiles_of, ArePercentiles, IsMostInFlight, in_flight_at, back_by, out_by};
 ghost use Rattle.blk_capture.specs.Matched.{IsSummaryOf};
 
 use crate::fates::{Fate, tally_of};
@@ -14,10 +14,10 @@ use crate::requests::{CapturedBio, CapturedRequest, Matched};
 use blk_bio::Dir;
 use std::alloc::{AllocError, Allocator};
 
-/// What a request waits for.
+/// A phase of a request's way, of those that `btt` tells apart.
 #[derive(Clone, Copy, Debug, PartialEq, Eq)]
-pub enum Wait {
-    /// Q to G: from the queueing of its first bio until it was opened, mostly for a tag.
+pub enum Phase {
+    /// Q to G: from the queueing of its first bio until it was opened, mostly waiting for a tag.
     Tag,
     /// I to D: from its insertion until its last dispatch, in the scheduler.
     Scheduler,
@@ -25,9 +25,9 @@ pub enum Wait {
     Device,
 }
 
-/// How many numbers there are, and their quantiles by nearest rank, each one of them. Without numbers there are none.
+/// How many numbers there are, and their percentiles by nearest rank, each one of them. Without numbers there are none.
 #[derive(Clone, Copy, Debug, PartialEq, Eq)]
-pub struct Spread {
+pub struct Percentiles {
     /// How many numbers there are.
     pub count: u64,
     /// The median: half of the numbers are no greater.
@@ -53,12 +53,12 @@ pub struct Summary {
     pub late_reads: u64,
     /// How many writes did.
     pub late_writes: u64,
-    /// The waits from Q to G, in the unit of the records' times.
-    pub tag: Spread,
+    /// The times from Q to G, in the unit of the records' times.
+    pub tag: Percentiles,
     /// From I to D, of requests that were inserted.
-    pub scheduler: Spread,
+    pub scheduler: Percentiles,
     /// From D to C, of requests that were completed.
-    pub device: Spread,
+    pub device: Percentiles,
     /// The most that were at the device at once.
     pub in_flight: u64,
 }
@@ -96,17 +96,17 @@ fn count_gone(bios: &[CapturedBio]) -> u64
     count
 }
 
-/// How long a request waited, if both ends are known.
-fn wait_of(wait: Wait, request: &CapturedRequest) -> Option<u64>
-    ensures { result ≡ wait_by wait request.now }
+/// How long a phase of a request took, if both ends are known.
+fn time_in(phase: Phase, request: &CapturedRequest) -> Option<u64>
+    ensures { result ≡ time_in phase request.now }
 {
-    match wait {
-        Wait::Tag => Some(request.got.saturating_sub(request.queued)),
-        Wait::Scheduler => match request.inserted {
+    match phase {
+        Phase::Tag => Some(request.got.saturating_sub(request.queued)),
+        Phase::Scheduler => match request.inserted {
             Some(inserted) => Some(request.dispatched.saturating_sub(inserted)),
             None => None,
         },
-        Wait::Device => match request.completed {
+        Phase::Device => match request.completed {
             Some(completed) => Some(completed.saturating_sub(request.dispatched)),
             None => None,
         },
@@ -123,12 +123,12 @@ fn at_percent(sorted: &[u64], percent: usize) -> Option<u64>
     sorted.get(rank.saturating_sub(1)).copied()
 }
 
-/// The quantiles of numbers in their order.
-fn of_sorted(sorted: &[u64]) -> Spread
+/// The percentiles of numbers in their order.
+fn of_sorted(sorted: &[u64]) -> Percentiles
     requires { length sorted.now ≤ MAX_COMMANDS }
-    ensures { result ≡ spread_of sorted.now }
+    ensures { result ≡ percentiles_of sorted.now }
 {
-    Spread {
+    Percentiles {
         count: sorted.len() as u64,
         p50: at_percent(sorted, 50),
         p99: at_percent(sorted, 99),
@@ -136,42 +136,42 @@ fn of_sorted(sorted: &[u64]) -> Spread
     }
 }
 
-/// The waits of the requests whose ends are both known.
-fn waits<A: Allocator>(
+/// How long the phase took of the requests of which both its ends are known.
+fn times_in<A: Allocator>(
     alloc: A,
     requests: &[CapturedRequest],
-    wait: Wait,
+    phase: Phase,
 ) -> Result<Vec<u64, A>, AllocError>
-    ensures { IfOk result (λ v. v.items ≡ filter_map (wait_by wait) requests.now) }
+    ensures { IfOk result (λ v. v.items ≡ filter_map (time_in phase) requests.now) }
 {
     requests
         .iter()
-        .filter_map(|request| wait_of(wait, request))
+        .filter_map(|request| time_in(phase, request))
         .collect(alloc)
 }
 
-/// The quantiles of numbers, which it puts in order.
-fn spread_of(values: &mut [u64]) -> Spread
+/// The percentiles of numbers, which it puts in order.
+fn percentiles_of(values: &mut [u64]) -> Percentiles
     requires { length values.old ≤ MAX_COMMANDS }
-    ensures { IsSpread values.old result }
+    ensures { ArePercentiles values.old result }
 {
     values.sort_unstable();
     of_sorted(values)
 }
 
-/// How long those requests waited whose ends are both known. At most [`edd_commands::MAX_COMMANDS`] requests. Fails only when
+/// How long the phase took of those requests of which both its ends are known. At most [`edd_commands::MAX_COMMANDS`] requests. Fails only when
 /// out of memory. The time grows as n log n.
 #[tactic(auto, using(crate::proofs::Flying::few_known))]
-fn spread_waits<A: Allocator>(
+fn percentiles_in<A: Allocator>(
     alloc: A,
     requests: &[CapturedRequest],
-    wait: Wait,
-) -> Result<Spread, AllocError>
+    phase: Phase,
+) -> Result<Percentiles, AllocError>
     requires { length requests.now ≤ MAX_COMMANDS }
-    ensures { IfOk result (IsSpread (filter_map (wait_by wait) requests.now)) }
+    ensures { IfOk result (ArePercentiles (filter_map (time_in phase) requests.now)) }
 {
-    let mut values = waits(alloc, requests, wait)?;
-    Ok(spread_of(values.as_mut_slice()))
+    let mut values = times_in(alloc, requests, phase)?;
+    Ok(percentiles_of(values.as_mut_slice()))
 }
 
 /// Puts the times in order at which requests were completed.
@@ -275,9 +275,9 @@ pub fn summarize<A: Allocator + Clone>(
         merges: back.taken + front.taken,
         late_reads: count_late(requests, Dir::Read),
         late_writes: count_late(requests, Dir::Write),
-        tag: spread_waits(alloc.clone()?, requests, Wait::Tag)?,
-        scheduler: spread_waits(alloc.clone()?, requests, Wait::Scheduler)?,
-        device: spread_waits(alloc.clone()?, requests, Wait::Device)?,
+        tag: percentiles_in(alloc.clone()?, requests, Phase::Tag)?,
+        scheduler: percentiles_in(alloc.clone()?, requests, Phase::Scheduler)?,
+        device: percentiles_in(alloc.clone()?, requests, Phase::Device)?,
         in_flight: most_in_flight(alloc, requests)?,
     })
 }

@@ -2,7 +2,7 @@
 
 use crate::given::{RecordLine, records_of, usual};
 use blk_bio::Dir;
-use blk_capture::{Options, RequestRow, Spread, Summary, match_records, rows_of, summarize};
+use blk_capture::{Options, Percentiles, RequestRow, Summary, match_records, rows_of, summarize};
 
 /// A read that is late and a write that isn't, each from its queueing to its end.
 const LINES: [RecordLine; 10] = [
@@ -34,7 +34,7 @@ fn in_numbers(rt: HostRuntime) {
     let Ok(summary) = summarize(rt.alloc(), records.as_slice(), &matched) else {
         panic!(rt; "memory");
     };
-    let spread = |p50: u64, max: u64| Spread {
+    let percentiles = |p50: u64, max: u64| Percentiles {
         count: 2,
         p50: Some(p50),
         p99: Some(max),
@@ -47,9 +47,9 @@ fn in_numbers(rt: HostRuntime) {
         merges: 0,
         late_reads: 1,
         late_writes: 0,
-        tag: spread(1, 3),
-        scheduler: spread(10, 10),
-        device: spread(10, 14),
+        tag: percentiles(1, 3),
+        scheduler: percentiles(10, 10),
+        device: percentiles(10, 14),
         in_flight: 2,
     };
     assert_eq!(rt; summary, wanted);

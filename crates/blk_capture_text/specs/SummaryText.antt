@@ -3,7 +3,7 @@ use Rattle.std.specs.Prelude.{ℕ, ◌++◌, ◌∷◌, [], List, Option, None, 
 use Rattle.blk_capture.specs.Fates.{is_of_kind, is_passed, is_unmatched}
 use Rattle.blk_capture.specs.declared.fates.Fate.{Fate}
 use Rattle.blk_capture.specs.declared.record.PassReason.TheVariants as passed
-use Rattle.blk_capture.specs.declared.summary.Spread.{Spread}
+use Rattle.blk_capture.specs.declared.summary.Percentiles.{Percentiles}
 use Rattle.blk_capture.specs.declared.summary.Summary.{Summary}
 use Rattle.blk_capture_text.specs.declared.numbers.UnusedCounts.{UnusedCounts}
 
@@ -32,24 +32,24 @@ abbrev pub figure_text : Option ℕ → List ℕ
 figure_text None = codes "none"
 figure_text (Some n) = decimal n
 
--- a word and the quantiles, each after a space
-abbrev pub spread_line : List ℕ → Spread → List ℕ
-spread_line word s = (((word ++ 32 ∷ figure_text s.p50) ++ 32 ∷ figure_text s.p99) ++ 32 ∷ figure_text s.max) ++ 10 ∷ []
+-- a word and the percentiles, each after a space
+abbrev pub percentiles_line : List ℕ → Percentiles → List ℕ
+percentiles_line word s = (((word ++ 32 ∷ figure_text s.p50) ++ 32 ∷ figure_text s.p99) ++ 32 ∷ figure_text s.max) ++ 10 ∷ []
 
 -- what there is
 abbrev pub number_lines : Summary → List ℕ
 number_lines s = ((((number_line (codes "records") s.records ++ number_line (codes "bios") s.bios) ++ number_line (codes "requests") s.requests) ++ number_line (codes "merges") s.merges) ++ number_line (codes "late-reads") s.late_reads) ++ number_line (codes "late-writes") s.late_writes
 
--- how long it waited, and how much was in flight
-abbrev pub wait_lines : Summary → List ℕ
-wait_lines s = ((spread_line (codes "q-to-g") s.tag ++ spread_line (codes "i-to-d") s.scheduler) ++ spread_line (codes "d-to-c") s.device) ++ number_line (codes "in-flight") s.in_flight
+-- how long the phases took, and how much was in flight
+abbrev pub phase_lines : Summary → List ℕ
+phase_lines s = ((percentiles_line (codes "q-to-g") s.tag ++ percentiles_line (codes "i-to-d") s.scheduler) ++ percentiles_line (codes "d-to-c") s.device) ++ number_line (codes "in-flight") s.in_flight
 
 -- what isn't counted there
 abbrev pub count_lines : ℕ → UnusedCounts → List ℕ
 count_lines left_out c = ((((((((((number_line (codes "left-out") left_out ++ number_line (codes "unmatched") c.unmatched) ++ number_line (codes "plugs") c.plugs) ++ number_line (codes "unplugs") c.unplugs) ++ number_line (codes "actions") c.actions) ++ number_line (codes "discards") c.discards) ++ number_line (codes "erases") c.erases) ++ number_line (codes "flushes") c.flushes) ++ number_line (codes "others") c.others) ++ number_line (codes "empty") c.empty) ++ number_line (codes "past-end") c.past_end)
 
 abbrev pub summary_lines : Summary → ℕ → UnusedCounts → List ℕ
-summary_lines s left_out c = (number_lines s ++ wait_lines s) ++ count_lines left_out c
+summary_lines s left_out c = (number_lines s ++ phase_lines s) ++ count_lines left_out c
 
 -- the line of what was passed over or not matched
 abbrev pub notice_line : UnusedCounts → List ℕ

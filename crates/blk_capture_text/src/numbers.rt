@@ -4,9 +4,9 @@ ghost use Rattle.std.specs.Prelude.{◌≡◌, ◌++◌, IfOk, IfErr, OnOk, coun
 ghost use Rattle.std.specs.Io.KnownBytes.{Appends};
 ghost use Rattle.drafts.specs.Parts.{AppendsPart};
 ghost use Rattle.blk_capture.specs.Fates.{is_unmatched, is_passed};
-ghost use Rattle.blk_capture_text.specs.SummaryText.{counts_of, number_line, spread_line, figure_text, number_lines, wait_lines, count_lines, summary_lines, notice_line};
+ghost use Rattle.blk_capture_text.specs.SummaryText.{counts_of, number_line, percentiles_line, figure_text, number_lines, phase_lines, count_lines, summary_lines, notice_line};
 
-use blk_capture::{Fate, PassReason, Spread, Summary, count_passed};
+use blk_capture::{Fate, PassReason, Percentiles, Summary, count_passed};
 use drafts::{Draft, WriteFault, write_whole};
 use std::alloc::{AllocError, Global};
 use std::io::Write;
@@ -123,17 +123,21 @@ fn push_figure(draft: &mut Draft, number: Option<u64>) -> Result<(), AllocError>
     }
 }
 
-/// Adds the line of quantiles.
-fn push_spread_line(draft: &mut Draft, word: &[u8], spread: &Spread) -> Result<(), AllocError>
-    ensures { OnOk result (draft.new ≡ draft.old ++ spread_line word.now spread.now) }
+/// Adds the line of percentiles.
+fn push_percentiles_line(
+    draft: &mut Draft,
+    word: &[u8],
+    percentiles: &Percentiles,
+) -> Result<(), AllocError>
+    ensures { OnOk result (draft.new ≡ draft.old ++ percentiles_line word.now percentiles.now) }
 {
     draft.text(word)?;
     draft.text(b" ")?;
-    push_figure(draft, spread.p50)?;
+    push_figure(draft, percentiles.p50)?;
     draft.text(b" ")?;
-    push_figure(draft, spread.p99)?;
+    push_figure(draft, percentiles.p99)?;
     draft.text(b" ")?;
-    push_figure(draft, spread.max)?;
+    push_figure(draft, percentiles.max)?;
     draft.text(b"\n")
 }
 
@@ -149,13 +153,13 @@ fn push_numbers(draft: &mut Draft, summary: &Summary) -> Result<(), AllocError>
     push_number_line(draft, b"late-writes", summary.late_writes)
 }
 
-/// Adds the lines of the waits and of the most in flight.
-fn push_waits(draft: &mut Draft, summary: &Summary) -> Result<(), AllocError>
-    ensures { OnOk result (draft.new ≡ draft.old ++ wait_lines summary.now) }
+/// Adds the lines of the phases and of the most in flight.
+fn push_phases(draft: &mut Draft, summary: &Summary) -> Result<(), AllocError>
+    ensures { OnOk result (draft.new ≡ draft.old ++ phase_lines summary.now) }
 {
-    push_spread_line(draft, b"q-to-g", &summary.tag)?;
-    push_spread_line(draft, b"i-to-d", &summary.scheduler)?;
-    push_spread_line(draft, b"d-to-c", &summary.device)?;
+    push_percentiles_line(draft, b"q-to-g", &summary.tag)?;
+    push_percentiles_line(draft, b"i-to-d", &summary.scheduler)?;
+    push_percentiles_line(draft, b"d-to-c", &summary.device)?;
     push_number_line(draft, b"in-flight", summary.in_flight)
 }
 
@@ -187,14 +191,14 @@ pub(crate) fn summary_text(
 {
     let mut draft = Draft::new(alloc);
     push_numbers(&mut draft, summary)?;
-    push_waits(&mut draft, summary)?;
+    push_phases(&mut draft, summary)?;
     push_counts(&mut draft, left_out, counts)?;
     draft.finish()
 }
 
 /// Writes a summary once the whole text is built: lines of a word, a space and a number, `records`, `bios`, `requests`, `merges`,
 /// `late-reads`, `late-writes`; then `q-to-g`, `i-to-d` and `d-to-c` with the median, the 99th of a hundred and the greatest of
-/// these waits in nanoseconds, or three times `none`; `in-flight`; `left-out`, requests that were opened and are not taken; and
+/// these times in nanoseconds, or three times `none`; `in-flight`; `left-out`, requests that were opened and are not taken; and
 /// of records `unmatched`, and what was passed over: `plugs`, `unplugs`, `actions`, `discards`, `erases`, `flushes`, `others`,
 /// `empty`, `past-end`.
 ///

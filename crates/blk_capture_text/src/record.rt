@@ -14,10 +14,10 @@ use csv::ByteRecord;
 pub const WIDTH: usize = 8;
 
 /// Whole seconds lie below this number: with nanoseconds they fit 64 bits, some 544 years.
-pub const MAX_SECONDS: u64 = 1 << 34;
+const MAX_SECONDS: u64 = 1 << 34;
 
 /// Whole seconds.
-pub const SECONDS: Slot = Slot::Number {
+const SECONDS: Slot = Slot::Number {
     least: 0,
     most: MAX_SECONDS - 1,
 };

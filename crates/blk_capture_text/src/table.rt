@@ -1,6 +1,6 @@
 //! Requests as a table.
 
-ghost use Rattle.std.specs.Prelude.{◌≡◌, ◌++◌, IfOk, IfErr, OnOk, decimal};
+ghost use Rattle.std.specs.Prelude.{◌≡◌, ◌++◌, IfOk, IfErr, OnOk};
 ghost use Rattle.std.specs.List.{flat_map};
 ghost use Rattle.std.specs.Io.KnownBytes.{Appends};
 ghost use Rattle.drafts.specs.Parts.{AppendsPart};
@@ -12,20 +12,12 @@ use drafts::{Draft, WriteFault, write_whole};
 use std::alloc::{AllocError, Global};
 use std::io::Write;
 
-/// Adds one more field, of a number.
-fn push_number(draft: &mut Draft, number: u64) -> Result<(), AllocError>
-    ensures { OnOk result (draft.new ≡ draft.old ++ next_field (decimal number)) }
-{
-    draft.text(b",")?;
-    draft.number(number)
-}
-
 /// Adds one more field, of a number that may not be known.
 fn push_known(draft: &mut Draft, number: Option<u64>) -> Result<(), AllocError>
     ensures { OnOk result (draft.new ≡ draft.old ++ next_field (known_text number)) }
 {
     match number {
-        Some(number) => push_number(draft, number),
+        Some(number) => draft.next_number(number),
         None => draft.text(b","),
     }
 }
@@ -36,21 +28,21 @@ fn push_range(draft: &mut Draft, row: &RequestRow) -> Result<(), AllocError>
 {
     draft.number(row.id)?;
     draft.next_letter(row.dir.letter())?;
-    push_number(draft, row.first)?;
-    push_number(draft, row.sectors)?;
-    push_number(draft, row.bios)?;
-    push_number(draft, row.pid)
+    draft.next_number(row.first)?;
+    draft.next_number(row.sectors)?;
+    draft.next_number(row.bios)?;
+    draft.next_number(row.pid)
 }
 
 /// Adds the fields of its times.
 fn push_times(draft: &mut Draft, row: &RequestRow) -> Result<(), AllocError>
     ensures { OnOk result (draft.new ≡ draft.old ++ time_fields row.now) }
 {
-    push_number(draft, row.queued)?;
+    draft.next_number(row.queued)?;
     push_known(draft, row.inserted)?;
-    push_number(draft, row.dispatched)?;
+    draft.next_number(row.dispatched)?;
     push_known(draft, row.completed)?;
-    push_number(draft, row.due)
+    draft.next_number(row.due)
 }
 
 /// Adds the line of a request.

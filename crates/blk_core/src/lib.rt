@@ -6,9 +6,9 @@
 //! issued once in a round.
 #![tactic(auto)]
 
-pub mod calls;
+mod calls;
 pub mod laws;
-pub mod refusals;
+mod refusals;
 mod tags;
 
 pub use crate::calls::{Core, Placed};

@@ -50,8 +50,8 @@ impl<'a, S: Scheduler> Scheduler for Noting<'a, S> {
 
     ghost kept = { λ n. S.kept n.scheduler };
 
-    fn enter(&mut self, slot: &mut Option<Queued<S::A>>) -> Result<(), AllocError> {
-        self.scheduler.enter(slot)
+    fn insert_from(&mut self, slot: &mut Option<Queued<S::A>>) -> Result<(), AllocError> {
+        self.scheduler.insert_from(slot)
     }
 
     fn candidate(&self, hw: u8, limits: &Limits, newcomer: &Request<S::A>) -> Option<(u64, Side)> {

@@ -220,7 +220,7 @@ impl<A: Allocator + Clone> Scheduler for Deadline<A> {
     ghost kept = { λ s. deadline_kept s.batch s.tunables };
 
     #[inline(always)]
-    fn enter(&mut self, slot: &mut Option<Queued<A>>) -> Result<(), AllocError> {
+    fn insert_from(&mut self, slot: &mut Option<Queued<A>>) -> Result<(), AllocError> {
         let Some(queued) = slot.take() else {
             unreachable!()
         };

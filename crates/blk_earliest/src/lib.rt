@@ -98,7 +98,7 @@ impl<A: Allocator + Clone> Scheduler for Earliest<A> {
     ghost kept = { λ s. earliest_kept s.late_last };
 
     #[inline(always)]
-    fn enter(&mut self, slot: &mut Option<Queued<A>>) -> Result<(), AllocError> {
+    fn insert_from(&mut self, slot: &mut Option<Queued<A>>) -> Result<(), AllocError> {
         let Some(queued) = slot.take() else {
             unreachable!()
         };

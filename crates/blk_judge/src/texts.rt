@@ -7,7 +7,7 @@ ghost use Rattle.blk_judge.specs.Text.{counts_text, judged_text, miss_line, miss
 use crate::{Judged, Miss};
 use drafts::Draft;
 use edd_figures::Counts;
-use edd_figures::lines::{push_crowds, push_field, push_figures, push_number_line, push_verdict};
+use edd_figures::lines::{push_crowds, push_figures, push_number_line, push_verdict};
 use std::alloc::{AllocError, Allocator, Global};
 
 /// Adds the lines of the counts.
@@ -39,10 +39,10 @@ fn push_miss(draft: &mut Draft, miss: &Miss) -> Result<(), AllocError>
     ensures { OnOk result (draft.new ≡ draft.old ++ miss_line miss.now) }
 {
     draft.number(miss.command.id)?;
-    push_field(draft, miss.command.release)?;
-    push_field(draft, miss.command.due)?;
-    push_field(draft, miss.round)?;
-    push_field(draft, miss.lateness)?;
+    draft.next_number(miss.command.release)?;
+    draft.next_number(miss.command.due)?;
+    draft.next_number(miss.round)?;
+    draft.next_number(miss.lateness)?;
     push_verdict(draft, miss.verdict)?;
     draft.text(b"\n")
 }

@@ -1,2 +1,3 @@
--- What clauses of parts of a pick alone need.
+-- What only clauses of the parts of a pick need, and how limits are kept.
 pub mod Parts
+pub mod Limits

@@ -13,11 +13,6 @@ pub record DirLimits : Type 0 where
   pub missed_reads : Bool
   pub missed_writes : Bool
 
--- the limits of these numbers, with the misses of each direction
-abbrev pub dir_limits : ℕ → ℕ → ℕ → Bool → Bool → DirLimits
-dir_limits depth reads writes missed_reads missed_writes =
-    record { depth = depth; reads = reads; writes = writes; missed_reads = missed_reads; missed_writes = missed_writes }
-
 -- at first both limits are the depth, and nothing was missed
 abbrev pub first_limits : ℕ → DirLimits
 first_limits depth = record { depth = depth; reads = depth; writes = depth; missed_reads = false; missed_writes = false }

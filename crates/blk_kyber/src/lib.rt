@@ -15,7 +15,7 @@ ghost use Rattle.blk_kyber.specs.Shown.{meaning_of, state_of};
 ghost use Rattle.blk_kyber.specs.Inside.Parts.{IsTurnChoice, head_in};
 ghost use Rattle.blk_index.specs.Queues.{served_of};
 
-pub mod limits;
+mod limits;
 mod turn;
 
 use crate::limits::{DomainLimits, ROUNDS_BETWEEN};
@@ -157,7 +157,7 @@ impl<A: Allocator + Clone> Scheduler for Kyber<A> {
 
     ghost kept = { λ s. numbers_of (state_of s) };
 
-    fn enter(&mut self, slot: &mut Option<Queued<A>>) -> Result<(), AllocError> {
+    fn insert_from(&mut self, slot: &mut Option<Queued<A>>) -> Result<(), AllocError> {
         let Some(queued) = slot.take() else {
             unreachable!()
         };

@@ -8,11 +8,11 @@ use blk_sched::MAX_OPEN;
 use std::marker::Model;
 
 /// The limits are adjusted every this many rounds.
-pub const ROUNDS_BETWEEN: u64 = 8;
+pub(crate) const ROUNDS_BETWEEN: u64 = 8;
 
 /// The limits of both directions, and which of them had a miss since they were last set.
 #[derive(Drop)]
-pub struct DomainLimits {
+pub(crate) struct DomainLimits {
     depth: u64,
     reads: u64,
     writes: u64,
@@ -22,7 +22,8 @@ pub struct DomainLimits {
 
 impl Model for DomainLimits {
     ghost use Rattle.std.specs.Prelude.{◌≤◌};
-    ghost use Rattle.blk_kyber.specs.Limits.{DirLimits, dir_limits};
+    ghost use Rattle.blk_kyber.specs.Limits.{DirLimits};
+    ghost use Rattle.blk_kyber.specs.Inside.Limits.{dir_limits};
     ghost use Rattle.blk_sched.specs.declared.picks.TheConstants.{MAX_OPEN};
 
     ghost Value = { DirLimits };

@@ -8,11 +8,11 @@
 
 mod accounts;
 mod closing;
-pub mod layer;
+mod layer;
 mod locked;
 mod seats;
-pub mod serving;
-pub mod submitting;
+mod serving;
+mod submitting;
 
 pub use crate::closing::{CloseFault, CloseRefused, Closed};
 pub use crate::layer::{Layer, LayerFault, MAX_WORKERS, Named};

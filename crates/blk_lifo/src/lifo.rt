@@ -108,7 +108,7 @@ impl<A: Allocator + Clone> Scheduler for Lifo<A> {
 
     ghost policy = { lifo_policy };
 
-    fn enter(&mut self, slot: &mut Option<Queued<A>>) -> Result<(), AllocError> {
+    fn insert_from(&mut self, slot: &mut Option<Queued<A>>) -> Result<(), AllocError> {
         let Some(queued) = slot.take() else {
             unreachable!()
         };

@@ -39,25 +39,25 @@ pub const ANY_SLOT: Slot = Slot::Number {
 };
 
 /// The depth of a round: how many commands it has room for.
-pub const DEPTH_SLOT: Slot = Slot::Number {
+pub(crate) const DEPTH_SLOT: Slot = Slot::Number {
     least: 1,
     most: MAX_DEPTH,
 };
 
 /// A number of commands.
-pub const COUNT_SLOT: Slot = Slot::Number {
+pub(crate) const COUNT_SLOT: Slot = Slot::Number {
     least: 0,
     most: MAX_COMMANDS,
 };
 
 /// The round in which a command is released.
-pub const RELEASE_SLOT: Slot = Slot::Number {
+pub(crate) const RELEASE_SLOT: Slot = Slot::Number {
     least: 0,
     most: MAX_RELEASES - 1,
 };
 
 /// Any other round.
-pub const ROUND_SLOT: Slot = Slot::Number {
+pub(crate) const ROUND_SLOT: Slot = Slot::Number {
     least: 0,
     most: MAX_ROUNDS - 1,
 };
@@ -174,7 +174,7 @@ fn parse_digits(field: &[u8]) -> Option<u64>
 }
 
 /// What stands after a minus.
-pub fn after_minus(field: &[u8]) -> Option<&[u8]>
+pub(crate) fn after_minus(field: &[u8]) -> Option<&[u8]>
     ensures { MatchOption result (get_or field.now 0 0 ≢ 45) (λ digits. field.now ≡ 45 ∷ digits.now) }
 {
     match field {

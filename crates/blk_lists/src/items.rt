@@ -180,7 +180,7 @@ where
 }
 
 /// The fault of one item more.
-pub fn beyond(repeats: Repeats) -> Why
+fn beyond(repeats: Repeats) -> Why
     ensures { result ≡ beyond_of repeats }
 {
     match repeats {

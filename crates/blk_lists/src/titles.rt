@@ -65,7 +65,7 @@ pub struct TitleRow<const L: usize, const N: usize> {
 }
 
 /// The fields of a title with a depth and a number of commands.
-pub const COUNTED: [Slot; 4] = [Slot::Given, Slot::Given, DEPTH_SLOT, COUNT_SLOT];
+pub(crate) const COUNTED: [Slot; 4] = [Slot::Given, Slot::Given, DEPTH_SLOT, COUNT_SLOT];
 
 /// The version of a title record of the form of this name, if the form has one like it.
 fn version_of(row: &ByteRecord, name: &[u8], latest: u64) -> Option<u64>

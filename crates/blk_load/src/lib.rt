@@ -13,4 +13,4 @@ mod submitting;
 mod under;
 
 pub use crate::running::load;
-pub use crate::under::{OnThreads, load_under};
+pub use crate::under::OnThreads;

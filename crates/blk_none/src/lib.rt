@@ -55,7 +55,7 @@ impl<A: Allocator + Clone> Scheduler for NoneSched<A> {
     ghost policy = { none_policy };
 
     #[inline(always)]
-    fn enter(&mut self, slot: &mut Option<Queued<A>>) -> Result<(), AllocError> {
+    fn insert_from(&mut self, slot: &mut Option<Queued<A>>) -> Result<(), AllocError> {
         let Some(queued) = slot.take() else {
             unreachable!()
         };

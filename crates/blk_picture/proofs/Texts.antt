@@ -3,7 +3,7 @@ use Rattle.std.proofs.Common.{◌≡◌, ◌<◌, ◌≤◌, ◌+◌, ◌++◌, 
 use Rattle.std.specs.Prelude.{flat_map}
 use Rattle.std.proofs.lemmas.Bool.{cases_Bool}
 use Rattle.std.proofs.lemmas.List.{flat_map_more, take_more, drop_more, drop_all}
-use Rattle.blk_picture.specs.Filled.{filled, first_digits, texts, made}
+use Rattle.blk_picture.specs.Templates.{from_template, first_digits, texts, made}
 
 pub texts_none : (f : ℕ → List ℕ) (old : List ℕ) → old ≡ old ++ texts f 0
 unfolding texts
@@ -26,32 +26,32 @@ made_push f n items new x h e is =
     e ∙ ap (λ l. l ++ x ∷ []) h ∙ ap (λ y. made f n ++ y ∷ []) is ∙ ap (made f) on
 
 -- one more byte of the words
-pub fill_step : (words numbers : List ℕ) (at : ℕ) → at < length words → filled (drop at words) numbers ≡ cond (get_or words at 0 == 36) (first_digits numbers ++ filled (drop (at + 1) words) (drop 1 numbers)) (get_or words at 0 ∷ filled (drop (at + 1) words) numbers)
-unfolding filled
-fill_step words numbers at l = ap (λ w. filled w numbers) (drop_more words at 0 l)
+pub template_step : (words numbers : List ℕ) (at : ℕ) → at < length words → from_template (drop at words) numbers ≡ cond (get_or words at 0 == 36) (first_digits numbers ++ from_template (drop (at + 1) words) (drop 1 numbers)) (get_or words at 0 ∷ from_template (drop (at + 1) words) numbers)
+unfolding from_template
+template_step words numbers at l = ap (λ w. from_template w numbers) (drop_more words at 0 l)
 
 -- the byte, and what is left
-fill_cases : (words numbers : List ℕ) (c : ℕ) → cond (c == 36) (first_digits numbers ++ filled words (drop 1 numbers)) (c ∷ filled words numbers) ≡ cond (c == 36) (first_digits numbers) (c ∷ []) ++ filled words (cond (c == 36) (drop 1 numbers) numbers)
-fill_cases words numbers c =
+template_cases : (words numbers : List ℕ) (c : ℕ) → cond (c == 36) (first_digits numbers ++ from_template words (drop 1 numbers)) (c ∷ from_template words numbers) ≡ cond (c == 36) (first_digits numbers) (c ∷ []) ++ from_template words (cond (c == 36) (drop 1 numbers) numbers)
+template_cases words numbers c =
     elim (cases_Bool (c == 36)) [
       | inl t ↦ rw t refl
       | inr f ↦ rw f refl
     ]
 
-pub fill_next : (words numbers rest draft new whole : List ℕ) (at : ℕ) → at < length words → draft ++ filled (drop at words) numbers ≡ whole → new ≡ draft ++ cond (get_or words at 0 == 36) (first_digits numbers) (get_or words at 0 ∷ []) → rest ≡ cond (get_or words at 0 == 36) (drop 1 numbers) numbers → new ++ filled (drop (at + 1) words) rest ≡ whole
-fill_next words numbers rest draft new whole at l h e r =
+pub template_next : (words numbers rest draft new whole : List ℕ) (at : ℕ) → at < length words → draft ++ from_template (drop at words) numbers ≡ whole → new ≡ draft ++ cond (get_or words at 0 == 36) (first_digits numbers) (get_or words at 0 ∷ []) → rest ≡ cond (get_or words at 0 == 36) (drop 1 numbers) numbers → new ++ from_template (drop (at + 1) words) rest ≡ whole
+template_next words numbers rest draft new whole at l h e r =
     let c : ℕ = get_or words at 0 in
     let more : List ℕ = drop (at + 1) words in
-    ap (λ t. t ++ filled more rest) e
-    ∙ ap (λ ns. (draft ++ cond (c == 36) (first_digits numbers) (c ∷ [])) ++ filled more ns) r
-    ∙ append_assoc draft (cond (c == 36) (first_digits numbers) (c ∷ [])) (filled more (cond (c == 36) (drop 1 numbers) numbers))
-    ∙ ap (λ t. draft ++ t) (sym (fill_step words numbers at l ∙ fill_cases more numbers c))
+    ap (λ t. t ++ from_template more rest) e
+    ∙ ap (λ ns. (draft ++ cond (c == 36) (first_digits numbers) (c ∷ [])) ++ from_template more ns) r
+    ∙ append_assoc draft (cond (c == 36) (first_digits numbers) (c ∷ [])) (from_template more (cond (c == 36) (drop 1 numbers) numbers))
+    ∙ ap (λ t. draft ++ t) (sym (template_step words numbers at l ∙ template_cases more numbers c))
     ∙ h
 
-pub fill_all : (words numbers draft whole : List ℕ) (at : ℕ) → length words ≤ at → draft ++ filled (drop at words) numbers ≡ whole → draft ≡ whole
-unfolding filled
-fill_all words numbers draft whole at l h =
-    sym (append-nil draft) ∙ ap (λ w. draft ++ filled w numbers) (sym (drop_all at words l)) ∙ h
+pub template_all : (words numbers draft whole : List ℕ) (at : ℕ) → length words ≤ at → draft ++ from_template (drop at words) numbers ≡ whole → draft ≡ whole
+unfolding from_template
+template_all words numbers draft whole at l h =
+    sym (append-nil draft) ∙ ap (λ w. draft ++ from_template w numbers) (sym (drop_all at words l)) ∙ h
 
 -- one more text
 pub grow : (old mid new a b : List ℕ) → mid ≡ old ++ a → new ≡ mid ++ b → new ≡ old ++ (a ++ b)

@@ -8,7 +8,7 @@ use Rattle.blk_report.specs.Lines.{report_text}
 use Rattle.blk_picture.specs.declared.around.TheConstants.{MAX_CROWDS, MAX_LABELLED}
 use Rattle.blk_picture.specs.declared.scale.Scale.{Scale}
 use Rattle.blk_picture.specs.declared.scale.TheConstants.{LEFT, MAX_AXIS_STEPS, MAX_WIDE, TOP}
-use Rattle.blk_picture.specs.Filled.{filled, texts}
+use Rattle.blk_picture.specs.Templates.{from_template, texts}
 use Rattle.blk_picture.specs.Scales.{step_of}
 
 -- the colours and what they mean
@@ -17,7 +17,7 @@ legend = codes "<g transform='translate(24,78)'><rect class='r' width='14' heigh
 
 -- the four values of misses, and what a column stands for
 abbrev pub numbers_text : Scale → Tally → List ℕ
-numbers_text scale t = filled (codes "</text>\n<text x='24' y='68'>late $ unavoidable $ avoidable $ spare $; rounds in a column: $</text>\n") (t.late ∷ t.unavoidable ∷ t.avoidable ∷ t.spare ∷ scale.per ∷ [])
+numbers_text scale t = from_template (codes "</text>\n<text x='24' y='68'>late $ unavoidable $ avoidable $ spare $; rounds in a column: $</text>\n") (t.late ∷ t.unavoidable ∷ t.avoidable ∷ t.spare ∷ scale.per ∷ [])
 
 -- the name, the eight values of the report, and these
 abbrev pub heading_text : Scale → List ℕ → Report → Tally → List ℕ
@@ -32,7 +32,7 @@ column_at scale round = min round (scale.rounds - 1) / scale.per
 abbrev pub tick_text : Scale → ℕ → List ℕ
 tick_text scale n =
     cond (nat_le scale.rounds (n * step_of scale.rounds + 0)) []
-    (filled (codes "<path class='k' d='M$ 0v5'/><text class='s c' x='$' y='17'>$</text>\n") ((column_at scale (n * step_of scale.rounds + 0) * scale.wide + LEFT) ∷ (column_at scale (n * step_of scale.rounds + 0) * scale.wide + LEFT) ∷ (n * step_of scale.rounds + 0) ∷ []))
+    (from_template (codes "<path class='k' d='M$ 0v5'/><text class='s c' x='$' y='17'>$</text>\n") ((column_at scale (n * step_of scale.rounds + 0) * scale.wide + LEFT) ∷ (column_at scale (n * step_of scale.rounds + 0) * scale.wide + LEFT) ∷ (n * step_of scale.rounds + 0) ∷ []))
 
 -- the axis
 abbrev pub axis_text : Scale → List ℕ
@@ -41,13 +41,13 @@ axis_text scale = texts (tick_text scale) (MAX_AXIS_STEPS + 1) ++ codes "<text c
 -- the bracket of a window in a row, from the column of its first round to that of its last one, and its two numbers in its title
 abbrev pub line_text : Scale → ℕ → Crowd → List ℕ
 line_text scale row c =
-    filled (codes " d='M$ $v6H$v-6'><title>rounds $ to $: $ commands, room for $</title></path>\n")
+    from_template (codes " d='M$ $v6H$v-6'><title>rounds $ to $: $ commands, room for $</title></path>\n")
     ((column_at scale c.window.from * scale.wide + LEFT) ∷ (row * 28 + 28) ∷ (column_at scale c.window.due * scale.wide + (LEFT + min scale.wide MAX_WIDE)) ∷ c.window.from ∷ c.window.due ∷ c.commands ∷ c.carries ∷ [])
 
 -- and below it, where it is labelled
 abbrev pub named_text : Scale → ℕ → Crowd → Bool → List ℕ
 named_text scale row c labelled =
-    cond labelled (filled (codes "<text class='s' x='$' y='$'>$ commands, room for $</text>\n") ((column_at scale c.window.from * scale.wide + LEFT) ∷ (row * 28 + 46) ∷ c.commands ∷ c.carries ∷ [])) []
+    cond labelled (from_template (codes "<text class='s' x='$' y='$'>$ commands, room for $</text>\n") ((column_at scale c.window.from * scale.wide + LEFT) ∷ (row * 28 + 46) ∷ c.commands ∷ c.carries ∷ [])) []
 
 abbrev pub bracket_text : Scale → ℕ → Crowd → Bool → List ℕ
 bracket_text scale row c labelled = line_text scale row c ++ named_text scale row c labelled
@@ -69,7 +69,7 @@ crowds_text scale crowds = texts (crowd_text scale crowds) (min (length crowds) 
 
 -- how what stands below the frame begins
 abbrev pub foot_text : Scale → List ℕ
-foot_text scale = filled (codes "<g transform='translate(0,$)'>\n") ((scale.deep * scale.tall + TOP) ∷ [])
+foot_text scale = from_template (codes "<g transform='translate(0,$)'>\n") ((scale.deep * scale.tall + TOP) ∷ [])
 
 -- what stands below the frame
 abbrev pub windows_text : Scale → Report → ℕ → List Crowd → List ℕ

@@ -1,4 +1,4 @@
-pub mod Filled
+pub mod Templates
 pub mod Boxes
 pub mod Scales
 pub mod Columns

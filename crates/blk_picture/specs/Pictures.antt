@@ -16,7 +16,7 @@ use Rattle.blk_trace.specs.Depths.{capacity_of}
 use Rattle.blk_picture.specs.declared.scale.Scale.{Scale}
 use Rattle.blk_picture.specs.Boxes.{boxes_of}
 use Rattle.blk_picture.specs.Columns.{column_of}
-use Rattle.blk_picture.specs.Filled.{filled, made}
+use Rattle.blk_picture.specs.Templates.{from_template, made}
 use Rattle.blk_picture.specs.Scales.{scale_of}
 use Rattle.blk_picture.specs.Shapes.{strip_text, frame_text}
 use Rattle.blk_picture.specs.Around.{heading_text, windows_text}
@@ -50,7 +50,7 @@ pub record IsPart (scale : Scale) (top : ℕ) (name : List ℕ) (t : Traced) (te
   pub windows : List Crowd
   pub is_report : IsReport t.setup t.events report
   pub is_tallied : IsTallied t.setup t.events tally windows
-  pub is_text : text ≡ ((((filled (codes "<g transform='translate(0,$)'>\n") (top ∷ [])
+  pub is_text : text ≡ ((((from_template (codes "<g transform='translate(0,$)'>\n") (top ∷ [])
       ++ heading_text scale name report tally)
       ++ strip_text scale (made (column_of t.setup t.events scale) scale.columns))
       ++ frame_text scale (boxes_of t.setup t.events) (made (column_of t.setup t.events scale) scale.columns))
@@ -67,10 +67,10 @@ style = codes "<style>text{font-family:sans-serif;font-size:13px;fill:#222}.t{fo
 
 -- how a picture begins
 abbrev pub svg_text : ℕ → List ℕ
-svg_text height = filled (codes "<svg xmlns='http://www.w3.org/2000/svg' version='1.1' width='1280' height='$' viewBox='0 0 1280 $'>\n") (height ∷ height ∷ [])
+svg_text height = from_template (codes "<svg xmlns='http://www.w3.org/2000/svg' version='1.1' width='1280' height='$' viewBox='0 0 1280 $'>\n") (height ∷ height ∷ [])
 
 abbrev pub page_text : ℕ → List ℕ
-page_text height = filled (codes "<rect class='p' width='1280' height='$'/>\n") (height ∷ [])
+page_text height = from_template (codes "<rect class='p' width='1280' height='$'/>\n") (height ∷ [])
 
 abbrev pub head_text : ℕ → List ℕ
 head_text height = (svg_text height ++ style) ++ page_text height

@@ -8,7 +8,7 @@ use Rattle.blk_picture.specs.declared.scale.TheConstants.{LEFT, TOP}
 use Rattle.blk_picture.specs.declared.columns.Column.{Column}
 use Rattle.blk_picture.specs.declared.shapes.TheConstants.{MIN_LABEL_TALL}
 use Rattle.blk_picture.specs.Columns.{is_late}
-use Rattle.blk_picture.specs.Filled.{filled, texts}
+use Rattle.blk_picture.specs.Templates.{from_template, texts}
 
 -- how a box begins: its class is its direction, with a heavy edge where it was late, and hatched where it was requeued
 abbrev pub class_by : Dir → Bool → Bool → List ℕ
@@ -52,14 +52,14 @@ label_words Write = codes "<text class='n' x='$' y='$'>$</text>\n"
 abbrev pub label_text : Scale → IssueBox → List ℕ
 label_text scale b =
     cond (b.back || (not (is_late b) || not (fits scale (apart b)))) []
-    (filled (label_words b.dir) ((b.round * scale.wide + (LEFT + scale.wide / 2)) ∷ (b.tag * scale.tall + (TOP + scale.tall / 2 + 3)) ∷ apart b ∷ []))
+    (from_template (label_words b.dir) ((b.round * scale.wide + (LEFT + scale.wide / 2)) ∷ (b.tag * scale.tall + (TOP + scale.tall / 2 + 3)) ∷ apart b ∷ []))
 
 -- where a box lies: in the column of its round and the row of its tag; and how its title begins
 abbrev pub place_text : Scale → IssueBox → List ℕ
-place_text scale b = filled (codes " x='$' y='$' width='$' height='$'><title>request $, ") ((b.round * scale.wide + LEFT) ∷ (b.tag * scale.tall + TOP) ∷ (scale.wide - 1) ∷ (scale.tall - 1) ∷ b.id ∷ [])
+place_text scale b = from_template (codes " x='$' y='$' width='$' height='$'><title>request $, ") ((b.round * scale.wide + LEFT) ∷ (b.tag * scale.tall + TOP) ∷ (scale.wide - 1) ∷ (scale.tall - 1) ∷ b.id ∷ [])
 
 abbrev pub tail_text : IssueBox → List ℕ
-tail_text b = filled (tail_words b) (b.first ∷ b.end ∷ b.release ∷ b.due ∷ b.round ∷ apart b ∷ [])
+tail_text b = from_template (tail_words b) (b.first ∷ b.end ∷ b.release ∷ b.due ∷ b.round ∷ apart b ∷ [])
 
 -- a box: its class, its place, its title, and the rounds late
 abbrev pub box_text : Scale → IssueBox → List ℕ
@@ -69,14 +69,14 @@ box_text scale b = (((class_words b ++ place_text scale b) ++ dir_words b.dir) +
 -- do not carry. A unit of height is a place
 abbrev pub stack_text : Scale → ℕ → Column → List ℕ
 stack_text scale c n =
-    filled (codes "<g><title>column $: $ reads and $ writes on time, $ late, $ handed back, $ idle places</title><rect class='r' x='$' y='0' width='1' height='$'/><rect class='w' x='$' y='$' width='1' height='$'/><rect class='m' x='$' y='$' width='1' height='$'/><rect class='b' x='$' y='$' width='1' height='$'/><rect class='g' x='$' y='$' width='1' height='$'/></g>\n")
+    from_template (codes "<g><title>column $: $ reads and $ writes on time, $ late, $ handed back, $ idle places</title><rect class='r' x='$' y='0' width='1' height='$'/><rect class='w' x='$' y='$' width='1' height='$'/><rect class='m' x='$' y='$' width='1' height='$'/><rect class='b' x='$' y='$' width='1' height='$'/><rect class='g' x='$' y='$' width='1' height='$'/></g>\n")
     (c ∷ n.reads ∷ n.writes ∷ n.lates ∷ n.backs ∷ (n.room - (n.reads + n.writes + n.lates + n.backs)) ∷ c ∷ n.reads ∷ c ∷ n.reads ∷ n.writes ∷ c ∷ (n.reads + n.writes) ∷ n.lates ∷ c ∷ (n.reads + n.writes + n.lates) ∷ n.backs ∷ c ∷ n.room ∷ (scale.per * scale.deep + 0 - n.room) ∷ [])
 
 -- what the round of a column does not carry
 abbrev pub grey_text : Scale → ℕ → Column → List ℕ
 grey_text scale c n =
     cond (scale.deep - n.room == 0) []
-    (filled (codes "<rect class='g' x='$' y='$' width='1' height='$'/>\n") (c ∷ n.room ∷ (scale.deep - n.room) ∷ []))
+    (from_template (codes "<rect class='g' x='$' y='$' width='1' height='$'/>\n") (c ∷ n.room ∷ (scale.deep - n.room) ∷ []))
 
 abbrev pub column_text : Scale → ℕ → Column → List ℕ
 column_text scale c n = cond (scale.per == 1) (grey_text scale c n) (stack_text scale c n)
@@ -90,7 +90,7 @@ columns_text scale columns n = texts (λ c. column_text scale c (slice_index_or 
 
 -- how the frame begins
 abbrev pub border_text : Scale → List ℕ
-border_text scale = filled (codes "<svg x='64' y='182' width='$' height='$' viewBox='0 0 $ $' preserveAspectRatio='none'><rect class='f' width='$' height='$'/>\n") ((scale.columns * scale.wide + 0) ∷ (scale.deep * scale.tall + 0) ∷ scale.columns ∷ (scale.per * scale.deep + 0) ∷ scale.columns ∷ (scale.per * scale.deep + 0) ∷ [])
+border_text scale = from_template (codes "<svg x='64' y='182' width='$' height='$' viewBox='0 0 $ $' preserveAspectRatio='none'><rect class='f' width='$' height='$'/>\n") ((scale.columns * scale.wide + 0) ∷ (scale.deep * scale.tall + 0) ∷ scale.columns ∷ (scale.per * scale.deep + 0) ∷ scale.columns ∷ (scale.per * scale.deep + 0) ∷ [])
 
 -- the frame, and the boxes where each column is a round
 abbrev pub frame_text : Scale → List IssueBox → List Column → List ℕ
@@ -100,7 +100,7 @@ frame_text scale boxes columns =
 -- the requests that wait in a column
 abbrev pub waiting_text : ℕ → Column → List ℕ
 waiting_text c n =
-    filled (codes "<g><title>$ reads and $ writes wait</title><rect class='r' x='$' y='0' width='1' height='$'/><rect class='w' x='$' y='$' width='1' height='$'/></g>\n")
+    from_template (codes "<g><title>$ reads and $ writes wait</title><rect class='r' x='$' y='0' width='1' height='$'/><rect class='w' x='$' y='$' width='1' height='$'/></g>\n")
     (n.read_waits ∷ n.write_waits ∷ c ∷ n.read_waits ∷ c ∷ n.read_waits ∷ n.write_waits ∷ [])
 
 -- the most that wait in a column, at least 1
@@ -109,7 +109,7 @@ most_waiting columns = fold max 1 (map (λ n. n.read_waits + n.write_waits) colu
 
 -- how the strip begins, by the most that wait
 abbrev pub scale_text : Scale → ℕ → List ℕ
-scale_text scale most = filled (codes "<text class='s e' x='58' y='120'>$</text><text class='s e' x='58' y='168'>waiting</text><text class='s e' x='58' y='194'>tag 0</text><svg x='64' y='110' width='$' height='60' viewBox='0 0 $ $' preserveAspectRatio='none'><rect class='f' width='$' height='$'/><g transform='matrix(1 0 0 -1 0 $)'>\n") (most ∷ (scale.columns * scale.wide + 0) ∷ scale.columns ∷ most ∷ scale.columns ∷ most ∷ most ∷ [])
+scale_text scale most = from_template (codes "<text class='s e' x='58' y='120'>$</text><text class='s e' x='58' y='168'>waiting</text><text class='s e' x='58' y='194'>tag 0</text><svg x='64' y='110' width='$' height='60' viewBox='0 0 $ $' preserveAspectRatio='none'><rect class='f' width='$' height='$'/><g transform='matrix(1 0 0 -1 0 $)'>\n") (most ∷ (scale.columns * scale.wide + 0) ∷ scale.columns ∷ most ∷ scale.columns ∷ most ∷ most ∷ [])
 
 abbrev pub waits_text : List Column → ℕ → List ℕ
 waits_text columns n = texts (λ c. waiting_text c (slice_index_or columns c no_column)) n

@@ -3,8 +3,8 @@
 ghost use Rattle.std.specs.Prelude.{◌≡◌, ◌<◌, ◌++◌, OnOk, length};
 ghost use Rattle.blk_picture.specs.Around.{numbers_text, legend, heading_text, tick_text, axis_text, column_at, line_text, named_text, bracket_text, crowded_text, crowd_text, crowds_text, foot_text, windows_text};
 
-use crate::filled::fill;
 use crate::scale::{LEFT, MAX_AXIS_STEPS, MAX_WIDE, Scale, TOP, place, step_of};
+use crate::template::push_template;
 use blk_report::{Report, Tally, report_lines};
 use drafts::Draft;
 use edd_figures::{Crowd, Figures};
@@ -21,7 +21,7 @@ fn push_numbers(draft: &mut Draft, scale: &Scale, tally: &Tally) -> Result<(), A
     ensures { OnOk result (draft.new ≡ draft.old ++ numbers_text scale.now tally.now) }
 {
     let per = u64::from(scale.per);
-    fill(
+    push_template(
         draft,
         b"</text>\n<text x='24' y='68'>late $ unavoidable $ avoidable $ spare $; rounds in a column: $</text>\n",
         &[
@@ -83,7 +83,7 @@ fn push_tick(draft: &mut Draft, scale: &Scale, number: u32) -> Result<(), AllocE
         return Ok(());
     }
     let x = place(column_at(scale, round), scale.wide, LEFT);
-    fill(
+    push_template(
         draft,
         b"<path class='k' d='M$ 0v5'/><text class='s c' x='$' y='17'>$</text>\n",
         &[x, x, round],
@@ -111,7 +111,7 @@ fn push_line(draft: &mut Draft, scale: &Scale, row: u32, crowd: Crowd) -> Result
     let from = place(first, scale.wide, LEFT);
     let to = place(last, scale.wide, LEFT + scale.wide.min(MAX_WIDE));
     let top = place(row, 28, 28);
-    fill(
+    push_template(
         draft,
         b" d='M$ $v6H$v-6'><title>rounds $ to $: $ commands, room for $</title></path>\n",
         &[
@@ -143,7 +143,7 @@ fn push_named(
     let first = column_at(scale, crowd.window.from);
     let from = place(first, scale.wide, LEFT);
     let top = place(row, 28, 46);
-    fill(
+    push_template(
         draft,
         b"<text class='s' x='$' y='$'>$ commands, room for $</text>\n",
         &[from, top, crowd.commands, crowd.carries],
@@ -224,7 +224,7 @@ fn push_foot(draft: &mut Draft, scale: &Scale) -> Result<(), AllocError>
     ensures { OnOk result (draft.new ≡ draft.old ++ foot_text scale.now) }
 {
     let foot = place(scale.deep, scale.tall, TOP);
-    fill(draft, b"<g transform='translate(0,$)'>\n", &[foot])
+    push_template(draft, b"<g transform='translate(0,$)'>\n", &[foot])
 }
 
 /// Adds what stands below the frame: the axis and the windows.

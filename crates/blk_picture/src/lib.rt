@@ -5,9 +5,9 @@ mod around;
 mod boxes;
 mod columns;
 mod facts;
-mod filled;
 mod parts;
 mod scale;
 mod shapes;
+mod template;
 
 pub use crate::parts::{picture, pictures};

@@ -12,9 +12,9 @@ ghost use Rattle.blk_picture.specs.Inside.Several.{HasParts};
 use crate::around::{push_heading, push_windows};
 use crate::boxes::{IssueBox, boxes};
 use crate::columns::{Column, columns};
-use crate::filled::fill;
 use crate::scale::{Scale, place};
 use crate::shapes::{push_frame, push_strip};
+use crate::template::push_template;
 use blk_report::{Report, Tally, misses, report};
 use blk_trace::Trace;
 use drafts::Draft;
@@ -84,7 +84,7 @@ fn push_part(
     let boxes = boxes(alloc, trace)?;
     let columns = columns(alloc, trace, boxes.as_slice(), scale)?;
     let room = crowded_room(&trace.capacity()?, report.figures);
-    fill(draft, b"<g transform='translate(0,$)'>\n", &[top])?;
+    push_template(draft, b"<g transform='translate(0,$)'>\n", &[top])?;
     push_heading(draft, alloc, &scale, name, &report, &missed.tally)?;
     push_strip(draft, &scale, columns.as_slice())?;
     push_frame(draft, &scale, boxes.as_slice(), columns.as_slice())?;
@@ -116,13 +116,13 @@ fn push_style(draft: &mut Draft) -> Result<(), AllocError>
 fn push_head(draft: &mut Draft, height: u64) -> Result<(), AllocError>
     ensures { OnOk result (draft.new ≡ draft.old ++ head_text height) }
 {
-    fill(
+    push_template(
         draft,
         b"<svg xmlns='http://www.w3.org/2000/svg' version='1.1' width='1280' height='$' viewBox='0 0 1280 $'>\n",
         &[height, height],
     )?;
     push_style(draft)?;
-    fill(
+    push_template(
         draft,
         b"<rect class='p' width='1280' height='$'/>\n",
         &[height],

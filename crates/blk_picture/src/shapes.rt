@@ -5,8 +5,8 @@ ghost use Rattle.blk_picture.specs.Shapes.{class_words, dir_words, tail_words, a
 
 use crate::boxes::IssueBox;
 use crate::columns::{Column, is_late};
-use crate::filled::fill;
 use crate::scale::{LEFT, Scale, TOP, place};
+use crate::template::push_template;
 use blk_bio::Dir;
 use drafts::Draft;
 use std::alloc::AllocError;
@@ -95,7 +95,7 @@ fn push_label(draft: &mut Draft, scale: &Scale, issued: &IssueBox) -> Result<(),
         Dir::Read => b"<text class='n o' x='$' y='$'>$</text>\n",
         Dir::Write => b"<text class='n' x='$' y='$'>$</text>\n",
     };
-    fill(draft, words, &[x, y, rounds])
+    push_template(draft, words, &[x, y, rounds])
 }
 
 /// Adds where a box lies and how its title begins.
@@ -106,7 +106,7 @@ fn push_place(draft: &mut Draft, scale: &Scale, issued: &IssueBox) -> Result<(),
     let y = place(u32::from(issued.tag), scale.tall, TOP);
     let wide = u64::from(scale.wide.saturating_sub(1));
     let tall = u64::from(scale.tall.saturating_sub(1));
-    fill(
+    push_template(
         draft,
         b" x='$' y='$' width='$' height='$'><title>request $, ",
         &[x, y, wide, tall, issued.id],
@@ -119,7 +119,7 @@ fn push_tail(draft: &mut Draft, issued: &IssueBox) -> Result<(), AllocError>
 {
     let round = u64::from(issued.round);
     let apart = apart(issued);
-    fill(
+    push_template(
         draft,
         tail_words(issued),
         &[
@@ -185,7 +185,7 @@ fn push_stack(
     let served = reads + writes + lates;
     let idle = column.room.saturating_sub(served + backs);
     let away = whole.saturating_sub(column.room);
-    fill(
+    push_template(
         draft,
         b"<g><title>column $: $ reads and $ writes on time, $ late, $ handed back, $ idle places</title><rect class='r' x='$' y='0' width='1' height='$'/><rect class='w' x='$' y='$' width='1' height='$'/><rect class='m' x='$' y='$' width='1' height='$'/><rect class='b' x='$' y='$' width='1' height='$'/><rect class='g' x='$' y='$' width='1' height='$'/></g>\n",
         &[
@@ -226,7 +226,7 @@ fn push_grey(
     if away == 0 {
         return Ok(());
     }
-    fill(
+    push_template(
         draft,
         b"<rect class='g' x='$' y='$' width='1' height='$'/>\n",
         &[number, column.room, away],
@@ -267,7 +267,7 @@ fn push_border(draft: &mut Draft, scale: &Scale) -> Result<(), AllocError>
     let tall = place(scale.deep, scale.tall, 0);
     let columns = u64::from(scale.columns);
     let whole = place(scale.per, scale.deep, 0);
-    fill(
+    push_template(
         draft,
         b"<svg x='64' y='182' width='$' height='$' viewBox='0 0 $ $' preserveAspectRatio='none'><rect class='f' width='$' height='$'/>\n",
         &[wide, tall, columns, whole, columns, whole],
@@ -296,7 +296,7 @@ fn push_waiting(draft: &mut Draft, number: u64, column: Column) -> Result<(), Al
 {
     let reads = u64::from(column.read_waits);
     let writes = u64::from(column.write_waits);
-    fill(
+    push_template(
         draft,
         b"<g><title>$ reads and $ writes wait</title><rect class='r' x='$' y='0' width='1' height='$'/><rect class='w' x='$' y='$' width='1' height='$'/></g>\n",
         &[reads, writes, number, reads, number, reads, writes],
@@ -320,7 +320,7 @@ fn push_scale(draft: &mut Draft, scale: &Scale, most: u64) -> Result<(), AllocEr
 {
     let wide = place(scale.columns, scale.wide, 0);
     let columns = u64::from(scale.columns);
-    fill(
+    push_template(
         draft,
         b"<text class='s e' x='58' y='120'>$</text><text class='s e' x='58' y='168'>waiting</text><text class='s e' x='58' y='194'>tag 0</text><svg x='64' y='110' width='$' height='60' viewBox='0 0 $ $' preserveAspectRatio='none'><rect class='f' width='$' height='$'/><g transform='matrix(1 0 0 -1 0 $)'>\n",
         &[most, wide, columns, most, columns, most, most],

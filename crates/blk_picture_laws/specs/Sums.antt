@@ -11,7 +11,7 @@ use Rattle.blk_picture.specs.declared.columns.Column.{Column}
 use Rattle.blk_picture.specs.declared.columns.IssueKind.TheVariants.{Reads, Writes, Lates, Backs}
 use Rattle.blk_picture.specs.Boxes.{boxes_of}
 use Rattle.blk_picture.specs.Columns.{counts_as, column_of}
-use Rattle.blk_picture.specs.Filled.{made}
+use Rattle.blk_picture.specs.Templates.{made}
 
 -- the columns of a trace
 abbrev pub columns_in : Setup → List Happened → Scale → List Column

@@ -7,6 +7,6 @@
 #![tactic(auto)]
 
 mod candidate;
-pub mod plug;
+mod plug;
 
 pub use crate::plug::{Added, MAX_STAGED, Plug, PlugFault};

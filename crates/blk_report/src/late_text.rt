@@ -8,7 +8,7 @@ ghost use Rattle.blk_report.specs.LateText.{request_fields, round_fields, wait_f
 
 use crate::{LateCommand, Service};
 use drafts::{Draft, WriteFault, write_whole};
-use edd_figures::lines::{push_field, push_verdict};
+use edd_figures::lines::push_verdict;
 use std::alloc::{AllocError, Global};
 use std::io::Write;
 
@@ -18,27 +18,27 @@ fn push_request(draft: &mut Draft, service: &Service) -> Result<(), AllocError>
 {
     draft.number(service.id)?;
     draft.next_letter(service.dir.letter())?;
-    push_field(draft, service.first)?;
-    push_field(draft, service.sectors)
+    draft.next_number(service.first)?;
+    draft.next_number(service.sectors)
 }
 
 /// Adds the fields of its rounds.
 fn push_rounds(draft: &mut Draft, service: &Service) -> Result<(), AllocError>
     ensures { OnOk result (draft.new ≡ draft.old ++ round_fields service.now) }
 {
-    push_field(draft, service.release)?;
-    push_field(draft, service.due)?;
-    push_field(draft, service.issue)
+    draft.next_number(service.release)?;
+    draft.next_number(service.due)?;
+    draft.next_number(service.issue)
 }
 
 /// Adds the fields of what it waited for.
 fn push_wait(draft: &mut Draft, late: &LateCommand) -> Result<(), AllocError>
     ensures { OnOk result (draft.new ≡ draft.old ++ wait_fields late.now) }
 {
-    push_field(draft, late.lateness)?;
-    push_field(draft, late.sooner)?;
-    push_field(draft, late.later)?;
-    push_field(draft, late.idle)
+    draft.next_number(late.lateness)?;
+    draft.next_number(late.sooner)?;
+    draft.next_number(late.later)?;
+    draft.next_number(late.idle)
 }
 
 /// Adds the line of a command.

@@ -11,7 +11,7 @@ ghost use Rattle.blk_sched.specs.Policies.{Policy};
 ghost use Rattle.blk_sched.specs.Meaning.{Waiting, Meaning, HasCandidate, HasNoCandidate, Enters, Joins, JoinsBy, ServesNothing, Picks, RequeuesPick, joined_waiting, opened, open_of, requeued_of, unfinished};
 
 mod fits;
-pub mod picks;
+mod picks;
 
 pub use crate::fits::side_of_fit;
 pub use crate::picks::{MAX_OPEN, MAX_REQUEUED, OpenPicks};
@@ -96,7 +96,7 @@ pub trait Scheduler: Drop {
     ghost kept: { Self → List ℕ } = { λ _. [] };
 
     /// What an implementation writes for `insert`: takes the request out of the slot, and on a refusal leaves it there.
-    fn enter(&mut self, slot: &mut Option<Queued<Self::A>>) -> Result<(), AllocError>
+    fn insert_from(&mut self, slot: &mut Option<Queued<Self::A>>) -> Result<(), AllocError>
         requires some { IsSome slot.old }
         requires new { IfSome slot.old (λ w. map.get (meaning self.old).pending w.id ≡ None) }
         requires hw { IfSome slot.old (λ w. w.hw < MAX_QUEUES) }
@@ -116,7 +116,7 @@ pub trait Scheduler: Drop {
         ensures same { OnErr result (self.new ≡ self.old) }
     {
         let mut slot = Some(queued);
-        match self.enter(&mut slot) {
+        match self.insert_from(&mut slot) {
             Ok(()) => Ok(()),
             Err(why) => Err((slot.unwrap(), why)),
         }

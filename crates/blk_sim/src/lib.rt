@@ -3,9 +3,9 @@
 #![tactic(auto)]
 
 pub mod laws;
-pub mod refusal;
+mod refusal;
 mod rounds;
-pub mod simulation;
+mod simulation;
 mod steps;
 
 pub use refusal::{SimFault, SimWhy};

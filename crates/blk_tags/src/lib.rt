@@ -6,8 +6,8 @@
 //! waits for another. Each taker has a seat, which remembers what it holds; no two seats hold one tag.
 #![tactic(auto)]
 
-mod held;
 pub mod laws;
+mod seat_tags;
 
 ghost use Rattle.std.specs.Prelude.{◌≡◌, ◌<◌, ◌≤◌, ◌+◌, ◌-◌, ◌/◌, ◌%◌, ◌^◌, ◌++◌, ◌∷◌, [], ◌⊎◌, ◌↔◌, ℕ, List, replicate, true, false, None, Some, Err, IsTrue, IfOk, IfSome, IfNone, Contains};
 ghost use Rattle.std.specs.Bool.{OnTrue, OnFalse};
@@ -15,7 +15,7 @@ ghost use Rattle.blk_tags.specs.Tags.{IsSet, IsSeat, count_of, without};
 ghost use Rattle.blk_tags.specs.Steps.{TagsAreHeldOnce};
 ghost use Rattle.blk_tags.specs.Inside.{took, gave};
 
-use crate::held::Held;
+use crate::seat_tags::SeatTags;
 use atomic_table::{Join, Play, Seat, Split, Table, TableRule};
 use std::alloc::{AllocError, Allocator, Global};
 use std::marker::Model;
@@ -35,7 +35,7 @@ pub enum TagFault {
 /// What is true of the words and of what all seats hold, between any two steps.
 struct TagRule;
 
-impl TableRule<u8, Held, u16> for TagRule {
+impl TableRule<u8, SeatTags, u16> for TagRule {
     ghost holds = { λ depth s. TagsAreHeldOnce depth s };
 
     ghost first = { λ _. [] };
@@ -44,21 +44,21 @@ impl TableRule<u8, Held, u16> for TagRule {
 /// What a take does to the seat.
 struct Take;
 
-impl Play<u8, Held> for Take {
+impl Play<u8, SeatTags> for Take {
     ghost then = { took };
 }
 
 /// What a give does to the seat.
 struct Give;
 
-impl Play<u8, Held> for Give {
+impl Play<u8, SeatTags> for Give {
     ghost then = { gave };
 }
 
 /// A seat keeps what it holds, and a new one holds none.
 struct Cut;
 
-impl Split<Held> for Cut {
+impl Split<SeatTags> for Cut {
     ghost left = { λ v. v };
 
     ghost right = { λ _. [] };
@@ -67,7 +67,7 @@ impl Split<Held> for Cut {
 /// A seat keeps what it holds, and the one that goes holds none.
 struct Whole;
 
-impl Join<Held> for Whole {
+impl Join<SeatTags> for Whole {
     ghost both = { λ v _. v };
 
     ghost spent = { [] };
@@ -76,7 +76,7 @@ impl Join<Held> for Whole {
 /// A set of 1 to [`MAX_TAG_DEPTH`] tags, numbered from 0. Threads share it by `&`.
 #[derive(Drop)]
 pub struct TagSet<A: Allocator = Global> {
-    table: Table<u8, Held, u16, TagRule, A>,
+    table: Table<u8, SeatTags, u16, TagRule, A>,
     depth: u16,
 }
 
@@ -95,7 +95,7 @@ impl<A: Allocator> Model for TagSet<A> {
 /// What a seat that is dropped still holds is never given back.
 #[derive(Drop)]
 pub struct TagSeat<A: Allocator = Global> {
-    seat: Seat<u8, Held>,
+    seat: Seat<u8, SeatTags>,
     marks: Vec<bool, A>,
     last: Option<u16>,
 }
@@ -247,7 +247,7 @@ impl<A: Allocator> TagSet<A> {
     }
 
     /// Sets a tag's bit, and says whether it was clear.
-    fn set_bit(&self, seat: &mut Seat<u8, Held>, tag: u16) -> bool
+    fn set_bit(&self, seat: &mut Seat<u8, SeatTags>, tag: u16) -> bool
         requires table { seat.old.table_id ≡ self.now.name }
         requires below { tag < self.now.depth }
         ensures won { OnTrue result (seat.new.me.0 ≡ seat.old.me.0 ++ tag ∷ []) }
@@ -272,7 +272,7 @@ impl<A: Allocator> TagSet<A> {
     }
 
     /// Clears the bit of a tag that the seat holds.
-    fn clear_bit(&self, seat: &mut Seat<u8, Held>, tag: u16)
+    fn clear_bit(&self, seat: &mut Seat<u8, SeatTags>, tag: u16)
         requires table { seat.old.table_id ≡ self.now.name }
         requires below { tag < self.now.depth }
         requires holds { 0 < count_of tag seat.old.me.0 }

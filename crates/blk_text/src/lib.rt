@@ -8,7 +8,7 @@ mod heads;
 pub mod laws;
 pub mod script;
 mod setup;
-pub mod trace;
+mod trace;
 
 pub use crate::bios::{BIO, MAX_SUBMITTERS};
 pub use crate::events::read_trace;

@@ -1,13 +1,13 @@
 //! What a block layer did, as a list of events that is legal.
 #![tactic(auto)]
 
-pub mod event;
+mod event;
 mod known;
 pub mod laws;
-pub mod rule;
-pub mod setup;
+mod rule;
+mod setup;
 mod tags;
-pub mod trace;
+mod trace;
 
 pub use blk_bio::TraceRule;
 pub use event::{Event, MAX_TAGS};

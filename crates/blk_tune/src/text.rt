@@ -10,7 +10,7 @@ use crate::row::TrialRow;
 use blk_report::{Report, Tally};
 use blk_settings::{By, Sched, Setting, SettingValue};
 use drafts::Draft;
-use edd_figures::lines::{push_field, push_late};
+use edd_figures::lines::push_late;
 use std::alloc::{AllocError, Global};
 
 /// The word of a switch.
@@ -89,8 +89,8 @@ fn push_figure(draft: &mut Draft, alloc: Global, figure: Option<i64>) -> Result<
 fn push_report(draft: &mut Draft, alloc: Global, report: &Report) -> Result<(), AllocError>
     ensures { OnOk result (draft.new ≡ draft.old ++ report_fields report.now) }
 {
-    push_field(draft, report.commands)?;
-    push_field(draft, report.waiting)?;
+    draft.next_number(report.commands)?;
+    draft.next_number(report.waiting)?;
     push_figure(draft, alloc, report.greatest())?;
     push_figure(draft, alloc, report.least())?;
     push_figure(draft, alloc, report.shortfall())
@@ -100,9 +100,9 @@ fn push_report(draft: &mut Draft, alloc: Global, report: &Report) -> Result<(), 
 fn push_tally(draft: &mut Draft, tally: &Tally) -> Result<(), AllocError>
     ensures { OnOk result (draft.new ≡ draft.old ++ tally_fields tally.now) }
 {
-    push_field(draft, tally.late)?;
-    push_field(draft, tally.unavoidable)?;
-    push_field(draft, tally.avoidable)
+    draft.next_number(tally.late)?;
+    draft.next_number(tally.unavoidable)?;
+    draft.next_number(tally.avoidable)
 }
 
 /// Adds the line of a row.

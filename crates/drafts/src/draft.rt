@@ -56,6 +56,14 @@ impl Draft {
         self.block.push(&[b',', letter])
     }
 
+    /// Adds one more field of a record, of a number.
+    pub fn next_number(&mut self, number: u64) -> Result<(), AllocError>
+        ensures { OnOk result (self.new ≡ self.old ++ next_field (decimal number)) }
+    {
+        self.text(b",")?;
+        self.number(number)
+    }
+
     /// Adds a signed number, with a minus where it is below 0.
     pub fn signed(&mut self, alloc: Global, number: i64) -> Result<(), AllocError>
         ensures { OnOk result (self.new ≡ self.old ++ signed_decimal number) }

@@ -1,11 +1,11 @@
 //! Texts in the making, and how they reach a writer.
 #![tactic(auto)]
 
-pub mod block;
+mod block;
 mod draft;
-pub mod fault;
+mod fault;
 mod mark;
-pub mod output;
+mod output;
 pub mod pieces;
 
 pub use crate::block::Block;

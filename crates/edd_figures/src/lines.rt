@@ -3,7 +3,6 @@
 ghost use Rattle.std.specs.Prelude.{◌≡◌, ◌++◌, OnOk, decimal, codes};
 ghost use Rattle.std.specs.List.{flat_map};
 ghost use Rattle.edd_figures.specs.Lines.{late_text, count_text, window_text, figure_line, values_text, figures_text, crowd_line, verdict_fields, window_lines};
-ghost use Rattle.drafts.specs.Drafts.{next_field};
 
 use crate::{Crowd, Figures};
 use drafts::Draft;
@@ -152,14 +151,6 @@ pub fn push_crowds(draft: &mut Draft, crowds: &[Crowd]) -> Result<(), AllocError
     Ok(())
 }
 
-/// Adds one more field, of a number.
-pub fn push_field(draft: &mut Draft, number: u64) -> Result<(), AllocError>
-    ensures { OnOk result (draft.new ≡ draft.old ++ next_field (decimal number)) }
-{
-    draft.text(b",")?;
-    draft.number(number)
-}
-
 /// Adds the three fields of a verdict: its name, and the first and the last round of its window, or two empty fields.
 pub fn push_verdict(draft: &mut Draft, verdict: Verdict) -> Result<(), AllocError>
     ensures { OnOk result (draft.new ≡ draft.old ++ verdict_fields verdict) }
@@ -169,8 +160,8 @@ pub fn push_verdict(draft: &mut Draft, verdict: Verdict) -> Result<(), AllocErro
         Verdict::Spare => draft.text(b",spare,,"),
         Verdict::Full(window) => {
             draft.text(b",full")?;
-            push_field(draft, window.from)?;
-            push_field(draft, window.due)
+            draft.next_number(window.from)?;
+            draft.next_number(window.due)
         }
     }
 }

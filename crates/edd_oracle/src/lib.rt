@@ -106,8 +106,8 @@ pub fn solve<A: Allocator + Clone, B: Allocator>(
     let Ok(rounds) = queue::schedule(alloc, commands, capacity) else {
         return Err(OracleFault::Memory);
     };
-    let tight = window::tight(alloc_window, commands, rounds.as_slice(), capacity);
-    let Ok((lateness, window)) = tight else {
+    let latest = window::latest_window(alloc_window, commands, rounds.as_slice(), capacity);
+    let Ok((lateness, window)) = latest else {
         return Err(OracleFault::Memory);
     };
     law_of_crowded_windows(commands, capacity, lateness, window);

@@ -102,7 +102,7 @@ fn start<A: Allocator, B: Allocator>(
 }
 
 /// The greatest lateness of a schedule by earliest due date first, and the window of its latest command.
-pub fn tight<A: Allocator, B: Allocator>(
+pub fn latest_window<A: Allocator, B: Allocator>(
     alloc: A,
     commands: &[Command],
     rounds: &[u64],

@@ -1,5 +1,5 @@
 use Rattle.std.proofs.Common.{◌≡◌, ◌++◌}
-use Rattle.blk_picture.specs.Filled.{texts}
+use Rattle.blk_picture.specs.Templates.{texts}
 use Rattle.blk_picture.specs.Around.{tick_text}
 use Rattle.blk_picture.proofs.around.push_axis.Given as goal
 

@@ -1,5 +1,5 @@
 use Rattle.std.proofs.Common.{◌≡◌, ◌∙◌, length, get_or, ap}
-use Rattle.blk_picture.specs.Filled.{made}
+use Rattle.blk_picture.specs.Templates.{made}
 use Rattle.blk_picture.specs.Columns.{column_of, rooms_of}
 use Rattle.blk_picture.specs.Inside.Counted.{column_from}
 use Rattle.blk_picture.proofs.Texts.{made_same}

@@ -1,5 +1,5 @@
 use Rattle.std.proofs.Common.{◌≡◌, ◌∙◌, length, refl, ap, arith}
-use Rattle.blk_picture.specs.Filled.{made}
+use Rattle.blk_picture.specs.Templates.{made}
 use Rattle.blk_picture.specs.Inside.Counted.{column_from}
 use Rattle.blk_picture.proofs.Texts.{made_none, made_push}
 use Rattle.blk_picture.proofs.columns.joined.Goals as goal

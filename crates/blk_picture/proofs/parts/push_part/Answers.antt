@@ -5,7 +5,7 @@ use Rattle.blk_picture.specs.declared.boxes.IssueBox.{IssueBox}
 use Rattle.blk_picture.specs.declared.columns.Column.{Column}
 use Rattle.blk_picture.specs.Boxes.{boxes_of}
 use Rattle.blk_picture.specs.Columns.{column_of}
-use Rattle.blk_picture.specs.Filled.{filled, made}
+use Rattle.blk_picture.specs.Templates.{from_template, made}
 use Rattle.blk_picture.specs.Shapes.{strip_text, frame_text}
 use Rattle.blk_picture.specs.Around.{heading_text, windows_text}
 use Rattle.blk_picture.specs.Pictures.{crowded_room}
@@ -21,7 +21,7 @@ returns c =
     let columns : List Column = made (column_of t.setup t.events scale) scale.columns in
     let boxes : List IssueBox = boxes_of t.setup t.events in
     let room : ℕ = crowded_room (capacity_of t.setup t.events) report.figures in
-    let first : List ℕ = filled (codes "<g transform='translate(0,$)'>\n") (c.args.top ∷ []) in
+    let first : List ℕ = from_template (codes "<g transform='translate(0,$)'>\n") (c.args.top ∷ []) in
     let heading : List ℕ = heading_text scale c.args.name.now report c.in_ok-missed.missed.tally in (
       ((((first ++ heading) ++ strip_text scale columns) ++ frame_text scale boxes columns) ++ windows_text scale report room windows) ++ codes "</g>\n",
       record {
@@ -32,8 +32,8 @@ returns c =
         is_tallied = c.in_ok-missed.ensures.tallied;
         is_text = refl;
       },
-      grow6 c.args.draft.now c.fill.new.draft c.push_heading.new.draft c.push_strip.new.draft c.push_frame.new.draft c.push_windows.new.draft c.text.new.self first heading (strip_text scale columns) (frame_text scale boxes columns) (windows_text scale report room windows) (codes "</g>\n")
-          c.in_ok-fill.ensures
+      grow6 c.args.draft.now c.push_template.new.draft c.push_heading.new.draft c.push_strip.new.draft c.push_frame.new.draft c.push_windows.new.draft c.text.new.self first heading (strip_text scale columns) (frame_text scale boxes columns) (windows_text scale report room windows) (codes "</g>\n")
+          c.in_ok-push_template.ensures
           c.in_ok-push_heading.ensures
           (c.in_ok-push_strip.ensures ∙ ap (λ (l : List Column). c.push_heading.new.draft ++ strip_text scale l) (c.as_slice-2.ensures.value ∙ c.in_ok-columns.ensures))
           (c.in_ok-push_frame.ensures ∙ ap (λ (l : List IssueBox). c.push_strip.new.draft ++ frame_text scale l c.as_slice-4.result.now) (c.as_slice-3.ensures.value ∙ c.in_ok-boxes.ensures.boxes) ∙ ap (λ (l : List Column). c.push_strip.new.draft ++ frame_text scale boxes l) (c.as_slice-4.ensures.value ∙ c.in_ok-columns.ensures))

@@ -4,7 +4,7 @@ use Rattle.std.proofs.lemmas.List.{get_or_default}
 use Rattle.edd_commands.specs.declared.Command.{Command}
 use Rattle.edd_commands.specs.declared.TheConstants.{MAX_ROUNDS}
 use Rattle.edd_oracle.proofs.Crowded.{crowded_at, greatest_at}
-use Rattle.edd_oracle.proofs.window.tight.Goals as goal
+use Rattle.edd_oracle.proofs.window.latest_window.Goals as goal
 
 abbrev none : Command
 none = record { id = 0; release = 0; due = 0 }

@@ -4,9 +4,9 @@ use std::marker::Model;
 
 /// The tags that a seat holds. No value of it is made: it is the view of a seat at the table of words.
 #[derive(Drop)]
-pub struct Held {}
+pub struct SeatTags {}
 
-impl Model for Held {
+impl Model for SeatTags {
     ghost use Rattle.std.specs.Prelude.{ℕ, List, []};
 
     ghost Value = { List ℕ };

@@ -7,9 +7,9 @@ first_digits [] = []
 first_digits (n ∷ _) = decimal n
 
 -- the words, with the digits of the next number in place of each dollar sign
-unfoldable pub filled : List ℕ → List ℕ → List ℕ
-filled [] numbers = []
-filled (c ∷ words) numbers = cond (c == 36) (first_digits numbers ++ filled words (drop 1 numbers)) (c ∷ filled words numbers)
+unfoldable pub from_template : List ℕ → List ℕ → List ℕ
+from_template [] numbers = []
+from_template (c ∷ words) numbers = cond (c == 36) (first_digits numbers ++ from_template words (drop 1 numbers)) (c ∷ from_template words numbers)
 
 -- the texts of the numbers below one, one behind another
 unfoldable pub texts : (ℕ → List ℕ) → ℕ → List ℕ

@@ -1,4 +1,4 @@
-use Rattle.blk_capture.proofs.summary.spread_of.Goals as goal
+use Rattle.blk_capture.proofs.summary.percentiles_of.Goals as goal
 
 pub returns : goal.returns
 returns c = record {
