@@ -4,7 +4,7 @@
 ghost use Rattle.std.specs.Prelude.{◌≡◌, ◌≤◌, IfOk, IfErr, map, string_bytes};
 ghost use Rattle.drafts.specs.Outputs.{stream_of};
 ghost use Rattle.blk_cli.specs.Said.{only, said_of, IsAlone};
-ghost use Rattle.blk_cli.specs.Gives.{GivesText, HasNoText, StartsNoThreads, AnswersText, version_line};
+ghost use Rattle.blk_cli.specs.Gives.{GivesText, HasNoText, GivesAnswer, HasNoAnswer, version_line};
 ghost use Rattle.blk_cli.specs.Ends.{Answers, AskForTexts, IsWithout, status_with, SaysBeside, EndsSaying, EndsWithout, RunEndsOn};
 ghost use Rattle.blk_cli.specs.Inside.Ends.{EndsPutOn};
 
@@ -35,7 +35,7 @@ use blk_lists::Records;
 use blk_settings::Loads;
 pub use blk_sim::laws;
 use blk_tune::Progress;
-use blk_words::{Job, NoJob, VERSION, choose};
+use blk_words::{Job, NoJob, TextJob, VERSION, choose};
 use drafts::Output;
 use std::alloc::Global;
 use std::io::{Read, Write};
@@ -168,30 +168,54 @@ fn version(alloc: Global) -> Result<Vec<u8>, Failure>
     }
 }
 
-/// The text of a job that answers its text alone and starts no threads. Each kind of such a job is a row here: what it reads.
+/// The text of a job over a text. Each kind of such a job is a row here: what it reads.
 pub fn work<R: Read + Drop>(
     alloc: Global,
-    job: Job,
+    job: TextJob,
     records: &mut Records<R>,
 ) -> Result<Vec<u8>, Failure>
-    requires none_read { records.old.at ≡ 0 }
-    requires alone { StartsNoThreads job }
-    requires of_text { AnswersText job }
+    requires { records.old.at ≡ 0 }
     ensures text { IfOk result (λ text. GivesText job records.old.left text.items) }
     ensures fails { IfErr result (HasNoText job records.old.left records.new.failed) }
 {
     match job {
-        Job::Version => version(alloc),
-        Job::OfScript(running) => over_script(alloc, running, records),
-        Job::OfTrace(telling) => over_trace(alloc, telling, records),
-        Job::OfList(solving) => over_list(alloc, solving, records),
-        Job::Check(form) => over_proof(alloc, form, records),
-        Job::Judge { each } => over_schedule(alloc, each, records),
+        TextJob::OfScript(running) => over_script(alloc, running, records),
+        TextJob::OfTrace(telling) => over_trace(alloc, telling, records),
+        TextJob::OfList(solving) => over_list(alloc, solving, records),
+        TextJob::Check(form) => over_proof(alloc, form, records),
+        TextJob::Judge { each } => over_schedule(alloc, each, records),
+    }
+}
+
+/// What a job answers. Each kind is a row here: what it needs. Loads are run by `loads`, on the threads of `rt`, and so are trials of the
+/// grid that the words ask for, which tell `progress` how far they have come.
+fn answer_of<L: Loads, T: Threads + Wait + Sync, R: Read + Drop, P: Progress>(
+    loads: &L,
+    rt: &T,
+    alloc: Global,
+    words: &[String],
+    job: Job,
+    records: &mut Records<R>,
+    progress: &mut P,
+) -> Result<Answered, Failure>
+    requires { records.old.at ≡ 0 }
+    ensures answer { IfOk result (λ a. GivesAnswer (map string_bytes words.now) job records.old.left records.old.bytes (said_of a)) }
+    ensures fails { IfErr result (HasNoAnswer (map string_bytes words.now) job records.old.left records.new.failed) }
+{
+    match job {
+        Job::Version => Ok(Answered::alone(version(alloc)?)),
+        Job::OfText(job) => Ok(Answered::alone(work(alloc, job, records)?)),
+        Job::Tune(tuning) => {
+            let text = over_trial(rt, alloc, words, tuning, records, progress)?;
+            Ok(Answered::alone(text))
+        }
+        Job::Import(import) => over_capture(alloc, import, records),
         Job::Refuse(refusal) => Err(Failure::Words(refusal)),
-        Job::Import(..) => unreachable!(),
-        Job::Explain => unreachable!(),
-        Job::Tune(..) => unreachable!(),
-        Job::Load(..) => unreachable!(),
+        Job::Explain => over_bytes(alloc, records),
+        Job::Load(sched, amounts, shown) => {
+            let text = run_load(loads, rt, alloc, sched, amounts, shown)?;
+            Ok(Answered::alone(text))
+        }
     }
 }
 
@@ -211,26 +235,8 @@ pub fn answer<L: Loads, T: Threads + Wait + Sync, R: Read + Drop, P: Progress>(
     ensures without { IfErr result (IsWithout (map string_bytes words.now) records.old.left records.new.failed) }
 {
     match choose(alloc, words) {
-        Ok(Job::Load(sched, amounts, shown)) => {
-            match run_load(loads, rt, alloc, sched, amounts, shown) {
-                Ok(text) => Ok(Answered::alone(text)),
-                Err(failure) => Err(NoText::Failure(failure)),
-            }
-        }
-        Ok(Job::Import(import)) => match over_capture(alloc, import, records) {
+        Ok(job) => match answer_of(loads, rt, alloc, words, job, records, progress) {
             Ok(answer) => Ok(answer),
-            Err(failure) => Err(NoText::Failure(failure)),
-        },
-        Ok(Job::Explain) => match over_bytes(alloc, records) {
-            Ok(answer) => Ok(answer),
-            Err(failure) => Err(NoText::Failure(failure)),
-        },
-        Ok(Job::Tune(tuning)) => match over_trial(rt, alloc, words, tuning, records, progress) {
-            Ok(text) => Ok(Answered::alone(text)),
-            Err(failure) => Err(NoText::Failure(failure)),
-        },
-        Ok(job) => match work(alloc, job, records) {
-            Ok(text) => Ok(Answered::alone(text)),
             Err(failure) => Err(NoText::Failure(failure)),
         },
         Err(NoJob::Memory) => Err(NoText::Failure(Failure::Memory)),

@@ -11,7 +11,7 @@ pub mod table;
 mod times;
 pub mod words;
 
-pub use crate::inputs::{Running, Solving, Telling};
+pub use crate::inputs::{Running, Solving, Telling, TextJob};
 pub use crate::words::{
     Import, Job, NoGrid, NoJob, Refusal, ShownLoad, Tuning, VERSION, Written, choose, grid_asked,
 };
