@@ -7,6 +7,7 @@ use Rattle.blk_lists.specs.Schedule.{SpellsSchedule, ScheduleFault}
 use Rattle.blk_capture_text.specs.Captures.{SpellsCapture, CaptureTextFault}
 use Rattle.blk_text.specs.Script.{SpellsScript, ScriptFault}
 use Rattle.blk_text.specs.TraceForm.{SpellsTrace, TraceTextFault}
+use Rattle.blk_words.specs.CommandLine.{program_version}
 use Rattle.blk_words.specs.declared.inputs.TextJob.{TextJob}
 use Rattle.blk_words.specs.declared.inputs.TextJob.TheVariants as text_job
 use Rattle.blk_words.specs.declared.words.Job.{Job}
@@ -32,7 +33,7 @@ AnswersText j = ⊤
 
 -- the line with the program's name and version
 abbrev pub version_line : List ℕ
-version_line = codes "blk 1.0.0" ++ 10 ∷ []
+version_line = codes "blk " ++ (program_version ++ 10 ∷ [])
 
 -- the text that a job over a text gives of the records of its input, where these are known, and why it gives none, where the reader has
 -- failed or hasn't

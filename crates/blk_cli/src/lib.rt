@@ -35,7 +35,7 @@ use blk_lists::Records;
 use blk_settings::Loads;
 pub use blk_sim::laws;
 use blk_tune::Progress;
-use blk_words::{Job, NoJob, TextJob, VERSION, choose};
+use blk_words::{Job, NoJob, TextJob, choose, version};
 use drafts::Output;
 use std::alloc::Global;
 use std::io::{Read, Write};
@@ -158,11 +158,12 @@ fn refuse<F: Write>(line: &[u8], faults: &mut Output<F>) -> Ended
 }
 
 /// The line with the program's name and version.
-fn version(alloc: Global) -> Result<Vec<u8>, Failure>
+fn version_text(alloc: Global) -> Result<Vec<u8>, Failure>
     ensures text { IfOk result (λ text. text.items ≡ version_line) }
     ensures memory { IfErr result (λ f. f ≡ Failure.Memory) }
 {
-    match format!(in alloc; "blk {VERSION}\n") {
+    let version = version();
+    match format!(in alloc; "blk {version}\n") {
         Ok(line) => Ok(line.into_bytes()),
         Err(_) => Err(Failure::Memory),
     }
@@ -203,7 +204,7 @@ fn answer_of<L: Loads, T: Threads + Wait + Sync, R: Read + Drop, P: Progress>(
     ensures fails { IfErr result (HasNoAnswer (map string_bytes words.now) job records.old.left records.new.failed) }
 {
     match job {
-        Job::Version => Ok(Answered::alone(version(alloc)?)),
+        Job::Version => Ok(Answered::alone(version_text(alloc)?)),
         Job::OfText(job) => Ok(Answered::alone(work(alloc, job, records)?)),
         Job::Tune(tuning) => {
             let text = over_trial(rt, alloc, words, tuning, records, progress)?;

@@ -13,6 +13,6 @@ pub mod words;
 
 pub use crate::inputs::{Running, Solving, Telling, TextJob};
 pub use crate::words::{
-    Import, Job, NoGrid, NoJob, Refusal, ShownLoad, Tuning, VERSION, Written, choose, grid_asked,
+    Import, Job, NoGrid, NoJob, Refusal, ShownLoad, Tuning, Written, choose, grid_asked, version,
 };
 pub use blk_settings::{FiguresAsked, Form};

@@ -4,7 +4,7 @@ ghost use Rattle.std.specs.Prelude.{◌≡◌, ◌≤◌, map, All, IfOk, IfErr,
 ghost use Rattle.std.specs.Option.{option_or};
 ghost use Rattle.clap.specs.Words.{subcommand_rows_of};
 ghost use Rattle.blk_settings.specs.Grids.{grid_given};
-ghost use Rattle.blk_words.specs.CommandLine.{command_table};
+ghost use Rattle.blk_words.specs.CommandLine.{command_table, program_version};
 ghost use Rattle.blk_words.specs.Inside.Tables.{subcommand_of, makes_among};
 ghost use Rattle.blk_words.specs.Asked.{Asks, AsksGrid, AsksNoGrid, IsNoJob, list_given, by_named, by_given, tune_job, short_given, number_given, is_flagged, given_options, sched_asked, lineup_asked, compared, pictured, amounts_of, shown_of, loaded, load_given, form_by, form_asked, time_given, entry_named, from_given, round_by, round_given, script_asked, unscripted, written_of, takes_all, import_of, import_job, oracle_given, job_made, job_of};
 ghost use Rattle.blk_words.specs.Options.{script_option};
@@ -26,7 +26,11 @@ use clap::error::ErrorKind;
 use std::alloc::Global;
 
 /// The version of the program.
-pub const VERSION: &str = "1.0.0";
+pub fn version() -> &'static str
+    ensures { result.now ≡ program_version }
+{
+    "1.0.0"
+}
 
 /// What the program is asked to do: a row for each kind of job.
 #[derive(Clone, Copy, Debug, PartialEq, Eq)]
