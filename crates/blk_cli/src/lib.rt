@@ -52,7 +52,7 @@ const REFUSED: u8 = 1;
 pub const COMMAND_LINE: u8 = 2;
 
 /// The exit status of a read fault, of a write fault, and when out of memory.
-pub const FAILED: u8 = 3;
+const FAILED: u8 = 3;
 
 /// The line for words that clap takes and that name no job: only these two flags do.
 const NO_JOB: &[u8] = b"blk: --trace and --met exclude one another\n";
@@ -79,7 +79,7 @@ pub struct Answered {
 
 impl Answered {
     /// A text alone, with nothing wrong.
-    pub fn alone(text: Vec<u8>) -> Answered
+    fn alone(text: Vec<u8>) -> Answered
         ensures { said_of result ≡ only text.items }
     {
         Answered {
@@ -170,7 +170,7 @@ fn version_text(alloc: Global) -> Result<Vec<u8>, Failure>
 }
 
 /// The text of a job over a text. Each kind of such a job is a row here: what it reads.
-pub fn work<R: Read + Drop>(
+fn work<R: Read + Drop>(
     alloc: Global,
     job: TextJob,
     records: &mut Records<R>,

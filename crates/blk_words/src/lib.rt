@@ -4,14 +4,15 @@
 
 pub mod asking;
 mod command;
-pub mod inputs;
+mod inputs;
 mod lists;
 mod option_names;
-pub mod table;
+mod table;
 mod times;
-pub mod words;
+mod words;
 
 pub use crate::inputs::{Running, Solving, Telling, TextJob};
+pub use crate::table::{MAX_BUSY, MAX_FIRST, MAX_THREADS, MAX_TOP, Makes};
 pub use crate::words::{
     Import, Job, NoGrid, NoJob, Refusal, ShownLoad, Tuning, Written, choose, grid_asked, version,
 };

@@ -56,9 +56,9 @@ pub enum Job {
 pub struct Tuning {
     /// What its rows are ordered by first.
     pub by: By,
-    /// How many rows are written at most, the best ones, 1 to [`crate::table::MAX_TOP`]; without it all are.
+    /// How many rows are written at most, the best ones, 1 to [`crate::MAX_TOP`]; without it all are.
     pub top: Option<u64>,
-    /// How many runs go side by side at most, 1 to [`crate::table::MAX_THREADS`]; without it, as many as there are processors, 16 at most.
+    /// How many runs go side by side at most, 1 to [`crate::MAX_THREADS`]; without it, as many as there are processors, 16 at most.
     pub threads: Option<u64>,
     /// In which form.
     pub form: Form,
