@@ -22,11 +22,14 @@ from collections import Counter
 
 sys.dont_write_bytecode = True
 
+import words as command_line
 from cases import PROGRAM, Case, counted, ended, read_cases, run, side_by_side
 
 SVG = "{http://www.w3.org/2000/svg}"
 ELEMENTS = {"svg", "style", "defs", "pattern", "path", "rect", "g", "text", "title"}
 LEFT, ABOVE = 64, 182
+# The words that read a trace and look at it: all that do by the table in docs/FORMATS.md, but what draws it and what takes its commands.
+LOOKED_AT = [it.encode().split() for it in command_line.that_read("a trace") if it not in ("picture", "commands")]
 
 
 class Fault(Exception):
@@ -298,7 +301,7 @@ def drawn(case):
 
 def of_trace(case):
     """Whether a case reads a trace and looks at it."""
-    return case.args[0] in (b"spread", b"late", b"misses", b"migrate") or case.args == [b"oracle", b"--trace"]
+    return any(case.args[: len(it)] == it for it in LOOKED_AT)
 
 
 def kept(case):

@@ -29,6 +29,7 @@ import time
 sys.dont_write_bytecode = True
 
 import cases  # noqa: E402 (it stands beside this file)
+import words as command_line  # noqa: E402
 
 LAUNCHER = cases.TOP / "blk"
 SECONDS = 60
@@ -647,21 +648,17 @@ def output_at_the_greatest_size_of_a_file(trials):
 
 # --- texts without end, and limits of memory ---
 
+# A beginning of the text that each subcommand reads; those that read a trace are the ones of the table in docs/FORMATS.md.
 FORMS = {
+    **{it.encode(): b"blk-trace,2,1,1,8,\nsetup,0,9,256,128,\n" for it in command_line.that_read("a trace")},
     b"sim": b"blk-script,1,1,1,4,1\nsetup,0,9,256,128,\n",
     b"compare": b"blk-script,2,1,1,4,1\nsetup,0,9,256,128,\n",
     b"migrate": b"blk-trace,1,1,1,8,\nsetup,0,9,256,128,\n",
-    b"oracle --trace": b"blk-trace,2,1,1,8,\nsetup,0,9,256,128,\n",
-    b"commands": b"blk-trace,2,1,1,8,\nsetup,0,9,256,128,\n",
-    b"spread": b"blk-trace,2,1,1,8,\nsetup,0,9,256,128,\n",
-    b"late": b"blk-trace,2,1,1,8,\nsetup,0,9,256,128,\n",
-    b"misses": b"blk-trace,2,1,1,8,\nsetup,0,9,256,128,\n",
     b"oracle": b"blk-commands,1,1\n1,0,0\n",
     b"oracle --met": b"blk-commands,1,1\n1,0,0\n",
     b"check": b"blk-certificate,1,1,3\nbound,2,0,0\n",
     b"judge": b"blk-schedule,1,1,3\n1,0,0,0\n",
     b"explain": b"blk-script,1,1,1,4,1\nsetup,0,9,256,128,\n",
-    b"picture": b"blk-trace,2,1,1,8,\nsetup,0,9,256,128,\n",
     b"import": b"blk-capture,1,,,,,,\n0,000000010,0,Q,1,R,0,8\n",
     b"import --script --round 1ms": b"blk-capture,1,,,,,,\n0,000000010,0,Q,1,R,0,8\n",
 }

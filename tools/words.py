@@ -103,6 +103,12 @@ def read_table():
     return commands
 
 
+def that_read(text):
+    """Each subcommand that reads this kind of text, with the flag that asks for it."""
+    flows = ((name, flag, reads) for name, it in read_table().items() for flag, (reads, _) in it.flows.items())
+    return [f"{name} {flag}".strip() for name, flag, reads in flows if reads.startswith(text)]
+
+
 # --- the help texts ---
 
 

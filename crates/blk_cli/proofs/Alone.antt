@@ -1,56 +1,23 @@
 -- How a run ends that has an answer, and what is answered where words ask for texts alone.
-use Rattle.std.proofs.Common.{◌≡◌, ◌∙◌, ℕ, Bool, true, false, List, Option, refl, sym, inl, inr}
+use Rattle.std.proofs.Common.{◌≡◌, ◌∙◌, ℕ, Bool, true, false, List, Option, sym, inl, inr}
 use Rattle.drafts.specs.Outputs.{Stream}
 use Rattle.blk_lists.specs.Sources.{Row}
 use Rattle.blk_words.specs.declared.words.Job.{Job}
 use Rattle.blk_words.specs.declared.words.Job.TheVariants as job
-use Rattle.blk_cli.specs.Said.{Said, only, IsAlone}
-use Rattle.blk_cli.specs.Gives.{GivesAnswer, GivesText, HasNoText, HasNoAnswer, AnswersText}
+use Rattle.blk_cli.specs.Said.{Said, IsAlone}
+use Rattle.blk_cli.specs.Gives.{GivesAnswer, AnswersText}
 use Rattle.blk_cli.specs.declared.Ended.{Ended}
-use Rattle.blk_cli.specs.declared.failure.Failure.{Failure}
 use Rattle.blk_cli.specs.Ends.{Answers, AskForTexts, EndsPut, status_with}
 
 -- a job that answers a text alone
 alone : (words : List (List ℕ)) (j : Job) (input : Option (List Row)) (bytes : Option (List ℕ)) (s : Said) → AnswersText j → GivesAnswer words j input bytes s → IsAlone s
 alone words job.Version input bytes s answers g = g.1
-alone words (job.OfScript x) input bytes s answers g = g.1
-alone words (job.OfTrace x) input bytes s answers g = g.1
-alone words (job.OfList x) input bytes s answers g = g.1
-alone words (job.Check x) input bytes s answers g = g.1
-alone words (job.Import x) input bytes s answers g = absurd answers
-alone words (job.Refuse x) input bytes s answers g = g.1
-alone words (job.Judge x) input bytes s answers g = g.1
-alone words job.Explain input bytes s answers g = absurd answers
+alone words (job.OfText x) input bytes s answers g = g.1
 alone words (job.Tune x) input bytes s answers g = g.1
+alone words (job.Import x) input bytes s answers g = absurd answers
+alone words (job.Refuse x) input bytes s answers g = absurd g
+alone words job.Explain input bytes s answers g = absurd answers
 alone words (job.Load x y z) input bytes s answers g = g.1
-
--- what a job answers that gives a text alone
-pub gives_text : (words : List (List ℕ)) (j : Job) (input : Option (List Row)) (bytes : Option (List ℕ)) (text : List ℕ) → GivesText j input text → GivesAnswer words j input bytes (only text)
-gives_text words job.Version input bytes text g = (g, (refl, refl))
-gives_text words (job.OfScript x) input bytes text g = (g, (refl, refl))
-gives_text words (job.OfTrace x) input bytes text g = (g, (refl, refl))
-gives_text words (job.OfList x) input bytes text g = (g, (refl, refl))
-gives_text words (job.Check x) input bytes text g = (g, (refl, refl))
-gives_text words (job.Import x) input bytes text g = absurd g
-gives_text words (job.Refuse x) input bytes text g = (g, (refl, refl))
-gives_text words (job.Judge x) input bytes text g = (g, (refl, refl))
-gives_text words job.Explain input bytes text g = absurd g
-gives_text words (job.Tune x) input bytes text g = absurd g
-gives_text words (job.Load x y z) input bytes text g = (g, (refl, refl))
-
--- why it gives none
-pub fails_text : (words : List (List ℕ)) (j : Job) (input : Option (List Row)) (failed : Bool) (f : Failure) → HasNoText j input failed f → HasNoAnswer words j input failed f
-fails_text words job.Version input failed f h = h
-fails_text words (job.OfScript x) input failed f h = h
-fails_text words (job.OfTrace x) input failed f h = h
-fails_text words (job.OfList x) input failed f h = h
-fails_text words (job.Check x) input failed f h = h
-fails_text words (job.Import x) input failed f h = h
-fails_text words (job.Refuse x) input failed f h = h
-fails_text words (job.Judge x) input failed f h = h
-fails_text words job.Explain input failed f h = h
-fails_text words (job.Tune x) input failed f h = absurd h
-fails_text words (job.Load x y z) input failed f h = h
 
 pub alone_by : (words : List (List ℕ)) (input : Option (List Row)) (bytes : Option (List ℕ)) (s : Said) → AskForTexts words → Answers words input bytes s → IsAlone s
 alone_by words input bytes s ask a = alone words a.0 input bytes s (ask a.0 a.1) a.2

@@ -7,6 +7,9 @@ use Rattle.blk_lists.specs.Schedule.{SpellsSchedule, ScheduleFault}
 use Rattle.blk_capture_text.specs.Captures.{SpellsCapture, CaptureTextFault}
 use Rattle.blk_text.specs.Script.{SpellsScript, ScriptFault}
 use Rattle.blk_text.specs.TraceForm.{SpellsTrace, TraceTextFault}
+use Rattle.blk_words.specs.CommandLine.{program_version}
+use Rattle.blk_words.specs.declared.inputs.TextJob.{TextJob}
+use Rattle.blk_words.specs.declared.inputs.TextJob.TheVariants as text_job
 use Rattle.blk_words.specs.declared.words.Job.{Job}
 use Rattle.blk_words.specs.declared.words.Job.TheVariants as job
 use Rattle.blk_cli.specs.declared.failure.Failure.{Failure}
@@ -22,12 +25,6 @@ use Rattle.blk_cli.specs.Explaining.{IsTextExplained, IsUnexplained}
 use Rattle.blk_cli.specs.Tuning.{IsTrial, FailsToTry}
 use Rattle.blk_cli.specs.Loading.{IsLoadOf, IsUnloaded}
 
--- a job that starts no threads
-abbrev pub StartsNoThreads : Job → Type 0
-StartsNoThreads (job.Tune t) = ⊥
-StartsNoThreads (job.Load s l w) = ⊥
-StartsNoThreads j = ⊤
-
 -- a job that answers a text alone
 abbrev pub AnswersText : Job → Type 0
 AnswersText (job.Import i) = ⊥
@@ -36,44 +33,40 @@ AnswersText j = ⊤
 
 -- the line with the program's name and version
 abbrev pub version_line : List ℕ
-version_line = codes "blk 1.0.0" ++ 10 ∷ []
+version_line = codes "blk " ++ (program_version ++ 10 ∷ [])
 
--- the text that a job gives of the records of its input, where these are known; that of a trial turns on its words too
-abbrev pub GivesText : Job → Option (List Row) → List ℕ → Type 0
-GivesText job.Version input text = text ≡ version_line
-GivesText (job.OfScript r) input text = Of SpellsScript (IsRunText r) input text
-GivesText (job.OfTrace t) input text = Of SpellsTrace (IsTellingText t) input text
-GivesText (job.OfList s) input text = Of SpellsList (IsSolved s) input text
-GivesText (job.Check o) input text = Of SpellsProof (IsCheckText o) input text
-GivesText (job.Import i) input text = ⊥
-GivesText (job.Refuse r) input text = ⊥
-GivesText job.Explain input text = ⊥
-GivesText (job.Tune t) input text = ⊥
-GivesText (job.Judge e) input text = Of SpellsSchedule (IsJudgedText e) input text
-GivesText (job.Load s l w) input text = IsLoadOf s w l text
+-- the text that a job over a text gives of the records of its input, where these are known, and why it gives none, where the reader has
+-- failed or hasn't
+abbrev pub GivesText : TextJob → Option (List Row) → List ℕ → Type 0
+GivesText (text_job.OfScript r) input text = Of SpellsScript (IsRunText r) input text
+GivesText (text_job.OfTrace t) input text = Of SpellsTrace (IsTellingText t) input text
+GivesText (text_job.OfList s) input text = Of SpellsList (IsSolved s) input text
+GivesText (text_job.Check o) input text = Of SpellsProof (IsCheckText o) input text
+GivesText (text_job.Judge e) input text = Of SpellsSchedule (IsJudgedText e) input text
 
--- the answer of a job to its words and its input: the records and the bytes, where they are known
+abbrev pub HasNoText : TextJob → Option (List Row) → Bool → Failure → Type 0
+HasNoText (text_job.OfScript r) input failed f = FailsOver SpellsScript ScriptFault (HasNoRunText r) input failed f
+HasNoText (text_job.OfTrace t) input failed f = FailsOver SpellsTrace TraceTextFault (IsUntold t) input failed f
+HasNoText (text_job.OfList s) input failed f = FailsOver SpellsList CommandsFault IsUnsolved input failed f
+HasNoText (text_job.Check o) input failed f = FailsOver SpellsProof ProofFault IsBad input failed f
+HasNoText (text_job.Judge e) input failed f = FailsOver SpellsSchedule ScheduleFault IsUnjudged input failed f
+
+-- the answer of a job to its words and its input: the records and the bytes, where they are known; a refusal has none
 abbrev pub GivesAnswer : List (List ℕ) → Job → Option (List Row) → Option (List ℕ) → Said → Type 0
-GivesAnswer words (job.Import i) input bytes s = Of SpellsCapture (IsImported i) input s
-GivesAnswer words job.Explain input bytes s = IsTextExplained bytes s
+GivesAnswer words job.Version input bytes s = (s.text ≡ version_line) × IsAlone s
+GivesAnswer words (job.OfText j) input bytes s = GivesText j input s.text × IsAlone s
 GivesAnswer words (job.Tune t) input bytes s = Of SpellsScript (IsTrial words t) input s.text × IsAlone s
-GivesAnswer words j input bytes s = GivesText j input s.text × IsAlone s
+GivesAnswer words (job.Import i) input bytes s = Of SpellsCapture (IsImported i) input s
+GivesAnswer words (job.Refuse r) input bytes s = ⊥
+GivesAnswer words job.Explain input bytes s = IsTextExplained bytes s
+GivesAnswer words (job.Load sched l w) input bytes s = IsLoadOf sched w l s.text × IsAlone s
 
--- why it gives no text, where the reader has failed or hasn't; of a trial this turns on its words too
-abbrev pub HasNoText : Job → Option (List Row) → Bool → Failure → Type 0
-HasNoText job.Version input failed f = f ≡ failure.Memory
-HasNoText (job.OfScript r) input failed f = FailsOver SpellsScript ScriptFault (HasNoRunText r) input failed f
-HasNoText (job.OfTrace t) input failed f = FailsOver SpellsTrace TraceTextFault (IsUntold t) input failed f
-HasNoText (job.OfList s) input failed f = FailsOver SpellsList CommandsFault IsUnsolved input failed f
-HasNoText (job.Check o) input failed f = FailsOver SpellsProof ProofFault IsBad input failed f
-HasNoText (job.Import i) input failed f = FailsOver SpellsCapture CaptureTextFault (IsUnimported i) input failed f
-HasNoText (job.Refuse r) input failed f = f ≡ failure.Words r
-HasNoText (job.Judge e) input failed f = FailsOver SpellsSchedule ScheduleFault IsUnjudged input failed f
-HasNoText job.Explain input failed f = IsUnexplained failed f
-HasNoText (job.Tune t) input failed f = ⊥
-HasNoText (job.Load s l w) input failed f = IsUnloaded s l f
-
--- why it gives none to the words that ask for it
+-- and why it has none
 abbrev pub HasNoAnswer : List (List ℕ) → Job → Option (List Row) → Bool → Failure → Type 0
+HasNoAnswer words job.Version input failed f = f ≡ failure.Memory
+HasNoAnswer words (job.OfText j) input failed f = HasNoText j input failed f
 HasNoAnswer words (job.Tune t) input failed f = FailsToTry words input failed f
-HasNoAnswer words j input failed f = HasNoText j input failed f
+HasNoAnswer words (job.Import i) input failed f = FailsOver SpellsCapture CaptureTextFault (IsUnimported i) input failed f
+HasNoAnswer words (job.Refuse r) input failed f = f ≡ failure.Words r
+HasNoAnswer words job.Explain input failed f = IsUnexplained failed f
+HasNoAnswer words (job.Load sched l w) input failed f = IsUnloaded sched l f

@@ -60,7 +60,7 @@ pub enum Failure {
 
 impl Failure {
     /// The failure of a script that is not run.
-    pub fn of_run(fault: RunFault) -> Failure
+    pub(crate) fn of_run(fault: RunFault) -> Failure
         ensures { result ≡ failure_of_run fault }
     {
         match fault {
@@ -71,7 +71,7 @@ impl Failure {
     }
 
     /// The exit status: 1 for refused input, 2 for words that can't be done, 3 when out of memory, for a read fault or a write fault.
-    pub fn status(&self) -> u8
+    fn status(&self) -> u8
         ensures value { result ≡ status_of self.now }
         ensures range { (1 ≤ result) × (result ≤ 3) }
     {
@@ -103,7 +103,7 @@ impl Failure {
     }
 
     /// Writes the failure's line: `blk: ` and what was refused, where it stands or which id or number it has.
-    pub fn tell<F: Write>(&self, faults: &mut Output<F>) -> Result<(), WriteFault>
+    fn tell<F: Write>(&self, faults: &mut Output<F>) -> Result<(), WriteFault>
         ensures { Writes (failure_line self.now) (stream_of F.contents faults.old) (stream_of F.contents faults.new) result }
     {
         match self {

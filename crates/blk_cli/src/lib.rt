@@ -4,7 +4,7 @@
 ghost use Rattle.std.specs.Prelude.{◌≡◌, ◌≤◌, IfOk, IfErr, map, string_bytes};
 ghost use Rattle.drafts.specs.Outputs.{stream_of};
 ghost use Rattle.blk_cli.specs.Said.{only, said_of, IsAlone};
-ghost use Rattle.blk_cli.specs.Gives.{GivesText, HasNoText, StartsNoThreads, AnswersText, version_line};
+ghost use Rattle.blk_cli.specs.Gives.{GivesText, HasNoText, GivesAnswer, HasNoAnswer, version_line};
 ghost use Rattle.blk_cli.specs.Ends.{Answers, AskForTexts, IsWithout, status_with, SaysBeside, EndsSaying, EndsWithout, RunEndsOn};
 ghost use Rattle.blk_cli.specs.Inside.Ends.{EndsPutOn};
 
@@ -35,7 +35,7 @@ use blk_lists::Records;
 use blk_settings::Loads;
 pub use blk_sim::laws;
 use blk_tune::Progress;
-use blk_words::{Job, NoJob, VERSION, choose};
+use blk_words::{Job, NoJob, TextJob, choose, version};
 use drafts::Output;
 use std::alloc::Global;
 use std::io::{Read, Write};
@@ -52,7 +52,7 @@ const REFUSED: u8 = 1;
 pub const COMMAND_LINE: u8 = 2;
 
 /// The exit status of a read fault, of a write fault, and when out of memory.
-pub const FAILED: u8 = 3;
+const FAILED: u8 = 3;
 
 /// The line for words that clap takes and that name no job: only these two flags do.
 const NO_JOB: &[u8] = b"blk: --trace and --met exclude one another\n";
@@ -79,7 +79,7 @@ pub struct Answered {
 
 impl Answered {
     /// A text alone, with nothing wrong.
-    pub fn alone(text: Vec<u8>) -> Answered
+    fn alone(text: Vec<u8>) -> Answered
         ensures { said_of result ≡ only text.items }
     {
         Answered {
@@ -158,40 +158,65 @@ fn refuse<F: Write>(line: &[u8], faults: &mut Output<F>) -> Ended
 }
 
 /// The line with the program's name and version.
-fn version(alloc: Global) -> Result<Vec<u8>, Failure>
+fn version_text(alloc: Global) -> Result<Vec<u8>, Failure>
     ensures text { IfOk result (λ text. text.items ≡ version_line) }
     ensures memory { IfErr result (λ f. f ≡ Failure.Memory) }
 {
-    match format!(in alloc; "blk {VERSION}\n") {
+    let version = version();
+    match format!(in alloc; "blk {version}\n") {
         Ok(line) => Ok(line.into_bytes()),
         Err(_) => Err(Failure::Memory),
     }
 }
 
-/// The text of a job that answers its text alone and starts no threads. Each kind of such a job is a row here: what it reads.
-pub fn work<R: Read + Drop>(
+/// The text of a job over a text. Each kind of such a job is a row here: what it reads.
+fn work<R: Read + Drop>(
     alloc: Global,
-    job: Job,
+    job: TextJob,
     records: &mut Records<R>,
 ) -> Result<Vec<u8>, Failure>
-    requires none_read { records.old.at ≡ 0 }
-    requires alone { StartsNoThreads job }
-    requires of_text { AnswersText job }
+    requires { records.old.at ≡ 0 }
     ensures text { IfOk result (λ text. GivesText job records.old.left text.items) }
     ensures fails { IfErr result (HasNoText job records.old.left records.new.failed) }
 {
     match job {
-        Job::Version => version(alloc),
-        Job::OfScript(running) => over_script(alloc, running, records),
-        Job::OfTrace(telling) => over_trace(alloc, telling, records),
-        Job::OfList(solving) => over_list(alloc, solving, records),
-        Job::Check(form) => over_proof(alloc, form, records),
-        Job::Judge { each } => over_schedule(alloc, each, records),
+        TextJob::OfScript(running) => over_script(alloc, running, records),
+        TextJob::OfTrace(telling) => over_trace(alloc, telling, records),
+        TextJob::OfList(solving) => over_list(alloc, solving, records),
+        TextJob::Check(form) => over_proof(alloc, form, records),
+        TextJob::Judge { each } => over_schedule(alloc, each, records),
+    }
+}
+
+/// What a job answers. Each kind is a row here: what it needs. Loads are run by `loads`, on the threads of `rt`, and so are trials of the
+/// grid that the words ask for, which tell `progress` how far they have come.
+fn answer_of<L: Loads, T: Threads + Wait + Sync, R: Read + Drop, P: Progress>(
+    loads: &L,
+    rt: &T,
+    alloc: Global,
+    words: &[String],
+    job: Job,
+    records: &mut Records<R>,
+    progress: &mut P,
+) -> Result<Answered, Failure>
+    requires { records.old.at ≡ 0 }
+    ensures answer { IfOk result (λ a. GivesAnswer (map string_bytes words.now) job records.old.left records.old.bytes (said_of a)) }
+    ensures fails { IfErr result (HasNoAnswer (map string_bytes words.now) job records.old.left records.new.failed) }
+{
+    match job {
+        Job::Version => Ok(Answered::alone(version_text(alloc)?)),
+        Job::OfText(job) => Ok(Answered::alone(work(alloc, job, records)?)),
+        Job::Tune(tuning) => {
+            let text = over_trial(rt, alloc, words, tuning, records, progress)?;
+            Ok(Answered::alone(text))
+        }
+        Job::Import(import) => over_capture(alloc, import, records),
         Job::Refuse(refusal) => Err(Failure::Words(refusal)),
-        Job::Import(..) => unreachable!(),
-        Job::Explain => unreachable!(),
-        Job::Tune(..) => unreachable!(),
-        Job::Load(..) => unreachable!(),
+        Job::Explain => over_bytes(alloc, records),
+        Job::Load(sched, amounts, shown) => {
+            let text = run_load(loads, rt, alloc, sched, amounts, shown)?;
+            Ok(Answered::alone(text))
+        }
     }
 }
 
@@ -211,26 +236,8 @@ pub fn answer<L: Loads, T: Threads + Wait + Sync, R: Read + Drop, P: Progress>(
     ensures without { IfErr result (IsWithout (map string_bytes words.now) records.old.left records.new.failed) }
 {
     match choose(alloc, words) {
-        Ok(Job::Load(sched, amounts, shown)) => {
-            match run_load(loads, rt, alloc, sched, amounts, shown) {
-                Ok(text) => Ok(Answered::alone(text)),
-                Err(failure) => Err(NoText::Failure(failure)),
-            }
-        }
-        Ok(Job::Import(import)) => match over_capture(alloc, import, records) {
+        Ok(job) => match answer_of(loads, rt, alloc, words, job, records, progress) {
             Ok(answer) => Ok(answer),
-            Err(failure) => Err(NoText::Failure(failure)),
-        },
-        Ok(Job::Explain) => match over_bytes(alloc, records) {
-            Ok(answer) => Ok(answer),
-            Err(failure) => Err(NoText::Failure(failure)),
-        },
-        Ok(Job::Tune(tuning)) => match over_trial(rt, alloc, words, tuning, records, progress) {
-            Ok(text) => Ok(Answered::alone(text)),
-            Err(failure) => Err(NoText::Failure(failure)),
-        },
-        Ok(job) => match work(alloc, job, records) {
-            Ok(text) => Ok(Answered::alone(text)),
             Err(failure) => Err(NoText::Failure(failure)),
         },
         Err(NoJob::Memory) => Err(NoText::Failure(Failure::Memory)),

@@ -29,7 +29,7 @@ use Rattle.blk_settings.specs.declared.form.Form.TheVariants as form
 use Rattle.blk_settings.specs.declared.figures.FiguresAsked.TheVariants as figures
 use Rattle.blk_words.specs.declared.inputs.Running.TheVariants as running
 use Rattle.blk_words.specs.declared.inputs.Telling.TheVariants as tell
-use Rattle.blk_words.specs.declared.words.Job.TheVariants as job
+use Rattle.blk_words.specs.declared.inputs.TextJob.TheVariants as text_job
 use Rattle.blk_online_cli.specs.Told.{rows_in, SpellByRounds, AskAlone, EndsWell, ReportsNoShortfall, CountsNoneAvoidable}
 use Rattle.blk_online_cli.proofs.Ending.{wrote}
 
@@ -39,7 +39,7 @@ is_so true = refl
 is_so false = refl
 
 -- the trace of a script by rounds, at each of its Ticks
-held : (late_last : Bool) (bytes traced : List ℕ) → SpellByRounds bytes → (g : GivesText (job.OfScript (running.One (earliest_by late_last))) (Some (rows_in bytes)) traced) → AtTicks (HoldsNow late_last g.2.trace.setup) g.2.trace.events
+held : (late_last : Bool) (bytes traced : List ℕ) → SpellByRounds bytes → (g : GivesText (text_job.OfScript (running.One (earliest_by late_last))) (Some (rows_in bytes)) traced) → AtTicks (HoldsNow late_last g.2.trace.setup) g.2.trace.events
 held late_last bytes traced by g =
     let same : by.0 ≡ g.0 = (scripts.spelled_once (rows_in bytes) by.1.0 g.1.0 by.0 g.0 by.1.1 g.1.1).1 in
     let steps : All IsByRounds g.0.lines = subst (λ (s : Scripted). All IsByRounds s.lines) same by.2 in
@@ -49,7 +49,7 @@ held late_last bytes traced by g =
     trace_holds late_last g.0 g.0.lines (at_start true) (earliest_kept (is_late_last (earliest_by late_last).values)) trace.setup trace.events whole refl (ap earliest_kept (is_so late_last)) g.2.is_trace.ran.1 g.2.is_trace.setup is.legal steps
 
 -- whatever trace the text of it spells
-pub read_holds : (late_last : Bool) (bytes traced : List ℕ) (u : Traced) → SpellByRounds bytes → GivesText (job.OfScript (running.One (earliest_by late_last))) (Some (rows_in bytes)) traced → SpellsTrace (rows_in traced) u → AtTicks (HoldsNow late_last u.setup) u.events
+pub read_holds : (late_last : Bool) (bytes traced : List ℕ) (u : Traced) → SpellByRounds bytes → GivesText (text_job.OfScript (running.One (earliest_by late_last))) (Some (rows_in bytes)) traced → SpellsTrace (rows_in traced) u → AtTicks (HoldsNow late_last u.setup) u.events
 read_holds late_last bytes traced u by g read =
     let trace : Traced = g.2.trace in
     let rows : rows_in traced ≡ trace_rows trace = ap rows_in g.2.is_text.is_text ∙ traces.written_back trace in
@@ -70,7 +70,7 @@ none_avoidable u text t is holds =
 
 -- the report, and the misses, of what a simulation gives
 
-pub reports : (bytes traced text : List ℕ) (old new : Stream) → SpellByRounds bytes → GivesText (job.OfScript (running.One (earliest_by false))) (Some (rows_in bytes)) traced → GivesText (job.OfTrace (tell.Figures figures.Report form.Lines)) (Some (rows_in traced)) text → IsWritten text old new
+pub reports : (bytes traced text : List ℕ) (old new : Stream) → SpellByRounds bytes → GivesText (text_job.OfScript (running.One (earliest_by false))) (Some (rows_in bytes)) traced → GivesText (text_job.OfTrace (tell.Figures figures.Report form.Lines)) (Some (rows_in traced)) text → IsWritten text old new
     → ReportsNoShortfall traced old new
 reports bytes traced text old new by g told wrote = record {
   trace = told.0;
@@ -81,7 +81,7 @@ reports bytes traced text old new by g told wrote = record {
   none_short = none_short told.0 text told.2 (traces.spelled_legal (rows_in traced) told.0 told.1) (read_holds false bytes traced told.0 by g told.1);
 }
 
-pub misses : (bytes traced text : List ℕ) (old new : Stream) → SpellByRounds bytes → GivesText (job.OfScript (running.One (earliest_by true))) (Some (rows_in bytes)) traced → GivesText (job.OfTrace (tell.Figures figures.Misses form.Lines)) (Some (rows_in traced)) text → IsWritten text old new
+pub misses : (bytes traced text : List ℕ) (old new : Stream) → SpellByRounds bytes → GivesText (text_job.OfScript (running.One (earliest_by true))) (Some (rows_in bytes)) traced → GivesText (text_job.OfTrace (tell.Figures figures.Misses form.Lines)) (Some (rows_in traced)) text → IsWritten text old new
     → CountsNoneAvoidable traced old new
 misses bytes traced text old new by g told wrote = record {
   trace = told.0;
@@ -99,18 +99,18 @@ taken before traced text one two e f w =
     sym (append_cancel_left before traced text own)
 
 -- a run that reads what another wrote
-pub reports_again : (words again : List (List ℕ)) (bytes before traced : List ℕ) (one two old new : Stream) → AskAlone words (job.OfScript (running.One (earliest_by false))) → AskAlone again (job.OfTrace (tell.Figures figures.Report form.Lines)) → SpellByRounds bytes
+pub reports_again : (words again : List (List ℕ)) (bytes before traced : List ℕ) (one two old new : Stream) → AskAlone words (text_job.OfScript (running.One (earliest_by false))) → AskAlone again (text_job.OfTrace (tell.Figures figures.Report form.Lines)) → SpellByRounds bytes
     → EndsWell words bytes one two → one.held ≡ Some before → two.held ≡ Some (before ++ traced) → EndsWell again traced old new → ReportsNoShortfall traced old new
 reports_again words again bytes before traced one two old new alone alone_again by run e f second =
-    let w = wrote (job.OfScript (running.One (earliest_by false))) (λ w i b s g. g.0) words bytes one two alone run in
-    let g = subst (λ (t : List ℕ). GivesText (job.OfScript (running.One (earliest_by false))) (Some (rows_in bytes)) t) (taken before traced w.0 one two e f w.2) w.1 in
-    let t = wrote (job.OfTrace (tell.Figures figures.Report form.Lines)) (λ w i b s g. g.0) again traced old new alone_again second in
+    let w = wrote (text_job.OfScript (running.One (earliest_by false))) words bytes one two alone run in
+    let g = subst (λ (t : List ℕ). GivesText (text_job.OfScript (running.One (earliest_by false))) (Some (rows_in bytes)) t) (taken before traced w.0 one two e f w.2) w.1 in
+    let t = wrote (text_job.OfTrace (tell.Figures figures.Report form.Lines)) again traced old new alone_again second in
     reports bytes traced t.0 old new by g t.1 t.2
 
-pub misses_again : (words again : List (List ℕ)) (bytes before traced : List ℕ) (one two old new : Stream) → AskAlone words (job.OfScript (running.One (earliest_by true))) → AskAlone again (job.OfTrace (tell.Figures figures.Misses form.Lines)) → SpellByRounds bytes
+pub misses_again : (words again : List (List ℕ)) (bytes before traced : List ℕ) (one two old new : Stream) → AskAlone words (text_job.OfScript (running.One (earliest_by true))) → AskAlone again (text_job.OfTrace (tell.Figures figures.Misses form.Lines)) → SpellByRounds bytes
     → EndsWell words bytes one two → one.held ≡ Some before → two.held ≡ Some (before ++ traced) → EndsWell again traced old new → CountsNoneAvoidable traced old new
 misses_again words again bytes before traced one two old new alone alone_again by run e f second =
-    let w = wrote (job.OfScript (running.One (earliest_by true))) (λ w i b s g. g.0) words bytes one two alone run in
-    let g = subst (λ (t : List ℕ). GivesText (job.OfScript (running.One (earliest_by true))) (Some (rows_in bytes)) t) (taken before traced w.0 one two e f w.2) w.1 in
-    let t = wrote (job.OfTrace (tell.Figures figures.Misses form.Lines)) (λ w i b s g. g.0) again traced old new alone_again second in
+    let w = wrote (text_job.OfScript (running.One (earliest_by true))) words bytes one two alone run in
+    let g = subst (λ (t : List ℕ). GivesText (text_job.OfScript (running.One (earliest_by true))) (Some (rows_in bytes)) t) (taken before traced w.0 one two e f w.2) w.1 in
+    let t = wrote (text_job.OfTrace (tell.Figures figures.Misses form.Lines)) again traced old new alone_again second in
     misses bytes traced t.0 old new by g t.1 t.2

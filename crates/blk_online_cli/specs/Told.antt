@@ -11,6 +11,8 @@ use Rattle.blk_settings.specs.Defaults.{earliest_by}
 use Rattle.blk_settings.specs.declared.figures.FiguresAsked.{FiguresAsked}
 use Rattle.blk_words.specs.declared.inputs.Running.TheVariants as running
 use Rattle.blk_words.specs.declared.inputs.Telling.TheVariants as telling
+use Rattle.blk_words.specs.declared.inputs.TextJob.{TextJob}
+use Rattle.blk_words.specs.declared.inputs.TextJob.TheVariants as text_job
 use Rattle.blk_settings.specs.declared.form.Form.TheVariants as form
 use Rattle.blk_words.specs.declared.words.Job.{Job}
 use Rattle.blk_words.specs.declared.words.Job.TheVariants as job
@@ -30,15 +32,15 @@ abbrev pub SpellByRounds : List ℕ → Type 0
 SpellByRounds bytes = (script : Scripted) × SpellsScript (rows_in bytes) script × All IsByRounds script.lines
 
 -- the run of a script under `earliest`, late last or not, and figures of a trace in lines
-abbrev pub earliest_run : Bool → Job
-earliest_run late_last = job.OfScript (running.One (earliest_by late_last))
+abbrev pub earliest_run : Bool → TextJob
+earliest_run late_last = text_job.OfScript (running.One (earliest_by late_last))
 
-abbrev pub figures_in_lines : FiguresAsked → Job
-figures_in_lines k = job.OfTrace (telling.Figures k form.Lines)
+abbrev pub figures_in_lines : FiguresAsked → TextJob
+figures_in_lines k = text_job.OfTrace (telling.Figures k form.Lines)
 
--- the words ask for this job, and for no other
-abbrev pub AskAlone : List (List ℕ) → Job → Type 0
-AskAlone words only = (j : Job) → Asks words j ↔ (j ≡ only)
+-- the words ask for this job over a text, and for no other job
+abbrev pub AskAlone : List (List ℕ) → TextJob → Type 0
+AskAlone words only = (j : Job) → Asks words j ↔ (j ≡ job.OfText only)
 
 -- a run of the program on these words, which reads these bytes, ended with status 0, and left its output so
 pub record EndsWell (words : List (List ℕ)) (bytes : List ℕ) (old new : Stream) : Type 0 where
@@ -68,7 +70,7 @@ pub record CountsNoneAvoidable (bytes : List ℕ) (old new : Stream) : Type 0 wh
   pub none_avoidable : is_text.tally.avoidable ≡ 0
 
 -- where one run writes a trace of a script by rounds, and another reads it, this holds of what the other writes
-abbrev pub OfTwoRuns : Job → Job → (List ℕ → Stream → Stream → Type 0) → Type 0
+abbrev pub OfTwoRuns : TextJob → TextJob → (List ℕ → Stream → Stream → Type 0) → Type 0
 OfTwoRuns first second Tells = (words again : List (List ℕ)) → (script before trace : List ℕ) → (one two old new : Stream)
     → AskAlone words first → AskAlone again second
     → SpellByRounds script → EndsWell words script one two → one.held ≡ Some before → two.held ≡ Some (before ++ trace)

@@ -11,6 +11,7 @@ use Rattle.blk_settings.specs.declared.figures.FiguresAsked.TheVariants as figur
 use Rattle.blk_words.specs.declared.inputs.Running.TheVariants as running
 use Rattle.blk_words.specs.declared.inputs.Solving.TheVariants as solving
 use Rattle.blk_words.specs.declared.inputs.Telling.TheVariants as telling
+use Rattle.blk_words.specs.declared.inputs.TextJob.TheVariants as text_job
 use Rattle.blk_words.specs.declared.words.Job.TheVariants as job
 use Rattle.blk_settings.specs.declared.form.Form.TheVariants as form
 use Rattle.blk_words.specs.declared.words.ShownLoad.TheVariants as shown
@@ -21,7 +22,7 @@ use Rattle.blk_settings.specs.Options.{sched_names}
 use Rattle.blk_settings.specs.declared.sched.Sched.{Sched}
 use Rattle.blk_settings.specs.declared.rows.SchedKind.TheVariants as sched
 use Rattle.blk_settings.specs.Defaults.{default_sched, default_deadline, default_kyber, default_earliest, deadline_in, kyber_within, earliest_by, default_lineup, with_earliest, in_batches, whole}
-use Rattle.blk_words.specs.Asked.{Asks, AsksGrid, grid_read, job_read}
+use Rattle.blk_words.specs.Asked.{Asks, AsksGrid, grid_read, job_read, of_script, of_trace, of_list}
 use Rattle.blk_words.specs.Plain.{words_in, AsksFor, AsksForGrid, AsksForNothing, default_trial, five_by_lateness, whole_import, hundred_queued, default_load, own_grid}
 
 -- texts at some places
@@ -99,51 +100,51 @@ asks_for_grid line k h name = asks_grid_alone (name ∷ words_in line) k (h name
 pub asks_for_nothing : (line : String) → IsReadAsNothingSo line → AsksForNothing line
 asks_for_nothing line h name = asks_nothing (name ∷ words_in line) (h name)
 
-pub sim_line : IsReadSo "sim" (job.OfScript (running.One default_sched))
+pub sim_line : IsReadSo "sim" (of_script (running.One default_sched))
 unfolding clap_on_literals
 sim_line name p f = (refl, refl)
 
-pub none_line : IsReadSo "sim --sched none" (job.OfScript (running.One default_sched))
+pub none_line : IsReadSo "sim --sched none" (of_script (running.One default_sched))
 unfolding clap_on_literals
 none_line name p f = (refl, refl)
 
-pub deadline_line : IsReadSo "sim --sched deadline" (job.OfScript (running.One default_deadline))
+pub deadline_line : IsReadSo "sim --sched deadline" (of_script (running.One default_deadline))
 unfolding clap_on_literals
 deadline_line name p f = (refl, refl)
 
-pub kyber_line : IsReadSo "sim --sched kyber" (job.OfScript (running.One default_kyber))
+pub kyber_line : IsReadSo "sim --sched kyber" (of_script (running.One default_kyber))
 unfolding clap_on_literals
 kyber_line name p f = (refl, refl)
 
-pub earliest_line : IsReadSo "sim --sched earliest" (job.OfScript (running.One default_earliest))
+pub earliest_line : IsReadSo "sim --sched earliest" (of_script (running.One default_earliest))
 unfolding clap_on_literals
 earliest_line name p f = (refl, refl)
 
-pub late_last_line : IsReadSo "sim --sched earliest --late-last" (job.OfScript (running.One (earliest_by true)))
+pub late_last_line : IsReadSo "sim --sched earliest --late-last" (of_script (running.One (earliest_by true)))
 unfolding clap_on_literals
 late_last_line name p f = (refl, refl)
 
-pub batch_line : IsReadSo "sim --sched deadline --fifo-batch 1" (job.OfScript (running.One (deadline_in 1)))
+pub batch_line : IsReadSo "sim --sched deadline --fifo-batch 1" (of_script (running.One (deadline_in 1)))
 unfolding clap_on_literals
 batch_line name p f = (refl, refl)
 
-pub target_line : IsReadSo "sim --sched kyber --read-target 1000000" (job.OfScript (running.One (kyber_within 1_000_000)))
+pub target_line : IsReadSo "sim --sched kyber --read-target 1000000" (of_script (running.One (kyber_within 1_000_000)))
 unfolding clap_on_literals
 target_line name p f = (refl, refl)
 
-pub compare_line : IsReadSo "compare" (job.OfScript (running.Each default_lineup form.Lines))
+pub compare_line : IsReadSo "compare" (of_script (running.Each default_lineup form.Lines))
 unfolding clap_on_literals
 compare_line name p f = (refl, refl)
 
-pub compare_earliest_line : IsReadSo "compare --earliest" (job.OfScript (running.Each (with_earliest false) form.Lines))
+pub compare_earliest_line : IsReadSo "compare --earliest" (of_script (running.Each (with_earliest false) form.Lines))
 unfolding clap_on_literals
 compare_earliest_line name p f = (refl, refl)
 
-pub compare_late_last_line : IsReadSo "compare --earliest --late-last" (job.OfScript (running.Each (with_earliest true) form.Lines))
+pub compare_late_last_line : IsReadSo "compare --earliest --late-last" (of_script (running.Each (with_earliest true) form.Lines))
 unfolding clap_on_literals
 compare_late_last_line name p f = (refl, refl)
 
-pub compare_json_line : IsReadSo "compare --json" (job.OfScript (running.Each default_lineup form.Json))
+pub compare_json_line : IsReadSo "compare --json" (of_script (running.Each default_lineup form.Json))
 unfolding clap_on_literals
 compare_json_line name p f = (refl, refl)
 
@@ -183,59 +184,59 @@ pub own_grid_line : IsReadAsGridSo "tune --sched deadline,none --fifo-batch 16,1
 unfolding clap_on_literals
 own_grid_line name p f = (refl, refl)
 
-pub migrate_line : IsReadSo "migrate" (job.OfTrace telling.Whole)
+pub migrate_line : IsReadSo "migrate" (of_trace telling.Whole)
 unfolding clap_on_literals
 migrate_line name p f = (refl, refl)
 
-pub commands_line : IsReadSo "commands" (job.OfTrace telling.Commands)
+pub commands_line : IsReadSo "commands" (of_trace telling.Commands)
 unfolding clap_on_literals
 commands_line name p f = (refl, refl)
 
-pub late_line : IsReadSo "late" (job.OfTrace (telling.Figures figures.Late form.Lines))
+pub late_line : IsReadSo "late" (of_trace (telling.Figures figures.Late form.Lines))
 unfolding clap_on_literals
 late_line name p f = (refl, refl)
 
-pub late_json_line : IsReadSo "late --json" (job.OfTrace (telling.Figures figures.Late form.Json))
+pub late_json_line : IsReadSo "late --json" (of_trace (telling.Figures figures.Late form.Json))
 unfolding clap_on_literals
 late_json_line name p f = (refl, refl)
 
-pub misses_line : IsReadSo "misses" (job.OfTrace (telling.Figures figures.Misses form.Lines))
+pub misses_line : IsReadSo "misses" (of_trace (telling.Figures figures.Misses form.Lines))
 unfolding clap_on_literals
 misses_line name p f = (refl, refl)
 
-pub misses_json_line : IsReadSo "misses --json" (job.OfTrace (telling.Figures figures.Misses form.Json))
+pub misses_json_line : IsReadSo "misses --json" (of_trace (telling.Figures figures.Misses form.Json))
 unfolding clap_on_literals
 misses_json_line name p f = (refl, refl)
 
-pub spread_line : IsReadSo "spread" (job.OfTrace (telling.Figures figures.Spread form.Lines))
+pub spread_line : IsReadSo "spread" (of_trace (telling.Figures figures.Spread form.Lines))
 unfolding clap_on_literals
 spread_line name p f = (refl, refl)
 
-pub spread_json_line : IsReadSo "spread --json" (job.OfTrace (telling.Figures figures.Spread form.Json))
+pub spread_json_line : IsReadSo "spread --json" (of_trace (telling.Figures figures.Spread form.Json))
 unfolding clap_on_literals
 spread_json_line name p f = (refl, refl)
 
-pub picture_line : IsReadSo "picture" (job.OfTrace telling.Picture)
+pub picture_line : IsReadSo "picture" (of_trace telling.Picture)
 unfolding clap_on_literals
 picture_line name p f = (refl, refl)
 
-pub drawn_line : IsReadSo "picture --script --earliest --fifo-batch 1" (job.OfScript (running.Drawn (in_batches 1)))
+pub drawn_line : IsReadSo "picture --script --earliest --fifo-batch 1" (of_script (running.Drawn (in_batches 1)))
 unfolding clap_on_literals
 drawn_line name p f = (refl, refl)
 
-pub oracle_line : IsReadSo "oracle" (job.OfList solving.Least)
+pub oracle_line : IsReadSo "oracle" (of_list solving.Least)
 unfolding clap_on_literals
 oracle_line name p f = (refl, refl)
 
-pub report_line : IsReadSo "oracle --trace" (job.OfTrace (telling.Figures figures.Report form.Lines))
+pub report_line : IsReadSo "oracle --trace" (of_trace (telling.Figures figures.Report form.Lines))
 unfolding clap_on_literals
 report_line name p f = (refl, refl)
 
-pub report_json_line : IsReadSo "oracle --trace --json" (job.OfTrace (telling.Figures figures.Report form.Json))
+pub report_json_line : IsReadSo "oracle --trace --json" (of_trace (telling.Figures figures.Report form.Json))
 unfolding clap_on_literals
 report_json_line name p f = (refl, refl)
 
-pub on_time_line : IsReadSo "oracle --met" (job.OfList solving.Most)
+pub on_time_line : IsReadSo "oracle --met" (of_list solving.Most)
 unfolding clap_on_literals
 on_time_line name p f = (refl, refl)
 
@@ -247,11 +248,11 @@ pub certificate_json_line : IsReadSo "oracle --met --json" (job.Refuse refusal.J
 unfolding clap_on_literals
 certificate_json_line name p f = (refl, refl)
 
-pub check_line : IsReadSo "check" (job.Check form.Lines)
+pub check_line : IsReadSo "check" (job.OfText (text_job.Check form.Lines))
 unfolding clap_on_literals
 check_line name p f = (refl, refl)
 
-pub check_json_line : IsReadSo "check --json" (job.Check form.Json)
+pub check_json_line : IsReadSo "check --json" (job.OfText (text_job.Check form.Json))
 unfolding clap_on_literals
 check_json_line name p f = (refl, refl)
 
@@ -291,11 +292,11 @@ pub depth_alone_line : IsReadSo "import --depth 8" (job.Refuse refusal.NoScript)
 unfolding clap_on_literals
 depth_alone_line name p f = (refl, refl)
 
-pub judge_line : IsReadSo "judge" (job.Judge false)
+pub judge_line : IsReadSo "judge" (job.OfText (text_job.Judge false))
 unfolding clap_on_literals
 judge_line name p f = (refl, refl)
 
-pub judge_each_line : IsReadSo "judge --each" (job.Judge true)
+pub judge_each_line : IsReadSo "judge --each" (job.OfText (text_job.Judge true))
 unfolding clap_on_literals
 judge_each_line name p f = (refl, refl)
 

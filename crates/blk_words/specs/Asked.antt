@@ -24,9 +24,13 @@ use Rattle.blk_settings.specs.declared.form.Form.TheVariants as form
 use Rattle.blk_words.specs.declared.words.ShownLoad.{ShownLoad}
 use Rattle.blk_words.specs.declared.words.ShownLoad.TheVariants as shown
 use Rattle.blk_settings.specs.declared.figures.FiguresAsked.TheVariants as figures
+use Rattle.blk_words.specs.declared.inputs.Running.{Running}
 use Rattle.blk_words.specs.declared.inputs.Running.TheVariants as running
+use Rattle.blk_words.specs.declared.inputs.Solving.{Solving}
 use Rattle.blk_words.specs.declared.inputs.Solving.TheVariants as solving
+use Rattle.blk_words.specs.declared.inputs.Telling.{Telling}
 use Rattle.blk_words.specs.declared.inputs.Telling.TheVariants as telling
+use Rattle.blk_words.specs.declared.inputs.TextJob.TheVariants as text_job
 use Rattle.blk_words.specs.declared.words.Import.{Import}
 use Rattle.blk_words.specs.declared.words.Refusal.{Refusal}
 use Rattle.blk_words.specs.declared.words.Refusal.TheVariants as refusal
@@ -38,6 +42,16 @@ use Rattle.blk_words.specs.CommandLine.{Names, AreSchedulers, command_table, blk
 use Rattle.blk_words.specs.Options.{json_option, script_option, trace_option, by_option, top_option, threads_option, met_option, each_option, read_expire_option, write_expire_option, from_option, skip_option, first_option, table_option, summary_option, round_option, depth_option, submitters_option, workers_option, bios_option, load_depth_option, busy_option, service_option}
 use Rattle.blk_words.specs.Lists.{list_of}
 use Rattle.blk_words.specs.Times.{MAX_NUMBER, number_in, time_of}
+
+-- the job of which this is asked of a script, of a trace, and of a command list
+abbrev pub of_script : Running → Job
+of_script r = job.OfText (text_job.OfScript r)
+
+abbrev pub of_trace : Telling → Job
+of_trace t = job.OfText (text_job.OfTrace t)
+
+abbrev pub of_list : Solving → Job
+of_list s = job.OfText (text_job.OfList s)
 
 -- the number of 16 bits that an option is given, the one of 64 bits, and whether a flag is
 abbrev pub short_given : Text → List Row → Option ℕ
@@ -83,10 +97,10 @@ form_asked rows = form_by (is_flagged json_option.name rows)
 
 -- their comparison in a form, and the picture of a trace, or of a script under them
 abbrev pub compared : Form → Option Lineup → Option Job
-compared f lineup = option_map (λ l. job.OfScript (running.Each l f)) lineup
+compared f lineup = option_map (λ l. of_script (running.Each l f)) lineup
 
 abbrev pub pictured : Bool → Option Lineup → Option Job
-pictured script lineup = if script then option_map (λ l. job.OfScript (running.Drawn l)) lineup else Some (job.OfTrace telling.Picture)
+pictured script lineup = if script then option_map (λ l. of_script (running.Drawn l)) lineup else Some (of_trace telling.Picture)
 
 -- a load of these numbers, whose devices may be busy and take time, under this scheduler, and what is written of it
 abbrev pub amounts : Option ℕ → Option ℕ → Option ℕ → Option ℕ → Option ℕ → Option ℕ → Option Load
@@ -197,26 +211,26 @@ tune_job rows = tune_by (list_fault (given_options rows)) (by_given rows) (numbe
 abbrev pub oracle_job : Bool → Bool → Bool → Option Job
 oracle_job trace met json =
     if trace && met then None
-    else (if trace then Some (job.OfTrace (telling.Figures figures.Report (form_by json)))
+    else (if trace then Some (of_trace (telling.Figures figures.Report (form_by json)))
     else (if json then Some (job.Refuse refusal.JsonAlone)
-    else (if met then Some (job.OfList solving.Most) else Some (job.OfList solving.Least))))
+    else (if met then Some (of_list solving.Most) else Some (of_list solving.Least))))
 
 abbrev pub oracle_given : List Row → Option Job
 oracle_given rows = oracle_job (is_flagged trace_option.name rows) (is_flagged met_option.name rows) (is_flagged json_option.name rows)
 
 -- the job that a subcommand makes of what its options are given
 abbrev pub job_made : Makes → List Row → Option Job
-job_made (makes.Told t) rows = Some (job.OfTrace t)
+job_made (makes.Told t) rows = Some (of_trace t)
 job_made makes.Explain rows = Some job.Explain
-job_made (makes.Formed k) rows = Some (job.OfTrace (telling.Figures k (form_asked rows)))
-job_made makes.Sim rows = option_map (λ s. job.OfScript (running.One s)) (sched_asked rows)
+job_made (makes.Formed k) rows = Some (of_trace (telling.Figures k (form_asked rows)))
+job_made makes.Sim rows = option_map (λ s. of_script (running.One s)) (sched_asked rows)
 job_made makes.Compare rows = compared (form_asked rows) (lineup_asked rows)
 job_made makes.Tune rows = Some (tune_job rows)
 job_made makes.Picture rows = pictured (is_flagged script_option.name rows) (lineup_asked rows)
 job_made makes.Oracle rows = oracle_given rows
-job_made makes.Check rows = Some (job.Check (form_asked rows))
+job_made makes.Check rows = Some (job.OfText (text_job.Check (form_asked rows)))
 job_made makes.Import rows = Some (import_job rows)
-job_made makes.Judge rows = Some (job.Judge (is_flagged each_option.name rows))
+job_made makes.Judge rows = Some (job.OfText (text_job.Judge (is_flagged each_option.name rows)))
 job_made makes.Load rows = load_given rows
 
 -- the job of the subcommand of a name, by what its options are given

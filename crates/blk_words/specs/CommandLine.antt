@@ -122,6 +122,10 @@ other_table =
 abbrev pub command_table : List Subcommand
 command_table = run_table ++ other_table
 
+-- the version of the program
+abbrev pub program_version : Text
+program_version = codes "1.0.0"
+
 -- a command with a version, which wants a subcommand
 abbrev pub topmost : App → App
 topmost a = record a { top = record a.top { has_version = true; subcommand_required = true } }

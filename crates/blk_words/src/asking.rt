@@ -3,28 +3,28 @@
 ghost use Rattle.std.specs.Prelude.{◌∷◌, [], true, false, None, Some, codes};
 ghost use Rattle.clap.specs.Words.{Text};
 ghost use Rattle.blk_settings.specs.Defaults.{default_sched, default_deadline, default_kyber, default_earliest, deadline_in, kyber_within, earliest_by, default_lineup, with_earliest, in_batches, whole};
-ghost use Rattle.blk_words.specs.Asked.{Asks};
+ghost use Rattle.blk_words.specs.Asked.{Asks, of_script, of_trace, of_list};
 ghost use Rattle.blk_words.specs.Plain.{AsksFor, AsksForGrid, AsksForNothing, default_trial, five_by_lateness, whole_import, hundred_queued, default_load, own_grid};
 
-use crate::inputs::{Running, Solving, Telling};
+use crate::inputs::{Running, Solving, Telling, TextJob};
 use crate::words::{Job, Refusal, ShownLoad, Written};
 use blk_settings::{FiguresAsked, Form, ListFault, SchedKind};
 
 /// Each of these lines asks for its job and, all but `--version`, for no other; `oracle --trace --met` asks for none. `tune` asks for the
 /// whole grid, or for that of its lists, and for no other.
 pub fn plain_lines()
-    ensures sim { AsksFor "sim" (Job.OfScript (Running.One default_sched)) }
-    ensures none { AsksFor "sim --sched none" (Job.OfScript (Running.One default_sched)) }
-    ensures deadline { AsksFor "sim --sched deadline" (Job.OfScript (Running.One default_deadline)) }
-    ensures kyber { AsksFor "sim --sched kyber" (Job.OfScript (Running.One default_kyber)) }
-    ensures earliest { AsksFor "sim --sched earliest" (Job.OfScript (Running.One default_earliest)) }
-    ensures late_last { AsksFor "sim --sched earliest --late-last" (Job.OfScript (Running.One (earliest_by true))) }
-    ensures batch { AsksFor "sim --sched deadline --fifo-batch 1" (Job.OfScript (Running.One (deadline_in 1))) }
-    ensures target { AsksFor "sim --sched kyber --read-target 1000000" (Job.OfScript (Running.One (kyber_within 1_000_000))) }
-    ensures compare { AsksFor "compare" (Job.OfScript (Running.Each default_lineup Form.Lines)) }
-    ensures compare_earliest { AsksFor "compare --earliest" (Job.OfScript (Running.Each (with_earliest false) Form.Lines)) }
-    ensures compare_late_last { AsksFor "compare --earliest --late-last" (Job.OfScript (Running.Each (with_earliest true) Form.Lines)) }
-    ensures compare_json { AsksFor "compare --json" (Job.OfScript (Running.Each default_lineup Form.Json)) }
+    ensures sim { AsksFor "sim" (of_script (Running.One default_sched)) }
+    ensures none { AsksFor "sim --sched none" (of_script (Running.One default_sched)) }
+    ensures deadline { AsksFor "sim --sched deadline" (of_script (Running.One default_deadline)) }
+    ensures kyber { AsksFor "sim --sched kyber" (of_script (Running.One default_kyber)) }
+    ensures earliest { AsksFor "sim --sched earliest" (of_script (Running.One default_earliest)) }
+    ensures late_last { AsksFor "sim --sched earliest --late-last" (of_script (Running.One (earliest_by true))) }
+    ensures batch { AsksFor "sim --sched deadline --fifo-batch 1" (of_script (Running.One (deadline_in 1))) }
+    ensures target { AsksFor "sim --sched kyber --read-target 1000000" (of_script (Running.One (kyber_within 1_000_000))) }
+    ensures compare { AsksFor "compare" (of_script (Running.Each default_lineup Form.Lines)) }
+    ensures compare_earliest { AsksFor "compare --earliest" (of_script (Running.Each (with_earliest false) Form.Lines)) }
+    ensures compare_late_last { AsksFor "compare --earliest --late-last" (of_script (Running.Each (with_earliest true) Form.Lines)) }
+    ensures compare_json { AsksFor "compare --json" (of_script (Running.Each default_lineup Form.Json)) }
     ensures tune { AsksFor "tune" (default_trial Form.Lines) }
     ensures tune_so { AsksFor "tune --sched deadline,none --fifo-batch 16,1 --by lateness --top 5 --threads 4" five_by_lateness }
     ensures tune_json { AsksFor "tune --json" (default_trial Form.Json) }
@@ -34,24 +34,24 @@ pub fn plain_lines()
     ensures tune_by_what { AsksFor "tune --by wait" (Job.Refuse Refusal.By) }
     ensures whole_grid { AsksForGrid "tune" whole }
     ensures own_grid { AsksForGrid "tune --sched deadline,none --fifo-batch 16,1 --writes-starved 3 --write-target 7,0" own_grid }
-    ensures migrate { AsksFor "migrate" (Job.OfTrace Telling.Whole) }
-    ensures commands { AsksFor "commands" (Job.OfTrace Telling.Commands) }
-    ensures late { AsksFor "late" (Job.OfTrace (Telling.Figures FiguresAsked.Late Form.Lines)) }
-    ensures late_json { AsksFor "late --json" (Job.OfTrace (Telling.Figures FiguresAsked.Late Form.Json)) }
-    ensures misses { AsksFor "misses" (Job.OfTrace (Telling.Figures FiguresAsked.Misses Form.Lines)) }
-    ensures misses_json { AsksFor "misses --json" (Job.OfTrace (Telling.Figures FiguresAsked.Misses Form.Json)) }
-    ensures spread { AsksFor "spread" (Job.OfTrace (Telling.Figures FiguresAsked.Spread Form.Lines)) }
-    ensures spread_json { AsksFor "spread --json" (Job.OfTrace (Telling.Figures FiguresAsked.Spread Form.Json)) }
-    ensures picture { AsksFor "picture" (Job.OfTrace Telling.Picture) }
-    ensures drawn { AsksFor "picture --script --earliest --fifo-batch 1" (Job.OfScript (Running.Drawn (in_batches 1))) }
-    ensures oracle { AsksFor "oracle" (Job.OfList Solving.Least) }
-    ensures report { AsksFor "oracle --trace" (Job.OfTrace (Telling.Figures FiguresAsked.Report Form.Lines)) }
-    ensures report_json { AsksFor "oracle --trace --json" (Job.OfTrace (Telling.Figures FiguresAsked.Report Form.Json)) }
-    ensures met { AsksFor "oracle --met" (Job.OfList Solving.Most) }
+    ensures migrate { AsksFor "migrate" (of_trace Telling.Whole) }
+    ensures commands { AsksFor "commands" (of_trace Telling.Commands) }
+    ensures late { AsksFor "late" (of_trace (Telling.Figures FiguresAsked.Late Form.Lines)) }
+    ensures late_json { AsksFor "late --json" (of_trace (Telling.Figures FiguresAsked.Late Form.Json)) }
+    ensures misses { AsksFor "misses" (of_trace (Telling.Figures FiguresAsked.Misses Form.Lines)) }
+    ensures misses_json { AsksFor "misses --json" (of_trace (Telling.Figures FiguresAsked.Misses Form.Json)) }
+    ensures spread { AsksFor "spread" (of_trace (Telling.Figures FiguresAsked.Spread Form.Lines)) }
+    ensures spread_json { AsksFor "spread --json" (of_trace (Telling.Figures FiguresAsked.Spread Form.Json)) }
+    ensures picture { AsksFor "picture" (of_trace Telling.Picture) }
+    ensures drawn { AsksFor "picture --script --earliest --fifo-batch 1" (of_script (Running.Drawn (in_batches 1))) }
+    ensures oracle { AsksFor "oracle" (of_list Solving.Least) }
+    ensures report { AsksFor "oracle --trace" (of_trace (Telling.Figures FiguresAsked.Report Form.Lines)) }
+    ensures report_json { AsksFor "oracle --trace --json" (of_trace (Telling.Figures FiguresAsked.Report Form.Json)) }
+    ensures met { AsksFor "oracle --met" (of_list Solving.Most) }
     ensures report_and_on_time { AsksForNothing "oracle --trace --met" }
     ensures certificate_json { AsksFor "oracle --met --json" (Job.Refuse Refusal.JsonAlone) }
-    ensures check { AsksFor "check" (Job.Check Form.Lines) }
-    ensures check_json { AsksFor "check --json" (Job.Check Form.Json) }
+    ensures check { AsksFor "check" (Job.OfText (TextJob.Check Form.Lines)) }
+    ensures check_json { AsksFor "check --json" (Job.OfText (TextJob.Check Form.Json)) }
     ensures imported { AsksFor "import" (Job.Import (whole_import Written.Schedule)) }
     ensures imported_so { AsksFor "import --read-expire 150us --from queue --skip 2ms --first 100 --table" (Job.Import hundred_queued) }
     ensures summary { AsksFor "import --write-expire 8ns --summary" (Job.Import (record (whole_import Written.Summary) { write_expire = 8 })) }
@@ -61,8 +61,8 @@ pub fn plain_lines()
     ensures script { AsksFor "import --script --round 1ms" (Job.Import (whole_import (Written.Script 1_000_000 None))) }
     ensures script_alone { AsksFor "import --script" (Job.Refuse Refusal.NoRound) }
     ensures depth_alone { AsksFor "import --depth 8" (Job.Refuse Refusal.NoScript) }
-    ensures judge { AsksFor "judge" (Job.Judge false) }
-    ensures judge_each { AsksFor "judge --each" (Job.Judge true) }
+    ensures judge { AsksFor "judge" (Job.OfText (TextJob.Judge false)) }
+    ensures judge_each { AsksFor "judge --each" (Job.OfText (TextJob.Judge true)) }
     ensures explain { AsksFor "explain" Job.Explain }
     ensures load { AsksFor "load" (Job.Load default_sched default_load (ShownLoad.Account Form.Lines)) }
     ensures load_json { AsksFor "load --json" (Job.Load default_sched default_load (ShownLoad.Account Form.Json)) }

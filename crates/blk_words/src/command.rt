@@ -8,7 +8,7 @@ ghost use Rattle.blk_words.specs.CommandLine.{Names, AreSchedulers, option_rule,
 ghost use Rattle.blk_words.specs.Inside.Tables.{options_in, subcommand_of};
 
 use crate::table::{CommandRow, OTHER_COMMANDS, OptionGroup, RUN_COMMANDS};
-use crate::words::VERSION;
+use crate::words::version;
 use blk_settings::options::{OptionRow, Takes, flag_options, list_options, tuning_options};
 use clap::builder::ValueParser;
 use clap::{Arg, ArgAction, Command, value_parser};
@@ -161,7 +161,7 @@ pub fn blk_command<'a>(
     ensures { IfOk result (λ c. (names : Names) × AreSchedulers names × (app_of c ≡ blk_app names)) }
 {
     let blk = Command::new(alloc, "blk")
-        .version(VERSION)
+        .version(version())
         .about("A multiqueue block layer, and how far its schedules fall short of the best")
         .subcommand_required(true);
     let borrowed = SchedNames { all: names, tried };

@@ -1,6 +1,24 @@
-//! What is asked of an input: of a script, of a trace, of a command list.
+//! What is asked of an input: of a script, of a trace, of a command list, of a certificate, of a schedule.
 
 use blk_settings::{FiguresAsked, Form, Lineup, Sched};
+
+/// A job over a text: it needs no more than the records that it reads, and answers a text alone. A row for each kind of text.
+#[derive(Clone, Copy, Debug, PartialEq, Eq)]
+pub enum TextJob {
+    /// Run a script, and write what is asked of it.
+    OfScript(Running),
+    /// Write what is asked of a trace.
+    OfTrace(Telling),
+    /// Write what is asked of a command list.
+    OfList(Solving),
+    /// Check a certificate, and write what it proves.
+    Check(Form),
+    /// Judge a schedule, as a whole or each of its late commands.
+    Judge {
+        /// Whether each late command is written instead.
+        each: bool,
+    },
+}
 
 /// What is asked of a script.
 #[derive(Clone, Copy, Debug, PartialEq, Eq)]

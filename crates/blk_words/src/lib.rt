@@ -4,15 +4,16 @@
 
 pub mod asking;
 mod command;
-pub mod inputs;
+mod inputs;
 mod lists;
 mod option_names;
-pub mod table;
+mod table;
 mod times;
-pub mod words;
+mod words;
 
-pub use crate::inputs::{Running, Solving, Telling};
+pub use crate::inputs::{Running, Solving, Telling, TextJob};
+pub use crate::table::{MAX_BUSY, MAX_FIRST, MAX_THREADS, MAX_TOP, Makes};
 pub use crate::words::{
-    Import, Job, NoGrid, NoJob, Refusal, ShownLoad, Tuning, VERSION, Written, choose, grid_asked,
+    Import, Job, NoGrid, NoJob, Refusal, ShownLoad, Tuning, Written, choose, grid_asked, version,
 };
 pub use blk_settings::{FiguresAsked, Form};

@@ -4,7 +4,7 @@ ghost use Rattle.std.specs.Prelude.{◌≡◌, ◌≤◌, map, All, IfOk, IfErr,
 ghost use Rattle.std.specs.Option.{option_or};
 ghost use Rattle.clap.specs.Words.{subcommand_rows_of};
 ghost use Rattle.blk_settings.specs.Grids.{grid_given};
-ghost use Rattle.blk_words.specs.CommandLine.{command_table};
+ghost use Rattle.blk_words.specs.CommandLine.{command_table, program_version};
 ghost use Rattle.blk_words.specs.Inside.Tables.{subcommand_of, makes_among};
 ghost use Rattle.blk_words.specs.Asked.{Asks, AsksGrid, AsksNoGrid, IsNoJob, list_given, by_named, by_given, tune_job, short_given, number_given, is_flagged, given_options, sched_asked, lineup_asked, compared, pictured, amounts_of, shown_of, loaded, load_given, form_by, form_asked, time_given, entry_named, from_given, round_by, round_given, script_asked, unscripted, written_of, takes_all, import_of, import_job, oracle_given, job_made, job_of};
 ghost use Rattle.blk_words.specs.Options.{script_option};
@@ -12,7 +12,7 @@ ghost use Rattle.blk_words.specs.Refusals.{refusal_text};
 ghost use Rattle.blk_words.specs.Inside.Options.{given};
 
 use crate::command::{blk_command, other_commands, run_commands};
-use crate::inputs::{Running, Solving, Telling};
+use crate::inputs::{Running, Solving, Telling, TextJob};
 use crate::lists::numbers_of;
 use crate::option_names;
 use crate::table::{CommandRow, Makes};
@@ -26,32 +26,25 @@ use clap::error::ErrorKind;
 use std::alloc::Global;
 
 /// The version of the program.
-pub const VERSION: &str = "1.0.0";
+pub fn version() -> &'static str
+    ensures { result.now ≡ program_version }
+{
+    "1.0.0"
+}
 
 /// What the program is asked to do: a row for each kind of job.
 #[derive(Clone, Copy, Debug, PartialEq, Eq)]
 pub enum Job {
     /// Write the program's name and version.
     Version,
-    /// Run a script, and write what is asked of it.
-    OfScript(Running),
+    /// Write what is asked of a text.
+    OfText(TextJob),
     /// Run a script under each setting of the grid that the words ask for ([`grid_asked`]), and write the table of how well each did.
     Tune(Tuning),
-    /// Write what is asked of a trace.
-    OfTrace(Telling),
-    /// Write what is asked of a command list.
-    OfList(Solving),
-    /// Check a certificate, and write what it proves.
-    Check(Form),
     /// Import a capture.
     Import(Import),
     /// Refuse the words, which are taken and can't be done.
     Refuse(Refusal),
-    /// Judge a schedule, as a whole or each of its late commands.
-    Judge {
-        /// Whether each late command is written instead.
-        each: bool,
-    },
     /// Tell what a text is, or what is wrong with it.
     Explain,
     /// Run a load on a layer under a scheduler, and write what is asked of it.
@@ -63,9 +56,9 @@ pub enum Job {
 pub struct Tuning {
     /// What its rows are ordered by first.
     pub by: By,
-    /// How many rows are written at most, the best ones, 1 to [`crate::table::MAX_TOP`]; without it all are.
+    /// How many rows are written at most, the best ones, 1 to [`crate::MAX_TOP`]; without it all are.
     pub top: Option<u64>,
-    /// How many runs go side by side at most, 1 to [`crate::table::MAX_THREADS`]; without it, as many as there are processors, 16 at most.
+    /// How many runs go side by side at most, 1 to [`crate::MAX_THREADS`]; without it, as many as there are processors, 16 at most.
     pub threads: Option<u64>,
     /// In which form.
     pub form: Form,
@@ -278,7 +271,7 @@ fn compare_of(options: &ArgMatches<'_>) -> Option<Job>
 {
     let form = form_asked(options);
     let lineup = Lineup::given(&MatchedOptions { matches: options })?;
-    Some(Job::OfScript(Running::Each(lineup, form)))
+    Some(Job::OfText(TextJob::OfScript(Running::Each(lineup, form))))
 }
 
 /// The picture of a trace, or with the flag `--script` those of a script under the schedulers that run it in turn.
@@ -287,9 +280,9 @@ fn picture_of(options: &ArgMatches<'_>) -> Option<Job>
 {
     if is_flagged(options, option_names::SCRIPT) {
         let lineup = Lineup::given(&MatchedOptions { matches: options })?;
-        Some(Job::OfScript(Running::Drawn(lineup)))
+        Some(Job::OfText(TextJob::OfScript(Running::Drawn(lineup))))
     } else {
-        Some(Job::OfTrace(Telling::Picture))
+        Some(Job::OfText(TextJob::OfTrace(Telling::Picture)))
     }
 }
 
@@ -561,13 +554,13 @@ fn oracle_job(options: &ArgMatches<'_>) -> Option<Job>
     if trace && met {
         None
     } else if trace {
-        Some(Job::OfTrace(Telling::Figures(FiguresAsked::Report, form_by(json))))
+        Some(Job::OfText(TextJob::OfTrace(Telling::Figures(FiguresAsked::Report, form_by(json)))))
     } else if json {
         Some(Job::Refuse(Refusal::JsonAlone))
     } else if met {
-        Some(Job::OfList(Solving::Most))
+        Some(Job::OfText(TextJob::OfList(Solving::Most)))
     } else {
-        Some(Job::OfList(Solving::Least))
+        Some(Job::OfText(TextJob::OfList(Solving::Least)))
     }
 }
 
@@ -576,25 +569,25 @@ fn job_made(makes: Makes, options: &ArgMatches<'_>) -> Option<Job>
     ensures { result ≡ job_made makes (given options.now) }
 {
     match makes {
-        Makes::Told(telling) => Some(Job::OfTrace(telling)),
+        Makes::Told(telling) => Some(Job::OfText(TextJob::OfTrace(telling))),
         Makes::Explain => Some(Job::Explain),
         Makes::Formed(figures) => {
             let form = form_asked(options);
-            Some(Job::OfTrace(Telling::Figures(figures, form)))
+            Some(Job::OfText(TextJob::OfTrace(Telling::Figures(figures, form))))
         }
         Makes::Sim => {
             let sched = Sched::given(&MatchedOptions { matches: options })?;
-            Some(Job::OfScript(Running::One(sched)))
+            Some(Job::OfText(TextJob::OfScript(Running::One(sched))))
         }
         Makes::Compare => compare_of(options),
         Makes::Tune => Some(tune_job(options)),
         Makes::Picture => picture_of(options),
-        Makes::Check => Some(Job::Check(form_asked(options))),
+        Makes::Check => Some(Job::OfText(TextJob::Check(form_asked(options)))),
         Makes::Oracle => oracle_job(options),
         Makes::Import => Some(import_job(options)),
-        Makes::Judge => Some(Job::Judge {
+        Makes::Judge => Some(Job::OfText(TextJob::Judge {
             each: is_flagged(options, option_names::EACH),
-        }),
+        })),
         Makes::Load => load_job(options),
     }
 }

@@ -6,7 +6,7 @@ use Rattle.blk_settings.specs.declared.form.Form.TheVariants as form
 use Rattle.blk_settings.specs.declared.figures.FiguresAsked.TheVariants as figures
 use Rattle.blk_words.specs.declared.inputs.Running.TheVariants as running
 use Rattle.blk_words.specs.declared.inputs.Telling.TheVariants as tell
-use Rattle.blk_words.specs.declared.words.Job.TheVariants as job
+use Rattle.blk_words.specs.declared.inputs.TextJob.TheVariants as text_job
 use Rattle.blk_online_cli.specs.Told.{ReportsNoShortfall}
 use Rattle.blk_online_cli.specs.Inside.Words.{sim_words, report_words}
 use Rattle.blk_online_cli.proofs.Ending.{piped}
@@ -18,7 +18,7 @@ returns g c script known by good =
     let traced = said_of c.in-Ok.traced in
     let old = stream_of g.W.Write.contents c.args.out.now in
     let new = stream_of g.W.Write.contents c.run.new.out in
-    piped ReportsNoShortfall (job.OfScript (running.One (earliest_by false))) (job.OfTrace (tell.Figures figures.Report form.Lines)) (λ w i b s g. g.0) (λ w i b s g. g.0) (sim_words false) report_words (map string_bytes c.as_slice.result.now) (map string_bytes c.as_slice-3.result.now) script traced c.as_slice-2.result.now
+    piped ReportsNoShortfall (text_job.OfScript (running.One (earliest_by false))) (text_job.OfTrace (tell.Figures figures.Report form.Lines)) (sim_words false) report_words (map string_bytes c.as_slice.result.now) (map string_bytes c.as_slice-3.result.now) script traced c.as_slice-2.result.now
     c.args.records.now.left c.new-read.result.left c.args.records.now.bytes c.new-read.result.bytes c.run.new.records.failed old new (stream_of g.F.Write.contents c.args.faults.now) (stream_of g.F.Write.contents c.run.new.faults) c.run.result
     (λ text. reports script traced.text text old new by) (c.plain_lines.ensures.earliest (codes "blk")) (c.plain_lines.ensures.report (codes "blk"))
     (ap (map string_bytes) c.as_slice.ensures.value ∙ c.in_ok-first.ensures) (ap (map string_bytes) c.as_slice-3.ensures.value ∙ c.in_ok-second.ensures)
