@@ -1,5 +1,5 @@
 -- The text of a script is that of its records.
-use Rattle.std.proofs.Common.{◌≡◌, ◌∙◌, ℕ, List, [], ◌∷◌, ◌++◌, get_or, map, codes, decimal, refl, sym, ap, append-nil, arith}
+use Rattle.std.proofs.Common.{◌≡◌, ◌∙◌, ℕ, List, [], ◌∷◌, ◌++◌, get_or, map, refl, sym, ap, append-nil, arith}
 use Rattle.csv.specs.Reading.{default_config, records, strip_bom}
 use Rattle.blk_lists.specs.Sources.{Row}
 use Rattle.blk_lists.specs.Reads.{with_next}
@@ -7,7 +7,9 @@ use Rattle.blk_lists.specs.Texts.{rows_text}
 use Rattle.blk_lists.proofs.DraftLemmas.{rows_text-append, two_first}
 use Rattle.blk_lists.proofs.Each.{rows_map}
 use Rattle.parts.specs.Parts.{all_rows}
-use Rattle.blk_text.specs.Script.{Scripted, IsScript, IsScriptOf, IsLineOf, SpellsVersion, script_rows, step}
+use Rattle.blk_lists.specs.Titles.{title_by}
+use Rattle.blk_text.specs.Script.{Scripted, IsScript, IsScriptOf, IsLineOf, SpellsVersion, script_rows, step, title_numbers, title_of}
+use Rattle.blk_text.specs.declared.script.TheConstants.{SCRIPT}
 use Rattle.blk_text.specs.SetupRecord.{setup_row}
 use Rattle.blk_text.specs.declared.setup.TheConstants.{LATEST}
 use Rattle.blk_text.proofs.ScriptLaws.{read_back_is}
@@ -17,7 +19,7 @@ use Rattle.blk_text.specs.StepRecords.{step_row}
 
 -- the first record of a script
 abbrev pub script_title : Scripted → Row
-script_title s = codes "blk-script" ∷ decimal LATEST ∷ decimal s.setup.depth ∷ decimal s.setup.hw ∷ decimal s.soft_depth ∷ decimal s.submitters ∷ []
+script_title s = title_by SCRIPT title_numbers (LATEST, title_of s)
 
 row_is : (s : Scripted) (l : Line) → (step LATEST s.setup.hw s.submitters).rows_of l ≡ step_row l ∷ []
 row_is s (line.Bio b) = refl

@@ -6,8 +6,7 @@ use Rattle.blk_trace.specs.Meaning.{commands_of}
 use Rattle.blk_trace.specs.Traces.{Traced}
 use Rattle.blk_lists.specs.Commands.{SpellsCommands, commands_rows}
 use Rattle.blk_lists.specs.Texts.{rows_text}
-use Rattle.blk_text.specs.TraceForm.{SpellsTraceIn}
-use Rattle.blk_text.specs.TraceRecords.{trace_rows}
+use Rattle.blk_text.specs.TraceForm.{trace_rows, SpellsTraceIn}
 use Rattle.blk_text.specs.declared.setup.TheConstants.{LATEST}
 use Rattle.blk_answers.specs.Figures.{IsFiguresText}
 use Rattle.blk_picture.specs.Pictures.{IsPicture}

@@ -12,7 +12,7 @@ use Rattle.blk_lists.specs.Tables.{Cell, Number, Signed, FitsCells, cells_by, ta
 use Rattle.blk_lists.specs.Titles.{counted_title}
 use Rattle.blk_lists.specs.Words.{NextStarts, HasNoWord}
 use Rattle.blk_lists.specs.declared.certificate.Certificate.{Certificate}
-use Rattle.blk_lists.specs.declared.certificate.TheConstants.{CERTIFICATE, SERVED}
+use Rattle.blk_lists.specs.declared.certificate.TheConstants.{BOUND, CERTIFICATE, SERVED}
 use Rattle.blk_lists.specs.declared.fault.Why.{Why}
 use Rattle.blk_lists.specs.declared.fault.Why.TheVariants as why
 use Rattle.parts.specs.declared.Repeats.TheVariants as repeats
@@ -44,7 +44,7 @@ bound_cells count = Signed (MAX_ROUNDS - 1) (λ b. b.0) ∷ Number (first_round 
 
 -- no bound
 abbrev pub no_bound_row : Row
-no_bound_row = codes "bound" ∷ codes "none" ∷ codes "none" ∷ codes "none" ∷ []
+no_bound_row = BOUND.word ∷ codes "none" ∷ codes "none" ∷ codes "none" ∷ []
 
 -- each command: id, release, due, round
 abbrev pub served_cells : List (Cell (Command × ℕ))
@@ -89,12 +89,12 @@ SaysNone count rows = (count ≡ 0) × ((more : List Row) × (rows ≡ no_bound_
 
 abbrev pub TellsBound : ℕ → Bounded → List Row → Type 0
 TellsBound count NoBound rows = SaysNone count rows
-TellsBound count SomeBound rows = NextStarts (codes "bound") rows × ¬ SaysNone count rows
+TellsBound count SomeBound rows = NextStarts BOUND.word rows × ¬ SaysNone count rows
 
 -- the record of each kind
 abbrev pub bound_kind : ℕ → (k : Bounded) → Part Row Why (BoundSaid k)
 bound_kind count NoBound = record_of (λ _. no_bound_row) (λ _. count ≡ 0) why.Word (λ _ _. ⊥)
-bound_kind count SomeBound = word_record why.Word (codes "bound") (bound_cells count) (FitsCells (bound_cells count))
+bound_kind count SomeBound = word_record why.Word BOUND.word (bound_cells count) (FitsCells (bound_cells count))
 
 -- the kind of a bound
 abbrev pub kind_of : Option (ℤ × Window) → (k : Bounded) × BoundSaid k

@@ -1,6 +1,6 @@
 -- A certificate of the greatest number of commands that are on time: a title, how many are on time, a record for each window, and a
 -- record for each command with its round.
-use Rattle.std.specs.Prelude.{◌≡◌, ◌≤◌, ◌<◌, ℕ, List, [], ◌∷◌, length, codes, All}
+use Rattle.std.specs.Prelude.{◌≡◌, ◌≤◌, ◌<◌, ℕ, List, [], ◌∷◌, length, All}
 use Rattle.std.specs.List.{zip}
 use Rattle.edd_commands.specs.declared.TheConstants.{MAX_COMMANDS, MAX_ROUNDS}
 use Rattle.edd_commands.specs.declared.steps.TheConstants.{MAX_DEPTH}
@@ -59,10 +59,10 @@ abbrev pub on_time_title : Part Row Why (ℕ × (ℕ × ℕ))
 on_time_title = counted_title ON_TIME
 
 abbrev pub on_time_numbers : Part Row Why (ℕ × ℕ)
-on_time_numbers = word_record why.Word (codes "met") on_time_cells AreFew
+on_time_numbers = word_record why.Word NUMBERS.word on_time_cells AreFew
 
 abbrev pub window : Part Row Why Window
-window = word_record why.Count (codes "window") window_cells WindowInRange
+window = word_record why.Count WINDOW.word window_cells WindowInRange
 
 -- this number of windows
 abbrev pub windows : ℕ → Part Row Why (List Window)

@@ -157,9 +157,9 @@ fn is_no_bound(row: &ByteRecord, count: u64) -> bool
 
 /// The bound of the numbers of a record.
 fn bound_with(row: &ByteRecord, numbers: &[u64; 4], count: u64) -> (i64, Window)
-    requires starts { StartsWith (codes "bound") (fields_of row.now) }
+    requires starts { StartsWith BOUND.word (fields_of row.now) }
     requires spells { FieldsSpell (slot.Given ∷ slots_by (bound_cells count)) (fields_of row.now) numbers.now }
-    ensures row { fields_of row.now ≡ codes "bound" ∷ row_by (bound_cells count) result }
+    ensures row { fields_of row.now ≡ BOUND.word ∷ row_by (bound_cells count) result }
     ensures fits { FitsCells (bound_cells count) result }
 {
     let window = Window {
@@ -182,7 +182,7 @@ fn bound_slots(count: u64) -> [Slot; 4]
 
 /// The bound of a record that begins with its word, beside this number of commands.
 fn bound_of(row: &ByteRecord, count: u64) -> Result<Option<(i64, Window)>, Why>
-    requires { StartsWith (codes "bound") (fields_of row.now) }
+    requires { StartsWith BOUND.word (fields_of row.now) }
     ensures ok { IfOk result (IsRowOf (bound_part count) (fields_of row.now)) }
     ensures err { IfErr result (IsWrongRecord (bound_part count) (fields_of row.now)) }
 {

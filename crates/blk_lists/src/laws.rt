@@ -1,6 +1,6 @@
 //! Laws of the text forms, each the contract of a function that does nothing.
 
-ghost use Rattle.std.specs.Prelude.{ℕ, List, codes};
+ghost use Rattle.std.specs.Prelude.{◌≡◌, ℕ, List, codes};
 ghost use Rattle.edd_commands.specs.declared.Command.{Command};
 ghost use Rattle.blk_lists.specs.Sources.{Row};
 ghost use Rattle.blk_lists.specs.Laws.{OneValue, ReadsBack, ValueOrFault, NeverBoth, OneFault};
@@ -10,7 +10,9 @@ ghost use Rattle.blk_lists.specs.OnTime.{OnTimeClaim, IsOnTimeClaim, SpellsOnTim
 ghost use Rattle.blk_lists.specs.Proof.{OfLateness, OfOnTime, SpellsProof, ProofFault, FaultsAs, StartsAs};
 ghost use Rattle.blk_lists.specs.Schedule.{IsScheduleView, SpellsSchedule, ScheduleFault, schedule_rows};
 ghost use Rattle.blk_lists.specs.Words.{NextStarts};
+ghost use Rattle.blk_lists.specs.declared.certificate.TheConstants.{BOUND};
 ghost use Rattle.blk_lists.specs.declared.fault.Why.TheVariants as why;
+ghost use Rattle.blk_lists.specs.declared.on_time.TheConstants.{NUMBERS, WINDOW};
 ghost use Rattle.blk_lists.specs.declared.proof.ProofKind.TheVariants as kind;
 
 /// Command lists: records spell one at most, and its text reads back as its records, which spell it. Records either spell one
@@ -33,6 +35,11 @@ pub fn certificates()
     ensures first { OneFault ClaimFault }
 {}
 
+/// The word of the row of a certificate.
+pub fn words_of_certificates()
+    ensures bound { BOUND.word ≡ codes "bound" }
+{}
+
 /// Certificates of the greatest number on time: records spell one at most, and its text reads back as its records, which spell it.
 /// Records either spell one or have a fault as one, and not both; and they have one first fault at most.
 pub fn on_time_certificates()
@@ -41,6 +48,12 @@ pub fn on_time_certificates()
     ensures decided { ValueOrFault SpellsOnTime OnTimeClaimFault }
     ensures apart { NeverBoth SpellsOnTime OnTimeClaimFault }
     ensures first { OneFault OnTimeClaimFault }
+{}
+
+/// The word of each row of a certificate of the greatest number on time.
+pub fn words_of_on_time_certificates()
+    ensures numbers { NUMBERS.word ≡ codes "met" }
+    ensures windows { WINDOW.word ≡ codes "window" }
 {}
 
 /// Certificates of either form: one is that of the name that its title begins with, and so are its faults; a text that begins

@@ -224,7 +224,7 @@ pub fn read_on_time<R: Read + Drop>(
 
 /// Adds the record of each window.
 fn push_cover(draft: &mut Block, cover: &[Window]) -> Result<(), AllocError>
-    ensures text { OnOk result (AddsRows draft.old draft.new (map (λ w. codes "window" ∷ row_by window_cells w) cover.now)) }
+    ensures text { OnOk result (AddsRows draft.old draft.new (map (λ w. WINDOW.word ∷ row_by window_cells w) cover.now)) }
 {
     for i in 0..cover.len() {
         let window = cover[i];

@@ -11,8 +11,8 @@ use Rattle.blk_trace.specs.Setups.{Setup, IsSetup}
 use Rattle.edd_figures.specs.Figures.{shortfall_in}
 use Rattle.blk_trace.specs.Traces.{Traced}
 use Rattle.blk_text.specs.Script.{Scripted}
-use Rattle.blk_text.specs.TraceForm.{SpellsTrace}
-use Rattle.blk_text.specs.TraceRecords.{trace_rows, IsTrace}
+use Rattle.blk_text.specs.TraceForm.{trace_rows, SpellsTrace}
+use Rattle.blk_text.specs.TraceRecords.{IsTrace}
 use Rattle.blk_text.specs.declared.setup.TheConstants.{LATEST}
 use Rattle.blk_text.proofs.ScriptLaws as scripts
 use Rattle.blk_text.proofs.TraceLaws as traces

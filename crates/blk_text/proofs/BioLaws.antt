@@ -14,9 +14,8 @@ use Rattle.blk_lists.specs.declared.fault.Why.{Why}
 use Rattle.blk_lists.specs.declared.fault.Why.TheVariants as why
 use Rattle.blk_lists.specs.declared.fields.Slot.TheVariants as slot
 use Rattle.blk_lists.proofs.TableLaws.{word_line}
-use Rattle.blk_text.specs.BioRecord.{bio_row}
 use Rattle.blk_text.specs.BioTable.{bio_cells}
-use Rattle.blk_text.specs.Inside.BioTable.{bio_record}
+use Rattle.blk_text.specs.Inside.BioTable.{bio_record, bio_row}
 
 -- the bio of the numbers of a record
 abbrev pub bio_with : List ℕ → Dir → Bio

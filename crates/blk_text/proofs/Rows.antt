@@ -4,7 +4,7 @@ use Rattle.csv.specs.Writing.{needs_quotes, default_writer}
 use Rattle.blk_bio.specs.Bios.{Bio}
 use Rattle.blk_bio.specs.declared.bio.Dir.{Dir}
 use Rattle.blk_bio.specs.declared.bio.Dir.TheVariants as dir
-use Rattle.blk_text.specs.BioRecord.{bio_row}
+use Rattle.blk_text.specs.Inside.BioTable.{bio_row}
 use Rattle.blk_bio.specs.Letters.{direction_text}
 use Rattle.blk_lists.specs.Inside.Cells.{line_of}
 use Rattle.blk_lists.specs.Texts.{rows_text}

@@ -1,5 +1,5 @@
 -- The laws of the text of a trace.
-use Rattle.std.proofs.Common.{◌≡◌, ◌^◌, ◌+◌, ◌<◌, ◌≤◌, ◌∙◌, ℕ, zero, suc, List, [], ◌∷◌, ◌++◌, length, map, refl, sym, ap, subst, inl, inr, arith, append_assoc, append-nil, get_or, codes, decimal, Option, Some, None, Bool}
+use Rattle.std.proofs.Common.{◌≡◌, ◌^◌, ◌+◌, ◌<◌, ◌≤◌, ◌∙◌, ℕ, zero, suc, List, [], ◌∷◌, ◌++◌, length, map, refl, sym, ap, subst, inl, inr, arith, append_assoc, append-nil, get_or, Option, Some, None, Bool}
 use Rattle.std.specs.Prelude.{◌⊎◌, All, IfSome}
 use Rattle.std.specs.List.{flat_map}
 use Rattle.std.proofs.lemmas.List.{map-append, length-append}
@@ -26,11 +26,12 @@ use Rattle.blk_trace.proofs.Ids.{by_legal}
 use Rattle.blk_trace.proofs.Pushing.{empty_legal, push_legal}
 use Rattle.blk_lists.specs.Sources.{Row}
 use Rattle.blk_lists.specs.Texts.{rows_text}
-use Rattle.blk_text.specs.BioRecord.{bio_row}
+use Rattle.blk_text.specs.Inside.BioTable.{bio_row}
 use Rattle.blk_text.specs.SetupRecord.{setup_row, setup, FitsSetup, IsWholeSetup}
 use Rattle.blk_lists.specs.Reads.{IsOutside, Reads, Halts, Fails, AreItems, IsStopped, IsHeldAt, with_next, size_of}
-use Rattle.blk_text.specs.TraceRecords.{word_row, event_rows, title_row, trace_rows, BioFits, EventFits, IsTrace}
-use Rattle.blk_text.specs.TraceForm.{Tiles, group_bio, plain_event, event, one_more, events_of, IsTraceTitle, trace_title_part, trace_body, trace_form, trace_value, IsEventOf, IsTraceOf, SpellsTraceIn, SpellsTrace, TraceTextFault, TraceTitle}
+use Rattle.blk_text.specs.Inside.TraceRecords.{head_row, event_rows, title_row}
+use Rattle.blk_text.specs.TraceRecords.{BioFits, EventFits, IsTrace}
+use Rattle.blk_text.specs.TraceForm.{Tiles, group_bio, plain_event, event, one_more, events_of, IsTraceTitle, trace_title_part, trace_body, trace_form, trace_value, trace_rows, event_told, IsEventOf, IsTraceOf, SpellsTraceIn, SpellsTrace, TraceTextFault, TraceTitle}
 use Rattle.blk_text.specs.BioTable.{bio_cells}
 use Rattle.blk_lists.specs.Tables.{FitsCells}
 use Rattle.blk_text.specs.declared.setup.TheConstants.{LATEST}
@@ -54,21 +55,23 @@ bios_rows version limits before [] = refl
 bios_rows version limits before (b ∷ bs) = ap (λ (t : List Row). bio_row b ∷ t) (bios_rows version limits (before ++ b ∷ []) bs)
 
 event_same : (version : ℕ) (setup : Setup) (before : List Happened) (e : Happened) → (event version setup before).rows_of e ≡ event_rows e
-event_same version setup before (Release id bios) = ap (λ (t : List Row). word_row (codes "release") (decimal id) (decimal (length bios)) ∷ t) (bios_rows version setup.limits [] bios)
-event_same version setup before (Join id bios) = ap (λ (t : List Row). word_row (codes "join") (decimal id) (decimal (length bios)) ∷ t) (bios_rows version setup.limits [] bios)
-event_same version setup before e = refl
+event_same version setup before e = ap (λ (t : List Row). head_row (event_told e).0 ∷ t) (bios_rows version setup.limits [] (event_told e).1)
 
 events_same : (version : ℕ) (setup : Setup) (before es : List Happened) → all_rows (event version setup) with_next before es ≡ flat_map event_rows es
 events_same version setup before [] = refl
 events_same version setup before (e ∷ es) = λ i. event_same version setup before e i ++ events_same version setup (before ++ e ∷ []) es i
 
-pub rows_are : (t : Traced) → trace_rows t ≡ trace_form.rows_of (trace_value LATEST t)
+pub rows_are : (t : Traced) → title_row t.setup (length t.events) ∷ setup_row t.setup ∷ flat_map event_rows t.events ≡ trace_rows t
 rows_are t =
     let others : flat_map event_rows t.events ≡ all_rows (event LATEST t.setup) with_next [] t.events ++ [] = sym (append-nil (all_rows (event LATEST t.setup) with_next [] t.events) ∙ events_same LATEST t.setup [] t.events) in
     λ i. title_row t.setup (length t.events) ∷ setup_row t.setup ∷ others i
 
-pub size_is : (version : ℕ) (setup : Setup) (es : List Happened) → size_of (event version setup) es ≡ length (flat_map event_rows es)
-size_is version setup es = ap length (events_same version setup [] es)
+-- as many records as a version has of them, after the title and the setup
+pub size_is : (version : ℕ) (setup : Setup) (t : Traced) → length (trace_rows t) ≡ 2 + size_of (event version setup) t.events
+size_is version setup t =
+    let rows = ap length (rows_are t) in
+    let same = ap length (events_same version setup [] t.events) in
+    omega (arith, rows, same)
 
 -- a legal trace spells
 
@@ -188,7 +191,7 @@ latest_kind (Depth depth) = omega arith
 latest_kind e = tt
 
 pub rows_spell : (t : Traced) → IsTrace t → SpellsTraceIn LATEST (trace_rows t) t
-rows_spell t h = subst (λ rows. SpellsTraceIn LATEST rows t) (sym (rows_are t)) (spells_in LATEST t h (record { is_version = (omega arith, omega arith); tags = h.setup.is_setup.few_tags; kinds = λ k d l. latest_kind _ }))
+rows_spell t h = spells_in LATEST t h (record { is_version = (omega arith, omega arith); tags = h.setup.is_setup.few_tags; kinds = λ k d l. latest_kind _ })
 
 -- what is written reads back
 
@@ -203,7 +206,7 @@ event_back h = refl
 
 events_back : (hs : List Happened) → map read_back (flat_map event_rows hs) ≡ flat_map event_rows hs
 events_back [] = refl
-events_back (h ∷ hs) = rw (map-append read_back (event_rows h) (flat_map event_rows hs), event_back h, events_back hs) refl
+events_back (h ∷ hs) = map-append read_back (event_rows h) (flat_map event_rows hs) ∙ (λ i. event_back h i ++ events_back hs i)
 
 all_back : (version : ℕ) (t : Traced) → map read_back (all_rows (event version t.setup) with_next [] t.events ++ []) ≡ all_rows (event version t.setup) with_next [] t.events ++ []
 all_back version t = rw (append-nil (all_rows (event version t.setup) with_next [] t.events), events_same version t.setup [] t.events) (events_back t.events)
@@ -214,7 +217,7 @@ read_back_is version t h v = rw (text_back (trace_form.rows_of (trace_value vers
 
 pub written_back : (t : Traced) → records default_config (strip_bom (rows_text (trace_rows t))) ≡ trace_rows t
 unfolding rows_text
-written_back t = text_back (trace_rows t) _ refl (rw (events_back t.events) refl)
+written_back t = text_back (trace_rows t) _ refl (rw (all_back LATEST t) refl)
 
 -- a trace is spelled once, in one version
 

@@ -1,6 +1,7 @@
 -- The records of all events make the text of a trace.
 use Rattle.std.proofs.Common.{◌≡◌, ◌<◌, ◌≤◌, ◌+◌, ◌∷◌, ◌∙◌, [], ℕ, Result, Ok, Err, length, take, List, get_or, refl, sym, ap, arith, subst, ⊎_elim}
 use Rattle.std.specs.Prelude.{slice_get, All, IfOk}
+use Rattle.std.specs.List.{flat_map}
 use Rattle.std.proofs.lemmas.List.{length-append, take_all}
 use Rattle.std.proofs.lemmas.List.Elements.{All-more}
 use Rattle.std.proofs.lemmas.Option.{slice_get_read}
@@ -17,14 +18,15 @@ use Rattle.blk_trace.specs.Setups.{Setup}
 use Rattle.blk_trace.specs.Traces.{Traced}
 use Rattle.blk_text.specs.SetupRecord.{setup_row}
 use Rattle.blk_lists.specs.Texts.{rows_text}
-use Rattle.blk_text.specs.TraceRecords.{event_rows, title_row, trace_rows, EventFits}
+use Rattle.blk_text.specs.Inside.TraceRecords.{event_rows, title_row}
+use Rattle.blk_text.specs.TraceRecords.{EventFits}
 use Rattle.blk_lists.proofs.DraftLemmas.{IsSoFar}
 use Rattle.blk_bio.specs.declared.limits.TheConstants.{MAX_SEGMENTS}
 
 pub all_events : (has : List ℕ) (t : Traced) (events : List Happened) (i : ℕ) → length events ≤ i
     → events ≡ t.events
     → IsSoFar event_rows [] (title_row t.setup (length events) ∷ setup_row t.setup ∷ []) events i has
-    → has ≡ rows_text (trace_rows t)
+    → has ≡ rows_text (title_row t.setup (length t.events) ∷ setup_row t.setup ∷ flat_map event_rows t.events)
 all_events has t events i l m a =
     rw (← m) (rw (take_all i events l) at a)
 

@@ -1,5 +1,4 @@
 pub mod SetupRecord
-pub mod BioRecord
 pub mod Script
 pub mod TraceRecords
 pub mod StepRecords

@@ -1,5 +1,5 @@
 -- The setup record, which is the second one of a script and of a trace.
-use Rattle.std.specs.Prelude.{◌≡◌, ℕ, List, [], ◌∷◌, codes}
+use Rattle.std.specs.Prelude.{◌≡◌, ℕ, List, [], ◌∷◌}
 use Rattle.blk_bio.specs.Limits.{IsLimits}
 use Rattle.blk_trace.specs.Setups.{Setup, IsSetup}
 use Rattle.blk_lists.specs.Sources.{Row}
@@ -15,7 +15,7 @@ setup_cells = cells_by SETUP.slots ((λ s. s.read_expire) ∷ (λ s. s.write_exp
 
 -- the setup record of a setup; its depth and hardware queues stand in the title
 abbrev pub setup_row : Setup → Row
-setup_row s = codes "setup" ∷ row_by setup_cells s
+setup_row s = SETUP.word ∷ row_by setup_cells s
 
 -- the numbers of a setup lie in their ranges
 pub record IsWholeSetup (s : Setup) : Type 0 where
@@ -28,4 +28,4 @@ FitsSetup depth hw s = (s.depth ≡ depth) × (s.hw ≡ hw) × IsWholeSetup s
 
 -- the setup record, for these numbers of tags and hardware queues
 abbrev pub setup : ℕ → ℕ → Part Row Why Setup
-setup depth hw = word_record why.Word (codes "setup") setup_cells (FitsSetup depth hw)
+setup depth hw = word_record why.Word SETUP.word setup_cells (FitsSetup depth hw)

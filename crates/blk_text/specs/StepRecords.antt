@@ -1,19 +1,11 @@
 -- The records of the steps of a script.
-use Rattle.std.specs.Prelude.{[], codes, decimal}
+use Rattle.std.specs.Prelude.{◌∷◌}
 use Rattle.blk_lists.specs.Sources.{Row}
-use Rattle.blk_text.specs.BioRecord.{bio_row}
-use Rattle.blk_text.specs.TraceRecords.{word_row}
+use Rattle.blk_lists.specs.Tables.{row_by}
+use Rattle.blk_text.specs.Script.{step_said}
+use Rattle.blk_text.specs.StepKinds.{step_word, step_fields}
 use Rattle.blk_text.specs.declared.script.Line.{Line}
-use Rattle.blk_text.specs.declared.script.Line.TheVariants as line
 
--- the record of a step
+-- the record of a step, however many hardware queues and submitters there are
 abbrev pub step_row : Line → Row
-step_row (line.Bio b) = bio_row b
-step_row (line.Flush submitter) = word_row (codes "flush") (decimal submitter) []
-step_row (line.Drain hw) = word_row (codes "drain") (decimal hw) []
-step_row (line.Issue hw tag) = word_row (codes "issue") (decimal hw) (decimal tag)
-step_row (line.Done tag) = word_row (codes "done") (decimal tag) []
-step_row (line.Back tag) = word_row (codes "back") (decimal tag) []
-step_row (line.Depth depth) = word_row (codes "depth") (decimal depth) []
-step_row line.Tick = word_row (codes "tick") [] []
-step_row (line.Run n) = word_row (codes "run") (decimal n) []
+step_row l = step_word (step_said 1 1 l).0 ∷ row_by (step_fields 1 1 (step_said 1 1 l).0) (step_said 1 1 l).1

@@ -153,6 +153,10 @@ trace_title t = record { depth = t.setup.depth; hw = t.setup.hw; count = length 
 abbrev pub trace_value : ℕ → Traced → (ℕ × TraceTitle) × (Setup × List Happened)
 trace_value version t = ((version, trace_title t), (t.setup, t.events))
 
+-- the records of a trace in the latest version, as it is written
+abbrev pub trace_rows : Traced → List Row
+trace_rows t = trace_form.rows_of (trace_value LATEST t)
+
 -- the records spell this trace in this version, whatever it is prepared for
 abbrev pub SpellsTraceIn : ℕ → List Row → Traced → Type 0
 SpellsTraceIn version rows t = Spells trace_form rows (trace_value version t)

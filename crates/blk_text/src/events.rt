@@ -1,18 +1,19 @@
 //! The events of a trace, each looked at after those before it.
 
-ghost use Rattle.std.specs.Prelude.{◌≡◌, ◌⊎◌, ◌∷◌, ◌++◌, ◌≤◌, ◌<◌, ◌^◌, ◌-◌, ◌+◌, ◌*◌, ℕ, [], length, OnOk, IfOk, IfErr, IfSome};
+ghost use Rattle.std.specs.Prelude.{◌≡◌, ◌⊎◌, ◌∷◌, ◌++◌, ◌≤◌, ◌<◌, ◌^◌, ◌-◌, ◌+◌, ◌*◌, ℕ, [], length, OnOk, IfOk, IfErr, IfSome, codes};
 ghost use Rattle.csv.specs.Records.{fields_of};
 ghost use Rattle.parts.specs.declared.Repeats.TheVariants as repeats;
 ghost use Rattle.parts.specs.Parts.{Begins};
 ghost use Rattle.blk_lists.specs.Sources.{Row};
 ghost use Rattle.blk_lists.specs.Reads.{FaultsBy, HandReads, HandFailsBy, Fails, AreItems, IsHeldAt, size_of};
-ghost use Rattle.blk_text.specs.TraceForm.{plain_event, event as event_part, events_of, trace_form, SpellsTrace, TraceTextFault};
+ghost use Rattle.blk_lists.specs.Titles.{IsTitleOf};
+ghost use Rattle.blk_text.specs.TraceForm.{plain_event, event as event_part, events_of, trace_form, trace_rows, SpellsTrace, TraceTextFault};
 ghost use Rattle.blk_text.specs.Inside.TraceForm.{refusal_of, IsRefused, IsPushed, IsStoppedIn, IsPast};
-ghost use Rattle.blk_text.specs.TraceRecords.{IsTrace, trace_rows};
+ghost use Rattle.blk_text.specs.TraceRecords.{IsTrace};
 
 use crate::groups::read_group;
 use crate::heads::{HeadForm, TRACE};
-use crate::setup::SetupForm;
+use crate::setup::{LATEST, SetupForm};
 use blk_bio::{Limits, MAX_SEGMENTS, Request};
 use blk_lists::fault::{TextFault, Why};
 use blk_lists::items::{ItemForm, RecordForm, gather, read_record};
@@ -216,6 +217,8 @@ pub fn read_trace<R: Read + Drop>(
     ensures reads { (1 ≤ records.new.at) × (records.new.at ≤ MAX_EVENTS * (MAX_SEGMENTS + 1) + 3) }
     // the last thing that was asked for is the record after the events, which there is not
     ensures end { IfOk result (λ t. records.new.at ≡ length (trace_rows t) + 1) }
+    // the title is that of the form, by its name and its latest version
+    ensures title { IsTitleOf TRACE (codes "blk-trace") LATEST }
 {
     let (version, [_, _, depth, queues, count, _]) = match read_title(records, &TRACE) {
         Ok(title) => title,

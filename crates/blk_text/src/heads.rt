@@ -5,7 +5,8 @@ ghost use Rattle.blk_trace.specs.Events.{bios_of};
 ghost use Rattle.blk_lists.specs.Cells.{IsPlainWord};
 ghost use Rattle.blk_lists.specs.Texts.{rows_text};
 ghost use Rattle.drafts.specs.Drafts.{drafted};
-ghost use Rattle.blk_text.specs.TraceRecords.{group_rows, event_rows, BioFits, EventFits};
+ghost use Rattle.blk_text.specs.Inside.TraceRecords.{group_rows, event_rows};
+ghost use Rattle.blk_text.specs.TraceRecords.{BioFits, EventFits};
 
 use crate::bios::push_bio;
 use crate::setup::{DEPTHS, LATEST, MORE_TAGS, QUEUES, WIDTH};

@@ -1,15 +1,18 @@
 //! Laws of the text forms, each the contract of a function that does nothing.
 
-ghost use Rattle.std.specs.Prelude.{◌≡◌, ℕ, List};
+ghost use Rattle.std.specs.Prelude.{◌≡◌, ℕ, List, codes};
 ghost use Rattle.csv.specs.Reading.{default_config, records, strip_bom};
 ghost use Rattle.blk_lists.specs.Sources.{Row};
 ghost use Rattle.blk_lists.specs.Texts.{rows_text};
 ghost use Rattle.blk_trace.specs.Traces.{Traced};
 ghost use Rattle.blk_lists.specs.Laws.{ValueOrFault, NeverBoth, OneFault};
 ghost use Rattle.blk_text.specs.Script.{Scripted, SpellsScript, ScriptFault, OneScript, ScriptReadsBack};
-ghost use Rattle.blk_text.specs.TraceRecords.{trace_rows, IsTrace};
-ghost use Rattle.blk_text.specs.TraceForm.{SpellsTraceIn, SpellsTrace, TraceTextFault, OneTrace, TraceReadsBack};
-ghost use Rattle.blk_text.specs.declared.setup.TheConstants.{LATEST};
+ghost use Rattle.blk_text.specs.TraceRecords.{IsTrace};
+ghost use Rattle.blk_text.specs.TraceForm.{trace_rows, SpellsTraceIn, SpellsTrace, TraceTextFault, OneTrace, TraceReadsBack};
+ghost use Rattle.blk_text.specs.declared.bios.TheConstants.{BIO};
+ghost use Rattle.blk_text.specs.declared.heads.TheConstants.{TICK, RELEASE, JOIN, ISSUE, DONE, BACK, DEPTH};
+ghost use Rattle.blk_text.specs.declared.script.TheConstants.{FLUSH, DRAIN, RUN};
+ghost use Rattle.blk_text.specs.declared.setup.TheConstants.{LATEST, SETUP, WIDTH};
 
 /// Scripts: records spell one at most, and in one version. The text of one in a version that has its tags and its steps reads
 /// back as its records, which spell it. Records either spell one or have a fault as one, and not both; and they have one first
@@ -35,4 +38,29 @@ pub fn traces()
     ensures decided { ValueOrFault SpellsTrace TraceTextFault }
     ensures apart { NeverBoth SpellsTrace TraceTextFault }
     ensures first { OneFault TraceTextFault }
+{}
+
+/// The word of each row that scripts and traces have alike, and how many fields a record of theirs has.
+pub fn words_of_both()
+    ensures width { WIDTH ≡ 6 }
+    ensures setup { SETUP.word ≡ codes "setup" }
+    ensures bio { BIO.word ≡ codes "bio" }
+    ensures issue { ISSUE.word ≡ codes "issue" }
+    ensures done { DONE.word ≡ codes "done" }
+    ensures back { BACK.word ≡ codes "back" }
+    ensures depth { DEPTH.word ≡ codes "depth" }
+    ensures tick { TICK.word ≡ codes "tick" }
+{}
+
+/// The word of each other row of a script.
+pub fn words_of_scripts()
+    ensures flush { FLUSH.word ≡ codes "flush" }
+    ensures drain { DRAIN.word ≡ codes "drain" }
+    ensures run { RUN.word ≡ codes "run" }
+{}
+
+/// And of each other row of a trace.
+pub fn words_of_traces()
+    ensures release { RELEASE.word ≡ codes "release" }
+    ensures join { JOIN.word ≡ codes "join" }
 {}

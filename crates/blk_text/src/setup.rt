@@ -1,6 +1,6 @@
 //! The setup record, which is the second one of a script and of a trace.
 
-ghost use Rattle.std.specs.Prelude.{◌≡◌, ◌++◌, ◌≤◌, ◌<◌, ◌∷◌, [], IfOk, IfErr, OnOk, codes};
+ghost use Rattle.std.specs.Prelude.{◌≡◌, ◌++◌, ◌≤◌, ◌<◌, ◌∷◌, [], IfOk, IfErr, OnOk};
 ghost use Rattle.csv.specs.Records.{fields_of};
 ghost use Rattle.blk_lists.specs.Fields.{FieldsSpell};
 ghost use Rattle.blk_lists.specs.Reads.{IsRowOf, IsWrongRecord};
@@ -83,7 +83,7 @@ pub const SETUP: Kind<5, WIDTH> = Kind {
 fn setup_with(row: &ByteRecord, depth: u64, hw: u8, numbers: &[u64; WIDTH]) -> Setup
     requires depth { (0 < depth) × (depth ≤ MAX_DEPTH) }
     requires hw { (0 < hw) × (hw ≤ MAX_QUEUES) }
-    requires starts { StartsWith (codes "setup") (fields_of row.now) }
+    requires starts { StartsWith SETUP.word (fields_of row.now) }
     requires spells { FieldsSpell (slot.Given ∷ slots_by setup_cells) (fields_of row.now) numbers.now }
     ensures { IsRowOf (setup_part depth hw) (fields_of row.now) result }
 {

@@ -4,8 +4,8 @@ ghost use Rattle.std.specs.Prelude.{◌≡◌, ◌⊎◌, OnOk, IfOk, IfErr};
 ghost use Rattle.std.specs.Io.KnownBytes.{Appends};
 ghost use Rattle.blk_lists.specs.Texts.{rows_text};
 ghost use Rattle.drafts.specs.Parts.{AppendsPart};
-ghost use Rattle.blk_text.specs.TraceRecords.{trace_rows, IsTrace};
-ghost use Rattle.blk_text.specs.TraceForm.{SpellsTrace, SpellsTraceIn};
+ghost use Rattle.blk_text.specs.TraceRecords.{IsTrace};
+ghost use Rattle.blk_text.specs.TraceForm.{trace_rows, SpellsTrace, SpellsTraceIn};
 
 use crate::heads::{TRACE, push_event};
 use crate::setup::{LATEST, push_setup};

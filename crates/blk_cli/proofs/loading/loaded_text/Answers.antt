@@ -1,6 +1,7 @@
 use Rattle.std.proofs.Common.{◌≡◌, ℕ, List, Result, Ok, Err, IfOk}
 use Rattle.blk_lists.specs.Texts.{rows_text}
-use Rattle.blk_text.specs.TraceRecords.{trace_rows, IsTrace}
+use Rattle.blk_text.specs.TraceForm.{trace_rows}
+use Rattle.blk_text.specs.TraceRecords.{IsTrace}
 use Rattle.blk_text.proofs.TraceLaws.{rows_spell}
 use Rattle.blk_trace.specs.Traces.{Traced}
 use Rattle.blk_cli.specs.OfTraces.{IsTraceText}

@@ -27,7 +27,7 @@ returns-in-Ok-read_events-clause-in_range g c =
 pub returns-in-Ok-read_events-clause-end : goal.returns-in-Ok-read_events-clause-end
 returns-in-Ok-read_events-clause-end g c =
     let end = c.in-Ok-read_events.ensures.end in
-    omega (arith, end, size_is c.in-Ok.title.0 c.in-Ok-empty.none.setup c.in-Ok-read_events.trace.events)
+    omega (arith, end, size_is c.in-Ok.title.0 c.in-Ok-empty.none.setup c.in-Ok-read_events.trace)
 
 pub returns-in-Err-read_events-clause-err : goal.returns-in-Err-read_events-clause-err
 returns-in-Err-read_events-clause-err g c =

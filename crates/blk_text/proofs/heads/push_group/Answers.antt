@@ -1,6 +1,7 @@
 use Rattle.std.proofs.Common.{arith, ◌∷◌, [], decimal, length}
-use Rattle.blk_text.specs.BioRecord.{bio_row}
-use Rattle.blk_text.specs.TraceRecords.{word_row, BioFits}
+use Rattle.blk_text.specs.Inside.BioTable.{bio_row}
+use Rattle.blk_text.specs.Inside.TraceRecords.{word_row}
+use Rattle.blk_text.specs.TraceRecords.{BioFits}
 use Rattle.std.proofs.lemmas.List.{take_all}
 use Rattle.blk_text.proofs.TraceLemmas.{one_fits}
 use Rattle.blk_lists.proofs.DraftLemmas.{one_more, whole}

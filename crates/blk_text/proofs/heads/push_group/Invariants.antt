@@ -1,7 +1,8 @@
 use Rattle.std.proofs.Common.{[], ◌∷◌, decimal, length, take}
 use Rattle.std.specs.Prelude.{All}
-use Rattle.blk_text.specs.BioRecord.{bio_row}
-use Rattle.blk_text.specs.TraceRecords.{word_row, BioFits}
+use Rattle.blk_text.specs.Inside.BioTable.{bio_row}
+use Rattle.blk_text.specs.Inside.TraceRecords.{word_row}
+use Rattle.blk_text.specs.TraceRecords.{BioFits}
 use Rattle.blk_lists.proofs.DraftLemmas.{IsSoFar}
 use Rattle.drafts.specs.Drafts.{drafted}
 use Rattle.blk_text.proofs.heads.push_group.Given as goal

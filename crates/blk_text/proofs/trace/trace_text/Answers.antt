@@ -1,8 +1,11 @@
-use Rattle.std.proofs.Common.{◌∷◌, [], length, arith}
+use Rattle.std.proofs.Common.{◌∷◌, ◌∙◌, [], length, arith, ap}
 use Rattle.blk_text.specs.SetupRecord.{setup_row}
-use Rattle.blk_text.specs.TraceRecords.{event_rows, title_row, EventFits}
+use Rattle.blk_text.specs.Inside.TraceRecords.{event_rows, title_row}
+use Rattle.blk_text.specs.TraceRecords.{EventFits}
 use Rattle.blk_lists.proofs.DraftLemmas.{one_more, two_first}
 use Rattle.std.proofs.lemmas.List.Elements.{All-nil}
+use Rattle.blk_lists.specs.Texts.{rows_text}
+use Rattle.blk_text.proofs.TraceLaws.{rows_are}
 use Rattle.blk_text.proofs.TraceLemmas.{all_events, few_at, one_fits, all_fit, if_ok}
 use Rattle.drafts.specs.Drafts.{drafted}
 use Rattle.blk_text.proofs.trace.trace_text.Goals as goal
@@ -26,7 +29,7 @@ loop-i-preserved g c = record {
 pub returns-clause-text : goal.returns-clause-text
 returns-clause-text g c =
     let all = all_events (drafted c.loop-i.draft) c.args.trace.now c.events-events.result.now c.loop-i.i (omega arith) c.events-events.ensures.events c.loop-i.invariant.text in
-    rw all at c.finish.ensures
+    rw (all ∙ ap rows_text (rows_are c.args.trace.now)) at c.finish.ensures
 
 pub push_event-requires : goal.push_event-requires
 push_event-requires g c =
