@@ -16,4 +16,4 @@ pub use crate::reading::{CAPTURE, MAX_RECORDS, read_capture};
 pub use crate::record::RECORD;
 pub use crate::schedule::schedule_of;
 pub use crate::shown::{ShownImport, shown_text};
-pub use crate::table::{table_text, write_table};
+pub use crate::table::write_table;

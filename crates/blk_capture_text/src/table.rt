@@ -65,7 +65,7 @@ fn push_rows(draft: &mut Draft, rows: &[RequestRow]) -> Result<(), AllocError>
 }
 
 /// The head line and the lines of the requests.
-pub fn table_text(alloc: Global, rows: &[RequestRow]) -> Result<Vec<u8>, AllocError>
+pub(crate) fn table_text(alloc: Global, rows: &[RequestRow]) -> Result<Vec<u8>, AllocError>
     ensures { IfOk result (λ v. v.items ≡ table_lines rows.now) }
 {
     let mut draft = Draft::new(alloc);
