@@ -1,5 +1,5 @@
 -- The laws of a record by its table.
-use Rattle.std.proofs.Common.{◌≡◌, ◌-◌, ◌+◌, ◌<◌, ◌≤◌, ◌^◌, ◌∙◌, ℕ, ℤ, pos, negsuc, suc, List, [], ◌∷◌, length, get_or, refl, sym, ap, subst, inl, inr, arith, decimal}
+use Rattle.std.proofs.Common.{◌≡◌, ◌-◌, ◌+◌, ◌<◌, ◌≤◌, ◌^◌, ◌∙◌, ℕ, ℤ, pos, negsuc, suc, List, [], ◌∷◌, length, get_or, refl, sym, ap, inl, inr, arith, decimal}
 use Rattle.std.specs.Prelude.{◌⊎◌}
 use Rattle.std.specs.Fmt.{signed_decimal}
 use Rattle.std.specs.Int.Signed.{mag}
@@ -14,7 +14,7 @@ use Rattle.blk_lists.specs.Reads.{IsRowOf}
 use Rattle.blk_lists.specs.declared.fields.Slot.TheVariants as slot
 use Rattle.blk_lists.specs.declared.fault.Why.{Why}
 use Rattle.blk_lists.proofs.Lists.{cons_same}
-use Rattle.blk_lists.proofs.Lacking.{Good, Goods, Dec, both, same_text, sized_once, lacks_once, goods_lack, goods_or_lacks, no_word_once, no_word_lacks, word_decided, starts_same, word_once}
+use Rattle.blk_lists.proofs.Lacking.{Good, Goods, sized_once, lacks_once, goods_lack, goods_or_lacks, no_word_once, no_word_lacks, word_decided, starts_same, word_once}
 use Rattle.parts.specs.Parts.{Part, NextWrong}
 use Rattle.parts.specs.Laws.{Tells}
 use Rattle.parts.specs.Inside.Laws.{TellsRecord, Decides, DecidesRecord}
@@ -223,12 +223,16 @@ word_decides {V} word cells Fits t row = elim (word_decided word row) [
 
 -- kinds
 
-abbrev Kinds : {K : Type 0} → (V : K → Type 0) → ((k : K) → List (Cell (V k))) → Type 0
-Kinds {K} V cells = (k : K) → IsTable (cells k) (FitsCells (cells k))
+abbrev Kinds : {K : Type 0} → (V : K → Type 0) → (K → Type 0) → ((k : K) → List (Cell (V k))) → Type 0
+Kinds {K} V Stands cells = (k : K) → Stands k → IsTable (cells k) (FitsCells (cells k))
 
--- a record that stands in the form
-pub standing_tells : {V : Type 0} (A : Type 0) (row_of : V → Row) (Fits : V → Type 0) (Bad : Row → Why → Type 0) → TellsRecord row_of Fits Bad → TellsRecord row_of (λ v. A × Fits v) Bad
-standing_tells A row_of Fits Bad t = record { once = λ v u f g e. t.once v u f.1 g.1 e; apart = λ v w f bad. t.apart v w f.1 bad; first = t.first }
+-- a record of a word that stands in the form, whose fields are a table where it does
+standing_tells : {V : Type 0} (A : Type 0) (word : List ℕ) (cells : List (Cell V)) → (A → IsTable cells (FitsCells cells)) → TellsRecord (λ v. word ∷ row_by cells v) (λ v. A × FitsCells cells v) (WordLacks word (slots_by cells))
+standing_tells A word cells t = record {
+  once = λ v u f g e. (word_tells word cells (FitsCells cells) (t f.0)).once v u f.1 g.1 e;
+  apart = λ v w f bad. (word_tells word cells (FitsCells cells) (t f.0)).apart v w f.1 bad;
+  first = word_once word (slots_by cells);
+}
 
 standing_decides : {V : Type 0} (A : Type 0) (row_of : V → Row) (Fits : V → Type 0) (Bad : Row → Why → Type 0) → A → DecidesRecord row_of Fits Bad → DecidesRecord row_of (λ v. A × Fits v) Bad
 standing_decides A row_of Fits Bad a d row = elim (d row) [
@@ -248,36 +252,25 @@ pub next_once : (gone : Why) (width : ℕ) (rows : List Row) (w x : Why) → Nex
 next_once gone width [] w x a b = a ∙ sym b
 next_once gone width (row ∷ rows) w x a b = no_word_once width row w x a b
 
--- kinds that are known by their words, where `named` is the kind of a word
-pub words_tell : {K : Type 0} (word_of : K → List ℕ) (named : List ℕ → K) → ((k : K) → named (word_of k) ≡ k) → (j k : K) → word_of j ≡ word_of k → j ≡ k
-words_tell word_of named is j k e = sym (is j) ∙ ap named e ∙ is k
-
-pub word_picked : {K : Type 0} (word_of : K → List ℕ) (named : List ℕ → K) (Stands : K → Type 0) → ((k : K) → named (word_of k) ≡ k) → ((k : K) → Dec (Stands k)) → (f : List ℕ)
-    → ((k : K) × Stands k × (f ≡ word_of k)) ⊎ ((k : K) → Stands k → ¬ (f ≡ word_of k))
-word_picked word_of named Stands is d f = elim (both (d (named f)) (same_text f (word_of (named f)))) [
-  | inl e ↦ inl (named f, e.0, e.1)
-  | inr n ↦ inr (λ k s e. (let same : k ≡ named f = sym (ap named e ∙ is k) in n (subst Stands same s, e ∙ ap word_of same)))
-]
-
 -- a record of a kind
 abbrev kind_record : {V : Type 0} → Type 0 → Why → List ℕ → List (Cell V) → Part Row Why V
 kind_record Stands gone word cells = word_record gone word cells (λ v. Stands × FitsCells cells v)
 
-pub kinds_tell : {K : Type 0} (V : K → Type 0) (gone : Why) (width : ℕ) (Stands : K → Type 0) (word_of : K → List ℕ) (cells : (k : K) → List (Cell (V k))) → ((j k : K) → word_of j ≡ word_of k → j ≡ k)
-    → Kinds V cells → Tells (kinds_record V gone width Stands word_of cells)
+pub kinds_tell : {K : Type 0} (V : K → Type 0) (gone : Why) (width : ℕ) (Stands : K → Type 0) (word_of : K → List ℕ) (cells : (k : K) → List (Cell (V k))) → ((j k : K) → Stands j → Stands k → word_of j ≡ word_of k → j ≡ k)
+    → Kinds V Stands cells → Tells (kinds_record V gone width Stands word_of cells)
 kinds_tell {K} V gone width Stands word_of cells one tables =
     by_word_tells V (λ k rows. Stands k × NextStarts (word_of k) rows) (λ k. kind_record (Stands k) gone (word_of k) (cells k)) (NextWrong gone (HasNoWord width))
     (λ k. record_tells (λ v. word_of k ∷ row_by (cells k) v) (λ v. Stands k × FitsCells (cells k) v) gone (WordLacks (word_of k) (slots_by (cells k)))
-    (standing_tells (Stands k) (λ v. word_of k ∷ row_by (cells k) v) (FitsCells (cells k)) (WordLacks (word_of k) (slots_by (cells k))) (word_tells (word_of k) (cells k) (FitsCells (cells k)) (tables k))))
-    (λ j k rows s t. one j k (next_same (word_of j) (word_of k) rows s.1 t.1)) (λ k rows v a h. (h.fits.0, next_starts (word_of k) (row_by (cells k) v) rows a h.made)) (next_once gone width)
+    (standing_tells (Stands k) (word_of k) (cells k) (tables k)))
+    (λ j k rows s t. one j k s.0 t.0 (next_same (word_of j) (word_of k) rows s.1 t.1)) (λ k rows v a h. (h.fits.0, next_starts (word_of k) (row_by (cells k) v) rows a h.made)) (next_once gone width)
 
 pub kinds_decide : {K : Type 0} (V : K → Type 0) (gone : Why) (width : ℕ) (Stands : K → Type 0) (word_of : K → List ℕ) (cells : (k : K) → List (Cell (V k)))
     → ((f : List ℕ) → ((k : K) × Stands k × (f ≡ word_of k)) ⊎ ((k : K) → Stands k → ¬ (f ≡ word_of k)))
-    → Kinds V cells → Decides (kinds_record V gone width Stands word_of cells)
+    → Kinds V Stands cells → Decides (kinds_record V gone width Stands word_of cells)
 kinds_decide {K} V gone width Stands word_of cells pick tables =
     by_word_decides V (λ k rows. Stands k × NextStarts (word_of k) rows) (λ k. kind_record (Stands k) gone (word_of k) (cells k)) (NextWrong gone (HasNoWord width))
     (λ k rows s. record_decides (λ v. word_of k ∷ row_by (cells k) v) (λ v. Stands k × FitsCells (cells k) v) gone (WordLacks (word_of k) (slots_by (cells k)))
-    (standing_decides (Stands k) (λ v. word_of k ∷ row_by (cells k) v) (FitsCells (cells k)) (WordLacks (word_of k) (slots_by (cells k))) s.0 (word_decides (word_of k) (cells k) (FitsCells (cells k)) (tables k))) rows) find
+    (standing_decides (Stands k) (λ v. word_of k ∷ row_by (cells k) v) (FitsCells (cells k)) (WordLacks (word_of k) (slots_by (cells k))) s.0 (word_decides (word_of k) (cells k) (FitsCells (cells k)) (tables k s.0))) rows) find
   where
     find : (rows : List Row) → ((k : K) × (Stands k × NextStarts (word_of k) rows)) ⊎ (((k : K) → ¬ (Stands k × NextStarts (word_of k) rows)) × ((w : Why) × NextWrong gone (HasNoWord width) rows w))
     find [] = inr ((λ k s. s.1), (gone, refl))

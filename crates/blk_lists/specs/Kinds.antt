@@ -1,13 +1,16 @@
 -- Kinds of records, each a row of data: a word, the first version that has it, and its fields.
-use Rattle.std.specs.Prelude.{◌-◌, ◌≤◌, ℕ, zero, suc, ℤ, List, [], ◌∷◌, length, set}
+use Rattle.std.specs.Prelude.{◌≡◌, ◌⊎◌, ◌-◌, ◌≤◌, ℕ, zero, suc, ℤ, List, [], ◌∷◌, length, set}
 use Rattle.blk_bio.specs.declared.bio.Dir.{Dir}
 use Rattle.blk_lists.specs.Cells.{number_cells}
 use Rattle.blk_lists.specs.Texts.{AddsRows}
-use Rattle.blk_lists.specs.Tables.{Cell, Blank, Direction, Number, Signed, Text, Nanoseconds}
+use Rattle.blk_lists.specs.Sources.{Row}
+use Rattle.blk_lists.specs.Tables.{Cell, Blank, Direction, Number, Signed, Text, Nanoseconds, row_by, kinds_record}
+use Rattle.blk_lists.specs.declared.fault.Why.{Why}
 use Rattle.blk_lists.specs.declared.fields.Slot.{Slot}
 use Rattle.blk_lists.specs.declared.fields.Slot.TheVariants as slot
 use Rattle.blk_lists.specs.declared.kinds.Kind.{Kind}
 use Rattle.drafts.specs.declared.block.Block.{Block}
+use Rattle.parts.specs.Parts.{Part}
 
 -- what comes with version 1 stands in each version
 abbrev pub StandsFrom : ℕ → ℕ → Type 0
@@ -26,6 +29,10 @@ row k = record { word = k.word; since = k.since; slots = k.slots }
 -- slots whose first number lies below a count
 abbrev pub below : ℕ → List Slot → List Slot
 below count slots = set slots 1 (slot.Number 0 (count - 1))
+
+-- the row of a kind whose first number lies below a count
+abbrev pub row_below : {letters fields : ℕ} → ℕ → Kind letters fields → KindRow
+row_below count k = record { word = k.word; since = k.since; slots = below count k.slots }
 
 -- what the fields of a record tell by their slots
 abbrev pub Told : List Slot → Type 0
@@ -48,6 +55,27 @@ cells_of (slot.Number least most ∷ ss) told = Number least most (λ v. (told v
 cells_of (slot.Lateness most ∷ ss) told = Signed most (λ v. (told v).0) ∷ cells_of ss (λ v. (told v).1)
 cells_of (slot.Text ∷ ss) told = Text (λ v. (told v).0) ∷ cells_of ss (λ v. (told v).1)
 cells_of (slot.Nanoseconds ∷ ss) told = Nanoseconds (λ v. (told v).0) ∷ cells_of ss (λ v. (told v).1)
+
+-- a row, and what a record of it says beside its word
+abbrev pub RowSaid : Type 0
+RowSaid = (k : KindRow) × Told k.slots
+
+-- that record
+abbrev pub said_row : RowSaid → Row
+said_row s = s.0.word ∷ row_by (cells_of s.0.slots (λ v. v)) s.1
+
+-- a table has this row
+abbrev pub HasRow : List KindRow → KindRow → Type 0
+HasRow [] k = ⊥
+HasRow (r ∷ rows) k = (k ≡ r) ⊎ HasRow rows k
+
+-- and it stands in a version
+abbrev pub RowStandsIn : List KindRow → ℕ → KindRow → Type 0
+RowStandsIn table version k = HasRow table k × StandsFrom k.since version
+
+-- a record of one of the rows of a table that stand in a version, told by its word
+abbrev pub said_record : Why → ℕ → List KindRow → ℕ → Part Row Why RowSaid
+said_record gone width table version = kinds_record (λ k. Told k.slots) gone width (RowStandsIn table version) (λ k. k.word) (λ k. cells_of k.slots (λ v. v))
 
 -- the text got the record of a word, these numbers, and empty fields, all in all this number after the word
 abbrev pub AddsRecord : Block → Block → List ℕ → List ℕ → ℕ → Type 0

@@ -1,120 +1,110 @@
 -- The laws of the first record of an event.
-use Rattle.std.proofs.Common.{◌≡◌, ◌==◌, ◌<◌, ◌∙◌, ℕ, suc, List, [], ◌∷◌, length, refl, sym, ap, subst, inl, inr, arith, get_or, true}
+use Rattle.std.proofs.Common.{◌≡◌, ◌==◌, ◌∙◌, ℕ, suc, List, [], refl, sym, ap, inl, inr, arith, get_or, true}
 use Rattle.std.specs.Prelude.{if◌then◌else◌}
 use Rattle.blk_lists.specs.Sources.{Row}
-use Rattle.blk_lists.specs.Words.{StartsWith, HasNoWord}
+use Rattle.blk_lists.specs.Words.{HasNoWord}
 use Rattle.blk_lists.specs.Fields.{Lacks, FieldsSpell}
+use Rattle.blk_lists.specs.Kinds.{KindRow, Told, cells_of, RowSaid, HasRow, said_record}
 use Rattle.blk_lists.specs.Reads.{IsRowOf, IsWrongRecord, IsOne}
-use Rattle.blk_lists.specs.Tables.{FitsCells, slots_by, kinds_record}
-use Rattle.blk_text.specs.EventKinds.{EventKind, event_row, event_word, EventStandsIn, Says, event_fields}
-use Rattle.blk_text.specs.EventKinds as kind
+use Rattle.blk_text.specs.EventKinds.{event_table}
 use Rattle.blk_text.specs.TraceForm.{Head, said, first_record}
+use Rattle.blk_text.specs.declared.setup.TheConstants.{WIDTH}
 use Rattle.blk_lists.specs.declared.fault.Why.{Why}
 use Rattle.blk_lists.specs.declared.fault.Why.TheVariants as why
-use Rattle.blk_lists.specs.declared.fields.Slot.TheVariants as slot
 use Rattle.blk_trace.specs.declared.event.Event.TheVariants as head
-use Rattle.parts.specs.Parts.{Part}
 use Rattle.parts.specs.Laws.{Tells}
 use Rattle.parts.specs.Inside.Laws.{Decides}
 use Rattle.parts.proofs.Then.{seen_tells, seen_decides}
-use Rattle.blk_lists.proofs.Lacking.{Dec, at_most}
-use Rattle.blk_lists.proofs.TableLaws.{IsTable, IsBy, first_is, begins, word_line, kinds_tell, kinds_decide, words_tell, word_picked}
-use Rattle.blk_lists.proofs.KindLaws.{SizedSlots, row_table}
+use Rattle.blk_lists.proofs.TableLaws.{IsBy}
+use Rattle.blk_lists.proofs.KindLaws.{EachRow, row_in, IsWordRow, IsKinds, IsWordOf, apart, numbers_said, said_tells, said_decides, said_line, said_lacks, said_nowhere, said_gone}
 
--- the kind of a word, whatever it is
-abbrev kind_at : List ℕ → EventKind
-kind_at f =
-    if get_or f 0 0 == 116 then kind.Tick
-    else if get_or f 0 0 == 114 then kind.Release
-    else if get_or f 0 0 == 106 then kind.Join
-    else if get_or f 0 0 == 105 then kind.Issue
-    else if get_or f 0 0 == 98 then kind.Back
-    else if get_or f 1 0 == 101 then kind.Depth
-    else kind.Done
+-- the rows, in the order of the table
 
-kind_is : (k : EventKind) → kind_at (event_word k) ≡ k
-kind_is kind.Tick = refl
-kind_is k = refl
+words : EachRow IsWordRow event_table
+words = (record { long = omega arith; slots = refl }, (record { long = omega arith; slots = refl }, (record { long = omega arith; slots = refl }, (record { long = omega arith; slots = refl }, (record { long = omega arith; slots = refl }, (record { long = omega arith; slots = refl }, (record { long = omega arith; slots = refl }, tt)))))))
 
-stands_decided : (version : ℕ) (k : EventKind) → Dec (EventStandsIn version k)
-stands_decided version kind.Depth = at_most 2 version
-stands_decided version k = inl tt
+event_kinds : IsKinds event_table
+event_kinds = record {
+  sized = (tt, ((omega arith, (omega arith, tt)), ((omega arith, (omega arith, tt)), ((omega arith, (omega arith, tt)), ((omega arith, tt), ((omega arith, tt), ((omega arith, tt), tt)))))));
+  words = apart event_table refl;
+}
 
-sized : (k : EventKind) → SizedSlots (event_row k).slots
-sized kind.Tick = tt
-sized kind.Release = (omega arith, (omega arith, tt))
-sized kind.Join = (omega arith, (omega arith, tt))
-sized kind.Issue = (omega arith, (omega arith, tt))
-sized k = (omega arith, tt)
+-- the row of a first record stands there
+pub said_in : (h : Head) → HasRow event_table (said h).0
+said_in head.Tick = inl refl
+said_in (head.Release id bios) = inr (inl refl)
+said_in (head.Join id bios) = inr (inr (inl refl))
+said_in (head.Issue id tag) = inr (inr (inr (inl refl)))
+said_in (head.Done tag) = inr (inr (inr (inr (inl refl))))
+said_in (head.Back tag) = inr (inr (inr (inr (inr (inl refl)))))
+said_in (head.Depth depth) = inr (inr (inr (inr (inr (inr (inl refl))))))
 
-tables : (k : EventKind) → IsTable (event_fields k) (FitsCells (event_fields k))
-tables k = row_table (event_row k).slots (sized k)
+-- each row has a first record that says this
+abbrev IsToldBy : KindRow → Type 0
+IsToldBy k = (v : Told k.slots) → (h : Head) × (said h ≡ (k, v))
 
--- the first record of a kind
-abbrev head_with : (k : EventKind) → Says k → Head
-head_with kind.Tick v = head.Tick
-head_with kind.Release g = head.Release g.0 g.1.0
-head_with kind.Join g = head.Join g.0 g.1.0
-head_with kind.Issue i = head.Issue i.0 i.1.0
-head_with kind.Done t = head.Done t.0
-head_with kind.Back t = head.Back t.0
-head_with kind.Depth d = head.Depth d.0
+heads : EachRow IsToldBy event_table
+heads = (
+  (λ v. (head.Tick, refl)),
+  (
+    (λ v. (head.Release v.0 v.1.0, refl)),
+    (
+      (λ v. (head.Join v.0 v.1.0, refl)),
+      (
+        (λ v. (head.Issue v.0 v.1.0, refl)),
+        (
+          (λ v. (head.Done v.0, refl)),
+          (
+            (λ v. (head.Back v.0, refl)),
+            ((λ v. (head.Depth v.0, refl)), tt),
+          ),
+        ),
+      ),
+    ),
+  ),
+)
 
-head_back : (h : Head) → head_with (said h).0 (said h).1 ≡ h
+-- the first record of a word and numbers, whatever they are
+abbrev head_by : List ℕ → List ℕ → Head
+head_by word ns =
+    if get_or word 0 0 == 116 then head.Tick
+    else if get_or word 0 0 == 114 then head.Release (get_or ns 0 0) (get_or ns 1 0)
+    else if get_or word 0 0 == 106 then head.Join (get_or ns 0 0) (get_or ns 1 0)
+    else if get_or word 0 0 == 105 then head.Issue (get_or ns 0 0) (get_or ns 1 0)
+    else if get_or word 0 0 == 98 then head.Back (get_or ns 0 0)
+    else if get_or word 1 0 == 101 then head.Depth (get_or ns 0 0)
+    else head.Done (get_or ns 0 0)
+
+abbrev made_again : RowSaid → Head
+made_again s = head_by s.0.word (numbers_said s.0.slots s.1)
+
+head_back : (h : Head) → made_again (said h) ≡ h
 head_back head.Tick = refl
 head_back h = refl
 
-said_back : (k : EventKind) (v : Says k) → said (head_with k v) ≡ (k, v)
-said_back kind.Tick v = refl
-said_back k v = refl
-
-abbrev kinds : ℕ → Part Row Why ((k : EventKind) × Says k)
-kinds version = kinds_record Says why.Count 6 (EventStandsIn version) event_word event_fields
-
 pub head_tells : (version : ℕ) → Tells (first_record version)
-head_tells version = seen_tells said (kinds version) (λ l m e. sym (head_back l) ∙ ap (λ (h : (k : EventKind) × Says k). head_with h.0 h.1) e ∙ head_back m)
-    (kinds_tell Says why.Count 6 (EventStandsIn version) event_word event_fields (words_tell event_word kind_at kind_is) tables)
+head_tells version = seen_tells said (said_record why.Count WIDTH event_table version) (λ l m e. sym (head_back l) ∙ ap made_again e ∙ head_back m) (said_tells why.Count WIDTH event_table version event_kinds)
 
 pub head_one : (version : ℕ) → IsOne (first_record version)
 head_one version = record { tells = head_tells version; plain = λ h rest f. tt; one = λ h. refl }
 
 pub head_decides : (version : ℕ) → Decides (first_record version)
-head_decides version = seen_decides said (kinds version) (λ v f. (head_with v.0 v.1, said_back v.0 v.1)) (kinds_decide Says why.Count 6 (EventStandsIn version) event_word event_fields (word_picked event_word kind_at (EventStandsIn version) kind_is (stands_decided version)) tables)
+head_decides version = seen_decides said (said_record why.Count WIDTH event_table version) (λ s f. row_in IsToldBy event_table s.0 heads f.0.0 s.1) (said_decides why.Count WIDTH event_table version event_kinds)
 
 -- what was read of a first record
 
-word_long : (k : EventKind) → 0 < length (event_word k)
-word_long kind.Tick = omega arith
-word_long k = omega arith
-
-slots_are : (k : EventKind) → (event_row k).slots ≡ slot.Given ∷ slots_by (event_fields k)
-slots_are kind.Tick = refl
-slots_are k = refl
-
--- a field is the word of a kind that stands in a version
-abbrev Of : ℕ → List ℕ → EventKind → Type 0
-Of version f k = EventStandsIn version k × (f ≡ event_word k)
-
-starts : (k : EventKind) (cells : Row) (f : List ℕ) → f ≡ get_or cells 0 [] → f ≡ event_word k → StartsWith (event_word k) cells
-starts k cells f at e = begins cells (event_word k) (word_long k) (sym at ∙ e)
-
-pub head_line : (version : ℕ) (h : Head) (cells : Row) (f ns : List ℕ) → f ≡ get_or cells 0 [] → (true ≡ true → Of version f (said h).0) → FieldsSpell (event_row (said h).0).slots cells ns
-    → IsBy (event_fields (said h).0) (said h).1 (λ i. get_or cells (suc i) []) (λ i. get_or ns (suc i) 0) → IsRowOf (first_record version) cells h
+pub head_line : (version : ℕ) (h : Head) (cells : Row) (f ns : List ℕ) → f ≡ get_or cells 0 [] → (true ≡ true → IsWordOf version f (said h).0) → FieldsSpell (said h).0.slots cells ns
+    → IsBy (cells_of (said h).0.slots (λ v. v)) (said h).1 (λ i. get_or cells (suc i) []) (λ i. get_or ns (suc i) 0) → IsRowOf (first_record version) cells h
 head_line version h cells f ns at is s b =
-    let k = (said h).0 in
-    let of = is refl in
-    let line = word_line why.Count (event_word k) (event_fields k) (λ v. EventStandsIn version k × FitsCells (event_fields k) v) (said h).1 cells ns (starts k cells f at of.1)
-    (subst (λ ss. FieldsSpell ss cells ns) (slots_are k) s) b (λ x. (of.0, x)) in
+    let line = said_line why.Count WIDTH event_table version (said h) cells f ns words (said_in h) at is s b in
     λ rest. record { fits = (line rest).fits; made = (line rest).made; follows = tt }
 
-pub head_lacks : (version : ℕ) (k : EventKind) (cells : Row) (f : List ℕ) (w : Why) → f ≡ get_or cells 0 [] → (true ≡ true → Of version f k) → Lacks (event_row k).slots cells w → IsWrongRecord (first_record version) cells w
-head_lacks version k cells f w at is l =
-    let of = is refl in
-    let begun = starts k cells f at of.1 in
-    λ rest. inl (k, (of.0, begun), (refl, inl (begun, subst (λ ss. Lacks ss cells w) (slots_are k) l)))
+-- of the row of such a one
+pub head_lacks : (version : ℕ) (h : Head) (cells : Row) (f : List ℕ) (w : Why) → f ≡ get_or cells 0 [] → (true ≡ true → IsWordOf version f (said h).0) → Lacks (said h).0.slots cells w → IsWrongRecord (first_record version) cells w
+head_lacks version h cells f w at is l = said_lacks why.Count WIDTH event_table version (said h).0 cells f w words (said_in h) at is l
 
-pub no_head : (version : ℕ) (cells : Row) (f : List ℕ) (w : Why) → f ≡ get_or cells 0 [] → ((k : EventKind) → ¬ Of version f k) → HasNoWord 6 cells w → IsWrongRecord (first_record version) cells w
-no_head version cells f w at n h = λ rest. inr (refl, (λ k s. n k (s.0, at ∙ first_is cells (event_word k) s.1)), h)
+pub no_head : (version : ℕ) (cells : Row) (f : List ℕ) (w : Why) → f ≡ get_or cells 0 [] → EachRow (λ r. ¬ IsWordOf version f r) event_table → HasNoWord WIDTH cells w → IsWrongRecord (first_record version) cells w
+no_head version cells f w at n h = said_nowhere why.Count WIDTH event_table version cells f w at n h
 
 pub head_gone : (version : ℕ) → (first_record version).Wrong [] 1 why.Count
-head_gone version = inr (refl, (λ k s. s.1), refl)
+head_gone version = said_gone why.Count WIDTH event_table version

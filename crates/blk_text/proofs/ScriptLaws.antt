@@ -17,27 +17,27 @@ use Rattle.blk_text.specs.SetupRecord.{setup_cells, setup, FitsSetup}
 use Rattle.blk_lists.specs.Words.{StartsWith, WordLacks}
 use Rattle.blk_lists.specs.Fields.{Lacks, FieldsSpell}
 use Rattle.blk_lists.specs.Reads.{Reads, Halts, IsRowOf, IsWrongRecord, IsOne, items_of}
-use Rattle.blk_lists.specs.Tables.{FitsCells, row_by, slots_by, kinds_record}
+use Rattle.blk_lists.specs.Tables.{FitsCells, row_by, slots_by}
 use Rattle.blk_lists.specs.Titles.{IsVersion, most_in, title_cells, TakesTitle, StopsAtTitle}
-use Rattle.blk_text.specs.StepKinds.{StepKind, step_word, StepStandsIn, slots_for, StepTold, step_fields}
-use Rattle.blk_text.specs.StepKinds as kind
+use Rattle.blk_lists.specs.Kinds.{KindRow, row_below, Told, cells_of, RowSaid, HasRow, said_record}
+use Rattle.blk_text.specs.StepKinds.{step_table}
+use Rattle.blk_text.specs.declared.bios.TheConstants.{BIO}
 use Rattle.blk_text.specs.Script.{step_said, LineFits, IsLineOf, IsRight, HasNoSuchBio, Title, title_numbers, IsTitle, IsEnough, TooFew, plain_title, script_title_part, plain_step, step, script_body, script_form, script_value, Scripted, title_of, script_rows, IsScript, IsScriptOf, SpellsVersion, SpellsScript, ScriptFault}
 use Rattle.blk_text.specs.Inside.BioTable.{bio_record}
 use Rattle.blk_text.specs.Versions.{most_tags}
 use Rattle.blk_text.specs.declared.setup.TheConstants.{LATEST, MAX_DEPTH_1, MORE_TAGS, WIDTH}
 use Rattle.blk_lists.specs.declared.fault.Why.{Why}
 use Rattle.blk_lists.specs.declared.fault.Why.TheVariants as why
-use Rattle.blk_lists.specs.declared.fields.Slot.TheVariants as slot
 use Rattle.parts.specs.declared.Repeats.TheVariants as repeats
-use Rattle.parts.specs.Parts.{Part, Begins, Spells}
+use Rattle.parts.specs.Parts.{Begins, Spells}
 use Rattle.parts.specs.Laws.{Tells}
 use Rattle.parts.specs.Inside.Laws.{Decides}
 use Rattle.parts.proofs.Then.{at_first, record_decides, then_tells, then_decides, tested_tells, tested_decides, seen_tells, seen_decides}
 use Rattle.blk_text.specs.declared.script.Line.{Line}
 use Rattle.blk_text.specs.declared.script.Line.TheVariants as line
-use Rattle.blk_lists.proofs.Lacking.{Dec, at_most}
-use Rattle.blk_lists.proofs.KindLaws.{SizedSlots, row_table}
-use Rattle.blk_lists.proofs.TableLaws.{IsTable, IsBy, begins, word_line, kinds_tell, kinds_decide, word_tells, word_decides, words_tell, word_picked}
+use Rattle.blk_lists.proofs.Lacking.{at_most}
+use Rattle.blk_lists.proofs.KindLaws.{EachRow, row_in, IsWordRow, IsKinds, IsWordOf, apart, way_of, way_back, numbers_said, said_tells, said_decides, said_line, said_lacks, said_gone}
+use Rattle.blk_lists.proofs.TableLaws.{IsTable, IsBy, word_tells, word_decides}
 use Rattle.blk_lists.proofs.TitleLaws.{IsTitleTable, title_tells, title_decides, title_reads}
 use Rattle.blk_lists.proofs.Each.{all_fit, each_tells, each_decides, one_record}
 use Rattle.blk_lists.proofs.Reading.{then_reads, first_halts, second_halts}
@@ -45,61 +45,87 @@ use Rattle.blk_lists.proofs.Texts.{text_back, parts_back, begins_itself}
 use Rattle.blk_bio.specs.declared.limits.TheConstants.{MAX_QUEUES, MAX_SOFT_QUEUES}
 use Rattle.blk_text.specs.declared.script.TheConstants.{MAX_STEPS, SCRIPT}
 
--- the kind of a word, whatever it is
-abbrev kind_at : List ℕ → StepKind
-kind_at f =
-    if get_or f 0 0 == 98 then (if get_or f 1 0 == 105 then kind.Bio else kind.Back)
-    else if get_or f 0 0 == 102 then kind.Flush
-    else if get_or f 0 0 == 105 then kind.Issue
-    else if get_or f 0 0 == 116 then kind.Tick
-    else if get_or f 0 0 == 114 then kind.Run
-    else if get_or f 1 0 == 114 then kind.Drain
-    else if get_or f 1 0 == 101 then kind.Depth
-    else kind.Done
+-- the rows of steps, in the order of the table
 
-kind_is : (k : StepKind) → kind_at (step_word k) ≡ k
-kind_is kind.Bio = refl
-kind_is k = refl
+words : (hw submitters : ℕ) → EachRow IsWordRow (step_table hw submitters)
+words hw submitters = (record { long = omega arith; slots = refl }, (record { long = omega arith; slots = refl }, (record { long = omega arith; slots = refl }, (record { long = omega arith; slots = refl }, (record { long = omega arith; slots = refl }, (record { long = omega arith; slots = refl }, (record { long = omega arith; slots = refl }, (record { long = omega arith; slots = refl }, (record { long = omega arith; slots = refl }, tt)))))))))
 
-stands_decided : (version : ℕ) (k : StepKind) → Dec (StepStandsIn version k)
-stands_decided version kind.Depth = at_most 2 version
-stands_decided version k = inl tt
+step_kinds : (hw submitters : ℕ) → hw ≤ MAX_QUEUES → submitters ≤ MAX_SOFT_QUEUES → IsKinds (step_table hw submitters)
+step_kinds hw submitters g s = record {
+  sized = (
+    (omega (arith, s), (omega arith, (omega arith, (omega arith, tt)))),
+    ((omega (arith, s), tt), ((omega (arith, g), tt), ((omega (arith, g), (omega arith, tt)), ((omega arith, tt), ((omega arith, tt), ((omega arith, tt), (tt, ((omega arith, tt), tt)))))))),
+  );
+  words = apart (step_table hw submitters) refl;
+}
 
--- steps
+-- the row of a step stands there
+step_in : (hw submitters : ℕ) (l : Line) → HasRow (step_table hw submitters) (step_said hw submitters l).0
+step_in hw submitters (line.Bio b) = inl refl
+step_in hw submitters (line.Flush n) = inr (inl refl)
+step_in hw submitters (line.Drain n) = inr (inr (inl refl))
+step_in hw submitters (line.Issue n t) = inr (inr (inr (inl refl)))
+step_in hw submitters (line.Done t) = inr (inr (inr (inr (inl refl))))
+step_in hw submitters (line.Back t) = inr (inr (inr (inr (inr (inl refl)))))
+step_in hw submitters (line.Depth d) = inr (inr (inr (inr (inr (inr (inl refl))))))
+step_in hw submitters line.Tick = inr (inr (inr (inr (inr (inr (inr (inl refl)))))))
+step_in hw submitters (line.Run n) = inr (inr (inr (inr (inr (inr (inr (inr (inl refl))))))))
 
-sized : (hw submitters : ℕ) → hw ≤ MAX_QUEUES → submitters ≤ MAX_SOFT_QUEUES → (k : StepKind) → SizedSlots (slots_for hw submitters k)
-sized hw submitters g s kind.Bio = (omega (arith, s), (omega arith, (omega arith, (omega arith, tt))))
-sized hw submitters g s kind.Flush = (omega (arith, s), tt)
-sized hw submitters g s kind.Drain = (omega (arith, g), tt)
-sized hw submitters g s kind.Issue = (omega (arith, g), (omega arith, tt))
-sized hw submitters g s kind.Tick = tt
-sized hw submitters g s k = (omega arith, tt)
+-- each row has a step that says this
+abbrev IsToldBy : (hw submitters : ℕ) → KindRow → Type 0
+IsToldBy hw submitters k = (v : Told k.slots) → (l : Line) × (step_said hw submitters l ≡ (k, v))
 
-tables : (hw submitters : ℕ) → hw ≤ MAX_QUEUES → submitters ≤ MAX_SOFT_QUEUES → (k : StepKind) → IsTable (step_fields hw submitters k) (FitsCells (step_fields hw submitters k))
-tables hw submitters g s k = row_table (slots_for hw submitters k) (sized hw submitters g s k)
+abbrev bio_by : Told BIO.slots → Bio
+bio_by v = record { id = record { submitter = v.0; serial = v.1.0 }; dir = v.1.1.0; first = v.1.1.1.0; sectors = v.1.1.1.1.0 }
 
--- the step of a kind
-abbrev line_with : (hw submitters : ℕ) (k : StepKind) → StepTold hw submitters k → Line
-line_with hw submitters kind.Bio b = line.Bio record { id = record { submitter = b.0; serial = b.1.0 }; dir = b.1.1.0; first = b.1.1.1.0; sectors = b.1.1.1.1.0 }
-line_with hw submitters kind.Flush s = line.Flush s.0
-line_with hw submitters kind.Drain h = line.Drain h.0
-line_with hw submitters kind.Issue i = line.Issue i.0 i.1.0
-line_with hw submitters kind.Done t = line.Done t.0
-line_with hw submitters kind.Back t = line.Back t.0
-line_with hw submitters kind.Depth d = line.Depth d.0
-line_with hw submitters kind.Tick t = line.Tick
-line_with hw submitters kind.Run n = line.Run n.0
+lines : (hw submitters : ℕ) → EachRow (IsToldBy hw submitters) (step_table hw submitters)
+lines hw submitters = (
+  (λ v. (line.Bio (bio_by v), refl)),
+  (
+    (λ v. (line.Flush v.0, refl)),
+    (
+      (λ v. (line.Drain v.0, refl)),
+      (
+        (λ v. (line.Issue v.0 v.1.0, refl)),
+        (
+          (λ v. (line.Done v.0, refl)),
+          (
+            (λ v. (line.Back v.0, refl)),
+            (
+              (λ v. (line.Depth v.0, refl)),
+              (
+                (λ v. (line.Tick, refl)),
+                ((λ v. (line.Run v.0, refl)), tt),
+              ),
+            ),
+          ),
+        ),
+      ),
+    ),
+  ),
+)
 
-line_back : (hw submitters : ℕ) (l : Line) → line_with hw submitters (step_said hw submitters l).0 (step_said hw submitters l).1 ≡ l
-line_back hw submitters (line.Bio b) = refl
+-- the step of a word and numbers, whatever they are
+abbrev bio_again : List ℕ → Bio
+bio_again ns = record { id = record { submitter = get_or ns 0 0; serial = get_or ns 1 0 }; dir = way_of (get_or ns 2 0); first = get_or ns 3 0; sectors = get_or ns 4 0 }
+
+abbrev line_by : List ℕ → List ℕ → Line
+line_by word ns =
+    if get_or word 0 0 == 98 then (if get_or word 1 0 == 105 then line.Bio (bio_again ns) else line.Back (get_or ns 0 0))
+    else if get_or word 0 0 == 102 then line.Flush (get_or ns 0 0)
+    else if get_or word 0 0 == 105 then line.Issue (get_or ns 0 0) (get_or ns 1 0)
+    else if get_or word 0 0 == 116 then line.Tick
+    else if get_or word 0 0 == 114 then line.Run (get_or ns 0 0)
+    else if get_or word 1 0 == 114 then line.Drain (get_or ns 0 0)
+    else if get_or word 1 0 == 101 then line.Depth (get_or ns 0 0)
+    else line.Done (get_or ns 0 0)
+
+abbrev made_again : RowSaid → Line
+made_again s = line_by s.0.word (numbers_said s.0.slots s.1)
+
+line_back : (hw submitters : ℕ) (l : Line) → made_again (step_said hw submitters l) ≡ l
+line_back hw submitters (line.Bio b) = ap (λ d. line.Bio record { id = b.id; dir = d; first = b.first; sectors = b.sectors }) (way_back b.dir)
 line_back hw submitters l = refl
-
-held_back : (hw submitters : ℕ) (k : StepKind) (v : StepTold hw submitters k) → step_said hw submitters (line_with hw submitters k v) ≡ (k, v)
-held_back hw submitters kind.Bio v = refl
-held_back hw submitters k v = refl
-
-abbrev kinds : (version hw submitters : ℕ) → Part Row Why ((k : StepKind) × StepTold hw submitters k)
-kinds version hw submitters = kinds_record (StepTold hw submitters) why.Count WIDTH (StepStandsIn version) step_word (step_fields hw submitters)
 
 one_bio : (b c : Bio) → line.Bio b ≡ line.Bio c → b ≡ c
 one_bio b c e = cc e
@@ -145,8 +171,8 @@ right_or_no_bio l = inl (λ b e. absurd (cc e))
 
 step_tells : (version hw submitters : ℕ) → hw ≤ MAX_QUEUES → submitters ≤ MAX_SOFT_QUEUES → Tells (step version hw submitters)
 step_tells version hw submitters g s = tested_tells (plain_step version hw submitters) IsRight HasNoSuchBio
-    (seen_tells (step_said hw submitters) (kinds version hw submitters) (λ l m e. sym (line_back hw submitters l) ∙ ap (λ (h : (k : StepKind) × StepTold hw submitters k). line_with hw submitters h.0 h.1) e ∙ line_back hw submitters m)
-    (kinds_tell (StepTold hw submitters) why.Count WIDTH (StepStandsIn version) step_word (step_fields hw submitters) (words_tell step_word kind_at kind_is) (tables hw submitters g s)))
+    (seen_tells (step_said hw submitters) (said_record why.Count WIDTH (step_table hw submitters) version) (λ l m e. sym (line_back hw submitters l) ∙ ap made_again e ∙ line_back hw submitters m)
+    (said_tells why.Count WIDTH (step_table hw submitters) version (step_kinds hw submitters g s)))
     (λ l k j w x fit. no_bio_once l k j w x) (λ l k w good n. no_bio_is n.0 n.1 (good n.0 n.2) n.5) (λ l k w n. (let is = n.3 in (omega (arith, is), omega (arith, is))))
 
 pub step_one : (version hw submitters : ℕ) → hw ≤ MAX_QUEUES → submitters ≤ MAX_SOFT_QUEUES → IsOne (step version hw submitters)
@@ -154,23 +180,23 @@ step_one version hw submitters g s = record { tells = step_tells version hw subm
 
 step_decides : (version hw submitters : ℕ) → hw ≤ MAX_QUEUES → submitters ≤ MAX_SOFT_QUEUES → Decides (step version hw submitters)
 step_decides version hw submitters g s = tested_decides (plain_step version hw submitters) IsRight HasNoSuchBio
-    (seen_decides (step_said hw submitters) (kinds version hw submitters) (λ v f. (line_with hw submitters v.0 v.1, held_back hw submitters v.0 v.1))
-    (kinds_decide (StepTold hw submitters) why.Count WIDTH (StepStandsIn version) step_word (step_fields hw submitters) (word_picked step_word kind_at (StepStandsIn version) kind_is (stands_decided version)) (tables hw submitters g s)))
+    (seen_decides (step_said hw submitters) (said_record why.Count WIDTH (step_table hw submitters) version) (λ v f. row_in (IsToldBy hw submitters) (step_table hw submitters) v.0 (lines hw submitters) f.0.0 v.1)
+    (said_decides why.Count WIDTH (step_table hw submitters) version (step_kinds hw submitters g s)))
     (λ l fit. right_or_no_bio l)
 
 -- the numbers of a step, as its table and as the script say
 pub step_fits : (version hw submitters : ℕ) → (l : Line) → IsLineOf version l → LineFits hw submitters l → (step version hw submitters).Fits l
 step_fits version hw submitters (line.Bio b) v h =
     let in_range = h.2.in_range in
-    ((v, ((omega arith, omega (arith, h.0)), ((omega arith, omega (arith, h.1)), (tt, ((omega arith, omega (arith, in_range)), ((omega arith, omega (arith, in_range)), tt)))))), λ c e. subst IsBio (one_bio b c e) h.2)
-step_fits version hw submitters (line.Flush n) v h = ((v, ((omega arith, omega (arith, h)), (tt, (tt, (tt, (tt, tt)))))), λ b e. absurd (cc e))
-step_fits version hw submitters (line.Drain n) v h = ((v, ((omega arith, omega (arith, h)), (tt, (tt, (tt, (tt, tt)))))), λ b e. absurd (cc e))
-step_fits version hw submitters (line.Issue n t) v h = ((v, ((omega arith, omega (arith, h.0)), ((omega arith, omega (arith, h.1)), (tt, (tt, (tt, tt)))))), λ b e. absurd (cc e))
-step_fits version hw submitters (line.Done t) v h = ((v, ((omega arith, omega (arith, h)), (tt, (tt, (tt, (tt, tt)))))), λ b e. absurd (cc e))
-step_fits version hw submitters (line.Back t) v h = ((v, ((omega arith, omega (arith, h)), (tt, (tt, (tt, (tt, tt)))))), λ b e. absurd (cc e))
-step_fits version hw submitters (line.Depth d) v h = ((v, ((omega arith, omega (arith, h)), (tt, (tt, (tt, (tt, tt)))))), λ b e. absurd (cc e))
-step_fits version hw submitters line.Tick v h = ((v, (tt, (tt, (tt, (tt, (tt, tt)))))), λ b e. absurd (cc e))
-step_fits version hw submitters (line.Run n) v h = ((v, (h, (tt, (tt, (tt, (tt, tt)))))), λ b e. absurd (cc e))
+    (((step_in hw submitters (line.Bio b), v), ((omega arith, omega (arith, h.0)), ((omega arith, omega (arith, h.1)), (tt, ((omega arith, omega (arith, in_range)), ((omega arith, omega (arith, in_range)), tt)))))), λ c e. subst IsBio (one_bio b c e) h.2)
+step_fits version hw submitters (line.Flush n) v h = (((step_in hw submitters (line.Flush n), v), ((omega arith, omega (arith, h)), (tt, (tt, (tt, (tt, tt)))))), λ b e. absurd (cc e))
+step_fits version hw submitters (line.Drain n) v h = (((step_in hw submitters (line.Drain n), v), ((omega arith, omega (arith, h)), (tt, (tt, (tt, (tt, tt)))))), λ b e. absurd (cc e))
+step_fits version hw submitters (line.Issue n t) v h = (((step_in hw submitters (line.Issue n t), v), ((omega arith, omega (arith, h.0)), ((omega arith, omega (arith, h.1)), (tt, (tt, (tt, tt)))))), λ b e. absurd (cc e))
+step_fits version hw submitters (line.Done t) v h = (((step_in hw submitters (line.Done t), v), ((omega arith, omega (arith, h)), (tt, (tt, (tt, (tt, tt)))))), λ b e. absurd (cc e))
+step_fits version hw submitters (line.Back t) v h = (((step_in hw submitters (line.Back t), v), ((omega arith, omega (arith, h)), (tt, (tt, (tt, (tt, tt)))))), λ b e. absurd (cc e))
+step_fits version hw submitters (line.Depth d) v h = (((step_in hw submitters (line.Depth d), v), ((omega arith, omega (arith, h)), (tt, (tt, (tt, (tt, tt)))))), λ b e. absurd (cc e))
+step_fits version hw submitters line.Tick v h = (((step_in hw submitters line.Tick, v), (tt, (tt, (tt, (tt, (tt, tt)))))), λ b e. absurd (cc e))
+step_fits version hw submitters (line.Run n) v h = (((step_in hw submitters (line.Run n), v), (h, (tt, (tt, (tt, (tt, tt)))))), λ b e. absurd (cc e))
 
 pub fits_step : (version hw submitters : ℕ) → 1 ≤ hw → 1 ≤ submitters → (l : Line) → (step version hw submitters).Fits l → LineFits hw submitters l
 fits_step version hw submitters g s (line.Bio b) f = let low = f.0.1.0.1 in let serial = f.0.1.1.0.1 in (omega (arith, low, s), omega (arith, serial), f.1 b refl)
@@ -185,49 +211,31 @@ fits_step version hw submitters g s (line.Run n) f = f.0.1.0
 
 -- what was read of a step's record whose field is asked for its kind
 
-word_long : (k : StepKind) → 0 < length (step_word k)
-word_long kind.Bio = omega arith
-word_long k = omega arith
-
-slots_are : (hw submitters : ℕ) (k : StepKind) → slots_for hw submitters k ≡ slot.Given ∷ slots_by (step_fields hw submitters k)
-slots_are hw submitters kind.Bio = refl
-slots_are hw submitters k = refl
-
-abbrev Of : ℕ → List ℕ → StepKind → Type 0
-Of version f k = StepStandsIn version k × (f ≡ step_word k)
-
-starts : (version : ℕ) (k : StepKind) (row : Row) (f : List ℕ) → f ≡ get_or row (0) [] → Of version f k → StartsWith (step_word k) row
-starts version k row f at of = begins row (step_word k) (word_long k) (sym at ∙ of.1)
-
-pub step_line : (version hw submitters : ℕ) (l : Line) (row : Row) (f ns : List ℕ) → f ≡ get_or row (0) [] → (true ≡ true → Of version f (step_said hw submitters l).0) → FieldsSpell (slots_for hw submitters (step_said hw submitters l).0) row ns
-    → IsBy (step_fields hw submitters (step_said hw submitters l).0) (step_said hw submitters l).1 (λ i. get_or row (suc i) []) (λ i. get_or ns (suc i) 0) → IsRight l → IsRowOf (step version hw submitters) row l
+pub step_line : (version hw submitters : ℕ) (l : Line) (row : Row) (f ns : List ℕ) → f ≡ get_or row (0) [] → (true ≡ true → IsWordOf version f (step_said hw submitters l).0) → FieldsSpell (step_said hw submitters l).0.slots row ns
+    → IsBy (cells_of (step_said hw submitters l).0.slots (λ v. v)) (step_said hw submitters l).1 (λ i. get_or row (suc i) []) (λ i. get_or ns (suc i) 0) → IsRight l → IsRowOf (step version hw submitters) row l
 step_line version hw submitters l row f ns at is s b r =
-    let k = (step_said hw submitters l).0 in
-    let of = is refl in
-    let h = word_line why.Count (step_word k) (step_fields hw submitters k) (λ v. StepStandsIn version k × FitsCells (step_fields hw submitters k) v) (step_said hw submitters l).1 row ns (starts version k row f at of)
-    (subst (λ ss. FieldsSpell ss row ns) (slots_are hw submitters k) s) b (λ x. (of.0, x)) in
+    let h = said_line why.Count WIDTH (step_table hw submitters) version (step_said hw submitters l) row f ns (words hw submitters) (step_in hw submitters l) at is s b in
     λ rest. record { fits = ((h rest).fits, r); made = (h rest).made; follows = tt }
 
 pub bio_right : (b : Bio) → IsBio b → IsRight (line.Bio b)
 bio_right b i = λ c e. subst IsBio (one_bio b c e) i
 
-pub step_lacks : (version hw submitters : ℕ) (k : StepKind) (row : Row) (f : List ℕ) (w : Why) → f ≡ get_or row (0) [] → (true ≡ true → Of version f k) → Lacks (slots_for hw submitters k) row w → IsWrongRecord (step version hw submitters) row w
-step_lacks version hw submitters k row f w at is l =
-    let of = is refl in
-    let begun = starts version k row f at of in
-    λ rest. inl (inl (k, (of.0, begun), (refl, inl (begun, subst (λ ss. Lacks ss row w) (slots_are hw submitters k) l))))
+-- of the row of such a step
+pub step_lacks : (version hw submitters : ℕ) (l : Line) (row : Row) (f : List ℕ) (w : Why) → f ≡ get_or row (0) [] → (true ≡ true → IsWordOf version f (step_said hw submitters l).0) → Lacks (step_said hw submitters l).0.slots row w
+    → IsWrongRecord (step version hw submitters) row w
+step_lacks version hw submitters l row f w at is h rest = inl (said_lacks why.Count WIDTH (step_table hw submitters) version (step_said hw submitters l).0 row f w (words hw submitters) (step_in hw submitters l) at is h rest)
 
 pub step_gone : (version hw submitters : ℕ) → (step version hw submitters).Wrong [] 1 why.Count
-step_gone version hw submitters = inl (inr (refl, (λ k s. s.1), refl))
+step_gone version hw submitters = inl (said_gone why.Count WIDTH (step_table hw submitters) version)
 
 -- the bio of a step
 pub step_bio : (version hw submitters : ℕ) (b : Bio) (row : Row) → IsRowOf (bio_record submitters) row b → IsRowOf (step version hw submitters) row (line.Bio b)
-step_bio version hw submitters b row h rest = let k = h rest in record { fits = ((tt, k.fits.0), bio_right b k.fits.1); made = k.made; follows = tt }
+step_bio version hw submitters b row h rest = let k = h rest in record { fits = (((inl refl, tt), k.fits.0), bio_right b k.fits.1); made = k.made; follows = tt }
 
 pub step_no_bio : (version hw submitters : ℕ) (row : Row) (w : Why) → StartsWith (codes "bio") row → IsWrongRecord (bio_record submitters) row w → IsWrongRecord (step version hw submitters) row w
 step_no_bio version hw submitters row w t h rest = elim (h rest) [
-  | inl f ↦ inl (inl (kind.Bio, (tt, t), f))
-  | inr g ↦ inr (line.Bio g.0, g.1, record { fits = (tt, g.2.fits); made = g.2.made; follows = tt }, (g.0, g.3.0, refl, g.3.1, g.3.2, g.3.3))
+  | inl f ↦ inl (inl (row_below submitters BIO, ((inl refl, tt), t), f))
+  | inr g ↦ inr (line.Bio g.0, g.1, record { fits = ((inl refl, tt), g.2.fits); made = g.2.made; follows = tt }, (g.0, g.3.0, refl, g.3.1, g.3.2, g.3.3))
 ]
 
 -- titles and setups

@@ -31,8 +31,10 @@ use Rattle.blk_text.specs.SetupRecord.{setup_row, setup, FitsSetup, IsWholeSetup
 use Rattle.blk_lists.specs.Reads.{IsOutside, Reads, Halts, Fails, AreItems, IsStopped, IsHeldAt, with_next, size_of}
 use Rattle.blk_text.specs.Inside.TraceRecords.{head_row, event_rows, title_row}
 use Rattle.blk_text.specs.TraceRecords.{BioFits, EventFits, IsTrace}
-use Rattle.blk_text.specs.TraceForm.{Tiles, group_bio, plain_event, event, one_more, events_of, IsTraceTitle, trace_title_part, trace_body, trace_form, trace_value, trace_rows, event_told, IsEventOf, IsTraceOf, SpellsTraceIn, SpellsTrace, TraceTextFault, TraceTitle}
+use Rattle.blk_text.specs.TraceForm.{Tiles, group_bio, plain_event, event, one_more, events_of, IsTraceTitle, trace_title_part, trace_body, trace_form, trace_value, trace_rows, said, event_told, IsEventOf, IsTraceOf, SpellsTraceIn, SpellsTrace, TraceTextFault, TraceTitle}
 use Rattle.blk_text.specs.BioTable.{bio_cells}
+use Rattle.blk_text.specs.EventKinds.{event_table}
+use Rattle.blk_lists.specs.Kinds.{RowStandsIn}
 use Rattle.blk_lists.specs.Tables.{FitsCells}
 use Rattle.blk_text.specs.declared.setup.TheConstants.{LATEST}
 use Rattle.blk_lists.specs.declared.fault.Why.{Why}
@@ -45,6 +47,7 @@ use Rattle.blk_lists.proofs.Lists.{head_of, tail_of, all_cons}
 use Rattle.blk_lists.proofs.Reading.{after_all, first_halts, halts_err, second_fails, second_halts, then_reads}
 use Rattle.blk_lists.proofs.Texts.{text_back, begins_itself}
 use Rattle.blk_text.proofs.ScriptLaws.{setup_one}
+use Rattle.blk_text.proofs.HeadLaws.{said_in}
 use Rattle.blk_text.proofs.EventLaws.{event_tells, event_plain, event_rows as some_rows, more_tells, trace_title_tells, setup_depth, body_tells, trace_tells, trace_decides, events_tell}
 use Rattle.blk_bio.specs.declared.limits.TheConstants.{MAX_SEGMENTS}
 
@@ -142,7 +145,7 @@ last_event : (es : List Happened) (e : Happened) → At (es ++ e ∷ []) (length
 last_event [] e = refl
 last_event (x ∷ es) e = last_event es e
 
-event_fits : (version : ℕ) (setup : Setup) (es : List Happened) (e : Happened) → IsLegalTrace setup (es ++ e ∷ []) → IsEventOf version e → EventFits e → (plain_event version setup.limits).Fits e
+event_fits : (version : ℕ) (setup : Setup) (es : List Happened) (e : Happened) → IsLegalTrace setup (es ++ e ∷ []) → RowStandsIn event_table version (said (event_told e).0).0 → EventFits e → (plain_event version setup.limits).Fits e
 event_fits version setup es Tick legal v h = ((v, (tt, (tt, (tt, (tt, (tt, tt)))))), (tt, refl))
 event_fits version setup es (Release id bios) legal v h =
     let at = last_event es (Release id bios) in
@@ -171,7 +174,7 @@ legal_fits version setup es legal = by_legal setup (λ l. All (IsEventOf version
     (λ l e now before unbroken fit v h. (
     let vs = all_before (IsEventOf version) l e v in
     let hs = all_before EventFits l e h in
-    fit_more (event version setup) with_next [] l e (fit vs.0 hs.0) (rw (after_all [] l) (event_fits version setup l e now vs.1 hs.1, unbroken))
+    fit_more (event version setup) with_next [] l e (fit vs.0 hs.0) (rw (after_all [] l) (event_fits version setup l e now (said_in (event_told e).0, vs.1) hs.1, unbroken))
     ))
     es legal
 

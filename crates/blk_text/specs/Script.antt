@@ -9,7 +9,7 @@ use Rattle.csv.specs.Reading.{default_config, records, strip_bom}
 use Rattle.blk_lists.specs.Sources.{Row}
 use Rattle.blk_lists.specs.Texts.{rows_text}
 use Rattle.blk_lists.specs.Reads.{items_of}
-use Rattle.blk_lists.specs.Tables.{kinds_record}
+use Rattle.blk_lists.specs.Kinds.{row, row_below, StandsFrom, RowSaid, said_record}
 use Rattle.blk_lists.specs.Titles.{IsVersion, title_record}
 use Rattle.blk_text.specs.SetupRecord.{IsWholeSetup, setup}
 use Rattle.blk_text.specs.Versions.{most_tags}
@@ -19,9 +19,10 @@ use Rattle.blk_lists.specs.declared.fault.Why.TheVariants as why
 use Rattle.parts.specs.declared.Repeats.TheVariants as repeats
 use Rattle.parts.specs.Parts.{Part, then, tested, seen_as, Spells}
 use Rattle.blk_trace.specs.declared.event.TheConstants.{MAX_TAGS}
-use Rattle.blk_text.specs.StepKinds.{StepKind, step_word, StepStandsIn, StepTold, step_fields}
-use Rattle.blk_text.specs.StepKinds as kind
-use Rattle.blk_text.specs.declared.script.TheConstants.{MAX_RUN, MAX_STEPS, SCRIPT}
+use Rattle.blk_text.specs.StepKinds.{step_table}
+use Rattle.blk_text.specs.declared.bios.TheConstants.{BIO}
+use Rattle.blk_text.specs.declared.heads.TheConstants.{TICK, ISSUE, DONE, BACK, DEPTH}
+use Rattle.blk_text.specs.declared.script.TheConstants.{FLUSH, DRAIN, RUN, MAX_RUN, MAX_STEPS, SCRIPT}
 use Rattle.blk_text.specs.declared.script.Line.{Line}
 use Rattle.blk_text.specs.declared.script.Line.TheVariants as line
 use Rattle.blk_text.specs.declared.script.Script.{Script}
@@ -36,17 +37,17 @@ pub record Title : Type 0 where
 abbrev pub title_numbers : List (Title → ℕ)
 title_numbers = (λ t. t.depth) ∷ (λ t. t.hw) ∷ (λ t. t.soft_depth) ∷ (λ t. t.submitters) ∷ []
 
--- the kind of a step, and what it says
-abbrev pub step_said : (hw submitters : ℕ) → Line → (k : StepKind) × StepTold hw submitters k
-step_said hw submitters (line.Bio b) = (kind.Bio, (b.id.submitter, (b.id.serial, (b.dir, (b.first, (b.sectors, tt))))))
-step_said hw submitters (line.Flush submitter) = (kind.Flush, (submitter, tt))
-step_said hw submitters (line.Drain h) = (kind.Drain, (h, tt))
-step_said hw submitters (line.Issue h tag) = (kind.Issue, (h, (tag, tt)))
-step_said hw submitters (line.Done tag) = (kind.Done, (tag, tt))
-step_said hw submitters (line.Back tag) = (kind.Back, (tag, tt))
-step_said hw submitters (line.Depth depth) = (kind.Depth, (depth, tt))
-step_said hw submitters line.Tick = (kind.Tick, tt)
-step_said hw submitters (line.Run n) = (kind.Run, (n, tt))
+-- the row of a step, for these numbers of hardware queues and submitters, and what it says
+abbrev pub step_said : (hw submitters : ℕ) → Line → RowSaid
+step_said hw submitters (line.Bio b) = (row_below submitters BIO, (b.id.submitter, (b.id.serial, (b.dir, (b.first, (b.sectors, tt))))))
+step_said hw submitters (line.Flush submitter) = (row_below submitters FLUSH, (submitter, tt))
+step_said hw submitters (line.Drain h) = (row_below hw DRAIN, (h, tt))
+step_said hw submitters (line.Issue h tag) = (row_below hw ISSUE, (h, (tag, tt)))
+step_said hw submitters (line.Done tag) = (row DONE, (tag, tt))
+step_said hw submitters (line.Back tag) = (row BACK, (tag, tt))
+step_said hw submitters (line.Depth depth) = (row DEPTH, (depth, tt))
+step_said hw submitters line.Tick = (row TICK, tt)
+step_said hw submitters (line.Run n) = (row RUN, (n, tt))
 
 -- the bio of a step, if it has one, is a bio
 abbrev pub IsRight : Line → Type 0
@@ -70,7 +71,7 @@ LineFits hw submitters (line.Run n) = (1 ≤ n) × (n ≤ MAX_RUN)
 
 -- a step stands in a version, however many hardware queues and submitters there are
 abbrev pub IsLineOf : ℕ → Line → Type 0
-IsLineOf version l = StepStandsIn version (step_said 1 1 l).0
+IsLineOf version l = StandsFrom (step_said 1 1 l).0.since version
 
 -- a title's numbers lie in their ranges, but for the least number of submitters
 pub record IsTitle (version : ℕ) (t : Title) : Type 0 where
@@ -125,7 +126,7 @@ script_title_part = tested plain_title IsEnough TooFew
 
 -- a step by its table
 abbrev pub plain_step : ℕ → ℕ → ℕ → Part Row Why Line
-plain_step version hw submitters = seen_as (step_said hw submitters) (kinds_record (StepTold hw submitters) why.Count WIDTH (StepStandsIn version) step_word (step_fields hw submitters))
+plain_step version hw submitters = seen_as (step_said hw submitters) (said_record why.Count WIDTH (step_table hw submitters) version)
 
 -- a step of a version, for these numbers of hardware queues and submitters
 abbrev pub step : ℕ → ℕ → ℕ → Part Row Why Line

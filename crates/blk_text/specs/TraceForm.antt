@@ -20,7 +20,8 @@ use Rattle.csv.specs.Reading.{default_config, records, strip_bom}
 use Rattle.blk_lists.specs.Reads.{ended_of, with_next}
 use Rattle.blk_lists.specs.Texts.{rows_text}
 use Rattle.blk_lists.specs.Words.{NextStarts}
-use Rattle.blk_lists.specs.Tables.{FitsCells, kinds_record, word_record}
+use Rattle.blk_lists.specs.Tables.{FitsCells, word_record}
+use Rattle.blk_lists.specs.Kinds.{row, StandsFrom, RowSaid, said_record}
 use Rattle.blk_lists.specs.Titles.{IsVersion, title_record}
 use Rattle.blk_text.specs.BioTable.{bio_cells, IsNoSuchBio}
 use Rattle.blk_text.specs.SetupRecord.{setup}
@@ -30,9 +31,8 @@ use Rattle.blk_text.specs.declared.setup.TheConstants.{LATEST, WIDTH}
 use Rattle.blk_text.specs.declared.bios.TheConstants.{BIO, MAX_SUBMITTERS}
 use Rattle.blk_lists.specs.declared.fault.Why.{Why}
 use Rattle.blk_lists.specs.declared.fault.Why.TheVariants as why
-use Rattle.blk_text.specs.EventKinds.{EventKind, EventStandsIn, event_word, Says, event_fields}
-use Rattle.blk_text.specs.EventKinds as kind
-use Rattle.blk_text.specs.declared.heads.TheConstants.{TRACE}
+use Rattle.blk_text.specs.EventKinds.{event_table}
+use Rattle.blk_text.specs.declared.heads.TheConstants.{TRACE, TICK, RELEASE, JOIN, ISSUE, DONE, BACK, DEPTH}
 use Rattle.parts.specs.declared.Repeats.TheVariants as repeats
 use Rattle.parts.specs.Parts.{Part, NextWrong, then, many, over, seen_as, tested, by_word, Spells}
 
@@ -58,19 +58,19 @@ trace_title_part = title_record TRACE trace_numbers IsTraceTitle
 abbrev pub Head : Type 0
 Head = Event ℕ
 
--- the kind of a first record, and what it says
-abbrev pub said : Head → (k : EventKind) × Says k
-said Tick = (kind.Tick, tt)
-said (Release id bios) = (kind.Release, (id, (bios, tt)))
-said (Join id bios) = (kind.Join, (id, (bios, tt)))
-said (Issue id tag) = (kind.Issue, (id, (tag, tt)))
-said (Done tag) = (kind.Done, (tag, tt))
-said (Back tag) = (kind.Back, (tag, tt))
-said (Depth depth) = (kind.Depth, (depth, tt))
+-- the row of a first record, and what it says
+abbrev pub said : Head → RowSaid
+said Tick = (row TICK, tt)
+said (Release id bios) = (row RELEASE, (id, (bios, tt)))
+said (Join id bios) = (row JOIN, (id, (bios, tt)))
+said (Issue id tag) = (row ISSUE, (id, (tag, tt)))
+said (Done tag) = (row DONE, (tag, tt))
+said (Back tag) = (row BACK, (tag, tt))
+said (Depth depth) = (row DEPTH, (depth, tt))
 
 -- the first record of an event
 abbrev pub first_record : ℕ → Part Row Why Head
-first_record version = seen_as said (kinds_record Says why.Count WIDTH (EventStandsIn version) event_word event_fields)
+first_record version = seen_as said (said_record why.Count WIDTH event_table version)
 
 -- what is wrong with a record of a group that does not begin as a bio's: what is wrong with it as the first record of an
 -- event, and else that it came too soon
@@ -167,7 +167,7 @@ SpellsTrace rows t = (version : ℕ) × SpellsTraceIn version rows t
 
 -- an event stands in a version
 abbrev pub IsEventOf : ℕ → Happened → Type 0
-IsEventOf version e = EventStandsIn version (said (event_told e).0).0
+IsEventOf version e = StandsFrom (said (event_told e).0).0.since version
 
 -- a trace can be spelled in a version: it has no more tags than that, and no other events
 pub record IsTraceOf (version : ℕ) (t : Traced) : Type 0 where

@@ -4,8 +4,6 @@ ghost use Rattle.std.specs.Prelude.{◌≡◌, ◌+◌, ◌++◌, ◌∷◌, ◌
 ghost use Rattle.csv.specs.Records.{fields_of};
 ghost use Rattle.blk_lists.specs.Reads.{FaultsBy, IsRowOf, IsWrongRecord, Reaches};
 ghost use Rattle.blk_lists.specs.Texts.{rows_text};
-ghost use Rattle.blk_text.specs.StepKinds.{step_word};
-ghost use Rattle.blk_text.specs.StepKinds as kind;
 ghost use Rattle.blk_text.specs.Script.{step, IsScript, SpellsScript, ScriptFault, scripted, script_form};
 ghost use Rattle.blk_text.specs.StepRecords.{step_row};
 ghost use Rattle.drafts.specs.Drafts.{drafted};
@@ -142,7 +140,7 @@ pub(crate) struct StepForm {
 /// The step of a record that is not a bio's.
 #[inline(never)]
 fn short_line(form: &StepForm, row: &ByteRecord) -> Result<Line, Why>
-    requires other { ¬ (get_or (fields_of row.now) 0 [] ≡ step_word kind.Bio) }
+    requires other { ¬ (get_or (fields_of row.now) 0 [] ≡ BIO.word) }
     ensures ok { IfOk result (IsRowOf (step form.now.version form.now.hw form.now.submitters) (fields_of row.now)) }
     ensures err { IfErr result (IsWrongRecord (step form.now.version form.now.hw form.now.submitters) (fields_of row.now)) }
 {

@@ -4,9 +4,8 @@ use Rattle.blk_bio.specs.Bios.{Bio}
 use Rattle.blk_trace.specs.Happened.{Happened}
 use Rattle.blk_trace.specs.Setups.{Setup}
 use Rattle.blk_lists.specs.Sources.{Row}
-use Rattle.blk_lists.specs.Tables.{row_by}
+use Rattle.blk_lists.specs.Kinds.{said_row}
 use Rattle.blk_lists.specs.Titles.{title_by}
-use Rattle.blk_text.specs.EventKinds.{event_word, event_fields}
 use Rattle.blk_text.specs.Inside.BioTable.{bio_row}
 use Rattle.blk_text.specs.TraceForm.{Head, said, event_told, trace_numbers}
 use Rattle.blk_text.specs.declared.heads.TheConstants.{TRACE}
@@ -22,7 +21,7 @@ group_rows word id bios = word_row word (decimal id) (decimal (length bios)) ∷
 
 -- the first record of an event
 abbrev pub head_row : Head → Row
-head_row h = event_word (said h).0 ∷ row_by (event_fields (said h).0) (said h).1
+head_row h = said_row (said h)
 
 -- the records of an event: its first, and those of its bios
 abbrev pub event_rows : Happened → List Row

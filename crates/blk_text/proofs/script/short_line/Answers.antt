@@ -1,14 +1,14 @@
 use Rattle.std.proofs.Common.{refl}
 use Rattle.std.proofs.lemmas.Result.{err_from_is_err_and}
 use Rattle.csv.specs.Records.{fields_of}
-use Rattle.blk_text.specs.StepKinds as kind
+use Rattle.blk_text.specs.declared.script.Line.TheVariants as line
 use Rattle.blk_text.proofs.ScriptLaws.{step_line, step_lacks}
 use Rattle.blk_text.proofs.script.short_line.Goals as goal
 
 pub returns-in_err-numbers-clause-err : goal.returns-in_err-numbers-clause-err
 returns-in_err-numbers-clause-err c =
     let p = err_from_is_err_and c.from_residual.result c.from_residual.ensures.1 in
-    rw (p.1, p.2) (step_lacks c.args.form.now.version c.args.form.now.hw c.args.form.now.submitters kind.Flush (fields_of c.args.row.now) c.field-word.result.now c.in_err-numbers.field-0.0 c.field-word.ensures c.if-is.ensures.0 (rw c.below.ensures at c.in_err-numbers.ensures.err))
+    rw (p.1, p.2) (step_lacks c.args.form.now.version c.args.form.now.hw c.args.form.now.submitters (line.Flush 0) (fields_of c.args.row.now) c.field-word.result.now c.in_err-numbers.field-0.0 c.field-word.ensures c.if-is.ensures.0 (rw c.below.ensures at c.in_err-numbers.ensures.err))
 
 pub returns-then-is-clause-ok : goal.returns-then-is-clause-ok
 returns-then-is-clause-ok c = step_line c.args.form.now.version c.args.form.now.hw c.args.form.now.submitters _ (fields_of c.args.row.now) c.field-word.result.now c.in_ok-numbers.numbers c.field-word.ensures c.if-is.ensures.0 (rw c.below.ensures at c.in_ok-numbers.ensures.ok) (refl, (tt, (tt, (tt, (tt, tt))))) (λ b e. absurd (cc e))
@@ -16,7 +16,7 @@ returns-then-is-clause-ok c = step_line c.args.form.now.version c.args.form.now.
 pub returns-in_err-numbers-2-clause-err : goal.returns-in_err-numbers-2-clause-err
 returns-in_err-numbers-2-clause-err c =
     let p = err_from_is_err_and c.from_residual-in_err-numbers-2.result c.from_residual-in_err-numbers-2.ensures.1 in
-    rw (p.1, p.2) (step_lacks c.args.form.now.version c.args.form.now.hw c.args.form.now.submitters kind.Drain (fields_of c.args.row.now) c.field-word.result.now c.in_err-numbers-2.field-0.0 c.field-word.ensures c.if-is-2.ensures.0 (rw c.below-then-is-2.ensures at c.in_err-numbers-2.ensures.err))
+    rw (p.1, p.2) (step_lacks c.args.form.now.version c.args.form.now.hw c.args.form.now.submitters (line.Drain 0) (fields_of c.args.row.now) c.field-word.result.now c.in_err-numbers-2.field-0.0 c.field-word.ensures c.if-is-2.ensures.0 (rw c.below-then-is-2.ensures at c.in_err-numbers-2.ensures.err))
 
 pub returns-then-is-2-clause-ok : goal.returns-then-is-2-clause-ok
 returns-then-is-2-clause-ok c = step_line c.args.form.now.version c.args.form.now.hw c.args.form.now.submitters _ (fields_of c.args.row.now) c.field-word.result.now c.in_ok-numbers-2.numbers c.field-word.ensures c.if-is-2.ensures.0 (rw c.below-then-is-2.ensures at c.in_ok-numbers-2.ensures.ok) (refl, (tt, (tt, (tt, (tt, tt))))) (λ b e. absurd (cc e))
@@ -24,7 +24,7 @@ returns-then-is-2-clause-ok c = step_line c.args.form.now.version c.args.form.no
 pub returns-in_err-numbers-3-clause-err : goal.returns-in_err-numbers-3-clause-err
 returns-in_err-numbers-3-clause-err c =
     let p = err_from_is_err_and c.from_residual-in_err-numbers-3.result c.from_residual-in_err-numbers-3.ensures.1 in
-    rw (p.1, p.2) (step_lacks c.args.form.now.version c.args.form.now.hw c.args.form.now.submitters kind.Issue (fields_of c.args.row.now) c.field-word.result.now c.in_err-numbers-3.field-0.0 c.field-word.ensures c.if-is-3.ensures.0 (rw c.below-then-is-3.ensures at c.in_err-numbers-3.ensures.err))
+    rw (p.1, p.2) (step_lacks c.args.form.now.version c.args.form.now.hw c.args.form.now.submitters (line.Issue 0 0) (fields_of c.args.row.now) c.field-word.result.now c.in_err-numbers-3.field-0.0 c.field-word.ensures c.if-is-3.ensures.0 (rw c.below-then-is-3.ensures at c.in_err-numbers-3.ensures.err))
 
 pub returns-then-is-3-clause-ok : goal.returns-then-is-3-clause-ok
 returns-then-is-3-clause-ok c = step_line c.args.form.now.version c.args.form.now.hw c.args.form.now.submitters _ (fields_of c.args.row.now) c.field-word.result.now c.in_ok-numbers-3.numbers c.field-word.ensures c.if-is-3.ensures.0 (rw c.below-then-is-3.ensures at c.in_ok-numbers-3.ensures.ok) (refl, (refl, (tt, (tt, (tt, tt))))) (λ b e. absurd (cc e))
@@ -32,7 +32,7 @@ returns-then-is-3-clause-ok c = step_line c.args.form.now.version c.args.form.no
 pub returns-in_err-numbers-4-clause-err : goal.returns-in_err-numbers-4-clause-err
 returns-in_err-numbers-4-clause-err c =
     let p = err_from_is_err_and c.from_residual-in_err-numbers-4.result c.from_residual-in_err-numbers-4.ensures.1 in
-    rw (p.1, p.2) (step_lacks c.args.form.now.version c.args.form.now.hw c.args.form.now.submitters kind.Done (fields_of c.args.row.now) c.field-word.result.now c.in_err-numbers-4.field-0.0 c.field-word.ensures c.if-is-4.ensures.0 c.in_err-numbers-4.ensures.err)
+    rw (p.1, p.2) (step_lacks c.args.form.now.version c.args.form.now.hw c.args.form.now.submitters (line.Done 0) (fields_of c.args.row.now) c.field-word.result.now c.in_err-numbers-4.field-0.0 c.field-word.ensures c.if-is-4.ensures.0 c.in_err-numbers-4.ensures.err)
 
 pub returns-then-is-4-clause-ok : goal.returns-then-is-4-clause-ok
 returns-then-is-4-clause-ok c = step_line c.args.form.now.version c.args.form.now.hw c.args.form.now.submitters _ (fields_of c.args.row.now) c.field-word.result.now c.in_ok-numbers-4.numbers c.field-word.ensures c.if-is-4.ensures.0 c.in_ok-numbers-4.ensures.ok (refl, (tt, (tt, (tt, (tt, tt))))) (λ b e. absurd (cc e))
@@ -40,12 +40,12 @@ returns-then-is-4-clause-ok c = step_line c.args.form.now.version c.args.form.no
 pub returns-in_err-read_fields-clause-err : goal.returns-in_err-read_fields-clause-err
 returns-in_err-read_fields-clause-err c =
     let p = err_from_is_err_and c.from_residual-in_err-read_fields.result c.from_residual-in_err-read_fields.ensures.1 in
-    rw (p.1, p.2) (step_lacks c.args.form.now.version c.args.form.now.hw c.args.form.now.submitters kind.Tick (fields_of c.args.row.now) c.field-word.result.now c.in_err-read_fields.field-0.0 c.field-word.ensures c.if-is-5.ensures.0 c.in_err-read_fields.ensures.err)
+    rw (p.1, p.2) (step_lacks c.args.form.now.version c.args.form.now.hw c.args.form.now.submitters line.Tick (fields_of c.args.row.now) c.field-word.result.now c.in_err-read_fields.field-0.0 c.field-word.ensures c.if-is-5.ensures.0 c.in_err-read_fields.ensures.err)
 
 pub returns-in_err-numbers-5-clause-err : goal.returns-in_err-numbers-5-clause-err
 returns-in_err-numbers-5-clause-err c =
     let p = err_from_is_err_and c.from_residual-in_err-numbers-5.result c.from_residual-in_err-numbers-5.ensures.1 in
-    rw (p.1, p.2) (step_lacks c.args.form.now.version c.args.form.now.hw c.args.form.now.submitters kind.Run (fields_of c.args.row.now) c.field-word.result.now c.in_err-numbers-5.field-0.0 c.field-word.ensures c.if-is-6.ensures.0 c.in_err-numbers-5.ensures.err)
+    rw (p.1, p.2) (step_lacks c.args.form.now.version c.args.form.now.hw c.args.form.now.submitters (line.Run 0) (fields_of c.args.row.now) c.field-word.result.now c.in_err-numbers-5.field-0.0 c.field-word.ensures c.if-is-6.ensures.0 c.in_err-numbers-5.ensures.err)
 
 pub returns-then-is-6-clause-ok : goal.returns-then-is-6-clause-ok
 returns-then-is-6-clause-ok c = step_line c.args.form.now.version c.args.form.now.hw c.args.form.now.submitters _ (fields_of c.args.row.now) c.field-word.result.now c.in_ok-numbers-5.numbers c.field-word.ensures c.if-is-6.ensures.0 c.in_ok-numbers-5.ensures.ok (refl, (tt, (tt, (tt, (tt, tt))))) (λ b e. absurd (cc e))
@@ -53,7 +53,7 @@ returns-then-is-6-clause-ok c = step_line c.args.form.now.version c.args.form.no
 pub returns-in_err-numbers-6-clause-err : goal.returns-in_err-numbers-6-clause-err
 returns-in_err-numbers-6-clause-err c =
     let p = err_from_is_err_and c.from_residual-in_err-numbers-6.result c.from_residual-in_err-numbers-6.ensures.1 in
-    rw (p.1, p.2) (step_lacks c.args.form.now.version c.args.form.now.hw c.args.form.now.submitters kind.Back (fields_of c.args.row.now) c.field-word.result.now c.in_err-numbers-6.field-0.0 c.field-word.ensures c.if-is-7.ensures.0 c.in_err-numbers-6.ensures.err)
+    rw (p.1, p.2) (step_lacks c.args.form.now.version c.args.form.now.hw c.args.form.now.submitters (line.Back 0) (fields_of c.args.row.now) c.field-word.result.now c.in_err-numbers-6.field-0.0 c.field-word.ensures c.if-is-7.ensures.0 c.in_err-numbers-6.ensures.err)
 
 pub returns-then-is-7-clause-ok : goal.returns-then-is-7-clause-ok
 returns-then-is-7-clause-ok c = step_line c.args.form.now.version c.args.form.now.hw c.args.form.now.submitters _ (fields_of c.args.row.now) c.field-word.result.now c.in_ok-numbers-6.numbers c.field-word.ensures c.if-is-7.ensures.0 c.in_ok-numbers-6.ensures.ok (refl, (tt, (tt, (tt, (tt, tt))))) (λ b e. absurd (cc e))
@@ -61,7 +61,7 @@ returns-then-is-7-clause-ok c = step_line c.args.form.now.version c.args.form.no
 pub returns-in_err-numbers-7-clause-err : goal.returns-in_err-numbers-7-clause-err
 returns-in_err-numbers-7-clause-err c =
     let p = err_from_is_err_and c.from_residual-in_err-numbers-7.result c.from_residual-in_err-numbers-7.ensures.1 in
-    rw (p.1, p.2) (step_lacks c.args.form.now.version c.args.form.now.hw c.args.form.now.submitters kind.Depth (fields_of c.args.row.now) c.field-word.result.now c.in_err-numbers-7.field-0.0 c.field-word.ensures c.if-is-8.ensures.0 c.in_err-numbers-7.ensures.err)
+    rw (p.1, p.2) (step_lacks c.args.form.now.version c.args.form.now.hw c.args.form.now.submitters (line.Depth 0) (fields_of c.args.row.now) c.field-word.result.now c.in_err-numbers-7.field-0.0 c.field-word.ensures c.if-is-8.ensures.0 c.in_err-numbers-7.ensures.err)
 
 pub returns-then-is-8-clause-ok : goal.returns-then-is-8-clause-ok
 returns-then-is-8-clause-ok c = step_line c.args.form.now.version c.args.form.now.hw c.args.form.now.submitters _ (fields_of c.args.row.now) c.field-word.result.now c.in_ok-numbers-7.numbers c.field-word.ensures c.if-is-8.ensures.0 c.in_ok-numbers-7.ensures.ok (refl, (tt, (tt, (tt, (tt, tt))))) (λ b e. absurd (cc e))
