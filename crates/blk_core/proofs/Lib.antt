@@ -9,3 +9,4 @@ mod Sent
 mod Ended
 mod Opens
 mod Listed
+mod IssuedNow

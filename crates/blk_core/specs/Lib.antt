@@ -2,4 +2,5 @@ pub mod Opens
 pub mod State
 pub mod Faults
 pub mod Calls
+pub mod Tries
 pub mod Inside

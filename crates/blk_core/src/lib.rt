@@ -10,6 +10,8 @@ mod calls;
 pub mod laws;
 mod refusals;
 mod tags;
+pub mod trying;
 
 pub use crate::calls::{Core, Placed};
 pub use crate::refusals::{BackFault, CoreFault, DepthFault, IssueFault, NotIssued, TickFault};
+pub use crate::trying::NoneIssued;

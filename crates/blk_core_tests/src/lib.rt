@@ -24,4 +24,6 @@ mod refusals;
 #[cfg(test)]
 mod told;
 #[cfg(test)]
+mod tried;
+#[cfg(test)]
 mod waiting;

@@ -15,7 +15,6 @@ mod Dones
 mod Gathered
 mod Agreed
 mod Moved
-mod Trying
 mod Ending
 mod Onces
 mod Ruled

@@ -15,9 +15,9 @@ use Rattle.blk_sched.specs.Policies.{Choice, OfDone, OfTick}
 use Rattle.blk_core.specs.Calls.{Places, AddsEvent, Issues, Completes, RequeuesTag, Ends, SetsDepth}
 use Rattle.blk_layer.specs.Closing.{done_count, is_done}
 use Rattle.blk_layer.specs.Submitting.{IsMoveAnswer}
-use Rattle.blk_layer.specs.declared.serving.NoneIssued.{NoneIssued}
-use Rattle.blk_layer.specs.declared.serving.NoneIssued.TheVariants as none
-use Rattle.blk_layer.specs.Serving.{IsNoneIssued}
+use Rattle.blk_core.specs.declared.trying.NoneIssued.{NoneIssued}
+use Rattle.blk_core.specs.declared.trying.NoneIssued.TheVariants as none
+use Rattle.blk_core.specs.Tries.{IsNoneIssued}
 
 -- one event more that is no Done
 pub not_done : (es : List Happened) (e : Happened) → is_done e ≡ false → done_count (es ++ e ∷ []) ≡ done_count es

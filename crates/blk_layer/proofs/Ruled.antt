@@ -16,9 +16,9 @@ use Rattle.blk_core.specs.declared.refusals.IssueFault.{IssueFault}
 use Rattle.blk_layer.proofs.Moving.{Stays, stays_either, issue_stays}
 use Rattle.blk_layer.specs.Submitting.{MovesSome, IsMoveAllAnswer}
 use Rattle.blk_layer.specs.declared.submitting.DrainFault.{DrainFault}
-use Rattle.blk_layer.specs.declared.serving.NoneIssued.{NoneIssued}
-use Rattle.blk_layer.specs.declared.serving.NoneIssued.TheVariants as none
-use Rattle.blk_layer.specs.Serving.{IsNoneIssued}
+use Rattle.blk_core.specs.declared.trying.NoneIssued.{NoneIssued}
+use Rattle.blk_core.specs.declared.trying.NoneIssued.TheVariants as none
+use Rattle.blk_core.specs.Tries.{IsNoneIssued}
 
 -- the calls so far lead from the start to the core
 abbrev pub Goes : Policy → CoreState → CoreState → Type 0

@@ -1,31 +1,19 @@
--- What the calls of a worker and its passes do, and when they end a round.
-use Rattle.std.specs.Prelude.{ℕ, ◌≡◌, ◌<◌, ◌≤◌, ◌⊎◌, ◌++◌, [], ◌∷◌, ⊤, Option, None, Some, Result, Ok, Err, Contains, slice_get, slice_set, true, false, List, length, ◌+◌, Bool, fold, if◌then◌else◌}
+-- What the calls of a worker and its passes do.
+use Rattle.std.specs.Prelude.{ℕ, ◌≡◌, ◌<◌, ◌≤◌, ◌⊎◌, ◌++◌, [], ◌∷◌, ⊤, Option, None, Some, Result, Ok, Err, Contains, slice_get, slice_set, true, false, List, length}
 use Rattle.edd_commands.specs.declared.Command.{Command}
-use Rattle.blk_core.specs.State.{CoreState}
-use Rattle.blk_core.specs.Faults.{IsIssueFault, IsTickFault}
 use Rattle.blk_core.specs.declared.refusals.TickFault.{TickFault}
 use Rattle.blk_core.specs.declared.refusals.DepthFault.{DepthFault}
 use Rattle.blk_layer.specs.declared.serving.Issued.{Issued}
 use Rattle.blk_tags.specs.Tags.{without}
 use Rattle.blk_layer.specs.Seats.{WorkerSeat}
-use Rattle.blk_trace.specs.Events.{open_count}
-use Rattle.blk_sched.specs.Policies.{OfTick, Choice}
-use Rattle.blk_core.specs.Calls.{Ends, Issues}
 use Rattle.blk_layer.specs.declared.serving.Worked.{Worked}
 use Rattle.blk_layer.specs.declared.serving.WorkFault.{WorkFault}
 use Rattle.blk_layer.specs.declared.serving.WorkFault.TheVariants.{TraceFull, Memory, Repeated}
 use Rattle.blk_layer.specs.declared.serving.Passed.{Passed}
 use Rattle.blk_layer.specs.declared.serving.After.{After}
 use Rattle.blk_layer.specs.declared.serving.After.TheVariants.{Finish, Again, Yield}
-use Rattle.blk_sched.specs.Meaning.{Waiting}
-use Rattle.blk_trace.specs.Happened.{Happened}
-use Rattle.blk_trace.specs.Kinds.{is_tick, is_issue}
-use Rattle.blk_trace.specs.Depths.{depth_now}
-use Rattle.blk_layer.specs.declared.serving.NoneIssued.{NoneIssued}
 use Rattle.blk_core.specs.declared.refusals.TickFault.TheVariants as tick
 use Rattle.blk_core.specs.declared.refusals.DepthFault.TheVariants as depth
-use Rattle.blk_core.specs.declared.refusals.IssueFault.TheVariants as issue
-use Rattle.blk_layer.specs.declared.serving.NoneIssued.TheVariants as none
 
 -- a command comes into the hands of a worker under a tag of the set, where it had none, and which it didn't hold
 pub record TakesInHand (old : WorkerSeat) (tag : ℕ) (command : Command) (new : WorkerSeat) : Type 0 where
@@ -74,10 +62,6 @@ IsDepthAnswer most n (Err depth.TraceFull) = ⊤
 IsDepthAnswer most n (Err depth.DepthRange) = (n ≡ 0) ⊎ (most < n)
 IsDepthAnswer most n (Err depth.Memory) = (0 < n) × (n ≤ most)
 
--- the tag is used up in the current round: it was issued in it, or isn't below its depth
-abbrev pub IsUsedUp : CoreState → ℕ → ℕ → Type 0
-IsUsedUp c hw tag = IsIssueFault c hw tag issue.SlotUsed ⊎ IsIssueFault c hw tag issue.TagRange
-
 -- the account of a worker grows by commands, at its end; else the seat is as it was
 pub record RunsMore (old new : WorkerSeat) : Type 0 where
   pub added : List Command
@@ -114,30 +98,3 @@ abbrev pub IsWorkFault : WorkerSeat → WorkFault → WorkerSeat → Type 0
 IsWorkFault old TraceFull new = RunsMore old new
 IsWorkFault old Memory new = RunsMore old new ⊎ ((between : WorkerSeat) × RunsMore old between × IsLeftInHand between new)
 IsWorkFault old (Repeated id) new = RunsMore old new
-
--- how many commands were issued in the current round after an event, by how many were before it
-abbrev pub issued_after : ℕ → Happened → ℕ
-issued_after n e = if is_tick e then 0 else (if is_issue e then n + 1 else n)
-
--- how many commands were issued in the current round
-unfoldable pub issued_now : List Happened → ℕ
-issued_now events = fold issued_after 0 events
-
--- the current round is full: as many commands were issued in it as it carries. Else it carries more
-abbrev pub IsFull : CoreState → Type 0
-IsFull c = depth_now c.setup c.events ≤ issued_now c.events
-
-abbrev pub CarriesMore : CoreState → Type 0
-CarriesMore c = issued_now c.events < depth_now c.setup c.events
-
--- why a try issues nothing, and what it does: a round ends only where it is full, the tag is used up in it, and no command is in flight
-abbrev pub IsNoneIssued : (ℕ → Waiting → Bool) → Choice → OfTick → CoreState → ℕ → ℕ → NoneIssued → CoreState → Type 0
-IsNoneIssued serves chooses told old hw tag none.Nothing new = Issues serves chooses old hw tag None new
-IsNoneIssued serves chooses told old hw tag none.TagRange new = IsIssueFault old hw tag issue.TagRange × CarriesMore old × (new ≡ old)
-IsNoneIssued serves chooses told old hw tag none.SlotUsed new = IsIssueFault old hw tag issue.SlotUsed × CarriesMore old × (new ≡ old)
-IsNoneIssued serves chooses told old hw tag none.Full new = IsUsedUp old hw tag × IsFull old × (0 < open_count old.events) × (new ≡ old)
-IsNoneIssued serves chooses told old hw tag none.Ended new = IsUsedUp old hw tag × IsFull old × Ends told old new
-IsNoneIssued serves chooses told old hw tag none.TraceFull new =
-    (IsIssueFault old hw tag issue.TraceFull ⊎ (IsUsedUp old hw tag × IsFull old × IsTickFault old tick.TraceFull)) × (new ≡ old)
-IsNoneIssued serves chooses told old hw tag none.Memory new =
-    (IsIssueFault old hw tag issue.Memory ⊎ (IsUsedUp old hw tag × IsFull old × IsTickFault old tick.Memory)) × (new ≡ old)

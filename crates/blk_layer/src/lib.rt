@@ -18,6 +18,6 @@ pub use crate::closing::{CloseFault, CloseRefused, Closed};
 pub use crate::layer::{Layer, LayerFault, MAX_WORKERS, Named};
 pub use crate::seats::{Submitter, Worker};
 pub use crate::serving::{
-    After, Device, Issued, LayerIssueFault, NoneIssued, Passed, Ran, WorkFault, Worked, after_pass,
+    After, Device, Issued, LayerIssueFault, Passed, Ran, WorkFault, Worked, after_pass,
 };
 pub use crate::submitting::{DrainFault, FlushFault, FlushWhy, Flushed, MAX_MOVES};

@@ -11,12 +11,12 @@ ghost use Rattle.blk_layer.specs.Inside.Submitting.{IsOfBios};
 ghost use Rattle.blk_layer.specs.Inside.Serving.{IssuesTo, IssuesAsTold, IsPassRefusal};
 
 use crate::accounts::Account;
-use crate::layer::{Layer, Named};
+use crate::layer::Named;
 use crate::locked::LockedCore;
-use crate::serving::{Issued, LayerIssueFault, NoneIssued, WorkFault, of_core};
+use crate::serving::{Issued, LayerIssueFault, WorkFault, of_core};
 use crate::submitting::{FlushWhy, first_foreign};
 use blk_bio::{Bio, Request};
-use blk_core::{BackFault, NotIssued};
+use blk_core::{BackFault, NoneIssued, NotIssued};
 use blk_sched::Scheduler;
 use blk_tags::{TagSeat, TagSet};
 use edd_commands::Command;
@@ -287,7 +287,7 @@ impl<L: Named, A: Allocator + Clone> Worker<L, A> {
         Ok(command.id)
     }
 
-    /// Issues the next command to it out of the core, if there is one. It tries one free tag after the other ([`Layer::try_issue`]),
+    /// Issues the next command to it out of the core, if there is one. It tries one free tag after the other (`Core::try_issue`),
     /// beginning after the tag that was issued last, until one isn't used up in the round or the round is full. Without a command it
     /// holds the tags that it held.
     pub(crate) fn next<S: Scheduler<A = A>>(
@@ -309,7 +309,7 @@ impl<L: Named, A: Allocator + Clone> Worker<L, A> {
                 return Ok(None);
             };
             from = tag.saturating_add(1);
-            let why = match Layer::<S, L>::try_issue(&mut core.core, self.hw, tag) {
+            let why = match core.core.try_issue(self.hw, tag) {
                 Ok(command) => {
                     core.next_tag = from;
                     self.hands[usize::from(tag)] = Some(command);

@@ -1,18 +1,16 @@
 //! What a worker does: commands that it is issued and reports, rounds that it ends, and whole passes of these.
 
-ghost use Rattle.std.specs.Prelude.{◌≡◌, ◌≢◌, ◌<◌, ◌↔◌, IsTrue, OnOk, OnErr, IfOk, IfErr, None, Some};
-ghost use Rattle.blk_core.specs.Calls.{Issues};
-ghost use Rattle.blk_layer.specs.Serving.{IsIssueAnswer, AccountsFor, LetsGo, IsInHand, IsTickAnswer, IsDepthAnswer, IsNoneIssued, IsFull, issued_now, RunsMore, IsWorked, IsWorkFault, IsAfterPass};
-ghost use Rattle.blk_layer.specs.Inside.Serving.{IsFullsEnd, ServesOne, IsServeFault, IsPassRefusal, work_name};
+ghost use Rattle.std.specs.Prelude.{◌≡◌, ◌≢◌, OnOk, OnErr, IfOk, IfErr, None, Some};
+ghost use Rattle.blk_layer.specs.Serving.{IsIssueAnswer, AccountsFor, LetsGo, IsInHand, IsTickAnswer, IsDepthAnswer, RunsMore, IsWorked, IsWorkFault, IsAfterPass};
+ghost use Rattle.blk_layer.specs.Inside.Serving.{ServesOne, IsServeFault, IsPassRefusal, work_name};
 
 use crate::layer::{Layer, Named};
 use crate::seats::Worker;
-use blk_bio::{BioId, Request};
-use blk_core::{BackFault, Core, CoreFault, DepthFault, IssueFault, NotIssued, TickFault};
+use blk_bio::BioId;
+use blk_core::{BackFault, CoreFault, DepthFault, IssueFault, NotIssued, TickFault};
 use blk_sched::Scheduler;
-use blk_trace::{Event, MAX_EVENTS};
+use blk_trace::MAX_EVENTS;
 use edd_commands::Command;
-use std::alloc::Allocator;
 use std::sync::Wait;
 use std::sync::atomic::Ordering;
 use std::thread::yield_now;
@@ -53,25 +51,6 @@ pub enum LayerIssueFault {
     /// The tag was issued in this round.
     SlotUsed,
     /// The trace has no places for an Issue and its end.
-    TraceFull,
-    /// Memory ran out.
-    Memory,
-}
-
-/// Why a try issues no command.
-#[derive(Clone, Copy, Debug, PartialEq, Eq)]
-pub enum NoneIssued {
-    /// There is none for the hardware queue.
-    Nothing,
-    /// The tag is not below the depth of this round, which carries more commands under others.
-    TagRange,
-    /// The tag was issued in this round, which carries more commands under others.
-    SlotUsed,
-    /// The round is full, and a command is in flight in it.
-    Full,
-    /// The round was full, and has ended.
-    Ended,
-    /// The trace has no places for an Issue and its end, or for the end of the round.
     TraceFull,
     /// Memory ran out.
     Memory,
@@ -161,34 +140,6 @@ impl<S: Scheduler, L: Named> Layer<S, L> {
         worker.issue(&mut *core, &self.tags)
     }
 
-    /// Issues for a hardware queue under a tag, as `Core::issue` does; but where the tag is used up in its round and that is full,
-    /// ends the round unless a command is in flight in it. A round is full where as many commands were issued in it as it carries.
-    /// The hardware queue and the tag are the setup's.
-    ///
-    /// It waits for nobody: each try of `work` for a command is this one, with the core's lock held, and `work` ends no round
-    /// otherwise.
-    ///
-    /// Nothing is issued, by the first of these that applies: as `TagRange` or `SlotUsed` where the tag is used up in the round, which
-    /// carries more commands; as `Full` or `Ended` where it is used up and the round is full; as `TraceFull` and `Memory` where the core
-    /// issues nothing so, or where the trace has no place for the end of the round, or no memory; and as `Nothing` where the core
-    /// gives no command.
-    pub fn try_issue(core: &mut Core<S>, hw: u8, tag: u16) -> Result<Command, NoneIssued>
-        requires queue { hw < core.old.setup.hw }
-        requires range { tag < core.old.setup.depth }
-        ensures issued { IfOk result (λ command. Issues S.policy.serves S.policy.chooses core.old hw tag (Some command) core.new) }
-        ensures fault { IfErr result (λ why. IsNoneIssued S.policy.serves S.policy.chooses S.policy.told_tick core.old hw tag why core.new) }
-    {
-        match core.issue(hw, tag) {
-            Ok(Some(command)) => Ok(command),
-            Ok(None) => Err(NoneIssued::Nothing),
-            Err(IssueFault::NoQueue) => unreachable!(),
-            Err(IssueFault::TagRange) => Err(end_full(core, NoneIssued::TagRange)),
-            Err(IssueFault::SlotUsed) => Err(end_full(core, NoneIssued::SlotUsed)),
-            Err(IssueFault::TraceFull) => Err(NoneIssued::TraceFull),
-            Err(IssueFault::Memory) => Err(NoneIssued::Memory),
-        }
-    }
-
     /// Reports as done the command in the worker's hands under a tag: the one that the worker was last issued with it. It goes
     /// into the worker's account, and the tag is given back. The seat is one of this layer. Takes no memory.
     ///
@@ -256,7 +207,7 @@ impl<S: Scheduler, L: Named> Layer<S, L> {
     /// Works for the worker's hardware queue, in at most `passes` passes. The seat is one of this layer. A pass drains; then commands are
     /// issued to the worker, one after the other. The device runs each, and under one hold of the core's lock it is reported done, or
     /// requeued where the device was busy, and the next one is issued. A pass ends where an issue finds no command or no tag, and where
-    /// the round is full, which it ends unless a command is in flight ([`Layer::try_issue`]). It has no other bound than the trace, which
+    /// the round is full, which it ends unless a command is in flight (`Core::try_issue`). It has no other bound than the trace, which
     /// has places for fewer Issues than [`MAX_EVENTS`]. After a pass that found nothing to do other threads run first.
     ///
     /// Finished at a pass that began after [`Layer::finish`], moved no request and left none waiting in the core ([`after_pass`]). The
@@ -279,7 +230,23 @@ impl<S: Scheduler, L: Named> Layer<S, L> {
     {
         let before = worker.ran().len();
         for passed in 0..passes {
-            match self.pass(rt, worker, device)? {
+            let finishing = self.finishing.load(Ordering::SeqCst);
+            let moved = match self.drain(rt, worker) {
+                Ok(moved) => moved,
+                Err(fault) => return Err(of_release(fault.why)),
+            };
+            let served = self.serve(rt, worker, device)?;
+            let pending = if finishing {
+                self.core.lock(rt).core.pending()
+            } else {
+                0
+            };
+            match after_pass(Passed {
+                finishing,
+                moved,
+                served,
+                pending,
+            }) {
                 After::Finish => {
                     return Ok(Worked {
                         passes: passed + 1,
@@ -298,39 +265,8 @@ impl<S: Scheduler, L: Named> Layer<S, L> {
         })
     }
 
-    /// Makes one pass of `work`, and answers what comes after it.
-    #[tactic(auto, using(crate::proofs::Running::none_ran, crate::proofs::Running::ran_on, crate::proofs::Running::faulted_on, crate::proofs::Running::refused))]
-    fn pass<R: Wait, D: Device>(
-        &self,
-        rt: &R,
-        worker: &mut Worker<L, S::A>,
-        device: &mut D,
-    ) -> Result<After, WorkFault>
-        requires { worker.old.tag_set ≡ self.now.tag_set }
-        ensures runs { IfOk result (λ _. RunsMore worker.old worker.new) }
-        ensures fault { IfErr result (λ why. IsWorkFault worker.old why worker.new) }
-    {
-        let finishing = self.finishing.load(Ordering::SeqCst);
-        let moved = match self.drain(rt, worker) {
-            Ok(moved) => moved,
-            Err(fault) => return Err(of_release(fault.why)),
-        };
-        let served = self.serve(rt, worker, device)?;
-        let pending = if finishing {
-            self.core.lock(rt).core.pending()
-        } else {
-            0
-        };
-        Ok(after_pass(Passed {
-            finishing,
-            moved,
-            served,
-            pending,
-        }))
-    }
-
-    /// Serves commands until there is none for the worker, and answers how many. There are fewer than [`MAX_EVENTS`], since each is an
-    /// event.
+    /// Serves the commands of a pass until there is none for the worker, and answers how many. There are fewer than [`MAX_EVENTS`], since
+    /// each is an event.
     fn serve<R: Wait, D: Device>(
         &self,
         rt: &R,
@@ -421,46 +357,6 @@ pub(crate) fn of_core(why: IssueFault) -> LayerIssueFault
         IssueFault::TraceFull => LayerIssueFault::TraceFull,
         IssueFault::Memory => LayerIssueFault::Memory,
     }
-}
-
-/// Ends the round if it is full. Answers why nothing is issued under a tag that is used up in it, which is `why` where it carries more.
-fn end_full<S: Scheduler>(core: &mut Core<S>, why: NoneIssued) -> NoneIssued
-    ensures { IsFullsEnd S.policy.told_tick core.old why result core.new }
-{
-    if !is_full(core) {
-        return why;
-    }
-    match core.tick() {
-        Ok(_) => NoneIssued::Ended,
-        Err(TickFault::InFlight(_)) => NoneIssued::Full,
-        Err(TickFault::TraceFull) => NoneIssued::TraceFull,
-        Err(TickFault::Memory) => NoneIssued::Memory,
-    }
-}
-
-/// Whether the current round is full.
-fn is_full<S: Scheduler>(core: &Core<S>) -> bool
-    ensures { IsTrue result ↔ IsFull core.now }
-{
-    let trace = core.trace();
-    trace.depth_now() <= issued_now(trace.events())
-}
-
-/// How many commands were issued in the current round. It looks back over the events to where that began.
-fn issued_now<A: Allocator + Clone>(events: &[Event<Request<A>>]) -> u64
-    ensures { result ≡ issued_now events.now }
-{
-    let mut count = 0;
-    for place in 0..events.len() {
-        let event = &events[events.len() - 1 - place];
-        if event.is_tick() {
-            return count;
-        }
-        if event.issues().is_some() {
-            count += 1;
-        }
-    }
-    count
 }
 
 /// Why a drain ended, as a fault of `work`. The hardware queue is there.

@@ -40,6 +40,4 @@ mod served;
 #[cfg(test)]
 mod told;
 #[cfg(test)]
-mod tried;
-#[cfg(test)]
 mod worked;

@@ -1,12 +1,9 @@
--- How a worker ends a command and a round.
-use Rattle.std.specs.Prelude.{◌≡◌, ◌<◌, ◌⊎◌, ℕ, Option, None, Some}
-use Rattle.blk_trace.specs.Events.{open_count}
+-- How a worker ends a command and is issued the next one.
+use Rattle.std.specs.Prelude.{◌≡◌, ◌⊎◌, ℕ, Option, None, Some}
 use Rattle.blk_core.specs.State.{CoreState}
-use Rattle.blk_sched.specs.Policies.{OfTick, Policy}
-use Rattle.blk_core.specs.Calls.{Ends, Issues}
-use Rattle.blk_core.specs.Faults.{IsTickFault}
-use Rattle.blk_layer.specs.declared.serving.NoneIssued.{NoneIssued}
-use Rattle.blk_layer.specs.Serving.{IsFull, CarriesMore, AccountsFor, LetsGo, IsIssueAnswer}
+use Rattle.blk_sched.specs.Policies.{Policy}
+use Rattle.blk_core.specs.Calls.{Issues}
+use Rattle.blk_layer.specs.Serving.{AccountsFor, LetsGo, IsIssueAnswer}
 use Rattle.blk_core.specs.declared.refusals.CoreFault.{CoreFault}
 use Rattle.blk_layer.specs.declared.serving.WorkFault.{WorkFault}
 use Rattle.blk_layer.specs.declared.serving.WorkFault.TheVariants.{TraceFull, Memory, Repeated}
@@ -14,8 +11,6 @@ use Rattle.blk_layer.specs.Seats.{WorkerSeat}
 use Rattle.blk_layer.specs.declared.serving.Ran.{Ran}
 use Rattle.blk_layer.specs.declared.serving.Ran.TheVariants.{Done, Busy}
 use Rattle.blk_layer.specs.declared.serving.Issued.{Issued}
-use Rattle.blk_core.specs.declared.refusals.TickFault.TheVariants as tick
-use Rattle.blk_layer.specs.declared.serving.NoneIssued.TheVariants as none
 use Rattle.blk_core.specs.declared.refusals.CoreFault.TheVariants as core
 
 -- a command is issued for a hardware queue, under the tag that comes with it
@@ -53,13 +48,3 @@ IsPassRefusal why = (why ≡ TraceFull) ⊎ (why ≡ Memory)
 -- the command wasn't ended, since memory ran out, or it was and there is no next one for this reason
 abbrev pub IsServeFault : WorkerSeat → ℕ → Ran → WorkFault → WorkerSeat → Type 0
 IsServeFault old tag ran why new = ((why ≡ Memory) × (new ≡ old)) ⊎ (IsPassRefusal why × IsEndedAs ran old tag new)
-
--- a tag is used up in a round for the first reason: where the round carries more that reason stays, and a full one ends, or has a command
--- in flight, or can't end
-abbrev pub IsFullsEnd : OfTick → CoreState → NoneIssued → NoneIssued → CoreState → Type 0
-IsFullsEnd told old first why new =
-    ((why ≡ first) × CarriesMore old × (new ≡ old))
-    ⊎ ((why ≡ none.Ended) × IsFull old × Ends told old new)
-    ⊎ ((why ≡ none.Full) × IsFull old × (0 < open_count old.events) × (new ≡ old))
-    ⊎ ((why ≡ none.TraceFull) × IsFull old × IsTickFault old tick.TraceFull × (new ≡ old))
-    ⊎ ((why ≡ none.Memory) × IsFull old × IsTickFault old tick.Memory × (new ≡ old))

@@ -52,26 +52,26 @@ pub invariant_of-core : goal.invariant_of-core
 invariant_of-core g c =
     let locked = c.loop.core in
     let S = g.S.Scheduler in
-    let stays = tried_stays S.policy.serves S.policy.chooses S.policy.told_tick locked.core c.loop.self-inside.hw c.in-Some.tag c.try_issue.new.core c.try_issue.result c.try_issue.ensures.issued c.try_issue.ensures.fault in
+    let stays = tried_stays S.policy.serves S.policy.chooses S.policy.told_tick locked.core c.loop.self-inside.hw c.in-Some.tag c.try_issue.new.self c.try_issue.result c.try_issue.ensures.issued c.try_issue.ensures.fault in
     record {
       named = stays.setup ∙ locked.named;
       counted = locked.counted ∙ sym stays.dones;
       all_out = locked.all_out;
       none = locked.none;
-      ran = ∥∥₁_map locked.ran (tried S.policy g.L.Named.start locked.core c.loop.self-inside.hw c.in-Some.tag c.try_issue.new.core c.try_issue.result c.try_issue.ensures.issued c.try_issue.ensures.fault);
+      ran = ∥∥₁_map locked.ran (tried S.policy g.L.Named.start locked.core c.loop.self-inside.hw c.in-Some.tag c.try_issue.new.self c.try_issue.result c.try_issue.ensures.issued c.try_issue.ensures.fault);
     }
 
 pub invariant_of-core-in-Err-1 : goal.invariant_of-core-in-Err-1
 invariant_of-core-in-Err-1 g c =
     let locked = c.loop.core in
     let S = g.S.Scheduler in
-    let stays = tried_stays S.policy.serves S.policy.chooses S.policy.told_tick locked.core c.loop.self-inside.hw c.in-Some.tag c.try_issue.new.core c.try_issue.result c.try_issue.ensures.issued c.try_issue.ensures.fault in
+    let stays = tried_stays S.policy.serves S.policy.chooses S.policy.told_tick locked.core c.loop.self-inside.hw c.in-Some.tag c.try_issue.new.self c.try_issue.result c.try_issue.ensures.issued c.try_issue.ensures.fault in
     record {
       named = stays.setup ∙ locked.named;
       counted = locked.counted ∙ sym stays.dones;
       all_out = locked.all_out;
       none = locked.none;
-      ran = ∥∥₁_map locked.ran (tried S.policy g.L.Named.start locked.core c.loop.self-inside.hw c.in-Some.tag c.try_issue.new.core c.try_issue.result c.try_issue.ensures.issued c.try_issue.ensures.fault);
+      ran = ∥∥₁_map locked.ran (tried S.policy g.L.Named.start locked.core c.loop.self-inside.hw c.in-Some.tag c.try_issue.new.self c.try_issue.result c.try_issue.ensures.issued c.try_issue.ensures.fault);
     }
 
 pub invariant_of-self-in-Ok : goal.invariant_of-self-in-Ok
@@ -89,7 +89,7 @@ returns-in-Ok-clause-issued g c =
 pub returns-in-Ok-clause-core : goal.returns-in-Ok-clause-core
 returns-in-Ok-clause-core g c =
     let policy = g.S.Scheduler.policy in
-    let issues = λ (k : CoreState) (hw : ℕ). Issues policy.serves policy.chooses k hw c.in-Some.tag (Some c.in-Ok.command) c.try_issue.new.core in
+    let issues = λ (k : CoreState) (hw : ℕ). Issues policy.serves policy.chooses k hw c.in-Some.tag (Some c.in-Ok.command) c.try_issue.new.self in
     subst (λ (hw : ℕ). issues c.args.core.now.core hw) (ap (λ (s : WorkerSeat). s.hw) c.loop.invariant.0.seated)
     (subst (λ (k : CoreState). issues k c.loop.self-inside.hw) c.loop.invariant.1 c.in-Ok.ensures.issued)
 
@@ -119,5 +119,5 @@ pub loop-preserved : goal.loop-preserved
 loop-preserved g c =
     let policy = g.S.Scheduler.policy in (
       tried_on _ _ _ _ _ c.give.new.seat _ _ _ _ _ c.in-Some.tag _ _ c.loop.invariant.0 c.in-Some.ensures.some c.give.ensures c.in-Some.ensures.free,
-      used_up_same policy.serves policy.chooses policy.told_tick c.loop.core.core c.loop.self-inside.hw c.in-Some.tag c.in-Err.why c.try_issue.new.core c.in-Err.ensures.fault c.in-TagRange.is ∙ c.loop.invariant.1,
+      used_up_same policy.serves policy.chooses policy.told_tick c.loop.core.core c.loop.self-inside.hw c.in-Some.tag c.in-Err.why c.try_issue.new.self c.in-Err.ensures.fault c.in-TagRange.is ∙ c.loop.invariant.1,
     )

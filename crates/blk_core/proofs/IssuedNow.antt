@@ -1,10 +1,10 @@
--- Tries in rounds that may be full.
+-- How many commands were issued in the current round, counted from the end back.
 use Rattle.std.proofs.Common.{◌≡◌, ◌∙◌, ◌+◌, ◌-◌, ◌<◌, ℕ, ap, sym, refl, arith, true, false, List, [], ◌∷◌, ◌++◌, take, length, get_or}
 use Rattle.std.proofs.lemmas.List.{take_more}
 use Rattle.std.proofs.lemmas.List.Sums.{fold-append}
 use Rattle.blk_trace.specs.Happened.{Happened}
 use Rattle.blk_trace.specs.Kinds.{is_tick, is_issue}
-use Rattle.blk_layer.specs.Serving.{issued_now, issued_after}
+use Rattle.blk_core.specs.Tries.{issued_now, issued_after}
 
 one_more : (es : List Happened) (e : Happened) → issued_now (es ++ e ∷ []) ≡ issued_after (issued_now es) e
 unfolding issued_now

@@ -1,6 +1,6 @@
 use Rattle.std.proofs.Common.{◌≡◌, ◌+◌, ◌≤◌, ℕ, take, length}
-use Rattle.blk_layer.specs.Serving.{issued_now}
-use Rattle.blk_layer.proofs.serving.issued_now.Given as goal
+use Rattle.blk_core.specs.Tries.{issued_now}
+use Rattle.blk_core.proofs.trying.issued_now.Given as goal
 
 abbrev pub invariant-loop-place : goal.invariant-loop-place
 invariant-loop-place g l = (l.count ≤ l.place)

@@ -1,8 +1,8 @@
 use Rattle.std.proofs.Common.{◌∙◌, ◌+◌, ℕ, sym, ap, subst, arith}
 use Rattle.std.specs.Prelude.{is_some}
-use Rattle.blk_layer.proofs.Trying.{Counts, at_tick, at_issue, at_other, at_end}
-use Rattle.blk_layer.proofs.serving.issued_now.Goals as goal
-use Rattle.blk_layer.proofs.serving.issued_now.Goals.{then-is_some, else-is_some}
+use Rattle.blk_core.proofs.IssuedNow.{Counts, at_tick, at_issue, at_other, at_end}
+use Rattle.blk_core.proofs.trying.issued_now.Goals as goal
+use Rattle.blk_core.proofs.trying.issued_now.Goals.{then-is_some, else-is_some}
 
 pub returns-then-is_tick : goal.returns-then-is_tick
 returns-then-is_tick g c =

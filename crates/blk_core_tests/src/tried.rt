@@ -1,26 +1,23 @@
 //! Tries for a command, which end a round that is full.
 
-use crate::given::{alone, bio, core, limits, setup};
-use blk_core::Core;
-use blk_layer::{Layer, NoneIssued};
+use crate::given::{alone, bio, in_order, setup};
+use blk_bio::Dir;
+use blk_core::{Core, NoneIssued};
 use blk_none::NoneSched;
 use std::alloc::Global;
-use std::marker::Brand;
 use std::process::Abort;
-
-type Plain = Layer<NoneSched, Brand>;
 
 /// A read enters, of a serial number and a first sector.
 fn enters(rt: &impl Abort, alloc: Global, core: &mut Core<NoneSched>, serial: u64, first: u64) {
     let limits = core.trace().setup().limits();
-    let request = alone(rt, alloc, bio(rt, 0, serial, first));
+    let request = alone(rt, alloc, bio(rt, serial, Dir::Read, first, 8));
     assert!(rt; request.within(&limits));
     assert!(rt; core.release(request, 0).is_ok());
 }
 
 /// A core of this number of tags, in which two requests wait.
 fn two_wait(rt: &impl Abort, alloc: Global, depth: u64) -> Core<NoneSched> {
-    let mut core = core(rt, alloc, setup(rt, depth, 1, limits(rt)));
+    let mut core = in_order(rt, &alloc, setup(rt, depth, 1, 0));
     enters(rt, alloc, &mut core, 0, 0);
     enters(rt, alloc, &mut core, 1, 100);
     core
@@ -30,7 +27,7 @@ fn two_wait(rt: &impl Abort, alloc: Global, depth: u64) -> Core<NoneSched> {
 fn taken(rt: &impl Abort, core: &mut Core<NoneSched>, tag: u16) -> (Result<u64, NoneIssued>, u64) {
     assert!(rt; u64::from(tag) < core.trace().setup().depth());
     assert!(rt; core.trace().setup().hw() > 0);
-    let answer = match Plain::try_issue(core, 0, tag) {
+    let answer = match core.try_issue(0, tag) {
         Ok(command) => Ok(command.id),
         Err(why) => Err(why),
     };
