@@ -17,11 +17,12 @@ ghost use Rattle.blk_tags.specs.Inside.{took, gave};
 
 use crate::held::Held;
 use atomic_table::{Join, Play, Seat, Split, Table, TableRule};
+use edd_commands::MAX_DEPTH;
 use std::alloc::{AllocError, Allocator, Global};
 use std::marker::Model;
 
-/// The most tags of a set: as many as a round carries commands at most, `MAX_DEPTH` of `edd_commands`, on which this crate doesn't stand.
-pub const MAX_TAG_DEPTH: u64 = 256;
+/// The most tags of a set: as many as a round carries commands at most. The four words have no room for more.
+pub const MAX_TAG_DEPTH: u64 = MAX_DEPTH;
 
 /// Why a set is not made, in the order in which the reasons are looked for.
 #[derive(Clone, Copy, Debug, PartialEq, Eq)]
