@@ -12,7 +12,7 @@ use Rattle.blk_settings.specs.declared.Settled.{Settled}
 use Rattle.blk_settings.specs.declared.fault.LoadFault.{LoadFault}
 use Rattle.blk_settings.specs.declared.fault.LoadFault.TheVariants as fault
 use Rattle.blk_settings.specs.declared.numbers.Load.{Load}
-use Rattle.blk_settings.specs.declared.settling.TheConstants.{READ_EXPIRE, WRITE_EXPIRE, MAX_REQUEST_SECTORS}
+use Rattle.blk_settings.specs.declared.settling.TheConstants.{LOAD_READ_EXPIRE, LOAD_WRITE_EXPIRE, LOAD_MAX_SECTORS}
 
 -- what the layer of a load is set up for: the tags of the load, and a hardware queue for each submitter or each worker, whichever are
 -- fewer
@@ -20,9 +20,9 @@ abbrev pub load_setup : Load → Setup
 load_setup l = record {
   depth = l.depth;
   hw = min l.submitters l.workers;
-  read_expire = READ_EXPIRE;
-  write_expire = WRITE_EXPIRE;
-  limits = record { max_sectors = MAX_REQUEST_SECTORS; max_segments = MAX_SEGMENTS };
+  read_expire = LOAD_READ_EXPIRE;
+  write_expire = LOAD_WRITE_EXPIRE;
+  limits = record { max_sectors = LOAD_MAX_SECTORS; max_segments = MAX_SEGMENTS };
 }
 
 -- the bios in the commands of a trace

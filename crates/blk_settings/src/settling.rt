@@ -9,14 +9,14 @@ use crate::{Load, LoadFault, Settled};
 use blk_bio::{Limits, MAX_SEGMENTS};
 use blk_trace::{Setup, Trace};
 
-/// After how many rounds a read is due.
-pub const READ_EXPIRE: u64 = 5;
+/// After how many rounds a read of a load is due.
+pub const LOAD_READ_EXPIRE: u64 = 5;
 
-/// After how many rounds a write is due.
-pub const WRITE_EXPIRE: u64 = 50;
+/// After how many rounds a write of a load is due.
+pub const LOAD_WRITE_EXPIRE: u64 = 50;
 
-/// How many sectors a request of several bios may have. It may have as many bios as any, [`MAX_SEGMENTS`].
-pub const MAX_REQUEST_SECTORS: u64 = 256;
+/// How many sectors a request of several bios of a load may have. It may have as many bios as any, [`MAX_SEGMENTS`].
+pub const LOAD_MAX_SECTORS: u64 = 256;
 
 impl Load {
     /// How many hardware queues its layer has: one for each submitter or each worker, whichever are fewer, so 1 to 16.
@@ -34,11 +34,11 @@ impl Load {
         requires { IsLoad self.now }
         ensures { result ≡ load_setup self.now }
     {
-        let Ok(limits) = Limits::new(MAX_REQUEST_SECTORS, MAX_SEGMENTS) else {
+        let Ok(limits) = Limits::new(LOAD_MAX_SECTORS, MAX_SEGMENTS) else {
             unreachable!()
         };
         let hw = self.hw_queues() as u8;
-        match Setup::new(self.depth, hw, READ_EXPIRE, WRITE_EXPIRE, limits) {
+        match Setup::new(self.depth, hw, LOAD_READ_EXPIRE, LOAD_WRITE_EXPIRE, limits) {
             Ok(setup) => setup,
             Err(_) => unreachable!(),
         }
