@@ -22,12 +22,11 @@ pub data RangeOf : Type 0 where
   UpTo : (most : ℕ) → (default : List ℕ) → (list : ListOf) → RangeOf
   Switch : (turned : Bool) → RangeOf
 
--- a setting: its name, the option that sets it, what it may be, and why there is no scheduler where it is 0, if there is none
+-- a setting: its name, the option that sets it, and what it may be
 pub record SettingOf : Type 0 where
   pub name : List ℕ
   pub option : List ℕ
   pub range : RangeOf
-  pub zero : Option SchedFault
 
 -- a scheduler's row: which it is, its name, the flag that adds it to those that are compared, if it isn't always, its place in the order of
 -- trials, and its settings in the order in which they are written
@@ -38,11 +37,12 @@ pub record RowOf : Type 0 where
   pub tried : ℕ
   pub settings : List SettingOf
 
--- a scheduler: its row and its policy; and by the values of its settings what it means before it has any request, and what it keeps then at
--- a depth
+-- a scheduler: its row and its policy; and by the values of its settings what is wrong with them, what it means before it has any request,
+-- and what it keeps then at a depth
 pub record SchedOf : Type 1 where
   pub row : RowOf
   pub policy : Policy
+  pub fault : List ℕ → Option SchedFault
   pub meaning : List ℕ → Meaning
   pub kept : List ℕ → ℕ → List ℕ
 
@@ -67,7 +67,7 @@ setting_range_of (range.UpTo most default list) = UpTo most default.now (tried_l
 setting_range_of (range.Switch turned) = Switch turned
 
 abbrev pub setting_row_of : SettingRow → SettingOf
-setting_row_of s = record { name = s.name.now; option = s.option.now; range = setting_range_of s.range; zero = s.zero }
+setting_row_of s = record { name = s.name.now; option = s.option.now; range = setting_range_of s.range }
 
 abbrev pub sched_row_of : SchedRow → RowOf
 sched_row_of r = record {

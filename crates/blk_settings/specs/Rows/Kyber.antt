@@ -1,5 +1,5 @@
 -- kyber: by turns of reads and writes, within limits on what is in flight.
-use Rattle.std.specs.Prelude.{ℕ, List, [], ◌∷◌, None, Some, true, codes}
+use Rattle.std.specs.Prelude.{ℕ, ◌==◌, ◌||◌, List, [], ◌∷◌, None, Some, true, codes, if◌then◌else◌}
 use Rattle.blk_sched.specs.Meaning.{at_start}
 use Rattle.blk_kyber.specs.State.{state_at_first, numbers_of, kyber_policy}
 use Rattle.blk_kyber.specs.declared.Targets.{Targets}
@@ -29,17 +29,16 @@ kyber_sched = record {
           name = codes "read_target";
           option = codes "read-target";
           range = target (codes "read-target") (codes "2") (codes "1,2,5,10,20,50,100");
-          zero = Some setting.ZeroTarget;
         }
         ∷ record {
           name = codes "write_target";
           option = codes "write-target";
           range = target (codes "write-target") (codes "10") (codes "1,2,5,10,20,50,100");
-          zero = Some setting.ZeroTarget;
         }
         ∷ [];
   };
   policy = kyber_policy;
+  fault = λ v. if (targets_of v).read == 0 || (targets_of v).write == 0 then Some setting.ZeroTarget else None;
   meaning = λ v. at_start true;
   kept = λ v depth. numbers_of (state_at_first (targets_of v) depth);
 }
