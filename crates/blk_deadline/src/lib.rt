@@ -29,8 +29,8 @@ pub struct Tunables {
 }
 
 impl Tunables {
-    /// Whether a batch is of no request: there is no scheduler of such tunables.
-    fn has_zero_batch(&self) -> bool
+    /// Whether a batch is of no request: there is no scheduler of such tunables. [`Deadline::new`] asks this, and so may whoever makes none yet.
+    pub fn has_zero_batch(&self) -> bool
         ensures { IsTrue result ↔ (self.now.fifo_batch ≡ 0) }
     {
         self.fifo_batch == 0

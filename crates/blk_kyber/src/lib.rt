@@ -35,8 +35,8 @@ pub struct Targets {
 }
 
 impl Targets {
-    /// Whether a request may wait for no round: there is no scheduler of such targets.
-    fn has_zero_target(&self) -> bool
+    /// Whether a request may wait for no round: there is no scheduler of such targets. [`Kyber::new`] asks this, and so may whoever makes none yet.
+    pub fn has_zero_target(&self) -> bool
         ensures { IsTrue result ↔ ((self.now.read ≡ 0) ⊎ (self.now.write ≡ 0)) }
     {
         self.read == 0 || self.write == 0

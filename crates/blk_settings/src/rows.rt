@@ -3,6 +3,7 @@
 //! the lists of them all.
 
 ghost use Rattle.std.specs.Prelude.{◌≡◌, ◌++◌, ◌≤◌, ◌<◌, IfOk, OnOk, map, length};
+ghost use Rattle.blk_settings.specs.Made.{fault_of};
 ghost use Rattle.blk_settings.specs.Row.{sched_row_of};
 ghost use Rattle.blk_settings.specs.Rows.{row_for, sched_table, sched_place, kinds_at, tried_kinds};
 
@@ -11,7 +12,7 @@ pub mod earliest;
 pub mod kyber;
 pub mod none;
 
-use crate::sched::SchedFault;
+use crate::sched::{Sched, SchedFault};
 use crate::setting::MAX_SETTINGS;
 use std::alloc::{AllocError, Global};
 
@@ -35,8 +36,6 @@ pub struct ListRow {
     pub default: &'static str,
     /// What help says of the option.
     pub help: &'static str,
-    /// What the program says of a text that is no such list.
-    pub fault: &'static str,
 }
 
 /// What a setting may be.
@@ -61,8 +60,6 @@ pub struct SettingRow {
     pub help: &'static str,
     /// What it may be.
     pub range: SettingRange,
-    /// Why there is no scheduler where it is 0, if there is none.
-    pub zero: Option<SchedFault>,
 }
 
 /// The flag that adds a scheduler to those that are compared.
@@ -153,6 +150,19 @@ pub(crate) fn tried_kinds(alloc: Global) -> Result<Vec<SchedKind>, AllocError>
         push_tried(&mut kinds, place)?;
     }
     Ok(kinds)
+}
+
+impl Sched {
+    /// What is wrong with its settings, by the check of its policy. Nothing else is looked at, so it is never `Memory`.
+    pub fn fault(&self) -> Option<SchedFault>
+        ensures { result ≡ fault_of self.now }
+    {
+        match self.kind {
+            SchedKind::None | SchedKind::Earliest => None,
+            SchedKind::Deadline => deadline::fault(self),
+            SchedKind::Kyber => kyber::fault(self),
+        }
+    }
 }
 
 impl SchedKind {

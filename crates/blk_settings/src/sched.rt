@@ -3,7 +3,6 @@
 ghost use Rattle.std.specs.Prelude.{◌≡◌, ◌<◌, IfOk};
 ghost use Rattle.blk_settings.specs.Row.{setting_row_of, short_at};
 ghost use Rattle.blk_settings.specs.Scheds.{name_of, settings_of, as_setting, in_turn};
-ghost use Rattle.blk_settings.specs.Made.{fault_of, zero_fault};
 ghost use Rattle.blk_settings.specs.Names.{sched_fault_name};
 
 use crate::given::MAX_SHORT;
@@ -52,13 +51,6 @@ impl SettingRow {
             SettingRange::Switch(_) => Setting::switch(self.name, value == 1),
         }
     }
-
-    /// What is wrong with this value.
-    fn fault(&self, value: u64) -> Option<SchedFault>
-        ensures { result ≡ zero_fault (setting_row_of self.now) value }
-    {
-        if value == 0 { self.zero } else { None }
-    }
 }
 
 impl Sched {
@@ -87,19 +79,6 @@ impl Sched {
         ensures { result ≡ short_at place self.now.values }
     {
         self.values[place].min(MAX_SHORT) as u16
-    }
-
-    /// What is wrong with the first of its settings that is wrong. Nothing else is looked at, so it is never `Memory`.
-    pub fn fault(&self) -> Option<SchedFault>
-        ensures { result ≡ fault_of self.now }
-    {
-        let rows = self.kind.row().settings;
-        for i in 0..rows.len() {
-            if let Some(fault) = rows[i].fault(self.values[i]) {
-                return Some(fault);
-            }
-        }
-        None
     }
 }
 

@@ -1,9 +1,10 @@
 -- The options of the subcommands, a row for each.
 use Rattle.std.specs.Prelude.{codes}
+use Rattle.edd_commands.specs.declared.TheConstants.{MAX_COMMANDS}
 use Rattle.edd_commands.specs.declared.steps.TheConstants.{MAX_DEPTH}
 use Rattle.blk_settings.specs.declared.numbers.TheConstants.{MAX_LOAD_SUBMITTERS, MAX_LOAD_WORKERS, MAX_LOAD_BIOS, MAX_LOAD_DEPTH, MAX_LOAD_SERVICE}
 use Rattle.blk_settings.specs.Options.{Flag, Number, MaybeNumber, Words, MaybeWords, OptionOf}
-use Rattle.blk_words.specs.declared.table.TheConstants.{MAX_BUSY, MAX_FIRST, MAX_TOP, MAX_THREADS}
+use Rattle.blk_words.specs.declared.table.TheConstants.{MAX_BUSY, MAX_TOP, MAX_THREADS}
 
 -- flags of several subcommands: to write JSON, to read or write a script, to read or write a trace
 abbrev pub json_option : OptionOf
@@ -46,7 +47,7 @@ abbrev pub skip_option : OptionOf
 skip_option = record { name = codes "skip"; kind = Words (codes "0s") }
 
 abbrev pub first_option : OptionOf
-first_option = record { name = codes "first"; kind = MaybeNumber 1 MAX_FIRST }
+first_option = record { name = codes "first"; kind = MaybeNumber 1 MAX_COMMANDS }
 
 abbrev pub table_option : OptionOf
 table_option = record { name = codes "table"; kind = Flag }

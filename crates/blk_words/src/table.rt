@@ -10,10 +10,7 @@ use blk_settings::options::{OptionRow, SCHED, Takes};
 use edd_commands::{MAX_COMMANDS, MAX_DEPTH};
 
 /// The greatest number of `--busy`.
-pub const MAX_BUSY: u64 = 1_000_000;
-
-/// The greatest number of `--first`: a schedule has no more commands.
-pub const MAX_FIRST: u64 = MAX_COMMANDS;
+const MAX_BUSY: u64 = 1_000_000;
 
 /// The greatest number of `--top`: no trial has more rows.
 pub const MAX_TOP: u64 = 1_000_000;
@@ -227,7 +224,7 @@ pub static OTHER_COMMANDS: [CommandRow; 6] = [
             }),
             OptionGroup::Own(OptionRow {
                 name: option_names::FIRST,
-                takes: Takes::Maybe(1, MAX_FIRST),
+                takes: Takes::Maybe(1, MAX_COMMANDS),
                 help: "Takes only so many requests, those that went out first; without it, all",
             }),
             OptionGroup::Own(OptionRow {

@@ -1,9 +1,9 @@
 -- deadline: by sectors within a batch, and by due rounds between batches.
-use Rattle.std.specs.Prelude.{ℕ, List, [], ◌∷◌, None, Some, false, codes}
+use Rattle.std.specs.Prelude.{ℕ, ◌==◌, List, [], ◌∷◌, None, Some, false, codes, if◌then◌else◌}
 use Rattle.blk_sched.specs.Meaning.{at_start}
 use Rattle.blk_deadline.specs.Choice.{deadline_policy, deadline_kept}
 use Rattle.blk_deadline.specs.declared.Tunables.{Tunables}
-use Rattle.blk_settings.specs.Row.{SchedOf, Switch, short_range, short_at, is_on, value_at}
+use Rattle.blk_settings.specs.Row.{SchedOf, Short, Switch, short_at, is_on, value_at}
 use Rattle.blk_settings.specs.declared.rows.SchedKind.TheVariants as kind
 use Rattle.blk_settings.specs.declared.sched.SchedFault.TheVariants as setting
 
@@ -23,19 +23,18 @@ deadline_sched = record {
         record {
           name = codes "fifo_batch";
           option = codes "fifo-batch";
-          range = short_range (codes "fifo-batch") (codes "16") (codes "1,2,4,8,16,32,64");
-          zero = Some setting.ZeroBatch;
+          range = Short (codes "16") (codes "1,2,4,8,16,32,64");
         }
         ∷ record {
           name = codes "writes_starved";
           option = codes "writes-starved";
-          range = short_range (codes "writes-starved") (codes "2") (codes "0,1,2,4,8");
-          zero = None;
+          range = Short (codes "2") (codes "0,1,2,4,8");
         }
-        ∷ record { name = codes "front_merges"; option = codes "no-front-merges"; range = Switch false; zero = None }
+        ∷ record { name = codes "front_merges"; option = codes "no-front-merges"; range = Switch false }
         ∷ [];
   };
   policy = deadline_policy;
+  fault = λ v. if (deadline_tunables v).fifo_batch == 0 then Some setting.ZeroBatch else None;
   meaning = λ v. at_start (deadline_tunables v).front_merges;
   kept = λ v depth. deadline_kept (record { last = None; batching = 0; starved = 0 }) (deadline_tunables v);
 }

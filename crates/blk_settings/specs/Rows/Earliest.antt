@@ -17,9 +17,10 @@ earliest_sched = record {
     name = codes "earliest";
     flag = Some (codes "earliest");
     tried = 1;
-    settings = record { name = codes "late_last"; option = codes "late-last"; range = Switch true; zero = None } ∷ [];
+    settings = record { name = codes "late_last"; option = codes "late-last"; range = Switch true } ∷ [];
   };
   policy = earliest_policy;
+  fault = λ v. None;
   meaning = λ v. at_start true;
   kept = λ v depth. earliest_kept (is_late_last v);
 }

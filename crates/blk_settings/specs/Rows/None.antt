@@ -10,6 +10,7 @@ abbrev pub none_sched : SchedOf
 none_sched = record {
   row = record { kind = kind.None; name = codes "none"; flag = None; tried = 0; settings = [] };
   policy = none_policy;
+  fault = λ v. None;
   meaning = λ v. at_start true;
   kept = λ v depth. [];
 }

@@ -2,7 +2,8 @@
 
 ghost use Rattle.std.specs.Prelude.{◌≡◌, IfOk, IfErr};
 ghost use Rattle.blk_deadline.specs.Shown.{meaning_of, kept_in};
-ghost use Rattle.blk_settings.specs.Made.{IsUnmade, IsStart};
+ghost use Rattle.blk_settings.specs.Made.{fault_of, IsUnmade, IsStart};
+ghost use Rattle.blk_settings.specs.Rows.Deadline.{deadline_tunables};
 
 use crate::rows::{ListRow, SchedKind, SchedRow, SettingRange, SettingRow};
 use crate::sched::{Sched, SchedFault};
@@ -25,10 +26,8 @@ pub(crate) const ROW: SchedRow = SchedRow {
                 ListRow {
                     default: "1,2,4,8,16,32,64",
                     help: "Under deadline, how many requests go in one batch: numbers with commas between",
-                    fault: "--fifo-batch takes 1 to 64 numbers of 0 to 65535 with commas between, each once",
                 },
             ),
-            zero: Some(SchedFault::ZeroBatch),
         },
         SettingRow {
             name: "writes_starved",
@@ -39,20 +38,39 @@ pub(crate) const ROW: SchedRow = SchedRow {
                 ListRow {
                     default: "0,1,2,4,8",
                     help: "Under deadline, how often reads go first while writes wait: numbers with commas between",
-                    fault: "--writes-starved takes 1 to 64 numbers of 0 to 65535 with commas between, each once",
                 },
             ),
-            zero: None,
         },
         SettingRow {
             name: "front_merges",
             option: "no-front-merges",
             help: "Under deadline, lets no newcomer join at the front",
             range: SettingRange::Switch(false),
-            zero: None,
         },
     ],
 };
+
+/// What it is made of.
+fn tunables(sched: &Sched) -> Tunables
+    ensures { result ≡ deadline_tunables sched.now.values }
+{
+    Tunables {
+        fifo_batch: sched.short_at(0),
+        writes_starved: sched.short_at(1),
+        front_merges: sched.values[2] == 1,
+    }
+}
+
+/// What is wrong with settings of its kind.
+pub(crate) fn fault(sched: &Sched) -> Option<SchedFault>
+    requires { sched.now.kind ≡ SchedKind.Deadline }
+    ensures { result ≡ fault_of sched.now }
+{
+    if tunables(sched).has_zero_batch() {
+        return Some(SchedFault::ZeroBatch);
+    }
+    None
+}
 
 /// One of settings of its kind before anything waits.
 pub fn make(alloc: Global, sched: Sched, _depth: u64) -> Result<Deadline, SchedFault>
@@ -60,12 +78,7 @@ pub fn make(alloc: Global, sched: Sched, _depth: u64) -> Result<Deadline, SchedF
     ensures start { IfOk result (λ s. IsStart sched _depth (meaning_of s) (kept_in s)) }
     ensures unmade { IfErr result (IsUnmade sched) }
 {
-    let tunables = Tunables {
-        fifo_batch: sched.short_at(0),
-        writes_starved: sched.short_at(1),
-        front_merges: sched.values[2] == 1,
-    };
-    match Deadline::new(alloc, tunables) {
+    match Deadline::new(alloc, tunables(&sched)) {
         Ok(scheduler) => Ok(scheduler),
         Err(DeadlineFault::ZeroBatch) => Err(SchedFault::ZeroBatch),
         Err(DeadlineFault::Memory) => Err(SchedFault::Memory),

@@ -24,7 +24,6 @@ pub(crate) const ROW: SchedRow = SchedRow {
         option: "late-last",
         help: "Under earliest, lets what is late already wait for what can be on time",
         range: SettingRange::Switch(true),
-        zero: None,
     }],
 };
 

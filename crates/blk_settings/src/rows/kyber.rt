@@ -3,7 +3,8 @@
 ghost use Rattle.std.specs.Prelude.{◌≡◌, ◌≤◌, IfOk, IfErr};
 ghost use Rattle.blk_kyber.specs.Shown.{meaning_of, state_of};
 ghost use Rattle.blk_kyber.specs.State.{numbers_of};
-ghost use Rattle.blk_settings.specs.Made.{IsUnmade, IsStart};
+ghost use Rattle.blk_settings.specs.Made.{fault_of, IsUnmade, IsStart};
+ghost use Rattle.blk_settings.specs.Rows.Kyber.{targets_of};
 
 use crate::rows::{ListRow, SchedKind, SchedRow, SettingRange, SettingRow};
 use crate::sched::{Sched, SchedFault};
@@ -12,7 +13,7 @@ use blk_sched::MAX_OPEN;
 use std::alloc::Global;
 
 /// The greatest target, in rounds.
-pub const MAX_TARGET: u64 = 1_000_000;
+const MAX_TARGET: u64 = 1_000_000;
 
 /// Its row.
 pub(crate) const ROW: SchedRow = SchedRow {
@@ -31,10 +32,8 @@ pub(crate) const ROW: SchedRow = SchedRow {
                 ListRow {
                     default: "1,2,5,10,20,50,100",
                     help: "Under kyber, how many rounds a read may wait: numbers with commas between",
-                    fault: "--read-target takes 1 to 64 numbers of 0 to 1000000 with commas between, each once",
                 },
             ),
-            zero: Some(SchedFault::ZeroTarget),
         },
         SettingRow {
             name: "write_target",
@@ -46,13 +45,32 @@ pub(crate) const ROW: SchedRow = SchedRow {
                 ListRow {
                     default: "1,2,5,10,20,50,100",
                     help: "Under kyber, how many rounds a write may wait: numbers with commas between",
-                    fault: "--write-target takes 1 to 64 numbers of 0 to 1000000 with commas between, each once",
                 },
             ),
-            zero: Some(SchedFault::ZeroTarget),
         },
     ],
 };
+
+/// What it is made of.
+fn targets(sched: &Sched) -> Targets
+    ensures { result ≡ targets_of sched.now.values }
+{
+    Targets {
+        read: sched.values[0],
+        write: sched.values[1],
+    }
+}
+
+/// What is wrong with settings of its kind.
+pub(crate) fn fault(sched: &Sched) -> Option<SchedFault>
+    requires { sched.now.kind ≡ SchedKind.Kyber }
+    ensures { result ≡ fault_of sched.now }
+{
+    if targets(sched).has_zero_target() {
+        return Some(SchedFault::ZeroTarget);
+    }
+    None
+}
 
 /// One of settings of its kind before anything waits, with both limits at the depth.
 pub fn make(alloc: Global, sched: Sched, depth: u64) -> Result<Kyber, SchedFault>
@@ -62,11 +80,7 @@ pub fn make(alloc: Global, sched: Sched, depth: u64) -> Result<Kyber, SchedFault
     ensures start { IfOk result (λ s. IsStart sched depth (meaning_of s) (numbers_of (state_of s))) }
     ensures unmade { IfErr result (IsUnmade sched) }
 {
-    let targets = Targets {
-        read: sched.values[0],
-        write: sched.values[1],
-    };
-    match Kyber::new(alloc, targets, depth) {
+    match Kyber::new(alloc, targets(&sched), depth) {
         Ok(scheduler) => Ok(scheduler),
         Err(KyberFault::ZeroTarget) => Err(SchedFault::ZeroTarget),
         Err(KyberFault::Memory) => Err(SchedFault::Memory),
