@@ -6,7 +6,7 @@ ghost use Rattle.blk_explain.specs.declared.forms.TextForm.{TextForm as AForm};
 
 use crate::counts::Counted;
 use crate::kinds::RecordKind;
-use crate::names::Name;
+use crate::phrases::Phrase;
 use crate::words::Words;
 
 /// The form of a text.
@@ -32,7 +32,7 @@ pub enum TextForm {
 #[derive(Clone, Copy)]
 pub struct FormRow {
     /// The subcommands that take it.
-    pub takers: Name,
+    pub takers: Phrase,
     /// The kind of its title.
     pub title: RecordKind,
     /// That of its second record.
@@ -44,38 +44,38 @@ pub struct FormRow {
     /// The words of its later records.
     pub words: Words,
     /// What is wanted where each number lies in its own range.
-    pub range: Name,
+    pub range: Phrase,
     /// How many records are announced.
     pub counted: Counted,
 }
 
 /// The row of blk-commands texts.
 const COMMANDS_FORM: FormRow = FormRow {
-    takers: Name::TakeCommands,
+    takers: Phrase::TakeCommands,
     title: RecordKind::CommandsTitle,
     second: RecordKind::Command,
     kinds: [RecordKind::Command; 9],
     item: RecordKind::Command,
     words: Words::Nothing,
-    range: Name::EachInRange,
+    range: Phrase::EachInRange,
     counted: Counted::Nothing,
 };
 
 /// The row of blk-certificate texts.
 const CERTIFICATE_FORM: FormRow = FormRow {
-    takers: Name::TakeCertificates,
+    takers: Phrase::TakeCertificates,
     title: RecordKind::CertificateTitle,
     second: RecordKind::Bound,
     kinds: [RecordKind::Served; 9],
     item: RecordKind::Served,
     words: Words::Nothing,
-    range: Name::EachInRange,
+    range: Phrase::EachInRange,
     counted: Counted::Commands(2),
 };
 
 /// The row of blk-met texts.
 const ON_TIME_FORM: FormRow = FormRow {
-    takers: Name::TakeCertificates,
+    takers: Phrase::TakeCertificates,
     title: RecordKind::OnTimeTitle,
     second: RecordKind::OnTime,
     kinds: [
@@ -91,37 +91,37 @@ const ON_TIME_FORM: FormRow = FormRow {
     ],
     item: RecordKind::Served,
     words: Words::One(RecordKind::Window),
-    range: Name::EachInRange,
+    range: Phrase::EachInRange,
     counted: Counted::Windows,
 };
 
 /// The row of blk-schedule texts.
 const SCHEDULE_FORM: FormRow = FormRow {
-    takers: Name::TakeSchedules,
+    takers: Phrase::TakeSchedules,
     title: RecordKind::ScheduleTitle,
     second: RecordKind::Served,
     kinds: [RecordKind::Served; 9],
     item: RecordKind::Served,
     words: Words::Nothing,
-    range: Name::EachInRange,
+    range: Phrase::EachInRange,
     counted: Counted::Commands(1),
 };
 
 /// The row of blk-capture texts.
 const CAPTURE_FORM: FormRow = FormRow {
-    takers: Name::TakeCaptures,
+    takers: Phrase::TakeCaptures,
     title: RecordKind::CaptureTitle,
     second: RecordKind::Capture,
     kinds: [RecordKind::Capture; 9],
     item: RecordKind::Capture,
     words: Words::Nothing,
-    range: Name::EachInRange,
+    range: Phrase::EachInRange,
     counted: Counted::Nothing,
 };
 
 /// The row of blk-script texts.
 const SCRIPT_FORM: FormRow = FormRow {
-    takers: Name::TakeScripts,
+    takers: Phrase::TakeScripts,
     title: RecordKind::ScriptTitle,
     second: RecordKind::Setup,
     kinds: [
@@ -137,13 +137,13 @@ const SCRIPT_FORM: FormRow = FormRow {
     ],
     item: RecordKind::Step,
     words: Words::Steps,
-    range: Name::EnoughSubmitters,
+    range: Phrase::EnoughSubmitters,
     counted: Counted::Nothing,
 };
 
 /// The row of blk-trace texts.
 const TRACE_FORM: FormRow = FormRow {
-    takers: Name::TakeTraces,
+    takers: Phrase::TakeTraces,
     title: RecordKind::TraceTitle,
     second: RecordKind::Setup,
     kinds: [
@@ -159,7 +159,7 @@ const TRACE_FORM: FormRow = FormRow {
     ],
     item: RecordKind::Event,
     words: Words::Events,
-    range: Name::EachInRange,
+    range: Phrase::EachInRange,
     counted: Counted::Events,
 };
 
