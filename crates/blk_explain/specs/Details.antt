@@ -19,7 +19,7 @@ use Rattle.blk_explain.specs.Phrases.{phrase_text}
 use Rattle.blk_explain.specs.Fields.{field_name, want_of}
 use Rattle.blk_explain.specs.Kinds.{record_row, kind_word, slot_at, field_at}
 use Rattle.blk_explain.specs.Words.{words_text}
-use Rattle.blk_explain.specs.Forms.{IsRecordKind}
+use Rattle.blk_explain.specs.Forms.{offered_kinds, IsRecordKind}
 use Rattle.blk_explain.specs.declared.details.TheConstants.{MAX_SHOWN}
 use Rattle.blk_explain.specs.declared.fields.Allowed.{Allowed}
 use Rattle.blk_explain.specs.declared.fields.Allowed.TheVariants as allowed
@@ -198,7 +198,7 @@ why_wanted form why.Memory = codes "more memory"
 
 -- the words that a record of this number may begin with
 abbrev pub words_at : FormRow → ℕ → List ℕ
-words_at form at = if at == 2 then kind_word form.second else words_text form.words
+words_at form at = if at == 2 then kind_word form.second else words_text (offered_kinds form)
 
 -- the fault by its name, and what is wanted
 abbrev pub fault_wanted : FormRow → Why → List ℕ
