@@ -26,7 +26,7 @@ FORMATS = TOP / "docs" / "FORMATS.md"
 HELP = TOP / "tools" / "help"
 PROGRAM = TOP / "crates" / "blk" / "out" / "blk"
 # The phrases of `explain`: `TakeTraces` lists the subcommands that take a trace.
-PHRASES = TOP / "crates" / "blk_explain" / "src" / "names.rt"
+PHRASES = TOP / "crates" / "blk_explain" / "src" / "phrases.rt"
 # Each form as these phrases name it, and how the table's cells of input begin that name it.
 FORMS = {
     "Commands": "a command list",
@@ -232,7 +232,7 @@ def takers_of(form, commands):
 
 def takers_listed(commands):
     """Where the subcommands that `explain` lists for a form and those of the table differ."""
-    phrases = dict(re.findall(r'Name::Take(\w+) =>\s*b"([^"]*)"', PHRASES.read_text()))
+    phrases = dict(re.findall(r'Phrase::Take(\w+) => \{?\s*b"([^"]*)"', PHRASES.read_text()))
     for name, form in FORMS.items():
         listed, takers = set(phrases.get(name, "").split(", ")), set(takers_of(form, commands))
         yield from (f"explain doesn't list that {it} takes {form}" for it in sorted(takers - listed))

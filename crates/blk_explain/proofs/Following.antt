@@ -23,7 +23,7 @@ use Rattle.blk_sim.specs.Rounds.{Rounds}
 use Rattle.blk_sim.specs.Runs.{Steps, Runs}
 use Rattle.blk_sim.proofs.Keeping.{steps_went}
 use Rattle.blk_sim.proofs.Standing.{all_at, take_more}
-use Rattle.blk_explain.specs.Held.{HoldsIn}
+use Rattle.blk_explain.specs.Backlog.{IsBacklogIn}
 use Rattle.blk_explain.specs.Inside.Followed.{IsFollowed, FollowsStep, AreSame, PlugTakes, Goes, Empties}
 use Rattle.blk_explain.proofs.Adding.{add_once}
 
@@ -146,9 +146,9 @@ module _ (script : Scripted) (s : ℕ) where
       let queue : a.to ≡ f.queue = (let e : Some a.to ≡ Some f.queue = sym queue_stands ∙ f.stands in cc e) in
       let room : length a.to.requests + length a.own.requests ≤ a.to.depth = a.room in
       let depth : a.to.depth ≡ script.soft_depth = ap (λ (x : Queue). x.depth) queue ∙ f.depth in
-      let held : h ≡ length a.to.requests = f.holds ∙ ap (λ (x : Queue). length x.requests) (sym queue) in
+      let backlog : h ≡ length a.to.requests = f.holds ∙ ap (λ (x : Queue). length x.requests) (sym queue) in
       let had : length a.own.requests ≡ length p.requests = ap (λ (x : Plug). length x.requests) plug in
-      let few : h + length p.requests ≤ script.soft_depth = omega (arith, room, depth, held, had) in
+      let few : h + length p.requests ≤ script.soft_depth = omega (arith, room, depth, backlog, had) in
       let sum : n ≡ h + length p.requests = goes.1 few in
       let both : length (a.to.requests ++ a.own.requests) ≡ length a.to.requests + length a.own.requests = length-append a.to.requests a.own.requests in
       record {
@@ -157,7 +157,7 @@ module _ (script : Scripted) (s : ℕ) where
         queue = with_requests a.to a.own.requests;
         stands = ap (λ l. slice_get l s) a.queues_are ∙ ap (λ k. slice_get (slice_set old.queues k (with_requests a.to a.own.requests)) s) own ∙ set_here old.queues s a.to (with_requests a.to a.own.requests) queue_stands;
         depth = depth;
-        holds = omega (arith, sum, held, had, both);
+        holds = omega (arith, sum, backlog, had, both);
       }
 
   next_step : (policy : Policy) (l : Line) (p q : Plug) (h n : ℕ) (old new : SimState) → 0 < script.setup.hw → LineFits script.setup.hw script.submitters l → FollowsStep script s l p h q n → Steps policy old l new → IsFollowed script s p h old → IsFollowed script s q n new
@@ -221,5 +221,5 @@ followed_more policy script start s k l p q h n is at x before state runs =
     next_step script s policy l p q h n e.middle state is.setup.is_setup.some_queues (all_at (LineFits script.setup.hw script.submitters) script.lines k l is.lines at) x e.last (before e.middle e.before)
 
 -- what is followed holds its requests
-pub held_there : (script : Scripted) (s : ℕ) (p : Plug) (h : ℕ) (state : SimState) → IsFollowed script s p h state → HoldsIn state s h
-held_there script s p h state f = record { queue = f.queue; stands = f.stands; holds = f.holds }
+pub backlog_there : (script : Scripted) (s : ℕ) (p : Plug) (h : ℕ) (state : SimState) → IsFollowed script s p h state → IsBacklogIn state s h
+backlog_there script s p h state f = record { queue = f.queue; stands = f.stands; holds = f.holds }

@@ -15,11 +15,11 @@ use Rattle.blk_lists.specs.declared.fields.Slot.TheVariants as slot
 use Rattle.blk_lists.specs.Titles.{slot_in}
 use Rattle.blk_text.specs.declared.bios.TheConstants.{MAX_SUBMITTERS}
 use Rattle.blk_text.specs.declared.setup.TheConstants.{MORE_TAGS}
-use Rattle.blk_explain.specs.Names.{name_text}
+use Rattle.blk_explain.specs.Phrases.{phrase_text}
 use Rattle.blk_explain.specs.Fields.{field_name, want_of}
 use Rattle.blk_explain.specs.Kinds.{record_row, kind_word, slot_at, field_at}
 use Rattle.blk_explain.specs.Words.{words_text}
-use Rattle.blk_explain.specs.Forms.{IsRecordKind}
+use Rattle.blk_explain.specs.Forms.{offered_kinds, IsRecordKind}
 use Rattle.blk_explain.specs.declared.details.TheConstants.{MAX_SHOWN}
 use Rattle.blk_explain.specs.declared.fields.Allowed.{Allowed}
 use Rattle.blk_explain.specs.declared.fields.Allowed.TheVariants as allowed
@@ -184,7 +184,7 @@ why_wanted form why.Title = codes "a title"
 why_wanted form why.Fields = codes "other fields"
 why_wanted form why.Word = codes "another word"
 why_wanted form why.Number = codes "nanoseconds in nine digits, and numbers"
-why_wanted form why.Range = name_text form.range
+why_wanted form why.Range = phrase_text form.range
 why_wanted form (why.Bio bio.Empty) = codes "one sector at least"
 why_wanted form (why.Bio bio.Range) = codes "an end of at most " ++ decimal MAX_END
 why_wanted form why.Tile = codes "a bio that begins where the one before it ends, of its direction and within the limits"
@@ -198,7 +198,7 @@ why_wanted form why.Memory = codes "more memory"
 
 -- the words that a record of this number may begin with
 abbrev pub words_at : FormRow → ℕ → List ℕ
-words_at form at = if at == 2 then kind_word form.second else words_text form.words
+words_at form at = if at == 2 then kind_word form.second else words_text (offered_kinds form)
 
 -- the fault by its name, and what is wanted
 abbrev pub fault_wanted : FormRow → Why → List ℕ

@@ -1,5 +1,5 @@
 -- The forms of texts, by their rows.
-use Rattle.std.specs.Prelude.{◌≡◌, ◌⊎◌, ◌<◌, ℕ, List, length, get_or}
+use Rattle.std.specs.Prelude.{◌≡◌, ◌⊎◌, ◌<◌, ℕ, List, length, take, get_or}
 use Rattle.blk_explain.specs.declared.forms.TextForm.{TextForm}
 use Rattle.blk_explain.specs.declared.forms.TextForm.TheVariants as form
 use Rattle.blk_explain.specs.declared.forms.FormRow.{FormRow}
@@ -7,6 +7,10 @@ use Rattle.blk_explain.specs.declared.kinds.RecordKind.{RecordKind}
 use Rattle.blk_explain.specs.declared.kinds.RecordKind.TheVariants as kind
 use Rattle.blk_explain.specs.declared.forms.TheConstants.{CAPTURE_FORM, CERTIFICATE_FORM, COMMANDS_FORM, ON_TIME_FORM, SCHEDULE_FORM, SCRIPT_FORM, TRACE_FORM}
 use Rattle.blk_explain.specs.Kinds.{kind_word}
+
+-- the kinds with whose words an author may begin a later record
+abbrev pub offered_kinds : FormRow → List RecordKind
+offered_kinds form = take form.offered form.kinds
 
 -- the row of a form
 abbrev pub form_row : TextForm → FormRow

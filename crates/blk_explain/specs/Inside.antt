@@ -7,5 +7,5 @@ pub mod Before
 pub mod Ends
 pub mod Broken
 pub mod Entered
-pub mod Held
+pub mod Backlog
 pub mod Twice

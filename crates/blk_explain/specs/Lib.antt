@@ -1,4 +1,4 @@
-pub mod Names
+pub mod Phrases
 pub mod Fields
 pub mod Rows
 pub mod Kinds
@@ -8,7 +8,7 @@ pub mod Lines
 pub mod Findings
 pub mod Details
 pub mod Counts
-pub mod Held
+pub mod Backlog
 pub mod Twice
 pub mod Steps
 pub mod Explained

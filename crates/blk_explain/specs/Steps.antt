@@ -10,7 +10,7 @@ use Rattle.blk_sim.specs.declared.refusal.SimWhy.TheVariants as why
 use Rattle.blk_sim.specs.declared.simulation.TheConstants.{FIRST_STEP}
 use Rattle.blk_explain.specs.Findings.{rows_of}
 use Rattle.blk_explain.specs.Lines.{line_at}
-use Rattle.blk_explain.specs.Held.{HoldsAfter}
+use Rattle.blk_explain.specs.Backlog.{IsBacklogAfter}
 use Rattle.blk_explain.specs.Twice.{AreOneBio, HasNoRepeat}
 
 -- what a step has to be instead
@@ -31,8 +31,8 @@ abbrev pub plain_text : SimWhy → List ℕ
 plain_text w = codes "wanted " ++ step_wanted w
 
 -- how many requests a software queue holds, and for how many it has room
-abbrev pub held_text : ℕ → ℕ → ℕ → List ℕ
-held_text s held room = ((((codes "software queue " ++ decimal s) ++ codes " holds ") ++ decimal held) ++ codes " of ") ++ decimal room ++ codes " requests"
+abbrev pub backlog_text : ℕ → ℕ → ℕ → List ℕ
+backlog_text s backlog room = ((((codes "software queue " ++ decimal s) ++ codes " holds ") ++ decimal backlog) ++ codes " of ") ++ decimal room ++ codes " requests"
 
 -- the step at a place is a flush of this submitter; it is none
 abbrev pub IsFlushAt : List Line → ℕ → ℕ → Type 0
@@ -45,7 +45,7 @@ IsNoFlushAt lines place = (s : ℕ) → ¬ IsFlushAt lines place s
 -- before it were run
 abbrev pub IsSoftState : Scripted → ℕ → List ℕ → Type 0
 IsSoftState script n text =
-    ((s held : ℕ) × IsFlushAt script.lines n s × HoldsAfter script n s held × (text ≡ held_text s held script.soft_depth))
+    ((s backlog : ℕ) × IsFlushAt script.lines n s × IsBacklogAfter script n s backlog × (text ≡ backlog_text s backlog script.soft_depth))
     ⊎ (IsNoFlushAt script.lines n × (text ≡ plain_text why.SoftFull))
 
 -- a bio entered on this line

@@ -1,12 +1,9 @@
--- The words that the later records of a form begin with, as they are told.
-use Rattle.std.specs.Prelude.{◌==◌, ◌++◌, if◌then◌else◌, ℕ, List, [], codes, decimal}
+-- The words of kinds of records, as they are told.
+use Rattle.std.specs.Prelude.{◌-◌, ◌==◌, ◌++◌, if◌then◌else◌, ℕ, List, [], length, take, get_or, codes, decimal}
 use Rattle.std.specs.List.{flat_map}
 use Rattle.blk_explain.specs.Kinds.{record_row, kind_word}
 use Rattle.blk_explain.specs.declared.kinds.RecordKind.{RecordKind}
 use Rattle.blk_explain.specs.declared.kinds.RecordKind.TheVariants as kind
-use Rattle.blk_explain.specs.declared.words.Words.{Words}
-use Rattle.blk_explain.specs.declared.words.Words.TheVariants as words
-use Rattle.blk_explain.specs.declared.words.TheConstants.{EVENTS, STEPS}
 
 -- the version that a kind came with, where it is not the first
 abbrev pub since_text : ℕ → List ℕ
@@ -24,9 +21,13 @@ before_comma k = versioned k ++ codes ", "
 abbrev pub several : List RecordKind → RecordKind → List ℕ
 several kinds last = ((codes "one of " ++ flat_map before_comma kinds) ++ codes "or ") ++ versioned last
 
--- the words that the later records of a form begin with
-abbrev pub words_text : Words → List ℕ
-words_text words.Nothing = []
-words_text (words.One k) = kind_word k
-words_text words.Steps = several STEPS kind.Depth
-words_text words.Events = several EVENTS kind.Depth
+-- the last of some kinds
+abbrev pub last_kind : List RecordKind → RecordKind
+last_kind kinds = get_or kinds (length kinds - 1) kind.CommandsTitle
+
+-- the words of kinds: of several, one of them
+abbrev pub words_text : List RecordKind → List ℕ
+words_text kinds =
+    if length kinds == 0 then []
+    else if length kinds == 1 then versioned (last_kind kinds)
+    else several (take (length kinds - 1) kinds) (last_kind kinds)

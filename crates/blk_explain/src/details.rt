@@ -398,7 +398,7 @@ fn push_words_at(draft: &mut Draft, form: &FormRow, at: u64) -> Result<(), Alloc
     if at == 2 {
         push_word(draft, form.second)
     } else {
-        push_words(draft, form.words)
+        push_words(draft, form.offered_kinds())
     }
 }
 

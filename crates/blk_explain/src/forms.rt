@@ -1,13 +1,12 @@
 //! The forms of texts: their titles, what their records have in each field, and which subcommands take them.
 
 ghost use Rattle.std.specs.Prelude.{◌≡◌, ◌↔◌, IsTrue, MatchOption};
-ghost use Rattle.blk_explain.specs.Forms.{form_row, form_name, IsWorded, IsRecordKind};
+ghost use Rattle.blk_explain.specs.Forms.{offered_kinds, form_row, form_name, IsWorded, IsRecordKind};
 ghost use Rattle.blk_explain.specs.declared.forms.TextForm.{TextForm as AForm};
 
 use crate::counts::Counted;
 use crate::kinds::RecordKind;
-use crate::names::Name;
-use crate::words::Words;
+use crate::phrases::Phrase;
 
 /// The form of a text.
 #[derive(Clone, Copy, Debug, PartialEq, Eq)]
@@ -28,54 +27,57 @@ pub enum TextForm {
     Trace,
 }
 
+/// The most kinds of later records that a form tells apart.
+const MAX_KINDS: usize = 9;
+
 /// A form.
 #[derive(Clone, Copy)]
 pub struct FormRow {
     /// The subcommands that take it.
-    pub takers: Name,
+    pub takers: Phrase,
     /// The kind of its title.
     pub title: RecordKind,
     /// That of its second record.
     pub second: RecordKind,
-    /// Those of its later records, by their words.
-    pub kinds: [RecordKind; 9],
+    /// Those of its later records, by their words, filled up with that of its other records.
+    pub kinds: [RecordKind; MAX_KINDS],
+    /// With the words of how many of these, the first ones, an author may begin a record.
+    pub offered: usize,
     /// That of its other records.
     pub item: RecordKind,
-    /// The words of its later records.
-    pub words: Words,
     /// What is wanted where each number lies in its own range.
-    pub range: Name,
+    pub range: Phrase,
     /// How many records are announced.
     pub counted: Counted,
 }
 
 /// The row of blk-commands texts.
 const COMMANDS_FORM: FormRow = FormRow {
-    takers: Name::TakeCommands,
+    takers: Phrase::TakeCommands,
     title: RecordKind::CommandsTitle,
     second: RecordKind::Command,
-    kinds: [RecordKind::Command; 9],
+    kinds: [RecordKind::Command; MAX_KINDS],
+    offered: 0,
     item: RecordKind::Command,
-    words: Words::Nothing,
-    range: Name::EachInRange,
+    range: Phrase::EachInRange,
     counted: Counted::Nothing,
 };
 
 /// The row of blk-certificate texts.
 const CERTIFICATE_FORM: FormRow = FormRow {
-    takers: Name::TakeCertificates,
+    takers: Phrase::TakeCertificates,
     title: RecordKind::CertificateTitle,
     second: RecordKind::Bound,
-    kinds: [RecordKind::Served; 9],
+    kinds: [RecordKind::Served; MAX_KINDS],
+    offered: 0,
     item: RecordKind::Served,
-    words: Words::Nothing,
-    range: Name::EachInRange,
+    range: Phrase::EachInRange,
     counted: Counted::Commands(2),
 };
 
 /// The row of blk-met texts.
 const ON_TIME_FORM: FormRow = FormRow {
-    takers: Name::TakeCertificates,
+    takers: Phrase::TakeCertificates,
     title: RecordKind::OnTimeTitle,
     second: RecordKind::OnTime,
     kinds: [
@@ -89,39 +91,39 @@ const ON_TIME_FORM: FormRow = FormRow {
         RecordKind::Served,
         RecordKind::Served,
     ],
+    offered: 1,
     item: RecordKind::Served,
-    words: Words::One(RecordKind::Window),
-    range: Name::EachInRange,
+    range: Phrase::EachInRange,
     counted: Counted::Windows,
 };
 
 /// The row of blk-schedule texts.
 const SCHEDULE_FORM: FormRow = FormRow {
-    takers: Name::TakeSchedules,
+    takers: Phrase::TakeSchedules,
     title: RecordKind::ScheduleTitle,
     second: RecordKind::Served,
-    kinds: [RecordKind::Served; 9],
+    kinds: [RecordKind::Served; MAX_KINDS],
+    offered: 0,
     item: RecordKind::Served,
-    words: Words::Nothing,
-    range: Name::EachInRange,
+    range: Phrase::EachInRange,
     counted: Counted::Commands(1),
 };
 
 /// The row of blk-capture texts.
 const CAPTURE_FORM: FormRow = FormRow {
-    takers: Name::TakeCaptures,
+    takers: Phrase::TakeCaptures,
     title: RecordKind::CaptureTitle,
     second: RecordKind::Capture,
-    kinds: [RecordKind::Capture; 9],
+    kinds: [RecordKind::Capture; MAX_KINDS],
+    offered: 0,
     item: RecordKind::Capture,
-    words: Words::Nothing,
-    range: Name::EachInRange,
+    range: Phrase::EachInRange,
     counted: Counted::Nothing,
 };
 
 /// The row of blk-script texts.
 const SCRIPT_FORM: FormRow = FormRow {
-    takers: Name::TakeScripts,
+    takers: Phrase::TakeScripts,
     title: RecordKind::ScriptTitle,
     second: RecordKind::Setup,
     kinds: [
@@ -131,37 +133,50 @@ const SCRIPT_FORM: FormRow = FormRow {
         RecordKind::Issue,
         RecordKind::Done,
         RecordKind::Back,
-        RecordKind::Depth,
         RecordKind::Tick,
         RecordKind::Run,
+        RecordKind::Depth,
     ],
+    offered: 9,
     item: RecordKind::Step,
-    words: Words::Steps,
-    range: Name::EnoughSubmitters,
+    range: Phrase::EnoughSubmitters,
     counted: Counted::Nothing,
 };
 
 /// The row of blk-trace texts.
 const TRACE_FORM: FormRow = FormRow {
-    takers: Name::TakeTraces,
+    takers: Phrase::TakeTraces,
     title: RecordKind::TraceTitle,
     second: RecordKind::Setup,
     kinds: [
         RecordKind::Tick,
         RecordKind::Release,
         RecordKind::Join,
-        RecordKind::EventBio,
         RecordKind::EventIssue,
         RecordKind::Done,
         RecordKind::Back,
         RecordKind::Depth,
+        RecordKind::EventBio,
         RecordKind::Event,
     ],
+    offered: 7,
     item: RecordKind::Event,
-    words: Words::Events,
-    range: Name::EachInRange,
+    range: Phrase::EachInRange,
     counted: Counted::Events,
 };
+
+impl FormRow {
+    /// The kinds with whose words an author may begin a later record.
+    pub fn offered_kinds(&self) -> &[RecordKind]
+        ensures { result.now ≡ offered_kinds self.now }
+    {
+        if self.offered < MAX_KINDS {
+            &self.kinds[..self.offered]
+        } else {
+            &self.kinds
+        }
+    }
+}
 
 impl TextForm {
     /// Its row.

@@ -1,16 +1,16 @@
 //! What a text is, or what is wrong with it, for an author who wrote it by hand.
 #![tactic(auto)]
 
+mod backlog;
 mod counts;
 mod details;
 mod explaining;
 mod fields;
 mod findings;
 mod forms;
-mod held;
 mod kinds;
 mod lines;
-mod names;
+mod phrases;
 mod rows;
 mod steps;
 mod twice;

@@ -5,13 +5,13 @@ ghost use Rattle.blk_bio.specs.Bios.{Bio as BioFields};
 ghost use Rattle.blk_text.specs.Script.{scripted, IsScript};
 ghost use Rattle.blk_text.specs.declared.script.Line.TheVariants as line;
 ghost use Rattle.blk_explain.specs.Findings.{rows_of, IsRefusedStep, IsRefusedScript};
-ghost use Rattle.blk_explain.specs.Steps.{step_wanted, plain_text, held_text, entered_text, IsSoftState, IsTwiceState, IsStateAt, IsState, IsFlushAt, IsNoFlushAt};
+ghost use Rattle.blk_explain.specs.Steps.{step_wanted, plain_text, backlog_text, entered_text, IsSoftState, IsTwiceState, IsStateAt, IsState, IsFlushAt, IsNoFlushAt};
 ghost use Rattle.blk_explain.specs.Inside.Entered.{IsEntryText};
 ghost use Rattle.blk_explain.specs.Inside.Twice.{IsBioAt};
 ghost use Rattle.blk_explain.specs.Inside.Before.{RunsTo};
 ghost use Rattle.blk_explain.specs.Lines.{line_at};
 
-use crate::held::held_after;
+use crate::backlog::backlog_after;
 use crate::lines::line_at;
 use crate::twice::{bio_at, twice};
 use blk_bio::Bio;
@@ -44,15 +44,15 @@ fn soft_text(
     alloc: Global,
     script: &Script,
     submitter: u8,
-    held: u64,
+    backlog: u64,
 ) -> Result<Vec<u8>, AllocError>
-    ensures { IfOk result (λ text. text.items ≡ held_text submitter held script.now.soft_depth) }
+    ensures { IfOk result (λ text. text.items ≡ backlog_text submitter backlog script.now.soft_depth) }
 {
     let mut draft = Draft::new(alloc);
     draft.text(b"software queue ")?;
     draft.number(submitter as u64)?;
     draft.text(b" holds ")?;
-    draft.number(held)?;
+    draft.number(backlog)?;
     draft.text(b" of ")?;
     draft.number(script.soft_depth)?;
     draft.text(b" requests")?;
@@ -102,8 +102,8 @@ fn soft_state(alloc: Global, script: &Script, place: usize) -> Result<Vec<u8>, A
 {
     match flush_at(script, place) {
         Some(submitter) => {
-            let held = held_after(alloc, script, place, submitter)?;
-            soft_text(alloc, script, submitter, held)
+            let backlog = backlog_after(alloc, script, place, submitter)?;
+            soft_text(alloc, script, submitter, backlog)
         }
         None => wanted(alloc, SimWhy::SoftFull),
     }

@@ -1,47 +1,12 @@
-//! The words that may stand first in a record of a form, for an author who wrote another.
+//! The words of kinds of records, for an author who began a record with another.
 
 ghost use Rattle.std.specs.Prelude.{◌≡◌, ◌++◌, OnOk};
 ghost use Rattle.std.specs.List.{flat_map};
 ghost use Rattle.blk_explain.specs.Words.{since_text, versioned, before_comma, several, words_text};
 
-use crate::kinds::{RecordKind, push_word};
+use crate::kinds::RecordKind;
 use drafts::Draft;
 use std::alloc::AllocError;
-
-/// The words that the later records of a form begin with.
-#[derive(Clone, Copy)]
-pub enum Words {
-    /// No word.
-    Nothing,
-    /// That of a kind.
-    One(RecordKind),
-    /// Those of the steps of a script.
-    Steps,
-    /// Those of the events of a trace.
-    Events,
-}
-
-/// The kinds of the steps of a script, without the last, which stands behind an 'or'.
-const STEPS: [RecordKind; 8] = [
-    RecordKind::Bio,
-    RecordKind::Flush,
-    RecordKind::Drain,
-    RecordKind::Issue,
-    RecordKind::Done,
-    RecordKind::Back,
-    RecordKind::Tick,
-    RecordKind::Run,
-];
-
-/// The kinds of the first records of events, without the last, which stands behind an 'or'.
-const EVENTS: [RecordKind; 6] = [
-    RecordKind::Tick,
-    RecordKind::Release,
-    RecordKind::Join,
-    RecordKind::EventIssue,
-    RecordKind::Done,
-    RecordKind::Back,
-];
 
 /// Adds the version that a kind came with, if it isn't the first.
 fn push_since(draft: &mut Draft, since: u64) -> Result<(), AllocError>
@@ -91,14 +56,17 @@ fn push_several(draft: &mut Draft, kinds: &[RecordKind], last: RecordKind) -> Re
     push_versioned(draft, last)
 }
 
-/// Adds the words that the later records of a form begin with.
-pub fn push_words(draft: &mut Draft, words: Words) -> Result<(), AllocError>
-    ensures { OnOk result (draft.new ≡ draft.old ++ words_text words) }
+/// Adds the words of kinds: of several, one of them.
+pub fn push_words(draft: &mut Draft, kinds: &[RecordKind]) -> Result<(), AllocError>
+    ensures { OnOk result (draft.new ≡ draft.old ++ words_text kinds.now) }
 {
-    match words {
-        Words::Nothing => Ok(()),
-        Words::One(kind) => push_word(draft, kind),
-        Words::Steps => push_several(draft, &STEPS, RecordKind::Depth),
-        Words::Events => push_several(draft, &EVENTS, RecordKind::Depth),
+    let count = kinds.len();
+    if count == 0 {
+        return Ok(());
     }
+    let last = kinds[count - 1];
+    if count == 1 {
+        return push_versioned(draft, last);
+    }
+    push_several(draft, &kinds[..count - 1], last)
 }

@@ -11,31 +11,31 @@ use Rattle.blk_text.specs.declared.script.Line.TheVariants as line
 use Rattle.blk_sim.specs.State.{SimState}
 use Rattle.blk_sim.specs.Moves.{flushed_plug}
 
--- a submitter has this plug, and its software queue holds `held` requests
-pub record IsFollowed (script : Scripted) (s : ℕ) (plug : Plug) (held : ℕ) (state : SimState) : Type 0 where
+-- a submitter has this plug, and its software queue this backlog
+pub record IsFollowed (script : Scripted) (s : ℕ) (plug : Plug) (backlog : ℕ) (state : SimState) : Type 0 where
   pub setup : state.core.setup ≡ script.setup
   pub plug_is : slice_get state.plugs s ≡ Some plug
   pub queue : Queue
   pub stands : slice_get state.queues s ≡ Some queue
   pub depth : queue.depth ≡ script.soft_depth
-  pub holds : held ≡ length queue.requests
+  pub holds : backlog ≡ length queue.requests
 
 -- neither changes
 abbrev pub AreSame : Plug → ℕ → Plug → ℕ → Type 0
-AreSame plug held new_plug new_held = (new_plug ≡ plug) × (new_held ≡ held)
+AreSame plug backlog new_plug new_backlog = (new_plug ≡ plug) × (new_backlog ≡ backlog)
 
 -- the plug takes the bio
 abbrev pub PlugTakes : Bio → Plug → ℕ → Plug → ℕ → Type 0
-PlugTakes b plug held new_plug new_held = (new_held ≡ held) × ((added : Added) × IsAddAnswer plug b new_plug (Ok added))
+PlugTakes b plug backlog new_plug new_backlog = (new_backlog ≡ backlog) × ((added : Added) × IsAddAnswer plug b new_plug (Ok added))
 
 -- the plug's requests go into the queue, which has room for them
 abbrev pub Goes : ℕ → Plug → ℕ → Plug → ℕ → Type 0
-Goes room plug held new_plug new_held =
-    (new_plug ≡ flushed_plug plug) × (held + length plug.requests ≤ room → new_held ≡ held + length plug.requests)
+Goes room plug backlog new_plug new_backlog =
+    (new_plug ≡ flushed_plug plug) × (backlog + length plug.requests ≤ room → new_backlog ≡ backlog + length plug.requests)
 
 -- the queue is emptied
 abbrev pub Empties : Plug → ℕ → Plug → ℕ → Type 0
-Empties plug held new_plug new_held = (new_plug ≡ plug) × (new_held ≡ 0)
+Empties plug backlog new_plug new_backlog = (new_plug ≡ plug) × (new_backlog ≡ 0)
 
 -- what one step does to the plug and the queue
 abbrev pub FollowsStep : Scripted → ℕ → Line → Plug → ℕ → Plug → ℕ → Type 0

@@ -6,22 +6,22 @@ use Rattle.blk_sim.proofs.Standing.{all_at}
 use Rattle.blk_explain.proofs.Found.{ok_map}
 use Rattle.blk_explain.proofs.steps.soft_state.Goals as goal
 
-pub held_after-requires-clause-known : goal.held_after-requires-clause-known
-held_after-requires-clause-known c =
+pub backlog_after-requires-clause-known : goal.backlog_after-requires-clause-known
+backlog_after-requires-clause-known c =
     all_at (LineFits c.args.script.now.setup.hw c.args.script.now.submitters) c.args.script.now.lines.items c.args.place (line.Flush c.in-Some.submitter) c.requires.script.lines c.in-Some.ensures
 
-pub held_after-requires-clause-count : goal.held_after-requires-clause-count
-held_after-requires-clause-count c =
+pub backlog_after-requires-clause-count : goal.backlog_after-requires-clause-count
+backlog_after-requires-clause-count c =
     let lt : c.args.place < length c.args.script.now.lines.items = slice_get_within c.args.script.now.lines.items c.args.place (line.Flush c.in-Some.submitter) c.in-Some.ensures in
     omega (arith, lt)
 
-pub returns-in_ok-held-in-Some : goal.returns-in_ok-held-in-Some
-returns-in_ok-held-in-Some c =
+pub returns-in_ok-backlog-in-Some : goal.returns-in_ok-backlog-in-Some
+returns-in_ok-backlog-in-Some c =
     ok_map _ _ c.soft_text.result (λ text h. inl (
       c.in-Some.submitter,
-      c.in_ok-held-in-Some.held,
+      c.in_ok-backlog-in-Some.backlog,
       c.in-Some.ensures,
-      record { state = c.requires.runs.0; runs = c.requires.runs.1; there = c.in_ok-held-in-Some.ensures c.requires.runs.0 c.requires.runs.1 },
+      record { state = c.requires.runs.0; runs = c.requires.runs.1; there = c.in_ok-backlog-in-Some.ensures c.requires.runs.0 c.requires.runs.1 },
       h,
     )) c.soft_text.ensures
 

@@ -7,8 +7,8 @@ use Rattle.blk_none.specs.Choice.{none_policy}
 use Rattle.blk_text.specs.Script.{scripted}
 use Rattle.blk_sim.specs.State.{start_of}
 use Rattle.blk_sim.specs.Runs.{Runs}
-use Rattle.blk_explain.proofs.Following.{followed_none, followed_more, held_there}
-use Rattle.blk_explain.proofs.held.held_after.Goals as goal
+use Rattle.blk_explain.proofs.Following.{followed_none, followed_more, backlog_there}
+use Rattle.blk_explain.proofs.backlog.backlog_after.Goals as goal
 
 pub loop-place-init : goal.loop-place-init
 loop-place-init c =
@@ -27,12 +27,12 @@ loop-place-preserved c =
     record {
       within = omega arith;
       followed =
-          followed_more none_policy (scripted c.args.script.now) (start_of (scripted c.args.script.now) (at_start true) []) c.args.submitter c.loop-place.place c.index-line.result.now c.loop-place.plug c.held_next.new.plug c.loop-place.held c.in_ok-held.held
-          c.requires.script at c.in_ok-held.ensures c.loop-place.invariant.followed;
+          followed_more none_policy (scripted c.args.script.now) (start_of (scripted c.args.script.now) (at_start true) []) c.args.submitter c.loop-place.place c.index-line.result.now c.loop-place.plug c.backlog_next.new.plug c.loop-place.backlog c.in_ok-backlog.backlog
+          c.requires.script at c.in_ok-backlog.ensures c.loop-place.invariant.followed;
     }
 
 pub returns : goal.returns
 returns c = λ state runs.
     let same : c.args.count ≡ c.loop-place.place = (let le = c.loop-place.invariant.within in omega (arith, le)) in
-    held_there (scripted c.args.script.now) c.args.submitter c.loop-place.plug c.loop-place.held state
+    backlog_there (scripted c.args.script.now) c.args.submitter c.loop-place.plug c.loop-place.backlog state
     (c.loop-place.invariant.followed state (subst (λ k. Runs none_policy (take k c.args.script.now.lines.items) (start_of (scripted c.args.script.now) (at_start true) []) state) same runs))
