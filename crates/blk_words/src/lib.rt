@@ -12,7 +12,7 @@ mod times;
 mod words;
 
 pub use crate::inputs::{Running, Solving, Telling, TextJob};
-pub use crate::table::{MAX_BUSY, MAX_FIRST, MAX_THREADS, MAX_TOP, Makes};
+pub use crate::table::{MAX_THREADS, MAX_TOP, Makes};
 pub use crate::words::{
     Import, Job, NoGrid, NoJob, Refusal, ShownLoad, Tuning, Written, choose, grid_asked, version,
 };
