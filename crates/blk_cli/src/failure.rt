@@ -2,7 +2,8 @@
 
 ghost use Rattle.std.specs.Prelude.{◌≡◌, ◌≤◌, decimal};
 ghost use Rattle.drafts.specs.Outputs.{Writes, stream_of};
-ghost use Rattle.blk_cli.specs.Lines.{line, want_of_memory, numbered, signed_line, at_record, text_line, step_line, oracle_line, check_line, on_time_check_line, failure_line, status_of};
+ghost use Rattle.blk_words.specs.Refusals.{refusal_text};
+ghost use Rattle.blk_cli.specs.Lines.{line, list_line, want_of_memory, numbered, signed_line, at_record, text_line, step_line, oracle_line, check_line, on_time_check_line, failure_line, status_of};
 ghost use Rattle.blk_cli.specs.Ends.{EndsFailing};
 ghost use Rattle.blk_cli.specs.Scripts.{failure_of_run};
 
@@ -12,7 +13,8 @@ use blk_arrivals::ArrivalsFault;
 use blk_capture_text::ImportFault;
 use blk_lists::{TextFault, Why};
 use blk_runs::RunFault;
-use blk_settings::{LoadFault, SchedFault};
+use blk_settings::given::MAX_LISTED;
+use blk_settings::{Complaint, LoadFault, SchedFault};
 use blk_sim::{SimFault, SimWhy};
 use blk_words::Refusal;
 use drafts::pieces::{MAX_DIGITS, put_number};
@@ -129,7 +131,7 @@ impl Failure {
                 ArrivalsFault::Memory => tell_memory(faults),
                 _ => tell_name(faults, fault.name()),
             },
-            Failure::Words(refusal) => tell_name(faults, refusal.text()),
+            Failure::Words(refusal) => tell_words(faults, *refusal),
             Failure::Write => tell_name(faults, "write fault"),
             Failure::Memory => tell_memory(faults),
         }
@@ -184,6 +186,41 @@ fn tell_number<F: Write>(faults: &mut Output<F>, name: &str, number: u64) -> Res
     let end = put_number(number, &mut digits, 0);
     let space: &[u8] = b" ";
     faults.put_all(&[START, name.as_bytes(), space, &digits[..end], END])
+}
+
+/// Writes the line of an option that takes a list of numbers up to the most.
+fn tell_numbers<F: Write>(faults: &mut Output<F>, option: &str, most: u64) -> Result<(), WriteFault>
+    ensures { Writes (list_line option.now most) (stream_of F.contents faults.old) (stream_of F.contents faults.new) result }
+{
+    let mut count = [0; MAX_DIGITS];
+    let count_end = put_number(MAX_LISTED as u64, &mut count, 0);
+    let mut greatest = [0; MAX_DIGITS];
+    let end = put_number(most, &mut greatest, 0);
+    let dashes: &[u8] = b"--";
+    let takes: &[u8] = b" takes 1 to ";
+    let numbers: &[u8] = b" numbers of 0 to ";
+    let rest: &[u8] = b" with commas between, each once";
+    faults.put_all(&[
+        START,
+        dashes,
+        option.as_bytes(),
+        takes,
+        &count[..count_end],
+        numbers,
+        &greatest[..end],
+        rest,
+        END,
+    ])
+}
+
+/// Writes the line on words that can't be done.
+fn tell_words<F: Write>(faults: &mut Output<F>, refusal: Refusal) -> Result<(), WriteFault>
+    ensures { Writes (line (refusal_text refusal)) (stream_of F.contents faults.old) (stream_of F.contents faults.new) result }
+{
+    match refusal.text() {
+        Complaint::Text(text) => tell_name(faults, text),
+        Complaint::Numbers(option, most) => tell_numbers(faults, option, most),
+    }
 }
 
 /// Writes the line of a name with a number that has a sign.

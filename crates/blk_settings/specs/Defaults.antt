@@ -6,7 +6,7 @@ use Rattle.std.specs.Str.Parse.{digits_value}
 use Rattle.blk_settings.specs.Given.{switched}
 use Rattle.blk_settings.specs.Grids.{with_each}
 use Rattle.blk_settings.specs.Lists.{parts}
-use Rattle.blk_settings.specs.Row.{RangeOf, Short, UpTo, Switch, ListOf}
+use Rattle.blk_settings.specs.Row.{RangeOf, Short, UpTo, Switch}
 use Rattle.blk_settings.specs.Rows.{row_for, sched_place, kinds, tried_kinds}
 use Rattle.blk_settings.specs.declared.rows.SchedKind.{SchedKind}
 use Rattle.blk_settings.specs.declared.rows.SchedKind.TheVariants as kind
@@ -15,16 +15,16 @@ use Rattle.blk_settings.specs.declared.sched.Sched.{Sched}
 
 -- what a setting is set to, and what is tried of it
 abbrev pub default_in : RangeOf → ℕ
-default_in (Short default list) = digits_value 10 default
-default_in (UpTo most default list) = digits_value 10 default
+default_in (Short default tried) = digits_value 10 default
+default_in (UpTo most default tried) = digits_value 10 default
 default_in (Switch turned) = switched turned false
 
-abbrev pub default_numbers : ListOf → List ℕ
-default_numbers list = map (digits_value 10) (parts list.default)
+abbrev pub default_numbers : List ℕ → List ℕ
+default_numbers text = map (digits_value 10) (parts text)
 
 abbrev pub tried_in : RangeOf → List ℕ
-tried_in (Short default list) = default_numbers list
-tried_in (UpTo most default list) = default_numbers list
+tried_in (Short default tried) = default_numbers tried
+tried_in (UpTo most default tried) = default_numbers tried
 tried_in (Switch turned) = 1 ∷ 0 ∷ []
 
 -- the same of the setting in a place of a scheduler's row, 0 where there is none

@@ -25,8 +25,8 @@ switched true is_set = if is_set then 1 else 0
 switched false is_set = if is_set then 0 else 1
 
 abbrev pub value_in : GivenOptions → RangeOf → List ℕ → Option ℕ
-value_in o (Short default list) option = o.short option
-value_in o (UpTo most default list) option = o.number option
+value_in o (Short default tried) option = o.short option
+value_in o (UpTo most default tried) option = o.number option
 value_in o (Switch turned) option = Some (switched turned (o.is_set option))
 
 abbrev pub value_given : GivenOptions → SettingOf → Option ℕ

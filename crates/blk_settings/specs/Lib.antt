@@ -12,5 +12,6 @@ pub mod Options
 pub mod Given
 pub mod Grids
 pub mod Wanted
+pub mod Complaints
 pub mod Lists
 pub mod Defaults

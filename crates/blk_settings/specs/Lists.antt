@@ -2,6 +2,7 @@
 use Rattle.std.specs.Prelude.{ℕ, ◌+◌, ◌==◌, ◌∷◌, Bool, true, false, List, [], Option, Some, None, codes, get_or, map, set, option_and_then, if◌then◌else◌}
 use Rattle.std.specs.List.{slice_split, slice_get}
 use Rattle.std.specs.Option.{option_or, option_map_or}
+use Rattle.blk_settings.specs.Complaints.{numbers_complaint}
 use Rattle.blk_settings.specs.Given.{GivenOptions, row_named}
 use Rattle.blk_settings.specs.Options.{scheds_list}
 use Rattle.blk_settings.specs.Row.{RangeOf, Short, UpTo, Switch, SettingOf, RowOf}
@@ -39,8 +40,8 @@ tried_given o = option_and_then tried_of (o.text scheds_list.name)
 
 -- the values of a setting that are tried: those that its option lists, or both of a switch, on and off
 abbrev pub tried_numbers_in : GivenOptions → RangeOf → List ℕ → Option (List ℕ)
-tried_numbers_in o (Short default list) option = o.list MAX_SHORT option
-tried_numbers_in o (UpTo most default list) option = o.list most option
+tried_numbers_in o (Short default tried) option = o.list MAX_SHORT option
+tried_numbers_in o (UpTo most default tried) option = o.list most option
 tried_numbers_in o (Switch turned) option = Some (1 ∷ 0 ∷ [])
 
 abbrev pub numbers_tried : GivenOptions → SettingOf → Option (List ℕ)
@@ -67,13 +68,13 @@ abbrev pub list_fault : GivenOptions → Option ListFault
 list_fault o = option_map_or (λ t. unlisted_among o sched_table) (tried_given o) (Some list.Scheds)
 
 -- what an option takes that is given no list
-abbrev pub fault_in : RangeOf → List ℕ
-fault_in (Short default list) = list.fault
-fault_in (UpTo most default list) = list.fault
-fault_in (Switch turned) = []
+abbrev pub fault_in : RangeOf → List ℕ → List ℕ
+fault_in (Short default tried) option = numbers_complaint option MAX_SHORT
+fault_in (UpTo most default tried) option = numbers_complaint option most
+fault_in (Switch turned) option = []
 
 abbrev pub numbers_fault_text : SettingOf → List ℕ
-numbers_fault_text s = fault_in s.range
+numbers_fault_text s = fault_in s.range s.option
 
 abbrev pub list_fault_text : ListFault → List ℕ
 list_fault_text list.Scheds = codes "--sched takes names of schedulers with commas between, each once"

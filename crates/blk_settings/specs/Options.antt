@@ -60,8 +60,8 @@ flags = flat_map (λ r. option_to_list (flag_option r)) sched_table
 
 -- the option that sets a setting
 abbrev pub kind_in : RangeOf → OptionKind
-kind_in (rows.Short default list) = Short default
-kind_in (rows.UpTo most default list) = Number 0 most default
+kind_in (rows.Short default tried) = Short default
+kind_in (rows.UpTo most default tried) = Number 0 most default
 kind_in (rows.Switch turned) = Flag
 
 abbrev pub setting_option : SettingOf → OptionOf
@@ -72,8 +72,8 @@ options_of = map setting_option
 
 -- the one that lists the numbers of it that are tried, if it is a number
 abbrev pub list_in : RangeOf → List ℕ → Option OptionOf
-list_in (rows.Short default list) name = Some (record { name = name; kind = Words list.default })
-list_in (rows.UpTo most default list) name = Some (record { name = name; kind = Words list.default })
+list_in (rows.Short default tried) name = Some (record { name = name; kind = Words tried })
+list_in (rows.UpTo most default tried) name = Some (record { name = name; kind = Words tried })
 list_in (rows.Switch turned) name = None
 
 abbrev pub list_option : SettingOf → Option OptionOf

@@ -1,9 +1,8 @@
 -- What a scheduler's row has: what it is called, its settings, what it does, and how it starts.
-use Rattle.std.specs.Prelude.{ℕ, ◌==◌, ◌++◌, Bool, List, Option, codes, get_or, map, min, option_map}
+use Rattle.std.specs.Prelude.{ℕ, ◌==◌, Bool, List, Option, get_or, map, min, option_map}
 use Rattle.blk_sched.specs.Meaning.{Meaning}
 use Rattle.blk_sched.specs.Policies.{Policy}
 use Rattle.blk_settings.specs.declared.given.TheConstants.{MAX_SHORT}
-use Rattle.blk_settings.specs.declared.rows.ListRow.{ListRow}
 use Rattle.blk_settings.specs.declared.rows.SchedKind.{SchedKind}
 use Rattle.blk_settings.specs.declared.rows.SchedRow.{SchedRow}
 use Rattle.blk_settings.specs.declared.rows.SettingRange.{SettingRange}
@@ -11,15 +10,11 @@ use Rattle.blk_settings.specs.declared.rows.SettingRange.TheVariants as range
 use Rattle.blk_settings.specs.declared.rows.SettingRow.{SettingRow}
 use Rattle.blk_settings.specs.declared.sched.SchedFault.{SchedFault}
 
--- the numbers that are tried of a setting: those where its option lists none, and what is said of a text that is no such list
-pub record ListOf : Type 0 where
-  pub default : List ℕ
-  pub fault : List ℕ
-
--- what a setting may be: a number of 16 bits, or one up to a most, with a default; or on or off, turned to this by a flag
+-- what a setting may be: a number of 16 bits, or one up to a most, with a default and the list of those that are tried by default; or on or
+-- off, turned to this by a flag
 pub data RangeOf : Type 0 where
-  Short : (default : List ℕ) → (list : ListOf) → RangeOf
-  UpTo : (most : ℕ) → (default : List ℕ) → (list : ListOf) → RangeOf
+  Short : (default : List ℕ) → (tried : List ℕ) → RangeOf
+  UpTo : (most : ℕ) → (default : List ℕ) → (tried : List ℕ) → RangeOf
   Switch : (turned : Bool) → RangeOf
 
 -- a setting: its name, the option that sets it, and what it may be
@@ -46,24 +41,10 @@ pub record SchedOf : Type 1 where
   pub meaning : List ℕ → Meaning
   pub kept : List ℕ → ℕ → List ℕ
 
--- those that an option lists by default, of numbers up to the most that this text spells
-abbrev pub numbers_list : List ℕ → List ℕ → List ℕ → ListOf
-numbers_list option most default = record {
-  default = default;
-  fault = codes "--" ++ option ++ codes " takes 1 to 64 numbers of 0 to " ++ most ++ codes " with commas between, each once";
-}
-
--- a number of 16 bits
-abbrev pub short_range : List ℕ → List ℕ → List ℕ → RangeOf
-short_range option default tried = Short default (numbers_list option (codes "65535") tried)
-
 -- those of the program's rows
-abbrev pub tried_list_of : ListRow → ListOf
-tried_list_of l = record { default = l.default.now; fault = l.fault.now }
-
 abbrev pub setting_range_of : SettingRange → RangeOf
-setting_range_of (range.Short default list) = Short default.now (tried_list_of list)
-setting_range_of (range.UpTo most default list) = UpTo most default.now (tried_list_of list)
+setting_range_of (range.Short default list) = Short default.now list.default.now
+setting_range_of (range.UpTo most default list) = UpTo most default.now list.default.now
 setting_range_of (range.Switch turned) = Switch turned
 
 abbrev pub setting_row_of : SettingRow → SettingOf

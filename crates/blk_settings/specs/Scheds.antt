@@ -10,8 +10,8 @@ use Rattle.blk_settings.specs.declared.sched.Sched.{Sched}
 
 -- a setting of this value
 abbrev pub setting_in : RangeOf → List ℕ → ℕ → NamedSetting
-setting_in (Short default list) name n = number_setting name n
-setting_in (UpTo most default list) name n = number_setting name n
+setting_in (Short default tried) name n = number_setting name n
+setting_in (UpTo most default tried) name n = number_setting name n
 setting_in (Switch turned) name n = switch_setting name (is_on n)
 
 abbrev pub as_setting : SettingOf → ℕ → NamedSetting

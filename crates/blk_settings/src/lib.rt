@@ -29,7 +29,7 @@ pub use crate::figures::FiguresAsked;
 pub use crate::form::Form;
 pub use crate::given::Given;
 pub use crate::grid::{By, GridFault, TrialAsked};
-pub use crate::lists::ListFault;
+pub use crate::lists::{Complaint, ListFault};
 pub use crate::numbers::Load;
 pub use crate::options::{OptionRow, Takes};
 pub use crate::rows::SchedKind;

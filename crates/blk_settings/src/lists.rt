@@ -1,6 +1,7 @@
 //! The lists of a trial: which schedulers are tried, and under which settings.
 
 ghost use Rattle.std.specs.Prelude.{◌≡◌, map, option_map};
+ghost use Rattle.blk_settings.specs.Complaints.{complaint_text};
 ghost use Rattle.blk_settings.specs.Row.{setting_row_of, sched_row_of};
 ghost use Rattle.blk_settings.specs.Lists.{with_name, tried_of, tried_given, numbers_tried, numbers_at, unlisted_in, list_fault, numbers_fault_text, list_fault_text};
 
@@ -13,19 +14,29 @@ use crate::rows::{SCHED_COUNT, SchedKind, SchedRow, SettingRange, SettingRow, ro
 pub enum ListFault {
     /// `--sched` is no list of schedulers' names, each once.
     Scheds,
-    /// The option of the setting in this place of a scheduler's row is no list of 1 to 64 numbers in its range, each once.
+    /// The option of the setting in this place of a scheduler's row is no list of 1 to [`MAX_LISTED`](crate::given::MAX_LISTED) numbers in
+    /// its range, each once.
     Numbers(SchedKind, usize),
+}
+
+/// What the program says of words that can't be done.
+#[derive(Clone, Copy)]
+pub enum Complaint {
+    /// This text.
+    Text(&'static str),
+    /// That the option of this name takes 1 to [`MAX_LISTED`](crate::given::MAX_LISTED) numbers, each of 0 to this one.
+    Numbers(&'static str, u64),
 }
 
 impl SettingRow {
     /// What the program says of a text that is no list of its values.
-    fn list_fault(&self) -> &'static str
-        ensures { result.now ≡ numbers_fault_text (setting_row_of self.now) }
+    fn list_fault(&self) -> Complaint
+        ensures { complaint_text result ≡ numbers_fault_text (setting_row_of self.now) }
     {
         match self.range {
-            SettingRange::Short(_, list) => list.fault,
-            SettingRange::UpTo(_, _, list) => list.fault,
-            SettingRange::Switch(_) => "",
+            SettingRange::Short(_, _) => Complaint::Numbers(self.option, MAX_SHORT),
+            SettingRange::UpTo(most, _, _) => Complaint::Numbers(self.option, most),
+            SettingRange::Switch(_) => Complaint::Text(""),
         }
     }
 
@@ -48,17 +59,19 @@ impl SettingRow {
 
 impl ListFault {
     /// What the option takes, as the program says it.
-    pub fn text(self) -> &'static str
-        ensures { result.now ≡ list_fault_text self }
+    pub fn text(self) -> Complaint
+        ensures { complaint_text result ≡ list_fault_text self }
     {
         match self {
-            ListFault::Scheds => "--sched takes names of schedulers with commas between, each once",
+            ListFault::Scheds => Complaint::Text(
+                "--sched takes names of schedulers with commas between, each once",
+            ),
             ListFault::Numbers(kind, place) => {
                 let settings = kind.row().settings;
                 if place < settings.len() {
                     settings[place].list_fault()
                 } else {
-                    ""
+                    Complaint::Text("")
                 }
             }
         }

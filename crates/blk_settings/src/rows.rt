@@ -36,8 +36,6 @@ pub struct ListRow {
     pub default: &'static str,
     /// What help says of the option.
     pub help: &'static str,
-    /// What the program says of a text that is no such list.
-    pub fault: &'static str,
 }
 
 /// What a setting may be.

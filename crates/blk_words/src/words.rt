@@ -8,6 +8,7 @@ ghost use Rattle.blk_words.specs.CommandLine.{command_table};
 ghost use Rattle.blk_words.specs.Inside.Tables.{subcommand_of, makes_among};
 ghost use Rattle.blk_words.specs.Asked.{Asks, AsksGrid, AsksNoGrid, IsNoJob, list_given, by_named, by_given, tune_job, short_given, number_given, is_flagged, given_options, sched_asked, lineup_asked, compared, pictured, amounts_of, shown_of, loaded, load_given, form_by, form_asked, time_given, entry_named, from_given, round_by, round_given, script_asked, unscripted, written_of, takes_all, import_of, import_job, oracle_given, job_made, job_of};
 ghost use Rattle.blk_words.specs.Options.{script_option};
+ghost use Rattle.blk_settings.specs.Complaints.{complaint_text};
 ghost use Rattle.blk_words.specs.Refusals.{refusal_text};
 ghost use Rattle.blk_words.specs.Inside.Options.{given};
 
@@ -20,7 +21,9 @@ use crate::times::time_of;
 use blk_settings::given::Numbers;
 use blk_settings::grid::grid_given;
 use blk_settings::options::{scheduler_names, tried_names};
-use blk_settings::{By, FiguresAsked, Form, Given, GridFault, Lineup, ListFault, Load, Sched};
+use blk_settings::{
+    By, Complaint, FiguresAsked, Form, Given, GridFault, Lineup, ListFault, Load, Sched,
+};
 use clap::ArgMatches;
 use clap::error::ErrorKind;
 use std::alloc::Global;
@@ -142,10 +145,10 @@ pub enum Refusal {
 
 impl Refusal {
     /// What the program says of it.
-    pub fn text(self) -> &'static str
-        ensures { result.now ≡ refusal_text self }
+    pub fn text(self) -> Complaint
+        ensures { complaint_text result ≡ refusal_text self }
     {
-        match self {
+        let text = match self {
             Refusal::ReadExpire => "--read-expire takes a number with ns, us, ms or s",
             Refusal::WriteExpire => "--write-expire takes a number with ns, us, ms or s",
             Refusal::From => "--from takes insert or queue",
@@ -158,9 +161,10 @@ impl Refusal {
             Refusal::OfRequests => "--script takes no --from, --skip or --first",
             Refusal::JsonAlone => "--json needs --trace",
             Refusal::TraceAndJson => "--trace and --json exclude one another",
-            Refusal::Lists(fault) => fault.text(),
+            Refusal::Lists(fault) => return fault.text(),
             Refusal::By => "--by takes misses or lateness",
-        }
+        };
+        Complaint::Text(text)
     }
 }
 

@@ -3,7 +3,7 @@ use Rattle.std.specs.Prelude.{ℕ, ◌==◌, List, [], ◌∷◌, None, Some, fa
 use Rattle.blk_sched.specs.Meaning.{at_start}
 use Rattle.blk_deadline.specs.Choice.{deadline_policy, deadline_kept}
 use Rattle.blk_deadline.specs.declared.Tunables.{Tunables}
-use Rattle.blk_settings.specs.Row.{SchedOf, Switch, short_range, short_at, is_on, value_at}
+use Rattle.blk_settings.specs.Row.{SchedOf, Short, Switch, short_at, is_on, value_at}
 use Rattle.blk_settings.specs.declared.rows.SchedKind.TheVariants as kind
 use Rattle.blk_settings.specs.declared.sched.SchedFault.TheVariants as setting
 
@@ -23,12 +23,12 @@ deadline_sched = record {
         record {
           name = codes "fifo_batch";
           option = codes "fifo-batch";
-          range = short_range (codes "fifo-batch") (codes "16") (codes "1,2,4,8,16,32,64");
+          range = Short (codes "16") (codes "1,2,4,8,16,32,64");
         }
         ∷ record {
           name = codes "writes_starved";
           option = codes "writes-starved";
-          range = short_range (codes "writes-starved") (codes "2") (codes "0,1,2,4,8");
+          range = Short (codes "2") (codes "0,1,2,4,8");
         }
         ∷ record { name = codes "front_merges"; option = codes "no-front-merges"; range = Switch false }
         ∷ [];

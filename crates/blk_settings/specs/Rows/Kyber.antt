@@ -3,14 +3,10 @@ use Rattle.std.specs.Prelude.{ℕ, ◌==◌, ◌||◌, List, [], ◌∷◌, None
 use Rattle.blk_sched.specs.Meaning.{at_start}
 use Rattle.blk_kyber.specs.State.{state_at_first, numbers_of, kyber_policy}
 use Rattle.blk_kyber.specs.declared.Targets.{Targets}
-use Rattle.blk_settings.specs.Row.{RangeOf, UpTo, SchedOf, numbers_list, value_at}
+use Rattle.blk_settings.specs.Row.{UpTo, SchedOf, value_at}
 use Rattle.blk_settings.specs.declared.rows.kyber.TheConstants.{MAX_TARGET}
 use Rattle.blk_settings.specs.declared.rows.SchedKind.TheVariants as kind
 use Rattle.blk_settings.specs.declared.sched.SchedFault.TheVariants as setting
-
--- a target in rounds
-abbrev pub target : List ℕ → List ℕ → List ℕ → RangeOf
-target option default tried = UpTo MAX_TARGET default (numbers_list option (codes "1000000") tried)
 
 -- what it is made of
 abbrev pub targets_of : List ℕ → Targets
@@ -28,12 +24,12 @@ kyber_sched = record {
         record {
           name = codes "read_target";
           option = codes "read-target";
-          range = target (codes "read-target") (codes "2") (codes "1,2,5,10,20,50,100");
+          range = UpTo MAX_TARGET (codes "2") (codes "1,2,5,10,20,50,100");
         }
         ∷ record {
           name = codes "write_target";
           option = codes "write-target";
-          range = target (codes "write-target") (codes "10") (codes "1,2,5,10,20,50,100");
+          range = UpTo MAX_TARGET (codes "10") (codes "1,2,5,10,20,50,100");
         }
         ∷ [];
   };

@@ -26,7 +26,6 @@ pub(crate) const ROW: SchedRow = SchedRow {
                 ListRow {
                     default: "1,2,4,8,16,32,64",
                     help: "Under deadline, how many requests go in one batch: numbers with commas between",
-                    fault: "--fifo-batch takes 1 to 64 numbers of 0 to 65535 with commas between, each once",
                 },
             ),
         },
@@ -39,7 +38,6 @@ pub(crate) const ROW: SchedRow = SchedRow {
                 ListRow {
                     default: "0,1,2,4,8",
                     help: "Under deadline, how often reads go first while writes wait: numbers with commas between",
-                    fault: "--writes-starved takes 1 to 64 numbers of 0 to 65535 with commas between, each once",
                 },
             ),
         },

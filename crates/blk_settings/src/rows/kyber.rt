@@ -32,7 +32,6 @@ pub(crate) const ROW: SchedRow = SchedRow {
                 ListRow {
                     default: "1,2,5,10,20,50,100",
                     help: "Under kyber, how many rounds a read may wait: numbers with commas between",
-                    fault: "--read-target takes 1 to 64 numbers of 0 to 1000000 with commas between, each once",
                 },
             ),
         },
@@ -46,7 +45,6 @@ pub(crate) const ROW: SchedRow = SchedRow {
                 ListRow {
                     default: "1,2,5,10,20,50,100",
                     help: "Under kyber, how many rounds a write may wait: numbers with commas between",
-                    fault: "--write-target takes 1 to 64 numbers of 0 to 1000000 with commas between, each once",
                 },
             ),
         },
