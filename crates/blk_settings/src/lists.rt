@@ -14,7 +14,8 @@ use crate::rows::{SCHED_COUNT, SchedKind, SchedRow, SettingRange, SettingRow, ro
 pub enum ListFault {
     /// `--sched` is no list of schedulers' names, each once.
     Scheds,
-    /// The option of the setting in this place of a scheduler's row is no list of 1 to 64 numbers in its range, each once.
+    /// The option of the setting in this place of a scheduler's row is no list of 1 to [`MAX_LISTED`](crate::given::MAX_LISTED) numbers in
+    /// its range, each once.
     Numbers(SchedKind, usize),
 }
 
@@ -23,7 +24,7 @@ pub enum ListFault {
 pub enum Complaint {
     /// This text.
     Text(&'static str),
-    /// That the option of this name takes a list of numbers, of 0 to this one: as [`MAX_LISTED`](crate::given::MAX_LISTED) says how many.
+    /// That the option of this name takes 1 to [`MAX_LISTED`](crate::given::MAX_LISTED) numbers, each of 0 to this one.
     Numbers(&'static str, u64),
 }
 
