@@ -1,3 +1,4 @@
 -- What private clauses and proofs need, and no promise names.
 pub mod Loads
 pub mod Outcomes
+pub mod Ran

@@ -2,12 +2,10 @@
 
 ghost use Rattle.std.specs.Prelude.{IfOk, OnOk, IfErr};
 ghost use Rattle.blk_settings.specs.Numbers.{IsLoad};
-ghost use Rattle.blk_policy.specs.Runs.{IsRunBy};
 ghost use Rattle.blk_settings.specs.Made.{IsUnmade, IsUnsettled, IsStart};
-ghost use Rattle.blk_settings.specs.Ran.{IsRunUnder};
-ghost use Rattle.blk_settings.specs.Scheds.{first_meaning, numbers_at_first};
 ghost use Rattle.blk_settings.specs.Settles.{IsSettled, served_bios};
 ghost use Rattle.blk_trace.specs.Events.{AreOnce};
+ghost use Rattle.blk_load.specs.Inside.Ran.{RanBy, RanUnder};
 
 use crate::running::load;
 use blk_sched::Scheduler;
@@ -28,7 +26,7 @@ fn load_by<R: Threads + Wait + Sync, S: Scheduler<A = Global> + Send>(
     requires start { IfOk made (λ s. IsStart sched amounts.depth (S.meaning s) (S.kept s)) }
     requires unmade { IfErr made (IsUnmade sched) }
     ensures settled { IfOk result (λ l. IsSettled amounts l.trace l.settled) }
-    ensures ran { IfOk result (λ l. IsRunBy S.policy (first_meaning sched) (numbers_at_first sched amounts.depth) l.trace) }
+    ensures ran { IfOk result (RanBy S.policy sched amounts.depth) }
     ensures once { IfOk result (λ l. AreOnce (served_bios l.trace.events)) }
     ensures failed { IfErr result (IsUnsettled sched amounts) }
 {
@@ -52,7 +50,7 @@ fn load_under<R: Threads + Wait + Sync>(
 ) -> Result<Loaded, Unsettled>
     ensures range { OnOk result (IsLoad amounts) }
     ensures settled { IfOk result (λ l. IsSettled amounts l.trace l.settled) }
-    ensures ran { IfOk result (λ l. IsRunUnder sched amounts.depth l.trace) }
+    ensures ran { IfOk result (RanUnder sched amounts.depth) }
     ensures once { IfOk result (λ l. AreOnce (served_bios l.trace.events)) }
     ensures failed { IfErr result (IsUnsettled sched amounts) }
 {
