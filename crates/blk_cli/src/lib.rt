@@ -206,10 +206,10 @@ fn answer_of<L: Loads, T: Threads + Wait + Sync, R: Read + Drop, P: Progress>(
     match job {
         Job::Version => Ok(Answered::alone(version_text(alloc)?)),
         Job::OfText(job) => Ok(Answered::alone(work(alloc, job, records)?)),
-        Job::Tune(tuning) => {
-            let text = over_trial(rt, alloc, words, tuning, records, progress)?;
-            Ok(Answered::alone(text))
-        }
+        Job::Tune(tuning) => match over_trial(rt, alloc, words, tuning, records, progress) {
+            Ok(text) => Ok(Answered::alone(text)),
+            Err(failure) => Err(failure),
+        },
         Job::Import(import) => over_capture(alloc, import, records),
         Job::Refuse(refusal) => Err(Failure::Words(refusal)),
         Job::Explain => over_bytes(alloc, records),
