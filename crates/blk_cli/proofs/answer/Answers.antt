@@ -4,5 +4,5 @@ use Rattle.blk_cli.proofs.answer.Goals as goal
 pub returns-in-Ok-answer_of : goal.returns-in-Ok-answer_of
 returns-in-Ok-answer_of g c = record { answers = (c.in-Ok.job, c.in-Ok.ensures.asked, c.in-Ok-answer_of.ensures.answer); without = tt }
 
-pub returns-in-Err-answer_of : goal.returns-in-Err-answer_of
-returns-in-Err-answer_of g c = record { answers = tt; without = inl (c.in-Ok.job, c.in-Ok.ensures.asked, c.in-Err-answer_of.ensures.fails) }
+pub returns-in-Err : goal.returns-in-Err
+returns-in-Err g c = record { answers = tt; without = inl (c.in-Ok.job, c.in-Ok.ensures.asked, c.in-Err.ensures.fails) }
