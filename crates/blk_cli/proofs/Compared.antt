@@ -15,7 +15,8 @@ use Rattle.blk_report.specs.declared.figures.Report.{Report}
 use Rattle.blk_picture.specs.Pictures.{IsPictures}
 use Rattle.blk_trace.specs.Traces.{Traced}
 use Rattle.blk_settings.specs.declared.form.Form.{Form}
-use Rattle.blk_cli.specs.Scripts.{FailsToRun, failure_of_run}
+use Rattle.blk_cli.specs.Scripts.{FailsToRun}
+use Rattle.blk_cli.specs.Inside.Scripts.{failure_of_run}
 use Rattle.blk_cli.specs.Comparing.{IsReportUnder, AreUnder, AreReports, AreTraces, IsUncompared, IsTableIn, IsComparedText, ArePicturesText}
 
 -- nothing yet, one more, and as many as schedulers

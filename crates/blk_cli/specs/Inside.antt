@@ -1,3 +1,5 @@
 -- What private functions and proofs alone need.
 pub mod Certificates
 pub mod Ends
+pub mod Lines
+pub mod Scripts

@@ -22,7 +22,6 @@ use Rattle.blk_capture_text.specs.declared.importing.ImportFault.TheVariants as 
 use Rattle.blk_arrivals.specs.Names.{fault_name}
 use Rattle.blk_arrivals.specs.declared.terms.ArrivalsFault.{ArrivalsFault}
 use Rattle.blk_arrivals.specs.declared.terms.ArrivalsFault.TheVariants as arrivals
-use Rattle.blk_settings.specs.Complaints.{numbers_complaint}
 use Rattle.blk_words.specs.Refusals.{refusal_text}
 use Rattle.blk_lists.specs.declared.fault.Why.{Why}
 use Rattle.blk_lists.specs.declared.fault.Why.TheVariants as why
@@ -45,10 +44,6 @@ signed_line name number = numbered name (signed_decimal number)
 
 abbrev pub at_record : ℕ → List ℕ → List ℕ
 at_record at name = codes "blk: record " ++ (decimal at ++ (codes ": " ++ (name ++ 10 ∷ [])))
-
--- of an option that is given no list of numbers up to the most
-abbrev pub list_line : List ℕ → ℕ → List ℕ
-list_line option most = line (numbers_complaint option most)
 
 -- where the reader or the writer failed, where memory ran out, and where flags exclude one another
 abbrev pub read_fault : List ℕ

@@ -3,8 +3,6 @@ use Rattle.std.specs.Prelude.{⊤, ℕ, List}
 use Rattle.blk_trace.specs.Traces.{Traced}
 use Rattle.blk_text.specs.Script.{Scripted}
 use Rattle.blk_runs.specs.Runs.{IsTraceOfScript, IsRefusedUnder}
-use Rattle.blk_runs.specs.declared.fault.RunFault.{RunFault}
-use Rattle.blk_runs.specs.declared.fault.RunFault.TheVariants as run
 use Rattle.blk_settings.specs.Made.{IsUnmade}
 use Rattle.blk_settings.specs.declared.sched.Sched.{Sched}
 use Rattle.blk_cli.specs.OfTraces.{IsTraceText}
@@ -16,12 +14,6 @@ pub record IsSimText (s : Sched) (script : Scripted) (text : List ℕ) : Type 0 
   pub trace : Traced
   pub is_trace : IsTraceOfScript s script trace
   pub is_text : IsTraceText trace text
-
--- why a script is not run, as the program says it
-abbrev pub failure_of_run : RunFault → Failure
-failure_of_run (run.Sched f) = failure.Sched f
-failure_of_run (run.Step f) = failure.Step f
-failure_of_run run.Memory = failure.Memory
 
 -- its scheduler isn't made of its settings, or a step is refused
 abbrev pub FailsToRun : Sched → Scripted → Failure → Type 0

@@ -3,9 +3,10 @@
 ghost use Rattle.std.specs.Prelude.{◌≡◌, ◌≤◌, decimal};
 ghost use Rattle.drafts.specs.Outputs.{Writes, stream_of};
 ghost use Rattle.blk_words.specs.Refusals.{refusal_text};
-ghost use Rattle.blk_cli.specs.Lines.{line, list_line, want_of_memory, numbered, signed_line, at_record, text_line, step_line, oracle_line, check_line, on_time_check_line, failure_line, status_of};
+ghost use Rattle.blk_cli.specs.Lines.{line, want_of_memory, numbered, signed_line, at_record, text_line, step_line, oracle_line, check_line, on_time_check_line, failure_line, status_of};
 ghost use Rattle.blk_cli.specs.Ends.{EndsFailing};
-ghost use Rattle.blk_cli.specs.Scripts.{failure_of_run};
+ghost use Rattle.blk_cli.specs.Inside.Lines.{list_line};
+ghost use Rattle.blk_cli.specs.Inside.Scripts.{failure_of_run};
 
 use crate::traces::UnlistedFault;
 use crate::{COMMAND_LINE, Ended, FAILED, REFUSED};
