@@ -10,7 +10,7 @@ mod calls;
 pub mod laws;
 mod refusals;
 mod tags;
-pub mod trying;
+mod trying;
 
 pub use crate::calls::{Core, Placed};
 pub use crate::refusals::{BackFault, CoreFault, DepthFault, IssueFault, NotIssued, TickFault};

@@ -29,7 +29,8 @@ pub struct Tunables {
 }
 
 impl Tunables {
-    /// Whether a batch is of no request: there is no scheduler of such tunables. [`Deadline::new`] asks this, and so may whoever makes none yet.
+    /// Whether the batch size is 0, for which there is no scheduler. [`Deadline::new`] asks this, and so may a caller that checks settings
+    /// before it makes one.
     pub fn has_zero_batch(&self) -> bool
         ensures { IsTrue result ↔ (self.now.fifo_batch ≡ 0) }
     {

@@ -35,7 +35,8 @@ pub struct Targets {
 }
 
 impl Targets {
-    /// Whether a request may wait for no round: there is no scheduler of such targets. [`Kyber::new`] asks this, and so may whoever makes none yet.
+    /// Whether a target is 0, for which there is no scheduler. [`Kyber::new`] asks this, and so may a caller that checks settings before it
+    /// makes one.
     pub fn has_zero_target(&self) -> bool
         ensures { IsTrue result ↔ ((self.now.read ≡ 0) ⊎ (self.now.write ≡ 0)) }
     {

@@ -1,6 +1,6 @@
 //! Laws of the text forms, each the contract of a function that does nothing.
 
-ghost use Rattle.std.specs.Prelude.{◌≡◌, ℕ, List, codes};
+ghost use Rattle.std.specs.Prelude.{◌≡◌, ◌∷◌, ◌-◌, ℕ, List, [], codes};
 ghost use Rattle.csv.specs.Reading.{default_config, records, strip_bom};
 ghost use Rattle.blk_lists.specs.Sources.{Row};
 ghost use Rattle.blk_lists.specs.Texts.{rows_text};
@@ -10,9 +10,14 @@ ghost use Rattle.blk_text.specs.Script.{Scripted, SpellsScript, ScriptFault, One
 ghost use Rattle.blk_text.specs.TraceRecords.{IsTrace};
 ghost use Rattle.blk_text.specs.TraceForm.{trace_rows, SpellsTraceIn, SpellsTrace, TraceTextFault, OneTrace, TraceReadsBack};
 ghost use Rattle.blk_text.specs.declared.bios.TheConstants.{BIO};
-ghost use Rattle.blk_text.specs.declared.heads.TheConstants.{TICK, RELEASE, JOIN, ISSUE, DONE, BACK, DEPTH};
-ghost use Rattle.blk_text.specs.declared.script.TheConstants.{FLUSH, DRAIN, RUN};
-ghost use Rattle.blk_text.specs.declared.setup.TheConstants.{LATEST, SETUP, WIDTH};
+ghost use Rattle.blk_text.specs.declared.heads.TheConstants.{TICK, RELEASE, JOIN, ISSUE, DONE, BACK, DEPTH, TRACE};
+ghost use Rattle.blk_text.specs.declared.script.TheConstants.{FLUSH, DRAIN, RUN, MAX_RUN};
+ghost use Rattle.blk_text.specs.declared.setup.TheConstants.{DEPTHS, LATEST, QUEUES, SETUP, WIDTH};
+ghost use Rattle.blk_bio.specs.declared.limits.TheConstants.{MAX_SEGMENTS};
+ghost use Rattle.blk_trace.specs.declared.event.TheConstants.{MAX_TAGS};
+ghost use Rattle.blk_trace.specs.declared.trace.TheConstants.{MAX_EVENTS};
+ghost use Rattle.blk_lists.specs.declared.fields.TheConstants.{ANY_SLOT};
+ghost use Rattle.blk_lists.specs.declared.fields.Slot.TheVariants as slot;
 
 /// Scripts: records spell one at most, and in one version. The text of one in a version that has its tags and its steps reads
 /// back as its records, which spell it. Records either spell one or have a fault as one, and not both; and they have one first
@@ -63,4 +68,24 @@ pub fn words_of_scripts()
 pub fn words_of_traces()
     ensures release { RELEASE.word ≡ codes "release" }
     ensures join { JOIN.word ≡ codes "join" }
+{}
+
+/// The fields of each row of a script that a trace hasn't, in their order: what each tells, or that it is empty.
+pub fn fields_of_scripts()
+    ensures flush { FLUSH.slots ≡ slot.Given ∷ ANY_SLOT ∷ slot.Blank ∷ slot.Blank ∷ slot.Blank ∷ slot.Blank ∷ [] }
+    ensures drain { DRAIN.slots ≡ slot.Given ∷ ANY_SLOT ∷ slot.Blank ∷ slot.Blank ∷ slot.Blank ∷ slot.Blank ∷ [] }
+    ensures run { RUN.slots ≡ slot.Given ∷ slot.Number 1 MAX_RUN ∷ slot.Blank ∷ slot.Blank ∷ slot.Blank ∷ slot.Blank ∷ [] }
+{}
+
+/// And of each row of a trace, those that a script has too among them.
+pub fn fields_of_traces()
+    ensures title { TRACE.slots ≡ slot.Given ∷ slot.Given ∷ DEPTHS ∷ QUEUES ∷ slot.Number 0 MAX_EVENTS ∷ slot.Blank ∷ [] }
+    ensures tick { TICK.slots ≡ slot.Given ∷ slot.Blank ∷ slot.Blank ∷ slot.Blank ∷ slot.Blank ∷ slot.Blank ∷ [] }
+    ensures release { RELEASE.slots ≡ slot.Given ∷ ANY_SLOT ∷ slot.Number 1 MAX_SEGMENTS ∷ slot.Blank ∷ slot.Blank ∷ slot.Blank ∷ [] }
+    ensures join { JOIN.slots ≡ slot.Given ∷ ANY_SLOT ∷ slot.Number 1 MAX_SEGMENTS ∷ slot.Blank ∷ slot.Blank ∷ slot.Blank ∷ [] }
+    ensures issue { ISSUE.slots ≡ slot.Given ∷ ANY_SLOT ∷ slot.Number 0 (MAX_TAGS - 1) ∷ slot.Blank ∷ slot.Blank ∷ slot.Blank ∷ [] }
+    ensures done { DONE.slots ≡ slot.Given ∷ slot.Number 0 (MAX_TAGS - 1) ∷ slot.Blank ∷ slot.Blank ∷ slot.Blank ∷ slot.Blank ∷ [] }
+    ensures back { BACK.slots ≡ slot.Given ∷ slot.Number 0 (MAX_TAGS - 1) ∷ slot.Blank ∷ slot.Blank ∷ slot.Blank ∷ slot.Blank ∷ [] }
+    ensures depth { DEPTH.slots ≡ slot.Given ∷ ANY_SLOT ∷ slot.Blank ∷ slot.Blank ∷ slot.Blank ∷ slot.Blank ∷ [] }
+    ensures bio { BIO.slots ≡ slot.Given ∷ ANY_SLOT ∷ ANY_SLOT ∷ slot.Direction ∷ ANY_SLOT ∷ ANY_SLOT ∷ [] }
 {}

@@ -9,4 +9,11 @@ fn laws_hold() {
     blk_lists::laws::schedules();
     blk_text::laws::scripts();
     blk_text::laws::traces();
+    blk_lists::laws::words_of_certificates();
+    blk_lists::laws::words_of_on_time_certificates();
+    blk_text::laws::words_of_both();
+    blk_text::laws::words_of_scripts();
+    blk_text::laws::words_of_traces();
+    blk_text::laws::fields_of_scripts();
+    blk_text::laws::fields_of_traces();
 }
