@@ -1,15 +1,44 @@
-//! The job over a text of any form: what it is, or what is wrong with it.
+//! The job over a text of any form: what it is, with the subcommands that take it, or what is wrong with it.
 
-ghost use Rattle.std.specs.Prelude.{IfOk, IfErr};
+ghost use Rattle.std.specs.Prelude.{◌≡◌, ◌++◌, IfOk, IfErr};
 ghost use Rattle.blk_cli.specs.Said.{said_of};
-ghost use Rattle.blk_cli.specs.Explaining.{IsTextExplained, IsUnexplained};
+ghost use Rattle.blk_cli.specs.Explaining.{input_of, takers_line, IsTextExplained, IsUnexplained};
 
 use crate::Answered;
 use crate::failure::Failure;
-use blk_explain::explain;
+use blk_explain::{TextForm, explain};
 use blk_lists::Records;
-use std::alloc::Global;
+use blk_words::{Input, takers_text};
+use std::alloc::{AllocError, Global};
 use std::io::Read;
+
+/// What a text of a form is to the subcommands.
+fn input_of(form: TextForm) -> Input
+    ensures { result ≡ input_of form }
+{
+    match form {
+        TextForm::Commands => Input::Commands,
+        TextForm::Certificate | TextForm::OnTime => Input::Certificate,
+        TextForm::Schedule => Input::Schedule,
+        TextForm::Capture => Input::Capture,
+        TextForm::Script => Input::Script,
+        TextForm::Trace => Input::Trace,
+    }
+}
+
+/// A text with the line behind it that names the subcommands which take texts of a form, if there is one.
+fn with_takers(alloc: Global, line: Vec<u8>, form: Option<TextForm>) -> Result<Vec<u8>, AllocError>
+    ensures { IfOk result (λ text. text.items ≡ line.items ++ takers_line form) }
+{
+    let mut text = line;
+    if let Some(form) = form {
+        let takers = takers_text(alloc, input_of(form))?;
+        text.extend_from_slice(b"taken by ")?;
+        text.extend_from_slice(takers.as_bytes())?;
+        text.extend_from_slice(b"\n")?;
+    }
+    Ok(text)
+}
 
 /// Reads all of the input, and tells what text it is, or which record breaks which rule. Both are answers, and the second isn't good.
 pub fn over_bytes<R: Read + Drop>(
@@ -23,11 +52,14 @@ pub fn over_bytes<R: Read + Drop>(
         Ok(bytes) => bytes,
         Err(why) => return Err(Failure::Text(records.fault(why))),
     };
-    match explain(alloc, bytes.as_slice()) {
-        Ok(explained) => Ok(Answered {
-            text: explained.text,
+    let Ok(explained) = explain(alloc, bytes.as_slice()) else {
+        return Err(Failure::Memory);
+    };
+    match with_takers(alloc, explained.text, explained.form) {
+        Ok(text) => Ok(Answered {
+            text,
             note: None,
-            good: explained.good,
+            good: explained.form.is_some(),
         }),
         Err(_) => Err(Failure::Memory),
     }

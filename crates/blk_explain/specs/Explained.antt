@@ -1,12 +1,11 @@
 -- What a text is, or what is wrong with it, as it is written.
-use Rattle.std.specs.Prelude.{◌≡◌, ◌≢◌, ◌⊎◌, ◌≤◌, ◌++◌, Bool, true, false, ℕ, List, [], length, get_or, codes, decimal, nat_eq}
+use Rattle.std.specs.Prelude.{◌≡◌, ◌≢◌, ◌⊎◌, ◌≤◌, ◌++◌, ℕ, Option, None, Some, List, [], length, get_or, codes, decimal, nat_eq}
 use Rattle.strsim.specs.Edits.{levenshtein_row}
 use Rattle.blk_lists.specs.Sources.{Row}
 use Rattle.blk_lists.specs.Names.{why_name}
 use Rattle.blk_lists.specs.declared.fault.TextFault.{TextFault}
 use Rattle.blk_lists.specs.declared.fault.Why.TheVariants as why
 use Rattle.blk_sim.specs.Names.{step_name}
-use Rattle.blk_explain.specs.Phrases.{phrase_text}
 use Rattle.blk_explain.specs.Kinds.{kind_word}
 use Rattle.blk_explain.specs.Forms.{form_row, form_name}
 use Rattle.blk_explain.specs.Lines.{line_at}
@@ -28,10 +27,10 @@ edits_to found f = levenshtein_row nat_eq found (form_name f) (length (form_name
 abbrev pub IsNearest : List ℕ → TextForm → Type 0
 IsNearest found near = (f : TextForm) → edits_to found near ≤ edits_to found f
 
--- the two lines of a good text: the form by its title, the version and the number of records; and what takes it
+-- the line of a good text: the form by its title, the version and the number of records
 abbrev pub good_text : FormRow → Row → ℕ → List ℕ
 good_text form title count =
-    (((((((kind_word form.title ++ codes ", version ") ++ get_or title 1 []) ++ codes ", records ") ++ decimal count) ++ codes "\ntaken by ") ++ phrase_text form.takers) ++ codes "\n")
+    ((((kind_word form.title ++ codes ", version ") ++ get_or title 1 []) ++ codes ", records ") ++ decimal count) ++ codes "\n"
 
 -- the two lines of a fault: where it is, by line and record, and what; and as the program names it
 abbrev pub fault_text : ℕ → List ℕ → ℕ → List ℕ → List ℕ → List ℕ
@@ -71,13 +70,13 @@ IsFindingText bytes (finding.Refused fault) text =
     (state : List ℕ) × IsState bytes fault state
     × (text ≡ fault_text (line_at bytes fault.at) (form_name form.Script) fault.at ((step_name fault.why ++ codes ": ") ++ state) (step_name fault.why))
 
--- whether a finding is no fault
-abbrev pub is_good : Finding → Bool
-is_good (finding.Good f) = true
-is_good (finding.Faulty f fault) = false
-is_good (finding.Refused fault) = false
-is_good finding.Untitled = false
+-- the form of a text that a finding says to have no fault
+abbrev pub form_without_fault : Finding → Option TextForm
+form_without_fault (finding.Good f) = Some f
+form_without_fault (finding.Faulty f fault) = None
+form_without_fault (finding.Refused fault) = None
+form_without_fault finding.Untitled = None
 
--- the text says what the reader of the named form finds in these bytes; it is good where there is no fault
-abbrev pub IsExplained : List ℕ → Bool → List ℕ → Type 0
-IsExplained bytes good text = (f : Finding) × IsFound (rows_of bytes) f × (good ≡ is_good f) × IsFindingText bytes f text
+-- the text says what the reader of the named form finds in these bytes; it is of this form where there is no fault
+abbrev pub IsExplained : List ℕ → Option TextForm → List ℕ → Type 0
+IsExplained bytes form text = (f : Finding) × IsFound (rows_of bytes) f × (form ≡ form_without_fault f) × IsFindingText bytes f text

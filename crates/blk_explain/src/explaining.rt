@@ -4,7 +4,7 @@ ghost use Rattle.std.specs.Prelude.{◌≡◌, ◌≤◌, ◌<◌, ◌-◌, ◌^
 ghost use Rattle.csv.specs.Records.{fields_of};
 ghost use Rattle.blk_explain.specs.Findings.{rows_of, row_at, IsRefusedScript, IsFound};
 ghost use Rattle.blk_explain.specs.Details.{field_text};
-ghost use Rattle.blk_explain.specs.Explained.{edits_to, IsNearest, good_text, fault_text, empty_text, IsNamedText, IsFaultDetail, IsFindingText, is_good, IsExplained};
+ghost use Rattle.blk_explain.specs.Explained.{edits_to, IsNearest, good_text, fault_text, empty_text, IsNamedText, IsFaultDetail, IsFindingText, form_without_fault, IsExplained};
 
 use crate::counts::count_detail;
 use crate::details::{detail, push_field};
@@ -24,10 +24,10 @@ use strsim::generic_levenshtein;
 /// What is said about a text.
 #[derive(Debug, Drop)]
 pub struct Explained {
-    /// Two lines.
+    /// Of a text without a fault one line, and of one with a fault two.
     pub text: Vec<u8>,
-    /// Whether it has no fault.
-    pub good: bool,
+    /// Its form, if it has no fault.
+    pub form: Option<TextForm>,
 }
 
 /// How many edits away the name of a form is.
@@ -68,7 +68,7 @@ fn nearest(alloc: Global, found: &[u8]) -> Result<TextForm, AllocError>
     nearer(alloc, found, of_six, TextForm::Trace)
 }
 
-/// The two lines of a good text.
+/// The line of a good text.
 fn good_text(
     alloc: Global,
     form: &FormRow,
@@ -83,8 +83,6 @@ fn good_text(
     draft.text(field(title, 1))?;
     draft.text(b", records ")?;
     draft.number(count)?;
-    draft.text(b"\ntaken by ")?;
-    draft.text(form.takers.text())?;
     draft.text(b"\n")?;
     draft.finish()
 }
@@ -264,25 +262,24 @@ fn told(alloc: Global, bytes: &[u8], finding: Finding) -> Result<Vec<u8>, AllocE
     }
 }
 
-/// Whether a finding is no fault.
-fn is_good(finding: Finding) -> bool
-    ensures { result ≡ is_good finding }
+/// The form of a text that a finding says to have no fault.
+fn form_without_fault(finding: Finding) -> Option<TextForm>
+    ensures { result ≡ form_without_fault finding }
 {
     match finding {
-        Finding::Good(_) => true,
-        Finding::Faulty(_, _) | Finding::Refused(_) | Finding::Untitled => false,
+        Finding::Good(form) => Some(form),
+        Finding::Faulty(_, _) | Finding::Refused(_) | Finding::Untitled => None,
     }
 }
 
-/// What a text is: its form by its title, version and number of records, and the subcommands that take it; or its first fault, by line,
-/// record and field, with what was found and what is wanted, or the first step of a script that is refused. Fails only when
-/// out of memory.
+/// What a text is: its form by its title, version and number of records; or its first fault, by line, record and field, with what was
+/// found and what is wanted, or the first step of a script that is refused. Fails only when out of memory.
 ///
 /// The form is the one whose name the text begins with, and the fault the one that the reader of that form answers; a good script is run
 /// under the scheduler `none`. For a text that begins with no such name the nearest name is wanted, the one that is the fewest edits
 /// away, and for one whose first field is empty a title.
 pub fn explain(alloc: Global, bytes: &[u8]) -> Result<Explained, AllocError>
-    ensures { IfOk result (λ e. IsExplained bytes.now e.good e.text.items) }
+    ensures { IfOk result (λ e. IsExplained bytes.now e.form e.text.items) }
 {
     let finding = match find(alloc, bytes) {
         Ok(finding) => finding,
@@ -291,7 +288,7 @@ pub fn explain(alloc: Global, bytes: &[u8]) -> Result<Explained, AllocError>
     match told(alloc, bytes, finding) {
         Ok(text) => Ok(Explained {
             text,
-            good: is_good(finding),
+            form: form_without_fault(finding),
         }),
         Err(_) => Err(AllocError),
     }

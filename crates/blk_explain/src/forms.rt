@@ -1,4 +1,4 @@
-//! The forms of texts: their titles, what their records have in each field, and which subcommands take them.
+//! The forms of texts: their titles, and what their records have in each field.
 
 ghost use Rattle.std.specs.Prelude.{◌≡◌, ◌↔◌, IsTrue, MatchOption};
 ghost use Rattle.blk_explain.specs.Forms.{offered_kinds, form_row, form_name, IsWorded, IsRecordKind};
@@ -33,8 +33,6 @@ const MAX_KINDS: usize = 9;
 /// A form.
 #[derive(Clone, Copy)]
 pub struct FormRow {
-    /// The subcommands that take it.
-    pub takers: Phrase,
     /// The kind of its title.
     pub title: RecordKind,
     /// That of its second record.
@@ -53,7 +51,6 @@ pub struct FormRow {
 
 /// The row of blk-commands texts.
 const COMMANDS_FORM: FormRow = FormRow {
-    takers: Phrase::TakeCommands,
     title: RecordKind::CommandsTitle,
     second: RecordKind::Command,
     kinds: [RecordKind::Command; MAX_KINDS],
@@ -65,7 +62,6 @@ const COMMANDS_FORM: FormRow = FormRow {
 
 /// The row of blk-certificate texts.
 const CERTIFICATE_FORM: FormRow = FormRow {
-    takers: Phrase::TakeCertificates,
     title: RecordKind::CertificateTitle,
     second: RecordKind::Bound,
     kinds: [RecordKind::Served; MAX_KINDS],
@@ -77,7 +73,6 @@ const CERTIFICATE_FORM: FormRow = FormRow {
 
 /// The row of blk-met texts.
 const ON_TIME_FORM: FormRow = FormRow {
-    takers: Phrase::TakeCertificates,
     title: RecordKind::OnTimeTitle,
     second: RecordKind::OnTime,
     kinds: [
@@ -99,7 +94,6 @@ const ON_TIME_FORM: FormRow = FormRow {
 
 /// The row of blk-schedule texts.
 const SCHEDULE_FORM: FormRow = FormRow {
-    takers: Phrase::TakeSchedules,
     title: RecordKind::ScheduleTitle,
     second: RecordKind::Served,
     kinds: [RecordKind::Served; MAX_KINDS],
@@ -111,7 +105,6 @@ const SCHEDULE_FORM: FormRow = FormRow {
 
 /// The row of blk-capture texts.
 const CAPTURE_FORM: FormRow = FormRow {
-    takers: Phrase::TakeCaptures,
     title: RecordKind::CaptureTitle,
     second: RecordKind::Capture,
     kinds: [RecordKind::Capture; MAX_KINDS],
@@ -123,7 +116,6 @@ const CAPTURE_FORM: FormRow = FormRow {
 
 /// The row of blk-script texts.
 const SCRIPT_FORM: FormRow = FormRow {
-    takers: Phrase::TakeScripts,
     title: RecordKind::ScriptTitle,
     second: RecordKind::Setup,
     kinds: [
@@ -145,7 +137,6 @@ const SCRIPT_FORM: FormRow = FormRow {
 
 /// The row of blk-trace texts.
 const TRACE_FORM: FormRow = FormRow {
-    takers: Phrase::TakeTraces,
     title: RecordKind::TraceTitle,
     second: RecordKind::Setup,
     kinds: [

@@ -17,3 +17,4 @@ mod twice;
 mod words;
 
 pub use crate::explaining::{Explained, explain};
+pub use crate::forms::TextForm;

@@ -1,5 +1,5 @@
 -- The command line, as data.
-use Rattle.std.specs.Prelude.{◌≡◌, ◌++◌, pos, List, Some, [], ◌∷◌, codes, map, fold, true}
+use Rattle.std.specs.Prelude.{◌≡◌, ◌++◌, ℕ, pos, List, Some, [], ◌∷◌, codes, map, fold, true}
 use Rattle.std.specs.Borrow.{Bor}
 use Rattle.clap.specs.Words.{App, Rule, Text, new_app, new_rule, with_rule, with_subcommand}
 use Rattle.clap.specs.declared.builder.ArgAction.TheVariants.{Set, SetTrue}
@@ -62,22 +62,23 @@ kind_rule names name MaybeWords = maybe_text_rule name
 abbrev pub option_rule : Names → OptionOf → Rule
 option_rule names o = kind_rule names o.name o.kind
 
--- a subcommand: its name, its options, and what these make
+-- a subcommand: its name, its options, what these make, and its place in the order in which those that take a text are named
 pub record Subcommand : Type 0 where
   pub name : Text
   pub options : List OptionOf
   pub makes : Makes
+  pub place : ℕ
 
 -- one with these options, and one without any
-abbrev pub taking : Text → List OptionOf → Makes → Subcommand
-taking name options m = record { name = name; options = options; makes = m }
+abbrev pub taking : Text → List OptionOf → Makes → ℕ → Subcommand
+taking name options m place = record { name = name; options = options; makes = m; place = place }
 
-abbrev pub plain : Text → Makes → Subcommand
-plain name m = taking name [] m
+abbrev pub plain : Text → Makes → ℕ → Subcommand
+plain name m place = taking name [] m place
 
 -- one over a trace, whose one option is the flag that asks for JSON
-abbrev pub formed : Text → FiguresAsked → Subcommand
-formed name k = taking name (json_option ∷ []) (makes.Formed k)
+abbrev pub formed : Text → FiguresAsked → ℕ → Subcommand
+formed name k place = taking name (json_option ∷ []) (makes.Formed k) place
 
 -- how the rows of a trial are put in order, how many are written, and how many runs go side by side
 abbrev pub trying : List OptionOf
@@ -96,26 +97,26 @@ amount_options = submitters_option ∷ workers_option ∷ bios_option ∷ load_d
 -- the subcommands over scripts and over traces
 abbrev pub run_table : List Subcommand
 run_table =
-    taking (codes "sim") (sched_option ∷ tuning) makes.Sim
-    ∷ taking (codes "compare") (flags ++ json_option ∷ tuning) makes.Compare
-    ∷ taking (codes "tune") (listing ++ trying) makes.Tune
-    ∷ plain (codes "migrate") (makes.Told telling.Whole)
-    ∷ plain (codes "commands") (makes.Told telling.Commands)
-    ∷ formed (codes "late") figures.Late
-    ∷ formed (codes "misses") figures.Misses
-    ∷ formed (codes "spread") figures.Spread
-    ∷ taking (codes "picture") (script_option ∷ (flags ++ tuning)) makes.Picture
+    taking (codes "sim") (sched_option ∷ tuning) makes.Sim 0
+    ∷ taking (codes "compare") (flags ++ json_option ∷ tuning) makes.Compare 1
+    ∷ taking (codes "tune") (listing ++ trying) makes.Tune 9
+    ∷ plain (codes "migrate") (makes.Told telling.Whole) 7
+    ∷ plain (codes "commands") (makes.Told telling.Commands) 6
+    ∷ formed (codes "late") figures.Late 4
+    ∷ formed (codes "misses") figures.Misses 5
+    ∷ formed (codes "spread") figures.Spread 3
+    ∷ taking (codes "picture") (script_option ∷ (flags ++ tuning)) makes.Picture 8
     ∷ []
 
 -- the others: over command lists and certificates, over captures and schedules, over texts of any form, and over the running layer
 abbrev pub other_table : List Subcommand
 other_table =
-    taking (codes "oracle") (trace_option ∷ met_option ∷ json_option ∷ []) makes.Oracle
-    ∷ taking (codes "check") (json_option ∷ []) makes.Check
-    ∷ taking (codes "import") importing makes.Import
-    ∷ taking (codes "judge") (each_option ∷ []) makes.Judge
-    ∷ plain (codes "explain") makes.Explain
-    ∷ taking (codes "load") (sched_option ∷ trace_option ∷ json_option ∷ (amount_options ++ tuning)) makes.Load
+    taking (codes "oracle") (trace_option ∷ met_option ∷ json_option ∷ []) makes.Oracle 2
+    ∷ taking (codes "check") (json_option ∷ []) makes.Check 10
+    ∷ taking (codes "import") importing makes.Import 12
+    ∷ taking (codes "judge") (each_option ∷ []) makes.Judge 11
+    ∷ plain (codes "explain") makes.Explain 13
+    ∷ taking (codes "load") (sched_option ∷ trace_option ∷ json_option ∷ (amount_options ++ tuning)) makes.Load 14
     ∷ []
 
 -- all of them

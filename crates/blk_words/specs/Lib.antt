@@ -2,6 +2,7 @@ pub mod Options
 pub mod CommandLine
 pub mod Times
 pub mod Lists
+pub mod Takers
 pub mod Asked
 pub mod Refusals
 pub mod Plain

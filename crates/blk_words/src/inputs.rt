@@ -2,6 +2,23 @@
 
 use blk_settings::{FiguresAsked, Form, Lineup, Sched};
 
+/// A kind of text, as the subcommands take it.
+#[derive(Clone, Copy, Debug, PartialEq, Eq)]
+pub enum Input {
+    /// A script.
+    Script,
+    /// A trace.
+    Trace,
+    /// A command list.
+    Commands,
+    /// A certificate, of how late commands have to be or of how many can be on time.
+    Certificate,
+    /// A schedule.
+    Schedule,
+    /// A capture.
+    Capture,
+}
+
 /// A job over a text: it needs no more than the records that it reads, and answers a text alone. A row for each kind of text.
 #[derive(Clone, Copy, Debug, PartialEq, Eq)]
 pub enum TextJob {

@@ -8,11 +8,13 @@ mod inputs;
 mod lists;
 mod option_names;
 mod table;
+mod takers;
 mod times;
 mod words;
 
-pub use crate::inputs::{Running, Solving, Telling, TextJob};
+pub use crate::inputs::{Input, Running, Solving, Telling, TextJob};
 pub use crate::table::{MAX_THREADS, MAX_TOP, Makes};
+pub use crate::takers::takers_text;
 pub use crate::words::{
     Import, Job, NoGrid, NoJob, Refusal, ShownLoad, Tuning, Written, choose, grid_asked, version,
 };

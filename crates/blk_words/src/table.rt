@@ -71,6 +71,8 @@ pub struct CommandRow {
     pub options: &'static [OptionGroup],
     /// What its options make.
     pub makes: Makes,
+    /// Its place, below [`COMMAND_COUNT`], in the order in which those that take a text are named.
+    pub place: usize,
 }
 
 /// The option that asks for JSON.
@@ -80,13 +82,23 @@ const JSON: OptionRow<'static> = OptionRow {
     help: "Writes it as JSON",
 };
 
+/// How many subcommands there are over scripts and over traces.
+const RUN_COUNT: usize = 9;
+
+/// How many others there are.
+const OTHER_COUNT: usize = 6;
+
+/// How many there are.
+pub const COMMAND_COUNT: usize = RUN_COUNT + OTHER_COUNT;
+
 /// The subcommands over scripts and over traces.
-pub static RUN_COMMANDS: [CommandRow; 9] = [
+pub static RUN_COMMANDS: [CommandRow; RUN_COUNT] = [
     CommandRow {
         name: "sim",
         about: "Runs a script and writes its trace",
         options: &[OptionGroup::Own(SCHED), OptionGroup::Settings],
         makes: Makes::Sim,
+        place: 0,
     },
     CommandRow {
         name: "compare",
@@ -97,6 +109,7 @@ pub static RUN_COMMANDS: [CommandRow; 9] = [
             OptionGroup::Settings,
         ],
         makes: Makes::Compare,
+        place: 1,
     },
     CommandRow {
         name: "tune",
@@ -121,36 +134,42 @@ pub static RUN_COMMANDS: [CommandRow; 9] = [
             OptionGroup::Own(JSON),
         ],
         makes: Makes::Tune,
+        place: 9,
     },
     CommandRow {
         name: "migrate",
         about: "Writes a trace in the latest version",
         options: &[],
         makes: Makes::Told(Telling::Whole),
+        place: 7,
     },
     CommandRow {
         name: "commands",
         about: "Writes the command list of a trace",
         options: &[],
         makes: Makes::Told(Telling::Commands),
+        place: 6,
     },
     CommandRow {
         name: "late",
         about: "Writes which commands of a trace were late, and what went before them",
         options: &[OptionGroup::Own(JSON)],
         makes: Makes::Formed(FiguresAsked::Late),
+        place: 4,
     },
     CommandRow {
         name: "misses",
         about: "Writes how many commands of a trace were late, and how many had to be",
         options: &[OptionGroup::Own(JSON)],
         makes: Makes::Formed(FiguresAsked::Misses),
+        place: 5,
     },
     CommandRow {
         name: "spread",
         about: "Writes how long the commands of a trace waited and how late they were, by quantiles",
         options: &[OptionGroup::Own(JSON)],
         makes: Makes::Formed(FiguresAsked::Spread),
+        place: 3,
     },
     CommandRow {
         name: "picture",
@@ -165,11 +184,12 @@ pub static RUN_COMMANDS: [CommandRow; 9] = [
             OptionGroup::Settings,
         ],
         makes: Makes::Picture,
+        place: 8,
     },
 ];
 
 /// The others: over command lists and certificates, over captures and schedules, over texts of any form, and over the running layer.
-pub static OTHER_COMMANDS: [CommandRow; 6] = [
+pub static OTHER_COMMANDS: [CommandRow; OTHER_COUNT] = [
     CommandRow {
         name: "oracle",
         about: "Writes a least schedule of a command list, with its certificate",
@@ -191,12 +211,14 @@ pub static OTHER_COMMANDS: [CommandRow; 6] = [
             }),
         ],
         makes: Makes::Oracle,
+        place: 2,
     },
     CommandRow {
         name: "check",
         about: "Checks a certificate",
         options: &[OptionGroup::Own(JSON)],
         makes: Makes::Check,
+        place: 10,
     },
     CommandRow {
         name: "import",
@@ -254,6 +276,7 @@ pub static OTHER_COMMANDS: [CommandRow; 6] = [
             }),
         ],
         makes: Makes::Import,
+        place: 12,
     },
     CommandRow {
         name: "judge",
@@ -264,12 +287,14 @@ pub static OTHER_COMMANDS: [CommandRow; 6] = [
             help: "Writes each late command instead, and why it was late",
         })],
         makes: Makes::Judge,
+        place: 11,
     },
     CommandRow {
         name: "explain",
         about: "Tells what a text is, or which record breaks which rule, and what was expected there",
         options: &[],
         makes: Makes::Explain,
+        place: 13,
     },
     CommandRow {
         name: "load",
@@ -315,5 +340,6 @@ pub static OTHER_COMMANDS: [CommandRow; 6] = [
             OptionGroup::Settings,
         ],
         makes: Makes::Load,
+        place: 14,
     },
 ];

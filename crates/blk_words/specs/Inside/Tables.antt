@@ -1,13 +1,15 @@
 -- Subcommands and options by the rows of the program's table.
-use Rattle.std.specs.Prelude.{◌∷◌, [], List, Option, find, option_map}
+use Rattle.std.specs.Prelude.{◌∷◌, ◌++◌, [], List, Option, None, Some, codes, find, option_map}
 use Rattle.std.specs.List.{flat_map}
 use Rattle.std.specs.Str.{bytes_eq}
 use Rattle.clap.specs.Words.{Text}
+use Rattle.std.specs.Borrow.{Bor}
 use Rattle.blk_settings.specs.Options.{OptionOf, option_of, flags, tuning, listing}
 use Rattle.blk_words.specs.declared.table.Makes.{Makes}
 use Rattle.blk_words.specs.declared.table.OptionGroup.{OptionGroup}
 use Rattle.blk_words.specs.declared.table.OptionGroup.TheVariants as group
 use Rattle.blk_words.specs.declared.table.CommandRow.{CommandRow}
+use Rattle.blk_words.specs.declared.takers.Taker.{Taker}
 use Rattle.blk_words.specs.CommandLine.{Subcommand, taking}
 
 -- the options of a part
@@ -19,8 +21,16 @@ options_in group.Lists = listing
 
 -- the subcommand of a row
 abbrev pub subcommand_of : CommandRow → Subcommand
-subcommand_of row = taking row.name.now (flat_map options_in row.options.now) row.makes
+subcommand_of row = taking row.name.now (flat_map options_in row.options.now) row.makes row.place
 
 -- what the subcommand of a name makes of its options
 abbrev pub makes_among : Text → List Subcommand → Option Makes
 makes_among name subcommands = option_map (λ s. s.makes) (find (λ s. bytes_eq name s.name) subcommands)
+
+-- how a subcommand that takes a text is named, by its name and the flag
+abbrev pub with_flag : Text → Option (Bor Text) → Text
+with_flag name None = name
+with_flag name (Some flag) = (name ++ codes " --") ++ flag.now
+
+abbrev pub called : Taker → Text
+called t = with_flag t.name.now t.flag
