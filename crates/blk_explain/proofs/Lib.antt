@@ -6,3 +6,4 @@ pub mod Following
 pub mod Seeing
 pub mod Refused
 pub mod Sized
+pub mod Worded

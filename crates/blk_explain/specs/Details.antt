@@ -17,7 +17,7 @@ use Rattle.blk_text.specs.declared.bios.TheConstants.{MAX_SUBMITTERS}
 use Rattle.blk_text.specs.declared.setup.TheConstants.{MORE_TAGS}
 use Rattle.blk_explain.specs.Phrases.{phrase_text}
 use Rattle.blk_explain.specs.Fields.{field_name, want_of}
-use Rattle.blk_explain.specs.Kinds.{record_row, kind_word, slot_at, field_at}
+use Rattle.blk_explain.specs.Kinds.{slot_at, name_at}
 use Rattle.blk_explain.specs.Words.{words_text}
 use Rattle.blk_explain.specs.Forms.{offered_kinds, IsRecordKind}
 use Rattle.blk_explain.specs.declared.details.TheConstants.{MAX_SHOWN}
@@ -26,7 +26,7 @@ use Rattle.blk_explain.specs.declared.fields.Allowed.TheVariants as allowed
 use Rattle.blk_explain.specs.declared.fields.Want.{Want}
 use Rattle.blk_explain.specs.declared.fields.Want.TheVariants as want
 use Rattle.blk_explain.specs.declared.forms.FormRow.{FormRow}
-use Rattle.blk_explain.specs.declared.kinds.RecordKind.{RecordKind}
+use Rattle.blk_lists.specs.Kinds.{KindRow}
 
 -- a digit of base sixteen
 abbrev pub hex_digit : ℕ → ℕ
@@ -131,38 +131,41 @@ IsNumberIn row k n = (get_or row k [] ≡ decimal n) ⊎ ((n ≡ 0) × ((m : ℕ
 abbrev pub beside_commands : ℕ → Slot → Allowed
 beside_commands n t = if n == 0 then allowed.NoNumber else allowed.Slot t
 
+-- how many submitters there may be, by the number of them in the title, where it tells one
+abbrev pub submitters_of : ℕ → ℕ
+submitters_of n = if n == 0 then MAX_SUBMITTERS else n
+
 -- what may stand in a field of a text with this title, by its slot
 abbrev pub IsAllowedBy : Row → Slot → Want → Allowed → Type 0
 IsAllowedBy title s want.Row a = a ≡ allowed.Slot s
 IsAllowedBy title s want.Tags a = (v : ℕ) × IsNumberIn title 1 v × (a ≡ allowed.Slot (slot_in MORE_TAGS v s))
 IsAllowedBy title s want.Queue a = (n : ℕ) × IsNumberIn title 3 n × (a ≡ allowed.Slot (slot.Number 0 (n - 1)))
-IsAllowedBy title s want.Submitter a = (n : ℕ) × IsNumberIn title 5 n × (a ≡ allowed.Slot (slot.Number 0 (n - 1)))
-IsAllowedBy title s want.AnySubmitter a = a ≡ allowed.Slot (slot.Number 0 (MAX_SUBMITTERS - 1))
+IsAllowedBy title s want.Submitter a = (n : ℕ) × IsNumberIn title 5 n × (a ≡ allowed.Slot (slot.Number 0 (submitters_of n - 1)))
 IsAllowedBy title s want.Bound a = (n : ℕ) × IsNumberIn title 3 n × (a ≡ beside_commands n s)
 IsAllowedBy title s want.Text a = a ≡ allowed.Slot slot.Text
 
 -- what may stand in the field at a place of a kind of record
-abbrev pub IsAllowedIn : Row → RecordKind → ℕ → Allowed → Type 0
-IsAllowedIn title kind k a = IsAllowedBy title (slot_at kind k) (want_of (field_at kind k)) a
+abbrev pub IsAllowedIn : Row → KindRow → ℕ → Allowed → Type 0
+IsAllowedIn title kind k a = IsAllowedBy title (slot_at kind k) (want_of (name_at kind k)) a
 
 -- the field at a place does not have the fault, and it does
-abbrev pub IsKeptAt : Row → RecordKind → Why → Row → ℕ → Type 0
+abbrev pub IsKeptAt : Row → KindRow → Why → Row → ℕ → Type 0
 IsKeptAt title kind w row k = (a : Allowed) × IsAllowedIn title kind k a × KeepsIn w a (get_or row k [])
 
-abbrev pub IsBrokenAt : Row → RecordKind → Why → Row → ℕ → Allowed → Type 0
+abbrev pub IsBrokenAt : Row → KindRow → Why → Row → ℕ → Allowed → Type 0
 IsBrokenAt title kind w row k a = IsAllowedIn title kind k a × ¬ KeepsIn w a (get_or row k [])
 
 -- it is the first one that does
-abbrev pub IsFirstBrokenAt : Row → RecordKind → Why → Row → ℕ → Allowed → Type 0
+abbrev pub IsFirstBrokenAt : Row → KindRow → Why → Row → ℕ → Allowed → Type 0
 IsFirstBrokenAt title kind w row k a = (k < 8) × IsBrokenAt title kind w row k a × ((j : ℕ) → j < k → IsKeptAt title kind w row j)
 
 -- none does
-abbrev pub AllKept : Row → RecordKind → Why → Row → Type 0
+abbrev pub AllKept : Row → KindRow → Why → Row → Type 0
 AllKept title kind w row = (j : ℕ) → j < 8 → IsKeptAt title kind w row j
 
 -- a field that has the fault, and what is wanted
-abbrev pub broken_text : Why → RecordKind → Row → ℕ → Allowed → List ℕ
-broken_text w kind row k a = field_text k (field_name (field_at kind k)) (get_or row k []) ++ wanted_text w a
+abbrev pub broken_text : Why → KindRow → Row → ℕ → Allowed → List ℕ
+broken_text w kind row k a = field_text k (field_name (name_at kind k)) (get_or row k []) ++ wanted_text w a
 
 -- what an event has to be instead of one that breaks a rule
 abbrev pub rule_wanted : TraceRule → List ℕ
@@ -198,23 +201,23 @@ why_wanted form why.Memory = codes "more memory"
 
 -- the words that a record of this number may begin with
 abbrev pub words_at : FormRow → ℕ → List ℕ
-words_at form at = if at == 2 then kind_word form.second else words_text (offered_kinds form)
+words_at form at = if at == 2 then form.second.word else words_text (offered_kinds form.later)
 
 -- the fault by its name, and what is wanted
 abbrev pub fault_wanted : FormRow → Why → List ℕ
 fault_wanted form w = (why_name w ++ codes ": wanted ") ++ why_wanted form w
 
 -- where a record of this number begins with another word than it may, its first field is called as that of this kind
-abbrev pub kind_at : FormRow → ℕ → RecordKind
+abbrev pub kind_at : FormRow → ℕ → KindRow
 kind_at form at = if at == 2 then form.second else form.item
 
 -- what it begins with, and the words that it may begin with
 abbrev pub begun_text : FormRow → ℕ → List ℕ → List ℕ
-begun_text form at found = field_text 0 (field_name (field_at (kind_at form at) 0)) found ++ words_at form at
+begun_text form at found = field_text 0 (field_name (name_at (kind_at form at) 0)) found ++ words_at form at
 
 -- what is said where no field by itself has the fault
 abbrev pub rest_text : FormRow → ℕ → Why → Row → List ℕ
-rest_text form at why.Fields cells = ((codes "found " ++ decimal (length cells)) ++ codes " fields, wanted ") ++ decimal (length (record_row form.title).kind.slots)
+rest_text form at why.Fields cells = ((codes "found " ++ decimal (length cells)) ++ codes " fields, wanted ") ++ decimal (length form.title.slots)
 rest_text form at why.Word cells = begun_text form at (get_or cells 0 [])
 rest_text form at why.Title cells = fault_wanted form why.Title
 rest_text form at why.Number cells = fault_wanted form why.Number
@@ -230,10 +233,10 @@ rest_text form at why.Read cells = fault_wanted form why.Read
 rest_text form at why.Memory cells = fault_wanted form why.Memory
 
 -- what is said about a fault of a record of this number and kind, in a text with this title
-abbrev pub IsDetailBy : FormRow → Row → ℕ → Why → RecordKind → Row → List ℕ → Type 0
+abbrev pub IsDetailBy : FormRow → Row → ℕ → Why → KindRow → Row → List ℕ → Type 0
 IsDetailBy form title at w kind row text =
     ((k : ℕ) × (a : Allowed) × IsFirstBrokenAt title kind w row k a × (text ≡ broken_text w kind row k a))
     ⊎ (AllKept title kind w row × (text ≡ rest_text form at w row))
 
 abbrev pub IsDetail : FormRow → Row → ℕ → Why → Row → List ℕ → Type 0
-IsDetail form title at w cells text = (kind : RecordKind) × IsRecordKind form at (get_or cells 0 []) kind × IsDetailBy form title at w kind cells text
+IsDetail form title at w cells text = (kind : KindRow) × IsRecordKind form at (get_or cells 0 []) kind × IsDetailBy form title at w kind cells text

@@ -6,7 +6,6 @@ use Rattle.blk_lists.specs.Names.{why_name}
 use Rattle.blk_lists.specs.declared.fault.TextFault.{TextFault}
 use Rattle.blk_lists.specs.declared.fault.Why.TheVariants as why
 use Rattle.blk_sim.specs.Names.{step_name}
-use Rattle.blk_explain.specs.Kinds.{kind_word}
 use Rattle.blk_explain.specs.Forms.{form_row, form_name}
 use Rattle.blk_explain.specs.Lines.{line_at}
 use Rattle.blk_explain.specs.Findings.{rows_of, row_at, name_in, IsFound}
@@ -30,7 +29,7 @@ IsNearest found near = (f : TextForm) → edits_to found near ≤ edits_to found
 -- the line of a good text: the form by its title, the version and the number of records
 abbrev pub good_text : FormRow → Row → ℕ → List ℕ
 good_text form title count =
-    ((((kind_word form.title ++ codes ", version ") ++ get_or title 1 []) ++ codes ", records ") ++ decimal count) ++ codes "\n"
+    ((((form.title.word ++ codes ", version ") ++ get_or title 1 []) ++ codes ", records ") ++ decimal count) ++ codes "\n"
 
 -- the two lines of a fault: where it is, by line and record, and what; and as the program names it
 abbrev pub fault_text : ℕ → List ℕ → ℕ → List ℕ → List ℕ → List ℕ

@@ -1,12 +1,12 @@
 -- The fields of records: what each is called, and what may stand in it.
 use Rattle.std.specs.Prelude.{ℕ, List, codes}
-use Rattle.blk_explain.specs.declared.fields.Field.{Field}
-use Rattle.blk_explain.specs.declared.fields.Field.TheVariants as field
+use Rattle.blk_lists.specs.declared.names.FieldName.{FieldName}
+use Rattle.blk_lists.specs.declared.names.FieldName.TheVariants as field
 use Rattle.blk_explain.specs.declared.fields.Want.{Want}
 use Rattle.blk_explain.specs.declared.fields.Want.TheVariants as want
 
 -- its name
-abbrev pub field_name : Field → List ℕ
+abbrev pub field_name : FieldName → List ℕ
 field_name field.Unused = codes "unused"
 field_name field.Word = codes "word"
 field_name field.Title = codes "title"
@@ -47,7 +47,6 @@ field_name field.MaxSegments = codes "segments of a request"
 field_name field.Step = codes "step"
 field_name field.Event = codes "event"
 field_name field.Submitter = codes "submitter"
-field_name field.AnySubmitter = codes "submitter"
 field_name field.Serial = codes "serial"
 field_name field.Direction = codes "direction"
 field_name field.Queue = codes "hardware queue"
@@ -57,7 +56,7 @@ field_name field.Rounds = codes "rounds"
 field_name field.Bios = codes "bios"
 
 -- what may stand in it
-abbrev pub want_of : Field → Want
+abbrev pub want_of : FieldName → Want
 want_of field.Unused = want.Row
 want_of field.Word = want.Row
 want_of field.Title = want.Row
@@ -98,7 +97,6 @@ want_of field.MaxSegments = want.Row
 want_of field.Step = want.Row
 want_of field.Event = want.Row
 want_of field.Submitter = want.Submitter
-want_of field.AnySubmitter = want.AnySubmitter
 want_of field.Serial = want.Row
 want_of field.Direction = want.Row
 want_of field.Queue = want.Queue

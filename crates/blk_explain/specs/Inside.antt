@@ -1,5 +1,4 @@
 -- What private functions and proofs alone need.
-pub mod Rows
 pub mod Followed
 pub mod Seen
 pub mod Read

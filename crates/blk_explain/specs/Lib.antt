@@ -1,6 +1,5 @@
 pub mod Phrases
 pub mod Fields
-pub mod Rows
 pub mod Kinds
 pub mod Words
 pub mod Forms

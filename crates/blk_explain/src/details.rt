@@ -4,17 +4,20 @@ ghost use Rattle.std.specs.Prelude.{◌≡◌, ◌≤◌, ◌<◌, ◌-◌, ◌+
 ghost use Rattle.csv.specs.Records.{fields_of};
 ghost use Rattle.blk_lists.specs.Fields.{IsSized, IsNumber, IsInRange};
 ghost use Rattle.blk_lists.specs.declared.fields.Slot.TheVariants as slot;
-ghost use Rattle.blk_explain.specs.Details.{hex_digit, shown_byte, shown_field, field_text, range_text, number_text, allowed_text, wanted_text, KeepsSlot, KeepsNone, KeepsIn, IsNumberIn, IsAllowedBy, rule_wanted, why_wanted, words_at, begun_text, rest_text, IsDetail, broken_text};
+ghost use Rattle.blk_explain.specs.Details.{hex_digit, shown_byte, shown_field, field_text, range_text, number_text, allowed_text, wanted_text, KeepsSlot, KeepsNone, KeepsIn, IsNumberIn, submitters_of, IsAllowedBy, rule_wanted, why_wanted, words_at, begun_text, rest_text, IsDetail, broken_text};
+ghost use Rattle.blk_explain.specs.Forms.{offered_kinds};
+ghost use Rattle.blk_explain.specs.Words.{words_text};
 ghost use Rattle.blk_explain.specs.Inside.Broken.{SaysIfBroken, SaysFirstBroken};
 
-use crate::fields::{Allowed, Want};
-use crate::forms::{FormRow, kind_of};
-use crate::kinds::{RecordKind, push_word};
+use crate::fields::{Allowed, Want, field_name, want_of};
+use crate::forms::{FormRow, Later, kind_of};
 use crate::words::push_words;
 use blk_bio::{BioFault, Dir, MAX_END, TraceRule};
 use blk_lists::Why;
 use blk_lists::fields::{Slot, field, parse_nanoseconds, parse_number, parse_sized};
-use blk_text::{MAX_SUBMITTERS, MORE_TAGS};
+use blk_lists::kinds::AnyKind;
+use blk_lists::on_time::WINDOW;
+use blk_text::{MAX_SUBMITTERS, MORE_TAGS, event_kinds, step_kinds};
 use csv::ByteRecord;
 use drafts::Draft;
 use std::alloc::{AllocError, Global};
@@ -285,6 +288,13 @@ fn below(count: u64) -> Allowed
     })
 }
 
+/// How many submitters there may be, by the number of them in the title: as many, or, where it tells none, as a trace may name.
+fn submitters_of(told: u64) -> u64
+    ensures { result ≡ submitters_of told }
+{
+    if told == 0 { MAX_SUBMITTERS } else { told }
+}
+
 /// What may stand in a field of a text with this title, by its slot.
 fn allowed_by(title: &ByteRecord, slot: Slot, want: Want) -> Allowed
     ensures { IsAllowedBy (fields_of title.now) slot want result }
@@ -293,8 +303,7 @@ fn allowed_by(title: &ByteRecord, slot: Slot, want: Want) -> Allowed
         Want::Row => Allowed::Slot(slot),
         Want::Tags => Allowed::Slot(MORE_TAGS.slot_in(number_in(title, 1), slot)),
         Want::Queue => below(number_in(title, 3)),
-        Want::Submitter => below(number_in(title, 5)),
-        Want::AnySubmitter => below(MAX_SUBMITTERS),
+        Want::Submitter => below(submitters_of(number_in(title, 5))),
         Want::Text => Allowed::Slot(Slot::Text),
         Want::Bound => {
             if number_in(title, 3) == 0 {
@@ -309,16 +318,15 @@ fn allowed_by(title: &ByteRecord, slot: Slot, want: Want) -> Allowed
 /// What may stand in the field at a place, where the field has the fault.
 fn broken_at(
     title: &ByteRecord,
-    kind: RecordKind,
+    kind: AnyKind,
     why: Why,
     row: &ByteRecord,
     place: usize,
 ) -> Option<Allowed>
     ensures { SaysIfBroken (fields_of title.now) kind why (fields_of row.now) place result }
 {
-    let kept = kind.row();
-    let want = kept.field(place).want();
-    let allowed = allowed_by(title, kept.slot(place), want);
+    let want = want_of(kind.name(place));
+    let allowed = allowed_by(title, kind.slot(place), want);
     if keeps(why, allowed, field(row, place)) {
         None
     } else {
@@ -329,7 +337,7 @@ fn broken_at(
 /// The place of the first field that has the fault, and what may stand in it.
 fn first_broken(
     title: &ByteRecord,
-    kind: RecordKind,
+    kind: AnyKind,
     why: Why,
     row: &ByteRecord,
 ) -> Option<(usize, Allowed)>
@@ -391,14 +399,26 @@ fn push_why(draft: &mut Draft, form: &FormRow, why: Why) -> Result<(), AllocErro
     }
 }
 
+/// Adds the words that an author may begin a later record with.
+fn push_offered(draft: &mut Draft, later: Later) -> Result<(), AllocError>
+    ensures { OnOk result (draft.new ≡ draft.old ++ words_text (offered_kinds later)) }
+{
+    match later {
+        Later::Wordless => Ok(()),
+        Later::Windows => push_words(draft, &[WINDOW.any()]),
+        Later::Steps => push_words(draft, &step_kinds()),
+        Later::Events => push_words(draft, &event_kinds()),
+    }
+}
+
 /// Adds the words that a record of this number may begin with.
 fn push_words_at(draft: &mut Draft, form: &FormRow, at: u64) -> Result<(), AllocError>
     ensures { OnOk result (draft.new ≡ draft.old ++ words_at form.now at) }
 {
     if at == 2 {
-        push_word(draft, form.second)
+        draft.text(form.second.word())
     } else {
-        push_words(draft, form.offered_kinds())
+        push_offered(draft, form.later)
     }
 }
 
@@ -408,7 +428,7 @@ fn push_begun(draft: &mut Draft, form: &FormRow, at: u64, found: &[u8]) -> Resul
     ensures { OnOk result (draft.new ≡ draft.old ++ begun_text form.now at found.now) }
 {
     let kind = if at == 2 { form.second } else { form.item };
-    push_field(draft, 0, kind.row().field(0).name(), found)?;
+    push_field(draft, 0, field_name(kind.name(0)), found)?;
     push_words_at(draft, form, at)
 }
 
@@ -428,7 +448,7 @@ fn rest_told(
             draft.text(b"found ")?;
             draft.number(row.len() as u64)?;
             draft.text(b" fields, wanted ")?;
-            draft.number(form.title.row().width())?;
+            draft.number(form.title.width())?;
             draft.finish()
         }
         Why::Word => {
@@ -459,7 +479,7 @@ fn rest_told(
 fn broken_told(
     alloc: Global,
     why: Why,
-    kind: RecordKind,
+    kind: AnyKind,
     row: &ByteRecord,
     place: usize,
     allowed: Allowed,
@@ -468,7 +488,7 @@ fn broken_told(
     ensures { IfOk result (λ text. text.items ≡ broken_text why kind (fields_of row.now) place allowed) }
 {
     let mut draft = Draft::new(alloc);
-    let name = kind.row().field(place).name();
+    let name = field_name(kind.name(place));
     push_field(&mut draft, place, name, field(row, place))?;
     push_wanted(&mut draft, why, allowed)?;
     draft.finish()

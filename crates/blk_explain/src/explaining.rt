@@ -10,7 +10,6 @@ use crate::counts::count_detail;
 use crate::details::{detail, push_field};
 use crate::findings::{Finding, count_rows, find, row_at};
 use crate::forms::{FormRow, TextForm};
-use crate::kinds::{push_word, word_of};
 use crate::lines::line_at;
 use crate::steps::state_of;
 use blk_lists::fields::field;
@@ -34,8 +33,8 @@ pub struct Explained {
 fn edits_to(alloc: Global, found: &[u8], form: TextForm) -> Result<usize, AllocError>
     ensures { IfOk result (λ n. n ≡ edits_to found.now form) }
 {
-    let name = word_of(alloc, form.row().title)?;
-    generic_levenshtein(alloc, found, name.as_slice())
+    let row = form.row();
+    generic_levenshtein(alloc, found, row.title.word())
 }
 
 /// Of two forms the one whose name is fewer edits away.
@@ -78,7 +77,7 @@ fn good_text(
     ensures { IfOk result (λ text. text.items ≡ good_text form.now (fields_of title.now) count) }
 {
     let mut draft = Draft::new(alloc);
-    push_word(&mut draft, form.title)?;
+    draft.text(form.title.word())?;
     draft.text(b", version ")?;
     draft.text(field(title, 1))?;
     draft.text(b", records ")?;
@@ -178,9 +177,9 @@ fn faulty_told(
     let form = form.row();
     let told = fault_detail(alloc, bytes, &form, fault)?;
     let line = line_at(bytes, fault.at);
-    let name = word_of(alloc, form.title)?;
+    let name = form.title.word();
     let why = fault.why.name().as_bytes();
-    fault_text(alloc, line, name.as_slice(), fault.at, told.as_slice(), why)
+    fault_text(alloc, line, name, fault.at, told.as_slice(), why)
 }
 
 /// What is said about a script of which a step is refused.
@@ -192,15 +191,9 @@ fn refused_told(alloc: Global, bytes: &[u8], fault: SimFault) -> Result<Vec<u8>,
     let why = fault.why.name().as_bytes();
     let detail = step_detail(alloc, why, state.as_slice())?;
     let line = line_at(bytes, fault.at);
-    let name = word_of(alloc, TextForm::Script.row().title)?;
-    fault_text(
-        alloc,
-        line,
-        name.as_slice(),
-        fault.at,
-        detail.as_slice(),
-        why,
-    )
+    let form = TextForm::Script.row();
+    let name = form.title.word();
+    fault_text(alloc, line, name, fault.at, detail.as_slice(), why)
 }
 
 /// What is said about a text whose first field is empty, or that has none.
@@ -225,17 +218,12 @@ fn named_told(alloc: Global, bytes: &[u8]) -> Result<Vec<u8>, AllocError>
     let row = row_at(alloc, bytes, 1)?;
     let found = field(&row, 0);
     let near = nearest(alloc, found)?;
-    let name = word_of(alloc, near.row().title)?;
-    let detail = title_detail(alloc, found, name.as_slice())?;
+    let form = near.row();
+    let name = form.title.word();
+    let detail = title_detail(alloc, found, name)?;
     let line = line_at(bytes, 1);
-    fault_text(
-        alloc,
-        line,
-        name.as_slice(),
-        1,
-        detail.as_slice(),
-        Why::Title.name().as_bytes(),
-    )
+    let why = Why::Title.name().as_bytes();
+    fault_text(alloc, line, name, 1, detail.as_slice(), why)
 }
 
 /// What is said about a text that begins with the name of no form.

@@ -1,9 +1,10 @@
-//! The fields of records: what each is called, and what may stand in it.
+//! The fields of records, by the names in their rows: what each is called in a text, and what may stand in it.
 
 ghost use Rattle.std.specs.Prelude.{◌≡◌};
 ghost use Rattle.blk_explain.specs.Fields.{field_name, want_of};
 
 use blk_lists::fields::Slot;
+use blk_lists::names::FieldName;
 
 /// What may stand in a field: what the row of its record says, or as the text's title says.
 #[derive(Clone, Copy)]
@@ -14,10 +15,8 @@ pub enum Want {
     Tags,
     /// One of the hardware queues.
     Queue,
-    /// One of the submitters.
+    /// One of the submitters of the title, or, where it tells none, one that a trace may name.
     Submitter,
-    /// A submitter that a trace may name.
-    AnySubmitter,
     /// What the row says where there are commands, and `none` where there are none.
     Bound,
     /// Any text: what else the reader wants of it is said of the whole record.
@@ -33,217 +32,112 @@ pub enum Allowed {
     NoNumber,
 }
 
-/// A field of a record.
-#[derive(Clone, Copy)]
-pub enum Field {
-    /// One that the record doesn't use.
-    Unused,
-    /// The word that the record begins with. Of a record that begins with another, the field has the name that its form's other records have.
-    Word,
-    /// The field `title`.
-    Title,
-    /// The field `version`.
-    Version,
-    /// The field `depth`.
-    Room,
-    /// The field `commands`.
-    Commands,
-    /// The field `id`.
-    Id,
-    /// The field `release`.
-    Release,
-    /// The field `due`.
-    Due,
-    /// The field `round`.
-    Round,
-    /// The field `bound`.
-    Bound,
-    /// The field `lateness`.
-    Lateness,
-    /// The field `from`.
-    From,
-    /// The field `until`.
-    Until,
-    /// The field `from` of a bound.
-    BoundFrom,
-    /// The field `until` of a bound.
-    BoundUntil,
-    /// The field `met`.
-    OnTime,
-    /// The field `commands met`.
-    CommandsOnTime,
-    /// The field `windows`.
-    Windows,
-    /// The field `seconds`.
-    Seconds,
-    /// The field `nanoseconds`.
-    Nanoseconds,
-    /// The field `processor`.
-    Processor,
-    /// The field `action`.
-    Action,
-    /// The field `process`.
-    Process,
-    /// The field `rwbs`.
-    Rwbs,
-    /// The field `first sector`.
-    First,
-    /// The field `sectors`.
-    Sectors,
-    /// The field `depth`.
-    Tags,
-    /// The field `hardware queues`.
-    Queues,
-    /// The field `software queue depth`.
-    SoftDepth,
-    /// The field `submitters`.
-    Submitters,
-    /// The field `events`.
-    Events,
-    /// The field `setup`.
-    Setup,
-    /// The field `read expiry`.
-    ReadExpire,
-    /// The field `write expiry`.
-    WriteExpire,
-    /// The field `sectors of a request`.
-    MaxSectors,
-    /// The field `segments of a request`.
-    MaxSegments,
-    /// The field `step`.
-    Step,
-    /// The field `event`.
-    Event,
-    /// The field `submitter`.
-    Submitter,
-    /// The field `submitter`.
-    AnySubmitter,
-    /// The field `serial`.
-    Serial,
-    /// The field `direction`.
-    Direction,
-    /// The field `hardware queue`.
-    Queue,
-    /// The field `tag`.
-    Tag,
-    /// The field `depth`.
-    Depth,
-    /// The field `rounds`.
-    Rounds,
-    /// The field `bios`.
-    Bios,
-}
-
-impl Field {
-    /// Its name.
-    pub fn name(self) -> &'static [u8]
-        ensures { result.now ≡ field_name self }
+/// What a field is called in a text.
+pub fn field_name(name: FieldName) -> &'static [u8]
+        ensures { result.now ≡ field_name name }
     {
-        match self {
-            Field::Unused => b"unused",
-            Field::Word => b"word",
-            Field::Title => b"title",
-            Field::Version => b"version",
-            Field::Room => b"depth",
-            Field::Commands => b"commands",
-            Field::Id => b"id",
-            Field::Release => b"release",
-            Field::Due => b"due",
-            Field::Round => b"round",
-            Field::Bound => b"bound",
-            Field::Lateness => b"lateness",
-            Field::From => b"from",
-            Field::Until => b"until",
-            Field::BoundFrom => b"from",
-            Field::BoundUntil => b"until",
-            Field::OnTime => b"met",
-            Field::CommandsOnTime => b"commands met",
-            Field::Windows => b"windows",
-            Field::Seconds => b"seconds",
-            Field::Nanoseconds => b"nanoseconds",
-            Field::Processor => b"processor",
-            Field::Action => b"action",
-            Field::Process => b"process",
-            Field::Rwbs => b"rwbs",
-            Field::First => b"first sector",
-            Field::Sectors => b"sectors",
-            Field::Tags => b"depth",
-            Field::Queues => b"hardware queues",
-            Field::SoftDepth => b"software queue depth",
-            Field::Submitters => b"submitters",
-            Field::Events => b"events",
-            Field::Setup => b"setup",
-            Field::ReadExpire => b"read expiry",
-            Field::WriteExpire => b"write expiry",
-            Field::MaxSectors => b"sectors of a request",
-            Field::MaxSegments => b"segments of a request",
-            Field::Step => b"step",
-            Field::Event => b"event",
-            Field::Submitter => b"submitter",
-            Field::AnySubmitter => b"submitter",
-            Field::Serial => b"serial",
-            Field::Direction => b"direction",
-            Field::Queue => b"hardware queue",
-            Field::Tag => b"tag",
-            Field::Depth => b"depth",
-            Field::Rounds => b"rounds",
-            Field::Bios => b"bios",
+        match name {
+            FieldName::Unused => b"unused",
+            FieldName::Word => b"word",
+            FieldName::Title => b"title",
+            FieldName::Version => b"version",
+            FieldName::Room => b"depth",
+            FieldName::Commands => b"commands",
+            FieldName::Id => b"id",
+            FieldName::Release => b"release",
+            FieldName::Due => b"due",
+            FieldName::Round => b"round",
+            FieldName::Bound => b"bound",
+            FieldName::Lateness => b"lateness",
+            FieldName::From => b"from",
+            FieldName::Until => b"until",
+            FieldName::BoundFrom => b"from",
+            FieldName::BoundUntil => b"until",
+            FieldName::OnTime => b"met",
+            FieldName::CommandsOnTime => b"commands met",
+            FieldName::Windows => b"windows",
+            FieldName::Seconds => b"seconds",
+            FieldName::Nanoseconds => b"nanoseconds",
+            FieldName::Processor => b"processor",
+            FieldName::Action => b"action",
+            FieldName::Process => b"process",
+            FieldName::Rwbs => b"rwbs",
+            FieldName::First => b"first sector",
+            FieldName::Sectors => b"sectors",
+            FieldName::Tags => b"depth",
+            FieldName::Queues => b"hardware queues",
+            FieldName::SoftDepth => b"software queue depth",
+            FieldName::Submitters => b"submitters",
+            FieldName::Events => b"events",
+            FieldName::Setup => b"setup",
+            FieldName::ReadExpire => b"read expiry",
+            FieldName::WriteExpire => b"write expiry",
+            FieldName::MaxSectors => b"sectors of a request",
+            FieldName::MaxSegments => b"segments of a request",
+            FieldName::Step => b"step",
+            FieldName::Event => b"event",
+            FieldName::Submitter => b"submitter",
+                        FieldName::Serial => b"serial",
+            FieldName::Direction => b"direction",
+            FieldName::Queue => b"hardware queue",
+            FieldName::Tag => b"tag",
+            FieldName::Depth => b"depth",
+            FieldName::Rounds => b"rounds",
+            FieldName::Bios => b"bios",
         }
     }
 
-    /// What may stand in it.
-    pub fn want(self) -> Want
-        ensures { result ≡ want_of self }
+/// What may stand in a field of this name.
+pub fn want_of(name: FieldName) -> Want
+        ensures { result ≡ want_of name }
     {
-        match self {
-            Field::Lateness => Want::Bound,
-            Field::BoundFrom => Want::Bound,
-            Field::BoundUntil => Want::Bound,
-            Field::Tags => Want::Tags,
-            Field::Submitter => Want::Submitter,
-            Field::AnySubmitter => Want::AnySubmitter,
-            Field::Queue => Want::Queue,
-            Field::Nanoseconds => Want::Text,
-            Field::Unused
-            | Field::Word
-            | Field::Title
-            | Field::Version
-            | Field::Room
-            | Field::Commands
-            | Field::Id
-            | Field::Release
-            | Field::Due
-            | Field::Round
-            | Field::Bound
-            | Field::From
-            | Field::Until
-            | Field::OnTime
-            | Field::CommandsOnTime
-            | Field::Windows
-            | Field::Seconds
-            | Field::Processor
-            | Field::Action
-            | Field::Process
-            | Field::Rwbs
-            | Field::First
-            | Field::Sectors
-            | Field::Queues
-            | Field::SoftDepth
-            | Field::Submitters
-            | Field::Events
-            | Field::Setup
-            | Field::ReadExpire
-            | Field::WriteExpire
-            | Field::MaxSectors
-            | Field::MaxSegments
-            | Field::Step
-            | Field::Event
-            | Field::Serial
-            | Field::Direction
-            | Field::Tag
-            | Field::Depth
-            | Field::Rounds
-            | Field::Bios => Want::Row,
+        match name {
+            FieldName::Lateness => Want::Bound,
+            FieldName::BoundFrom => Want::Bound,
+            FieldName::BoundUntil => Want::Bound,
+            FieldName::Tags => Want::Tags,
+            FieldName::Submitter => Want::Submitter,
+                        FieldName::Queue => Want::Queue,
+            FieldName::Nanoseconds => Want::Text,
+            FieldName::Unused
+            | FieldName::Word
+            | FieldName::Title
+            | FieldName::Version
+            | FieldName::Room
+            | FieldName::Commands
+            | FieldName::Id
+            | FieldName::Release
+            | FieldName::Due
+            | FieldName::Round
+            | FieldName::Bound
+            | FieldName::From
+            | FieldName::Until
+            | FieldName::OnTime
+            | FieldName::CommandsOnTime
+            | FieldName::Windows
+            | FieldName::Seconds
+            | FieldName::Processor
+            | FieldName::Action
+            | FieldName::Process
+            | FieldName::Rwbs
+            | FieldName::First
+            | FieldName::Sectors
+            | FieldName::Queues
+            | FieldName::SoftDepth
+            | FieldName::Submitters
+            | FieldName::Events
+            | FieldName::Setup
+            | FieldName::ReadExpire
+            | FieldName::WriteExpire
+            | FieldName::MaxSectors
+            | FieldName::MaxSegments
+            | FieldName::Step
+            | FieldName::Event
+            | FieldName::Serial
+            | FieldName::Direction
+            | FieldName::Tag
+            | FieldName::Depth
+            | FieldName::Rounds
+            | FieldName::Bios => Want::Row,
         }
     }
-}

@@ -1,12 +1,20 @@
 //! The forms of texts: their titles, and what their records have in each field.
 
 ghost use Rattle.std.specs.Prelude.{◌≡◌, ◌↔◌, IsTrue, MatchOption};
-ghost use Rattle.blk_explain.specs.Forms.{offered_kinds, form_row, form_name, IsWorded, IsRecordKind};
+ghost use Rattle.blk_explain.specs.Forms.{worded_kinds, form_row, form_name, IsWorded, IsRecordKind};
 ghost use Rattle.blk_explain.specs.declared.forms.TextForm.{TextForm as AForm};
 
 use crate::counts::Counted;
-use crate::kinds::RecordKind;
+use crate::kinds::{OTHER_EVENT, OTHER_STEP};
 use crate::phrases::Phrase;
+use blk_capture_text::{CAPTURE, RECORD_ROW};
+use blk_lists::certificate::{BOUND, CERTIFICATE, SERVED_ROW};
+use blk_lists::commands::{COMMAND_ROW, COMMANDS};
+use blk_lists::kinds::AnyKind;
+use blk_lists::on_time::{NUMBERS, ON_TIME, WINDOW};
+use blk_lists::schedule::SCHEDULE;
+use blk_text::script::SCRIPT;
+use blk_text::{BIO, SETUP, TRACE, event_kinds, step_kinds};
 
 /// The form of a text.
 #[derive(Clone, Copy, Debug, PartialEq, Eq)]
@@ -27,146 +35,34 @@ pub enum TextForm {
     Trace,
 }
 
-/// The most kinds of later records that a form tells apart.
-const MAX_KINDS: usize = 9;
+/// The records after the second that begin with words.
+#[derive(Clone, Copy)]
+pub enum Later {
+    /// None does.
+    Wordless,
+    /// Windows.
+    Windows,
+    /// The steps of a script.
+    Steps,
+    /// The events of a trace, and the bios that follow one.
+    Events,
+}
 
 /// A form.
-#[derive(Clone, Copy)]
+#[derive(Clone, Copy, Drop)]
 pub struct FormRow {
     /// The kind of its title.
-    pub title: RecordKind,
+    pub title: AnyKind,
     /// That of its second record.
-    pub second: RecordKind,
-    /// Those of its later records, by their words, filled up with that of its other records.
-    pub kinds: [RecordKind; MAX_KINDS],
-    /// With the words of how many of these, the first ones, an author may begin a record.
-    pub offered: usize,
+    pub second: AnyKind,
+    /// Those of its later records that begin with words.
+    pub later: Later,
     /// That of its other records.
-    pub item: RecordKind,
+    pub item: AnyKind,
     /// What is wanted where each number lies in its own range.
     pub range: Phrase,
     /// How many records are announced.
     pub counted: Counted,
-}
-
-/// The row of blk-commands texts.
-const COMMANDS_FORM: FormRow = FormRow {
-    title: RecordKind::CommandsTitle,
-    second: RecordKind::Command,
-    kinds: [RecordKind::Command; MAX_KINDS],
-    offered: 0,
-    item: RecordKind::Command,
-    range: Phrase::EachInRange,
-    counted: Counted::Nothing,
-};
-
-/// The row of blk-certificate texts.
-const CERTIFICATE_FORM: FormRow = FormRow {
-    title: RecordKind::CertificateTitle,
-    second: RecordKind::Bound,
-    kinds: [RecordKind::Served; MAX_KINDS],
-    offered: 0,
-    item: RecordKind::Served,
-    range: Phrase::EachInRange,
-    counted: Counted::Commands(2),
-};
-
-/// The row of blk-met texts.
-const ON_TIME_FORM: FormRow = FormRow {
-    title: RecordKind::OnTimeTitle,
-    second: RecordKind::OnTime,
-    kinds: [
-        RecordKind::Window,
-        RecordKind::Served,
-        RecordKind::Served,
-        RecordKind::Served,
-        RecordKind::Served,
-        RecordKind::Served,
-        RecordKind::Served,
-        RecordKind::Served,
-        RecordKind::Served,
-    ],
-    offered: 1,
-    item: RecordKind::Served,
-    range: Phrase::EachInRange,
-    counted: Counted::Windows,
-};
-
-/// The row of blk-schedule texts.
-const SCHEDULE_FORM: FormRow = FormRow {
-    title: RecordKind::ScheduleTitle,
-    second: RecordKind::Served,
-    kinds: [RecordKind::Served; MAX_KINDS],
-    offered: 0,
-    item: RecordKind::Served,
-    range: Phrase::EachInRange,
-    counted: Counted::Commands(1),
-};
-
-/// The row of blk-capture texts.
-const CAPTURE_FORM: FormRow = FormRow {
-    title: RecordKind::CaptureTitle,
-    second: RecordKind::Capture,
-    kinds: [RecordKind::Capture; MAX_KINDS],
-    offered: 0,
-    item: RecordKind::Capture,
-    range: Phrase::EachInRange,
-    counted: Counted::Nothing,
-};
-
-/// The row of blk-script texts.
-const SCRIPT_FORM: FormRow = FormRow {
-    title: RecordKind::ScriptTitle,
-    second: RecordKind::Setup,
-    kinds: [
-        RecordKind::Bio,
-        RecordKind::Flush,
-        RecordKind::Drain,
-        RecordKind::Issue,
-        RecordKind::Done,
-        RecordKind::Back,
-        RecordKind::Tick,
-        RecordKind::Run,
-        RecordKind::Depth,
-    ],
-    offered: 9,
-    item: RecordKind::Step,
-    range: Phrase::EnoughSubmitters,
-    counted: Counted::Nothing,
-};
-
-/// The row of blk-trace texts.
-const TRACE_FORM: FormRow = FormRow {
-    title: RecordKind::TraceTitle,
-    second: RecordKind::Setup,
-    kinds: [
-        RecordKind::Tick,
-        RecordKind::Release,
-        RecordKind::Join,
-        RecordKind::EventIssue,
-        RecordKind::Done,
-        RecordKind::Back,
-        RecordKind::Depth,
-        RecordKind::EventBio,
-        RecordKind::Event,
-    ],
-    offered: 7,
-    item: RecordKind::Event,
-    range: Phrase::EachInRange,
-    counted: Counted::Events,
-};
-
-impl FormRow {
-    /// The kinds with whose words an author may begin a later record.
-    pub fn offered_kinds(&self) -> &[RecordKind]
-        ensures { result.now ≡ offered_kinds self.now }
-    {
-        if self.offered < MAX_KINDS {
-            &self.kinds[..self.offered]
-        } else {
-            &self.kinds
-        }
-    }
 }
 
 impl TextForm {
@@ -175,13 +71,62 @@ impl TextForm {
         ensures { result ≡ form_row self }
     {
         match self {
-            TextForm::Commands => COMMANDS_FORM,
-            TextForm::Certificate => CERTIFICATE_FORM,
-            TextForm::OnTime => ON_TIME_FORM,
-            TextForm::Schedule => SCHEDULE_FORM,
-            TextForm::Capture => CAPTURE_FORM,
-            TextForm::Script => SCRIPT_FORM,
-            TextForm::Trace => TRACE_FORM,
+            TextForm::Commands => FormRow {
+                title: COMMANDS.any(),
+                second: COMMAND_ROW.any(),
+                later: Later::Wordless,
+                item: COMMAND_ROW.any(),
+                range: Phrase::EachInRange,
+                counted: Counted::Nothing,
+            },
+            TextForm::Certificate => FormRow {
+                title: CERTIFICATE.any(),
+                second: BOUND.any(),
+                later: Later::Wordless,
+                item: SERVED_ROW.any(),
+                range: Phrase::EachInRange,
+                counted: Counted::Commands(2),
+            },
+            TextForm::OnTime => FormRow {
+                title: ON_TIME.any(),
+                second: NUMBERS.any(),
+                later: Later::Windows,
+                item: SERVED_ROW.any(),
+                range: Phrase::EachInRange,
+                counted: Counted::Windows,
+            },
+            TextForm::Schedule => FormRow {
+                title: SCHEDULE.any(),
+                second: SERVED_ROW.any(),
+                later: Later::Wordless,
+                item: SERVED_ROW.any(),
+                range: Phrase::EachInRange,
+                counted: Counted::Commands(1),
+            },
+            TextForm::Capture => FormRow {
+                title: CAPTURE.any(),
+                second: RECORD_ROW.any(),
+                later: Later::Wordless,
+                item: RECORD_ROW.any(),
+                range: Phrase::EachInRange,
+                counted: Counted::Nothing,
+            },
+            TextForm::Script => FormRow {
+                title: SCRIPT.any(),
+                second: SETUP.any(),
+                later: Later::Steps,
+                item: OTHER_STEP.any(),
+                range: Phrase::EnoughSubmitters,
+                counted: Counted::Nothing,
+            },
+            TextForm::Trace => FormRow {
+                title: TRACE.any(),
+                second: SETUP.any(),
+                later: Later::Events,
+                item: OTHER_EVENT.any(),
+                range: Phrase::EachInRange,
+                counted: Counted::Events,
+            },
         }
     }
 
@@ -189,8 +134,8 @@ impl TextForm {
     fn is_named(self, field: &[u8]) -> bool
         ensures { IsTrue result ↔ (field.now ≡ form_name self) }
     {
-        let title = self.row().title.row();
-        field == title.word()
+        let row = self.row();
+        field == row.title.word()
     }
 }
 
@@ -218,20 +163,34 @@ pub fn form_named(field: &[u8]) -> Option<TextForm>
 }
 
 /// The kind of these that begins with this word, or, where none does, another.
-fn kind_named(kinds: &[RecordKind], other: RecordKind, word: &[u8]) -> RecordKind
+fn kind_named(kinds: &[AnyKind], other: AnyKind, word: &[u8]) -> AnyKind
     ensures { IsWorded kinds.now other word.now result }
 {
-    for k in 0..kinds.len() {
-        let kind = kinds[k];
-        if word == kind.row().word() {
-            return kind;
+    for kind in kinds {
+        if word == kind.word() {
+            return *kind;
         }
     }
     other
 }
 
+/// The kind of a later record that begins with this word, or, where none does, another.
+fn later_kind(later: Later, other: AnyKind, word: &[u8]) -> AnyKind
+    ensures { IsWorded (worded_kinds later) other word.now result }
+{
+    match later {
+        Later::Wordless => other,
+        Later::Windows => kind_named(&[WINDOW.any()], other, word),
+        Later::Steps => kind_named(&step_kinds(), other, word),
+        Later::Events => {
+            let otherwise = kind_named(&[BIO.any()], other, word);
+            kind_named(&event_kinds(), otherwise, word)
+        }
+    }
+}
+
 /// The kind of a record of a form, by its number and the word that it begins with.
-pub fn kind_of(row: &FormRow, at: u64, word: &[u8]) -> RecordKind
+pub fn kind_of(row: &FormRow, at: u64, word: &[u8]) -> AnyKind
     ensures { IsRecordKind row.now at word.now result }
 {
     if at == 1 {
@@ -240,5 +199,5 @@ pub fn kind_of(row: &FormRow, at: u64, word: &[u8]) -> RecordKind
     if at == 2 {
         return row.second;
     }
-    kind_named(&row.kinds, row.item, word)
+    later_kind(row.later, row.item, word)
 }

@@ -11,7 +11,6 @@ mod forms;
 mod kinds;
 mod lines;
 mod phrases;
-mod rows;
 mod steps;
 mod twice;
 mod words;

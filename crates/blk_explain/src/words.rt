@@ -4,7 +4,7 @@ ghost use Rattle.std.specs.Prelude.{◌≡◌, ◌++◌, OnOk};
 ghost use Rattle.std.specs.List.{flat_map};
 ghost use Rattle.blk_explain.specs.Words.{since_text, versioned, before_comma, several, words_text};
 
-use crate::kinds::RecordKind;
+use blk_lists::kinds::AnyKind;
 use drafts::Draft;
 use std::alloc::AllocError;
 
@@ -20,16 +20,15 @@ fn push_since(draft: &mut Draft, since: u64) -> Result<(), AllocError>
 }
 
 /// Adds the word of a kind, and the version that it came with, if it isn't the first.
-fn push_versioned(draft: &mut Draft, kind: RecordKind) -> Result<(), AllocError>
+fn push_versioned(draft: &mut Draft, kind: AnyKind) -> Result<(), AllocError>
     ensures { OnOk result (draft.new ≡ draft.old ++ versioned kind) }
 {
-    let row = kind.row();
-    draft.text(row.word())?;
-    push_since(draft, row.since())
+    draft.text(kind.word())?;
+    push_since(draft, kind.since())
 }
 
 /// Adds the word of a kind and a comma.
-fn push_before_comma(draft: &mut Draft, kind: RecordKind) -> Result<(), AllocError>
+fn push_before_comma(draft: &mut Draft, kind: AnyKind) -> Result<(), AllocError>
     ensures { OnOk result (draft.new ≡ draft.old ++ before_comma kind) }
 {
     push_versioned(draft, kind)?;
@@ -37,7 +36,7 @@ fn push_before_comma(draft: &mut Draft, kind: RecordKind) -> Result<(), AllocErr
 }
 
 /// Adds the words of kinds, each with a comma.
-fn push_before_commas(draft: &mut Draft, kinds: &[RecordKind]) -> Result<(), AllocError>
+fn push_before_commas(draft: &mut Draft, kinds: &[AnyKind]) -> Result<(), AllocError>
     ensures { OnOk result (draft.new ≡ draft.old ++ flat_map before_comma kinds.now) }
 {
     for i in 0..kinds.len() {
@@ -47,7 +46,7 @@ fn push_before_commas(draft: &mut Draft, kinds: &[RecordKind]) -> Result<(), All
 }
 
 /// Adds `one of A, B, or C`, where C is the word of the last kind.
-fn push_several(draft: &mut Draft, kinds: &[RecordKind], last: RecordKind) -> Result<(), AllocError>
+fn push_several(draft: &mut Draft, kinds: &[AnyKind], last: AnyKind) -> Result<(), AllocError>
     ensures { OnOk result (draft.new ≡ draft.old ++ several kinds.now last) }
 {
     draft.text(b"one of ")?;
@@ -57,7 +56,7 @@ fn push_several(draft: &mut Draft, kinds: &[RecordKind], last: RecordKind) -> Re
 }
 
 /// Adds the words of kinds: of several, one of them.
-pub fn push_words(draft: &mut Draft, kinds: &[RecordKind]) -> Result<(), AllocError>
+pub fn push_words(draft: &mut Draft, kinds: &[AnyKind]) -> Result<(), AllocError>
     ensures { OnOk result (draft.new ≡ draft.old ++ words_text kinds.now) }
 {
     let count = kinds.len();

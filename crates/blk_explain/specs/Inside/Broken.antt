@@ -3,12 +3,12 @@ use Rattle.std.specs.Prelude.{ℕ, Option, MatchOption}
 use Rattle.blk_lists.specs.Sources.{Row}
 use Rattle.blk_lists.specs.declared.fault.Why.{Why}
 use Rattle.blk_explain.specs.declared.fields.Allowed.{Allowed}
-use Rattle.blk_explain.specs.declared.kinds.RecordKind.{RecordKind}
+use Rattle.blk_lists.specs.Kinds.{KindRow}
 use Rattle.blk_explain.specs.Details.{IsKeptAt, IsBrokenAt, IsFirstBrokenAt, AllKept}
 
 -- whether the field at a place has the fault, and what may stand in it then; the same of the first one that does
-abbrev pub SaysIfBroken : Row → RecordKind → Why → Row → ℕ → Option Allowed → Type 0
+abbrev pub SaysIfBroken : Row → KindRow → Why → Row → ℕ → Option Allowed → Type 0
 SaysIfBroken title kind w row k o = MatchOption o (IsKeptAt title kind w row k) (IsBrokenAt title kind w row k)
 
-abbrev pub SaysFirstBroken : Row → RecordKind → Why → Row → Option (ℕ × Allowed) → Type 0
+abbrev pub SaysFirstBroken : Row → KindRow → Why → Row → Option (ℕ × Allowed) → Type 0
 SaysFirstBroken title kind w row o = MatchOption o (AllKept title kind w row) (λ p. IsFirstBrokenAt title kind w row p.0 p.1)

@@ -1,7 +1,6 @@
-use Rattle.std.proofs.Common.{◌<◌, ◌≡◌, ℕ, get_or}
-use Rattle.blk_explain.specs.Kinds.{kind_word}
-use Rattle.blk_explain.specs.declared.kinds.RecordKind.TheVariants.{CommandsTitle}
+use Rattle.std.proofs.Common.{take}
+use Rattle.blk_explain.proofs.Worded.{Lacks}
 use Rattle.blk_explain.proofs.forms.kind_named.Given as goal
 
-abbrev pub invariant-loop-k : goal.invariant-loop-k
-invariant-loop-k l = (j : ℕ) → j < l.k → ¬ (l.word ≡ kind_word (get_or l.kinds j CommandsTitle))
+abbrev pub invariant-loop-kind : goal.invariant-loop-kind
+invariant-loop-kind l = Lacks l.word (take l.kind-index l.kinds)
