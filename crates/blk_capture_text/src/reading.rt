@@ -13,6 +13,7 @@ use crate::record::{WIDTH, read_row};
 use blk_capture::Record;
 use blk_lists::fields::Slot;
 use blk_lists::items::{ItemForm, gather};
+use blk_lists::names::FieldName;
 use blk_lists::titles::{TitleRow, read_title};
 use blk_lists::{Records, TextFault, Why};
 use csv::ByteRecord;
@@ -36,6 +37,16 @@ pub const CAPTURE: TitleRow<11, WIDTH> = TitleRow {
         Slot::Blank,
         Slot::Blank,
         Slot::Blank,
+    ],
+    names: [
+        FieldName::Title,
+        FieldName::Version,
+        FieldName::Unused,
+        FieldName::Unused,
+        FieldName::Unused,
+        FieldName::Unused,
+        FieldName::Unused,
+        FieldName::Unused,
     ],
     later: None,
 };

@@ -8,6 +8,8 @@ ghost use Rattle.blk_capture_text.specs.Recorded.{IsRecordAfter, RecordLacks, re
 use blk_capture::{Action, Op, Record};
 use blk_lists::Why;
 use blk_lists::fields::{ANY_SLOT, Slot, field, read_fields};
+use blk_lists::kinds::Kind;
+use blk_lists::names::FieldName;
 use csv::ByteRecord;
 
 /// How many fields a record of a capture has.
@@ -33,6 +35,23 @@ pub const RECORD: [Slot; WIDTH] = [
     ANY_SLOT,
     ANY_SLOT,
 ];
+
+/// The row of a record, which begins with no word.
+pub const RECORD_ROW: Kind<0, WIDTH> = Kind {
+    word: *b"",
+    since: 1,
+    slots: RECORD,
+    names: [
+        FieldName::Seconds,
+        FieldName::Nanoseconds,
+        FieldName::Processor,
+        FieldName::Action,
+        FieldName::Process,
+        FieldName::Rwbs,
+        FieldName::First,
+        FieldName::Sectors,
+    ],
+};
 
 /// The action of a row.
 fn action_at(row: &ByteRecord) -> Action

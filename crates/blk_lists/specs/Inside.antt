@@ -1,4 +1,5 @@
 -- What private functions and proofs alone need.
+pub mod Any
 pub mod Cells
 pub mod Fields
 pub mod Sources

@@ -9,6 +9,8 @@ use Rattle.blk_lists.specs.declared.fault.Why.{Why}
 use Rattle.blk_lists.specs.declared.fields.Slot.{Slot}
 use Rattle.blk_lists.specs.declared.fields.Slot.TheVariants as slot
 use Rattle.blk_lists.specs.declared.kinds.Kind.{Kind}
+use Rattle.blk_lists.specs.declared.names.FieldName.{FieldName}
+use Rattle.blk_lists.specs.declared.titles.TitleRow.{TitleRow}
 use Rattle.drafts.specs.declared.block.Block.{Block}
 use Rattle.parts.specs.Parts.{Part}
 
@@ -17,14 +19,15 @@ abbrev pub StandsFrom : ℕ → ℕ → Type 0
 StandsFrom (suc zero) version = Unit {0}
 StandsFrom since version = since ≤ version
 
--- a row of a table of kinds, whatever the length of its word
+-- a row of a table of kinds, whatever the length of its word and the number of its fields
 pub record KindRow : Type 0 where
   pub word : List ℕ
   pub since : ℕ
   pub slots : List Slot
+  pub names : List FieldName
 
 abbrev pub row : {letters fields : ℕ} → Kind letters fields → KindRow
-row k = record { word = k.word; since = k.since; slots = k.slots }
+row k = record { word = k.word; since = k.since; slots = k.slots; names = k.names }
 
 -- slots whose first number lies below a count
 abbrev pub below : ℕ → List Slot → List Slot
@@ -32,7 +35,11 @@ below count slots = set slots 1 (slot.Number 0 (count - 1))
 
 -- the row of a kind whose first number lies below a count
 abbrev pub row_below : {letters fields : ℕ} → ℕ → Kind letters fields → KindRow
-row_below count k = record { word = k.word; since = k.since; slots = below count k.slots }
+row_below count k = record { word = k.word; since = k.since; slots = below count k.slots; names = k.names }
+
+-- a title as such a row, whose second field, the version, is one of those of its form
+abbrev pub title_kind : {letters fields : ℕ} → TitleRow letters fields → KindRow
+title_kind t = record { word = t.word; since = 1; slots = set t.slots 1 (slot.Number 1 t.latest); names = t.names }
 
 -- what the fields of a record tell by their slots
 abbrev pub Told : List Slot → Type 0

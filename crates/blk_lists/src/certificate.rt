@@ -24,8 +24,9 @@ use crate::fields::{
 };
 use crate::items::{RecordForm, read_record, read_records};
 use crate::kinds::Kind;
+use crate::names::FieldName;
 use crate::source::Records;
-use crate::titles::{COUNTED, TitleRow, read_title};
+use crate::titles::{COUNTED, COUNTED_NAMES, TitleRow, read_title};
 use crate::writing::push_numbers;
 use csv::ByteRecord;
 use drafts::pieces::{put, put_two};
@@ -41,6 +42,7 @@ pub const CERTIFICATE: TitleRow<15, 4> = TitleRow {
     word: *b"blk-certificate",
     latest: 1,
     slots: COUNTED,
+    names: COUNTED_NAMES,
     later: None,
 };
 
@@ -49,6 +51,12 @@ pub const BOUND: Kind<5, 4> = Kind {
     word: *b"bound",
     since: 1,
     slots: [Slot::Given, LATE, ROUND_SLOT, ROUND_SLOT],
+    names: [
+        FieldName::Bound,
+        FieldName::Lateness,
+        FieldName::BoundFrom,
+        FieldName::BoundUntil,
+    ],
 };
 
 /// A lateness in rounds.
@@ -96,6 +104,19 @@ impl RecordForm for BoundForm {
 
 /// The fields of a command with its round: id, release, due, round.
 pub const SERVED: [Slot; 4] = [ANY_SLOT, RELEASE_SLOT, ROUND_SLOT, ROUND_SLOT];
+
+/// The row of a command with its round, which begins with no word.
+pub const SERVED_ROW: Kind<0, 4> = Kind {
+    word: *b"",
+    since: 1,
+    slots: SERVED,
+    names: [
+        FieldName::Id,
+        FieldName::Release,
+        FieldName::Due,
+        FieldName::Round,
+    ],
+};
 
 /// The record of a command with its round.
 #[derive(Clone, Copy, Drop)]

@@ -11,6 +11,8 @@ ghost use Rattle.blk_lists.specs.Titles.{IsTitleOf};
 use crate::fault::{TextFault, Why};
 use crate::fields::{ANY_SLOT, DEPTH_SLOT, RELEASE_SLOT, ROUND_SLOT, Slot, read_fields};
 use crate::items::{RecordForm, read_records};
+use crate::kinds::Kind;
+use crate::names::FieldName;
 use crate::source::Records;
 use crate::titles::{TitleRow, read_title};
 use crate::writing::push_numbers;
@@ -26,11 +28,20 @@ pub const COMMANDS: TitleRow<12, 3> = TitleRow {
     word: *b"blk-commands",
     latest: 1,
     slots: [Slot::Given, Slot::Given, DEPTH_SLOT],
+    names: [FieldName::Title, FieldName::Version, FieldName::Room],
     later: None,
 };
 
 /// The fields of a command: id, release, due.
 pub const COMMAND: [Slot; 3] = [ANY_SLOT, RELEASE_SLOT, ROUND_SLOT];
+
+/// The row of a command, which begins with no word.
+pub const COMMAND_ROW: Kind<0, 3> = Kind {
+    word: *b"",
+    since: 1,
+    slots: COMMAND,
+    names: [FieldName::Id, FieldName::Release, FieldName::Due],
+};
 
 /// A record of a command list: id, release, due.
 #[derive(Clone, Copy, Drop)]

@@ -6,6 +6,7 @@ ghost use Rattle.blk_lists.specs.Cells.{IsPlainWord};
 ghost use Rattle.blk_lists.specs.Kinds.{StandsFrom, below, AddsRecord};
 
 use crate::fields::Slot;
+use crate::names::FieldName;
 use crate::writing::push_row;
 use drafts::Block;
 use std::alloc::AllocError;
@@ -19,6 +20,8 @@ pub struct Kind<const L: usize, const N: usize> {
     pub since: u64,
     /// What may stand in its fields, of which the word is the first.
     pub slots: [Slot; N],
+    /// What its fields are called, `Unused` where it has none.
+    pub names: [FieldName; N],
 }
 
 /// Whether what came with one version stands in another.

@@ -1,6 +1,7 @@
 //! Texts that are read by tables, and the forms of lists: command lists and certificates.
 #![tactic(auto)]
 
+pub mod any;
 pub mod certificate;
 pub mod commands;
 pub mod fault;
@@ -8,6 +9,7 @@ pub mod fields;
 pub mod items;
 pub mod kinds;
 pub mod laws;
+pub mod names;
 pub mod on_time;
 mod proof;
 pub mod schedule;

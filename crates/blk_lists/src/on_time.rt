@@ -15,8 +15,9 @@ use crate::fault::{TextFault, Why};
 use crate::fields::{COUNT_SLOT, ROUND_SLOT, Slot, begins_with, read_fields, without_word};
 use crate::items::{Each, RecordForm, gather, read_record, read_records};
 use crate::kinds::Kind;
+use crate::names::FieldName;
 use crate::source::Records;
-use crate::titles::{COUNTED, TitleRow, read_title};
+use crate::titles::{COUNTED, COUNTED_NAMES, TitleRow, read_title};
 use csv::ByteRecord;
 use drafts::{Block, WriteFault, write_whole};
 use edd_check::Window;
@@ -30,6 +31,7 @@ pub const ON_TIME: TitleRow<7, 4> = TitleRow {
     word: *b"blk-met",
     latest: 1,
     slots: COUNTED,
+    names: COUNTED_NAMES,
     later: None,
 };
 
@@ -53,6 +55,12 @@ pub const NUMBERS: Kind<3, 4> = Kind {
     word: *b"met",
     since: 1,
     slots: [Slot::Given, COUNT_SLOT, COUNT_SLOT, Slot::Blank],
+    names: [
+        FieldName::OnTime,
+        FieldName::CommandsOnTime,
+        FieldName::Windows,
+        FieldName::Unused,
+    ],
 };
 
 /// The record of a window: its first round, its last round, and an empty field.
@@ -60,6 +68,12 @@ pub const WINDOW: Kind<6, 4> = Kind {
     word: *b"window",
     since: 1,
     slots: [Slot::Given, ROUND_SLOT, ROUND_SLOT, Slot::Blank],
+    names: [
+        FieldName::Word,
+        FieldName::From,
+        FieldName::Until,
+        FieldName::Unused,
+    ],
 };
 
 /// The record that says how many commands are on time, and how many windows there are.

@@ -15,7 +15,7 @@ use crate::certificate::{ServedForm, push_schedule, split};
 use crate::fault::{TextFault, Why};
 use crate::items::{ItemForm, RecordForm, gather};
 use crate::source::Records;
-use crate::titles::{COUNTED, TitleRow, read_title};
+use crate::titles::{COUNTED, COUNTED_NAMES, TitleRow, read_title};
 use csv::ByteRecord;
 use drafts::{Block, WriteFault, write_whole};
 use edd_commands::{Command, MAX_COMMANDS};
@@ -29,6 +29,7 @@ pub const SCHEDULE: TitleRow<12, 4> = TitleRow {
     word: *b"blk-schedule",
     latest: 1,
     slots: COUNTED,
+    names: COUNTED_NAMES,
     later: None,
 };
 

@@ -9,6 +9,7 @@ ghost use Rattle.blk_lists.specs.Titles.{slot_in, slots_in, HasNoVersion, IsOfVe
 
 use crate::fault::{TextFault, Why};
 use crate::fields::{COUNT_SLOT, DEPTH_SLOT, Slot, field, parse_number, read_fields};
+use crate::names::FieldName;
 use crate::source::Records;
 use crate::writing::push_row;
 use csv::ByteRecord;
@@ -60,12 +61,22 @@ pub struct TitleRow<const L: usize, const N: usize> {
     pub latest: u64,
     /// What may stand in its fields in version 1. The name is the first of them and the version the second.
     pub slots: [Slot; N],
+    /// What its fields are called, `Unused` where it has none.
+    pub names: [FieldName; N],
     /// The number that may be greater in later versions, where there is one.
     pub later: Option<Wider>,
 }
 
 /// The fields of a title with a depth and a number of commands.
 pub(crate) const COUNTED: [Slot; 4] = [Slot::Given, Slot::Given, DEPTH_SLOT, COUNT_SLOT];
+
+/// What they are called.
+pub(crate) const COUNTED_NAMES: [FieldName; 4] = [
+    FieldName::Title,
+    FieldName::Version,
+    FieldName::Room,
+    FieldName::Commands,
+];
 
 /// The version of a title record of the form of this name, if the form has one like it.
 fn version_of(row: &ByteRecord, name: &[u8], latest: u64) -> Option<u64>

@@ -21,8 +21,8 @@ use Rattle.parts.specs.Parts.{Part, then, tested, seen_as, Spells}
 use Rattle.blk_trace.specs.declared.event.TheConstants.{MAX_TAGS}
 use Rattle.blk_text.specs.StepKinds.{step_table}
 use Rattle.blk_text.specs.declared.bios.TheConstants.{BIO}
-use Rattle.blk_text.specs.declared.heads.TheConstants.{TICK, ISSUE, DONE, BACK, DEPTH}
-use Rattle.blk_text.specs.declared.script.TheConstants.{FLUSH, DRAIN, RUN, MAX_RUN, MAX_STEPS, SCRIPT}
+use Rattle.blk_text.specs.declared.heads.TheConstants.{TICK, DONE, BACK, DEPTH}
+use Rattle.blk_text.specs.declared.script.TheConstants.{FLUSH, DRAIN, STEP_ISSUE, RUN, MAX_RUN, MAX_STEPS, SCRIPT}
 use Rattle.blk_text.specs.declared.script.Line.{Line}
 use Rattle.blk_text.specs.declared.script.Line.TheVariants as line
 use Rattle.blk_text.specs.declared.script.Script.{Script}
@@ -42,7 +42,7 @@ abbrev pub step_said : (hw submitters : ℕ) → Line → RowSaid
 step_said hw submitters (line.Bio b) = (row_below submitters BIO, (b.id.submitter, (b.id.serial, (b.dir, (b.first, (b.sectors, tt))))))
 step_said hw submitters (line.Flush submitter) = (row_below submitters FLUSH, (submitter, tt))
 step_said hw submitters (line.Drain h) = (row_below hw DRAIN, (h, tt))
-step_said hw submitters (line.Issue h tag) = (row_below hw ISSUE, (h, (tag, tt)))
+step_said hw submitters (line.Issue h tag) = (row_below hw STEP_ISSUE, (h, (tag, tt)))
 step_said hw submitters (line.Done tag) = (row DONE, (tag, tt))
 step_said hw submitters (line.Back tag) = (row BACK, (tag, tt))
 step_said hw submitters (line.Depth depth) = (row DEPTH, (depth, tt))

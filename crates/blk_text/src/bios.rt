@@ -17,6 +17,7 @@ use blk_bio::{Bio, BioId, Dir};
 use blk_lists::fault::Why;
 use blk_lists::fields::{ANY_SLOT, Slot, read_fields};
 use blk_lists::kinds::Kind;
+use blk_lists::names::FieldName;
 use csv::ByteRecord;
 use drafts::Block;
 use drafts::pieces::{put, put_two};
@@ -33,6 +34,14 @@ pub const BIO: Kind<3, WIDTH> = Kind {
         Slot::Direction,
         ANY_SLOT,
         ANY_SLOT,
+    ],
+    names: [
+        FieldName::Word,
+        FieldName::Submitter,
+        FieldName::Serial,
+        FieldName::Direction,
+        FieldName::First,
+        FieldName::Sectors,
     ],
 };
 

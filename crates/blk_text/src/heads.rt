@@ -15,6 +15,7 @@ use blk_lists::fault::Why;
 use blk_lists::fields::{ANY_SLOT, Slot, field, read_fields, without_word};
 use blk_lists::items::RecordForm;
 use blk_lists::kinds::Kind;
+use blk_lists::names::FieldName;
 use blk_lists::titles::TitleRow;
 use blk_trace::{Event, MAX_EVENTS, MAX_TAGS};
 use csv::ByteRecord;
@@ -36,10 +37,20 @@ pub const TRACE: TitleRow<9, WIDTH> = TitleRow {
         },
         Slot::Blank,
     ],
+    names: [
+        FieldName::Title,
+        FieldName::Version,
+        FieldName::Tags,
+        FieldName::Queues,
+        FieldName::Events,
+        FieldName::Unused,
+    ],
     later: Some(MORE_TAGS),
 };
 
 const BLANK: Slot = Slot::Blank;
+
+pub(crate) const UNNAMED: FieldName = FieldName::Unused;
 
 /// A word alone.
 const ALONE: [Slot; WIDTH] = [Slot::Given, BLANK, BLANK, BLANK, BLANK, BLANK];
@@ -47,11 +58,31 @@ const ALONE: [Slot; WIDTH] = [Slot::Given, BLANK, BLANK, BLANK, BLANK, BLANK];
 /// The id of a request, and how many bios follow.
 const GROUP: [Slot; WIDTH] = [Slot::Given, ANY_SLOT, BIOS, BLANK, BLANK, BLANK];
 
+/// What they are called.
+const GROUP_NAMES: [FieldName; WIDTH] = [
+    FieldName::Word,
+    FieldName::Id,
+    FieldName::Bios,
+    UNNAMED,
+    UNNAMED,
+    UNNAMED,
+];
+
 /// Any number, and a tag.
-const PLACED: [Slot; WIDTH] = [Slot::Given, ANY_SLOT, TAG, BLANK, BLANK, BLANK];
+pub(crate) const PLACED: [Slot; WIDTH] = [Slot::Given, ANY_SLOT, TAG, BLANK, BLANK, BLANK];
 
 /// A tag.
 const TAGGED: [Slot; WIDTH] = [Slot::Given, TAG, BLANK, BLANK, BLANK, BLANK];
+
+/// What it is called.
+const TAGGED_NAMES: [FieldName; WIDTH] = [
+    FieldName::Word,
+    FieldName::Tag,
+    UNNAMED,
+    UNNAMED,
+    UNNAMED,
+    UNNAMED,
+];
 
 /// Any number.
 pub(crate) const ONE: [Slot; WIDTH] = [Slot::Given, ANY_SLOT, BLANK, BLANK, BLANK, BLANK];
@@ -75,6 +106,7 @@ pub const TICK: Kind<4, WIDTH> = Kind {
     word: *b"tick",
     since: 1,
     slots: ALONE,
+    names: [FieldName::Word, UNNAMED, UNNAMED, UNNAMED, UNNAMED, UNNAMED],
 };
 
 /// A request enters under an id; its bios follow.
@@ -82,6 +114,7 @@ pub const RELEASE: Kind<7, WIDTH> = Kind {
     word: *b"release",
     since: 1,
     slots: GROUP,
+    names: GROUP_NAMES,
 };
 
 /// Bios join the request of an id; they follow.
@@ -89,13 +122,25 @@ pub const JOIN: Kind<4, WIDTH> = Kind {
     word: *b"join",
     since: 1,
     slots: GROUP,
+    names: GROUP_NAMES,
 };
+
+/// The word of an issue, in a trace and in a script.
+pub(crate) const ISSUE_WORD: [u8; 5] = *b"issue";
 
 /// The request of an id goes out under a tag.
 pub const ISSUE: Kind<5, WIDTH> = Kind {
-    word: *b"issue",
+    word: ISSUE_WORD,
     since: 1,
     slots: PLACED,
+    names: [
+        FieldName::Word,
+        FieldName::Id,
+        FieldName::Tag,
+        UNNAMED,
+        UNNAMED,
+        UNNAMED,
+    ],
 };
 
 /// The command under a tag has completed.
@@ -103,6 +148,7 @@ pub const DONE: Kind<4, WIDTH> = Kind {
     word: *b"done",
     since: 1,
     slots: TAGGED,
+    names: TAGGED_NAMES,
 };
 
 /// The device requeues the command under a tag.
@@ -110,6 +156,7 @@ pub const BACK: Kind<4, WIDTH> = Kind {
     word: *b"back",
     since: 1,
     slots: TAGGED,
+    names: TAGGED_NAMES,
 };
 
 /// How many tags may be issued in a round, from the next one on.
@@ -117,6 +164,14 @@ pub const DEPTH: Kind<5, WIDTH> = Kind {
     word: *b"depth",
     since: 2,
     slots: ONE,
+    names: [
+        FieldName::Word,
+        FieldName::Depth,
+        UNNAMED,
+        UNNAMED,
+        UNNAMED,
+        UNNAMED,
+    ],
 };
 
 /// The first records of the events of a version. Each tells the event with the number of the bios that follow, 1 to

@@ -11,7 +11,7 @@ ghost use Rattle.blk_text.specs.TraceRecords.{IsTrace};
 ghost use Rattle.blk_text.specs.TraceForm.{trace_rows, SpellsTraceIn, SpellsTrace, TraceTextFault, OneTrace, TraceReadsBack};
 ghost use Rattle.blk_text.specs.declared.bios.TheConstants.{BIO};
 ghost use Rattle.blk_text.specs.declared.heads.TheConstants.{TICK, RELEASE, JOIN, ISSUE, DONE, BACK, DEPTH, TRACE};
-ghost use Rattle.blk_text.specs.declared.script.TheConstants.{FLUSH, DRAIN, RUN, MAX_RUN};
+ghost use Rattle.blk_text.specs.declared.script.TheConstants.{FLUSH, DRAIN, STEP_ISSUE, RUN, MAX_RUN};
 ghost use Rattle.blk_text.specs.declared.setup.TheConstants.{DEPTHS, LATEST, QUEUES, SETUP, WIDTH};
 ghost use Rattle.blk_bio.specs.declared.limits.TheConstants.{MAX_SEGMENTS};
 ghost use Rattle.blk_trace.specs.declared.event.TheConstants.{MAX_TAGS};
@@ -61,6 +61,7 @@ pub fn words_of_both()
 pub fn words_of_scripts()
     ensures flush { FLUSH.word ≡ codes "flush" }
     ensures drain { DRAIN.word ≡ codes "drain" }
+    ensures issue { STEP_ISSUE.word ≡ codes "issue" }
     ensures run { RUN.word ≡ codes "run" }
 {}
 
@@ -74,6 +75,7 @@ pub fn words_of_traces()
 pub fn fields_of_scripts()
     ensures flush { FLUSH.slots ≡ slot.Given ∷ ANY_SLOT ∷ slot.Blank ∷ slot.Blank ∷ slot.Blank ∷ slot.Blank ∷ [] }
     ensures drain { DRAIN.slots ≡ slot.Given ∷ ANY_SLOT ∷ slot.Blank ∷ slot.Blank ∷ slot.Blank ∷ slot.Blank ∷ [] }
+    ensures issue { STEP_ISSUE.slots ≡ slot.Given ∷ ANY_SLOT ∷ slot.Number 0 (MAX_TAGS - 1) ∷ slot.Blank ∷ slot.Blank ∷ slot.Blank ∷ [] }
     ensures run { RUN.slots ≡ slot.Given ∷ slot.Number 1 MAX_RUN ∷ slot.Blank ∷ slot.Blank ∷ slot.Blank ∷ slot.Blank ∷ [] }
 {}
 

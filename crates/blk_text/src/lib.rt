@@ -8,6 +8,7 @@ mod heads;
 pub mod laws;
 pub mod script;
 mod setup;
+mod tables;
 mod trace;
 
 pub use crate::bios::{BIO, MAX_SUBMITTERS};
@@ -15,4 +16,5 @@ pub use crate::events::read_trace;
 pub use crate::heads::{BACK, DEPTH, DONE, ISSUE, JOIN, RELEASE, TICK, TRACE};
 pub use crate::script::{Line, MAX_RUN, MAX_STEPS, Script, push_step, read_script};
 pub use crate::setup::{LATEST, MAX_DEPTH_1, MORE_TAGS, SETUP, push_setup};
+pub use crate::tables::{event_kinds, step_kinds};
 pub use crate::trace::{trace_text, write_trace};

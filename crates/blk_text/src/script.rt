@@ -11,13 +11,14 @@ ghost use Rattle.blk_bio.specs.declared.limits.TheConstants.{MAX_QUEUES as MAX_Q
 ghost use Rattle.blk_lists.specs.Titles.{IsTitleOf};
 
 use crate::bios::{BIO, push_bio, read_bio};
-use crate::heads::{BACK, DEPTH, DONE, ISSUE, ONE, TICK};
+use crate::heads::{BACK, DEPTH, DONE, ISSUE_WORD, ONE, PLACED, TICK, UNNAMED};
 use crate::setup::{DEPTHS, LATEST, MORE_TAGS, QUEUES, SetupForm, WIDTH};
 use blk_bio::{Bio, MAX_SOFT_DEPTH, MAX_SOFT_QUEUES};
 use blk_lists::fault::{TextFault, Why};
 use blk_lists::fields::{Slot, field, read_fields, without_word};
 use blk_lists::items::{RecordForm, read_record, read_records};
 use blk_lists::kinds::Kind;
+use blk_lists::names::FieldName;
 use blk_lists::source::Records;
 use blk_lists::titles::{TitleRow, read_title};
 use blk_trace::{MAX_EVENTS, Setup};
@@ -76,6 +77,14 @@ pub const FLUSH: Kind<5, WIDTH> = Kind {
     word: *b"flush",
     since: 1,
     slots: ONE,
+    names: [
+        FieldName::Word,
+        FieldName::Submitter,
+        UNNAMED,
+        UNNAMED,
+        UNNAMED,
+        UNNAMED,
+    ],
 };
 
 /// A hardware queue, below the number of a title.
@@ -83,6 +92,29 @@ pub const DRAIN: Kind<5, WIDTH> = Kind {
     word: *b"drain",
     since: 1,
     slots: ONE,
+    names: [
+        FieldName::Word,
+        FieldName::Queue,
+        UNNAMED,
+        UNNAMED,
+        UNNAMED,
+        UNNAMED,
+    ],
+};
+
+/// A hardware queue, below the number of a title, and a tag. A trace has an id there.
+pub const STEP_ISSUE: Kind<5, WIDTH> = Kind {
+    word: ISSUE_WORD,
+    since: 1,
+    slots: PLACED,
+    names: [
+        FieldName::Word,
+        FieldName::Queue,
+        FieldName::Tag,
+        UNNAMED,
+        UNNAMED,
+        UNNAMED,
+    ],
 };
 
 /// How many rounds.
@@ -96,6 +128,14 @@ pub const RUN: Kind<3, WIDTH> = Kind {
         Slot::Blank,
         Slot::Blank,
         Slot::Blank,
+    ],
+    names: [
+        FieldName::Word,
+        FieldName::Rounds,
+        UNNAMED,
+        UNNAMED,
+        UNNAMED,
+        UNNAMED,
     ],
 };
 
@@ -123,6 +163,14 @@ pub const SCRIPT: TitleRow<10, WIDTH> = TitleRow {
             least: 1,
             most: MAX_SOFT_QUEUES,
         },
+    ],
+    names: [
+        FieldName::Title,
+        FieldName::Version,
+        FieldName::Tags,
+        FieldName::Queues,
+        FieldName::SoftDepth,
+        FieldName::Submitters,
     ],
     later: Some(MORE_TAGS),
 };
@@ -155,8 +203,8 @@ fn short_line(form: &StepForm, row: &ByteRecord) -> Result<Line, Why>
             hw: numbers[1] as u8,
         });
     }
-    if ISSUE.is(word, form.version) {
-        let numbers = read_fields(row, &ISSUE.below(form.hw as u64))?;
+    if STEP_ISSUE.is(word, form.version) {
+        let numbers = read_fields(row, &STEP_ISSUE.below(form.hw as u64))?;
         return Ok(Line::Issue {
             hw: numbers[1] as u8,
             tag: numbers[2] as u16,
@@ -215,7 +263,7 @@ pub fn push_step(draft: &mut Block, step: &Line) -> Result<(), AllocError>
         Line::Bio(bio) => push_bio(draft, bio),
         Line::Flush(submitter) => FLUSH.push(draft, &[*submitter as u64]),
         Line::Drain { hw } => DRAIN.push(draft, &[*hw as u64]),
-        Line::Issue { hw, tag } => ISSUE.push(draft, &[*hw as u64, *tag as u64]),
+        Line::Issue { hw, tag } => STEP_ISSUE.push(draft, &[*hw as u64, *tag as u64]),
         Line::Done(tag) => DONE.push(draft, &[*tag as u64]),
         Line::Back(tag) => BACK.push(draft, &[*tag as u64]),
         Line::Depth(depth) => DEPTH.push(draft, &[*depth]),

@@ -18,6 +18,7 @@ use blk_lists::fault::Why;
 use blk_lists::fields::{Slot, begins_with, read_fields, without_word};
 use blk_lists::items::RecordForm;
 use blk_lists::kinds::Kind;
+use blk_lists::names::FieldName;
 use blk_lists::titles::Wider;
 use blk_trace::{MAX_EXPIRIES, Setup};
 use csv::ByteRecord;
@@ -76,6 +77,14 @@ pub const SETUP: Kind<5, WIDTH> = Kind {
             most: MAX_SEGMENTS,
         },
         Slot::Blank,
+    ],
+    names: [
+        FieldName::Setup,
+        FieldName::ReadExpire,
+        FieldName::WriteExpire,
+        FieldName::MaxSectors,
+        FieldName::MaxSegments,
+        FieldName::Unused,
     ],
 };
 
