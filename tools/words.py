@@ -25,16 +25,17 @@ TOP = Path(__file__).resolve().parent.parent
 FORMATS = TOP / "docs" / "FORMATS.md"
 HELP = TOP / "tools" / "help"
 PROGRAM = TOP / "crates" / "blk" / "out" / "blk"
-# The phrases of `explain`: `TakeTraces` lists the subcommands that take a trace.
-PHRASES = TOP / "crates" / "blk_explain" / "src" / "phrases.rt"
-# Each form as these phrases name it, and how the table's cells of input begin that name it.
+# What `explain` says of a text without a fault: the name of its form, and the subcommands that take it.
+EXPLAINED = re.compile(r"(blk-\w+), version \d+, records \d+\ntaken by (.*)\n")
+# Each form by that name, and how the table's cells of input begin that name it.
 FORMS = {
-    "Commands": "a command list",
-    "Certificates": "a certificate",
-    "Schedules": "a schedule",
-    "Captures": "a capture",
-    "Scripts": "a script",
-    "Traces": "a trace",
+    "blk-commands": "a command list",
+    "blk-certificate": "a certificate",
+    "blk-met": "a certificate",
+    "blk-schedule": "a schedule",
+    "blk-capture": "a capture",
+    "blk-script": "a script",
+    "blk-trace": "a trace",
 }
 # What the command line library adds to each command.
 ADDED = {"--help", "--version"}
@@ -231,12 +232,13 @@ def takers_of(form, commands):
 
 
 def takers_listed(commands):
-    """Where the subcommands that `explain` lists for a form and those of the table differ."""
-    phrases = dict(re.findall(r'Phrase::Take(\w+) => \{?\s*b"([^"]*)"', PHRASES.read_text()))
+    """Where the subcommands that `explain` lists for a form, in the cases, and those of the table differ."""
+    told = [EXPLAINED.fullmatch(it.read_text()) for it in TOP.glob("cases/explain/*/stdout")]
+    lists = {it[1]: it[2] for it in told if it}
     for name, form in FORMS.items():
-        listed, takers = set(phrases.get(name, "").split(", ")), set(takers_of(form, commands))
-        yield from (f"explain doesn't list that {it} takes {form}" for it in sorted(takers - listed))
-        yield from (f"explain lists that {it} takes {form}, and docs/FORMATS.md doesn't" for it in sorted(listed - takers))
+        listed, takers = set(lists.get(name, "").split(", ")), set(takers_of(form, commands))
+        yield from (f"explain doesn't list that {it} takes {name}" for it in sorted(takers - listed))
+        yield from (f"explain lists that {it} takes {name}, and docs/FORMATS.md doesn't" for it in sorted(listed - takers))
 
 
 def faults():

@@ -1,4 +1,4 @@
-//! Tests of the program where its reader or one of its writers fails, and of its laws.
+//! Tests of the program where its reader or one of its writers fails, of its laws, and of which subcommands take a text.
 #![tactic(auto)]
 
 #[cfg(test)]
@@ -9,3 +9,5 @@ mod failing;
 mod given;
 #[cfg(test)]
 mod laws;
+#[cfg(test)]
+mod takers;

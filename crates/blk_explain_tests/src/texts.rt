@@ -1,19 +1,29 @@
 //! Explanations of texts, good ones and such with a fault.
 
-use blk_explain::explain;
+use blk_explain::{TextForm, explain};
 use std::alloc::Global;
 use std::process::Abort;
 
-/// The place of the first text whose explanation is another than the one that stands beside it, if there is one.
-fn first_other(
-    rt: &impl Abort,
-    alloc: Global,
-    good: bool,
-    texts: &[(&str, &str)],
-) -> Option<usize> {
+/// The place of the first text with a fault whose explanation is another than the one that stands beside it, if there is one.
+fn first_other(rt: &impl Abort, alloc: Global, texts: &[(&str, &str)]) -> Option<usize> {
     for (place, (text, told)) in texts.iter().enumerate() {
         let explained = explain(alloc, text.as_bytes()).expect(rt, "memory");
-        if explained.good != good || explained.text.as_slice() != told.as_bytes() {
+        if explained.form.is_some() || explained.text.as_slice() != told.as_bytes() {
+            return Some(place);
+        }
+    }
+    None
+}
+
+/// The same of texts without a fault, of these forms.
+fn first_other_form(
+    rt: &impl Abort,
+    alloc: Global,
+    texts: &[(&str, TextForm, &str)],
+) -> Option<usize> {
+    for (place, (text, form, told)) in texts.iter().enumerate() {
+        let explained = explain(alloc, text.as_bytes()).expect(rt, "memory");
+        if explained.form != Some(*form) || explained.text.as_slice() != told.as_bytes() {
             return Some(place);
         }
     }
@@ -25,34 +35,41 @@ fn texts_without_a_fault(rt: HostRuntime) {
     let texts = [
         (
             "blk-commands,1,2\n0,0,5\n",
-            "blk-commands, version 1, records 2\ntaken by oracle\n",
+            TextForm::Commands,
+            "blk-commands, version 1, records 2\n",
         ),
         (
             "blk-certificate,1,1,1\nbound,0,0,0\n7,0,0,0\n",
-            "blk-certificate, version 1, records 3\ntaken by check\n",
+            TextForm::Certificate,
+            "blk-certificate, version 1, records 3\n",
         ),
         (
             "blk-met,1,1,1\nmet,1,0,\n7,0,0,0\n",
-            "blk-met, version 1, records 3\ntaken by check\n",
+            TextForm::OnTime,
+            "blk-met, version 1, records 3\n",
         ),
         (
             "blk-schedule,1,1,2\n0,0,0,0\n1,0,0,1\n",
-            "blk-schedule, version 1, records 3\ntaken by judge\n",
+            TextForm::Schedule,
+            "blk-schedule, version 1, records 3\n",
         ),
         (
             "blk-capture,1,,,,,,\n",
-            "blk-capture, version 1, records 1\ntaken by import\n",
+            TextForm::Capture,
+            "blk-capture, version 1, records 1\n",
         ),
         (
             "blk-script,2,2,1,4,1\nsetup,5,50,8,4,\nbio,0,0,R,0,8\nflush,0,,,,\ndrain,0,,,,\nissue,0,0,,,\ndone,0,,,,\ntick,,,,,\n",
-            "blk-script, version 2, records 8\ntaken by sim, compare, picture --script, tune\n",
+            TextForm::Script,
+            "blk-script, version 2, records 8\n",
         ),
         (
             "blk-trace,2,1,1,1,\nsetup,5,50,8,4,\n\n\ntick,,,,,",
-            "blk-trace, version 2, records 3\ntaken by oracle --trace, spread, late, misses, commands, migrate, picture\n",
+            TextForm::Trace,
+            "blk-trace, version 2, records 3\n",
         ),
     ];
-    assert_eq!(rt; first_other(&rt, rt.alloc(), true, &texts), None);
+    assert_eq!(rt; first_other_form(&rt, rt.alloc(), &texts), None);
 }
 
 #[test]
@@ -111,7 +128,7 @@ fn faults_of_records(rt: HostRuntime) {
             "line 2, record 2, Number: wanted nanoseconds in nine digits, and numbers\nblk-capture: record 2: Number\n",
         ),
     ];
-    assert_eq!(rt; first_other(&rt, rt.alloc(), false, &texts), None);
+    assert_eq!(rt; first_other(&rt, rt.alloc(), &texts), None);
 }
 
 #[test]
@@ -154,7 +171,7 @@ fn faults_of_values(rt: HostRuntime) {
             "line 3, record 3, records: found 2, wanted 3\nblk-schedule: record 3: Count\n",
         ),
     ];
-    assert_eq!(rt; first_other(&rt, rt.alloc(), false, &texts), None);
+    assert_eq!(rt; first_other(&rt, rt.alloc(), &texts), None);
 }
 
 #[test]
@@ -181,7 +198,7 @@ fn faults_of_bounds(rt: HostRuntime) {
             "line 5, record 5, records: found 4, wanted 5\nblk-met: record 5: Count\n",
         ),
     ];
-    assert_eq!(rt; first_other(&rt, rt.alloc(), false, &texts), None);
+    assert_eq!(rt; first_other(&rt, rt.alloc(), &texts), None);
 }
 
 #[test]
@@ -208,5 +225,5 @@ fn refused_steps(rt: HostRuntime) {
             "line 3, record 3, NotIssued: wanted a tag with a command in flight\nblk-script: record 3: NotIssued\n",
         ),
     ];
-    assert_eq!(rt; first_other(&rt, rt.alloc(), false, &texts), None);
+    assert_eq!(rt; first_other(&rt, rt.alloc(), &texts), None);
 }
