@@ -15,7 +15,7 @@ use crate::words::push_words;
 use blk_bio::{BioFault, Dir, MAX_END, TraceRule};
 use blk_lists::Why;
 use blk_lists::fields::{Slot, field, parse_nanoseconds, parse_number, parse_sized};
-use blk_lists::kinds::AnyKind;
+use blk_lists::any::AnyKind;
 use blk_lists::on_time::WINDOW;
 use blk_text::{MAX_SUBMITTERS, MORE_TAGS, event_kinds, step_kinds};
 use csv::ByteRecord;

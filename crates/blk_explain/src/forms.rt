@@ -10,7 +10,7 @@ use crate::phrases::Phrase;
 use blk_capture_text::{CAPTURE, RECORD_ROW};
 use blk_lists::certificate::{BOUND, CERTIFICATE, SERVED_ROW};
 use blk_lists::commands::{COMMAND_ROW, COMMANDS};
-use blk_lists::kinds::AnyKind;
+use blk_lists::any::AnyKind;
 use blk_lists::on_time::{NUMBERS, ON_TIME, WINDOW};
 use blk_lists::schedule::SCHEDULE;
 use blk_text::script::SCRIPT;

@@ -4,7 +4,7 @@ ghost use Rattle.std.specs.Prelude.{◌≡◌, ◌++◌, OnOk};
 ghost use Rattle.std.specs.List.{flat_map};
 ghost use Rattle.blk_explain.specs.Words.{since_text, versioned, before_comma, several, words_text};
 
-use blk_lists::kinds::AnyKind;
+use blk_lists::any::AnyKind;
 use drafts::Draft;
 use std::alloc::AllocError;
 
