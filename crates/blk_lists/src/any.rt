@@ -39,9 +39,9 @@ impl Model for AnyKind {
 
     ghost Value = { KindRow };
 
-    ghost use Rattle.blk_lists.specs.Inside.Any.{first_of, in_arrays, IsInArrays};
+    ghost use Rattle.blk_lists.specs.Inside.Any.{kept_row, in_arrays, IsInArrays};
 
-    ghost view = { first_of };
+    ghost view = { kept_row };
 
     ghost invariant = { IsInArrays };
 

@@ -45,12 +45,13 @@ pub fn traces()
     ensures first { OneFault TraceTextFault }
 {}
 
-/// The word of each row that scripts and traces have alike, and how many fields a record of theirs has.
+/// The word of each row that scripts and traces have alike, as those of their issues, and how many fields a record of theirs has.
 pub fn words_of_both()
     ensures width { WIDTH ≡ 6 }
     ensures setup { SETUP.word ≡ codes "setup" }
     ensures bio { BIO.word ≡ codes "bio" }
     ensures issue { ISSUE.word ≡ codes "issue" }
+    ensures step_issue { STEP_ISSUE.word ≡ codes "issue" }
     ensures done { DONE.word ≡ codes "done" }
     ensures back { BACK.word ≡ codes "back" }
     ensures depth { DEPTH.word ≡ codes "depth" }
@@ -61,7 +62,6 @@ pub fn words_of_both()
 pub fn words_of_scripts()
     ensures flush { FLUSH.word ≡ codes "flush" }
     ensures drain { DRAIN.word ≡ codes "drain" }
-    ensures issue { STEP_ISSUE.word ≡ codes "issue" }
     ensures run { RUN.word ≡ codes "run" }
 {}
 
