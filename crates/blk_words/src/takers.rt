@@ -1,6 +1,7 @@
 //! Which subcommands take a kind of text, by the table, as they are named to somebody who has such a text.
 
 ghost use Rattle.std.specs.Prelude.{◌≡◌, ◌++◌, IfOk, OnOk, codes, filter, length, map, option_map, string_bytes};
+ghost use Rattle.std.specs.List.{flat_map};
 ghost use Rattle.blk_words.specs.CommandLine.{command_table};
 ghost use Rattle.blk_words.specs.Inside.Tables.{subcommand_of, called};
 ghost use Rattle.blk_words.specs.Takers.{at_place, named_in_order, taker, takers, takers_text};
@@ -105,6 +106,17 @@ fn takers_of(alloc: Global, input: Input) -> Result<Vec<Taker>, AllocError>
     Ok(all)
 }
 
+/// Adds the names of these, each behind a comma and a space.
+fn push_others(names: &mut String, others: &[Taker]) -> Result<(), AllocError>
+    ensures { OnOk result (string_bytes names.new ≡ string_bytes names.old ++ flat_map (λ name. codes ", " ++ name) (map called others.now)) }
+{
+    for taker in others {
+        names.push_str(", ")?;
+        taker.push(names)?;
+    }
+    Ok(())
+}
+
 /// The names of the subcommands that take a text of this kind, with a comma and a space between, each with the flag that asks for it where
 /// it reads another kind without. They stand in the order of the places in their rows. Fails only when out of memory.
 pub fn takers_text(alloc: Global, input: Input) -> Result<String, AllocError>
@@ -112,11 +124,9 @@ pub fn takers_text(alloc: Global, input: Input) -> Result<String, AllocError>
 {
     let all = takers_of(alloc, input)?;
     let mut names = String::new(alloc);
-    for i in 0..all.len() {
-        if i > 0 {
-            names.push_str(", ")?;
-        }
-        all[i].push(&mut names)?;
+    if let Some((first, others)) = all.as_slice().split_first() {
+        first.push(&mut names)?;
+        push_others(&mut names, others)?;
     }
     Ok(names)
 }
