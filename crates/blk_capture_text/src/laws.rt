@@ -1,7 +1,11 @@
 //! Laws of the form, each the contract of a function that does nothing.
 
+ghost use Rattle.std.specs.Prelude.{◌≡◌, ◌∷◌, [], take, drop, replicate};
 ghost use Rattle.blk_lists.specs.Laws.{OneValue, ReadsBack, ValueOrFault, NeverBoth, OneFault};
 ghost use Rattle.blk_capture_text.specs.Captures.{MakeCapture, TellsRecords, SpellsCapture, CaptureTextFault, capture_rows};
+ghost use Rattle.blk_capture_text.specs.declared.reading.TheConstants.{CAPTURE};
+ghost use Rattle.blk_capture_text.specs.declared.record.TheConstants.{RECORD_ROW};
+ghost use Rattle.blk_lists.specs.declared.names.FieldName.TheVariants as name;
 
 /// A list of rows spells the records of one capture at most.
 pub fn captures_are_spelled_once()
@@ -26,4 +30,12 @@ pub fn spelled_captures_have_no_fault()
 /// Rows have one first fault as a capture at most.
 pub fn a_capture_has_one_fault()
     ensures { OneFault CaptureTextFault }
+{}
+
+/// What the fields of a title and of a record are called.
+pub fn names_of_captures()
+    ensures title { take 2 CAPTURE.names ≡ name.Title ∷ name.Version ∷ [] }
+    ensures rest { drop 2 CAPTURE.names ≡ replicate 6 name.Unused }
+    ensures time { take 3 RECORD_ROW.names ≡ name.Seconds ∷ name.Nanoseconds ∷ name.Processor ∷ [] }
+    ensures others { drop 3 RECORD_ROW.names ≡ name.Action ∷ name.Process ∷ name.Rwbs ∷ name.First ∷ name.Sectors ∷ [] }
 {}

@@ -6,7 +6,7 @@ ghost use Rattle.blk_capture.specs.Requests.{AreInOrder};
 use blk_capture::{Action, Entry, Op, Options, Record, rows_of, summarize};
 use blk_capture_text::laws::{
     a_capture_has_one_fault, a_capture_is_spelled_or_has_a_fault, captures_are_spelled_once,
-    captures_read_back, spelled_captures_have_no_fault,
+    captures_read_back, names_of_captures, spelled_captures_have_no_fault,
 };
 use blk_capture_text::{
     ImportAsked, ImportFault, ShownImport, count_fates, first_time, import, notice_text,
@@ -294,6 +294,7 @@ fn laws_hold(rt: HostRuntime) {
     a_capture_is_spelled_or_has_a_fault();
     spelled_captures_have_no_fault();
     a_capture_has_one_fault();
+    names_of_captures();
     assert!(rt; true);
 }
 

@@ -1,6 +1,6 @@
 //! Laws of the text forms, each the contract of a function that does nothing.
 
-ghost use Rattle.std.specs.Prelude.{◌≡◌, ℕ, List, codes};
+ghost use Rattle.std.specs.Prelude.{◌≡◌, ◌∷◌, ℕ, List, [], codes};
 ghost use Rattle.edd_commands.specs.declared.Command.{Command};
 ghost use Rattle.blk_lists.specs.Sources.{Row};
 ghost use Rattle.blk_lists.specs.Laws.{OneValue, ReadsBack, ValueOrFault, NeverBoth, OneFault};
@@ -10,10 +10,13 @@ ghost use Rattle.blk_lists.specs.OnTime.{OnTimeClaim, IsOnTimeClaim, SpellsOnTim
 ghost use Rattle.blk_lists.specs.Proof.{OfLateness, OfOnTime, SpellsProof, ProofFault, FaultsAs, StartsAs};
 ghost use Rattle.blk_lists.specs.Schedule.{IsScheduleView, SpellsSchedule, ScheduleFault, schedule_rows};
 ghost use Rattle.blk_lists.specs.Words.{NextStarts};
-ghost use Rattle.blk_lists.specs.declared.certificate.TheConstants.{BOUND};
+ghost use Rattle.blk_lists.specs.declared.certificate.TheConstants.{BOUND, CERTIFICATE, SERVED_ROW};
+ghost use Rattle.blk_lists.specs.declared.commands.TheConstants.{COMMAND_ROW, COMMANDS};
 ghost use Rattle.blk_lists.specs.declared.fault.Why.TheVariants as why;
-ghost use Rattle.blk_lists.specs.declared.on_time.TheConstants.{NUMBERS, WINDOW};
+ghost use Rattle.blk_lists.specs.declared.names.FieldName.TheVariants as name;
+ghost use Rattle.blk_lists.specs.declared.on_time.TheConstants.{NUMBERS, ON_TIME, WINDOW};
 ghost use Rattle.blk_lists.specs.declared.proof.ProofKind.TheVariants as kind;
+ghost use Rattle.blk_lists.specs.declared.schedule.TheConstants.{SCHEDULE};
 
 /// Command lists: records spell one at most, and its text reads back as its records, which spell it. Records either spell one
 /// or have a fault as one, and not both; and they have one first fault at most.
@@ -79,4 +82,17 @@ pub fn schedules()
     ensures decided { ValueOrFault SpellsSchedule ScheduleFault }
     ensures apart { NeverBoth SpellsSchedule ScheduleFault }
     ensures first { OneFault ScheduleFault }
+{}
+
+/// What the fields of each row of a list are called.
+pub fn names_of_lists()
+    ensures commands { COMMANDS.names ≡ name.Title ∷ name.Version ∷ name.Room ∷ [] }
+    ensures command { COMMAND_ROW.names ≡ name.Id ∷ name.Release ∷ name.Due ∷ [] }
+    ensures certificate { CERTIFICATE.names ≡ name.Title ∷ name.Version ∷ name.Room ∷ name.Commands ∷ [] }
+    ensures on_time { ON_TIME.names ≡ name.Title ∷ name.Version ∷ name.Room ∷ name.Commands ∷ [] }
+    ensures schedule { SCHEDULE.names ≡ name.Title ∷ name.Version ∷ name.Room ∷ name.Commands ∷ [] }
+    ensures served { SERVED_ROW.names ≡ name.Id ∷ name.Release ∷ name.Due ∷ name.Round ∷ [] }
+    ensures bound { BOUND.names ≡ name.Bound ∷ name.Lateness ∷ name.BoundFrom ∷ name.BoundUntil ∷ [] }
+    ensures numbers { NUMBERS.names ≡ name.OnTime ∷ name.CommandsOnTime ∷ name.Windows ∷ name.Unused ∷ [] }
+    ensures windows { WINDOW.names ≡ name.Word ∷ name.From ∷ name.Until ∷ name.Unused ∷ [] }
 {}

@@ -11,13 +11,14 @@ ghost use Rattle.blk_text.specs.TraceRecords.{IsTrace};
 ghost use Rattle.blk_text.specs.TraceForm.{trace_rows, SpellsTraceIn, SpellsTrace, TraceTextFault, OneTrace, TraceReadsBack};
 ghost use Rattle.blk_text.specs.declared.bios.TheConstants.{BIO};
 ghost use Rattle.blk_text.specs.declared.heads.TheConstants.{TICK, RELEASE, JOIN, ISSUE, DONE, BACK, DEPTH, TRACE};
-ghost use Rattle.blk_text.specs.declared.script.TheConstants.{FLUSH, DRAIN, STEP_ISSUE, RUN, MAX_RUN};
+ghost use Rattle.blk_text.specs.declared.script.TheConstants.{FLUSH, DRAIN, STEP_ISSUE, RUN, MAX_RUN, SCRIPT};
 ghost use Rattle.blk_text.specs.declared.setup.TheConstants.{DEPTHS, LATEST, QUEUES, SETUP, WIDTH};
 ghost use Rattle.blk_bio.specs.declared.limits.TheConstants.{MAX_SEGMENTS};
 ghost use Rattle.blk_trace.specs.declared.event.TheConstants.{MAX_TAGS};
 ghost use Rattle.blk_trace.specs.declared.trace.TheConstants.{MAX_EVENTS};
 ghost use Rattle.blk_lists.specs.declared.fields.TheConstants.{ANY_SLOT};
 ghost use Rattle.blk_lists.specs.declared.fields.Slot.TheVariants as slot;
+ghost use Rattle.blk_lists.specs.declared.names.FieldName.TheVariants as name;
 
 /// Scripts: records spell one at most, and in one version. The text of one in a version that has its tags and its steps reads
 /// back as its records, which spell it. Records either spell one or have a fault as one, and not both; and they have one first
@@ -90,4 +91,31 @@ pub fn fields_of_traces()
     ensures back { BACK.slots ≡ slot.Given ∷ slot.Number 0 (MAX_TAGS - 1) ∷ slot.Blank ∷ slot.Blank ∷ slot.Blank ∷ slot.Blank ∷ [] }
     ensures depth { DEPTH.slots ≡ slot.Given ∷ ANY_SLOT ∷ slot.Blank ∷ slot.Blank ∷ slot.Blank ∷ slot.Blank ∷ [] }
     ensures bio { BIO.slots ≡ slot.Given ∷ ANY_SLOT ∷ ANY_SLOT ∷ slot.Direction ∷ ANY_SLOT ∷ ANY_SLOT ∷ [] }
+{}
+
+/// What the fields of each row are called that scripts and traces have alike.
+pub fn names_of_both()
+    ensures setup { SETUP.names ≡ name.Setup ∷ name.ReadExpire ∷ name.WriteExpire ∷ name.MaxSectors ∷ name.MaxSegments ∷ name.Unused ∷ [] }
+    ensures bio { BIO.names ≡ name.Word ∷ name.Submitter ∷ name.Serial ∷ name.Direction ∷ name.First ∷ name.Sectors ∷ [] }
+    ensures done { DONE.names ≡ name.Word ∷ name.Tag ∷ name.Unused ∷ name.Unused ∷ name.Unused ∷ name.Unused ∷ [] }
+    ensures back { BACK.names ≡ name.Word ∷ name.Tag ∷ name.Unused ∷ name.Unused ∷ name.Unused ∷ name.Unused ∷ [] }
+    ensures depth { DEPTH.names ≡ name.Word ∷ name.Depth ∷ name.Unused ∷ name.Unused ∷ name.Unused ∷ name.Unused ∷ [] }
+    ensures tick { TICK.names ≡ name.Word ∷ name.Unused ∷ name.Unused ∷ name.Unused ∷ name.Unused ∷ name.Unused ∷ [] }
+{}
+
+/// Those of each other row of a script.
+pub fn names_of_scripts()
+    ensures title { SCRIPT.names ≡ name.Title ∷ name.Version ∷ name.Tags ∷ name.Queues ∷ name.SoftDepth ∷ name.Submitters ∷ [] }
+    ensures flush { FLUSH.names ≡ name.Word ∷ name.Submitter ∷ name.Unused ∷ name.Unused ∷ name.Unused ∷ name.Unused ∷ [] }
+    ensures drain { DRAIN.names ≡ name.Word ∷ name.Queue ∷ name.Unused ∷ name.Unused ∷ name.Unused ∷ name.Unused ∷ [] }
+    ensures issue { STEP_ISSUE.names ≡ name.Word ∷ name.Queue ∷ name.Tag ∷ name.Unused ∷ name.Unused ∷ name.Unused ∷ [] }
+    ensures run { RUN.names ≡ name.Word ∷ name.Rounds ∷ name.Unused ∷ name.Unused ∷ name.Unused ∷ name.Unused ∷ [] }
+{}
+
+/// And those of each other row of a trace.
+pub fn names_of_traces()
+    ensures title { TRACE.names ≡ name.Title ∷ name.Version ∷ name.Tags ∷ name.Queues ∷ name.Events ∷ name.Unused ∷ [] }
+    ensures release { RELEASE.names ≡ name.Word ∷ name.Id ∷ name.Bios ∷ name.Unused ∷ name.Unused ∷ name.Unused ∷ [] }
+    ensures join { JOIN.names ≡ name.Word ∷ name.Id ∷ name.Bios ∷ name.Unused ∷ name.Unused ∷ name.Unused ∷ [] }
+    ensures issue { ISSUE.names ≡ name.Word ∷ name.Id ∷ name.Tag ∷ name.Unused ∷ name.Unused ∷ name.Unused ∷ [] }
 {}
