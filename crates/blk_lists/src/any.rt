@@ -31,11 +31,7 @@ pub struct AnyKind {
 }
 
 impl Model for AnyKind {
-    ghost use Rattle.std.specs.Prelude.{◌≡◌, ◌≤◌, take};
     ghost use Rattle.blk_lists.specs.Kinds.{KindRow};
-    ghost use Rattle.blk_lists.specs.declared.any.TheConstants.{MAX_FIELDS, MAX_LETTERS};
-    ghost use Rattle.blk_lists.specs.declared.fields.Slot.TheVariants as slot;
-    ghost use Rattle.blk_lists.specs.declared.names.FieldName.TheVariants as name;
 
     ghost Value = { KindRow };
 
