@@ -7,10 +7,14 @@ use Rattle.blk_explain.specs.Forms.{IsWorded}
 abbrev pub Lacks : List ℕ → List KindRow → Type 0
 Lacks word kinds = (k : KindRow) → HasRow kinds k → ¬ (word ≡ k.word)
 
-pub has_at : (kinds : List KindRow) (i : ℕ) (d : KindRow) → i < length kinds → HasRow kinds (get_or kinds i d)
-has_at [] i d lt = absurd (omega (arith, lt))
-has_at (r ∷ rows) zero d lt = inl refl
-has_at (r ∷ rows) (suc i) d lt = inr (has_at rows i d (omega (arith, lt)))
+-- the row at a place is one of them
+at_place : (kinds : List KindRow) (i : ℕ) (d : KindRow) → i < length kinds → HasRow kinds (get_or kinds i d)
+at_place [] i d lt = absurd (omega (arith, lt))
+at_place (r ∷ rows) zero d lt = inl refl
+at_place (r ∷ rows) (suc i) d lt = inr (at_place rows i d (omega (arith, lt)))
+
+pub has_at : (kinds : List KindRow) (i : ℕ) (k : KindRow) → i < length kinds → k ≡ get_or kinds i k → HasRow kinds k
+has_at kinds i k lt is = subst (HasRow kinds) (sym is) (at_place kinds i k lt)
 
 -- no row of one more has it where the next has another word
 not_yet : (word : List ℕ) (kinds : List KindRow) (i : ℕ) (d : KindRow) → i < length kinds → Lacks word (take i kinds) → ¬ (word ≡ (get_or kinds i d).word) → Lacks word (take (suc i) kinds)
@@ -20,8 +24,8 @@ not_yet word (r ∷ rows) zero d lt none is k (inr h) = absurd h
 not_yet word (r ∷ rows) (suc i) d lt none is k (inl e) = none k (inl e)
 not_yet word (r ∷ rows) (suc i) d lt none is k (inr h) = not_yet word rows i d (omega (arith, lt)) (λ j g. none j (inr g)) is k h
 
-pub lacks_more : (word : List ℕ) (kinds : List KindRow) (i : ℕ) (d : KindRow) → i < length kinds → Lacks word (take i kinds) → ¬ (word ≡ (get_or kinds i d).word) → Lacks word (take (i + 1) kinds)
-lacks_more word kinds i d lt none is = rw (add-one i) (not_yet word kinds i d lt none is)
+pub lacks_more : (word : List ℕ) (kinds : List KindRow) (i : ℕ) (k : KindRow) → i < length kinds → k ≡ get_or kinds i k → Lacks word (take i kinds) → ¬ (word ≡ k.word) → Lacks word (take (i + 1) kinds)
+lacks_more word kinds i k lt is none other = rw (add-one i) (not_yet word kinds i k lt none (subst (λ (z : KindRow). ¬ (word ≡ z.word)) is other))
 
 -- a row of either of two tables
 in_first : (xs ys : List KindRow) (k : KindRow) → HasRow xs k → HasRow (xs ++ ys) k

@@ -26,32 +26,60 @@ use Rattle.blk_explain.specs.declared.phrases.Phrase.TheVariants as phrase
 -- records are announced
 abbrev pub form_row : TextForm → FormRow
 form_row form.Commands = record {
-  title = title_kind COMMANDS; second = row COMMAND_ROW; later = later.Wordless; item = row COMMAND_ROW;
-  range = phrase.EachInRange; counted = counted.Nothing;
+  title = title_kind COMMANDS;
+  second = row COMMAND_ROW;
+  later = later.Wordless;
+  item = row COMMAND_ROW;
+  range = phrase.EachInRange;
+  counted = counted.Nothing;
 }
 form_row form.Certificate = record {
-  title = title_kind CERTIFICATE; second = row BOUND; later = later.Wordless; item = row SERVED_ROW;
-  range = phrase.EachInRange; counted = counted.Commands 2;
+  title = title_kind CERTIFICATE;
+  second = row BOUND;
+  later = later.Wordless;
+  item = row SERVED_ROW;
+  range = phrase.EachInRange;
+  counted = counted.Commands 2;
 }
 form_row form.OnTime = record {
-  title = title_kind ON_TIME; second = row NUMBERS; later = later.Windows; item = row SERVED_ROW;
-  range = phrase.EachInRange; counted = counted.Windows;
+  title = title_kind ON_TIME;
+  second = row NUMBERS;
+  later = later.Windows;
+  item = row SERVED_ROW;
+  range = phrase.EachInRange;
+  counted = counted.Windows;
 }
 form_row form.Schedule = record {
-  title = title_kind SCHEDULE; second = row SERVED_ROW; later = later.Wordless; item = row SERVED_ROW;
-  range = phrase.EachInRange; counted = counted.Commands 1;
+  title = title_kind SCHEDULE;
+  second = row SERVED_ROW;
+  later = later.Wordless;
+  item = row SERVED_ROW;
+  range = phrase.EachInRange;
+  counted = counted.Commands 1;
 }
 form_row form.Capture = record {
-  title = title_kind CAPTURE; second = row RECORD_ROW; later = later.Wordless; item = row RECORD_ROW;
-  range = phrase.EachInRange; counted = counted.Nothing;
+  title = title_kind CAPTURE;
+  second = row RECORD_ROW;
+  later = later.Wordless;
+  item = row RECORD_ROW;
+  range = phrase.EachInRange;
+  counted = counted.Nothing;
 }
 form_row form.Script = record {
-  title = title_kind SCRIPT; second = row SETUP; later = later.Steps; item = row OTHER_STEP;
-  range = phrase.EnoughSubmitters; counted = counted.Nothing;
+  title = title_kind SCRIPT;
+  second = row SETUP;
+  later = later.Steps;
+  item = row OTHER_STEP;
+  range = phrase.EnoughSubmitters;
+  counted = counted.Nothing;
 }
 form_row form.Trace = record {
-  title = title_kind TRACE; second = row SETUP; later = later.Events; item = row OTHER_EVENT;
-  range = phrase.EachInRange; counted = counted.Events;
+  title = title_kind TRACE;
+  second = row SETUP;
+  later = later.Events;
+  item = row OTHER_EVENT;
+  range = phrase.EachInRange;
+  counted = counted.Events;
 }
 
 -- the name that its title begins with
