@@ -78,9 +78,11 @@ fn front_merge(rt: HostRuntime) {
     }
 }
 
-/// A batch of no request is refused.
+/// A batch of no request is refused, and told of settings alone.
 #[test]
 fn constructors_refuse(rt: HostRuntime) {
+    assert!(rt; tuned(0, 2, true).has_zero_batch());
+    assert!(rt; !tuned(1, 0, false).has_zero_batch());
     let refused = match Deadline::new(rt.alloc(), tuned(0, 2, true)) {
         Ok(_) => None,
         Err(why) => Some(why),

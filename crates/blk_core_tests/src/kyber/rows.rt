@@ -110,10 +110,12 @@ fn kyber_under_the_core(rt: HostRuntime) {
     follows(&rt, rt.alloc(), 2, 1, targets(1, 10), &calls);
 }
 
-/// A target of no round is refused.
+/// A target of no round is refused, and told of settings alone.
 #[test]
 fn constructors_refuse(rt: HostRuntime) {
+    assert!(rt; !targets(1, 1).has_zero_target());
     for (read, write) in [(0, 10), (2, 0)] {
+        assert!(rt; targets(read, write).has_zero_target());
         let refused = match Kyber::new(rt.alloc(), targets(read, write), 8) {
             Ok(_) => None,
             Err(why) => Some(why),
