@@ -4,7 +4,7 @@ ghost use Rattle.std.specs.Prelude.{◌≡◌, ◌∷◌, [], take, drop, replic
 ghost use Rattle.blk_lists.specs.Laws.{OneValue, ReadsBack, ValueOrFault, NeverBoth, OneFault};
 ghost use Rattle.blk_capture_text.specs.Captures.{MakeCapture, TellsRecords, SpellsCapture, CaptureTextFault, capture_rows};
 ghost use Rattle.blk_capture_text.specs.declared.reading.TheConstants.{CAPTURE};
-ghost use Rattle.blk_capture_text.specs.declared.record.TheConstants.{RECORD_ROW};
+ghost use Rattle.blk_capture_text.specs.declared.record.TheConstants.{RECORD, RECORD_ROW};
 ghost use Rattle.blk_lists.specs.declared.names.FieldName.TheVariants as name;
 
 /// A list of rows spells the records of one capture at most.
@@ -30,6 +30,11 @@ pub fn spelled_captures_have_no_fault()
 /// Rows have one first fault as a capture at most.
 pub fn a_capture_has_one_fault()
     ensures { OneFault CaptureTextFault }
+{}
+
+/// The row of a record, which begins with no word: its word is empty, it stands in the first version, and its fields are those that the reader goes by.
+pub fn wordless_row()
+    ensures { (RECORD_ROW.word ≡ []) × (RECORD_ROW.since ≡ 1) × (RECORD_ROW.slots ≡ RECORD) }
 {}
 
 /// What the fields of a title and of a record are called.

@@ -13,7 +13,7 @@ mod table;
 pub use crate::importing::{ImportAsked, ImportFault, first_time, import};
 pub use crate::numbers::{UnusedCounts, count_fates, notice_text, write_summary};
 pub use crate::reading::{CAPTURE, MAX_RECORDS, read_capture};
-pub use crate::record::{RECORD, RECORD_ROW};
+pub use crate::record::RECORD_ROW;
 pub use crate::schedule::schedule_of;
 pub use crate::shown::{ShownImport, shown_text};
 pub use crate::table::write_table;

@@ -25,7 +25,7 @@ const SECONDS: Slot = Slot::Number {
 };
 
 /// The fields of a record: seconds, nanoseconds, processor, action, process, rwbs, first sector, sectors.
-pub const RECORD: [Slot; WIDTH] = [
+pub(crate) const RECORD: [Slot; WIDTH] = [
     SECONDS,
     Slot::Nanoseconds,
     ANY_SLOT,

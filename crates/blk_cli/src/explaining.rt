@@ -2,37 +2,37 @@
 
 ghost use Rattle.std.specs.Prelude.{◌≡◌, ◌++◌, IfOk, IfErr};
 ghost use Rattle.blk_cli.specs.Said.{said_of};
-ghost use Rattle.blk_cli.specs.Explaining.{input_of, takers_line, IsTextExplained, IsUnexplained};
+ghost use Rattle.blk_cli.specs.Explaining.{text_kind, takers_line, IsTextExplained, IsUnexplained};
 
 use crate::Answered;
 use crate::failure::Failure;
 use blk_explain::{TextForm, explain};
 use blk_lists::Records;
-use blk_words::{Input, takers_text};
+use blk_words::{TextKind, takers_text};
 use std::alloc::{AllocError, Global};
 use std::io::Read;
 
 /// What a text of a form is to the subcommands.
-fn input_of(form: TextForm) -> Input
-    ensures { result ≡ input_of form }
+fn text_kind(form: TextForm) -> TextKind
+    ensures { result ≡ text_kind form }
 {
     match form {
-        TextForm::Commands => Input::Commands,
-        TextForm::Certificate | TextForm::OnTime => Input::Certificate,
-        TextForm::Schedule => Input::Schedule,
-        TextForm::Capture => Input::Capture,
-        TextForm::Script => Input::Script,
-        TextForm::Trace => Input::Trace,
+        TextForm::Commands => TextKind::Commands,
+        TextForm::Certificate | TextForm::OnTime => TextKind::Certificate,
+        TextForm::Schedule => TextKind::Schedule,
+        TextForm::Capture => TextKind::Capture,
+        TextForm::Script => TextKind::Script,
+        TextForm::Trace => TextKind::Trace,
     }
 }
 
 /// A text with the line behind it that names the subcommands which take texts of a form, if there is one.
-fn with_takers(alloc: Global, line: Vec<u8>, form: Option<TextForm>) -> Result<Vec<u8>, AllocError>
-    ensures { IfOk result (λ text. text.items ≡ line.items ++ takers_line form) }
+fn with_takers(alloc: Global, told: Vec<u8>, form: Option<TextForm>) -> Result<Vec<u8>, AllocError>
+    ensures { IfOk result (λ text. text.items ≡ told.items ++ takers_line form) }
 {
-    let mut text = line;
+    let mut text = told;
     if let Some(form) = form {
-        let takers = takers_text(alloc, input_of(form))?;
+        let takers = takers_text(alloc, text_kind(form))?;
         text.extend_from_slice(b"taken by ")?;
         text.extend_from_slice(takers.as_bytes())?;
         text.extend_from_slice(b"\n")?;

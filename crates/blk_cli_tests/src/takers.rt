@@ -1,28 +1,28 @@
 //! Which subcommands take a kind of text.
 
-use blk_words::{Input, takers_text};
+use blk_words::{TextKind, takers_text};
 use std::alloc::Global;
 use std::process::Abort;
 
 /// Whether these subcommands take a kind of text, in this order.
-fn is_taken_by(rt: &impl Abort, alloc: Global, input: Input, names: &str) -> bool {
-    takers_text(alloc, input).expect(rt, "memory").as_str() == names
+fn is_taken_by(rt: &impl Abort, alloc: Global, kind: TextKind, names: &str) -> bool {
+    takers_text(alloc, kind).expect(rt, "memory").as_str() == names
 }
 
 #[test]
 fn takers_of_each_kind(rt: HostRuntime) {
     let takers = [
-        (Input::Script, "sim, compare, picture --script, tune"),
+        (TextKind::Script, "sim, compare, picture --script, tune"),
         (
-            Input::Trace,
+            TextKind::Trace,
             "oracle --trace, spread, late, misses, commands, migrate, picture",
         ),
-        (Input::Commands, "oracle"),
-        (Input::Certificate, "check"),
-        (Input::Schedule, "judge"),
-        (Input::Capture, "import"),
+        (TextKind::Commands, "oracle"),
+        (TextKind::Certificate, "check"),
+        (TextKind::Schedule, "judge"),
+        (TextKind::Capture, "import"),
     ];
-    for (input, names) in takers {
-        assert!(rt; is_taken_by(&rt, rt.alloc(), input, names));
+    for (kind, names) in takers {
+        assert!(rt; is_taken_by(&rt, rt.alloc(), kind, names));
     }
 }

@@ -103,7 +103,7 @@ impl RecordForm for BoundForm {
 }
 
 /// The fields of a command with its round: id, release, due, round.
-pub const SERVED: [Slot; 4] = [ANY_SLOT, RELEASE_SLOT, ROUND_SLOT, ROUND_SLOT];
+pub(crate) const SERVED: [Slot; 4] = [ANY_SLOT, RELEASE_SLOT, ROUND_SLOT, ROUND_SLOT];
 
 /// The row of a command with its round, which begins with no word.
 pub const SERVED_ROW: Kind<0, 4> = Kind {

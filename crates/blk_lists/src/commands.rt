@@ -33,7 +33,7 @@ pub const COMMANDS: TitleRow<12, 3> = TitleRow {
 };
 
 /// The fields of a command: id, release, due.
-pub const COMMAND: [Slot; 3] = [ANY_SLOT, RELEASE_SLOT, ROUND_SLOT];
+pub(crate) const COMMAND: [Slot; 3] = [ANY_SLOT, RELEASE_SLOT, ROUND_SLOT];
 
 /// The row of a command, which begins with no word.
 pub const COMMAND_ROW: Kind<0, 3> = Kind {

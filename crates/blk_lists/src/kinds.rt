@@ -20,7 +20,7 @@ pub struct Kind<const L: usize, const N: usize> {
     pub since: u64,
     /// What may stand in its fields, of which the word is the first.
     pub slots: [Slot; N],
-    /// What its fields are called, `Unused` where it has none.
+    /// What its fields are called, `Unused` where its records don't use one.
     pub names: [FieldName; N],
 }
 

@@ -10,8 +10,8 @@ ghost use Rattle.blk_lists.specs.OnTime.{OnTimeClaim, IsOnTimeClaim, SpellsOnTim
 ghost use Rattle.blk_lists.specs.Proof.{OfLateness, OfOnTime, SpellsProof, ProofFault, FaultsAs, StartsAs};
 ghost use Rattle.blk_lists.specs.Schedule.{IsScheduleView, SpellsSchedule, ScheduleFault, schedule_rows};
 ghost use Rattle.blk_lists.specs.Words.{NextStarts};
-ghost use Rattle.blk_lists.specs.declared.certificate.TheConstants.{BOUND, CERTIFICATE, SERVED_ROW};
-ghost use Rattle.blk_lists.specs.declared.commands.TheConstants.{COMMAND_ROW, COMMANDS};
+ghost use Rattle.blk_lists.specs.declared.certificate.TheConstants.{BOUND, CERTIFICATE, SERVED, SERVED_ROW};
+ghost use Rattle.blk_lists.specs.declared.commands.TheConstants.{COMMAND, COMMAND_ROW, COMMANDS};
 ghost use Rattle.blk_lists.specs.declared.fault.Why.TheVariants as why;
 ghost use Rattle.blk_lists.specs.declared.names.FieldName.TheVariants as name;
 ghost use Rattle.blk_lists.specs.declared.on_time.TheConstants.{NUMBERS, ON_TIME, WINDOW};
@@ -82,6 +82,12 @@ pub fn schedules()
     ensures decided { ValueOrFault SpellsSchedule ScheduleFault }
     ensures apart { NeverBoth SpellsSchedule ScheduleFault }
     ensures first { OneFault ScheduleFault }
+{}
+
+/// The rows of records without a word: their word is empty, they stand in the first version, and their fields are those that the reader goes by.
+pub fn wordless_rows()
+    ensures command { (COMMAND_ROW.word ≡ []) × (COMMAND_ROW.since ≡ 1) × (COMMAND_ROW.slots ≡ COMMAND) }
+    ensures served { (SERVED_ROW.word ≡ []) × (SERVED_ROW.since ≡ 1) × (SERVED_ROW.slots ≡ SERVED) }
 {}
 
 /// What the fields of each row of a list are called.

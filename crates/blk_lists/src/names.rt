@@ -11,7 +11,7 @@ pub enum FieldName {
     Title,
     /// The field `version`.
     Version,
-    /// The field `depth`.
+    /// The field `depth` of the title of a list, a certificate or a schedule.
     Room,
     /// The field `commands`.
     Commands,
@@ -25,15 +25,15 @@ pub enum FieldName {
     Round,
     /// The field `bound`.
     Bound,
-    /// The field `lateness`.
+    /// The field `lateness`, a number or `none`.
     Lateness,
     /// The field `from`.
     From,
     /// The field `until`.
     Until,
-    /// The field `from` of a bound.
+    /// The field `from` of a bound, a number or `none`.
     BoundFrom,
-    /// The field `until` of a bound.
+    /// The field `until` of a bound, a number or `none`.
     BoundUntil,
     /// The field `met`.
     OnTime,
@@ -57,7 +57,7 @@ pub enum FieldName {
     First,
     /// The field `sectors`.
     Sectors,
-    /// The field `depth`.
+    /// The field `depth` of the title of a script or a trace, which may be greater from a later version on.
     Tags,
     /// The field `hardware queues`.
     Queues,
@@ -91,7 +91,7 @@ pub enum FieldName {
     Queue,
     /// The field `tag`.
     Tag,
-    /// The field `depth`.
+    /// The field `depth` of the record of a depth.
     Depth,
     /// The field `rounds`.
     Rounds,

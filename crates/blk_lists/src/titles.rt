@@ -61,7 +61,7 @@ pub struct TitleRow<const L: usize, const N: usize> {
     pub latest: u64,
     /// What may stand in its fields in version 1. The name is the first of them and the version the second.
     pub slots: [Slot; N],
-    /// What its fields are called, `Unused` where it has none.
+    /// What its fields are called, `Unused` where the record doesn't use one.
     pub names: [FieldName; N],
     /// The number that may be greater in later versions, where there is one.
     pub later: Option<Wider>,

@@ -54,7 +54,7 @@ step_kinds : (hw submitters : ℕ) → hw ≤ MAX_QUEUES → submitters ≤ MAX_
 step_kinds hw submitters g s = record {
   sized = (
     (omega (arith, s), (omega arith, (omega arith, (omega arith, tt)))),
-    ((omega (arith, s), tt), ((omega (arith, g), tt), ((omega (arith, g), (omega arith, tt)), ((omega arith, tt), ((omega arith, tt), ((omega arith, tt), (tt, ((omega arith, tt), tt)))))))),
+    ((omega (arith, s), tt), ((omega (arith, g), tt), ((omega (arith, g), (omega arith, tt)), ((omega arith, tt), ((omega arith, tt), (tt, ((omega arith, tt), ((omega arith, tt), tt)))))))),
   );
   words = apart (step_table hw submitters) refl;
 }
@@ -67,9 +67,9 @@ step_in hw submitters (line.Drain n) = inr (inr (inl refl))
 step_in hw submitters (line.Issue n t) = inr (inr (inr (inl refl)))
 step_in hw submitters (line.Done t) = inr (inr (inr (inr (inl refl))))
 step_in hw submitters (line.Back t) = inr (inr (inr (inr (inr (inl refl)))))
-step_in hw submitters (line.Depth d) = inr (inr (inr (inr (inr (inr (inl refl))))))
-step_in hw submitters line.Tick = inr (inr (inr (inr (inr (inr (inr (inl refl)))))))
-step_in hw submitters (line.Run n) = inr (inr (inr (inr (inr (inr (inr (inr (inl refl))))))))
+step_in hw submitters line.Tick = inr (inr (inr (inr (inr (inr (inl refl))))))
+step_in hw submitters (line.Run n) = inr (inr (inr (inr (inr (inr (inr (inl refl)))))))
+step_in hw submitters (line.Depth d) = inr (inr (inr (inr (inr (inr (inr (inr (inl refl))))))))
 
 -- each row has a step that says this
 abbrev IsToldBy : (hw submitters : ℕ) → KindRow → Type 0
@@ -92,10 +92,10 @@ lines hw submitters = (
           (
             (λ v. (line.Back v.0, refl)),
             (
-              (λ v. (line.Depth v.0, refl)),
+              (λ v. (line.Tick, refl)),
               (
-                (λ v. (line.Tick, refl)),
-                ((λ v. (line.Run v.0, refl)), tt),
+                (λ v. (line.Run v.0, refl)),
+                ((λ v. (line.Depth v.0, refl)), tt),
               ),
             ),
           ),

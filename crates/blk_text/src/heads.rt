@@ -102,7 +102,7 @@ const BIOS: Slot = Slot::Number {
 // The table of the events: a row for each kind, by which its first record is read and written.
 
 /// A round ends.
-pub const TICK: Kind<4, WIDTH> = Kind {
+pub(crate) const TICK: Kind<4, WIDTH> = Kind {
     word: *b"tick",
     since: 1,
     slots: ALONE,
@@ -110,7 +110,7 @@ pub const TICK: Kind<4, WIDTH> = Kind {
 };
 
 /// A request enters under an id; its bios follow.
-pub const RELEASE: Kind<7, WIDTH> = Kind {
+pub(crate) const RELEASE: Kind<7, WIDTH> = Kind {
     word: *b"release",
     since: 1,
     slots: GROUP,
@@ -118,7 +118,7 @@ pub const RELEASE: Kind<7, WIDTH> = Kind {
 };
 
 /// Bios join the request of an id; they follow.
-pub const JOIN: Kind<4, WIDTH> = Kind {
+pub(crate) const JOIN: Kind<4, WIDTH> = Kind {
     word: *b"join",
     since: 1,
     slots: GROUP,
@@ -129,7 +129,7 @@ pub const JOIN: Kind<4, WIDTH> = Kind {
 pub(crate) const ISSUE_WORD: [u8; 5] = *b"issue";
 
 /// The request of an id goes out under a tag.
-pub const ISSUE: Kind<5, WIDTH> = Kind {
+pub(crate) const ISSUE: Kind<5, WIDTH> = Kind {
     word: ISSUE_WORD,
     since: 1,
     slots: PLACED,
@@ -144,7 +144,7 @@ pub const ISSUE: Kind<5, WIDTH> = Kind {
 };
 
 /// The command under a tag has completed.
-pub const DONE: Kind<4, WIDTH> = Kind {
+pub(crate) const DONE: Kind<4, WIDTH> = Kind {
     word: *b"done",
     since: 1,
     slots: TAGGED,
@@ -152,7 +152,7 @@ pub const DONE: Kind<4, WIDTH> = Kind {
 };
 
 /// The device requeues the command under a tag.
-pub const BACK: Kind<4, WIDTH> = Kind {
+pub(crate) const BACK: Kind<4, WIDTH> = Kind {
     word: *b"back",
     since: 1,
     slots: TAGGED,
@@ -160,7 +160,7 @@ pub const BACK: Kind<4, WIDTH> = Kind {
 };
 
 /// How many tags may be issued in a round, from the next one on.
-pub const DEPTH: Kind<5, WIDTH> = Kind {
+pub(crate) const DEPTH: Kind<5, WIDTH> = Kind {
     word: *b"depth",
     since: 2,
     slots: ONE,

@@ -46,7 +46,8 @@ pub fn traces()
     ensures first { OneFault TraceTextFault }
 {}
 
-/// The word of each row that scripts and traces have alike, as those of their issues, and how many fields a record of theirs has.
+/// The word of each row that scripts and traces have alike, and of the rows of an issue, of which each has its own; and how many fields a
+/// record of theirs has.
 pub fn words_of_both()
     ensures width { WIDTH ≡ 6 }
     ensures setup { SETUP.word ≡ codes "setup" }

@@ -13,7 +13,7 @@ mod trace;
 
 pub use crate::bios::{BIO, MAX_SUBMITTERS};
 pub use crate::events::read_trace;
-pub use crate::heads::{BACK, DEPTH, DONE, ISSUE, JOIN, RELEASE, TICK, TRACE};
+pub use crate::heads::TRACE;
 pub use crate::script::{Line, MAX_RUN, MAX_STEPS, Script, push_step, read_script};
 pub use crate::setup::{LATEST, MAX_DEPTH_1, MORE_TAGS, SETUP, push_setup};
 pub use crate::tables::{event_kinds, step_kinds};

@@ -73,7 +73,7 @@ pub struct Script {
 // The table of the steps: the rows of the events that are steps too, that of a bio, and these.
 
 /// A submitter, below the number of a title.
-pub const FLUSH: Kind<5, WIDTH> = Kind {
+pub(crate) const FLUSH: Kind<5, WIDTH> = Kind {
     word: *b"flush",
     since: 1,
     slots: ONE,
@@ -88,7 +88,7 @@ pub const FLUSH: Kind<5, WIDTH> = Kind {
 };
 
 /// A hardware queue, below the number of a title.
-pub const DRAIN: Kind<5, WIDTH> = Kind {
+pub(crate) const DRAIN: Kind<5, WIDTH> = Kind {
     word: *b"drain",
     since: 1,
     slots: ONE,
@@ -103,7 +103,7 @@ pub const DRAIN: Kind<5, WIDTH> = Kind {
 };
 
 /// A hardware queue, below the number of a title, and a tag. A trace has an id there.
-pub const STEP_ISSUE: Kind<5, WIDTH> = Kind {
+pub(crate) const STEP_ISSUE: Kind<5, WIDTH> = Kind {
     word: ISSUE_WORD,
     since: 1,
     slots: PLACED,
@@ -118,7 +118,7 @@ pub const STEP_ISSUE: Kind<5, WIDTH> = Kind {
 };
 
 /// How many rounds.
-pub const RUN: Kind<3, WIDTH> = Kind {
+pub(crate) const RUN: Kind<3, WIDTH> = Kind {
     word: *b"run",
     since: 1,
     slots: [

@@ -35,8 +35,8 @@ pub fn step_kinds() -> [AnyKind; 9]
         STEP_ISSUE.any(),
         DONE.any(),
         BACK.any(),
-        DEPTH.any(),
         TICK.any(),
         RUN.any(),
+        DEPTH.any(),
     ]
 }

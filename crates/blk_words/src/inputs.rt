@@ -4,7 +4,7 @@ use blk_settings::{FiguresAsked, Form, Lineup, Sched};
 
 /// A kind of text, as the subcommands take it.
 #[derive(Clone, Copy, Debug, PartialEq, Eq)]
-pub enum Input {
+pub enum TextKind {
     /// A script.
     Script,
     /// A trace.

@@ -12,7 +12,7 @@ mod takers;
 mod times;
 mod words;
 
-pub use crate::inputs::{Input, Running, Solving, Telling, TextJob};
+pub use crate::inputs::{Running, Solving, Telling, TextJob, TextKind};
 pub use crate::table::{MAX_THREADS, MAX_TOP, Makes};
 pub use crate::takers::takers_text;
 pub use crate::words::{

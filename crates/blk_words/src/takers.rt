@@ -1,13 +1,12 @@
 //! Which subcommands take a kind of text, by the table, as they are named to somebody who has such a text.
 
-ghost use Rattle.std.specs.Prelude.{◌≡◌, ◌++◌, IfOk, OnOk, codes, filter, length, map, option_map, string_bytes};
-ghost use Rattle.std.specs.List.{flat_map};
+ghost use Rattle.std.specs.Prelude.{◌≡◌, ◌++◌, IfOk, OnOk, length, map, option_map, string_bytes};
 ghost use Rattle.blk_words.specs.CommandLine.{command_table};
-ghost use Rattle.blk_words.specs.Inside.Tables.{subcommand_of, called};
+ghost use Rattle.blk_words.specs.Inside.Tables.{subcommand_of, subcommands_of, called, behind_commas};
 ghost use Rattle.blk_words.specs.Takers.{at_place, named_in_order, taker, takers, takers_text};
 
 use crate::command::{other_commands, run_commands};
-use crate::inputs::Input;
+use crate::inputs::TextKind;
 use crate::option_names;
 use crate::table::{COMMAND_COUNT, CommandRow, Makes};
 use std::alloc::{AllocError, Global};
@@ -36,18 +35,18 @@ impl Taker {
 }
 
 /// The subcommand of a row as it takes a text of this kind, if it does.
-fn taker_of(row: &CommandRow, input: Input) -> Option<Taker>
-    ensures { option_map called result ≡ taker input (subcommand_of row.now) }
+fn taker_of(row: &CommandRow, kind: TextKind) -> Option<Taker>
+    ensures { option_map called result ≡ taker kind (subcommand_of row.now) }
 {
-    let flag = match (row.makes, input) {
-        (Makes::Sim | Makes::Compare | Makes::Tune, Input::Script)
-        | (Makes::Told(_) | Makes::Formed(_) | Makes::Picture, Input::Trace)
-        | (Makes::Oracle, Input::Commands)
-        | (Makes::Check, Input::Certificate)
-        | (Makes::Judge, Input::Schedule)
-        | (Makes::Import, Input::Capture) => None,
-        (Makes::Picture, Input::Script) => Some(option_names::SCRIPT),
-        (Makes::Oracle, Input::Trace) => Some(option_names::TRACE),
+    let flag = match (row.makes, kind) {
+        (Makes::Sim | Makes::Compare | Makes::Tune, TextKind::Script)
+        | (Makes::Told(_) | Makes::Formed(_) | Makes::Picture, TextKind::Trace)
+        | (Makes::Oracle, TextKind::Commands)
+        | (Makes::Check, TextKind::Certificate)
+        | (Makes::Judge, TextKind::Schedule)
+        | (Makes::Import, TextKind::Capture) => None,
+        (Makes::Picture, TextKind::Script) => Some(option_names::SCRIPT),
+        (Makes::Oracle, TextKind::Trace) => Some(option_names::TRACE),
         _ => return None,
     };
     Some(Taker {
@@ -62,7 +61,7 @@ fn push_rows(
     rows: &[CommandRow],
     place: usize,
 ) -> Result<(), AllocError>
-    ensures { OnOk result (map subcommand_of ordered.new.items ≡ map subcommand_of ordered.old.items ++ at_place place (map subcommand_of rows.now)) }
+    ensures { OnOk result (subcommands_of ordered.new.items ≡ subcommands_of ordered.old.items ++ at_place place (subcommands_of rows.now)) }
 {
     for row in rows {
         if row.place == place {
@@ -74,16 +73,15 @@ fn push_rows(
 
 /// Adds the rows of all subcommands that have this place.
 fn push_place(ordered: &mut Vec<CommandRow>, place: usize) -> Result<(), AllocError>
-    ensures { OnOk result (map subcommand_of ordered.new.items ≡ map subcommand_of ordered.old.items ++ at_place place command_table) }
+    ensures { OnOk result (subcommands_of ordered.new.items ≡ subcommands_of ordered.old.items ++ at_place place command_table) }
 {
     push_rows(ordered, run_commands(), place)?;
     push_rows(ordered, other_commands(), place)
 }
 
-/// The rows of all subcommands in the order of their places, none of them left out.
+/// The rows of all subcommands in the order of their places.
 fn in_order(alloc: Global) -> Result<Vec<CommandRow>, AllocError>
-    ensures rows { IfOk result (λ rows. map subcommand_of rows.items ≡ named_in_order) }
-    ensures each { IfOk result (λ rows. length rows.items ≡ COMMAND_COUNT) }
+    ensures { IfOk result (λ rows. subcommands_of rows.items ≡ named_in_order) }
 {
     let mut ordered = Vec::new(alloc);
     for place in 0..COMMAND_COUNT {
@@ -93,13 +91,13 @@ fn in_order(alloc: Global) -> Result<Vec<CommandRow>, AllocError>
 }
 
 /// The subcommands that take a text of this kind, in the order of their places.
-fn takers_of(alloc: Global, input: Input) -> Result<Vec<Taker>, AllocError>
-    ensures { IfOk result (λ all. map called all.items ≡ takers input) }
+fn takers_of(alloc: Global, kind: TextKind) -> Result<Vec<Taker>, AllocError>
+    ensures { IfOk result (λ all. map called all.items ≡ takers kind) }
 {
     let rows = in_order(alloc)?;
     let mut all = Vec::new(alloc);
     for row in rows.as_slice() {
-        if let Some(taker) = taker_of(row, input) {
+        if let Some(taker) = taker_of(row, kind) {
             all.push(taker)?;
         }
     }
@@ -108,7 +106,7 @@ fn takers_of(alloc: Global, input: Input) -> Result<Vec<Taker>, AllocError>
 
 /// Adds the names of these, each behind a comma and a space.
 fn push_others(names: &mut String, others: &[Taker]) -> Result<(), AllocError>
-    ensures { OnOk result (string_bytes names.new ≡ string_bytes names.old ++ flat_map (λ name. codes ", " ++ name) (map called others.now)) }
+    ensures { OnOk result (string_bytes names.new ≡ string_bytes names.old ++ behind_commas (map called others.now)) }
 {
     for taker in others {
         names.push_str(", ")?;
@@ -118,11 +116,13 @@ fn push_others(names: &mut String, others: &[Taker]) -> Result<(), AllocError>
 }
 
 /// The names of the subcommands that take a text of this kind, with a comma and a space between, each with the flag that asks for it where
-/// it reads another kind without. They stand in the order of the places in their rows. Fails only when out of memory.
-pub fn takers_text(alloc: Global, input: Input) -> Result<String, AllocError>
-    ensures { IfOk result (λ names. string_bytes names ≡ takers_text input) }
+/// it reads another kind without. They stand in the order of the places in their rows, by which none is left out. Fails only when out of
+/// memory.
+pub fn takers_text(alloc: Global, kind: TextKind) -> Result<String, AllocError>
+    ensures names { IfOk result (λ names. string_bytes names ≡ takers_text kind) }
+    ensures all { length named_in_order ≡ length command_table }
 {
-    let all = takers_of(alloc, input)?;
+    let all = takers_of(alloc, kind)?;
     let mut names = String::new(alloc);
     if let Some((first, others)) = all.as_slice().split_first() {
         first.push(&mut names)?;

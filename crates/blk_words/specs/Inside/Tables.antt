@@ -1,5 +1,5 @@
 -- Subcommands and options by the rows of the program's table.
-use Rattle.std.specs.Prelude.{◌∷◌, ◌++◌, [], List, Option, None, Some, codes, find, option_map}
+use Rattle.std.specs.Prelude.{◌∷◌, ◌++◌, [], List, Option, None, Some, codes, find, map, option_map}
 use Rattle.std.specs.List.{flat_map}
 use Rattle.std.specs.Str.{bytes_eq}
 use Rattle.clap.specs.Words.{Text}
@@ -11,6 +11,7 @@ use Rattle.blk_words.specs.declared.table.OptionGroup.TheVariants as group
 use Rattle.blk_words.specs.declared.table.CommandRow.{CommandRow}
 use Rattle.blk_words.specs.declared.takers.Taker.{Taker}
 use Rattle.blk_words.specs.CommandLine.{Subcommand, taking}
+use Rattle.blk_words.specs.Takers.{name_with}
 
 -- the options of a part
 abbrev pub options_in : OptionGroup → List OptionOf
@@ -23,14 +24,20 @@ options_in group.Lists = listing
 abbrev pub subcommand_of : CommandRow → Subcommand
 subcommand_of row = taking row.name.now (flat_map options_in row.options.now) row.makes row.place
 
+abbrev pub subcommands_of : List CommandRow → List Subcommand
+subcommands_of = map subcommand_of
+
 -- what the subcommand of a name makes of its options
 abbrev pub makes_among : Text → List Subcommand → Option Makes
 makes_among name subcommands = option_map (λ s. s.makes) (find (λ s. bytes_eq name s.name) subcommands)
 
--- how a subcommand that takes a text is named, by its name and the flag
+-- how a subcommand that takes a text is named, by its name and the flag, if there is one; and names that stand behind others
 abbrev pub with_flag : Text → Option (Bor Text) → Text
 with_flag name None = name
-with_flag name (Some flag) = (name ++ codes " --") ++ flag.now
+with_flag name (Some flag) = name_with flag.now name
 
 abbrev pub called : Taker → Text
 called t = with_flag t.name.now t.flag
+
+abbrev pub behind_commas : List Text → Text
+behind_commas names = flat_map (λ name. codes ", " ++ name) names

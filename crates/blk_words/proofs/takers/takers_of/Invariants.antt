@@ -6,4 +6,4 @@ use Rattle.blk_words.specs.Takers.{taker}
 use Rattle.blk_words.proofs.takers.takers_of.Given as goal
 
 abbrev pub invariant-loop-row : goal.invariant-loop-row
-invariant-loop-row l = map called l.all.items ≡ flat_map (λ s. option_to_list (taker l.input s)) (map subcommand_of (take l.row-index l.row-items))
+invariant-loop-row l = map called l.all.items ≡ flat_map (λ s. option_to_list (taker l.kind s)) (map subcommand_of (take l.row-index l.row-items))
