@@ -8,6 +8,7 @@ use Rattle.blk_bio.specs.declared.rule.TraceRule.TheVariants as rule
 use Rattle.blk_lists.specs.Sources.{Row}
 use Rattle.blk_lists.specs.Names.{why_name}
 use Rattle.blk_lists.specs.Fields.{IsBlank, IsDirection, IsNumber, IsInRange}
+use Rattle.blk_lists.specs.declared.any.TheConstants.{MAX_FIELDS}
 use Rattle.blk_lists.specs.declared.fault.Why.{Why}
 use Rattle.blk_lists.specs.declared.fault.Why.TheVariants as why
 use Rattle.blk_lists.specs.declared.fields.Slot.{Slot}
@@ -15,9 +16,7 @@ use Rattle.blk_lists.specs.declared.fields.Slot.TheVariants as slot
 use Rattle.blk_lists.specs.Titles.{slot_in}
 use Rattle.blk_text.specs.declared.bios.TheConstants.{MAX_SUBMITTERS}
 use Rattle.blk_text.specs.declared.setup.TheConstants.{MORE_TAGS}
-use Rattle.blk_explain.specs.Phrases.{phrase_text}
-use Rattle.blk_explain.specs.Fields.{field_name, want_of}
-use Rattle.blk_explain.specs.Kinds.{slot_at, name_at}
+use Rattle.blk_explain.specs.Fields.{slot_at, name_at, field_name, want_of}
 use Rattle.blk_explain.specs.Words.{words_text}
 use Rattle.blk_explain.specs.Forms.{offered_kinds, IsRecordKind}
 use Rattle.blk_explain.specs.declared.details.TheConstants.{MAX_SHOWN}
@@ -26,6 +25,8 @@ use Rattle.blk_explain.specs.declared.fields.Allowed.TheVariants as allowed
 use Rattle.blk_explain.specs.declared.fields.Want.{Want}
 use Rattle.blk_explain.specs.declared.fields.Want.TheVariants as want
 use Rattle.blk_explain.specs.declared.forms.FormRow.{FormRow}
+use Rattle.blk_explain.specs.declared.forms.Later.{Later}
+use Rattle.blk_explain.specs.declared.forms.Later.TheVariants as later
 use Rattle.blk_lists.specs.Kinds.{KindRow}
 
 -- a digit of base sixteen
@@ -132,15 +133,15 @@ abbrev pub beside_commands : ℕ → Slot → Allowed
 beside_commands n t = if n == 0 then allowed.NoNumber else allowed.Slot t
 
 -- how many submitters there may be, by the number of them in the title, where it tells one
-abbrev pub submitters_of : ℕ → ℕ
-submitters_of n = if n == 0 then MAX_SUBMITTERS else n
+abbrev pub submitter_count : ℕ → ℕ
+submitter_count n = if n == 0 then MAX_SUBMITTERS else n
 
 -- what may stand in a field of a text with this title, by its slot
 abbrev pub IsAllowedBy : Row → Slot → Want → Allowed → Type 0
 IsAllowedBy title s want.Row a = a ≡ allowed.Slot s
 IsAllowedBy title s want.Tags a = (v : ℕ) × IsNumberIn title 1 v × (a ≡ allowed.Slot (slot_in MORE_TAGS v s))
 IsAllowedBy title s want.Queue a = (n : ℕ) × IsNumberIn title 3 n × (a ≡ allowed.Slot (slot.Number 0 (n - 1)))
-IsAllowedBy title s want.Submitter a = (n : ℕ) × IsNumberIn title 5 n × (a ≡ allowed.Slot (slot.Number 0 (submitters_of n - 1)))
+IsAllowedBy title s want.Submitter a = (n : ℕ) × IsNumberIn title 5 n × (a ≡ allowed.Slot (slot.Number 0 (submitter_count n - 1)))
 IsAllowedBy title s want.Bound a = (n : ℕ) × IsNumberIn title 3 n × (a ≡ beside_commands n s)
 IsAllowedBy title s want.Text a = a ≡ allowed.Slot slot.Text
 
@@ -157,11 +158,11 @@ IsBrokenAt title kind w row k a = IsAllowedIn title kind k a × ¬ KeepsIn w a (
 
 -- it is the first one that does
 abbrev pub IsFirstBrokenAt : Row → KindRow → Why → Row → ℕ → Allowed → Type 0
-IsFirstBrokenAt title kind w row k a = (k < 8) × IsBrokenAt title kind w row k a × ((j : ℕ) → j < k → IsKeptAt title kind w row j)
+IsFirstBrokenAt title kind w row k a = (k < MAX_FIELDS) × IsBrokenAt title kind w row k a × ((j : ℕ) → j < k → IsKeptAt title kind w row j)
 
 -- none does
 abbrev pub AllKept : Row → KindRow → Why → Row → Type 0
-AllKept title kind w row = (j : ℕ) → j < 8 → IsKeptAt title kind w row j
+AllKept title kind w row = (j : ℕ) → j < MAX_FIELDS → IsKeptAt title kind w row j
 
 -- a field that has the fault, and what is wanted
 abbrev pub broken_text : Why → KindRow → Row → ℕ → Allowed → List ℕ
@@ -181,13 +182,18 @@ rule_wanted rule.InFlight = codes "no command in flight at the end of a round"
 rule_wanted rule.TooLong = codes "no more events than a trace may have"
 rule_wanted rule.DepthRange = codes "a depth of 1 to that of the title"
 
+-- what is wanted of numbers of which each lies in its own range
+abbrev pub range_wanted : Later → List ℕ
+range_wanted later.Steps = codes "at least as many submitters as hardware queues"
+range_wanted l = codes "each number within its range"
+
 -- what is wanted where no field by itself has the fault
 abbrev pub why_wanted : FormRow → Why → List ℕ
 why_wanted form why.Title = codes "a title"
 why_wanted form why.Fields = codes "other fields"
 why_wanted form why.Word = codes "another word"
 why_wanted form why.Number = codes "nanoseconds in nine digits, and numbers"
-why_wanted form why.Range = phrase_text form.range
+why_wanted form why.Range = range_wanted form.later
 why_wanted form (why.Bio bio.Empty) = codes "one sector at least"
 why_wanted form (why.Bio bio.Range) = codes "an end of at most " ++ decimal MAX_END
 why_wanted form why.Tile = codes "a bio that begins where the one before it ends, of its direction and within the limits"

@@ -3,6 +3,9 @@ use Rattle.std.specs.Prelude.{◌≡◌, ◌⊎◌, ◌++◌, ℕ, List, [], ◌
 use Rattle.blk_capture_text.specs.declared.reading.TheConstants.{CAPTURE}
 use Rattle.blk_capture_text.specs.declared.record.TheConstants.{RECORD_ROW}
 use Rattle.blk_lists.specs.Kinds.{KindRow, row, title_kind, HasRow}
+use Rattle.blk_lists.specs.declared.fields.Slot.TheVariants as slot
+use Rattle.blk_lists.specs.declared.names.FieldName.{FieldName}
+use Rattle.blk_lists.specs.declared.names.FieldName.TheVariants as name
 use Rattle.blk_lists.specs.declared.certificate.TheConstants.{BOUND, CERTIFICATE, SERVED_ROW}
 use Rattle.blk_lists.specs.declared.commands.TheConstants.{COMMAND_ROW, COMMANDS}
 use Rattle.blk_lists.specs.declared.on_time.TheConstants.{NUMBERS, ON_TIME, WINDOW}
@@ -13,74 +16,46 @@ use Rattle.blk_text.specs.declared.bios.TheConstants.{BIO}
 use Rattle.blk_text.specs.declared.heads.TheConstants.{TRACE}
 use Rattle.blk_text.specs.declared.script.TheConstants.{SCRIPT}
 use Rattle.blk_text.specs.declared.setup.TheConstants.{SETUP}
+use Rattle.blk_explain.specs.declared.counts.Counted.{Counted}
 use Rattle.blk_explain.specs.declared.counts.Counted.TheVariants as counted
 use Rattle.blk_explain.specs.declared.forms.TextForm.{TextForm}
 use Rattle.blk_explain.specs.declared.forms.TextForm.TheVariants as form
 use Rattle.blk_explain.specs.declared.forms.FormRow.{FormRow}
 use Rattle.blk_explain.specs.declared.forms.Later.{Later}
 use Rattle.blk_explain.specs.declared.forms.Later.TheVariants as later
-use Rattle.blk_explain.specs.declared.kinds.TheConstants.{OTHER_EVENT, OTHER_STEP}
-use Rattle.blk_explain.specs.declared.phrases.Phrase.TheVariants as phrase
 
--- the row of a form: the kinds of its records, by the rows that its reader goes by; what is wanted of numbers that lie in a range each; and how many
--- records are announced
+-- a record with none of the words of its form, of whose fields but the first, of this name, nothing is known
+abbrev pub other_kind : FieldName → KindRow
+other_kind n = record { word = []; since = 1; slots = slot.Given ∷ []; names = n ∷ [] }
+
+-- the kinds of records of a form, each by the row that its reader goes by: of its title, of its second record, and of those that begin with
+-- none of the words of its later ones
+abbrev pub form_kinds : TextForm → KindRow × KindRow × KindRow
+form_kinds form.Commands = (title_kind COMMANDS, row COMMAND_ROW, row COMMAND_ROW)
+form_kinds form.Certificate = (title_kind CERTIFICATE, row BOUND, row SERVED_ROW)
+form_kinds form.OnTime = (title_kind ON_TIME, row NUMBERS, row SERVED_ROW)
+form_kinds form.Schedule = (title_kind SCHEDULE, row SERVED_ROW, row SERVED_ROW)
+form_kinds form.Capture = (title_kind CAPTURE, row RECORD_ROW, row RECORD_ROW)
+form_kinds form.Script = (title_kind SCRIPT, row SETUP, other_kind name.Step)
+form_kinds form.Trace = (title_kind TRACE, row SETUP, other_kind name.Event)
+
+-- which of its later records begin with words
+abbrev pub form_later : TextForm → Later
+form_later form.OnTime = later.Windows
+form_later form.Script = later.Steps
+form_later form.Trace = later.Events
+form_later f = later.Wordless
+
+-- how many records it announces
+abbrev pub form_counted : TextForm → Counted
+form_counted form.Certificate = counted.Commands 2
+form_counted form.Schedule = counted.Commands 1
+form_counted form.OnTime = counted.Windows
+form_counted form.Trace = counted.Events
+form_counted f = counted.Nothing
+
 abbrev pub form_row : TextForm → FormRow
-form_row form.Commands = record {
-  title = title_kind COMMANDS;
-  second = row COMMAND_ROW;
-  later = later.Wordless;
-  item = row COMMAND_ROW;
-  range = phrase.EachInRange;
-  counted = counted.Nothing;
-}
-form_row form.Certificate = record {
-  title = title_kind CERTIFICATE;
-  second = row BOUND;
-  later = later.Wordless;
-  item = row SERVED_ROW;
-  range = phrase.EachInRange;
-  counted = counted.Commands 2;
-}
-form_row form.OnTime = record {
-  title = title_kind ON_TIME;
-  second = row NUMBERS;
-  later = later.Windows;
-  item = row SERVED_ROW;
-  range = phrase.EachInRange;
-  counted = counted.Windows;
-}
-form_row form.Schedule = record {
-  title = title_kind SCHEDULE;
-  second = row SERVED_ROW;
-  later = later.Wordless;
-  item = row SERVED_ROW;
-  range = phrase.EachInRange;
-  counted = counted.Commands 1;
-}
-form_row form.Capture = record {
-  title = title_kind CAPTURE;
-  second = row RECORD_ROW;
-  later = later.Wordless;
-  item = row RECORD_ROW;
-  range = phrase.EachInRange;
-  counted = counted.Nothing;
-}
-form_row form.Script = record {
-  title = title_kind SCRIPT;
-  second = row SETUP;
-  later = later.Steps;
-  item = row OTHER_STEP;
-  range = phrase.EnoughSubmitters;
-  counted = counted.Nothing;
-}
-form_row form.Trace = record {
-  title = title_kind TRACE;
-  second = row SETUP;
-  later = later.Events;
-  item = row OTHER_EVENT;
-  range = phrase.EachInRange;
-  counted = counted.Events;
-}
+form_row f = record { title = (form_kinds f).0; second = (form_kinds f).1; later = form_later f; item = (form_kinds f).2; counted = form_counted f }
 
 -- the name that its title begins with
 abbrev pub form_name : TextForm → List ℕ

@@ -1,6 +1,4 @@
-pub mod Phrases
 pub mod Fields
-pub mod Kinds
 pub mod Words
 pub mod Forms
 pub mod Lines

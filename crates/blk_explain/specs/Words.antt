@@ -1,8 +1,9 @@
 -- The words of kinds of records, as they are told.
 use Rattle.std.specs.Prelude.{◌-◌, ◌==◌, ◌++◌, if◌then◌else◌, ℕ, List, [], length, take, get_or, codes, decimal}
 use Rattle.std.specs.List.{flat_map}
-use Rattle.blk_lists.specs.Kinds.{KindRow, row}
-use Rattle.blk_explain.specs.declared.kinds.TheConstants.{OTHER_STEP}
+use Rattle.blk_lists.specs.Kinds.{KindRow}
+use Rattle.blk_lists.specs.declared.names.FieldName.TheVariants as name
+use Rattle.blk_explain.specs.Forms.{other_kind}
 
 -- the version that a kind came with, where it is not the first
 abbrev pub since_text : ℕ → List ℕ
@@ -22,7 +23,7 @@ several kinds last = ((codes "one of " ++ flat_map before_comma kinds) ++ codes 
 
 -- the last of some kinds
 abbrev pub last_kind : List KindRow → KindRow
-last_kind kinds = get_or kinds (length kinds - 1) (row OTHER_STEP)
+last_kind kinds = get_or kinds (length kinds - 1) (other_kind name.Unused)
 
 -- the words of kinds: of several, one of them
 abbrev pub words_text : List KindRow → List ℕ

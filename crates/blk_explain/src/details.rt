@@ -4,7 +4,7 @@ ghost use Rattle.std.specs.Prelude.{◌≡◌, ◌≤◌, ◌<◌, ◌-◌, ◌+
 ghost use Rattle.csv.specs.Records.{fields_of};
 ghost use Rattle.blk_lists.specs.Fields.{IsSized, IsNumber, IsInRange};
 ghost use Rattle.blk_lists.specs.declared.fields.Slot.TheVariants as slot;
-ghost use Rattle.blk_explain.specs.Details.{hex_digit, shown_byte, shown_field, field_text, range_text, number_text, allowed_text, wanted_text, KeepsSlot, KeepsNone, KeepsIn, IsNumberIn, submitters_of, IsAllowedBy, rule_wanted, why_wanted, words_at, begun_text, rest_text, IsDetail, broken_text};
+ghost use Rattle.blk_explain.specs.Details.{hex_digit, shown_byte, shown_field, field_text, range_text, number_text, allowed_text, wanted_text, KeepsSlot, KeepsNone, KeepsIn, IsNumberIn, submitter_count, IsAllowedBy, rule_wanted, range_wanted, why_wanted, words_at, begun_text, rest_text, IsDetail, broken_text};
 ghost use Rattle.blk_explain.specs.Forms.{offered_kinds};
 ghost use Rattle.blk_explain.specs.Words.{words_text};
 ghost use Rattle.blk_explain.specs.Inside.Broken.{SaysIfBroken, SaysFirstBroken};
@@ -14,7 +14,7 @@ use crate::forms::{FormRow, Later, kind_of};
 use crate::words::push_words;
 use blk_bio::{BioFault, Dir, MAX_END, TraceRule};
 use blk_lists::Why;
-use blk_lists::any::AnyKind;
+use blk_lists::any::{AnyKind, MAX_FIELDS};
 use blk_lists::fields::{Slot, field, parse_nanoseconds, parse_number, parse_sized};
 use blk_lists::on_time::WINDOW;
 use blk_text::{MAX_SUBMITTERS, MORE_TAGS, event_kinds, step_kinds};
@@ -76,7 +76,7 @@ pub fn push_field(
     name: &[u8],
     found: &[u8],
 ) -> Result<(), AllocError>
-    requires { place < 8 }
+    requires { place < MAX_FIELDS }
     ensures { OnOk result (draft.new ≡ draft.old ++ field_text place name.now found.now) }
 {
     draft.text(b"field ")?;
@@ -289,8 +289,8 @@ fn below(count: u64) -> Allowed
 }
 
 /// How many submitters there may be, by the number of them in the title: as many, or, where it tells none, as a trace may name.
-fn submitters_of(told: u64) -> u64
-    ensures { result ≡ submitters_of told }
+fn submitter_count(told: u64) -> u64
+    ensures { result ≡ submitter_count told }
 {
     if told == 0 { MAX_SUBMITTERS } else { told }
 }
@@ -303,7 +303,7 @@ fn allowed_by(title: &ByteRecord, slot: Slot, want: Want) -> Allowed
         Want::Row => Allowed::Slot(slot),
         Want::Tags => Allowed::Slot(MORE_TAGS.slot_in(number_in(title, 1), slot)),
         Want::Queue => below(number_in(title, 3)),
-        Want::Submitter => below(submitters_of(number_in(title, 5))),
+        Want::Submitter => below(submitter_count(number_in(title, 5))),
         Want::Text => Allowed::Slot(Slot::Text),
         Want::Bound => {
             if number_in(title, 3) == 0 {
@@ -343,7 +343,7 @@ fn first_broken(
 ) -> Option<(usize, Allowed)>
     ensures { SaysFirstBroken (fields_of title.now) kind why (fields_of row.now) result }
 {
-    for place in 0..8 {
+    for place in 0..MAX_FIELDS {
         match broken_at(title, kind, why, row, place) {
             Some(allowed) => return Some((place, allowed)),
             None => {}
@@ -371,6 +371,16 @@ fn rule_wanted(rule: TraceRule) -> &'static [u8]
     }
 }
 
+/// What is wanted of numbers of which each lies in its own range.
+fn range_wanted(later: Later) -> &'static [u8]
+    ensures { result.now ≡ range_wanted later }
+{
+    match later {
+        Later::Steps => b"at least as many submitters as hardware queues",
+        Later::Wordless | Later::Windows | Later::Events => b"each number within its range",
+    }
+}
+
 /// Adds what is wanted where no field by itself has the fault.
 fn push_why(draft: &mut Draft, form: &FormRow, why: Why) -> Result<(), AllocError>
     ensures { OnOk result (draft.new ≡ draft.old ++ why_wanted form.now why) }
@@ -380,7 +390,7 @@ fn push_why(draft: &mut Draft, form: &FormRow, why: Why) -> Result<(), AllocErro
         Why::Fields => draft.text(b"other fields"),
         Why::Word => draft.text(b"another word"),
         Why::Number => draft.text(b"nanoseconds in nine digits, and numbers"),
-        Why::Range => draft.text(form.range.text()),
+        Why::Range => draft.text(range_wanted(form.later)),
         Why::Bio(BioFault::Empty) => draft.text(b"one sector at least"),
         Why::Bio(BioFault::Range) => {
             draft.text(b"an end of at most ")?;
@@ -484,7 +494,7 @@ fn broken_told(
     place: usize,
     allowed: Allowed,
 ) -> Result<Vec<u8>, AllocError>
-    requires { place < 8 }
+    requires { place < MAX_FIELDS }
     ensures { IfOk result (λ text. text.items ≡ broken_text why kind (fields_of row.now) place allowed) }
 {
     let mut draft = Draft::new(alloc);

@@ -1,12 +1,11 @@
 //! The forms of texts: their titles, and what their records have in each field.
 
 ghost use Rattle.std.specs.Prelude.{◌≡◌, ◌↔◌, IsTrue, MatchOption};
-ghost use Rattle.blk_explain.specs.Forms.{worded_kinds, form_row, form_name, IsWorded, IsRecordKind};
+ghost use Rattle.blk_explain.specs.Forms.{form_kinds, form_later, form_counted, worded_kinds, form_row, form_name, IsWorded, IsRecordKind};
 ghost use Rattle.blk_explain.specs.declared.forms.TextForm.{TextForm as AForm};
 
 use crate::counts::Counted;
-use crate::kinds::{OTHER_EVENT, OTHER_STEP};
-use crate::phrases::Phrase;
+use crate::others::{OTHER_EVENT, OTHER_STEP};
 use blk_capture_text::{CAPTURE, RECORD_ROW};
 use blk_lists::any::AnyKind;
 use blk_lists::certificate::{BOUND, CERTIFICATE, SERVED_ROW};
@@ -59,74 +58,65 @@ pub struct FormRow {
     pub later: Later,
     /// That of its other records.
     pub item: AnyKind,
-    /// What is wanted where each number lies in its own range.
-    pub range: Phrase,
     /// How many records are announced.
     pub counted: Counted,
 }
 
 impl TextForm {
+    /// The kinds of its title, of its second record, and of those that begin with none of the words of its later ones.
+    fn kinds(self) -> (AnyKind, AnyKind, AnyKind)
+        ensures { result ≡ form_kinds self }
+    {
+        match self {
+            TextForm::Commands => (COMMANDS.any(), COMMAND_ROW.any(), COMMAND_ROW.any()),
+            TextForm::Certificate => (CERTIFICATE.any(), BOUND.any(), SERVED_ROW.any()),
+            TextForm::OnTime => (ON_TIME.any(), NUMBERS.any(), SERVED_ROW.any()),
+            TextForm::Schedule => (SCHEDULE.any(), SERVED_ROW.any(), SERVED_ROW.any()),
+            TextForm::Capture => (CAPTURE.any(), RECORD_ROW.any(), RECORD_ROW.any()),
+            TextForm::Script => (SCRIPT.any(), SETUP.any(), OTHER_STEP.any()),
+            TextForm::Trace => (TRACE.any(), SETUP.any(), OTHER_EVENT.any()),
+        }
+    }
+
+    /// Its records after the second that begin with words.
+    fn later(self) -> Later
+        ensures { result ≡ form_later self }
+    {
+        match self {
+            TextForm::OnTime => Later::Windows,
+            TextForm::Script => Later::Steps,
+            TextForm::Trace => Later::Events,
+            TextForm::Commands
+            | TextForm::Certificate
+            | TextForm::Schedule
+            | TextForm::Capture => Later::Wordless,
+        }
+    }
+
+    /// How many records it announces.
+    fn counted(self) -> Counted
+        ensures { result ≡ form_counted self }
+    {
+        match self {
+            TextForm::Certificate => Counted::Commands(2),
+            TextForm::Schedule => Counted::Commands(1),
+            TextForm::OnTime => Counted::Windows,
+            TextForm::Trace => Counted::Events,
+            TextForm::Commands | TextForm::Capture | TextForm::Script => Counted::Nothing,
+        }
+    }
+
     /// Its row.
     pub fn row(self) -> FormRow
         ensures { result ≡ form_row self }
     {
-        match self {
-            TextForm::Commands => FormRow {
-                title: COMMANDS.any(),
-                second: COMMAND_ROW.any(),
-                later: Later::Wordless,
-                item: COMMAND_ROW.any(),
-                range: Phrase::EachInRange,
-                counted: Counted::Nothing,
-            },
-            TextForm::Certificate => FormRow {
-                title: CERTIFICATE.any(),
-                second: BOUND.any(),
-                later: Later::Wordless,
-                item: SERVED_ROW.any(),
-                range: Phrase::EachInRange,
-                counted: Counted::Commands(2),
-            },
-            TextForm::OnTime => FormRow {
-                title: ON_TIME.any(),
-                second: NUMBERS.any(),
-                later: Later::Windows,
-                item: SERVED_ROW.any(),
-                range: Phrase::EachInRange,
-                counted: Counted::Windows,
-            },
-            TextForm::Schedule => FormRow {
-                title: SCHEDULE.any(),
-                second: SERVED_ROW.any(),
-                later: Later::Wordless,
-                item: SERVED_ROW.any(),
-                range: Phrase::EachInRange,
-                counted: Counted::Commands(1),
-            },
-            TextForm::Capture => FormRow {
-                title: CAPTURE.any(),
-                second: RECORD_ROW.any(),
-                later: Later::Wordless,
-                item: RECORD_ROW.any(),
-                range: Phrase::EachInRange,
-                counted: Counted::Nothing,
-            },
-            TextForm::Script => FormRow {
-                title: SCRIPT.any(),
-                second: SETUP.any(),
-                later: Later::Steps,
-                item: OTHER_STEP.any(),
-                range: Phrase::EnoughSubmitters,
-                counted: Counted::Nothing,
-            },
-            TextForm::Trace => FormRow {
-                title: TRACE.any(),
-                second: SETUP.any(),
-                later: Later::Events,
-                item: OTHER_EVENT.any(),
-                range: Phrase::EachInRange,
-                counted: Counted::Events,
-            },
+        let (title, second, item) = self.kinds();
+        FormRow {
+            title,
+            second,
+            later: self.later(),
+            item,
+            counted: self.counted(),
         }
     }
 
