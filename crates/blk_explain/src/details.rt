@@ -1,8 +1,8 @@
 //! What is said about a fault of a record: the field, what was found in it, and what is wanted.
 
-ghost use Rattle.std.specs.Prelude.{◌≡◌, ◌≤◌, ◌<◌, ◌-◌, ◌++◌, ◌↔◌, ◌^◌, ℕ, IsTrue, IfOk, OnOk, MatchOption, take};
+ghost use Rattle.std.specs.Prelude.{◌≡◌, ◌≤◌, ◌<◌, ◌-◌, ◌++◌, ◌↔◌, IsTrue, IfOk, OnOk, take};
 ghost use Rattle.csv.specs.Records.{fields_of};
-ghost use Rattle.blk_lists.specs.Fields.{IsSized, IsNumber, IsInRange};
+ghost use Rattle.blk_lists.specs.Fields.{IsNumber, IsInRange};
 ghost use Rattle.blk_lists.specs.declared.fields.Slot.TheVariants as slot;
 ghost use Rattle.blk_explain.specs.Details.{hex_digit, shown_byte, shown_field, field_text, range_text, number_text, allowed_text, wanted_text, KeepsSlot, KeepsNone, KeepsIn, IsNumberIn, submitter_count, IsAllowedBy, rule_wanted, range_wanted, why_wanted, words_at, begun_text, rest_text, IsDetail, broken_text};
 ghost use Rattle.blk_explain.specs.Forms.{offered_kinds};

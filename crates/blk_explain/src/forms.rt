@@ -86,10 +86,8 @@ impl TextForm {
             TextForm::OnTime => Later::Windows,
             TextForm::Script => Later::Steps,
             TextForm::Trace => Later::Events,
-            TextForm::Commands
-            | TextForm::Certificate
-            | TextForm::Schedule
-            | TextForm::Capture => Later::Wordless,
+            TextForm::Commands | TextForm::Certificate | TextForm::Schedule | TextForm::Capture =>
+                Later::Wordless,
         }
     }
 

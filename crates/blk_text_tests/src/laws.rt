@@ -17,6 +17,7 @@ fn laws_hold() {
     blk_text::laws::fields_of_scripts();
     blk_text::laws::fields_of_traces();
     blk_lists::laws::names_of_lists();
+    blk_lists::laws::wordless_rows();
     blk_text::laws::names_of_both();
     blk_text::laws::names_of_scripts();
     blk_text::laws::names_of_traces();

@@ -56,27 +56,23 @@ fn taker_of(row: &CommandRow, kind: TextKind) -> Option<Taker>
 }
 
 /// Adds those of these rows that have this place.
-fn push_rows(
-    ordered: &mut Vec<CommandRow>,
-    rows: &[CommandRow],
-    place: usize,
-) -> Result<(), AllocError>
-    ensures { OnOk result (subcommands_of ordered.new.items ≡ subcommands_of ordered.old.items ++ at_place place (subcommands_of rows.now)) }
+fn push_rows(all: &mut Vec<CommandRow>, rows: &[CommandRow], place: usize) -> Result<(), AllocError>
+    ensures { OnOk result (subcommands_of all.new.items ≡ subcommands_of all.old.items ++ at_place place (subcommands_of rows.now)) }
 {
     for row in rows {
         if row.place == place {
-            ordered.push(*row)?;
+            all.push(*row)?;
         }
     }
     Ok(())
 }
 
 /// Adds the rows of all subcommands that have this place.
-fn push_place(ordered: &mut Vec<CommandRow>, place: usize) -> Result<(), AllocError>
-    ensures { OnOk result (subcommands_of ordered.new.items ≡ subcommands_of ordered.old.items ++ at_place place command_table) }
+fn push_place(all: &mut Vec<CommandRow>, place: usize) -> Result<(), AllocError>
+    ensures { OnOk result (subcommands_of all.new.items ≡ subcommands_of all.old.items ++ at_place place command_table) }
 {
-    push_rows(ordered, run_commands(), place)?;
-    push_rows(ordered, other_commands(), place)
+    push_rows(all, run_commands(), place)?;
+    push_rows(all, other_commands(), place)
 }
 
 /// The rows of all subcommands in the order of their places.

@@ -4,4 +4,4 @@ use Rattle.blk_words.specs.Takers.{at_place}
 use Rattle.blk_words.proofs.takers.push_rows.Given as goal
 
 abbrev pub invariant-loop-row : goal.invariant-loop-row
-invariant-loop-row l = subcommands_of l.ordered.items ≡ subcommands_of l.fn.ordered.items ++ at_place l.place (subcommands_of (take l.row-index l.rows))
+invariant-loop-row l = subcommands_of l.all.items ≡ subcommands_of l.fn.all.items ++ at_place l.place (subcommands_of (take l.row-index l.rows))
