@@ -1,6 +1,6 @@
 //! Which subcommands take a kind of text.
 
-use blk_words::{TextKind, takers_text};
+use blk_words::{TextKind, takers_text, takes_what_it_reads};
 use std::alloc::Global;
 use std::process::Abort;
 
@@ -11,6 +11,7 @@ fn is_taken_by(rt: &impl Abort, alloc: Global, kind: TextKind, names: &str) -> b
 
 #[test]
 fn takers_of_each_kind(rt: HostRuntime) {
+    takes_what_it_reads();
     let takers = [
         (TextKind::Script, "sim, compare, picture --script, tune"),
         (

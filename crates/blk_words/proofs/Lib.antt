@@ -3,3 +3,4 @@ pub mod Plain
 mod Grown
 mod Listed
 mod Timed
+mod Taken

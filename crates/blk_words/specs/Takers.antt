@@ -1,12 +1,16 @@
 -- Which subcommands take a kind of text, and how they are named.
-use Rattle.std.specs.Prelude.{ℕ, ◌==◌, ◌++◌, List, Option, None, Some, codes, filter, length}
+use Rattle.std.specs.Prelude.{ℕ, ◌≡◌, ◌≢◌, ◌↔◌, ◌==◌, ◌++◌, List, Option, None, Some, codes, filter, length}
 use Rattle.std.specs.List.{flat_map, join_by, range_with_len}
 use Rattle.std.specs.Option.{option_to_list}
-use Rattle.clap.specs.Words.{Text}
+use Rattle.clap.specs.Words.{Row, Text}
 use Rattle.blk_words.specs.declared.inputs.TextKind.{TextKind}
 use Rattle.blk_words.specs.declared.inputs.TextKind.TheVariants as kind
 use Rattle.blk_words.specs.declared.table.Makes.{Makes}
 use Rattle.blk_words.specs.declared.table.Makes.TheVariants as makes
+use Rattle.blk_words.specs.declared.inputs.TextJob.TheVariants as text_job
+use Rattle.blk_words.specs.declared.words.Job.{Job}
+use Rattle.blk_words.specs.declared.words.Job.TheVariants as job
+use Rattle.blk_words.specs.Asked.{job_made}
 use Rattle.blk_words.specs.CommandLine.{Subcommand, command_table}
 use Rattle.blk_words.specs.Options.{script_option, trace_option}
 
@@ -46,3 +50,22 @@ takers i = flat_map (λ s. option_to_list (taker i s)) named_in_order
 
 abbrev pub takers_text : TextKind → Text
 takers_text i = join_by (λ name. name) (codes ", ") (takers i)
+
+-- the kind of text that a job reads, if it reads texts of one kind
+abbrev pub kind_read : Job → Option TextKind
+kind_read (job.OfText (text_job.OfScript r)) = Some kind.Script
+kind_read (job.OfText (text_job.OfTrace t)) = Some kind.Trace
+kind_read (job.OfText (text_job.OfList s)) = Some kind.Commands
+kind_read (job.OfText (text_job.Check f)) = Some kind.Certificate
+kind_read (job.OfText (text_job.Judge e)) = Some kind.Schedule
+kind_read (job.Tune t) = Some kind.Script
+kind_read (job.Import i) = Some kind.Capture
+kind_read j = None
+
+-- what a subcommand makes can read texts of a kind: by some that its options are given it is a job that does
+abbrev pub CanRead : Makes → TextKind → Type 0
+CanRead m i = (rows : List Row) × (j : Job) × (job_made m rows ≡ Some j) × (kind_read j ≡ Some i)
+
+-- whatever its name, a subcommand takes what it reads, and nothing else
+abbrev pub TakesWhatItReads : Makes → TextKind → Type 0
+TakesWhatItReads m i = (name : Text) → takes_as m i name ≢ None ↔ CanRead m i

@@ -3,7 +3,9 @@
 ghost use Rattle.std.specs.Prelude.{◌≡◌, ◌++◌, IfOk, OnOk, length, map, option_map, string_bytes};
 ghost use Rattle.blk_words.specs.CommandLine.{command_table};
 ghost use Rattle.blk_words.specs.Inside.Tables.{subcommand_of, subcommands_of, called, behind_commas};
-ghost use Rattle.blk_words.specs.Takers.{at_place, named_in_order, taker, takers, takers_text};
+ghost use Rattle.blk_words.specs.Takers.{TakesWhatItReads, at_place, named_in_order, taker, takers, takers_text};
+ghost use Rattle.blk_words.specs.declared.inputs.TextKind.{TextKind as Kind};
+ghost use Rattle.blk_words.specs.declared.table.Makes.{Makes as Made};
 
 use crate::command::{other_commands, run_commands};
 use crate::inputs::TextKind;
@@ -126,3 +128,8 @@ pub fn takers_text(alloc: Global, kind: TextKind) -> Result<String, AllocError>
     }
     Ok(names)
 }
+
+/// Each subcommand is named as taking the texts that its job reads, and no others.
+pub fn takes_what_it_reads()
+    ensures { (m : Made) → (i : Kind) → TakesWhatItReads m i }
+{}
