@@ -38,9 +38,10 @@ pub fn certificates()
     ensures first { OneFault ClaimFault }
 {}
 
-/// The word of the row of a certificate.
+/// The word of the row of a certificate, and the first version that has it.
 pub fn words_of_certificates()
     ensures bound { BOUND.word ≡ codes "bound" }
+    ensures version { BOUND.since ≡ 1 }
 {}
 
 /// Certificates of the greatest number on time: records spell one at most, and its text reads back as its records, which spell it.
@@ -53,10 +54,11 @@ pub fn on_time_certificates()
     ensures first { OneFault OnTimeClaimFault }
 {}
 
-/// The word of each row of a certificate of the greatest number on time.
+/// The word of each row of a certificate of the greatest number on time, and the first version that has it.
 pub fn words_of_on_time_certificates()
     ensures numbers { NUMBERS.word ≡ codes "met" }
     ensures windows { WINDOW.word ≡ codes "window" }
+    ensures versions { (NUMBERS.since ≡ 1) × (WINDOW.since ≡ 1) }
 {}
 
 /// Certificates of either form: one is that of the name that its title begins with, and so are its faults; a text that begins

@@ -1,6 +1,6 @@
 //! Laws of the text forms, each the contract of a function that does nothing.
 
-ghost use Rattle.std.specs.Prelude.{◌≡◌, ◌∷◌, ◌-◌, ℕ, List, [], codes};
+ghost use Rattle.std.specs.Prelude.{◌≡◌, ◌∷◌, ◌-◌, ℕ, List, [], codes, map};
 ghost use Rattle.csv.specs.Reading.{default_config, records, strip_bom};
 ghost use Rattle.blk_lists.specs.Sources.{Row};
 ghost use Rattle.blk_lists.specs.Texts.{rows_text};
@@ -9,6 +9,8 @@ ghost use Rattle.blk_lists.specs.Laws.{ValueOrFault, NeverBoth, OneFault};
 ghost use Rattle.blk_text.specs.Script.{Scripted, SpellsScript, ScriptFault, OneScript, ScriptReadsBack};
 ghost use Rattle.blk_text.specs.TraceRecords.{IsTrace};
 ghost use Rattle.blk_text.specs.TraceForm.{trace_rows, SpellsTraceIn, SpellsTrace, TraceTextFault, OneTrace, TraceReadsBack};
+ghost use Rattle.blk_text.specs.EventKinds.{event_table};
+ghost use Rattle.blk_text.specs.StepKinds.{step_kinds};
 ghost use Rattle.blk_text.specs.declared.bios.TheConstants.{BIO};
 ghost use Rattle.blk_text.specs.declared.heads.TheConstants.{TICK, RELEASE, JOIN, ISSUE, DONE, BACK, DEPTH, TRACE};
 ghost use Rattle.blk_text.specs.declared.script.TheConstants.{FLUSH, DRAIN, STEP_ISSUE, RUN, MAX_RUN, SCRIPT};
@@ -71,6 +73,15 @@ pub fn words_of_scripts()
 pub fn words_of_traces()
     ensures release { RELEASE.word ≡ codes "release" }
     ensures join { JOIN.word ≡ codes "join" }
+{}
+
+/// The first version that has each row, in the order of the lists: the second has a depth, and the first all others.
+pub fn versions_of_rows()
+    ensures setup { SETUP.since ≡ 1 }
+    ensures bio { BIO.since ≡ 1 }
+    ensures depth { DEPTH.since ≡ 2 }
+    ensures events { map (λ k. k.since) event_table ≡ 1 ∷ 1 ∷ 1 ∷ 1 ∷ 1 ∷ 1 ∷ 2 ∷ [] }
+    ensures steps { map (λ k. k.since) step_kinds ≡ 1 ∷ 1 ∷ 1 ∷ 1 ∷ 1 ∷ 1 ∷ 1 ∷ 1 ∷ 2 ∷ [] }
 {}
 
 /// The fields of each row of a script that a trace hasn't, in their order: what each tells, or that it is empty.

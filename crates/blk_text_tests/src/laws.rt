@@ -14,6 +14,7 @@ fn laws_hold() {
     blk_text::laws::words_of_both();
     blk_text::laws::words_of_scripts();
     blk_text::laws::words_of_traces();
+    blk_text::laws::versions_of_rows();
     blk_text::laws::fields_of_scripts();
     blk_text::laws::fields_of_traces();
     blk_lists::laws::names_of_lists();
