@@ -260,7 +260,7 @@ pub import_line : IsReadSo "import" (job.Import (whole_import written.Schedule))
 unfolding clap_on_literals
 import_line name p f = (refl, refl)
 
-pub import_so_line : IsReadSo "import --read-expire 150us --from queue --skip 2ms --first 100 --table" (job.Import hundred_queued)
+pub import_so_line : IsReadSo "import --read-expire 150us --from queue --as perf --device 8,16 --skip 2ms --first 100 --table" (job.Import hundred_queued)
 unfolding clap_on_literals
 import_so_line name p f = (refl, refl)
 
@@ -275,6 +275,14 @@ no_time_line name p f = (refl, refl)
 pub no_entry_line : IsReadSo "import --from issue" (job.Refuse refusal.From)
 unfolding clap_on_literals
 no_entry_line name p f = (refl, refl)
+
+pub no_recorder_line : IsReadSo "import --as iostat" (job.Refuse refusal.As)
+unfolding clap_on_literals
+no_recorder_line name p f = (refl, refl)
+
+pub no_device_line : IsReadSo "import --device sda" (job.Refuse refusal.Device)
+unfolding clap_on_literals
+no_device_line name p f = (refl, refl)
 
 pub table_and_summary_line : IsReadSo "import --table --summary" (job.Refuse refusal.TableAndSummary)
 unfolding clap_on_literals

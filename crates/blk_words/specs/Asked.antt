@@ -31,6 +31,12 @@ use Rattle.blk_words.specs.declared.inputs.Solving.TheVariants as solving
 use Rattle.blk_words.specs.declared.inputs.Telling.{Telling}
 use Rattle.blk_words.specs.declared.inputs.Telling.TheVariants as telling
 use Rattle.blk_words.specs.declared.inputs.TextJob.TheVariants as text_job
+use Rattle.blk_recorders.specs.Layouts.{device_of}
+use Rattle.blk_recorders.specs.declared.detect.CaptureForm.{CaptureForm}
+use Rattle.blk_recorders.specs.declared.detect.CaptureForm.TheVariants.{Records, Printed}
+use Rattle.blk_recorders.specs.declared.device.Device.{Device}
+use Rattle.blk_recorders.specs.declared.recorder.Recorder.TheVariants.{Blkparse, Ftrace, Perf, Bpftrace}
+use Rattle.blk_words.specs.declared.words.CaptureSource.{CaptureSource}
 use Rattle.blk_words.specs.declared.words.Import.{Import}
 use Rattle.blk_words.specs.declared.words.Refusal.{Refusal}
 use Rattle.blk_words.specs.declared.words.Refusal.TheVariants as refusal
@@ -39,7 +45,7 @@ use Rattle.blk_words.specs.declared.words.Written.TheVariants as written
 use Rattle.blk_words.specs.declared.table.Makes.{Makes}
 use Rattle.blk_words.specs.declared.table.Makes.TheVariants as makes
 use Rattle.blk_words.specs.CommandLine.{Names, AreSchedulers, command_table, blk_app}
-use Rattle.blk_words.specs.Options.{json_option, script_option, trace_option, by_option, top_option, threads_option, met_option, each_option, read_expire_option, write_expire_option, from_option, skip_option, first_option, table_option, summary_option, round_option, depth_option, submitters_option, workers_option, bios_option, load_depth_option, busy_option, service_option}
+use Rattle.blk_words.specs.Options.{json_option, script_option, trace_option, by_option, top_option, threads_option, met_option, each_option, read_expire_option, write_expire_option, from_option, as_option, device_option, tags_option, skip_option, first_option, table_option, summary_option, round_option, depth_option, submitters_option, workers_option, bios_option, load_depth_option, busy_option, service_option}
 use Rattle.blk_words.specs.Lists.{list_of}
 use Rattle.blk_words.specs.Times.{MAX_NUMBER, number_in, time_of}
 
@@ -133,6 +139,37 @@ entry_named text =
 abbrev pub from_given : List Row → Option Bool
 from_given rows = option_and_then entry_named (first_of from_option.name rows)
 
+-- who printed a capture, by the text of `--as`, and where it is given
+abbrev pub as_named : Text → Option CaptureForm
+as_named text =
+    if bytes_eq text (codes "capture") then Some Records
+    else (if bytes_eq text (codes "blkparse") then Some (Printed Blkparse)
+    else (if bytes_eq text (codes "ftrace") then Some (Printed Ftrace)
+    else (if bytes_eq text (codes "perf") then Some (Printed Perf)
+    else (if bytes_eq text (codes "bpftrace") then Some (Printed Bpftrace) else None))))
+
+abbrev pub as_by : Text → Result (Option CaptureForm) Refusal
+as_by text = option_map_or (λ f. Ok (Some f)) (as_named text) (Err refusal.As)
+
+abbrev pub as_given : List Row → Result (Option CaptureForm) Refusal
+as_given rows = option_map_or as_by (first_of as_option.name rows) (Ok None)
+
+-- the device by the text of `--device`, and where it is given
+abbrev pub device_by : Text → Result (Option Device) Refusal
+device_by text = option_map_or (λ d. Ok (Some d)) (device_of text) (Err refusal.Device)
+
+abbrev pub device_given : List Row → Result (Option Device) Refusal
+device_given rows = option_map_or device_by (first_of device_option.name rows) (Ok None)
+
+-- where a capture comes from, or the refusal of the first that can't be
+abbrev pub source_by : Result (Option CaptureForm) Refusal → Result (Option Device) Refusal → Option ℕ → Result CaptureSource Refusal
+source_by (Err r) device tags = Err r
+source_by (Ok form) (Err r) tags = Err r
+source_by (Ok form) (Ok device) tags = Ok (record { form = form; device = device; tags = tags })
+
+abbrev pub source_given : List Row → Result CaptureSource Refusal
+source_given rows = source_by (as_given rows) (device_given rows) (number_given tags_option.name rows)
+
 -- the length of a round by the text of `--round`, and where it is given
 abbrev pub round_by : Text → Result (Option ℕ) Refusal
 round_by text = option_map_or (λ n. Ok (Some n)) (time_of text) (Err refusal.Round)
@@ -176,17 +213,18 @@ abbrev pub import_of : Import → Job
 import_of i = import_as i i.written
 
 -- the import of these, or the refusal of the first that there isn't
-abbrev pub import_by : Option ℕ → Option ℕ → Option Bool → Option ℕ → Option ℕ → Result Written Refusal → Job
-import_by None write from_queue skip first w = job.Refuse refusal.ReadExpire
-import_by (Some r) None from_queue skip first w = job.Refuse refusal.WriteExpire
-import_by (Some r) (Some d) None skip first w = job.Refuse refusal.From
-import_by (Some r) (Some d) (Some q) None first w = job.Refuse refusal.Skip
-import_by (Some r) (Some d) (Some q) (Some s) first (Err f) = job.Refuse f
-import_by (Some r) (Some d) (Some q) (Some s) first (Ok w) =
-    import_of (record { read_expire = r; write_expire = d; from_queue = q; skip = s; first = first; written = w })
+abbrev pub import_by : Option ℕ → Option ℕ → Option Bool → Result CaptureSource Refusal → Option ℕ → Option ℕ → Result Written Refusal → Job
+import_by None write from_queue source skip first w = job.Refuse refusal.ReadExpire
+import_by (Some r) None from_queue source skip first w = job.Refuse refusal.WriteExpire
+import_by (Some r) (Some d) None source skip first w = job.Refuse refusal.From
+import_by (Some r) (Some d) (Some q) (Err f) skip first w = job.Refuse f
+import_by (Some r) (Some d) (Some q) (Ok c) None first w = job.Refuse refusal.Skip
+import_by (Some r) (Some d) (Some q) (Ok c) (Some s) first (Err f) = job.Refuse f
+import_by (Some r) (Some d) (Some q) (Ok c) (Some s) first (Ok w) =
+    import_of (record { read_expire = r; write_expire = d; from_queue = q; source = c; skip = s; first = first; written = w })
 
 abbrev pub import_job : List Row → Job
-import_job rows = import_by (time_given read_expire_option.name rows) (time_given write_expire_option.name rows) (from_given rows) (time_given skip_option.name rows)
+import_job rows = import_by (time_given read_expire_option.name rows) (time_given write_expire_option.name rows) (from_given rows) (source_given rows) (time_given skip_option.name rows)
     (number_given first_option.name rows) (written_of rows)
 
 -- by what rows are put in order

@@ -87,7 +87,7 @@ trying = by_option ∷ top_option ∷ threads_option ∷ json_option ∷ []
 -- how a capture is imported
 abbrev pub importing : List OptionOf
 importing =
-    read_expire_option ∷ write_expire_option ∷ from_option ∷ skip_option ∷ first_option ∷ table_option ∷ summary_option ∷ script_option ∷ round_option
+    read_expire_option ∷ write_expire_option ∷ from_option ∷ as_option ∷ device_option ∷ tags_option ∷ skip_option ∷ first_option ∷ table_option ∷ summary_option ∷ script_option ∷ round_option
     ∷ depth_option ∷ []
 
 -- how much load there is

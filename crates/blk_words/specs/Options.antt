@@ -4,7 +4,7 @@ use Rattle.edd_commands.specs.declared.TheConstants.{MAX_COMMANDS}
 use Rattle.edd_commands.specs.declared.steps.TheConstants.{MAX_DEPTH}
 use Rattle.blk_settings.specs.declared.numbers.TheConstants.{MAX_LOAD_SUBMITTERS, MAX_LOAD_WORKERS, MAX_LOAD_BIOS, MAX_LOAD_DEPTH, MAX_LOAD_SERVICE}
 use Rattle.blk_settings.specs.Options.{Flag, Number, MaybeNumber, Words, MaybeWords, OptionOf}
-use Rattle.blk_words.specs.declared.table.TheConstants.{MAX_BUSY, MAX_TOP, MAX_THREADS}
+use Rattle.blk_words.specs.declared.table.TheConstants.{MAX_BUSY, MAX_TAGS, MAX_TOP, MAX_THREADS}
 
 -- flags of several subcommands: to write JSON, to read or write a script, to read or write a trace
 abbrev pub json_option : OptionOf
@@ -42,6 +42,15 @@ write_expire_option = record { name = codes "write-expire"; kind = Words (codes 
 
 abbrev pub from_option : OptionOf
 from_option = record { name = codes "from"; kind = Words (codes "insert") }
+
+abbrev pub as_option : OptionOf
+as_option = record { name = codes "as"; kind = MaybeWords }
+
+abbrev pub device_option : OptionOf
+device_option = record { name = codes "device"; kind = MaybeWords }
+
+abbrev pub tags_option : OptionOf
+tags_option = record { name = codes "tags"; kind = MaybeNumber 1 MAX_TAGS }
 
 abbrev pub skip_option : OptionOf
 skip_option = record { name = codes "skip"; kind = Words (codes "0s") }

@@ -10,6 +10,9 @@ use Rattle.blk_settings.specs.Options.{default_number}
 use Rattle.blk_settings.specs.declared.numbers.Load.{Load}
 use Rattle.blk_settings.specs.declared.form.Form.{Form}
 use Rattle.blk_settings.specs.declared.form.Form.TheVariants as form
+use Rattle.blk_recorders.specs.declared.detect.CaptureForm.TheVariants.{Printed}
+use Rattle.blk_recorders.specs.declared.recorder.Recorder.TheVariants.{Perf}
+use Rattle.blk_words.specs.declared.words.CaptureSource.{CaptureSource}
 use Rattle.blk_words.specs.declared.words.Import.{Import}
 use Rattle.blk_words.specs.declared.words.Job.{Job}
 use Rattle.blk_words.specs.declared.words.Job.TheVariants as job
@@ -45,11 +48,14 @@ own_grid = none_and_deadline (16 ∷ 1 ∷ []) (3 ∷ [])
 
 -- an import of all requests where no option says how, in nanoseconds; and one of the first 100 that went out after 2 ms, from when they
 -- were queued, reads due after 150 us
+abbrev pub any_source : CaptureSource
+any_source = record { form = None; device = None; tags = None }
+
 abbrev pub whole_import : Written → Import
-whole_import w = record { read_expire = 500_000_000; write_expire = 5_000_000_000; from_queue = false; skip = 0; first = None; written = w }
+whole_import w = record { read_expire = 500_000_000; write_expire = 5_000_000_000; from_queue = false; source = any_source; skip = 0; first = None; written = w }
 
 abbrev pub hundred_queued : Import
-hundred_queued = record { read_expire = 150_000; write_expire = 5_000_000_000; from_queue = true; skip = 2_000_000; first = Some 100; written = written.Table }
+hundred_queued = record { read_expire = 150_000; write_expire = 5_000_000_000; from_queue = true; source = record { form = Some (Printed Perf); device = Some (record { major = 8; minor = 16 }); tags = None }; skip = 2_000_000; first = Some 100; written = written.Table }
 
 -- a load where no option sets it
 abbrev pub default_load : Load

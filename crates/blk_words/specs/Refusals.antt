@@ -8,6 +8,8 @@ abbrev pub refusal_text : Refusal → List ℕ
 refusal_text refusal.ReadExpire = codes "--read-expire takes a number with ns, us, ms or s"
 refusal_text refusal.WriteExpire = codes "--write-expire takes a number with ns, us, ms or s"
 refusal_text refusal.From = codes "--from takes insert or queue"
+refusal_text refusal.As = codes "--as takes capture, blkparse, ftrace, perf or bpftrace"
+refusal_text refusal.Device = codes "--device takes two numbers with a comma, as lsblk shows them: 8,0"
 refusal_text refusal.Skip = codes "--skip takes a number with ns, us, ms or s"
 refusal_text refusal.Round = codes "--round takes a number with ns, us, ms or s"
 refusal_text refusal.TableAndSummary = codes "--table and --summary exclude one another"

@@ -53,10 +53,12 @@ pub fn plain_lines()
     ensures check { AsksFor "check" (Job.OfText (TextJob.Check Form.Lines)) }
     ensures check_json { AsksFor "check --json" (Job.OfText (TextJob.Check Form.Json)) }
     ensures imported { AsksFor "import" (Job.Import (whole_import Written.Schedule)) }
-    ensures imported_so { AsksFor "import --read-expire 150us --from queue --skip 2ms --first 100 --table" (Job.Import hundred_queued) }
+    ensures imported_so { AsksFor "import --read-expire 150us --from queue --as perf --device 8,16 --skip 2ms --first 100 --table" (Job.Import hundred_queued) }
     ensures summary { AsksFor "import --write-expire 8ns --summary" (Job.Import (record (whole_import Written.Summary) { write_expire = 8 })) }
     ensures no_time { AsksFor "import --skip 2" (Job.Refuse Refusal.Skip) }
     ensures no_entry { AsksFor "import --from issue" (Job.Refuse Refusal.From) }
+    ensures no_recorder { AsksFor "import --as iostat" (Job.Refuse Refusal.As) }
+    ensures no_device { AsksFor "import --device sda" (Job.Refuse Refusal.Device) }
     ensures table_and_summary { AsksFor "import --table --summary" (Job.Refuse Refusal.TableAndSummary) }
     ensures script { AsksFor "import --script --round 1ms" (Job.Import (whole_import (Written.Script 1_000_000 None))) }
     ensures script_alone { AsksFor "import --script" (Job.Refuse Refusal.NoRound) }

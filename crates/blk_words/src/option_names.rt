@@ -31,6 +31,15 @@ pub const WRITE_EXPIRE: &str = "write-expire";
 /// When a request came in.
 pub const FROM: &str = "from";
 
+/// Who printed a capture.
+pub const AS: &str = "as";
+
+/// Of which device its requests are.
+pub const DEVICE: &str = "device";
+
+/// How many requests the device takes at once.
+pub const TAGS: &str = "tags";
+
 /// How much of the beginning of a capture is left out.
 pub const SKIP: &str = "skip";
 

@@ -18,6 +18,9 @@ pub const MAX_TOP: u64 = 1_000_000;
 /// The greatest number of `--threads`.
 pub const MAX_THREADS: u64 = 256;
 
+/// The greatest number of `--tags`.
+pub const MAX_TAGS: u64 = 1_000_000;
+
 /// What job the options of a subcommand make.
 #[derive(Clone, Copy)]
 pub enum Makes {
@@ -238,6 +241,21 @@ pub static OTHER_COMMANDS: [CommandRow; OTHER_COUNT] = [
                 name: option_names::FROM,
                 takes: Takes::Text("insert"),
                 help: "When a request came in: insert, when it was inserted into the scheduler; queue, when its first bio was queued",
+            }),
+            OptionGroup::Own(OptionRow {
+                name: option_names::AS,
+                takes: Takes::MaybeText,
+                help: "Who printed the capture: capture, blkparse, ftrace, perf or bpftrace; without it, what the first lines tell",
+            }),
+            OptionGroup::Own(OptionRow {
+                name: option_names::DEVICE,
+                takes: Takes::MaybeText,
+                help: "Takes only requests of this device, MAJOR,MINOR",
+            }),
+            OptionGroup::Own(OptionRow {
+                name: option_names::TAGS,
+                takes: Takes::Maybe(1, MAX_TAGS),
+                help: "How many requests the device takes at once: more in flight are told; without it, more than 4096",
             }),
             OptionGroup::Own(OptionRow {
                 name: option_names::SKIP,

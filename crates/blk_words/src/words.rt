@@ -6,7 +6,7 @@ ghost use Rattle.clap.specs.Words.{subcommand_rows_of};
 ghost use Rattle.blk_settings.specs.Grids.{grid_given};
 ghost use Rattle.blk_words.specs.CommandLine.{command_table, program_version};
 ghost use Rattle.blk_words.specs.Inside.Tables.{subcommand_of, makes_among};
-ghost use Rattle.blk_words.specs.Asked.{Asks, AsksGrid, AsksNoGrid, IsNoJob, list_given, by_named, by_given, tune_job, short_given, number_given, is_flagged, given_options, sched_asked, lineup_asked, compared, pictured, amounts_of, shown_of, loaded, load_given, form_by, form_asked, time_given, entry_named, from_given, round_by, round_given, script_asked, unscripted, written_of, takes_all, import_of, import_job, oracle_given, job_made, job_of};
+ghost use Rattle.blk_words.specs.Asked.{Asks, AsksGrid, AsksNoGrid, IsNoJob, list_given, by_named, by_given, tune_job, short_given, number_given, is_flagged, given_options, sched_asked, lineup_asked, compared, pictured, amounts_of, shown_of, loaded, load_given, form_by, form_asked, time_given, entry_named, from_given, as_named, as_given, device_given, source_given, round_by, round_given, script_asked, unscripted, written_of, takes_all, import_of, import_job, oracle_given, job_made, job_of};
 ghost use Rattle.blk_words.specs.Options.{script_option};
 ghost use Rattle.blk_settings.specs.Complaints.{complaint_text};
 ghost use Rattle.blk_words.specs.Refusals.{refusal_text};
@@ -18,6 +18,7 @@ use crate::lists::numbers_of;
 use crate::option_names;
 use crate::table::{CommandRow, Makes};
 use crate::times::time_of;
+use blk_recorders::{CaptureForm, Device, Recorder};
 use blk_settings::given::Numbers;
 use blk_settings::grid::grid_given;
 use blk_settings::options::{scheduler_names, tried_names};
@@ -67,6 +68,17 @@ pub struct Tuning {
     pub form: Form,
 }
 
+/// Where a capture comes from.
+#[derive(Clone, Copy, Debug, PartialEq, Eq)]
+pub struct CaptureSource {
+    /// Who printed it; without it, what its first lines tell.
+    pub form: Option<CaptureForm>,
+    /// Of which device its requests are taken; without it, of the only one that it names.
+    pub device: Option<Device>,
+    /// How many requests the device takes at once, 1 to [`crate::MAX_TAGS`], if it is known.
+    pub tags: Option<u64>,
+}
+
 /// How a capture is imported. Times are in nanoseconds.
 #[derive(Clone, Copy, Debug, PartialEq, Eq)]
 pub struct Import {
@@ -76,6 +88,8 @@ pub struct Import {
     pub write_expire: u64,
     /// Whether a request came in when its first bio was queued, in place of when it was inserted.
     pub from_queue: bool,
+    /// Where it comes from.
+    pub source: CaptureSource,
     /// Requests that went out sooner than this after the first record are left out.
     pub skip: u64,
     /// How many of the others are taken, those that went out first; without it all are.
@@ -112,6 +126,10 @@ pub enum Refusal {
     WriteExpire,
     /// `--from` is neither `insert` nor `queue`.
     From,
+    /// `--as` names none who prints captures.
+    As,
+    /// `--device` isn't two numbers with a comma between.
+    Device,
     /// `--skip` is no time.
     Skip,
     /// `--round` is no time.
@@ -145,6 +163,10 @@ impl Refusal {
             Refusal::ReadExpire => "--read-expire takes a number with ns, us, ms or s",
             Refusal::WriteExpire => "--write-expire takes a number with ns, us, ms or s",
             Refusal::From => "--from takes insert or queue",
+            Refusal::As => "--as takes capture, blkparse, ftrace, perf or bpftrace",
+            Refusal::Device => {
+                "--device takes two numbers with a comma, as lsblk shows them: 8,0"
+            }
             Refusal::Skip => "--skip takes a number with ns, us, ms or s",
             Refusal::Round => "--round takes a number with ns, us, ms or s",
             Refusal::TableAndSummary => "--table and --summary exclude one another",
@@ -366,6 +388,70 @@ fn from_given(options: &ArgMatches<'_>) -> Option<bool>
     }
 }
 
+/// Who printed a capture, by the text of `--as`.
+fn as_named(text: &str) -> Option<CaptureForm>
+    ensures { result ≡ as_named text.now }
+{
+    if text == "capture" {
+        Some(CaptureForm::Records)
+    } else if text == "blkparse" {
+        Some(CaptureForm::Printed(Recorder::Blkparse))
+    } else if text == "ftrace" {
+        Some(CaptureForm::Printed(Recorder::Ftrace))
+    } else if text == "perf" {
+        Some(CaptureForm::Printed(Recorder::Perf))
+    } else if text == "bpftrace" {
+        Some(CaptureForm::Printed(Recorder::Bpftrace))
+    } else {
+        None
+    }
+}
+
+/// The same by the options, where it is given.
+fn as_given(options: &ArgMatches<'_>) -> Result<Option<CaptureForm>, Refusal>
+    ensures { result ≡ as_given (given options.now) }
+{
+    match options.get_str(option_names::AS) {
+        Some(text) => match as_named(text) {
+            Some(form) => Ok(Some(form)),
+            None => Err(Refusal::As),
+        },
+        None => Ok(None),
+    }
+}
+
+/// The device that is asked for by the options, where one is.
+fn device_given(options: &ArgMatches<'_>) -> Result<Option<Device>, Refusal>
+    ensures { result ≡ device_given (given options.now) }
+{
+    match options.get_str(option_names::DEVICE) {
+        Some(text) => match Device::of_text(text.as_bytes()) {
+            Some(device) => Ok(Some(device)),
+            None => Err(Refusal::Device),
+        },
+        None => Ok(None),
+    }
+}
+
+/// Where a capture comes from by the options, or the refusal of the first of them that can't be.
+fn source_given(options: &ArgMatches<'_>) -> Result<CaptureSource, Refusal>
+    ensures { result ≡ source_given (given options.now) }
+{
+    let form = match as_given(options) {
+        Ok(form) => form,
+        Err(refusal) => return Err(refusal),
+    };
+    let device = match device_given(options) {
+        Ok(device) => device,
+        Err(refusal) => return Err(refusal),
+    };
+    Ok(CaptureSource {
+        form,
+        device,
+        tags: number_of(options, option_names::TAGS),
+    })
+}
+
 /// The length of a round by the text of `--round`.
 fn round_by(text: &str) -> Result<Option<u64>, Refusal>
     ensures { result ≡ round_by text.now }
@@ -478,6 +564,10 @@ fn import_job(options: &ArgMatches<'_>) -> Job
     let Some(from_queue) = from_given(options) else {
         return Job::Refuse(Refusal::From);
     };
+    let source = match source_given(options) {
+        Ok(source) => source,
+        Err(refusal) => return Job::Refuse(refusal),
+    };
     let Some(skip) = time_given(options, option_names::SKIP) else {
         return Job::Refuse(Refusal::Skip);
     };
@@ -490,6 +580,7 @@ fn import_job(options: &ArgMatches<'_>) -> Job
         read_expire,
         write_expire,
         from_queue,
+        source,
         skip,
         first,
         written,

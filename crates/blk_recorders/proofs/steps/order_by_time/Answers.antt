@@ -1,0 +1,10 @@
+use Rattle.std.proofs.Common.{rules}
+use Rattle.std.proofs.lemmas.List.Sorted.{answers_always}
+use Rattle.blk_recorders.proofs.steps.order_by_time.Goals as goal
+
+pub returns : goal.returns
+returns c = record {
+  same = c.sort_by_key.ensures.permutation;
+  sorted = c.in_ok-sort_by_key.ensures.sorted (λ r. r.time) (answers_always _ _ _ (λ f a r g h. search rules));
+  stable = c.sort_by_key.ensures.stable (λ r. r.time) (answers_always _ _ _ (λ f a r g h. search rules));
+}

@@ -1,0 +1,133 @@
+-- The steps that a recorder printed, line by line.
+use Rattle.std.specs.Prelude.{ℕ, ◌≡◌, ◌⊎◌, ◌+◌, ◌-◌, ◌^◌, ◌==◌, ◌&&◌, not, min, if◌then◌else◌, nat_lt, nat_le, Bool, true, false, List, [], ◌∷◌, ◌++◌, length, Option, None, Some, Result, Ok, Err}
+use Rattle.std.specs.List.{slice_split}
+use Rattle.std.specs.List.Sorted.{IsPermutation, IsSorted, IsStable}
+use Rattle.std.specs.Ordering.{nat_cmp}
+use Rattle.std.specs.declared.cmp.Ordering.{Ordering}
+use Rattle.blk_capture.specs.declared.record.Record.{Record}
+use Rattle.blk_recorders.specs.Words.{Word, words}
+use Rattle.blk_recorders.specs.Layouts.{is_device, step_of}
+use Rattle.blk_recorders.specs.Lines.{line_of}
+use Rattle.blk_recorders.specs.declared.device.Device.{Device}
+use Rattle.blk_recorders.specs.declared.fault.LineFault.{LineFault}
+use Rattle.blk_recorders.specs.declared.fault.LineWhy.{LineWhy}
+use Rattle.blk_recorders.specs.declared.fault.LineWhy.TheVariants as why
+use Rattle.blk_recorders.specs.declared.layout.Layout.{Layout}
+use Rattle.blk_recorders.specs.declared.layout.Step.{Step}
+use Rattle.blk_recorders.specs.declared.lines.Line.{Line}
+use Rattle.blk_recorders.specs.declared.lines.Line.TheVariants as line
+use Rattle.blk_recorders.specs.declared.recorder.Recorder.{Recorder}
+use Rattle.blk_recorders.specs.declared.recorder.Recorder.TheVariants.{Blkparse, Ftrace, Perf, Bpftrace}
+use Rattle.blk_recorders.specs.declared.steps.Steps.{Steps}
+use Rattle.blk_recorders.specs.declared.steps.TheConstants.{MAX_STEPS}
+
+-- what was read so far: the records, the device that they are of, how many steps of other devices, remarks and notices of a loss there
+-- were, and the time of the last record
+pub record Sofar : Type 0 where
+  pub records : List Record
+  pub device : Option Device
+  pub others : ℕ
+  pub remarks : ℕ
+  pub losses : ℕ
+  pub last : ℕ
+
+abbrev pub none_yet : Sofar
+none_yet = record { records = []; device = None; others = 0; remarks = 0; losses = 0; last = 0 }
+
+-- one more, of a count that stays at the greatest number of 64 bits
+abbrev pub more : ℕ → ℕ
+more n = min (n + 1) (2 ^ 64 - 1)
+
+-- a step of another device than the one that is asked for; what names none is of any
+abbrev pub is_other : Option Device → Option Device → Bool
+is_other None d = false
+is_other (Some asked) None = false
+is_other (Some asked) (Some d) = not (is_device asked d)
+
+-- the device of the steps up to one; None where that is of another one than those before
+abbrev pub settle : Option Device → Option Device → Option (Option Device)
+settle old None = Some old
+settle None (Some d) = Some (Some d)
+settle (Some e) (Some d) = if is_device e d then Some (Some e) else None
+
+-- whether the lines of a recorder may stand in any order of their times
+abbrev pub is_unordered : Recorder → Bool
+is_unordered Blkparse = false
+is_unordered Ftrace = false
+is_unordered Perf = false
+is_unordered Bpftrace = true
+
+abbrev pub falls : Recorder → Sofar → Record → Bool
+falls f s r = not (is_unordered f) && nat_lt r.time s.last
+
+-- a step is read: its device is settled, its time isn't earlier than the last, and there is room
+abbrev pub keep : Recorder → Sofar → Record → Option (Option Device) → Result Sofar LineWhy
+keep f s r None = Err why.Devices
+keep f s r (Some d) =
+    if falls f s r then Err why.Order
+    else (if nat_le MAX_STEPS (length s.records) then Err why.TooLong
+    else Ok (record s { records = s.records ++ r ∷ []; device = d; last = r.time }))
+
+abbrev pub take_step : Recorder → Option Device → Sofar → Step → Result Sofar LineWhy
+take_step f asked s x = if is_other asked x.device then Ok (record s { others = more s.others }) else keep f s x.told (settle s.device x.device)
+
+abbrev pub if_step : Recorder → Option Device → Sofar → Result Step LineWhy → Result Sofar LineWhy
+if_step f asked s (Ok x) = take_step f asked s x
+if_step f asked s (Err w) = Err w
+
+abbrev pub take_line : Recorder → Option Device → Sofar → Result (Line Word) LineWhy → Result Sofar LineWhy
+take_line f asked s (Err w) = Err w
+take_line f asked s (Ok (line.Step l)) = if_step f asked s (step_of l)
+take_line f asked s (Ok line.Remark) = Ok (record s { remarks = more s.remarks })
+take_line f asked s (Ok line.Loss) = Ok (record s { losses = more s.losses })
+
+-- a line without words is none
+abbrev pub take_words : Recorder → Option Device → Sofar → List Word → Result Sofar LineWhy
+take_words f asked s [] = Ok s
+take_words f asked s (w ∷ ws) = take_line f asked s (line_of f (w ∷ ws))
+
+abbrev pub take : Recorder → Option Device → Sofar → List ℕ → Result Sofar LineWhy
+take f asked s text = take_words f asked s (words text)
+
+-- the lines from one of this number on
+abbrev pub go_on : ℕ → (Sofar → Result Sofar LineFault) → Result Sofar LineWhy → Result Sofar LineFault
+go_on n rest (Ok s) = rest s
+go_on n rest (Err w) = Err (record { at = n; why = w })
+
+unfoldable pub read_from : Recorder → Option Device → ℕ → Sofar → List (List ℕ) → Result Sofar LineFault
+read_from f asked n s [] = Ok s
+read_from f asked n s (l ∷ ls) = go_on n (λ t. read_from f asked (more n) t ls) (take f asked s l)
+
+-- the lines of a text
+abbrev pub lines_of : List ℕ → List (List ℕ)
+lines_of text = slice_split (λ c. c == 10) text
+
+abbrev pub read : Recorder → Option Device → List ℕ → Result Sofar LineFault
+read f asked text = read_from f asked 1 none_yet (lines_of text)
+
+-- records by their times, those of one time as they were told
+abbrev pub time_cmp : Record → Record → Ordering
+time_cmp x y = nat_cmp x.time y.time
+
+pub record AreByTime (told records : List Record) : Type 0 where
+  pub same : IsPermutation told records
+  pub sorted : IsSorted time_cmp records
+  pub stable : IsStable time_cmp told records
+
+abbrev pub AreOrdered : Recorder → List Record → List Record → Type 0
+AreOrdered Bpftrace told records = AreByTime told records
+AreOrdered f told records = records ≡ told
+
+-- what a text of a recorder tells
+pub record AreSteps (f : Recorder) (asked : Option Device) (text : List ℕ) (s : Steps) : Type 0 where
+  pub told : Sofar
+  pub read_so : read f asked text ≡ Ok told
+  pub ordered : AreOrdered f told.records s.records.items
+  pub device_is : s.device ≡ told.device
+  pub others_are : s.others ≡ told.others
+  pub remarks_are : s.remarks ≡ told.remarks
+  pub losses_are : s.losses ≡ told.losses
+
+-- the first line that is no good, or memory ran out
+abbrev pub IsLineFault : Recorder → Option Device → List ℕ → LineFault → Type 0
+IsLineFault f asked text x = (x.why ≡ why.Memory) ⊎ (read f asked text ≡ Err x)

@@ -1,0 +1,84 @@
+//! Which recorder printed a text, by its first lines.
+
+ghost use Rattle.std.specs.Prelude.{◌≡◌, IfOk};
+ghost use Rattle.blk_recorders.specs.Words.{texts};
+ghost use Rattle.blk_recorders.specs.Detected.{is_title, tells_step, form_by, form_of};
+
+use crate::fault::LineWhy;
+use crate::layout::step_of;
+use crate::lines::{Line, line_of};
+use crate::recorder::Recorder;
+use crate::words::{word_at, words};
+use std::alloc::{AllocError, Global};
+
+/// How many of a text's first lines are looked at.
+const FIRST_LINES: usize = 100;
+
+/// The form of a capture.
+#[derive(Clone, Copy, Debug, PartialEq, Eq)]
+pub enum CaptureForm {
+    /// The form `blk-capture`: a title, and records with commas.
+    Records,
+    /// What a recorder printed.
+    Printed(Recorder),
+}
+
+/// Whether a word is of a title: the names of all forms begin with `blk-`. A byte order mark and a quote may stand before.
+fn is_title(word: &[u8]) -> bool
+    ensures { result ≡ is_title word.now }
+{
+    word.starts_with(b"blk-")
+        || word.starts_with(b"\"blk-")
+        || word.starts_with(b"\xEF\xBB\xBFblk-")
+}
+
+/// Whether a line tells a step in the form of a recorder.
+fn tells_step(alloc: Global, recorder: Recorder, words: &[&[u8]]) -> Result<bool, AllocError>
+    ensures { IfOk result (λ b. b ≡ tells_step recorder (texts words.now)) }
+{
+    match line_of(alloc, recorder, words) {
+        Ok(Line::Step(layout)) => Ok(step_of(&layout).is_ok()),
+        Ok(Line::Remark) | Ok(Line::Loss) => Ok(false),
+        Err(LineWhy::Memory) => Err(AllocError),
+        Err(_) => Ok(false),
+    }
+}
+
+/// The form of which a line is, if it tells: a title; what bpftrace says at first; or a step of another recorder.
+fn form_by(alloc: Global, words: &[&[u8]]) -> Result<Option<CaptureForm>, AllocError>
+    ensures { IfOk result (λ f. f ≡ form_by (texts words.now)) }
+{
+    let first = word_at(words, 0);
+    if is_title(first) {
+        return Ok(Some(CaptureForm::Records));
+    }
+    if first == b"Attaching".as_slice() || first == b"Attached".as_slice() {
+        return Ok(Some(CaptureForm::Printed(Recorder::Bpftrace)));
+    }
+    if tells_step(alloc, Recorder::Ftrace, words)? {
+        return Ok(Some(CaptureForm::Printed(Recorder::Ftrace)));
+    }
+    if tells_step(alloc, Recorder::Blkparse, words)? {
+        return Ok(Some(CaptureForm::Printed(Recorder::Blkparse)));
+    }
+    if tells_step(alloc, Recorder::Perf, words)? {
+        return Ok(Some(CaptureForm::Printed(Recorder::Perf)));
+    }
+    Ok(None)
+}
+
+/// The form of a capture, by the first of its first 100 lines that tells: a line that begins with a title is of the form `blk-capture`, one that
+/// begins with `Attaching` or `Attached` is bpftrace's, and else a line is of the recorder of which it tells a step, ftrace, blkparse or perf, in
+/// this order. Where no line tells it is taken for `blk-capture`. Fails only when out of memory.
+pub fn form_of(alloc: Global, text: &[u8]) -> Result<CaptureForm, AllocError>
+    ensures { IfOk result (λ f. f ≡ form_of text.now) }
+{
+    for line in text.split(|byte| *byte == b'\n').take(FIRST_LINES) {
+        let words = words(alloc, line)?;
+        match form_by(alloc, words.as_slice())? {
+            Some(form) => return Ok(form),
+            None => {}
+        }
+    }
+    Ok(CaptureForm::Records)
+}

@@ -1,0 +1,18 @@
+//! What recorders print of a block layer's steps, read line by line as the records of a capture: blkparse, ftrace's blk tracer, perf script
+//! and bpftrace.
+#![tactic(auto)]
+
+mod detect;
+mod device;
+mod fault;
+mod layout;
+mod lines;
+mod recorder;
+mod steps;
+mod words;
+
+pub use crate::detect::{CaptureForm, form_of};
+pub use crate::device::Device;
+pub use crate::fault::{LineFault, LineWhy};
+pub use crate::recorder::Recorder;
+pub use crate::steps::{MAX_STEPS, Steps, read_lines};

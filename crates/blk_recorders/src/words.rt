@@ -1,0 +1,124 @@
+//! The words of a line, and what a word may be: a number, the nanoseconds of a second.
+
+ghost use Rattle.std.specs.Prelude.{◌≡◌, ◌==◌, ◌<◌, ◌^◌, IfOk, IfSome, get_or, length, []};
+ghost use Rattle.std.specs.List.{position, slice_split};
+ghost use Rattle.blk_recorders.specs.Words.{is_blank, words, number, nanoseconds, before, behind, behind_last, begins_with, texts};
+
+use std::alloc::{AllocError, Global};
+
+/// Whether a byte stands between words: a space, a tab, or the carriage return before a line's end.
+pub(crate) fn is_blank(byte: u8) -> bool
+    ensures { result ≡ is_blank byte }
+{
+    byte == b' ' || byte == b'\t' || byte == b'\r'
+}
+
+/// The words of a line: what stands between blanks.
+pub(crate) fn words(alloc: Global, line: &[u8]) -> Result<Vec<&[u8]>, AllocError>
+    ensures { IfOk result (λ v. texts v.items ≡ words line.now) }
+{
+    line.split(|byte| is_blank(*byte))
+        .filter(|word| !word.is_empty())
+        .collect(alloc)
+}
+
+/// The fields of a row: what stands between commas.
+pub(crate) fn fields(alloc: Global, row: &[u8]) -> Result<Vec<&[u8]>, AllocError>
+    ensures { IfOk result (λ v. texts v.items ≡ slice_split (λ c. c == 44) row.now) }
+{
+    row.split(|byte| *byte == b',').collect(alloc)
+}
+
+/// The word at a place, empty where there are fewer.
+pub(crate) fn word_at<'a>(words: &[&'a [u8]], place: usize) -> &'a [u8]
+    ensures { result.now ≡ get_or (texts words.now) place [] }
+{
+    if place < words.len() {
+        words[place]
+    } else {
+        &[]
+    }
+}
+
+/// Whether a word begins with a byte.
+pub(crate) fn begins_with(word: &[u8], byte: u8) -> bool
+    ensures { result ≡ begins_with byte word.now }
+{
+    match word {
+        [first, ..] => *first == byte,
+        [] => false,
+    }
+}
+
+/// The first place of a byte in a word.
+fn place_of(word: &[u8], byte: u8) -> Option<usize>
+    ensures value { result ≡ position (λ c. c == byte) word.now }
+    ensures inside { IfSome result (λ k. k < length word.now) }
+{
+    word.iter().position(|c| *c == byte)
+}
+
+/// What stands before the first such byte of a word, or all of it.
+pub(crate) fn before(word: &[u8], byte: u8) -> &[u8]
+    ensures { result.now ≡ before byte word.now }
+{
+    match place_of(word, byte) {
+        Some(place) => &word[..place],
+        None => word,
+    }
+}
+
+/// What stands behind the first such byte of a word, or nothing.
+pub(crate) fn behind(word: &[u8], byte: u8) -> &[u8]
+    ensures { result.now ≡ behind byte word.now }
+{
+    match place_of(word, byte) {
+        Some(place) => &word[place + 1..],
+        None => &[],
+    }
+}
+
+/// What stands behind the last such byte of a word, or all of it.
+pub(crate) fn behind_last(word: &[u8], byte: u8) -> &[u8]
+    ensures { result.now ≡ behind_last byte word.now }
+{
+    let mut begin = 0;
+    for place in 0..word.len() {
+        if word[place] == byte {
+            begin = place + 1;
+        }
+    }
+    &word[begin..]
+}
+
+/// The number that a word writes, in decimal digits, perhaps with zeros before them, where it fits 64 bits.
+pub(crate) fn number(word: &[u8]) -> Option<u64>
+    ensures value { result ≡ number word.now }
+    ensures short { IfSome result (λ n. n < 10 ^ length word.now) }
+{
+    if word.is_empty() {
+        return None;
+    }
+    let mut number: u64 = 0;
+    for byte in word {
+        if !byte.is_ascii_digit() {
+            return None;
+        }
+        number = number
+            .checked_mul(10)?
+            .checked_add(u64::from(*byte - b'0'))?;
+    }
+    Some(number)
+}
+
+/// The nanoseconds of a time within its second: nine digits, or six of microseconds.
+pub(crate) fn nanoseconds(fraction: &[u8]) -> Option<u64>
+    ensures value { result ≡ nanoseconds fraction.now }
+    ensures small { IfSome result (λ n. n < 10 ^ 9) }
+{
+    match fraction.len() {
+        9 => number(fraction),
+        6 => number(fraction).map(|micros| micros * 1000),
+        _ => None,
+    }
+}
