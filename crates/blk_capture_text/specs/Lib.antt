@@ -5,4 +5,5 @@ pub mod TableText
 pub mod SummaryText
 pub mod Imports
 pub mod Shown
+pub mod Source
 pub mod Inside

@@ -8,6 +8,7 @@ mod reading;
 mod record;
 mod schedule;
 mod shown;
+mod source;
 mod table;
 
 pub use crate::importing::{ImportAsked, ImportFault, first_time, import};
@@ -16,4 +17,5 @@ pub use crate::reading::{CAPTURE, MAX_RECORDS, read_capture};
 pub use crate::record::RECORD_ROW;
 pub use crate::schedule::schedule_of;
 pub use crate::shown::{ShownImport, shown_text};
+pub use crate::source::{CaptureRead, Printed, UnreadCapture, read_source};
 pub use crate::table::write_table;

@@ -23,10 +23,10 @@ abbrev pub AskForTexts : List (List ℕ) → Type 0
 AskForTexts words = (j : Job) → Asks words j → AnswersText j
 
 -- or there is none: the job that they ask for fails, memory ran out before they were read, or they ask for nothing
-abbrev pub IsWithout : List (List ℕ) → Option (List Row) → Bool → NoText → Type 0
-IsWithout words input failed (none.Failure f) = ((j : Job) × Asks words j × HasNoAnswer words j input failed f) ⊎ (f ≡ failure.Memory)
-IsWithout words input failed (none.Usage text) = AreFaulty words
-IsWithout words input failed none.Excluded = NameNone words
+abbrev pub IsWithout : List (List ℕ) → Option (List Row) → Option (List ℕ) → Bool → NoText → Type 0
+IsWithout words input bytes failed (none.Failure f) = ((j : Job) × Asks words j × HasNoAnswer words j input bytes failed f) ⊎ (f ≡ failure.Memory)
+IsWithout words input bytes failed (none.Usage text) = AreFaulty words
+IsWithout words input bytes failed none.Excluded = NameNone words
 
 -- the status and the line then
 abbrev pub status_without : NoText → ℕ
@@ -74,7 +74,7 @@ EndsPut s old new faults_old faults_new ended =
 abbrev pub RunEnds : List (List ℕ) → Option (List Row) → Option (List ℕ) → Bool → Stream → Stream → Stream → Stream → Ended → Type 0
 RunEnds words input bytes failed old new faults_old faults_new ended =
     ((s : Said) × Answers words input bytes s × EndsPut s old new faults_old faults_new ended)
-    ⊎ ((n : NoText) × IsWithout words input failed n × (new ≡ old) × EndsWithout n faults_old faults_new ended)
+    ⊎ ((n : NoText) × IsWithout words input bytes failed n × (new ≡ old) × EndsWithout n faults_old faults_new ended)
 
 -- the same of words, of records that are read, and of writers, by what they hold
 abbrev pub RunEndsOn : {W F A : Type 0} → (W → Option (List ℕ)) → (F → Option (List ℕ)) → List (String A) → Source → Source → Output W → Output W → Output F → Output F → Ended → Type 0

@@ -4,7 +4,6 @@ use Rattle.blk_lists.specs.Sources.{Row}
 use Rattle.blk_lists.specs.Commands.{CommandsFault}
 use Rattle.blk_lists.specs.Proof.{SpellsProof, ProofFault}
 use Rattle.blk_lists.specs.Schedule.{SpellsSchedule, ScheduleFault}
-use Rattle.blk_capture_text.specs.Captures.{SpellsCapture, CaptureTextFault}
 use Rattle.blk_text.specs.Script.{SpellsScript, ScriptFault}
 use Rattle.blk_text.specs.TraceForm.{SpellsTrace, TraceTextFault}
 use Rattle.blk_words.specs.CommandLine.{program_version}
@@ -20,7 +19,7 @@ use Rattle.blk_cli.specs.Comparing.{IsRunText, HasNoRunText}
 use Rattle.blk_cli.specs.OfTraces.{IsTellingText, IsUntold}
 use Rattle.blk_cli.specs.Certificates.{SpellsList, IsSolved, IsUnsolved, IsCheckText, IsBad}
 use Rattle.blk_cli.specs.Judging.{IsJudgedText, IsUnjudged}
-use Rattle.blk_cli.specs.Importing.{IsImported, IsUnimported}
+use Rattle.blk_cli.specs.Importing.{IsImportedFrom, IsUnimportedFrom}
 use Rattle.blk_cli.specs.Explaining.{IsTextExplained, IsUnexplained}
 use Rattle.blk_cli.specs.Tuning.{IsTrial, FailsToTry}
 use Rattle.blk_cli.specs.Loading.{IsLoadOf, IsUnloaded}
@@ -56,17 +55,17 @@ abbrev pub GivesAnswer : List (List ℕ) → Job → Option (List Row) → Optio
 GivesAnswer words job.Version input bytes s = (s.text ≡ version_line) × IsAlone s
 GivesAnswer words (job.OfText j) input bytes s = GivesText j input s.text × IsAlone s
 GivesAnswer words (job.Tune t) input bytes s = Of SpellsScript (IsTrial words t) input s.text × IsAlone s
-GivesAnswer words (job.Import i) input bytes s = Of SpellsCapture (IsImported i) input s
+GivesAnswer words (job.Import i) input bytes s = IsImportedFrom i bytes s
 GivesAnswer words (job.Refuse r) input bytes s = ⊥
 GivesAnswer words job.Explain input bytes s = IsTextExplained bytes s
 GivesAnswer words (job.Load sched l w) input bytes s = IsLoadOf sched w l s.text × IsAlone s
 
 -- and why it has none
-abbrev pub HasNoAnswer : List (List ℕ) → Job → Option (List Row) → Bool → Failure → Type 0
-HasNoAnswer words job.Version input failed f = f ≡ failure.Memory
-HasNoAnswer words (job.OfText j) input failed f = HasNoText j input failed f
-HasNoAnswer words (job.Tune t) input failed f = FailsToTry words input failed f
-HasNoAnswer words (job.Import i) input failed f = FailsOver SpellsCapture CaptureTextFault (IsUnimported i) input failed f
-HasNoAnswer words (job.Refuse r) input failed f = f ≡ failure.Words r
-HasNoAnswer words job.Explain input failed f = IsUnexplained failed f
-HasNoAnswer words (job.Load sched l w) input failed f = IsUnloaded sched l f
+abbrev pub HasNoAnswer : List (List ℕ) → Job → Option (List Row) → Option (List ℕ) → Bool → Failure → Type 0
+HasNoAnswer words job.Version input bytes failed f = f ≡ failure.Memory
+HasNoAnswer words (job.OfText j) input bytes failed f = HasNoText j input failed f
+HasNoAnswer words (job.Tune t) input bytes failed f = FailsToTry words input failed f
+HasNoAnswer words (job.Import i) input bytes failed f = IsUnimportedFrom i bytes failed f
+HasNoAnswer words (job.Refuse r) input bytes failed f = f ≡ failure.Words r
+HasNoAnswer words job.Explain input bytes failed f = IsUnexplained failed f
+HasNoAnswer words (job.Load sched l w) input bytes failed f = IsUnloaded sched l f

@@ -1,5 +1,5 @@
 -- What is written of a capture, what is said of what that leaves out, its arrivals as a script, and why there is nothing.
-use Rattle.std.specs.Prelude.{◌≡◌, ◌⊎◌, ◌==◌, ◌&&◌, ⊤, ℕ, Bool, true, false, if◌then◌else◌, List, Option, None, Some}
+use Rattle.std.specs.Prelude.{◌≡◌, ◌⊎◌, ◌++◌, ◌==◌, ◌&&◌, ⊤, ℕ, Bool, true, false, if◌then◌else◌, List, [], Option, None, Some, IfSome, unwrap_or}
 use Rattle.std.specs.Option.{option_map_or}
 use Rattle.faults.specs.Order.{IsFirstFault}
 use Rattle.blk_arrivals.specs.Scripts.{script_of, script_rules}
@@ -26,6 +26,11 @@ use Rattle.blk_words.specs.Times.{MAX_NUMBER}
 use Rattle.blk_words.specs.declared.words.Import.{Import}
 use Rattle.blk_words.specs.declared.words.Written.{Written}
 use Rattle.blk_words.specs.declared.words.Written.TheVariants as written
+use Rattle.blk_capture_text.specs.Source.{IsCaptureRead, IsCaptureUnread}
+use Rattle.blk_capture_text.specs.declared.source.CaptureRead.{CaptureRead}
+use Rattle.blk_capture_text.specs.declared.source.Printed.{Printed}
+use Rattle.blk_capture_text.specs.declared.source.UnreadCapture.TheVariants as unread
+use Rattle.blk_cli.specs.Explaining.{IsUnexplained}
 use Rattle.blk_cli.specs.Said.{Said, IsAlone}
 use Rattle.blk_cli.specs.declared.failure.Failure.{Failure}
 use Rattle.blk_cli.specs.declared.failure.Failure.TheVariants as failure
@@ -105,3 +110,35 @@ IsImported i records s = IsWrittenAs i.written i records s
 
 abbrev pub IsUnimported : Import → List Record → Failure → Type 0
 IsUnimported i records f = IsUnwrittenAs i.written i records f
+
+-- what a recorder printed is told before the note; of other captures nothing is
+abbrev pub IsSaidFrom : Option Printed → Said → Said → Type 0
+IsSaidFrom None base s = s ≡ base
+IsSaidFrom (Some p) base s = (told : List ℕ) × (s ≡ record base { note = Some (told ++ unwrap_or base.note []) })
+
+-- the bytes of the input, where these are known, are a capture of the form that is asked for, or that its first lines tell, and this is written of it
+pub record IsImportedFrom (i : Import) (input : Option (List ℕ)) (s : Said) : Type 0 where
+  pub bytes : List ℕ
+  pub given : IfSome input (λ known. bytes ≡ known)
+  pub read : CaptureRead
+  pub is_read : IsCaptureRead i.source.form i.source.device bytes read
+  pub base : Said
+  pub imported : IsImported i read.records.items base
+  pub said : IsSaidFrom read.printed base s
+
+-- the first fault of the capture
+abbrev pub IsUnreadFrom : Import → List ℕ → Failure → Type 0
+IsUnreadFrom i bytes (failure.Text f) = IsCaptureUnread i.source.form i.source.device bytes (unread.Text f)
+IsUnreadFrom i bytes (failure.Line f) = IsCaptureUnread i.source.form i.source.device bytes (unread.Line f)
+IsUnreadFrom i bytes f = ⊥
+
+-- why nothing is written of a capture that was read
+pub record IsRefusedFrom (i : Import) (bytes : List ℕ) (f : Failure) : Type 0 where
+  pub read : CaptureRead
+  pub is_read : IsCaptureRead i.source.form i.source.device bytes read
+  pub refused : IsUnimported i read.records.items f
+
+-- the capture is refused for its first fault, or once it was read; or the reader failed, or memory ran out
+abbrev pub IsUnimportedFrom : Import → Option (List ℕ) → Bool → Failure → Type 0
+IsUnimportedFrom i input failed f =
+    IsUnexplained failed f ⊎ ((bytes : List ℕ) × IfSome input (λ known. bytes ≡ known) × (IsUnreadFrom i bytes f ⊎ IsRefusedFrom i bytes f))

@@ -23,6 +23,9 @@ use Rattle.blk_arrivals.specs.Names.{fault_name}
 use Rattle.blk_arrivals.specs.declared.terms.ArrivalsFault.{ArrivalsFault}
 use Rattle.blk_arrivals.specs.declared.terms.ArrivalsFault.TheVariants as arrivals
 use Rattle.blk_words.specs.Refusals.{refusal_text}
+use Rattle.blk_recorders.specs.Names.{line_why_name}
+use Rattle.blk_recorders.specs.declared.fault.LineWhy.{LineWhy}
+use Rattle.blk_recorders.specs.declared.fault.LineWhy.TheVariants as printed
 use Rattle.blk_lists.specs.declared.fault.Why.{Why}
 use Rattle.blk_lists.specs.declared.fault.Why.TheVariants as why
 use Rattle.blk_sim.specs.declared.refusal.SimWhy.{SimWhy}
@@ -45,6 +48,9 @@ signed_line name number = numbered name (signed_decimal number)
 abbrev pub at_record : ℕ → List ℕ → List ℕ
 at_record at name = codes "blk: record " ++ (decimal at ++ (codes ": " ++ (name ++ 10 ∷ [])))
 
+abbrev pub at_line : ℕ → List ℕ → List ℕ
+at_line at name = codes "blk: line " ++ (decimal at ++ (codes ": " ++ (name ++ 10 ∷ [])))
+
 -- where the reader or the writer failed, where memory ran out, and where flags exclude one another
 abbrev pub read_fault : List ℕ
 read_fault = line (codes "read fault")
@@ -63,6 +69,10 @@ abbrev pub text_line : ℕ → Why → List ℕ
 text_line at why.Read = read_fault
 text_line at why.Memory = want_of_memory
 text_line at w = at_record at (why_name w)
+
+abbrev pub printed_line : ℕ → LineWhy → List ℕ
+printed_line at printed.Memory = want_of_memory
+printed_line at w = at_line at (line_why_name w)
 
 abbrev pub step_line : ℕ → SimWhy → List ℕ
 step_line at step.Memory = want_of_memory
@@ -110,6 +120,7 @@ arrivals_line fault = line (fault_name fault)
 -- the line on a failure
 abbrev pub failure_line : Failure → List ℕ
 failure_line (failure.Text f) = text_line f.at f.why
+failure_line (failure.Line f) = printed_line f.at f.why
 failure_line (failure.Sched f) = sched_line f
 failure_line (failure.Step f) = step_line f.at f.why
 failure_line (failure.Solve f) = oracle_line f
@@ -128,6 +139,10 @@ abbrev pub is_text_outside : Why → Bool
 is_text_outside why.Read = true
 is_text_outside why.Memory = true
 is_text_outside w = false
+
+abbrev pub is_line_outside : LineWhy → Bool
+is_line_outside printed.Memory = true
+is_line_outside w = false
 
 abbrev pub is_sched_outside : SchedFault → Bool
 is_sched_outside setting.Memory = true
@@ -163,6 +178,7 @@ is_arrivals_outside f = false
 
 abbrev pub is_outside : Failure → Bool
 is_outside (failure.Text f) = is_text_outside f.why
+is_outside (failure.Line f) = is_line_outside f.why
 is_outside (failure.Sched f) = is_sched_outside f
 is_outside (failure.Step f) = is_step_outside f.why
 is_outside (failure.Solve f) = is_oracle_outside f

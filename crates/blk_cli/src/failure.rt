@@ -3,7 +3,7 @@
 ghost use Rattle.std.specs.Prelude.{◌≡◌, ◌≤◌, decimal};
 ghost use Rattle.drafts.specs.Outputs.{Writes, stream_of};
 ghost use Rattle.blk_words.specs.Refusals.{refusal_text};
-ghost use Rattle.blk_cli.specs.Lines.{line, want_of_memory, numbered, signed_line, at_record, text_line, step_line, oracle_line, check_line, on_time_check_line, failure_line, status_of};
+ghost use Rattle.blk_cli.specs.Lines.{line, want_of_memory, numbered, signed_line, at_record, at_line, text_line, printed_line, step_line, oracle_line, check_line, on_time_check_line, failure_line, status_of};
 ghost use Rattle.blk_cli.specs.Ends.{EndsFailing};
 ghost use Rattle.blk_cli.specs.Inside.Lines.{list_line};
 ghost use Rattle.blk_cli.specs.Inside.Scripts.{failure_of_run};
@@ -13,6 +13,7 @@ use crate::{COMMAND_LINE, Ended, FAILED, REFUSED};
 use blk_arrivals::ArrivalsFault;
 use blk_capture_text::ImportFault;
 use blk_lists::{TextFault, Why};
+use blk_recorders::{LineFault, LineWhy};
 use blk_runs::RunFault;
 use blk_settings::given::MAX_LISTED;
 use blk_settings::{Complaint, LoadFault, SchedFault};
@@ -35,6 +36,8 @@ const END: &[u8] = b"\n";
 pub enum Failure {
     /// The text that was read is wrong, or its reader failed.
     Text(TextFault),
+    /// A line that a recorder printed is wrong.
+    Line(LineFault),
     /// The scheduler is not made of its settings.
     Sched(SchedFault),
     /// A step of the script is refused.
@@ -83,6 +86,10 @@ impl Failure {
                 Why::Read | Why::Memory => FAILED,
                 _ => REFUSED,
             },
+            Failure::Line(fault) => match fault.why {
+                LineWhy::Memory => FAILED,
+                _ => REFUSED,
+            },
             Failure::Step(fault) => match fault.why {
                 SimWhy::Memory => FAILED,
                 _ => REFUSED,
@@ -111,6 +118,7 @@ impl Failure {
     {
         match self {
             Failure::Text(fault) => tell_text(faults, fault.at, fault.why),
+            Failure::Line(fault) => tell_line(faults, fault.at, fault.why),
             Failure::Sched(fault) => match fault {
                 SchedFault::Memory => tell_memory(faults),
                 _ => tell_name(faults, fault.name()),
@@ -177,6 +185,27 @@ fn tell_record<F: Write>(faults: &mut Output<F>, at: u64, name: &str) -> Result<
     let record: &[u8] = b"blk: record ";
     let colon: &[u8] = b": ";
     faults.put_all(&[record, &digits[..end], colon, name.as_bytes(), END])
+}
+
+/// Writes the line on a line that a recorder printed.
+fn tell_line<F: Write>(faults: &mut Output<F>, at: u64, why: LineWhy) -> Result<(), WriteFault>
+    ensures { Writes (printed_line at why) (stream_of F.contents faults.old) (stream_of F.contents faults.new) result }
+{
+    match why {
+        LineWhy::Memory => tell_memory(faults),
+        _ => tell_line_name(faults, at, why.name()),
+    }
+}
+
+/// Writes the line of what is refused at a line of the input.
+fn tell_line_name<F: Write>(faults: &mut Output<F>, at: u64, name: &str) -> Result<(), WriteFault>
+    ensures { Writes (at_line at name.now) (stream_of F.contents faults.old) (stream_of F.contents faults.new) result }
+{
+    let mut digits = [0; MAX_DIGITS];
+    let end = put_number(at, &mut digits, 0);
+    let line: &[u8] = b"blk: line ";
+    let colon: &[u8] = b": ";
+    faults.put_all(&[line, &digits[..end], colon, name.as_bytes(), END])
 }
 
 /// Writes the line of a name with an id or a number.

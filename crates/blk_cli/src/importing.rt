@@ -1,20 +1,20 @@
 //! The job over a capture: what is written of it, what is said of what that leaves out, and its arrivals as a script.
 
-ghost use Rattle.std.specs.Prelude.{◌≡◌, IfOk, IfErr, length, option_map};
+ghost use Rattle.std.specs.Prelude.{◌≡◌, ◌++◌, [], IfOk, IfErr, Some, length, option_map, unwrap_or};
 ghost use Rattle.blk_capture.specs.Requests.{AreInOrder};
-ghost use Rattle.blk_capture_text.specs.Captures.{SpellsCapture, CaptureTextFault};
 ghost use Rattle.blk_cli.specs.Said.{said_of};
-ghost use Rattle.blk_cli.specs.Inputs.{Of, FailsOver};
-ghost use Rattle.blk_cli.specs.Importing.{entry_asked, most_asked, asked_of, terms_of, line_on, note_by, IsShownOf, IsUnshown, IsScripted, IsUnscripted, IsImported, IsUnimported};
+ghost use Rattle.blk_cli.specs.Importing.{entry_asked, most_asked, asked_of, terms_of, line_on, note_by, IsShownOf, IsUnshown, IsScripted, IsUnscripted, IsImported, IsUnimported, IsSaidFrom, IsImportedFrom, IsUnimportedFrom};
 
 use crate::Answered;
 use crate::failure::Failure;
 use blk_arrivals::{Terms, USUAL_DEPTH, script_of, script_text};
 use blk_capture::{Entry, Options, Record};
 use blk_capture_text::{
-    ImportAsked, ShownImport, UnusedCounts, count_fates, notice_text, read_capture, shown_text,
+    ImportAsked, Printed, ShownImport, UnreadCapture, UnusedCounts, count_fates, notice_text,
+    read_source, shown_text,
 };
 use blk_lists::Records;
+use blk_recorders::Recorder;
 use blk_words::{Import, Written};
 use std::alloc::{AllocError, Global};
 use std::io::Read;
@@ -168,19 +168,97 @@ fn imported(alloc: Global, wanted: Import, records: &[Record]) -> Result<Answere
     }
 }
 
-/// Reads a capture, and gives what is written of it.
+/// The lines on what a recorder printed: who it was, of which device, how many lines are no steps, and whether events were lost.
+fn printed_text(alloc: Global, printed: &Printed, count: usize) -> Result<Vec<u8>, AllocError> {
+    let recorder = match printed.recorder {
+        Recorder::Blkparse => "blkparse",
+        Recorder::Ftrace => "ftrace",
+        Recorder::Perf => "perf",
+        Recorder::Bpftrace => "bpftrace",
+    };
+    let mut text = format!(in alloc; "blk: {recorder}: {count} records")?;
+    if let Some(device) = printed.device {
+        let major = device.major;
+        let minor = device.minor;
+        let named = format!(in alloc; " of device {major},{minor}")?;
+        text.push_str(named.as_str())?;
+    }
+    let remarks = printed.remarks;
+    let others = printed.others;
+    let counts = format!(in alloc; ", {others} of other devices, {remarks} other lines\n")?;
+    text.push_str(counts.as_str())?;
+    if printed.losses > 0 {
+        let losses = printed.losses;
+        let lost = format!(in alloc; "blk: {losses} lines say that events were lost: waits and counts may be wrong\n")?;
+        text.push_str(lost.as_str())?;
+    }
+    Ok(text.into_bytes())
+}
+
+/// The note of an answer behind the lines on what a recorder printed.
+fn noted(
+    alloc: Global,
+    told: Vec<u8>,
+    note: Option<Vec<u8>>,
+) -> Result<Option<Vec<u8>>, AllocError>
+    ensures { IfOk result (λ all. option_map (λ n. n.items) all ≡ Some (told.items ++ unwrap_or (option_map (λ n. n.items) note) [])) }
+{
+    let mut told = told;
+    match note {
+        Some(note) => {
+            told.extend_from_slice(note.as_slice())?;
+            Ok(Some(told))
+        }
+        None => Ok(Some(told)),
+    }
+}
+
+/// What a recorder printed is said before the note of an answer.
+fn with_source(
+    alloc: Global,
+    answer: Answered,
+    printed: Option<Printed>,
+    count: usize,
+) -> Result<Answered, Failure>
+    ensures ok { IfOk result (λ a. IsSaidFrom printed (said_of answer) (said_of a)) }
+    ensures err { IfErr result (λ f. f ≡ Failure.Memory) }
+{
+    let Some(printed) = printed else {
+        return Ok(answer);
+    };
+    let Ok(told) = printed_text(alloc, &printed, count) else {
+        return Err(Failure::Memory);
+    };
+    let Answered { text, note, good } = answer;
+    match noted(alloc, told, note) {
+        Ok(note) => Ok(Answered { text, note, good }),
+        Err(_) => Err(Failure::Memory),
+    }
+}
+
+/// Reads all of the input as a capture, and gives what is written of it.
 pub fn over_capture<R: Read + Drop>(
     alloc: Global,
     wanted: Import,
     records: &mut Records<R>,
 ) -> Result<Answered, Failure>
-    requires { records.old.at ≡ 0 }
-    ensures answers { IfOk result (λ answer. Of SpellsCapture (IsImported wanted) records.old.left (said_of answer)) }
-    ensures fails { IfErr result (FailsOver SpellsCapture CaptureTextFault (IsUnimported wanted) records.old.left records.new.failed) }
+    ensures answers { IfOk result (λ answer. IsImportedFrom wanted records.old.bytes (said_of answer)) }
+    ensures fails { IfErr result (IsUnimportedFrom wanted records.old.bytes records.new.failed) }
 {
-    let steps = match read_capture(alloc, records) {
-        Ok(steps) => steps,
-        Err(fault) => return Err(Failure::Text(fault)),
+    let bytes = match records.bytes(alloc) {
+        Ok(bytes) => bytes,
+        Err(why) => return Err(Failure::Text(records.fault(why))),
     };
-    imported(alloc, wanted, steps.as_slice())
+    let source = wanted.source;
+    let read = match read_source(alloc, source.form, source.device, bytes.as_slice()) {
+        Ok(read) => read,
+        Err(UnreadCapture::Text(fault)) => return Err(Failure::Text(fault)),
+        Err(UnreadCapture::Line(fault)) => return Err(Failure::Line(fault)),
+        Err(UnreadCapture::Memory) => return Err(Failure::Memory),
+    };
+    let answer = match imported(alloc, wanted, read.records.as_slice()) {
+        Ok(answer) => answer,
+        Err(failure) => return Err(failure),
+    };
+    with_source(alloc, answer, read.printed, read.records.len())
 }

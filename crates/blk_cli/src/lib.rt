@@ -201,7 +201,7 @@ fn answer_of<L: Loads, T: Threads + Wait + Sync, R: Read + Drop, P: Progress>(
 ) -> Result<Answered, Failure>
     requires { records.old.at ≡ 0 }
     ensures answer { IfOk result (λ a. GivesAnswer (map string_bytes words.now) job records.old.left records.old.bytes (said_of a)) }
-    ensures fails { IfErr result (HasNoAnswer (map string_bytes words.now) job records.old.left records.new.failed) }
+    ensures fails { IfErr result (HasNoAnswer (map string_bytes words.now) job records.old.left records.old.bytes records.new.failed) }
 {
     match job {
         Job::Version => Ok(Answered::alone(version_text(alloc)?)),
@@ -233,7 +233,7 @@ pub fn answer<L: Loads, T: Threads + Wait + Sync, R: Read + Drop, P: Progress>(
 ) -> Result<Answered, NoText>
     requires { records.old.at ≡ 0 }
     ensures answers { IfOk result (λ answer. Answers (map string_bytes words.now) records.old.left records.old.bytes (said_of answer)) }
-    ensures without { IfErr result (IsWithout (map string_bytes words.now) records.old.left records.new.failed) }
+    ensures without { IfErr result (IsWithout (map string_bytes words.now) records.old.left records.old.bytes records.new.failed) }
 {
     match choose(alloc, words) {
         Ok(job) => match answer_of(loads, rt, alloc, words, job, records, progress) {

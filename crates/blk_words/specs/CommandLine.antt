@@ -12,7 +12,7 @@ use Rattle.blk_settings.specs.declared.figures.FiguresAsked.TheVariants as figur
 use Rattle.blk_words.specs.declared.inputs.Telling.TheVariants as telling
 use Rattle.blk_words.specs.declared.table.Makes.{Makes}
 use Rattle.blk_words.specs.declared.table.Makes.TheVariants as makes
-use Rattle.blk_words.specs.Options.{json_option, script_option, trace_option, by_option, top_option, threads_option, met_option, each_option, read_expire_option, write_expire_option, from_option, skip_option, first_option, table_option, summary_option, round_option, depth_option, submitters_option, workers_option, bios_option, load_depth_option, busy_option, service_option}
+use Rattle.blk_words.specs.Options.{json_option, script_option, trace_option, by_option, top_option, threads_option, met_option, each_option, read_expire_option, write_expire_option, from_option, as_option, device_option, tags_option, skip_option, first_option, table_option, summary_option, round_option, depth_option, submitters_option, workers_option, bios_option, load_depth_option, busy_option, service_option}
 
 -- names behind a reference
 abbrev pub Names : Type 0

@@ -6,7 +6,7 @@ ghost use Rattle.clap.specs.Words.{subcommand_rows_of};
 ghost use Rattle.blk_settings.specs.Grids.{grid_given};
 ghost use Rattle.blk_words.specs.CommandLine.{command_table, program_version};
 ghost use Rattle.blk_words.specs.Inside.Tables.{subcommand_of, makes_among};
-ghost use Rattle.blk_words.specs.Asked.{Asks, AsksGrid, AsksNoGrid, IsNoJob, list_given, by_named, by_given, tune_job, short_given, number_given, is_flagged, given_options, sched_asked, lineup_asked, compared, pictured, amounts_of, shown_of, loaded, load_given, form_by, form_asked, time_given, entry_named, from_given, as_named, as_given, device_given, source_given, round_by, round_given, script_asked, unscripted, written_of, takes_all, import_of, import_job, oracle_given, job_made, job_of};
+ghost use Rattle.blk_words.specs.Asked.{Asks, AsksGrid, AsksNoGrid, IsNoJob, list_given, by_named, by_given, tune_job, short_given, number_given, is_flagged, given_options, sched_asked, lineup_asked, compared, pictured, amounts_of, shown_of, loaded, load_given, form_by, form_asked, time_given, entry_named, from_given, as_named, as_by, as_given, device_by, device_given, source_given, round_by, round_given, script_asked, unscripted, written_of, takes_all, import_of, import_job, oracle_given, job_made, job_of};
 ghost use Rattle.blk_words.specs.Options.{script_option};
 ghost use Rattle.blk_settings.specs.Complaints.{complaint_text};
 ghost use Rattle.blk_words.specs.Refusals.{refusal_text};
@@ -407,28 +407,42 @@ fn as_named(text: &str) -> Option<CaptureForm>
     }
 }
 
+/// The form of a capture by the text of `--as`.
+fn as_by(text: &str) -> Result<Option<CaptureForm>, Refusal>
+    ensures { result ≡ as_by text.now }
+{
+    match as_named(text) {
+        Some(form) => Ok(Some(form)),
+        None => Err(Refusal::As),
+    }
+}
+
 /// The same by the options, where it is given.
 fn as_given(options: &ArgMatches<'_>) -> Result<Option<CaptureForm>, Refusal>
     ensures { result ≡ as_given (given options.now) }
 {
     match options.get_str(option_names::AS) {
-        Some(text) => match as_named(text) {
-            Some(form) => Ok(Some(form)),
-            None => Err(Refusal::As),
-        },
+        Some(text) => as_by(text),
         None => Ok(None),
     }
 }
 
-/// The device that is asked for by the options, where one is.
+/// The device by the text of `--device`.
+fn device_by(text: &str) -> Result<Option<Device>, Refusal>
+    ensures { result ≡ device_by text.now }
+{
+    match Device::of_text(text.as_bytes()) {
+        Some(device) => Ok(Some(device)),
+        None => Err(Refusal::Device),
+    }
+}
+
+/// The same by the options, where it is given.
 fn device_given(options: &ArgMatches<'_>) -> Result<Option<Device>, Refusal>
     ensures { result ≡ device_given (given options.now) }
 {
     match options.get_str(option_names::DEVICE) {
-        Some(text) => match Device::of_text(text.as_bytes()) {
-            Some(device) => Ok(Some(device)),
-            None => Err(Refusal::Device),
-        },
+        Some(text) => device_by(text),
         None => Ok(None),
     }
 }
