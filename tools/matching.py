@@ -20,6 +20,8 @@ import random
 import signal
 import subprocess
 import sys
+from bisect import bisect_left, bisect_right
+from collections import Counter
 from dataclasses import dataclass, field
 from pathlib import Path
 
@@ -234,6 +236,7 @@ class Told:
         self.taken = last if asked.first is None else last[: asked.first]
         self.reasons = [reason(it) for it in records]
         self.missing = sum(1 for why, role in zip(self.reasons, self.matching.roles) if why is None and role is None)
+        self.bios = Counter(id(root(bio.request)) for bio in self.matching.bios if bio.request)
 
     def entry(self, request):
         return request.opener.queued if self.asked.from_queue or request.inserted is None else request.inserted
@@ -245,15 +248,12 @@ class Told:
         expire = self.asked.write if request.span[0] == "W" else self.asked.read
         return min([min(self.entry(request) + expire, LAST_TIME), *(self.deadline(it) for it in request.sooner)])
 
-    def bios_of(self, request):
-        return sum(1 for bio in self.matching.bios if bio.request and root(bio.request) is request)
-
     def schedule(self):
         times = [it.went for it in self.taken]
         yield f"blk-schedule,1,1,{len(times)}"
         for place, request in enumerate(self.taken):
-            before = sum(1 for it in times if it < self.release(request))
-            by = sum(1 for it in times if it <= self.deadline(request))
+            before = bisect_left(times, self.release(request))
+            by = bisect_right(times, self.deadline(request))
             yield f"{place + 1},{before + 1},{by},{place + 1}"
 
     def table(self):
@@ -262,7 +262,7 @@ class Told:
         for place, it in enumerate(self.taken):
             times = (it.opener.queued, it.inserted, it.went, it.completed, self.deadline(it))
             way, low, high = it.span
-            yield ",".join(map(str, (place + 1, way, low, high - low, self.bios_of(it), it.pid, *map(since, times))))
+            yield ",".join(map(str, (place + 1, way, low, high - low, self.bios[id(it)], it.pid, *map(since, times))))
 
     def summary(self):
         late = [it.span[0] for it in self.taken if it.went > self.deadline(it)]
@@ -270,7 +270,7 @@ class Told:
         merges = [it for it, role in zip(self.records, self.matching.roles) if it.action in ("M", "F") and role and id(root(role)) in is_taken]
         flying = [1 + sum(1 for other in self.taken if other is not it and other.went <= it.went and not is_back(other, it.went)) for it in self.taken]
         yield f"records {len(self.records)}"
-        yield f"bios {sum(map(self.bios_of, self.taken))}"
+        yield f"bios {sum(self.bios[id(it)] for it in self.taken)}"
         yield f"requests {len(self.taken)}"
         yield f"merges {len(merges)}"
         yield f"late-reads {late.count('R')}"
