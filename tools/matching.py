@@ -6,14 +6,15 @@
     tools/matching.py N SEED      N, drawn from another seed (a number)
     tools/matching.py FILE..      these captures
 
-Of each capture `import` is asked, with options that are drawn too, for the schedule, the table and the numbers; all three, and what is said of
-passed over and unmatched records, have to be what the rules give. A drawn capture has few sectors, processes and times, so that
-several things fit most records: cuts, merges in a plug and in a scheduler, of bios and of requests, requeues, completions in parts,
-insertions that some requests have and others don't.
+Of each capture `import` is asked, with options that are drawn too, for the schedule, the table and the numbers; all three, and what
+is said of passed over and unmatched records, have to be what the rules give. A drawn capture has few sectors, processes and times, so
+that several things fit most records: cuts, merges in a plug and in a scheduler, of bios and of requests, requeues, completions in
+parts, insertions that some requests have and others don't.
 
-Prints what is wrong, and as the last line 'N passed, M failed', counted in texts. Ends with 0 where none failed, 1 where one did, 2 where a word
-is neither a number nor a file, and 3 where the program isn't there.
+Prints what is wrong, and as the last line 'N passed, M failed', counted in texts. Ends with 0 where none failed, 1 where one did, 2
+where a word is neither a number nor a file, and 3 where the program isn't there.
 """
+import itertools
 import math
 import os
 import random
@@ -60,8 +61,8 @@ class Bio:
 
 @dataclass(eq=False)
 class Request:
-    """A request. `rest` is what of it isn't completed; `place` one of opened, inserted, device, completed and merged; `age` the number of the record by
-    which it is as old as it is; `went` when it went out last, and `number` the number of that dispatch."""
+    """A request. `rest` is what of it isn't completed; `place` one of opened, inserted, device, completed and merged; `age` the number
+    of the record by which it is as old as it is; `went` when it went out last, and `number` the number of that dispatch."""
 
     span: tuple
     rest: tuple
@@ -77,6 +78,10 @@ class Request:
     number: int = None
     into: "Request" = None
     sooner: list = field(default_factory=list)
+
+    def is_out(self, time):
+        """Whether it is at the device at a time."""
+        return self.went <= time and (self.completed is None or self.completed > time)
 
 
 def reason(record):
@@ -117,6 +122,9 @@ class Matching:
 
     def first_of(self, *lists):
         return next((it for found in lists for it in found), None)
+
+    def waiting_request(self, span):
+        return self.first_of(self.at("inserted", lambda it: it == span), self.at("opened", lambda it: it == span))
 
     def q(self, span):
         self.bios.append(Bio(span, self.now))
@@ -161,7 +169,7 @@ class Matching:
         if bio:
             bio.request = request
         else:
-            other = self.first_of(self.at("inserted", lambda it: it == span), self.at("opened", lambda it: it == span)) if at_back else None
+            other = self.waiting_request(span) if at_back else None
             if other is None:
                 return None
             other.place, other.into = "merged", request
@@ -177,7 +185,7 @@ class Matching:
         return request
 
     def d(self, span):
-        request = self.first_of(self.at("inserted", lambda it: it == span), self.at("opened", lambda it: it == span))
+        request = self.waiting_request(span)
         if request:
             request.place, request.went, request.number = "device", self.now, self.dispatches
             self.dispatches += 1
@@ -267,8 +275,9 @@ class Told:
     def summary(self):
         late = [it.span[0] for it in self.taken if it.went > self.deadline(it)]
         is_taken = set(map(id, self.taken))
-        merges = [it for it, role in zip(self.records, self.matching.roles) if it.action in ("M", "F") and role and id(root(role)) in is_taken]
-        flying = [1 + sum(1 for other in self.taken if other is not it and other.went <= it.went and not is_back(other, it.went)) for it in self.taken]
+        merged = [role for it, role in zip(self.records, self.matching.roles) if it.action in ("M", "F") and role]
+        merges = [it for it in merged if id(root(it)) in is_taken]
+        flying = [1 + sum(it is not other and other.is_out(it.went) for other in self.taken) for it in self.taken]
         yield f"records {len(self.records)}"
         yield f"bios {sum(self.bios[id(it)] for it in self.taken)}"
         yield f"requests {len(self.taken)}"
@@ -296,10 +305,6 @@ class Told:
         yield ["--summary"], lines(self.summary()), ""
 
 
-def is_back(request, time):
-    return request.completed is not None and request.completed <= time
-
-
 def waits(pairs):
     """Percentiles of times by nearest rank."""
     found = sorted(max(until - begin, 0) for begin, until in pairs if begin is not None and until is not None)
@@ -308,7 +313,7 @@ def waits(pairs):
 
 # Drawn captures. What is drawn follows what is known by then, so that most requests go their way and several fit most records.
 NEXT = {"waiting": "GGGGGXXMMMF", "opened": "IIIIDDM", "inserted": "DDDDMM", "device": "CCCCCCRR"}
-ODD = [(letter, rwbs, first, count) for letter in "PUAQGIDC" for rwbs in ("N", "D", "FF", "DE", "W", "R") for first, count in ((0, 0), (LAST_END, 8), (4, 4))]
+ODD = list(itertools.product("PUAQGIDC", ("N", "D", "FF", "DE", "W", "R"), ((0, 0), (LAST_END, 8), (4, 4))))
 
 
 def span_of_new(draw, known):
@@ -336,8 +341,8 @@ def part_of(draw, span, letter):
 def drawn_record(draw, time, known):
     """A record that may come next."""
     if draw.random() < 0.04:
-        letter, rwbs, first, count = draw.choice(ODD)
-        return Record(time, letter, 1, rwbs, first, count)
+        letter, rwbs, span = draw.choice(ODD)
+        return Record(time, letter, 1, rwbs, *span)
     there = [("waiting", it.span, 0) for it in known.bios if it.waits][-4:]
     there += [(it.place, it.rest, it.pid) for it in known.requests if it.place in NEXT][-8:]
     if there and draw.random() < 0.72:
@@ -398,7 +403,11 @@ def checked(given):
     """What is wrong with each text of a capture under options, beside what it is of."""
     name, records, asked = given
     text = text_of(records)
-    return [(f"{name}, import {' '.join([*asked.words(), *words])}", outcome(text, [*asked.words(), *words], *rest)) for words, *rest in Told(records, asked).texts()]
+    found = []
+    for words, written, said in Told(records, asked).texts():
+        words = [*asked.words(), *words]
+        found.append((f"{name}, import {' '.join(words)}", outcome(text, words, written, said)))
+    return found
 
 
 def outcomes(captures):
