@@ -6,7 +6,7 @@ use Rattle.std.proofs.lemmas.Bool.{cases_lt, leb-true, le-leb}
 use Rattle.std.proofs.lemmas.List.{get_or_default}
 use Rattle.std.proofs.lemmas.List.Sums.{sum_by-cons}
 use Rattle.std.proofs.lemmas.List.Sorted.{sum_by-IsPermutation}
-use Rattle.blk_capture.specs.Summaries.{out_by, known_by, back_by, in_flight_at}
+use Rattle.blk_capture.specs.Summaries.{out_by, known_by, back_by, in_flight_at, in_flight_with}
 use Rattle.blk_capture.specs.declared.requests.CapturedRequest.{CapturedRequest}
 
 abbrev one_if : Bool → ℕ
@@ -56,16 +56,16 @@ few_known h (x ∷ xs) = omega (arith, few_known h xs, few_more (h x) (filter_ma
 
 -- one more dispatch, at which no more were
 pub bound_more : (requests : List CapturedRequest) (n most new count : ℕ) (e : CapturedRequest)
-    → ((k : ℕ) (d : CapturedRequest) → k < n → k < length requests → in_flight_at requests (get_or requests k d).dispatched ≤ most) → most ≤ new → n < length requests → count ≡ in_flight_at requests (get_or requests n e).dispatched → count ≤ new
-    → (k : ℕ) (d : CapturedRequest) → k < n + 1 → k < length requests → in_flight_at requests (get_or requests k d).dispatched ≤ new
+    → ((k : ℕ) (d : CapturedRequest) → k < n → k < length requests → in_flight_with requests (get_or requests k d) ≤ most) → most ≤ new → n < length requests → count ≡ in_flight_with requests (get_or requests n e) → count ≤ new
+    → (k : ℕ) (d : CapturedRequest) → k < n + 1 → k < length requests → in_flight_with requests (get_or requests k d) ≤ new
 bound_more requests n most new count e old rise here at last k d low in_list =
     elim (cases_lt k n) [
-      | inl before ↦ let was : in_flight_at requests (get_or requests k d).dispatched ≤ most = old k d before in_list in omega (arith, was, rise)
+      | inl before ↦ let was : in_flight_with requests (get_or requests k d) ≤ most = old k d before in_list in omega (arith, was, rise)
       | inr past ↦
           let is : n ≡ k = omega (arith, low, past) in
           let same : get_or requests n e ≡ get_or requests k d = get_or_default requests n e d here ∙ ap (λ m. get_or requests m d) is in
-          subst (λ (q : CapturedRequest). in_flight_at requests q.dispatched ≤ new) same (omega (arith, at, last))
+          subst (λ (q : CapturedRequest). in_flight_with requests q ≤ new) same (omega (arith, at, last))
     ]
 
-pub at_last : (requests : List CapturedRequest) (n count : ℕ) (e : CapturedRequest) → n < length requests → count ≡ in_flight_at requests (get_or requests n e).dispatched → (d : CapturedRequest) → in_flight_at requests (get_or requests n d).dispatched ≡ count
-at_last requests n count e here at d = ap (λ (q : CapturedRequest). in_flight_at requests q.dispatched) (get_or_default requests n d e here) ∙ sym at
+pub at_last : (requests : List CapturedRequest) (n count : ℕ) (e : CapturedRequest) → n < length requests → count ≡ in_flight_with requests (get_or requests n e) → (d : CapturedRequest) → in_flight_with requests (get_or requests n d) ≡ count
+at_last requests n count e here at d = ap (λ (q : CapturedRequest). in_flight_with requests q) (get_or_default requests n d e here) ∙ sym at

@@ -45,7 +45,7 @@ part_timed requests from count within timed =
       came_in =
           λ k d h.
           let here : k < count = omega (arith, h, n) in
-          subst (λ (q : CapturedRequest). q.entry ≤ q.dispatched) (sym (at requests from count k d here)) (timed.came_in (from + k) d (omega (arith, here, within)));
+          subst (λ (q : CapturedRequest). q.released ≤ q.dispatched) (sym (at requests from count k d here)) (timed.came_in (from + k) d (omega (arith, here, within)));
       came_back =
           λ k d h.
           let here : k < count = omega (arith, h, n) in

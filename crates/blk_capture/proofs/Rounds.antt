@@ -74,15 +74,15 @@ one_place (y ∷ ys) m are x =
     ]
 
 -- the release of a request at place k is no later than k + 1
-pub released : (requests : List TimedRequest) (k : ℕ) (d : TimedRequest) → AreServed requests → k < length requests → dispatched_before requests (get_or requests k d).entry ≤ k
+pub released : (requests : List TimedRequest) (k : ℕ) (d : TimedRequest) → AreServed requests → k < length requests → dispatched_before requests (get_or requests k d).release ≤ k
 unfolding dispatched_before
 released requests k d served here =
-    count_at_most (λ r. nat_lt r.dispatch (get_or requests k d).entry) requests k
+    count_at_most (λ r. nat_lt r.dispatch (get_or requests k d).release) requests k
     (λ j e low high.
-    let came : (get_or requests k d).entry ≤ (get_or requests k d).dispatch = served.came_in k d here in
+    let came : (get_or requests k d).release ≤ (get_or requests k d).dispatch = served.released k d here in
     let up : (get_or requests k e).dispatch ≤ (get_or requests j e).dispatch = served.rising k j e low high in
     let same : (get_or requests k e).dispatch ≡ (get_or requests k d).dispatch = ap (λ (r : TimedRequest). r.dispatch) (get_or_default requests k e d here) in
-    le-ltb (get_or requests j e).dispatch (get_or requests k d).entry (omega (arith, came, up, same)))
+    le-ltb (get_or requests j e).dispatch (get_or requests k d).release (omega (arith, came, up, same)))
 
 -- due before its round just where it went out after its deadline
 pub late_at : (requests : List TimedRequest) (k : ℕ) (d : TimedRequest) → AreServed requests → k < length requests → (dispatched_by requests (get_or requests k d).deadline < k + 1) ↔ ((get_or requests k d).deadline < (get_or requests k d).dispatch)
@@ -124,10 +124,10 @@ all_legal requests commands rounds served counted = record {
   released =
       λ k e h.
       let here : k < length requests = omega (arith, h, counted.a_command) in
-      let d : TimedRequest = record { entry = 0; deadline = 0; dispatch = 0 } in
-      let release : (get_or commands k e).release ≡ dispatched_before requests (get_or requests k d).entry + 1 = ap (λ (c : Command). c.release) (counted.commands_are k d e here) in
+      let d : TimedRequest = record { release = 0; deadline = 0; dispatch = 0 } in
+      let release : (get_or commands k e).release ≡ dispatched_before requests (get_or requests k d).release + 1 = ap (λ (c : Command). c.release) (counted.commands_are k d e here) in
       let round : get_or rounds k 0 ≡ k + 1 = counted.rounds_are k here in
-      let low : dispatched_before requests (get_or requests k d).entry ≤ k = released requests k d served here in
+      let low : dispatched_before requests (get_or requests k d).release ≤ k = released requests k d served here in
       omega (arith, release, round, low);
   within_depth =
       λ x.
@@ -147,10 +147,10 @@ by_few requests time = count_by-le-length (λ r. nat_le r.dispatch time) request
 pub all_solvable : (requests : List TimedRequest) (commands : List Command) (rounds : List ℕ) → length requests ≤ MAX_COMMANDS → AreInRounds requests commands rounds → AreSolvable commands
 all_solvable requests commands rounds few counted = λ k e h.
     let here : k < length requests = omega (arith, h, counted.a_command) in
-    let d : TimedRequest = record { entry = 0; deadline = 0; dispatch = 0 } in
-    let release : (get_or commands k e).release ≡ dispatched_before requests (get_or requests k d).entry + 1 = ap (λ (c : Command). c.release) (counted.commands_are k d e here) in
+    let d : TimedRequest = record { release = 0; deadline = 0; dispatch = 0 } in
+    let release : (get_or commands k e).release ≡ dispatched_before requests (get_or requests k d).release + 1 = ap (λ (c : Command). c.release) (counted.commands_are k d e here) in
     let due : (get_or commands k e).due ≡ dispatched_by requests (get_or requests k d).deadline = ap (λ (c : Command). c.due) (counted.commands_are k d e here) in
-    (omega (arith, release, few, before_few requests (get_or requests k d).entry), omega (arith, due, few, by_few requests (get_or requests k d).deadline))
+    (omega (arith, release, few, before_few requests (get_or requests k d).release), omega (arith, due, few, by_few requests (get_or requests k d).deadline))
 
 pub all_in_range : (requests : List TimedRequest) (commands : List Command) (rounds : List ℕ) → length requests ≤ MAX_COMMANDS → AreInRounds requests commands rounds → RoundsInRange rounds
 all_in_range requests commands rounds few counted = λ k e h.
@@ -169,7 +169,7 @@ pub record IsCountedTo (requests : List TimedRequest) (commands : List Command) 
 -- the first n are served, and `last` is when the last of them went out
 pub record IsServedTo (requests : List TimedRequest) (n last : ℕ) : Type 0 where
   pub rising : (i j : ℕ) (d : TimedRequest) → i ≤ j → j < n → (get_or requests i d).dispatch ≤ (get_or requests j d).dispatch
-  pub came_in : (k : ℕ) (d : TimedRequest) → k < n → (get_or requests k d).entry ≤ (get_or requests k d).dispatch
+  pub released : (k : ℕ) (d : TimedRequest) → k < n → (get_or requests k d).release ≤ (get_or requests k d).dispatch
   pub above : (k : ℕ) (d : TimedRequest) → k < n → (get_or requests k d).dispatch ≤ last
   pub none : n ≡ 0 → last ≡ 0
   pub some : (d : TimedRequest) → 0 < n → last ≡ (get_or requests (n - 1) d).dispatch

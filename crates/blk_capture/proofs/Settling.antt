@@ -21,7 +21,7 @@ abbrev no_bio : QueuedBio
 no_bio = record { range = record { dir = Read; first = 0; end = 1; some = lit< tt }; pid = 0; time = 0; age = 0; request = None }
 
 abbrev no_request : CapturedRequest
-no_request = record { dir = Read; first = 0; sectors = 0; bios = 0; bio = 0; pid = 0; queued = 0; got = 0; inserted = None; entry = 0; earlier = None; deadline = 0; dispatched = 0; completed = None }
+no_request = record { dir = Read; first = 0; sectors = 0; bios = 0; bio = 0; pid = 0; queued = 0; got = 0; inserted = None; merged = None; entry = 0; released = 0; earlier = None; deadline = 0; dispatched = 0; completed = None }
 
 none_is_some : (r : ℕ) → None ≡ Some r → ⊥
 none_is_some r e = cc
@@ -57,8 +57,8 @@ tallied_timed old new bios timed tallied = record {
       omega (arith, up, ap (λ (q : CapturedRequest). q.dispatched) (tallied.rest i d), ap (λ (q : CapturedRequest). q.dispatched) (tallied.rest j d));
   came_in =
       λ k d h.
-      let came : (get_or old k d).entry ≤ (get_or old k d).dispatched = timed.came_in k d (omega (arith, h, tallied.each)) in
-      omega (arith, came, ap (λ (q : CapturedRequest). q.entry) (tallied.rest k d), ap (λ (q : CapturedRequest). q.dispatched) (tallied.rest k d));
+      let came : (get_or old k d).released ≤ (get_or old k d).dispatched = timed.came_in k d (omega (arith, h, tallied.each)) in
+      omega (arith, came, ap (λ (q : CapturedRequest). q.released) (tallied.rest k d), ap (λ (q : CapturedRequest). q.dispatched) (tallied.rest k d));
   came_back =
       λ k d h.
       let back : IfSome (get_or old k d).completed (λ t. (get_or old k d).dispatched ≤ t) = timed.came_back k d (omega (arith, h, tallied.each)) in
@@ -77,14 +77,14 @@ map_served requests timed =
           let at_j = ap (λ (s : TimedRequest). s.dispatch) (get_or-map times_of requests j q d some) in
           let up : (get_or requests i q).dispatched ≤ (get_or requests j q).dispatched = timed.rising i j q low some in
           omega (arith, at_i, at_j, up);
-      came_in =
+      released =
           λ k d h.
           let some : k < length requests = omega (arith, h, n) in
           let q : CapturedRequest = no_request in
-          let entry = ap (λ (s : TimedRequest). s.entry) (get_or-map times_of requests k q d some) in
+          let release = ap (λ (s : TimedRequest). s.release) (get_or-map times_of requests k q d some) in
           let dispatch = ap (λ (s : TimedRequest). s.dispatch) (get_or-map times_of requests k q d some) in
-          let came : (get_or requests k q).entry ≤ (get_or requests k q).dispatched = timed.came_in k q some in
-          omega (arith, entry, dispatch, came);
+          let came : (get_or requests k q).released ≤ (get_or requests k q).dispatched = timed.came_in k q some in
+          omega (arith, release, dispatch, came);
     }
 
 pub late_of_served : (requests : List CapturedRequest) (commands : List Command) (rounds : List ℕ) → AreLateByClock (map times_of requests) commands rounds → AgreeOnLateness requests commands rounds
@@ -111,4 +111,4 @@ have_bios_of lives lives2 openers places places2 old new queued queued2 bios bio
 pub tallied_due : (options : Options) (old new : List CapturedRequest) (bios : List CapturedBio) → All (IsDue options) old → IsTalliedFrom old new bios → All (IsDue options) new
 tallied_due options old new bios due tallied k d h =
     let was : IsDue options (get_or old k d) = due k d (omega (arith, h, tallied.each)) in
-    subst (IsDue options) (sym (tallied.rest k d)) record { entered = was.entered; due = was.due }
+    subst (IsDue options) (sym (tallied.rest k d)) record { entered = was.entered; released = was.released; due = was.due }

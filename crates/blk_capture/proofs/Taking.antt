@@ -18,7 +18,7 @@ use Rattle.blk_capture.specs.declared.requests.CapturedRequest.{CapturedRequest}
 pub record IsTakenTo (options : Options) (lives : List Life) (openers : List ℕ) (dispatches : List Dispatch) (places : List (Option ℕ)) (requests : List CapturedRequest) (n : ℕ) : Type 0 where
   pub placed : ArePlaced lives openers places requests
   pub rising : IsNonDecreasingBy (λ q. q.dispatched) requests
-  pub came_in : All (λ q. q.entry ≤ q.dispatched) requests
+  pub came_in : All (λ q. q.released ≤ q.dispatched) requests
   pub came_back : All (λ q. IfSome q.completed (λ t. q.dispatched ≤ t)) requests
   pub untallied : All (λ q. q.bios ≡ 0) requests
   pub due : All (IsDue options) requests
@@ -125,7 +125,7 @@ taken_more options lives openers dispatches places requests n x q old of is_due 
       (λ d some.
       let low : (get_or requests (length requests - 1) d).dispatched ≤ (get_or dispatches n x).time = old.below (length requests - 1) n d x (omega arith) (omega arith) here in
       omega (arith, low, is, of.timed));
-  came_in = all_more (λ (p : CapturedRequest). p.entry ≤ p.dispatched) requests q old.came_in (omega (arith, of.timed, of.came_in));
+  came_in = all_more (λ (p : CapturedRequest). p.released ≤ p.dispatched) requests q old.came_in (omega (arith, of.timed, of.came_in));
   came_back = all_more (λ (p : CapturedRequest). IfSome p.completed (λ t. p.dispatched ≤ t)) requests q old.came_back (subst (λ n. IfSome q.completed (λ t. n ≤ t)) (sym of.timed) of.came_back);
   untallied = all_more (λ (p : CapturedRequest). p.bios ≡ 0) requests q old.untallied of.none;
   due = all_more (IsDue options) requests q old.due is_due;

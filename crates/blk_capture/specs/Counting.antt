@@ -5,10 +5,10 @@ use Rattle.edd_commands.specs.declared.TheConstants.{MAX_RELEASES, MAX_ROUNDS}
 use Rattle.edd_commands.specs.declared.Command.{Command}
 use Rattle.blk_capture.specs.declared.counting.TimedRequest.{TimedRequest}
 
--- in the order of their dispatches, and none went out before it came in
+-- in the order of their dispatches, and none went out before it was released
 pub record AreServed (requests : List TimedRequest) : Type 0 where
   pub rising : IsNonDecreasingBy (λ r. r.dispatch) requests
-  pub came_in : All (λ r. r.entry ≤ r.dispatch) requests
+  pub released : All (λ r. r.release ≤ r.dispatch) requests
 
 -- how many went out before this time, and how many by this time
 unfoldable pub dispatched_before : List TimedRequest → ℕ → ℕ
@@ -17,11 +17,11 @@ dispatched_before requests time = count_by (λ r. nat_lt r.dispatch time) reques
 unfoldable pub dispatched_by : List TimedRequest → ℕ → ℕ
 dispatched_by requests time = count_by (λ r. nat_le r.dispatch time) requests
 
--- the request at place k as a command: released after the dispatches before it came in, due by those up to its deadline
+-- the request at place k as a command: released after the dispatches before its release by the clock, due by those up to its deadline
 abbrev pub command_at : List TimedRequest → ℕ → TimedRequest → Command
 command_at requests k r = record {
   id = k + 1;
-  release = dispatched_before requests r.entry + 1;
+  release = dispatched_before requests r.release + 1;
   due = dispatched_by requests r.deadline;
 }
 

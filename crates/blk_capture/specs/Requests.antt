@@ -1,5 +1,5 @@
 -- Requests of a capture that went out, and the bios that went with them.
-use Rattle.std.specs.Prelude.{min, unwrap_or, ℕ, ◌≡◌, ◌≤◌, ◌<◌, ◌+◌, ◌-◌, ◌==◌, ◌↔◌, List, length, count_by, Bool, false, Option, Some, None, IfSome, slice_index, slice_index_or, All}
+use Rattle.std.specs.Prelude.{min, max, unwrap_or, ℕ, ◌≡◌, ◌≤◌, ◌<◌, ◌+◌, ◌-◌, ◌==◌, ◌↔◌, List, length, count_by, Bool, false, Option, Some, None, IfSome, slice_index, slice_index_or, All}
 use Rattle.std.specs.List.Sorted.{IsNonDecreasingBy}
 use Rattle.edd_commands.specs.declared.Command.{Command}
 use Rattle.blk_capture.specs.declared.counting.TimedRequest.{TimedRequest}
@@ -17,12 +17,17 @@ use Rattle.blk_capture.specs.declared.requests.CaptureFault.TheVariants.{Order, 
 
 -- what of a request is counted in rounds
 abbrev pub times_of : CapturedRequest → TimedRequest
-times_of q = record { entry = q.entry; deadline = q.deadline; dispatch = q.dispatched }
+times_of q = record { release = q.released; deadline = q.deadline; dispatch = q.dispatched }
 
 -- when a request came in that was queued and inserted then
 abbrev pub entry_by : Entry → ℕ → Option ℕ → ℕ
 entry_by Insert queued inserted = unwrap_or inserted queued
 entry_by Queue queued inserted = queued
+
+-- when a request that came in at `entry` was released: by its last bio, which may have been merged into it later
+abbrev pub released_by : ℕ → Option ℕ → ℕ
+released_by entry None = entry
+released_by entry (Some merged) = max entry merged
 
 -- how long after it came in a request of a direction is due
 abbrev pub expire_for : Options → Dir → ℕ
@@ -38,15 +43,16 @@ earlier_of (Some earlier) time = min earlier time
 abbrev pub deadline_of : Options → Dir → ℕ → Option ℕ → ℕ
 deadline_of options dir entry earlier = earlier_of earlier (min (entry + expire_for options dir) MAX_TIME)
 
--- it came in and was due as the options say
+-- it came in and was due as the options say, and was released by its last bio
 pub record IsDue (options : Options) (q : CapturedRequest) : Type 0 where
   pub entered : q.entry ≡ entry_by options.entry q.queued q.inserted
+  pub released : q.released ≡ released_by q.entry q.merged
   pub due : q.deadline ≡ deadline_of options q.dir q.entry q.earlier
 
--- in the order of their dispatches; none went out before it came in, nor was completed before it went out
+-- in the order of their dispatches; none went out before its last bio came in, nor was completed before it went out
 pub record AreTimed (requests : List CapturedRequest) : Type 0 where
   pub rising : IsNonDecreasingBy (λ q. q.dispatched) requests
-  pub came_in : All (λ q. q.entry ≤ q.dispatched) requests
+  pub came_in : All (λ q. q.released ≤ q.dispatched) requests
   pub came_back : All (λ q. IfSome q.completed (λ t. q.dispatched ≤ t)) requests
 
 -- the bio that each request was opened for is one of the bios, and went out with it

@@ -1,5 +1,5 @@
 -- A capture in numbers.
-use Rattle.std.specs.Prelude.{ℕ, ◌≡◌, ◌≤◌, ◌<◌, ◌+◌, ◌-◌, ◌*◌, ◌/◌, ◌&&◌, not, Bool, true, false, List, length, count_by, nat_le, nat_lt, slice_get, slice_index_or, is_some, Option, None, Some, IsPermutation}
+use Rattle.std.specs.Prelude.{ℕ, ◌≡◌, ◌≤◌, ◌<◌, ◌+◌, ◌-◌, ◌*◌, ◌/◌, ◌&&◌, not, cond, Bool, true, false, List, length, count_by, nat_le, nat_lt, slice_get, slice_index_or, is_some, Option, None, Some, IsPermutation}
 use Rattle.std.specs.List.{filter_map}
 use Rattle.std.specs.List.Sorted.{IsSorted}
 use Rattle.std.specs.Ordering.{nat_cmp}
@@ -80,14 +80,18 @@ back_by time q = known_by time q.completed
 abbrev pub in_flight_at : List CapturedRequest → ℕ → ℕ
 in_flight_at requests time = count_by (λ q. out_by time q && not (back_by time q)) requests
 
+-- how many are there when a request goes out: itself too, where it is back at that very time
+abbrev pub in_flight_with : List CapturedRequest → CapturedRequest → ℕ
+in_flight_with requests q = in_flight_at requests q.dispatched + cond (back_by q.dispatched q) 1 0
+
 -- n are there when the request at place k goes out
 pub record AreWith (requests : List CapturedRequest) (n k : ℕ) : Type 0 where
   pub in_list : k < length requests
-  pub at : (d : CapturedRequest) → in_flight_at requests (slice_index_or requests k d).dispatched ≡ n
+  pub at : (d : CapturedRequest) → in_flight_with requests (slice_index_or requests k d) ≡ n
 
 -- n is the most that are there when a request goes out, and 0 where there are no requests
 pub record IsMostInFlight (requests : List CapturedRequest) (n : ℕ) : Type 0 where
-  pub bound : (k : ℕ) (d : CapturedRequest) → k < length requests → in_flight_at requests (slice_index_or requests k d).dispatched ≤ n
+  pub bound : (k : ℕ) (d : CapturedRequest) → k < length requests → in_flight_with requests (slice_index_or requests k d) ≤ n
   pub reached : 0 < n → (k : ℕ) × AreWith requests n k
 
 -- a capture in numbers

@@ -12,9 +12,9 @@ use std::alloc::{AllocError, Allocator, Global};
 /// A request that the device took, by the clock. The unit and the beginning of the clock don't matter.
 #[derive(Clone, Copy, Debug, PartialEq, Eq)]
 pub struct TimedRequest {
-    /// When it came in.
-    pub entry: u64,
-    /// When it should have gone out at the latest; this may lie before the entry.
+    /// From when on it could have gone out: when it, or the last of it, came in.
+    pub release: u64,
+    /// When it should have gone out at the latest; this may lie before the release.
     pub deadline: u64,
     /// When it went out to the device.
     pub dispatch: u64,
@@ -35,7 +35,7 @@ pub fn are_served(requests: &[TimedRequest]) -> bool
 {
     let mut last = 0;
     for request in requests {
-        if request.dispatch < last || request.dispatch < request.entry {
+        if request.dispatch < last || request.dispatch < request.release {
             return false;
         }
         last = request.dispatch;
@@ -70,14 +70,14 @@ fn command_at(requests: &[TimedRequest], place: usize, request: TimedRequest) ->
 {
     Command {
         id: place as u64 + 1,
-        release: dispatched_before(requests, request.entry) + 1,
+        release: dispatched_before(requests, request.release) + 1,
         due: dispatched_by(requests, request.deadline),
     }
 }
 
 /// Counts requests in rounds, of which each is one dispatch: the requests stand in the order of their dispatches, and the
 /// one at place k, from 0 on, ran in round k + 1, which is its command's id too. It is released in the round after those that went out
-/// before it came in, and due in the last round that went out by its deadline; where none went out between the two, that round
+/// before its release, and due in the last round that went out by its deadline; where none went out between the two, that round
 /// is the one before its release. So it runs after its due round exactly where it went out after its deadline.
 ///
 /// At most [`edd_commands::MAX_COMMANDS`] requests, as [`are_served`] tells. Fails only when out of memory. The time grows as n log n.
@@ -88,7 +88,7 @@ pub fn count_rounds<A: Allocator + Clone>(
     requires served { AreServed requests.now }
     requires few { length requests.now ≤ MAX_COMMANDS }
     ensures counted { IfOk result (λ s. AreInRounds requests.now s.commands.items s.rounds.items) }
-    // at most one dispatch a round, and none before its request came in
+    // at most one dispatch a round, and none before its request was released
     ensures legal { IfOk result (λ s. IsLegal s.commands.items s.rounds.items (fixed 1)) }
     ensures late { IfOk result (λ s. AreLateByClock requests.now s.commands.items s.rounds.items) }
     ensures solvable { IfOk result (λ s. AreSolvable s.commands.items) }

@@ -2,7 +2,7 @@
 
 ghost use Rattle.std.specs.Prelude.{◌≡◌, ◌+◌, IfOk, IfSome, IfNone, None, length, is_some};
 ghost use Rattle.blk_capture.specs.Passing.{passed_over};
-ghost use Rattle.blk_capture.specs.Inside.MergeIndex.{abutting_key, facing, by_range, whole_key, TakesAbutting, TakesGoing};
+ghost use Rattle.blk_capture.specs.Inside.MergeIndex.{abutting_key, facing, by_range, whole_key, TakesAbutting, TakesWaiting};
 ghost use Rattle.blk_capture.specs.Inside.LookupKeys.{IsEmptyAt};
 ghost use Rattle.blk_capture.specs.Inside.Roles.{is_known, opens_role, makes_role, passed_role};
 ghost use Rattle.blk_capture.specs.Inside.Matchings.{OpensIf, MakesIf};
@@ -54,7 +54,7 @@ impl Role {
 /// How far a request came.
 #[derive(Clone, Copy, Debug, PartialEq, Eq)]
 pub(crate) enum Stage {
-    /// It was opened, and waits in a plug, or where it was put directly.
+    /// It was opened and not inserted, and waits in a plug, or where it goes out from directly.
     Opened,
     /// It waits in the scheduler.
     Inserted,
@@ -77,6 +77,8 @@ pub(crate) struct Opened {
     pub(crate) got: u64,
     /// When it was inserted, if it was.
     pub(crate) inserted: Option<u64>,
+    /// When a bio or a request was last merged into it, if any was.
+    pub(crate) merged: Option<u64>,
     /// When it was completed, if it was.
     pub(crate) completed: Option<u64>,
     pub(crate) stage: Stage,
@@ -112,8 +114,6 @@ pub(crate) struct Matching<A: Allocator = Global> {
     pub(crate) members: Members<A>,
     pub(crate) requests: Vec<Opened, A>,
     pub(crate) absorptions: Vec<Absorption, A>,
-    /// Whether requests go out without being inserted, since the capture has no insertion.
-    direct: bool,
     /// Bios that were queued and went nowhere yet.
     waiting: KeyIndex<A>,
     /// Requests that were opened and not inserted, by who opened them.
@@ -127,8 +127,8 @@ pub(crate) struct Matching<A: Allocator = Global> {
 }
 
 impl<A: Allocator + Clone> Matching<A> {
-    /// Nothing yet. `direct` says that requests go out without being inserted.
-    pub(crate) fn new(alloc: A, direct: bool) -> Result<Matching<A>, AllocError>
+    /// Nothing yet.
+    pub(crate) fn new(alloc: A) -> Result<Matching<A>, AllocError>
         ensures same { IfOk result (λ m. length m.requests.items ≡ 0) }
         ensures bios { IfOk result (λ m. length m.members.bios.items ≡ 0) }
     {
@@ -137,7 +137,6 @@ impl<A: Allocator + Clone> Matching<A> {
             members: Members::new(alloc.clone()?)?,
             requests: Vec::new(alloc.clone()?),
             absorptions: Vec::new(alloc.clone()?),
-            direct,
             waiting: KeyIndex::new(alloc.clone()?),
             opened: MergeIndex::new(alloc.clone()?)?,
             starts: KeyIndex::new(alloc.clone()?),
@@ -219,6 +218,7 @@ impl<A: Allocator + Clone> Matching<A> {
             queued: bio.time,
             got: self.clock.now,
             inserted: None,
+            merged: None,
             completed: None,
             stage: Stage::Opened,
             left: range,
@@ -325,12 +325,7 @@ impl<A: Allocator + Clone> Matching<A> {
         ensures same { length self.new.requests.items ≡ length self.old.requests.items }
         ensures bios { length self.new.members.bios.items ≡ length self.old.members.bios.items }
     {
-        let whole = LookupKey::whole(range);
-        let found = match self.inserted.wholes.oldest(whole) {
-            Some(request) => Some(request),
-            None => self.opened.wholes.oldest(whole),
-        };
-        let Some(request) = found else {
+        let Some(request) = self.waiting_request(range) else {
             return Ok(false);
         };
         let Some(opened) = self.unplace(request) else {
@@ -362,6 +357,7 @@ impl<A: Allocator + Clone> Matching<A> {
             Opened {
                 range,
                 left,
+                merged: Some(self.clock.now),
                 ..opened
             },
         )
@@ -393,31 +389,26 @@ impl<A: Allocator + Clone> Matching<A> {
         )
     }
 
-    /// Of the requests of a range: the oldest that was inserted and did not go out, else, where the whole capture has no insertion, the
-    /// oldest that was opened.
-    fn going(&self, range: Range) -> Option<usize>
-        ensures some { IfSome result (TakesGoing self.now.direct self.now.opened self.now.inserted range) }
+    /// Of the requests of a range: the oldest that was inserted and did not go out, else the oldest that was opened and not inserted.
+    fn waiting_request(&self, range: Range) -> Option<usize>
+        ensures some { IfSome result (TakesWaiting self.now.opened self.now.inserted range) }
         ensures none { IfNone result (IsEmptyAt (by_range self.now.inserted) (whole_key range)) }
+        ensures no_opened { IfNone result (IsEmptyAt (by_range self.now.opened) (whole_key range)) }
     {
         let whole = LookupKey::whole(range);
         match self.inserted.wholes.oldest(whole) {
             Some(request) => Some(request),
-            None => {
-                if self.direct {
-                    self.opened.wholes.oldest(whole)
-                } else {
-                    None
-                }
-            }
+            None => self.opened.wholes.oldest(whole),
         }
     }
 
-    /// The oldest request of the range that was inserted goes out, or that was opened, where none is inserted in the whole capture.
+    /// The oldest request of the range that was inserted goes out, else the oldest that was opened: what a scheduler passes by, as a
+    /// request that is handed to the device directly, has no insertion.
     fn issue(&mut self, range: Range) -> Result<Option<usize>, AllocError>
         ensures same { length self.new.requests.items ≡ length self.old.requests.items }
         ensures bios { length self.new.members.bios.items ≡ length self.old.members.bios.items }
     {
-        let Some(request) = self.going(range) else {
+        let Some(request) = self.waiting_request(range) else {
             return Ok(None);
         };
         let Some(opened) = self.unplace(request) else {

@@ -7,7 +7,7 @@ ghost use Rattle.edd_commands.specs.Schedule.{IsLegal, RoundsInRange};
 ghost use Rattle.blk_capture.specs.Counting.{AreSolvable, AreInRounds};
 ghost use Rattle.blk_capture.specs.Fates.{opens, makes, told, is_matched, passed_by, IsTakenBelow, AreOfTaken, ArePassed};
 ghost use Rattle.blk_capture.specs.Inside.Roles.{is_known, passed_role};
-ghost use Rattle.blk_capture.specs.Requests.{times_of, AreTimed, HaveBios, AreTallied, AreGone, AreInOrder, IsFirstFall, AgreeOnLateness, entry_by, expire_for, earlier_of, deadline_of, IsDue, IsCaptureFault};
+ghost use Rattle.blk_capture.specs.Requests.{times_of, AreTimed, HaveBios, AreTallied, AreGone, AreInOrder, IsFirstFall, AgreeOnLateness, entry_by, released_by, expire_for, earlier_of, deadline_of, IsDue, IsCaptureFault};
 ghost use Rattle.blk_capture.specs.Inside.Taken.{IsRequestOf, Puts, ArePlacedBios, IsTalliedFrom, AreWithin, ArePlacedIn, IsPlaceOfOwn};
 ghost use Rattle.blk_capture.specs.declared.members.QueuedBio.{QueuedBio};
 ghost use Rattle.blk_capture.specs.Matched.{all_opened};
@@ -17,7 +17,7 @@ use crate::counting::{CountedSchedule, TimedRequest, count_rounds};
 use crate::fates::Fate;
 use crate::matching::{Matching, Opened, Role};
 use crate::members::QueuedBio;
-use crate::record::{Action, MAX_TIME, Record};
+use crate::record::{MAX_TIME, Record};
 use blk_bio::Dir;
 use std::alloc::{AllocError, Allocator, Global};
 
@@ -71,8 +71,13 @@ pub struct CapturedRequest {
     pub got: u64,
     /// When it was inserted into the scheduler, if it was.
     pub inserted: Option<u64>,
-    /// When it counts as come in.
+    /// When a bio, or a request with its bios, was last merged into it, if any was.
+    pub merged: Option<u64>,
+    /// When it counts as come in: by this it has its place, and its deadline.
     pub entry: u64,
+    /// When it was released, by its last bio: at its entry, or when something was last merged into it, if that was later. Until then it
+    /// could not have gone out whole.
+    pub released: u64,
     /// The earliest deadline of the requests that were merged into it, if any.
     pub earlier: Option<u64>,
     /// When it was due: its direction's expiry after its entry, or at `earlier` if that is sooner; at most 2^64 - 1.
@@ -116,6 +121,16 @@ fn entry_of(opened: &Opened, options: &Options) -> u64
     match options.entry {
         Entry::Insert => opened.inserted.unwrap_or(opened.queued),
         Entry::Queue => opened.queued,
+    }
+}
+
+/// When a request that came in at a time was released: by the last merge into it, if that was later.
+fn released_by(entry: u64, merged: Option<u64>) -> u64
+    ensures { result ≡ released_by entry merged }
+{
+    match merged {
+        Some(merged) => entry.max(merged),
+        None => entry,
     }
 }
 
@@ -208,7 +223,7 @@ fn not_before(time: Option<u64>, other: u64) -> Option<u64>
     }
 }
 
-/// The request of a dispatch, where that is its last one, it wasn't merged into another, and it came in by then.
+/// The request of a dispatch, where that is its last one, it wasn't merged into another, and it was released by then.
 fn request_of<A: Allocator + Clone>(
     matching: &Matching<A>,
     lives: &[Life],
@@ -229,7 +244,8 @@ fn request_of<A: Allocator + Clone>(
     let life = lives[place];
     let opened = matching.requests[place];
     let entry = entry_of(&opened, options);
-    if life.root != place || entry > dispatch.time || !opened.goes_out_by(number) {
+    let released = released_by(entry, opened.merged);
+    if life.root != place || released > dispatch.time || !opened.goes_out_by(number) {
         return None;
     }
     Some(CapturedRequest {
@@ -242,7 +258,9 @@ fn request_of<A: Allocator + Clone>(
         queued: opened.queued,
         got: opened.got,
         inserted: opened.inserted,
+        merged: opened.merged,
         entry,
+        released,
         earlier: life.earlier,
         deadline: deadline_of(options, opened.range.dir, entry, life.earlier),
         dispatched: dispatch.time,
@@ -454,11 +472,6 @@ pub struct Matched<A: Allocator = Global> {
     pub left_out: u64,
 }
 
-/// Whether some request is inserted.
-fn has_insertion(records: &[Record]) -> bool {
-    records.iter().any(|record| record.action == Action::Insert)
-}
-
 /// The place of the first record that has an earlier time than the one before it.
 fn first_fall(records: &[Record]) -> Option<usize>
     ensures none { IfNone result (AreInOrder records.now (length records.now)) }
@@ -526,7 +539,7 @@ pub fn match_records<A: Allocator + Clone>(
     records: &[Record],
     options: &Options,
 ) -> Result<Matched<A>, CaptureFault>
-    // in the order of their dispatches, none before it came in
+    // in the order of their dispatches, none before its last bio
     ensures timed { IfOk result (λ m. AreTimed m.requests.items) }
     ensures due { IfOk result (λ m. All (IsDue options.now) m.requests.items) }
     ensures bios { IfOk result (λ m. HaveBios m.requests.items m.bios.items) }
@@ -569,7 +582,7 @@ fn match_in_order<A: Allocator + Clone>(
     ensures opened { IfOk result (λ m. all_opened m ≡ told opens records.now m.fates.items) }
     ensures made { IfOk result (λ m. length m.bios.items ≡ told makes records.now m.fates.items) }
 {
-    let mut matching = Matching::new(alloc.clone()?, !has_insertion(records))?;
+    let mut matching = Matching::new(alloc.clone()?)?;
     let mut roles = Vec::with_capacity(alloc.clone()?, records.len())?;
     for (place, record) in records.iter().enumerate() {
         // the records are in the order of their times, so the clock never refuses one
@@ -580,8 +593,8 @@ fn match_in_order<A: Allocator + Clone>(
     settle(alloc, &matching, roles.as_slice(), options)
 }
 
-/// Counts requests in rounds, as [`crate::count_rounds`] does: the one at place k ran in round k + 1, and after its due round
-/// exactly where it went out after its deadline. At most [`edd_commands::MAX_COMMANDS`] requests.
+/// Counts requests in rounds, as [`crate::count_rounds`] does, each released by its last bio: the one at place k ran in round k + 1, and
+/// after its due round exactly where it went out after its deadline. At most [`edd_commands::MAX_COMMANDS`] requests.
 pub fn rounds_of<A: Allocator + Clone>(
     alloc: A,
     requests: &[CapturedRequest],
@@ -608,7 +621,7 @@ fn served<A: Allocator>(
     requests
         .iter()
         .map(|request| TimedRequest {
-            entry: request.entry,
+            release: request.released,
             deadline: request.deadline,
             dispatch: request.dispatched,
         })

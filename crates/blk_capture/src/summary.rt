@@ -1,11 +1,11 @@
 //! A capture in numbers.
 
-ghost use Rattle.std.specs.Prelude.{◌≡◌, ◌≤◌, ℕ, IfOk, count_by, length, nat_le};
+ghost use Rattle.std.specs.Prelude.{◌≡◌, ◌≤◌, ◌<◌, ◌^◌, ℕ, IfOk, count_by, length, nat_le};
 ghost use Rattle.std.specs.List.{filter_map};
 ghost use Rattle.std.specs.List.Sorted.{IsNonDecreasingBy};
 ghost use Rattle.edd_commands.specs.declared.TheConstants.{MAX_COMMANDS};
 ghost use Rattle.blk_capture.specs.Requests.{AreTimed};
-ghost use Rattle.blk_capture.specs.Summaries.{is_late_request, is_dispatched, time_in, at_percent, percentiles_of, ArePercentiles, IsMostInFlight, in_flight_at, back_by, out_by};
+ghost use Rattle.blk_capture.specs.Summaries.{is_late_request, is_dispatched, time_in, at_percent, percentiles_of, ArePercentiles, IsMostInFlight, in_flight_at, in_flight_with, back_by, out_by};
 ghost use Rattle.blk_capture.specs.Matched.{IsSummaryOf};
 
 use crate::fates::{Fate, tally_of};
@@ -59,7 +59,7 @@ pub struct Summary {
     pub scheduler: Percentiles,
     /// From D to C, of requests that were completed.
     pub device: Percentiles,
-    /// The most that were at the device at once.
+    /// The most that were at the device when a request went out, itself counted.
     pub in_flight: u64,
 }
 
@@ -219,11 +219,30 @@ fn in_flight_at(requests: &[CapturedRequest], completions: &[u64], time: u64) ->
     requires timed { AreTimed requests.now }
     requires sorted { IsNonDecreasingBy (λ x. x) completions.now }
     requires counted { (t : ℕ) → count_by (λ x. nat_le x t) completions.now ≡ count_by (back_by t) requests.now }
-    ensures { result ≡ in_flight_at requests.now time }
+    ensures value { result ≡ in_flight_at requests.now time }
+    ensures few { result < 2 ^ 63 }
 {
     let out = count_out(requests, time);
     let back = count_upto(completions, time);
     (out - back) as u64
+}
+
+/// How many of the requests were at the device when one went out, which counts itself, also where it was completed at that very time.
+fn in_flight_with(
+    requests: &[CapturedRequest],
+    completions: &[u64],
+    request: &CapturedRequest,
+) -> u64
+    requires timed { AreTimed requests.now }
+    requires sorted { IsNonDecreasingBy (λ x. x) completions.now }
+    requires counted { (t : ℕ) → count_by (λ x. nat_le x t) completions.now ≡ count_by (back_by t) requests.now }
+    ensures { result ≡ in_flight_with requests.now request.now }
+{
+    let count = in_flight_at(requests, completions, request.dispatched);
+    match request.completed {
+        Some(completed) if completed <= request.dispatched => count + 1,
+        _ => count,
+    }
 }
 
 /// The most of the requests that were at the device at once, by the times at which requests were completed.
@@ -235,7 +254,7 @@ fn most_at_once(requests: &[CapturedRequest], completions: &mut [u64]) -> u64
     put_in_order(requests, completions);
     let mut most = 0;
     for request in requests {
-        let count = in_flight_at(requests, completions, request.dispatched);
+        let count = in_flight_with(requests, completions, request);
         if count > most {
             most = count;
         }
@@ -243,8 +262,8 @@ fn most_at_once(requests: &[CapturedRequest], completions: &mut [u64]) -> u64
     most
 }
 
-/// The most of the requests that were at the device at once. What was completed at the very time of a dispatch was back by then. The requests
-/// are as [`crate::match_records`] gives them. Fails only when out of memory. The time grows as n log n.
+/// The most of the requests that were at the device when one went out, itself counted. Another that was completed at the very time of
+/// the dispatch was back by then. The requests are as [`crate::match_records`] gives them. Fails only when out of memory. The time grows as n log n.
 fn most_in_flight<A: Allocator>(alloc: A, requests: &[CapturedRequest]) -> Result<u64, AllocError>
     requires { AreTimed requests.now }
     ensures { IfOk result (IsMostInFlight requests.now) }

@@ -4,17 +4,17 @@ use blk_capture::{TimedRequest, are_served, count_rounds};
 use edd_commands::Command;
 use refusing::Refusing;
 
-/// A request by when it came in, was due and went out.
-fn served(entry: u64, deadline: u64, dispatch: u64) -> TimedRequest {
+/// A request by when it was released, was due and went out.
+fn served(release: u64, deadline: u64, dispatch: u64) -> TimedRequest {
     TimedRequest {
-        entry,
+        release,
         deadline,
         dispatch,
     }
 }
 
-/// The second goes out after its deadline; nothing goes out between the third one's entry and its deadline, so that it is due before
-/// its release; what goes out at the time of an entry is not before it, and at that of a deadline by it.
+/// The second goes out after its deadline; nothing goes out between the third one's release and its deadline, so that it is due before
+/// its release; what goes out at the time of a release is not before it, and at that of a deadline by it.
 #[test]
 fn three_dispatches(rt: HostRuntime) {
     let heap = Refusing::new(rt.alloc());
@@ -36,7 +36,7 @@ fn three_dispatches(rt: HostRuntime) {
     assert!(rt; schedule.rounds.as_slice() == [1, 2, 3, 4].as_slice());
 }
 
-/// Out of order, or out before it came in.
+/// Out of order, or out before it was released.
 #[test]
 fn not_served(rt: HostRuntime) {
     assert!(rt; are_served(&[]));

@@ -30,8 +30,8 @@ fn one_request(rt: HostRuntime) {
     assert!(rt; gives(&rt, rt.alloc(), &usual(), &direct, "000", &[row]));
 }
 
-/// Of one range the first queued is opened first, and what was inserted first goes out first. A dispatch of a request that was not inserted is
-/// unmatched, since another one was.
+/// Of one range the first queued is opened first, and what was inserted goes out first. Then goes out what was only opened, though another
+/// was inserted. After that an insertion finds nothing, nor a dispatch.
 #[test]
 fn first_in_first_out(rt: HostRuntime) {
     let lines: [RecordLine; 11] = [
@@ -47,8 +47,8 @@ fn first_in_first_out(rt: HostRuntime) {
         (10, 'D', 'W', 0, 0, 8),
         (11, 'G', 'W', 1, 0, 8),
     ];
-    let rows = [(0, 8, 1, 5, 1005, 6), (0, 8, 1, 8, 1008, 9)];
-    assert!(rt; gives(&rt, rt.alloc(), &usual(), &lines, "010100u11uu", &rows));
+    let rows = [(0, 8, 1, 5, 1005, 6), (0, 8, 1, 2, 1002, 7)];
+    assert!(rt; gives(&rt, rt.alloc(), &usual(), &lines, "0101001uuuu", &rows));
 }
 
 /// A bio goes into the newest request of its process that was not inserted and that it abuts, at the back by M and at the front by F.

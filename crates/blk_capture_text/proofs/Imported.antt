@@ -21,7 +21,7 @@ use Rattle.blk_lists.specs.Commands.{IsCommandInRange}
 use Rattle.blk_lists.specs.Schedule.{AreDistinct, IsScheduleView}
 
 abbrev none_served : TimedRequest
-none_served = record { entry = 0; deadline = 0; dispatch = 0 }
+none_served = record { release = 0; deadline = 0; dispatch = 0 }
 
 id_is : (served : List TimedRequest) (commands : List Command) (rounds : List ℕ) → AreInRounds served commands rounds → (k : ℕ) (e : Command) → k < length commands → (get_or commands k e).id ≡ k + 1
 id_is served commands rounds c k e l =

@@ -1,5 +1,5 @@
 -- Requests by where they begin and end.
-use Rattle.std.specs.Prelude.{ℕ, ◌≡◌, ◌⊎◌, Bool, true, Option}
+use Rattle.std.specs.Prelude.{ℕ, ◌⊎◌, Option}
 use Rattle.std.specs.BTreeMap.{get}
 use Rattle.blk_bio.specs.declared.request.Side.{Side}
 use Rattle.blk_bio.specs.declared.request.Side.TheVariants.{Back, Front}
@@ -38,8 +38,8 @@ TakesAbutting opened inserted newcomer side pid place =
     IsNewestUnder (facing side opened) (abutting_key newcomer side pid) place
     ⊎ (IsEmptyAt (facing side opened) (abutting_key newcomer side pid) × IsOldestUnder (facing side inserted) (abutting_key newcomer side 0) place)
 
--- of the requests of a range: the oldest that was inserted, or else, where requests go out without that, the oldest that was opened
-abbrev pub TakesGoing : {A : Type 0} → Bool → MergeIndex A → MergeIndex A → Range → ℕ → Type 0
-TakesGoing direct opened inserted range place =
+-- of the requests of a range that wait: the oldest that was inserted, or else the oldest that was opened
+abbrev pub TakesWaiting : {A : Type 0} → MergeIndex A → MergeIndex A → Range → ℕ → Type 0
+TakesWaiting opened inserted range place =
     IsOldestUnder (by_range inserted) (whole_key range) place
-    ⊎ (IsEmptyAt (by_range inserted) (whole_key range) × (direct ≡ true) × IsOldestUnder (by_range opened) (whole_key range) place)
+    ⊎ (IsEmptyAt (by_range inserted) (whole_key range) × IsOldestUnder (by_range opened) (whole_key range) place)

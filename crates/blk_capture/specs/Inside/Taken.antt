@@ -19,7 +19,7 @@ pub record IsRequestOf (lives : List Life) (openers : List ℕ) (x : Dispatch) (
   pub opened : x.request < length openers
   pub opener : q.bio ≡ slice_index openers x.request
   pub timed : q.dispatched ≡ x.time
-  pub came_in : q.entry ≤ x.time
+  pub came_in : q.released ≤ x.time
   pub came_back : IfSome q.completed (λ t. x.time ≤ t)
   pub none : q.bios ≡ 0
 

@@ -9,8 +9,8 @@ overflow_sub-result c =
     let back : count_by (λ x. nat_le x c.args.time) c.args.completions.now ≡ count_by (back_by c.args.time) c.args.requests.now = c.requires.counted c.args.time in
     omega (arith, all, back, c.count_out-out.ensures, c.count_upto-back.ensures)
 
-pub returns : goal.returns
-returns c =
+pub returns-clause-value : goal.returns-clause-value
+returns-clause-value c =
     let all : in_flight_at c.args.requests.now c.args.time + count_by (back_by c.args.time) c.args.requests.now ≡ count_by (out_by c.args.time) c.args.requests.now = flying c.args.requests.now c.args.time c.requires.timed.came_back in
     let back : count_by (λ x. nat_le x c.args.time) c.args.completions.now ≡ count_by (back_by c.args.time) c.args.requests.now = c.requires.counted c.args.time in
     omega (arith, all, back, c.count_out-out.ensures, c.count_upto-back.ensures)

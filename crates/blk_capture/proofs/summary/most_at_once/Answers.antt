@@ -10,21 +10,21 @@ loop-request-preserved c =
     elim c.if-count-most.branch [
       | then-count-most w ↦ record {
         bound =
-            bound_more c.args.requests.now n c.loop-request.most c.if-count-most.most c.in_flight_at-count.result _ c.loop-request.invariant.bound (omega (arith, w.most-is, w.if-count-most.true)) here
-            c.in_flight_at-count.ensures (omega (arith, w.most-is));
+            bound_more c.args.requests.now n c.loop-request.most c.if-count-most.most c.in_flight_with-count.result _ c.loop-request.invariant.bound (omega (arith, w.most-is, w.if-count-most.true)) here
+            c.in_flight_with-count.ensures (omega (arith, w.most-is));
         reached =
             λ some. (
               n,
               record {
                 in_list = here;
-                at = λ d. at_last c.args.requests.now n c.in_flight_at-count.result _ here c.in_flight_at-count.ensures d ∙ sym w.most-is;
+                at = λ d. at_last c.args.requests.now n c.in_flight_with-count.result _ here c.in_flight_with-count.ensures d ∙ sym w.most-is;
               },
             );
       }
       | else-count-most w ↦ record {
         bound =
-            bound_more c.args.requests.now n c.loop-request.most c.if-count-most.most c.in_flight_at-count.result _ c.loop-request.invariant.bound (omega (arith, w.most-is)) here
-            c.in_flight_at-count.ensures (omega (arith, w.most-is, w.if-count-most.false));
+            bound_more c.args.requests.now n c.loop-request.most c.if-count-most.most c.in_flight_with-count.result _ c.loop-request.invariant.bound (omega (arith, w.most-is)) here
+            c.in_flight_with-count.ensures (omega (arith, w.most-is, w.if-count-most.false));
         reached =
             λ some.
             let was = c.loop-request.invariant.reached (omega (arith, some, w.most-is)) in (
