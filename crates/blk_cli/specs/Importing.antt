@@ -1,11 +1,12 @@
 -- What is written of a capture, what is said of what that leaves out, its arrivals as a script, and why there is nothing.
-use Rattle.std.specs.Prelude.{◌≡◌, ◌⊎◌, ◌++◌, ◌==◌, ◌&&◌, ⊤, ℕ, Bool, true, false, if◌then◌else◌, List, [], Option, None, Some, IfSome, unwrap_or}
+use Rattle.std.specs.Prelude.{◌≡◌, ◌⊎◌, ◌++◌, ◌∷◌, ◌≤◌, ◌==◌, ◌&&◌, ⊤, ℕ, Bool, true, false, if◌then◌else◌, List, [], Option, None, Some, IfSome, unwrap_or}
 use Rattle.std.specs.Option.{option_map_or}
 use Rattle.faults.specs.Order.{IsFirstFault}
 use Rattle.blk_arrivals.specs.Scripts.{script_of, script_rules}
 use Rattle.blk_arrivals.specs.declared.terms.ArrivalsFault.TheVariants as arrivals
 use Rattle.blk_arrivals.specs.declared.terms.TheConstants.{USUAL_DEPTH}
 use Rattle.blk_arrivals.specs.declared.terms.Terms.{Terms}
+use Rattle.blk_capture.specs.Summaries.{IsMostInFlight}
 use Rattle.blk_capture.specs.declared.fates.Fate.{Fate}
 use Rattle.blk_capture.specs.declared.record.Record.{Record}
 use Rattle.blk_capture.specs.declared.requests.CapturedBio.{CapturedBio}
@@ -32,6 +33,7 @@ use Rattle.blk_capture_text.specs.declared.source.Printed.{Printed}
 use Rattle.blk_capture_text.specs.declared.source.UnreadCapture.TheVariants as unread
 use Rattle.blk_cli.specs.Explaining.{IsUnexplained}
 use Rattle.blk_cli.specs.Said.{Said, IsAlone}
+use Rattle.blk_cli.specs.declared.importing.TheConstants.{USUAL_TAGS}
 use Rattle.blk_cli.specs.declared.failure.Failure.{Failure}
 use Rattle.blk_cli.specs.declared.failure.Failure.TheVariants as failure
 
@@ -64,6 +66,21 @@ note_by shown.Schedule c = line_on c
 note_by shown.Table c = line_on c
 note_by shown.Summary c = None
 
+-- a note behind what is told before it
+abbrev pub noted : List ℕ → Option (List ℕ) → Option (List ℕ)
+noted [] note = note
+noted (c ∷ told) note = Some ((c ∷ told) ++ unwrap_or note [])
+
+-- how many requests the device takes at once
+abbrev pub tags_asked : Option ℕ → ℕ
+tags_asked tags = unwrap_or tags USUAL_TAGS
+
+-- before the note something is told only where more were in flight than the device takes at once
+pub record IsNoteOf (tags : ℕ) (requests : List CapturedRequest) (base note : Option (List ℕ)) : Type 0 where
+  pub told : List ℕ
+  pub quiet : (n : ℕ) → IsMostInFlight requests n → n ≤ tags → told ≡ []
+  pub is : note ≡ noted told base
+
 -- what is shown of the requests of a capture that are taken, and what is said beside it
 pub record IsShownOf (shown : ShownImport) (i : Import) (records : List Record) (s : Said) : Type 0 where
   pub requests : List CapturedRequest
@@ -73,7 +90,7 @@ pub record IsShownOf (shown : ShownImport) (i : Import) (records : List Record) 
   pub left_out : ℕ
   pub is_import : IsImport records (asked_of i) requests bios fates absorbed left_out
   pub is_text : IsShown shown records requests bios fates left_out s.text
-  pub is_note : s.note ≡ note_by shown (counts_of fates)
+  pub is_note : IsNoteOf (tags_asked i.source.tags) requests (note_by shown (counts_of fates)) s.note
   pub good : s.good ≡ true
 
 -- too many requests would be taken, or memory ran out
@@ -114,31 +131,43 @@ IsUnimported i records f = IsUnwrittenAs i.written i records f
 -- what a recorder printed is told before the note; of other captures nothing is
 abbrev pub IsSaidFrom : Option Printed → Said → Said → Type 0
 IsSaidFrom None base s = s ≡ base
-IsSaidFrom (Some p) base s = (told : List ℕ) × (s ≡ record base { note = Some (told ++ unwrap_or base.note []) })
+IsSaidFrom (Some p) base s = (told : List ℕ) × (s ≡ record base { note = noted told base.note })
 
--- the bytes of the input, where these are known, are a capture of the form that is asked for, or that its first lines tell, and this is written of it
-pub record IsImportedFrom (i : Import) (input : Option (List ℕ)) (s : Said) : Type 0 where
-  pub bytes : List ℕ
-  pub given : IfSome input (λ known. bytes ≡ known)
+-- bytes are a capture of the form that is asked for, or that its first lines tell, and this is written of it
+pub record IsImportedOf (i : Import) (bytes : List ℕ) (s : Said) : Type 0 where
   pub read : CaptureRead
   pub is_read : IsCaptureRead i.source.form i.source.device bytes read
   pub base : Said
   pub imported : IsImported i read.records.items base
   pub said : IsSaidFrom read.printed base s
 
--- the first fault of the capture
+-- they are refused for their first fault
 abbrev pub IsUnreadFrom : Import → List ℕ → Failure → Type 0
 IsUnreadFrom i bytes (failure.Text f) = IsCaptureUnread i.source.form i.source.device bytes (unread.Text f)
 IsUnreadFrom i bytes (failure.Line f) = IsCaptureUnread i.source.form i.source.device bytes (unread.Line f)
+IsUnreadFrom i bytes failure.Memory = ⊤
 IsUnreadFrom i bytes f = ⊥
 
--- why nothing is written of a capture that was read
+-- or nothing is written of the capture that was read
 pub record IsRefusedFrom (i : Import) (bytes : List ℕ) (f : Failure) : Type 0 where
   pub read : CaptureRead
   pub is_read : IsCaptureRead i.source.form i.source.device bytes read
   pub refused : IsUnimported i read.records.items f
 
--- the capture is refused for its first fault, or once it was read; or the reader failed, or memory ran out
+abbrev pub IsUnimportedOf : Import → List ℕ → Failure → Type 0
+IsUnimportedOf i bytes f = IsUnreadFrom i bytes f ⊎ IsRefusedFrom i bytes f
+
+-- the same of the bytes of the input, where these are known
+pub record IsImportedFrom (i : Import) (input : Option (List ℕ)) (s : Said) : Type 0 where
+  pub bytes : List ℕ
+  pub given : IfSome input (λ known. bytes ≡ known)
+  pub of : IsImportedOf i bytes s
+
+pub record IsRefusedInput (i : Import) (input : Option (List ℕ)) (f : Failure) : Type 0 where
+  pub bytes : List ℕ
+  pub given : IfSome input (λ known. bytes ≡ known)
+  pub of : IsUnimportedOf i bytes f
+
+-- or the reader failed, or memory ran out
 abbrev pub IsUnimportedFrom : Import → Option (List ℕ) → Bool → Failure → Type 0
-IsUnimportedFrom i input failed f =
-    IsUnexplained failed f ⊎ ((bytes : List ℕ) × IfSome input (λ known. bytes ≡ known) × (IsUnreadFrom i bytes f ⊎ IsRefusedFrom i bytes f))
+IsUnimportedFrom i input failed f = IsUnexplained failed f ⊎ IsRefusedInput i input f

@@ -1,14 +1,14 @@
 //! The job over a capture: what is written of it, what is said of what that leaves out, and its arrivals as a script.
 
-ghost use Rattle.std.specs.Prelude.{◌≡◌, ◌++◌, [], IfOk, IfErr, Some, length, option_map, unwrap_or};
+ghost use Rattle.std.specs.Prelude.{◌≡◌, ◌≤◌, [], IfOk, IfErr, length, option_map};
 ghost use Rattle.blk_capture.specs.Requests.{AreInOrder};
 ghost use Rattle.blk_cli.specs.Said.{said_of};
-ghost use Rattle.blk_cli.specs.Importing.{entry_asked, most_asked, asked_of, terms_of, line_on, note_by, IsShownOf, IsUnshown, IsScripted, IsUnscripted, IsImported, IsUnimported, IsSaidFrom, IsImportedFrom, IsUnimportedFrom};
+ghost use Rattle.blk_cli.specs.Importing.{entry_asked, most_asked, asked_of, terms_of, line_on, note_by, IsShownOf, IsUnshown, IsScripted, IsUnscripted, IsImported, IsUnimported, noted, tags_asked, IsSaidFrom, IsImportedOf, IsUnimportedOf, IsImportedFrom, IsUnimportedFrom};
 
 use crate::Answered;
 use crate::failure::Failure;
 use blk_arrivals::{Terms, USUAL_DEPTH, script_of, script_text};
-use blk_capture::{Entry, Options, Record};
+use blk_capture::{Entry, Options, Record, summarize};
 use blk_capture_text::{
     ImportAsked, Printed, ShownImport, UnreadCapture, UnusedCounts, count_fates, notice_text,
     read_source, shown_text,
@@ -101,6 +101,44 @@ fn note_by(
     }
 }
 
+/// A note behind what is told before it; without that, as it is.
+fn noted(told: Vec<u8>, note: Option<Vec<u8>>) -> Result<Option<Vec<u8>>, AllocError>
+    ensures { IfOk result (λ all. option_map (λ n. n.items) all ≡ noted told.items (option_map (λ n. n.items) note)) }
+{
+    if told.is_empty() {
+        return Ok(note);
+    }
+    let mut told = told;
+    if let Some(note) = note {
+        told.extend_from_slice(note.as_slice())?;
+    }
+    Ok(Some(told))
+}
+
+/// How many requests the device takes at once, where nobody says so: hardly any takes more.
+const USUAL_TAGS: u64 = 4096;
+
+/// How many requests the device takes at once.
+fn tags_asked(tags: Option<u64>) -> u64
+    ensures { result ≡ tags_asked tags }
+{
+    match tags {
+        Some(tags) => tags,
+        None => USUAL_TAGS,
+    }
+}
+
+/// The line on more requests in flight than the device takes at once, where there are more.
+fn crowd_text(alloc: Global, most: u64, tags: u64) -> Result<Vec<u8>, AllocError>
+    ensures { IfOk result (λ told. most ≤ tags → told.items ≡ []) }
+{
+    if most <= tags {
+        return Ok(Vec::new(alloc));
+    }
+    let text = format!(in alloc; "blk: in flight {most}, and the device takes {tags}: completions may be missing\n")?;
+    Ok(text.into_bytes())
+}
+
 /// What is shown of the requests of a capture.
 fn shown_of(
     alloc: Global,
@@ -122,6 +160,15 @@ fn shown_of(
     };
     let counts = count_fates(matched.fates.as_slice());
     let Ok(note) = note_by(alloc, shown, &counts) else {
+        return Err(Failure::Memory);
+    };
+    let Ok(summary) = summarize(alloc, records, &matched) else {
+        return Err(Failure::Memory);
+    };
+    let Ok(crowd) = crowd_text(alloc, summary.in_flight, tags_asked(wanted.source.tags)) else {
+        return Err(Failure::Memory);
+    };
+    let Ok(note) = noted(crowd, note) else {
         return Err(Failure::Memory);
     };
     Ok(Answered {
@@ -195,24 +242,6 @@ fn printed_text(alloc: Global, printed: &Printed, count: usize) -> Result<Vec<u8
     Ok(text.into_bytes())
 }
 
-/// The note of an answer behind the lines on what a recorder printed.
-fn noted(
-    alloc: Global,
-    told: Vec<u8>,
-    note: Option<Vec<u8>>,
-) -> Result<Option<Vec<u8>>, AllocError>
-    ensures { IfOk result (λ all. option_map (λ n. n.items) all ≡ Some (told.items ++ unwrap_or (option_map (λ n. n.items) note) [])) }
-{
-    let mut told = told;
-    match note {
-        Some(note) => {
-            told.extend_from_slice(note.as_slice())?;
-            Ok(Some(told))
-        }
-        None => Ok(Some(told)),
-    }
-}
-
 /// What a recorder printed is said before the note of an answer.
 fn with_source(
     alloc: Global,
@@ -230,9 +259,30 @@ fn with_source(
         return Err(Failure::Memory);
     };
     let Answered { text, note, good } = answer;
-    match noted(alloc, told, note) {
+    match noted(told, note) {
         Ok(note) => Ok(Answered { text, note, good }),
         Err(_) => Err(Failure::Memory),
+    }
+}
+
+/// What is written of the bytes of a capture.
+fn over_text(alloc: Global, wanted: Import, bytes: &[u8]) -> Result<Answered, Failure>
+    ensures answers { IfOk result (λ answer. IsImportedOf wanted bytes.now (said_of answer)) }
+    ensures fails { IfErr result (IsUnimportedOf wanted bytes.now) }
+{
+    let read = match read_source(alloc, wanted.source.form, wanted.source.device, bytes) {
+        Ok(read) => read,
+        Err(UnreadCapture::Text(fault)) => return Err(Failure::Text(fault)),
+        Err(UnreadCapture::Line(fault)) => return Err(Failure::Line(fault)),
+        Err(UnreadCapture::Memory) => return Err(Failure::Memory),
+    };
+    let answer = match imported(alloc, wanted, read.records.as_slice()) {
+        Ok(answer) => answer,
+        Err(failure) => return Err(failure),
+    };
+    match with_source(alloc, answer, read.printed, read.records.len()) {
+        Ok(answer) => Ok(answer),
+        Err(failure) => Err(failure),
     }
 }
 
@@ -249,16 +299,8 @@ pub fn over_capture<R: Read + Drop>(
         Ok(bytes) => bytes,
         Err(why) => return Err(Failure::Text(records.fault(why))),
     };
-    let source = wanted.source;
-    let read = match read_source(alloc, source.form, source.device, bytes.as_slice()) {
-        Ok(read) => read,
-        Err(UnreadCapture::Text(fault)) => return Err(Failure::Text(fault)),
-        Err(UnreadCapture::Line(fault)) => return Err(Failure::Line(fault)),
-        Err(UnreadCapture::Memory) => return Err(Failure::Memory),
-    };
-    let answer = match imported(alloc, wanted, read.records.as_slice()) {
-        Ok(answer) => answer,
-        Err(failure) => return Err(failure),
-    };
-    with_source(alloc, answer, read.printed, read.records.len())
+    match over_text(alloc, wanted, bytes.as_slice()) {
+        Ok(answer) => Ok(answer),
+        Err(failure) => Err(failure),
+    }
 }
