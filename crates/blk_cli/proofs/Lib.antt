@@ -5,3 +5,4 @@ mod OnTimeClaims
 mod Named
 mod OfRead
 mod Schedules
+mod Crowds

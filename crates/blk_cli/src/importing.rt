@@ -1,14 +1,16 @@
 //! The job over a capture: what is written of it, what is said of what that leaves out, and its arrivals as a script.
 
 ghost use Rattle.std.specs.Prelude.{◌≡◌, ◌≤◌, [], IfOk, IfErr, length, option_map};
-ghost use Rattle.blk_capture.specs.Requests.{AreInOrder};
+ghost use Rattle.edd_commands.specs.declared.TheConstants.{MAX_COMMANDS};
+ghost use Rattle.blk_capture.specs.Requests.{AreInOrder, AreTimed};
+ghost use Rattle.blk_capture_text.specs.SummaryText.{counts_of};
 ghost use Rattle.blk_cli.specs.Said.{said_of};
-ghost use Rattle.blk_cli.specs.Importing.{entry_asked, most_asked, asked_of, terms_of, line_on, note_by, IsShownOf, IsUnshown, IsScripted, IsUnscripted, IsImported, IsUnimported, noted, tags_asked, IsSaidFrom, IsImportedOf, IsUnimportedOf, IsImportedFrom, IsUnimportedFrom};
+ghost use Rattle.blk_cli.specs.Importing.{entry_asked, most_asked, asked_of, terms_of, line_on, note_by, IsShownOf, IsUnshown, IsScripted, IsUnscripted, IsImported, IsUnimported, noted, tags_asked, IsNoteOf, IsSaidFrom, IsImportedOf, IsUnimportedOf, IsImportedFrom, IsUnimportedFrom};
 
 use crate::Answered;
 use crate::failure::Failure;
 use blk_arrivals::{Terms, USUAL_DEPTH, script_of, script_text};
-use blk_capture::{Entry, Options, Record, summarize};
+use blk_capture::{Entry, Matched, Options, Record, summarize};
 use blk_capture_text::{
     ImportAsked, Printed, ShownImport, UnreadCapture, UnusedCounts, count_fates, notice_text,
     read_source, shown_text,
@@ -139,6 +141,26 @@ fn crowd_text(alloc: Global, most: u64, tags: u64) -> Result<Vec<u8>, AllocError
     Ok(text.into_bytes())
 }
 
+/// What is said beside the text, and before it whether more were in flight than the device takes at once.
+fn note_on(
+    alloc: Global,
+    shown: ShownImport,
+    tags: u64,
+    records: &[Record],
+    matched: &Matched,
+) -> Result<Option<Vec<u8>>, AllocError>
+    requires timed { AreTimed matched.now.requests.items }
+    requires few { length matched.now.requests.items ≤ MAX_COMMANDS }
+    requires fates { length matched.now.fates.items ≡ length records.now }
+    ensures { IfOk result (λ note. IsNoteOf tags matched.now.requests.items (note_by shown (counts_of matched.now.fates.items)) (option_map (λ n. n.items) note)) }
+{
+    let summary = summarize(alloc, records, matched)?;
+    let crowd = crowd_text(alloc, summary.in_flight, tags)?;
+    let counts = count_fates(matched.fates.as_slice());
+    let note = note_by(alloc, shown, &counts)?;
+    noted(crowd, note)
+}
+
 /// What is shown of the requests of a capture.
 fn shown_of(
     alloc: Global,
@@ -158,17 +180,7 @@ fn shown_of(
     let Ok(text) = shown_text(alloc, shown, records, &matched) else {
         return Err(Failure::Memory);
     };
-    let counts = count_fates(matched.fates.as_slice());
-    let Ok(note) = note_by(alloc, shown, &counts) else {
-        return Err(Failure::Memory);
-    };
-    let Ok(summary) = summarize(alloc, records, &matched) else {
-        return Err(Failure::Memory);
-    };
-    let Ok(crowd) = crowd_text(alloc, summary.in_flight, tags_asked(wanted.source.tags)) else {
-        return Err(Failure::Memory);
-    };
-    let Ok(note) = noted(crowd, note) else {
+    let Ok(note) = note_on(alloc, shown, tags_asked(wanted.source.tags), records, &matched) else {
         return Err(Failure::Memory);
     };
     Ok(Answered {
