@@ -5,3 +5,5 @@ mod OnTimeClaims
 mod Named
 mod OfRead
 mod Schedules
+mod Given
+mod Failed
