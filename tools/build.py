@@ -20,6 +20,8 @@ sys.dont_write_bytecode = True
 PRICES = Path(__file__).resolve().parent / "prices.txt"
 # Seconds between two looks at how far it is, and the most between two lines.
 LOOK, EVERY = 1, 50
+# So many times as long as the table says it takes on a slow machine.
+SLOW = 1.7
 # So many seconds of the table weigh as much as those that were measured in this run.
 TRUSTED = 60
 # rt keeps nothing more on a disk with fewer megabytes left.
@@ -182,6 +184,12 @@ def minutes(seconds):
     return f"about {seconds / 60:.0f} min" if seconds >= 60 else "less than a minute"
 
 
+def about(seconds):
+    """What a time of the table comes to, on the machine that was measured and on a slow one."""
+    fast, slow = (f"{it / 60:.0f}" for it in (seconds, SLOW * seconds))
+    return f"{fast} to {slow} min" if seconds >= 60 else "a minute or two"
+
+
 def span(seconds):
     """A time that was measured."""
     return f"{seconds // 60:.0f} min {seconds % 60:.0f} s" if seconds >= 60 else f"{seconds:.0f} s"
@@ -312,9 +320,11 @@ def announce(costs, lanes, tree):
     until = time_of(costs.seconds, costs.below, lanes)
     say("the program isn't built from these sources: proving and compiling it")
     say(
-        f"from nothing that takes {minutes(until)} on {several(lanes, 'processor')}, {costs.disk:,} MB of disk in"
+        f"from nothing that takes {about(until)} on {several(lanes, 'processor')}, {costs.disk:,} MB of disk in"
         f" {place}, and {costs.peak(lanes):,} MB of memory, of which the largest process takes {costs.largest:,}"
     )
+    if lanes < processors():
+        say(f"with more memory free it would take {about(time_of(costs.seconds, costs.below, processors()))}")
 
 
 def look_at_store(costs):

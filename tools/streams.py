@@ -398,8 +398,15 @@ def input_typed_at_a_terminal(trials):
     trials.read(typed)
 
 
-# what is said of an empty text
+# what is said of an empty text, by the subcommands whose line says no more than the fault, by the project's own, and by explain
+READS = {"tune": "a script", "spread": "a trace", "late": "a trace", "misses": "a trace", "import": "a capture"}
 EXPLAINED = Run(1, b"line 1, record 1, found nothing, wanted a title\nblk: record 1: Title\n", b"")
+
+
+def of_nothing(name):
+    """What this subcommand says of an empty text."""
+    more = f": the input is empty, and {name} reads {READS[name]}; see blk explain" if name in READS else ""
+    return f"blk: record 1: Title{more}\n".encode()
 
 
 @trial
@@ -407,7 +414,7 @@ def input_of_a_terminal_that_was_left(trials):
     """Its end comes at once, so it is an empty text."""
     for name, args, _, _ in trials.each(GOOD):
         with contextlib.ExitStack() as stack:
-            wanted = EXPLAINED if name == "explain_script" else Run(1, b"", b"blk: record 1: Title\n")
+            wanted = EXPLAINED if name == "explain_script" else Run(1, b"", of_nothing(args[0]))
             trials.see(name, run(args, left(stack)), wanted)
 
 

@@ -13,6 +13,8 @@ import signal
 import subprocess
 import sys
 import tempfile
+import threading
+import time
 from pathlib import Path
 
 sys.dont_write_bytecode = True
@@ -21,6 +23,8 @@ import words as command_line
 CRATE = Path(__file__).resolve().parent.parent / "crates" / "blk"
 SECONDS, MOST_INPUT = 60, 64 << 20
 SHOWN = 40
+# Seconds between two lines that say how long it has been at it, and at a terminal, where there is one line.
+EVERY, LOOK = 30, 1
 # The last lines of rt try, after all that the program said.
 TOOL = re.compile(rb"(?:(?:interpreter|checked|races): .*\n)*run=(\w[\w-]*)(?: status=(\d+))?.* proved=no\n\Z")
 
@@ -31,6 +35,28 @@ class Fault(Exception):
 
 def say(what):
     print(f"blk: {what}", file=sys.stderr, flush=True)
+
+
+class Watch:
+    """Says how long the run has taken, until it is over: at a terminal in one line, which is cleared at the end."""
+
+    def __init__(self):
+        self.is_terminal, self.over = sys.stderr.isatty(), threading.Event()
+        self.began = time.monotonic()
+        self.line = threading.Thread(target=self.tell, daemon=True)
+        self.line.start()
+
+    def tell(self):
+        while not self.over.wait(LOOK if self.is_terminal else EVERY):
+            minutes, seconds = divmod(int(time.monotonic() - self.began), 60)
+            start, end = ("\r", "") if self.is_terminal else ("", "\n")
+            print(f"{start}blk: compiling and running, {minutes} min {seconds:2} s", end=end, file=sys.stderr, flush=True)
+
+    def stop(self):
+        self.over.set()
+        self.line.join()
+        if self.is_terminal:
+            print("\r\x1b[K", end="", file=sys.stderr, flush=True)
 
 
 def reads_input(words):
@@ -68,8 +94,10 @@ def run(words):
 
     for it in (signal.SIGHUP, signal.SIGINT, signal.SIGTERM):
         signal.signal(it, ended)
+    watch = Watch()
     said = started.stderr.read()
     started.wait()
+    watch.stop()
     return said
 
 
@@ -101,7 +129,7 @@ def main(words):
     """The run as a command; its exit status."""
     signal.signal(signal.SIGINT, signal.SIG_DFL)
     say(
-        "nothing of this run is proved: the program is only compiled, which takes a minute or two,"
+        "nothing of this run is proved: the program is only compiled, which takes two to seven minutes,"
         f" and has {SECONDS} seconds and 1 MiB of output"
     )
     try:

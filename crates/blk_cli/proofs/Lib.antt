@@ -6,3 +6,5 @@ mod Named
 mod OfRead
 mod Schedules
 mod Crowds
+mod Given
+mod Failed

@@ -1,8 +1,9 @@
 -- How a run of the program ends: its status, what stands on standard output, and what is said beside it or of why there is nothing.
-use Rattle.std.specs.Prelude.{◌≡◌, ◌⊎◌, ℕ, Bool, true, false, if◌then◌else◌, List, Option, None, Some, String, map, string_bytes}
+use Rattle.std.specs.Prelude.{◌≡◌, ◌⊎◌, ◌++◌, ◌∷◌, [], codes, ℕ, Bool, true, false, if◌then◌else◌, List, Option, None, Some, String, map, string_bytes}
 use Rattle.drafts.specs.declared.output.Output.{Output}
 use Rattle.drafts.specs.Outputs.{Stream, IsWritten, IsCut, stream_of}
 use Rattle.blk_lists.specs.Sources.{Row, Source}
+use Rattle.blk_lists.specs.declared.fault.Why.TheVariants as why
 use Rattle.blk_words.specs.declared.words.Job.{Job}
 use Rattle.blk_words.specs.Asked.{Asks, AreFaulty, NameNone}
 use Rattle.blk_cli.specs.declared.Ended.{Ended}
@@ -22,20 +23,34 @@ Answers words input bytes s = (j : Job) × Asks words j × GivesAnswer words j i
 abbrev pub AskForTexts : List (List ℕ) → Type 0
 AskForTexts words = (j : Job) → Asks words j → AnswersText j
 
+-- what is said of a failure: itself, or that memory ran out; or, of a title that is another, more than that
+abbrev pub IsFailureOf : Failure → NoText → Type 0
+IsFailureOf f (none.Failure g) = (g ≡ f) ⊎ (g ≡ failure.Memory)
+IsFailureOf f (none.Title text) = f ≡ failure.Text (record { at = 1; why = why.Title })
+IsFailureOf f n = ⊥
+
 -- or there is none: the job that they ask for fails, memory ran out before they were read, or they ask for nothing
 abbrev pub IsWithout : List (List ℕ) → Option (List Row) → Option (List ℕ) → Bool → NoText → Type 0
 IsWithout words input bytes failed (none.Failure f) = ((j : Job) × Asks words j × HasNoAnswer words j input bytes failed f) ⊎ (f ≡ failure.Memory)
+IsWithout words input bytes failed (none.Title text) =
+    (j : Job) × Asks words j × HasNoAnswer words j input bytes failed (failure.Text (record { at = 1; why = why.Title }))
 IsWithout words input bytes failed (none.Usage text) = AreFaulty words
 IsWithout words input bytes failed none.Excluded = NameNone words
 
 -- the status and the line then
 abbrev pub status_without : NoText → ℕ
 status_without (none.Failure f) = status_of f
+status_without (none.Title text) = 1
 status_without (none.Usage text) = 2
 status_without none.Excluded = 2
 
+-- the line on a title that is another
+abbrev pub title_line : List ℕ → List ℕ
+title_line text = codes "blk: record 1: Title: " ++ (text ++ 10 ∷ [])
+
 abbrev pub line_without : NoText → List ℕ
 line_without (none.Failure f) = failure_line f
+line_without (none.Title text) = title_line text.items
 line_without (none.Usage text) = string_bytes text
 line_without none.Excluded = excluded
 

@@ -1,6 +1,8 @@
 -- What is said about a text of any form, and why nothing is.
-use Rattle.std.specs.Prelude.{◌≡◌, ◌++◌, ⊤, ℕ, Bool, List, [], Option, None, Some, IfSome, codes, is_some}
-use Rattle.blk_explain.specs.Explained.{IsExplained}
+use Rattle.std.specs.Prelude.{◌≡◌, ◌++◌, ⊤, ℕ, Bool, List, [], Option, None, Some, IfSome, codes, decimal, is_some}
+use Rattle.blk_explain.specs.Explained.{IsExplained, form_without_fault}
+use Rattle.blk_explain.specs.declared.details.Detail.{Detail}
+use Rattle.blk_explain.specs.declared.findings.Finding.{Finding}
 use Rattle.blk_explain.specs.declared.forms.TextForm.{TextForm}
 use Rattle.blk_explain.specs.declared.forms.TextForm.TheVariants as form
 use Rattle.blk_lists.specs.Reads.{IsOutside}
@@ -8,6 +10,8 @@ use Rattle.blk_words.specs.Takers.{takers_text}
 use Rattle.blk_words.specs.declared.inputs.TextKind.{TextKind}
 use Rattle.blk_words.specs.declared.inputs.TextKind.TheVariants as kind
 use Rattle.blk_cli.specs.Said.{Said}
+use Rattle.blk_cli.specs.declared.explaining.Refuser.{Refuser}
+use Rattle.blk_cli.specs.declared.explaining.Refuser.TheVariants as refuser
 use Rattle.blk_cli.specs.declared.failure.Failure.{Failure}
 use Rattle.blk_cli.specs.declared.failure.Failure.TheVariants as failure
 
@@ -21,20 +25,32 @@ text_kind form.Capture = kind.Capture
 text_kind form.Script = kind.Script
 text_kind form.Trace = kind.Trace
 
--- the line that names the subcommands which take texts of a form, if there is one
-abbrev pub takers_line : Option TextForm → List ℕ
-takers_line None = []
-takers_line (Some f) = (codes "taken by " ++ takers_text (text_kind f)) ++ codes "\n"
+-- the line that names the subcommands which take texts of a kind, but the one of a name; and the line on a list in which an id stands twice
+abbrev pub names_line : TextKind → List ℕ → List ℕ
+names_line kind but = (codes "taken by " ++ takers_text kind but) ++ codes "\n"
+
+abbrev pub repeated_line : ℕ → List ℕ
+repeated_line id = (codes "refused by oracle: RepeatedId " ++ decimal id) ++ codes "\n"
+
+-- the line that says who takes a text of a form, if it is of one
+abbrev pub takers_line : Option TextForm → Refuser → List ℕ
+takers_line None r = []
+takers_line (Some f) refuser.Nobody = names_line (text_kind f) []
+takers_line (Some f) refuser.Commands = names_line (text_kind f) (codes "commands")
+takers_line (Some f) (refuser.Oracle id) = repeated_line id
 
 -- the bytes of the input, where these are known, are explained; of a text without a fault it is said what takes it; and nothing else is said
 pub record IsTextExplained (input : Option (List ℕ)) (s : Said) : Type 0 where
   pub bytes : List ℕ
   pub given : IfSome input (λ known. bytes ≡ known)
-  pub form : Option TextForm
+  pub finding : Finding
+  pub line : ℕ
+  pub detail : Detail
   pub told : List ℕ
-  pub explained : IsExplained bytes form told
-  pub text : s.text ≡ told ++ takers_line form
-  pub good : s.good ≡ is_some form
+  pub explained : IsExplained bytes finding line detail told
+  pub refuser : Refuser
+  pub text : s.text ≡ told ++ takers_line (form_without_fault finding) refuser
+  pub good : s.good ≡ is_some (form_without_fault finding)
   pub quiet : s.note ≡ None
 
 -- the reader failed, or memory ran out

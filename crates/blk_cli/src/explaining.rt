@@ -1,16 +1,30 @@
 //! The job over a text of any form: what it is, with the subcommands that take it, or what is wrong with it.
 
-ghost use Rattle.std.specs.Prelude.{◌≡◌, ◌++◌, IfOk, IfErr};
+ghost use Rattle.std.specs.Prelude.{◌≡◌, ◌++◌, IfOk, IfErr, Some};
 ghost use Rattle.blk_cli.specs.Said.{said_of};
-ghost use Rattle.blk_cli.specs.Explaining.{text_kind, takers_line, IsTextExplained, IsUnexplained};
+ghost use Rattle.blk_cli.specs.Explaining.{text_kind, names_line, repeated_line, takers_line, IsTextExplained, IsUnexplained};
 
 use crate::Answered;
 use crate::failure::Failure;
 use blk_explain::{TextForm, explain};
-use blk_lists::Records;
+use blk_lists::{Records, read_commands};
+use blk_text::read_trace;
 use blk_words::{TextKind, takers_text};
+use edd_commands::Capacity;
+use edd_oracle::{OracleFault, solve};
 use std::alloc::{AllocError, Global};
 use std::io::Read;
+
+/// Which of the subcommands that take a kind of text refuses one that reads well.
+#[derive(Clone, Copy, Debug, PartialEq, Eq)]
+pub enum Refuser {
+    /// None of them.
+    Nobody,
+    /// `commands`, a trace that sets a depth.
+    Commands,
+    /// `oracle`, a command list in which this id stands twice.
+    Oracle(u64),
+}
 
 /// What a text of a form is to the subcommands.
 fn text_kind(form: TextForm) -> TextKind
@@ -26,18 +40,105 @@ fn text_kind(form: TextForm) -> TextKind
     }
 }
 
-/// A text with the line behind it that names the subcommands which take texts of a form, if there is one.
-fn with_takers(alloc: Global, told: Vec<u8>, form: Option<TextForm>) -> Result<Vec<u8>, AllocError>
-    ensures { IfOk result (λ text. text.items ≡ told.items ++ takers_line form) }
+/// Which subcommand refuses a trace.
+fn trace_refuser(alloc: Global, bytes: &[u8]) -> Result<Refuser, AllocError> {
+    match read_trace(alloc, &mut Records::new(alloc, bytes)) {
+        Ok(trace) => {
+            if trace.is_fixed() {
+                Ok(Refuser::Nobody)
+            } else {
+                Ok(Refuser::Commands)
+            }
+        }
+        Err(_) => Err(AllocError),
+    }
+}
+
+/// Which subcommand refuses a command list.
+fn list_refuser(alloc: Global, bytes: &[u8]) -> Result<Refuser, AllocError> {
+    let Ok((depth, commands)) = read_commands(alloc, &mut Records::new(alloc, bytes)) else {
+        return Err(AllocError);
+    };
+    let Ok(capacity) = Capacity::fixed(alloc, depth) else {
+        return Err(AllocError);
+    };
+    match solve(alloc, commands.as_slice(), &capacity) {
+        Ok(_) => Ok(Refuser::Nobody),
+        Err(OracleFault::RepeatedId(id)) => Ok(Refuser::Oracle(id)),
+        Err(_) => Err(AllocError),
+    }
+}
+
+/// Which subcommand refuses a text of a form that reads well.
+fn refuser_of(alloc: Global, bytes: &[u8], form: Option<TextForm>) -> Result<Refuser, AllocError> {
+    match form {
+        Some(TextForm::Trace) => trace_refuser(alloc, bytes),
+        Some(TextForm::Commands) => list_refuser(alloc, bytes),
+        _ => Ok(Refuser::Nobody),
+    }
+}
+
+/// A text with a line behind it that names the subcommands of a kind's takers, but this one.
+fn with_names(
+    alloc: Global,
+    told: Vec<u8>,
+    kind: TextKind,
+    but: &str,
+) -> Result<Vec<u8>, AllocError>
+    ensures { IfOk result (λ text. text.items ≡ told.items ++ names_line kind but.now) }
 {
     let mut text = told;
-    if let Some(form) = form {
-        let takers = takers_text(alloc, text_kind(form))?;
-        text.extend_from_slice(b"taken by ")?;
-        text.extend_from_slice(takers.as_bytes())?;
-        text.extend_from_slice(b"\n")?;
-    }
+    let takers = takers_text(alloc, kind, but)?;
+    text.extend_from_slice(b"taken by ")?;
+    text.extend_from_slice(takers.as_bytes())?;
+    text.extend_from_slice(b"\n")?;
     Ok(text)
+}
+
+/// A text with a line behind it that says that the oracle refuses it for this id.
+fn with_id(alloc: Global, told: Vec<u8>, id: u64) -> Result<Vec<u8>, AllocError>
+    ensures { IfOk result (λ text. text.items ≡ told.items ++ repeated_line id) }
+{
+    let mut text = told;
+    let number = id.to_string(alloc)?;
+    text.extend_from_slice(b"refused by oracle: RepeatedId ")?;
+    text.extend_from_slice(number.as_bytes())?;
+    text.extend_from_slice(b"\n")?;
+    Ok(text)
+}
+
+/// A text with a line behind it that names the subcommands which take texts of a form, or the one that refuses it.
+fn with_takers(
+    alloc: Global,
+    told: Vec<u8>,
+    form: Option<TextForm>,
+    refuser: Refuser,
+) -> Result<Vec<u8>, AllocError>
+    ensures { IfOk result (λ text. text.items ≡ told.items ++ takers_line form refuser) }
+{
+    let Some(form) = form else {
+        return Ok(told);
+    };
+    match refuser {
+        Refuser::Nobody => with_names(alloc, told, text_kind(form), ""),
+        Refuser::Commands => with_names(alloc, told, text_kind(form), "commands"),
+        Refuser::Oracle(id) => with_id(alloc, told, id),
+    }
+}
+
+/// What is said about these bytes, with the subcommands that take them.
+fn said_about(alloc: Global, bytes: &[u8]) -> Result<Answered, AllocError>
+    ensures { IfOk result (λ answer. IsTextExplained (Some bytes.now) (said_of answer)) }
+{
+    let explained = explain(alloc, bytes)?;
+    let form = explained.finding.form();
+    let refuser = refuser_of(alloc, bytes, form)?;
+    let text = with_takers(alloc, explained.text, form, refuser)?;
+    Ok(Answered {
+        text,
+        note: None,
+        good: form.is_some(),
+    })
 }
 
 /// Reads all of the input, and tells what text it is, or which record breaks which rule. Both are answers, and the second isn't good.
@@ -52,15 +153,8 @@ pub fn over_bytes<R: Read + Drop>(
         Ok(bytes) => bytes,
         Err(why) => return Err(Failure::Text(records.fault(why))),
     };
-    let Ok(explained) = explain(alloc, bytes.as_slice()) else {
-        return Err(Failure::Memory);
-    };
-    match with_takers(alloc, explained.text, explained.form) {
-        Ok(text) => Ok(Answered {
-            text,
-            note: None,
-            good: explained.form.is_some(),
-        }),
+    match said_about(alloc, bytes.as_slice()) {
+        Ok(answer) => Ok(answer),
         Err(_) => Err(Failure::Memory),
     }
 }

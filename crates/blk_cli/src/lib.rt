@@ -5,7 +5,7 @@ ghost use Rattle.std.specs.Prelude.{◌≡◌, ◌≤◌, IfOk, IfErr, map, stri
 ghost use Rattle.drafts.specs.Outputs.{stream_of};
 ghost use Rattle.blk_cli.specs.Said.{only, said_of, IsAlone};
 ghost use Rattle.blk_cli.specs.Gives.{GivesText, HasNoText, GivesAnswer, HasNoAnswer, version_line};
-ghost use Rattle.blk_cli.specs.Ends.{Answers, AskForTexts, IsWithout, status_with, SaysBeside, EndsSaying, EndsWithout, RunEndsOn};
+ghost use Rattle.blk_cli.specs.Ends.{Answers, AskForTexts, IsWithout, IsFailureOf, title_line, status_with, SaysBeside, EndsSaying, EndsWithout, RunEndsOn};
 ghost use Rattle.blk_cli.specs.Inside.Ends.{EndsPutOn};
 
 mod checking;
@@ -18,6 +18,7 @@ mod lists;
 mod loading;
 mod picturing;
 mod scripts;
+mod titles;
 mod traces;
 mod tuning;
 
@@ -29,13 +30,15 @@ use crate::judging::over_schedule;
 use crate::lists::over_list;
 use crate::loading::run_load;
 use crate::scripts::over_script;
+use crate::titles::title_of;
 use crate::traces::over_trace;
 use crate::tuning::over_trial;
-use blk_lists::Records;
+use blk_lists::{Records, Why};
 use blk_settings::Loads;
 pub use blk_sim::laws;
 use blk_tune::Progress;
 use blk_words::{Job, NoJob, TextJob, choose, version};
+use csv::ByteRecord;
 use drafts::Output;
 use std::alloc::Global;
 use std::io::{Read, Write};
@@ -56,6 +59,11 @@ const FAILED: u8 = 3;
 
 /// The line for words that clap takes and that name no job: only these two flags do.
 const NO_JOB: &[u8] = b"blk: --trace and --met exclude one another\n";
+
+/// What the line on a text with the title of another begins with, and what it ends with.
+const TITLE: &[u8] = b"blk: record 1: Title: ";
+
+const END: &[u8] = b"\n";
 
 /// How a run ended.
 #[derive(Clone, Copy, Debug, PartialEq, Eq)]
@@ -121,6 +129,8 @@ impl Answered {
 pub enum NoText {
     /// The job that they ask for fails, or memory ran out before they were read.
     Failure(Failure),
+    /// The job that they ask for fails since the title is that of another text: what that is, and what was wanted.
+    Title(Vec<u8>),
     /// They are no command line of the program, or ask for its help: what clap says of them.
     Usage(String),
     /// Their flags exclude one another.
@@ -135,6 +145,7 @@ impl NoText {
     {
         match self {
             NoText::Failure(failure) => failure.say(faults),
+            NoText::Title(text) => refuse_title(text.as_slice(), faults),
             NoText::Usage(text) => refuse(text.as_bytes(), faults),
             NoText::Excluded => refuse(NO_JOB, faults),
         }
@@ -152,6 +163,22 @@ fn refuse<F: Write>(line: &[u8], faults: &mut Output<F>) -> Ended
         },
         Err(_) => Ended {
             status: COMMAND_LINE,
+            said: false,
+        },
+    }
+}
+
+/// Writes the line on a text with the title of another and ends with its status, even where the line can't be written.
+fn refuse_title<F: Write>(text: &[u8], faults: &mut Output<F>) -> Ended
+    ensures { EndsSaying 1 (title_line text.now) (stream_of F.contents faults.old) (stream_of F.contents faults.new) result }
+{
+    match faults.put_all(&[TITLE, text, END]) {
+        Ok(()) => Ended {
+            status: REFUSED,
+            said: true,
+        },
+        Err(_) => Ended {
+            status: REFUSED,
             said: false,
         },
     }
@@ -220,6 +247,24 @@ fn answer_of<L: Loads, T: Threads + Wait + Sync, R: Read + Drop, P: Progress>(
     }
 }
 
+/// Why a job has no answer, given its failure and the record that was read last. Where a subcommand of the project's own was given the text of
+/// another, that is said.
+fn without(alloc: Global, job: Job, failure: Failure, row: &ByteRecord) -> NoText
+    ensures { IsFailureOf failure result }
+{
+    let Failure::Text(fault) = failure else {
+        return NoText::Failure(failure);
+    };
+    if fault.at != 1 || fault.why != Why::Title {
+        return NoText::Failure(failure);
+    }
+    match title_of(alloc, job, row) {
+        Ok(Some(text)) => NoText::Title(text),
+        Ok(None) => NoText::Failure(failure),
+        Err(_) => NoText::Failure(Failure::Memory),
+    }
+}
+
 /// What the program answers to the words of its command line, the first of which is its name, or why there is nothing.
 /// Nothing is written to the outputs. Loads are run by `loads`, on the threads of `rt`, and so are trials, which tell `progress` how far they
 /// have come.
@@ -238,7 +283,7 @@ pub fn answer<L: Loads, T: Threads + Wait + Sync, R: Read + Drop, P: Progress>(
     match choose(alloc, words) {
         Ok(job) => match answer_of(loads, rt, alloc, words, job, records, progress) {
             Ok(answer) => Ok(answer),
-            Err(failure) => Err(NoText::Failure(failure)),
+            Err(failure) => Err(without(alloc, job, failure, records.row())),
         },
         Err(NoJob::Memory) => Err(NoText::Failure(Failure::Memory)),
         Err(NoJob::Usage(text)) => Err(NoText::Usage(text)),

@@ -6,7 +6,7 @@ use std::process::Abort;
 
 /// Whether these subcommands take a kind of text, in this order.
 fn is_taken_by(rt: &impl Abort, alloc: Global, kind: TextKind, names: &str) -> bool {
-    takers_text(alloc, kind).expect(rt, "memory").as_str() == names
+    takers_text(alloc, kind, "").expect(rt, "memory").as_str() == names
 }
 
 #[test]

@@ -1,17 +1,22 @@
--- What a text is, or what is wrong with it, as it is written.
+-- What a text is, or what is wrong with it.
 use Rattle.std.specs.Prelude.{◌≡◌, ◌≢◌, ◌⊎◌, ◌≤◌, ◌++◌, ℕ, Option, None, Some, List, [], length, get_or, codes, decimal, nat_eq}
 use Rattle.strsim.specs.Edits.{levenshtein_row}
+use Rattle.blk_lists.specs.Kinds.{KindRow}
 use Rattle.blk_lists.specs.Sources.{Row}
 use Rattle.blk_lists.specs.Names.{why_name}
 use Rattle.blk_lists.specs.declared.fault.TextFault.{TextFault}
+use Rattle.blk_lists.specs.declared.fault.Why.{Why}
 use Rattle.blk_lists.specs.declared.fault.Why.TheVariants as why
 use Rattle.blk_sim.specs.Names.{step_name}
-use Rattle.blk_explain.specs.Forms.{form_row, form_name}
+use Rattle.blk_explain.specs.Forms.{form_row, form_name, IsRecordKind}
 use Rattle.blk_explain.specs.Lines.{line_at}
 use Rattle.blk_explain.specs.Findings.{rows_of, row_at, name_in, IsFound}
-use Rattle.blk_explain.specs.Details.{field_text, IsDetail}
-use Rattle.blk_explain.specs.Counts.{IsCountDetail}
-use Rattle.blk_explain.specs.Steps.{IsState}
+use Rattle.blk_explain.specs.Broken.{LiesIn, LiesInNone}
+use Rattle.blk_explain.specs.Counts.{IsTally}
+use Rattle.blk_explain.specs.declared.counts.Tally.{Tally}
+use Rattle.blk_explain.specs.declared.details.Detail.{Detail}
+use Rattle.blk_explain.specs.declared.details.Detail.TheVariants as detail
+use Rattle.blk_explain.specs.declared.fields.Allowed.{Allowed}
 use Rattle.blk_explain.specs.declared.forms.TextForm.{TextForm}
 use Rattle.blk_explain.specs.declared.forms.TextForm.TheVariants as form
 use Rattle.blk_explain.specs.declared.forms.FormRow.{FormRow}
@@ -26,48 +31,64 @@ edits_to found f = levenshtein_row nat_eq found (form_name f) (length (form_name
 abbrev pub IsNearest : List ℕ → TextForm → Type 0
 IsNearest found near = (f : TextForm) → edits_to found near ≤ edits_to found f
 
--- the line of a good text: the form by its title, the version and the number of records
-abbrev pub good_text : FormRow → Row → ℕ → List ℕ
-good_text form title count =
-    ((((form.title.word ++ codes ", version ") ++ get_or title 1 []) ++ codes ", records ") ++ decimal count) ++ codes "\n"
+-- what is known of the number of records
+abbrev pub counted_detail : Option Tally → Detail
+counted_detail None = detail.Whole
+counted_detail (Some t) = detail.Counted t
 
--- the two lines of a fault: where it is, by line and record, and what; and as the program names it
-abbrev pub fault_text : ℕ → List ℕ → ℕ → List ℕ → List ℕ → List ℕ
-fault_text line name at detail why =
-    (((((((((((codes "line " ++ decimal line) ++ codes ", record ") ++ decimal at) ++ codes ", ") ++ detail) ++ codes "\n") ++ name) ++ codes ": record ") ++ decimal at) ++ codes ": ") ++ why) ++ codes "\n"
+-- what is known of a record of this kind with a fault, in a text with this title
+abbrev pub IsDetailBy : Row → KindRow → Why → Row → Detail → Type 0
+IsDetailBy title kind w cells d =
+    ((k : ℕ) × (a : Allowed) × LiesIn title kind w cells k a × (d ≡ detail.Field k a))
+    ⊎ (LiesInNone title kind w cells × (d ≡ detail.Whole))
 
--- what is said about a text whose first field is empty, or that has none
-abbrev pub empty_text : List ℕ → List ℕ
-empty_text bytes = fault_text (line_at bytes 1) (codes "blk") 1 (codes "found nothing, wanted a title") (why_name why.Title)
+-- and of one of this number
+abbrev pub IsRecordDetail : FormRow → Row → ℕ → Why → Row → Detail → Type 0
+IsRecordDetail form title at w cells d = (kind : KindRow) × IsRecordKind form at (get_or cells 0 []) kind × IsDetailBy title kind w cells d
 
--- what is said about a text that begins with another name: the nearest one
-abbrev pub IsNamedText : List ℕ → List ℕ → Type 0
-IsNamedText bytes text =
-    (near : TextForm) × IsNearest (name_in (rows_of bytes)) near
-    × (text ≡ fault_text (line_at bytes 1) (form_name near) 1 (field_text 0 (codes "title") (name_in (rows_of bytes)) ++ form_name near) (why_name why.Title))
+-- what is known of a fault: how many records there are and have to be, or in which field of its record it lies
+abbrev pub IsFaultDetail : FormRow → List Row → TextFault → Detail → Type 0
+IsFaultDetail form rows fault d =
+    ((fault.why ≡ why.Count) × ((t : Option Tally) × IsTally form.counted rows t × (d ≡ counted_detail t)))
+    ⊎ ((fault.why ≢ why.Count) × IsRecordDetail form (row_at rows 1) fault.at fault.why (row_at rows fault.at) d)
 
--- what is said about a text that begins with the name of no form
-abbrev pub IsUntitledText : List ℕ → List ℕ → Type 0
-IsUntitledText bytes text =
-    ((name_in (rows_of bytes) ≡ []) × (text ≡ empty_text bytes))
-    ⊎ ((name_in (rows_of bytes) ≢ []) × IsNamedText bytes text)
+-- what is known of a finding; of a text that begins with the name of no form, the nearest one, where it is one that an author can have meant
+abbrev pub IsDetailOf : List Row → Finding → Detail → Type 0
+IsDetailOf rows (finding.Good f) d = d ≡ detail.Whole
+IsDetailOf rows (finding.Faulty f fault) d = IsFaultDetail (form_row f) rows fault d
+IsDetailOf rows (finding.Refused fault) d = d ≡ detail.Whole
+IsDetailOf rows finding.Untitled d = (d ≡ detail.Whole) ⊎ ((near : TextForm) × IsNearest (name_in rows) near × (d ≡ detail.Nearest near))
 
--- what is said about a fault of records: of their number, or of the record that has it
-abbrev pub IsFaultDetail : FormRow → List Row → TextFault → List ℕ → Type 0
-IsFaultDetail form rows fault text =
-    ((fault.why ≡ why.Count) × IsCountDetail form.counted rows text)
-    ⊎ ((fault.why ≢ why.Count) × IsDetail form (row_at rows 1) fault.at fault.why (row_at rows fault.at) text)
+-- the record that is told about
+abbrev pub record_told : Finding → ℕ
+record_told (finding.Good f) = 1
+record_told (finding.Faulty f fault) = fault.at
+record_told (finding.Refused fault) = fault.at
+record_told finding.Untitled = 1
 
--- what is said about a finding
-abbrev pub IsFindingText : List ℕ → Finding → List ℕ → Type 0
-IsFindingText bytes finding.Untitled text = IsUntitledText bytes text
-IsFindingText bytes (finding.Good f) text = text ≡ good_text (form_row f) (row_at (rows_of bytes) 1) (length (rows_of bytes))
-IsFindingText bytes (finding.Faulty f fault) text =
-    (detail : List ℕ) × IsFaultDetail (form_row f) (rows_of bytes) fault detail
-    × (text ≡ fault_text (line_at bytes fault.at) (form_name f) fault.at detail (why_name fault.why))
-IsFindingText bytes (finding.Refused fault) text =
-    (state : List ℕ) × IsState bytes fault state
-    × (text ≡ fault_text (line_at bytes fault.at) (form_name form.Script) fault.at ((step_name fault.why ++ codes ": ") ++ state) (step_name fault.why))
+-- the name of a form, and that of the program where it is none
+abbrev pub named_as : Option TextForm → List ℕ
+named_as None = codes "blk"
+named_as (Some f) = form_name f
+
+-- the line on a fault, as the program has it: the form, the record and the rule
+abbrev pub fault_line : Option TextForm → ℕ → List ℕ → List ℕ
+fault_line form at why = (((named_as form ++ codes ": record ") ++ decimal at) ++ codes ": ") ++ why ++ codes "\n"
+
+-- a text ends with a line
+abbrev pub EndsWith : List ℕ → List ℕ → Type 0
+EndsWith line text = (words : List ℕ) × (text ≡ words ++ line)
+
+abbrev pub nearest_in : Detail → Option TextForm
+nearest_in (detail.Nearest f) = Some f
+nearest_in d = None
+
+-- what is told of a fault ends with that line
+abbrev pub IsToldOf : Finding → Detail → List ℕ → Type 0
+IsToldOf (finding.Good f) d text = Unit {0}
+IsToldOf (finding.Faulty f fault) d text = EndsWith (fault_line (Some f) fault.at (why_name fault.why)) text
+IsToldOf (finding.Refused fault) d text = EndsWith (fault_line (Some form.Script) fault.at (step_name fault.why)) text
+IsToldOf finding.Untitled d text = EndsWith (fault_line (nearest_in d) 1 (why_name why.Title)) text
 
 -- the form of a text that a finding says to have no fault
 abbrev pub form_without_fault : Finding → Option TextForm
@@ -76,6 +97,9 @@ form_without_fault (finding.Faulty f fault) = None
 form_without_fault (finding.Refused fault) = None
 form_without_fault finding.Untitled = None
 
--- the text says what the reader of the named form finds in these bytes; it is of this form where there is no fault
-abbrev pub IsExplained : List ℕ → Option TextForm → List ℕ → Type 0
-IsExplained bytes form text = (f : Finding) × IsFound (rows_of bytes) f × (form ≡ form_without_fault f) × IsFindingText bytes f text
+-- what the reader of the named form finds in these bytes, on which line, what is known of it, and what is told of it
+pub record IsExplained (bytes : List ℕ) (f : Finding) (line : ℕ) (d : Detail) (text : List ℕ) : Type 0 where
+  pub found : IsFound (rows_of bytes) f
+  pub line_is : line ≡ line_at bytes (record_told f)
+  pub known : IsDetailOf (rows_of bytes) f d
+  pub told : IsToldOf f d text

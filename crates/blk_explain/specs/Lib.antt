@@ -1,12 +1,8 @@
 pub mod Fields
-pub mod Words
 pub mod Forms
 pub mod Lines
 pub mod Findings
-pub mod Details
+pub mod Broken
 pub mod Counts
-pub mod Backlog
-pub mod Twice
-pub mod Steps
 pub mod Explained
 pub mod Inside

@@ -1,17 +1,16 @@
-//! What is said about a number of records that is not the announced one.
+//! How many records a text has, and how many it announces.
 
 ghost use Rattle.std.specs.Prelude.{◌≡◌, ◌<◌, ◌+◌, ◌-◌, ◌^◌, IfOk, cond};
 ghost use Rattle.csv.specs.Records.{fields_of};
 ghost use Rattle.blk_explain.specs.Findings.{rows_of, row_at};
-ghost use Rattle.blk_explain.specs.Counts.{records_text, announced_text, is_of_bio, events_in, events_text, IsCountDetail};
+ghost use Rattle.blk_explain.specs.Counts.{is_of_bio, events_in, events_tally, IsTally};
 
-use crate::details::number_in;
+use crate::broken::number_in;
 use crate::findings::{count_rows, row_at};
 use blk_lists::Records;
 use blk_lists::fields::field;
 use blk_text::BIO;
 use csv::ByteRecord;
-use drafts::Draft;
 use std::alloc::{AllocError, Global};
 
 /// How many records a text announces.
@@ -27,29 +26,17 @@ pub enum Counted {
     Events,
 }
 
-/// How many records were found, and how many are wanted.
-fn records_text(alloc: Global, found: u64, wanted: u64) -> Result<Vec<u8>, AllocError>
-    ensures { IfOk result (λ text. text.items ≡ records_text found wanted) }
-{
-    let mut draft = Draft::new(alloc);
-    draft.text(b"records: found ")?;
-    draft.number(found)?;
-    draft.text(b", wanted ")?;
-    draft.number(wanted)?;
-    draft.finish()
-}
-
-/// What is said where no number is announced.
-fn announced_text(alloc: Global) -> Result<Vec<u8>, AllocError>
-    ensures { IfOk result (λ text. text.items ≡ announced_text) }
-{
-    let mut draft = Draft::new(alloc);
-    draft.text(b"Count: wanted as many records as were announced")?;
-    draft.finish()
+/// How many records of a text, or events, were found, and how many are wanted.
+#[derive(Clone, Copy, Debug, PartialEq, Eq)]
+pub struct Tally {
+    /// How many were found.
+    pub found: u64,
+    /// How many are wanted.
+    pub wanted: u64,
 }
 
 /// Whether a record is of a bio.
-fn is_of_bio(row: &ByteRecord) -> bool
+pub fn is_of_bio(row: &ByteRecord) -> bool
     ensures { result ≡ is_of_bio (fields_of row.now) }
 {
     field(row, 0) == BIO.word.as_slice()
@@ -81,18 +68,14 @@ fn count_events(alloc: Global, bytes: &[u8]) -> Result<u64, AllocError>
 
 /// How many events were found, and how many are wanted. Where the numbers agree the fault is that an event has too few bios, of which the
 /// numbers of the whole text say nothing.
-fn events_text(alloc: Global, found: u64, wanted: u64) -> Result<Vec<u8>, AllocError>
-    ensures { IfOk result (λ text. text.items ≡ events_text found wanted) }
+fn events_tally(found: u64, wanted: u64) -> Option<Tally>
+    ensures { result ≡ events_tally found wanted }
 {
     if found == wanted {
-        return announced_text(alloc);
+        None
+    } else {
+        Some(Tally { found, wanted })
     }
-    let mut draft = Draft::new(alloc);
-    draft.text(b"events: found ")?;
-    draft.number(found)?;
-    draft.text(b", wanted ")?;
-    draft.number(wanted)?;
-    draft.finish()
 }
 
 /// The sum of two numbers that a text announces, which is far below the greatest number.
@@ -105,33 +88,33 @@ fn sum(one: u64, other: u64) -> Result<u64, AllocError>
     }
 }
 
-/// What is said about a text whose records are not as many as it announces, with this title.
-pub fn count_detail(
+/// How many records, or events, a text with this title has, and how many it announces, where it does.
+pub fn tally_of(
     alloc: Global,
     bytes: &[u8],
     counted: Counted,
     title: &ByteRecord,
-) -> Result<Vec<u8>, AllocError>
+) -> Result<Option<Tally>, AllocError>
     requires { fields_of title.now ≡ row_at (rows_of bytes.now) 1 }
-    ensures { IfOk result (λ text. IsCountDetail counted (rows_of bytes.now) text.items) }
+    ensures { IfOk result (IsTally counted (rows_of bytes.now)) }
 {
     match counted {
-        Counted::Nothing => announced_text(alloc),
+        Counted::Nothing => Ok(None),
         Counted::Commands(heads) => {
             let found = count_rows(alloc, bytes)?;
             let wanted = sum(number_in(title, 3), heads)?;
-            records_text(alloc, found, wanted)
+            Ok(Some(Tally { found, wanted }))
         }
         Counted::Windows => {
             let found = count_rows(alloc, bytes)?;
             let second = row_at(alloc, bytes, 2)?;
             let items = sum(number_in(title, 3), number_in(&second, 2))?;
             let wanted = sum(items, 2)?;
-            records_text(alloc, found, wanted)
+            Ok(Some(Tally { found, wanted }))
         }
         Counted::Events => {
             let found = count_events(alloc, bytes)?;
-            events_text(alloc, found, number_in(title, 4))
+            Ok(events_tally(found, number_in(title, 4)))
         }
     }
 }

@@ -1,7 +1,7 @@
-//! The fields of records, by the names in their rows: what each is called in a text, and what may stand in it.
+//! The fields of records, by the names in their rows: what may stand in them.
 
 ghost use Rattle.std.specs.Prelude.{◌≡◌};
-ghost use Rattle.blk_explain.specs.Fields.{field_name, want_of};
+ghost use Rattle.blk_explain.specs.Fields.{want_of};
 
 use blk_lists::fields::Slot;
 use blk_lists::names::FieldName;
@@ -19,8 +19,8 @@ pub enum Want {
     Submitter,
     /// What the row says where there are commands, and `none` where there are none.
     Bound,
-    /// Any text: what else the reader wants of it is said of the whole record.
-    Text,
+    /// What the row says, and no fewer than the hardware queues.
+    Submitters,
 }
 
 /// What may stand in a field of a text whose title is known.
@@ -28,63 +28,8 @@ pub enum Want {
 pub enum Allowed {
     /// What the slot says.
     Slot(Slot),
-    /// The word `none`.
-    NoNumber,
-}
-
-/// What a field is called in a text.
-pub fn field_name(name: FieldName) -> &'static [u8]
-    ensures { result.now ≡ field_name name }
-{
-    match name {
-        FieldName::Unused => b"unused",
-        FieldName::Word => b"word",
-        FieldName::Title => b"title",
-        FieldName::Version => b"version",
-        FieldName::Room => b"depth",
-        FieldName::Commands => b"commands",
-        FieldName::Id => b"id",
-        FieldName::Release => b"release",
-        FieldName::Due => b"due",
-        FieldName::Round => b"round",
-        FieldName::Bound => b"bound",
-        FieldName::Lateness => b"lateness",
-        FieldName::From => b"from",
-        FieldName::Until => b"until",
-        FieldName::BoundFrom => b"from",
-        FieldName::BoundUntil => b"until",
-        FieldName::OnTime => b"met",
-        FieldName::CommandsOnTime => b"commands met",
-        FieldName::Windows => b"windows",
-        FieldName::Seconds => b"seconds",
-        FieldName::Nanoseconds => b"nanoseconds",
-        FieldName::Processor => b"processor",
-        FieldName::Action => b"action",
-        FieldName::Process => b"process",
-        FieldName::Rwbs => b"rwbs",
-        FieldName::First => b"first sector",
-        FieldName::Sectors => b"sectors",
-        FieldName::Tags => b"depth",
-        FieldName::Queues => b"hardware queues",
-        FieldName::SoftDepth => b"software queue depth",
-        FieldName::Submitters => b"submitters",
-        FieldName::Events => b"events",
-        FieldName::Setup => b"setup",
-        FieldName::ReadExpire => b"read expiry",
-        FieldName::WriteExpire => b"write expiry",
-        FieldName::MaxSectors => b"sectors of a request",
-        FieldName::MaxSegments => b"segments of a request",
-        FieldName::Step => b"step",
-        FieldName::Event => b"event",
-        FieldName::Submitter => b"submitter",
-        FieldName::Serial => b"serial",
-        FieldName::Direction => b"direction",
-        FieldName::Queue => b"hardware queue",
-        FieldName::Tag => b"tag",
-        FieldName::Depth => b"depth",
-        FieldName::Rounds => b"rounds",
-        FieldName::Bios => b"bios",
-    }
+    /// The word `none`; beside commands what the slot says.
+    NoNumber(Slot),
 }
 
 /// What may stand in a field of this name.
@@ -98,7 +43,7 @@ pub fn want_of(name: FieldName) -> Want
         FieldName::Tags => Want::Tags,
         FieldName::Submitter => Want::Submitter,
         FieldName::Queue => Want::Queue,
-        FieldName::Nanoseconds => Want::Text,
+        FieldName::Submitters => Want::Submitters,
         FieldName::Unused
         | FieldName::Word
         | FieldName::Title
@@ -116,6 +61,7 @@ pub fn want_of(name: FieldName) -> Want
         | FieldName::CommandsOnTime
         | FieldName::Windows
         | FieldName::Seconds
+        | FieldName::Nanoseconds
         | FieldName::Processor
         | FieldName::Action
         | FieldName::Process
@@ -124,7 +70,6 @@ pub fn want_of(name: FieldName) -> Want
         | FieldName::Sectors
         | FieldName::Queues
         | FieldName::SoftDepth
-        | FieldName::Submitters
         | FieldName::Events
         | FieldName::Setup
         | FieldName::ReadExpire

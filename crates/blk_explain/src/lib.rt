@@ -1,18 +1,25 @@
 //! What a text is, or what is wrong with it, for an author who wrote it by hand.
 #![tactic(auto)]
 
-mod backlog;
+mod broken;
 mod counts;
 mod details;
 mod explaining;
 mod fields;
 mod findings;
+mod flushing;
 mod forms;
 mod lines;
 mod others;
-mod steps;
-mod twice;
-mod words;
+mod telling;
+mod titles;
+mod wanted;
 
+pub use crate::counts::Tally;
+pub use crate::details::Detail;
 pub use crate::explaining::{Explained, explain};
-pub use crate::forms::TextForm;
+pub use crate::fields::Allowed;
+pub use crate::findings::Finding;
+pub use crate::flushing::{Staged, staged_in};
+pub use crate::forms::{TextForm, form_named};
+pub use crate::titles::called;

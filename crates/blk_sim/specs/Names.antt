@@ -5,8 +5,8 @@ use Rattle.blk_sim.specs.declared.refusal.SimWhy.TheVariants as step
 
 abbrev pub step_name : SimWhy → List ℕ
 step_name step.Full = codes "Full"
-step_name step.SoftFull = codes "SoftFull"
-step_name step.Repeated = codes "Repeated"
+step_name (step.SoftFull o) = codes "SoftFull"
+step_name (step.Repeated id) = codes "Repeated"
 step_name step.TraceFull = codes "TraceFull"
 step_name step.TagRange = codes "TagRange"
 step_name step.SlotUsed = codes "SlotUsed"

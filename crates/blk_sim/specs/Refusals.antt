@@ -23,6 +23,7 @@ use Rattle.blk_core.specs.declared.refusals.TickFault.TheVariants as tick
 use Rattle.blk_text.specs.Script.{Scripted}
 use Rattle.blk_text.specs.declared.script.Line.{Line}
 use Rattle.blk_text.specs.declared.script.Line.TheVariants as line
+use Rattle.blk_sim.specs.declared.refusal.Overflow.{Overflow}
 use Rattle.blk_sim.specs.declared.refusal.SimFault.{SimFault}
 use Rattle.blk_sim.specs.declared.refusal.SimWhy.{SimWhy}
 use Rattle.blk_sim.specs.declared.refusal.SimWhy.TheVariants as why
@@ -40,7 +41,7 @@ added_why plug.Memory = why.Memory
 
 abbrev pub released_why : CoreFault → Option SimWhy
 released_why release.NoQueue = None
-released_why (release.Repeated id) = Some why.Repeated
+released_why (release.Repeated id) = Some (why.Repeated id)
 released_why release.TraceFull = Some why.TraceFull
 released_why release.Memory = Some why.Memory
 
@@ -73,6 +74,10 @@ IsAddRefused plug bio w = (fault : PlugFault) × IsPlugFault plug bio fault × (
 abbrev pub IsOverfull : Queue → Plug → Type 0
 IsOverfull queue plug = queue.depth < length queue.requests + length plug.requests
 
+-- what the queue holds and the plug brings then, and the queue's room
+abbrev pub overflow_of : Queue → Plug → Overflow
+overflow_of queue plug = record { holds = length queue.requests; brings = length plug.requests; room = queue.depth }
+
 -- the core refuses a request, an issue, a Back, a Depth and a tick
 abbrev pub IsReleaseRefused : CoreState → List Bio → ℕ → SimWhy → Type 0
 IsReleaseRefused core bios hw w = (fault : CoreFault) × IsReleaseFault core bios hw fault × (released_why fault ≡ Some w)
@@ -96,7 +101,7 @@ IsBioRefused plugs b w = (own : Plug) × (slice_get plugs b.id.submitter ≡ Som
 -- the software queue of the submitter has no room for its plug
 abbrev pub IsFlushRefused : List Plug → List Queue → ℕ → SimWhy → Type 0
 IsFlushRefused plugs queues s w =
-    (own : Plug) × (to : Queue) × (slice_get plugs s ≡ Some own) × (slice_get queues s ≡ Some to) × (w ≡ why.SoftFull) × IsOverfull to own
+    (own : Plug) × (to : Queue) × (slice_get plugs s ≡ Some own) × (slice_get queues s ≡ Some to) × (w ≡ why.SoftFull (overflow_of to own)) × IsOverfull to own
 
 -- of requests that enter one after the other the core refuses one, those before it having entered
 pub record IsMoveRefused (policy : Policy) (requests : List (List Bio)) (core : CoreState) (hw : ℕ) (w : SimWhy) : Type 0 where

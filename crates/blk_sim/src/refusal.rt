@@ -4,9 +4,21 @@ ghost use Rattle.std.specs.Prelude.{◌≡◌, ◌≢◌, Some};
 ghost use Rattle.blk_sim.specs.Names.{step_name};
 ghost use Rattle.blk_sim.specs.Refusals.{added_why, released_why, issued_why, back_why, depth_why, ticked_why};
 
+use blk_bio::BioId;
 use blk_core::{BackFault, CoreFault, DepthFault, IssueFault, TickFault};
 use blk_plug::PlugFault;
 use faults::variant_name;
+
+/// A flush for which a software queue has no room, in requests.
+#[derive(Clone, Copy, Debug, PartialEq, Eq)]
+pub struct Overflow {
+    /// How many the software queue holds.
+    pub holds: u64,
+    /// How many the plug brings.
+    pub brings: u64,
+    /// For how many the software queue has room.
+    pub room: u64,
+}
 
 /// Why a step of a script is refused.
 #[derive(Clone, Copy, Debug, PartialEq, Eq)]
@@ -14,9 +26,9 @@ pub enum SimWhy {
     /// The plug has as many requests as it may, and the bio joins none of them.
     Full,
     /// The software queue has no room for a request of the plug.
-    SoftFull,
-    /// A bio of this name was released before, or stands earlier in the same request.
-    Repeated,
+    SoftFull(Overflow),
+    /// A bio of this id was released before, or stands earlier in the same request.
+    Repeated(BioId),
     /// The trace has as many events as it may.
     TraceFull,
     /// There is no such tag in this round.
@@ -40,8 +52,8 @@ impl SimWhy {
     {
         variant_name!(self: SimWhy {
             Full,
-            SoftFull,
-            Repeated,
+            SoftFull(_),
+            Repeated(_),
             TraceFull,
             TagRange,
             SlotUsed,
@@ -70,7 +82,7 @@ pub(crate) fn why_released(fault: CoreFault) -> SimWhy
 {
     match fault {
         CoreFault::NoQueue => unreachable!(),
-        CoreFault::Repeated(_) => SimWhy::Repeated,
+        CoreFault::Repeated(id) => SimWhy::Repeated(id),
         CoreFault::TraceFull => SimWhy::TraceFull,
         CoreFault::Memory => SimWhy::Memory,
     }

@@ -7,13 +7,13 @@ ghost use Rattle.blk_core.specs.Calls.{Completes, RequeuesTag, SetsDepth};
 ghost use Rattle.blk_core.specs.Faults.{IsInFlight, CanSetDepth};
 ghost use Rattle.blk_sim.specs.Moves.{AddsBio, EmptiesPlug, HasSoftRoom, flushed_plug, with_requests, bios_in, EntersCore, EnterInTurn, drained, Drains};
 ghost use Rattle.blk_sim.specs.Rounds.{AsksQueue, Ticks};
-ghost use Rattle.blk_sim.specs.Refusals.{IsBioRefused, IsFlushRefused, IsOverfull, IsReleaseRefused, IsIssueRefused, IsBackRefused, IsDepthRefused, IsTickRefused, IsMoveRefused, IsDrainRefused};
+ghost use Rattle.blk_sim.specs.Refusals.{IsBioRefused, IsFlushRefused, IsOverfull, overflow_of, IsReleaseRefused, IsIssueRefused, IsBackRefused, IsDepthRefused, IsTickRefused, IsMoveRefused, IsDrainRefused};
 ghost use Rattle.blk_sim.specs.Simulated.{HaveCome};
 ghost use Rattle.blk_sim.specs.Inside.Limits.{ShareLimits};
 ghost use Rattle.blk_sim.specs.Inside.Places.{IsModuloMap};
 
 use crate::refusal::{
-    SimWhy, why_added, why_issued, why_kept, why_released, why_ticked, why_unset,
+    Overflow, SimWhy, why_added, why_issued, why_kept, why_released, why_ticked, why_unset,
 };
 use blk_bio::{Bio, Request};
 use blk_core::Core;
@@ -113,12 +113,17 @@ fn flush_plug<A: Allocator + Clone>(
     ensures emptied { OnOk result (plug.new ≡ flushed_plug plug.old) }
     ensures moved { OnOk result (queue.new ≡ with_requests queue.old plug.old.requests) }
     ensures room { OnOk result (HasSoftRoom queue.old plug.old) }
-    ensures refused { IfErr result (λ w. (w ≡ SimWhy.SoftFull) × IsOverfull queue.old plug.old) }
+    ensures refused { IfErr result (λ w. (w ≡ SimWhy.SoftFull (overflow_of queue.old plug.old)) × IsOverfull queue.old plug.old) }
 {
     prove!(queue.len() as u64 <= queue.depth());
+    let overflow = Overflow {
+        holds: queue.len() as u64,
+        brings: plug.len() as u64,
+        room: queue.depth(),
+    };
     while let Some(request) = plug.take_first() {
         let Ok(()) = queue.put(request) else {
-            return Err(SimWhy::SoftFull);
+            return Err(SimWhy::SoftFull(overflow));
         };
     }
     Ok(())

@@ -13,7 +13,7 @@ use Rattle.clap.specs.Words.{Text}
 use Rattle.clap.specs.declared.builder.value_parser.ValueParser.TheVariants as vp
 use Rattle.blk_words.proofs.Lines.{Parses}
 use Rattle.blk_settings.specs.declared.given.TheConstants.{MAX_LISTED}
-use Rattle.blk_words.specs.Times.{number_in}
+use Rattle.blk_words.specs.Times.{number_in, is_plain, plain_number_in}
 use Rattle.blk_settings.specs.Lists.{parts}
 use Rattle.blk_words.specs.Lists.{numbers_in, are_distinct, is_listed, if_listed, list_of}
 
@@ -75,7 +75,7 @@ listed_more ns n e =
 -- the numbers so far, and those of the texts that are left, each looked at as it comes
 abbrev pub gathered : ℕ → List ℕ → List Text → Option (List ℕ)
 gathered most so_far [] = Some so_far
-gathered most so_far (text ∷ texts) = option_and_then (λ n. if is_listed (so_far ++ n ∷ []) then gathered most (so_far ++ n ∷ []) texts else None) (number_in most text)
+gathered most so_far (text ∷ texts) = option_and_then (λ n. if is_listed (so_far ++ n ∷ []) then gathered most (so_far ++ n ∷ []) texts else None) (plain_number_in most text)
 
 not_listed : (xs ys : List ℕ) (b : Bool) → is_listed (xs ++ ys) ≡ b → is_listed xs ≡ false → b ≡ false
 not_listed xs ys false e f = refl
@@ -106,7 +106,7 @@ with_one most so_far texts (Some n) rest = after most so_far texts n (is_listed 
 
 reads : (most : ℕ) (so_far : List ℕ) (texts : List Text) → is_listed so_far ≡ true → Reads most so_far texts
 reads most so_far [] e = sym (ap if_listed (append-nil so_far) ∙ ap (λ (b : Bool). if b then Some so_far else None) e)
-reads most so_far (text ∷ texts) e = with_one most so_far texts (number_in most text) (λ ns f. reads most ns texts f)
+reads most so_far (text ∷ texts) e = with_one most so_far texts (plain_number_in most text) (λ ns f. reads most ns texts f)
 
 pub gathers : (most : ℕ) (text : Text) → gathered most [] (parts text) ≡ list_of most text
 gathers most text = reads most [] (parts text) refl
@@ -116,7 +116,7 @@ abbrev pub goes : ℕ → List ℕ → List Text → Option ℕ → Option (List
 goes most so_far texts o = option_and_then (λ n. if is_listed (so_far ++ n ∷ []) then gathered most (so_far ++ n ∷ []) texts else None) o
 
 -- a part that comes
-pub takes_part : (most : ℕ) (so_far : List ℕ) (texts : List Text) (k : ℕ) (text : Text) (o : Option ℕ) → (k < length texts) × (text ≡ get_or texts k text) → o ≡ number_in most text
+pub takes_part : (most : ℕ) (so_far : List ℕ) (texts : List Text) (k : ℕ) (text : Text) (o : Option ℕ) → (k < length texts) × (text ≡ get_or texts k text) → o ≡ plain_number_in most text
     → gathered most so_far (drop k texts) ≡ goes most so_far (drop (k + 1) texts) o
 takes_part most so_far texts k text o h e =
     at_drop_more (gathered most so_far) texts k text h.0 ∙ ap (λ (t : Text). gathered most so_far (t ∷ drop (k + 1) texts)) (sym h.1) ∙ ap (goes most so_far (drop (k + 1) texts)) (sym e)
@@ -138,8 +138,12 @@ below most text n true e is =
     let same : n ≡ digits_value 10 (without_leading_plus text) = cc is in
     omega (arith, a.3, same)
 
-pub up_to : (most : ℕ) (text : Text) (n : ℕ) → Some n ≡ number_in most text → n ≤ most
-up_to most text n is = below most text n (accepts false (vp.Unsigned 0 most) text) refl is
+plain_up_to : (most : ℕ) (text : Text) (n : ℕ) (b : Bool) → Some n ≡ (if b then number_in most text else None) → n ≤ most
+plain_up_to most text n true is = below most text n (accepts false (vp.Unsigned 0 most) text) refl is
+plain_up_to most text n false is = cc is
+
+pub up_to : (most : ℕ) (text : Text) (n : ℕ) → Some n ≡ plain_number_in most text → n ≤ most
+up_to most text n is = plain_up_to most text n (is_plain text) is
 
 -- a number that a text spells is one up to the most, or is above it
 above : (most : ℕ) (text : Text) (n : ℕ) (b : Bool) → nat_le n most ≡ b → accepts false (vp.Unsigned 0 most) text ≡ false → Parses 64 text → n ≡ digits_value 10 (without_leading_plus text) → b ≡ false

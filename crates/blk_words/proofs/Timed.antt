@@ -3,10 +3,8 @@ use Rattle.std.proofs.Common.{◌≡◌, ◌∙◌, ◌++◌, ◌*◌, ◌^◌, 
 use Rattle.std.proofs.lemmas.List.{append_cancel_left}
 use Rattle.std.proofs.lemmas.Slice.Eq.{bytes_eq-Decides}
 use Rattle.std.specs.Prelude.{SomeIff, nat_lt, option_and_then, if◌then◌else◌}
-use Rattle.std.specs.Str.Parse.{digits_value, without_leading_plus}
 use Rattle.clap.specs.Words.{Text}
-use Rattle.blk_words.specs.Times.{MAX_NUMBER, number_in, ends_with, before_unit, scaled, in_unit}
-use Rattle.blk_words.proofs.Lines.{Parses, number_parsed, number_unparsed}
+use Rattle.blk_words.specs.Times.{MAX_NUMBER, plain_number_in, ends_with, before_unit, scaled, in_unit}
 
 ends : (unit text : Text) → text ≡ before_unit unit text ++ unit → ends_with unit text ≡ true
 ends unit text e =
@@ -23,17 +21,16 @@ other unit text true e none =
 -- a text without the unit
 pub of_another : (unit text : Text) (nanoseconds : ℕ) → ((front : Text) → text ≡ front ++ unit → ⊥) → None ≡ in_unit unit nanoseconds text
 of_another unit text nanoseconds none =
-    sym (ap (λ (b : Bool). if b then option_and_then (scaled nanoseconds) (number_in MAX_NUMBER (before_unit unit text)) else None) (other unit text (ends_with unit text) refl none))
+    sym (ap (λ (b : Bool). if b then option_and_then (scaled nanoseconds) (plain_number_in MAX_NUMBER (before_unit unit text)) else None) (other unit text (ends_with unit text) refl none))
 
-ending : (unit text : Text) (nanoseconds : ℕ) → text ≡ before_unit unit text ++ unit → in_unit unit nanoseconds text ≡ option_and_then (scaled nanoseconds) (number_in MAX_NUMBER (before_unit unit text))
+ending : (unit text : Text) (nanoseconds : ℕ) → text ≡ before_unit unit text ++ unit → in_unit unit nanoseconds text ≡ option_and_then (scaled nanoseconds) (plain_number_in MAX_NUMBER (before_unit unit text))
 ending unit text nanoseconds e =
-    ap (λ (b : Bool). if b then option_and_then (scaled nanoseconds) (number_in MAX_NUMBER (before_unit unit text)) else None) (ends unit text e)
+    ap (λ (b : Bool). if b then option_and_then (scaled nanoseconds) (plain_number_in MAX_NUMBER (before_unit unit text)) else None) (ends unit text e)
 
 -- one with it, before which no number stands
-pub no_number : (unit text number : Text) (nanoseconds : ℕ) → text ≡ before_unit unit text ++ unit → number ≡ before_unit unit text → (Parses 64 number → ⊥) → None ≡ in_unit unit nanoseconds text
-no_number unit text number nanoseconds e is wrong =
-    let none : number_in MAX_NUMBER number ≡ None = number_unparsed 64 MAX_NUMBER (refl, omega arith) number wrong in
-    let own : number_in MAX_NUMBER (before_unit unit text) ≡ None = subst (λ (t : Text). number_in MAX_NUMBER t ≡ None) is none in
+pub no_number : (unit text number : Text) (nanoseconds : ℕ) → text ≡ before_unit unit text ++ unit → number ≡ before_unit unit text → None ≡ plain_number_in MAX_NUMBER number → None ≡ in_unit unit nanoseconds text
+no_number unit text number nanoseconds e is none =
+    let own : plain_number_in MAX_NUMBER (before_unit unit text) ≡ None = subst (λ (t : Text). plain_number_in MAX_NUMBER t ≡ None) is (sym none) in
     sym (ending unit text nanoseconds e ∙ ap (option_and_then (scaled nanoseconds)) own)
 
 scales : (nanoseconds n : ℕ) (r : Option ℕ) → SomeIff r (n * nanoseconds < 2 ^ 64) (n * nanoseconds) → r ≡ scaled nanoseconds n
@@ -46,11 +43,10 @@ scales nanoseconds n (Some x) within =
     ap (λ (m : ℕ). Some m) within.1 ∙ sym (ap (λ (b : Bool). if b then Some (n * nanoseconds) else None) t)
 
 -- and one before which a number does
-pub of_number : (unit text number : Text) (nanoseconds n : ℕ) (r : Option ℕ) → text ≡ before_unit unit text ++ unit → number ≡ before_unit unit text → Parses 64 number → n ≡ digits_value 10 (without_leading_plus number)
+pub of_number : (unit text number : Text) (nanoseconds n : ℕ) (r : Option ℕ) → text ≡ before_unit unit text ++ unit → number ≡ before_unit unit text → Some n ≡ plain_number_in MAX_NUMBER number
     → SomeIff r (n * nanoseconds < 2 ^ 64) (n * nanoseconds) → r ≡ in_unit unit nanoseconds text
-of_number unit text number nanoseconds n r e is parses value scale =
-    let some : number_in MAX_NUMBER number ≡ Some n = number_parsed 64 MAX_NUMBER (refl, omega arith) number n parses value in
-    let own : number_in MAX_NUMBER (before_unit unit text) ≡ Some n = subst (λ (t : Text). number_in MAX_NUMBER t ≡ Some n) is some in
+of_number unit text number nanoseconds n r e is some scale =
+    let own : plain_number_in MAX_NUMBER (before_unit unit text) ≡ Some n = subst (λ (t : Text). plain_number_in MAX_NUMBER t ≡ Some n) is (sym some) in
     scales nanoseconds n r scale ∙ sym (ending unit text nanoseconds e ∙ ap (option_and_then (scaled nanoseconds)) own)
 
 -- what stripping a unit leaves

@@ -4,12 +4,12 @@ use Rattle.std.specs.List.{list_any}
 use Rattle.clap.specs.Words.{Text}
 use Rattle.blk_settings.specs.Lists.{parts}
 use Rattle.blk_settings.specs.declared.given.TheConstants.{MAX_LISTED}
-use Rattle.blk_words.specs.Times.{number_in}
+use Rattle.blk_words.specs.Times.{plain_number_in}
 
 -- the numbers of these texts, where each is a number up to the most
 abbrev pub numbers_in : ℕ → List Text → Option (List ℕ)
 numbers_in most [] = Some []
-numbers_in most (text ∷ texts) = option_and_then (λ n. option_map (λ ns. n ∷ ns) (numbers_in most texts)) (number_in most text)
+numbers_in most (text ∷ texts) = option_and_then (λ n. option_map (λ ns. n ∷ ns) (numbers_in most texts)) (plain_number_in most text)
 
 -- each number stands once
 abbrev pub are_distinct : List ℕ → Bool

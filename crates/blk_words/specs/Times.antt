@@ -1,5 +1,5 @@
 -- Numbers and times as texts.
-use Rattle.std.specs.Prelude.{◌-◌, ◌*◌, ◌^◌, ℕ, Bool, false, length, take, drop, nat_lt, Option, Some, None, codes, option_and_then, if◌then◌else◌}
+use Rattle.std.specs.Prelude.{◌-◌, ◌*◌, ◌^◌, ◌==◌, ◌&&◌, ◌∷◌, ℕ, Bool, true, false, not, length, take, drop, nat_lt, Option, Some, None, codes, option_and_then, if◌then◌else◌}
 use Rattle.std.specs.Option.{option_or}
 use Rattle.std.specs.Str.{bytes_eq}
 use Rattle.std.specs.Str.Parse.{digits_value, without_leading_plus}
@@ -15,6 +15,14 @@ MAX_NUMBER = 2 ^ 64 - 1
 abbrev pub number_in : ℕ → Text → Option ℕ
 number_in most text = if accepts false (vp.Unsigned 0 most) text then Some (digits_value 10 (without_leading_plus text)) else None
 
+-- whether a text begins with no sign, and with no zero that more follows; such a number in a time or a list
+abbrev pub is_plain : Text → Bool
+is_plain (first ∷ next ∷ rest) = not (first == 43) && not (first == 48)
+is_plain text = true
+
+abbrev pub plain_number_in : ℕ → Text → Option ℕ
+plain_number_in most text = if is_plain text then number_in most text else None
+
 -- whether a text ends with a unit, and what stands before that
 abbrev pub ends_with : Text → Text → Bool
 ends_with unit text = bytes_eq (drop (length text - length unit) text) unit
@@ -29,7 +37,7 @@ scaled nanoseconds n = if nat_lt (n * nanoseconds) (2 ^ 64) then Some (n * nanos
 -- the nanoseconds of a number with a unit that has `nanoseconds`
 abbrev pub in_unit : Text → ℕ → Text → Option ℕ
 in_unit unit nanoseconds text =
-    if ends_with unit text then option_and_then (scaled nanoseconds) (number_in MAX_NUMBER (before_unit unit text)) else None
+    if ends_with unit text then option_and_then (scaled nanoseconds) (plain_number_in MAX_NUMBER (before_unit unit text)) else None
 
 -- a time: a number and its unit
 abbrev pub time_of : Text → Option ℕ

@@ -2,9 +2,30 @@
 
 ghost use Rattle.std.specs.Prelude.{◌≡◌, ◌≤◌, ◌++◌, ◌∷◌, [], true, All, IfSome, option_map};
 ghost use Rattle.blk_words.specs.Lists.{is_listed, list_of};
-ghost use Rattle.blk_words.specs.Times.{number_in};
+ghost use Rattle.blk_words.specs.Times.{is_plain, number_in, plain_number_in};
 
 use blk_settings::given::{MAX_LISTED, Numbers};
+
+/// Whether a text begins with no sign, and with no zero that more follows.
+fn is_plain(text: &str) -> bool
+    ensures { result ≡ is_plain text.now }
+{
+    match text.as_bytes() {
+        [first, _, ..] => *first != b'+' && *first != b'0',
+        _ => true,
+    }
+}
+
+/// The number that a text spells in decimal digits, up to the most, without a sign or a leading zero.
+pub(crate) fn plain_number(text: &str, most: u64) -> Option<u64>
+    ensures { result ≡ plain_number_in most text.now }
+{
+    if is_plain(text) {
+        number_up_to(text, most)
+    } else {
+        None
+    }
+}
 
 /// The number that a text spells in decimal digits, up to the most.
 fn number_up_to(text: &str, most: u64) -> Option<u64>
@@ -24,14 +45,14 @@ fn goes_on(numbers: &Numbers, number: u64) -> bool
     numbers.len() < MAX_LISTED && !numbers.as_slice().contains(&number)
 }
 
-/// The numbers of a list of 1 to [`MAX_LISTED`] up to the most, each once. None where the text is no such list.
+/// The numbers of a list of 1 to [`MAX_LISTED`] up to the most, each once, without signs or leading zeros. None where the text is no such list.
 pub fn numbers_of(text: &str, most: u64) -> Option<Numbers>
     ensures numbers { option_map (λ n. n.items) result ≡ list_of most text.now }
     ensures range { IfSome result (λ n. All (λ x. x ≤ most) n.items) }
 {
     let mut numbers = Numbers::new();
     for part in text.split(',') {
-        let number = number_up_to(part, most)?;
+        let number = plain_number(part, most)?;
         if !goes_on(&numbers, number) {
             return None;
         }

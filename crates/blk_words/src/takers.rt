@@ -3,7 +3,7 @@
 ghost use Rattle.std.specs.Prelude.{◌≡◌, ◌++◌, IfOk, OnOk, length, map, option_map, string_bytes};
 ghost use Rattle.blk_words.specs.CommandLine.{command_table};
 ghost use Rattle.blk_words.specs.Inside.Tables.{subcommand_of, subcommands_of, called, behind_commas};
-ghost use Rattle.blk_words.specs.Takers.{TakesWhatItReads, at_place, named_in_order, taker, takers, takers_text};
+ghost use Rattle.blk_words.specs.Takers.{TakesWhatItReads, at_place, named_in_order, taker, taker_but, takers, takers_text};
 ghost use Rattle.blk_words.specs.declared.inputs.TextKind.{TextKind as Kind};
 ghost use Rattle.blk_words.specs.declared.table.Makes.{Makes as Made};
 
@@ -57,6 +57,17 @@ fn taker_of(row: &CommandRow, kind: TextKind) -> Option<Taker>
     })
 }
 
+/// The same, of any subcommand but that of this name.
+fn taker_but(row: &CommandRow, kind: TextKind, but: &str) -> Option<Taker>
+    ensures { option_map called result ≡ taker_but kind but.now (subcommand_of row.now) }
+{
+    if row.name == but {
+        None
+    } else {
+        taker_of(row, kind)
+    }
+}
+
 /// Adds those of these rows that have this place.
 fn push_rows(all: &mut Vec<CommandRow>, rows: &[CommandRow], place: usize) -> Result<(), AllocError>
     ensures { OnOk result (subcommands_of all.new.items ≡ subcommands_of all.old.items ++ at_place place (subcommands_of rows.now)) }
@@ -88,14 +99,14 @@ fn in_order(alloc: Global) -> Result<Vec<CommandRow>, AllocError>
     Ok(ordered)
 }
 
-/// The subcommands that take a text of this kind, in the order of their places.
-fn takers_of(alloc: Global, kind: TextKind) -> Result<Vec<Taker>, AllocError>
-    ensures { IfOk result (λ all. map called all.items ≡ takers kind) }
+/// The subcommands that take a text of this kind, but that of this name, in the order of their places.
+fn takers_of(alloc: Global, kind: TextKind, but: &str) -> Result<Vec<Taker>, AllocError>
+    ensures { IfOk result (λ all. map called all.items ≡ takers kind but.now) }
 {
     let rows = in_order(alloc)?;
     let mut all = Vec::new(alloc);
     for row in rows.as_slice() {
-        if let Some(taker) = taker_of(row, kind) {
+        if let Some(taker) = taker_but(row, kind, but) {
             all.push(taker)?;
         }
     }
@@ -114,13 +125,13 @@ fn push_others(names: &mut String, others: &[Taker]) -> Result<(), AllocError>
 }
 
 /// The names of the subcommands that take a text of this kind, with a comma and a space between, each with the flag that asks for it where
-/// it reads another kind without. They stand in the order of the places in their rows, by which none is left out. Fails only when out of
-/// memory.
-pub fn takers_text(alloc: Global, kind: TextKind) -> Result<String, AllocError>
-    ensures names { IfOk result (λ names. string_bytes names ≡ takers_text kind) }
+/// it reads another kind without; the subcommand of the name `but` is left out. They stand in the order of the places in their rows, by which
+/// no other is left out. Fails only when out of memory.
+pub fn takers_text(alloc: Global, kind: TextKind, but: &str) -> Result<String, AllocError>
+    ensures names { IfOk result (λ names. string_bytes names ≡ takers_text kind but.now) }
     ensures all { length named_in_order ≡ length command_table }
 {
-    let all = takers_of(alloc, kind)?;
+    let all = takers_of(alloc, kind, but)?;
     let mut names = String::new(alloc);
     if let Some((first, others)) = all.as_slice().split_first() {
         first.push(&mut names)?;

@@ -1,0 +1,19 @@
+-- Why words get no text, by the failure of the job that they ask for.
+use Rattle.std.proofs.Common.{◌≡◌, ℕ, Bool, List, Option, subst, sym, inl, inr}
+use Rattle.blk_lists.specs.Sources.{Row}
+use Rattle.blk_words.specs.declared.words.Job.{Job}
+use Rattle.blk_words.specs.Asked.{Asks}
+use Rattle.blk_cli.specs.Gives.{HasNoAnswer}
+use Rattle.blk_cli.specs.Ends.{IsFailureOf, IsWithout}
+use Rattle.blk_cli.specs.declared.NoText.{NoText}
+use Rattle.blk_cli.specs.declared.NoText.TheVariants as none
+use Rattle.blk_cli.specs.declared.failure.Failure.{Failure}
+
+pub without_by : (words : List (List ℕ)) (input : Option (List Row)) (failed : Bool) (j : Job) (f : Failure) (n : NoText) → Asks words j → HasNoAnswer words j input failed f → IsFailureOf f n → IsWithout words input failed n
+without_by words input failed j f (none.Failure g) asks fails is = elim is [
+  | inl same ↦ inl (j, asks, subst (HasNoAnswer words j input failed) (sym same) fails)
+  | inr memory ↦ inr memory
+]
+without_by words input failed j f (none.Title text) asks fails is = (j, asks, subst (HasNoAnswer words j input failed) is fails)
+without_by words input failed j f (none.Usage text) asks fails is = absurd is
+without_by words input failed j f none.Excluded asks fails is = absurd is

@@ -1,0 +1,82 @@
+//! The line of the project's own subcommands on a text that is none of those they read: what it is, and what was wanted.
+
+use blk_explain::{TextForm, called, form_named};
+use blk_lists::fields::field;
+use blk_settings::FiguresAsked;
+use blk_words::{Job, Running, Telling, TextJob};
+use csv::ByteRecord;
+use drafts::Draft;
+use std::alloc::{AllocError, Global};
+
+/// What a trace is asked by a subcommand of the project's own.
+fn teller_of(telling: Telling) -> Option<&'static [u8]> {
+    match telling {
+        Telling::Picture => Some(b"picture"),
+        Telling::Figures(FiguresAsked::Spread, _) => Some(b"spread"),
+        Telling::Figures(FiguresAsked::Late, _) => Some(b"late"),
+        Telling::Figures(FiguresAsked::Misses, _) => Some(b"misses"),
+        _ => None,
+    }
+}
+
+/// The subcommand of the project's own that a job is of, and the form of the texts that it reads.
+fn reader_of(job: Job) -> Option<(&'static [u8], TextForm)> {
+    match job {
+        Job::Tune(_) => Some((b"tune", TextForm::Script)),
+        Job::Import(_) => Some((b"import", TextForm::Capture)),
+        Job::OfText(TextJob::Judge { .. }) => Some((b"judge", TextForm::Schedule)),
+        Job::OfText(TextJob::OfScript(Running::Drawn(_))) => Some((
+            b"picture --script",
+            TextForm::Script,
+        )),
+        Job::OfText(TextJob::OfTrace(telling)) => match teller_of(telling) {
+            Some(name) => Some((name, TextForm::Trace)),
+            None => None,
+        },
+        _ => None,
+    }
+}
+
+/// Adds what a text is whose first record this is.
+fn push_what(draft: &mut Draft, row: &ByteRecord) -> Result<(), AllocError> {
+    let found = field(row, 0);
+    if row.len() == 0 {
+        return draft.text(b"the input is empty");
+    }
+    if found.is_empty() {
+        return draft.text(b"this has no title");
+    }
+    draft.text(b"this is ")?;
+    draft.text(called(found).as_bytes())
+}
+
+/// What is said behind the fault of a text with another title than this subcommand reads, given its first record.
+fn title_text(
+    alloc: Global,
+    name: &[u8],
+    wanted: TextForm,
+    row: &ByteRecord,
+) -> Result<Vec<u8>, AllocError> {
+    let mut draft = Draft::new(alloc);
+    push_what(&mut draft, row)?;
+    if form_named(field(row, 0)) == Some(wanted) {
+        draft.text(b" of no version that ")?;
+        draft.text(name)?;
+        draft.text(b" reads")?;
+    } else {
+        draft.text(b", and ")?;
+        draft.text(name)?;
+        draft.text(b" reads ")?;
+        draft.text(wanted.called().as_bytes())?;
+    }
+    draft.text(b"; see blk explain")?;
+    draft.finish()
+}
+
+/// What is said behind the fault of a text with another title than this job reads, where it is one of the project's own.
+pub fn title_of(alloc: Global, job: Job, row: &ByteRecord) -> Result<Option<Vec<u8>>, AllocError> {
+    match reader_of(job) {
+        Some((name, wanted)) => Ok(Some(title_text(alloc, name, wanted, row)?)),
+        None => Ok(None),
+    }
+}

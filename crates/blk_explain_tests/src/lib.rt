@@ -1,5 +1,0 @@
-//! Tests of the explanations of texts.
-#![tactic(auto)]
-
-#[cfg(test)]
-mod texts;
