@@ -3,4 +3,3 @@ pub mod Taking
 pub mod Found
 pub mod Sized
 pub mod Worded
-pub mod Mixed

@@ -1,6 +1,6 @@
 //! What is found in a text, in words. Which words, the cases say.
 
-ghost use Rattle.std.specs.Prelude.{◌≡◌, ◌<◌, ◌++◌, OnOk, IfOk};
+ghost use Rattle.std.specs.Prelude.{◌≡◌, ◌<◌, ◌-◌, ◌^◌, ◌++◌, OnOk, IfOk};
 ghost use Rattle.blk_explain.specs.Explained.{fault_line, nearest_in, IsToldOf};
 
 use crate::broken::number_in;
@@ -275,7 +275,9 @@ fn push_state(
     alloc: Global,
     bytes: &[u8],
     fault: SimFault,
-) -> Result<(), AllocError> {
+) -> Result<(), AllocError>
+    requires { fault.at < 2 ^ 64 - 1 }
+{
     match fault.why {
         SimWhy::SoftFull(overflow) => {
             let row = row_at(alloc, bytes, fault.at)?;
@@ -420,6 +422,116 @@ fn nearest_in(detail: Detail) -> Option<TextForm>
     }
 }
 
+/// Words with the line on a fault behind them, as the program has it.
+fn named(
+    alloc: Global,
+    words: Vec<u8>,
+    form: Option<TextForm>,
+    at: u64,
+    why: &str,
+) -> Result<Vec<u8>, AllocError>
+    ensures { IfOk result (λ text. text.items ≡ words.items ++ fault_line form at why.now) }
+{
+    let mut draft = Draft::new(alloc);
+    draft.text(words.as_slice())?;
+    push_named(&mut draft, form, at, why)?;
+    draft.finish()
+}
+
+/// What is told of a text of this form without a fault.
+fn good_told(alloc: Global, bytes: &[u8], form: TextForm) -> Result<Vec<u8>, AllocError> {
+    let mut draft = Draft::new(alloc);
+    push_good(&mut draft, alloc, bytes, form)?;
+    draft.finish()
+}
+
+/// The line on a fault.
+fn fault_words(
+    alloc: Global,
+    bytes: &[u8],
+    form: TextForm,
+    fault: TextFault,
+    line: u64,
+    detail: Detail,
+) -> Result<Vec<u8>, AllocError> {
+    let mut draft = Draft::new(alloc);
+    push_fault(&mut draft, alloc, bytes, &form.row(), fault, line, detail)?;
+    draft.finish()
+}
+
+/// What is told of a fault.
+fn faulty_told(
+    alloc: Global,
+    bytes: &[u8],
+    form: TextForm,
+    fault: TextFault,
+    line: u64,
+    detail: Detail,
+) -> Result<Vec<u8>, AllocError>
+    ensures { IfOk result (λ text. IsToldOf (Finding.Faulty form fault) detail text.items) }
+{
+    let words = fault_words(alloc, bytes, form, fault, line, detail)?;
+    named(alloc, words, Some(form), fault.at, fault.why.name())
+}
+
+/// The line on a refused step.
+fn refused_words(
+    alloc: Global,
+    bytes: &[u8],
+    fault: SimFault,
+    line: u64,
+) -> Result<Vec<u8>, AllocError> {
+    let mut draft = Draft::new(alloc);
+    push_refused(&mut draft, alloc, bytes, fault, line)?;
+    draft.finish()
+}
+
+/// What is told of a refused step.
+fn refused_told(
+    alloc: Global,
+    bytes: &[u8],
+    fault: SimFault,
+    line: u64,
+    detail: Detail,
+) -> Result<Vec<u8>, AllocError>
+    ensures { IfOk result (λ text. IsToldOf (Finding.Refused fault) detail text.items) }
+{
+    let words = refused_words(alloc, bytes, fault, line)?;
+    named(
+        alloc,
+        words,
+        Some(TextForm::Script),
+        fault.at,
+        fault.why.name(),
+    )
+}
+
+/// The line on a text that begins with the name of no form.
+fn untitled_words(
+    alloc: Global,
+    bytes: &[u8],
+    line: u64,
+    detail: Detail,
+) -> Result<Vec<u8>, AllocError> {
+    let mut draft = Draft::new(alloc);
+    push_untitled(&mut draft, alloc, bytes, line, detail)?;
+    draft.finish()
+}
+
+/// What is told of it.
+fn untitled_told(
+    alloc: Global,
+    bytes: &[u8],
+    line: u64,
+    detail: Detail,
+) -> Result<Vec<u8>, AllocError>
+    ensures { IfOk result (λ text. IsToldOf Finding.Untitled detail text.items) }
+{
+    let words = untitled_words(alloc, bytes, line, detail)?;
+    let near = nearest_in(detail);
+    named(alloc, words, near, 1, Why::Title.name())
+}
+
 /// What is told of a finding, whose record begins on this line, and of which this is known.
 pub fn told(
     alloc: Global,
@@ -430,26 +542,10 @@ pub fn told(
 ) -> Result<Vec<u8>, AllocError>
     ensures { IfOk result (λ text. IsToldOf finding detail text.items) }
 {
-    let mut draft = Draft::new(alloc);
     match finding {
-        Finding::Good(form) => push_good(&mut draft, alloc, bytes, form)?,
-        Finding::Faulty(form, fault) => {
-            push_fault(&mut draft, alloc, bytes, &form.row(), fault, line, detail)?;
-            push_named(&mut draft, Some(form), fault.at, fault.why.name())?;
-        }
-        Finding::Refused(fault) => {
-            push_refused(&mut draft, alloc, bytes, fault, line)?;
-            push_named(
-                &mut draft,
-                Some(TextForm::Script),
-                fault.at,
-                fault.why.name(),
-            )?;
-        }
-        Finding::Untitled => {
-            push_untitled(&mut draft, alloc, bytes, line, detail)?;
-            push_named(&mut draft, nearest_in(detail), 1, Why::Title.name())?;
-        }
+        Finding::Good(form) => good_told(alloc, bytes, form),
+        Finding::Faulty(form, fault) => faulty_told(alloc, bytes, form, fault, line, detail),
+        Finding::Refused(fault) => refused_told(alloc, bytes, fault, line, detail),
+        Finding::Untitled => untitled_told(alloc, bytes, line, detail),
     }
-    draft.finish()
 }

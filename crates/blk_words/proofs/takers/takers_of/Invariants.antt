@@ -6,4 +6,4 @@ use Rattle.blk_words.specs.Takers.{taker_but}
 use Rattle.blk_words.proofs.takers.takers_of.Given as goal
 
 abbrev pub invariant-loop-row : goal.invariant-loop-row
-invariant-loop-row l = map called l.all.items ≡ flat_map (λ s. option_to_list (taker_but l.kind l.but.now s)) (map subcommand_of (take l.row-index l.row-items))
+invariant-loop-row l = map called l.all.items ≡ flat_map (λ s. option_to_list (taker_but l.kind l.but s)) (map subcommand_of (take l.row-index l.row-items))
