@@ -9,11 +9,11 @@ use Rattle.blk_cli.specs.declared.NoText.{NoText}
 use Rattle.blk_cli.specs.declared.NoText.TheVariants as none
 use Rattle.blk_cli.specs.declared.failure.Failure.{Failure}
 
-pub without_by : (words : List (List ℕ)) (input : Option (List Row)) (failed : Bool) (j : Job) (f : Failure) (n : NoText) → Asks words j → HasNoAnswer words j input failed f → IsFailureOf f n → IsWithout words input failed n
-without_by words input failed j f (none.Failure g) asks fails is = elim is [
-  | inl same ↦ inl (j, asks, subst (HasNoAnswer words j input failed) (sym same) fails)
+pub without_by : (words : List (List ℕ)) (input : Option (List Row)) (bytes : Option (List ℕ)) (failed : Bool) (j : Job) (f : Failure) (n : NoText) → Asks words j → HasNoAnswer words j input bytes failed f → IsFailureOf f n → IsWithout words input bytes failed n
+without_by words input bytes failed j f (none.Failure g) asks fails is = elim is [
+  | inl same ↦ inl (j, asks, subst (HasNoAnswer words j input bytes failed) (sym same) fails)
   | inr memory ↦ inr memory
 ]
-without_by words input failed j f (none.Title text) asks fails is = (j, asks, subst (HasNoAnswer words j input failed) is fails)
-without_by words input failed j f (none.Usage text) asks fails is = absurd is
-without_by words input failed j f none.Excluded asks fails is = absurd is
+without_by words input bytes failed j f (none.Title text) asks fails is = (j, asks, subst (HasNoAnswer words j input bytes failed) is fails)
+without_by words input bytes failed j f (none.Usage text) asks fails is = absurd is
+without_by words input bytes failed j f none.Excluded asks fails is = absurd is

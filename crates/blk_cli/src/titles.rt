@@ -23,7 +23,6 @@ fn teller_of(telling: Telling) -> Option<&'static [u8]> {
 fn reader_of(job: Job) -> Option<(&'static [u8], TextForm)> {
     match job {
         Job::Tune(_) => Some((b"tune", TextForm::Script)),
-        Job::Import(_) => Some((b"import", TextForm::Capture)),
         Job::OfText(TextJob::Judge { .. }) => Some((b"judge", TextForm::Schedule)),
         Job::OfText(TextJob::OfScript(Running::Drawn(_))) => Some((
             b"picture --script",
