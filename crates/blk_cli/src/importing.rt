@@ -158,7 +158,10 @@ fn note_on(
     let crowd = crowd_text(alloc, summary.in_flight, tags)?;
     let counts = count_fates(matched.fates.as_slice());
     let note = note_by(alloc, shown, &counts)?;
-    noted(crowd, note)
+    match noted(crowd, note) {
+        Ok(all) => Ok(all),
+        Err(refused) => Err(refused),
+    }
 }
 
 /// What is shown of the requests of a capture.
