@@ -2,4 +2,6 @@
 #![tactic(auto)]
 
 #[cfg(test)]
+mod printed;
+#[cfg(test)]
 mod texts;
