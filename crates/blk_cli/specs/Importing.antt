@@ -76,10 +76,10 @@ abbrev pub tags_asked : Option ℕ → ℕ
 tags_asked tags = unwrap_or tags USUAL_TAGS
 
 -- before the note something is told only where more were in flight than the device takes at once
-pub record IsNoteOf (tags : ℕ) (requests : List CapturedRequest) (base note : Option (List ℕ)) : Type 0 where
+pub record IsNoteOf (tags : ℕ) (shown : ShownImport) (requests : List CapturedRequest) (fates : List Fate) (note : Option (List ℕ)) : Type 0 where
   pub told : List ℕ
   pub quiet : (n : ℕ) → IsMostInFlight requests n → n ≤ tags → told ≡ []
-  pub is : note ≡ noted told base
+  pub is : note ≡ noted told (note_by shown (counts_of fates))
 
 -- what is shown of the requests of a capture that are taken, and what is said beside it
 pub record IsShownOf (shown : ShownImport) (i : Import) (records : List Record) (s : Said) : Type 0 where
@@ -90,7 +90,7 @@ pub record IsShownOf (shown : ShownImport) (i : Import) (records : List Record) 
   pub left_out : ℕ
   pub is_import : IsImport records (asked_of i) requests bios fates absorbed left_out
   pub is_text : IsShown shown records requests bios fates left_out s.text
-  pub is_note : IsNoteOf (tags_asked i.source.tags) requests (note_by shown (counts_of fates)) s.note
+  pub is_note : IsNoteOf (tags_asked i.source.tags) shown requests fates s.note
   pub good : s.good ≡ true
 
 -- too many requests would be taken, or memory ran out

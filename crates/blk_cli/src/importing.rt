@@ -3,7 +3,6 @@
 ghost use Rattle.std.specs.Prelude.{◌≡◌, ◌≤◌, [], IfOk, IfErr, length, option_map};
 ghost use Rattle.edd_commands.specs.declared.TheConstants.{MAX_COMMANDS};
 ghost use Rattle.blk_capture.specs.Requests.{AreInOrder, AreTimed};
-ghost use Rattle.blk_capture_text.specs.SummaryText.{counts_of};
 ghost use Rattle.blk_cli.specs.Said.{said_of};
 ghost use Rattle.blk_cli.specs.Importing.{entry_asked, most_asked, asked_of, terms_of, line_on, note_by, IsShownOf, IsUnshown, IsScripted, IsUnscripted, IsImported, IsUnimported, noted, tags_asked, IsNoteOf, IsSaidFrom, IsImportedOf, IsUnimportedOf, IsImportedFrom, IsUnimportedFrom};
 
@@ -152,7 +151,7 @@ fn note_on(
     requires timed { AreTimed matched.now.requests.items }
     requires few { length matched.now.requests.items ≤ MAX_COMMANDS }
     requires fates { length matched.now.fates.items ≡ length records.now }
-    ensures { IfOk result (λ note. IsNoteOf tags matched.now.requests.items (note_by shown (counts_of matched.now.fates.items)) (option_map (λ n. n.items) note)) }
+    ensures { IfOk result (λ note. IsNoteOf tags shown matched.now.requests.items matched.now.fates.items (option_map (λ n. n.items) note)) }
 {
     let summary = summarize(alloc, records, matched)?;
     let crowd = crowd_text(alloc, summary.in_flight, tags)?;

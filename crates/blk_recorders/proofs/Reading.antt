@@ -8,7 +8,7 @@ use Rattle.std.proofs.lemmas.List.Sorted.{IsNonDecreasingBy-from_sort}
 use Rattle.std.specs.Ordering.{nat_cmp}
 use Rattle.blk_capture.specs.Requests.{AreInOrder}
 use Rattle.blk_capture.specs.declared.record.Record.{Record}
-use Rattle.blk_recorders.specs.Layouts.{step_of}
+use Rattle.blk_recorders.specs.Layouts.{step_told}
 use Rattle.blk_recorders.specs.Lines.{line_of}
 use Rattle.blk_recorders.specs.Words.{Word, words}
 use Rattle.blk_recorders.specs.Steps.{Sofar, none_yet, more, is_other, settle, is_unordered, falls, keep, take_step, if_step, take_line, take_words, take, go_on, read_from, lines_of, read, AreByTime, AreOrdered}
@@ -96,7 +96,7 @@ if_stepped f asked s (Err w) t u h e = absurd (cc e)
 
 lined_up : (f : Recorder) (asked : Option Device) (s : Sofar) (l : Result (Line Word) LineWhy) (t : Sofar) → is_unordered f ≡ false → Rises s → take_line f asked s l ≡ Ok t → Rises t
 lined_up f asked s (Err w) t u h e = absurd (cc e)
-lined_up f asked s (Ok (line.Step l)) t u h e = if_stepped f asked s (step_of l) t u h e
+lined_up f asked s (Ok (line.Step l)) t u h e = if_stepped f asked s (step_told l) t u h e
 lined_up f asked s (Ok line.Remark) t u h e =
     let same : record s { remarks = more s.remarks } ≡ t = cc e in subst Rises same (counted s s.others (more s.remarks) s.losses h)
 lined_up f asked s (Ok line.Loss) t u h e =

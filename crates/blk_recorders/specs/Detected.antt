@@ -4,7 +4,7 @@ use Rattle.std.specs.Str.{bytes_eq}
 use Rattle.std.specs.Cmp.Lexicographic.{pointwise}
 use Rattle.std.specs.List.{starts_with}
 use Rattle.blk_recorders.specs.Words.{Word, words}
-use Rattle.blk_recorders.specs.Layouts.{at, step_of}
+use Rattle.blk_recorders.specs.Layouts.{at, step_told}
 use Rattle.blk_recorders.specs.Lines.{line_of}
 use Rattle.blk_recorders.specs.Steps.{lines_of}
 use Rattle.blk_recorders.specs.declared.detect.CaptureForm.{CaptureForm}
@@ -22,7 +22,7 @@ is_title w = starts_with nat_eq w (codes "blk-") || starts_with nat_eq w (34 ∷
 
 -- a line tells a step in the form of a recorder
 abbrev pub is_step : Result (Line Word) LineWhy → Bool
-is_step (Ok (line.Step l)) = is_ok (step_of l)
+is_step (Ok (line.Step l)) = is_ok (step_told l)
 is_step (Ok line.Remark) = false
 is_step (Ok line.Loss) = false
 is_step (Err w) = false

@@ -115,5 +115,5 @@ step_by l (Some s) (Some n) (Some cpu) (Some pid) (Some d) (Some range) =
     else Err why.Range
 step_by l _ _ _ _ _ _ = Err why.Number
 
-abbrev pub step_of : Layout Word → Result Step LineWhy
-step_of l = step_by l (number l.seconds) (nanoseconds l.fraction) (number l.cpu) (number l.pid) (device_named l.device) (span_numbers l.span)
+abbrev pub step_told : Layout Word → Result Step LineWhy
+step_told l = step_by l (number l.seconds) (nanoseconds l.fraction) (number l.cpu) (number l.pid) (device_named l.device) (span_numbers l.span)

@@ -51,9 +51,9 @@ tells_loss ws = if bytes_eq (at ws 0) (codes "Skips:") then is_no_zero (number (
 abbrev pub remark : List Word → Line Word
 remark ws = if tells_loss ws then Loss else Remark
 
-abbrev pub stepped : Result (Layout Word) LineWhy → Result (Line Word) LineWhy
-stepped (Ok l) = Ok (Step l)
-stepped (Err w) = Err w
+abbrev pub as_step : Result (Layout Word) LineWhy → Result (Line Word) LineWhy
+as_step (Ok l) = Ok (Step l)
+as_step (Err w) = Err w
 
 -- a row: seconds, nanoseconds, processor, action, process, rwbs, first sector, sectors
 abbrev pub row_layout : List Word → Result (Layout Word) LineWhy
@@ -63,7 +63,7 @@ row_layout r =
     else Err why.Fields
 
 abbrev pub row_line : Word → Result (Line Word) LineWhy
-row_line row = stepped (row_layout (slice_split (λ c. c == 44) row))
+row_line row = as_step (row_layout (slice_split (λ c. c == 44) row))
 
 -- what stands between brackets
 abbrev pub inside : Word → Word
@@ -76,7 +76,7 @@ is_cpu w = is_some (number (inside w))
 abbrev pub blkparse_line : List Word → Result (Line Word) LineWhy
 blkparse_line ws =
     if begins_with_digit (at ws 0)
-    then (if length ws == 1 then row_line (at ws 0) else stepped (placed ws BLKPARSE))
+    then (if length ws == 1 then row_line (at ws 0) else as_step (placed ws BLKPARSE))
     else Ok (remark ws)
 
 abbrev pub bpftrace_line : List Word → Result (Line Word) LineWhy
@@ -106,7 +106,7 @@ abbrev pub timed_line : List Word → ℕ → ℕ → Result (Line Word) LineWhy
 timed_line ws cpu time =
     if (cpu == 0) || nat_le (length ws) (time + 1) then Err why.Fields
     else (if is_some (device_of (at ws (time + 1)))
-    then stepped (with_span (task_layout ws cpu time) (span_from (action_by (at ws (time + 2))) ws (time + 4)))
+    then as_step (with_span (task_layout ws cpu time) (span_from (action_by (at ws (time + 2))) ws (time + 4)))
     else Ok Remark)
 
 abbrev pub task_line : List Word → ℕ → Result (Line Word) LineWhy
@@ -119,7 +119,7 @@ of_task ws None = if tells_loss ws then Ok Loss else Err why.Fields
 abbrev pub ftrace_line : List Word → Result (Line Word) LineWhy
 ftrace_line ws =
     if begins_with 35 (at ws 0) then Ok (remark ws)
-    else (if is_some (device_of (at ws 0)) then stepped (placed ws CLASSIC)
+    else (if is_some (device_of (at ws 0)) then as_step (placed ws CLASSIC)
     else of_task ws (place_from is_cpu 0 ws))
 
 -- perf: `.. PID [CPU] TIME: EVENT: DEVICE RWBS ..`; of a request its bytes and command, `()`, stand before the range of sectors
@@ -173,7 +173,7 @@ perf_layout ws k a = ranged ws k a (place_of_range ws k)
 
 abbrev pub eventful : List Word → ℕ → Option Action → Result (Line Word) LineWhy
 eventful ws k None = Ok (remark ws)
-eventful ws k (Some a) = stepped (perf_layout ws k a)
+eventful ws k (Some a) = as_step (perf_layout ws k a)
 
 abbrev pub at_event : List Word → Option ℕ → Result (Line Word) LineWhy
 at_event ws None = Ok (remark ws)

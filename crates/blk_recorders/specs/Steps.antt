@@ -6,7 +6,7 @@ use Rattle.std.specs.Ordering.{nat_cmp}
 use Rattle.std.specs.declared.cmp.Ordering.{Ordering}
 use Rattle.blk_capture.specs.declared.record.Record.{Record}
 use Rattle.blk_recorders.specs.Words.{Word, words}
-use Rattle.blk_recorders.specs.Layouts.{is_device, step_of}
+use Rattle.blk_recorders.specs.Layouts.{is_device, step_told}
 use Rattle.blk_recorders.specs.Lines.{line_of}
 use Rattle.blk_recorders.specs.declared.device.Device.{Device}
 use Rattle.blk_recorders.specs.declared.fault.LineFault.{LineFault}
@@ -77,7 +77,7 @@ if_step f asked s (Err w) = Err w
 
 abbrev pub take_line : Recorder → Option Device → Sofar → Result (Line Word) LineWhy → Result Sofar LineWhy
 take_line f asked s (Err w) = Err w
-take_line f asked s (Ok (line.Step l)) = if_step f asked s (step_of l)
+take_line f asked s (Ok (line.Step l)) = if_step f asked s (step_told l)
 take_line f asked s (Ok line.Remark) = Ok (record s { remarks = more s.remarks })
 take_line f asked s (Ok line.Loss) = Ok (record s { losses = more s.losses })
 

@@ -7,8 +7,8 @@ use denote.Ref.{Bor}
 abbrev pub Word : Type 0
 Word = List ℕ
 
-abbrev pub texts : List (Bor Word) → List Word
-texts ws = map (λ w. w.now) ws
+abbrev pub word_texts : List (Bor Word) → List Word
+word_texts ws = map (λ w. w.now) ws
 
 -- space, tab, carriage return
 abbrev pub is_blank : ℕ → Bool

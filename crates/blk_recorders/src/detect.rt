@@ -1,11 +1,11 @@
 //! Which recorder printed a text, by its first lines.
 
 ghost use Rattle.std.specs.Prelude.{◌≡◌, IfOk};
-ghost use Rattle.blk_recorders.specs.Words.{texts};
+ghost use Rattle.blk_recorders.specs.Words.{word_texts};
 ghost use Rattle.blk_recorders.specs.Detected.{is_title, tells_step, form_by, form_of};
 
 use crate::fault::LineWhy;
-use crate::layout::step_of;
+use crate::layout::step_told;
 use crate::lines::{Line, line_of};
 use crate::recorder::Recorder;
 use crate::words::{word_at, words};
@@ -34,10 +34,10 @@ fn is_title(word: &[u8]) -> bool
 
 /// Whether a line tells a step in the form of a recorder.
 fn tells_step(alloc: Global, recorder: Recorder, words: &[&[u8]]) -> Result<bool, AllocError>
-    ensures { IfOk result (λ b. b ≡ tells_step recorder (texts words.now)) }
+    ensures { IfOk result (λ b. b ≡ tells_step recorder (word_texts words.now)) }
 {
     match line_of(alloc, recorder, words) {
-        Ok(Line::Step(layout)) => Ok(step_of(&layout).is_ok()),
+        Ok(Line::Step(layout)) => Ok(step_told(&layout).is_ok()),
         Ok(Line::Remark) | Ok(Line::Loss) => Ok(false),
         Err(LineWhy::Memory) => Err(AllocError),
         Err(_) => Ok(false),
@@ -46,7 +46,7 @@ fn tells_step(alloc: Global, recorder: Recorder, words: &[&[u8]]) -> Result<bool
 
 /// The form of which a line is, if it tells: a title; what bpftrace says at first; or a step of another recorder.
 fn form_by(alloc: Global, words: &[&[u8]]) -> Result<Option<CaptureForm>, AllocError>
-    ensures { IfOk result (λ f. f ≡ form_by (texts words.now)) }
+    ensures { IfOk result (λ f. f ≡ form_by (word_texts words.now)) }
 {
     let first = word_at(words, 0);
     if is_title(first) {

@@ -3,8 +3,8 @@
 ghost use Rattle.std.specs.Prelude.{◌≡◌, ◌+◌, ◌<◌, ◌^◌, is_some, length, option_map};
 ghost use Rattle.blk_capture.specs.Passing.{passed_action};
 ghost use Rattle.std.specs.Result.{result_map_both};
-ghost use Rattle.blk_recorders.specs.Words.{texts};
-ghost use Rattle.blk_recorders.specs.Layouts.{laid, spanned, is_remark, span_from, span_numbers, device_named, step_of, placed};
+ghost use Rattle.blk_recorders.specs.Words.{word_texts};
+ghost use Rattle.blk_recorders.specs.Layouts.{laid, spanned, is_remark, span_from, span_numbers, device_named, step_told, placed};
 
 use crate::device::Device;
 use crate::fault::LineWhy;
@@ -94,7 +94,7 @@ pub(crate) fn span_from<'a>(
     place: usize,
 ) -> Result<Span<&'a [u8]>, LineWhy>
     requires { place + 2 < 2 ^ 64 }
-    ensures { result_map_both spanned (λ e. e) result ≡ span_from action (texts words.now) place }
+    ensures { result_map_both spanned (λ e. e) result ≡ span_from action (word_texts words.now) place }
 {
     let first = word_at(words, place);
     let sign = word_at(words, place + 1);
@@ -119,7 +119,7 @@ pub(crate) fn span_from<'a>(
 /// The parts of a line whose words stand at fixed places.
 pub(crate) fn placed<'a>(words: &[&'a [u8]], places: Places) -> Result<Layout<&'a [u8]>, LineWhy>
     requires { places.span + 2 < 2 ^ 64 }
-    ensures { result_map_both laid (λ e. e) result ≡ placed (texts words.now) places }
+    ensures { result_map_both laid (λ e. e) result ≡ placed (word_texts words.now) places }
 {
     if words.len() < places.span {
         return Err(LineWhy::Fields);
@@ -171,8 +171,8 @@ fn device_named(word: Option<&[u8]>) -> Option<Option<Device>>
 
 /// The step that the parts of a line tell: [`LineWhy::Number`] where one that is to be a number isn't, and [`LineWhy::Range`] for a time
 /// of 2^34 seconds or more.
-pub(crate) fn step_of(layout: &Layout<&[u8]>) -> Result<Step, LineWhy>
-    ensures { result ≡ step_of (laid layout.now) }
+pub(crate) fn step_told(layout: &Layout<&[u8]>) -> Result<Step, LineWhy>
+    ensures { result ≡ step_told (laid layout.now) }
 {
     let Some(seconds) = number(layout.seconds) else {
         return Err(LineWhy::Number);

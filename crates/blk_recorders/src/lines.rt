@@ -2,10 +2,10 @@
 
 ghost use Rattle.std.specs.Prelude.{◌≡◌, ◌⊎◌, ◌+◌, ◌<◌, ◌≤◌, IfOk, IfErr, IfSome, Ok, Err, drop, length, ◌^◌};
 ghost use Rattle.std.specs.Result.{result_map_both};
-ghost use Rattle.blk_recorders.specs.Words.{texts};
+ghost use Rattle.blk_recorders.specs.Words.{word_texts};
 ghost use Rattle.std.specs.List.{list_any};
 ghost use Rattle.blk_recorders.specs.Layouts.{laid, spanned};
-ghost use Rattle.blk_recorders.specs.Lines.{lined, begins_with_digit, ends_with, is_of_loss, tells_loss, remark, stepped, row_layout, row_line, inside, is_cpu, is_event, place_from, task_line, timed_line, task_layout, ftrace_line, blkparse_line, bpftrace_line, event_of, request_event_of, place_of_range, perf_layout, perf_line, line_of};
+ghost use Rattle.blk_recorders.specs.Lines.{lined, begins_with_digit, ends_with, is_of_loss, tells_loss, remark, as_step, row_layout, row_line, inside, is_cpu, is_event, place_from, task_line, timed_line, task_layout, ftrace_line, blkparse_line, bpftrace_line, event_of, request_event_of, place_of_range, perf_layout, perf_line, line_of};
 
 use crate::device::Device;
 use crate::fault::LineWhy;
@@ -75,7 +75,7 @@ fn is_of_loss(word: &[u8]) -> bool
 
 /// Whether a line that is no step tells that events were lost. blkparse's own count, `Skips: 0 forward`, does where it isn't 0.
 fn tells_loss(words: &[&[u8]]) -> bool
-    ensures { result ≡ tells_loss (texts words.now) }
+    ensures { result ≡ tells_loss (word_texts words.now) }
 {
     if word_at(words, 0) == b"Skips:".as_slice() {
         return number(word_at(words, 1)) != Some(0);
@@ -85,7 +85,7 @@ fn tells_loss(words: &[&[u8]]) -> bool
 
 /// Whether some word says that something was lost.
 fn has_word_of_loss(words: &[&[u8]]) -> bool
-    ensures { result ≡ list_any is_of_loss (texts words.now) }
+    ensures { result ≡ list_any is_of_loss (word_texts words.now) }
 {
     for place in 0..words.len() {
         if is_of_loss(word_at(words, place)) {
@@ -97,7 +97,7 @@ fn has_word_of_loss(words: &[&[u8]]) -> bool
 
 /// A line that is no step.
 fn remark<'a>(words: &[&'a [u8]]) -> Line<&'a [u8]>
-    ensures { lined result ≡ remark (texts words.now) }
+    ensures { lined result ≡ remark (word_texts words.now) }
 {
     if tells_loss(words) {
         Line::Loss
@@ -108,7 +108,7 @@ fn remark<'a>(words: &[&'a [u8]]) -> Line<&'a [u8]>
 
 /// The parts of a row of eight fields: seconds, nanoseconds, processor, action, process, rwbs, first sector, sectors.
 fn row_layout<'a>(row: &[&'a [u8]]) -> Result<Layout<&'a [u8]>, LineWhy>
-    ensures { result_map_both laid (λ e. e) result ≡ row_layout (texts row.now) }
+    ensures { result_map_both laid (λ e. e) result ≡ row_layout (word_texts row.now) }
 {
     if row.len() != ROW_WIDTH {
         return Err(LineWhy::Fields);
@@ -144,7 +144,7 @@ fn is_cpu(word: &[u8]) -> bool
 
 /// The place of the first processor in brackets.
 fn place_of_cpu(words: &[&[u8]]) -> Option<usize>
-    ensures value { result ≡ place_from is_cpu 0 (texts words.now) }
+    ensures value { result ≡ place_from is_cpu 0 (word_texts words.now) }
     ensures inside { IfSome result (λ k. k < length words.now) }
 {
     for place in 0..words.len() {
@@ -169,7 +169,7 @@ fn ends_with(word: &[u8], byte: u8) -> bool
 /// an event of another kind.
 fn task_line<'a>(words: &[&'a [u8]], cpu: usize) -> Result<Line<&'a [u8]>, LineWhy>
     requires { cpu < length words.now }
-    ensures { result_map_both lined (λ e. e) result ≡ task_line (texts words.now) cpu }
+    ensures { result_map_both lined (λ e. e) result ≡ task_line (word_texts words.now) cpu }
 {
     if ends_with(word_at(words, cpu + 1), b':') {
         timed_line(words, cpu, cpu + 1)
@@ -182,7 +182,7 @@ fn task_line<'a>(words: &[&'a [u8]], cpu: usize) -> Result<Line<&'a [u8]>, LineW
 fn timed_line<'a>(words: &[&'a [u8]], cpu: usize, time: usize) -> Result<Line<&'a [u8]>, LineWhy>
     requires room { time + 6 < 2 ^ 64 }
     requires cpu { cpu < length words.now }
-    ensures { result_map_both lined (λ e. e) result ≡ timed_line (texts words.now) cpu time }
+    ensures { result_map_both lined (λ e. e) result ≡ timed_line (word_texts words.now) cpu time }
 {
     if cpu == 0 || words.len() <= time + 1 {
         return Err(LineWhy::Fields);
@@ -208,7 +208,7 @@ fn task_layout<'a>(
 ) -> Layout<&'a [u8]>
     requires room { time + 6 < 2 ^ 64 }
     requires some { 0 < cpu }
-    ensures { laid result ≡ task_layout (texts words.now) cpu time (spanned span.entry) }
+    ensures { laid result ≡ task_layout (word_texts words.now) cpu time (spanned span.entry) }
 {
     let clock = before(word_at(words, time), b':');
     Layout {
@@ -225,14 +225,14 @@ fn task_layout<'a>(
 
 /// A step of ftrace's blk tracer, in either layout.
 fn ftrace_line<'a>(words: &[&'a [u8]]) -> Result<Line<&'a [u8]>, LineWhy>
-    ensures { result_map_both lined (λ e. e) result ≡ ftrace_line (texts words.now) }
+    ensures { result_map_both lined (λ e. e) result ≡ ftrace_line (word_texts words.now) }
 {
     let first = word_at(words, 0);
     if begins_with(first, b'#') {
         return Ok(remark(words));
     }
     if Device::of_text(first).is_some() {
-        return stepped(placed(words, CLASSIC));
+        return as_step(placed(words, CLASSIC));
     }
     match place_of_cpu(words) {
         Some(cpu) => task_line(words, cpu),
@@ -247,8 +247,8 @@ fn ftrace_line<'a>(words: &[&'a [u8]]) -> Result<Line<&'a [u8]>, LineWhy>
 }
 
 /// The line of a step.
-fn stepped<'a>(layout: Result<Layout<&'a [u8]>, LineWhy>) -> Result<Line<&'a [u8]>, LineWhy>
-    ensures { result_map_both lined (λ e. e) result ≡ stepped (result_map_both laid (λ e. e) layout.entry) }
+fn as_step<'a>(layout: Result<Layout<&'a [u8]>, LineWhy>) -> Result<Line<&'a [u8]>, LineWhy>
+    ensures { result_map_both lined (λ e. e) result ≡ as_step (result_map_both laid (λ e. e) layout.entry) }
 {
     match layout {
         Ok(layout) => Ok(Line::Step(layout)),
@@ -300,7 +300,7 @@ fn action_of_request_event(word: &[u8]) -> Option<Action>
 
 /// The place of the first word from a place on that ends with a parenthesis.
 fn place_of_command(words: &[&[u8]], from: usize) -> Option<usize>
-    ensures value { result ≡ place_from (ends_with 41) from (drop from (texts words.now)) }
+    ensures value { result ≡ place_from (ends_with 41) from (drop from (word_texts words.now)) }
     ensures inside { IfSome result (λ k. k < length words.now) }
 {
     for place in from..words.len() {
@@ -313,7 +313,7 @@ fn place_of_command(words: &[&[u8]], from: usize) -> Option<usize>
 
 /// The place of the first tracepoint of `block`.
 fn place_of_event(words: &[&[u8]]) -> Option<usize>
-    ensures value { result ≡ place_from is_event 0 (texts words.now) }
+    ensures value { result ≡ place_from is_event 0 (word_texts words.now) }
     ensures inside { IfSome result (λ k. k < length words.now) }
 {
     for place in 0..words.len() {
@@ -334,7 +334,7 @@ fn is_event(word: &[u8]) -> bool
 /// The place of the range of sectors behind an event of perf: two words after it, or of a request behind its command, `()`.
 fn place_of_range(words: &[&[u8]], event: usize) -> Option<usize>
     requires { event < length words.now }
-    ensures value { result ≡ place_of_range (texts words.now) event }
+    ensures value { result ≡ place_of_range (word_texts words.now) event }
     ensures near { IfSome result (λ k. k ≤ length words.now + 3) }
 {
     if action_of_request_event(word_at(words, event)).is_none() {
@@ -353,7 +353,7 @@ fn perf_layout<'a>(
     action: Action,
 ) -> Result<Layout<&'a [u8]>, LineWhy>
     requires { event < length words.now }
-    ensures { result_map_both laid (λ e. e) result ≡ perf_layout (texts words.now) event action }
+    ensures { result_map_both laid (λ e. e) result ≡ perf_layout (word_texts words.now) event action }
 {
     let Some(place) = place_of_range(words, event) else {
         return Err(LineWhy::Fields);
@@ -385,11 +385,11 @@ fn perf_layout<'a>(
 
 /// A line of perf: a step where it has the name of a tracepoint of `block` of which something is known.
 fn perf_line<'a>(words: &[&'a [u8]]) -> Result<Line<&'a [u8]>, LineWhy>
-    ensures { result_map_both lined (λ e. e) result ≡ perf_line (texts words.now) }
+    ensures { result_map_both lined (λ e. e) result ≡ perf_line (word_texts words.now) }
 {
     match place_of_event(words) {
         Some(event) => match action_of_event(word_at(words, event)) {
-            Some(action) => stepped(perf_layout(words, event, action)),
+            Some(action) => as_step(perf_layout(words, event, action)),
             None => Ok(remark(words)),
         },
         None => Ok(remark(words)),
@@ -398,15 +398,15 @@ fn perf_line<'a>(words: &[&'a [u8]]) -> Result<Line<&'a [u8]>, LineWhy>
 
 /// A line of blkparse: a step where it begins with a digit, in a row of its own or in the default layout.
 fn blkparse_line<'a>(alloc: Global, words: &[&'a [u8]]) -> Result<Line<&'a [u8]>, LineWhy>
-    ensures ok { IfOk result (λ l. blkparse_line (texts words.now) ≡ Ok (lined l)) }
-    ensures err { IfErr result (λ w. (w ≡ LineWhy.Memory) ⊎ (blkparse_line (texts words.now) ≡ Err w)) }
+    ensures ok { IfOk result (λ l. blkparse_line (word_texts words.now) ≡ Ok (lined l)) }
+    ensures err { IfErr result (λ w. (w ≡ LineWhy.Memory) ⊎ (blkparse_line (word_texts words.now) ≡ Err w)) }
 {
     let first = word_at(words, 0);
     if !begins_with_digit(first) {
         return Ok(remark(words));
     }
     if words.len() != 1 {
-        return stepped(placed(words, BLKPARSE));
+        return as_step(placed(words, BLKPARSE));
     }
     row_line(alloc, first)
 }
@@ -417,15 +417,15 @@ fn row_line(alloc: Global, row: &[u8]) -> Result<Line<&[u8]>, LineWhy>
     ensures err { IfErr result (λ w. (w ≡ LineWhy.Memory) ⊎ (row_line row.now ≡ Err w)) }
 {
     match fields(alloc, row) {
-        Ok(fields) => stepped(row_layout(fields.as_slice())),
+        Ok(fields) => as_step(row_layout(fields.as_slice())),
         Err(_) => Err(LineWhy::Memory),
     }
 }
 
 /// A line of bpftrace: a row where it begins with a digit.
 fn bpftrace_line<'a>(alloc: Global, words: &[&'a [u8]]) -> Result<Line<&'a [u8]>, LineWhy>
-    ensures ok { IfOk result (λ l. bpftrace_line (texts words.now) ≡ Ok (lined l)) }
-    ensures err { IfErr result (λ w. (w ≡ LineWhy.Memory) ⊎ (bpftrace_line (texts words.now) ≡ Err w)) }
+    ensures ok { IfOk result (λ l. bpftrace_line (word_texts words.now) ≡ Ok (lined l)) }
+    ensures err { IfErr result (λ w. (w ≡ LineWhy.Memory) ⊎ (bpftrace_line (word_texts words.now) ≡ Err w)) }
 {
     let first = word_at(words, 0);
     if !begins_with_digit(first) {
@@ -443,8 +443,8 @@ pub(crate) fn line_of<'a>(
     recorder: Recorder,
     words: &[&'a [u8]],
 ) -> Result<Line<&'a [u8]>, LineWhy>
-    ensures ok { IfOk result (λ l. line_of recorder (texts words.now) ≡ Ok (lined l)) }
-    ensures err { IfErr result (λ w. (w ≡ LineWhy.Memory) ⊎ (line_of recorder (texts words.now) ≡ Err w)) }
+    ensures ok { IfOk result (λ l. line_of recorder (word_texts words.now) ≡ Ok (lined l)) }
+    ensures err { IfErr result (λ w. (w ≡ LineWhy.Memory) ⊎ (line_of recorder (word_texts words.now) ≡ Err w)) }
 {
     match recorder {
         Recorder::Blkparse => blkparse_line(alloc, words),

@@ -8,7 +8,7 @@ ghost use Rattle.blk_recorders.specs.Inside.Reading.{sofar, Takes, HaveSameCount
 
 use crate::device::Device;
 use crate::fault::{LineFault, LineWhy};
-use crate::layout::{Step, step_of};
+use crate::layout::{Step, step_told};
 use crate::lines::{Line, line_of};
 use crate::recorder::Recorder;
 use crate::words::words;
@@ -162,7 +162,7 @@ impl Reading {
         ensures { Takes (sofar self.new) result (take_line recorder asked (sofar self.old) (Ok (lined line.entry))) }
     {
         match line {
-            Line::Step(layout) => match step_of(&layout) {
+            Line::Step(layout) => match step_told(&layout) {
                 Ok(step) => self.take_step(recorder, asked, step),
                 Err(why) => Err(why),
             },

@@ -2,7 +2,7 @@
 
 ghost use Rattle.std.specs.Prelude.{◌≡◌, ◌==◌, ◌<◌, ◌^◌, IfOk, IfSome, get_or, length, []};
 ghost use Rattle.std.specs.List.{position, slice_split};
-ghost use Rattle.blk_recorders.specs.Words.{is_blank, words, number, nanoseconds, before, behind, behind_last, begins_with, texts};
+ghost use Rattle.blk_recorders.specs.Words.{is_blank, words, number, nanoseconds, before, behind, behind_last, begins_with, word_texts};
 
 use std::alloc::{AllocError, Global};
 
@@ -15,7 +15,7 @@ pub(crate) fn is_blank(byte: u8) -> bool
 
 /// The words of a line: what stands between blanks.
 pub(crate) fn words(alloc: Global, line: &[u8]) -> Result<Vec<&[u8]>, AllocError>
-    ensures { IfOk result (λ v. texts v.items ≡ words line.now) }
+    ensures { IfOk result (λ v. word_texts v.items ≡ words line.now) }
 {
     line.split(|byte| is_blank(*byte))
         .filter(|word| !word.is_empty())
@@ -24,14 +24,14 @@ pub(crate) fn words(alloc: Global, line: &[u8]) -> Result<Vec<&[u8]>, AllocError
 
 /// The fields of a row: what stands between commas.
 pub(crate) fn fields(alloc: Global, row: &[u8]) -> Result<Vec<&[u8]>, AllocError>
-    ensures { IfOk result (λ v. texts v.items ≡ slice_split (λ c. c == 44) row.now) }
+    ensures { IfOk result (λ v. word_texts v.items ≡ slice_split (λ c. c == 44) row.now) }
 {
     row.split(|byte| *byte == b',').collect(alloc)
 }
 
 /// The word at a place, empty where there are fewer.
 pub(crate) fn word_at<'a>(words: &[&'a [u8]], place: usize) -> &'a [u8]
-    ensures { result.now ≡ get_or (texts words.now) place [] }
+    ensures { result.now ≡ get_or (word_texts words.now) place [] }
 {
     if place < words.len() {
         words[place]

@@ -23,7 +23,7 @@ use Rattle.blk_settings.specs.declared.sched.Sched.{Sched}
 use Rattle.blk_settings.specs.declared.rows.SchedKind.TheVariants as sched
 use Rattle.blk_settings.specs.Defaults.{default_sched, default_deadline, default_kyber, default_earliest, deadline_in, kyber_within, earliest_by, default_lineup, with_earliest, in_batches, whole}
 use Rattle.blk_words.specs.Asked.{Asks, AsksGrid, grid_read, job_read, of_script, of_trace, of_list}
-use Rattle.blk_words.specs.Plain.{words_in, AsksFor, AsksForGrid, AsksForNothing, default_trial, five_by_lateness, whole_import, hundred_queued, default_load, own_grid}
+use Rattle.blk_words.specs.Plain.{words_in, AsksFor, AsksForGrid, AsksForNothing, default_trial, five_by_lateness, whole_import, by_perf, default_load, own_grid}
 
 -- texts at some places
 abbrev placed : (ℕ → ℕ × ℕ) → List Text → List (Bor Text)
@@ -260,7 +260,7 @@ pub import_line : IsReadSo "import" (job.Import (whole_import written.Schedule))
 unfolding clap_on_literals
 import_line name p f = (refl, refl)
 
-pub import_so_line : IsReadSo "import --read-expire 150us --from queue --as perf --device 8,16 --skip 2ms --first 100 --table" (job.Import hundred_queued)
+pub import_so_line : IsReadSo "import --read-expire 8us --from queue --as perf --device 8,0 --skip 1s --first 9 --table" (job.Import by_perf)
 unfolding clap_on_literals
 import_so_line name p f = (refl, refl)
 

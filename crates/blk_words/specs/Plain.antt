@@ -54,8 +54,8 @@ any_source = record { form = None; device = None; tags = None }
 abbrev pub whole_import : Written → Import
 whole_import w = record { read_expire = 500_000_000; write_expire = 5_000_000_000; from_queue = false; source = any_source; skip = 0; first = None; written = w }
 
-abbrev pub hundred_queued : Import
-hundred_queued = record { read_expire = 150_000; write_expire = 5_000_000_000; from_queue = true; source = record { form = Some (Printed Perf); device = Some (record { major = 8; minor = 16 }); tags = None }; skip = 2_000_000; first = Some 100; written = written.Table }
+abbrev pub by_perf : Import
+by_perf = record { read_expire = 8_000; write_expire = 5_000_000_000; from_queue = true; source = record { form = Some (Printed Perf); device = Some (record { major = 8; minor = 0 }); tags = None }; skip = 1_000_000_000; first = Some 9; written = written.Table }
 
 -- a load where no option sets it
 abbrev pub default_load : Load

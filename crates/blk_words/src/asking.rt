@@ -4,7 +4,7 @@ ghost use Rattle.std.specs.Prelude.{◌∷◌, [], true, false, None, Some, code
 ghost use Rattle.clap.specs.Words.{Text};
 ghost use Rattle.blk_settings.specs.Defaults.{default_sched, default_deadline, default_kyber, default_earliest, deadline_in, kyber_within, earliest_by, default_lineup, with_earliest, in_batches, whole};
 ghost use Rattle.blk_words.specs.Asked.{Asks, of_script, of_trace, of_list};
-ghost use Rattle.blk_words.specs.Plain.{AsksFor, AsksForGrid, AsksForNothing, default_trial, five_by_lateness, whole_import, hundred_queued, default_load, own_grid};
+ghost use Rattle.blk_words.specs.Plain.{AsksFor, AsksForGrid, AsksForNothing, default_trial, five_by_lateness, whole_import, by_perf, default_load, own_grid};
 
 use crate::inputs::{Running, Solving, Telling, TextJob};
 use crate::words::{Job, Refusal, ShownLoad, Written};
@@ -53,7 +53,7 @@ pub fn plain_lines()
     ensures check { AsksFor "check" (Job.OfText (TextJob.Check Form.Lines)) }
     ensures check_json { AsksFor "check --json" (Job.OfText (TextJob.Check Form.Json)) }
     ensures imported { AsksFor "import" (Job.Import (whole_import Written.Schedule)) }
-    ensures imported_so { AsksFor "import --read-expire 150us --from queue --as perf --device 8,16 --skip 2ms --first 100 --table" (Job.Import hundred_queued) }
+    ensures imported_so { AsksFor "import --read-expire 8us --from queue --as perf --device 8,0 --skip 1s --first 9 --table" (Job.Import by_perf) }
     ensures summary { AsksFor "import --write-expire 8ns --summary" (Job.Import (record (whole_import Written.Summary) { write_expire = 8 })) }
     ensures no_time { AsksFor "import --skip 2" (Job.Refuse Refusal.Skip) }
     ensures no_entry { AsksFor "import --from issue" (Job.Refuse Refusal.From) }

@@ -7,6 +7,7 @@ mod command;
 mod inputs;
 mod lists;
 mod option_names;
+mod source;
 mod table;
 mod takers;
 mod times;

@@ -6,7 +6,7 @@ ghost use Rattle.clap.specs.Words.{subcommand_rows_of};
 ghost use Rattle.blk_settings.specs.Grids.{grid_given};
 ghost use Rattle.blk_words.specs.CommandLine.{command_table, program_version};
 ghost use Rattle.blk_words.specs.Inside.Tables.{subcommand_of, makes_among};
-ghost use Rattle.blk_words.specs.Asked.{Asks, AsksGrid, AsksNoGrid, IsNoJob, list_given, by_named, by_given, tune_job, short_given, number_given, is_flagged, given_options, sched_asked, lineup_asked, compared, pictured, amounts_of, shown_of, loaded, load_given, form_by, form_asked, time_given, entry_named, from_given, as_named, as_by, as_given, device_by, device_given, source_given, round_by, round_given, script_asked, unscripted, written_of, takes_all, import_of, import_job, oracle_given, job_made, job_of};
+ghost use Rattle.blk_words.specs.Asked.{Asks, AsksGrid, AsksNoGrid, IsNoJob, list_given, by_named, by_given, tune_job, short_given, number_given, is_flagged, given_options, sched_asked, lineup_asked, compared, pictured, amounts_of, shown_of, loaded, load_given, form_by, form_asked, time_given, entry_named, from_given, source_given, round_by, round_given, script_asked, unscripted, written_of, takes_all, import_of, import_job, oracle_given, job_made, job_of};
 ghost use Rattle.blk_words.specs.Options.{script_option};
 ghost use Rattle.blk_settings.specs.Complaints.{complaint_text};
 ghost use Rattle.blk_words.specs.Refusals.{refusal_text};
@@ -16,9 +16,10 @@ use crate::command::{blk_command, other_commands, run_commands};
 use crate::inputs::{Running, Solving, Telling, TextJob};
 use crate::lists::numbers_of;
 use crate::option_names;
+use crate::source::source_given;
 use crate::table::{CommandRow, Makes};
 use crate::times::time_of;
-use blk_recorders::{CaptureForm, Device, Recorder};
+use blk_recorders::{CaptureForm, Device};
 use blk_settings::given::Numbers;
 use blk_settings::grid::grid_given;
 use blk_settings::options::{scheduler_names, tried_names};
@@ -220,7 +221,7 @@ fn short_of(options: &ArgMatches<'_>, id: &str) -> Option<u16>
 }
 
 /// The number that an option is given.
-fn number_of(options: &ArgMatches<'_>, id: &str) -> Option<u64>
+pub(crate) fn number_of(options: &ArgMatches<'_>, id: &str) -> Option<u64>
     ensures { result ≡ number_given id.now (given options.now) }
 {
     options.get_one::<u64>(id)
@@ -386,84 +387,6 @@ fn from_given(options: &ArgMatches<'_>) -> Option<bool>
         Some(text) => entry_named(text),
         None => None,
     }
-}
-
-/// Who printed a capture, by the text of `--as`.
-fn as_named(text: &str) -> Option<CaptureForm>
-    ensures { result ≡ as_named text.now }
-{
-    if text == "capture" {
-        Some(CaptureForm::Records)
-    } else if text == "blkparse" {
-        Some(CaptureForm::Printed(Recorder::Blkparse))
-    } else if text == "ftrace" {
-        Some(CaptureForm::Printed(Recorder::Ftrace))
-    } else if text == "perf" {
-        Some(CaptureForm::Printed(Recorder::Perf))
-    } else if text == "bpftrace" {
-        Some(CaptureForm::Printed(Recorder::Bpftrace))
-    } else {
-        None
-    }
-}
-
-/// The form of a capture by the text of `--as`.
-fn as_by(text: &str) -> Result<Option<CaptureForm>, Refusal>
-    ensures { result ≡ as_by text.now }
-{
-    match as_named(text) {
-        Some(form) => Ok(Some(form)),
-        None => Err(Refusal::As),
-    }
-}
-
-/// The same by the options, where it is given.
-fn as_given(options: &ArgMatches<'_>) -> Result<Option<CaptureForm>, Refusal>
-    ensures { result ≡ as_given (given options.now) }
-{
-    match options.get_str(option_names::AS) {
-        Some(text) => as_by(text),
-        None => Ok(None),
-    }
-}
-
-/// The device by the text of `--device`.
-fn device_by(text: &str) -> Result<Option<Device>, Refusal>
-    ensures { result ≡ device_by text.now }
-{
-    match Device::of_text(text.as_bytes()) {
-        Some(device) => Ok(Some(device)),
-        None => Err(Refusal::Device),
-    }
-}
-
-/// The same by the options, where it is given.
-fn device_given(options: &ArgMatches<'_>) -> Result<Option<Device>, Refusal>
-    ensures { result ≡ device_given (given options.now) }
-{
-    match options.get_str(option_names::DEVICE) {
-        Some(text) => device_by(text),
-        None => Ok(None),
-    }
-}
-
-/// Where a capture comes from by the options, or the refusal of the first of them that can't be.
-fn source_given(options: &ArgMatches<'_>) -> Result<CaptureSource, Refusal>
-    ensures { result ≡ source_given (given options.now) }
-{
-    let form = match as_given(options) {
-        Ok(form) => form,
-        Err(refusal) => return Err(refusal),
-    };
-    let device = match device_given(options) {
-        Ok(device) => device,
-        Err(refusal) => return Err(refusal),
-    };
-    Ok(CaptureSource {
-        form,
-        device,
-        tags: number_of(options, option_names::TAGS),
-    })
 }
 
 /// The length of a round by the text of `--round`.

@@ -13,7 +13,7 @@ use Rattle.blk_words.specs.declared.words.Refusal.TheVariants as refusal
 use Rattle.blk_words.specs.declared.words.Written.TheVariants as written
 use Rattle.blk_settings.specs.Defaults.{default_sched, default_deadline, default_kyber, default_earliest, deadline_in, kyber_within, earliest_by, default_lineup, with_earliest, in_batches, whole}
 use Rattle.blk_words.specs.Asked.{of_script, of_trace, of_list}
-use Rattle.blk_words.specs.Plain.{default_trial, five_by_lateness, whole_import, hundred_queued, default_load, own_grid}
+use Rattle.blk_words.specs.Plain.{default_trial, five_by_lateness, whole_import, by_perf, default_load, own_grid}
 use Rattle.blk_words.proofs.Plain.{asks_for, asks_for_grid, asks_for_nothing, sim_line, none_line, deadline_line, kyber_line, earliest_line, late_last_line, batch_line, target_line, compare_line, compare_earliest_line, compare_late_last_line, compare_json_line, tune_line, tune_so_line, tune_json_line, tune_unknown_line, tune_no_list_line, tune_twice_line, tune_by_what_line, whole_grid_line, own_grid_line, migrate_line, commands_line, late_line, late_json_line, misses_line, misses_json_line, spread_line, spread_json_line, picture_line, drawn_line, oracle_line, report_line, report_json_line, on_time_line, report_and_on_time_line, certificate_json_line, check_line, check_json_line, import_line, import_so_line, summary_line, no_time_line, no_entry_line, no_recorder_line, no_device_line, table_and_summary_line, script_line, script_alone_line, depth_alone_line, judge_line, judge_each_line, explain_line, load_line, load_json_line, busy_line, traced_line, traced_json_line, version_line}
 use Rattle.blk_words.proofs.asking.plain_lines.Goals as goal
 
@@ -59,7 +59,7 @@ returns c = record {
   check = asks_for "check" (job.OfText (text_job.Check form.Lines)) check_line;
   check_json = asks_for "check --json" (job.OfText (text_job.Check form.Json)) check_json_line;
   imported = asks_for "import" (job.Import (whole_import written.Schedule)) import_line;
-  imported_so = asks_for "import --read-expire 150us --from queue --as perf --device 8,16 --skip 2ms --first 100 --table" (job.Import hundred_queued) import_so_line;
+  imported_so = asks_for "import --read-expire 8us --from queue --as perf --device 8,0 --skip 1s --first 9 --table" (job.Import by_perf) import_so_line;
   summary = asks_for "import --write-expire 8ns --summary" (job.Import (record (whole_import written.Summary) { write_expire = 8 })) summary_line;
   no_time = asks_for "import --skip 2" (job.Refuse refusal.Skip) no_time_line;
   no_entry = asks_for "import --from issue" (job.Refuse refusal.From) no_entry_line;

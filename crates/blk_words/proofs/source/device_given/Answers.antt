@@ -4,7 +4,7 @@ use Rattle.clap.specs.Words.{found_of}
 use Rattle.blk_words.specs.Options.{device_option}
 use Rattle.blk_words.specs.Asked.{device_by}
 use Rattle.blk_words.proofs.Lines.{read_by, unread_by}
-use Rattle.blk_words.proofs.words.device_given.Goals as goal
+use Rattle.blk_words.proofs.source.device_given.Goals as goal
 
 pub returns-in-Some : goal.returns-in-Some
 returns-in-Some c = read_by (found_of c.args.options.now) device_option.name c.in-Some.text.now device_by (Ok None) c.device_by.result c.in-Some.ensures c.device_by.ensures

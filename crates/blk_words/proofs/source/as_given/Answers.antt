@@ -4,7 +4,7 @@ use Rattle.clap.specs.Words.{found_of}
 use Rattle.blk_words.specs.Options.{as_option}
 use Rattle.blk_words.specs.Asked.{as_by}
 use Rattle.blk_words.proofs.Lines.{read_by, unread_by}
-use Rattle.blk_words.proofs.words.as_given.Goals as goal
+use Rattle.blk_words.proofs.source.as_given.Goals as goal
 
 pub returns-in-Some : goal.returns-in-Some
 returns-in-Some c = read_by (found_of c.args.options.now) as_option.name c.in-Some.text.now as_by (Ok None) c.as_by.result c.in-Some.ensures c.as_by.ensures
