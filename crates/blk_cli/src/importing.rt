@@ -151,7 +151,7 @@ fn note_on(
     requires timed { AreTimed matched.now.requests.items }
     requires few { length matched.now.requests.items ≤ MAX_COMMANDS }
     requires fates { length matched.now.fates.items ≡ length records.now }
-    ensures { IfOk result (λ note. IsNoteOf tags shown matched.now.requests.items matched.now.fates.items (option_map (λ n. n.items) note)) }
+    ensures { IfOk result (λ n. IsNoteOf tags shown matched.now.requests.items matched.now.fates.items (option_map (λ v. v.items) n)) }
 {
     let summary = summarize(alloc, records, matched)?;
     let crowd = crowd_text(alloc, summary.in_flight, tags)?;
