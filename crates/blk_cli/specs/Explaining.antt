@@ -1,5 +1,5 @@
 -- What is said about a text of any form, and why nothing is.
-use Rattle.std.specs.Prelude.{◌≡◌, ◌++◌, ⊤, ℕ, Bool, List, [], Option, None, Some, IfSome, codes, decimal, is_some}
+use Rattle.std.specs.Prelude.{◌≡◌, ◌++◌, ◌∷◌, ⊤, ℕ, Bool, List, [], Option, None, Some, IfSome, codes, decimal, is_some}
 use Rattle.blk_explain.specs.Explained.{IsExplained, form_without_fault}
 use Rattle.blk_explain.specs.declared.details.Detail.{Detail}
 use Rattle.blk_explain.specs.declared.findings.Finding.{Finding}
@@ -30,7 +30,7 @@ abbrev pub names_line : TextKind → List ℕ → List ℕ
 names_line kind but = (codes "taken by " ++ takers_text kind but) ++ codes "\n"
 
 abbrev pub repeated_line : ℕ → List ℕ
-repeated_line id = (codes "refused by oracle: RepeatedId " ++ decimal id) ++ codes "\n"
+repeated_line id = codes "refused by oracle: RepeatedId " ++ (decimal id ++ 10 ∷ [])
 
 -- the line that says who takes a text of a form, if it is of one
 abbrev pub takers_line : Option TextForm → Refuser → List ℕ

@@ -95,15 +95,23 @@ fn with_names(
     Ok(text)
 }
 
-/// A text with a line behind it that says that the oracle refuses it for this id.
+/// The line that says that the oracle refuses a text for this id.
+fn repeated_text(alloc: Global, id: u64) -> Result<Vec<u8>, AllocError>
+    ensures { IfOk result (λ text. text.items ≡ repeated_line id) }
+{
+    match format!(in alloc; "refused by oracle: RepeatedId {id}\n") {
+        Ok(line) => Ok(line.into_bytes()),
+        Err(refused) => Err(refused),
+    }
+}
+
+/// A text with that line behind it.
 fn with_id(alloc: Global, told: Vec<u8>, id: u64) -> Result<Vec<u8>, AllocError>
     ensures { IfOk result (λ text. text.items ≡ told.items ++ repeated_line id) }
 {
     let mut text = told;
-    let number = id.to_string(alloc)?;
-    text.extend_from_slice(b"refused by oracle: RepeatedId ")?;
-    text.extend_from_slice(number.as_bytes())?;
-    text.extend_from_slice(b"\n")?;
+    let line = repeated_text(alloc, id)?;
+    text.extend_from_slice(line.as_slice())?;
     Ok(text)
 }
 
