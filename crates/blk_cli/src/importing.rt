@@ -136,7 +136,9 @@ fn crowd_text(alloc: Global, most: u64, tags: u64) -> Result<Vec<u8>, AllocError
     if most <= tags {
         return Ok(Vec::new(alloc));
     }
-    let text = format!(in alloc; "blk: in flight {most}, and the device takes {tags}: completions may be missing\n")?;
+    let text = format!(in alloc;
+        "blk: in flight {most}, and the device takes {tags}: completions may be missing\n"
+    )?;
     Ok(text.into_bytes())
 }
 
@@ -182,7 +184,13 @@ fn shown_of(
     let Ok(text) = shown_text(alloc, shown, records, &matched) else {
         return Err(Failure::Memory);
     };
-    let Ok(note) = note_on(alloc, shown, tags_asked(wanted.source.tags), records, &matched) else {
+    let Ok(note) = note_on(
+        alloc,
+        shown,
+        tags_asked(wanted.source.tags),
+        records,
+        &matched,
+    ) else {
         return Err(Failure::Memory);
     };
     Ok(Answered {
@@ -250,7 +258,9 @@ fn printed_text(alloc: Global, printed: &Printed, count: usize) -> Result<Vec<u8
     text.push_str(counts.as_str())?;
     if printed.losses > 0 {
         let losses = printed.losses;
-        let lost = format!(in alloc; "blk: {losses} lines say that events were lost: waits and counts may be wrong\n")?;
+        let lost = format!(in alloc;
+            "blk: {losses} lines say that events were lost: waits and counts may be wrong\n"
+        )?;
         text.push_str(lost.as_str())?;
     }
     Ok(text.into_bytes())
