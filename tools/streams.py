@@ -414,7 +414,7 @@ def input_of_a_terminal_that_was_left(trials):
     """Its end comes at once, so it is an empty text."""
     for name, args, _, _ in trials.each(GOOD):
         with contextlib.ExitStack() as stack:
-            wanted = EXPLAINED if name == "explain_script" else Run(1, b"", of_nothing(args[0]))
+            wanted = EXPLAINED if name == "explain_script" else Run(1, b"", of_nothing(os.fsdecode(args[0])))
             trials.see(name, run(args, left(stack)), wanted)
 
 
