@@ -1,0 +1,3 @@
+pub mod Clock
+pub mod Causes
+pub mod Inside
