@@ -1,2 +1,4 @@
 pub mod Clocks
 pub mod Causing
+pub mod Adding
+pub mod Stalling

@@ -1,5 +1,5 @@
 -- Requests by the clock: the time that each has, and the times of the dispatches, which are the rounds.
-use Rattle.std.specs.Prelude.{ℕ, ◌≡◌, ◌≤◌, ◌<◌, ◌+◌, ◌&&◌, List, length, count_by, nat_lt, nat_le, slice_index_or}
+use Rattle.std.specs.Prelude.{ℕ, ◌≡◌, ◌≤◌, ◌<◌, ◌+◌, ◌&&◌, List, length, count_by, nat_lt, nat_le, slice_index_or, ◌==◌, Bool}
 use Rattle.edd_commands.specs.declared.Command.{Command}
 use Rattle.edd_blame.specs.declared.late.Allowance.{Allowance}
 
@@ -31,6 +31,10 @@ CameLate a = a.deadline < a.release
 abbrev pub IsStalled : List ℕ → Allowance → Type 0
 IsStalled dispatches a = (a.release ≤ a.deadline) × (times_within dispatches a ≡ 0)
 
--- something was
+-- whether it did
+abbrev pub is_stalled : List ℕ → Allowance → Bool
+is_stalled dispatches a = nat_le a.release a.deadline && times_within dispatches a == 0
+
+-- something was dispatched in its time
 abbrev pub HadDispatch : List ℕ → Allowance → Type 0
 HadDispatch dispatches a = 0 < times_within dispatches a

@@ -1,8 +1,9 @@
--- What private functions and proofs alone need: the cause that a verdict stands for.
-use Rattle.std.specs.Prelude.{cond, nat_lt, List, Option, Some, None, map}
+-- What private functions and proofs alone need: the cause that a verdict stands for, and counts of what stalled.
+use Rattle.std.specs.Prelude.{ℕ, ◌≡◌, ◌<◌, ◌+◌, cond, nat_lt, List, Option, Some, None, map, length, sum_by, slice_index}
 use Rattle.std.specs.List.{zip}
 use Rattle.edd_verdict.specs.declared.Verdict.{Verdict}
 use Rattle.edd_verdict.specs.declared.Verdict.TheVariants as verdict
+use Rattle.edd_blame.specs.Sum.{number_stalled, number_stalled_after}
 use Rattle.edd_blame.specs.declared.late.Allowance.{Allowance}
 use Rattle.edd_blame.specs.declared.late.Cause.{Cause}
 use Rattle.edd_blame.specs.declared.late.Cause.TheVariants as cause
@@ -15,3 +16,9 @@ cause_by (Some (verdict.Full w)) a = Some (cause.Full w)
 
 unfoldable pub causes_by : List (Option Verdict) → List Allowance → List (Option Cause)
 causes_by verdicts allowances = map (λ p. cause_by p.0 p.1) (zip verdicts allowances)
+
+-- a count for each number of dispatches, none to all
+pub record AreStallCounts (dispatches : List ℕ) (allowances : List Allowance) (counts : List ℕ) : Type 0 where
+  pub long : length counts ≡ length dispatches + 1
+  pub each : (n : ℕ) → n < length counts → slice_index counts n ≡ number_stalled_after dispatches allowances n
+  pub all : sum_by (λ n. n) counts ≡ number_stalled dispatches allowances

@@ -1,3 +1,4 @@
 pub mod Clock
 pub mod Causes
+pub mod Sum
 pub mod Inside
