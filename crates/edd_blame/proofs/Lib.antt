@@ -2,3 +2,4 @@ pub mod Clocks
 pub mod Causing
 pub mod Adding
 pub mod Stalling
+pub mod Fitting

@@ -1,5 +1,5 @@
 -- What had to be late, by what made it so: arrivals, stalls and crowded windows add up.
-use Rattle.std.specs.Prelude.{ℕ, ◌≡◌, ◌<◌, ◌+◌, ◌==◌, ◌&&◌, List, count_by, sum_by, nat_lt, All, AllPairs}
+use Rattle.std.specs.Prelude.{ℕ, ◌≡◌, ◌≤◌, ◌<◌, ◌+◌, ◌==◌, ◌&&◌, List, count_by, sum_by, nat_lt, All, AllPairs}
 use Rattle.edd_figures.specs.declared.missing.Counts.{Counts}
 use Rattle.edd_figures.specs.declared.missing.Crowd.{Crowd}
 use Rattle.edd_blame.specs.Clock.{times_by, is_stalled}
@@ -34,4 +34,5 @@ pub record AddUp (dispatches : List ℕ) (allowances : List Allowance) (c : Coun
   pub arrivals : r.arrivals ≡ number_came_late allowances
   pub stalled : r.stalled ≡ number_stalled dispatches allowances
   pub crowded : r.crowded + sum_by (λ w. w.carries) windows ≡ sum_by (λ w. w.commands) windows
+  pub each : All (λ w. w.carries ≤ w.commands) windows
   pub sum : c.unavoidable ≡ r.arrivals + r.stalled + r.crowded

@@ -1,5 +1,6 @@
 use Rattle.std.proofs.Common.{arith}
 use Rattle.edd_blame.proofs.Adding.{crowded_is, late_on_release}
+use Rattle.edd_blame.proofs.Fitting.{all_fit}
 use Rattle.edd_blame.proofs.Stalling.{late_split}
 use Rattle.edd_blame.proofs.sum.blame_of.Goals as goal
 
@@ -23,5 +24,6 @@ returns-clause-sum g c =
       arrivals = arrivals;
       stalled = omega (arith, split, late, arrivals);
       crowded = omega (arith, crowded, late, low);
+      each = all_fit c.args.commands.now c.args.capacity.now are.cover c.in_ok-misses.misses.windows.items c.in_ok-misses.misses.counts.unavoidable are.disjoint are.windows_are are.bound are.least;
       sum = omega (arith, split, late, arrivals, low);
     }
