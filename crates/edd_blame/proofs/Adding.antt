@@ -87,11 +87,12 @@ late_on_release commands steps n least =
     (lt-ltb (get_or commands k d).due (get_or least.schedule k 0) (omega arith))) in
     omega (arith, late, least.reached)
 
--- what the windows of a cover have and carry
-sum_map : {X Y : Type 0} (f : Y → ℕ) (g : X → Y) (xs : List X) → sum_by f (map g xs) ≡ sum_by (λ x. f (g x)) xs
+-- a sum over what a function gives
+pub sum_map : {X Y : Type 0} (f : Y → ℕ) (g : X → Y) (xs : List X) → sum_by f (map g xs) ≡ sum_by (λ x. f (g x)) xs
 sum_map f g [] = refl
 sum_map f g (x ∷ xs) = omega (arith, sum_map f g xs, sum_by-cons f (g x) (map g xs), sum_by-cons (λ y. f (g y)) x xs)
 
+-- what the windows of a cover have and carry
 pub crowded_is : (commands : List Command) (steps : List Step) (cover : List Window) (windows : List Crowd) (unavoidable : ℕ) → IsCover cover → windows ≡ map (crowd_of commands steps) cover → bound_of commands steps cover + unavoidable ≡ length commands
     → unavoidable + sum_by (λ (w : Crowd). w.carries) windows ≡ count_by (λ (c : Command). nat_lt c.due c.release) commands + sum_by (λ (w : Crowd). w.commands) windows
 unfolding carried_by

@@ -3,3 +3,5 @@ pub mod Causing
 pub mod Adding
 pub mod Stalling
 pub mod Fitting
+pub mod Parting
+pub mod Climbing

@@ -6,7 +6,9 @@
 #![tactic(auto)]
 
 mod late;
+mod part;
 mod sum;
 
 pub use late::{Allowance, Cause, causes, law_of_causes};
+pub use part::least_late_at;
 pub use sum::{Blame, Reasons, StallTime, blame_of};

@@ -1,0 +1,29 @@
+-- The fewest late commands of a part, over all schedules of the whole.
+use Rattle.std.specs.Prelude.{ℕ, ◌≡◌, ◌≢◌, ◌≤◌, ◌<◌, Bool, List, count_by, nat_lt, slice_index, slice_index_or, All, AllPairs}
+use Rattle.edd_commands.specs.declared.Command.{Command}
+use Rattle.edd_commands.specs.declared.steps.Step.{Step}
+use Rattle.edd_commands.specs.Schedule.{IsLegal}
+
+-- places of a list of n, each once
+pub record ArePlaces (n : ℕ) (places : List ℕ) : Type 0 where
+  pub within : All (λ k. k < n) places
+  pub once : AllPairs (λ j k. j ≢ k) places
+
+-- the command at place k of a list that has one there
+abbrev pub command_here : List Command → ℕ → Command
+command_here commands k = slice_index_or commands k record { id = 0; release = 0; due = 0 }
+
+-- it runs after it is due
+abbrev pub is_late_at : List Command → List ℕ → ℕ → Bool
+is_late_at commands rounds k = nat_lt (command_here commands k).due (slice_index rounds k)
+
+-- how many of the commands at these places do
+unfoldable pub number_late_at : List Command → List ℕ → List ℕ → ℕ
+number_late_at commands rounds places = count_by (is_late_at commands rounds) places
+
+-- some legal schedule of all commands has n of those at the places late, and none has fewer of them
+pub record IsLeastLateAt (commands : List Command) (steps : List Step) (places : List ℕ) (n : ℕ) : Type 0 where
+  pub schedule : List ℕ
+  pub legal : IsLegal commands schedule steps
+  pub reached : number_late_at commands schedule places ≡ n
+  pub least : (rounds : List ℕ) → IsLegal commands rounds steps → n ≤ number_late_at commands rounds places
