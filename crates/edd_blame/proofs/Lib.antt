@@ -5,3 +5,4 @@ pub mod Stalling
 pub mod Fitting
 pub mod Parting
 pub mod Climbing
+pub mod Beside

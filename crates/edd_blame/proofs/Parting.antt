@@ -6,7 +6,7 @@ use Rattle.std.proofs.lemmas.List.FromFn.{get_or-range_with_len, length-range_wi
 use Rattle.std.proofs.lemmas.List.Sums.{sum_by-cons, sum_by-set}
 use Rattle.std.proofs.lemmas.Bool.{cases_eq, cases_lt}
 use Rattle.edd_commands.specs.declared.Command.{Command}
-use Rattle.edd_commands.specs.declared.TheConstants.{MAX_ROUNDS}
+use Rattle.edd_commands.specs.declared.TheConstants.{MAX_ROUNDS, MAX_RELEASES}
 use Rattle.edd_commands.specs.declared.steps.Step.{Step}
 use Rattle.edd_commands.specs.Capacity.{depth_at}
 use Rattle.edd_commands.specs.Schedule.{IsLegal, places_at, RoundsInRange}
@@ -35,7 +35,7 @@ count_same p q (x ∷ xs) (y ∷ ys) same alike =
     omega (arith, rest, first, sum_by-cons (λ z. cond (p z) 1 0) x xs, sum_by-cons (λ z. cond (q z) 1 0) y ys)
 
 -- places that are written
-abbrev put_all : List ℕ → List ℕ → List ℕ → List ℕ
+abbrev pub put_all : List ℕ → List ℕ → List ℕ → List ℕ
 put_all [] rs base = base
 put_all (p ∷ ps) [] base = base
 put_all (p ∷ ps) (r ∷ rs) base = put_all ps rs (set base p r)
@@ -79,7 +79,7 @@ put_own (p ∷ ps) (r ∷ rs) base within once same (suc j) d h =
     put_own ps rs (set base p r) (within_on p r ps base within) (once_on p ps once) (omega (arith, same)) j d (omega (arith, h))
 
 -- a place is one of them or none
-among : (ps : List ℕ) (k : ℕ) → ((j : ℕ) × (j < length ps) × (get_or ps j 0 ≡ k)) ⊎ All (λ p. p ≢ k) ps
+pub among : (ps : List ℕ) (k : ℕ) → ((j : ℕ) × (j < length ps) × (get_or ps j 0 ≡ k)) ⊎ All (λ p. p ≢ k) ps
 among [] k = inr (λ i d h. absurd (omega (arith, h)))
 among (p ∷ ps) k =
     elim (cases_eq p k) [
@@ -136,20 +136,20 @@ module _ (commands : List Command) (steps : List Step) (places : List ℕ) (are 
   abbrev pub part : List Command
   part = map (command_here commands) places
 
-  part_long : length part ≡ length places
+  pub part_long : length part ≡ length places
   part_long = length-map places (command_here commands)
 
-  part_at : (j : ℕ) (c : Command) (d : ℕ) → j < length places → get_or part j c ≡ command_here commands (get_or places j d)
+  pub part_at : (j : ℕ) (c : Command) (d : ℕ) → j < length places → get_or part j c ≡ command_here commands (get_or places j d)
   part_at j c d h = get_or-map (command_here commands) places j d c h
 
   here : (k : ℕ) (d : Command) → k < length commands → get_or commands k d ≡ command_here commands k
   here k d h = get_or_default commands k d nobody h
 
   -- a schedule of the whole schedules the part
-  abbrev rounds_at : List ℕ → List ℕ
+  abbrev pub rounds_at : List ℕ → List ℕ
   rounds_at rounds = map (λ k. get_or rounds k 0) places
 
-  restricted : (rounds : List ℕ) → IsLegal commands rounds steps → IsLegal part (rounds_at rounds) steps
+  pub restricted : (rounds : List ℕ) → IsLegal commands rounds steps → IsLegal part (rounds_at rounds) steps
   unfolding places_at
   restricted rounds legal = record {
     one_each = length-map places (λ k. get_or rounds k 0) ∙ sym part_long;
@@ -167,7 +167,7 @@ module _ (commands : List Command) (steps : List Step) (places : List ℕ) (are 
   }
 
   -- with as many late
-  late_alike : (rounds rs : List ℕ) → length rs ≡ length places → ((j d : ℕ) → j < length places → get_or rs j 0 ≡ get_or rounds (get_or places j d) 0) → number_late part rs ≡ number_late_at commands rounds places
+  pub late_alike : (rounds rs : List ℕ) → length rs ≡ length places → ((j d : ℕ) → j < length places → get_or rs j 0 ≡ get_or rounds (get_or places j d) 0) → number_late part rs ≡ number_late_at commands rounds places
   unfolding number_late number_late_at
   late_alike rounds rs same alike =
       let each : length rs ≡ length part = same ∙ sym part_long in
@@ -178,38 +178,38 @@ module _ (commands : List Command) (steps : List Step) (places : List ℕ) (are 
       ∙ ap (λ (c : Command). (c, get_or rs j 0)) (part_at j nobody d h) ∙ ap (λ (x : ℕ). (command_here commands (get_or places j d), x)) (alike j d h) in
       ap (λ (p : Command × ℕ). nat_lt p.0.due p.1) (sym at)))
 
-  -- a schedule of the part, and the others after all
-  abbrev spread : List ℕ → List ℕ
-  spread rs = put_all places rs (range_with_len MAX_ROUNDS (length commands))
+  -- a schedule of the part, and the others from the round `top` on
+  abbrev pub spread : ℕ → List ℕ → List ℕ
+  spread top rs = put_all places rs (range_with_len top (length commands))
 
-  base_in : All (λ k. k < length (range_with_len MAX_ROUNDS (length commands))) places
-  base_in i d h = omega (arith, are.within i d h, length-range_with_len MAX_ROUNDS (length commands))
+  base_in : (top : ℕ) → All (λ k. k < length (range_with_len top (length commands))) places
+  base_in top i d h = omega (arith, are.within i d h, length-range_with_len top (length commands))
 
-  spread_own : (rs : List ℕ) → length rs ≡ length places → (j d : ℕ) → j < length places → get_or (spread rs) (get_or places j d) 0 ≡ get_or rs j 0
-  spread_own rs same j d h = put_own places rs (range_with_len MAX_ROUNDS (length commands)) base_in are.once same j d h
+  pub spread_own : (top : ℕ) (rs : List ℕ) → length rs ≡ length places → (j d : ℕ) → j < length places → get_or (spread top rs) (get_or places j d) 0 ≡ get_or rs j 0
+  spread_own top rs same j d h = put_own places rs (range_with_len top (length commands)) (base_in top) are.once same j d h
 
-  spread_legal : (rs : List ℕ) → ((x : ℕ) → 0 < depth_at steps x) → All IsSolvable commands → RoundsInRange rs → IsLegal part rs steps → IsLegal commands (spread rs) steps
+  pub spread_legal : (top : ℕ) (rs : List ℕ) → ((x : ℕ) → 0 < depth_at steps x) → All IsSolvable commands → MAX_RELEASES ≤ top → All (λ x. x < top) rs → IsLegal part rs steps → IsLegal commands (spread top rs) steps
   unfolding places_at
-  spread_legal rs some solvable in_range legal = record {
-    one_each = length_put places rs (range_with_len MAX_ROUNDS (length commands)) ∙ length-range_with_len MAX_ROUNDS (length commands);
+  spread_legal top rs some solvable above in_range legal = record {
+    one_each = length_put places rs (range_with_len top (length commands)) ∙ length-range_with_len top (length commands);
     released =
         λ k c h.
         let same : length rs ≡ length places = legal.one_each ∙ part_long in
         elim (among places k) [
           | inl found ↦
               let released : (get_or part found.0 nobody).release ≤ get_or rs found.0 0 = legal.released found.0 nobody (omega (arith, found.1, part_long)) in
-              let own : get_or (spread rs) k 0 ≡ get_or rs found.0 0 = ap (λ n. get_or (spread rs) n 0) (sym found.2) ∙ spread_own rs same found.0 0 found.1 in
+              let own : get_or (spread top rs) k 0 ≡ get_or rs found.0 0 = ap (λ n. get_or (spread top rs) n 0) (sym found.2) ∙ spread_own top rs same found.0 0 found.1 in
               let command : get_or part found.0 nobody ≡ get_or commands k c = part_at found.0 nobody 0 found.1 ∙ ap (command_here commands) found.2 ∙ sym (here k c h) in
               omega (arith, released, own, ap (λ (x : Command). x.release) command)
           | inr none ↦
-              let own : get_or (spread rs) k 0 ≡ MAX_ROUNDS + k = put_other places rs (range_with_len MAX_ROUNDS (length commands)) k none ∙ get_or-range_with_len MAX_ROUNDS (length commands) k 0 h in
-              omega (arith, own, (solvable k c h).0)
+              let own : get_or (spread top rs) k 0 ≡ top + k = put_other places rs (range_with_len top (length commands)) k none ∙ get_or-range_with_len top (length commands) k 0 h in
+              omega (arith, own, (solvable k c h).0, above)
         ];
     within_depth =
         λ x.
-        let put = count_put (λ y. y == x) places rs (range_with_len MAX_ROUNDS (length commands)) base_in in
-        let run = one_run MAX_ROUNDS (length commands) x in
-        elim (cases_lt x MAX_ROUNDS) [
+        let put = count_put (λ y. y == x) places rs (range_with_len top (length commands)) (base_in top) in
+        let run = one_run top (length commands) x in
+        elim (cases_lt x top) [
           | inl low ↦ omega (arith, put, run.1 low, legal.within_depth x)
           | inr high ↦
               let none : count_by (λ y. y == x) rs ≡ 0 = no_places rs x (λ k h e. absurd (omega (arith, in_range k 0 h, e, high))) in
@@ -221,10 +221,10 @@ module _ (commands : List Command) (steps : List Step) (places : List ℕ) (are 
   least_at rs on_time n some solvable in_range legal is most all =
       let same : length rs ≡ length places = legal.one_each ∙ part_long in
       record {
-        schedule = spread rs;
-        legal = spread_legal rs some solvable in_range legal;
+        schedule = spread MAX_ROUNDS rs;
+        legal = spread_legal MAX_ROUNDS rs some solvable (omega arith) in_range legal;
         reached =
-            (let alike = late_alike (spread rs) rs same (λ j d h. sym (spread_own rs same j d h)) in
+            (let alike = late_alike (spread MAX_ROUNDS rs) rs same (λ j d h. sym (spread_own MAX_ROUNDS rs same j d h)) in
             omega (arith, alike, all_commands part rs legal.one_each, is, all, part_long));
         least =
             λ rounds whole.

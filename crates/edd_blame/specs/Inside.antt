@@ -1,8 +1,10 @@
 -- What private functions and proofs alone need: the cause that a verdict stands for, and counts of what stalled.
-use Rattle.std.specs.Prelude.{ℕ, ◌≡◌, ◌<◌, ◌+◌, cond, nat_lt, List, Option, Some, None, map, length, sum_by, slice_index}
-use Rattle.std.specs.List.{zip}
+use Rattle.std.specs.Prelude.{ℕ, ◌≡◌, ◌<◌, ◌+◌, cond, nat_lt, List, Option, Some, None, map, filter, not, length, sum_by, slice_index}
+use Rattle.std.specs.List.{zip, range_with_len}
+use Rattle.edd_commands.specs.declared.Command.{Command}
 use Rattle.edd_verdict.specs.declared.Verdict.{Verdict}
 use Rattle.edd_verdict.specs.declared.Verdict.TheVariants as verdict
+use Rattle.edd_blame.specs.Parts.{is_late_at}
 use Rattle.edd_blame.specs.Sum.{number_stalled, number_stalled_after}
 use Rattle.edd_blame.specs.declared.late.Allowance.{Allowance}
 use Rattle.edd_blame.specs.declared.late.Cause.{Cause}
@@ -22,3 +24,10 @@ pub record AreStallCounts (dispatches : List ℕ) (allowances : List Allowance) 
   pub long : length counts ≡ length dispatches + 1
   pub each : (n : ℕ) → n < length counts → slice_index counts n ≡ number_stalled_after dispatches allowances n
   pub all : sum_by (λ n. n) counts ≡ number_stalled dispatches allowances
+
+-- the places of what is on time, and those of some places that are late
+unfoldable pub on_time_places : List Command → List ℕ → List ℕ
+on_time_places commands rounds = filter (λ k. not (is_late_at commands rounds k)) (range_with_len 0 (length commands))
+
+unfoldable pub late_places : List Command → List ℕ → List ℕ → List ℕ
+late_places commands rounds places = filter (is_late_at commands rounds) places

@@ -1,5 +1,5 @@
--- The fewest late commands of a part, over all schedules of the whole.
-use Rattle.std.specs.Prelude.{ℕ, ◌≡◌, ◌≢◌, ◌≤◌, ◌<◌, Bool, List, count_by, nat_lt, slice_index, slice_index_or, All, AllPairs}
+-- The fewest late commands of a part, and the most that could be saved, over all schedules of the whole.
+use Rattle.std.specs.Prelude.{ℕ, ◌≡◌, ◌≢◌, ◌≤◌, ◌<◌, ◌&&◌, not, Bool, false, List, length, count_by, nat_lt, slice_index, slice_index_or, All, AllPairs}
 use Rattle.edd_commands.specs.declared.Command.{Command}
 use Rattle.edd_commands.specs.declared.steps.Step.{Step}
 use Rattle.edd_commands.specs.Schedule.{IsLegal}
@@ -27,3 +27,19 @@ pub record IsLeastLateAt (commands : List Command) (steps : List Step) (places :
   pub legal : IsLegal commands schedule steps
   pub reached : number_late_at commands schedule places ≡ n
   pub least : (rounds : List ℕ) → IsLegal commands rounds steps → n ≤ number_late_at commands rounds places
+
+-- what is on time in the one schedule is on time in the other
+abbrev pub KeepsOnTime : List Command → List ℕ → List ℕ → Type 0
+KeepsOnTime commands rounds other = (k : ℕ) → k < length commands → is_late_at commands rounds k ≡ false → is_late_at commands other k ≡ false
+
+-- how many of the commands at these places are late in the one and on time in the other
+unfoldable pub number_saved_at : List Command → List ℕ → List ℕ → List ℕ → ℕ
+number_saved_at commands rounds other places = count_by (λ k. is_late_at commands rounds k && not (is_late_at commands other k)) places
+
+-- some legal schedule has n of those at the places on time that are late here, beside all that are on time here, and none has more
+pub record IsMostSavedAt (commands : List Command) (rounds : List ℕ) (steps : List Step) (places : List ℕ) (n : ℕ) : Type 0 where
+  pub schedule : List ℕ
+  pub legal : IsLegal commands schedule steps
+  pub keeps : KeepsOnTime commands rounds schedule
+  pub reached : number_saved_at commands rounds schedule places ≡ n
+  pub most : (other : List ℕ) → IsLegal commands other steps → KeepsOnTime commands rounds other → number_saved_at commands rounds other places ≤ n

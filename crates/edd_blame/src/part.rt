@@ -1,11 +1,14 @@
 //! The requests of a part, as those of one process.
 
 ghost use Rattle.std.specs.Prelude.{◌≡◌, IfOk, length, map};
+ghost use Rattle.edd_commands.specs.Schedule.{IsLegal};
 ghost use Rattle.edd_oracle.specs.Input.{IsTaken};
-ghost use Rattle.edd_blame.specs.Parts.{command_here, ArePlaces, IsLeastLateAt};
+ghost use Rattle.edd_blame.specs.Parts.{command_here, ArePlaces, IsLeastLateAt, IsMostSavedAt};
+ghost use Rattle.edd_blame.specs.Inside.{on_time_places, late_places};
 
 use edd_commands::{Capacity, Command};
 use edd_oracle::most_on_time;
+use edd_verdict::{law_of_spares, law_of_verdicts};
 use std::alloc::{AllocError, Allocator};
 
 /// The commands at these places.
@@ -22,6 +25,44 @@ fn commands_at<A: Allocator>(
         part.push(commands[*place])?;
     }
     Ok(part)
+}
+
+/// The places of the commands that are on time.
+fn on_time_places<A: Allocator>(
+    alloc: A,
+    commands: &[Command],
+    rounds: &[u64],
+) -> Result<Vec<usize, A>, AllocError>
+    requires { length rounds.now ≡ length commands.now }
+    ensures { IfOk result (λ v. v.items ≡ on_time_places commands.now rounds.now) }
+{
+    let mut found = Vec::new(alloc);
+    for (place, command) in commands.iter().enumerate() {
+        if rounds[place] <= command.due {
+            found.push(place)?;
+        }
+    }
+    Ok(found)
+}
+
+/// Those of the places whose commands are late.
+fn late_places<A: Allocator>(
+    alloc: A,
+    commands: &[Command],
+    rounds: &[u64],
+    places: &[usize],
+) -> Result<Vec<usize, A>, AllocError>
+    requires one_each { length rounds.now ≡ length commands.now }
+    requires places { ArePlaces (length commands.now) places.now }
+    ensures { IfOk result (λ v. v.items ≡ late_places commands.now rounds.now places.now) }
+{
+    let mut found = Vec::new(alloc);
+    for place in places {
+        if commands[*place].due < rounds[*place] {
+            found.push(*place)?;
+        }
+    }
+    Ok(found)
 }
 
 /// The fewest of the commands at these places that any legal schedule of all commands has late, whatever becomes of the others. No
@@ -46,4 +87,36 @@ pub fn least_late_at<A: Allocator + Clone, B: Allocator>(
         return Err(AllocError);
     };
     Ok(places.len() as u64 - answer.on_time)
+}
+
+/// The most of the late commands at these places that a legal schedule can have on time, beside all that are on time in this one. No
+/// place stands twice.
+///
+/// Fails only when out of memory. The time grows as n log n in the number of commands.
+pub fn most_saved_at<A: Allocator + Clone, B: Allocator>(
+    alloc: A,
+    commands: &[Command],
+    rounds: &[u64],
+    capacity: &Capacity<B>,
+    places: &[usize],
+) -> Result<u64, AllocError>
+    requires taken { IsTaken commands.now }
+    requires legal { IsLegal commands.now rounds.now capacity.now }
+    requires places { ArePlaces (length commands.now) places.now }
+    ensures { IfOk result (IsMostSavedAt commands.now rounds.now capacity.now places.now) }
+{
+    law_of_verdicts();
+    law_of_spares();
+    // brings the prover the capacity's invariant
+    let _ = capacity.at(0);
+    let mut beside = on_time_places(alloc.clone()?, commands, rounds)?;
+    let on_time = beside.as_slice().len() as u64;
+    let late = late_places(alloc.clone()?, commands, rounds, places)?;
+    beside.extend_from_slice(late.as_slice())?;
+    let part = commands_at(alloc.clone()?, commands, beside.as_slice())?;
+    // what the oracle takes as a whole it takes in part, so that it is refused only when out of memory
+    let Ok(answer) = most_on_time(alloc, part.as_slice(), capacity) else {
+        return Err(AllocError);
+    };
+    Ok(answer.on_time - on_time)
 }
