@@ -34,14 +34,14 @@ range_more a (suc n) =
     ap (λ l. a ∷ l) (rest ∙ ap (λ x. range_with_len (a + 1) n ++ x ∷ []) same)
 
 -- one number more that passes, or not
-more_kept : (p : ℕ → Bool) (n : ℕ) → p n ≡ true → filter p (range_with_len 0 (n + 1)) ≡ filter p (range_with_len 0 n) ++ n ∷ []
+pub more_kept : (p : ℕ → Bool) (n : ℕ) → p n ≡ true → filter p (range_with_len 0 (n + 1)) ≡ filter p (range_with_len 0 n) ++ n ∷ []
 more_kept p n passes =
     let next : n + 1 ≡ suc n = omega arith in
     let same : 0 + n ≡ n = omega arith in
     ap (λ m. filter p (range_with_len 0 m)) next ∙ ap (λ l. filter p l) (range_more 0 n) ∙ filter-append p (range_with_len 0 n) ((0 + n) ∷ [])
     ∙ ap (λ x. filter p (range_with_len 0 n) ++ filter p (x ∷ [])) same ∙ ap (λ l. filter p (range_with_len 0 n) ++ l) (cond-true (p n) (n ∷ []) [] passes)
 
-more_out : (p : ℕ → Bool) (n : ℕ) → p n ≡ false → filter p (range_with_len 0 (n + 1)) ≡ filter p (range_with_len 0 n)
+pub more_out : (p : ℕ → Bool) (n : ℕ) → p n ≡ false → filter p (range_with_len 0 (n + 1)) ≡ filter p (range_with_len 0 n)
 more_out p n fails =
     let next : n + 1 ≡ suc n = omega arith in
     let same : 0 + n ≡ n = omega arith in

@@ -6,3 +6,4 @@ pub mod Fitting
 pub mod Parting
 pub mod Climbing
 pub mod Beside
+pub mod Marking

@@ -25,7 +25,7 @@ abbrev one_if : Bool → ℕ
 one_if b = cond b 1 0
 
 -- what passes at just the same places is counted alike
-count_same : {X Y : Type 0} (p : X → Bool) (q : Y → Bool) (xs : List X) (ys : List Y) → length ys ≡ length xs → ((k : ℕ) (d : X) (e : Y) → k < length xs → p (get_or xs k d) ≡ q (get_or ys k e)) → count_by p xs ≡ count_by q ys
+pub count_same : {X Y : Type 0} (p : X → Bool) (q : Y → Bool) (xs : List X) (ys : List Y) → length ys ≡ length xs → ((k : ℕ) (d : X) (e : Y) → k < length xs → p (get_or xs k d) ≡ q (get_or ys k e)) → count_by p xs ≡ count_by q ys
 count_same p q [] [] same alike = refl
 count_same p q [] (y ∷ ys) same alike = absurd (omega arith)
 count_same p q (x ∷ xs) [] same alike = absurd (omega arith)

@@ -19,9 +19,13 @@ abbrev pub IsByClock : List ℕ → Allowance → Command → Type 0
 IsByClock dispatches a c = (c.release ≡ times_before dispatches a.release + 1) × (c.due ≡ times_by dispatches a.deadline)
 
 -- each command does
+abbrev pub EachByClock : List ℕ → List Allowance → List Command → Type 0
+EachByClock dispatches allowances commands =
+    (k : ℕ) (a : Allowance) (c : Command) → k < length commands → IsByClock dispatches (slice_index_or allowances k a) (slice_index_or commands k c)
+
 pub record AreByClock (dispatches : List ℕ) (allowances : List Allowance) (commands : List Command) : Type 0 where
   pub one_each : length allowances ≡ length commands
-  pub each : (k : ℕ) (a : Allowance) (c : Command) → k < length commands → IsByClock dispatches (slice_index_or allowances k a) (slice_index_or commands k c)
+  pub each : EachByClock dispatches allowances commands
 
 -- the request was released after its deadline
 abbrev pub CameLate : Allowance → Type 0

@@ -1,5 +1,6 @@
 -- The fewest late commands of a part, and the most that could be saved, over all schedules of the whole.
-use Rattle.std.specs.Prelude.{ℕ, ◌≡◌, ◌≢◌, ◌≤◌, ◌<◌, ◌&&◌, not, Bool, false, List, length, count_by, nat_lt, slice_index, slice_index_or, All, AllPairs}
+use Rattle.std.specs.Prelude.{ℕ, ◌≡◌, ◌≢◌, ◌≤◌, ◌<◌, ◌&&◌, not, Bool, false, List, length, count_by, nat_lt, slice_index, slice_index_or, All, AllPairs, filter}
+use Rattle.std.specs.List.{range_with_len}
 use Rattle.edd_commands.specs.declared.Command.{Command}
 use Rattle.edd_commands.specs.declared.steps.Step.{Step}
 use Rattle.edd_commands.specs.Schedule.{IsLegal}
@@ -43,3 +44,20 @@ pub record IsMostSavedAt (commands : List Command) (rounds : List ℕ) (steps : 
   pub keeps : KeepsOnTime commands rounds schedule
   pub reached : number_saved_at commands rounds schedule places ≡ n
   pub most : (other : List ℕ) → IsLegal commands other steps → KeepsOnTime commands rounds other → number_saved_at commands rounds other places ≤ n
+
+-- the places that are marked, and the others
+unfoldable pub marked_places : List Bool → List ℕ
+marked_places marks = filter (λ k. slice_index_or marks k false) (range_with_len 0 (length marks))
+
+unfoldable pub other_places : List Bool → List ℕ
+other_places marks = filter (λ k. not (slice_index_or marks k false)) (range_with_len 0 (length marks))
+
+-- of the schedules that have as few of the others late as any, some has n of those at the places late, and none has fewer
+pub record IsLeastLateBeside (commands : List Command) (steps : List Step) (places others : List ℕ) (n : ℕ) : Type 0 where
+  pub fewest : ℕ
+  pub others_least : IsLeastLateAt commands steps others fewest
+  pub schedule : List ℕ
+  pub legal : IsLegal commands schedule steps
+  pub others_keep : number_late_at commands schedule others ≡ fewest
+  pub reached : number_late_at commands schedule places ≡ n
+  pub least : (rounds : List ℕ) → IsLegal commands rounds steps → number_late_at commands rounds others ≡ fewest → n ≤ number_late_at commands rounds places

@@ -3,7 +3,7 @@
 ghost use Rattle.std.specs.Prelude.{◌≡◌, IfOk, length, map};
 ghost use Rattle.edd_commands.specs.Schedule.{IsLegal};
 ghost use Rattle.edd_oracle.specs.Input.{IsTaken};
-ghost use Rattle.edd_blame.specs.Parts.{command_here, ArePlaces, IsLeastLateAt, IsMostSavedAt};
+ghost use Rattle.edd_blame.specs.Parts.{command_here, ArePlaces, IsLeastLateAt, IsMostSavedAt, IsLeastLateBeside, marked_places, other_places};
 ghost use Rattle.edd_blame.specs.Inside.{on_time_places, late_places};
 
 use edd_commands::{Capacity, Command};
@@ -25,6 +25,30 @@ fn commands_at<A: Allocator>(
         part.push(commands[*place])?;
     }
     Ok(part)
+}
+
+/// The places that are marked, and the others.
+#[derive(Drop)]
+struct MarkedPlaces<A: Allocator> {
+    marked: Vec<usize, A>,
+    others: Vec<usize, A>,
+}
+
+/// Which places are marked, and which aren't.
+fn parted<A: Allocator + Clone>(alloc: A, marks: &[bool]) -> Result<MarkedPlaces<A>, AllocError>
+    ensures marked { IfOk result (λ p. p.marked.items ≡ marked_places marks.now) }
+    ensures others { IfOk result (λ p. p.others.items ≡ other_places marks.now) }
+{
+    let mut marked = Vec::new(alloc.clone()?);
+    let mut others = Vec::new(alloc);
+    for (place, mark) in marks.iter().enumerate() {
+        if *mark {
+            marked.push(place)?;
+        } else {
+            others.push(place)?;
+        }
+    }
+    Ok(MarkedPlaces { marked, others })
 }
 
 /// The places of the commands that are on time.
@@ -119,4 +143,31 @@ pub fn most_saved_at<A: Allocator + Clone, B: Allocator>(
         return Err(AllocError);
     };
     Ok(answer.on_time - on_time)
+}
+
+/// The fewest of the marked commands that a legal schedule has late which has as few of the others late as any.
+///
+/// Fails only when out of memory. The time grows as n log n in the number of commands.
+pub fn least_late_beside<A: Allocator + Clone, B: Allocator>(
+    alloc: A,
+    commands: &[Command],
+    capacity: &Capacity<B>,
+    marks: &[bool],
+) -> Result<u64, AllocError>
+    requires taken { IsTaken commands.now }
+    requires one_each { length marks.now ≡ length commands.now }
+    ensures { IfOk result (IsLeastLateBeside commands.now capacity.now (marked_places marks.now) (other_places marks.now)) }
+{
+    law_of_verdicts();
+    law_of_spares();
+    // brings the prover the capacity's invariant
+    let _ = capacity.at(0);
+    let parts = parted(alloc.clone()?, marks)?;
+    let others = least_late_at(alloc.clone()?, commands, capacity, parts.others.as_slice())?;
+    // commands that the oracle takes are refused only when out of memory
+    let Ok(answer) = most_on_time(alloc, commands, capacity) else {
+        return Err(AllocError);
+    };
+    let late = commands.len() as u64 - answer.on_time;
+    Ok(late - others)
 }
