@@ -2,6 +2,8 @@
 #![tactic(auto)]
 
 #[cfg(test)]
+mod blames;
+#[cfg(test)]
 mod capacities;
 #[cfg(test)]
 mod claims;
