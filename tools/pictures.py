@@ -8,7 +8,8 @@
 Of each it looks that the text is XML of the elements that a picture has, without scripts, fonts or links; that no box lies outside its
 frame or over another; and, where the case's input is a trace, that there is one box for each Issue, in its round and under its tag, with
 its class; or, where a column stands for several rounds, that each column has the numbers of its rounds; that as many requests wait
-as the trace says; and that each window has the two numbers that its commands and its rounds give, with those of the heading.
+as the trace says; that each window has the two numbers that its commands and its rounds give, with those of the heading, and below it
+where they are few; and by how many rounds the axis counts.
 
 Prints what is wrong, and as the last line 'N passed, M failed'. Ends with 0 where none failed, and with 1 where one did.
 """
@@ -27,7 +28,7 @@ from cases import PROGRAM, Case, counted, ended, read_cases, run, side_by_side
 
 SVG = "{http://www.w3.org/2000/svg}"
 ELEMENTS = {"svg", "style", "defs", "pattern", "path", "rect", "g", "text", "title"}
-LEFT, ABOVE = 64, 182
+LEFT, ABOVE, LABELLED = 64, 182, 12
 # The words that read a trace and look at it: all that do by the table in docs/FORMATS.md, but what draws it and what takes its commands.
 LOOKED_AT = [it.encode().split() for it in command_line.that_read("a trace") if it not in ("picture", "commands")]
 
@@ -224,6 +225,8 @@ def look_at_windows(part, trace, per, wide):
     hold(late == sum(it["late"] for it in served) and late == unavoidable + avoidable, "how many were late")
     hold(avoidable <= spare <= late, "what could have been avoided")
     (below,) = [it for it in part.findall(SVG + "g") if it.get("transform").startswith("translate(0,")]
+    look_at_axis(below, trace, per, wide)
+    look_at_labels(below)
     bound, outside, before = 0, set(range(len(served))), -1
     brackets = [it for it in below.findall(SVG + "path") if it.find(SVG + "title") is not None]
     hold(sum(it.get("class") == "q" for it in brackets) == (1 if served else 0), "the crowded window")
@@ -247,6 +250,30 @@ def look_at_windows(part, trace, per, wide):
     if len(brackets) <= 400:
         bound += sum(served[i]["release"] <= served[i]["due"] for i in outside)
         hold(bound + unavoidable == len(served), f"the windows leave {len(served) - bound} late and not {unavoidable}")
+
+
+def look_at_axis(below, trace, per, wide):
+    """The axis counts by 1, 2 or 5 times a power of ten, the first of these by which it has at most 24 steps."""
+    step = next(it for it in (m * 10**k for k in range(12) for m in (1, 2, 5)) if trace.rounds <= 24 * it)
+    want = [(round_, LEFT + wide * (round_ // per)) for round_ in range(0, trace.rounds, step)]
+    told = [(int(it.text), int(it.get("x"))) for it in below.findall(SVG + "text") if it.get("class") == "s c"]
+    hold(told == want, f"the axis counts {told[:4]} .. and not {want[:4]} ..")
+    marks = [int(re.fullmatch(r"M(\d+) 0v5", it.get("d")).group(1)) for it in below.findall(SVG + "path") if it.find(SVG + "title") is None]
+    hold(marks == [x for _, x in want], "the marks of the axis")
+
+
+def look_at_labels(below):
+    """The crowded window has its numbers below it, and those of misses have where they are at most 12."""
+    brackets = [it for it in below.findall(SVG + "path") if it.find(SVG + "title") is not None]
+    few = sum(it.get("class") == "k" for it in brackets) <= LABELLED
+    want = []
+    for it in brackets:
+        if few or it.get("class") == "q":
+            commands = it.find(SVG + "title").text.split(": ", 1)[1]
+            x, y = map(int, re.match(r"M(\d+) (\d+)v", it.get("d")).groups())
+            want.append((commands, x, y + 18))
+    told = [(it.text, *numbers(it, "x", "y")) for it in below.findall(SVG + "text") if it.get("class") == "s"]
+    hold(told == want, f"the labels {told[:2]} .. and not {want[:2]} ..")
 
 
 def look_at_trace(part, trace):
