@@ -7,12 +7,7 @@
      ONE        where it is set, each call on any of the three streams moves a byte at most
 
    Calls on other files are left alone. A program with threads ends by _exit, which runs no destructor. */
-#define _GNU_SOURCE
-#include <dlfcn.h>
-#include <errno.h>
-#include <stdio.h>
-#include <stdlib.h>
-#include <unistd.h>
+#include "plain.h"
 
 #define STREAMS 3
 

@@ -4,60 +4,14 @@ says of the schedule on standard input, and what `judge --each` says of it where
 import csv
 import io
 import sys
-from collections import Counter, namedtuple
+from collections import Counter
+from pathlib import Path
 
 sys.dont_write_bytecode = True
+sys.path.insert(0, str(Path(__file__).resolve().parent.parent / "tools"))
+
 import models  # noqa: E402
-
-Served = namedtuple("Served", "id dir first sectors release due issue")
-
-
-class Trace:
-    """The commands of a good trace, the places of its rounds, and what waits at its end."""
-
-    def __init__(self, text):
-        records = [it for it in csv.reader(io.StringIO(text.decode("latin-1"), newline="")) if it]
-        self.depth, self.depths, self.round = int(records[0][2]), {}, 0
-        self.expire = {"R": int(records[1][1]), "W": int(records[1][2])}
-        self.requests, self.tags, issued = {}, {}, []
-        at = 2
-        while at < len(records):
-            word, *fields = records[at]
-            at += 1
-            if word == "tick":
-                self.round += 1
-            elif word == "depth":
-                self.depths[self.round + 1] = int(fields[0])
-            elif word in ("release", "join"):
-                self.enter(fields[0], [it[3:6] for it in records[at : at + int(fields[1])]])
-                at += int(fields[1])
-            elif word == "issue":
-                self.tags[fields[1]] = len(issued)
-                issued.append((fields[0], self.round))
-            elif word == "back":
-                issued[self.tags[fields[0]]] = None
-        self.served = [self.command(*it) for it in issued if it]
-        gone = {it.id for it in self.served}
-        self.waiting = [it for id, it in self.requests.items() if int(id) not in gone]
-
-    def enter(self, id, bios):
-        """The release and the due round, the direction, the range and the number of bios of a request, with what joins it."""
-        direction, first = bios[0][0], int(bios[0][1])
-        end = int(bios[-1][1]) + int(bios[-1][2])
-        due, count = self.round + self.expire[direction], len(bios)
-        if id in self.requests:
-            _, old_due, _, old_first, old_end, old_count = self.requests[id]
-            first, end = (old_first, end) if first == old_end else (first, old_end)
-            due, count = min(due, old_due), count + old_count
-        self.requests[id] = self.round, due, direction, first, end, count
-
-    def command(self, id, issue):
-        release, due, direction, first, end, _ = self.requests[id]
-        return Served(int(id), direction, first, end - first, release, due, issue)
-
-    def places(self, at):
-        """How many commands the round carries."""
-        return next((self.depths[it] for it in sorted(self.depths, reverse=True) if it <= at), self.depth)
+from traces import Served  # noqa: E402 (it stands in a folder beside this one)
 
 
 def most_met(trace, commands):
@@ -156,15 +110,15 @@ def misses(trace):
     """What `misses` writes."""
     late = [it for it in trace.served if it.issue > it.due]
     unavoidable = len(trace.served) - most_met(trace, trace.served)
-    overdue = [it for it in trace.waiting if trace.round > it[1]]
+    overdue = [it for it in trace.waiting if trace.round > it.due]
     figures = {
         "commands": len(trace.served),
         "late": len(late),
         "unavoidable": unavoidable,
         "avoidable": len(late) - unavoidable,
         "spare": sum(verdict(trace, it)[0] == "spare" for it in late),
-        "waiting": sum(it[5] for it in trace.waiting),
-        "overdue": sum(it[5] for it in overdue),
+        "waiting": sum(it.bios for it in trace.waiting),
+        "overdue": sum(it.bios for it in overdue),
     }
     lines = [f"{word} {number}" for word, number in figures.items()]
     for begin, until in cover(trace):

@@ -1,7 +1,6 @@
 """What bench/memory and bench/calls share: runs of the program over the short cases, each with a C library loaded before the
 C library's, which spoils something of the run."""
 import os
-import shutil
 import subprocess
 import sys
 import tempfile
@@ -66,17 +65,27 @@ def chosen(words):
         raise Nothing(2, str(fault)) from None
     if not os.access(cases.PROGRAM, os.X_OK):
         raise Nothing(3, f"there is no program {cases.PROGRAM.relative_to(TOP)}: ./blk builds it")
-    if not shutil.which("cc"):
-        raise Nothing(3, f"no C compiler is at hand (cc), so none of {len(picked)} cases was tried")
     return picked
 
 
+def compiler():
+    """The toolchain's clang: it stands in the folder whose first page `rt doc` prints."""
+    try:
+        told = subprocess.run(["rt", "doc"], stdin=subprocess.DEVNULL, capture_output=True)
+    except OSError:
+        raise Nothing(3, "rt is not on the path, and its clang has to make the library that spoils a run") from None
+    clang = Path(cases.shown(told.stdout).strip()).parent / "toolchain" / "bin" / "clang"
+    if not os.access(clang, os.X_OK):
+        raise Nothing(3, f"the toolchain has no {clang}")
+    return clang
+
+
 def make(source, library):
-    """Makes the library."""
-    words = ["cc", "-shared", "-fPIC", "-O1", "-o", library, TOP / "bench" / source, "-ldl"]
+    """Makes the library. What it calls is the program's own C library, so none is linked."""
+    words = [compiler(), "-shared", "-fPIC", "-O1", "-nostdlib", "-fuse-ld=lld", "-o", library, TOP / "bench" / source]
     made = subprocess.run(words, stdin=subprocess.DEVNULL, capture_output=True)
     if made.returncode:
-        raise Nothing(3, f"cc fails: {cases.shown(made.stderr[-400:])}")
+        raise Nothing(3, f"clang fails: {cases.shown(made.stderr[-400:])}")
 
 
 def spoil(name, source, work, picked, always):

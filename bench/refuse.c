@@ -2,12 +2,7 @@
    set, it says on standard error at the program's end how many were asked for. bench/memory loads it before the C library.
    The program's threads are counted together. A program with threads ends by _exit, which runs no destructor. Neither calloc nor
    memalign is counted: the program calls none. */
-#define _GNU_SOURCE
-#include <dlfcn.h>
-#include <errno.h>
-#include <stdio.h>
-#include <stdlib.h>
-#include <unistd.h>
+#include "plain.h"
 
 static void *(*next_malloc)(size_t);
 static void *(*next_realloc)(void *, size_t);

@@ -8,7 +8,8 @@
 Of each it looks that the text is XML of the elements that a picture has, without scripts, fonts or links; that no box lies outside its
 frame or over another; and, where the case's input is a trace, that there is one box for each Issue, in its round and under its tag, with
 its class; or, where a column stands for several rounds, that each column has the numbers of its rounds; that as many requests wait
-as the trace says; and that each window has the two numbers that its commands and its rounds give, with those of the heading.
+as the trace says; that each window has the two numbers that its commands and its rounds give, with those of the heading, and below it
+where they are few; and by how many rounds the axis counts.
 
 Prints what is wrong, and as the last line 'N passed, M failed'. Ends with 0 where none failed, and with 1 where one did.
 """
@@ -19,15 +20,17 @@ import signal
 import sys
 import xml.etree.ElementTree as ET
 from collections import Counter
+from itertools import accumulate
 
 sys.dont_write_bytecode = True
 
 import words as command_line
 from cases import PROGRAM, Case, counted, ended, read_cases, run, side_by_side
+from traces import Trace
 
 SVG = "{http://www.w3.org/2000/svg}"
 ELEMENTS = {"svg", "style", "defs", "pattern", "path", "rect", "g", "text", "title"}
-LEFT, ABOVE = 64, 182
+LEFT, ABOVE, LABELLED = 64, 182, 12
 # The words that read a trace and look at it: all that do by the table in docs/FORMATS.md, but what draws it and what takes its commands.
 LOOKED_AT = [it.encode().split() for it in command_line.that_read("a trace") if it not in ("picture", "commands")]
 
@@ -41,81 +44,32 @@ def hold(it, what):
         raise Fault(what)
 
 
-class Trace:
-    """A trace: its Issues with what became of each, and what its rounds carry."""
-
-    def __init__(self, text):
-        rows = [row.split(",") for row in text.splitlines() if row]
-        self.depth = int(rows[0][2])
-        expire = {"R": int(rows[1][1]), "W": int(rows[1][2])}
-        self.depths, self.issues, self.released = [self.depth], [], []
-        self.requests, seats, after = {}, {}, self.depth
-        group, now = None, 0
-        for row in rows[2:]:
-            kind = row[0]
-            if kind in ("release", "join"):
-                group = self.requests.setdefault(int(row[1]), {"first": None, "due": []})
-                group["release"] = now
-                if kind == "release":
-                    group["entered"] = now
-            elif kind == "bio":
-                first, end = int(row[4]), int(row[4]) + int(row[5])
-                group["dir"] = row[3]
-                group["due"].append(now + expire[row[3]])
-                if group["first"] is None:
-                    group["first"], group["end"] = first, end
-                else:
-                    group["first"], group["end"] = min(first, group["first"]), max(end, group["end"])
-            elif kind == "issue":
-                issue = {"id": int(row[1]), "tag": int(row[2]), "round": now, "back": False}
-                seats[issue["tag"]] = issue
-                self.issues.append(issue)
-            elif kind == "back":
-                seats[int(row[1])]["back"] = True
-            elif kind == "depth":
-                after = int(row[1])
-            elif kind == "tick":
-                now += 1
-                self.depths.append(after)
-        self.rounds = now + 1
-        for request in self.requests.values():
-            request["due"] = min(request["due"])
-        for issue in self.issues:
-            issue.update({k: self.requests[issue["id"]][k] for k in ("dir", "first", "end", "release", "due")})
-            issue["late"] = issue["round"] > issue["due"]
+class Drawn(Trace):
+    """A trace, and what a picture of it has to show."""
 
     def class_of(self, issue):
-        way = "r" if issue["dir"] == "R" else "w"
-        if issue["back"]:
+        way = "r" if issue.request.dir == "R" else "w"
+        if issue.back:
             return "h" + way
-        return way + " l" if issue["late"] else way
+        return way + " l" if issue.late else way
 
     def kind_of(self, issue):
-        return "b" if issue["back"] else "m" if issue["late"] else self.class_of(issue)
+        return "b" if issue.back else "m" if issue.late else self.class_of(issue)
 
-    def waiting(self, way):
+    def waiting_in(self, way):
         """How many requests of a direction wait at the end of each round."""
         change = [0] * self.rounds
         for request in self.requests.values():
-            if request["dir"] == way:
-                change[request["entered"]] += 1
+            if request.dir == way:
+                change[request.entered] += 1
         for issue in self.issues:
-            if issue["dir"] == way and not issue["back"]:
-                change[issue["round"]] -= 1
-        all_, told = 0, []
-        for it in change:
-            all_ += it
-            told.append(all_)
-        return told
+            if issue.request.dir == way and not issue.back:
+                change[issue.round] -= 1
+        return list(accumulate(change))
 
     def carried(self, first, last):
         """What the rounds from one to another carry; after the last one each carries as much as that would."""
-        ends = self.depths[first:last + 1]
-        return sum(ends) + self.beyond * max(0, last - max(first, self.rounds) + 1)
-
-    @property
-    def beyond(self):
-        return self.depths[-1]
+        return sum(self.depths[first : last + 1]) + self.beyond * max(0, last - max(first, self.rounds) + 1)
 
 
 def numbers(element, *names):
@@ -172,22 +126,20 @@ def look_at_boxes(part, trace, wide, tall):
         seen[(x - LEFT) // wide, (y - ABOVE) // tall] = box
     hold(len(seen) == len(trace.issues), f"{len(seen)} boxes and {len(trace.issues)} Issues")
     for issue in trace.issues:
-        box = seen.get((issue["round"], issue["tag"]))
-        hold(box is not None, f"no box in round {issue['round']} under tag {issue['tag']}")
-        hold(box.get("class") == trace.class_of(issue), f"the class of request {issue['id']}")
-        way = "read" if issue["dir"] == "R" else "write"
-        apart = issue["round"] - issue["due"]
-        end = f"issued {issue['round']} and handed back" if issue["back"] else f"issued {issue['round']}, lateness {apart}"
-        want = (f"request {issue['id']}, {way}, sectors {issue['first']} to {issue['end']}, "
-                f"released in round {issue['release']}, due {issue['due']}, {end}")
-        hold(box.find(SVG + "title").text == want, f"the title of request {issue['id']}: {box.find(SVG + 'title').text}")
+        box, it = seen.get((issue.round, issue.tag)), issue.request
+        hold(box is not None, f"no box in round {issue.round} under tag {issue.tag}")
+        hold(box.get("class") == trace.class_of(issue), f"the class of request {it.id}")
+        way = "read" if it.dir == "R" else "write"
+        end = f"issued {issue.round} and handed back" if issue.back else f"issued {issue.round}, lateness {issue.round - it.due}"
+        want = f"request {it.id}, {way}, sectors {it.first} to {it.end}, released in round {it.release}, due {it.due}, {end}"
+        hold(box.find(SVG + "title").text == want, f"the title of request {it.id}: {box.find(SVG + 'title').text}")
 
 
 def look_at_columns(frame, trace, per):
     _, _, columns, whole = map(int, frame.get("viewBox").split())
     want = [Counter() for _ in range(columns)]
     for issue in trace.issues:
-        want[issue["round"] // per][trace.kind_of(issue)] += 1
+        want[issue.round // per][trace.kind_of(issue)] += 1
     for rect in frame.iter(SVG + "rect"):
         kind = rect.get("class")
         if kind in "rwmb":
@@ -202,7 +154,7 @@ def look_at_columns(frame, trace, per):
 
 
 def look_at_strip(strip, trace, per):
-    reads, writes = trace.waiting("R"), trace.waiting("W")
+    reads, writes = trace.waiting_in("R"), trace.waiting_in("W")
     _, _, columns, _ = map(int, strip.get("viewBox").split())
     told = {"r": {}, "w": {}}
     for rect in strip.iter(SVG + "rect"):
@@ -215,15 +167,17 @@ def look_at_strip(strip, trace, per):
 
 
 def look_at_windows(part, trace, per, wide):
-    served = [it for it in trace.issues if not it["back"]]
+    served = trace.served
     heading = part_texts(part)
     report = dict(re.findall(r"(commands|waiting|depth|least|load) (-?\d+|none)", heading[1]))
     late, unavoidable, avoidable, spare, told_per = map(int, re.findall(r"\d+", heading[2]))
     hold(told_per == per, "how many rounds a column is")
     hold(int(report["commands"]) == len(served) and int(report["depth"]) == trace.depth, "the report's counts")
-    hold(late == sum(it["late"] for it in served) and late == unavoidable + avoidable, "how many were late")
+    hold(late == sum(it.issue > it.due for it in served) and late == unavoidable + avoidable, "how many were late")
     hold(avoidable <= spare <= late, "what could have been avoided")
     (below,) = [it for it in part.findall(SVG + "g") if it.get("transform").startswith("translate(0,")]
+    look_at_axis(below, trace, per, wide)
+    look_at_labels(below)
     bound, outside, before = 0, set(range(len(served))), -1
     brackets = [it for it in below.findall(SVG + "path") if it.find(SVG + "title") is not None]
     hold(sum(it.get("class") == "q" for it in brackets) == (1 if served else 0), "the crowded window")
@@ -234,19 +188,43 @@ def look_at_windows(part, trace, per, wide):
         ends = [min(it, trace.rounds - 1) // per for it in (first, last)]
         hold([x, to] == [LEFT + wide * ends[0], LEFT + wide * (ends[1] + 1)], f"the bracket of {title}")
         if bracket.get("class") == "q":
-            load = sum(first <= it["release"] and it["due"] <= last for it in served)
+            load = sum(first <= it.release and it.due <= last for it in served)
             hold(commands == load and int(report["load"]) == load, f"the load of {title}")
             end = max(first, last + int(report["least"]))
             hold(room == trace.carried(first, end - 1) and room < load, f"the room of {title}")
             continue
         hold(room == trace.carried(first, last), f"the room of {title}")
-        inside = {i for i, it in enumerate(served) if first <= it["release"] <= it["due"] <= last}
+        inside = {i for i, it in enumerate(served) if first <= it.release <= it.due <= last}
         hold(commands == len(inside), f"the commands of {title}")
         hold(before < first <= last, "windows that are not apart")
         before, bound, outside = last, bound + room, outside - inside
     if len(brackets) <= 400:
-        bound += sum(served[i]["release"] <= served[i]["due"] for i in outside)
+        bound += sum(served[i].release <= served[i].due for i in outside)
         hold(bound + unavoidable == len(served), f"the windows leave {len(served) - bound} late and not {unavoidable}")
+
+
+def look_at_axis(below, trace, per, wide):
+    """The axis counts by 1, 2 or 5 times a power of ten, the first of these by which it has at most 24 steps."""
+    step = next(it for it in (m * 10**k for k in range(12) for m in (1, 2, 5)) if trace.rounds <= 24 * it)
+    want = [(round_, LEFT + wide * (round_ // per)) for round_ in range(0, trace.rounds, step)]
+    told = [(int(it.text), int(it.get("x"))) for it in below.findall(SVG + "text") if it.get("class") == "s c"]
+    hold(told == want, f"the axis counts {told[:4]} .. and not {want[:4]} ..")
+    marks = [int(re.fullmatch(r"M(\d+) 0v5", it.get("d")).group(1)) for it in below.findall(SVG + "path") if it.find(SVG + "title") is None]
+    hold(marks == [x for _, x in want], "the marks of the axis")
+
+
+def look_at_labels(below):
+    """The crowded window has its numbers below it, and those of misses have where they are at most 12."""
+    brackets = [it for it in below.findall(SVG + "path") if it.find(SVG + "title") is not None]
+    few = sum(it.get("class") == "k" for it in brackets) <= LABELLED
+    want = []
+    for it in brackets:
+        if few or it.get("class") == "q":
+            commands = it.find(SVG + "title").text.split(": ", 1)[1]
+            x, y = map(int, re.match(r"M(\d+) (\d+)v", it.get("d")).groups())
+            want.append((commands, x, y + 18))
+    told = [(it.text, *numbers(it, "x", "y")) for it in below.findall(SVG + "text") if it.get("class") == "s"]
+    hold(told == want, f"the labels {told[:2]} .. and not {want[:2]} ..")
 
 
 def look_at_trace(part, trace):
@@ -293,7 +271,7 @@ def drawn(case):
     try:
         status, wrote, said = run(PROGRAM, once)
         hold(status == 0 and not said, f"it ended with status {status} and said {said[:400]!r}")
-        look_at(wrote.decode("ascii"), Trace(case.stdin.read_text()) if of_trace(case) else None)
+        look_at(wrote.decode("ascii"), Drawn(case.stdin.read_text()) if of_trace(case) else None)
     except (Fault, OSError, ValueError, AttributeError) as fault:
         return f"{fault}\n"
     return ""
@@ -310,7 +288,7 @@ def kept(case):
     if case.args[:1] != [b"picture"] or not picture:
         return None
     try:
-        look_at(picture.read_text(), Trace(case.stdin.read_text()) if case.args == [b"picture"] else None)
+        look_at(picture.read_text(), Drawn(case.stdin.read_text()) if case.args == [b"picture"] else None)
     except Fault as fault:
         return f"{fault}\n"
     return ""

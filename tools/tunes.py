@@ -8,16 +8,18 @@ Of each row: `sim` runs the script under the row's settings, and of the trace th
 the row's numbers. Of each table: every setting of the grid has one row and nothing else has; the rows stand in the order of their own
 numbers, by misses and by lateness, and those that are as good in the order of the grid; the last line names the first row, and says that
 no schedule is better just where the row's numbers do; `--top 3` writes the first three rows and the same last line; and the text is the
-same with 1, 2 and 4 threads.
+same with 1, 2 and 4 threads. Of a script that takes a while, as many threads try it as are asked for.
 
 Prints what is wrong, and as the last line 'N passed, M failed', counted in rows and tables. Ends with 0 where none failed, 1 where one
 did, 2 where a word names no script, and 3 where the program isn't there.
 """
+import contextlib
 import itertools
 import os
 import signal
 import subprocess
 import sys
+import time
 
 sys.dont_write_bytecode = True
 
@@ -127,6 +129,32 @@ def wrong_table(by, script):
     return told
 
 
+def threads_of(threads, script):
+    """How many threads there are at most while the script is tried with so many."""
+    run = subprocess.Popen([PROGRAM, "tune", "--threads", str(threads)], stdin=subprocess.PIPE, stdout=subprocess.DEVNULL)
+    run.stdin.write(script)
+    run.stdin.close()
+    most, tasks = 0, f"/proc/{run.pid}/task"
+    while run.poll() is None:
+        with contextlib.suppress(OSError):
+            most = max(most, len(os.listdir(tasks)))
+        time.sleep(0.001)
+    return most
+
+
+def wrong_threads():
+    """What is wrong with how many threads try a script that takes a while, empty where nothing is."""
+    bios = "".join(f"bio,0,{i},{'RW'[i % 2]},{i * 997 % 5000 * 16},8\nflush,0,,,,\nrun,1,,,,\n" for i in range(300))
+    script = f"blk-script,1,1,1,1,1\nsetup,0,9,256,128,\n{bios}".encode()
+    told = ""
+    for threads in (1, 2, 4):
+        # they come and go, and a look may miss one
+        most = max(threads_of(threads, script) for _ in range(3))
+        if most != threads:
+            told += f"    with --threads {threads} there were {most}\n"
+    return told
+
+
 def checks_of(script):
     """What is looked at over a script: each row, and both tables."""
     rows = rows_of(lines_of("tune", script)[1:-1])
@@ -154,6 +182,7 @@ def outcomes(names):
             continue
         for what, told in side_by_side(looked_at, checks):
             yield f"script {name}, {what}", told
+    yield "the number of threads", looked_at(wrong_threads)
 
 
 def main(words):

@@ -7,6 +7,7 @@
 mod coming;
 mod deeds;
 mod going;
+pub mod laws;
 mod script;
 mod terms;
 mod text;

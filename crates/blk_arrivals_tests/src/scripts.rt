@@ -3,6 +3,7 @@
 ghost use Rattle.std.specs.Prelude.{length};
 ghost use Rattle.blk_capture.specs.Requests.{AreInOrder};
 
+use blk_arrivals::laws::law_of_limits;
 use blk_arrivals::{ArrivalsFault, Terms, script_of, script_text};
 use blk_capture::Record;
 use blk_capture_text::read_capture;
@@ -59,6 +60,11 @@ fn records_of(rt: &impl Abort, alloc: Global, text: &str) -> Vec<Record>
 fn fault_of(rt: &impl Abort, alloc: Global, text: &str, terms: &Terms) -> Option<ArrivalsFault> {
     let records = records_of(rt, alloc, text);
     script_of(alloc, records.as_slice(), terms).err()
+}
+
+#[test]
+fn limits_hold() {
+    law_of_limits();
 }
 
 #[test]

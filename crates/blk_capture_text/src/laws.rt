@@ -3,7 +3,7 @@
 ghost use Rattle.std.specs.Prelude.{◌≡◌, ◌∷◌, [], take, drop, replicate};
 ghost use Rattle.blk_lists.specs.Laws.{OneValue, ReadsBack, ValueOrFault, NeverBoth, OneFault};
 ghost use Rattle.blk_capture_text.specs.Captures.{MakeCapture, TellsRecords, SpellsCapture, CaptureTextFault, capture_rows};
-ghost use Rattle.blk_capture_text.specs.declared.reading.TheConstants.{CAPTURE};
+ghost use Rattle.blk_capture_text.specs.declared.reading.TheConstants.{CAPTURE, MAX_RECORDS};
 ghost use Rattle.blk_capture_text.specs.declared.record.TheConstants.{RECORD, RECORD_ROW};
 ghost use Rattle.blk_lists.specs.declared.names.FieldName.TheVariants as name;
 
@@ -43,4 +43,9 @@ pub fn names_of_captures()
     ensures rest { drop 2 CAPTURE.names ≡ replicate 6 name.Unused }
     ensures time { take 3 RECORD_ROW.names ≡ name.Seconds ∷ name.Nanoseconds ∷ name.Processor ∷ [] }
     ensures others { drop 3 RECORD_ROW.names ≡ name.Action ∷ name.Process ∷ name.Rwbs ∷ name.First ∷ name.Sectors ∷ [] }
+{}
+
+/// How many records a capture has at most, by the number.
+pub fn law_of_limits()
+    ensures { MAX_RECORDS ≡ 16_000_000 }
 {}

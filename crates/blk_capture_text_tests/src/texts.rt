@@ -6,7 +6,8 @@ ghost use Rattle.blk_capture.specs.Requests.{AreInOrder};
 use blk_capture::{Action, Entry, Op, Options, Record, rows_of, summarize};
 use blk_capture_text::laws::{
     a_capture_has_one_fault, a_capture_is_spelled_or_has_a_fault, captures_are_spelled_once,
-    captures_read_back, names_of_captures, spelled_captures_have_no_fault, wordless_row,
+    captures_read_back, law_of_limits, names_of_captures, spelled_captures_have_no_fault,
+    wordless_row,
 };
 use blk_capture_text::{
     ImportAsked, ImportFault, ShownImport, count_fates, first_time, import, notice_text,
@@ -295,6 +296,8 @@ fn laws_hold(rt: HostRuntime) {
     spelled_captures_have_no_fault();
     a_capture_has_one_fault();
     names_of_captures();
+    law_of_limits();
+    blk_recorders::laws::law_of_limits();
     wordless_row();
     assert!(rt; true);
 }

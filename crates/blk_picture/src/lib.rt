@@ -5,6 +5,7 @@ mod around;
 mod boxes;
 mod columns;
 mod facts;
+pub mod laws;
 mod parts;
 mod scale;
 mod shapes;

@@ -2,8 +2,14 @@
 
 use crate::given::Happening::{Bare, Read, Ticks, Write};
 use crate::given::{count_of, trace_of};
+use blk_picture::laws::law_of_limits;
 use blk_picture::{picture, pictures};
 use blk_trace::Event;
+
+#[test]
+fn limits_hold() {
+    law_of_limits();
+}
 
 /// A read goes out under tag 1 in round 0, on time: 40 pixels a round, 24 a tag.
 #[test]

@@ -5,6 +5,7 @@
 mod detect;
 mod device;
 mod fault;
+pub mod laws;
 mod layout;
 mod lines;
 mod recorder;

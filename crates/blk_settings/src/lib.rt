@@ -16,6 +16,7 @@ pub mod figures;
 pub mod form;
 pub mod given;
 pub mod grid;
+pub mod laws;
 pub mod lists;
 pub mod numbers;
 pub mod options;

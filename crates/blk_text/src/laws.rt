@@ -1,6 +1,6 @@
 //! Laws of the text forms, each the contract of a function that does nothing.
 
-ghost use Rattle.std.specs.Prelude.{◌≡◌, ◌∷◌, ◌-◌, ℕ, List, [], codes, map};
+ghost use Rattle.std.specs.Prelude.{◌≡◌, ◌∷◌, ◌-◌, ◌^◌, ℕ, List, [], codes, map};
 ghost use Rattle.csv.specs.Reading.{default_config, records, strip_bom};
 ghost use Rattle.blk_lists.specs.Sources.{Row};
 ghost use Rattle.blk_lists.specs.Texts.{rows_text};
@@ -13,10 +13,14 @@ ghost use Rattle.blk_text.specs.EventKinds.{event_table};
 ghost use Rattle.blk_text.specs.StepKinds.{step_kinds};
 ghost use Rattle.blk_text.specs.declared.bios.TheConstants.{BIO};
 ghost use Rattle.blk_text.specs.declared.heads.TheConstants.{TICK, RELEASE, JOIN, ISSUE, DONE, BACK, DEPTH, TRACE};
-ghost use Rattle.blk_text.specs.declared.script.TheConstants.{FLUSH, DRAIN, STEP_ISSUE, RUN, MAX_RUN, SCRIPT};
-ghost use Rattle.blk_text.specs.declared.setup.TheConstants.{DEPTHS, LATEST, QUEUES, SETUP, WIDTH};
-ghost use Rattle.blk_bio.specs.declared.limits.TheConstants.{MAX_SEGMENTS};
+ghost use Rattle.blk_text.specs.declared.script.TheConstants.{FLUSH, DRAIN, STEP_ISSUE, RUN, MAX_RUN, MAX_STEPS, SCRIPT};
+ghost use Rattle.blk_text.specs.declared.setup.TheConstants.{DEPTHS, LATEST, MAX_DEPTH_1, QUEUES, SETUP, WIDTH};
+ghost use Rattle.edd_commands.specs.declared.TheConstants.{MAX_COMMANDS, MAX_RELEASES, MAX_ROUNDS};
+ghost use Rattle.edd_commands.specs.declared.steps.TheConstants.{MAX_DEPTH};
+ghost use Rattle.blk_bio.specs.declared.bio.TheConstants.{MAX_END};
+ghost use Rattle.blk_bio.specs.declared.limits.TheConstants.{MAX_QUEUES, MAX_SECTORS, MAX_SEGMENTS, MAX_SOFT_DEPTH, MAX_SOFT_QUEUES};
 ghost use Rattle.blk_trace.specs.declared.event.TheConstants.{MAX_TAGS};
+ghost use Rattle.blk_trace.specs.declared.setup.TheConstants.{MAX_EXPIRIES};
 ghost use Rattle.blk_trace.specs.declared.trace.TheConstants.{MAX_EVENTS};
 ghost use Rattle.blk_lists.specs.declared.fields.TheConstants.{ANY_SLOT};
 ghost use Rattle.blk_lists.specs.declared.fields.Slot.TheVariants as slot;
@@ -130,4 +134,25 @@ pub fn names_of_traces()
     ensures release { RELEASE.names ≡ name.Word ∷ name.Id ∷ name.Bios ∷ name.Unused ∷ name.Unused ∷ name.Unused ∷ [] }
     ensures join { JOIN.names ≡ name.Word ∷ name.Id ∷ name.Bios ∷ name.Unused ∷ name.Unused ∷ name.Unused ∷ [] }
     ensures issue { ISSUE.names ≡ name.Word ∷ name.Id ∷ name.Tag ∷ name.Unused ∷ name.Unused ∷ name.Unused ∷ [] }
+{}
+
+/// The limits of scripts and traces, and of the command lists of traces, by their numbers.
+pub fn law_of_limits()
+    ensures latest { LATEST ≡ 2 }
+    ensures tags_of_version_1 { MAX_DEPTH_1 ≡ 64 }
+    ensures tags { MAX_DEPTH ≡ 256 }
+    ensures tag_numbers { MAX_TAGS ≡ 2 ^ 16 }
+    ensures steps { MAX_STEPS ≡ 1_000_000 - 2 }
+    ensures rounds_of_a_run { MAX_RUN ≡ 1_000_000 }
+    ensures events { MAX_EVENTS ≡ 1_000_000 }
+    ensures expiries { MAX_EXPIRIES ≡ 2 ^ 40 }
+    ensures hardware_queues { MAX_QUEUES ≡ 16 }
+    ensures software_queues { MAX_SOFT_QUEUES ≡ 64 }
+    ensures room_of_a_software_queue { MAX_SOFT_DEPTH ≡ 1024 }
+    ensures sectors { MAX_SECTORS ≡ 65_535 }
+    ensures segments { MAX_SEGMENTS ≡ 128 }
+    ensures sector_numbers { MAX_END ≡ 2 ^ 48 }
+    ensures commands { MAX_COMMANDS ≡ 1_000_000 }
+    ensures releases { MAX_RELEASES ≡ 2 ^ 40 }
+    ensures rounds { MAX_ROUNDS ≡ 2 ^ 41 }
 {}

@@ -22,4 +22,5 @@ fn laws_hold() {
     blk_text::laws::names_of_both();
     blk_text::laws::names_of_scripts();
     blk_text::laws::names_of_traces();
+    blk_text::laws::law_of_limits();
 }

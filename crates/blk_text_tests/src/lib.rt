@@ -19,3 +19,5 @@ mod streams;
 mod texts;
 #[cfg(test)]
 mod traces;
+#[cfg(test)]
+mod writers;

@@ -4,7 +4,7 @@ use crate::given::Happening::{Bare, JoinRead, Read};
 use crate::given::{Happening, Heap, empty, event, has_events, is_pushed, limits, made, setup};
 use crate::looks::{Look, command, first_other};
 use blk_bio::Dir;
-use blk_trace::{Event, Trace, TraceFault};
+use blk_trace::{Event, Trace, TraceFault, TraceRule};
 use refusing::Refusing;
 use std::process::Abort;
 
@@ -66,7 +66,30 @@ fn remade<'a>(rt: &impl Abort, heap: Heap<'a>, steps: &[Happening]) -> Trace<Hea
     }
 }
 
-/// A trace is built event by event and read, and another is made of a list.
+/// Whether a list of events is no trace for this fault; where memory is refused it says so, and the same list then has the fault.
+fn is_no_trace<'a>(
+    rt: &impl Abort,
+    heap: Heap<'a>,
+    steps: &[Happening],
+    fault: TraceFault,
+) -> bool {
+    let setup = setup(rt, 5, 50, limits(rt, 256, 128));
+    let armed = heap.is_armed();
+    match made(rt, heap, setup, steps) {
+        Ok(_) => false,
+        Err(TraceFault::Memory) => {
+            armed
+                && !heap.is_armed()
+                && match made(rt, heap, setup, steps) {
+                    Ok(_) => false,
+                    Err(again) => again == fault,
+                }
+        }
+        Err(first) => first == fault,
+    }
+}
+
+/// A trace is built event by event and read, another is made of a list, and of a list that uses a tag twice in a round none is.
 fn all_of_it(rt: &impl Abort, heap: Heap<'_>) {
     let mut trace = come_and_go(rt, heap);
     let looks = [
@@ -93,6 +116,15 @@ fn all_of_it(rt: &impl Abort, heap: Heap<'_>) {
         Bare(Event::Issue { id: 0, tag: 0 }),
     ];
     assert!(rt; has_events(heap, &remade(rt, heap, &steps), &steps));
+    let again = [
+        Read(0, 16, 1),
+        Read(1, 32, 1),
+        Bare(Event::Issue { id: 0, tag: 0 }),
+        Bare(Event::Done { tag: 0 }),
+        Bare(Event::Issue { id: 1, tag: 0 }),
+    ];
+    let rule = TraceRule::TagUsed;
+    assert!(rt; is_no_trace(rt, heap, &again, TraceFault::Rule { at: 4, rule }));
 }
 
 #[test]

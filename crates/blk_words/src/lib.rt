@@ -5,6 +5,7 @@
 pub mod asking;
 mod command;
 mod inputs;
+pub mod laws;
 mod lists;
 mod option_names;
 mod source;
