@@ -11,6 +11,8 @@ No word is defined in the specs/ of two crates, but for those that mean one thin
 120 characters between its braces. Pages and comments say 'out of memory': 'want of memory' is the program's own line, and
 stands there only as `blk: want of memory`.
 
+A key of a JSON example in docs/FORMATS.md is a name of crates/answer, or a setting's.
+
 Prints what is wrong, and as the last line 'N passed, M failed'. Ends with 0, or with 1 where something failed.
 """
 import re
@@ -158,12 +160,24 @@ def other_memory(paths):
             yield from (f"{path}:{line_of(text, it.start())}: only the program's own line says 'want of memory'" for it in WANT.finditer(text))
 
 
+def unlisted_names(paths):
+    """Keys of the JSON examples of docs/FORMATS.md that are neither a name of the answers nor a setting's."""
+    text = (TOP / "docs/FORMATS.md").read_text()
+    names = set(re.findall(r'(?m)^pub const \w+: &str = "([^"]+)"', (TOP / "crates/answer/src/names.rt").read_text()))
+    for path in paths:
+        if path.startswith("crates/blk_settings/src/"):
+            names.update(re.findall(r'name: "(\w+)"', (TOP / path).read_text()))
+    for it in re.finditer(r"(?m)^    {.*}$", text):
+        for key in sorted(set(re.findall(r'"([\w-]+)":', it[0])) - names):
+            yield f"docs/FORMATS.md:{line_of(text, it.start())}: {key} is no name of crates/answer/src/names.rt"
+
+
 def main():
     """Prints what is wrong; the exit status."""
     paths = tracked()
     words = words_of(paths) | KNOWN
     told = [list(lost(path, words)) for path in paths if is_page(path)]
-    told += [list(rule(paths)) for rule in (twice_defined, long_clauses, other_memory)]
+    told += [list(rule(paths)) for rule in (twice_defined, long_clauses, other_memory, unlisted_names)]
     for line in (line for it in told for line in it):
         print(f"pages: {line}")
     failed = sum(map(bool, told))

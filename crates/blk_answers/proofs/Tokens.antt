@@ -7,30 +7,12 @@ use Rattle.json.specs.Json as json
 use Rattle.json.specs.Token as token
 use Rattle.json.specs.Print.{print}
 use Rattle.json.specs.Tree.{json_tokens, items_tokens, members_tokens}
-use Rattle.blk_answers.specs.Values.{json_items, members_of, object_of}
+use Rattle.answer.specs.Values.{json_items, members_of, object_of}
 use Rattle.blk_settings.specs.Settings.{NamedSetting}
 use Rattle.blk_answers.specs.Trials.{setting_member}
-use Rattle.blk_answers.specs.Inside.Tokens.{member_tokens, tokens_of, setting_tokens}
-
--- of the same tokens
-pub told : {V E : Type 0} (r : Result V E) (items : V → List ℕ) (p q : List token.Token) → p ≡ q → IfOk r (λ v. items v ≡ print p ++ 10 ∷ []) → IfOk r (λ v. items v ≡ print q ++ 10 ∷ [])
-told r items p q same h = subst (λ ts. IfOk r (λ v. items v ≡ print ts ++ 10 ∷ [])) same h
-
--- the items of an array, with the closing bracket
-pub items_written : {X : Type 0} (f : X → json.Json) (xs : List X) → items_tokens (json_items (map f xs)) ≡ flat_map (λ x. json_tokens (f x)) xs ++ token.end_array ∷ []
-unfolding json_items
-items_written f [] = refl
-items_written f (x ∷ xs) = ap (λ ts. json_tokens (f x) ++ ts) (items_written f xs) ∙ sym (append_assoc (json_tokens (f x)) _ _)
-
--- the members of an object, with the closing bracket
-pub members_written : (ms : List (List ℕ × json.Json)) → members_tokens (members_of ms) ≡ tokens_of ms ++ token.end_object ∷ []
-members_written [] = refl
-members_written (m ∷ ms) = ap (λ ts. token.key m.0 ∷ (json_tokens m.1 ++ ts)) (members_written ms) ∙ ap (λ ts. token.key m.0 ∷ ts) (sym (append_assoc (json_tokens m.1) _ _))
-
--- the members of two lists, one after the other
-pub tokens_append : (ms ns : List (List ℕ × json.Json)) → tokens_of (ms ++ ns) ≡ tokens_of ms ++ tokens_of ns
-tokens_append [] ns = refl
-tokens_append (m ∷ ms) ns = ap (λ ts. token.key m.0 ∷ (json_tokens m.1 ++ ts)) (tokens_append ms ns) ∙ ap (λ ts. token.key m.0 ∷ ts) (sym (append_assoc (json_tokens m.1) (tokens_of ms) (tokens_of ns)))
+use Rattle.answer.proofs.Tokens.{members_written, tokens_append}
+use Rattle.answer.specs.Inside.Tokens.{member_tokens, tokens_of}
+use Rattle.blk_answers.specs.Inside.Tokens.{setting_tokens}
 
 -- the members of settings, one after the other
 pub settings_written : (ss : List NamedSetting) → tokens_of (map setting_member ss) ≡ flat_map (λ s. setting_tokens s) ss

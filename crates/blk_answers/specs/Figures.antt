@@ -1,13 +1,31 @@
--- What is written of the figures of a trace.
-use Rattle.std.specs.Prelude.{ℕ, List}
+-- What is written of the figures of a trace: an answer, in lines or as JSON.
+use Rattle.std.specs.Prelude.{◌≡◌, ℕ, List}
+use Rattle.blk_trace.specs.Depths.{capacity_of}
 use Rattle.blk_trace.specs.Traces.{Traced}
+use Rattle.blk_report.specs.declared.delays.LateCommand.{LateCommand}
+use Rattle.blk_report.specs.declared.spreading.Spreads.{Spreads}
+use Rattle.blk_report.specs.Answers.{late_parts, spread_parts}
+use Rattle.blk_report.specs.Late.{AreAllLate}
+use Rattle.blk_report.specs.Services.{services_of}
+use Rattle.blk_report.specs.Spread.{AreSpreads}
 use Rattle.blk_settings.specs.declared.figures.FiguresAsked.{FiguresAsked}
 use Rattle.blk_settings.specs.declared.figures.FiguresAsked.TheVariants as figures
 use Rattle.blk_settings.specs.declared.form.Form.{Form}
-use Rattle.blk_answers.specs.Lateness.{IsLateText}
+use Rattle.blk_answers.specs.Forms.{written_in}
 use Rattle.blk_answers.specs.Missing.{IsMissesText}
 use Rattle.blk_answers.specs.Reports.{IsReportText}
-use Rattle.blk_answers.specs.Spreading.{IsSpreadText}
+
+-- the trace's commands that were late
+pub record IsLateText (f : Form) (trace : Traced) (text : List ℕ) : Type 0 where
+  pub late : List LateCommand
+  pub are_late : AreAllLate (services_of trace.setup trace.events) (capacity_of trace.setup trace.events) late
+  pub is_text : text ≡ written_in f (late_parts late)
+
+-- how long they waited and how late they were
+pub record IsSpreadText (f : Form) (trace : Traced) (text : List ℕ) : Type 0 where
+  pub spreads : Spreads
+  pub are_spreads : AreSpreads (services_of trace.setup trace.events) spreads
+  pub is_text : text ≡ written_in f (spread_parts spreads)
 
 -- the text of these figures, in this form
 abbrev pub IsFiguresText : FiguresAsked → Form → Traced → List ℕ → Type 0

@@ -1,8 +1,6 @@
-pub mod Values
-pub mod Reports
-pub mod Spreading
-pub mod Lateness
+pub mod Forms
 pub mod Missing
+pub mod Reports
 pub mod Figures
 pub mod Tables
 pub mod Trials

@@ -1,7 +1,7 @@
 -- What came of a load as JSON.
 use Rattle.std.specs.Prelude.{ℕ, List, [], ◌∷◌, codes}
 use Rattle.json.specs.Json as json
-use Rattle.blk_answers.specs.Values.{count, object_of, value_line}
+use Rattle.answer.specs.Values.{count, object_of, value_line}
 
 -- how many bios were accepted, served and left
 abbrev pub load_value : ℕ → ℕ → ℕ → json.Json

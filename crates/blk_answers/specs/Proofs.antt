@@ -1,7 +1,7 @@
 -- What a certificate proves as JSON.
 use Rattle.std.specs.Prelude.{ℕ, ℤ, List, [], ◌∷◌, Some, codes}
 use Rattle.json.specs.Json as json
-use Rattle.blk_answers.specs.Values.{count, figure, object_of, value_line}
+use Rattle.answer.specs.Values.{count, figure, object_of, value_line}
 
 -- the lateness of a certificate, and what its window holds and carries
 abbrev pub bound_json : ℤ → ℕ → ℕ → List ℕ

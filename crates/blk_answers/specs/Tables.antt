@@ -4,7 +4,7 @@ use Rattle.json.specs.Json as json
 use Rattle.edd_figures.specs.Figures.{greatest_in, least_in, shortfall_in}
 use Rattle.blk_report.specs.declared.figures.Report.{Report}
 use Rattle.blk_report.specs.Table.{IsBestPlace}
-use Rattle.blk_answers.specs.Values.{count, figure, array_of, object_of, value_line}
+use Rattle.answer.specs.Values.{count, figure, array_of, object_of, value_line}
 
 -- how far the trace of a report fell short
 abbrev pub figure_members : Report → List (List ℕ × json.Json)

@@ -13,7 +13,7 @@ use Rattle.blk_settings.specs.declared.grid.By.TheVariants as by
 use Rattle.blk_tune.specs.declared.row.TrialRow.{TrialRow}
 use Rattle.blk_tune.specs.Text.{is_none, shown}
 use Rattle.blk_answers.specs.Tables.{figure_members}
-use Rattle.blk_answers.specs.Values.{count, figure, array_of, object_of, value_line}
+use Rattle.answer.specs.Values.{count, figure, array_of, object_of, value_line}
 
 -- what a setting is set to, the setting, and those of a scheduler, by the names that the command line has for them
 abbrev pub setting_value : SettingValue → json.Json

@@ -5,22 +5,13 @@
 #![tactic(auto)]
 
 mod figures;
-mod late;
 mod load;
-mod misses;
-mod page;
 mod proof;
-mod report;
-mod spread;
 mod table;
 mod trial;
 
 pub use crate::figures::figures_answer;
-pub use crate::late::late_json;
 pub use crate::load::load_json;
-pub use crate::misses::misses_json;
 pub use crate::proof::{bound_json, no_commands_json, on_time_json};
-pub use crate::report::report_json;
-pub use crate::spread::spread_json;
 pub use crate::table::table_json;
 pub use crate::trial::trial_json;

@@ -3,7 +3,7 @@
 ghost use Rattle.std.specs.Prelude.{◌≡◌, IfOk};
 ghost use Rattle.blk_answers.specs.Loads.{load_json};
 
-use crate::page::Page;
+use answer::Page;
 use std::alloc::{AllocError, Global};
 
 /// What came of a load as an object: how many bios were `accepted` and `served`, and how many are `left`. Fails only when out

@@ -3,7 +3,7 @@
 ghost use Rattle.std.specs.Prelude.{◌≡◌, IfOk};
 ghost use Rattle.blk_answers.specs.Proofs.{bound_json, no_commands_json, on_time_json};
 
-use crate::page::Page;
+use answer::Page;
 use std::alloc::{AllocError, Global};
 
 /// What a certificate of a least lateness proves as an object: its `lateness` in rounds, and how many commands its window has,

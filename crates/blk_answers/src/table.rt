@@ -4,9 +4,10 @@ ghost use Rattle.std.specs.Prelude.{◌≡◌, ◌++◌, ◌<◌, IfOk, IfSome, 
 ghost use Rattle.std.specs.List.{flat_map};
 ghost use Rattle.json.specs.Tree.{json_tokens};
 ghost use Rattle.blk_answers.specs.Tables.{figure_members, row_value, best_value, IsTableJson};
-ghost use Rattle.blk_answers.specs.Inside.Tokens.{member_tokens, tokens_of, row_tokens};
+ghost use Rattle.answer.specs.Inside.Tokens.{member_tokens, tokens_of};
+ghost use Rattle.blk_answers.specs.Inside.Tokens.{row_tokens};
 
-use crate::page::Page;
+use answer::Page;
 use blk_report::{Report, compare};
 use std::alloc::{AllocError, Global};
 

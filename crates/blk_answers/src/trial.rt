@@ -3,12 +3,13 @@
 ghost use Rattle.std.specs.Prelude.{◌≡◌, ◌++◌, IfOk, OnOk, codes};
 ghost use Rattle.std.specs.List.{flat_map};
 ghost use Rattle.json.specs.Tree.{json_tokens};
-ghost use Rattle.blk_answers.specs.Inside.Tokens.{member_tokens, tokens_of, setting_tokens};
+ghost use Rattle.answer.specs.Inside.Tokens.{member_tokens, tokens_of};
+ghost use Rattle.blk_answers.specs.Inside.Tokens.{setting_tokens};
 ghost use Rattle.blk_answers.specs.Trials.{settings_members, sched_members, missed_members, percentile_members, trial_row, best_sched, is_proved, proved_words, proved_of, proved_value, trial_json};
-ghost use Rattle.blk_answers.specs.Values.{object_of};
+ghost use Rattle.answer.specs.Values.{object_of};
 
-use crate::page::Page;
 use crate::table::write_figures;
+use answer::Page;
 use blk_report::Tally;
 use blk_settings::{By, Sched, Setting, SettingValue};
 use blk_tune::{TrialRow, shown};

@@ -1,9 +1,8 @@
 //! Answers of a fixed number of values, worked by hand.
 
-use blk_answers::{
-    bound_json, load_json, no_commands_json, on_time_json, report_json, spread_json,
-};
-use blk_report::{ByDir, Quantiles, Report, Spreads};
+use answer::json;
+use blk_answers::{bound_json, load_json, no_commands_json, on_time_json};
+use blk_report::{ByDir, Quantiles, Report, Spreads, report_answer, spread_answer};
 use edd_check::Window;
 use edd_figures::Figures;
 
@@ -22,7 +21,8 @@ fn reports(rt: HostRuntime) {
             load: 0,
         }),
     };
-    let text = report_json(rt.alloc(), &served).expect(&rt, "memory");
+    let answer = report_answer(rt.alloc(), &served).expect(&rt, "memory");
+    let text = json(rt.alloc(), &answer).expect(&rt, "memory");
     let told =
         b"{\"commands\":3,\"waiting\":1,\"depth\":18446744073709551615,\"greatest\":2,\"least\":-1,\"shortfall\":3,\"window\":{\"from\":4,\"due\":6},\"load\":0}\n";
     assert_eq!(rt; text.as_slice(), told.as_slice());
@@ -37,7 +37,8 @@ fn report_of_none(rt: HostRuntime) {
         depth: 64,
         figures: None,
     };
-    let text = report_json(rt.alloc(), &unserved).expect(&rt, "memory");
+    let answer = report_answer(rt.alloc(), &unserved).expect(&rt, "memory");
+    let text = json(rt.alloc(), &answer).expect(&rt, "memory");
     let told =
         b"{\"commands\":0,\"waiting\":2,\"depth\":64,\"greatest\":null,\"least\":null,\"shortfall\":null,\"window\":null,\"load\":null}\n";
     assert_eq!(rt; text.as_slice(), told.as_slice());
@@ -74,7 +75,8 @@ fn spreads(rt: HostRuntime) {
             all: of(-7),
         },
     };
-    let text = spread_json(rt.alloc(), &spread).expect(&rt, "memory");
+    let answer = spread_answer(rt.alloc(), &spread).expect(&rt, "memory");
+    let text = json(rt.alloc(), &answer).expect(&rt, "memory");
     let told =
         b"{\"wait\":{\"R\":{\"count\":1,\"p50\":2,\"p90\":2,\"p99\":2,\"p999\":2,\"max\":2},\"W\":{\"count\":0,\"p50\":null,\"p90\":null,\"p99\":null,\"p999\":null,\"max\":null},\"all\":{\"count\":1,\"p50\":2,\"p90\":2,\"p99\":2,\"p999\":2,\"max\":2}},\"lateness\":{\"R\":{\"count\":1,\"p50\":-7,\"p90\":-7,\"p99\":-7,\"p999\":-7,\"max\":-7},\"W\":{\"count\":0,\"p50\":null,\"p90\":null,\"p99\":null,\"p999\":null,\"max\":null},\"all\":{\"count\":1,\"p50\":-7,\"p90\":-7,\"p99\":-7,\"p999\":-7,\"max\":-7}}}\n";
     assert_eq!(rt; text.as_slice(), told.as_slice());

@@ -1,8 +1,9 @@
 //! Answers with lists, worked by hand.
 
-use blk_answers::{late_json, misses_json, table_json};
+use answer::json;
+use blk_answers::table_json;
 use blk_bio::Dir;
-use blk_report::{LateCommand, Missed, Report, Service, Tally};
+use blk_report::{LateCommand, Missed, Report, Service, Tally, late_answer, misses_answer};
 use edd_check::Window;
 use edd_figures::{Crowd, Figures};
 use edd_verdict::Verdict;
@@ -31,11 +32,13 @@ fn late_commands(rt: HostRuntime) {
         late(8, Dir::Write, Verdict::Spare),
         late(9, Dir::Write, Verdict::Arrival),
     ];
-    let text = late_json(rt.alloc(), rows.as_slice()).expect(&rt, "memory");
+    let answer = late_answer(rt.alloc(), rows.as_slice()).expect(&rt, "memory");
+    let text = json(rt.alloc(), &answer).expect(&rt, "memory");
     let told =
         b"{\"late\":[{\"id\":7,\"dir\":\"R\",\"first\":100,\"sectors\":8,\"release\":1,\"due\":2,\"issue\":5,\"lateness\":3,\"sooner\":2,\"later\":1,\"idle\":0,\"verdict\":\"full\",\"from\":0,\"until\":2},{\"id\":8,\"dir\":\"W\",\"first\":100,\"sectors\":8,\"release\":1,\"due\":2,\"issue\":5,\"lateness\":3,\"sooner\":2,\"later\":1,\"idle\":0,\"verdict\":\"spare\",\"from\":null,\"until\":null},{\"id\":9,\"dir\":\"W\",\"first\":100,\"sectors\":8,\"release\":1,\"due\":2,\"issue\":5,\"lateness\":3,\"sooner\":2,\"later\":1,\"idle\":0,\"verdict\":\"arrival\",\"from\":null,\"until\":null}]}\n";
     assert_eq!(rt; text.as_slice(), told.as_slice());
-    let none = late_json(rt.alloc(), [].as_slice()).expect(&rt, "memory");
+    let answer = late_answer(rt.alloc(), [].as_slice()).expect(&rt, "memory");
+    let none = json(rt.alloc(), &answer).expect(&rt, "memory");
     assert_eq!(rt; none.as_slice(), b"{\"late\":[]}\n".as_slice());
 }
 
@@ -60,7 +63,8 @@ fn misses(rt: HostRuntime) {
         },
         windows,
     };
-    let text = misses_json(rt.alloc(), &missed).expect(&rt, "memory");
+    let answer = misses_answer(rt.alloc(), &missed).expect(&rt, "memory");
+    let text = json(rt.alloc(), &answer).expect(&rt, "memory");
     let told =
         b"{\"commands\":10,\"late\":5,\"unavoidable\":3,\"avoidable\":2,\"spare\":4,\"waiting\":1,\"overdue\":0,\"windows\":[{\"from\":0,\"until\":0,\"commands\":2,\"carries\":1},{\"from\":3,\"until\":5,\"commands\":8,\"carries\":6}]}\n";
     assert_eq!(rt; text.as_slice(), told.as_slice());

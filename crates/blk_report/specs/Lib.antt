@@ -1,13 +1,11 @@
 pub mod Services
 pub mod Spread
-pub mod SpreadText
 pub mod Overdue
 pub mod Misses
-pub mod MissesText
 pub mod Late
-pub mod LateText
 pub mod Shortfall
 pub mod Comparison
+pub mod Answers
 pub mod Lines
 pub mod Table
 pub mod Inside

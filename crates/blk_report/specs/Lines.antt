@@ -1,8 +1,9 @@
 -- A report as text.
-use Rattle.std.specs.Prelude.{ℕ, ◌++◌, List, decimal, codes}
-use Rattle.edd_figures.specs.Lines.{figure_line, figures_text}
+use Rattle.std.specs.Prelude.{ℕ, List}
+use Rattle.answer.specs.Lines.{answer_lines}
 use Rattle.blk_report.specs.declared.figures.Report.{Report}
+use Rattle.blk_report.specs.Answers.{report_parts}
 
--- the eight lines of a report
+-- its lines
 abbrev pub report_text : Report → List ℕ
-report_text r = ((figure_line (codes "commands") (decimal r.commands) ++ figure_line (codes "waiting") (decimal r.waiting)) ++ figure_line (codes "depth") (decimal r.depth)) ++ figures_text r.figures
+report_text r = answer_lines (report_parts r)

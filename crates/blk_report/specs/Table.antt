@@ -1,8 +1,8 @@
 -- A table of reports as text.
-use Rattle.std.specs.Prelude.{ℕ, ◌≡◌, ◌++◌, ◌-◌, ◌∷◌, [], List, length, Option, Some, None, decimal, codes, map, zero, suc, slice_index_or}
+use Rattle.std.specs.Prelude.{ℕ, ◌≡◌, ◌++◌, ◌∷◌, [], List, length, Option, Some, None, decimal, codes, map, zero, suc, slice_index_or}
 use Rattle.std.specs.Borrow.{Bor}
 use Rattle.std.specs.Io.KnownBytes.{Appends}
-use Rattle.std.proofs.Math.ListN.{replicate}
+use Rattle.answer.specs.Lines.{at_left, at_right}
 use Rattle.drafts.specs.Parts.{AppendsPart}
 use Rattle.blk_report.specs.declared.figures.Report.{Report}
 use Rattle.blk_report.specs.Comparison.{IsFirstBest, HasNoBest}
@@ -12,13 +12,6 @@ use Rattle.edd_figures.specs.Lines.{late_text}
 -- the names behind their references
 abbrev pub names_of : List (Bor (List ℕ)) → List (List ℕ)
 names_of names = map (λ name. name.now) names
-
--- bytes at the left and at the right of a number of places; more of them are not cut
-abbrev pub at_left : ℕ → List ℕ → List ℕ
-at_left places bytes = bytes ++ replicate (places - length bytes) 32
-
-abbrev pub at_right : ℕ → List ℕ → List ℕ
-at_right places bytes = replicate (places - length bytes) 32 ++ bytes
 
 -- the head line
 abbrev pub head_line : List ℕ

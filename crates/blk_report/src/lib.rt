@@ -9,29 +9,23 @@
 ghost use Rattle.std.specs.Prelude.{IfOk};
 ghost use Rattle.blk_report.specs.Shortfall.{IsReport};
 
+mod answers;
 mod below;
 mod comparison;
 mod delays;
 mod figures;
-mod late_text;
-mod lines;
-mod misses_text;
 mod missing;
 mod outstaying;
 mod serving;
-mod spread_text;
 mod spreading;
 mod table;
 
+pub use crate::answers::{late_answer, misses_answer, report_answer, report_lines, spread_answer};
 pub use crate::comparison::compare;
 pub use crate::delays::{LateCommand, late};
 pub use crate::figures::Report;
-pub use crate::late_text::{drafted as late_lines, write_late};
-pub use crate::lines::{drafted as report_lines, write};
-pub use crate::misses_text::{drafted as misses_lines, write_misses};
 pub use crate::missing::{Missed, Tally, misses};
 pub use crate::serving::{Service, services};
-pub use crate::spread_text::{drafted as spread_lines, write_spread};
 pub use crate::spreading::{ByDir, Quantiles, Spreads, spread};
 pub use crate::table::{drafted as table_lines, write_table};
 use blk_trace::Trace;

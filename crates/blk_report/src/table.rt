@@ -2,7 +2,8 @@
 
 ghost use Rattle.std.specs.Prelude.{◌≡◌, ◌⊎◌, ◌++◌, IfOk, IfErr, IfSome, OnOk, ◌<◌, decimal, length};
 ghost use Rattle.edd_figures.specs.Lines.{late_text};
-ghost use Rattle.blk_report.specs.Table.{names_of, at_right, report_row, best_line, IsTable, AppendsTable, AppendsTablePart};
+ghost use Rattle.answer.specs.Lines.{at_right};
+ghost use Rattle.blk_report.specs.Table.{names_of, report_row, best_line, IsTable, AppendsTable, AppendsTablePart};
 ghost use Rattle.blk_report.specs.Inside.Table.{all_lines};
 
 use crate::{Report, compare};

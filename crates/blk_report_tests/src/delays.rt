@@ -1,7 +1,7 @@
 //! Late commands and what they waited for, worked by hand.
 
 use crate::given::{Happening, trace_of};
-use blk_report::{late, write_late};
+use blk_report::{late, late_answer};
 use refusing::Refusing;
 use std::alloc::Global;
 use std::process::Abort;
@@ -11,9 +11,8 @@ fn lines(rt: &impl Abort, alloc: Global, depth: u64, steps: &[Happening]) -> Vec
     let heap = Refusing::new(alloc);
     let trace = trace_of(rt, &heap, depth, 9, steps);
     let found = late(&trace).expect(rt, "memory");
-    let mut text = Vec::new(alloc);
-    assert!(rt; write_late(alloc, found.as_slice(), &mut text).is_ok());
-    text
+    let answer = late_answer(alloc, found.as_slice()).expect(rt, "memory");
+    answer::lines(alloc, &answer).expect(rt, "memory")
 }
 
 /// The read waits a round, of which the one place goes to the write, which was due later.

@@ -1,7 +1,7 @@
 //! How many commands were late and how many had to be, worked by hand.
 
 use crate::given::{Happening, trace_of};
-use blk_report::{misses, write_misses};
+use blk_report::{misses, misses_answer};
 use refusing::Refusing;
 use std::alloc::Global;
 use std::process::Abort;
@@ -11,9 +11,8 @@ fn lines(rt: &impl Abort, alloc: Global, depth: u64, steps: &[Happening]) -> Vec
     let heap = Refusing::new(alloc);
     let trace = trace_of(rt, &heap, depth, 9, steps);
     let found = misses(&trace).expect(rt, "memory");
-    let mut text = Vec::new(alloc);
-    assert!(rt; write_misses(alloc, &found, &mut text).is_ok());
-    text
+    let answer = misses_answer(alloc, &found).expect(rt, "memory");
+    answer::lines(alloc, &answer).expect(rt, "memory")
 }
 
 /// The read before the write would have been on time, and the write too.

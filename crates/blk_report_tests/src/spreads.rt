@@ -1,7 +1,8 @@
 //! Waits and latenesses by quantiles, worked by hand.
 
 use crate::given::{Happening, trace_of};
-use blk_report::{Spreads, services, spread, write_spread};
+use answer::lines;
+use blk_report::{Spreads, services, spread, spread_answer};
 use refusing::Refusing;
 use std::alloc::Global;
 use std::process::Abort;
@@ -24,8 +25,8 @@ fn write_before_read(rt: HostRuntime) {
         Happening::Serve(1),
     ];
     let found = spread_of(&rt, rt.alloc(), &steps);
-    let mut text = Vec::new(rt.alloc());
-    assert!(rt; write_spread(rt.alloc(), &found, &mut text).is_ok());
+    let answer = spread_answer(rt.alloc(), &found).expect(&rt, "memory");
+    let text = lines(rt.alloc(), &answer).expect(&rt, "memory");
     let told =
         b"what,dir,count,p50,p90,p99,p999,max\nwait,R,1,1,1,1,1,1\nwait,W,1,0,0,0,0,0\nwait,all,2,0,1,1,1,1\nlateness,R,1,1,1,1,1,1\nlateness,W,1,-9,-9,-9,-9,-9\nlateness,all,2,-9,1,1,1,1\n";
     assert_eq!(rt; text.as_slice(), told.as_slice());

@@ -1,15 +1,13 @@
 //! A report and a table as text.
 
 use crate::given::{served, unserved};
-use blk_report::{Report, write, write_table};
+use blk_report::{Report, report_lines, write_table};
 use std::alloc::Global;
 use std::process::Abort;
 
 /// The lines of a report.
 fn lines(rt: &impl Abort, alloc: Global, report: &Report) -> Vec<u8> {
-    let mut text = Vec::new(alloc);
-    assert!(rt; write(alloc, report, &mut text).is_ok());
-    text
+    report_lines(alloc, report).expect(rt, "memory")
 }
 
 /// The table of reports under names.

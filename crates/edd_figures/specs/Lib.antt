@@ -2,3 +2,4 @@ pub mod Figures
 pub mod Misses
 pub mod Lines
 pub mod Inside
+pub mod Answers

@@ -6,6 +6,7 @@
 //! disjoint such windows the other.
 #![tactic(auto)]
 
+pub mod answers;
 mod lateness;
 pub mod lines;
 mod missing;

@@ -5,17 +5,9 @@ use Rattle.json.specs.Token as token
 use Rattle.json.specs.Tree.{json_tokens}
 use Rattle.blk_report.specs.declared.figures.Report.{Report}
 use Rattle.blk_settings.specs.Settings.{NamedSetting}
+use Rattle.answer.specs.Inside.Tokens.{member_tokens}
 use Rattle.blk_answers.specs.Tables.{row_value}
 use Rattle.blk_answers.specs.Trials.{setting_value}
-
--- of a member
-abbrev pub member_tokens : List ℕ → json.Json → List token.Token
-member_tokens name j = token.key name ∷ json_tokens j
-
--- of some members, one after the other, without the closing bracket
-abbrev pub tokens_of : List (List ℕ × json.Json) → List token.Token
-tokens_of [] = []
-tokens_of (m ∷ ms) = member_tokens m.0 m.1 ++ tokens_of ms
 
 -- of a setting
 abbrev pub setting_tokens : NamedSetting → List token.Token

@@ -2,7 +2,7 @@ use Rattle.std.proofs.Common.{◌≡◌}
 use Rattle.std.proofs.lemmas.List.{append_assoc}
 use Rattle.json.specs.Tree.{json_tokens}
 use Rattle.blk_answers.specs.Loads.{load_value}
-use Rattle.blk_answers.proofs.Tokens.{told}
+use Rattle.answer.proofs.Tokens.{told}
 use Rattle.blk_answers.proofs.load.load_json.Goals as goal
 
 pub returns : goal.returns

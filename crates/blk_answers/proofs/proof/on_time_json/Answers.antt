@@ -2,7 +2,7 @@ use Rattle.std.proofs.Common.{◌≡◌}
 use Rattle.std.proofs.lemmas.List.{append_assoc}
 use Rattle.json.specs.Tree.{json_tokens}
 use Rattle.blk_answers.specs.Proofs.{on_time_object}
-use Rattle.blk_answers.proofs.Tokens.{told}
+use Rattle.answer.proofs.Tokens.{told}
 use Rattle.blk_answers.proofs.proof.on_time_json.Goals as goal
 
 pub returns : goal.returns

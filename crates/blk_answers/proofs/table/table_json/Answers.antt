@@ -4,7 +4,7 @@ use Rattle.std.proofs.lemmas.List.{append_assoc}
 use Rattle.json.specs.Tree.{json_tokens}
 use Rattle.blk_answers.specs.Tables.{row_value, table_value}
 use Rattle.blk_answers.proofs.Rows.{best_place, told_table}
-use Rattle.blk_answers.proofs.Tokens.{items_written}
+use Rattle.answer.proofs.Tokens.{items_written}
 use Rattle.blk_answers.proofs.table.table_json.Goals as goal
 
 pub returns : goal.returns

@@ -3,7 +3,7 @@ use Rattle.std.proofs.lemmas.List.{append_assoc}
 use Rattle.json.specs.Tree.{json_tokens}
 use Rattle.blk_tune.specs.Text.{shown}
 use Rattle.blk_answers.specs.Trials.{trial_row, trial_value}
-use Rattle.blk_answers.proofs.Tokens.{told, items_written}
+use Rattle.answer.proofs.Tokens.{told, items_written}
 use Rattle.blk_answers.proofs.trial.trial_json.Goals as goal
 
 pub returns : goal.returns
