@@ -30,7 +30,7 @@ use std::alloc::{AllocError, Global};
 use std::marker::Brand;
 use std::sync::Wait;
 use std::sync::ledger::Blank;
-use std::thread::{Threads, join};
+use std::thread::{Threads, scope, scope_env};
 
 /// How many requests a software queue of a load has room for.
 const LOAD_SOFT_DEPTH: u64 = 64;
@@ -41,7 +41,7 @@ const LOAD_SOFT_DEPTH: u64 = 64;
 ///
 /// Refused, by the first of these that applies: as `Range` where a number of the load is out of its range; as `Memory`; as
 /// `TraceFull` where a worker is refused so; as `Repeated` where a submitter or a worker is; as `Stalled` where one used up its
-/// flushes or its passes; as `SeatMissing` or `Differs` where the layer's accounts can't be settled; and as `Differs` where not all
+/// flushes or its passes; as `SeatMissing` or `Differs` where the layer's accounts can't be settled; and as `Unserved` where not all
 /// bios were accepted and served.
 #[tactic(auto, using(crate::proofs::Made::can_make, crate::proofs::Made::no_range))]
 pub fn load<R: Threads + Wait + Sync, S: Scheduler<A = Global> + Send>(
@@ -166,7 +166,7 @@ fn outcome(
     }
 }
 
-/// Runs submitters beside workers; the layer is finished once the submitters have ended.
+/// Runs submitters beside workers, each in a thread of its own; the layer is finished once the submitters have ended.
 fn run_beside<R: Threads + Wait + Sync, S: Scheduler<A = Global> + Send, L: Named + Send + Sync>(
     rt: &R,
     site: &Site<S, L>,
@@ -176,14 +176,16 @@ fn run_beside<R: Threads + Wait + Sync, S: Scheduler<A = Global> + Send, L: Name
     requires submitters { All (λ s. s.number < length site.now.layer.map) submitters.old }
     requires workers { All (λ s. s.tag_set ≡ site.now.layer.tag_set) workers.old }
 {
-    join(
+    scope(
+        scope_env(),
         rt,
-        ||
-            requires { All (λ s. s.number < length site.now.layer.map) submitters.now }
-        { submit_all(rt, site, submitters) },
-        ||
-            requires { All (λ s. s.tag_set ≡ site.now.layer.tag_set) workers.now }
-        { serve_all(rt, site, workers) },
+        move |threads|
+            requires submitters { All (λ s. s.number < length site.now.layer.map) submitters.now }
+            requires workers { All (λ s. s.tag_set ≡ site.now.layer.tag_set) workers.now }
+        {
+            serve_all(threads, rt, site, workers);
+            submit_all(rt, site, submitters);
+        },
     );
 }
 

@@ -4,16 +4,16 @@ use Rattle.std.proofs.lemmas.Bool.{cases_Bool, ltb-true, ltb-false}
 use Rattle.std.proofs.lemmas.List.{append_assoc}
 use Rattle.std.proofs.Math.Nat.{mod-lt, mod-eq_of_lt, mod-add-mod, mod_self}
 use lib.Dec.{ltb}
-use Rattle.blk_tags.specs.Tags.{or_first, tried_from}
+use Rattle.blk_tags.specs.Tags.{tag_or_first, tried_from}
 
-pub first_below : (depth t : ℕ) → 1 ≤ depth → or_first depth t < depth
+pub first_below : (depth t : ℕ) → 1 ≤ depth → tag_or_first depth t < depth
 first_below depth t some = elim (cases_Bool (ltb t depth)) [
   | inl y ↦ rw y (ltb-true t depth y)
   | inr n ↦ rw n (omega (arith, some))
 ]
 
 -- a tag up to the depth, as the tries take it
-wrapped : (depth t : ℕ) → t ≤ depth → or_first depth t ≡ t % depth
+wrapped : (depth t : ℕ) → t ≤ depth → tag_or_first depth t ≡ t % depth
 wrapped depth t few = elim (cases_Bool (ltb t depth)) [
   | inl y ↦ rw y (sym (mod-eq_of_lt (ltb-true t depth y)))
   | inr n ↦ let e : t ≡ depth = omega (arith, few, ltb-false t depth n) in rw n (sym (ap (λ k. k % depth) e ∙ mod_self depth))
@@ -23,7 +23,7 @@ pub starts : (depth first : ℕ) → first < depth → first ≡ (first + 0) % d
 starts depth first small = sym (mod-eq_of_lt small) ∙ ap (λ k. k % depth) (omega arith)
 
 -- the next try is for the next tag
-pub goes_on : (depth first n t : ℕ) → 1 ≤ depth → t ≡ (first + n) % depth → or_first depth (t + 1) ≡ (first + (n + 1)) % depth
+pub goes_on : (depth first n t : ℕ) → 1 ≤ depth → t ≡ (first + n) % depth → tag_or_first depth (t + 1) ≡ (first + (n + 1)) % depth
 goes_on depth first n t some e =
     let small : t < depth = rw e (mod-lt (first + n) some) in
     wrapped depth (t + 1) (omega (arith, small)) ∙ ap (λ k. (k + 1) % depth) e ∙ mod-add-mod (first + n) depth 1 ∙ ap (λ k. k % depth) (omega arith)

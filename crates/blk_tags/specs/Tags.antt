@@ -33,6 +33,10 @@ tag_set_of name depth = record { name = name; depth = depth }
 abbrev pub tag_seat_of : TableId → List Bool → Held → Option ℕ → Seat
 tag_seat_of name marks held last = record { of_set = tag_set_of name (length marks); tags = held.tags; last = last; steps = held.steps }
 
+-- the seat with a tag more, which it took last, after these steps
+abbrev pub with_tag : Seat → ℕ → List ℕ → Seat
+with_tag seat t steps = record { of_set = seat.of_set; tags = seat.tags ++ t ∷ []; last = Some t; steps = steps }
+
 -- what a seat has after one more step, which was for this tag: these tags
 abbrev pub stepped_for : ℕ → Held → List ℕ → Held
 stepped_for t held tags = record { tags = tags; steps = held.steps ++ t ∷ [] }
@@ -68,8 +72,8 @@ tag_after None = 0
 tag_after (Some t) = t + 1
 
 -- the tag itself where it is below the depth, and otherwise 0
-abbrev pub or_first : ℕ → ℕ → ℕ
-or_first depth t = if ltb t depth then t else 0
+abbrev pub tag_or_first : ℕ → ℕ → ℕ
+tag_or_first depth t = if ltb t depth then t else 0
 
 -- the tags of so many tries, from a first one on: in rising order, and on at 0 after the greatest
 abbrev pub tried_from : ℕ → ℕ → ℕ → List ℕ

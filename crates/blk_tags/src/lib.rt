@@ -11,7 +11,7 @@ mod seat_tags;
 
 ghost use Rattle.std.specs.Prelude.{◌≡◌, ◌<◌, ◌≤◌, ◌+◌, ◌-◌, ◌/◌, ◌%◌, ◌^◌, ◌++◌, ◌∷◌, [], ◌⊎◌, ◌↔◌, ℕ, List, length, replicate, true, false, None, Some, Err, IsTrue, IfOk, IfSome, IfNone, Contains};
 ghost use Rattle.std.specs.Bool.{OnTrue, OnFalse};
-ghost use Rattle.blk_tags.specs.Tags.{IsSet, IsSeat, count_of, no_tags, or_first, stepped_for, tag_after, TriesUpTo, without};
+ghost use Rattle.blk_tags.specs.Tags.{IsSet, IsSeat, count_of, no_tags, tag_or_first, stepped_for, tag_after, with_tag, TriesUpTo, without};
 ghost use Rattle.blk_tags.specs.Steps.{TagsAreHeldOnce};
 ghost use Rattle.blk_tags.specs.Inside.{took, gave};
 
@@ -200,12 +200,12 @@ impl<A: Allocator> TagSet<A> {
     /// its tag taken. It neither waits nor takes memory.
     pub fn get(&self, seat: &mut TagSeat<A>) -> Option<u16>
         requires { seat.old.of_set ≡ self.now }
-        ensures some { IfSome result (λ t. seat.new ≡ record seat.old { tags = seat.old.tags ++ t ∷ []; last = Some t; steps = seat.new.steps }) }
+        ensures some { IfSome result (λ t. seat.new ≡ with_tag seat.old t seat.new.steps) }
         ensures free { IfSome result (λ t. ¬ Contains seat.old.tags t) }
         ensures held { IfSome result (Contains seat.new.tags) }
         ensures below { IfSome result (λ t. t < self.now.depth) }
         ensures none { IfNone result (seat.new ≡ record seat.old { steps = seat.new.steps }) }
-        ensures steps { TriesUpTo self.now.depth (or_first self.now.depth (tag_after seat.old.last)) result seat.old.steps seat.new.steps }
+        ensures steps { TriesUpTo self.now.depth (tag_or_first self.now.depth (tag_after seat.old.last)) result seat.old.steps seat.new.steps }
     {
         let from = seat.next();
         self.get_from(seat, from)
@@ -214,12 +214,12 @@ impl<A: Allocator> TagSet<A> {
     /// Takes a tag as [`TagSet::get`] does, but tries from the given one on, or from 0 where that is none of the set's.
     pub fn get_from(&self, seat: &mut TagSeat<A>, from: u16) -> Option<u16>
         requires { seat.old.of_set ≡ self.now }
-        ensures some { IfSome result (λ t. seat.new ≡ record seat.old { tags = seat.old.tags ++ t ∷ []; last = Some t; steps = seat.new.steps }) }
+        ensures some { IfSome result (λ t. seat.new ≡ with_tag seat.old t seat.new.steps) }
         ensures free { IfSome result (λ t. ¬ Contains seat.old.tags t) }
         ensures held { IfSome result (Contains seat.new.tags) }
         ensures below { IfSome result (λ t. t < self.now.depth) }
         ensures none { IfNone result (seat.new ≡ record seat.old { steps = seat.new.steps }) }
-        ensures steps { TriesUpTo self.now.depth (or_first self.now.depth from) result seat.old.steps seat.new.steps }
+        ensures steps { TriesUpTo self.now.depth (tag_or_first self.now.depth from) result seat.old.steps seat.new.steps }
     {
         let mut tag = self.or_first(from);
         for _ in 0..self.depth {
@@ -233,7 +233,7 @@ impl<A: Allocator> TagSet<A> {
 
     /// The tag itself where it is one of the set's, and otherwise 0.
     fn or_first(&self, tag: u16) -> u16
-        ensures value { result ≡ or_first self.now.depth tag }
+        ensures value { result ≡ tag_or_first self.now.depth tag }
         ensures is_set { IsSet self.now }
     {
         if tag < self.depth { tag } else { 0 }
@@ -243,7 +243,7 @@ impl<A: Allocator> TagSet<A> {
     fn take(&self, seat: &mut TagSeat<A>, tag: u16) -> bool
         requires of_set { seat.old.of_set ≡ self.now }
         requires below { tag < self.now.depth }
-        ensures won { OnTrue result (seat.new ≡ record seat.old { tags = seat.old.tags ++ tag ∷ []; last = Some tag; steps = seat.new.steps }) }
+        ensures won { OnTrue result (seat.new ≡ with_tag seat.old tag seat.new.steps) }
         ensures free { OnTrue result (¬ Contains seat.old.tags tag) }
         ensures held { OnTrue result (Contains seat.new.tags tag) }
         ensures lost { OnFalse result (seat.new ≡ record seat.old { steps = seat.new.steps }) }

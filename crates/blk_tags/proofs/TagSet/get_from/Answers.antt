@@ -1,5 +1,5 @@
 use Rattle.std.proofs.Common.{◌≡◌, ◌<◌, ◌+◌, ◌%◌, ◌++◌, ◌∙◌, refl, sym, ap, arith}
-use Rattle.blk_tags.specs.Tags.{or_first, tried_from}
+use Rattle.blk_tags.specs.Tags.{tag_or_first, tried_from}
 use Rattle.std.proofs.lemmas.List.{append-nil}
 use Rattle.std.proofs.Math.Nat.{mod-lt}
 use Rattle.blk_tags.proofs.Tries.{first_below, starts, goes_on, one_more}
@@ -40,4 +40,4 @@ pub returns-clause-steps : goal.returns-clause-steps
 returns-clause-steps g c =
     let all : c.loop.counter ≡ c.args.self.now.depth = omega (arith, c.loop-test.false, c.loop.auto.counter-end, ap (λ s. s.depth) c.self.view_is) in
     c.loop.invariant.2 ∙ ap (λ k. c.args.seat.now.steps ++ tried_from c.args.self.now.depth k c.loop.counter) c.or_first-tag.ensures.value
-    ∙ ap (λ n. c.args.seat.now.steps ++ tried_from c.args.self.now.depth (or_first c.args.self.now.depth c.args.from) n) all
+    ∙ ap (λ n. c.args.seat.now.steps ++ tried_from c.args.self.now.depth (tag_or_first c.args.self.now.depth c.args.from) n) all
