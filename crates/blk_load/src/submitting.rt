@@ -160,6 +160,21 @@ fn start<'s, E, R: Threads + Wait + Sync, S: Scheduler<A = Global> + Send, L: Na
     }
 }
 
+/// Starts submitters, each in a thread of its own.
+fn start_all<
+    's,
+    E,
+    R: Threads + Wait + Sync,
+    S: Scheduler<A = Global> + Send,
+    L: Named + Send + Sync,
+>(scope: &'s Scope<'s, E>, rt: &'s R, site: &'s Site<S, L>, seats: &'s mut [Submitter<L>])
+    requires seats { All (λ s. s.number < length site.now.layer.map) seats.now }
+{
+    for seat in seats.iter_mut() {
+        start(scope, rt, site, seat);
+    }
+}
+
 /// Runs submitters, each in a thread of its own. The layer is finished once all of them have ended.
 pub(crate) fn submit_all<
     R: Threads + Wait + Sync,
@@ -168,16 +183,13 @@ pub(crate) fn submit_all<
 >(rt: &R, site: &Site<S, L>, seats: &mut [Submitter<L>])
     requires seats { All (λ s. s.number < length site.now.layer.map) seats.old }
 {
+    let all = &mut *seats;
     scope(
         scope_env(),
         rt,
         move |threads|
-            requires { All (λ s. s.number < length site.now.layer.map) seats.now }
-        {
-            for seat in seats.iter_mut() {
-                start(threads, rt, site, seat);
-            }
-        },
+            requires { All (λ s. s.number < length site.now.layer.map) all.now }
+        { start_all(threads, rt, site, all) },
     );
     site.layer.finish();
 }
