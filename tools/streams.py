@@ -741,9 +741,9 @@ def memory_of_less_and_less(trials):
 
 @trial
 def memory_of_a_load_of_less_and_less(trials):
-    """A load may also find no memory for a thread, so that one stalls whose turns were to come after another's."""
+    """A load that finds no memory for a thread ends as any job does that finds none."""
     for name, args, _, wanted in trials.each(["load_of_four_bios"]):
-        allowed = [wanted, Run(3, b"", MEMORY), Run(1, b"", b"blk: stalled\n")]
+        allowed = [wanted, Run(3, b"", MEMORY)]
         for limit in list(less_and_less())[::4]:
             ended = run(args, None, limit=f"-v {limit}")
             trials.see(f"{name} under {limit} kB", ended, ended if ended in allowed else wanted)

@@ -39,8 +39,8 @@ pub free_at : (hands : List (Option Command)) (v : List ℕ) (t : ℕ) → Marks
 free_at hands v t m less none = empty_at hands t less (one_false (slice_index_or (map is_some hands) t false) (sym (m t) ∙ none))
 
 -- a tag that was taken and given back: what the seat of its tags is of, and what it holds
-pub given_back : (old took gave : Seat) (t : ℕ) (one other : Option ℕ) → took ≡ record { of_set = old.of_set; tags = old.tags ++ t ∷ []; last = one }
-    → gave ≡ record { of_set = took.of_set; tags = without t took.tags; last = other } → ¬ Contains old.tags t
+pub given_back : (old took gave : Seat) (t : ℕ) (one other : Option ℕ) → took ≡ record { of_set = old.of_set; tags = old.tags ++ t ∷ []; last = one; steps = took.steps }
+    → gave ≡ record { of_set = took.of_set; tags = without t took.tags; last = other; steps = took.steps ++ t ∷ [] } → ¬ Contains old.tags t
     → (gave.of_set ≡ old.of_set) × (gave.tags ≡ old.tags)
 given_back old took gave t one other e f free = (
   ap (λ (s : Seat). s.of_set) f ∙ ap (λ (s : Seat). s.of_set) e,
@@ -162,10 +162,16 @@ pub set_is : (setup : Setup) (old : WorkerSeat) (hw : ℕ) (seat : Seat) (hands 
     → IsTrying setup old hw seat hands ran room parts amount → old.tag_set ≡ set → seat.of_set ≡ set
 set_is setup old hw seat hands ran room parts amount set is same = ap (λ (s : WorkerSeat). s.tag_set) is.seated ∙ same
 
+-- after each tag was tried, and none taken
+pub none_taken : (setup : Setup) (old : WorkerSeat) (hw : ℕ) (seat tried : Seat) (hands : List (Option Command)) (ran : List Command) (room parts amount : ℕ)
+    → IsTrying setup old hw seat hands ran room parts amount → tried ≡ record { of_set = seat.of_set; tags = seat.tags; last = seat.last; steps = tried.steps } → IsTrying setup old hw tried hands ran room parts amount
+none_taken setup old hw seat tried hands ran room parts amount is e =
+    subst (λ (s : Seat). IsTrying setup old hw s hands ran room parts amount) (sym e) (record { seated = is.seated; working = is.working; enough = is.enough })
+
 -- after a tag was taken and given back
 pub tried_on : (setup : Setup) (old : WorkerSeat) (hw : ℕ) (seat took gave : Seat) (hands : List (Option Command)) (ran : List Command) (room parts amount t : ℕ) (one other : Option ℕ)
-    → IsTrying setup old hw seat hands ran room parts amount → took ≡ record { of_set = seat.of_set; tags = seat.tags ++ t ∷ []; last = one }
-    → gave ≡ record { of_set = took.of_set; tags = without t took.tags; last = other } → ¬ Contains seat.tags t
+    → IsTrying setup old hw seat hands ran room parts amount → took ≡ record { of_set = seat.of_set; tags = seat.tags ++ t ∷ []; last = one; steps = took.steps }
+    → gave ≡ record { of_set = took.of_set; tags = without t took.tags; last = other; steps = took.steps ++ t ∷ [] } → ¬ Contains seat.tags t
     → IsTrying setup old hw gave hands ran room parts amount
 tried_on setup old hw seat took gave hands ran room parts amount t one other is e f free =
     let back = given_back seat took gave t one other e f free in
@@ -177,13 +183,13 @@ tried_on setup old hw seat took gave hands ran room parts amount t one other is 
 
 -- after a command came into the hands under a tag
 pub working_on : (setup : Setup) (old : WorkerSeat) (hw : ℕ) (seat took : Seat) (hands : List (Option Command)) (ran : List Command) (room parts amount at t : ℕ) (one : Option ℕ) (command : Command)
-    → IsTrying setup old hw seat hands ran room parts amount → took ≡ record { of_set = seat.of_set; tags = seat.tags ++ t ∷ []; last = one } → t < seat.of_set.depth → ¬ Contains seat.tags t → at ≡ t
+    → IsTrying setup old hw seat hands ran room parts amount → took ≡ record { of_set = seat.of_set; tags = seat.tags ++ t ∷ []; last = one; steps = took.steps } → t < seat.of_set.depth → ¬ Contains seat.tags t → at ≡ t
     → IsWorking setup hw took.of_set.depth took.tags (slice_set hands at (Some command)) (length ran) room parts amount
 working_on setup old hw seat took hands ran room parts amount at t one command is e less free a =
     one_more setup hw seat.of_set.depth took.of_set.depth seat.tags took.tags hands (length ran) (length ran) room room parts amount at t command is.working (ap (λ (s : Seat). s.of_set.depth) e) refl is.enough less free (ap (λ (s : Seat). s.tags) e) a
 
 pub takes_on : (setup : Setup) (old : WorkerSeat) (hw : ℕ) (seat took : Seat) (hands : List (Option Command)) (ran : List Command) (room parts amount at t : ℕ) (one : Option ℕ) (command : Command)
-    → IsTrying setup old hw seat hands ran room parts amount → took ≡ record { of_set = seat.of_set; tags = seat.tags ++ t ∷ []; last = one } → t < seat.of_set.depth → ¬ Contains seat.tags t → at ≡ t
+    → IsTrying setup old hw seat hands ran room parts amount → took ≡ record { of_set = seat.of_set; tags = seat.tags ++ t ∷ []; last = one; steps = took.steps } → t < seat.of_set.depth → ¬ Contains seat.tags t → at ≡ t
     → TakesInHand old t command (record { tag_set = took.of_set; hw = hw; tags = took.tags; hands = slice_set hands at (Some command); ran = ran })
 takes_on setup old hw seat took hands ran room parts amount at t one command is e less free a =
     let new : WorkerSeat = record { tag_set = took.of_set; hw = hw; tags = took.tags; hands = slice_set hands at (Some command); ran = ran } in

@@ -199,30 +199,40 @@ impl<S: Scheduler, L: Named> Layer<S, L> {
         }
     }
 
-    /// Moves the first request of a software queue into the core, for a hardware queue: it is released there and leaves
-    /// the queue. False exactly where the queue is empty. The queue's limits are the core's. It waits for nobody.
+    /// Moves the first request of a software queue into the core, for a hardware queue: it is released there, with its copy for the
+    /// trace, and leaves the queue. False exactly where the queue is empty. The queue's limits are the core's, and the copies are those
+    /// of its first requests. It waits for nobody: a drain calls it for each request, through [`Layer::move_all`].
     ///
     /// Refused as the core's release is: as `NoQueue` where the core has no such hardware queue, as `Repeated` with the first bio
-    /// whose id stands in the trace or twice in the request, as `TraceFull` and as `Memory`. The request is first in the queue
-    /// again then, and both are as they were.
+    /// whose id stands in the trace or twice in the request, as `TraceFull` and as `Memory`; and as `Memory` too where the core would
+    /// take it and it has no copy. The request is first in the queue again then, as its copy is, and all are as they were.
+    #[tactic(auto, using(crate::proofs::Copied::one_less, crate::proofs::Copied::one_back, crate::proofs::Copied::has_first))]
     pub fn move_first(
         queue: &mut SoftQueue<S::A>,
+        copies: &mut SoftQueue<S::A>,
         core: &mut Core<S>,
         hw: u8,
     ) -> Result<bool, CoreFault>
-        requires { queue.old.limits ≡ core.old.setup.limits }
-        ensures { IsMoveAnswer S.policy.serves queue.old core.old hw queue.new core.new result }
+        requires limits { queue.old.limits ≡ core.old.setup.limits }
+        requires first { AreOfFirst copies.old.requests queue.old.requests }
+        ensures answer { IsMoveAnswer S.policy.serves queue.old core.old hw queue.new core.new result }
+        ensures first { AreOfFirst copies.new.requests queue.new.requests }
+        ensures limits { copies.new.limits ≡ copies.old.limits }
     {
-        if queue.len() == 0 {
-            return Ok(false);
+        if copies.len() == 0 || queue.len() == 0 {
+            return without_copy(queue, core, hw);
         }
+        let Some(copy) = copies.take_first() else {
+            unreachable!()
+        };
         let Some(request) = queue.take_first() else {
             unreachable!()
         };
-        match core.release(request, hw) {
+        match core.release_copied(request, copy, hw) {
             Ok(_) => Ok(true),
-            Err((request, why)) => {
+            Err((request, copy, why)) => {
                 queue.put_first(request);
+                copies.put_first(copy);
                 Err(why)
             }
         }
@@ -250,7 +260,7 @@ impl<S: Scheduler, L: Named> Layer<S, L> {
     {
         let most = queue.len() as u64;
         for moved in 0..most {
-            match move_copied(queue, copies, core, hw) {
+            match Self::move_first(queue, copies, core, hw) {
                 Ok(true) => {}
                 Ok(false) => unreachable!(),
                 Err(why) => return Err(DrainFault { moved, why }),
@@ -332,40 +342,6 @@ pub(crate) fn first_foreign(number: u8, bios: &[Bio]) -> Option<BioId>
         }
     }
     None
-}
-
-/// Moves the first request of a software queue into the core as [`Layer::move_first`] does, with its copy. Refused as `Memory`
-/// too where it has none.
-#[tactic(auto, using(crate::proofs::Copied::one_less, crate::proofs::Copied::one_back, crate::proofs::Copied::has_first))]
-fn move_copied<S: Scheduler>(
-    queue: &mut SoftQueue<S::A>,
-    copies: &mut SoftQueue<S::A>,
-    core: &mut Core<S>,
-    hw: u8,
-) -> Result<bool, CoreFault>
-    requires limits { queue.old.limits ≡ core.old.setup.limits }
-    requires first { AreOfFirst copies.old.requests queue.old.requests }
-    ensures answer { IsMoveAnswer S.policy.serves queue.old core.old hw queue.new core.new result }
-    ensures first { AreOfFirst copies.new.requests queue.new.requests }
-    ensures limits { copies.new.limits ≡ copies.old.limits }
-{
-    if copies.len() == 0 || queue.len() == 0 {
-        return without_copy(queue, core, hw);
-    }
-    let Some(copy) = copies.take_first() else {
-        unreachable!()
-    };
-    let Some(request) = queue.take_first() else {
-        unreachable!()
-    };
-    match core.release_copied(request, copy, hw) {
-        Ok(_) => Ok(true),
-        Err((request, copy, why)) => {
-            queue.put_first(request);
-            copies.put_first(copy);
-            Err(why)
-        }
-    }
 }
 
 /// What a move answers where the first request, if there is one, has no copy: the core's reason to refuse it, or else that memory

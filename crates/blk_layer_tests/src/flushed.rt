@@ -125,3 +125,25 @@ fn layer_soft_queue_of_the_greatest_depth(rt: HostRuntime) {
     );
     assert_eq!(rt; other, None);
 }
+
+// All requests of a software queue are left at a close, also where they are more than a plug holds.
+#[test]
+fn layer_leaves_forty(rt: HostRuntime) {
+    let mut left = Vec::new(rt.alloc());
+    for serial in 0..40u64 {
+        left.push(bio(&rt, 0, serial, serial * 100))
+            .expect(&rt, "memory");
+    }
+    let calls = [LayerCall::Fill(0, 0, 40)];
+    let other = other_than(
+        &rt,
+        rt.alloc(),
+        (1, 1, 64),
+        &[0, 0],
+        &[0, 0],
+        &calls,
+        left.as_slice(),
+        0,
+    );
+    assert_eq!(rt; other, None);
+}

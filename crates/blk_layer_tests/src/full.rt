@@ -69,3 +69,47 @@ fn layer_full_at_a_release(rt: HostRuntime) {
     );
     assert_eq!(rt; other, None);
 }
+
+// A worker's work ends where the trace has one place for an Issue and its end.
+#[test]
+fn layer_full_at_an_issue_of_work(rt: HostRuntime) {
+    let calls = [
+        LayerCall::Ticks(999_998),
+        LayerCall::Fill(0, 0, 1),
+        LayerCall::Work(0, 1, 0, Err(WorkFault::TraceFull), 0),
+        LayerCall::Ran(0, 0),
+    ];
+    let other = other_than(
+        &rt,
+        rt.alloc(),
+        (1, 1, 1),
+        &[0, 0],
+        &[0, 0],
+        &calls,
+        &[bio(&rt, 0, 0, 0)],
+        999_999,
+    );
+    assert_eq!(rt; other, None);
+}
+
+// It ends too where the round is full and the trace has no place for its end; what ran before stands.
+#[test]
+fn layer_full_at_a_tick_of_work(rt: HostRuntime) {
+    let calls = [
+        LayerCall::Ticks(999_996),
+        LayerCall::Fill(0, 0, 2),
+        LayerCall::Work(0, 1, 0, Err(WorkFault::TraceFull), 1),
+        LayerCall::Ran(0, 1),
+    ];
+    let other = other_than(
+        &rt,
+        rt.alloc(),
+        (1, 1, 2),
+        &[0, 0],
+        &[0, 0],
+        &calls,
+        &[bio(&rt, 0, 1, 100)],
+        1_000_000,
+    );
+    assert_eq!(rt; other, None);
+}

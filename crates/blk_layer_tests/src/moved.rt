@@ -1,5 +1,7 @@
 //! Moves from a software queue into the core.
 
+ghost use Rattle.blk_layer.specs.Submitting.{AreOfFirst};
+
 use crate::given::{alone, bio, core, limits, setup};
 use blk_bio::BioId;
 use blk_core::CoreFault;
@@ -15,33 +17,33 @@ type Plain = Layer<NoneSched, Brand>;
 #[test]
 fn move_first_then_none(rt: HostRuntime) {
     let alloc = rt.alloc();
-    let limits = limits(&rt);
-    let mut core = core(&rt, alloc, setup(&rt, 1, 1, limits));
-    let mut queue = SoftQueue::new(alloc, 4, limits).expect(&rt, "memory");
-    let request = alone(&rt, alloc, bio(&rt, 0, 7, 0));
-    assert!(rt; request.within(&limits));
-    assert!(rt; queue.put(request).is_ok());
-    assert_eq!(rt; Plain::move_first(&mut queue, &mut core, 0), Ok(true));
-    assert_eq!(rt; core.pending(), 1);
-    assert_eq!(rt; Plain::move_first(&mut queue, &mut core, 0), Ok(false));
-    assert_eq!(rt; core.trace().len(), 1);
+    let mut core = core(&rt, alloc, setup(&rt, 1, 1, limits(&rt)));
+    let mut queue = queue_of(&rt, alloc, &[7]);
+    let mut copies = copies_of(&rt, alloc, &queue);
+    assert!(rt; queue.limits() == core.trace().setup().limits());
+    assert!(rt; Plain::move_first(&mut queue, &mut copies, &mut core, 0) == Ok(true));
+    assert!(rt; (queue.len(), copies.len(), core.pending()) == (0, 0, 1));
+    assert!(rt; queue.limits() == core.trace().setup().limits());
+    assert!(rt; Plain::move_first(&mut queue, &mut copies, &mut core, 0) == Ok(false));
+    assert!(rt; core.trace().len() == 1);
 }
 
-// A request whose bio's id stands in the trace is refused, and stays first.
+// A request whose bio's id stands in the trace is refused, and stays first, as its copy does.
 #[test]
 fn move_first_refused(rt: HostRuntime) {
     let alloc = rt.alloc();
     let mut core = core(&rt, alloc, setup(&rt, 1, 1, limits(&rt)));
     let mut queue = queue_of(&rt, alloc, &[7, 7]);
+    let mut copies = copies_of(&rt, alloc, &queue);
     assert!(rt; queue.limits() == core.trace().setup().limits());
-    assert!(rt; Plain::move_first(&mut queue, &mut core, 0) == Ok(true));
+    assert!(rt; Plain::move_first(&mut queue, &mut copies, &mut core, 0) == Ok(true));
     assert!(rt; queue.limits() == core.trace().setup().limits());
     let again = CoreFault::Repeated(BioId {
         submitter: 0,
         serial: 7,
     });
-    assert!(rt; Plain::move_first(&mut queue, &mut core, 0) == Err(again));
-    assert!(rt; (queue.len(), core.pending()) == (1, 1));
+    assert!(rt; Plain::move_first(&mut queue, &mut copies, &mut core, 0) == Err(again));
+    assert!(rt; (queue.len(), copies.len(), core.pending()) == (1, 1, 1));
 }
 
 /// A queue of reads of submitter 0, of these serial numbers.
@@ -54,6 +56,17 @@ fn queue_of(rt: &impl Abort, alloc: Global, serials: &[u64]) -> SoftQueue {
         assert!(rt; queue.put(request).is_ok());
     }
     queue
+}
+
+/// Copies of all requests of a queue.
+fn copies_of(rt: &impl Abort, alloc: Global, queue: &SoftQueue) -> SoftQueue
+    ensures { AreOfFirst result.requests queue.now.requests }
+{
+    let mut copies = SoftQueue::new(alloc, 4, limits(rt)).expect(rt, "memory");
+    assert!(rt; copies.limits() == queue.limits());
+    Plain::copy_ahead(queue, &mut copies);
+    assert!(rt; copies.len() == queue.len());
+    copies
 }
 
 /// Two requests moved, and the third refused since its bio's id stands in the trace.

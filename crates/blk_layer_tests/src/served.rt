@@ -1,6 +1,7 @@
 //! Commands that workers are issued, report done and requeue.
 
 use crate::closed::other_than;
+use crate::given::bio;
 use crate::listed::{LayerCall, flushed};
 use blk_core::{BackFault, DepthFault, NotIssued};
 use blk_layer::LayerIssueFault;
@@ -76,6 +77,32 @@ fn layer_back_and_depth(rt: HostRuntime) {
         &calls,
         &[],
         10,
+    );
+    assert_eq!(rt; other, None);
+}
+
+// A depth of three carries three commands a round, under the tags 0 to 2.
+#[test]
+fn layer_depth_of_three(rt: HostRuntime) {
+    let calls = [
+        LayerCall::Fill(0, 0, 4),
+        LayerCall::Drain(0, Ok(4)),
+        LayerCall::Depth(3, Ok(())),
+        LayerCall::Tick(Ok(1)),
+        LayerCall::Issue(0, Ok(Some((0, 0)))),
+        LayerCall::Issue(0, Ok(Some((1, 1)))),
+        LayerCall::Issue(0, Ok(Some((2, 2)))),
+        LayerCall::Issue(0, Err(LayerIssueFault::TagRange)),
+    ];
+    let other = other_than(
+        &rt,
+        rt.alloc(),
+        (4, 1, 4),
+        &[0, 0],
+        &[0, 0],
+        &calls,
+        &[bio(&rt, 0, 3, 300)],
+        9,
     );
     assert_eq!(rt; other, None);
 }

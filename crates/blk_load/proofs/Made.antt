@@ -90,6 +90,7 @@ no_range l fault.Repeated is ne = is
 no_range l fault.Stalled is ne = is
 no_range l fault.SeatMissing is ne = is
 no_range l fault.Differs is ne = is
+no_range l fault.Unserved is ne = is
 
 -- nor is what comes of them
 pub outcome_in_range : {V : Type 0} (f : Option LoadFault) (s r : Result V LoadFault) → IsOutcome f s r → f ≢ Some fault.Range → IfErr s (λ e. e ≢ fault.Range) → IfErr r (λ e. e ≢ fault.Range)

@@ -30,7 +30,7 @@ use std::alloc::{AllocError, Global};
 use std::marker::Brand;
 use std::sync::Wait;
 use std::sync::ledger::Blank;
-use std::thread::{Threads, join};
+use std::thread::{Scope, Threads, scope, scope_env};
 
 /// How many requests a software queue of a load has room for.
 const LOAD_SOFT_DEPTH: u64 = 64;
@@ -41,7 +41,7 @@ const LOAD_SOFT_DEPTH: u64 = 64;
 ///
 /// Refused, by the first of these that applies: as `Range` where a number of the load is out of its range; as `Memory`; as
 /// `TraceFull` where a worker is refused so; as `Repeated` where a submitter or a worker is; as `Stalled` where one used up its
-/// flushes or its passes; as `SeatMissing` or `Differs` where the layer's accounts can't be settled; and as `Differs` where not all
+/// flushes or its passes; as `SeatMissing` or `Differs` where the layer's accounts can't be settled; and as `Unserved` where not all
 /// bios were accepted and served.
 #[tactic(auto, using(crate::proofs::Made::can_make, crate::proofs::Made::no_range))]
 pub fn load<R: Threads + Wait + Sync, S: Scheduler<A = Global> + Send>(
@@ -134,13 +134,21 @@ fn on_layer<R: Threads + Wait + Sync, S: Scheduler<A = Global> + Send, L: Named 
 {
     let limits = core.trace().setup().limits();
     let made = Layer::<S, L>::new(alloc, blank, core, map, LOAD_SOFT_DEPTH, queues);
-    let (layer, mut submitters, mut workers) = match made {
+    let (layer, submitters, workers) = match made {
         Ok(made) => made,
         Err((LayerFault::Memory, _)) => return Err(LoadFault::Memory),
         Err(_) => unreachable!(),
     };
     let site = Site::new(layer, alloc, limits, clock, load);
-    run_beside(rt, &site, submitters.as_mut_slice(), workers.as_mut_slice());
+    let mut seats = Seats {
+        submitters,
+        workers,
+    };
+    run_beside(rt, &site, &mut seats);
+    let Seats {
+        submitters,
+        workers,
+    } = seats;
     let Site { layer, noted, .. } = site;
     let settled = settle(alloc, load, layer, submitters, workers);
     outcome(noted.into_first(), settled)
@@ -166,25 +174,46 @@ fn outcome(
     }
 }
 
-/// Runs submitters beside workers; the layer is finished once the submitters have ended.
+/// The seats of a layer.
+#[derive(Drop)]
+struct Seats<L: Named> {
+    submitters: Vec<Submitter<L>>,
+    workers: Vec<Worker<L>>,
+}
+
+/// Runs submitters beside workers, each in a thread of its own; the layer is finished once the submitters have ended.
 fn run_beside<R: Threads + Wait + Sync, S: Scheduler<A = Global> + Send, L: Named + Send + Sync>(
     rt: &R,
     site: &Site<S, L>,
-    submitters: &mut [Submitter<L>],
-    workers: &mut [Worker<L>],
+    seats: &mut Seats<L>,
 )
-    requires submitters { All (λ s. s.number < length site.now.layer.map) submitters.old }
-    requires workers { All (λ s. s.tag_set ≡ site.now.layer.tag_set) workers.old }
+    requires submitters { All (λ s. s.number < length site.now.layer.map) seats.old.submitters.items }
+    requires workers { All (λ s. s.tag_set ≡ site.now.layer.tag_set) seats.old.workers.items }
 {
-    join(
+    let all = &mut *seats;
+    scope(
+        scope_env(),
         rt,
-        ||
-            requires { All (λ s. s.number < length site.now.layer.map) submitters.now }
-        { submit_all(rt, site, submitters) },
-        ||
-            requires { All (λ s. s.tag_set ≡ site.now.layer.tag_set) workers.now }
-        { serve_all(rt, site, workers) },
+        move |threads|
+            requires submitters { All (λ s. s.number < length site.now.layer.map) all.now.submitters.items }
+            requires workers { All (λ s. s.tag_set ≡ site.now.layer.tag_set) all.now.workers.items }
+        { start_and_submit(threads, rt, site, all) },
     );
+}
+
+/// Starts the workers, and runs the submitters to their end.
+fn start_and_submit<
+    's,
+    E,
+    R: Threads + Wait + Sync,
+    S: Scheduler<A = Global> + Send,
+    L: Named + Send + Sync,
+>(scope: &'s Scope<'s, E>, rt: &'s R, site: &'s Site<S, L>, seats: &'s mut Seats<L>)
+    requires submitters { All (λ s. s.number < length site.now.layer.map) seats.now.submitters.items }
+    requires workers { All (λ s. s.tag_set ≡ site.now.layer.tag_set) seats.now.workers.items }
+{
+    serve_all(scope, rt, site, seats.workers.as_mut_slice());
+    submit_all(rt, site, seats.submitters.as_mut_slice());
 }
 
 /// Closes a layer, and settles what came of it.

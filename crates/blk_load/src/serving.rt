@@ -9,7 +9,7 @@ use blk_sched::Scheduler;
 use blk_settings::LoadFault;
 use std::alloc::Global;
 use std::sync::Wait;
-use std::thread::{Threads, for_each_mut};
+use std::thread::{Scope, Threads};
 
 /// How often a worker calls `work` at most.
 const MAX_WORKS: u64 = 1000;
@@ -61,18 +61,36 @@ fn serve_noted<R: Wait, S: Scheduler<A = Global>, L: Named>(
     }
 }
 
-/// Runs workers, each in a thread of its own: the list is halved down to one seat.
+/// Starts a worker's thread. Where none can be started, memory ran out, and that is noted for the other threads.
+fn start<'s, E, R: Threads + Wait + Sync, S: Scheduler<A = Global> + Send, L: Named + Send + Sync>(
+    scope: &'s Scope<'s, E>,
+    rt: &'s R,
+    site: &'s Site<S, L>,
+    seat: &'s mut Worker<L>,
+)
+    requires { seat.now.tag_set ≡ site.now.layer.tag_set }
+{
+    let started = scope.spawn(
+        move ||
+            requires { seat.now.tag_set ≡ site.now.layer.tag_set }
+        { serve_noted(rt, site, seat) },
+    );
+    if started.is_err() {
+        site.noted.note(rt, LoadFault::Memory);
+    }
+}
+
+/// Starts workers, each in a thread of its own.
 pub(crate) fn serve_all<
+    's,
+    E,
     R: Threads + Wait + Sync,
     S: Scheduler<A = Global> + Send,
     L: Named + Send + Sync,
->(rt: &R, site: &Site<S, L>, seats: &mut [Worker<L>])
-    requires seats { All (λ s. s.tag_set ≡ site.now.layer.tag_set) seats.old }
+>(scope: &'s Scope<'s, E>, rt: &'s R, site: &'s Site<S, L>, seats: &'s mut [Worker<L>])
+    requires seats { All (λ s. s.tag_set ≡ site.now.layer.tag_set) seats.now }
 {
-    let threads = seats.len().max(1);
-    let each = |_: usize, seat: &mut Worker<L>|
-        requires { seat.now.tag_set ≡ site.now.layer.tag_set }
-        ensures { seat.exit.now.tag_set ≡ seat.entry.now.tag_set }
-    { serve_noted(rt, site, seat) };
-    for_each_mut(rt, seats, threads, &each);
+    for seat in seats.iter_mut() {
+        start(scope, rt, site, seat);
+    }
 }

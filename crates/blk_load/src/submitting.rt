@@ -12,7 +12,7 @@ use blk_sched::Scheduler;
 use blk_settings::{Load, LoadFault};
 use std::alloc::Global;
 use std::sync::Wait;
-use std::thread::{Threads, for_each_mut, yield_now};
+use std::thread::{Scope, Threads, scope, scope_env, yield_now};
 
 /// How often a submitter flushes its plug at most.
 const MAX_FLUSHES: u64 = 10_000_000;
@@ -141,7 +141,41 @@ fn submit_noted<R: Wait, S: Scheduler<A = Global>, L: Named>(
     }
 }
 
-/// Runs submitters, each in a thread of its own: the list is halved down to one seat. The layer is finished once all of them have ended.
+/// Starts a submitter's thread. Where none can be started, memory ran out, and that is noted for the other threads.
+fn start<'s, E, R: Threads + Wait + Sync, S: Scheduler<A = Global> + Send, L: Named + Send + Sync>(
+    scope: &'s Scope<'s, E>,
+    rt: &'s R,
+    site: &'s Site<S, L>,
+    seat: &'s mut Submitter<L>,
+)
+    requires { seat.now.number < length site.now.layer.map }
+{
+    let started = scope.spawn(
+        move ||
+            requires { seat.now.number < length site.now.layer.map }
+        { submit_noted(rt, site, seat) },
+    );
+    if started.is_err() {
+        site.noted.note(rt, LoadFault::Memory);
+    }
+}
+
+/// Starts submitters, each in a thread of its own.
+fn start_all<
+    's,
+    E,
+    R: Threads + Wait + Sync,
+    S: Scheduler<A = Global> + Send,
+    L: Named + Send + Sync,
+>(scope: &'s Scope<'s, E>, rt: &'s R, site: &'s Site<S, L>, seats: &'s mut [Submitter<L>])
+    requires seats { All (λ s. s.number < length site.now.layer.map) seats.now }
+{
+    for seat in seats.iter_mut() {
+        start(scope, rt, site, seat);
+    }
+}
+
+/// Runs submitters, each in a thread of its own. The layer is finished once all of them have ended.
 pub(crate) fn submit_all<
     R: Threads + Wait + Sync,
     S: Scheduler<A = Global> + Send,
@@ -149,11 +183,13 @@ pub(crate) fn submit_all<
 >(rt: &R, site: &Site<S, L>, seats: &mut [Submitter<L>])
     requires seats { All (λ s. s.number < length site.now.layer.map) seats.old }
 {
-    let threads = seats.len().max(1);
-    let each = |_: usize, seat: &mut Submitter<L>|
-        requires { seat.now.number < length site.now.layer.map }
-        ensures { seat.exit.now.number ≡ seat.entry.now.number }
-    { submit_noted(rt, site, seat) };
-    for_each_mut(rt, seats, threads, &each);
+    let all = &mut *seats;
+    scope(
+        scope_env(),
+        rt,
+        move |threads|
+            requires { All (λ s. s.number < length site.now.layer.map) all.now }
+        { start_all(threads, rt, site, all) },
+    );
     site.layer.finish();
 }

@@ -35,7 +35,7 @@ settles l t accepted served in_flight waits left s setup is even n o w = record 
   served = ap (λ (x : Settled). x.served) is ∙ n;
 }
 
-pub differs : (l : Load) (es : List Happened) (accepted served in_flight waits left : ℕ) (f : LoadFault) → f ≡ fault.Differs → (AreEven l accepted served in_flight waits left → ⊥)
+pub differs : (l : Load) (es : List Happened) (accepted served in_flight waits left : ℕ) (f : LoadFault) → f ≡ fault.Unserved → (AreEven l accepted served in_flight waits left → ⊥)
     → served ≡ length (served_bios es) → in_flight ≡ open_count es → waits ≡ length (waiting_of es) → IsSettleFault l es accepted left f
 differs l es accepted served in_flight waits left f is uneven n o w = inr (
   is,

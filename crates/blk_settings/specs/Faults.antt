@@ -19,6 +19,7 @@ fault_rank fault.Repeated = 3
 fault_rank fault.Stalled = 4
 fault_rank fault.SeatMissing = 5
 fault_rank fault.Differs = 6
+fault_rank fault.Unserved = 7
 
 -- the first of two, where there are some: it is one of them, and neither comes before it
 pub record IsFirstOfTwo (one other found : Option LoadFault) : Type 0 where

@@ -13,6 +13,7 @@ load_fault_name load.Repeated = codes "Repeated"
 load_fault_name load.Stalled = codes "stalled"
 load_fault_name load.SeatMissing = codes "SeatMissing"
 load_fault_name load.Differs = codes "Differs"
+load_fault_name load.Unserved = codes "Unserved"
 
 abbrev pub sched_fault_name : SchedFault → List ℕ
 sched_fault_name setting.ZeroBatch = codes "ZeroBatch"

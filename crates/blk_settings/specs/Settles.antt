@@ -50,4 +50,4 @@ pub record IsSettled (l : Load) (trace : Traced) (s : Settled) : Type 0 where
 
 -- why a load isn't settled: memory ran out, or its numbers aren't those
 abbrev pub IsSettleFault : Load → List Happened → ℕ → ℕ → LoadFault → Type 0
-IsSettleFault l events accepted left f = (f ≡ fault.Memory) ⊎ ((f ≡ fault.Differs) × ¬ AreEvenIn l events accepted left)
+IsSettleFault l events accepted left f = (f ≡ fault.Memory) ⊎ ((f ≡ fault.Unserved) × ¬ AreEvenIn l events accepted left)

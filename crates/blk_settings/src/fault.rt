@@ -23,6 +23,8 @@ pub enum LoadFault {
     SeatMissing,
     /// The accounts differ from the trace.
     Differs,
+    /// Not all bios were accepted and served.
+    Unserved,
 }
 
 impl LoadFault {
@@ -38,6 +40,7 @@ impl LoadFault {
             Stalled => "stalled",
             SeatMissing,
             Differs,
+            Unserved,
         })
     }
 }
@@ -55,6 +58,7 @@ impl LoadFault {
             LoadFault::Stalled => 4,
             LoadFault::SeatMissing => 5,
             LoadFault::Differs => 6,
+            LoadFault::Unserved => 7,
         }
     }
 }

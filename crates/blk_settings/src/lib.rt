@@ -77,7 +77,7 @@ pub trait Loads {
     /// Refused, by the first of these that applies: as `Range` where a number of the load is out of its range; as the scheduler is
     /// where it isn't made of its settings; as `Memory`; as `TraceFull` where a worker is refused so; as `Repeated` where a submitter
     /// or a worker is; as `Stalled` where one used up its flushes or its passes; as `SeatMissing` or `Differs` where the layer's
-    /// accounts can't be settled; and as `Differs` where not all bios were accepted and served.
+    /// accounts can't be settled; and as `Unserved` where not all bios were accepted and served.
     fn run<R: Threads + Wait + Sync>(
         &self,
         rt: &R,

@@ -47,7 +47,7 @@ impl Load {
     /// What came of the load, by the trace of its layer once that is closed, how many bios its submitters accepted, and how many are
     /// left.
     ///
-    /// Refused as `Differs` where not all of its bios were accepted and served, or something is in flight, waits or is left; and as
+    /// Refused as `Unserved` where not all of its bios were accepted and served, or something is in flight, waits or is left; and as
     /// `Memory`.
     pub fn settle(&self, trace: &Trace, accepted: u64, left: u64) -> Result<Settled, LoadFault>
         requires range { IsLoad self.now }
@@ -82,7 +82,7 @@ impl Load {
         requires { IsLoad self.now }
         ensures ok { IfOk result (λ s. s ≡ record { accepted = accepted; served = served; left = left }) }
         ensures even { IfOk result (λ s. AreEven self.now accepted served in_flight waiting left) }
-        ensures fault { IfErr result (λ f. (f ≡ LoadFault.Differs) × ¬ AreEven self.now accepted served in_flight waiting left) }
+        ensures fault { IfErr result (λ f. (f ≡ LoadFault.Unserved) × ¬ AreEven self.now accepted served in_flight waiting left) }
     {
         if accepted == self.submitters * self.bios
             && served == accepted
@@ -96,6 +96,6 @@ impl Load {
                 left,
             });
         }
-        Err(LoadFault::Differs)
+        Err(LoadFault::Unserved)
     }
 }

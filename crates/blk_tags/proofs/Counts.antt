@@ -1,11 +1,11 @@
 -- How often a tag stands in a list, and in all lists together.
-use Rattle.std.proofs.Common.{◌≡◌, ◌≢◌, ◌+◌, ◌<◌, ◌≤◌, ◌==◌, ◌∙◌, ℕ, zero, suc, List, [], ◌∷◌, ◌++◌, refl, sym, ap, inl, inr, arith}
+use Rattle.std.proofs.Common.{◌≡◌, ◌≢◌, ◌+◌, ◌<◌, ◌≤◌, ◌==◌, ◌∙◌, ℕ, zero, suc, List, [], ◌∷◌, ◌++◌, length, refl, sym, ap, inl, inr, arith}
 use Rattle.std.specs.Prelude.{slice_set, Contains}
 use Rattle.std.proofs.lemmas.Bool.{cases_Bool, ne_eqb, eqb-true, eq-eqb, ltb-true, ltb-false}
 use lib.Dec.{ltb}
 use mathlib.Core.Option.{some, some-injective, some-ne-none}
 use lib.ListN.{get_elem?}
-use Rattle.blk_tags.specs.Tags.{count_of, without, one_if}
+use Rattle.blk_tags.specs.Tags.{Held, no_tags, count_of, without, one_if}
 use Rattle.blk_tags.specs.Steps.{total_of}
 
 -- a tag that is put at the end stands once more
@@ -57,17 +57,17 @@ pub none_empty : (v : List ℕ) → ((t : ℕ) → count_of t v ≡ 0) → v ≡
 none_empty [] h = refl
 none_empty (x ∷ xs) h = let e : one_if (x == x) ≡ 1 = rw (eq-eqb x x refl) refl in absurd (omega (arith, h x, e))
 
--- a list that changes changes the total by as much
-pub total_set : (t : ℕ) (vs : List (List ℕ)) (i : ℕ) (v w : List ℕ) → get_elem? vs i ≡ some v → total_of t (slice_set vs i w) + count_of t v ≡ total_of t vs + count_of t w
+-- a seat that changes changes the total by as much
+pub total_set : (t : ℕ) (vs : List Held) (i : ℕ) (v w : Held) → get_elem? vs i ≡ some v → total_of t (slice_set vs i w) + count_of t v.tags ≡ total_of t vs + count_of t w.tags
 total_set t [] i v w e = absurd (some-ne-none v (sym e))
 total_set t (x ∷ xs) zero v w e = let q = some-injective x v e in rw q (omega arith)
 total_set t (x ∷ xs) (suc i) v w e = omega (arith, total_set t xs i v w e)
 
-pub total_push : (t : ℕ) (vs : List (List ℕ)) → total_of t (vs ++ [] ∷ []) ≡ total_of t vs
+pub total_push : (t : ℕ) (vs : List Held) → total_of t (vs ++ no_tags ∷ []) ≡ total_of t vs
 total_push t [] = refl
-total_push t (v ∷ vs) = ap (λ n. count_of t v + n) (total_push t vs)
+total_push t (v ∷ vs) = ap (λ n. count_of t v.tags + n) (total_push t vs)
 
-pub count_most : (t : ℕ) (vs : List (List ℕ)) (i : ℕ) (v : List ℕ) → get_elem? vs i ≡ some v → count_of t v ≤ total_of t vs
+pub count_most : (t : ℕ) (vs : List Held) (i : ℕ) (v : Held) → get_elem? vs i ≡ some v → count_of t v.tags ≤ total_of t vs
 count_most t [] i v e = absurd (some-ne-none v (sym e))
 count_most t (x ∷ xs) zero v e = let q = some-injective x v e in rw (← q) (omega arith)
 count_most t (x ∷ xs) (suc i) v e = omega (arith, count_most t xs i v e)
@@ -82,3 +82,18 @@ none_count v t nowhere = elim (cases_Bool (ltb 0 (count_of t v))) [
 -- a tag that is put at the end is held
 pub pushed_held : (t : ℕ) (v w : List ℕ) → w ≡ v ++ t ∷ [] → Contains w t
 pushed_held t v w e = rw e (some_held t (v ++ t ∷ []) (omega (arith, count_push_same t v)))
+
+-- a list that holds a tag once is one longer than the others
+pub all_left : (t : ℕ) (v : List ℕ) → count_of t v ≡ 0 → length (without t v) ≡ length v
+all_left t [] h = refl
+all_left t (x ∷ xs) h = elim (cases_Bool (x == t)) [
+  | inl y ↦ let e : one_if (x == t) ≡ 1 = rw y refl in absurd (omega (arith, h, e))
+  | inr n ↦ rw n (ap suc (all_left t xs (omega (arith, h))))
+]
+
+pub one_left : (t : ℕ) (v : List ℕ) → count_of t v ≡ 1 → length (without t v) + 1 ≡ length v
+one_left t [] h = absurd (omega (arith, h))
+one_left t (x ∷ xs) h = elim (cases_Bool (x == t)) [
+  | inl y ↦ let e : one_if (x == t) ≡ 1 = rw y refl in rw y (omega (arith, all_left t xs (omega (arith, h, e))))
+  | inr n ↦ let e : one_if (x == t) ≡ 0 = rw n refl in rw n (omega (arith, one_left t xs (omega (arith, h, e))))
+]

@@ -3,3 +3,4 @@ pub mod Bits
 pub mod Rule
 pub mod Marked
 pub mod Plain
+mod Tries

@@ -5,7 +5,7 @@ use Rattle.std.proofs.lemmas.Bool.{cases_Bool, eqb-true, eq-eqb, ltb-true, ltb-f
 use lib.Dec.{ltb}
 use Rattle.std.proofs.lemmas.List.{get_or-set_same, get_or-set_other}
 use Rattle.atomic_table.specs.Seated.{TableId}
-use Rattle.blk_tags.specs.Tags.{Seat, IsSet, IsSeat, tag_seat_of, count_of, without, one_if}
+use Rattle.blk_tags.specs.Tags.{Held, Seat, IsSet, stepped_for, IsSeat, tag_seat_of, count_of, without, one_if}
 use Rattle.blk_tags.specs.Inside.{Marks}
 use Rattle.blk_tags.proofs.Counts.{count_push_same, count_push_other, none_left, others_left, held_some, some_held, none_empty, none_count}
 
@@ -19,8 +19,8 @@ past (x ∷ xs) zero a = absurd (omega (arith, a))
 past (x ∷ xs) (suc t) a = past xs t (omega (arith, a))
 
 -- marks make a seat
-pub seated : (name : TableId) (marks : List Bool) (tags : List ℕ) (last : Option ℕ) → IsSet record { name = name; depth = length marks } → Marks marks tags → IfSome last (λ t. t < length marks) → IsSeat (tag_seat_of name marks tags last)
-seated name marks tags last is marked below = record {
+pub seated : (name : TableId) (marks : List Bool) (held : Held) (last : Option ℕ) → IsSet record { name = name; depth = length marks } → Marks marks held.tags → IfSome last (λ t. t < length marks) → IsSeat (tag_seat_of name marks held last)
+seated name marks held last is marked below = record {
   is_set = is;
   once = λ t. omega (arith, marked t, one_if-le (slice_index_or marks t false));
   below = λ t a. marked t ∙ ap one_if (past marks t a);
@@ -44,19 +44,19 @@ marked_give marks v w t m a e u = rw e (elim (cases_Bool (u == t)) [
 ])
 
 -- a seat that took the tag t
-pub took_one : (name : TableId) (marks : List Bool) (v w : List ℕ) (last : Option ℕ) (at t : ℕ) → IsSeat (tag_seat_of name marks v last) → Marks marks v → at ≡ t → t < length marks → count_of t v ≡ 0 → w ≡ v ++ t ∷ []
-    → IsSeat (tag_seat_of name (slice_set marks at true) w (Some t)) × Marks (slice_set marks at true) w
+pub took_one : (name : TableId) (marks : List Bool) (v w : Held) (last : Option ℕ) (at t : ℕ) → IsSeat (tag_seat_of name marks v last) → Marks marks v.tags → at ≡ t → t < length marks → count_of t v.tags ≡ 0 → w ≡ stepped_for t v (v.tags ++ t ∷ [])
+    → IsSeat (tag_seat_of name (slice_set marks at true) w (Some t)) × Marks (slice_set marks at true) w.tags
 took_one name marks v w last at t is m p a none e =
     let same : length (slice_set marks at true) ≡ length marks = length-set marks at true in
-    let m' : Marks (slice_set marks at true) w = rw p (marked_take marks v w t m a none e) in
+    let m' : Marks (slice_set marks at true) w.tags = rw p (marked_take marks v.tags w.tags t m a none (ap (λ h. h.tags) e)) in
     (seated name (slice_set marks at true) w (Some t) record { some = omega (arith, same, is.is_set.some); few = omega (arith, same, is.is_set.few) } m' (omega (arith, same, a)), m')
 
 -- a seat that gave the tag t back
-pub gave_one : (name : TableId) (marks : List Bool) (v w : List ℕ) (last : Option ℕ) (at t : ℕ) → IsSeat (tag_seat_of name marks v last) → Marks marks v → at ≡ t → t < length marks → w ≡ without t v
-    → IsSeat (tag_seat_of name (slice_set marks at false) w last) × Marks (slice_set marks at false) w
+pub gave_one : (name : TableId) (marks : List Bool) (v w : Held) (last : Option ℕ) (at t : ℕ) → IsSeat (tag_seat_of name marks v last) → Marks marks v.tags → at ≡ t → t < length marks → w ≡ stepped_for t v (without t v.tags)
+    → IsSeat (tag_seat_of name (slice_set marks at false) w last) × Marks (slice_set marks at false) w.tags
 gave_one name marks v w last at t is m p a e =
     let same : length (slice_set marks at false) ≡ length marks = length-set marks at false in
-    let m' : Marks (slice_set marks at false) w = rw p (marked_give marks v w t m a e) in
+    let m' : Marks (slice_set marks at false) w.tags = rw p (marked_give marks v.tags w.tags t m a (ap (λ h. h.tags) e)) in
     (seated name (slice_set marks at false) w last record { some = omega (arith, same, is.is_set.some); few = omega (arith, same, is.is_set.few) } m' (rw same is.last), m')
 
 -- a tag that is held is one of the set's

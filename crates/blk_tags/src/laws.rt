@@ -5,8 +5,13 @@
 ghost use Rattle.std.specs.Prelude.{ℕ, ◌≡◌, ◌+◌, ◌*◌, ◌<◌, List, [], ◌∷◌, slice_index};
 ghost use Rattle.std.specs.Int.{bit_at};
 ghost use Rattle.atomic_table.specs.Table.{State, opening};
+ghost use Rattle.blk_tags.specs.declared.TagSet.TheInside.{Inside as InsideOfSet};
+ghost use Rattle.blk_tags.specs.declared.TagSeat.TheInside.{Inside as InsideOfSeat};
+ghost use Rattle.blk_tags.specs.Tags.{Held, no_tags};
 ghost use Rattle.blk_tags.specs.Steps.{TagsAreHeldOnce, bit_of, IsBitSet, IsHeld, IsOfOneSeat};
 ghost use Rattle.blk_tags.specs.Kinds.{SplitsASeat, JoinsASeat, WinsATake, LosesATake, GivesBack, KeepsTheRule};
+
+use std::alloc::Allocator;
 
 /// Each bit of the words is the bit of a tag, and of no other one.
 pub fn each_bit_is_a_tags()
@@ -16,13 +21,13 @@ pub fn each_bit_is_a_tags()
 /// Each set bit is a tag below the depth that exactly one seat holds, and each tag that a seat holds has its bit set. So no
 /// two seats hold one tag.
 pub fn each_tag_is_one_seats()
-    ensures below { (depth : ℕ) → (s : State ℕ (List ℕ)) → (tag : ℕ) → TagsAreHeldOnce depth s
+    ensures below { (depth : ℕ) → (s : State ℕ Held) → (tag : ℕ) → TagsAreHeldOnce depth s
         → IsBitSet s.words tag → tag < depth }
-    ensures held { (depth : ℕ) → (s : State ℕ (List ℕ)) → (tag : ℕ) → TagsAreHeldOnce depth s
+    ensures held { (depth : ℕ) → (s : State ℕ Held) → (tag : ℕ) → TagsAreHeldOnce depth s
         → IsBitSet s.words tag → IsHeld s.views tag }
-    ensures once { (depth : ℕ) → (s : State ℕ (List ℕ)) → (tag : ℕ) → TagsAreHeldOnce depth s
+    ensures once { (depth : ℕ) → (s : State ℕ Held) → (tag : ℕ) → TagsAreHeldOnce depth s
         → IsOfOneSeat s.views tag }
-    ensures set { (depth : ℕ) → (s : State ℕ (List ℕ)) → (tag : ℕ) → TagsAreHeldOnce depth s
+    ensures set { (depth : ℕ) → (s : State ℕ Held) → (tag : ℕ) → TagsAreHeldOnce depth s
         → IsHeld s.views tag → IsBitSet s.words tag }
 {}
 
@@ -30,10 +35,17 @@ pub fn each_tag_is_one_seats()
 /// off of a seat that holds none, the joining of one that holds none, a take that wins, a take that loses, and a give. (A
 /// closing takes the seats away.)
 pub fn each_kind_of_step_keeps_the_rule()
-    ensures opening { (depth : ℕ) → TagsAreHeldOnce depth (opening {S = ℕ} (0 ∷ 0 ∷ 0 ∷ 0 ∷ []) [] []) }
-    ensures splitting { (depth : ℕ) → (s after : State ℕ (List ℕ)) → SplitsASeat s after → KeepsTheRule depth s after }
-    ensures joining { (depth : ℕ) → (s after : State ℕ (List ℕ)) → JoinsASeat s after → KeepsTheRule depth s after }
-    ensures winning { (depth : ℕ) → (s after : State ℕ (List ℕ)) → WinsATake depth s after → KeepsTheRule depth s after }
-    ensures losing { (depth : ℕ) → (s after : State ℕ (List ℕ)) → LosesATake depth s after → KeepsTheRule depth s after }
-    ensures giving { (depth : ℕ) → (s after : State ℕ (List ℕ)) → GivesBack depth s after → KeepsTheRule depth s after }
+    ensures opening { (depth : ℕ) → TagsAreHeldOnce depth (opening {S = ℕ} (0 ∷ 0 ∷ 0 ∷ 0 ∷ []) [] no_tags) }
+    ensures splitting { (depth : ℕ) → (s after : State ℕ Held) → SplitsASeat s after → KeepsTheRule depth s after }
+    ensures joining { (depth : ℕ) → (s after : State ℕ Held) → JoinsASeat s after → KeepsTheRule depth s after }
+    ensures winning { (depth : ℕ) → (s after : State ℕ Held) → WinsATake depth s after → KeepsTheRule depth s after }
+    ensures losing { (depth : ℕ) → (s after : State ℕ Held) → LosesATake depth s after → KeepsTheRule depth s after }
+    ensures giving { (depth : ℕ) → (s after : State ℕ Held) → GivesBack depth s after → KeepsTheRule depth s after }
+{}
+
+/// A set is its words and its depth, and a seat is what it has at the words, its marks and its last tag: nothing lies beside
+/// them, such as a lock, by which one thread could hold up another.
+fn nothing_lies_beside_the_words<A: Allocator>()
+    ensures set { (s : InsideOfSet A) → s ≡ record { table = s.table; depth = s.depth } }
+    ensures seat { (s : InsideOfSeat A) → s ≡ record { seat = s.seat; marks = s.marks; last = s.last } }
 {}

@@ -9,9 +9,9 @@
 pub mod laws;
 mod seat_tags;
 
-ghost use Rattle.std.specs.Prelude.{◌≡◌, ◌<◌, ◌≤◌, ◌+◌, ◌-◌, ◌/◌, ◌%◌, ◌^◌, ◌++◌, ◌∷◌, [], ◌⊎◌, ◌↔◌, ℕ, List, replicate, true, false, None, Some, Err, IsTrue, IfOk, IfSome, IfNone, Contains};
+ghost use Rattle.std.specs.Prelude.{◌≡◌, ◌<◌, ◌≤◌, ◌+◌, ◌-◌, ◌/◌, ◌%◌, ◌^◌, ◌++◌, ◌∷◌, [], ◌⊎◌, ◌↔◌, ℕ, List, length, replicate, true, false, None, Some, Err, IsTrue, IfOk, IfSome, IfNone, Contains};
 ghost use Rattle.std.specs.Bool.{OnTrue, OnFalse};
-ghost use Rattle.blk_tags.specs.Tags.{IsSet, IsSeat, count_of, without};
+ghost use Rattle.blk_tags.specs.Tags.{IsSet, IsSeat, count_of, no_tags, tag_or_first, stepped_for, tag_after, with_tag, TriesUpTo, without};
 ghost use Rattle.blk_tags.specs.Steps.{TagsAreHeldOnce};
 ghost use Rattle.blk_tags.specs.Inside.{took, gave};
 
@@ -39,7 +39,7 @@ struct TagRule;
 impl TableRule<u8, SeatTags, u16> for TagRule {
     ghost holds = { λ depth s. TagsAreHeldOnce depth s };
 
-    ghost first = { λ _. [] };
+    ghost first = { λ _. no_tags };
 }
 
 /// What a take does to the seat.
@@ -62,7 +62,7 @@ struct Cut;
 impl Split<SeatTags> for Cut {
     ghost left = { λ v. v };
 
-    ghost right = { λ _. [] };
+    ghost right = { λ _. no_tags };
 }
 
 /// A seat keeps what it holds, and the one that goes holds none.
@@ -71,7 +71,7 @@ struct Whole;
 impl Join<SeatTags> for Whole {
     ghost both = { λ v _. v };
 
-    ghost spent = { [] };
+    ghost spent = { no_tags };
 }
 
 /// A set of 1 to [`MAX_TAG_DEPTH`] tags, numbered from 0. Threads share it by `&`.
@@ -117,7 +117,7 @@ impl<A: Allocator + Clone> TagSet<A> {
     /// is out of its range, and then as `Memory` when memory runs out.
     pub fn new(alloc: A, depth: u64) -> Result<(TagSet<A>, TagSeat<A>), TagFault>
         ensures depth { IfOk result (λ p. p.0.depth ≡ depth) }
-        ensures seat { IfOk result (λ p. p.1 ≡ record { of_set = p.0; tags = []; last = None }) }
+        ensures seat { IfOk result (λ p. p.1 ≡ record { of_set = p.0; tags = []; last = None; steps = [] }) }
         ensures refused { (result ≡ Err TagFault.Depth) ↔ ((depth < 1) ⊎ (MAX_TAG_DEPTH < depth)) }
     {
         if depth < 1 || depth > MAX_TAG_DEPTH {
@@ -142,7 +142,7 @@ impl<A: Allocator + Clone> TagSet<A> {
     /// memory runs out.
     pub fn split(&self, seat: &mut TagSeat<A>) -> Result<TagSeat<A>, AllocError>
         requires { seat.old.of_set ≡ self.now }
-        ensures ok { IfOk result (λ s. s ≡ record { of_set = self.now; tags = []; last = None }) }
+        ensures ok { IfOk result (λ s. s ≡ record { of_set = self.now; tags = []; last = None; steps = [] }) }
         ensures same { seat.new ≡ seat.old }
     {
         let marks = no_marks(seat.marks.allocator(), usize::from(self.depth))?;
@@ -162,10 +162,12 @@ fn no_marks<A: Allocator + Clone>(alloc: &A, count: usize) -> Result<Vec<bool, A
 }
 
 impl<A: Allocator> TagSet<A> {
-    /// Gives back each tag that a seat of this set still holds, and answers the emptied seat. It takes no memory.
+    /// Gives back each tag that a seat of this set still holds, by one step each, and answers the emptied seat. It takes no
+    /// memory.
     pub fn join(&self, other: TagSeat<A>) -> TagSeat<A>
         requires { other.of_set ≡ self.now }
-        ensures { result ≡ record other { tags = [] } }
+        ensures emptied { result ≡ record other { tags = []; steps = result.steps } }
+        ensures steps { length result.steps ≡ length other.steps + length other.tags }
     {
         let mut other = other;
         for tag in 0..self.depth {
@@ -193,16 +195,17 @@ impl<A: Allocator> TagSet<A> {
         self.table.shared.join_seat::<Whole>(&mut seat.seat, gone);
     }
 
-    /// Takes a tag that no seat holds, for a seat of this set. Tries each tag at most once, in rising order from the one after
-    /// the seat's last, from 0 at first, and goes on at 0 after the greatest. There is none where each try found its tag
-    /// taken. It neither waits nor takes memory.
+    /// Takes a tag that no seat holds, for a seat of this set. Tries each tag at most once, by one step each, in rising order from
+    /// the one after the seat's last, from 0 at first, and goes on at 0 after the greatest. There is none where each try found
+    /// its tag taken. It neither waits nor takes memory.
     pub fn get(&self, seat: &mut TagSeat<A>) -> Option<u16>
         requires { seat.old.of_set ≡ self.now }
-        ensures some { IfSome result (λ t. seat.new ≡ record seat.old { tags = seat.old.tags ++ t ∷ []; last = Some t }) }
+        ensures some { IfSome result (λ t. seat.new ≡ with_tag seat.old t seat.new.steps) }
         ensures free { IfSome result (λ t. ¬ Contains seat.old.tags t) }
         ensures held { IfSome result (Contains seat.new.tags) }
         ensures below { IfSome result (λ t. t < self.now.depth) }
-        ensures none { IfNone result (seat.new ≡ seat.old) }
+        ensures none { IfNone result (seat.new ≡ record seat.old { steps = seat.new.steps }) }
+        ensures steps { TriesUpTo self.now.depth (tag_or_first self.now.depth (tag_after seat.old.last)) result seat.old.steps seat.new.steps }
     {
         let from = seat.next();
         self.get_from(seat, from)
@@ -211,33 +214,40 @@ impl<A: Allocator> TagSet<A> {
     /// Takes a tag as [`TagSet::get`] does, but tries from the given one on, or from 0 where that is none of the set's.
     pub fn get_from(&self, seat: &mut TagSeat<A>, from: u16) -> Option<u16>
         requires { seat.old.of_set ≡ self.now }
-        ensures some { IfSome result (λ t. seat.new ≡ record seat.old { tags = seat.old.tags ++ t ∷ []; last = Some t }) }
+        ensures some { IfSome result (λ t. seat.new ≡ with_tag seat.old t seat.new.steps) }
         ensures free { IfSome result (λ t. ¬ Contains seat.old.tags t) }
         ensures held { IfSome result (Contains seat.new.tags) }
         ensures below { IfSome result (λ t. t < self.now.depth) }
-        ensures none { IfNone result (seat.new ≡ seat.old) }
+        ensures none { IfNone result (seat.new ≡ record seat.old { steps = seat.new.steps }) }
+        ensures steps { TriesUpTo self.now.depth (tag_or_first self.now.depth from) result seat.old.steps seat.new.steps }
     {
-        let mut tag = from;
+        let mut tag = self.or_first(from);
         for _ in 0..self.depth {
-            if tag >= self.depth {
-                tag = 0;
-            }
             if self.take(seat, tag) {
                 return Some(tag);
             }
-            tag += 1;
+            tag = self.or_first(tag + 1);
         }
         None
     }
 
-    /// Tries to take a tag.
+    /// The tag itself where it is one of the set's, and otherwise 0.
+    fn or_first(&self, tag: u16) -> u16
+        ensures value { result ≡ tag_or_first self.now.depth tag }
+        ensures is_set { IsSet self.now }
+    {
+        if tag < self.depth { tag } else { 0 }
+    }
+
+    /// Tries to take a tag, by one step.
     fn take(&self, seat: &mut TagSeat<A>, tag: u16) -> bool
         requires of_set { seat.old.of_set ≡ self.now }
         requires below { tag < self.now.depth }
-        ensures won { OnTrue result (seat.new ≡ record seat.old { tags = seat.old.tags ++ tag ∷ []; last = Some tag }) }
+        ensures won { OnTrue result (seat.new ≡ with_tag seat.old tag seat.new.steps) }
         ensures free { OnTrue result (¬ Contains seat.old.tags tag) }
         ensures held { OnTrue result (Contains seat.new.tags tag) }
-        ensures lost { OnFalse result (seat.new ≡ seat.old) }
+        ensures lost { OnFalse result (seat.new ≡ record seat.old { steps = seat.new.steps }) }
+        ensures steps { seat.new.steps ≡ seat.old.steps ++ tag ∷ [] }
     {
         if !self.set_bit(&mut seat.seat, tag) {
             return false;
@@ -251,9 +261,9 @@ impl<A: Allocator> TagSet<A> {
     fn set_bit(&self, seat: &mut Seat<u8, SeatTags>, tag: u16) -> bool
         requires table { seat.old.table_id ≡ self.now.name }
         requires below { tag < self.now.depth }
-        ensures won { OnTrue result (seat.new.me.0 ≡ seat.old.me.0 ++ tag ∷ []) }
-        ensures free { OnTrue result (count_of tag seat.old.me.0 ≡ 0) }
-        ensures lost { OnFalse result (seat.new.me.0 ≡ seat.old.me.0) }
+        ensures won { OnTrue result (seat.new.me.0 ≡ stepped_for tag seat.old.me.0 (seat.old.me.0.tags ++ tag ∷ [])) }
+        ensures free { OnTrue result (count_of tag seat.old.me.0.tags ≡ 0) }
+        ensures lost { OnFalse result (seat.new.me.0 ≡ stepped_for tag seat.old.me.0 seat.old.me.0.tags) }
         ensures slots { seat.new.me.1 ≡ seat.old.me.1 }
         ensures same { seat.new.table_id ≡ seat.old.table_id }
     {
@@ -262,11 +272,11 @@ impl<A: Allocator> TagSet<A> {
         found & bit == 0
     }
 
-    /// Gives back a tag that the seat, which is one of this set, holds. It neither waits nor takes memory.
+    /// Gives back a tag that the seat, which is one of this set, holds, by one step. It neither waits nor takes memory.
     pub fn give(&self, seat: &mut TagSeat<A>, tag: u16)
         requires of_set { seat.old.of_set ≡ self.now }
         requires holds { Contains seat.old.tags tag }
-        ensures { seat.new ≡ record seat.old { tags = without tag seat.old.tags } }
+        ensures { seat.new ≡ record seat.old { tags = without tag seat.old.tags; steps = seat.old.steps ++ tag ∷ [] } }
     {
         self.clear_bit(&mut seat.seat, tag);
         seat.marks[usize::from(tag)] = false;
@@ -276,8 +286,8 @@ impl<A: Allocator> TagSet<A> {
     fn clear_bit(&self, seat: &mut Seat<u8, SeatTags>, tag: u16)
         requires table { seat.old.table_id ≡ self.now.name }
         requires below { tag < self.now.depth }
-        requires holds { 0 < count_of tag seat.old.me.0 }
-        ensures tags { seat.new.me.0 ≡ without tag seat.old.me.0 }
+        requires holds { 0 < count_of tag seat.old.me.0.tags }
+        ensures gave { seat.new.me.0 ≡ stepped_for tag seat.old.me.0 (without tag seat.old.me.0.tags) }
         ensures slots { seat.new.me.1 ≡ seat.old.me.1 }
         ensures same { seat.new.table_id ≡ seat.old.table_id }
     {
@@ -307,7 +317,8 @@ impl<A: Allocator> TagSeat<A> {
 
     /// The tag that its next take tries first, or the depth where it took the last one.
     pub fn next(&self) -> u16
-        ensures { result ≤ self.now.of_set.depth }
+        ensures value { result ≡ tag_after self.now.last }
+        ensures few { result ≤ self.now.of_set.depth }
     {
         match self.last {
             Some(last) => last + 1,

@@ -12,7 +12,7 @@ fetch_and-found-requires g c =
       may_give c.self.inside.depth c.self.inside.table.shared.key _ c.args.tag c.word_of.result c.bit_of.result _ _ small c.self.invariant.0.few c.requires.holds c.self.invariant.2 c.word_of.ensures c.bit_of.ensures,
     )
 
-pub returns-clause-tags : goal.returns-clause-tags
-returns-clause-tags g c =
+pub returns-clause-gave : goal.returns-clause-gave
+returns-clause-gave g c =
     let small : c.args.tag < 256 = omega (arith, ap (λ s. s.depth) c.self.view_is, c.requires.below, c.self.invariant.0.few) in
     c.fetch_and-found.ensures.2.1 c.args.tag small c.word_of.ensures (ap (λ b. 2 ^ 64 - 1 - b) c.bit_of.ensures)

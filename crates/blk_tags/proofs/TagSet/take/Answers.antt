@@ -13,7 +13,7 @@ invariant_of-seat-2 g c =
     (both.0, both.1, c.set_bit.ensures.slots ∙ c.seat.invariant.2)
 
 pub returns-clause-free : goal.returns-clause-free
-returns-clause-free g c = λ has. omega (arith, c.if-not-set_bit.ensures.free, held_some c.args.tag c.seat.inside.seat.me.0 (subst (λ tags. Contains tags c.args.tag) (sym (ap (λ s. s.tags) c.seat.view_is)) has))
+returns-clause-free g c = λ has. omega (arith, c.if-not-set_bit.ensures.free, held_some c.args.tag c.seat.inside.seat.me.0.tags (subst (λ tags. Contains tags c.args.tag) (sym (ap (λ s. s.tags) c.seat.view_is)) has))
 
 pub returns-clause-held : goal.returns-clause-held
-returns-clause-held g c = pushed_held c.args.tag c.seat.inside.seat.me.0 c.set_bit.new.seat.me.0 c.if-not-set_bit.ensures.won
+returns-clause-held g c = pushed_held c.args.tag c.seat.inside.seat.me.0.tags c.set_bit.new.seat.me.0.tags (ap (λ h. h.tags) c.if-not-set_bit.ensures.won)

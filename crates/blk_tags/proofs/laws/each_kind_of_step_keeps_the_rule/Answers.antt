@@ -12,13 +12,13 @@ pub returns-clause-splitting : goal.returns-clause-splitting
 returns-clause-splitting c depth s after k h = subst (TagsAreHeldOnce depth) (sym k) (new_seat depth s h)
 
 pub returns-clause-joining : goal.returns-clause-joining
-returns-clause-joining c depth s after k h = subst (TagsAreHeldOnce depth) (sym k.2) (empty_seat depth s h k.0 k.1)
+returns-clause-joining c depth s after k h = subst (TagsAreHeldOnce depth) (sym k.4) (empty_seat depth s h k.0 k.1 k.2 k.3)
 
 pub returns-clause-winning : goal.returns-clause-winning
-returns-clause-winning c depth s after k h = subst (TagsAreHeldOnce depth) (sym k.after_is) (wins depth s k.seat k.tag k.tags k.at.below k.at.few h k.at.holds k.clear)
+returns-clause-winning c depth s after k h = subst (TagsAreHeldOnce depth) (sym k.after_is) (wins depth s k.seat k.tag k.held k.at.below k.at.few h k.at.holds k.clear)
 
 pub returns-clause-losing : goal.returns-clause-losing
-returns-clause-losing c depth s after k h = subst (TagsAreHeldOnce depth) (sym k.after_is) (loses depth s k.seat k.tag k.tags k.at.below k.at.few h k.at.holds k.full)
+returns-clause-losing c depth s after k h = subst (TagsAreHeldOnce depth) (sym k.after_is) (loses depth s k.seat k.tag k.held k.at.below k.at.few h k.at.holds k.full)
 
 pub returns-clause-giving : goal.returns-clause-giving
-returns-clause-giving c depth s after k h = subst (TagsAreHeldOnce depth) (sym k.after_is) (gives depth s k.seat k.tag k.tags k.at.below k.at.few h k.at.holds (held_some k.tag k.tags k.held))
+returns-clause-giving c depth s after k h = subst (TagsAreHeldOnce depth) (sym k.after_is) (gives depth s k.seat k.tag k.held k.at.below k.at.few h k.at.holds (held_some k.tag k.held.tags k.has))

@@ -9,7 +9,7 @@ use Rattle.blk_core.specs.Calls.{Issues}
 use Rattle.blk_layer.specs.Seats.{WorkerSeat}
 use Rattle.blk_layer.proofs.Moving.{tried_stays, used_up_same}
 use Rattle.blk_layer.proofs.Ruled.{tried}
-use Rattle.blk_layer.proofs.InHand.{IsTrying, more_room, same_seat, set_is, tried_on, working_on, takes_on}
+use Rattle.blk_layer.proofs.InHand.{more_room, same_seat, set_is, none_taken, tried_on, working_on, takes_on}
 use Rattle.blk_layer.proofs.seats.Worker.next.Goals as goal
 
 pub loop-init : goal.loop-init
@@ -34,16 +34,10 @@ pub get_from-requires : goal.get_from-requires
 get_from-requires g c = set_is _ _ _ _ _ _ _ _ _ _ c.loop.invariant.0 c.requires
 
 pub invariant_of-self-in_default : goal.invariant_of-self-in_default
-invariant_of-self-in_default g c =
-    let own = c.loop.self-inside in
-    let trying = λ (s : TagSeat). IsTrying g.L.Named.setup c.args.self.now own.hw s own.hands.items own.ran.items (vec_capacity own.ran) own.share.parts own.share.amount in
-    (subst trying (sym c.in_default.ensures.none) c.loop.invariant.0).working
+invariant_of-self-in_default g c = (none_taken _ _ _ _ c.get_from.new.seat _ _ _ _ _ c.loop.invariant.0 c.in_default.ensures.none).working
 
 pub returns-in_default-clause-issued : goal.returns-in_default-clause-issued
-returns-in_default-clause-issued g c =
-    let own = c.loop.self-inside in
-    let trying = λ (s : TagSeat). IsTrying g.L.Named.setup c.args.self.now own.hw s own.hands.items own.ran.items (vec_capacity own.ran) own.share.parts own.share.amount in
-    (subst trying (sym c.in_default.ensures.none) c.loop.invariant.0).seated
+returns-in_default-clause-issued g c = (none_taken _ _ _ _ c.get_from.new.seat _ _ _ _ _ c.loop.invariant.0 c.in_default.ensures.none).seated
 
 pub try_issue-requires-clause-queue : goal.try_issue-requires-clause-queue
 try_issue-requires-clause-queue g c = subst (λ (s : Setup). c.loop.self-inside.hw < s.hw) (sym c.loop.core.named) c.loop.invariant.0.working.queue
