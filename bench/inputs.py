@@ -8,8 +8,8 @@ round 0), carried (as many as the rounds carry), crowded (twice as many) and spa
 of N rounds, in each of which a depth is set. Two are certificates of N commands at depth 8, a third of which run after all others and
 late: filled, where each lies in a window of 8 rounds that the others fill, in one of 64, and so on up to all rounds; and roomy, where each
 such window has room for one more. ran_certificate, ran_filled and ran_roomy are the same three as schedules. capture is a capture of N
-records: four processes that plug, reads and writes of several sizes, and merges in a plug. All come from a fixed seed, so that every run has
-the same bytes."""
+records: four processes that plug, reads and writes of several sizes, and merges in a plug; blkparse, rows, classic, tasks, perf and bpftrace are the
+same as a recorder prints them. All come from a fixed seed, so that every run has the same bytes."""
 import random
 import sys
 
@@ -195,6 +195,51 @@ def capture(records, out):
         tell("m", 0, "N", 0, 0)
 
 
+# the tracepoints of perf by their letters, and those of requests, which tell bytes and command too
+POINTS = {"Q": "bio_queue", "G": "getrq", "M": "bio_backmerge", "P": "plug", "U": "unplug", "I": "rq_insert", "D": "rq_issue", "C": "rq_complete"}
+
+
+def as_row(place, seconds, nanoseconds, cpu, action, pid, rwbs, first, sectors):
+    return f"{seconds},{nanoseconds},{cpu},{action},{pid},{rwbs},{first},{sectors}"
+
+
+def behind(rwbs, first, sectors):
+    """What stands behind the action of a step."""
+    return f"{rwbs:>3} {first} + {sectors} [fio]" if int(sectors) else f"{rwbs:>3} [fio]"
+
+
+def as_blkparse(place, seconds, nanoseconds, cpu, action, pid, *rest):
+    return f"  8,0 {cpu:>4} {place:8} {seconds:>5}.{nanoseconds} {pid:>5} {action:>2} {behind(*rest)}"
+
+
+def as_classic(place, seconds, nanoseconds, cpu, action, pid, *rest):
+    return f"  8,0 {cpu:>4} {seconds:>5}.{nanoseconds} {pid:>5} {action:>2} {behind(*rest)}"
+
+
+def as_task(place, seconds, nanoseconds, cpu, action, pid, *rest):
+    return f"             fio-{pid}     [{cpu:0>3}] d..1. {seconds:>5}.{nanoseconds[:6]}:   8,0 {action:>4} {behind(*rest)}"
+
+
+def as_perf(place, seconds, nanoseconds, cpu, action, pid, rwbs, first, sectors):
+    begin = f"{pid:>5} [{cpu:0>3}] {seconds:>5}.{nanoseconds}: {'block:block_' + POINTS.get(action, action):>27}:"
+    if action in "PU" or action not in POINTS:
+        return f"{begin} [fio]"
+    size = f"{512 * int(sectors)} () " if action in "ID" else "() " if action == "C" else ""
+    return f"{begin} 8,0 {rwbs} {size}{first} + {sectors} [fio]"
+
+
+def printed(write):
+    """The records of a capture as a recorder prints them."""
+
+    def lines(records, out):
+        kept = []
+        capture(records, kept.append)
+        for place, line in enumerate(kept[1:]):
+            out(write(place, *line.split(",")))
+
+    return lines
+
+
 def main():
     kind, n = sys.argv[1], int(sys.argv[2])
     lines = []
@@ -215,7 +260,15 @@ def main():
         "touching": touching,
         "depths": depths,
         "capture": capture,
+        "blkparse": printed(as_blkparse),
+        "rows": printed(as_row),
+        "classic": printed(as_classic),
+        "tasks": printed(as_task),
+        "perf": printed(as_perf),
+        "bpftrace": printed(as_row),
     }
+    if kind == "bpftrace":
+        lines.append("Attaching 13 probes...")
     kinds[kind](n, lines.append)
     sys.stdout.write("\n".join(lines) + "\n")
 

@@ -33,8 +33,6 @@ WORD = re.compile(r"[A-Za-z_]\w*")
 SHORT = 3
 # Words of several crates' specs/ that mean one thing: what a scheduler holds, as the record that all of them share.
 SHARED = {"meaning_of"}
-# Words of blk_recorders and blk_capture_text that other crates have for their own: to be renamed.
-SHARED |= {"before", "ends_with", "form_asked", "form_by", "form_of", "line_of", "range_of", "read", "row_line"}
 # The head of a definition in specs/, up to the word that it defines. A field of a record is indented, and so is no definition.
 DEFINED = re.compile(r"(?m)^(?: *(?:abbrev|unfoldable) (?:pub )?| *pub (?:record|data) |(?:pub )?(?=[\w'-]+ :))([\w'-]+)")
 # The head of a clause, up to its brace.

@@ -2,7 +2,7 @@
 use Rattle.std.specs.Prelude.{ℕ, ◌≡◌, ⊤, List, Option, None, Some}
 use Rattle.csv.specs.Reading.{default_config, records, strip_bom}
 use Rattle.blk_lists.specs.Sources.{Row}
-use Rattle.blk_recorders.specs.Detected.{form_of}
+use Rattle.blk_recorders.specs.Detected.{form_of_lines}
 use Rattle.blk_recorders.specs.Steps.{AreSteps, IsLineFault}
 use Rattle.blk_recorders.specs.declared.detect.CaptureForm.{CaptureForm}
 use Rattle.blk_recorders.specs.declared.detect.CaptureForm.TheVariants as form
@@ -20,9 +20,9 @@ abbrev pub csv_rows : List ℕ → List Row
 csv_rows bytes = records default_config (strip_bom bytes)
 
 -- the form that is asked for, or that the first lines tell
-abbrev pub form_asked : Option CaptureForm → List ℕ → CaptureForm
-form_asked (Some f) bytes = f
-form_asked None bytes = form_of bytes
+abbrev pub form_taken : Option CaptureForm → List ℕ → CaptureForm
+form_taken (Some f) bytes = f
+form_taken None bytes = form_of_lines bytes
 
 -- of the form `blk-capture`
 abbrev pub ReadsRecords : List ℕ → CaptureRead → Type 0
@@ -58,8 +58,8 @@ IsUnreadAs form.Records device bytes x = IsRecordsFault bytes x
 IsUnreadAs (form.Printed f) device bytes x = IsLinesFault f device bytes x
 
 abbrev pub IsCaptureRead : Option CaptureForm → Option Device → List ℕ → CaptureRead → Type 0
-IsCaptureRead asked device bytes r = ReadsAs (form_asked asked bytes) device bytes r
+IsCaptureRead asked device bytes r = ReadsAs (form_taken asked bytes) device bytes r
 
 -- memory may run out in place of any other fault
 abbrev pub IsCaptureUnread : Option CaptureForm → Option Device → List ℕ → UnreadCapture → Type 0
-IsCaptureUnread asked device bytes x = IsUnreadAs (form_asked asked bytes) device bytes x
+IsCaptureUnread asked device bytes x = IsUnreadAs (form_taken asked bytes) device bytes x

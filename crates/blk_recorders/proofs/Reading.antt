@@ -1,19 +1,17 @@
 -- The lines of a text, one after another.
-use Rattle.std.proofs.Common.{ℕ, ◌≡◌, ◌+◌, ◌<◌, ◌≤◌, ◌∙◌, Bool, true, false, List, [], ◌∷◌, ◌++◌, length, get_or, drop, cond, not, ◌&&◌, refl, sym, ap, subst, arith, Option, None, Some, Result, Ok, Err}
+use Rattle.std.proofs.Common.{ℕ, ◌≡◌, ◌+◌, ◌<◌, ◌≤◌, ◌∙◌, Bool, true, false, List, [], ◌∷◌, ◌++◌, length, get_or, drop, refl, sym, ap, subst, arith, Option, None, Some, Result, Ok, Err}
 use Rattle.std.specs.Prelude.{nat_lt, nat_le, if◌then◌else◌, slice_index_or}
 use Rattle.std.proofs.lemmas.Bool.Decides.{nat_tests}
 use Rattle.std.proofs.lemmas.Grind.{common_steps}
-use Rattle.std.proofs.lemmas.List.{drop_more, at_drop_all}
+use Rattle.std.proofs.lemmas.List.{drop_more}
 use Rattle.std.proofs.lemmas.List.Sorted.{IsNonDecreasingBy-from_sort}
-use Rattle.std.specs.Ordering.{nat_cmp}
 use Rattle.blk_capture.specs.Requests.{AreInOrder}
 use Rattle.blk_capture.specs.declared.record.Record.{Record}
 use Rattle.blk_recorders.specs.Layouts.{step_told}
-use Rattle.blk_recorders.specs.Lines.{line_of}
+use Rattle.blk_recorders.specs.Lines.{printed_line_of}
 use Rattle.blk_recorders.specs.Words.{Word, words}
-use Rattle.blk_recorders.specs.Steps.{Sofar, none_yet, more, is_other, settle, is_unordered, falls, keep, take_step, if_step, take_line, take_words, take, go_on, read_from, lines_of, read, AreByTime, AreOrdered}
+use Rattle.blk_recorders.specs.Steps.{Sofar, none_yet, more, is_other, settle, is_unordered, falls, keep, if_step, take_line, take_words, take, go_on, read_from, lines_of, read_printed, AreOrdered}
 use Rattle.blk_recorders.specs.declared.device.Device.{Device}
-use Rattle.blk_recorders.specs.declared.fault.LineFault.{LineFault}
 use Rattle.blk_recorders.specs.declared.fault.LineWhy.{LineWhy}
 use Rattle.blk_recorders.specs.declared.fault.LineWhy.TheVariants as why
 use Rattle.blk_recorders.specs.declared.layout.Step.{Step}
@@ -104,7 +102,7 @@ lined_up f asked s (Ok line.Loss) t u h e =
 
 worded : (f : Recorder) (asked : Option Device) (s : Sofar) (ws : List Word) (t : Sofar) → is_unordered f ≡ false → Rises s → take_words f asked s ws ≡ Ok t → Rises t
 worded f asked s [] t u h e = let same : s ≡ t = cc e in subst Rises same h
-worded f asked s (w ∷ ws) t u h e = lined_up f asked s (line_of f (w ∷ ws)) t u h e
+worded f asked s (w ∷ ws) t u h e = lined_up f asked s (printed_line_of f (w ∷ ws)) t u h e
 
 gone_on : (f : Recorder) (asked : Option Device) (n : ℕ) (s : Sofar) (ls : List (List ℕ)) (r : Result Sofar LineWhy) (t : Sofar) → ((m : Sofar) → r ≡ Ok m → Rises m)
     → ((m : Sofar) → Rises m → read_from f asked (more n) m ls ≡ Ok t → Rises t) → go_on n (λ m. read_from f asked (more n) m ls) r ≡ Ok t → Rises t
@@ -121,7 +119,7 @@ none_rise : Rises none_yet
 none_rise = record { rising = λ k d l. absurd (omega arith); below = λ k d l. absurd (omega arith) }
 
 -- the records of a text by their times
-pub in_order : (f : Recorder) (asked : Option Device) (text : List ℕ) (told : Sofar) (records : List Record) → read f asked text ≡ Ok told → AreOrdered f told.records records → AreInOrder records (length records)
+pub in_order : (f : Recorder) (asked : Option Device) (text : List ℕ) (told : Sofar) (records : List Record) → read_printed f asked text ≡ Ok told → AreOrdered f told.records records → AreInOrder records (length records)
 in_order Blkparse asked text told records e o = rw o (rises Blkparse asked 1 none_yet (lines_of text) told refl none_rise e).rising
 in_order Ftrace asked text told records e o = rw o (rises Ftrace asked 1 none_yet (lines_of text) told refl none_rise e).rising
 in_order Perf asked text told records e o = rw o (rises Perf asked 1 none_yet (lines_of text) told refl none_rise e).rising

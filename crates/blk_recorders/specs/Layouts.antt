@@ -1,10 +1,10 @@
 -- Where the parts of a step stand in a line, and the step that they tell.
-use Rattle.std.specs.Prelude.{ℕ, ◌+◌, ◌-◌, ◌*◌, ◌==◌, ◌&&◌, ◌||◌, if◌then◌else◌, nat_lt, Bool, List, [], ◌∷◌, length, get_or, is_some, Option, None, Some, option_map, Result, Ok, Err, codes}
+use Rattle.std.specs.Prelude.{ℕ, ◌+◌, ◌-◌, ◌*◌, ◌==◌, ◌&&◌, ◌||◌, if◌then◌else◌, nat_lt, Bool, List, [], length, get_or, is_some, Option, None, Some, option_map, Result, Ok, Err, codes}
 use Rattle.std.specs.Str.{bytes_eq}
 use denote.Ref.{Bor}
 use Rattle.blk_capture.specs.Passing.{action_by, op_by, passed_action}
 use Rattle.blk_capture.specs.declared.record.Action.{Action}
-use Rattle.blk_recorders.specs.Words.{Word, begins_with, before, behind, number, nanoseconds}
+use Rattle.blk_recorders.specs.Words.{Word, begins_with, before_byte, behind_byte, number, nanoseconds}
 use Rattle.blk_recorders.specs.declared.device.Device.{Device}
 use Rattle.blk_recorders.specs.declared.fault.LineWhy.{LineWhy}
 use Rattle.blk_recorders.specs.declared.fault.LineWhy.TheVariants as why
@@ -23,7 +23,7 @@ both (Some x) (Some y) = Some (x, y)
 
 -- a device: two numbers with a comma between
 abbrev pub device_of : Word → Option Device
-device_of w = option_map (λ p. record { major = p.0; minor = p.1 }) (both (number (before 44 w)) (number (behind 44 w)))
+device_of w = option_map (λ p. record { major = p.0; minor = p.1 }) (both (number (before_byte 44 w)) (number (behind_byte 44 w)))
 
 abbrev pub is_device : Device → Device → Bool
 is_device d e = (d.major == e.major) && (d.minor == e.minor)
@@ -60,8 +60,8 @@ abbrev pub at : List Word → ℕ → Word
 at ws k = get_or ws k []
 
 -- a range of sectors, `FIRST + COUNT` or `FIRST / END`, if the action has one
-abbrev pub range_of : Word → Word → Word → Result (Span Word) LineWhy
-range_of first sign second =
+abbrev pub span_by : Word → Word → Word → Result (Span Word) LineWhy
+span_by first sign second =
     if bytes_eq sign (codes "+") then Ok (Sectors first second) else (if bytes_eq sign (codes "/") then Ok (Until first second) else Err why.Fields)
 
 abbrev pub span_of : Bool → Word → Word → Word → Result (Span Word) LineWhy
@@ -70,7 +70,7 @@ span_of passed first sign second =
     else (if length first == 0 then Err why.Fields
     else (if is_remark sign then Ok Nothing
     else (if length second == 0 then Err why.Fields
-    else range_of first sign second)))
+    else span_by first sign second)))
 
 abbrev pub span_from : Action → List Word → ℕ → Result (Span Word) LineWhy
 span_from a ws k = span_of (is_some (passed_action a)) (at ws k) (at ws (k + 1)) (at ws (k + 2))
@@ -81,10 +81,10 @@ with_span l (Ok s) = Ok (l s)
 with_span l (Err w) = Err w
 
 abbrev pub seconds_of : Word → Word
-seconds_of time = before 46 time
+seconds_of time = before_byte 46 time
 
 abbrev pub fraction_of : Word → Word
-fraction_of time = behind 46 time
+fraction_of time = behind_byte 46 time
 
 abbrev pub layout_at : List Word → Places → Span Word → Layout Word
 layout_at ws p s = record {

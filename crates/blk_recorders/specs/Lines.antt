@@ -6,8 +6,8 @@ use denote.Ref.{Bor}
 use Rattle.blk_capture.specs.Passing.{action_by, passed_action}
 use Rattle.blk_capture.specs.declared.record.Action.{Action}
 use Rattle.blk_capture.specs.declared.record.Action.TheVariants as action
-use Rattle.blk_recorders.specs.Words.{Word, is_digit, begins_with, before, behind_last, number}
-use Rattle.blk_recorders.specs.Layouts.{at, laid, device_of, layout_at, placed, seconds_of, fraction_of, span_from, with_span}
+use Rattle.blk_recorders.specs.Words.{Word, is_digit, begins_with, before_byte, behind_last, number}
+use Rattle.blk_recorders.specs.Layouts.{at, laid, device_of, placed, seconds_of, fraction_of, span_from, with_span}
 use Rattle.blk_recorders.specs.declared.fault.LineWhy.{LineWhy}
 use Rattle.blk_recorders.specs.declared.fault.LineWhy.TheVariants as why
 use Rattle.blk_recorders.specs.declared.layout.Layout.{Layout}
@@ -34,8 +34,8 @@ abbrev pub begins_with_digit : Word → Bool
 begins_with_digit [] = false
 begins_with_digit (c ∷ cs) = is_digit c
 
-abbrev pub ends_with : ℕ → Word → Bool
-ends_with c w = not (length w == 0) && (get_or w (length w - 1) 0 == c)
+abbrev pub ends_with_byte : ℕ → Word → Bool
+ends_with_byte c w = not (length w == 0) && (get_or w (length w - 1) 0 == c)
 
 -- words by which recorders say that something was lost
 abbrev pub is_of_loss : Word → Bool
@@ -62,12 +62,12 @@ row_layout r =
     then Ok (record { device = None; seconds = at r 0; fraction = at r 1; cpu = at r 2; action = action_by (at r 3); pid = at r 4; rwbs = at r 5; span = span.Sectors (at r 6) (at r 7) })
     else Err why.Fields
 
-abbrev pub row_line : Word → Result (Line Word) LineWhy
-row_line row = as_step (row_layout (slice_split (λ c. c == 44) row))
+abbrev pub row_step : Word → Result (Line Word) LineWhy
+row_step row = as_step (row_layout (slice_split (λ c. c == 44) row))
 
 -- what stands between brackets
 abbrev pub inside : Word → Word
-inside w = if nat_le 2 (length w) && begins_with 91 w && ends_with 93 w then take (length w - 2) (drop 1 w) else []
+inside w = if nat_le 2 (length w) && begins_with 91 w && ends_with_byte 93 w then take (length w - 2) (drop 1 w) else []
 
 abbrev pub is_cpu : Word → Bool
 is_cpu w = is_some (number (inside w))
@@ -76,18 +76,18 @@ is_cpu w = is_some (number (inside w))
 abbrev pub blkparse_line : List Word → Result (Line Word) LineWhy
 blkparse_line ws =
     if begins_with_digit (at ws 0)
-    then (if length ws == 1 then row_line (at ws 0) else as_step (placed ws BLKPARSE))
+    then (if length ws == 1 then row_step (at ws 0) else as_step (placed ws BLKPARSE))
     else Ok (remark ws)
 
 abbrev pub bpftrace_line : List Word → Result (Line Word) LineWhy
 bpftrace_line ws =
     if begins_with_digit (at ws 0)
-    then (if length ws == 1 then row_line (at ws 0) else Err why.Fields)
+    then (if length ws == 1 then row_step (at ws 0) else Err why.Fields)
     else Ok (remark ws)
 
 -- the time before its colon
 abbrev pub clock_of : Word → Word
-clock_of w = before 58 w
+clock_of w = before_byte 58 w
 
 -- ftrace: `TASK-PID [CPU] FLAGS TIME: DEVICE ACTION RWBS ..`, by the places of the processor and of the time; the flags may be missing
 abbrev pub task_layout : List Word → ℕ → ℕ → Span Word → Layout Word
@@ -110,7 +110,7 @@ timed_line ws cpu time =
     else Ok Remark)
 
 abbrev pub task_line : List Word → ℕ → Result (Line Word) LineWhy
-task_line ws cpu = timed_line ws cpu (if ends_with 58 (at ws (cpu + 1)) then cpu + 1 else cpu + 2)
+task_line ws cpu = timed_line ws cpu (if ends_with_byte 58 (at ws (cpu + 1)) then cpu + 1 else cpu + 2)
 
 abbrev pub of_task : List Word → Option ℕ → Result (Line Word) LineWhy
 of_task ws (Some cpu) = task_line ws cpu
@@ -149,7 +149,7 @@ is_event w = is_some (event_of w)
 abbrev pub place_of_range : List Word → ℕ → Option ℕ
 place_of_range ws k =
     if is_some (request_event_of (at ws k))
-    then option_map (λ j. j + 1) (place_from (ends_with 41) (k + 3) (drop (k + 3) ws))
+    then option_map (λ j. j + 1) (place_from (ends_with_byte 41) (k + 3) (drop (k + 3) ws))
     else Some (k + 3)
 
 abbrev pub perf_parts : List Word → ℕ → Action → Span Word → Layout Word
@@ -183,8 +183,8 @@ abbrev pub perf_line : List Word → Result (Line Word) LineWhy
 perf_line ws = at_event ws (place_from is_event 0 ws)
 
 -- a line of a recorder, by its words
-abbrev pub line_of : Recorder → List Word → Result (Line Word) LineWhy
-line_of Blkparse ws = blkparse_line ws
-line_of Ftrace ws = ftrace_line ws
-line_of Perf ws = perf_line ws
-line_of Bpftrace ws = bpftrace_line ws
+abbrev pub printed_line_of : Recorder → List Word → Result (Line Word) LineWhy
+printed_line_of Blkparse ws = blkparse_line ws
+printed_line_of Ftrace ws = ftrace_line ws
+printed_line_of Perf ws = perf_line ws
+printed_line_of Bpftrace ws = bpftrace_line ws

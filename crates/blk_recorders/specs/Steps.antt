@@ -7,12 +7,11 @@ use Rattle.std.specs.declared.cmp.Ordering.{Ordering}
 use Rattle.blk_capture.specs.declared.record.Record.{Record}
 use Rattle.blk_recorders.specs.Words.{Word, words}
 use Rattle.blk_recorders.specs.Layouts.{is_device, step_told}
-use Rattle.blk_recorders.specs.Lines.{line_of}
+use Rattle.blk_recorders.specs.Lines.{printed_line_of}
 use Rattle.blk_recorders.specs.declared.device.Device.{Device}
 use Rattle.blk_recorders.specs.declared.fault.LineFault.{LineFault}
 use Rattle.blk_recorders.specs.declared.fault.LineWhy.{LineWhy}
 use Rattle.blk_recorders.specs.declared.fault.LineWhy.TheVariants as why
-use Rattle.blk_recorders.specs.declared.layout.Layout.{Layout}
 use Rattle.blk_recorders.specs.declared.layout.Step.{Step}
 use Rattle.blk_recorders.specs.declared.lines.Line.{Line}
 use Rattle.blk_recorders.specs.declared.lines.Line.TheVariants as line
@@ -84,7 +83,7 @@ take_line f asked s (Ok line.Loss) = Ok (record s { losses = more s.losses })
 -- a line without words is none
 abbrev pub take_words : Recorder → Option Device → Sofar → List Word → Result Sofar LineWhy
 take_words f asked s [] = Ok s
-take_words f asked s (w ∷ ws) = take_line f asked s (line_of f (w ∷ ws))
+take_words f asked s (w ∷ ws) = take_line f asked s (printed_line_of f (w ∷ ws))
 
 abbrev pub take : Recorder → Option Device → Sofar → List ℕ → Result Sofar LineWhy
 take f asked s text = take_words f asked s (words text)
@@ -102,8 +101,8 @@ read_from f asked n s (l ∷ ls) = go_on n (λ t. read_from f asked (more n) t l
 abbrev pub lines_of : List ℕ → List (List ℕ)
 lines_of text = slice_split (λ c. c == 10) text
 
-abbrev pub read : Recorder → Option Device → List ℕ → Result Sofar LineFault
-read f asked text = read_from f asked 1 none_yet (lines_of text)
+abbrev pub read_printed : Recorder → Option Device → List ℕ → Result Sofar LineFault
+read_printed f asked text = read_from f asked 1 none_yet (lines_of text)
 
 -- records by their times, those of one time as they were told
 abbrev pub time_cmp : Record → Record → Ordering
@@ -121,7 +120,7 @@ AreOrdered f told records = records ≡ told
 -- what a text of a recorder tells
 pub record AreSteps (f : Recorder) (asked : Option Device) (text : List ℕ) (s : Steps) : Type 0 where
   pub told : Sofar
-  pub read_so : read f asked text ≡ Ok told
+  pub read_so : read_printed f asked text ≡ Ok told
   pub ordered : AreOrdered f told.records s.records.items
   pub device_is : s.device ≡ told.device
   pub others_are : s.others ≡ told.others
@@ -130,4 +129,4 @@ pub record AreSteps (f : Recorder) (asked : Option Device) (text : List ℕ) (s 
 
 -- the first line that is no good, or memory ran out
 abbrev pub IsLineFault : Recorder → Option Device → List ℕ → LineFault → Type 0
-IsLineFault f asked text x = (x.why ≡ why.Memory) ⊎ (read f asked text ≡ Err x)
+IsLineFault f asked text x = (x.why ≡ why.Memory) ⊎ (read_printed f asked text ≡ Err x)

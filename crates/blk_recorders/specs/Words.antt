@@ -1,5 +1,5 @@
 -- The words of a line that a recorder prints.
-use Rattle.std.specs.Prelude.{ℕ, ◌+◌, ◌-◌, ◌*◌, ◌^◌, ◌==◌, ◌&&◌, ◌||◌, not, if◌then◌else◌, nat_lt, nat_le, Bool, true, false, List, [], ◌∷◌, length, map, take, drop, Option, None, Some, option_map}
+use Rattle.std.specs.Prelude.{ℕ, ◌+◌, ◌-◌, ◌*◌, ◌^◌, ◌==◌, ◌&&◌, ◌||◌, not, if◌then◌else◌, nat_lt, nat_le, Bool, false, List, [], ◌∷◌, length, map, take, drop, Option, None, Some, option_map}
 use Rattle.std.specs.List.{slice_split, filter, position}
 use denote.Ref.{Bor}
 
@@ -31,11 +31,11 @@ abbrev pub past : Option ℕ → Word → Word
 past None w = []
 past (Some k) w = drop (k + 1) w
 
-abbrev pub before : ℕ → Word → Word
-before c w = until (position (λ x. x == c) w) w
+abbrev pub before_byte : ℕ → Word → Word
+before_byte c w = until (position (λ x. x == c) w) w
 
-abbrev pub behind : ℕ → Word → Word
-behind c w = past (position (λ x. x == c) w) w
+abbrev pub behind_byte : ℕ → Word → Word
+behind_byte c w = past (position (λ x. x == c) w) w
 
 -- what stands behind the last such byte, or all
 abbrev pub behind_last_of : ℕ → Word → Word → Word

@@ -2,7 +2,7 @@
 
 ghost use Rattle.std.specs.Prelude.{◌≡◌, IfOk};
 ghost use Rattle.blk_recorders.specs.Words.{word_texts};
-ghost use Rattle.blk_recorders.specs.Detected.{is_title, tells_step, form_by, form_of};
+ghost use Rattle.blk_recorders.specs.Detected.{is_title, tells_step, heading, recorder_of_step, form_told, form_of_lines};
 
 use crate::fault::LineWhy;
 use crate::layout::step_told;
@@ -44,34 +44,62 @@ fn tells_step(alloc: Global, recorder: Recorder, words: &[&[u8]]) -> Result<bool
     }
 }
 
-/// The form of which a line is, if it tells: a title; what bpftrace says at first; or a step of another recorder.
-fn form_by(alloc: Global, words: &[&[u8]]) -> Result<Option<CaptureForm>, AllocError>
-    ensures { IfOk result (λ f. f ≡ form_by (word_texts words.now)) }
+/// Whether a line is one that a recorder prints before its steps, and which: `# tracer: blk` is ftrace's, `Attaching 13 probes...` bpftrace's, and
+/// `Input file run.blktrace.0 added` blkparse's.
+fn heading(words: &[&[u8]]) -> Option<Recorder>
+    ensures { result ≡ heading (word_texts words.now) }
 {
     let first = word_at(words, 0);
-    if is_title(first) {
-        return Ok(Some(CaptureForm::Records));
-    }
+    let second = word_at(words, 1);
     if first == b"Attaching".as_slice() || first == b"Attached".as_slice() {
-        return Ok(Some(CaptureForm::Printed(Recorder::Bpftrace)));
+        Some(Recorder::Bpftrace)
+    } else if first == b"Input".as_slice() && second == b"file".as_slice() {
+        Some(Recorder::Blkparse)
+    } else if first == b"#".as_slice() && second == b"tracer:".as_slice() {
+        Some(Recorder::Ftrace)
+    } else {
+        None
     }
+}
+
+/// The recorder of which a line tells a step, if it does of one.
+fn recorder_of_step(alloc: Global, words: &[&[u8]]) -> Result<Option<Recorder>, AllocError>
+    ensures { IfOk result (λ r. r ≡ recorder_of_step (word_texts words.now)) }
+{
     if tells_step(alloc, Recorder::Ftrace, words)? {
-        return Ok(Some(CaptureForm::Printed(Recorder::Ftrace)));
+        return Ok(Some(Recorder::Ftrace));
     }
     if tells_step(alloc, Recorder::Blkparse, words)? {
-        return Ok(Some(CaptureForm::Printed(Recorder::Blkparse)));
+        return Ok(Some(Recorder::Blkparse));
     }
     if tells_step(alloc, Recorder::Perf, words)? {
-        return Ok(Some(CaptureForm::Printed(Recorder::Perf)));
+        return Ok(Some(Recorder::Perf));
     }
     Ok(None)
 }
 
+/// The form of which a line is, if it tells: a title; what a recorder prints before its steps; or a step.
+fn form_by(alloc: Global, words: &[&[u8]]) -> Result<Option<CaptureForm>, AllocError>
+    ensures { IfOk result (λ f. f ≡ form_told (word_texts words.now)) }
+{
+    if is_title(word_at(words, 0)) {
+        return Ok(Some(CaptureForm::Records));
+    }
+    if let Some(recorder) = heading(words) {
+        return Ok(Some(CaptureForm::Printed(recorder)));
+    }
+    match recorder_of_step(alloc, words)? {
+        Some(recorder) => Ok(Some(CaptureForm::Printed(recorder))),
+        None => Ok(None),
+    }
+}
+
 /// The form of a capture, by the first of its first 100 lines that tells: a line that begins with a title is of the form `blk-capture`, one that
-/// begins with `Attaching` or `Attached` is bpftrace's, and else a line is of the recorder of which it tells a step, ftrace, blkparse or perf, in
-/// this order. Where no line tells it is taken for `blk-capture`. Fails only when out of memory.
+/// begins with `Attaching` or `Attached` is bpftrace's, one with `Input file` blkparse's, one with `# tracer:` ftrace's, and else a line is of the
+/// recorder of which it tells a step, ftrace, blkparse or perf, in this order. Where no line tells it is taken for `blk-capture`. Fails only when out
+/// of memory.
 pub fn form_of(alloc: Global, text: &[u8]) -> Result<CaptureForm, AllocError>
-    ensures { IfOk result (λ f. f ≡ form_of text.now) }
+    ensures { IfOk result (λ f. f ≡ form_of_lines text.now) }
 {
     for line in text.split(|byte| *byte == b'\n').take(FIRST_LINES) {
         let words = words(alloc, line)?;

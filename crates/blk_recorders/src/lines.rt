@@ -5,7 +5,7 @@ ghost use Rattle.std.specs.Result.{result_map_both};
 ghost use Rattle.blk_recorders.specs.Words.{word_texts};
 ghost use Rattle.std.specs.List.{list_any};
 ghost use Rattle.blk_recorders.specs.Layouts.{laid, spanned};
-ghost use Rattle.blk_recorders.specs.Lines.{lined, begins_with_digit, ends_with, is_of_loss, tells_loss, remark, as_step, row_layout, row_line, inside, is_cpu, is_event, place_from, task_line, timed_line, task_layout, ftrace_line, blkparse_line, bpftrace_line, event_of, request_event_of, place_of_range, perf_layout, perf_line, line_of};
+ghost use Rattle.blk_recorders.specs.Lines.{lined, begins_with_digit, ends_with_byte, is_of_loss, tells_loss, remark, as_step, row_layout, row_step, inside, is_cpu, is_event, place_from, task_line, timed_line, task_layout, ftrace_line, blkparse_line, bpftrace_line, event_of, request_event_of, place_of_range, perf_layout, perf_line, printed_line_of};
 
 use crate::device::Device;
 use crate::fault::LineWhy;
@@ -157,7 +157,7 @@ fn place_of_cpu(words: &[&[u8]]) -> Option<usize>
 
 /// Whether a word ends with a byte.
 fn ends_with(word: &[u8], byte: u8) -> bool
-    ensures { result ≡ ends_with byte word.now }
+    ensures { result ≡ ends_with_byte byte word.now }
 {
     match word {
         [.., last] => *last == byte,
@@ -300,7 +300,7 @@ fn action_of_request_event(word: &[u8]) -> Option<Action>
 
 /// The place of the first word from a place on that ends with a parenthesis.
 fn place_of_command(words: &[&[u8]], from: usize) -> Option<usize>
-    ensures value { result ≡ place_from (ends_with 41) from (drop from (word_texts words.now)) }
+    ensures value { result ≡ place_from (ends_with_byte 41) from (drop from (word_texts words.now)) }
     ensures inside { IfSome result (λ k. k < length words.now) }
 {
     for place in from..words.len() {
@@ -413,8 +413,8 @@ fn blkparse_line<'a>(alloc: Global, words: &[&'a [u8]]) -> Result<Line<&'a [u8]>
 
 /// A row by itself.
 fn row_line(alloc: Global, row: &[u8]) -> Result<Line<&[u8]>, LineWhy>
-    ensures ok { IfOk result (λ l. row_line row.now ≡ Ok (lined l)) }
-    ensures err { IfErr result (λ w. (w ≡ LineWhy.Memory) ⊎ (row_line row.now ≡ Err w)) }
+    ensures ok { IfOk result (λ l. row_step row.now ≡ Ok (lined l)) }
+    ensures err { IfErr result (λ w. (w ≡ LineWhy.Memory) ⊎ (row_step row.now ≡ Err w)) }
 {
     match fields(alloc, row) {
         Ok(fields) => as_step(row_layout(fields.as_slice())),
@@ -443,8 +443,8 @@ pub(crate) fn line_of<'a>(
     recorder: Recorder,
     words: &[&'a [u8]],
 ) -> Result<Line<&'a [u8]>, LineWhy>
-    ensures ok { IfOk result (λ l. line_of recorder (word_texts words.now) ≡ Ok (lined l)) }
-    ensures err { IfErr result (λ w. (w ≡ LineWhy.Memory) ⊎ (line_of recorder (word_texts words.now) ≡ Err w)) }
+    ensures ok { IfOk result (λ l. printed_line_of recorder (word_texts words.now) ≡ Ok (lined l)) }
+    ensures err { IfErr result (λ w. (w ≡ LineWhy.Memory) ⊎ (printed_line_of recorder (word_texts words.now) ≡ Err w)) }
 {
     match recorder {
         Recorder::Blkparse => blkparse_line(alloc, words),

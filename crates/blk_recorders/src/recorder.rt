@@ -1,5 +1,8 @@
 //! The recorders.
 
+ghost use Rattle.std.specs.Prelude.{◌≡◌};
+ghost use Rattle.blk_recorders.specs.Names.{recorder_name};
+
 /// Who printed the lines.
 #[derive(Clone, Copy, Debug, PartialEq, Eq)]
 pub enum Recorder {
@@ -11,4 +14,18 @@ pub enum Recorder {
     Perf,
     /// `bpftrace` with the program of docs/CAPTURES.md, whose rows may stand out of order.
     Bpftrace,
+}
+
+impl Recorder {
+    /// What it is called, as `--as` has it.
+    pub fn called(self) -> &'static str
+        ensures { result.now ≡ recorder_name self }
+    {
+        match self {
+            Recorder::Blkparse => "blkparse",
+            Recorder::Ftrace => "ftrace",
+            Recorder::Perf => "perf",
+            Recorder::Bpftrace => "bpftrace",
+        }
+    }
 }

@@ -2,7 +2,7 @@
 
 ghost use Rattle.std.specs.Prelude.{◌≡◌, ◌==◌, ◌<◌, ◌^◌, IfOk, IfSome, get_or, length, []};
 ghost use Rattle.std.specs.List.{position, slice_split};
-ghost use Rattle.blk_recorders.specs.Words.{is_blank, words, number, nanoseconds, before, behind, behind_last, begins_with, word_texts};
+ghost use Rattle.blk_recorders.specs.Words.{is_blank, words, number, nanoseconds, before_byte, behind_byte, behind_last, begins_with, word_texts};
 
 use std::alloc::{AllocError, Global};
 
@@ -60,7 +60,7 @@ fn place_of(word: &[u8], byte: u8) -> Option<usize>
 
 /// What stands before the first such byte of a word, or all of it.
 pub(crate) fn before(word: &[u8], byte: u8) -> &[u8]
-    ensures { result.now ≡ before byte word.now }
+    ensures { result.now ≡ before_byte byte word.now }
 {
     match place_of(word, byte) {
         Some(place) => &word[..place],
@@ -70,7 +70,7 @@ pub(crate) fn before(word: &[u8], byte: u8) -> &[u8]
 
 /// What stands behind the first such byte of a word, or nothing.
 pub(crate) fn behind(word: &[u8], byte: u8) -> &[u8]
-    ensures { result.now ≡ behind byte word.now }
+    ensures { result.now ≡ behind_byte byte word.now }
 {
     match place_of(word, byte) {
         Some(place) => &word[place + 1..],

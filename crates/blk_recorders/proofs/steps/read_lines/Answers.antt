@@ -1,10 +1,9 @@
-use Rattle.std.proofs.Common.{◌≡◌, ◌+◌, ◌==◌, ◌∙◌, sym, inl, inr, length, rules, Ok, Err}
+use Rattle.std.proofs.Common.{◌==◌, ◌∙◌, sym, inl, inr, length, rules}
 use borrow.Author.Tests.{tests}
 use Rattle.std.proofs.lemmas.List.{length_push}
 use Rattle.std.proofs.lemmas.Iterator.Consumers.{YieldsList-at, YieldsList-turn, YieldsList-end}
 use Rattle.std.proofs.lemmas.Iterator.Splits.{YieldsList-from_slice_split}
 use Rattle.blk_recorders.specs.Inside.Reading.{sofar}
-use Rattle.blk_recorders.specs.Steps.{read}
 use Rattle.blk_recorders.proofs.Reading.{line_taken, line_refused, lines_over, in_order}
 use Rattle.blk_recorders.proofs.steps.read_lines.Goals as goal
 
