@@ -1,5 +1,5 @@
 -- The edges of requests, as these come, go and are joined.
-use Rattle.std.proofs.Common.{◌≡◌, ◌<◌, ◌≤◌, ◌+◌, ◌⊎◌, ◌/◌, inl, inr, ℕ, Bool, true, false, cond, sym, ap, subst, ◌∙◌, refl, arith, Some, None, Option}
+use Rattle.std.proofs.Common.{◌≡◌, ◌≤◌, ◌⊎◌, ◌/◌, inl, inr, ℕ, Bool, true, false, cond, sym, ap, subst, ◌∙◌, refl, arith, Some, None, Option}
 use Rattle.std.specs.Prelude.{length}
 use Rattle.std.specs.Ordering.{nat_cmp, is_eq}
 use Rattle.std.specs.Cmp.{nat_cmp_total, tied_itself}
@@ -12,9 +12,8 @@ use Rattle.blk_sched.proofs.Maps.{same_number}
 use Rattle.blk_index.specs.declared.edges.Edge.{Edge}
 use Rattle.blk_index.specs.declared.edges.Edges.{Edges}
 use Rattle.blk_index.specs.Inside.Spots.{DirSector, Spot, Becomes}
-use Rattle.blk_index.specs.Inside.Places.{KeepsPlaces, KeepsPlacesBut, place_in}
 use Rattle.blk_index.specs.Inside.Entries.{Class, Key}
-use Rattle.blk_index.specs.Inside.Shapes.{IsInClass, IsListed, entries_in}
+use Rattle.blk_index.specs.Inside.Shapes.{IsInClass, IsListed}
 use Rattle.blk_index.specs.Inside.Edges.{Lists, KeepsBut, KeepsOwn, IsEdge, IsEdges}
 use Rattle.blk_index.proofs.Indexed.{Found}
 

@@ -8,7 +8,7 @@ use Rattle.std.specs.declared.cmp.Ordering.TheVariants.{Less, Equal, Greater}
 use Rattle.std.proofs.lemmas.Bool.{cases_eq, cases_lt}
 use borrow.Author.Tests.{ltb-true, ltb-false}
 use Rattle.blk_index.specs.Inside.Spots.{DirSector, place_cmp, IsBelow, IsPast, greater_of}
-use Rattle.blk_index.specs.Inside.Entries.{Class, Sized, Block, Key, with_number, class_cmp, sized_cmp, block_cmp, entry_cmp}
+use Rattle.blk_index.specs.Inside.Entries.{Class, Block, Key, with_number, class_cmp, sized_cmp, block_cmp, entry_cmp}
 use Rattle.blk_index.specs.Inside.Shapes.{IsUnit, IsInClass, Follows, upper_of}
 use Rattle.blk_index.proofs.Listed.{lt_of, nat_less, eq_of, same_place, place_itself, is_equal, first_less, below_zero}
 

@@ -1,5 +1,5 @@
 -- Requests in slots, as these change.
-use Rattle.std.proofs.Common.{◌≡◌, ◌<◌, ◌≤◌, ◌++◌, ℕ, zero, suc, true, false, cond, List, [], ◌∷◌, length, get_or, set, sym, ap, subst, ◌∙◌, refl, arith, Some, None, Option}
+use Rattle.std.proofs.Common.{◌≡◌, ◌<◌, ◌++◌, ℕ, zero, suc, true, false, cond, List, [], ◌∷◌, length, get_or, set, sym, ap, ◌∙◌, refl, Some, None, Option}
 use Rattle.std.specs.Prelude.{slice_get}
 use Rattle.std.proofs.lemmas.Option.{slice_get-get_or}
 use Rattle.std.specs.Ordering.{eq_by_cmp}

@@ -7,9 +7,8 @@ use Rattle.blk_sched.specs.Meaning.{Waiting, Pending, joined_waiting}
 use Rattle.blk_bio.specs.Extents.{extent_of}
 use Rattle.blk_bio.specs.Requests.{Fits}
 use Rattle.blk_index.specs.Inside.Spots.{Spot}
-use Rattle.blk_index.specs.Inside.Search.{at_of, other_of}
+use Rattle.blk_index.specs.Inside.Search.{at_of}
 use Rattle.blk_index.proofs.Indexed.{becomes_given}
-use Rattle.blk_index.proofs.Join.{joined_at}
 use Rattle.blk_index.proofs.Edged.{edge_kept}
 use Rattle.blk_index.proofs.Joining.{edge_joined, edge_beside, edge_tried, this_side}
 use Rattle.blk_index.proofs.index.join_in.Goals as goal

@@ -1,4 +1,4 @@
-use Rattle.std.proofs.Common.{◌≡◌, ℕ, Option, sym, subst}
+use Rattle.std.proofs.Common.{ℕ, Option, sym, subst}
 use Rattle.std.specs.Prelude.{IfSome, IfNone}
 use Rattle.std.specs.FinMap as map
 use Rattle.blk_index.specs.Inside.Search.{NoneAfter, StandsAlone, IsNewestBy, FitsNoneBy}

@@ -1,5 +1,3 @@
-use Rattle.std.proofs.Common.{◌≡◌, sym, subst, List}
-use Rattle.blk_index.specs.Inside.Places.{slots_in, KeepsPlaces}
 use Rattle.blk_index.proofs.Slotted.{one_more}
 use Rattle.blk_index.proofs.places.fill.Goals as goal
 

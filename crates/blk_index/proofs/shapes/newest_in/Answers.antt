@@ -4,7 +4,7 @@ use Rattle.std.specs.BTreeSet.{contains}
 use Rattle.std.specs.declared.cmp.Ordering.TheVariants.{Less}
 use Rattle.blk_index.specs.Inside.Spots.{IsBelow}
 use Rattle.blk_index.specs.Inside.Entries.{Block, Key, block_cmp, entry_cmp}
-use Rattle.blk_index.specs.Inside.Shapes.{Follows, upper_of}
+use Rattle.blk_index.specs.Inside.Shapes.{Follows}
 use Rattle.blk_index.proofs.Shaped.{none_in, newest_here, low_in, below_upper, same_block}
 use Rattle.blk_index.proofs.shapes.newest_in.Goals as goal
 

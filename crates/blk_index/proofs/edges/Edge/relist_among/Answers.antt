@@ -1,4 +1,4 @@
-use Rattle.std.proofs.Common.{◌≡◌, ◌<◌, arith, inl, inr}
+use Rattle.std.proofs.Common.{◌<◌, arith, inl, inr}
 use Rattle.blk_index.specs.Inside.Shapes.{entries_in}
 use Rattle.blk_index.proofs.Edged.{listed_in}
 use Rattle.blk_index.proofs.edges.Edge.relist_among.Goals as goal

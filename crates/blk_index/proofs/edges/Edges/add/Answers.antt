@@ -1,4 +1,4 @@
-use Rattle.std.proofs.Common.{◌≡◌, ap, sym, ◌∙◌, refl}
+use Rattle.std.proofs.Common.{ap, ◌∙◌}
 use Rattle.blk_bio.specs.declared.extent.Extent.{Extent}
 use Rattle.blk_index.specs.Inside.Spots.{Spot, first_at, end_at}
 use Rattle.blk_index.proofs.Edged.{few_of, edge_entered, edge_without}

@@ -1,4 +1,4 @@
-use Rattle.std.proofs.Common.{◌≡◌, ap}
+use Rattle.std.proofs.Common.{ap}
 use Rattle.blk_index.specs.Inside.Spots.{Spot, first_at, end_at}
 use Rattle.blk_index.proofs.Edged.{edge_taken}
 use Rattle.blk_index.proofs.edges.Edges.del.Goals as goal

@@ -1,5 +1,4 @@
-use Rattle.std.proofs.Common.{◌≡◌, ◌<◌, ap, ◌∙◌, arith, length, Some}
-use Rattle.blk_index.specs.Inside.Places.{place_in}
+use Rattle.std.proofs.Common.{◌<◌, arith, length}
 use Rattle.blk_index.proofs.Slotted.{slot_put, stands}
 use Rattle.blk_index.proofs.places.Places.put.Goals as goal
 use Rattle.blk_index.proofs.places.Places.put.Goals.{then-len+in_ok-fill, else-len}

@@ -1,4 +1,4 @@
-use Rattle.std.proofs.Common.{◌≡◌, ◌<◌, arith, length}
+use Rattle.std.proofs.Common.{◌<◌, arith, length}
 use Rattle.blk_index.proofs.Slotted.{slot_taken, stands}
 use Rattle.blk_index.proofs.places.Places.take.Goals as goal
 

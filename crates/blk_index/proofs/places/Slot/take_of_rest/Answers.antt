@@ -1,4 +1,4 @@
-use Rattle.std.proofs.Common.{◌≡◌, ap, sym, ◌∙◌, Some}
+use Rattle.std.proofs.Common.{ap, sym, ◌∙◌, Some}
 use Rattle.std.specs.BTreeMap as map
 use Rattle.blk_index.specs.Inside.Spots.{place_cmp}
 use Rattle.blk_index.proofs.Slotted.{rest_taken}
