@@ -6,7 +6,7 @@ use Rattle.std.specs.Ordering.{eq_by_cmp}
 use Rattle.std.specs.BTreeMap.{is_at}
 use Rattle.blk_index.specs.declared.places.Slot.{Slot}
 use Rattle.blk_index.specs.Inside.Spots.{DirSector, place_cmp}
-use Rattle.blk_index.specs.Inside.Places.{slot_of, first_or, slot_in, in_slot, slots_in, KeepsPlaces, KeepsPlacesBut}
+use Rattle.blk_index.specs.Inside.Places.{slot_of, first_or, one_of_slot, one_of_some, one_of_slots, KeepsPlaces, KeepsPlacesBut}
 use Rattle.blk_index.proofs.Listed.{place_true}
 
 rest_of : (p : DirSector) (id : ℕ) (old new : DirSector → Option ℕ) → ((q : DirSector) → new q ≡ cond (is_at (place_cmp p) q) None (old q)) → old p ≡ Some id → (q : DirSector) (k : ℕ) → (q ≡ p → k ≡ id → ⊥) → old q ≡ Some k → new q ≡ Some k
@@ -31,26 +31,26 @@ rest_taken (Some e) p id old new updates own q k other there = elim (eq_by_cmp p
 
 module _ {A : Type 0} where
   -- a slot more, of no place
-  pub pushed : (slots : List (Slot A)) (slot : Slot A) (i : ℕ) (q : DirSector) (k : ℕ) → in_slot (slice_get slots i) q ≡ Some k → in_slot (slice_get (slots ++ slot ∷ []) i) q ≡ Some k
+  pub pushed : (slots : List (Slot A)) (slot : Slot A) (i : ℕ) (q : DirSector) (k : ℕ) → one_of_some (slice_get slots i) q ≡ Some k → one_of_some (slice_get (slots ++ slot ∷ []) i) q ≡ Some k
   pushed [] slot i q k h = absurd (cc)
   pushed (s ∷ ss) slot zero q k h = h
   pushed (s ∷ ss) slot (suc i) q k h = pushed ss slot i q k h
 
-  pub one_more : (first slots : List (Slot A)) (slot : Slot A) → KeepsPlaces (slots_in first) (slots_in slots) → KeepsPlaces (slots_in first) (slots_in (slots ++ slot ∷ []))
+  pub one_more : (first slots : List (Slot A)) (slot : Slot A) → KeepsPlaces (one_of_slots first) (one_of_slots slots) → KeepsPlaces (one_of_slots first) (one_of_slots (slots ++ slot ∷ []))
   one_more first slots slot keeps q k there = pushed slots slot (slot_of q.1) q k (keeps q k there)
 
   -- a slot that changes
-  at_set : (slots : List (Slot A)) (i : ℕ) (slot : Slot A) (j : ℕ) (q : DirSector) (k : ℕ) (own : Slot A) → slice_get slots i ≡ Some own → (slot_in own q ≡ Some k → slot_in slot q ≡ Some k) → in_slot (slice_get slots j) q ≡ Some k → in_slot (slice_get (set slots i slot) j) q ≡ Some k
+  at_set : (slots : List (Slot A)) (i : ℕ) (slot : Slot A) (j : ℕ) (q : DirSector) (k : ℕ) (own : Slot A) → slice_get slots i ≡ Some own → (one_of_slot own q ≡ Some k → one_of_slot slot q ≡ Some k) → one_of_some (slice_get slots j) q ≡ Some k → one_of_some (slice_get (set slots i slot) j) q ≡ Some k
   at_set [] i slot j q k own is keeps h = absurd (cc)
-  at_set (s ∷ ss) zero slot zero q k own is keeps h = let same : s ≡ own = cc in keeps (ap (λ (x : Slot A). slot_in x q) (sym same) ∙ h)
+  at_set (s ∷ ss) zero slot zero q k own is keeps h = let same : s ≡ own = cc in keeps (ap (λ (x : Slot A). one_of_slot x q) (sym same) ∙ h)
   at_set (s ∷ ss) zero slot (suc j) q k own is keeps h = h
   at_set (s ∷ ss) (suc i) slot zero q k own is keeps h = h
   at_set (s ∷ ss) (suc i) slot (suc j) q k own is keeps h = at_set ss i slot j q k own is keeps h
 
-  pub slot_put : (slots : List (Slot A)) (i : ℕ) (own slot : Slot A) → slice_get slots i ≡ Some own → KeepsPlaces (slot_in own) (slot_in slot) → KeepsPlaces (slots_in slots) (slots_in (set slots i slot))
+  pub slot_put : (slots : List (Slot A)) (i : ℕ) (own slot : Slot A) → slice_get slots i ≡ Some own → KeepsPlaces (one_of_slot own) (one_of_slot slot) → KeepsPlaces (one_of_slots slots) (one_of_slots (set slots i slot))
   slot_put slots i own slot is keeps q k there = at_set slots i slot (slot_of q.1) q k own is (keeps q k) there
 
-  pub slot_taken : (slots : List (Slot A)) (i : ℕ) (own slot : Slot A) (p : DirSector) (id : ℕ) → slice_get slots i ≡ Some own → KeepsPlacesBut p id (slot_in own) (slot_in slot) → KeepsPlacesBut p id (slots_in slots) (slots_in (set slots i slot))
+  pub slot_taken : (slots : List (Slot A)) (i : ℕ) (own slot : Slot A) (p : DirSector) (id : ℕ) → slice_get slots i ≡ Some own → KeepsPlacesBut p id (one_of_slot own) (one_of_slot slot) → KeepsPlacesBut p id (one_of_slots slots) (one_of_slots (set slots i slot))
   slot_taken slots i own slot p id is keeps q k other there = at_set slots i slot (slot_of q.1) q k own is (keeps q k other) there
 
   pub stands : (slots : List (Slot A)) (i : ℕ) (own : Slot A) → own ≡ get_or slots i own → i < length slots → slice_get slots i ≡ Some own

@@ -14,7 +14,7 @@ use Rattle.blk_sched.specs.Meaning.{Waiting}
 use Rattle.blk_bio.specs.Extents.{extent_of}
 use Rattle.blk_sched.specs.Fits.{FitsNowhere, IsNewestFit, FitsNone}
 use Rattle.blk_index.specs.Inside.Spots.{DirSector, is_write, IsBelow, IsPast, greater_of}
-use Rattle.blk_index.specs.Inside.Places.{place_in}
+use Rattle.blk_index.specs.Inside.Places.{one_of_place}
 use Rattle.blk_index.specs.Inside.Entries.{Key}
 use Rattle.blk_index.specs.Inside.Shapes.{IsInClass, IsListed, Follows, entries_in}
 use Rattle.blk_index.specs.Inside.Edges.{Lists, IsEdge}
@@ -96,7 +96,7 @@ some_greater P (Some a) (Some b) h k = elim (nat_lt a b) as (λ less. P (if less
 
 module _ {A : Type 0} (limits : Limits) (found : Found) (newcomer : List Bio) (side : Side) (edge : Edge A) (p : DirSector) (edges : IsEdge (at_of side) found edge) (is : p ≡ touch_of side (extent_of newcomer)) where
   abbrev Alone : ℕ → Waiting → Type 0
-  Alone k w = place_in edge.ones p ≡ Some k
+  Alone k w = one_of_place edge.ones p ≡ Some k
 
   abbrev Among : ℕ → Waiting → Type 0
   Among k w = IsListed (entries_in edge.others) p k (sectors_of w.bios) (length w.bios)

@@ -3,7 +3,7 @@
 ghost use Rattle.std.specs.Prelude.{◌≡◌, ◌<◌, ◌≤◌, None, Some, IfOk, OnOk, length};
 ghost use Rattle.std.specs.Bool.{OnTrue};
 ghost use Rattle.blk_index.specs.Inside.Spots.{DirSector};
-ghost use Rattle.blk_index.specs.Inside.Places.{slot_in, slots_in, slot_of, place_in, KeepsPlaces, KeepsPlacesBut};
+ghost use Rattle.blk_index.specs.Inside.Places.{one_of_slot, one_of_slots, slot_of, one_of_place, KeepsPlaces, KeepsPlacesBut};
 
 use crate::shapes::{Place, is_place};
 use std::alloc::{AllocError, Allocator, Global};
@@ -24,7 +24,7 @@ pub struct Slot<A: Allocator = Global> {
 impl<A: Allocator + Clone> Slot<A> {
     /// No requests. It takes no memory.
     pub fn new(alloc: A) -> Slot<A>
-        ensures { (q : DirSector) → slot_in result q ≡ None }
+        ensures { (q : DirSector) → one_of_slot result q ≡ None }
     {
         Slot {
             first: None,
@@ -35,7 +35,7 @@ impl<A: Allocator + Clone> Slot<A> {
     /// The request of a place, by its id.
     #[inline(always)]
     pub fn get(&self, place: Place) -> Option<u64>
-        ensures { result ≡ slot_in self.now place }
+        ensures { result ≡ one_of_slot self.now place }
     {
         if let Some((at, id)) = self.first {
             if is_place(at, place) {
@@ -51,8 +51,8 @@ impl<A: Allocator + Clone> Slot<A> {
     /// Gives a place a request, where it has none, and answers whether it did. On a refusal nothing is changed.
     #[inline(always)]
     pub fn put(&mut self, place: Place, id: u64) -> Result<bool, AllocError>
-        ensures put { IfOk result (λ done. OnTrue done (slot_in self.new place ≡ Some id)) }
-        ensures kept { KeepsPlaces (slot_in self.old) (slot_in self.new) }
+        ensures put { IfOk result (λ done. OnTrue done (one_of_slot self.new place ≡ Some id)) }
+        ensures kept { KeepsPlaces (one_of_slot self.old) (one_of_slot self.new) }
     {
         if self.get(place).is_some() {
             return Ok(false);
@@ -70,7 +70,7 @@ impl<A: Allocator + Clone> Slot<A> {
     /// Takes a request out, and answers whether it was there. It takes no memory.
     #[inline(always)]
     pub fn take(&mut self, place: Place, id: u64) -> bool
-        ensures { KeepsPlacesBut place id (slot_in self.old) (slot_in self.new) }
+        ensures { KeepsPlacesBut place id (one_of_slot self.old) (one_of_slot self.new) }
     {
         if let Some((at, own)) = self.first {
             if own == id && is_place(at, place) {
@@ -83,7 +83,7 @@ impl<A: Allocator + Clone> Slot<A> {
 
     /// The same of the rest.
     fn take_of_rest(&mut self, place: Place, id: u64) -> bool
-        ensures { KeepsPlacesBut place id (slot_in self.old) (slot_in self.new) }
+        ensures { KeepsPlacesBut place id (one_of_slot self.old) (one_of_slot self.new) }
     {
         let Some(own) = self.rest.get(&place) else {
             return false;
@@ -107,7 +107,7 @@ pub struct Places<A: Allocator = Global> {
 impl<A: Allocator + Clone> Places<A> {
     /// No requests. It takes no memory.
     pub fn new(alloc: A) -> Places<A>
-        ensures { (q : DirSector) → place_in result q ≡ None }
+        ensures { (q : DirSector) → one_of_place result q ≡ None }
     {
         Places {
             slots: Vec::new(alloc),
@@ -117,7 +117,7 @@ impl<A: Allocator + Clone> Places<A> {
     /// The request of a place, by its id.
     #[inline(always)]
     pub fn get(&self, place: Place) -> Option<u64>
-        ensures { result ≡ place_in self.now place }
+        ensures { result ≡ one_of_place self.now place }
     {
         let Some(slot) = self.slots.get(slot_of(place.1)) else {
             return None;
@@ -128,8 +128,8 @@ impl<A: Allocator + Clone> Places<A> {
     /// Gives a place a request, where it has none, and answers whether it did. On a refusal no request is lost.
     #[inline(always)]
     pub fn put(&mut self, place: Place, id: u64) -> Result<bool, AllocError>
-        ensures put { IfOk result (λ done. OnTrue done (place_in self.new place ≡ Some id)) }
-        ensures kept { KeepsPlaces (place_in self.old) (place_in self.new) }
+        ensures put { IfOk result (λ done. OnTrue done (one_of_place self.new place ≡ Some id)) }
+        ensures kept { KeepsPlaces (one_of_place self.old) (one_of_place self.new) }
     {
         if self.slots.len() < SLOTS as usize {
             fill(&mut self.slots)?;
@@ -140,7 +140,7 @@ impl<A: Allocator + Clone> Places<A> {
     /// Takes a request out, and answers whether it was there. It takes no memory.
     #[inline(always)]
     pub fn take(&mut self, place: Place, id: u64) -> bool
-        ensures { KeepsPlacesBut place id (place_in self.old) (place_in self.new) }
+        ensures { KeepsPlacesBut place id (one_of_place self.old) (one_of_place self.new) }
     {
         let index = slot_of(place.1);
         if index >= self.slots.len() {
@@ -164,7 +164,7 @@ fn slot_of(sector: u64) -> usize
 #[inline(never)]
 fn fill<A: Allocator + Clone>(slots: &mut Vec<Slot<A>, A>) -> Result<(), AllocError>
     ensures full { OnOk result (SLOTS ≤ length slots.new.items) }
-    ensures kept { KeepsPlaces (slots_in slots.old.items) (slots_in slots.new.items) }
+    ensures kept { KeepsPlaces (one_of_slots slots.old.items) (one_of_slots slots.new.items) }
 {
     while slots.len() < SLOTS as usize {
         let alloc = slots.allocator().clone()?;

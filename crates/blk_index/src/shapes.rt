@@ -2,12 +2,12 @@
 
 ghost use Rattle.std.specs.Prelude.{◌≡◌, ◌<◌, ◌≤◌, ◌^◌, ◌/◌, ℕ, true, false, OnOk, IfSome, IfNone};
 ghost use Rattle.std.specs.Bool.{OnTrue};
-ghost use Rattle.std.specs.Ordering.{eq_by_cmp, is_lt};
+ghost use Rattle.std.specs.Ordering.{eq_by_cmp};
 ghost use Rattle.std.specs.declared.cmp.Ordering.TheVariants.{Less};
 ghost use Rattle.std.specs.BTreeSet.{contains};
 ghost use Rattle.blk_index.specs.Inside.Spots.{IsBelow, place_cmp};
 ghost use Rattle.blk_index.specs.Inside.Entries.{Key, block_cmp, entry_cmp};
-ghost use Rattle.blk_index.specs.Inside.Shapes.{entries_in, IsInClass, IsUnit, upper_of, Follows};
+ghost use Rattle.blk_index.specs.Inside.Shapes.{entries_in, IsInClass, IsGreatestBelow, IsUnit, upper_of, Follows};
 
 use crate::entry::Entry;
 use crate::ids::greater;
@@ -147,7 +147,7 @@ fn take_entry<A: Allocator + Clone>(entries: &mut BTreeSet<Entry, A>, block: Blo
 /// The greatest entry below another.
 fn entry_below<A: Allocator + Clone>(entries: &BTreeSet<Entry, A>, upper: Entry) -> Option<Entry>
     ensures low { IfSome result (λ e. entry_cmp e upper ≡ Less) }
-    ensures greatest { IfSome result (λ e. (q : Key) → entry_cmp q upper ≡ Less → contains entry_cmp entries.now q ≡ true → is_lt (entry_cmp e q) ≡ false) }
+    ensures greatest { IfSome result (IsGreatestBelow (contains entry_cmp entries.now) upper) }
     ensures none { IfNone result ((q : Key) → entry_cmp q upper ≡ Less → contains entry_cmp entries.now q ≡ true → ⊥) }
 {
     let found = entries.range(..upper).next_back()?;

@@ -17,19 +17,19 @@ first_or None p o = o
 first_or (Some e) p o = cond (eq_by_cmp place_cmp e.0 p) (Some e.1) o
 
 module _ {A : Type 0} where
-  abbrev pub slot_in : Slot A → DirSector → Option ℕ
-  slot_in s p = first_or s.first p (map.get place_cmp s.rest p)
+  abbrev pub one_of_slot : Slot A → DirSector → Option ℕ
+  one_of_slot s p = first_or s.first p (map.get place_cmp s.rest p)
 
-  abbrev pub in_slot : Option (Slot A) → DirSector → Option ℕ
-  in_slot None p = None
-  in_slot (Some s) p = slot_in s p
+  abbrev pub one_of_some : Option (Slot A) → DirSector → Option ℕ
+  one_of_some None p = None
+  one_of_some (Some s) p = one_of_slot s p
 
   -- the request of a place
-  abbrev pub slots_in : List (Slot A) → DirSector → Option ℕ
-  slots_in slots p = in_slot (slice_get slots (slot_of p.1)) p
+  abbrev pub one_of_slots : List (Slot A) → DirSector → Option ℕ
+  one_of_slots slots p = one_of_some (slice_get slots (slot_of p.1)) p
 
-  abbrev pub place_in : Places A → DirSector → Option ℕ
-  place_in s p = slots_in s.slots.items p
+  abbrev pub one_of_place : Places A → DirSector → Option ℕ
+  one_of_place s p = one_of_slots s.slots.items p
 
 -- the requests of places stay, but for one of an id
 abbrev pub KeepsPlaces : (DirSector → Option ℕ) → (DirSector → Option ℕ) → Type 0

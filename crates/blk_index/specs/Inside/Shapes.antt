@@ -1,6 +1,8 @@
 -- Requests by their places, their bios and the blocks of sectors that they fill.
-use Rattle.std.specs.Prelude.{ℕ, ◌≡◌, ◌≤◌, ◌+◌, ◌/◌, ◌⊎◌, Bool, true, Option, Some, None}
+use Rattle.std.specs.Prelude.{ℕ, ◌≡◌, ◌≤◌, ◌+◌, ◌/◌, ◌⊎◌, Bool, true, false, Option, Some, None}
+use Rattle.std.specs.Ordering.{is_lt}
 use Rattle.std.specs.BTreeSet.{contains}
+use Rattle.std.specs.declared.cmp.Ordering.TheVariants.{Less}
 use Rattle.blk_index.specs.Inside.Spots.{DirSector, IsBelow, IsPast}
 use Rattle.blk_index.specs.Inside.Entries.{Class, Block, Key, entry_cmp}
 use Rattle.blk_index.specs.declared.shapes.Shapes.{Shapes}
@@ -25,6 +27,10 @@ pub record IsListed (has : Key → Bool) (place : DirSector) (id sectors bios : 
 pub record Follows (below found : Option ℕ) (id : ℕ) : Type 0 where
   pub low : IsBelow below id
   pub past : IsPast found id
+
+-- no entry below another is greater than this one
+abbrev pub IsGreatestBelow : (Key → Bool) → Key → Key → Type 0
+IsGreatestBelow has upper e = (q : Key) → entry_cmp q upper ≡ Less → has q ≡ true → is_lt (entry_cmp e q) ≡ false
 
 -- the entry above those of a block whose ids are below a bound
 abbrev pub upper_of : Block → Option ℕ → Key
