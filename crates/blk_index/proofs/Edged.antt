@@ -13,7 +13,7 @@ use Rattle.blk_index.specs.declared.edges.Edge.{Edge}
 use Rattle.blk_index.specs.declared.edges.Edges.{Edges}
 use Rattle.blk_index.specs.Inside.Spots.{DirSector, Spot, Becomes}
 use Rattle.blk_index.specs.Inside.Entries.{Class, Key}
-use Rattle.blk_index.specs.Inside.Shapes.{IsInClass, IsListed}
+use Rattle.blk_index.specs.Inside.Shapes.{IsInClass, ShapeListed}
 use Rattle.blk_index.specs.Inside.Edges.{Lists, KeepsBut, KeepsOwn, IsEdge, IsEdges}
 use Rattle.blk_index.proofs.Indexed.{Found}
 
@@ -29,7 +29,7 @@ KeepsEntries old new = (e : Key) → old e ≡ true → new e ≡ true
 abbrev pub KeepsEntriesBut : Class → ℕ → Has → Has → Type 0
 KeepsEntriesBut class id old new = (e : Key) → (e.0.0.0 ≡ class → e.1 ≡ id → ⊥) → old e ≡ true → new e ≡ true
 
-pub listed_still : (old new : Has) (p : DirSector) (k s b : ℕ) → KeepsEntries old new → IsListed old p k s b → IsListed new p k s b
+pub listed_still : (old new : Has) (p : DirSector) (k s b : ℕ) → KeepsEntries old new → ShapeListed old p k s b → ShapeListed new p k s b
 listed_still old new p k s b keeps is = record {
   said = is.said;
   said_bios = is.said_bios;
@@ -38,7 +38,7 @@ listed_still old new p k s b keeps is = record {
   there = λ unit size. keeps ((((p, is.said_bios), unit), is.said / unit), k) (is.there unit size);
 }
 
-pub listed_but : (old new : Has) (class : Class) (id : ℕ) (p : DirSector) (k s b : ℕ) → KeepsEntriesBut class id old new → (p ≡ class.0 → k ≡ id → ⊥) → IsListed old p k s b → IsListed new p k s b
+pub listed_but : (old new : Has) (class : Class) (id : ℕ) (p : DirSector) (k s b : ℕ) → KeepsEntriesBut class id old new → (p ≡ class.0 → k ≡ id → ⊥) → ShapeListed old p k s b → ShapeListed new p k s b
 listed_but old new class id p k s b keeps other is = record {
   said = is.said;
   said_bios = is.said_bios;
@@ -48,7 +48,7 @@ listed_but old new class id p k s b keeps other is = record {
 }
 
 -- a request that is listed in another class
-pub listed_in : (old new : Has) (class : Class) (id : ℕ) (p : DirSector) (k more longer s b : ℕ) → KeepsEntriesBut class id old new → (longer ≡ class.1 → ⊥) → IsInClass old (p, longer) more k → more ≤ s → longer ≤ b → IsListed new p k s b
+pub listed_in : (old new : Has) (class : Class) (id : ℕ) (p : DirSector) (k more longer s b : ℕ) → KeepsEntriesBut class id old new → (longer ≡ class.1 → ⊥) → IsInClass old (p, longer) more k → more ≤ s → longer ≤ b → ShapeListed new p k s b
 listed_in old new class id p k more longer s b keeps other there grown longer_low = record {
   said = more;
   said_bios = longer;
@@ -57,7 +57,7 @@ listed_in old new class id p k more longer s b keeps other there grown longer_lo
   there = λ unit size. keeps ((((p, longer), unit), more / unit), k) (λ same own. other (ap (λ (c : Class). c.1) same)) (there unit size);
 }
 
-pub listed_as : (has : Has) (p : DirSector) (k s b : ℕ) → IsInClass has (p, b) s k → IsListed has p k s b
+pub listed_as : (has : Has) (p : DirSector) (k s b : ℕ) → IsInClass has (p, b) s k → ShapeListed has p k s b
 listed_as has p k s b there = record { said = s; said_bios = b; least = omega arith; fewest = omega arith; there = there }
 
 module _ {A : Type 0} where

@@ -16,7 +16,7 @@ use Rattle.blk_index.specs.Inside.Spots.{DirSector, Spot, Becomes}
 use Rattle.blk_index.specs.Inside.Edges.{Lists, KeepsBut, KeepsOwn, IsEdge}
 use Rattle.blk_index.specs.declared.edges.Edge.{Edge}
 use Rattle.blk_index.specs.Index.{IsJoined}
-use Rattle.blk_index.specs.Inside.Search.{at_of, other_of, IsNamed}
+use Rattle.blk_index.specs.Inside.Search.{at_of, opposite_of, IsNamed}
 use Rattle.blk_index.proofs.Indexed.{Found, named_then, named_same, becomes_given}
 use Rattle.blk_index.proofs.Join.{fits_it, first_place, end_place, dir_stays, at_joined, apart_at}
 use Rattle.blk_index.specs.Inside.FifoLists.{AreFifoLists}
@@ -46,7 +46,7 @@ not_one bios newcomer Back some more one = not_one_both bios newcomer some more 
 not_one bios newcomer Front some more one = not_one_both newcomer bios more some one
 
 -- at the other side it lies as before
-stays_at : (limits : Limits) (bios newcomer : List Bio) (side : Side) → Fits limits bios newcomer side → at_of (other_of side) (extent_of bios) ≡ at_of (other_of side) (extent_of (joined bios newcomer side))
+stays_at : (limits : Limits) (bios newcomer : List Bio) (side : Side) → Fits limits bios newcomer side → at_of (opposite_of side) (extent_of bios) ≡ at_of (opposite_of side) (extent_of (joined bios newcomer side))
 stays_at limits bios newcomer Back fits = first_place limits bios newcomer fits
 stays_at limits bios newcomer Front fits = end_place limits bios newcomer fits
 
@@ -97,12 +97,12 @@ module _ (limits : Limits) (old new : Found) (id s had has bios at : ℕ) (side 
         (λ same. apart_at limits v.bios newcomer s side fits some range (same ∙ sym place))
         (omega (arith, size)) (omega (arith, long)) own keeps keeps_then becomes
 
-    pub edge_beside : {A : Type 0} (spot : Spot) (e f : Edge A) → IsEdge (at_of (other_of side)) old e → spot ≡ (at_of (other_of side) (extent_of v.bios), id) → KeepsBut spot e f → KeepsOwn spot has bios e f → IsEdge (at_of (other_of side)) new f
+    pub edge_beside : {A : Type 0} (spot : Spot) (e f : Edge A) → IsEdge (at_of (opposite_of side)) old e → spot ≡ (at_of (opposite_of side) (extent_of v.bios), id) → KeepsBut spot e f → KeepsOwn spot has bios e f → IsEdge (at_of (opposite_of side)) new f
     edge_beside spot e f edge spot_is keeps own =
         let size = sectors_then in
         let long = bios_then in
-        edge_grown (at_of (other_of side)) old new id v w spot has bios e f edge found spot_is
-        (stays_at limits v.bios newcomer side fits ∙ ap (λ (x : Waiting). at_of (other_of side) (extent_of x.bios)) (sym is))
+        edge_grown (at_of (opposite_of side)) old new id v w spot has bios e f edge found spot_is
+        (stays_at limits v.bios newcomer side fits ∙ ap (λ (x : Waiting). at_of (opposite_of side) (extent_of x.bios)) (sym is))
         (omega (arith, size)) (omega (arith, long)) (omega (arith, size)) (omega (arith, long)) keeps own becomes
 
   -- a place more, where none of the requests lies, and a place less

@@ -7,9 +7,9 @@ use Rattle.std.specs.declared.cmp.Ordering.{Ordering}
 use Rattle.std.specs.declared.cmp.Ordering.TheVariants.{Less, Equal, Greater}
 use Rattle.std.proofs.lemmas.Bool.{cases_eq, cases_lt}
 use borrow.Author.Tests.{ltb-true, ltb-false}
-use Rattle.blk_index.specs.Inside.Spots.{DirSector, place_cmp, IsBelow, IsPast, greater_of}
+use Rattle.blk_index.specs.Inside.Spots.{DirSector, place_cmp, IsBelow, IsNewer, greater_of}
 use Rattle.blk_index.specs.Inside.Entries.{Class, Block, Key, with_number, class_cmp, sized_cmp, block_cmp, entry_cmp}
-use Rattle.blk_index.specs.Inside.Shapes.{IsUnit, IsInClass, Follows, upper_of}
+use Rattle.blk_index.specs.Inside.Shapes.{IsUnit, IsInClass, StandsBetween, upper_of}
 use Rattle.blk_index.proofs.Listed.{lt_of, nat_less, eq_of, same_place, place_itself, is_equal, first_less, below_zero}
 
 number_itself : (n : ℕ) → nat_cmp n n ≡ Equal
@@ -133,20 +133,20 @@ module _ (has : Key → Bool) (block : Block) (below : Option ℕ) (e : Key) (lo
   pub none_in : eq_by_cmp block_cmp e.0 block ≡ false → (k : ℕ) → IsBelow below k → has (block, k) ≡ true → ⊥
   none_in other k under there = other_block e.0 block other (of_block e block below k low (stays k under there))
 
-  pub newest_here : eq_by_cmp block_cmp e.0 block ≡ true → (k : ℕ) → Follows below (Some e.1) k → has (block, k) ≡ true → ⊥
+  pub newest_here : eq_by_cmp block_cmp e.0 block ≡ true → (k : ℕ) → StandsBetween below (Some e.1) k → has (block, k) ≡ true → ⊥
   newest_here same k follows there = stays k follows.low there (same_then block_cmp block_exact e block k (same_block e.0 block same) follows.past)
 
 -- ---- of two ids the greater
 
-pub past_both : (one other : Option ℕ) (k : ℕ) → IsPast (greater_of one other) k → IsPast one k × IsPast other k
+pub past_both : (one other : Option ℕ) (k : ℕ) → IsNewer (greater_of one other) k → IsNewer one k × IsNewer other k
 past_both None other k past = (tt, past)
 past_both (Some a) None k past = (past, tt)
-past_both (Some a) (Some b) k past = elim (nat_lt a b) as (λ less. nat_lt a b ≡ less → IsPast (greater_of (Some a) (Some b)) k → (a < k) × (b < k)) [
+past_both (Some a) (Some b) k past = elim (nat_lt a b) as (λ less. nat_lt a b ≡ less → IsNewer (greater_of (Some a) (Some b)) k → (a < k) × (b < k)) [
   | true ↦ λ e h. let lt : a < b = ltb-true a b e in let g : b < k = grind (arith, e, h) in (omega arith, g)
   | false ↦ λ e h. let le : b ≤ a = ltb-false a b e in let g : a < k = grind (arith, e, h) in (g, omega arith)
 ] refl past
 
-pub follows_both : (below one other : Option ℕ) (k : ℕ) → Follows below (greater_of one other) k → Follows below one k × Follows below other k
+pub follows_both : (below one other : Option ℕ) (k : ℕ) → StandsBetween below (greater_of one other) k → StandsBetween below one k × StandsBetween below other k
 follows_both below one other k follows =
     let two = past_both one other k follows.past in
     (record { low = follows.low; past = two.0 }, record { low = follows.low; past = two.1 })

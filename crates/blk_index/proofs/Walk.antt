@@ -13,10 +13,10 @@ use Rattle.blk_bio.specs.Requests.{Fits, dir_of, first_of, last_of, sectors_of, 
 use Rattle.blk_sched.specs.Meaning.{Waiting}
 use Rattle.blk_bio.specs.Extents.{extent_of}
 use Rattle.blk_sched.specs.Fits.{FitsNowhere, IsNewestFit, FitsNone}
-use Rattle.blk_index.specs.Inside.Spots.{DirSector, is_write, IsBelow, IsPast, greater_of}
+use Rattle.blk_index.specs.Inside.Spots.{DirSector, is_write, IsBelow, IsNewer, greater_of}
 use Rattle.blk_index.specs.Inside.Places.{one_of_place}
 use Rattle.blk_index.specs.Inside.Entries.{Key}
-use Rattle.blk_index.specs.Inside.Shapes.{IsInClass, IsListed, Follows, entries_in}
+use Rattle.blk_index.specs.Inside.Shapes.{IsInClass, ShapeListed, StandsBetween, entries_in}
 use Rattle.blk_index.specs.Inside.Edges.{Lists, IsEdge}
 use Rattle.blk_index.specs.Inside.Search.{at_of, touch_of, IsPassed, FitsBy, IsNewestBy, FitsNoneBy, NoneAfter, newer_of}
 use Rattle.blk_index.specs.declared.edges.Edge.{Edge}
@@ -64,9 +64,9 @@ module _ (limits : Limits) (newcomer : List Bio) (side : Side) (room room_bios :
     not_lt room_bios (length bios) (λ low. too_many limits bios newcomer side room room_bios 0 (length bios) wide wide_bios some (inr low) (omega arith) (omega arith) fits),
   )
 
-  module _ (found : Found) (has : Key → Bool) (p : DirSector) (below : Option ℕ) (passed : (k : ℕ) (w : Waiting) → IsPassed below k → found k ≡ Some w → IsListed has p k (sectors_of w.bios) (length w.bios) → Fits limits w.bios newcomer side → ⊥) where
+  module _ (found : Found) (has : Key → Bool) (p : DirSector) (below : Option ℕ) (passed : (k : ℕ) (w : Waiting) → IsPassed below k → found k ≡ Some w → ShapeListed has p k (sectors_of w.bios) (length w.bios) → Fits limits w.bios newcomer side → ⊥) where
     -- after the newest one with no more than that nothing fits
-    pub later : (result : Option ℕ) → ((k s b : ℕ) → Follows below result k → IsInClass has (p, b) s k → s ≤ room → b ≤ room_bios → ⊥) → NoneAfter limits found newcomer side result (λ k w. IsListed has p k (sectors_of w.bios) (length w.bios))
+    pub later : (result : Option ℕ) → ((k s b : ℕ) → StandsBetween below result k → IsInClass has (p, b) s k → s ≤ room → b ≤ room_bios → ⊥) → NoneAfter limits found newcomer side result (λ k w. ShapeListed has p k (sectors_of w.bios) (length w.bios))
     later result newest k w past there listed fits = elim (below_or_passed below k) [
       | inl low ↦
           let size = in_room w.bios fits in
@@ -76,7 +76,7 @@ module _ (limits : Limits) (newcomer : List Bio) (side : Side) (room room_bios :
       | inr high ↦ passed k w high there listed fits
     ]
 
-    pub passed_more : (id : ℕ) → ((k s b : ℕ) → Follows below (Some id) k → IsInClass has (p, b) s k → s ≤ room → b ≤ room_bios → ⊥) → ((w : Waiting) → found id ≡ Some w → Fits limits w.bios newcomer side → ⊥) → (k : ℕ) (w : Waiting) → id ≤ k → found k ≡ Some w → IsListed has p k (sectors_of w.bios) (length w.bios) → Fits limits w.bios newcomer side → ⊥
+    pub passed_more : (id : ℕ) → ((k s b : ℕ) → StandsBetween below (Some id) k → IsInClass has (p, b) s k → s ≤ room → b ≤ room_bios → ⊥) → ((w : Waiting) → found id ≡ Some w → Fits limits w.bios newcomer side → ⊥) → (k : ℕ) (w : Waiting) → id ≤ k → found k ≡ Some w → ShapeListed has p k (sectors_of w.bios) (length w.bios) → Fits limits w.bios newcomer side → ⊥
     passed_more id newest not_here k w from there listed fits = elim (cases_eq k id) [
       | inl same ↦ not_here w (ap found (sym same) ∙ there) fits
       | inr other ↦ later (Some id) newest k w (omega arith) there listed fits
@@ -99,13 +99,13 @@ module _ {A : Type 0} (limits : Limits) (found : Found) (newcomer : List Bio) (s
   Alone k w = one_of_place edge.ones p ≡ Some k
 
   abbrev Among : ℕ → Waiting → Type 0
-  Among k w = IsListed (entries_in edge.others) p k (sectors_of w.bios) (length w.bios)
+  Among k w = ShapeListed (entries_in edge.others) p k (sectors_of w.bios) (length w.bios)
 
   listed_here : (k : ℕ) (w : Waiting) → found k ≡ Some w → Fits limits w.bios newcomer side → Lists edge p k (sectors_of w.bios) (length w.bios)
   listed_here k w there fits =
       subst (λ (q : DirSector). Lists edge q k (sectors_of w.bios) (length w.bios)) (touches limits w.bios newcomer side fits ∙ sym is) (edges k w there)
 
-  none_after : (result : Option ℕ) → NoneAfter limits found newcomer side result Alone → NoneAfter limits found newcomer side result Among → (k : ℕ) (w : Waiting) → IsPast result k → found k ≡ Some w → Fits limits w.bios newcomer side → ⊥
+  none_after : (result : Option ℕ) → NoneAfter limits found newcomer side result Alone → NoneAfter limits found newcomer side result Among → (k : ℕ) (w : Waiting) → IsNewer result k → found k ≡ Some w → Fits limits w.bios newcomer side → ⊥
   none_after result alone among k w past there fits = elim (listed_here k w there fits) [
     | inl one ↦ alone k w past there one fits
     | inr listed ↦ among k w past there listed fits

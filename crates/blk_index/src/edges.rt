@@ -3,7 +3,7 @@
 ghost use Rattle.std.specs.Prelude.{◌≡◌, ◌<◌, ◌≤◌, ◌^◌, ℕ, Option, None, Some, OnOk, OnErr, IfOk, IfSome};
 ghost use Rattle.blk_index.specs.Inside.Spots.{is_write, first_at, end_at, IsBelow};
 ghost use Rattle.blk_index.specs.Inside.Places.{one_of_place};
-ghost use Rattle.blk_index.specs.Inside.Shapes.{entries_in, IsListed, Follows};
+ghost use Rattle.blk_index.specs.Inside.Shapes.{entries_in, ShapeListed, StandsBetween};
 ghost use Rattle.blk_index.specs.Inside.Edges.{Lists, KeepsBut, KeepsOwn, IsEdges, AddsEdges, DropsEdges};
 ghost use Rattle.blk_sched.specs.Meaning.{Waiting};
 

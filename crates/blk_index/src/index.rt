@@ -13,7 +13,7 @@ ghost use Rattle.std.specs.Bool.{OnTrue, OnFalse};
 ghost use Rattle.blk_index.specs.Inside.Edges.{IsEdge};
 ghost use Rattle.blk_index.specs.Inside.Shapes.{entries_in};
 ghost use Rattle.blk_index.specs.Index.{IsJoined, IsOldest, IsFirst, NoneOf, FindsNothing};
-ghost use Rattle.blk_index.specs.Inside.Search.{IsNewestBy, FitsNoneBy, FitsBy, NoneAfter, StandsAlone, StandsAmong, at_of, touch_of, other_of, newer_of, lesser_of};
+ghost use Rattle.blk_index.specs.Inside.Search.{IsNewestBy, FitsNoneBy, FitsBy, NoneAfter, StandsAlone, StandsAmong, at_of, touch_of, opposite_of, newer_of, lesser_of};
 
 use crate::edges::{Edge, Edges, Spot, end_spot, first_spot, is_write};
 use crate::fifo::FifoLists;
@@ -375,8 +375,8 @@ fn spot_at(side: Side, extent: Extent, id: u64) -> Spot
 }
 
 /// The other side.
-fn other_of(side: Side) -> Side
-    ensures { result ≡ other_of side }
+fn opposite_of(side: Side) -> Side
+    ensures { result ≡ opposite_of side }
 {
     match side {
         Side::Back => Side::Front,
@@ -397,9 +397,9 @@ fn join_in<A: Allocator + Clone>(
 ) -> Result<(), Request<A>>
     requires fit { HasFit limits.now (map.get waiting.old) newcomer id side }
     requires edge { IsEdge (at_of side) (map.get waiting.old) edge.old }
-    requires other { IsEdge (at_of (other_of side)) (map.get waiting.old) other.old }
+    requires other { IsEdge (at_of (opposite_of side)) (map.get waiting.old) other.old }
     ensures edge { IsEdge (at_of side) (map.get waiting.new) edge.new }
-    ensures other { IsEdge (at_of (other_of side)) (map.get waiting.new) other.new }
+    ensures other { IsEdge (at_of (opposite_of side)) (map.get waiting.new) other.new }
     ensures joined { OnOk result (IsJoined now newcomer waiting.old id side waiting.new) }
     ensures err { IfErr result (λ e. e ≡ newcomer) }
     ensures same { OnErr result (waiting.new ≡ waiting.old) }
@@ -420,7 +420,7 @@ fn join_in<A: Allocator + Clone>(
     match waiting.join(id, newcomer, now, limits) {
         Ok(_) => {
             edge.take(spot_at(side, before, id), had, before.bios);
-            let own = spot_at(other_of(side), before, id);
+            let own = spot_at(opposite_of(side), before, id);
             other.relist(own, (had, before.bios), (has, bios));
             Ok(())
         }

@@ -7,7 +7,7 @@ ghost use Rattle.std.specs.declared.cmp.Ordering.TheVariants.{Less};
 ghost use Rattle.std.specs.BTreeSet.{contains};
 ghost use Rattle.blk_index.specs.Inside.Spots.{IsBelow, place_cmp};
 ghost use Rattle.blk_index.specs.Inside.Entries.{Key, block_cmp, entry_cmp};
-ghost use Rattle.blk_index.specs.Inside.Shapes.{entries_in, IsInClass, IsGreatestBelow, IsUnit, upper_of, Follows};
+ghost use Rattle.blk_index.specs.Inside.Shapes.{entries_in, IsInClass, IsGreatestBelow, IsUnit, upper_of, StandsBetween};
 
 use crate::entry::Entry;
 use crate::ids::greater;
@@ -78,7 +78,7 @@ impl<A: Allocator + Clone> Shapes<A> {
         requires sectors { sectors < 65535 }
         requires bios { bios < 2 ^ 63 }
         ensures low { IfSome result (IsBelow below) }
-        ensures newest { (k s b : ℕ) → Follows below result k → IsInClass (entries_in self.now) (place, b) s k → s ≤ sectors → b ≤ bios → ⊥ }
+        ensures newest { (k s b : ℕ) → StandsBetween below result k → IsInClass (entries_in self.now) (place, b) s k → s ≤ sectors → b ≤ bios → ⊥ }
     {
         let mut best = None;
         let mut bound = bios + 1;
@@ -196,7 +196,7 @@ fn newest_in<A: Allocator + Clone>(
 ) -> Option<u64>
     requires { block.1 < 2 ^ 63 }
     ensures low { IfSome result (IsBelow below) }
-    ensures newest { (k : ℕ) → Follows below result k → contains entry_cmp entries.now (block, k) ≡ true → ⊥ }
+    ensures newest { (k : ℕ) → StandsBetween below result k → contains entry_cmp entries.now (block, k) ≡ true → ⊥ }
 {
     let found = entry_below(entries, upper_of(block, below))?;
     if !is_block(block_at(found), block) {
@@ -226,7 +226,7 @@ fn newest_of_class<A: Allocator + Clone>(
 ) -> Option<u64>
     requires { sectors < 65535 }
     ensures low { IfSome result (IsBelow below) }
-    ensures newest { (k s : ℕ) → Follows below result k → IsInClass (contains entry_cmp entries.now) class s k → s ≤ sectors → ⊥ }
+    ensures newest { (k s : ℕ) → StandsBetween below result k → IsInClass (contains entry_cmp entries.now) class s k → s ≤ sectors → ⊥ }
 {
     let mut best = None;
     let mut unit = 1;

@@ -6,14 +6,14 @@ use Rattle.blk_bio.specs.Requests.{sectors_of}
 use Rattle.blk_sched.specs.Meaning.{Waiting}
 use Rattle.blk_index.specs.Inside.Spots.{DirSector, Spot, first_at, end_at, Becomes}
 use Rattle.blk_index.specs.Inside.Places.{one_of_place}
-use Rattle.blk_index.specs.Inside.Shapes.{entries_in, IsListed}
+use Rattle.blk_index.specs.Inside.Shapes.{entries_in, ShapeListed}
 use Rattle.blk_index.specs.declared.edges.Edge.{Edge}
 use Rattle.blk_index.specs.declared.edges.Edges.{Edges}
 
 module _ {A : Type 0} where
   -- a request is listed at a place, with no more sectors and bios than these
   abbrev pub Lists : Edge A → DirSector → ℕ → ℕ → ℕ → Type 0
-  Lists edge p id sectors bios = (one_of_place edge.ones p ≡ Some id) ⊎ IsListed (entries_in edge.others) p id sectors bios
+  Lists edge p id sectors bios = (one_of_place edge.ones p ≡ Some id) ⊎ ShapeListed (entries_in edge.others) p id sectors bios
 
   -- what is listed stays so, but for one
   abbrev pub KeepsBut : Spot → Edge A → Edge A → Type 0

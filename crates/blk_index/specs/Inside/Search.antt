@@ -7,9 +7,9 @@ use Rattle.blk_bio.specs.Bios.{Bio}
 use Rattle.blk_bio.specs.Limits.{Limits}
 use Rattle.blk_bio.specs.Requests.{Fits, sectors_of}
 use Rattle.blk_sched.specs.Meaning.{Waiting}
-use Rattle.blk_index.specs.Inside.Spots.{DirSector, first_at, end_at, IsPast}
+use Rattle.blk_index.specs.Inside.Spots.{DirSector, first_at, end_at, IsNewer}
 use Rattle.blk_index.specs.Inside.Entries.{Key}
-use Rattle.blk_index.specs.Inside.Shapes.{IsListed}
+use Rattle.blk_index.specs.Inside.Shapes.{ShapeListed}
 
 -- each request has its id
 abbrev pub IsNamed : (ℕ → Option Waiting) → Type 0
@@ -46,7 +46,7 @@ pub record FitsBy (limits : Limits) (found : Option Waiting) (newcomer : List Bi
 -- after the one that was found, if one was, none of some requests fits
 abbrev pub NoneAfter : Limits → (ℕ → Option Waiting) → List Bio → Side → Option ℕ → (ℕ → Waiting → Type 0) → Type 0
 NoneAfter limits found newcomer side result OneOf =
-    (k : ℕ) (w : Waiting) → IsPast result k → found k ≡ Some w → OneOf k w → Fits limits w.bios newcomer side → ⊥
+    (k : ℕ) (w : Waiting) → IsNewer result k → found k ≡ Some w → OneOf k w → Fits limits w.bios newcomer side → ⊥
 
 -- the request of an id stands by itself
 abbrev pub StandsAlone : Option ℕ → ℕ → Waiting → Type 0
@@ -54,12 +54,12 @@ StandsAlone one k w = one ≡ Some k
 
 -- a request is listed among others of a place
 abbrev pub StandsAmong : (Key → Bool) → DirSector → ℕ → Waiting → Type 0
-StandsAmong has p k w = IsListed has p k (sectors_of w.bios) (length w.bios)
+StandsAmong has p k w = ShapeListed has p k (sectors_of w.bios) (length w.bios)
 
 -- the other side
-abbrev pub other_of : Side → Side
-other_of Back = Front
-other_of Front = Back
+abbrev pub opposite_of : Side → Side
+opposite_of Back = Front
+opposite_of Front = Back
 
 -- ids that were passed, and how many there may be below
 abbrev pub IsPassed : Option ℕ → ℕ → Type 0

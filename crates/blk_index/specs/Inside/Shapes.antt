@@ -3,7 +3,7 @@ use Rattle.std.specs.Prelude.{ℕ, ◌≡◌, ◌≤◌, ◌+◌, ◌/◌, ◌�
 use Rattle.std.specs.Ordering.{is_lt}
 use Rattle.std.specs.BTreeSet.{contains}
 use Rattle.std.specs.declared.cmp.Ordering.TheVariants.{Less}
-use Rattle.blk_index.specs.Inside.Spots.{DirSector, IsBelow, IsPast}
+use Rattle.blk_index.specs.Inside.Spots.{DirSector, IsBelow, IsNewer}
 use Rattle.blk_index.specs.Inside.Entries.{Class, Block, Key, entry_cmp}
 use Rattle.blk_index.specs.declared.shapes.Shapes.{Shapes}
 
@@ -16,7 +16,7 @@ abbrev pub IsInClass : (Key → Bool) → Class → ℕ → ℕ → Type 0
 IsInClass has class sectors id = (unit : ℕ) → IsUnit unit → has (((class, unit), sectors / unit), id) ≡ true
 
 -- a request at a place has an id, and as many sectors and bios at least as is said there
-pub record IsListed (has : Key → Bool) (place : DirSector) (id sectors bios : ℕ) : Type 0 where
+pub record ShapeListed (has : Key → Bool) (place : DirSector) (id sectors bios : ℕ) : Type 0 where
   pub said : ℕ
   pub said_bios : ℕ
   pub least : said ≤ sectors
@@ -24,9 +24,9 @@ pub record IsListed (has : Key → Bool) (place : DirSector) (id sectors bios : 
   pub there : IsInClass has (place, said_bios) said id
 
 -- an id below a bound, if there is one, that is greater than the one that was found, if one was
-pub record Follows (below found : Option ℕ) (id : ℕ) : Type 0 where
+pub record StandsBetween (below found : Option ℕ) (id : ℕ) : Type 0 where
   pub low : IsBelow below id
-  pub past : IsPast found id
+  pub past : IsNewer found id
 
 -- no entry below another is greater than this one
 abbrev pub IsGreatestBelow : (Key → Bool) → Key → Key → Type 0

@@ -66,7 +66,7 @@ returns-in-Ok-join-clause-other g c =
     c.in-Ok-join.field-0 w (ap (λ (x : Waiting). joined_waiting c.in-Ok-join.field-0 c.args.now c.args.newcomer x) same) (λ t fits. j.only t (subst (λ (x : Waiting). Fits c.args.limits.now x.bios c.args.newcomer t) (sym same) fits)))
     (becomes_given c.args.waiting.now c.join.new.self c.args.id w j.is)
     c.spot_at-own.result c.args.other.now c.relist.new.self c.requires.other
-    (c.spot_at-own.ensures ∙ ap (λ (x : Extent). let q : Spot = (at_of c.other_of.result x, c.args.id) in q) c.extent_of-before.ensures ∙ ap (λ (t : Side). let q : Spot = (at_of t (extent_of v.bios), c.args.id) in q) c.other_of.ensures)
+    (c.spot_at-own.ensures ∙ ap (λ (x : Extent). let q : Spot = (at_of c.opposite_of.result x, c.args.id) in q) c.extent_of-before.ensures ∙ ap (λ (t : Side). let q : Spot = (at_of t (extent_of v.bios), c.args.id) in q) c.opposite_of.ensures)
     c.relist.ensures.kept c.relist.ensures.own
 
 pub returns-in-Err-clause-edge : goal.returns-in-Err-clause-edge

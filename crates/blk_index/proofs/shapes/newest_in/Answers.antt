@@ -4,7 +4,7 @@ use Rattle.std.specs.BTreeSet.{contains}
 use Rattle.std.specs.declared.cmp.Ordering.TheVariants.{Less}
 use Rattle.blk_index.specs.Inside.Spots.{IsBelow}
 use Rattle.blk_index.specs.Inside.Entries.{Block, Key, block_cmp, entry_cmp}
-use Rattle.blk_index.specs.Inside.Shapes.{Follows}
+use Rattle.blk_index.specs.Inside.Shapes.{StandsBetween}
 use Rattle.blk_index.proofs.Shaped.{none_in, newest_here, low_in, below_upper, same_block}
 use Rattle.blk_index.proofs.shapes.newest_in.Goals as goal
 
@@ -33,4 +33,4 @@ returns-clause-newest g c = λ k follows there.
     (subst (λ (u : Key). entry_cmp e u ≡ Less) c.upper_of.ensures c.in_ok-found.ensures.low)
     (subst (λ (u : Key). (q : Key) → entry_cmp q u ≡ Less → contains entry_cmp c.args.entries.now q ≡ true → is_lt (entry_cmp e q) ≡ false) c.upper_of.ensures c.in_ok-found.ensures.greatest)
     (subst (λ (b : Block). eq_by_cmp block_cmp b c.args.block ≡ true) c.block_at.ensures (sym c.if-not-is_block.ensures))
-    k (subst (λ (n : ℕ). Follows c.args.below (Some n) k) (ap (λ (x : Key). x.1) c.found.view_is) follows) there
+    k (subst (λ (n : ℕ). StandsBetween c.args.below (Some n) k) (ap (λ (x : Key). x.1) c.found.view_is) follows) there

@@ -3,7 +3,7 @@ use Rattle.std.specs.Prelude.{IfSome}
 use Rattle.std.specs.BTreeSet.{contains}
 use Rattle.blk_index.specs.Inside.Spots.{IsBelow}
 use Rattle.blk_index.specs.Inside.Entries.{entry_cmp}
-use Rattle.blk_index.specs.Inside.Shapes.{Follows}
+use Rattle.blk_index.specs.Inside.Shapes.{StandsBetween}
 use Rattle.blk_index.proofs.Shaped.{blocks_up, unit_up, small_up, small_down, low_both, follows_both, not_last}
 use Rattle.blk_index.proofs.shapes.newest_of_class.Goals as goal
 
@@ -25,7 +25,7 @@ loop-end-preserved g c =
       size = size;
       small = small_down c.loop-end.unit c.loop-end.end size c.loop-end.invariant.small;
       rest = λ k s follows there most.
-          let two = follows_both c.args.below c.loop-end.best c.newest_in.result k (subst (λ (r : Option ℕ). Follows c.args.below r k) c.greater-best.ensures follows) in
+          let two = follows_both c.args.below c.loop-end.best c.newest_in.result k (subst (λ (r : Option ℕ). StandsBetween c.args.below r k) c.greater-best.ensures follows) in
           not_last (s / c.loop-end.unit) c.loop-end.end (c.loop-end.invariant.rest k s two.0 there most)
           (λ same. c.newest_in.ensures.newest k two.1 (subst (λ (n : ℕ). contains entry_cmp c.args.entries.now (((c.args.class, c.loop-end.unit), n), k) ≡ true) same (there c.loop-end.unit size)));
     }
