@@ -4,8 +4,10 @@
 Each kind is made to take long in one of the ways that the program's structures leave open, and N is how many bios, commands or
 rounds it has. Scripts: joins and fronts (each bio joins a request that waits, at its back or its front), plugs (each bio touches
 half of those that its plug holds, and fits none), no_room (the same in the core, where all wait), other_way (half of what waits
-touches the newcomer and is too long for it, and a short request of the other direction lies there too), bio_ids and sectors (made
-for the hash tables), handed (each command is handed back once), idle (rounds in which nothing waits for any of 16 queues).
+touches the newcomer and is too long for it, and a short request of the other direction lies there too), two_measures (all that waits
+ends at one sector, half of it with too many bios for a newcomer and half with too many sectors), many_sizes (all that waits ends at one
+sector, each with another number of sectors, and a newcomer fits each), bio_ids (made for the hash tables), sectors (made for hash tables
+of sectors, which an index had once), one_slot (sectors that share a slot of an index), handed (each command is handed back once), idle (rounds in which nothing waits for any of 16 queues).
 Traces: trace_bio_ids and trace_requests (ids made for hash tables that traces had once), trace_falling (both count down),
 trace_steps (another depth in each round, all late),
 trace_joins (requests that grow to 128 bios), trace_groups (groups of 128 bios). Command lists: scattered (rounds up to the
@@ -140,6 +142,38 @@ def bio_ids(count, out):
 def sectors(count, out):
     firsts = colliding_sectors(count, table_of(count, 2))
     lines = [*one_by_one([f"{n},R,{it},1" for n, it in enumerate(firsts)], 32), f"run,{count // 32 + 1},,,,"]
+    script(lines, out)
+
+
+def one_slot(count, out):
+    lines = [*one_by_one([f"{n},R,{n << 28},1" for n in range(count)], 32), f"run,{count // 32 + 1},,,,"]
+    script(lines, out)
+
+
+def entering(requests, every):
+    """Requests of some bios each, that merge in the plug; so many requests come into the core at once."""
+    serial = 0
+    for n, bios in enumerate(requests):
+        for it in bios:
+            yield f"bio,0,{serial},R,{it}"
+            serial += 1
+        if n % every == every - 1 or n == len(requests) - 1:
+            yield "flush,0,,,,"
+            yield "drain,0,,,,"
+
+
+def two_measures(count, out):
+    end, half = 1 << 20, count // 7
+    waiting = [[f"{end - 2},1", f"{end - 1},1"], [f"{end - 65000},65000"]] * half
+    newcomers = [[f"{end},{600 + n % 500}", f"{end + 600 + n % 500},1"] for n in range(2 * half)]
+    lines = [*entering(waiting, 8), *(it.replace("bio,0,", "bio,1,").replace("flush,0", "flush,1") for it in entering(newcomers, 1))]
+    script(lines, out, "setup,5,50,65535,3,")
+
+
+def many_sizes(count, out):
+    end, half = 1 << 20, count // 2
+    waiting = [[f"{end - n % 60000 - 1},{n % 60000 + 1}"] for n in range(half)]
+    lines = [*entering(waiting, 32), *(it.replace("bio,0,", "bio,1,").replace("flush,0", "flush,1") for it in entering([[f"{end},1"]] * half, 1))]
     script(lines, out)
 
 
@@ -316,7 +350,7 @@ def capture_absorbed(count, out):
         out(f"{last // 1_000_000_000},{last % 1_000_000_000:09},0,{action},1,R,0,{8 * count}")
 
 
-KINDS = [joins, fronts, plugs, no_room, other_way, bio_ids, sectors, handed, idle, trace_bio_ids, trace_requests]
+KINDS = [joins, fronts, plugs, no_room, other_way, two_measures, many_sizes, bio_ids, sectors, one_slot, handed, idle, trace_bio_ids, trace_requests]
 KINDS += [trace_falling, trace_steps, trace_joins, trace_groups, scattered, falling, nested, alone, repeated, cert_scattered, met_windows]
 KINDS += [ran_scattered]
 KINDS += [capture_queued, capture_one_range, capture_absorbed]

@@ -14,7 +14,7 @@ use Rattle.blk_sched.proofs.Maps.{one_test}
 use Rattle.blk_index.specs.Index.{IsBefore, IsJoined}
 use Rattle.blk_index.specs.Inside.Pairs.{pair_cmp}
 use Rattle.blk_index.specs.Inside.SortLists.{PairAdded, PairTaken, PairsKept}
-use Rattle.blk_index.specs.Inside.Buckets.{Becomes}
+use Rattle.blk_index.specs.Inside.Spots.{Becomes}
 use Rattle.blk_index.proofs.Indexed.{Found, becomes_given, becomes_taken, same_without}
 use Rattle.blk_earliest.specs.Inside.Dues.{is_due, AreDues, IsFirstFrom, NoneFrom, IsFirstPair, NoPairFrom}
 

@@ -12,7 +12,7 @@ use Rattle.blk_bio.specs.declared.bio.Dir.TheVariants.{Read, Write}
 use Rattle.blk_bio.specs.Requests.{dir_of}
 use Rattle.blk_sched.specs.Meaning.{Waiting}
 use Rattle.blk_sched.proofs.Maps.{same_number}
-use Rattle.blk_index.specs.Inside.Buckets.{Becomes}
+use Rattle.blk_index.specs.Inside.Spots.{Becomes}
 use Rattle.blk_index.specs.Inside.Lists.{GoUp, StandsIn, WaitsAs, FirstWaits, IsPut, IsPruned, IsFifoList}
 use Rattle.blk_index.specs.Inside.FifoLists.{AreFifoLists, TakesId, DropsId}
 use Rattle.blk_index.specs.Index.{IsOldest, NoneOf}

@@ -13,7 +13,7 @@ use Rattle.blk_sched.specs.Meaning.{Waiting, Pending}
 use Rattle.blk_bio.specs.Extents.{extent_of}
 use Rattle.blk_sched.proofs.Maps.{same_number}
 use Rattle.blk_index.specs.Inside.Spots.{DirSector, Spot, place_cmp, spot_cmp, Adds, TakesSpot, Keeps, is_placed, AreSpots}
-use Rattle.blk_index.specs.Inside.Buckets.{Becomes}
+use Rattle.blk_index.specs.Inside.Spots.{Becomes}
 use Rattle.blk_index.specs.Inside.Search.{IsNamed}
 use Rattle.blk_index.proofs.Listed.{same_place, is_equal}
 

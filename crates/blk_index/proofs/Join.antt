@@ -14,7 +14,7 @@ use Rattle.blk_bio.specs.Extents.{extent_of}
 use Rattle.blk_sched.specs.Fits.{HasFit}
 use Rattle.blk_index.specs.Inside.RequestSlabs.{JoinsOne}
 use Rattle.blk_index.specs.Inside.Spots.{DirSector, Spot, place_cmp, is_write, is_placed, AreSpots, Adds, TakesSpot, first_at, end_at}
-use Rattle.blk_index.specs.Inside.Buckets.{Becomes}
+use Rattle.blk_index.specs.Inside.Spots.{Becomes}
 use Rattle.blk_index.specs.Index.{IsJoined}
 use Rattle.blk_index.specs.Inside.Search.{at_of}
 use Rattle.blk_index.proofs.Listed.{same_place, is_equal}
@@ -71,7 +71,7 @@ at_joined limits bios newcomer s Front fits some range =
     ∙ ap (λ (n : ℕ). let p : DirSector = (is_write (dir_of newcomer), n) in p) (first_joined bios newcomer s some range)
 
 -- it lies elsewhere than before
-apart_at : (limits : Limits) (bios newcomer : List Bio) (s : ℕ) (side : Side) → Fits limits bios newcomer side → 0 < s → first_of newcomer + s ≡ last_of newcomer → at_of side (extent_of bios) ≡ at_of side (extent_of newcomer) → ⊥
+pub apart_at : (limits : Limits) (bios newcomer : List Bio) (s : ℕ) (side : Side) → Fits limits bios newcomer side → 0 < s → first_of newcomer + s ≡ last_of newcomer → at_of side (extent_of bios) ≡ at_of side (extent_of newcomer) → ⊥
 apart_at limits bios newcomer s Back fits some range same = let e : last_of bios ≡ last_of newcomer = ap (λ (p : DirSector). p.1) same in let b : first_of newcomer ≡ last_of bios = fits.abuts in omega arith
 apart_at limits bios newcomer s Front fits some range same = let e : first_of bios ≡ first_of newcomer = ap (λ (p : DirSector). p.1) same in let b : last_of newcomer ≡ first_of bios = fits.abuts in omega arith
 

@@ -1,11 +1,10 @@
 -- MergeHash and the requests that they are of.
-use Rattle.std.proofs.Common.{◌≡◌, ◌<◌, ◌+◌, ℕ, Bool, true, false, cond, sym, ap, ◌∙◌, refl, arith, Some, None, Option}
-use Rattle.std.specs.Ordering.{nat_cmp, ordering_then, eq_by_cmp, is_eq, is_lt}
+use Rattle.std.proofs.Common.{◌≡◌, ◌<◌, ℕ, Bool, true, false, cond, sym, ap, ◌∙◌, refl, arith}
+use Rattle.std.specs.Ordering.{nat_cmp, ordering_then, eq_by_cmp, is_eq}
 use Rattle.std.specs.Cmp.{nat_cmp_total, ranked, tied_itself}
 use Rattle.std.specs.declared.cmp.Ordering.{Ordering}
 use Rattle.std.specs.declared.cmp.Ordering.TheVariants.{Less, Equal, Greater}
-use mathlib.Core.Bool.{not, beq}
-use Rattle.blk_index.specs.Inside.Spots.{DirSector, Spot, place_cmp, spot_cmp, Adds, TakesSpot, Keeps, IsBelow, upper_of}
+use Rattle.blk_index.specs.Inside.Spots.{DirSector, Spot, place_cmp, spot_cmp, Adds, TakesSpot, Keeps}
 
 -- ---- the order of places and spots
 
@@ -15,7 +14,7 @@ lt_of a b e = ranked a b Less (sym e)
 gt_of : (a b : ℕ) → nat_cmp a b ≡ Greater → b < a
 gt_of a b e = ranked a b Greater (sym e)
 
-eq_of : (a b : ℕ) → nat_cmp a b ≡ Equal → a ≡ b
+pub eq_of : (a b : ℕ) → nat_cmp a b ≡ Equal → a ≡ b
 eq_of a b e = ranked a b Equal (sym e)
 
 pub nat_less : (a b : ℕ) → a < b → nat_cmp a b ≡ Less
@@ -24,13 +23,6 @@ nat_less a b lt = elim (nat_cmp a b) as (λ o. nat_cmp a b ≡ o → o ≡ Less)
   | Equal ↦ λ e. let same = eq_of a b e in absurd (omega arith)
   | Greater ↦ λ e. let more = gt_of a b e in absurd (omega arith)
 ] refl
-
--- a place below the next sector's is not above
-not_above : (a b : DirSector) → place_cmp a (b.0, b.1 + 1) ≡ Less → place_cmp a b ≡ Greater → ⊥
-not_above (false, s) (false, t) h g = let low = lt_of s (t + 1) h in let high = gt_of s t g in omega arith
-not_above (false, s) (true, t) h g = cc
-not_above (true, s) (false, t) h g = cc
-not_above (true, s) (true, t) h g = let low = lt_of s (t + 1) h in let high = gt_of s t g in omega arith
 
 pub same_place : (a b : DirSector) → place_cmp a b ≡ Equal → a ≡ b
 same_place (false, s) (false, t) h = ap (λ (n : ℕ). let p : DirSector = (false, n) in p) (eq_of s t h)
@@ -42,37 +34,13 @@ pub place_itself : (a : DirSector) → place_cmp a a ≡ Equal
 place_itself (false, s) = tied_itself nat_cmp_total s
 place_itself (true, s) = tied_itself nat_cmp_total s
 
-below_zero : (n : ℕ) → nat_cmp n 0 ≡ Less → ⊥
+pub below_zero : (n : ℕ) → nat_cmp n 0 ≡ Less → ⊥
 below_zero n e = let low = lt_of n 0 e in omega arith
 
-first_less : (o r : Ordering) → ordering_then o r ≡ Less → (r ≡ Less → ⊥) → o ≡ Less
+pub first_less : (o r : Ordering) → ordering_then o r ≡ Less → (r ≡ Less → ⊥) → o ≡ Less
 first_less Less r h n = refl
 first_less Equal r h n = absurd (n h)
 first_less Greater r h n = cc
-
-not_greater : (e : Spot) (p : DirSector) (below : Option ℕ) → spot_cmp e (upper_of p below) ≡ Less → place_cmp e.0 p ≡ Greater → ⊥
-not_greater e p None low g = not_above e.0 p (first_less (place_cmp e.0 (p.0, p.1 + 1)) (nat_cmp e.1 0) low (below_zero e.1)) g
-not_greater e p (Some b) low g = let h : Greater ≡ Less = ap (λ o. ordering_then o (nat_cmp e.1 b)) (sym g) ∙ low in cc
-
--- a spot below the bound, and not below one of the place, is of the place
-pub of_place : (e : Spot) (p : DirSector) (below : Option ℕ) (k : ℕ) → spot_cmp e (upper_of p below) ≡ Less → is_lt (spot_cmp e (p, k)) ≡ false → e.0 ≡ p
-of_place e p below k low not_less = elim (place_cmp e.0 p) as (λ o. place_cmp e.0 p ≡ o → e.0 ≡ p) [
-  | Less ↦ λ h. let less : true ≡ false = ap (λ o. is_lt (ordering_then o (nat_cmp e.1 k))) (sym h) ∙ not_less in cc
-  | Equal ↦ λ h. same_place e.0 p h
-  | Greater ↦ λ h. absurd (not_greater e p below low h)
-] refl
-
--- ids below the bound stand below it
-pub below_upper : (p : DirSector) (below : Option ℕ) (k : ℕ) → IsBelow below k → spot_cmp (p, k) (upper_of p below) ≡ Less
-below_upper (false, s) None k low = let e : nat_cmp s (s + 1) ≡ Less = nat_less s (s + 1) (omega arith) in ap (λ o. ordering_then o (nat_cmp k 0)) e
-below_upper (true, s) None k low = let e : nat_cmp s (s + 1) ≡ Less = nat_less s (s + 1) (omega arith) in ap (λ o. ordering_then o (nat_cmp k 0)) e
-below_upper p (Some b) k low = ap (λ o. ordering_then o (nat_cmp k b)) (place_itself p) ∙ nat_less k b low
-
-pub bools_differ : (a b : Bool) → not (beq a b) ≡ true → a ≡ b → ⊥
-bools_differ true true h e = cc
-bools_differ true false h e = cc
-bools_differ false true h e = cc
-bools_differ false false h e = cc
 
 -- ---- spots put in and taken out
 

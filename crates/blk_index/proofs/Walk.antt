@@ -1,8 +1,7 @@
 -- The search for a join among the requests that a newcomer touches.
-use Rattle.std.proofs.Common.{◌≡◌, ◌<◌, ◌≤◌, ◌+◌, ◌⊎◌, inl, inr, ℕ, Bool, true, false, sym, ap, subst, ◌∙◌, refl, arith, Some, None, Option, List, [], ◌∷◌}
+use Rattle.std.proofs.Common.{◌≡◌, ◌<◌, ◌≤◌, ◌+◌, ◌/◌, ◌⊎◌, inl, inr, ℕ, Bool, true, false, sym, ap, subst, ◌∙◌, refl, arith, Some, None, Option, List, [], ◌∷◌}
 use Rattle.std.specs.Prelude.{length, if◌then◌else◌, IfSome, IfNone, IsTrue, nat_lt}
 use Rattle.std.specs.Option.{OnSome}
-use Rattle.std.specs.Ordering.{eq_by_cmp, is_eq}
 use Rattle.std.proofs.lemmas.Bool.{cases_eq, cases_lt}
 use borrow.Author.Tests.{ltb-true, ltb-false}
 use Rattle.blk_bio.specs.declared.bio.Dir.{Dir}
@@ -14,15 +13,16 @@ use Rattle.blk_bio.specs.Requests.{Fits, dir_of, first_of, last_of, sectors_of, 
 use Rattle.blk_sched.specs.Meaning.{Waiting}
 use Rattle.blk_bio.specs.Extents.{extent_of}
 use Rattle.blk_sched.specs.Fits.{FitsNowhere, IsNewestFit, FitsNone}
-use Rattle.blk_index.specs.Inside.Spots.{DirSector, place_cmp, is_write, is_placed, AreSpots, IsBelow, IsNewestSpot, NoSpot}
-use Rattle.blk_index.specs.Inside.Search.{at_of, touch_of, IsPassed, FitsBy, IsNewestBy, FitsNoneBy, newer_of}
-use Rattle.blk_index.specs.declared.merge_hash.Bucket.{Bucket}
-use Rattle.blk_index.specs.Inside.Buckets.{HasNone, IsEdge}
-use Rattle.blk_index.proofs.Listed.{place_itself}
-use Rattle.blk_index.proofs.Spotted.{Buckets, Others}
-use Rattle.blk_index.proofs.Edged.{bucket_at, some_bucket}
+use Rattle.blk_index.specs.Inside.Spots.{DirSector, is_write, IsBelow, IsNewer, greater_of}
+use Rattle.blk_index.specs.Inside.Places.{one_of_place}
+use Rattle.blk_index.specs.Inside.Entries.{Key}
+use Rattle.blk_index.specs.Inside.Shapes.{IsInClass, ShapeListed, StandsBetween, entries_in}
+use Rattle.blk_index.specs.Inside.Edges.{Lists, IsEdge}
+use Rattle.blk_index.specs.Inside.Search.{at_of, touch_of, IsPassed, FitsBy, IsNewestBy, FitsNoneBy, NoneAfter, newer_of}
+use Rattle.blk_index.specs.declared.edges.Edge.{Edge}
 use Rattle.blk_index.proofs.Joining.{sectors_both, bios_both, not_one}
-use Rattle.blk_index.proofs.Indexed.{Found, Has}
+use Rattle.blk_index.proofs.Shaped.{past_both, not_lt}
+use Rattle.blk_index.proofs.Indexed.{Found}
 
 -- what fits is touched
 touches : (limits : Limits) (bios newcomer : List Bio) (side : Side) → Fits limits bios newcomer side → at_of side (extent_of bios) ≡ touch_of side (extent_of newcomer)
@@ -34,40 +34,6 @@ touches limits bios newcomer Front fits =
 below_or_passed : (below : Option ℕ) (k : ℕ) → IsBelow below k ⊎ IsPassed below k
 below_or_passed None k = inl tt
 below_or_passed (Some b) k = cases_lt k b
-
-module _ (limits : Limits) (waiting : Found) (has : Has) (newcomer : List Bio) (side : Side) (p : DirSector) (spots : AreSpots (at_of side) waiting has) (is : p ≡ touch_of side (extent_of newcomer)) where
-  standing : (k : ℕ) (w : Waiting) → waiting k ≡ Some w → Fits limits w.bios newcomer side → has (p, k) ≡ true
-  standing k w there fits =
-      spots p k ∙ ap (is_placed (at_of side) p) there
-      ∙ ap (λ a. eq_by_cmp place_cmp a p) (touches limits w.bios newcomer side fits ∙ sym is) ∙ ap is_eq (place_itself p)
-
-  -- after the newest spot below a bound nothing fits that was not passed
-  later : (below : Option ℕ) (id : ℕ) → IsNewestSpot has p below id → ((k : ℕ) (w : Waiting) → IsPassed below k → waiting k ≡ Some w → Fits limits w.bios newcomer side → ⊥) → (k : ℕ) (w : Waiting) → id < k → waiting k ≡ Some w → Fits limits w.bios newcomer side → ⊥
-  later below id best passed k w after there fits = elim (below_or_passed below k) [
-    | inl low ↦ let a : true ≡ false = sym (standing k w there fits) ∙ best.newest k after low in absurd (cc)
-    | inr high ↦ passed k w high there fits
-  ]
-
-  pub newest_by : (below : Option ℕ) (id : ℕ) → IsNewestSpot has p below id → ((k : ℕ) (w : Waiting) → IsPassed below k → waiting k ≡ Some w → Fits limits w.bios newcomer side → ⊥) → FitsBy limits (waiting id) newcomer side → IsNewestBy limits waiting newcomer side id
-  newest_by below id best passed here = record {
-    waiting = here.waiting;
-    is_found = here.is_found;
-    fits = here.fits;
-    only = here.only;
-    newest = later below id best passed;
-  }
-
-  pub passed_more : (below : Option ℕ) (id : ℕ) → IsNewestSpot has p below id → ((k : ℕ) (w : Waiting) → IsPassed below k → waiting k ≡ Some w → Fits limits w.bios newcomer side → ⊥) → ((w : Waiting) → waiting id ≡ Some w → Fits limits w.bios newcomer side → ⊥) → (k : ℕ) (w : Waiting) → id ≤ k → waiting k ≡ Some w → Fits limits w.bios newcomer side → ⊥
-  passed_more below id best passed not_here k w from there fits = elim (cases_eq k id) [
-    | inl same ↦ not_here w (ap (waiting) (sym same) ∙ there) fits
-    | inr other ↦ later below id best passed k w (omega arith) there fits
-  ]
-
-  pub none_by : (below : Option ℕ) → NoSpot has p below → ((k : ℕ) (w : Waiting) → IsPassed below k → waiting k ≡ Some w → Fits limits w.bios newcomer side → ⊥) → (k : ℕ) (w : Waiting) → waiting k ≡ Some w → Fits limits w.bios newcomer side → ⊥
-  none_by below none passed k w there fits = elim (below_or_passed below k) [
-    | inl low ↦ let a : true ≡ false = sym (standing k w there fits) ∙ none k low in absurd (cc)
-    | inr high ↦ passed k w high there fits
-  ]
 
 -- where each request at the place has too many sectors, or each too many bios, none fits
 some_bios : (bios : List Bio) → 0 < sectors_of bios → 0 < length bios
@@ -90,14 +56,84 @@ too_many limits bios newcomer side room room_bios least fewest wide wide_bios so
       ]
     ]
 
-pub none_room : (limits : Limits) (waiting : Found) (buckets : Buckets) (others : Others) (newcomer : List Bio) (side : Side) (p : DirSector) (room room_bios : ℕ) → IsEdge (at_of side) waiting buckets others → p ≡ touch_of side (extent_of newcomer) → limits.max_sectors ≤ room + sectors_of newcomer → limits.max_segments ≤ room_bios + length newcomer → 0 < sectors_of newcomer → HasNone (buckets p) room room_bios → (k : ℕ) (w : Waiting) → waiting k ≡ Some w → Fits limits w.bios newcomer side → ⊥
-none_room limits waiting buckets others newcomer side p room room_bios edge is wide wide_bios some none k w there fits =
-    let place : at_of side (extent_of w.bios) ≡ p = touches limits w.bios newcomer side fits ∙ sym is in
-    let bucket = some_bucket (buckets (at_of side (extent_of w.bios))) (bucket_at (at_of side) waiting buckets others k w edge there) in
-    let here : buckets p ≡ Some bucket.0 = ap buckets (sym place) ∙ bucket.1 in
-    let above : (room < bucket.0.least) ⊎ (room_bios < bucket.0.fewest) = subst (λ (o : Option Bucket). HasNone o room room_bios) here none in
-    let most = edge.least k w bucket.0 there bucket.1 in
-    too_many limits w.bios newcomer side room room_bios bucket.0.least bucket.0.fewest wide wide_bios some above most.sectors_low most.bios_low fits
+module _ (limits : Limits) (newcomer : List Bio) (side : Side) (room room_bios : ℕ) (wide : limits.max_sectors ≤ room + sectors_of newcomer) (wide_bios : limits.max_segments ≤ room_bios + length newcomer) (some : 0 < sectors_of newcomer) where
+  -- what fits has no more than there is room beside the newcomer
+  in_room : (bios : List Bio) → Fits limits bios newcomer side → (sectors_of bios ≤ room) × (length bios ≤ room_bios)
+  in_room bios fits = (
+    not_lt room (sectors_of bios) (λ low. too_many limits bios newcomer side room room_bios (sectors_of bios) 0 wide wide_bios some (inl low) (omega arith) (omega arith) fits),
+    not_lt room_bios (length bios) (λ low. too_many limits bios newcomer side room room_bios 0 (length bios) wide wide_bios some (inr low) (omega arith) (omega arith) fits),
+  )
+
+  module _ (found : Found) (has : Key → Bool) (p : DirSector) (below : Option ℕ) (passed : (k : ℕ) (w : Waiting) → IsPassed below k → found k ≡ Some w → ShapeListed has p k (sectors_of w.bios) (length w.bios) → Fits limits w.bios newcomer side → ⊥) where
+    -- after the newest one with no more than that nothing fits
+    pub later : (result : Option ℕ) → ((k s b : ℕ) → StandsBetween below result k → IsInClass has (p, b) s k → s ≤ room → b ≤ room_bios → ⊥) → NoneAfter limits found newcomer side result (λ k w. ShapeListed has p k (sectors_of w.bios) (length w.bios))
+    later result newest k w past there listed fits = elim (below_or_passed below k) [
+      | inl low ↦
+          let size = in_room w.bios fits in
+          let least : listed.said ≤ sectors_of w.bios = listed.least in
+          let fewest : listed.said_bios ≤ length w.bios = listed.fewest in
+          newest k listed.said listed.said_bios (record { low = low; past = past }) listed.there (omega (arith, least, size.0)) (omega (arith, fewest, size.1))
+      | inr high ↦ passed k w high there listed fits
+    ]
+
+    pub passed_more : (id : ℕ) → ((k s b : ℕ) → StandsBetween below (Some id) k → IsInClass has (p, b) s k → s ≤ room → b ≤ room_bios → ⊥) → ((w : Waiting) → found id ≡ Some w → Fits limits w.bios newcomer side → ⊥) → (k : ℕ) (w : Waiting) → id ≤ k → found k ≡ Some w → ShapeListed has p k (sectors_of w.bios) (length w.bios) → Fits limits w.bios newcomer side → ⊥
+    passed_more id newest not_here k w from there listed fits = elim (cases_eq k id) [
+      | inl same ↦ not_here w (ap found (sym same) ∙ there) fits
+      | inr other ↦ later (Some id) newest k w (omega arith) there listed fits
+    ]
+
+-- the request of an id that fits, and that of one that doesn't
+pub some_fits : (limits : Limits) (found : Found) (newcomer : List Bio) (side : Side) (id : ℕ) → NoneAfter limits found newcomer side (Some id) (λ k w. let o : Option ℕ = Some id in o ≡ Some k)
+some_fits limits found newcomer side id k w past there same fits = let it : id ≡ k = cc in omega arith
+
+pub none_fits : (limits : Limits) (found : Found) (newcomer : List Bio) (side : Side) (id : ℕ) → ((w : Waiting) → found id ≡ Some w → Fits limits w.bios newcomer side → ⊥) → NoneAfter limits found newcomer side None (λ k w. let o : Option ℕ = Some id in o ≡ Some k)
+none_fits limits found newcomer side id not_here k w past there same fits = let it : id ≡ k = cc in not_here w (ap found it ∙ there) fits
+
+some_greater : (P : ℕ → Type 0) (one other : Option ℕ) → IfSome one P → IfSome other P → IfSome (greater_of one other) P
+some_greater P None other h k = k
+some_greater P (Some a) None h k = h
+some_greater P (Some a) (Some b) h k = elim (nat_lt a b) as (λ less. P (if less then b else a)) [ true ↦ k | false ↦ h ]
+
+module _ {A : Type 0} (limits : Limits) (found : Found) (newcomer : List Bio) (side : Side) (edge : Edge A) (p : DirSector) (edges : IsEdge (at_of side) found edge) (is : p ≡ touch_of side (extent_of newcomer)) where
+  abbrev Alone : ℕ → Waiting → Type 0
+  Alone k w = one_of_place edge.ones p ≡ Some k
+
+  abbrev Among : ℕ → Waiting → Type 0
+  Among k w = ShapeListed (entries_in edge.others) p k (sectors_of w.bios) (length w.bios)
+
+  listed_here : (k : ℕ) (w : Waiting) → found k ≡ Some w → Fits limits w.bios newcomer side → Lists edge p k (sectors_of w.bios) (length w.bios)
+  listed_here k w there fits =
+      subst (λ (q : DirSector). Lists edge q k (sectors_of w.bios) (length w.bios)) (touches limits w.bios newcomer side fits ∙ sym is) (edges k w there)
+
+  none_after : (result : Option ℕ) → NoneAfter limits found newcomer side result Alone → NoneAfter limits found newcomer side result Among → (k : ℕ) (w : Waiting) → IsNewer result k → found k ≡ Some w → Fits limits w.bios newcomer side → ⊥
+  none_after result alone among k w past there fits = elim (listed_here k w there fits) [
+    | inl one ↦ alone k w past there one fits
+    | inr listed ↦ among k w past there listed fits
+  ]
+
+  pub newest_of_edge : (result : Option ℕ) → IfSome result (λ k. FitsBy limits (found k) newcomer side) → NoneAfter limits found newcomer side result Alone → NoneAfter limits found newcomer side result Among → IfSome result (IsNewestBy limits found newcomer side) × IfNone result (FitsNoneBy limits found newcomer side)
+  newest_of_edge None here alone among = (tt, λ k w there fits. none_after None alone among k w tt there fits)
+  newest_of_edge (Some id) here alone among = (
+    record {
+      waiting = here.waiting;
+      is_found = here.is_found;
+      fits = here.fits;
+      only = here.only;
+      newest = λ k w after there fits. none_after (Some id) alone among k w after there fits;
+    },
+    tt,
+  )
+
+  -- where no place has several
+  pub none_among : (result : Option ℕ) → ((e : Key) → entries_in edge.others e ≡ false) → NoneAfter limits found newcomer side result Among
+  none_among result none k w past there listed fits =
+      let no : true ≡ false = sym (listed.there 1 (inl refl)) ∙ none ((((p, listed.said_bios), 1), listed.said / 1), k) in absurd (cc)
+
+  -- of one by itself and of one among others the greater
+  pub newest_of_both : (one other : Option ℕ) → IfSome one (λ k. FitsBy limits (found k) newcomer side) → IfSome other (λ k. FitsBy limits (found k) newcomer side) → NoneAfter limits found newcomer side one Alone → NoneAfter limits found newcomer side other Among → IfSome (greater_of one other) (IsNewestBy limits found newcomer side) × IfNone (greater_of one other) (FitsNoneBy limits found newcomer side)
+  newest_of_both one other here here_too alone among =
+      newest_of_edge (greater_of one other) (some_greater (λ k. FitsBy limits (found k) newcomer side) one other here here_too)
+      (λ k w past. alone k w (past_both one other k past).0) (λ k w past. among k w (past_both one other k past).1)
 
 -- ---- of the newest at both sides the newer
 

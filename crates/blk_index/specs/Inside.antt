@@ -1,10 +1,10 @@
 -- What invariants and proofs alone need: the spots of requests, the search for a join, FIFO lists and sort lists, and the requests in a slab.
 pub mod Spots
-pub mod Search
-pub mod SectorKeys
-pub mod Buckets
-pub mod Tables
 pub mod Edges
+pub mod Search
+pub mod Entries
+pub mod Shapes
+pub mod Places
 pub mod RequestSlabs
 pub mod Lists
 pub mod FifoLists

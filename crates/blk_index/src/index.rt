@@ -10,14 +10,16 @@ ghost use Rattle.blk_bio.specs.declared.bio.TheConstants.{MAX_END};
 ghost use Rattle.blk_bio.specs.Extents.{extent_of};
 ghost use Rattle.blk_bio.specs.Requests.{Fits, sectors_of};
 ghost use Rattle.std.specs.Bool.{OnTrue, OnFalse};
-ghost use Rattle.blk_index.specs.Inside.Buckets.{IsEdge};
-ghost use Rattle.blk_index.specs.Inside.Edges.{buckets_in, others_in};
+ghost use Rattle.blk_index.specs.Inside.Edges.{IsEdge};
+ghost use Rattle.blk_index.specs.Inside.Shapes.{entries_in};
 ghost use Rattle.blk_index.specs.Index.{IsJoined, IsOldest, IsFirst, NoneOf, FindsNothing};
-ghost use Rattle.blk_index.specs.Inside.Search.{IsNewestBy, FitsNoneBy, FitsBy, at_of, touch_of, newer_of, lesser_of};
+ghost use Rattle.blk_index.specs.Inside.Search.{IsNewestBy, FitsNoneBy, FitsBy, NoneAfter, StandsAlone, StandsAmong, at_of, touch_of, opposite_of, newer_of, lesser_of};
 
+use crate::edges::{Edge, Edges, Spot, end_spot, first_spot, is_write};
 use crate::fifo::FifoLists;
-use crate::merge_hash::{MergeHash, MergeHashes, Spot, end_spot, first_spot, is_write};
+use crate::ids::greater;
 use crate::request_slab::RequestSlab;
+use crate::shapes::{Place, Shapes};
 use blk_bio::{Dir, Extent, Limits, Request, Side};
 use blk_sched::Queued;
 use std::alloc::{AllocError, Allocator, Global};
@@ -27,7 +29,7 @@ use std::marker::Model;
 #[derive(Drop)]
 pub struct Index<A: Allocator = Global> {
     waiting: RequestSlab<A>,
-    edges: MergeHashes<A>,
+    edges: Edges<A>,
     fifo: FifoLists<A>,
 }
 
@@ -55,7 +57,7 @@ impl<A: Allocator + Clone> Index<A> {
     {
         Ok(Index {
             waiting: RequestSlab::new(alloc.clone()?)?,
-            edges: MergeHashes::new(alloc.clone()?)?,
+            edges: Edges::new(alloc.clone()?)?,
             fifo: FifoLists::new(alloc)?,
         })
     }
@@ -98,7 +100,7 @@ impl<A: Allocator + Clone> Index<A> {
         match self.waiting.insert(queued) {
             Ok(()) => Ok(()),
             Err(queued) => {
-                self.edges.del(extent, id);
+                self.edges.del(extent, sectors, id);
                 self.fifo.del(&self.waiting, extent.dir, id);
                 Err(queued)
             }
@@ -116,14 +118,13 @@ impl<A: Allocator + Clone> Index<A> {
             return None;
         };
         let extent = extent_of(&queued);
-        self.edges.del(extent, id);
+        self.edges.del(extent, sectors_of(&queued), id);
         self.fifo.del(&self.waiting, extent.dir, id);
         Some(queued)
     }
 
     /// The newest request that a newcomer fits, by its id, and the side. The front is tried only where `front` allows
-    /// it. Only requests that the newcomer touches are looked at, and none of these where each has too many sectors, or each
-    /// too many bios.
+    /// it. Of the requests that the newcomer touches at a side, at most two are looked at.
     #[inline(always)]
     pub fn candidate(
         &self,
@@ -178,10 +179,11 @@ impl<A: Allocator + Clone> Index<A> {
         ensures err { IfErr result (λ e. e ≡ newcomer) }
         ensures same { OnErr result (self.new ≡ self.old) }
     {
-        let MergeHashes { front, back } = &mut self.edges;
+        let Edges { front, back } = &mut self.edges;
+        let waiting = &mut self.waiting;
         match side {
-            Side::Back => join_in(&mut self.waiting, back, id, side, now, limits, newcomer),
-            Side::Front => join_in(&mut self.waiting, front, id, side, now, limits, newcomer),
+            Side::Back => join_in(waiting, back, front, id, side, now, limits, newcomer),
+            Side::Front => join_in(waiting, front, back, id, side, now, limits, newcomer),
         }
     }
 }
@@ -205,6 +207,8 @@ fn room_beside<A: Allocator + Clone>(newcomer: &Request<A>, limits: &Limits) -> 
     ensures wide { limits.now.max_sectors ≤ result.0 + sectors_of newcomer.now }
     ensures wide_bios { limits.now.max_segments ≤ result.1 + length newcomer.now }
     ensures some { 0 < sectors_of newcomer.now }
+    ensures few { result.0 < 65535 }
+    ensures few_bios { result.1 < 2 ^ 63 }
 {
     let bios = newcomer.bios().len() as u64;
     (
@@ -233,26 +237,46 @@ fn fits_by<A: Allocator + Clone>(
     }
 }
 
-/// The newest request that a newcomer fits at a side, where `spots` are the requests' ends at that side.
+/// The request of an id, where there is one and a newcomer fits it at a side.
 #[inline(always)]
-fn newest_of<A: Allocator + Clone>(
+fn fit_of<A: Allocator + Clone>(
     waiting: &RequestSlab<A>,
-    spots: &MergeHash<A>,
+    one: Option<u64>,
     side: Side,
     newcomer: &Request<A>,
     limits: &Limits,
 ) -> Option<u64>
-    requires { IsEdge (at_of side) (map.get waiting.now) (buckets_in spots.now) (others_in spots.now) }
-    ensures some { IfSome result (IsNewestBy limits.now (map.get waiting.now) newcomer.now side) }
-    ensures none { IfNone result (FitsNoneBy limits.now (map.get waiting.now) newcomer.now side) }
+    ensures some { IfSome result (λ k. FitsBy limits.now (map.get waiting.now k) newcomer.now side) }
+    ensures newest { NoneAfter limits.now (map.get waiting.now) newcomer.now side result (StandsAlone one) }
 {
-    let place = touched(side, newcomer);
-    let (room, room_bios) = room_beside(newcomer, limits);
-    if !spots.may_have(place, room, room_bios) {
+    let Some(id) = one else {
         return None;
+    };
+    if fits_by(waiting, id, side, newcomer, limits) {
+        Some(id)
+    } else {
+        None
     }
+}
+
+/// Of the requests that share a place the newest one that a newcomer fits at a side. More than one is looked at only where memory was refused as
+/// one of them grew.
+#[cold]
+#[inline(never)]
+fn newest_among<A: Allocator + Clone>(
+    waiting: &RequestSlab<A>,
+    others: &Shapes<A>,
+    place: Place,
+    side: Side,
+    newcomer: &Request<A>,
+    limits: &Limits,
+) -> Option<u64>
+    ensures some { IfSome result (λ k. FitsBy limits.now (map.get waiting.now k) newcomer.now side) }
+    ensures newest { NoneAfter limits.now (map.get waiting.now) newcomer.now side result (StandsAmong (entries_in others.now) place) }
+{
+    let (room, room_bios) = room_beside(newcomer, limits);
     let mut below = None;
-    while let Some(id) = spots.newest_at(place, below) {
+    while let Some(id) = others.newest(place, room, room_bios, below) {
         if fits_by(waiting, id, side, newcomer, limits) {
             return Some(id);
         }
@@ -261,16 +285,38 @@ fn newest_of<A: Allocator + Clone>(
     None
 }
 
+/// The newest request that a newcomer fits at a side, where `edge` lists the requests at that side.
+#[inline(always)]
+fn newest_of<A: Allocator + Clone>(
+    waiting: &RequestSlab<A>,
+    edge: &Edge<A>,
+    side: Side,
+    newcomer: &Request<A>,
+    limits: &Limits,
+) -> Option<u64>
+    requires { IsEdge (at_of side) (map.get waiting.now) edge.now }
+    ensures some { IfSome result (IsNewestBy limits.now (map.get waiting.now) newcomer.now side) }
+    ensures none { IfNone result (FitsNoneBy limits.now (map.get waiting.now) newcomer.now side) }
+{
+    let place = touched(side, newcomer);
+    let one = fit_of(waiting, edge.ones.get(place), side, newcomer, limits);
+    if edge.others.is_empty() {
+        return one;
+    }
+    let other = newest_among(waiting, &edge.others, place, side, newcomer, limits);
+    greater(one, other)
+}
+
 /// The same at the front, where that is allowed.
 #[inline(always)]
 fn newest_ahead<A: Allocator + Clone>(
     waiting: &RequestSlab<A>,
-    spots: &MergeHash<A>,
+    edge: &Edge<A>,
     front: bool,
     newcomer: &Request<A>,
     limits: &Limits,
 ) -> Option<u64>
-    requires { IsEdge (at_of Side.Front) (map.get waiting.now) (buckets_in spots.now) (others_in spots.now) }
+    requires { IsEdge (at_of Side.Front) (map.get waiting.now) edge.now }
     ensures some { IfSome result (IsNewestBy limits.now (map.get waiting.now) newcomer.now Side.Front) }
     ensures tried { OnSome result (IsTrue front) }
     ensures none { IfNone result (IsTrue front → FitsNoneBy limits.now (map.get waiting.now) newcomer.now Side.Front) }
@@ -278,7 +324,7 @@ fn newest_ahead<A: Allocator + Clone>(
     if !front {
         return None;
     }
-    newest_of(waiting, spots, Side::Front, newcomer, limits)
+    newest_of(waiting, edge, Side::Front, newcomer, limits)
 }
 
 /// Of two ids the lesser.
@@ -328,10 +374,21 @@ fn spot_at(side: Side, extent: Extent, id: u64) -> Spot
     }
 }
 
-/// Joins a newcomer to the request of an id, where `spots` are the requests' ends at the side.
+/// The other side.
+fn opposite_of(side: Side) -> Side
+    ensures { result ≡ opposite_of side }
+{
+    match side {
+        Side::Back => Side::Front,
+        Side::Front => Side::Back,
+    }
+}
+
+/// Joins a newcomer to the request of an id, where `edge` lists the requests at the side, and `other` at the other one.
 fn join_in<A: Allocator + Clone>(
     waiting: &mut RequestSlab<A>,
-    spots: &mut MergeHash<A>,
+    edge: &mut Edge<A>,
+    other: &mut Edge<A>,
     id: u64,
     side: Side,
     now: u64,
@@ -339,8 +396,10 @@ fn join_in<A: Allocator + Clone>(
     newcomer: Request<A>,
 ) -> Result<(), Request<A>>
     requires fit { HasFit limits.now (map.get waiting.old) newcomer id side }
-    requires spots { IsEdge (at_of side) (map.get waiting.old) (buckets_in spots.old) (others_in spots.old) }
-    ensures spots { IsEdge (at_of side) (map.get waiting.new) (buckets_in spots.new) (others_in spots.new) }
+    requires edge { IsEdge (at_of side) (map.get waiting.old) edge.old }
+    requires other { IsEdge (at_of (opposite_of side)) (map.get waiting.old) other.old }
+    ensures edge { IsEdge (at_of side) (map.get waiting.new) edge.new }
+    ensures other { IsEdge (at_of (opposite_of side)) (map.get waiting.new) other.new }
     ensures joined { OnOk result (IsJoined now newcomer waiting.old id side waiting.new) }
     ensures err { IfErr result (λ e. e ≡ newcomer) }
     ensures same { OnErr result (waiting.new ≡ waiting.old) }
@@ -351,18 +410,22 @@ fn join_in<A: Allocator + Clone>(
         unreachable!()
     };
     let before = extent_of(queued);
-    let spot = spot_at(side, added, id);
+    let had = sectors_of(queued);
+    let has = had + sectors;
     let bios = bios_of(before, added);
-    let Ok(()) = spots.put(spot, sectors_of(queued) + sectors, bios) else {
+    let spot = spot_at(side, added, id);
+    let Ok(()) = edge.put(spot, has, bios) else {
         return Err(newcomer);
     };
     match waiting.join(id, newcomer, now, limits) {
         Ok(_) => {
-            spots.take(spot_at(side, before, id));
+            edge.take(spot_at(side, before, id), had, before.bios);
+            let own = spot_at(opposite_of(side), before, id);
+            other.relist(own, (had, before.bios), (has, bios));
             Ok(())
         }
         Err(newcomer) => {
-            spots.take(spot);
+            edge.take(spot, has, bios);
             Err(newcomer)
         }
     }

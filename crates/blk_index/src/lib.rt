@@ -1,13 +1,15 @@
 //! What schedulers keep waiting requests in, so that the one that a newcomer joins is found by the sectors that it touches.
 #![tactic(auto)]
 
-mod buckets;
+mod edges;
+mod entry;
 mod fifo;
+mod ids;
 mod index;
-mod merge_hash;
+mod places;
 mod queues;
 mod request_slab;
-mod sector_key;
+mod shapes;
 mod slab_keys;
 mod sort;
 mod sort_key;

@@ -4,15 +4,14 @@ ghost use Rattle.std.specs.Prelude.{◌≡◌, ◌+◌, ◌++◌, ◌∷◌, [],
 ghost use Rattle.std.specs.Bool.{OnTrue};
 ghost use Rattle.blk_index.specs.Inside.SlabKeys.{run_of, run_at, key_in, entries_of, slab_key_of, GivesKey};
 
-use crate::merge_hash::Hashing;
 use std::alloc::{AllocError, Allocator, Global};
-use std::collections::{HashMap, VecDeque};
+use std::collections::{BTreeMap, VecDeque};
 
 /// How many ids a run may pass over for each of its keys. To pass over these and to drop them again costs less than a place
-/// in the hash table.
+/// in the ordered map.
 const MAX_PASSED: usize = 4;
 
-/// The keys of ids: those of a run of rising ids, and in a hash table those of others. Requests mostly enter by rising ids, of
+/// The keys of ids: those of a run of rising ids, and in an ordered map those of others. Requests mostly enter by rising ids, of
 /// which each hardware queue gets a few in a row, and then all stand in the run, where a key is found at once.
 #[derive(Drop)]
 pub struct SlabKeys<A: Allocator = Global> {
@@ -23,7 +22,7 @@ pub struct SlabKeys<A: Allocator = Global> {
     /// How many ids without a key the run may still pass over.
     spare: usize,
     /// The keys of other ids.
-    pub others: HashMap<u64, usize, Hashing, A>,
+    pub others: BTreeMap<u64, usize, A>,
 }
 
 impl<A: Allocator + Clone> SlabKeys<A> {
@@ -35,7 +34,7 @@ impl<A: Allocator + Clone> SlabKeys<A> {
             from: 0,
             run: VecDeque::new(alloc.clone()?),
             spare: 0,
-            others: HashMap::new(alloc),
+            others: BTreeMap::new(alloc),
         })
     }
 
@@ -203,12 +202,9 @@ fn take_key<A: Allocator + Clone>(
     found
 }
 
-/// The key of an id in a hash table.
+/// The key of an id in an ordered map.
 #[inline(always)]
-fn other_key<A: Allocator + Clone>(
-    others: &HashMap<u64, usize, Hashing, A>,
-    id: u64,
-) -> Option<usize>
+fn other_key<A: Allocator + Clone>(others: &BTreeMap<u64, usize, A>, id: u64) -> Option<usize>
     ensures { result ≡ key_in others.now.entries id }
 {
     if others.is_empty() {
@@ -220,9 +216,9 @@ fn other_key<A: Allocator + Clone>(
     Some(*key)
 }
 
-/// Puts the key of an id into a hash table. On a refusal nothing is changed.
+/// Puts the key of an id into an ordered map. On a refusal nothing is changed.
 fn put_other<A: Allocator + Clone>(
-    others: &mut HashMap<u64, usize, Hashing, A>,
+    others: &mut BTreeMap<u64, usize, A>,
     id: u64,
     key: usize,
 ) -> Result<(), AllocError>
@@ -235,12 +231,9 @@ fn put_other<A: Allocator + Clone>(
     }
 }
 
-/// Takes the key of an id out of a hash table.
+/// Takes the key of an id out of an ordered map.
 #[inline(always)]
-fn take_other<A: Allocator + Clone>(
-    others: &mut HashMap<u64, usize, Hashing, A>,
-    id: u64,
-) -> Option<usize>
+fn take_other<A: Allocator + Clone>(others: &mut BTreeMap<u64, usize, A>, id: u64) -> Option<usize>
     ensures value { result ≡ key_in others.old.entries id }
     ensures taken { GivesKey (key_in others.old.entries) id None (key_in others.new.entries) }
 {

@@ -6,7 +6,7 @@ ghost use Rattle.std.specs.declared.cmp.Ordering.TheVariants.{Less};
 ghost use Rattle.blk_index.specs.Inside.Spots.{Spot, Adds, TakesSpot, Keeps};
 ghost use Rattle.blk_index.specs.Inside.SortLists.{pair_cmp, PairAdded, PairTaken, PairsKept, IsLeastAbove, IsNextPair, NoPair, IsNextIn, NoNextIn, sorted_in};
 
-use crate::merge_hash::Spot;
+use crate::edges::Spot;
 use crate::sort_key::SortKey;
 use blk_bio::Dir;
 use std::alloc::{AllocError, Allocator, Global};

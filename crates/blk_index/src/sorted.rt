@@ -9,8 +9,8 @@ ghost use Rattle.blk_index.specs.Inside.Spots.{AreSpots, first_at};
 ghost use Rattle.blk_index.specs.Inside.SortLists.{sorted_in};
 ghost use Rattle.blk_index.specs.Index.{IsJoined, IsOldest, IsNext, NoneOf, NoNext};
 
+use crate::edges::first_spot;
 use crate::index::{Index, extent_of, id_of};
-use crate::merge_hash::first_spot;
 use crate::sort::SortLists;
 use blk_bio::{Dir, Limits, Request, Side};
 use blk_sched::Queued;

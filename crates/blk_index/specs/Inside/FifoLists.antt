@@ -4,7 +4,7 @@ use Rattle.blk_bio.specs.declared.bio.Dir.TheVariants.{Read, Write}
 use Rattle.blk_bio.specs.declared.bio.Dir.{Dir}
 use Rattle.blk_bio.specs.Requests.{dir_of}
 use Rattle.blk_sched.specs.Meaning.{Waiting}
-use Rattle.blk_index.specs.Inside.Buckets.{Becomes}
+use Rattle.blk_index.specs.Inside.Spots.{Becomes}
 use Rattle.blk_index.specs.Inside.Lists.{IsFifoList}
 use Rattle.blk_index.specs.declared.fifo.FifoLists.{FifoLists}
 

@@ -1,13 +1,15 @@
 -- The search for a join at one side, and ids that are compared.
-use Rattle.std.specs.Prelude.{ℕ, ◌≡◌, ◌<◌, ◌≤◌, ◌^◌, List, Option, Some, None, if◌then◌else◌, nat_lt}
+use Rattle.std.specs.Prelude.{ℕ, ◌≡◌, ◌<◌, ◌≤◌, ◌^◌, Bool, List, length, Option, Some, None, if◌then◌else◌, nat_lt}
 use Rattle.blk_bio.specs.declared.request.Side.{Side}
 use Rattle.blk_bio.specs.declared.request.Side.TheVariants.{Back, Front}
 use Rattle.blk_bio.specs.declared.extent.Extent.{Extent}
 use Rattle.blk_bio.specs.Bios.{Bio}
 use Rattle.blk_bio.specs.Limits.{Limits}
-use Rattle.blk_bio.specs.Requests.{Fits}
+use Rattle.blk_bio.specs.Requests.{Fits, sectors_of}
 use Rattle.blk_sched.specs.Meaning.{Waiting}
-use Rattle.blk_index.specs.Inside.Spots.{DirSector, first_at, end_at}
+use Rattle.blk_index.specs.Inside.Spots.{DirSector, first_at, end_at, IsNewer}
+use Rattle.blk_index.specs.Inside.Entries.{Key}
+use Rattle.blk_index.specs.Inside.Shapes.{ShapeListed}
 
 -- each request has its id
 abbrev pub IsNamed : (ℕ → Option Waiting) → Type 0
@@ -40,6 +42,24 @@ pub record FitsBy (limits : Limits) (found : Option Waiting) (newcomer : List Bi
   pub is_found : found ≡ Some waiting
   pub fits : Fits limits waiting.bios newcomer side
   pub only : (other : Side) → Fits limits waiting.bios newcomer other → other ≡ side
+
+-- after the one that was found, if one was, none of some requests fits
+abbrev pub NoneAfter : Limits → (ℕ → Option Waiting) → List Bio → Side → Option ℕ → (ℕ → Waiting → Type 0) → Type 0
+NoneAfter limits found newcomer side result OneOf =
+    (k : ℕ) (w : Waiting) → IsNewer result k → found k ≡ Some w → OneOf k w → Fits limits w.bios newcomer side → ⊥
+
+-- the request of an id stands by itself
+abbrev pub StandsAlone : Option ℕ → ℕ → Waiting → Type 0
+StandsAlone one k w = one ≡ Some k
+
+-- a request is listed among others of a place
+abbrev pub StandsAmong : (Key → Bool) → DirSector → ℕ → Waiting → Type 0
+StandsAmong has p k w = ShapeListed has p k (sectors_of w.bios) (length w.bios)
+
+-- the other side
+abbrev pub opposite_of : Side → Side
+opposite_of Back = Front
+opposite_of Front = Back
 
 -- ids that were passed, and how many there may be below
 abbrev pub IsPassed : Option ℕ → ℕ → Type 0

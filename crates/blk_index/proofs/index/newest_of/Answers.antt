@@ -1,24 +1,38 @@
+use Rattle.std.proofs.Common.{ℕ, Option, sym, subst}
+use Rattle.std.specs.Prelude.{IfSome, IfNone}
 use Rattle.std.specs.FinMap as map
-use Rattle.blk_index.specs.Inside.Edges.{buckets_in, others_in, spots_in}
-use Rattle.blk_index.proofs.Walk.{newest_by, passed_more, none_by, none_room}
+use Rattle.blk_index.specs.Inside.Search.{NoneAfter, StandsAlone, IsNewestBy, FitsNoneBy}
+use Rattle.blk_index.proofs.Walk.{newest_of_edge, newest_of_both, none_among}
 use Rattle.blk_index.proofs.index.newest_of.Goals as goal
 
-pub returns-then-fits_by-clause-some : goal.returns-then-fits_by-clause-some
-returns-then-fits_by-clause-some g c =
-    newest_by c.args.limits.now (map.get c.args.waiting.now) (spots_in c.args.spots.now) c.args.newcomer.now c.args.side c.touched-place.result c.requires.spots c.touched-place.ensures.value
-    c.loop-id.below c.in-Some.id c.in-Some.ensures.some c.loop-id.invariant c.if-fits_by.ensures.yes
+pub returns-then-is_empty-clause-some : goal.returns-then-is_empty-clause-some
+returns-then-is_empty-clause-some g c =
+    let found = map.get c.args.waiting.now in
+    (newest_of_edge c.args.limits.now found c.args.newcomer.now c.args.side c.args.edge.now c.touched-place.result c.requires c.touched-place.ensures.value c.fit_of-one.result c.fit_of-one.ensures.some
+    (subst (λ (o : Option ℕ). NoneAfter c.args.limits.now found c.args.newcomer.now c.args.side c.fit_of-one.result (StandsAlone o)) c.get.ensures c.fit_of-one.ensures.newest)
+    (none_among c.args.limits.now found c.args.newcomer.now c.args.side c.args.edge.now c.touched-place.result c.requires c.touched-place.ensures.value c.fit_of-one.result c.if-is_empty.ensures)).0
 
-pub loop-id-preserved : goal.loop-id-preserved
-loop-id-preserved g c =
-    passed_more c.args.limits.now (map.get c.args.waiting.now) (spots_in c.args.spots.now) c.args.newcomer.now c.args.side c.touched-place.result c.requires.spots c.touched-place.ensures.value
-    c.loop-id.below c.in-Some.id c.in-Some.ensures.some c.loop-id.invariant c.if-fits_by.ensures.no
+pub returns-then-is_empty-clause-none : goal.returns-then-is_empty-clause-none
+returns-then-is_empty-clause-none g c =
+    let found = map.get c.args.waiting.now in
+    (newest_of_edge c.args.limits.now found c.args.newcomer.now c.args.side c.args.edge.now c.touched-place.result c.requires c.touched-place.ensures.value c.fit_of-one.result c.fit_of-one.ensures.some
+    (subst (λ (o : Option ℕ). NoneAfter c.args.limits.now found c.args.newcomer.now c.args.side c.fit_of-one.result (StandsAlone o)) c.get.ensures c.fit_of-one.ensures.newest)
+    (none_among c.args.limits.now found c.args.newcomer.now c.args.side c.args.edge.now c.touched-place.result c.requires c.touched-place.ensures.value c.fit_of-one.result c.if-is_empty.ensures)).1
+
+pub returns-clause-some : goal.returns-clause-some
+returns-clause-some g c =
+    let found = map.get c.args.waiting.now in
+    subst (λ (r : Option ℕ). IfSome r (IsNewestBy c.args.limits.now found c.args.newcomer.now c.args.side)) (sym c.greater.ensures)
+    (newest_of_both c.args.limits.now found c.args.newcomer.now c.args.side c.args.edge.now c.touched-place.result c.requires c.touched-place.ensures.value
+    c.fit_of-one.result c.newest_among-other.result c.fit_of-one.ensures.some c.newest_among-other.ensures.some
+    (subst (λ (o : Option ℕ). NoneAfter c.args.limits.now found c.args.newcomer.now c.args.side c.fit_of-one.result (StandsAlone o)) c.get.ensures c.fit_of-one.ensures.newest)
+    c.newest_among-other.ensures.newest).0
 
 pub returns-clause-none : goal.returns-clause-none
 returns-clause-none g c =
-    none_by c.args.limits.now (map.get c.args.waiting.now) (spots_in c.args.spots.now) c.args.newcomer.now c.args.side c.touched-place.result c.requires.spots c.touched-place.ensures.value
-    c.loop-id.below c.in_default.ensures.none c.loop-id.invariant
-
-pub returns-then-not-may_have-clause-none : goal.returns-then-not-may_have-clause-none
-returns-then-not-may_have-clause-none g c =
-    none_room c.args.limits.now (map.get c.args.waiting.now) (buckets_in c.args.spots.now) (others_in c.args.spots.now) c.args.newcomer.now c.args.side c.touched-place.result c.room_beside-room.result.0 c.room_beside-room.result.1
-    c.requires c.touched-place.ensures.value c.room_beside-room.ensures.wide c.room_beside-room.ensures.wide_bios c.room_beside-room.ensures.some c.if-not-may_have.ensures
+    let found = map.get c.args.waiting.now in
+    subst (λ (r : Option ℕ). IfNone r (FitsNoneBy c.args.limits.now found c.args.newcomer.now c.args.side)) (sym c.greater.ensures)
+    (newest_of_both c.args.limits.now found c.args.newcomer.now c.args.side c.args.edge.now c.touched-place.result c.requires c.touched-place.ensures.value
+    c.fit_of-one.result c.newest_among-other.result c.fit_of-one.ensures.some c.newest_among-other.ensures.some
+    (subst (λ (o : Option ℕ). NoneAfter c.args.limits.now found c.args.newcomer.now c.args.side c.fit_of-one.result (StandsAlone o)) c.get.ensures c.fit_of-one.ensures.newest)
+    c.newest_among-other.ensures.newest).1

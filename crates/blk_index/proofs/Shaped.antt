@@ -1,0 +1,206 @@
+-- The order of entries, and which requests of shared places are looked at.
+use Rattle.std.proofs.Common.{◌≡◌, ◌<◌, ◌≤◌, ◌+◌, ◌-◌, ◌*◌, ◌/◌, ◌%◌, inl, inr, ℕ, Bool, true, false, sym, ap, subst, ◌∙◌, refl, arith, Some, None, Option}
+use Rattle.std.specs.Prelude.{IfSome, nat_lt}
+use Rattle.std.specs.Ordering.{nat_cmp, ordering_then, eq_by_cmp, is_eq, is_lt}
+use Rattle.std.specs.Cmp.{nat_cmp_total, tied_itself}
+use Rattle.std.specs.declared.cmp.Ordering.{Ordering}
+use Rattle.std.specs.declared.cmp.Ordering.TheVariants.{Less, Equal, Greater}
+use Rattle.std.proofs.lemmas.Bool.{cases_eq, cases_lt}
+use borrow.Author.Tests.{ltb-true, ltb-false}
+use Rattle.blk_index.specs.Inside.Spots.{DirSector, place_cmp, IsBelow, IsNewer, greater_of}
+use Rattle.blk_index.specs.Inside.Entries.{Class, Block, Key, with_number, class_cmp, sized_cmp, block_cmp, entry_cmp}
+use Rattle.blk_index.specs.Inside.Shapes.{IsUnit, IsInClass, StandsBetween, upper_of}
+use Rattle.blk_index.proofs.Listed.{lt_of, nat_less, eq_of, same_place, place_itself, is_equal, first_less, below_zero}
+
+number_itself : (n : ℕ) → nat_cmp n n ≡ Equal
+number_itself n = tied_itself nat_cmp_total n
+
+-- an order in which only equal ones are tied, and each one with itself
+record IsExact {K : Type 0} (cmp : K → K → Ordering) : Type 0 where
+  tied : (x y : K) → cmp x y ≡ Equal → x ≡ y
+  itself : (x : K) → cmp x x ≡ Equal
+
+both : (o r : Ordering) → ordering_then o r ≡ Equal → (o ≡ Equal) × (r ≡ Equal)
+both Less r h = cc
+both Equal r h = (refl, h)
+both Greater r h = cc
+
+pub not_lt : (a b : ℕ) → (a < b → ⊥) → b ≤ a
+not_lt a b not_less = elim (cases_lt a b) [ inl less ↦ absurd (not_less less) | inr more ↦ more ]
+
+same_pair : {K : Type 0} (x y : K × ℕ) → x.0 ≡ y.0 → x.1 ≡ y.1 → x ≡ y
+same_pair {K} x y one other = ap (λ (k : K). let r : K × ℕ = (k, x.1) in r) one ∙ ap (λ (n : ℕ). let r : K × ℕ = (y.0, n) in r) other
+
+place_exact : IsExact place_cmp
+place_exact = record { tied = same_place; itself = place_itself }
+
+module _ {K : Type 0} (cmp : K → K → Ordering) where
+  -- nothing is below a number of 0
+  before : (e : K × ℕ) (x : K) → with_number cmp e (x, 0) ≡ Less → cmp e.0 x ≡ Less
+  before e x low = first_less (cmp e.0 x) (nat_cmp e.1 0) low (below_zero e.1)
+
+  sooner : (e q : K × ℕ) → cmp e.0 q.0 ≡ Less → with_number cmp e q ≡ Less
+  sooner e q h = ap (λ o. ordering_then o (nat_cmp e.1 q.1)) h
+
+module _ {K : Type 0} (cmp : K → K → Ordering) (exact : IsExact cmp) where
+  number_exact : IsExact (with_number cmp)
+  number_exact = record {
+    tied = λ x y h. let two = both (cmp x.0 y.0) (nat_cmp x.1 y.1) h in same_pair x y (exact.tied x.0 y.0 two.0) (eq_of x.1 y.1 two.1);
+    itself = λ x. ap (λ o. ordering_then o (nat_cmp x.1 x.1)) (exact.itself x.0) ∙ number_itself x.1;
+  }
+
+  same_then : (e : K × ℕ) (p : K) (k : ℕ) → e.0 ≡ p → e.1 < k → with_number cmp e (p, k) ≡ Less
+  same_then e p k same less = ap (λ o. ordering_then o (nat_cmp e.1 k)) (ap (λ x. cmp x p) same ∙ exact.itself p) ∙ nat_less e.1 k less
+
+  -- what is below one number of a key, and not below another, is of the key
+  between : (e : K × ℕ) (p : K) (b k : ℕ) → with_number cmp e (p, b) ≡ Less → (with_number cmp e (p, k) ≡ Less → ⊥) → (e.0 ≡ p) × (e.1 < b) × (k ≤ e.1)
+  between e p b k low not_less = elim (cmp e.0 p) as (λ o. cmp e.0 p ≡ o → (e.0 ≡ p) × (e.1 < b) × (k ≤ e.1)) [
+    | Less ↦ λ h. absurd (not_less (ap (λ o. ordering_then o (nat_cmp e.1 k)) h))
+    | Equal ↦ λ h. (
+      exact.tied e.0 p h,
+      lt_of e.1 b (sym (ap (λ o. ordering_then o (nat_cmp e.1 b)) h) ∙ low),
+      not_lt e.1 k (λ less. not_less (ap (λ o. ordering_then o (nat_cmp e.1 k)) h ∙ nat_less e.1 k less)),
+    )
+    | Greater ↦ λ h. let g : Greater ≡ Less = sym (ap (λ o. ordering_then o (nat_cmp e.1 b)) h) ∙ low in absurd (cc)
+  ] refl
+
+class_exact : IsExact class_cmp
+class_exact = number_exact place_cmp place_exact
+
+sized_exact : IsExact sized_cmp
+sized_exact = number_exact class_cmp class_exact
+
+block_exact : IsExact block_cmp
+block_exact = number_exact sized_cmp sized_exact
+
+is_not_less : (o : Ordering) → is_lt o ≡ false → o ≡ Less → ⊥
+is_not_less Less h e = cc
+is_not_less Equal h e = cc
+is_not_less Greater h e = cc
+
+-- ---- the classes of a place
+
+abbrev pub first_of_class : Class → Key
+first_of_class class = (((class, 0), 0), 0)
+
+in_class : (e q : Key) → class_cmp e.0.0.0 q.0.0.0 ≡ Less → entry_cmp e q ≡ Less
+in_class e q h = sooner block_cmp e q (sooner sized_cmp e.0 q.0 (sooner class_cmp e.0.0 q.0.0 h))
+
+before_class : (e : Key) (class : Class) → entry_cmp e (first_of_class class) ≡ Less → class_cmp e.0.0.0 class ≡ Less
+before_class e class low = before class_cmp e.0.0 class (before sized_cmp e.0 (class, 0) (before block_cmp e ((class, 0), 0) low))
+
+class_less : (p : DirSector) (b bound : ℕ) → b < bound → class_cmp (p, b) (p, bound) ≡ Less
+class_less p b bound less = same_then place_cmp place_exact (p, b) p bound refl less
+
+module _ (has : Key → Bool) (p : DirSector) (bound : ℕ) where
+  pub low_entry : (s k b : ℕ) → b < bound → entry_cmp (((((p, b), 1), s / 1), k)) (first_of_class (p, bound)) ≡ Less
+  low_entry s k b less = in_class ((((p, b), 1), s / 1), k) (first_of_class (p, bound)) (class_less p b bound less)
+
+  pub no_class : ((q : Key) → entry_cmp q (first_of_class (p, bound)) ≡ Less → has q ≡ true → ⊥) → (s k b : ℕ) → IsInClass has (p, b) s k → b < bound → ⊥
+  no_class none s k b there less = none ((((p, b), 1), s / 1), k) (low_entry s k b less) (there 1 (inl refl))
+
+  pub of_class : (e : Key) → entry_cmp e (first_of_class (p, bound)) ≡ Less → ((q : Key) → entry_cmp q (first_of_class (p, bound)) ≡ Less → has q ≡ true → is_lt (entry_cmp e q) ≡ false) → (s k b : ℕ) → IsInClass has (p, b) s k → b < bound → (e.0.0.0.0 ≡ p) × (e.0.0.0.1 < bound) × (b ≤ e.0.0.0.1)
+  of_class e low greatest s k b there less =
+      between place_cmp place_exact e.0.0.0 p bound b (before_class e (p, bound) low)
+      (λ h. is_not_less (entry_cmp e ((((p, b), 1), s / 1), k)) (greatest ((((p, b), 1), s / 1), k) (low_entry s k b less) (there 1 (inl refl))) (in_class e ((((p, b), 1), s / 1), k) h))
+
+-- ---- the entries of a block
+
+pub same_block : (a b : Block) → eq_by_cmp block_cmp a b ≡ true → a ≡ b
+same_block a b h = block_exact.tied a b (is_equal (block_cmp a b) h)
+
+pub other_block : (a b : Block) → eq_by_cmp block_cmp a b ≡ false → a ≡ b → ⊥
+other_block a b h same = let e : true ≡ false = sym (ap is_eq (ap (λ x. block_cmp a x) (sym same) ∙ block_exact.itself a)) ∙ h in cc
+
+pub below_upper : (block : Block) (below : Option ℕ) (k : ℕ) → IsBelow below k → entry_cmp (block, k) (upper_of block below) ≡ Less
+below_upper block None k low = sooner block_cmp (block, k) ((block.0, block.1 + 1), 0) (same_then sized_cmp sized_exact block block.0 (block.1 + 1) refl (omega arith))
+below_upper block (Some b) k low = same_then block_cmp block_exact (block, k) block b refl low
+
+pub of_block : (e : Key) (block : Block) (below : Option ℕ) (k : ℕ) → entry_cmp e (upper_of block below) ≡ Less → (entry_cmp e (block, k) ≡ Less → ⊥) → e.0 ≡ block
+of_block e block None k low not_less =
+    let w = between sized_cmp sized_exact e.0 block.0 (block.1 + 1) block.1 (before block_cmp e (block.0, block.1 + 1) low) (λ h. not_less (sooner block_cmp e (block, k) h)) in
+    same_pair e.0 block w.0 (omega (arith, w.1, w.2))
+of_block e block (Some b) k low not_less = (between block_cmp block_exact e block b k low not_less).0
+
+pub low_in : (e : Key) (block : Block) (below : Option ℕ) → e.0 ≡ block → entry_cmp e (upper_of block below) ≡ Less → IsBelow below e.1
+low_in e block None same low = tt
+low_in e block (Some b) same low = lt_of e.1 b (sym (ap (λ o. ordering_then o (nat_cmp e.1 b)) (ap (λ x. block_cmp x block) same ∙ block_exact.itself block)) ∙ low)
+
+module _ (has : Key → Bool) (block : Block) (below : Option ℕ) (e : Key) (low : entry_cmp e (upper_of block below) ≡ Less) (greatest : (q : Key) → entry_cmp q (upper_of block below) ≡ Less → has q ≡ true → is_lt (entry_cmp e q) ≡ false) where
+  stays : (k : ℕ) → IsBelow below k → has (block, k) ≡ true → entry_cmp e (block, k) ≡ Less → ⊥
+  stays k under there h = is_not_less (entry_cmp e (block, k)) (greatest (block, k) (below_upper block below k under) there) h
+
+  pub none_in : eq_by_cmp block_cmp e.0 block ≡ false → (k : ℕ) → IsBelow below k → has (block, k) ≡ true → ⊥
+  none_in other k under there = other_block e.0 block other (of_block e block below k low (stays k under there))
+
+  pub newest_here : eq_by_cmp block_cmp e.0 block ≡ true → (k : ℕ) → StandsBetween below (Some e.1) k → has (block, k) ≡ true → ⊥
+  newest_here same k follows there = stays k follows.low there (same_then block_cmp block_exact e block k (same_block e.0 block same) follows.past)
+
+-- ---- of two ids the greater
+
+pub past_both : (one other : Option ℕ) (k : ℕ) → IsNewer (greater_of one other) k → IsNewer one k × IsNewer other k
+past_both None other k past = (tt, past)
+past_both (Some a) None k past = (past, tt)
+past_both (Some a) (Some b) k past = elim (nat_lt a b) as (λ less. nat_lt a b ≡ less → IsNewer (greater_of (Some a) (Some b)) k → (a < k) × (b < k)) [
+  | true ↦ λ e h. let lt : a < b = ltb-true a b e in let g : b < k = grind (arith, e, h) in (omega arith, g)
+  | false ↦ λ e h. let le : b ≤ a = ltb-false a b e in let g : a < k = grind (arith, e, h) in (g, omega arith)
+] refl past
+
+pub follows_both : (below one other : Option ℕ) (k : ℕ) → StandsBetween below (greater_of one other) k → StandsBetween below one k × StandsBetween below other k
+follows_both below one other k follows =
+    let two = past_both one other k follows.past in
+    (record { low = follows.low; past = two.0 }, record { low = follows.low; past = two.1 })
+
+pub low_both : (below one other : Option ℕ) → IfSome one (IsBelow below) → IfSome other (IsBelow below) → IfSome (greater_of one other) (IsBelow below)
+low_both below None other l r = r
+low_both below (Some a) None l r = l
+low_both below (Some a) (Some b) l r = elim (nat_lt a b) as (λ less. nat_lt a b ≡ less → IfSome (greater_of (Some a) (Some b)) (IsBelow below)) [
+  | true ↦ λ e. grind (arith, e, l, r)
+  | false ↦ λ e. grind (arith, e, l, r)
+] refl
+
+-- ---- blocks of sectors
+
+-- blocks of the next size are a 16th as many
+pub blocks_up : (unit end s : ℕ) → IsUnit unit → end % 16 ≡ 0 → s / unit < end → s / (unit * 16) < end / 16
+blocks_up unit end s (inl is) whole less = subst (λ (u : ℕ). s / u < end → s / (u * 16) < end / 16) (sym is) (λ (h : s / 1 < end). let g : s / 16 < end / 16 = omega arith in g) less
+blocks_up unit end s (inr (inl is)) whole less = subst (λ (u : ℕ). s / u < end → s / (u * 16) < end / 16) (sym is) (λ (h : s / 16 < end). let g : s / 256 < end / 16 = omega arith in g) less
+blocks_up unit end s (inr (inr (inl is))) whole less = subst (λ (u : ℕ). s / u < end → s / (u * 16) < end / 16) (sym is) (λ (h : s / 256 < end). let g : s / 4096 < end / 16 = omega arith in g) less
+blocks_up unit end s (inr (inr (inr is))) whole less = subst (λ (u : ℕ). s / u < end → s / (u * 16) < end / 16) (sym is) (λ (h : s / 4096 < end). let g : s / 65536 < end / 16 = omega arith in g) less
+
+pub unit_up : (unit end : ℕ) → IsUnit unit → 0 < end → end % 16 ≡ 0 → end * unit < 65536 → IsUnit (unit * 16)
+unit_up unit end (inl is) some whole small = inr (inl (ap (λ u. u * 16) is))
+unit_up unit end (inr (inl is)) some whole small = inr (inr (inl (ap (λ u. u * 16) is)))
+unit_up unit end (inr (inr (inl is))) some whole small = inr (inr (inr (ap (λ u. u * 16) is)))
+unit_up unit end (inr (inr (inr is))) some whole small = let h : end * 4096 < 65536 = subst (λ (u : ℕ). end * u < 65536) is small in absurd (omega arith)
+
+pub small_up : (unit end : ℕ) → IsUnit unit → end % 16 ≡ 0 → end * unit < 65536 → end / 16 * (unit * 16) < 65536
+small_up unit end (inl is) whole small = let h : end * 1 < 65536 = subst (λ (u : ℕ). end * u < 65536) is small in let g : end / 16 * 16 < 65536 = omega arith in subst (λ (u : ℕ). end / 16 * (u * 16) < 65536) (sym is) g
+small_up unit end (inr (inl is)) whole small = let h : end * 16 < 65536 = subst (λ (u : ℕ). end * u < 65536) is small in let g : end / 16 * 256 < 65536 = omega arith in subst (λ (u : ℕ). end / 16 * (u * 16) < 65536) (sym is) g
+small_up unit end (inr (inr (inl is))) whole small = let h : end * 256 < 65536 = subst (λ (u : ℕ). end * u < 65536) is small in let g : end / 16 * 4096 < 65536 = omega arith in subst (λ (u : ℕ). end / 16 * (u * 16) < 65536) (sym is) g
+small_up unit end (inr (inr (inr is))) whole small = let h : end * 4096 < 65536 = subst (λ (u : ℕ). end * u < 65536) is small in let g : end / 16 * 65536 < 65536 = omega arith in subst (λ (u : ℕ). end / 16 * (u * 16) < 65536) (sym is) g
+
+pub unit_range : (unit : ℕ) → IsUnit unit → (0 < unit) × (unit ≤ 4096)
+unit_range unit (inl is) = (omega arith, omega arith)
+unit_range unit (inr (inl is)) = (omega arith, omega arith)
+unit_range unit (inr (inr (inl is))) = (omega arith, omega arith)
+unit_range unit (inr (inr (inr is))) = (omega arith, omega arith)
+
+pub end_range : (unit end : ℕ) → IsUnit unit → end * unit < 65536 → end < 65536
+end_range unit end (inl is) small = let h : end * 1 < 65536 = subst (λ (u : ℕ). end * u < 65536) is small in omega arith
+end_range unit end (inr (inl is)) small = let h : end * 16 < 65536 = subst (λ (u : ℕ). end * u < 65536) is small in omega arith
+end_range unit end (inr (inr (inl is))) small = let h : end * 256 < 65536 = subst (λ (u : ℕ). end * u < 65536) is small in omega arith
+end_range unit end (inr (inr (inr is))) small = let h : end * 4096 < 65536 = subst (λ (u : ℕ). end * u < 65536) is small in omega arith
+
+pub small_down : (unit end : ℕ) → IsUnit unit → end * unit < 65536 → (end - 1) * unit < 65536
+small_down unit end (inl is) small = let h : end * 1 < 65536 = subst (λ (u : ℕ). end * u < 65536) is small in let g : (end - 1) * 1 < 65536 = omega arith in subst (λ (u : ℕ). (end - 1) * u < 65536) (sym is) g
+small_down unit end (inr (inl is)) small = let h : end * 16 < 65536 = subst (λ (u : ℕ). end * u < 65536) is small in let g : (end - 1) * 16 < 65536 = omega arith in subst (λ (u : ℕ). (end - 1) * u < 65536) (sym is) g
+small_down unit end (inr (inr (inl is))) small = let h : end * 256 < 65536 = subst (λ (u : ℕ). end * u < 65536) is small in let g : (end - 1) * 256 < 65536 = omega arith in subst (λ (u : ℕ). (end - 1) * u < 65536) (sym is) g
+small_down unit end (inr (inr (inr is))) small = let h : end * 4096 < 65536 = subst (λ (u : ℕ). end * u < 65536) is small in let g : (end - 1) * 4096 < 65536 = omega arith in subst (λ (u : ℕ). (end - 1) * u < 65536) (sym is) g
+
+-- a number below the end, and not the last below it
+pub not_last : (n end : ℕ) → n < end → (n ≡ end - 1 → ⊥) → n < end - 1
+not_last n end less other = elim (cases_eq n (end - 1)) [ inl same ↦ absurd (other same) | inr apart ↦ omega arith ]
+
+pub not_most : (n most : ℕ) → n ≤ most → (n ≡ most → ⊥) → n < most
+not_most n most less other = elim (cases_eq n most) [ inl same ↦ absurd (other same) | inr apart ↦ omega arith ]

@@ -1,0 +1,42 @@
+-- Requests by their places, their bios and the blocks of sectors that they fill.
+use Rattle.std.specs.Prelude.{ℕ, ◌≡◌, ◌≤◌, ◌+◌, ◌/◌, ◌⊎◌, Bool, true, false, Option, Some, None}
+use Rattle.std.specs.Ordering.{is_lt}
+use Rattle.std.specs.BTreeSet.{contains}
+use Rattle.std.specs.declared.cmp.Ordering.TheVariants.{Less}
+use Rattle.blk_index.specs.Inside.Spots.{DirSector, IsBelow, IsNewer}
+use Rattle.blk_index.specs.Inside.Entries.{Class, Block, Key, entry_cmp}
+use Rattle.blk_index.specs.declared.shapes.Shapes.{Shapes}
+
+-- the sizes of blocks
+abbrev pub IsUnit : ℕ → Type 0
+IsUnit unit = (unit ≡ 1) ⊎ ((unit ≡ 16) ⊎ ((unit ≡ 256) ⊎ (unit ≡ 4096)))
+
+-- a request of a class stands in its block of each size
+abbrev pub IsInClass : (Key → Bool) → Class → ℕ → ℕ → Type 0
+IsInClass has class sectors id = (unit : ℕ) → IsUnit unit → has (((class, unit), sectors / unit), id) ≡ true
+
+-- a request at a place has an id, and as many sectors and bios at least as is said there
+pub record ShapeListed (has : Key → Bool) (place : DirSector) (id sectors bios : ℕ) : Type 0 where
+  pub said : ℕ
+  pub said_bios : ℕ
+  pub least : said ≤ sectors
+  pub fewest : said_bios ≤ bios
+  pub there : IsInClass has (place, said_bios) said id
+
+-- an id below a bound, if there is one, that is greater than the one that was found, if one was
+pub record StandsBetween (below found : Option ℕ) (id : ℕ) : Type 0 where
+  pub low : IsBelow below id
+  pub past : IsNewer found id
+
+-- no entry below another is greater than this one
+abbrev pub IsGreatestBelow : (Key → Bool) → Key → Key → Type 0
+IsGreatestBelow has upper e = (q : Key) → entry_cmp q upper ≡ Less → has q ≡ true → is_lt (entry_cmp e q) ≡ false
+
+-- the entry above those of a block whose ids are below a bound
+abbrev pub upper_of : Block → Option ℕ → Key
+upper_of block None = ((block.0, block.1 + 1), 0)
+upper_of block (Some b) = (block, b)
+
+module _ {A : Type 0} where
+  abbrev pub entries_in : Shapes A → Key → Bool
+  entries_in s = contains entry_cmp s.entries
