@@ -19,6 +19,7 @@ pub mod grid;
 pub mod lists;
 pub mod numbers;
 pub mod options;
+pub mod positions;
 pub mod rows;
 pub mod sched;
 pub mod setting;
