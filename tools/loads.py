@@ -50,6 +50,7 @@ LOADS = {f"{sched}_{shape}": f"--sched {sched} {words}" for sched in SCHEDULERS 
 LOADS["kyber_tight"] = "--sched kyber --submitters 8 --workers 4 --bios 200 --depth 32 --read-target 1 --write-target 1 --busy 7"
 LOADS["kyber_loose"] = "--sched kyber --submitters 8 --workers 4 --bios 200 --depth 2 --read-target 1000 --write-target 1000"
 LOADS["deadline_batches"] = "--sched deadline --submitters 6 --workers 3 --bios 200 --depth 8 --fifo-batch 3 --writes-starved 1"
+LOADS["deadline_positions"] = "--sched deadline --submitters 6 --workers 3 --bios 200 --depth 4 --fifo-batch 4 --positions each --busy 9"
 LOADS["earliest_late_last"] = "--sched earliest --late-last --submitters 6 --workers 3 --bios 200 --depth 2 --busy 6"
 LOADS["none_served"] = "--sched none --submitters 4 --workers 4 --bios 50 --depth 64 --service 1000"
 
@@ -72,6 +73,8 @@ def drawn(count):
             words += ["--service", dice.choice([1, 10, 100])]
         if sched == "deadline" and dice.randint(0, 1):
             words += ["--fifo-batch", dice.randint(1, 20), "--writes-starved", dice.randint(0, 4)]
+        if sched == "deadline" and dice.randint(0, 1):
+            words += ["--positions", dice.choice(["one", "each"])]
         if sched == "kyber" and dice.randint(0, 1):
             words += ["--read-target", dice.choice([1, 5, 1000]), "--write-target", dice.choice([1, 5, 1000])]
         if sched == "earliest" and dice.randint(0, 1):
@@ -148,22 +151,28 @@ class Entry:
 
 class Deadline(Entry):
     """deadline: a batch by rising sectors in one direction, up to a number of requests; then reads, until writes were passed over often
-    enough; a new batch begins with the oldest where that is due or nothing lies behind the last pick, and else behind that."""
+    enough; a new batch begins with the oldest where that is due or nothing lies behind the last pick, and else behind that. With positions for
+    each direction it is behind that direction's own last pick, from its sector on."""
 
     serves_own = False
 
     def __init__(self, asked):
         self.batch, self.starving = asked.number("fifo-batch", 16), asked.number("writes-starved", 2)
+        self.each = asked.given.get("positions") == "each"
         self.last, self.batching, self.starved = None, 0, 0
+        self.position = {READ: 0, WRITE: 0}
 
     def behind(self, waiting, direction):
+        if self.each:
+            later = [it for it in waiting if it.direction == direction and it.first >= self.position[direction]]
+            return min(later, key=lambda it: (it.first, it.number), default=None)
         if self.last is None or self.last.direction != direction:
             return None
         later = [it for it in waiting if it.direction == direction and (it.first, it.number) > (self.last.first, self.last.number)]
         return min(later, key=lambda it: (it.first, it.number), default=None)
 
     def pick(self, waiting, queue, now):
-        going_on = self.behind(waiting, self.last.direction) if self.last and self.batching < self.batch else None
+        going_on = self.behind(waiting, self.last.direction if self.last else READ) if self.batching < self.batch else None
         if going_on:
             self.next = (self.batching + 1, self.starved)
             return going_on
@@ -179,6 +188,7 @@ class Deadline(Entry):
 
     def picked(self, request):
         self.last = request
+        self.position[request.direction] = request.first
         self.batching, self.starved = self.next
 
 

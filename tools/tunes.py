@@ -47,7 +47,7 @@ def grid():
     told = {"none,-": "none", "earliest,late_last=on": "earliest --late-last", "earliest,late_last=off": "earliest"}
     for batch, starved, merges in itertools.product(BATCHES, STARVED, ("on", "off")):
         flag = "" if merges == "on" else " --no-front-merges"
-        told[f"deadline,fifo_batch={batch} writes_starved={starved} front_merges={merges}"] = (
+        told[f"deadline,fifo_batch={batch} writes_starved={starved} front_merges={merges} positions=one"] = (
             f"deadline --fifo-batch {batch} --writes-starved {starved}{flag}"
         )
     for read, write in itertools.product(TARGETS, TARGETS):

@@ -3,6 +3,7 @@ use Rattle.std.specs.Prelude.{ℕ, Bool, List, [], ◌∷◌, ◌++◌, Option, 
 use Rattle.json.specs.Json as json
 use Rattle.edd_figures.specs.Figures.{shortfall_in}
 use Rattle.blk_report.specs.declared.missing.Tally.{Tally}
+use Rattle.blk_settings.specs.Positions.{positions_name}
 use Rattle.blk_settings.specs.Scheds.{name_of, settings_of}
 use Rattle.blk_settings.specs.Settings.{NamedSetting}
 use Rattle.blk_settings.specs.declared.sched.Sched.{Sched}
@@ -19,6 +20,7 @@ use Rattle.answer.specs.Values.{count, figure, array_of, object_of, value_line}
 abbrev pub setting_value : SettingValue → json.Json
 setting_value (value.Number n) = count n
 setting_value (value.Switch is_on) = json.boolean is_on
+setting_value (value.Positions p) = json.string (positions_name p)
 
 abbrev pub setting_member : NamedSetting → List ℕ × json.Json
 setting_member s = (s.name, setting_value s.value)

@@ -11,6 +11,7 @@ ghost use Rattle.answer.specs.Values.{object_of};
 use crate::table::write_figures;
 use answer::Page;
 use blk_report::Tally;
+use blk_settings::positions::positions_name;
 use blk_settings::{By, Sched, Setting, SettingValue};
 use blk_tune::{TrialRow, shown};
 use std::alloc::{AllocError, Global};
@@ -22,6 +23,9 @@ fn write_setting(page: &mut Page, setting: &Setting) -> Result<(), AllocError>
     match setting.value() {
         SettingValue::Number(number) => page.count(setting.name(), number),
         SettingValue::Switch(is_on) => page.boolean(setting.name(), is_on),
+        SettingValue::Positions(positions) => {
+            page.string(setting.name(), positions_name(positions))
+        }
     }
 }
 

@@ -10,7 +10,7 @@ use edd_figures::Figures;
 /// A row of two reads: how many are late, how many of those could have been avoided, and how long they waited.
 fn row(
     kind: SchedKind,
-    values: [u64; 3],
+    values: [u64; 4],
     shortfall: i64,
     late: u64,
     avoidable: u64,
@@ -48,21 +48,21 @@ fn row(
 #[test]
 fn trials(rt: HostRuntime) {
     let rows = [
-        row(SchedKind::Deadline, [16, 2, 1], 0, 1, 0, 3),
-        row(SchedKind::Earliest, [0, 0, 0], 0, 2, 1, 3),
-        row(SchedKind::Kyber, [2, 10, 0], 1, 2, 1, 5),
-        row(SchedKind::None, [0, 0, 0], 4, 2, 1, 7),
+        row(SchedKind::Deadline, [16, 2, 1, 0], 0, 1, 0, 3),
+        row(SchedKind::Earliest, [0, 0, 0, 0], 0, 2, 1, 3),
+        row(SchedKind::Kyber, [2, 10, 0, 0], 1, 2, 1, 5),
+        row(SchedKind::None, [0, 0, 0, 0], 4, 2, 1, 7),
     ];
     let text = trial_json(rt.alloc(), By::Misses, Some(3), rows.as_slice()).expect(&rt, "memory");
     let told =
-        b"{\"rows\":[{\"sched\":\"deadline\",\"settings\":{\"fifo_batch\":16,\"writes_starved\":2,\"front_merges\":true},\"commands\":2,\"waiting\":1,\"greatest\":0,\"least\":0,\"shortfall\":0,\"late\":1,\"unavoidable\":1,\"avoidable\":0,\"wait_p99_read\":3,\"wait_p99_write\":null},{\"sched\":\"earliest\",\"settings\":{\"late_last\":false},\"commands\":2,\"waiting\":1,\"greatest\":0,\"least\":0,\"shortfall\":0,\"late\":2,\"unavoidable\":1,\"avoidable\":1,\"wait_p99_read\":3,\"wait_p99_write\":null},{\"sched\":\"kyber\",\"settings\":{\"read_target\":2,\"write_target\":10},\"commands\":2,\"waiting\":1,\"greatest\":1,\"least\":0,\"shortfall\":1,\"late\":2,\"unavoidable\":1,\"avoidable\":1,\"wait_p99_read\":5,\"wait_p99_write\":null}],\"best\":{\"sched\":\"deadline\",\"settings\":{\"fifo_batch\":16,\"writes_starved\":2,\"front_merges\":true}},\"proved\":\"no schedule misses fewer\"}\n";
+        b"{\"rows\":[{\"sched\":\"deadline\",\"settings\":{\"fifo_batch\":16,\"writes_starved\":2,\"front_merges\":true,\"positions\":\"one\"},\"commands\":2,\"waiting\":1,\"greatest\":0,\"least\":0,\"shortfall\":0,\"late\":1,\"unavoidable\":1,\"avoidable\":0,\"wait_p99_read\":3,\"wait_p99_write\":null},{\"sched\":\"earliest\",\"settings\":{\"late_last\":false},\"commands\":2,\"waiting\":1,\"greatest\":0,\"least\":0,\"shortfall\":0,\"late\":2,\"unavoidable\":1,\"avoidable\":1,\"wait_p99_read\":3,\"wait_p99_write\":null},{\"sched\":\"kyber\",\"settings\":{\"read_target\":2,\"write_target\":10},\"commands\":2,\"waiting\":1,\"greatest\":1,\"least\":0,\"shortfall\":1,\"late\":2,\"unavoidable\":1,\"avoidable\":1,\"wait_p99_read\":5,\"wait_p99_write\":null}],\"best\":{\"sched\":\"deadline\",\"settings\":{\"fifo_batch\":16,\"writes_starved\":2,\"front_merges\":true,\"positions\":\"one\"}},\"proved\":\"no schedule misses fewer\"}\n";
     assert_eq!(rt; text.as_slice(), told.as_slice());
 }
 
 /// A best row of which nothing is proved, one that is not less late than another schedule, and no row at all.
 #[test]
 fn best_of_trials(rt: HostRuntime) {
-    let none = [row(SchedKind::None, [0, 0, 0], 0, 2, 1, 7)];
+    let none = [row(SchedKind::None, [0, 0, 0, 0], 0, 2, 1, 7)];
     let nothing = trial_json(rt.alloc(), By::Misses, Some(0), none.as_slice()).expect(
         &rt, "memory",
     );

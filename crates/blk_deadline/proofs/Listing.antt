@@ -1,7 +1,7 @@
 -- The next request of a direction, over the list of what waits.
 use Rattle.std.proofs.Common.{◌≡◌, ◌<◌, ◌≤◌, ◌==◌, ◌&&◌, ◌||◌, inl, inr, ℕ, Bool, true, false, cond, sym, ap, subst, ◌∙◌, refl, arith, Some, None, Option, List, [], ◌∷◌}
-use Rattle.std.specs.Prelude.{if◌then◌else◌, nat_lt}
-use Rattle.std.proofs.lemmas.Bool.{ltb-true, ltb-false, eqb-true, eq-eqb, cases_lt, cases_eq}
+use Rattle.std.specs.Prelude.{if◌then◌else◌, nat_lt, nat_le}
+use Rattle.std.proofs.lemmas.Bool.{ltb-true, ltb-false, leb-true, le-leb, eqb-true, eq-eqb, cases_lt, cases_eq}
 use Rattle.std.specs.Ordering.{nat_cmp, is_eq}
 use Rattle.std.specs.BTreeMap.{is_at}
 use Rattle.std.specs.Map.{lookup, keys_of, values_of}
@@ -15,8 +15,10 @@ use Rattle.blk_bio.specs.Requests.{dir_of, first_of}
 use Rattle.blk_sched.specs.Meaning.{Waiting, Pending}
 use Rattle.blk_sched.proofs.Maps.{behind, at_front, in_order, looked_up}
 use Rattle.blk_index.specs.Index.{IsNext, NoNext, IsBefore}
+use Rattle.blk_index.specs.Inside.Search.{IsIdOf}
 use Rattle.blk_deadline.specs.declared.Last.{Last}
-use Rattle.blk_deadline.specs.Choice.{has_dir, sorts_before, first_by_sector, first_by, next_of}
+use Rattle.blk_deadline.specs.Choice.{has_dir, sorts_before, first_by_sector, first_by, after_last, from_sector}
+use Rattle.blk_deadline.specs.Inside.Parts.{lies_at}
 use Rattle.blk_deadline.proofs.Served.{same_is, is_same_dir}
 
 -- ---- tests
@@ -131,7 +133,7 @@ first_at p (e ∷ es) s named id w f pw least =
 abbrev test_of : Dir → Last → Waiting → Bool
 test_of dir l w = has_dir dir w && sorts_before l.first l.id (first_of w.bios) w.id
 
-pub next_is : (m : Pending) (dir : Dir) (last : Option Last) (l : Last) (id : ℕ) (o : Option Waiting) → ((k : ℕ) (v : Waiting) → get m k ≡ Some v → v.id ≡ k) → last ≡ Some l → l.dir ≡ dir → o ≡ get m id → IsNext dir l.first l.id (get m) id → o ≡ next_of dir last (values m)
+pub next_is : (m : Pending) (dir : Dir) (last : Option Last) (l : Last) (id : ℕ) (o : Option Waiting) → ((k : ℕ) (v : Waiting) → get m k ≡ Some v → v.id ≡ k) → last ≡ Some l → l.dir ≡ dir → o ≡ get m id → IsNext dir l.first l.id (get m) id → o ≡ after_last dir last (values m)
 next_is m dir last l id o named is same read best =
     let w = best.waiting in
     let own : w.id ≡ id = named id w best.is_found in
@@ -144,9 +146,9 @@ next_is m dir last l id o named is same read best =
     best.least k v there (is_same_dir (dir_of v.bios) dir (left (has_dir dir v) (sorts_before l.first l.id (first_of v.bios) v.id) pv))
     (subst (λ (n : ℕ). IsBefore l.first l.id (first_of v.bios) n) v_own (from_before l.first l.id (first_of v.bios) v.id (right (has_dir dir v) (sorts_before l.first l.id (first_of v.bios) v.id) pv)))
     (subst (λ (n : ℕ). IsBefore (first_of v.bios) n (first_of w.bios) id) v_own (subst (λ (n : ℕ). IsBefore (first_of v.bios) v.id (first_of w.bios) n) own (from_before (first_of v.bios) v.id (first_of w.bios) w.id less)))))
-    ∙ sym (ap (λ (x : Option Last). next_of dir x (values m)) is ∙ ap (λ b. if b then first_by (filter (test_of dir l) (values m)) else None) (same_is l.dir dir same))
+    ∙ sym (ap (λ (x : Option Last). after_last dir x (values m)) is ∙ ap (λ b. if b then first_by (filter (test_of dir l) (values m)) else None) (same_is l.dir dir same))
 
-pub none_next : (m : Pending) (dir : Dir) (last : Option Last) (l : Last) → ((k : ℕ) (v : Waiting) → get m k ≡ Some v → v.id ≡ k) → last ≡ Some l → l.dir ≡ dir → NoNext dir l.first l.id (get m) → None ≡ next_of dir last (values m)
+pub none_next : (m : Pending) (dir : Dir) (last : Option Last) (l : Last) → ((k : ℕ) (v : Waiting) → get m k ≡ Some v → v.id ≡ k) → last ≡ Some l → l.dir ≡ dir → NoNext dir l.first l.id (get m) → None ≡ after_last dir last (values m)
 none_next m dir last l named is same none =
     elim (first_by (filter (test_of dir l) (values m))) as (λ o. first_by (filter (test_of dir l) (values m)) ≡ o → None ≡ o) [
       | None ↦ λ _. refl
@@ -156,4 +158,74 @@ none_next m dir last l named is same none =
           none c.0 u there (is_same_dir (dir_of u.bios) dir (left (has_dir dir u) (sorts_before l.first l.id (first_of u.bios) u.id) c.2))
           (subst (λ (n : ℕ). IsBefore l.first l.id (first_of u.bios) n) (named c.0 u there) (from_before l.first l.id (first_of u.bios) u.id (right (has_dir dir u) (sorts_before l.first l.id (first_of u.bios) u.id) c.2))))
     ] refl
-    ∙ sym (ap (λ (x : Option Last). next_of dir x (values m)) is ∙ ap (λ b. if b then first_by (filter (test_of dir l) (values m)) else None) (same_is l.dir dir same))
+    ∙ sym (ap (λ (x : Option Last). after_last dir x (values m)) is ∙ ap (λ b. if b then first_by (filter (test_of dir l) (values m)) else None) (same_is l.dir dir same))
+
+-- ---- the next one from a sector on
+
+abbrev from_test : Dir → ℕ → Waiting → Bool
+from_test dir sector w = has_dir dir w && nat_le sector (first_of w.bios)
+
+le_holds : (a b : ℕ) → a ≤ b → nat_le a b ≡ true
+le_holds a b h = le-leb a b h
+
+-- the request of id 0 that begins there comes before all others that are looked for
+pub lowest_is : (m : Pending) (dir : Dir) (sector : ℕ) → ((k : ℕ) (v : Waiting) → get m k ≡ Some v → v.id ≡ k) → lies_at dir sector (get m 0) ≡ true → IsIdOf (get m) (from_sector dir sector (values m)) 0
+lowest_is m dir sector named h = elim (get m 0) as (λ o. get m 0 ≡ o → lies_at dir sector o ≡ true → IsIdOf (get m) (from_sector dir sector (values m)) 0) [
+  | None ↦ λ _ never. cc
+  | Some w ↦ λ there yes.
+      let at : first_of w.bios ≡ sector = eqb-true _ _ (right (has_dir dir w) (first_of w.bios == sector) yes) in
+      let own : w.id ≡ 0 = named 0 w there in (
+        w,
+        there,
+        first_at (from_test dir sector) (entries m) (in_order (entries m) (entries_sorted m)) (λ k v f. named k v (looked_up m k ∙ f)) 0 w (sym (looked_up m 0) ∙ there)
+            (ap (λ b. b && nat_le sector (first_of w.bios)) (left (has_dir dir w) (first_of w.bios == sector) yes) ∙ le_holds sector (first_of w.bios) (omega (arith, at)))
+            (λ k v f pv less.
+            let above : sector ≤ first_of v.bios = leb-true _ _ (right (has_dir dir v) (nat_le sector (first_of v.bios)) pv) in
+            elim (from_before (first_of v.bios) v.id (first_of w.bios) w.id less) [ inl lt ↦ omega (arith, lt, above, at) | inr both ↦ let lt : v.id < w.id = both.1 in omega (arith, lt, own) ]),
+      )
+] refl h
+
+-- what comes from a sector on and isn't that one comes after the sector and the id 0
+after_lowest : (m : Pending) (dir : Dir) (sector k : ℕ) (v : Waiting) → lies_at dir sector (get m 0) ≡ false → get m k ≡ Some v → has_dir dir v ≡ true → sector ≤ first_of v.bios → IsBefore sector 0 (first_of v.bios) k
+after_lowest m dir sector k v none there same above = elim (cases_eq sector (first_of v.bios)) [
+  | inr other ↦ inl (below_other sector (first_of v.bios) above other)
+  | inl is ↦ elim (cases_eq k 0) [
+    | inr more ↦ inr (is, below_other 0 k (omega arith) (λ e. more (sym e)))
+    | inl first ↦ absurd (
+        let here : get m 0 ≡ Some v = sym (ap (get m) first) ∙ there in
+        let yes : lies_at dir sector (Some v) ≡ true = ap (λ b. b && (first_of v.bios == sector)) same ∙ eq-eqb _ _ (sym is) in
+        let no : lies_at dir sector (Some v) ≡ false = sym (ap (lies_at dir sector) here) ∙ none in
+        let both : true ≡ false = sym yes ∙ no in
+        cc)
+  ]
+]
+
+pub from_is : (m : Pending) (dir : Dir) (sector id : ℕ) → ((k : ℕ) (v : Waiting) → get m k ≡ Some v → v.id ≡ k) → lies_at dir sector (get m 0) ≡ false → IsNext dir sector 0 (get m) id → IsIdOf (get m) (from_sector dir sector (values m)) id
+from_is m dir sector id named none best =
+    let w = best.waiting in
+    let own : w.id ≡ id = named id w best.is_found in
+    let above : sector ≤ first_of w.bios = elim best.after [ inl lt ↦ omega (arith, lt) | inr both ↦ omega (arith, both.0) ] in (
+      w,
+      best.is_found,
+      first_at (from_test dir sector) (entries m) (in_order (entries m) (entries_sorted m)) (λ k v f. named k v (looked_up m k ∙ f)) id w (sym (looked_up m id) ∙ best.is_found)
+          (ap (λ b. b && nat_le sector (first_of w.bios)) (same_is (dir_of w.bios) dir best.same_dir) ∙ le_holds sector (first_of w.bios) above)
+          (λ k v f pv less.
+          let there : get m k ≡ Some v = looked_up m k ∙ f in
+          let v_own : v.id ≡ k = named k v there in
+          let same : has_dir dir v ≡ true = left (has_dir dir v) (nat_le sector (first_of v.bios)) pv in
+          let higher : sector ≤ first_of v.bios = leb-true _ _ (right (has_dir dir v) (nat_le sector (first_of v.bios)) pv) in
+          best.least k v there (is_same_dir (dir_of v.bios) dir same) (after_lowest m dir sector k v none there same higher)
+          (subst (λ (n : ℕ). IsBefore (first_of v.bios) n (first_of w.bios) id) v_own (subst (λ (n : ℕ). IsBefore (first_of v.bios) v.id (first_of w.bios) n) own (from_before (first_of v.bios) v.id (first_of w.bios) w.id less)))),
+    )
+
+pub none_from : (m : Pending) (dir : Dir) (sector : ℕ) → lies_at dir sector (get m 0) ≡ false → NoNext dir sector 0 (get m) → from_sector dir sector (values m) ≡ None
+none_from m dir sector none above =
+    elim (first_by (filter (from_test dir sector) (values m))) as (λ o. first_by (filter (from_test dir sector) (values m)) ≡ o → o ≡ None) [
+      | None ↦ λ _. refl
+      | Some u ↦ λ e. absurd (
+          let c = came_from (from_test dir sector) (entries m) (in_order (entries m) (entries_sorted m)) u e in
+          let there : get m c.0 ≡ Some u = looked_up m c.0 ∙ c.1 in
+          let same : has_dir dir u ≡ true = left (has_dir dir u) (nat_le sector (first_of u.bios)) c.2 in
+          let higher : sector ≤ first_of u.bios = leb-true _ _ (right (has_dir dir u) (nat_le sector (first_of u.bios)) c.2) in
+          above c.0 u there (is_same_dir (dir_of u.bios) dir same) (after_lowest m dir sector c.0 u none there same higher))
+    ] refl

@@ -7,15 +7,24 @@ ghost use Rattle.std.specs.FinMap as map;
 ghost use Rattle.blk_sched.specs.Meaning.{Waiting, Meaning, HasCandidate, HasNoCandidate, Joins, ServesNothing, Picks, RequeuesPick, opened, open_of, requeued_of, at_start};
 ghost use Rattle.blk_index.specs.Index.{NoneOf};
 ghost use Rattle.blk_index.specs.Inside.Search.{IsIdOf};
-ghost use Rattle.blk_deadline.specs.Choice.{oldest_of, due_or_next, taken, handed_out, batch_after, deadline_kept, AreKnown, deadline_chooses, deadline_policy};
+ghost use Rattle.blk_deadline.specs.Choice.{oldest_of, position_in, last_dir, due_or_next, taken, handed_out, batch_after, batch_at_first, deadline_kept, AreKnown, deadline_chooses, deadline_policy};
 ghost use Rattle.blk_sched.specs.Policies.{serves_all};
 ghost use Rattle.blk_deadline.specs.Shown.{batch_of, tunables_of, kept_in, choice_at, meaning_of};
-ghost use Rattle.blk_deadline.specs.Inside.Parts.{IsBatchChoice, next_in, batch_next};
+ghost use Rattle.blk_deadline.specs.Inside.Parts.{IsBatchChoice, lies_at, after_last_in, from_in, next_in, batch_next};
 
 use blk_bio::{Dir, Limits, MAX_QUEUES, Request, Side};
 use blk_index::Sorted;
 use blk_sched::{MAX_OPEN, MAX_REQUEUED, OpenPicks, Queued, Scheduler};
 use std::alloc::{AllocError, Allocator, Global};
+
+/// How many positions there are from which requests go on by sectors.
+#[derive(Clone, Copy, Debug, PartialEq, Eq)]
+pub enum Positions {
+    /// One, that of the last pick, as in Linux until 6.4: the other direction has none.
+    One,
+    /// One for each direction, that of its own last pick, as in Linux since 6.5.
+    Each,
+}
 
 /// What the scheduler is tuned by, by the names of Linux's deadline-iosched.
 #[derive(Clone, Copy, Debug, PartialEq, Eq)]
@@ -26,6 +35,8 @@ pub struct Tunables {
     pub writes_starved: u16,
     /// Whether a newcomer may join at the front.
     pub front_merges: bool,
+    /// From where a direction goes on by sectors.
+    pub positions: Positions,
 }
 
 impl Tunables {
@@ -58,11 +69,15 @@ pub struct Last {
     pub id: u64,
 }
 
-/// Where the scheduler stands: its last pick, how many requests went in this batch, and how often reads went first.
+/// Where the scheduler stands: its last pick, its positions, how many requests went in this batch, and how often reads went first.
 #[derive(Clone, Copy, Debug, PartialEq, Eq)]
 pub struct BatchState {
     /// What was picked last.
     pub last: Option<Last>,
+    /// The first sector of the read that was picked last, 0 before there is one.
+    pub read_position: u64,
+    /// The first sector of the write that was picked last, 0 before there is one.
+    pub write_position: u64,
     /// How many requests went in the batch.
     pub batching: u16,
     /// How often reads went first while writes waited.
@@ -84,7 +99,7 @@ impl<A: Allocator + Clone> Deadline<A> {
     pub fn new(alloc: A, tunables: Tunables) -> Result<Deadline<A>, DeadlineFault>
         ensures zero { (tunables.fifo_batch ≡ 0) ↔ (result ≡ Err DeadlineFault.ZeroBatch) }
         ensures ok { IfOk result (λ s. meaning_of s ≡ at_start tunables.front_merges) }
-        ensures batch { IfOk result (λ s. batch_of s ≡ record { last = None; batching = 0; starved = 0 }) }
+        ensures batch { IfOk result (λ s. batch_of s ≡ batch_at_first) }
         ensures tunables { IfOk result (λ s. tunables_of s ≡ tunables) }
         ensures memory { IfErr result (λ e. 0 < tunables.fifo_batch → e ≡ DeadlineFault.Memory) }
         // the batch and the tunables are known by what the trait says is kept
@@ -101,6 +116,8 @@ impl<A: Allocator + Clone> Deadline<A> {
             tunables,
             batch: BatchState {
                 last: None,
+                read_position: 0,
+                write_position: 0,
                 batching: 0,
                 starved: 0,
             },
@@ -120,11 +137,11 @@ impl<A: Allocator + Clone> Deadline<A> {
         self.index.get(id)
     }
 
-    /// The id of the next request of a direction.
+    /// The id of the next request of a direction after the last pick, where that was of it.
     #[inline(always)]
-    fn next(&self, dir: Dir) -> Option<u64>
-        ensures some { IfSome result (IsIdOf (map.get self.now.index) (next_in self.now dir)) }
-        ensures none { IfNone result (next_in self.now dir ≡ None) }
+    fn after_last(&self, dir: Dir) -> Option<u64>
+        ensures some { IfSome result (IsIdOf (map.get self.now.index) (after_last_in self.now dir)) }
+        ensures none { IfNone result (after_last_in self.now dir ≡ None) }
     {
         let Some(last) = self.batch.last else {
             return None;
@@ -135,6 +152,41 @@ impl<A: Allocator + Clone> Deadline<A> {
         self.index.next(dir, last.first, last.id)
     }
 
+    /// Whether the request of id 0, which no other comes before at its sector, waits, is of the direction and begins at the sector.
+    fn has_lowest(&self, dir: Dir, sector: u64) -> bool
+        ensures value { result ≡ lies_at dir sector (map.get self.now.index 0) }
+        ensures named { (k : ℕ) (w : Waiting) → map.get self.now.index k ≡ Some w → w.id ≡ k }
+    {
+        match self.index.get(0) {
+            Some(queued) => queued.request.dir() == dir && queued.request.first() == sector,
+            None => false,
+        }
+    }
+
+    /// The id of the next request of a direction from a sector on.
+    #[inline(always)]
+    fn from_sector(&self, dir: Dir, sector: u64) -> Option<u64>
+        ensures some { IfSome result (IsIdOf (map.get self.now.index) (from_in self.now dir sector)) }
+        ensures none { IfNone result (from_in self.now dir sector ≡ None) }
+    {
+        if self.has_lowest(dir, sector) {
+            return Some(0);
+        }
+        self.index.next(dir, sector, 0)
+    }
+
+    /// The id of the next request of a direction.
+    #[inline(always)]
+    fn next(&self, dir: Dir) -> Option<u64>
+        ensures some { IfSome result (IsIdOf (map.get self.now.index) (next_in self.now dir)) }
+        ensures none { IfNone result (next_in self.now dir ≡ None) }
+    {
+        match self.tunables.positions {
+            Positions::One => self.after_last(dir),
+            Positions::Each => self.from_sector(dir, self.batch.position(dir)),
+        }
+    }
+
     /// The id of the next request of the batch, if it goes on.
     #[inline(always)]
     fn in_batch(&self) -> Option<u64>
@@ -142,13 +194,10 @@ impl<A: Allocator + Clone> Deadline<A> {
         ensures none { IfNone result (batch_next self.now ≡ None) }
         ensures room { OnSome result (self.now.batch.batching < self.now.tunables.fifo_batch) }
     {
-        let Some(last) = self.batch.last else {
-            return None;
-        };
         if self.batch.batching >= self.tunables.fifo_batch {
             return None;
         }
-        self.next(last.dir)
+        self.next(self.batch.last_dir())
     }
 
     /// The id of the oldest of a direction where it is due or there is no next one, and otherwise of the next one.
@@ -168,7 +217,7 @@ impl<A: Allocator + Clone> Deadline<A> {
     /// The choice, by its id, how many went in the batch then, and how often reads went first.
     #[inline(always)]
     fn choose(&self, now: u64) -> Option<(u64, u16, u16)>
-        ensures some { IfSome result (IsBatchChoice (map.get self.now.index) (choice_at self.now now)) }
+        ensures some { IfSome result (IsBatchChoice (map.get self.now.index) self.now.batch (choice_at self.now now)) }
         ensures none { IfNone result (choice_at self.now now ≡ None) }
         ensures all { IfNone result ((k : ℕ) (w : Waiting) → map.get self.now.index k ≡ Some w → ⊥) }
     {
@@ -195,19 +244,54 @@ impl<A: Allocator + Clone> Deadline<A> {
     }
 }
 
-/// Where the scheduler stands after a pick.
-fn batch_state<A: Allocator + Clone>(queued: &Queued<A>, batching: u16, starved: u16) -> BatchState
-    ensures { result ≡ (taken queued.now batching starved).1 }
-{
-    let last = Last {
-        dir: queued.request.dir(),
-        first: queued.request.first(),
-        id: queued.id,
-    };
-    BatchState {
-        last: Some(last),
-        batching,
-        starved,
+impl BatchState {
+    /// The direction of the last pick: reads before there is one.
+    fn last_dir(&self) -> Dir
+        ensures { result ≡ last_dir self.now.last }
+    {
+        match self.last {
+            Some(last) => last.dir,
+            None => Dir::Read,
+        }
+    }
+
+    /// The position of a direction.
+    fn position(&self, dir: Dir) -> u64
+        ensures { result ≡ position_in self.now dir }
+    {
+        match dir {
+            Dir::Read => self.read_position,
+            Dir::Write => self.write_position,
+        }
+    }
+
+    /// Where the scheduler stands after a pick.
+    fn after<A: Allocator + Clone>(
+        &self,
+        queued: &Queued<A>,
+        batching: u16,
+        starved: u16,
+    ) -> BatchState
+        ensures { result ≡ (taken self.now queued.now batching starved).1 }
+    {
+        let dir = queued.request.dir();
+        let first = queued.request.first();
+        let last = Last {
+            dir,
+            first,
+            id: queued.id,
+        };
+        let (read_position, write_position) = match dir {
+            Dir::Read => (first, self.write_position),
+            Dir::Write => (self.read_position, first),
+        };
+        BatchState {
+            last: Some(last),
+            read_position,
+            write_position,
+            batching,
+            starved,
+        }
     }
 }
 
@@ -285,7 +369,7 @@ impl<A: Allocator + Clone> Scheduler for Deadline<A> {
             unreachable!()
         };
         self.open_picks.open(queued.request.dir());
-        self.batch = batch_state(&queued, batching, starved);
+        self.batch = self.batch.after(&queued, batching, starved);
         Some(queued)
     }
 

@@ -4,7 +4,8 @@ use Rattle.std.specs.List.{slice_get}
 use Rattle.std.specs.Option.{option_map_or}
 use Rattle.std.specs.Str.{bytes_eq}
 use Rattle.blk_settings.specs.Options.{sched_option}
-use Rattle.blk_settings.specs.Row.{RangeOf, Short, UpTo, Switch, SettingOf, RowOf}
+use Rattle.blk_settings.specs.Positions.{position_named}
+use Rattle.blk_settings.specs.Row.{RangeOf, Short, UpTo, Switch, Positions, SettingOf, RowOf}
 use Rattle.blk_settings.specs.Rows.{sched_table}
 use Rattle.blk_settings.specs.declared.rows.SchedKind.{SchedKind}
 use Rattle.blk_settings.specs.declared.sched.Lineup.{Lineup}
@@ -28,6 +29,7 @@ abbrev pub value_in : GivenOptions → RangeOf → List ℕ → Option ℕ
 value_in o (Short default tried) option = o.short option
 value_in o (UpTo most default tried) option = o.number option
 value_in o (Switch turned) option = Some (switched turned (o.is_set option))
+value_in o (Positions default tried) option = option_and_then position_named (o.text option)
 
 abbrev pub value_given : GivenOptions → SettingOf → Option ℕ
 value_given o s = value_in o s.range s.option
@@ -37,11 +39,12 @@ abbrev pub given_at : GivenOptions → List SettingOf → ℕ → Option ℕ
 given_at o settings place = option_map_or (value_given o) (slice_get settings place) (Some 0)
 
 -- a scheduler with these values, and the one of a row with those that are given
-abbrev pub valued : SchedKind → Option ℕ → Option ℕ → Option ℕ → Option Sched
-valued k first second third = option_and_then (λ a. option_and_then (λ b. option_map (λ c. record { kind = k; values = a ∷ b ∷ c ∷ [] }) third) second) first
+abbrev pub valued : SchedKind → Option ℕ → Option ℕ → Option ℕ → Option ℕ → Option Sched
+valued k first second third fourth =
+    option_and_then (λ a. option_and_then (λ b. option_and_then (λ c. option_map (λ d. record { kind = k; values = a ∷ b ∷ c ∷ d ∷ [] }) fourth) third) second) first
 
 abbrev pub sched_by : GivenOptions → RowOf → Option Sched
-sched_by o r = valued r.kind (given_at o r.settings 0) (given_at o r.settings 1) (given_at o r.settings 2)
+sched_by o r = valued r.kind (given_at o r.settings 0) (given_at o r.settings 1) (given_at o r.settings 2) (given_at o r.settings 3)
 
 -- the row of a name, and the scheduler that the options name
 abbrev pub row_named : List ℕ → Option RowOf

@@ -1,6 +1,6 @@
 -- The settings of a grid, in the order in which they are tried.
-use Rattle.std.specs.Prelude.{ℕ, ◌≡◌, ◌∷◌, Bool, true, false, List, [], Option, None, Some, get_or, map, option_map}
-use Rattle.std.specs.List.{flat_map}
+use Rattle.std.specs.Prelude.{ℕ, ◌≡◌, ◌∷◌, Bool, true, false, List, [], Option, None, Some, get_or, fold, map, option_map, set}
+use Rattle.std.specs.List.{flat_map, range_with_len}
 use Rattle.blk_settings.specs.Given.{GivenOptions}
 use Rattle.blk_settings.specs.Lists.{tried_given, numbers_at, list_fault}
 use Rattle.blk_settings.specs.Rows.{row_for, sched_place, tried_kinds}
@@ -9,22 +9,25 @@ use Rattle.blk_settings.specs.declared.grid.GridFault.TheVariants as fault
 use Rattle.blk_settings.specs.declared.lists.ListFault.{ListFault}
 use Rattle.blk_settings.specs.declared.rows.SchedKind.{SchedKind}
 use Rattle.blk_settings.specs.declared.sched.Sched.{Sched}
+use Rattle.blk_settings.specs.declared.setting.TheConstants.{MAX_SETTINGS}
 
--- a scheduler with these values of its settings, once for each pair of the others, and once for each choice: the last one's change first
-abbrev pub with_values : SchedKind → ℕ → ℕ → ℕ → Sched
-with_values k first second third = record { kind = k; values = first ∷ second ∷ third ∷ [] }
+-- a scheduler with this value of the setting in a place, and schedulers with each of these there
+abbrev pub with_value : ℕ → Sched → ℕ → Sched
+with_value place s n = record s { values = set s.values place n }
 
-abbrev pub in_first : SchedKind → List ℕ → List ℕ → ℕ → List Sched
-in_first k seconds thirds first = flat_map (λ second. map (with_values k first second) thirds) seconds
+abbrev pub with_values : List ℕ → ℕ → List Sched → List Sched
+with_values numbers place scheds = flat_map (λ s. map (with_value place s) numbers) scheds
 
-abbrev pub with_each : SchedKind → List ℕ → List ℕ → List ℕ → List Sched
-with_each k firsts seconds thirds = flat_map (in_first k seconds thirds) firsts
+-- one of a kind with each choice of values, by those of the setting in each place: the last one's change first
+abbrev pub blank_of : SchedKind → Sched
+blank_of k = record { kind = k; values = 0 ∷ 0 ∷ 0 ∷ 0 ∷ [] }
+
+abbrev pub with_each : SchedKind → (ℕ → List ℕ) → List Sched
+with_each k numbers = fold (λ scheds place. with_values (numbers place) place scheds) (blank_of k ∷ []) (range_with_len 0 MAX_SETTINGS)
 
 -- a scheduler with the values that the options list
 abbrev pub rows_of_kind : GivenOptions → SchedKind → List Sched
-rows_of_kind o k =
-    let settings = (row_for k).settings in
-    with_each k (numbers_at o settings 0) (numbers_at o settings 1) (numbers_at o settings 2)
+rows_of_kind o k = with_each k (numbers_at o (row_for k).settings)
 
 -- those rows where the scheduler is tried
 abbrev pub rows_if : Bool → List Sched → List Sched

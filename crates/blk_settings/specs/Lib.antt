@@ -9,6 +9,7 @@ pub mod Scheds
 pub mod Ran
 pub mod Settles
 pub mod Options
+pub mod Positions
 pub mod Given
 pub mod Grids
 pub mod Wanted

@@ -5,7 +5,8 @@ use Rattle.std.specs.Option.{option_or, option_map_or}
 use Rattle.blk_settings.specs.Complaints.{numbers_complaint}
 use Rattle.blk_settings.specs.Given.{GivenOptions, row_named}
 use Rattle.blk_settings.specs.Options.{scheds_list}
-use Rattle.blk_settings.specs.Row.{RangeOf, Short, UpTo, Switch, SettingOf, RowOf}
+use Rattle.blk_settings.specs.Positions.{positions_listed}
+use Rattle.blk_settings.specs.Row.{RangeOf, Short, UpTo, Switch, Positions, SettingOf, RowOf}
 use Rattle.blk_settings.specs.Rows.{sched_table, row_for, sched_place}
 use Rattle.blk_settings.specs.declared.given.TheConstants.{MAX_SHORT}
 use Rattle.blk_settings.specs.declared.lists.ListFault.{ListFault}
@@ -43,6 +44,7 @@ abbrev pub tried_numbers_in : GivenOptions → RangeOf → List ℕ → Option (
 tried_numbers_in o (Short default tried) option = o.list MAX_SHORT option
 tried_numbers_in o (UpTo most default tried) option = o.list most option
 tried_numbers_in o (Switch turned) option = Some (1 ∷ 0 ∷ [])
+tried_numbers_in o (Positions default tried) option = option_and_then positions_listed (o.text option)
 
 abbrev pub numbers_tried : GivenOptions → SettingOf → Option (List ℕ)
 numbers_tried o s = tried_numbers_in o s.range s.option
@@ -72,6 +74,7 @@ abbrev pub fault_in : RangeOf → List ℕ → List ℕ
 fault_in (Short default tried) option = numbers_complaint option MAX_SHORT
 fault_in (UpTo most default tried) option = numbers_complaint option most
 fault_in (Switch turned) option = []
+fault_in (Positions default tried) option = codes "--positions takes one, each or both with a comma between"
 
 abbrev pub numbers_fault_text : SettingOf → List ℕ
 numbers_fault_text s = fault_in s.range s.option

@@ -6,12 +6,14 @@ use Rattle.std.specs.Str.Parse.{digits_value}
 use Rattle.blk_settings.specs.declared.options.Takes.{Takes}
 use Rattle.blk_settings.specs.declared.options.Takes.TheVariants as takes
 use Rattle.blk_settings.specs.declared.options.OptionRow.{OptionRow}
+use Rattle.blk_deadline.specs.declared.Positions.TheVariants.{One, Each}
+use Rattle.blk_settings.specs.Positions.{positions_name}
 use Rattle.blk_settings.specs.Row.{RangeOf, SettingOf, RowOf}
 use Rattle.blk_settings.specs.Rows.{row_for, sched_table, tried_kinds}
 use Rattle.blk_settings.specs.Row as rows
 
--- what an option takes: nothing, since it is a flag; a scheduler's name; a number of 16 bits; one from the least to the most; a text;
--- each with a default but for those that may be left out
+-- what an option takes: nothing, since it is a flag; a scheduler's name; a number of 16 bits; one from the least to the most; a text; a name
+-- of positions; each with a default but for those that may be left out
 pub data OptionKind : Type 0 where
   Flag : OptionKind
   Name : (default : List ℕ) → OptionKind
@@ -20,6 +22,7 @@ pub data OptionKind : Type 0 where
   MaybeNumber : (least : ℕ) → (most : ℕ) → OptionKind
   Words : (default : List ℕ) → OptionKind
   MaybeWords : OptionKind
+  PositionName : (default : List ℕ) → OptionKind
 
 -- an option: its name, and what it takes
 pub record OptionOf : Type 0 where
@@ -35,11 +38,15 @@ option_kind (takes.Number least most default) = Number least most default.now
 option_kind (takes.Maybe least most) = MaybeNumber least most
 option_kind (takes.Text default) = Words default.now
 option_kind takes.MaybeText = MaybeWords
+option_kind (takes.Positions default) = PositionName default.now
 
 abbrev pub option_of : OptionRow → OptionOf
 option_of row = record { name = row.name.now; kind = option_kind row.takes }
 
--- the names of the schedulers
+-- the names of positions, and of the schedulers
+abbrev pub position_names : List (List ℕ)
+position_names = map positions_name (One ∷ Each ∷ [])
+
 abbrev pub sched_names : List (List ℕ)
 sched_names = map (λ r. r.name) sched_table
 
@@ -63,6 +70,7 @@ abbrev pub kind_in : RangeOf → OptionKind
 kind_in (rows.Short default tried) = Short default
 kind_in (rows.UpTo most default tried) = Number 0 most default
 kind_in (rows.Switch turned) = Flag
+kind_in (rows.Positions default tried) = PositionName default
 
 abbrev pub setting_option : SettingOf → OptionOf
 setting_option s = record { name = s.option; kind = kind_in s.range }
@@ -70,11 +78,12 @@ setting_option s = record { name = s.option; kind = kind_in s.range }
 abbrev pub options_of : List SettingOf → List OptionOf
 options_of = map setting_option
 
--- the one that lists the numbers of it that are tried, if it is a number
+-- the one that lists the values of it that are tried, if it is no switch
 abbrev pub list_in : RangeOf → List ℕ → Option OptionOf
 list_in (rows.Short default tried) name = Some (record { name = name; kind = Words tried })
 list_in (rows.UpTo most default tried) name = Some (record { name = name; kind = Words tried })
 list_in (rows.Switch turned) name = None
+list_in (rows.Positions default tried) name = Some (record { name = name; kind = Words tried })
 
 abbrev pub list_option : SettingOf → Option OptionOf
 list_option s = list_in s.range s.option
@@ -103,6 +112,7 @@ default_text (Number least most default) = default
 default_text (MaybeNumber least most) = []
 default_text (Words default) = default
 default_text MaybeWords = []
+default_text (PositionName default) = default
 
 -- the number that it spells
 abbrev pub default_number : OptionOf → ℕ

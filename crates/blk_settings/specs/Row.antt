@@ -10,12 +10,13 @@ use Rattle.blk_settings.specs.declared.rows.SettingRange.TheVariants as range
 use Rattle.blk_settings.specs.declared.rows.SettingRow.{SettingRow}
 use Rattle.blk_settings.specs.declared.sched.SchedFault.{SchedFault}
 
--- what a setting may be: a number of 16 bits, or one up to a most, with a default and the list of those that are tried by default; or on or
--- off, turned to this by a flag
+-- what a setting may be: a number of 16 bits, or one up to a most, with a default and the list of those that are tried by default; on or off,
+-- turned to this by a flag; or one position or each direction's own, by names
 pub data RangeOf : Type 0 where
   Short : (default : List ℕ) → (tried : List ℕ) → RangeOf
   UpTo : (most : ℕ) → (default : List ℕ) → (tried : List ℕ) → RangeOf
   Switch : (turned : Bool) → RangeOf
+  Positions : (default : List ℕ) → (tried : List ℕ) → RangeOf
 
 -- a setting: its name, the option that sets it, and what it may be
 pub record SettingOf : Type 0 where
@@ -46,6 +47,7 @@ abbrev pub setting_range_of : SettingRange → RangeOf
 setting_range_of (range.Short default list) = Short default.now list.default.now
 setting_range_of (range.UpTo most default list) = UpTo most default.now list.default.now
 setting_range_of (range.Switch turned) = Switch turned
+setting_range_of (range.Positions default list) = Positions default.now list.default.now
 
 abbrev pub setting_row_of : SettingRow → SettingOf
 setting_row_of s = record { name = s.name.now; option = s.option.now; range = setting_range_of s.range }

@@ -2,9 +2,10 @@
 use Rattle.std.specs.Prelude.{ℕ, ◌+◌, List, [], ◌∷◌, Option, None, Some}
 use Rattle.blk_sched.specs.Meaning.{Meaning}
 use Rattle.blk_sched.specs.Policies.{Policy}
-use Rattle.blk_settings.specs.Row.{SettingOf, RangeOf, Short, UpTo, Switch, value_at, is_on}
+use Rattle.blk_settings.specs.Positions.{positions_of}
+use Rattle.blk_settings.specs.Row.{SettingOf, RangeOf, Short, UpTo, Switch, Positions, value_at, is_on}
 use Rattle.blk_settings.specs.Rows.{row_for, sched_for}
-use Rattle.blk_settings.specs.Settings.{NamedSetting, number_setting, switch_setting}
+use Rattle.blk_settings.specs.Settings.{NamedSetting, number_setting, switch_setting, positions_setting}
 use Rattle.blk_settings.specs.declared.sched.Lineup.{Lineup}
 use Rattle.blk_settings.specs.declared.sched.Sched.{Sched}
 
@@ -13,6 +14,7 @@ abbrev pub setting_in : RangeOf → List ℕ → ℕ → NamedSetting
 setting_in (Short default tried) name n = number_setting name n
 setting_in (UpTo most default tried) name n = number_setting name n
 setting_in (Switch turned) name n = switch_setting name (is_on n)
+setting_in (Positions default tried) name n = positions_setting name (positions_of n)
 
 abbrev pub as_setting : SettingOf → ℕ → NamedSetting
 as_setting s n = setting_in s.range s.name n

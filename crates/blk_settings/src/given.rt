@@ -5,6 +5,7 @@ ghost use Rattle.blk_settings.specs.Row.{setting_row_of, sched_row_of};
 ghost use Rattle.blk_settings.specs.Given.{GivenOptions, value_given, given_at, sched_by, row_named, sched_given, is_compared, compared_by, lineup_given};
 
 use crate::options::SCHED_NAME;
+use crate::positions::position_named;
 use crate::rows::{SCHED_COUNT, SchedRow, SettingRange, SettingRow, rows};
 use crate::sched::{Lineup, Sched};
 use arrayvec::ArrayVec;
@@ -60,6 +61,7 @@ impl SettingRow {
                 let is_on = options.is_set(self.option) == turned;
                 Some(is_on as u64)
             }
+            SettingRange::Positions(_, _) => position_named(options.text(self.option)?),
         }
     }
 }
@@ -83,6 +85,7 @@ fn sched_by<G: Given>(options: &G, row: &SchedRow) -> Option<Sched>
         given_at(options, row.settings, 0)?,
         given_at(options, row.settings, 1)?,
         given_at(options, row.settings, 2)?,
+        given_at(options, row.settings, 3)?,
     ];
     Some(Sched {
         kind: row.kind,

@@ -1,12 +1,13 @@
 //! The settings under which a script is tried, and what is asked of the trial.
 
-ghost use Rattle.std.specs.Prelude.{◌≡◌, ◌++◌, Some, IfOk, IfErr, OnOk, map};
-ghost use Rattle.blk_settings.specs.Grids.{with_values, in_first, rows_of_kind, grid_rows, grid_given, IsGridFault};
+ghost use Rattle.std.specs.Prelude.{◌≡◌, ◌<◌, ◌++◌, Some, IfOk, IfErr, OnOk, map};
+ghost use Rattle.blk_settings.specs.Grids.{with_value, with_values, rows_of_kind, grid_rows, grid_given, IsGridFault};
 
 use crate::given::Given;
 use crate::lists::{ListFault, Tried, numbers_at, tried_given};
 use crate::rows::{SchedKind, tried_kinds};
 use crate::sched::Sched;
+use crate::setting::MAX_SETTINGS;
 use std::alloc::{AllocError, Global};
 
 /// What the rows are ordered by first.
@@ -40,53 +41,65 @@ pub struct TrialAsked {
     pub threads: Option<u64>,
 }
 
-/// Adds a scheduler with these values of its first two settings, once for each value of the third.
-fn push_second(
+/// Adds a scheduler once for each of these values of the setting in a place.
+fn push_values(
     all: &mut Vec<Sched>,
-    kind: SchedKind,
-    first: u64,
-    second: u64,
-    thirds: &[u64],
+    sched: Sched,
+    place: usize,
+    numbers: &[u64],
 ) -> Result<(), AllocError>
-    ensures { OnOk result (all.new.items ≡ all.old.items ++ map (with_values kind first second) thirds.now) }
+    requires { place < MAX_SETTINGS }
+    ensures { OnOk result (all.new.items ≡ all.old.items ++ map (with_value place sched) numbers.now) }
 {
-    for third in thirds {
+    for number in numbers {
+        let mut values = sched.values;
+        values[place] = *number;
         all.push(Sched {
-            kind,
-            values: [first, second, *third],
+            kind: sched.kind,
+            values,
         })?;
     }
     Ok(())
 }
 
-/// Adds a scheduler with this value of its first setting, once for each pair of values of the others.
-fn push_first(
-    all: &mut Vec<Sched>,
-    kind: SchedKind,
-    first: u64,
-    seconds: &[u64],
-    thirds: &[u64],
-) -> Result<(), AllocError>
-    ensures { OnOk result (all.new.items ≡ all.old.items ++ in_first kind seconds.now thirds.now first) }
+/// These schedulers, each once for each of these values of the setting in a place.
+fn with_values(
+    alloc: Global,
+    scheds: &[Sched],
+    place: usize,
+    numbers: &[u64],
+) -> Result<Vec<Sched>, AllocError>
+    requires { place < MAX_SETTINGS }
+    ensures { IfOk result (λ all. all.items ≡ with_values numbers.now place scheds.now) }
 {
-    for second in seconds {
-        push_second(all, kind, first, *second, thirds)?;
+    let mut all = Vec::new(alloc);
+    for sched in scheds {
+        push_values(&mut all, *sched, place, numbers)?;
     }
-    Ok(())
+    Ok(all)
 }
 
-/// Adds a scheduler once for each choice of values of its settings, the last one's changing first.
-fn push_kind<G: Given>(all: &mut Vec<Sched>, options: &G, kind: SchedKind) -> Result<(), AllocError>
-    ensures { OnOk result (all.new.items ≡ all.old.items ++ rows_of_kind (G.given options.now) kind) }
+/// A scheduler once for each choice of values of its settings, the last one's changing first.
+#[tactic(auto, using(crate::proofs::Tries::fold_places))]
+fn rows_of_kind<G: Given>(
+    alloc: Global,
+    options: &G,
+    kind: SchedKind,
+) -> Result<Vec<Sched>, AllocError>
+    ensures { IfOk result (λ all. all.items ≡ rows_of_kind (G.given options.now) kind) }
 {
     let settings = kind.row().settings;
-    let firsts = numbers_at(options, settings, 0);
-    let seconds = numbers_at(options, settings, 1);
-    let thirds = numbers_at(options, settings, 2);
-    for first in firsts.as_slice() {
-        push_first(all, kind, *first, seconds.as_slice(), thirds.as_slice())?;
+    let mut all = vec![in alloc;
+        Sched {
+            kind,
+            values: [0; MAX_SETTINGS]
+        },
+    ]?;
+    for place in 0..MAX_SETTINGS {
+        let numbers = numbers_at(options, settings, place);
+        all = with_values(alloc, all.as_slice(), place, numbers.as_slice())?;
     }
-    Ok(())
+    Ok(all)
 }
 
 /// These schedulers, each with the settings that the options list, in the order of trials.
@@ -97,7 +110,8 @@ fn grid_rows<G: Given>(alloc: Global, options: &G, tried: Tried) -> Result<Vec<S
     let mut all = Vec::new(alloc);
     for kind in &kinds {
         if tried[kind.place()] {
-            push_kind(&mut all, options, *kind)?;
+            let mut rows = rows_of_kind(alloc, options, *kind)?;
+            all.append(&mut rows)?;
         }
     }
     Ok(all)

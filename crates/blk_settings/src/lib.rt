@@ -20,6 +20,7 @@ pub mod laws;
 pub mod lists;
 pub mod numbers;
 pub mod options;
+pub mod positions;
 pub mod rows;
 pub mod sched;
 pub mod setting;

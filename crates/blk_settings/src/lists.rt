@@ -7,6 +7,7 @@ ghost use Rattle.blk_settings.specs.Lists.{with_name, tried_of, tried_given, num
 
 use crate::given::{Given, MAX_SHORT, Numbers, row_named};
 use crate::options::SCHED_NAME;
+use crate::positions::positions_listed;
 use crate::rows::{SCHED_COUNT, SchedKind, SchedRow, SettingRange, SettingRow, rows};
 
 /// Which option of a trial has a value that is no list.
@@ -14,8 +15,8 @@ use crate::rows::{SCHED_COUNT, SchedKind, SchedRow, SettingRange, SettingRow, ro
 pub enum ListFault {
     /// `--sched` is no list of schedulers' names, each once.
     Scheds,
-    /// The option of the setting in this place of a scheduler's row is no list of 1 to [`MAX_LISTED`](crate::given::MAX_LISTED) numbers in
-    /// its range, each once.
+    /// The option of the setting in this place of a scheduler's row is no list of its values, each once: 1 to
+    /// [`MAX_LISTED`](crate::given::MAX_LISTED) numbers in its range, or names of positions.
     Numbers(SchedKind, usize),
 }
 
@@ -37,6 +38,9 @@ impl SettingRow {
             SettingRange::Short(_, _) => Complaint::Numbers(self.option, MAX_SHORT),
             SettingRange::UpTo(most, _, _) => Complaint::Numbers(self.option, most),
             SettingRange::Switch(_) => Complaint::Text(""),
+            SettingRange::Positions(_, _) => Complaint::Text(
+                "--positions takes one, each or both with a comma between",
+            ),
         }
     }
 
@@ -53,6 +57,7 @@ impl SettingRow {
                 both.push(0);
                 Some(both)
             }
+            SettingRange::Positions(_, _) => positions_listed(options.text(self.option)?),
         }
     }
 }

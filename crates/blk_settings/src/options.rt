@@ -2,9 +2,11 @@
 
 ghost use Rattle.std.specs.Prelude.{◌≡◌, ◌++◌, map, IfOk, OnOk, option_map, string_bytes};
 ghost use Rattle.blk_settings.specs.Row.{setting_row_of};
-ghost use Rattle.blk_settings.specs.Options.{option_of, sched_names, tried_names, flags, tuning, listing, setting_option, options_of, list_option, lists_of};
+ghost use Rattle.blk_settings.specs.Options.{option_of, sched_names, position_names, tried_names, flags, tuning, listing, setting_option, options_of, list_option, lists_of};
 
+use crate::positions::positions_name;
 use crate::rows::{SettingRange, SettingRow, rows, tried_kinds};
+use blk_deadline::Positions;
 use std::alloc::{AllocError, Global};
 
 /// The option that says which scheduler, or which ones are tried. Its name is a constant of its own, since no constant can be made of
@@ -28,6 +30,8 @@ pub enum Takes<'a> {
     Text(&'a str),
     /// A text, or none.
     MaybeText,
+    /// The name of positions, with a default.
+    Positions(&'a str),
 }
 
 /// An option. Its texts are those of the rows, but for the default of the one that lists schedulers, which is made of their names.
@@ -57,6 +61,7 @@ impl SettingRow {
             SettingRange::Short(default, _) => Takes::Short(default),
             SettingRange::UpTo(most, default, _) => Takes::Number(0, most, default),
             SettingRange::Switch(_) => Takes::Nothing,
+            SettingRange::Positions(default, _) => Takes::Positions(default),
         };
         OptionRow {
             name: self.option,
@@ -65,13 +70,14 @@ impl SettingRow {
         }
     }
 
-    /// The option that lists the numbers of it that are tried, if it is a number.
+    /// The option that lists the values of it that are tried, if it is no switch.
     fn list_option(&self) -> Option<OptionRow<'static>>
         ensures { option_map option_of result ≡ list_option (setting_row_of self.now) }
     {
         let list = match self.range {
             SettingRange::Short(_, list) => list,
             SettingRange::UpTo(_, _, list) => list,
+            SettingRange::Positions(_, list) => list,
             SettingRange::Switch(_) => return None,
         };
         Some(OptionRow {
@@ -95,7 +101,7 @@ fn push_options(
     Ok(())
 }
 
-/// Adds the options that list the numbers of these.
+/// Adds the options that list the values of these.
 fn push_lists<'a>(all: &mut Vec<OptionRow<'a>>, settings: &[SettingRow]) -> Result<(), AllocError>
     ensures { OnOk result (map option_of all.new.items ≡ map option_of all.old.items ++ lists_of (map setting_row_of settings.now)) }
 {
@@ -105,6 +111,16 @@ fn push_lists<'a>(all: &mut Vec<OptionRow<'a>>, settings: &[SettingRow]) -> Resu
         }
     }
     Ok(())
+}
+
+/// The names of positions, in the order of their values.
+pub fn position_names(alloc: Global) -> Result<Vec<&'static str>, AllocError>
+    ensures { IfOk result (λ names. map (λ name. name.now) names.items ≡ position_names) }
+{
+    let mut names = Vec::new(alloc);
+    names.push(positions_name(Positions::One))?;
+    names.push(positions_name(Positions::Each))?;
+    Ok(names)
 }
 
 /// The names of the schedulers, in the order of their rows.

@@ -47,6 +47,8 @@ pub enum SettingRange {
     UpTo(u64, &'static str, ListRow),
     /// On or off: its option is a flag that sets it to this. Both are tried.
     Switch(bool),
+    /// One position or each direction's own: a value is 0 or 1. Its option takes a name, with a default.
+    Positions(&'static str, ListRow),
 }
 
 /// A setting of a scheduler.

@@ -6,6 +6,7 @@ ghost use Rattle.blk_settings.specs.Scheds.{name_of, settings_of, as_setting, in
 ghost use Rattle.blk_settings.specs.Names.{sched_fault_name};
 
 use crate::given::MAX_SHORT;
+use crate::positions::positions_of;
 use crate::rows::{SCHED_COUNT, SchedKind, SettingRange, SettingRow};
 use crate::setting::{MAX_SETTINGS, Setting, Settings};
 use faults::variant_name;
@@ -36,7 +37,8 @@ impl SchedFault {
 pub struct Sched {
     /// Which scheduler it is.
     pub kind: SchedKind,
-    /// The values of its row's settings, in their places: a number, or for a switch 1 where it is on. 0 in the places behind them.
+    /// The values of its row's settings, in their places: a number, for a switch 1 where it is on, and for positions 1 where each
+    /// direction has its own. 0 in the places behind them.
     pub values: [u64; MAX_SETTINGS],
 }
 
@@ -49,6 +51,7 @@ impl SettingRow {
             SettingRange::Short(_, _) => Setting::number(self.name, value),
             SettingRange::UpTo(_, _, _) => Setting::number(self.name, value),
             SettingRange::Switch(_) => Setting::switch(self.name, value == 1),
+            SettingRange::Positions(_, _) => Setting::positions(self.name, positions_of(value)),
         }
     }
 }

@@ -1,9 +1,10 @@
 //! A setting of a scheduler, by the name that the command line has for it, and the settings of one.
 
 ghost use Rattle.std.specs.Prelude.{◌≡◌};
-ghost use Rattle.blk_settings.specs.Settings.{number_setting, switch_setting};
+ghost use Rattle.blk_settings.specs.Settings.{number_setting, switch_setting, positions_setting};
 
 use arrayvec::ArrayVec;
+use blk_deadline::Positions;
 use std::marker::Model;
 
 /// What a setting is set to.
@@ -13,6 +14,8 @@ pub enum SettingValue {
     Number(u64),
     /// On or off.
     Switch(bool),
+    /// One position or each direction's own.
+    Positions(Positions),
 }
 
 /// A setting: its name, and what it is set to.
@@ -31,7 +34,7 @@ impl Model for Setting {
 }
 
 /// How many settings a scheduler has at most.
-pub const MAX_SETTINGS: usize = 3;
+pub const MAX_SETTINGS: usize = 4;
 
 /// The settings of a scheduler, up to [`MAX_SETTINGS`] of them.
 pub type Settings = ArrayVec<Setting, MAX_SETTINGS>;
@@ -64,6 +67,16 @@ impl Setting {
         Setting {
             name,
             value: SettingValue::Switch(is_on),
+        }
+    }
+
+    /// One that is one position or each direction's own.
+    pub fn positions(name: &'static str, positions: Positions) -> Setting
+        ensures { result ≡ positions_setting name.now positions }
+    {
+        Setting {
+            name,
+            value: SettingValue::Positions(positions),
         }
     }
 

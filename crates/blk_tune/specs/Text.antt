@@ -7,6 +7,7 @@ use Rattle.drafts.specs.Drafts.{next_field}
 use Rattle.edd_figures.specs.Figures.{greatest_in, least_in, shortfall_in}
 use Rattle.blk_report.specs.declared.figures.Report.{Report}
 use Rattle.blk_report.specs.declared.missing.Tally.{Tally}
+use Rattle.blk_settings.specs.Positions.{positions_name}
 use Rattle.blk_settings.specs.Scheds.{name_of, settings_of}
 use Rattle.blk_settings.specs.Settings.{NamedSetting}
 use Rattle.blk_settings.specs.declared.sched.Sched.{Sched}
@@ -24,6 +25,7 @@ on_off false = codes "off"
 abbrev pub value_text : SettingValue → List ℕ
 value_text (value.Number n) = decimal n
 value_text (value.Switch is_on) = on_off is_on
+value_text (value.Positions p) = positions_name p
 
 abbrev pub setting_text : NamedSetting → List ℕ
 setting_text s = (s.name ++ codes "=") ++ value_text s.value

@@ -8,6 +8,7 @@ ghost use Rattle.blk_tune.specs.Text.{value_text, setting_text, next_setting, wi
 
 use crate::row::TrialRow;
 use blk_report::{Report, Tally};
+use blk_settings::positions::positions_name;
 use blk_settings::{By, Sched, Setting, SettingValue};
 use drafts::Draft;
 use edd_figures::lines::push_late;
@@ -27,6 +28,7 @@ fn push_value(draft: &mut Draft, value: SettingValue) -> Result<(), AllocError>
     match value {
         SettingValue::Number(number) => draft.number(number),
         SettingValue::Switch(is_on) => draft.text(on_off(is_on)),
+        SettingValue::Positions(positions) => draft.text(positions_name(positions).as_bytes()),
     }
 }
 

@@ -33,14 +33,14 @@ const HEAD: &str =
 /// The read first: nothing is late, and the write waits a round.
 const READ_FIRST: &str = "earliest,late_last=on,2,0,0,0,0,0,0,0,0,1
 earliest,late_last=off,2,0,0,0,0,0,0,0,0,1
-deadline,fifo_batch=1 writes_starved=1 front_merges=on,2,0,0,0,0,0,0,0,0,1
-deadline,fifo_batch=1 writes_starved=1 front_merges=off,2,0,0,0,0,0,0,0,0,1
+deadline,fifo_batch=1 writes_starved=1 front_merges=on positions=one,2,0,0,0,0,0,0,0,0,1
+deadline,fifo_batch=1 writes_starved=1 front_merges=off positions=one,2,0,0,0,0,0,0,0,0,1
 ";
 
 /// The write first: the read is a round late, which it didn't have to be.
 const WRITE_FIRST: &str = "none,-,2,0,1,0,1,1,0,1,1,0
-deadline,fifo_batch=1 writes_starved=0 front_merges=on,2,0,1,0,1,1,0,1,1,0
-deadline,fifo_batch=1 writes_starved=0 front_merges=off,2,0,1,0,1,1,0,1,1,0
+deadline,fifo_batch=1 writes_starved=0 front_merges=on positions=one,2,0,1,0,1,1,0,1,1,0
+deadline,fifo_batch=1 writes_starved=0 front_merges=off positions=one,2,0,1,0,1,1,0,1,1,0
 ";
 
 fn script(rt: &impl Abort, alloc: Global, text: &str) -> Script
@@ -56,7 +56,7 @@ fn script(rt: &impl Abort, alloc: Global, text: &str) -> Script
 ghost use Rattle.blk_text.specs.Script.{IsScript, scripted};
 
 /// A scheduler with these settings.
-fn sched(kind: SchedKind, values: [u64; 3]) -> Sched {
+fn sched(kind: SchedKind, values: [u64; 4]) -> Sched {
     Sched { kind, values }
 }
 
@@ -70,15 +70,15 @@ fn asked(
     top: Option<u64>,
     threads: u64,
 ) -> TrialAsked {
-    let mut grid = vec![in alloc; sched(SchedKind::None, [0, 0, 0])].expect(rt, "memory");
+    let mut grid = vec![in alloc; sched(SchedKind::None, [0, 0, 0, 0])].expect(rt, "memory");
     if !alone {
         grid.extend_from_slice(&[
-            sched(SchedKind::Earliest, [1, 0, 0]),
-            sched(SchedKind::Earliest, [0, 0, 0]),
-            sched(SchedKind::Deadline, [batch, 0, 1]),
-            sched(SchedKind::Deadline, [batch, 0, 0]),
-            sched(SchedKind::Deadline, [batch, 1, 1]),
-            sched(SchedKind::Deadline, [batch, 1, 0]),
+            sched(SchedKind::Earliest, [1, 0, 0, 0]),
+            sched(SchedKind::Earliest, [0, 0, 0, 0]),
+            sched(SchedKind::Deadline, [batch, 0, 1, 0]),
+            sched(SchedKind::Deadline, [batch, 0, 0, 0]),
+            sched(SchedKind::Deadline, [batch, 1, 1, 0]),
+            sched(SchedKind::Deadline, [batch, 1, 0, 0]),
         ])
         .expect(rt, "memory");
     }

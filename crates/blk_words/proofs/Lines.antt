@@ -18,7 +18,7 @@ use Rattle.clap.specs.declared.error.Error.{Error}
 use Rattle.clap.specs.declared.error.kind.ErrorKind.{ErrorKind}
 use Rattle.clap.specs.declared.error.kind.ErrorKind.TheVariants as kind
 use Rattle.blk_words.specs.declared.table.Makes.{Makes}
-use Rattle.blk_words.specs.CommandLine.{Names, AreSchedulers, Subcommand, topmost, run_table, other_table, with_one, blk_app}
+use Rattle.blk_words.specs.CommandLine.{Names, AreNames, Subcommand, topmost, run_table, other_table, with_one, blk_app}
 use Rattle.blk_words.specs.declared.words.Job.{Job}
 use Rattle.blk_words.specs.declared.words.Job.TheVariants as job
 use Rattle.blk_words.specs.Times.{number_in}
@@ -63,12 +63,12 @@ among names a words error k e kinds is not =
     elim h [ inl m ↦ absurd (not (is ∙ m)) | inr m ↦ rw is m ]
 
 -- words that were not parsed, since they ask for the version
-pub version_by : (names : Names) (a : App) (words : List Text) (error : Error) → AreSchedulers names → a ≡ blk_app names
+pub version_by : (names : Names) (a : App) (words : List Text) (error : Error) → AreNames names → a ≡ blk_app names
     → (is_simple_and_free a ≡ true → HasKind (fault_of a words) error) → kind.DisplayVersion ≡ kind_of error → Asks words job.Version
 version_by names a words error are e kinds is = (names, are, inr (among names a words error kind.DisplayVersion e kinds is (λ x. cc x), refl))
 
 -- words that were not parsed, for another kind of error than out of memory, and that don't ask for the version, are refused
-pub line_by : (names : Names) (a : App) (words : List Text) (error : Error) (k : ErrorKind) → AreSchedulers names → a ≡ blk_app names
+pub line_by : (names : Names) (a : App) (words : List Text) (error : Error) (k : ErrorKind) → AreNames names → a ≡ blk_app names
     → (is_simple_and_free a ≡ true → HasKind (fault_of a words) error) → k ≡ kind_of error → k ≢ kind.OutOfMemory → k ≢ kind.DisplayVersion → AreFaulty words
 line_by names a words error k are e kinds is not other = (names, are, (k, among names a words error k e kinds is not, other))
 
@@ -153,7 +153,7 @@ named_in g test xs ys a b e f =
     ap (λ o. option_or o b) e ∙ ap (option_or (option_map g (find test xs))) f ∙ sym (map_or g (find test xs) (find test ys)) ∙ ap (option_map g) (sym (find-append test xs ys))
 
 -- words that were not parsed, for another kind of error than out of memory, ask for no grid
-pub faulty_by : (names : Names) (a : App) (words : List Text) (error : Error) (k : ErrorKind) → AreSchedulers names → a ≡ blk_app names
+pub faulty_by : (names : Names) (a : App) (words : List Text) (error : Error) (k : ErrorKind) → AreNames names → a ≡ blk_app names
     → (is_simple_and_free a ≡ true → HasKind (fault_of a words) error) → k ≡ kind_of error → k ≢ kind.OutOfMemory → AsksNoGrid words
 faulty_by names a words error k are e kinds is not = (names, are, inl (λ none. rw none at (among names a words error k e kinds is not)))
 

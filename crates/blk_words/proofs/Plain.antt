@@ -17,22 +17,37 @@ use Rattle.blk_settings.specs.declared.form.Form.TheVariants as form
 use Rattle.blk_words.specs.declared.words.ShownLoad.TheVariants as shown
 use Rattle.blk_words.specs.declared.words.Refusal.TheVariants as refusal
 use Rattle.blk_words.specs.declared.words.Written.TheVariants as written
-use Rattle.blk_words.specs.CommandLine.{Names, AreSchedulers, blk_app}
-use Rattle.blk_settings.specs.Options.{sched_names}
+use Rattle.blk_words.specs.CommandLine.{Names, AreNames, blk_app}
+use Rattle.blk_settings.specs.Options.{sched_names, position_names}
 use Rattle.blk_settings.specs.declared.sched.Sched.{Sched}
 use Rattle.blk_settings.specs.declared.rows.SchedKind.TheVariants as sched
-use Rattle.blk_settings.specs.Defaults.{default_sched, default_deadline, default_kyber, default_earliest, deadline_in, kyber_within, earliest_by, default_lineup, with_earliest, in_batches, whole}
+use Rattle.blk_settings.specs.Defaults.{default_sched, default_deadline, default_kyber, default_earliest, deadline_in, deadline_each, kyber_within, earliest_by, default_lineup, with_earliest, in_batches, whole}
 use Rattle.blk_words.specs.Asked.{Asks, AsksGrid, grid_read, job_read, of_script, of_trace, of_list}
-use Rattle.blk_words.specs.Plain.{words_in, AsksFor, AsksForGrid, AsksForNothing, default_trial, five_by_lateness, whole_import, by_perf, default_load, own_grid}
+use Rattle.blk_words.specs.Plain.{words_in, AsksFor, AsksForGrid, AsksForNothing, default_trial, five_by_lateness, whole_import, by_perf, default_load, own_grid, both_positions}
 
 -- texts at some places
 abbrev placed : (ℕ → ℕ × ℕ) → List Text → List (Bor Text)
 placed f [] = []
 placed f (t ∷ ts) = record { ref_ptr = f 0; now = t } ∷ placed (λ n. f (suc n)) ts
 
--- the names of the schedulers, at some places
-abbrev at_places : ℕ × ℕ → (ℕ → ℕ × ℕ) → Names
-at_places p f = record { ref_ptr = p; now = placed f sched_names }
+-- the places of the lists of names and of the names themselves, of schedulers and of positions; the names at some places
+abbrev Lists : Type 0
+Lists = (ℕ × ℕ) × (ℕ × ℕ)
+
+abbrev Places : Type 0
+Places = (ℕ → ℕ × ℕ) × (ℕ → ℕ × ℕ)
+
+abbrev at_places : Lists → Places → Names
+at_places p f = record {
+  scheds = record { ref_ptr = p.0; now = placed f.0 sched_names };
+  positions = record { ref_ptr = p.1; now = placed f.1 position_names };
+}
+
+abbrev nowhere : Lists
+nowhere = ((0, 0), (0, 0))
+
+abbrev anywhere : Places
+anywhere = ((λ n. (0, 0)), (λ n. (0, 0)))
 
 -- each list of texts behind references is one at some places
 abbrev place_in : List (Bor Text) → ℕ → ℕ × ℕ
@@ -45,28 +60,31 @@ placed_so [] = refl
 placed_so (x ∷ xs) = ap (λ (ys : List (Bor Text)). x ∷ ys) (placed_so xs)
 
 -- what holds of them there holds of them all
-any_names : (P : Names → Type 0) → ((p : ℕ × ℕ) (f : ℕ → ℕ × ℕ) → P (at_places p f)) → (names : Names) → AreSchedulers names → P names
+any_names : (P : Names → Type 0) → ((p : Lists) (f : Places) → P (at_places p f)) → (names : Names) → AreNames names → P names
 any_names P h names are =
-    let own : placed (place_in names.now) sched_names ≡ names.now = ap (placed (place_in names.now)) (sym are) ∙ placed_so names.now in
-    subst (λ (xs : List (Bor Text)). P (record { ref_ptr = names.ref_ptr; now = xs })) own (h names.ref_ptr (place_in names.now))
+    let scheds : placed (place_in names.scheds.now) sched_names ≡ names.scheds.now = ap (placed (place_in names.scheds.now)) (sym are.0) ∙ placed_so names.scheds.now in
+    let positions : placed (place_in names.positions.now) position_names ≡ names.positions.now = ap (placed (place_in names.positions.now)) (sym are.1) ∙ placed_so names.positions.now in
+    subst (λ (xs : List (Bor Text)). P (record { scheds = record { ref_ptr = names.scheds.ref_ptr; now = xs }; positions = names.positions })) scheds
+    (subst (λ (xs : List (Bor Text)). P (record { scheds = record { ref_ptr = names.scheds.ref_ptr; now = placed (place_in names.scheds.now) sched_names }; positions = record { ref_ptr = names.positions.ref_ptr; now = xs } })) positions
+    (h (names.scheds.ref_ptr, names.positions.ref_ptr) (place_in names.scheds.now, place_in names.positions.now)))
 
 -- a line is read as a job, whatever the places
 abbrev pub IsReadAs : List Text → Job → Names → Type 0
 IsReadAs words j names = (fault_of (blk_app names) words ≡ []) × (job_read names words ≡ Some j)
 
 -- then it asks for that job alone
-pub asks_alone : (words : List Text) (k : Job) → ((p : ℕ × ℕ) (f : ℕ → ℕ × ℕ) → IsReadAs words k (at_places p f)) → (j : Job) → Asks words j ↔ (j ≡ k)
+pub asks_alone : (words : List Text) (k : Job) → ((p : Lists) (f : Places) → IsReadAs words k (at_places p f)) → (j : Job) → Asks words j ↔ (j ≡ k)
 asks_alone words k h j = (
   λ a. let g = any_names (IsReadAs words k) h a.0 a.1 in
       elim a.2 [ inl x ↦ let e : Some j ≡ Some k = sym x.1 ∙ g.1 in cc e | inr x ↦ absurd (rw g.0 at x.0) ],
-  λ e. let z : ℕ × ℕ = (0, 0) in let g = h z (λ n. z) in (at_places z (λ n. z), refl, inl (g.0, rw e g.1)),
+  λ e. let g = h nowhere anywhere in (at_places nowhere anywhere, (refl, refl), inl (g.0, rw e g.1)),
 )
 
 -- a line is read as no job, whatever the places; then it asks for none
 abbrev pub IsReadAsNothing : List Text → Names → Type 0
 IsReadAsNothing words names = (fault_of (blk_app names) words ≡ []) × (job_read names words ≡ None)
 
-pub asks_nothing : (words : List Text) → ((p : ℕ × ℕ) (f : ℕ → ℕ × ℕ) → IsReadAsNothing words (at_places p f)) → (j : Job) → Asks words j → ⊥
+pub asks_nothing : (words : List Text) → ((p : Lists) (f : Places) → IsReadAsNothing words (at_places p f)) → (j : Job) → Asks words j → ⊥
 asks_nothing words h j a =
     let g = any_names (IsReadAsNothing words) h a.0 a.1 in
     elim a.2 [ inl x ↦ let e : Some j ≡ None = sym x.1 ∙ g.1 in cc e | inr x ↦ absurd (rw g.0 at x.0) ]
@@ -75,21 +93,21 @@ asks_nothing words h j a =
 abbrev pub IsReadAsGrid : List Text → List Sched → Names → Type 0
 IsReadAsGrid words g names = (fault_of (blk_app names) words ≡ []) × (grid_read names words ≡ Some g)
 
-pub asks_grid_alone : (words : List Text) (k : List Sched) → ((p : ℕ × ℕ) (f : ℕ → ℕ × ℕ) → IsReadAsGrid words k (at_places p f)) → (g : List Sched) → AsksGrid words g ↔ (g ≡ k)
+pub asks_grid_alone : (words : List Text) (k : List Sched) → ((p : Lists) (f : Places) → IsReadAsGrid words k (at_places p f)) → (g : List Sched) → AsksGrid words g ↔ (g ≡ k)
 asks_grid_alone words k h g = (
   λ a. let f = any_names (IsReadAsGrid words k) h a.0 a.1 in let e : Some g ≡ Some k = sym a.3 ∙ f.1 in cc e,
-  λ e. let z : ℕ × ℕ = (0, 0) in let f = h z (λ n. z) in (at_places z (λ n. z), refl, f.0, rw e f.1),
+  λ e. let f = h nowhere anywhere in (at_places nowhere anywhere, (refl, refl), f.0, rw e f.1),
 )
 
 -- a line as a person types it is read so, whatever the program's name and the places; then it asks for that job, for that grid, or for nothing
 abbrev pub IsReadSo : String → Job → Type 0
-IsReadSo line j = (name : Text) (p : ℕ × ℕ) (f : ℕ → ℕ × ℕ) → IsReadAs (name ∷ words_in line) j (at_places p f)
+IsReadSo line j = (name : Text) (p : Lists) (f : Places) → IsReadAs (name ∷ words_in line) j (at_places p f)
 
 abbrev pub IsReadAsGridSo : String → List Sched → Type 0
-IsReadAsGridSo line g = (name : Text) (p : ℕ × ℕ) (f : ℕ → ℕ × ℕ) → IsReadAsGrid (name ∷ words_in line) g (at_places p f)
+IsReadAsGridSo line g = (name : Text) (p : Lists) (f : Places) → IsReadAsGrid (name ∷ words_in line) g (at_places p f)
 
 abbrev pub IsReadAsNothingSo : String → Type 0
-IsReadAsNothingSo line = (name : Text) (p : ℕ × ℕ) (f : ℕ → ℕ × ℕ) → IsReadAsNothing (name ∷ words_in line) (at_places p f)
+IsReadAsNothingSo line = (name : Text) (p : Lists) (f : Places) → IsReadAsNothing (name ∷ words_in line) (at_places p f)
 
 pub asks_for : (line : String) (k : Job) → IsReadSo line k → AsksFor line k
 asks_for line k h name = asks_alone (name ∷ words_in line) k (h name)
@@ -127,6 +145,10 @@ late_last_line name p f = (refl, refl)
 pub batch_line : IsReadSo "sim --sched deadline --fifo-batch 1" (of_script (running.One (deadline_in 1)))
 unfolding clap_on_literals
 batch_line name p f = (refl, refl)
+
+pub each_line : IsReadSo "sim --sched deadline --positions each" (of_script (running.One deadline_each))
+unfolding clap_on_literals
+each_line name p f = (refl, refl)
 
 pub target_line : IsReadSo "sim --sched kyber --read-target 1000000" (of_script (running.One (kyber_within 1_000_000)))
 unfolding clap_on_literals
@@ -183,6 +205,10 @@ whole_grid_line name p f = (refl, refl)
 pub own_grid_line : IsReadAsGridSo "tune --sched deadline,none --fifo-batch 16,1 --writes-starved 3 --write-target 7,0" own_grid
 unfolding clap_on_literals
 own_grid_line name p f = (refl, refl)
+
+pub both_positions_line : IsReadAsGridSo "tune --sched deadline --fifo-batch 1 --writes-starved 0 --positions each,one" both_positions
+unfolding clap_on_literals
+both_positions_line name p f = (refl, refl)
 
 pub migrate_line : IsReadSo "migrate" (of_trace telling.Whole)
 unfolding clap_on_literals
@@ -334,4 +360,4 @@ traced_json_line name p f = (refl, refl)
 
 pub version_line : (name : Text) → Asks (name ∷ codes "--version" ∷ []) job.Version
 unfolding clap_on_literals
-version_line name = let z : ℕ × ℕ = (0, 0) in (at_places z (λ n. z), refl, inr (inl refl, refl))
+version_line name = (at_places nowhere anywhere, (refl, refl), inr (inl refl, refl))

@@ -44,7 +44,7 @@ use Rattle.blk_words.specs.declared.words.Written.{Written}
 use Rattle.blk_words.specs.declared.words.Written.TheVariants as written
 use Rattle.blk_words.specs.declared.table.Makes.{Makes}
 use Rattle.blk_words.specs.declared.table.Makes.TheVariants as makes
-use Rattle.blk_words.specs.CommandLine.{Names, AreSchedulers, command_table, blk_app}
+use Rattle.blk_words.specs.CommandLine.{Names, AreNames, command_table, blk_app}
 use Rattle.blk_words.specs.Options.{json_option, script_option, trace_option, by_option, top_option, threads_option, met_option, each_option, read_expire_option, write_expire_option, from_option, as_option, device_option, tags_option, skip_option, first_option, table_option, summary_option, round_option, depth_option, submitters_option, workers_option, bios_option, load_depth_option, busy_option, service_option}
 use Rattle.blk_words.specs.Lists.{list_of}
 use Rattle.blk_words.specs.Times.{MAX_NUMBER, number_in, time_of}
@@ -295,14 +295,14 @@ ReadsNone names words = (fault_of (blk_app names) words ≡ []) × (job_read nam
 
 -- the words ask for this job
 abbrev pub Asks : List Text → Job → Type 0
-Asks words j = (names : Names) × AreSchedulers names × TakesFor names words j
+Asks words j = (names : Names) × AreNames names × TakesFor names words j
 
 -- the words ask for nothing: they have a fault, or name no job
 abbrev pub AreFaulty : List Text → Type 0
-AreFaulty words = (names : Names) × AreSchedulers names × FindsFault names words
+AreFaulty words = (names : Names) × AreNames names × FindsFault names words
 
 abbrev pub NameNone : List Text → Type 0
-NameNone words = (names : Names) × AreSchedulers names × ReadsNone names words
+NameNone words = (names : Names) × AreNames names × ReadsNone names words
 
 -- why there is no job
 abbrev pub IsNoJob : List Text → NoJob → Type 0
@@ -319,8 +319,8 @@ grid_read names words = grid_behind (subcommand_of (blk_app names) words)
 
 -- the words ask for a trial of this grid, whose lists are those of their options, or else those of the whole grid
 abbrev pub AsksGrid : List Text → List Sched → Type 0
-AsksGrid words g = (names : Names) × AreSchedulers names × (fault_of (blk_app names) words ≡ []) × (grid_read names words ≡ Some g)
+AsksGrid words g = (names : Names) × AreNames names × (fault_of (blk_app names) words ≡ []) × (grid_read names words ≡ Some g)
 
 -- they ask for none: they have a fault, or the command line reads no grid in them
 abbrev pub AsksNoGrid : List Text → Type 0
-AsksNoGrid words = (names : Names) × AreSchedulers names × ((fault_of (blk_app names) words ≢ []) ⊎ (grid_read names words ≡ None))
+AsksNoGrid words = (names : Names) × AreNames names × ((fault_of (blk_app names) words ≢ []) ⊎ (grid_read names words ≡ None))

@@ -6,24 +6,25 @@ use Rattle.clap.specs.declared.builder.ArgAction.TheVariants.{Set, SetTrue}
 use Rattle.clap.specs.declared.builder.value_parser.ValueParser.{ValueParser}
 use Rattle.clap.specs.declared.builder.value_parser.ValueParser.TheVariants as vp
 use Rattle.blk_settings.specs.declared.given.TheConstants.{MAX_SHORT}
-use Rattle.blk_settings.specs.Options.{OptionKind, Flag, Name, Short, Number, MaybeNumber, Words, MaybeWords, OptionOf, sched_names, sched_option, flags, tuning, listing}
+use Rattle.blk_settings.specs.Options.{OptionKind, Flag, Name, Short, Number, MaybeNumber, Words, MaybeWords, PositionName, OptionOf, sched_names, position_names, sched_option, flags, tuning, listing}
 use Rattle.blk_settings.specs.declared.figures.FiguresAsked.{FiguresAsked}
 use Rattle.blk_settings.specs.declared.figures.FiguresAsked.TheVariants as figures
 use Rattle.blk_words.specs.declared.inputs.Telling.TheVariants as telling
+pub use Rattle.blk_words.specs.declared.command.Names.{Names}
 use Rattle.blk_words.specs.declared.table.Makes.{Makes}
 use Rattle.blk_words.specs.declared.table.Makes.TheVariants as makes
 use Rattle.blk_words.specs.Options.{json_option, script_option, trace_option, by_option, top_option, threads_option, met_option, each_option, read_expire_option, write_expire_option, from_option, as_option, device_option, tags_option, skip_option, first_option, table_option, summary_option, round_option, depth_option, submitters_option, workers_option, bios_option, load_depth_option, busy_option, service_option}
 
--- names behind a reference
-abbrev pub Names : Type 0
-Names = Bor (List (Bor Text))
+-- texts behind references
+abbrev pub Texts : Type 0
+Texts = Bor (List (Bor Text))
 
--- they are those of the schedulers
-abbrev pub AreSchedulers : Names → Type 0
-AreSchedulers names = map (λ name. name.now) names.now ≡ sched_names
+-- names are those of the schedulers, and those of positions
+abbrev pub AreNames : Names → Type 0
+AreNames names = (map (λ name. name.now) names.scheds.now ≡ sched_names) × (map (λ name. name.now) names.positions.now ≡ position_names)
 
 -- an option that takes one of these names, with a default
-abbrev pub name_rule : Text → Names → Text → Rule
+abbrev pub name_rule : Text → Texts → Text → Rule
 name_rule name names default = record (new_rule name) { long = Some name; action = Some Set; parser = Some (vp.Names names); defaults = default ∷ [] }
 
 -- an option that takes a number, with a default and without
@@ -52,12 +53,13 @@ short = vp.Signed (pos 0) (pos MAX_SHORT)
 -- an option of a kind
 abbrev pub kind_rule : Names → Text → OptionKind → Rule
 kind_rule names name Flag = flag_rule name
-kind_rule names name (Name default) = name_rule name names default
+kind_rule names name (Name default) = name_rule name names.scheds default
 kind_rule names name (Short default) = number_rule name short default
 kind_rule names name (Number least most default) = number_rule name (vp.Unsigned least most) default
 kind_rule names name (MaybeNumber least most) = maybe_rule name (vp.Unsigned least most)
 kind_rule names name (Words default) = text_rule name default
 kind_rule names name MaybeWords = maybe_text_rule name
+kind_rule names name (PositionName default) = name_rule name names.positions default
 
 abbrev pub option_rule : Names → OptionOf → Rule
 option_rule names o = kind_rule names o.name o.kind

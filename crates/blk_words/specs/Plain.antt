@@ -4,7 +4,7 @@ use Prim.Native.String.{String}
 use Rattle.std.specs.List.{slice_split}
 use Rattle.clap.specs.Words.{Text}
 use Rattle.blk_settings.specs.declared.grid.By.TheVariants as by
-use Rattle.blk_settings.specs.Defaults.{none_and_deadline}
+use Rattle.blk_settings.specs.Defaults.{deadline_grid, none_and_deadline}
 use Rattle.blk_settings.specs.declared.sched.Sched.{Sched}
 use Rattle.blk_settings.specs.Options.{default_number}
 use Rattle.blk_settings.specs.declared.numbers.Load.{Load}
@@ -42,9 +42,12 @@ default_trial f = job.Tune (record { by = by.Misses; top = None; threads = None;
 abbrev pub five_by_lateness : Job
 five_by_lateness = job.Tune (record { by = by.Lateness; top = Some 5; threads = Some 4; form = form.Lines })
 
--- a grid of lists of its own
+-- a grid of lists of its own, and one of both rules for positions
 abbrev pub own_grid : List Sched
 own_grid = none_and_deadline (16 ∷ 1 ∷ []) (3 ∷ [])
+
+abbrev pub both_positions : List Sched
+both_positions = deadline_grid (1 ∷ []) (0 ∷ []) (1 ∷ 0 ∷ [])
 
 -- an import of all requests where no option says how, in nanoseconds; and one of the first 100 that went out after 2 ms, from when they
 -- were queued, reads due after 150 us

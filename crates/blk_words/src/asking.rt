@@ -2,9 +2,9 @@
 
 ghost use Rattle.std.specs.Prelude.{◌∷◌, [], true, false, None, Some, codes};
 ghost use Rattle.clap.specs.Words.{Text};
-ghost use Rattle.blk_settings.specs.Defaults.{default_sched, default_deadline, default_kyber, default_earliest, deadline_in, kyber_within, earliest_by, default_lineup, with_earliest, in_batches, whole};
+ghost use Rattle.blk_settings.specs.Defaults.{default_sched, default_deadline, default_kyber, default_earliest, deadline_in, deadline_each, kyber_within, earliest_by, default_lineup, with_earliest, in_batches, whole};
 ghost use Rattle.blk_words.specs.Asked.{Asks, of_script, of_trace, of_list};
-ghost use Rattle.blk_words.specs.Plain.{AsksFor, AsksForGrid, AsksForNothing, default_trial, five_by_lateness, whole_import, by_perf, default_load, own_grid};
+ghost use Rattle.blk_words.specs.Plain.{AsksFor, AsksForGrid, AsksForNothing, default_trial, five_by_lateness, whole_import, by_perf, default_load, own_grid, both_positions};
 
 use crate::inputs::{Running, Solving, Telling, TextJob};
 use crate::words::{Job, Refusal, ShownLoad, Written};
@@ -19,6 +19,7 @@ pub fn plain_lines()
     ensures kyber { AsksFor "sim --sched kyber" (of_script (Running.One default_kyber)) }
     ensures earliest { AsksFor "sim --sched earliest" (of_script (Running.One default_earliest)) }
     ensures late_last { AsksFor "sim --sched earliest --late-last" (of_script (Running.One (earliest_by true))) }
+    ensures each { AsksFor "sim --sched deadline --positions each" (of_script (Running.One deadline_each)) }
     ensures batch { AsksFor "sim --sched deadline --fifo-batch 1" (of_script (Running.One (deadline_in 1))) }
     ensures target { AsksFor "sim --sched kyber --read-target 1000000" (of_script (Running.One (kyber_within 1_000_000))) }
     ensures compare { AsksFor "compare" (of_script (Running.Each default_lineup Form.Lines)) }
@@ -33,6 +34,7 @@ pub fn plain_lines()
     ensures tune_twice { AsksFor "tune --read-target 2,5,2" (Job.Refuse (Refusal.Lists (ListFault.Numbers SchedKind.Kyber 0))) }
     ensures tune_by_what { AsksFor "tune --by wait" (Job.Refuse Refusal.By) }
     ensures whole_grid { AsksForGrid "tune" whole }
+    ensures own_positions { AsksForGrid "tune --sched deadline --fifo-batch 1 --writes-starved 0 --positions each,one" both_positions }
     ensures own_grid { AsksForGrid "tune --sched deadline,none --fifo-batch 16,1 --writes-starved 3 --write-target 7,0" own_grid }
     ensures migrate { AsksFor "migrate" (of_trace Telling.Whole) }
     ensures commands { AsksFor "commands" (of_trace Telling.Commands) }

@@ -4,7 +4,7 @@ ghost use Rattle.std.specs.Prelude.{◌≡◌, false, fold, map, IfOk};
 ghost use Rattle.clap.specs.Words.{app_of, rule_of};
 ghost use Rattle.clap.specs.declared.builder.command.Command.TheViews.{out-Command as fields_of};
 ghost use Rattle.blk_settings.specs.Options.{option_of, tried_names};
-ghost use Rattle.blk_words.specs.CommandLine.{Names, AreSchedulers, option_rule, with_option, app_for, with_one, run_table, other_table, blk_app};
+ghost use Rattle.blk_words.specs.CommandLine.{Names as AnyNames, AreNames, option_rule, with_option, app_for, with_one, run_table, other_table, blk_app};
 ghost use Rattle.blk_words.specs.Inside.Tables.{options_in, subcommand_of};
 
 use crate::table::{CommandRow, OTHER_COMMANDS, OptionGroup, RUN_COMMANDS};
@@ -14,17 +14,26 @@ use clap::builder::ValueParser;
 use clap::{Arg, ArgAction, Command, value_parser};
 use std::alloc::{AllocError, Global};
 
-/// The names of the schedulers, which the command line borrows.
+/// The names that options take.
 #[derive(Clone, Copy)]
-struct SchedNames<'a> {
-    /// Those that an option may take.
-    all: &'a [&'a str],
-    /// Those in the order of trials, with commas between.
+pub struct Names<'a> {
+    /// Those of the schedulers.
+    pub scheds: &'a [&'a str],
+    /// Those of positions.
+    pub positions: &'a [&'a str],
+}
+
+/// The names that the command line borrows.
+#[derive(Clone, Copy)]
+struct Borrowed<'a> {
+    /// Those that options may take.
+    all: Names<'a>,
+    /// Those of the schedulers in the order of trials, with commas between.
     tried: &'a str,
 }
 
 /// The argument of an option.
-fn option_arg<'a, 'b: 'a>(alloc: Global, row: OptionRow<'b>, names: SchedNames<'a>) -> Arg<'a>
+fn option_arg<'a, 'b: 'a>(alloc: Global, row: OptionRow<'b>, names: Borrowed<'a>) -> Arg<'a>
     ensures rule { rule_of result ≡ option_rule names.entry.all (option_of row.entry) }
     ensures local { result.global ≡ false }
 {
@@ -33,7 +42,7 @@ fn option_arg<'a, 'b: 'a>(alloc: Global, row: OptionRow<'b>, names: SchedNames<'
         Takes::Nothing => bare.action(ArgAction::SetTrue),
         Takes::Sched(default) => bare
             .action(ArgAction::Set)
-            .value_parser(names.all)
+            .value_parser(names.all.scheds)
             .default_value(default),
         Takes::Short(default) => bare
             .action(ArgAction::Set)
@@ -53,6 +62,10 @@ fn option_arg<'a, 'b: 'a>(alloc: Global, row: OptionRow<'b>, names: SchedNames<'
         Takes::MaybeText => bare
             .action(ArgAction::Set)
             .value_parser(ValueParser::String),
+        Takes::Positions(default) => bare
+            .action(ArgAction::Set)
+            .value_parser(names.all.positions)
+            .default_value(default),
     }
 }
 
@@ -61,7 +74,7 @@ fn with_options<'a, 'b: 'a>(
     alloc: Global,
     command: Command<'a>,
     rows: &[OptionRow<'b>],
-    names: SchedNames<'a>,
+    names: Borrowed<'a>,
 ) -> Result<Command<'a>, AllocError>
     requires { (fields_of command).has_globals ≡ false }
     ensures app { IfOk result (λ c. app_of c ≡ fold (with_option names.entry.all) (app_of command.entry) (map option_of rows.now)) }
@@ -79,7 +92,7 @@ fn with_group<'a>(
     alloc: Global,
     command: Command<'a>,
     group: OptionGroup,
-    names: SchedNames<'a>,
+    names: Borrowed<'a>,
 ) -> Result<Command<'a>, AllocError>
     requires local { (fields_of command).has_globals ≡ false }
     requires tried { names.tried.now ≡ tried_names }
@@ -106,7 +119,7 @@ fn with_group<'a>(
 fn command_of<'a>(
     alloc: Global,
     row: &'a CommandRow,
-    names: SchedNames<'a>,
+    names: Borrowed<'a>,
 ) -> Result<Command<'a>, AllocError>
     requires { names.tried.now ≡ tried_names }
     ensures app { IfOk result (λ c. app_of c ≡ app_for names.entry.all (subcommand_of row.now)) }
@@ -124,7 +137,7 @@ fn with_commands<'a>(
     alloc: Global,
     command: Command<'a>,
     rows: &'a [CommandRow],
-    names: SchedNames<'a>,
+    names: Borrowed<'a>,
 ) -> Result<Command<'a>, AllocError>
     requires { names.tried.now ≡ tried_names }
     ensures { IfOk result (λ c. app_of c ≡ fold (with_one names.entry.all) (app_of command.entry) (map subcommand_of rows.now)) }
@@ -150,21 +163,22 @@ pub fn other_commands() -> &'static [CommandRow]
     OTHER_COMMANDS.as_slice()
 }
 
-/// The command line of the program, which borrows the names of the schedulers, and those in the order of trials, with commas between.
+/// The command line of the program, which borrows the names that options take, and those of the schedulers in the order of trials, with commas
+/// between.
 pub fn blk_command<'a>(
     alloc: Global,
-    names: &'a [&'static str],
+    names: Names<'a>,
     tried: &'a str,
 ) -> Result<Command<'a>, AllocError>
-    requires names { AreSchedulers names }
+    requires names { AreNames names }
     requires tried { tried.now ≡ tried_names }
-    ensures { IfOk result (λ c. (names : Names) × AreSchedulers names × (app_of c ≡ blk_app names)) }
+    ensures { IfOk result (λ c. (names : AnyNames) × AreNames names × (app_of c ≡ blk_app names)) }
 {
     let blk = Command::new(alloc, "blk")
         .version(version())
         .about("A multiqueue block layer, and how far its schedules fall short of the best")
         .subcommand_required(true);
-    let borrowed = SchedNames { all: names, tried };
+    let borrowed = Borrowed { all: names, tried };
     let runs = with_commands(alloc, blk, run_commands(), borrowed)?;
     let all = with_commands(alloc, runs, other_commands(), borrowed)?;
     Ok(all)

@@ -12,7 +12,7 @@ ghost use Rattle.blk_settings.specs.Complaints.{complaint_text};
 ghost use Rattle.blk_words.specs.Refusals.{refusal_text};
 ghost use Rattle.blk_words.specs.Inside.Options.{given};
 
-use crate::command::{blk_command, other_commands, run_commands};
+use crate::command::{Names, blk_command, other_commands, run_commands};
 use crate::inputs::{Running, Solving, Telling, TextJob};
 use crate::lists::numbers_of;
 use crate::option_names;
@@ -22,7 +22,7 @@ use crate::times::time_of;
 use blk_recorders::{CaptureForm, Device};
 use blk_settings::given::Numbers;
 use blk_settings::grid::grid_given;
-use blk_settings::options::{scheduler_names, tried_names};
+use blk_settings::options::{position_names, scheduler_names, tried_names};
 use blk_settings::{
     By, Complaint, FiguresAsked, Form, Given, GridFault, Lineup, ListFault, Load, Sched,
 };
@@ -666,13 +666,20 @@ pub fn choose(alloc: Global, words: &[String]) -> Result<Job, NoJob>
     ensures asked { IfOk result (Asks (map string_bytes words.now)) }
     ensures refused { IfErr result (IsNoJob (map string_bytes words.now)) }
 {
-    let Ok(names) = scheduler_names(alloc) else {
+    let Ok(scheds) = scheduler_names(alloc) else {
+        return Err(NoJob::Memory);
+    };
+    let Ok(positions) = position_names(alloc) else {
         return Err(NoJob::Memory);
     };
     let Ok(tried) = tried_names(alloc) else {
         return Err(NoJob::Memory);
     };
-    let Ok(command) = blk_command(alloc, names.as_slice(), tried.as_str()) else {
+    let names = Names {
+        scheds: scheds.as_slice(),
+        positions: positions.as_slice(),
+    };
+    let Ok(command) = blk_command(alloc, names, tried.as_str()) else {
         return Err(NoJob::Memory);
     };
     match command.try_get_matches_from(words) {
@@ -708,13 +715,20 @@ pub fn grid_asked(alloc: Global, words: &[String]) -> Result<Vec<Sched>, NoGrid>
     ensures asked { IfOk result (λ g. AsksGrid (map string_bytes words.now) g.items) }
     ensures none { IfErr result (λ n. n ≡ NoGrid.Nothing → AsksNoGrid (map string_bytes words.now)) }
 {
-    let Ok(names) = scheduler_names(alloc) else {
+    let Ok(scheds) = scheduler_names(alloc) else {
+        return Err(NoGrid::Memory);
+    };
+    let Ok(positions) = position_names(alloc) else {
         return Err(NoGrid::Memory);
     };
     let Ok(tried) = tried_names(alloc) else {
         return Err(NoGrid::Memory);
     };
-    let Ok(command) = blk_command(alloc, names.as_slice(), tried.as_str()) else {
+    let names = Names {
+        scheds: scheds.as_slice(),
+        positions: positions.as_slice(),
+    };
+    let Ok(command) = blk_command(alloc, names, tried.as_str()) else {
         return Err(NoGrid::Memory);
     };
     match command.try_get_matches_from(words) {

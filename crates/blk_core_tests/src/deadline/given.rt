@@ -4,7 +4,7 @@ use crate::given::{again, core_over, follow};
 use crate::listed::CoreCall;
 use blk_bio::Limits;
 use blk_core::Core;
-use blk_deadline::{Deadline, Tunables};
+use blk_deadline::{Deadline, Positions, Tunables};
 use blk_trace::Setup;
 use std::alloc::{Allocator, Global};
 use std::process::Abort;
@@ -12,12 +12,13 @@ use std::process::Abort;
 /// A core over the deadline scheduler.
 pub type Under<A> = Core<Deadline<A>>;
 
-/// The settings: the batch, how often reads go first, and whether a newcomer may join at the front.
+/// The settings: the batch, how often reads go first, and whether a newcomer may join at the front. There is one position.
 pub fn tuned(fifo_batch: u16, writes_starved: u16, front_merges: bool) -> Tunables {
     Tunables {
         fifo_batch,
         writes_starved,
         front_merges,
+        positions: Positions::One,
     }
 }
 

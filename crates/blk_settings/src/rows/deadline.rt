@@ -5,6 +5,7 @@ ghost use Rattle.blk_deadline.specs.Shown.{meaning_of, kept_in};
 ghost use Rattle.blk_settings.specs.Made.{fault_of, IsUnmade, IsStart};
 ghost use Rattle.blk_settings.specs.Rows.Deadline.{deadline_tunables};
 
+use crate::positions::positions_of;
 use crate::rows::{ListRow, SchedKind, SchedRow, SettingRange, SettingRow};
 use crate::sched::{Sched, SchedFault};
 use blk_deadline::{Deadline, DeadlineFault, Tunables};
@@ -47,6 +48,18 @@ pub(crate) const ROW: SchedRow = SchedRow {
             help: "Under deadline, lets no newcomer join at the front",
             range: SettingRange::Switch(false),
         },
+        SettingRow {
+            name: "positions",
+            option: "positions",
+            help: "Under deadline, whether it goes on from one position or from each direction's own",
+            range: SettingRange::Positions(
+                "one",
+                ListRow {
+                    default: "one",
+                    help: "Under deadline, whether it goes on from one position or from each direction's own: names with a comma between",
+                },
+            ),
+        },
     ],
 };
 
@@ -58,6 +71,7 @@ fn tunables(sched: &Sched) -> Tunables
         fifo_batch: sched.short_at(0),
         writes_starved: sched.short_at(1),
         front_merges: sched.values[2] == 1,
+        positions: positions_of(sched.values[3]),
     }
 }
 

@@ -11,10 +11,10 @@ use Rattle.blk_settings.specs.declared.form.Form.TheVariants as form
 use Rattle.blk_words.specs.declared.words.ShownLoad.TheVariants as shown
 use Rattle.blk_words.specs.declared.words.Refusal.TheVariants as refusal
 use Rattle.blk_words.specs.declared.words.Written.TheVariants as written
-use Rattle.blk_settings.specs.Defaults.{default_sched, default_deadline, default_kyber, default_earliest, deadline_in, kyber_within, earliest_by, default_lineup, with_earliest, in_batches, whole}
+use Rattle.blk_settings.specs.Defaults.{default_sched, default_deadline, default_kyber, default_earliest, deadline_in, deadline_each, kyber_within, earliest_by, default_lineup, with_earliest, in_batches, whole}
 use Rattle.blk_words.specs.Asked.{of_script, of_trace, of_list}
-use Rattle.blk_words.specs.Plain.{default_trial, five_by_lateness, whole_import, by_perf, default_load, own_grid}
-use Rattle.blk_words.proofs.Plain.{asks_for, asks_for_grid, asks_for_nothing, sim_line, none_line, deadline_line, kyber_line, earliest_line, late_last_line, batch_line, target_line, compare_line, compare_earliest_line, compare_late_last_line, compare_json_line, tune_line, tune_so_line, tune_json_line, tune_unknown_line, tune_no_list_line, tune_twice_line, tune_by_what_line, whole_grid_line, own_grid_line, migrate_line, commands_line, late_line, late_json_line, misses_line, misses_json_line, spread_line, spread_json_line, picture_line, drawn_line, oracle_line, report_line, report_json_line, on_time_line, report_and_on_time_line, certificate_json_line, check_line, check_json_line, import_line, import_so_line, summary_line, no_time_line, no_entry_line, no_recorder_line, no_device_line, table_and_summary_line, script_line, script_alone_line, depth_alone_line, judge_line, judge_each_line, explain_line, load_line, load_json_line, busy_line, traced_line, traced_json_line, version_line}
+use Rattle.blk_words.specs.Plain.{default_trial, five_by_lateness, whole_import, by_perf, default_load, own_grid, both_positions}
+use Rattle.blk_words.proofs.Plain.{asks_for, asks_for_grid, asks_for_nothing, sim_line, none_line, deadline_line, kyber_line, earliest_line, late_last_line, batch_line, each_line, both_positions_line, target_line, compare_line, compare_earliest_line, compare_late_last_line, compare_json_line, tune_line, tune_so_line, tune_json_line, tune_unknown_line, tune_no_list_line, tune_twice_line, tune_by_what_line, whole_grid_line, own_grid_line, migrate_line, commands_line, late_line, late_json_line, misses_line, misses_json_line, spread_line, spread_json_line, picture_line, drawn_line, oracle_line, report_line, report_json_line, on_time_line, report_and_on_time_line, certificate_json_line, check_line, check_json_line, import_line, import_so_line, summary_line, no_time_line, no_entry_line, no_recorder_line, no_device_line, table_and_summary_line, script_line, script_alone_line, depth_alone_line, judge_line, judge_each_line, explain_line, load_line, load_json_line, busy_line, traced_line, traced_json_line, version_line}
 use Rattle.blk_words.proofs.asking.plain_lines.Goals as goal
 
 pub returns : goal.returns
@@ -25,6 +25,7 @@ returns c = record {
   kyber = asks_for "sim --sched kyber" (of_script (running.One default_kyber)) kyber_line;
   earliest = asks_for "sim --sched earliest" (of_script (running.One default_earliest)) earliest_line;
   late_last = asks_for "sim --sched earliest --late-last" (of_script (running.One (earliest_by true))) late_last_line;
+  each = asks_for "sim --sched deadline --positions each" (of_script (running.One deadline_each)) each_line;
   batch = asks_for "sim --sched deadline --fifo-batch 1" (of_script (running.One (deadline_in 1))) batch_line;
   target = asks_for "sim --sched kyber --read-target 1000000" (of_script (running.One (kyber_within 1_000_000))) target_line;
   compare = asks_for "compare" (of_script (running.Each default_lineup form.Lines)) compare_line;
@@ -39,6 +40,7 @@ returns c = record {
   tune_twice = asks_for "tune --read-target 2,5,2" (job.Refuse (refusal.Lists (list.Numbers sched.Kyber 0))) tune_twice_line;
   tune_by_what = asks_for "tune --by wait" (job.Refuse refusal.By) tune_by_what_line;
   whole_grid = asks_for_grid "tune" whole whole_grid_line;
+  own_positions = asks_for_grid "tune --sched deadline --fifo-batch 1 --writes-starved 0 --positions each,one" both_positions both_positions_line;
   own_grid = asks_for_grid "tune --sched deadline,none --fifo-batch 16,1 --writes-starved 3 --write-target 7,0" own_grid own_grid_line;
   migrate = asks_for "migrate" (of_trace telling.Whole) migrate_line;
   commands = asks_for "commands" (of_trace telling.Commands) commands_line;

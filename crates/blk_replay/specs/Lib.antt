@@ -1,0 +1,4 @@
+pub mod Replay
+pub mod Inside
+pub mod Requests
+pub mod Figures
