@@ -2,7 +2,7 @@
 use Rattle.std.specs.Prelude.{◌≡◌, codes}
 use Rattle.answer.specs.declared.names.TheConstants as names
 
-pub record AreNames : Type 0 where
+pub record AreDocumentedNames : Type 0 where
   pub commands : names.COMMANDS.now ≡ codes "commands"
   pub late : names.LATE.now ≡ codes "late"
   pub unavoidable : names.UNAVOIDABLE.now ≡ codes "unavoidable"

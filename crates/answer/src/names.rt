@@ -1,6 +1,6 @@
 //! The names of members and columns, and the words of answers. Code and meaning read them here.
 
-ghost use Rattle.answer.specs.Names.{AreNames};
+ghost use Rattle.answer.specs.Names.{AreDocumentedNames};
 
 /// How many commands there are.
 pub const COMMANDS: &str = "commands";
@@ -127,5 +127,5 @@ pub const NONE_SERVED: &str = "none-served";
 ///
 /// A law: it does nothing when it runs, and a caller has its clause.
 pub fn law_of_names()
-    ensures { AreNames }
+    ensures { AreDocumentedNames }
 {}

@@ -14,7 +14,7 @@ use Rattle.blk_index.specs.declared.edges.Edges.{Edges}
 use Rattle.blk_index.specs.Inside.Spots.{DirSector, Spot, Becomes}
 use Rattle.blk_index.specs.Inside.Entries.{Class, Key}
 use Rattle.blk_index.specs.Inside.Shapes.{IsInClass, ShapeListed}
-use Rattle.blk_index.specs.Inside.Edges.{Lists, KeepsBut, KeepsOwn, IsEdge, IsEdges}
+use Rattle.blk_index.specs.Inside.Edges.{IsListedAt, KeepsBut, KeepsOwn, IsEdge, IsEdges}
 use Rattle.blk_index.proofs.Indexed.{Found}
 
 -- ---- what one edge lists
@@ -61,7 +61,7 @@ pub listed_as : (has : Has) (p : DirSector) (k s b : ℕ) → IsInClass has (p, 
 listed_as has p k s b there = record { said = s; said_bios = b; least = omega arith; fewest = omega arith; there = there }
 
 module _ {A : Type 0} where
-  pub lists_more : (e : Edge A) (p : DirSector) (k s b more longer : ℕ) → s ≤ more → b ≤ longer → Lists e p k s b → Lists e p k more longer
+  pub lists_more : (e : Edge A) (p : DirSector) (k s b more longer : ℕ) → s ≤ more → b ≤ longer → IsListedAt e p k s b → IsListedAt e p k more longer
   lists_more e p k s b more longer grown longer_low (inl one) = inl one
   lists_more e p k s b more longer grown longer_low (inr is) = inr (record {
     said = is.said;
@@ -71,8 +71,8 @@ module _ {A : Type 0} where
     there = is.there;
   })
 
-  pub lists_at : (e : Edge A) (p q : DirSector) (k s b : ℕ) → p ≡ q → Lists e p k s b → Lists e q k s b
-  lists_at e p q k s b same = subst (λ (x : DirSector). Lists e x k s b) same
+  pub lists_at : (e : Edge A) (p q : DirSector) (k s b : ℕ) → p ≡ q → IsListedAt e p k s b → IsListedAt e q k s b
+  lists_at e p q k s b same = subst (λ (x : DirSector). IsListedAt e x k s b) same
 
 -- ---- the requests
 
@@ -86,7 +86,7 @@ at_id old new id x k w becomes there =
 
 module _ {A : Type 0} (at : Extent → DirSector) (old new : Found) (id : ℕ) where
   -- a request more
-  pub edge_entered : (w : Waiting) (spot : Spot) (sectors bios : ℕ) (e f : Edge A) → IsEdge at old e → spot ≡ (at (extent_of w.bios), id) → sectors ≡ sectors_of w.bios → bios ≤ length w.bios → Lists f spot.0 spot.1 sectors bios → KeepsBut spot e f → Becomes old id (Some w) new → IsEdge at new f
+  pub edge_entered : (w : Waiting) (spot : Spot) (sectors bios : ℕ) (e f : Edge A) → IsEdge at old e → spot ≡ (at (extent_of w.bios), id) → sectors ≡ sectors_of w.bios → bios ≤ length w.bios → IsListedAt f spot.0 spot.1 sectors bios → KeepsBut spot e f → Becomes old id (Some w) new → IsEdge at new f
   edge_entered w spot sectors bios e f edge is has few own keeps becomes k u there = elim (at_id old new id (Some w) k u becomes there) [
     | inl (same, one) ↦
         let it : w ≡ u = cc in
@@ -95,7 +95,7 @@ module _ {A : Type 0} (at : Extent → DirSector) (old new : Found) (id : ℕ) w
         let size : sectors_of w.bios ≡ sectors_of u.bios = ap (λ (x : Waiting). sectors_of x.bios) it in
         let long : length w.bios ≡ length u.bios = ap (λ (x : Waiting). length x.bios) it in
         lists_at f spot.0 (at (extent_of u.bios)) k (sectors_of u.bios) (length u.bios) place
-        (subst (λ (n : ℕ). Lists f spot.0 n (sectors_of u.bios) (length u.bios)) number (lists_more f spot.0 spot.1 sectors bios (sectors_of u.bios) (length u.bios) (omega (arith, has, size)) (omega (arith, few, long)) own))
+        (subst (λ (n : ℕ). IsListedAt f spot.0 n (sectors_of u.bios) (length u.bios)) number (lists_more f spot.0 spot.1 sectors bios (sectors_of u.bios) (length u.bios) (omega (arith, has, size)) (omega (arith, few, long)) own))
     | inr (other, was) ↦ keeps (at (extent_of u.bios)) k (sectors_of u.bios) (length u.bios) (λ p same. other (same ∙ ap (λ (q : Spot). q.1) is)) (edge k u was)
   ]
 
@@ -115,7 +115,7 @@ module _ {A : Type 0} (at : Extent → DirSector) (old new : Found) (id : ℕ) w
   edge_kept e edge same k u there = edge k u (sym (same k) ∙ there)
 
   -- a request comes to a spot and leaves another
-  pub edge_moved : (v w : Waiting) (spot last : Spot) (sectors bios : ℕ) (e f h : Edge A) → IsEdge at old e → spot ≡ (at (extent_of w.bios), id) → last ≡ (at (extent_of v.bios), id) → (at (extent_of v.bios) ≡ at (extent_of w.bios) → ⊥) → sectors ≤ sectors_of w.bios → bios ≤ length w.bios → Lists f spot.0 spot.1 sectors bios → KeepsBut spot e f → KeepsBut last f h → Becomes old id (Some w) new → IsEdge at new h
+  pub edge_moved : (v w : Waiting) (spot last : Spot) (sectors bios : ℕ) (e f h : Edge A) → IsEdge at old e → spot ≡ (at (extent_of w.bios), id) → last ≡ (at (extent_of v.bios), id) → (at (extent_of v.bios) ≡ at (extent_of w.bios) → ⊥) → sectors ≤ sectors_of w.bios → bios ≤ length w.bios → IsListedAt f spot.0 spot.1 sectors bios → KeepsBut spot e f → KeepsBut last f h → Becomes old id (Some w) new → IsEdge at new h
   edge_moved v w spot last sectors bios e f h edge is was apart has few own keeps keeps_then becomes k u there = elim (at_id old new id (Some w) k u becomes there) [
     | inl (same, one) ↦
         let it : w ≡ u = cc in
@@ -124,7 +124,7 @@ module _ {A : Type 0} (at : Extent → DirSector) (old new : Found) (id : ℕ) w
         let size : sectors_of w.bios ≡ sectors_of u.bios = ap (λ (x : Waiting). sectors_of x.bios) it in
         let long : length w.bios ≡ length u.bios = ap (λ (x : Waiting). length x.bios) it in
         lists_at h spot.0 (at (extent_of u.bios)) k (sectors_of u.bios) (length u.bios) place
-        (subst (λ (n : ℕ). Lists h spot.0 n (sectors_of u.bios) (length u.bios)) number
+        (subst (λ (n : ℕ). IsListedAt h spot.0 n (sectors_of u.bios) (length u.bios)) number
         (keeps_then spot.0 spot.1 (sectors_of u.bios) (length u.bios) (λ p number_same. apart (sym (sym (ap (λ (q : Spot). q.0) is) ∙ p ∙ ap (λ (q : Spot). q.0) was)))
         (lists_more f spot.0 spot.1 sectors bios (sectors_of u.bios) (length u.bios) (omega (arith, has, size)) (omega (arith, few, long)) own)))
     | inr (other, before) ↦
@@ -151,9 +151,9 @@ module _ {A : Type 0} (at : Extent → DirSector) (old new : Found) (id : ℕ) w
         let number : spot.1 ≡ k = ap (λ (q : Spot). q.1) is ∙ sym same in
         let size : sectors_of w.bios ≡ sectors_of u.bios = ap (λ (x : Waiting). sectors_of x.bios) it in
         let long : length w.bios ≡ length u.bios = ap (λ (x : Waiting). length x.bios) it in
-        let before : Lists e spot.0 spot.1 (sectors_of v.bios) (length v.bios) = subst (λ (q : Spot). Lists e q.0 q.1 (sectors_of v.bios) (length v.bios)) (sym is) (edge id v found) in
+        let before : IsListedAt e spot.0 spot.1 (sectors_of v.bios) (length v.bios) = subst (λ (q : Spot). IsListedAt e q.0 q.1 (sectors_of v.bios) (length v.bios)) (sym is) (edge id v found) in
         lists_at f spot.0 (at (extent_of u.bios)) k (sectors_of u.bios) (length u.bios) place
-        (subst (λ (n : ℕ). Lists f spot.0 n (sectors_of u.bios) (length u.bios)) number
+        (subst (λ (n : ℕ). IsListedAt f spot.0 n (sectors_of u.bios) (length u.bios)) number
         (own (sectors_of u.bios) (length u.bios) (omega (arith, has, size)) (omega (arith, few, long))
         (lists_more e spot.0 spot.1 (sectors_of v.bios) (length v.bios) (sectors_of u.bios) (length u.bios) (omega (arith, grows, size)) (omega (arith, lengthens, long)) before)))
     | inr (other, was) ↦ keeps (at (extent_of u.bios)) k (sectors_of u.bios) (length u.bios) (λ p same. other (same ∙ ap (λ (q : Spot). q.1) is)) (edge k u was)

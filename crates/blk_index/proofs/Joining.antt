@@ -13,7 +13,7 @@ use Rattle.blk_bio.specs.Extents.{extent_of}
 use Rattle.blk_sched.specs.Meaning.{Waiting, Pending, joined_waiting}
 use Rattle.blk_sched.specs.Fits.{HasFit}
 use Rattle.blk_index.specs.Inside.Spots.{DirSector, Spot, Becomes}
-use Rattle.blk_index.specs.Inside.Edges.{Lists, KeepsBut, KeepsOwn, IsEdge}
+use Rattle.blk_index.specs.Inside.Edges.{IsListedAt, KeepsBut, KeepsOwn, IsEdge}
 use Rattle.blk_index.specs.declared.edges.Edge.{Edge}
 use Rattle.blk_index.specs.Index.{IsJoined}
 use Rattle.blk_index.specs.Inside.Search.{at_of, opposite_of, IsNamed}
@@ -87,7 +87,7 @@ module _ (limits : Limits) (old new : Found) (id s had has bios at : ℕ) (side 
     bios_then : length w.bios ≡ length v.bios + length newcomer
     bios_then = ap (λ (x : Waiting). length x.bios) is ∙ bios_both v.bios newcomer side
 
-    pub edge_joined : {A : Type 0} (spot last : Spot) (e f h : Edge A) → IsEdge (at_of side) old e → spot ≡ (at_of side (extent_of newcomer), id) → last ≡ (at_of side (extent_of v.bios), id) → Lists f spot.0 spot.1 has bios → KeepsBut spot e f → KeepsBut last f h → IsEdge (at_of side) new h
+    pub edge_joined : {A : Type 0} (spot last : Spot) (e f h : Edge A) → IsEdge (at_of side) old e → spot ≡ (at_of side (extent_of newcomer), id) → last ≡ (at_of side (extent_of v.bios), id) → IsListedAt f spot.0 spot.1 has bios → KeepsBut spot e f → KeepsBut last f h → IsEdge (at_of side) new h
     edge_joined spot last e f h edge spot_is last_is own keeps keeps_then =
         let size = sectors_then in
         let long = bios_then in

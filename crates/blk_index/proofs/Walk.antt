@@ -17,7 +17,7 @@ use Rattle.blk_index.specs.Inside.Spots.{DirSector, is_write, IsBelow, IsNewer, 
 use Rattle.blk_index.specs.Inside.Places.{one_of_place}
 use Rattle.blk_index.specs.Inside.Entries.{Key}
 use Rattle.blk_index.specs.Inside.Shapes.{IsInClass, ShapeListed, StandsBetween, entries_in}
-use Rattle.blk_index.specs.Inside.Edges.{Lists, IsEdge}
+use Rattle.blk_index.specs.Inside.Edges.{IsListedAt, IsEdge}
 use Rattle.blk_index.specs.Inside.Search.{at_of, touch_of, IsPassed, FitsBy, IsNewestBy, FitsNoneBy, NoneAfter, newer_of}
 use Rattle.blk_index.specs.declared.edges.Edge.{Edge}
 use Rattle.blk_index.proofs.Joining.{sectors_both, bios_both, not_one}
@@ -101,9 +101,9 @@ module _ {A : Type 0} (limits : Limits) (found : Found) (newcomer : List Bio) (s
   abbrev Among : ℕ → Waiting → Type 0
   Among k w = ShapeListed (entries_in edge.others) p k (sectors_of w.bios) (length w.bios)
 
-  listed_here : (k : ℕ) (w : Waiting) → found k ≡ Some w → Fits limits w.bios newcomer side → Lists edge p k (sectors_of w.bios) (length w.bios)
+  listed_here : (k : ℕ) (w : Waiting) → found k ≡ Some w → Fits limits w.bios newcomer side → IsListedAt edge p k (sectors_of w.bios) (length w.bios)
   listed_here k w there fits =
-      subst (λ (q : DirSector). Lists edge q k (sectors_of w.bios) (length w.bios)) (touches limits w.bios newcomer side fits ∙ sym is) (edges k w there)
+      subst (λ (q : DirSector). IsListedAt edge q k (sectors_of w.bios) (length w.bios)) (touches limits w.bios newcomer side fits ∙ sym is) (edges k w there)
 
   none_after : (result : Option ℕ) → NoneAfter limits found newcomer side result Alone → NoneAfter limits found newcomer side result Among → (k : ℕ) (w : Waiting) → IsNewer result k → found k ≡ Some w → Fits limits w.bios newcomer side → ⊥
   none_after result alone among k w past there fits = elim (listed_here k w there fits) [

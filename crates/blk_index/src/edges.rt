@@ -4,7 +4,7 @@ ghost use Rattle.std.specs.Prelude.{◌≡◌, ◌<◌, ◌≤◌, ◌^◌, ℕ,
 ghost use Rattle.blk_index.specs.Inside.Spots.{is_write, first_at, end_at, IsBelow};
 ghost use Rattle.blk_index.specs.Inside.Places.{one_of_place};
 ghost use Rattle.blk_index.specs.Inside.Shapes.{entries_in, ShapeListed, StandsBetween};
-ghost use Rattle.blk_index.specs.Inside.Edges.{Lists, KeepsBut, KeepsOwn, IsEdges, AddsEdges, DropsEdges};
+ghost use Rattle.blk_index.specs.Inside.Edges.{IsListedAt, KeepsBut, KeepsOwn, IsEdges, AddsEdges, DropsEdges};
 ghost use Rattle.blk_sched.specs.Meaning.{Waiting};
 
 use crate::places::Places;
@@ -61,7 +61,7 @@ impl<A: Allocator + Clone> Edge<A> {
     /// Lists a request, of so many sectors and bios. It fails only when out of memory: no other request is lost then.
     #[inline(always)]
     pub fn put(&mut self, spot: Spot, sectors: u64, bios: u64) -> Result<(), AllocError>
-        ensures ok { OnOk result (Lists self.new spot.0 spot.1 sectors bios) }
+        ensures ok { OnOk result (IsListedAt self.new spot.0 spot.1 sectors bios) }
         ensures kept { KeepsBut spot self.old self.new }
     {
         let (place, id) = spot;
@@ -81,7 +81,7 @@ impl<A: Allocator + Clone> Edge<A> {
         sectors: u64,
         bios: u64,
     ) -> Result<(), AllocError>
-        ensures ok { OnOk result (Lists self.new place id sectors bios) }
+        ensures ok { OnOk result (IsListedAt self.new place id sectors bios) }
         ensures kept { KeepsBut (place, id) self.old self.new }
     {
         let class = (place, bios);

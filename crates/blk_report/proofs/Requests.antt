@@ -31,7 +31,7 @@ use Rattle.blk_trace.proofs.Entering.{IsSame, same_entered, HasNothing, nothing_
 use Rattle.blk_report.specs.declared.serving.SectorRange.{SectorRange}
 use Rattle.blk_report.specs.declared.serving.Service.{Service}
 use Rattle.blk_report.specs.Services.{service_of, services_of, command_in, AreWithinLimits, AreInIssueOrder}
-use Rattle.blk_report.specs.Inside.Ranges.{range_of}
+use Rattle.blk_report.specs.Inside.Ranges.{range_of_bios}
 use Rattle.blk_report.proofs.Gathering.{range_is}
 
 -- what was released under an id is a request
@@ -136,7 +136,7 @@ pub record IsRanged (bios : List Bio) (r : SectorRange) : Type 0 where
   pub first : r.first ≡ first_of bios
   pub sectors : r.first + sectors_of bios ≡ r.end
 
-ranged : (bios : List Bio) (r : SectorRange) → IsRequest bios → range_of bios ≡ Some r → IsRanged bios r
+ranged : (bios : List Bio) (r : SectorRange) → IsRequest bios → range_of_bios bios ≡ Some r → IsRanged bios r
 ranged bios r request is =
     let told : Some (let z : SectorRange = record { dir = dir_of bios; first = first_of bios; end = last_of bios } in z) ≡ Some r = sym (range_is bios request.not_empty) ∙ is in
     let all : (let z : SectorRange = record { dir = dir_of bios; first = first_of bios; end = last_of bios } in z) ≡ r = cc in
@@ -155,17 +155,17 @@ pub same_issue : (setup : Setup) (es : List Happened) (rounds : List ℕ) (k : �
 same_issue setup es rounds k x are h =
     ap (λ l. get_or l k 0) (are ∙ sym (are_rounds setup es)) ∙ get_or-map (λ (s : Service). s.issue) (services_of setup es) k x 0 h
 
-pub range_there : (setup : Setup) (es : List Happened) (k : ℕ) (x : Service) (id : ℕ) → IsLegalTrace setup es → k < length (services_of setup es) → id ≡ (get_or (services_of setup es) k x).id → (range_of (request_of es id) ≡ None → ⊥)
+pub range_there : (setup : Setup) (es : List Happened) (k : ℕ) (x : Service) (id : ℕ) → IsLegalTrace setup es → k < length (services_of setup es) → id ≡ (get_or (services_of setup es) k x).id → (range_of_bios (request_of es id) ≡ None → ⊥)
 range_there setup es k x id legal h is none =
     let some : IsRequest (request_of es id) = subst (λ n. IsRequest (request_of es n)) (sym is) (service_request setup es k x legal h).0 in
     let told = range_is (request_of es id) some.not_empty in
     absurd (cc)
 
-pub same_range : (setup : Setup) (es : List Happened) (k : ℕ) (x : Service) (id : ℕ) (r : SectorRange) → IsLegalTrace setup es → k < length (services_of setup es) → id ≡ (get_or (services_of setup es) k x).id → range_of (request_of es id) ≡ Some r
+pub same_range : (setup : Setup) (es : List Happened) (k : ℕ) (x : Service) (id : ℕ) (r : SectorRange) → IsLegalTrace setup es → k < length (services_of setup es) → id ≡ (get_or (services_of setup es) k x).id → range_of_bios (request_of es id) ≡ Some r
     → (r.dir ≡ (get_or (services_of setup es) k x).dir) × (r.first ≡ (get_or (services_of setup es) k x).first) × (r.first + (get_or (services_of setup es) k x).sectors ≡ r.end)
 same_range setup es k x id r legal h is told =
     let q = service_request setup es k x legal h in
-    let at : range_of (request_of es (get_or (services_of setup es) k x).id) ≡ Some r = subst (λ n. range_of (request_of es n) ≡ Some r) is told in
+    let at : range_of_bios (request_of es (get_or (services_of setup es) k x).id) ≡ Some r = subst (λ n. range_of_bios (request_of es n) ≡ Some r) is told in
     let s : IsRanged (request_of es (get_or (services_of setup es) k x).id) r = ranged (request_of es (get_or (services_of setup es) k x).id) r q.0 at in
     (s.dir ∙ sym q.1, s.first ∙ sym q.2, omega (arith, s.sectors, q.3))
 

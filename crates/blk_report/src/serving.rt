@@ -8,7 +8,7 @@ ghost use Rattle.blk_trace.specs.Kinds.{enters};
 ghost use Rattle.blk_trace.specs.Legal.{IsLegalTrace};
 ghost use Rattle.blk_trace.specs.Meaning.{commands_of, rounds_of};
 ghost use Rattle.blk_report.specs.Services.{services_of, command_in, AreWithinLimits, AreInIssueOrder};
-ghost use Rattle.blk_report.specs.Inside.Ranges.{range_of, joined_range, IsExtended, EntersUnder};
+ghost use Rattle.blk_report.specs.Inside.Ranges.{range_of_bios, joined_range, IsExtended, EntersUnder};
 
 use blk_bio::{Dir, Request};
 use blk_trace::{Event, Trace};
@@ -49,7 +49,7 @@ struct SectorRange {
 impl SectorRange {
     /// That of a request.
     fn of<A: Allocator + Clone>(request: &Request<A>) -> SectorRange
-        ensures { range_of request.now ≡ Some result }
+        ensures { range_of_bios request.now ≡ Some result }
     {
         let extent = request.extent();
         SectorRange {
@@ -113,7 +113,7 @@ fn ranges<A: Allocator + Clone>(
     alloc: A,
     events: &[Event<Request<A>>],
 ) -> Result<BTreeMap<u64, SectorRange, A>, AllocError>
-    ensures { IfOk result (λ m. (id : ℕ) → get nat_cmp m id ≡ range_of (request_of events.now id)) }
+    ensures { IfOk result (λ m. (id : ℕ) → get nat_cmp m id ≡ range_of_bios (request_of events.now id)) }
 {
     let mut ranges = BTreeMap::new(alloc);
     for event in events {
@@ -133,7 +133,7 @@ fn served<A: Allocator + Clone>(
     requires commands { commands.now ≡ commands_of trace.now.setup trace.now.events }
     requires rounds { rounds.now ≡ rounds_of trace.now.events }
     requires legal { IsLegalTrace trace.now.setup trace.now.events }
-    requires ranges { (id : ℕ) → get nat_cmp ranges.now id ≡ range_of (request_of trace.now.events id) }
+    requires ranges { (id : ℕ) → get nat_cmp ranges.now id ≡ range_of_bios (request_of trace.now.events id) }
     ensures { IfOk result (λ v. v.items ≡ services_of trace.now.setup trace.now.events) }
 {
     // a trace's length is within the limit on events, and so are the rounds of its commands

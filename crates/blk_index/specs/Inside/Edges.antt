@@ -12,20 +12,20 @@ use Rattle.blk_index.specs.declared.edges.Edges.{Edges}
 
 module _ {A : Type 0} where
   -- a request is listed at a place, with no more sectors and bios than these
-  abbrev pub Lists : Edge A → DirSector → ℕ → ℕ → ℕ → Type 0
-  Lists edge p id sectors bios = (one_of_place edge.ones p ≡ Some id) ⊎ ShapeListed (entries_in edge.others) p id sectors bios
+  abbrev pub IsListedAt : Edge A → DirSector → ℕ → ℕ → ℕ → Type 0
+  IsListedAt edge p id sectors bios = (one_of_place edge.ones p ≡ Some id) ⊎ ShapeListed (entries_in edge.others) p id sectors bios
 
   -- what is listed stays so, but for one
   abbrev pub KeepsBut : Spot → Edge A → Edge A → Type 0
-  KeepsBut spot old new = (p : DirSector) (k s b : ℕ) → (p ≡ spot.0 → k ≡ spot.1 → ⊥) → Lists old p k s b → Lists new p k s b
+  KeepsBut spot old new = (p : DirSector) (k s b : ℕ) → (p ≡ spot.0 → k ≡ spot.1 → ⊥) → IsListedAt old p k s b → IsListedAt new p k s b
 
   -- and that one, where it has as much
   abbrev pub KeepsOwn : Spot → ℕ → ℕ → Edge A → Edge A → Type 0
-  KeepsOwn spot sectors bios old new = (s b : ℕ) → sectors ≤ s → bios ≤ b → Lists old spot.0 spot.1 s b → Lists new spot.0 spot.1 s b
+  KeepsOwn spot sectors bios old new = (s b : ℕ) → sectors ≤ s → bios ≤ b → IsListedAt old spot.0 spot.1 s b → IsListedAt new spot.0 spot.1 s b
 
   -- each request is listed where it lies at one side
   abbrev pub IsEdge : (Extent → DirSector) → (ℕ → Option Waiting) → Edge A → Type 0
-  IsEdge at found edge = (k : ℕ) (w : Waiting) → found k ≡ Some w → Lists edge (at (extent_of w.bios)) k (sectors_of w.bios) (length w.bios)
+  IsEdge at found edge = (k : ℕ) (w : Waiting) → found k ≡ Some w → IsListedAt edge (at (extent_of w.bios)) k (sectors_of w.bios) (length w.bios)
 
   -- where the requests begin and where they end
   pub record IsEdges (found : ℕ → Option Waiting) (edges : Edges A) : Type 0 where

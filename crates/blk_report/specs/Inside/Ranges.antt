@@ -5,9 +5,9 @@ use Rattle.blk_bio.specs.Requests.{last_of}
 use Rattle.blk_report.specs.declared.serving.SectorRange.{SectorRange}
 
 -- that of a list of bios, if it has some
-abbrev pub range_of : List Bio → Option SectorRange
-range_of [] = None
-range_of (b ∷ bs) = Some (record { dir = b.dir; first = b.first; end = last_of (b ∷ bs) })
+abbrev pub range_of_bios : List Bio → Option SectorRange
+range_of_bios [] = None
+range_of_bios (b ∷ bs) = Some (record { dir = b.dir; first = b.first; end = last_of (b ∷ bs) })
 
 -- of a request with a newcomer at its back where that begins at its end, and else at its front
 abbrev pub joined_range : SectorRange → SectorRange → SectorRange
@@ -27,7 +27,7 @@ IsExtended id newcomer old new = (i : ℕ) → new i ≡ cond (id == i) (joined_
 -- what is under each id once bios entered under an id, if some did
 abbrev pub with_entry : (ℕ → Option SectorRange) → Option (ℕ × List Bio) → ℕ → Option SectorRange
 with_entry f None i = f i
-with_entry f (Some p) i = cond (p.0 == i) (joined_to (f p.0) (range_of p.1)) (f i)
+with_entry f (Some p) i = cond (p.0 == i) (joined_to (f p.0) (range_of_bios p.1)) (f i)
 
 -- what is under each id is what it was, with these bios
 abbrev pub EntersUnder : (ℕ → Option SectorRange) → Option (ℕ × List Bio) → (ℕ → Option SectorRange) → Type 0

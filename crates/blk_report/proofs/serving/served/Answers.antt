@@ -5,7 +5,7 @@ use Rattle.blk_bio.specs.declared.bio.Dir.TheVariants.{Read}
 use Rattle.blk_trace.specs.Events.{request_of}
 use Rattle.blk_report.specs.declared.serving.Service.{Service}
 use Rattle.blk_report.specs.Services.{services_of}
-use Rattle.blk_report.specs.Inside.Ranges.{range_of}
+use Rattle.blk_report.specs.Inside.Ranges.{range_of_bios}
 use Rattle.blk_report.proofs.Requests.{as_many, as_many_rounds, same_command, same_issue, same_service, range_there, same_range}
 use Rattle.blk_report.proofs.serving.served.Goals as goal
 
@@ -22,7 +22,7 @@ unreachable-requires g c =
     let id : ℕ = (get_or c.args.commands.now k none).id in
     let low : k < length (services_of t.setup t.events) = omega (arith, as_many t.setup t.events, ap length c.requires.commands, c.loop-place-test.true) in
     let same = same_command t.setup t.events c.args.commands.now c.args.rounds.now k (get_or c.args.commands.now k none) none c.requires.commands c.requires.legal c.loop-place-test.true refl unserved in
-    let gone : range_of (request_of t.events id) ≡ None = sym (c.requires.ranges id) ∙ sym c.in_default.ensures.value in
+    let gone : range_of_bios (request_of t.events id) ≡ None = sym (c.requires.ranges id) ∙ sym c.in_default.ensures.value in
     range_there t.setup t.events k unserved id c.requires.legal low same.0 gone
 
 pub overflow_sub-range : goal.overflow_sub-range
@@ -32,7 +32,7 @@ overflow_sub-range g c =
     let id : ℕ = (get_or c.args.commands.now k none).id in
     let low : k < length (services_of t.setup t.events) = omega (arith, as_many t.setup t.events, ap length c.requires.commands, c.loop-place-test.true) in
     let same = same_command t.setup t.events c.args.commands.now c.args.rounds.now k (get_or c.args.commands.now k none) none c.requires.commands c.requires.legal c.loop-place-test.true refl unserved in
-    let told : range_of (request_of t.events id) ≡ Some c.in-Some.range.now = sym (c.requires.ranges id) ∙ sym c.in-Some.ensures.value in
+    let told : range_of_bios (request_of t.events id) ≡ Some c.in-Some.range.now = sym (c.requires.ranges id) ∙ sym c.in-Some.ensures.value in
     let range = same_range t.setup t.events k unserved id c.in-Some.range.now c.requires.legal low same.0 told in
     omega (arith, range.2)
 
@@ -49,7 +49,7 @@ loop-place-preserved g c =
     let all : List Service = services_of t.setup t.events in
     let low : k < length all = omega (arith, as_many t.setup t.events, ap length c.requires.commands, c.loop-place-test.true) in
     let same = same_command t.setup t.events c.args.commands.now c.args.rounds.now k (get_or c.args.commands.now k none) none c.requires.commands c.requires.legal c.loop-place-test.true refl unserved in
-    let told : range_of (request_of t.events id) ≡ Some c.in-Some.range.now = sym (c.requires.ranges id) ∙ sym c.in-Some.ensures.value in
+    let told : range_of_bios (request_of t.events id) ≡ Some c.in-Some.range.now = sym (c.requires.ranges id) ∙ sym c.in-Some.ensures.value in
     let range = same_range t.setup t.events k unserved id c.in-Some.range.now c.requires.legal low same.0 told in
     let sectors : c.in-Some.range.now.end - c.in-Some.range.now.first ≡ (get_or all k unserved).sectors = omega (arith, range.2) in
     let new : Service = record { id = id; dir = c.in-Some.range.now.dir; first = c.in-Some.range.now.first; sectors = c.in-Some.range.now.end - c.in-Some.range.now.first; release = (get_or c.args.commands.now k none).release; due = (get_or c.args.commands.now k none).due; issue = get_or c.args.rounds.now k 0 } in
