@@ -9,6 +9,7 @@ import matching
 RECORDERS = ("blkparse", "ftrace", "perf", "bpftrace")
 MOST = 2**64
 LAST_SECOND = 2**34
+FIRST_BYTES = 1000
 LOSSES = {b"Lost", b"[LOST", b"lost", b"PERF_RECORD_LOST", b"dropped"}
 EVENTS = {"bio_queue": "Q", "getrq": "G", "bio_backmerge": "M", "bio_frontmerge": "F", "split": "X", "plug": "P", "unplug": "U"}
 REQUESTS = {"rq_insert": "I", "rq_issue": "D", "rq_complete": "C", "rq_requeue": "R", "rq_merge": "M"}
@@ -206,7 +207,9 @@ def take(lines, recorder, asked, words):
 
 
 def read(recorder, text, asked=None):
-    """What a text tells, or the line of the program on the first line that is wrong."""
+    """What a text tells, or the line of the program on the first line that is wrong, or on what is no text."""
+    if not text or b"\0" in text[:FIRST_BYTES]:
+        return "blk: record 1: Title\n"
     lines = Lines()
     for place, line in enumerate(text.split(b"\n")):
         words = [it for it in re.split(rb"[ \t\r]", line) if it]

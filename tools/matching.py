@@ -293,6 +293,19 @@ class Told:
         for word in PASSED:
             yield f"{word} {self.reasons.count(word)}"
 
+    def doubts(self):
+        """What of the capture is dubious, a line each."""
+        count, times = len(self.records), [it.time for it in self.records]
+        still = sum(one == other for one, other in zip(times, times[1:]))
+        if 2 * still > count:
+            yield f"blk: {still} of {count} records have the time of the one before: waits may be too short\n"
+        if 100 * self.missing > count:
+            yield f"blk: {self.missing} of {count} records are unmatched: records may be missing\n"
+        if count and all(it.completed is None for it in self.taken):
+            actions = {it.action for it in self.records}
+            lacks = next((f"no {it} records" for it in "QGDC" if it not in actions), "none that is taken was completed")
+            yield f"blk: 0 requests with all their times: {lacks}\n"
+
     def said(self):
         passed = sum(1 for it in self.reasons if it)
         return f"blk: passed over {passed}, unmatched {self.missing}\n" if passed or self.missing else ""
@@ -300,9 +313,10 @@ class Told:
     def texts(self):
         """What is wanted for each form: its words, what is written and what is said."""
         lines = lambda it: "".join(f"{line}\n" for line in it)
-        yield [], lines(self.schedule()), self.said()
-        yield ["--table"], lines(self.table()), self.said()
-        yield ["--summary"], lines(self.summary()), ""
+        doubts = "".join(self.doubts())
+        yield [], lines(self.schedule()), doubts + self.said()
+        yield ["--table"], lines(self.table()), doubts + self.said()
+        yield ["--summary"], lines(self.summary()), doubts
 
 
 def waits(pairs):

@@ -47,16 +47,17 @@ pub record IsImport (records : List Record) (asked : ImportAsked) (requests : Li
   pub fates_are : fates ≡ map (fate_in (gone_before (begin_after asked.skip records) all_requests) (length requests)) all_fates
   pub left_are : left_out + length requests ≡ all_left + length all_requests
 
--- more would be taken than a schedule may have
-pub record AreTooMany (records : List Record) (asked : ImportAsked) : Type 0 where
+-- so many would be taken, and a schedule may not have them
+pub record AreTooMany (records : List Record) (asked : ImportAsked) (count : ℕ) : Type 0 where
   pub requests : List CapturedRequest
   pub bios : List CapturedBio
   pub fates : List Fate
   pub absorbed : ℕ
   pub left_out : ℕ
   pub imported : IsImport records asked requests bios fates absorbed left_out
-  pub many : MAX_COMMANDS < length requests
+  pub counted : count ≡ length requests
+  pub many : MAX_COMMANDS < count
 
 abbrev pub IsImportFault : List Record → ImportAsked → ImportFault → Type 0
-IsImportFault records asked fault.TooMany = AreTooMany records asked
+IsImportFault records asked (fault.TooMany n) = AreTooMany records asked n
 IsImportFault records asked fault.Memory = Unit {0}

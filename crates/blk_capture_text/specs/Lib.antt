@@ -4,6 +4,7 @@ pub mod Names
 pub mod TableText
 pub mod SummaryText
 pub mod Imports
+pub mod Doubts
 pub mod Shown
 pub mod Source
 pub mod Inside

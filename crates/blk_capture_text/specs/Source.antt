@@ -1,5 +1,6 @@
 -- A capture of any form, by its bytes.
-use Rattle.std.specs.Prelude.{ℕ, ◌≡◌, ⊤, List, Option, None, Some}
+use Rattle.std.specs.Prelude.{ℕ, ◌≡◌, ◌==◌, not, if◌then◌else◌, ⊤, Bool, false, List, length, take, Option, None, Some}
+use Rattle.std.specs.List.{list_any}
 use Rattle.csv.specs.Reading.{default_config, records, strip_bom}
 use Rattle.blk_lists.specs.Sources.{Row}
 use Rattle.blk_recorders.specs.Detected.{form_of_lines}
@@ -10,6 +11,7 @@ use Rattle.blk_recorders.specs.declared.device.Device.{Device}
 use Rattle.blk_recorders.specs.declared.recorder.Recorder.{Recorder}
 use Rattle.blk_recorders.specs.declared.steps.Steps.{Steps}
 use Rattle.blk_capture_text.specs.Captures.{SpellsCapture, CaptureTextFault}
+use Rattle.blk_capture_text.specs.declared.source.TheConstants.{FIRST_BYTES}
 use Rattle.blk_capture_text.specs.declared.source.CaptureRead.{CaptureRead}
 use Rattle.blk_capture_text.specs.declared.source.Printed.{Printed}
 use Rattle.blk_capture_text.specs.declared.source.UnreadCapture.{UnreadCapture}
@@ -19,10 +21,20 @@ use Rattle.blk_capture_text.specs.declared.source.UnreadCapture.TheVariants as u
 abbrev pub csv_rows : List ℕ → List Row
 csv_rows bytes = records default_config (strip_bom bytes)
 
--- the form that is asked for, or that the first lines tell
+-- bytes are a text: there are some, and none of the first ones is NUL
+abbrev pub has_nul : List ℕ → Bool
+has_nul bytes = list_any (λ c. c == 0) (take FIRST_BYTES bytes)
+
+abbrev pub is_text : List ℕ → Bool
+is_text bytes = if length bytes == 0 then false else not (has_nul bytes)
+
+-- the form that is asked for, or that the first lines tell; what is no text has no title of `blk-capture`
+abbrev pub form_or_told : Option CaptureForm → List ℕ → CaptureForm
+form_or_told (Some f) bytes = f
+form_or_told None bytes = form_of_lines bytes
+
 abbrev pub form_taken : Option CaptureForm → List ℕ → CaptureForm
-form_taken (Some f) bytes = f
-form_taken None bytes = form_of_lines bytes
+form_taken asked bytes = if is_text bytes then form_or_told asked bytes else form.Records
 
 -- of the form `blk-capture`
 abbrev pub ReadsRecords : List ℕ → CaptureRead → Type 0

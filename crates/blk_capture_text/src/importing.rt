@@ -24,8 +24,8 @@ pub struct ImportAsked {
 /// Why a capture is not imported.
 #[derive(Clone, Copy, Debug, PartialEq, Eq)]
 pub enum ImportFault {
-    /// More requests than a schedule may have.
-    TooMany,
+    /// So many requests would be taken, which are more than a schedule may have.
+    TooMany(u64),
     /// Memory ran out.
     Memory,
 }
@@ -35,7 +35,7 @@ impl ImportFault {
     pub fn name(self) -> &'static str
         ensures { result.now ≡ import_fault_name self }
     {
-        variant_name!(self: ImportFault { TooMany, Memory })
+        variant_name!(self: ImportFault { TooMany(_), Memory })
     }
 }
 
@@ -59,7 +59,7 @@ fn begin_after(skip: u64, records: &[Record]) -> u64
 /// The requests of a capture that went out as long after its first record as asked, or later, and of these the first ones; with its bios,
 /// and what became of its records. The times of the records don't fall, as those that [`crate::read_capture`] gives.
 ///
-/// [`ImportFault::TooMany`]: more requests would be taken than a schedule may have, [`edd_commands::MAX_COMMANDS`]. The time grows as n log n.
+/// [`ImportFault::TooMany`]: more requests would be taken than a schedule may have, [`edd_commands::MAX_COMMANDS`], and how many. The time grows as n log n.
 pub fn import(
     alloc: Global,
     records: &[Record],
@@ -80,8 +80,9 @@ pub fn import(
     let _ = records.len();
     match part_of(alloc, &whole, begin_after(asked.skip, records), asked.first) {
         Ok(part) => {
-            if part.requests.len() as u64 > MAX_COMMANDS {
-                return Err(ImportFault::TooMany);
+            let count = part.requests.len() as u64;
+            if count > MAX_COMMANDS {
+                return Err(ImportFault::TooMany(count));
             }
             Ok(part)
         }

@@ -1,6 +1,7 @@
 //! Captures as texts: one is read as records, and what they tell of requests is written, as a schedule, a table and a summary.
 #![tactic(auto)]
 
+mod doubts;
 mod importing;
 pub mod laws;
 mod numbers;
@@ -11,11 +12,12 @@ mod shown;
 mod source;
 mod table;
 
+pub use crate::doubts::{count_still, has_nothing_whole, is_still, lacked_action};
 pub use crate::importing::{ImportAsked, ImportFault, first_time, import};
 pub use crate::numbers::{UnusedCounts, count_fates, notice_text, write_summary};
 pub use crate::reading::{CAPTURE, MAX_RECORDS, read_capture};
 pub use crate::record::RECORD_ROW;
 pub use crate::schedule::schedule_of;
 pub use crate::shown::{ShownImport, shown_text};
-pub use crate::source::{CaptureRead, Printed, UnreadCapture, read_source};
+pub use crate::source::{CaptureRead, Printed, UnreadCapture, form_taken, read_source};
 pub use crate::table::write_table;

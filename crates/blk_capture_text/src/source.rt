@@ -1,14 +1,14 @@
 //! A capture of any form, read from its bytes.
 
-ghost use Rattle.std.specs.Prelude.{IfOk, IfErr, length};
+ghost use Rattle.std.specs.Prelude.{◌≡◌, IfOk, IfErr, length};
 ghost use Rattle.blk_capture.specs.Requests.{AreInOrder};
-ghost use Rattle.blk_capture_text.specs.Source.{IsCaptureRead, IsCaptureUnread, ReadsRecords, ReadsLines, IsRecordsFault, IsLinesFault};
+ghost use Rattle.blk_capture_text.specs.Source.{has_nul, is_text, form_taken, IsCaptureRead, IsCaptureUnread, ReadsRecords, ReadsLines, IsRecordsFault, IsLinesFault};
 
 use crate::reading::read_capture;
 use blk_capture::Record;
 use blk_lists::{Records, TextFault, Why};
 use blk_recorders::{CaptureForm, Device, LineFault, LineWhy, Recorder, form_of, read_lines};
-use std::alloc::Global;
+use std::alloc::{AllocError, Global};
 
 /// What else the lines of a recorder told.
 #[derive(Clone, Copy, Debug, PartialEq, Eq)]
@@ -93,7 +93,45 @@ fn read_printed(
     }
 }
 
-/// A capture of the form that is asked for, or else of that which its first lines tell ([`blk_recorders::form_of`]). Of a device that is asked for, the
+/// How many of its first bytes tell whether an input is a text.
+const FIRST_BYTES: usize = 1000;
+
+/// Whether NUL is among the first bytes.
+fn has_nul(bytes: &[u8]) -> bool
+    ensures { result ≡ has_nul bytes.now }
+{
+    bytes.iter().take(FIRST_BYTES).any(|byte| *byte == 0)
+}
+
+/// Whether bytes are a text: there are some, and none of the first ones is NUL.
+fn is_text(bytes: &[u8]) -> bool
+    ensures { result ≡ is_text bytes.now }
+{
+    if bytes.is_empty() {
+        return false;
+    }
+    !has_nul(bytes)
+}
+
+/// The form of bytes: that which is asked for, or else that which the first lines tell ([`blk_recorders::form_of`]). What is no text, since it is empty
+/// or has NUL among its first bytes, is of none, and is taken for `blk-capture`, whose title it lacks. Fails only when out of memory.
+pub fn form_taken(
+    alloc: Global,
+    asked: Option<CaptureForm>,
+    bytes: &[u8],
+) -> Result<CaptureForm, AllocError>
+    ensures { IfOk result (λ f. f ≡ form_taken asked bytes.now) }
+{
+    if !is_text(bytes) {
+        return Ok(CaptureForm::Records);
+    }
+    match asked {
+        Some(form) => Ok(form),
+        None => form_of(alloc, bytes),
+    }
+}
+
+/// A capture of the form that is asked for, or else of that which its first lines tell ([`form_taken`]). Of a device that is asked for, the
 /// steps of others are left out where the lines name one; records of the form `blk-capture` name none.
 ///
 /// The fault is the first one: of the least record ([`crate::read_capture`]) or line ([`blk_recorders::read_lines`]). Out of memory may come in
@@ -108,15 +146,9 @@ pub fn read_source(
     ensures in_order { IfOk result (λ r. AreInOrder r.records.items (length r.records.items)) }
     ensures err { IfErr result (IsCaptureUnread form device bytes.now) }
 {
-    let form = match form {
-        Some(form) => form,
-        None => match form_of(alloc, bytes) {
-            Ok(form) => form,
-            Err(_) => return Err(UnreadCapture::Memory),
-        },
-    };
-    match form {
-        CaptureForm::Records => read_records(alloc, bytes),
-        CaptureForm::Printed(recorder) => read_printed(alloc, recorder, device, bytes),
+    match form_taken(alloc, form, bytes) {
+        Ok(CaptureForm::Records) => read_records(alloc, bytes),
+        Ok(CaptureForm::Printed(recorder)) => read_printed(alloc, recorder, device, bytes),
+        Err(_) => Err(UnreadCapture::Memory),
     }
 }

@@ -325,5 +325,5 @@ fn a_part_is_taken(rt: HostRuntime) {
     };
     assert_eq!(rt; matched.requests.len(), 1);
     assert_eq!(rt; matched.requests[0].first, 128);
-    assert!(rt; ImportFault::TooMany != ImportFault::Memory);
+    assert!(rt; ImportFault::TooMany(1_000_001) != ImportFault::Memory);
 }

@@ -4,7 +4,7 @@ use Rattle.blk_lists.specs.Sources.{Row}
 use Rattle.blk_words.specs.declared.words.Job.{Job}
 use Rattle.blk_words.specs.Asked.{Asks}
 use Rattle.blk_cli.specs.Gives.{HasNoAnswer}
-use Rattle.blk_cli.specs.Ends.{IsFailureOf, IsWithout}
+use Rattle.blk_cli.specs.Ends.{IsFailureOf, IsWithout, IsWithoutAnswer}
 use Rattle.blk_cli.specs.declared.NoText.{NoText}
 use Rattle.blk_cli.specs.declared.NoText.TheVariants as none
 use Rattle.blk_cli.specs.declared.failure.Failure.{Failure}
@@ -17,3 +17,6 @@ without_by words input bytes failed j f (none.Failure g) asks fails is = elim is
 without_by words input bytes failed j f (none.Title text) asks fails is = (j, asks, subst (HasNoAnswer words j input bytes failed) is fails)
 without_by words input bytes failed j f (none.Usage text) asks fails is = absurd is
 without_by words input bytes failed j f none.Excluded asks fails is = absurd is
+
+pub without_of : (words : List (List ℕ)) (input : Option (List Row)) (bytes : Option (List ℕ)) (failed : Bool) (j : Job) (n : NoText) → Asks words j → IsWithoutAnswer words j input bytes failed n → IsWithout words input bytes failed n
+without_of words input bytes failed j n asks w = without_by words input bytes failed j w.0 n asks w.1 w.2

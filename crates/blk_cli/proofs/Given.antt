@@ -12,13 +12,5 @@ pub given_of : (input : Option (List ℕ)) (bytes : List ℕ) (s : Said) → IfS
 given_of input bytes s h x = record {
   bytes = x.bytes;
   given = is_given input bytes x.bytes h x.given;
-  finding = x.finding;
-  line = x.line;
-  detail = x.detail;
-  told = x.told;
   explained = x.explained;
-  refuser = x.refuser;
-  text = x.text;
-  good = x.good;
-  quiet = x.quiet;
 }

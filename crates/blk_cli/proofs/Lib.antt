@@ -5,6 +5,5 @@ mod OnTimeClaims
 mod Named
 mod OfRead
 mod Schedules
-mod Crowds
 mod Given
 mod Failed

@@ -12,6 +12,8 @@ use Rattle.blk_cli.specs.declared.NoText.TheVariants as none
 use Rattle.blk_cli.specs.declared.failure.Failure.{Failure}
 use Rattle.blk_cli.specs.declared.failure.Failure.TheVariants as failure
 use Rattle.blk_cli.specs.Lines.{failure_line, status_of, write_fault, excluded}
+use Rattle.blk_words.specs.declared.words.Import.{Import}
+use Rattle.blk_cli.specs.Importing.{IsUnimportedFrom}
 use Rattle.blk_cli.specs.Said.{Said}
 use Rattle.blk_cli.specs.Gives.{GivesAnswer, HasNoAnswer, AnswersText}
 
@@ -28,6 +30,13 @@ abbrev pub IsFailureOf : Failure → NoText → Type 0
 IsFailureOf f (none.Failure g) = (g ≡ f) ⊎ (g ≡ failure.Memory)
 IsFailureOf f (none.Title text) = f ≡ failure.Text (record { at = 1; why = why.Title })
 IsFailureOf f n = ⊥
+
+-- why a job has no answer
+abbrev pub IsWithoutAnswer : List (List ℕ) → Job → Option (List Row) → Option (List ℕ) → Bool → NoText → Type 0
+IsWithoutAnswer words j input bytes failed n = (f : Failure) × HasNoAnswer words j input bytes failed f × IsFailureOf f n
+
+abbrev pub IsUntaken : Import → Option (List ℕ) → Bool → NoText → Type 0
+IsUntaken i bytes failed n = (f : Failure) × IsUnimportedFrom i bytes failed f × IsFailureOf f n
 
 -- or there is none: the job that they ask for fails, memory ran out before they were read, or they ask for nothing
 abbrev pub IsWithout : List (List ℕ) → Option (List Row) → Option (List ℕ) → Bool → NoText → Type 0

@@ -1,11 +1,17 @@
 -- What is said about a text of any form, and why nothing is.
-use Rattle.std.specs.Prelude.{◌≡◌, ◌++◌, ◌∷◌, ⊤, ℕ, Bool, List, [], Option, None, Some, IfSome, codes, decimal, is_some}
+use Rattle.std.specs.Prelude.{◌≡◌, ◌++◌, ◌∷◌, ⊤, ℕ, Bool, List, [], Option, None, Some, IfSome, codes, decimal, is_some, not}
 use Rattle.blk_explain.specs.Explained.{IsExplained, form_without_fault}
 use Rattle.blk_explain.specs.declared.details.Detail.{Detail}
 use Rattle.blk_explain.specs.declared.findings.Finding.{Finding}
 use Rattle.blk_explain.specs.declared.forms.TextForm.{TextForm}
 use Rattle.blk_explain.specs.declared.forms.TextForm.TheVariants as form
+use Rattle.blk_explain.specs.Printed.{AreLinesExplained}
 use Rattle.blk_lists.specs.Reads.{IsOutside}
+use Rattle.blk_capture_text.specs.Source.{form_taken}
+use Rattle.blk_recorders.specs.declared.detect.CaptureForm.{CaptureForm}
+use Rattle.blk_recorders.specs.declared.detect.CaptureForm.TheVariants as capture_form
+use Rattle.blk_recorders.specs.declared.fault.LineFault.{LineFault}
+use Rattle.blk_recorders.specs.declared.recorder.Recorder.{Recorder}
 use Rattle.blk_words.specs.Takers.{takers_text}
 use Rattle.blk_words.specs.declared.inputs.TextKind.{TextKind}
 use Rattle.blk_words.specs.declared.inputs.TextKind.TheVariants as kind
@@ -39,10 +45,8 @@ takers_line (Some f) refuser.Nobody = names_line (text_kind f) []
 takers_line (Some f) refuser.Commands = names_line (text_kind f) (codes "commands")
 takers_line (Some f) (refuser.Oracle id) = repeated_line id
 
--- the bytes of the input, where these are known, are explained; of a text without a fault it is said what takes it; and nothing else is said
-pub record IsTextExplained (input : Option (List ℕ)) (s : Said) : Type 0 where
-  pub bytes : List ℕ
-  pub given : IfSome input (λ known. bytes ≡ known)
+-- of the records of bytes without a fault it is said what takes them; and nothing else is said
+pub record AreRowsExplained (bytes : List ℕ) (s : Said) : Type 0 where
   pub finding : Finding
   pub line : ℕ
   pub detail : Detail
@@ -52,6 +56,31 @@ pub record IsTextExplained (input : Option (List ℕ)) (s : Said) : Type 0 where
   pub text : s.text ≡ told ++ takers_line (form_without_fault finding) refuser
   pub good : s.good ≡ is_some (form_without_fault finding)
   pub quiet : s.note ≡ None
+
+-- the line that says who takes what a recorder printed, where no line is wrong
+abbrev pub lines_takers : Option LineFault → List ℕ
+lines_takers None = names_line kind.Capture []
+lines_takers (Some x) = []
+
+-- of the lines of a recorder it is said who takes them, or which is the first that is wrong
+pub record IsPrintedExplained (f : Recorder) (bytes : List ℕ) (s : Said) : Type 0 where
+  pub fault : Option LineFault
+  pub told : List ℕ
+  pub explained : AreLinesExplained f bytes fault told
+  pub text : s.text ≡ told ++ lines_takers fault
+  pub good : s.good ≡ not (is_some fault)
+  pub quiet : s.note ≡ None
+
+-- by the form that the bytes tell
+abbrev pub IsExplainedAs : CaptureForm → List ℕ → Said → Type 0
+IsExplainedAs capture_form.Records bytes s = AreRowsExplained bytes s
+IsExplainedAs (capture_form.Printed f) bytes s = IsPrintedExplained f bytes s
+
+-- the bytes of the input, where these are known, are explained
+pub record IsTextExplained (input : Option (List ℕ)) (s : Said) : Type 0 where
+  pub bytes : List ℕ
+  pub given : IfSome input (λ known. bytes ≡ known)
+  pub explained : IsExplainedAs (form_taken None bytes) bytes s
 
 -- the reader failed, or memory ran out
 abbrev pub IsUnexplained : Bool → Failure → Type 0

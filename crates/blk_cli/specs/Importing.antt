@@ -31,7 +31,9 @@ use Rattle.blk_capture_text.specs.Source.{IsCaptureRead, IsCaptureUnread}
 use Rattle.blk_capture_text.specs.declared.source.CaptureRead.{CaptureRead}
 use Rattle.blk_capture_text.specs.declared.source.Printed.{Printed}
 use Rattle.blk_capture_text.specs.declared.source.UnreadCapture.TheVariants as unread
+use Rattle.blk_capture.specs.declared.requests.Matched.{Matched}
 use Rattle.blk_cli.specs.Explaining.{IsUnexplained}
+use Rattle.blk_cli.specs.Notes.{IsDoubtTold, IsSourceTold}
 use Rattle.blk_cli.specs.Said.{Said, IsAlone}
 use Rattle.blk_cli.specs.declared.importing.TheConstants.{USUAL_TAGS}
 use Rattle.blk_cli.specs.declared.failure.Failure.{Failure}
@@ -75,11 +77,16 @@ noted (c ∷ told) note = Some ((c ∷ told) ++ unwrap_or note [])
 abbrev pub tags_asked : Option ℕ → ℕ
 tags_asked tags = unwrap_or tags USUAL_TAGS
 
--- before the note something is told only where more were in flight than the device takes at once
-pub record IsNoteOf (tags : ℕ) (shown : ShownImport) (requests : List CapturedRequest) (fates : List Fate) (note : Option (List ℕ)) : Type 0 where
+-- what is dubious of the requests is said before the note
+pub record IsNoteOf (tags : ℕ) (shown : ShownImport) (records : List Record) (requests : List CapturedRequest) (fates : List Fate) (note : Option (List ℕ)) : Type 0 where
+  pub most : ℕ
+  pub is_most : IsMostInFlight requests most
   pub told : List ℕ
-  pub quiet : (n : ℕ) → IsMostInFlight requests n → n ≤ tags → told ≡ []
+  pub doubts : IsDoubtTold records requests most tags (counts_of fates).unmatched told
   pub is : note ≡ noted told (note_by shown (counts_of fates))
+
+abbrev pub IsNoteOn : {A : Type 0} → ℕ → ShownImport → List Record → Matched A → Option (List ℕ) → Type 0
+IsNoteOn tags shown records m note = IsNoteOf tags shown records m.requests.items m.fates.items note
 
 -- what is shown of the requests of a capture that are taken, and what is said beside it
 pub record IsShownOf (shown : ShownImport) (i : Import) (records : List Record) (s : Said) : Type 0 where
@@ -90,7 +97,7 @@ pub record IsShownOf (shown : ShownImport) (i : Import) (records : List Record) 
   pub left_out : ℕ
   pub is_import : IsImport records (asked_of i) requests bios fates absorbed left_out
   pub is_text : IsShown shown records requests bios fates left_out s.text
-  pub is_note : IsNoteOf (tags_asked i.source.tags) shown requests fates s.note
+  pub is_note : IsNoteOf (tags_asked i.source.tags) shown records requests fates s.note
   pub good : s.good ≡ true
 
 -- too many requests would be taken, or memory ran out
@@ -128,10 +135,9 @@ IsImported i records s = IsWrittenAs i.written i records s
 abbrev pub IsUnimported : Import → List Record → Failure → Type 0
 IsUnimported i records f = IsUnwrittenAs i.written i records f
 
--- what a recorder printed is told before the note; of other captures nothing is
-abbrev pub IsSaidFrom : Option Printed → Said → Said → Type 0
-IsSaidFrom None base s = s ≡ base
-IsSaidFrom (Some p) base s = (told : List ℕ) × (s ≡ record base { note = noted told base.note })
+-- what is said of where a capture comes from is said before the note
+abbrev pub IsSaidFrom : Option Printed → List Record → Said → Said → Type 0
+IsSaidFrom p records base s = (told : List ℕ) × IsSourceTold p records told × (s ≡ record base { note = noted told base.note })
 
 -- bytes are a capture of the form that is asked for, or that its first lines tell, and this is written of it
 pub record IsImportedOf (i : Import) (bytes : List ℕ) (s : Said) : Type 0 where
@@ -139,7 +145,7 @@ pub record IsImportedOf (i : Import) (bytes : List ℕ) (s : Said) : Type 0 wher
   pub is_read : IsCaptureRead i.source.form i.source.device bytes read
   pub base : Said
   pub imported : IsImported i read.records.items base
-  pub said : IsSaidFrom read.printed base s
+  pub said : IsSaidFrom read.printed read.records.items base s
 
 -- they are refused for their first fault
 abbrev pub IsUnreadFrom : Import → List ℕ → Failure → Type 0

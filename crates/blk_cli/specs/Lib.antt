@@ -6,6 +6,7 @@ pub mod OfTraces
 pub mod Certificates
 pub mod Loading
 pub mod Judging
+pub mod Notes
 pub mod Importing
 pub mod Explaining
 pub mod Tuning

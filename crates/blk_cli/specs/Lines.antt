@@ -72,6 +72,7 @@ text_line at w = at_record at (why_name w)
 
 abbrev pub printed_line : ℕ → LineWhy → List ℕ
 printed_line at printed.Memory = want_of_memory
+printed_line at printed.TooLong = at_line at (codes "TooLong: a capture has at most 16000000 records, so cut the text before this line")
 printed_line at w = at_line at (line_why_name w)
 
 abbrev pub step_line : ℕ → SimWhy → List ℕ
@@ -109,9 +110,14 @@ abbrev pub load_line : LoadFault → List ℕ
 load_line load.Memory = want_of_memory
 load_line fault = line (load_fault_name fault)
 
+-- of too many requests, how many, and what to do
+abbrev pub too_many_line : List ℕ → ℕ → List ℕ
+too_many_line name n =
+    codes "blk: " ++ (name ++ (codes ": " ++ (decimal n ++ (codes " requests, and a schedule has at most 1000000: take a part by --first or --skip" ++ 10 ∷ []))))
+
 abbrev pub import_line : ImportFault → List ℕ
 import_line capture.Memory = want_of_memory
-import_line fault = line (import_fault_name fault)
+import_line (capture.TooMany n) = too_many_line (import_fault_name (capture.TooMany n)) n
 
 abbrev pub arrivals_line : ArrivalsFault → List ℕ
 arrivals_line arrivals.Memory = want_of_memory

@@ -2,12 +2,14 @@
 
 ghost use Rattle.std.specs.Prelude.{◌≡◌, ◌++◌, IfOk, IfErr, Some};
 ghost use Rattle.blk_cli.specs.Said.{said_of};
-ghost use Rattle.blk_cli.specs.Explaining.{text_kind, names_line, repeated_line, takers_line, IsTextExplained, IsUnexplained};
+ghost use Rattle.blk_cli.specs.Explaining.{text_kind, names_line, repeated_line, takers_line, AreRowsExplained, IsPrintedExplained, IsTextExplained, IsUnexplained};
 
 use crate::Answered;
 use crate::failure::Failure;
-use blk_explain::{TextForm, explain};
+use blk_capture_text::form_taken;
+use blk_explain::{TextForm, explain, explain_lines};
 use blk_lists::{Records, read_commands};
+use blk_recorders::{CaptureForm, Recorder};
 use blk_text::read_trace;
 use blk_words::{TextKind, takers_text};
 use edd_commands::Capacity;
@@ -134,9 +136,24 @@ fn with_takers(
     }
 }
 
-/// What is said about these bytes, with the subcommands that take them.
-fn said_about(alloc: Global, bytes: &[u8]) -> Result<Answered, AllocError>
-    ensures { IfOk result (λ answer. IsTextExplained (Some bytes.now) (said_of answer)) }
+/// What is said about the lines of a recorder, with the subcommands that take them where none is wrong.
+fn lines_about(alloc: Global, recorder: Recorder, bytes: &[u8]) -> Result<Answered, AllocError>
+    ensures { IfOk result (λ answer. IsPrintedExplained recorder bytes.now (said_of answer)) }
+{
+    let explained = explain_lines(alloc, recorder, bytes)?;
+    match explained.fault {
+        None => Ok(Answered::alone(with_names(alloc, explained.text, TextKind::Capture, "")?)),
+        Some(_) => Ok(Answered {
+            text: explained.text,
+            note: None,
+            good: false,
+        }),
+    }
+}
+
+/// What is said about the records of these bytes, with the subcommands that take them.
+fn rows_about(alloc: Global, bytes: &[u8]) -> Result<Answered, AllocError>
+    ensures { IfOk result (λ answer. AreRowsExplained bytes.now (said_of answer)) }
 {
     let explained = explain(alloc, bytes)?;
     let form = explained.finding.form();
@@ -147,6 +164,16 @@ fn said_about(alloc: Global, bytes: &[u8]) -> Result<Answered, AllocError>
         note: None,
         good: form.is_some(),
     })
+}
+
+/// What is said about these bytes, with the subcommands that take them.
+fn said_about(alloc: Global, bytes: &[u8]) -> Result<Answered, AllocError>
+    ensures { IfOk result (λ answer. IsTextExplained (Some bytes.now) (said_of answer)) }
+{
+    match form_taken(alloc, None, bytes)? {
+        CaptureForm::Printed(recorder) => lines_about(alloc, recorder, bytes),
+        CaptureForm::Records => rows_about(alloc, bytes),
+    }
 }
 
 /// Reads all of the input, and tells what text it is, or which record breaks which rule. Both are answers, and the second isn't good.

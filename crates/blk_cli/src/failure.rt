@@ -3,7 +3,7 @@
 ghost use Rattle.std.specs.Prelude.{◌≡◌, ◌≤◌, decimal};
 ghost use Rattle.drafts.specs.Outputs.{Writes, stream_of};
 ghost use Rattle.blk_words.specs.Refusals.{refusal_text};
-ghost use Rattle.blk_cli.specs.Lines.{line, want_of_memory, numbered, signed_line, at_record, at_line, text_line, printed_line, step_line, oracle_line, check_line, on_time_check_line, failure_line, status_of};
+ghost use Rattle.blk_cli.specs.Lines.{line, want_of_memory, numbered, signed_line, at_record, at_line, text_line, printed_line, step_line, oracle_line, too_many_line, import_line, check_line, on_time_check_line, failure_line, status_of};
 ghost use Rattle.blk_cli.specs.Ends.{EndsFailing};
 ghost use Rattle.blk_cli.specs.Inside.Lines.{list_line};
 ghost use Rattle.blk_cli.specs.Inside.Scripts.{failure_of_run};
@@ -30,6 +30,10 @@ const START: &[u8] = b"blk: ";
 
 /// What each line ends with.
 const END: &[u8] = b"\n";
+
+/// What is said of one record too many.
+const TOO_LONG: &str =
+    "TooLong: a capture has at most 16000000 records, so cut the text before this line";
 
 /// Why there is no output, or not all of it.
 #[derive(Clone, Copy, Debug, PartialEq, Eq)]
@@ -104,7 +108,7 @@ impl Failure {
             Failure::Load(LoadFault::Memory) => FAILED,
             Failure::Load(_) => REFUSED,
             Failure::Import(ImportFault::Memory) => FAILED,
-            Failure::Import(ImportFault::TooMany) => REFUSED,
+            Failure::Import(ImportFault::TooMany(_)) => REFUSED,
             Failure::Arrivals(ArrivalsFault::Memory) => FAILED,
             Failure::Arrivals(_) => REFUSED,
             Failure::Words(_) => COMMAND_LINE,
@@ -132,10 +136,7 @@ impl Failure {
                 LoadFault::Memory => tell_memory(faults),
                 _ => tell_name(faults, fault.name()),
             },
-            Failure::Import(fault) => match fault {
-                ImportFault::Memory => tell_memory(faults),
-                _ => tell_name(faults, fault.name()),
-            },
+            Failure::Import(fault) => tell_import(faults, *fault),
             Failure::Arrivals(fault) => match fault {
                 ArrivalsFault::Memory => tell_memory(faults),
                 _ => tell_name(faults, fault.name()),
@@ -193,6 +194,7 @@ fn tell_line<F: Write>(faults: &mut Output<F>, at: u64, why: LineWhy) -> Result<
 {
     match why {
         LineWhy::Memory => tell_memory(faults),
+        LineWhy::TooLong => tell_line_name(faults, at, TOO_LONG),
         _ => tell_line_name(faults, at, why.name()),
     }
 }
@@ -241,6 +243,28 @@ fn tell_numbers<F: Write>(faults: &mut Output<F>, option: &str, most: u64) -> Re
         rest,
         END,
     ])
+}
+
+/// Writes the line on a capture that is not imported: of too many requests, how many, and what to do.
+fn tell_import<F: Write>(faults: &mut Output<F>, fault: ImportFault) -> Result<(), WriteFault>
+    ensures { Writes (import_line fault) (stream_of F.contents faults.old) (stream_of F.contents faults.new) result }
+{
+    match fault {
+        ImportFault::TooMany(count) => tell_too_many(faults, fault.name(), count),
+        ImportFault::Memory => tell_memory(faults),
+    }
+}
+
+/// Writes the line of a name of too many requests: how many, and what to do.
+fn tell_too_many<F: Write>(faults: &mut Output<F>, name: &str, count: u64) -> Result<(), WriteFault>
+    ensures { Writes (too_many_line name.now count) (stream_of F.contents faults.old) (stream_of F.contents faults.new) result }
+{
+    let mut digits = [0; MAX_DIGITS];
+    let end = put_number(count, &mut digits, 0);
+    let colon: &[u8] = b": ";
+    let rest: &[u8] =
+        b" requests, and a schedule has at most 1000000: take a part by --first or --skip";
+    faults.put_all(&[START, name.as_bytes(), colon, &digits[..end], rest, END])
 }
 
 /// Writes the line on words that can't be done.

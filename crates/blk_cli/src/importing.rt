@@ -4,10 +4,12 @@ ghost use Rattle.std.specs.Prelude.{◌≡◌, ◌≤◌, [], IfOk, IfErr, lengt
 ghost use Rattle.edd_commands.specs.declared.TheConstants.{MAX_COMMANDS};
 ghost use Rattle.blk_capture.specs.Requests.{AreInOrder, AreTimed};
 ghost use Rattle.blk_cli.specs.Said.{said_of};
-ghost use Rattle.blk_cli.specs.Importing.{entry_asked, most_asked, asked_of, terms_of, line_on, note_by, IsShownOf, IsUnshown, IsScripted, IsUnscripted, IsImported, IsUnimported, noted, tags_asked, IsNoteOf, IsSaidFrom, IsImportedOf, IsUnimportedOf, IsImportedFrom, IsUnimportedFrom};
+ghost use Rattle.blk_cli.specs.Importing.{entry_asked, most_asked, asked_of, terms_of, line_on, note_by, IsShownOf, IsUnshown, IsScripted, IsUnscripted, IsImported, IsUnimported, noted, tags_asked, IsNoteOn, IsSaidFrom, IsImportedOf, IsUnimportedOf, IsImportedFrom};
+ghost use Rattle.blk_cli.specs.Ends.{IsFailureOf, IsUntaken};
 
-use crate::Answered;
 use crate::failure::Failure;
+use crate::notes::{doubt_text, source_text};
+use crate::{Answered, NoText, without};
 use blk_arrivals::{Terms, USUAL_DEPTH, script_of, script_text};
 use blk_capture::{Entry, Matched, Options, Record, summarize};
 use blk_capture_text::{
@@ -15,8 +17,7 @@ use blk_capture_text::{
     read_source, shown_text,
 };
 use blk_lists::Records;
-use blk_recorders::Recorder;
-use blk_words::{Import, Written};
+use blk_words::{Import, Job, Written};
 use std::alloc::{AllocError, Global};
 use std::io::Read;
 
@@ -129,20 +130,7 @@ fn tags_asked(tags: Option<u64>) -> u64
     }
 }
 
-/// The line on more requests in flight than the device takes at once, where there are more.
-fn crowd_text(alloc: Global, most: u64, tags: u64) -> Result<Vec<u8>, AllocError>
-    ensures { IfOk result (λ told. most ≤ tags → told.items ≡ []) }
-{
-    if most <= tags {
-        return Ok(Vec::new(alloc));
-    }
-    let text = format!(in alloc;
-        "blk: in flight {most}, and the device takes {tags}: completions may be missing\n"
-    )?;
-    Ok(text.into_bytes())
-}
-
-/// What is said beside the text, and before it whether more were in flight than the device takes at once.
+/// What is said beside the text, and before it what of the requests is dubious.
 fn note_on(
     alloc: Global,
     shown: ShownImport,
@@ -153,13 +141,20 @@ fn note_on(
     requires timed { AreTimed matched.now.requests.items }
     requires few { length matched.now.requests.items ≤ MAX_COMMANDS }
     requires fates { length matched.now.fates.items ≡ length records.now }
-    ensures { IfOk result (λ n. IsNoteOf tags shown matched.now.requests.items matched.now.fates.items (option_map (λ v. v.items) n)) }
+    ensures { IfOk result (λ n. IsNoteOn tags shown records.now matched.now (option_map (λ v. v.items) n)) }
 {
     let summary = summarize(alloc, records, matched)?;
-    let crowd = crowd_text(alloc, summary.in_flight, tags)?;
     let counts = count_fates(matched.fates.as_slice());
+    let doubts = doubt_text(
+        alloc,
+        records,
+        matched.requests.as_slice(),
+        summary.in_flight,
+        tags,
+        counts.unmatched,
+    )?;
     let note = note_by(alloc, shown, &counts)?;
-    match noted(crowd, note) {
+    match noted(doubts, note) {
         Ok(all) => Ok(all),
         Err(refused) => Err(refused),
     }
@@ -237,49 +232,17 @@ fn imported(alloc: Global, wanted: Import, records: &[Record]) -> Result<Answere
     }
 }
 
-/// The lines on what a recorder printed: who it was, of which device, how many lines are no steps, and whether events were lost.
-fn printed_text(alloc: Global, printed: &Printed, count: usize) -> Result<Vec<u8>, AllocError> {
-    let recorder = match printed.recorder {
-        Recorder::Blkparse => "blkparse",
-        Recorder::Ftrace => "ftrace",
-        Recorder::Perf => "perf",
-        Recorder::Bpftrace => "bpftrace",
-    };
-    let mut text = format!(in alloc; "blk: {recorder}: {count} records")?;
-    if let Some(device) = printed.device {
-        let major = device.major;
-        let minor = device.minor;
-        let named = format!(in alloc; " of device {major},{minor}")?;
-        text.push_str(named.as_str())?;
-    }
-    let remarks = printed.remarks;
-    let others = printed.others;
-    let counts = format!(in alloc; ", {others} of other devices, {remarks} other lines\n")?;
-    text.push_str(counts.as_str())?;
-    if printed.losses > 0 {
-        let losses = printed.losses;
-        let lost = format!(in alloc;
-            "blk: {losses} lines say that events were lost: waits and counts may be wrong\n"
-        )?;
-        text.push_str(lost.as_str())?;
-    }
-    Ok(text.into_bytes())
-}
-
-/// What a recorder printed is said before the note of an answer.
+/// What is said of where a capture comes from is said before the note of an answer.
 fn with_source(
     alloc: Global,
     answer: Answered,
     printed: Option<Printed>,
-    count: usize,
+    records: &[Record],
 ) -> Result<Answered, Failure>
-    ensures ok { IfOk result (λ a. IsSaidFrom printed (said_of answer) (said_of a)) }
+    ensures ok { IfOk result (λ a. IsSaidFrom printed records.now (said_of answer) (said_of a)) }
     ensures err { IfErr result (λ f. f ≡ Failure.Memory) }
 {
-    let Some(printed) = printed else {
-        return Ok(answer);
-    };
-    let Ok(told) = printed_text(alloc, &printed, count) else {
+    let Ok(told) = source_text(alloc, printed, records) else {
         return Err(Failure::Memory);
     };
     let Answered { text, note, good } = answer;
@@ -304,9 +267,20 @@ fn over_text(alloc: Global, wanted: Import, bytes: &[u8]) -> Result<Answered, Fa
         Ok(answer) => answer,
         Err(failure) => return Err(failure),
     };
-    match with_source(alloc, answer, read.printed, read.records.len()) {
+    match with_source(alloc, answer, read.printed, read.records.as_slice()) {
         Ok(answer) => Ok(answer),
         Err(failure) => Err(failure),
+    }
+}
+
+/// Why nothing is written of bytes, given the failure: of what is no capture, what they are.
+fn untaken(alloc: Global, wanted: Import, bytes: &[u8], failure: Failure) -> NoText
+    ensures { IsFailureOf failure result }
+{
+    let mut records = Records::new(alloc, bytes);
+    match records.advance() {
+        Ok(_) => without(alloc, Job::Import(wanted), failure, records.row()),
+        Err(_) => NoText::Failure(Failure::Memory),
     }
 }
 
@@ -315,16 +289,16 @@ pub fn over_capture<R: Read + Drop>(
     alloc: Global,
     wanted: Import,
     records: &mut Records<R>,
-) -> Result<Answered, Failure>
+) -> Result<Answered, NoText>
     ensures answers { IfOk result (λ answer. IsImportedFrom wanted records.old.bytes (said_of answer)) }
-    ensures fails { IfErr result (IsUnimportedFrom wanted records.old.bytes records.new.failed) }
+    ensures fails { IfErr result (IsUntaken wanted records.old.bytes records.new.failed) }
 {
     let bytes = match records.bytes(alloc) {
         Ok(bytes) => bytes,
-        Err(why) => return Err(Failure::Text(records.fault(why))),
+        Err(why) => return Err(NoText::Failure(Failure::Text(records.fault(why)))),
     };
     match over_text(alloc, wanted, bytes.as_slice()) {
         Ok(answer) => Ok(answer),
-        Err(failure) => Err(failure),
+        Err(failure) => Err(untaken(alloc, wanted, bytes.as_slice(), failure)),
     }
 }

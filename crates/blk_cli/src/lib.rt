@@ -5,7 +5,7 @@ ghost use Rattle.std.specs.Prelude.{◌≡◌, ◌≤◌, IfOk, IfErr, map, stri
 ghost use Rattle.drafts.specs.Outputs.{stream_of};
 ghost use Rattle.blk_cli.specs.Said.{only, said_of, IsAlone};
 ghost use Rattle.blk_cli.specs.Gives.{GivesText, HasNoText, GivesAnswer, HasNoAnswer, version_line};
-ghost use Rattle.blk_cli.specs.Ends.{Answers, AskForTexts, IsWithout, IsFailureOf, title_line, status_with, SaysBeside, EndsSaying, EndsWithout, RunEndsOn};
+ghost use Rattle.blk_cli.specs.Ends.{Answers, AskForTexts, IsWithout, IsWithoutAnswer, IsFailureOf, title_line, status_with, SaysBeside, EndsSaying, EndsWithout, RunEndsOn};
 ghost use Rattle.blk_cli.specs.Inside.Ends.{EndsPutOn};
 
 mod checking;
@@ -16,6 +16,7 @@ mod importing;
 mod judging;
 mod lists;
 mod loading;
+mod notes;
 mod picturing;
 mod scripts;
 mod titles;
@@ -215,38 +216,6 @@ fn work<R: Read + Drop>(
     }
 }
 
-/// What a job answers. Each kind is a row here: what it needs. Loads are run by `loads`, on the threads of `rt`, and so are trials of the
-/// grid that the words ask for, which tell `progress` how far they have come.
-fn answer_of<L: Loads, T: Threads + Wait + Sync, R: Read + Drop, P: Progress>(
-    loads: &L,
-    rt: &T,
-    alloc: Global,
-    words: &[String],
-    job: Job,
-    records: &mut Records<R>,
-    progress: &mut P,
-) -> Result<Answered, Failure>
-    requires { records.old.at ≡ 0 }
-    ensures answer { IfOk result (λ a. GivesAnswer (map string_bytes words.now) job records.old.left records.old.bytes (said_of a)) }
-    ensures fails { IfErr result (HasNoAnswer (map string_bytes words.now) job records.old.left records.old.bytes records.new.failed) }
-{
-    match job {
-        Job::Version => Ok(Answered::alone(version_text(alloc)?)),
-        Job::OfText(job) => Ok(Answered::alone(work(alloc, job, records)?)),
-        Job::Tune(tuning) => match over_trial(rt, alloc, words, tuning, records, progress) {
-            Ok(text) => Ok(Answered::alone(text)),
-            Err(failure) => Err(failure),
-        },
-        Job::Import(import) => over_capture(alloc, import, records),
-        Job::Refuse(refusal) => Err(Failure::Words(refusal)),
-        Job::Explain => over_bytes(alloc, records),
-        Job::Load(sched, amounts, shown) => {
-            let text = run_load(loads, rt, alloc, sched, amounts, shown)?;
-            Ok(Answered::alone(text))
-        }
-    }
-}
-
 /// Why a job has no answer, given its failure and the record that was read last. Where a subcommand of the project's own was given the text of
 /// another, that is said.
 fn without(alloc: Global, job: Job, failure: Failure, row: &ByteRecord) -> NoText
@@ -262,6 +231,49 @@ fn without(alloc: Global, job: Job, failure: Failure, row: &ByteRecord) -> NoTex
         Ok(Some(text)) => NoText::Title(text),
         Ok(None) => NoText::Failure(failure),
         Err(_) => NoText::Failure(Failure::Memory),
+    }
+}
+
+/// What a job answers, or why there is none. Each kind is a row here: what it needs. Loads are run by `loads`, on the threads of `rt`, and so are
+/// trials of the grid that the words ask for, which tell `progress` how far they have come.
+fn answer_of<L: Loads, T: Threads + Wait + Sync, R: Read + Drop, P: Progress>(
+    loads: &L,
+    rt: &T,
+    alloc: Global,
+    words: &[String],
+    job: Job,
+    records: &mut Records<R>,
+    progress: &mut P,
+) -> Result<Answered, NoText>
+    requires { records.old.at ≡ 0 }
+    ensures answer { IfOk result (λ a. GivesAnswer (map string_bytes words.now) job records.old.left records.old.bytes (said_of a)) }
+    ensures none { IfErr result (IsWithoutAnswer (map string_bytes words.now) job records.old.left records.old.bytes records.new.failed) }
+{
+    match job {
+        Job::Version => match version_text(alloc) {
+            Ok(text) => Ok(Answered::alone(text)),
+            Err(failure) => Err(NoText::Failure(failure)),
+        },
+        Job::OfText(of_text) => match work(alloc, of_text, records) {
+            Ok(text) => Ok(Answered::alone(text)),
+            Err(failure) => Err(without(alloc, job, failure, records.row())),
+        },
+        Job::Tune(tuning) => match over_trial(rt, alloc, words, tuning, records, progress) {
+            Ok(text) => Ok(Answered::alone(text)),
+            Err(failure) => Err(without(alloc, job, failure, records.row())),
+        },
+        Job::Import(import) => over_capture(alloc, import, records),
+        Job::Refuse(refusal) => Err(NoText::Failure(Failure::Words(refusal))),
+        Job::Explain => match over_bytes(alloc, records) {
+            Ok(answer) => Ok(answer),
+            Err(failure) => Err(NoText::Failure(failure)),
+        },
+        Job::Load(sched, amounts, shown) => {
+            match run_load(loads, rt, alloc, sched, amounts, shown) {
+                Ok(text) => Ok(Answered::alone(text)),
+                Err(failure) => Err(NoText::Failure(failure)),
+            }
+        }
     }
 }
 
@@ -283,7 +295,7 @@ pub fn answer<L: Loads, T: Threads + Wait + Sync, R: Read + Drop, P: Progress>(
     match choose(alloc, words) {
         Ok(job) => match answer_of(loads, rt, alloc, words, job, records, progress) {
             Ok(answer) => Ok(answer),
-            Err(failure) => Err(without(alloc, job, failure, records.row())),
+            Err(none) => Err(none),
         },
         Err(NoJob::Memory) => Err(NoText::Failure(Failure::Memory)),
         Err(NoJob::Usage(text)) => Err(NoText::Usage(text)),

@@ -2,6 +2,7 @@
 
 use blk_explain::{TextForm, called, form_named};
 use blk_lists::fields::field;
+use blk_recorders::{CaptureForm, Recorder, form_of};
 use blk_settings::FiguresAsked;
 use blk_words::{Job, Running, Telling, TextJob};
 use csv::ByteRecord;
@@ -23,6 +24,7 @@ fn teller_of(telling: Telling) -> Option<&'static [u8]> {
 fn reader_of(job: Job) -> Option<(&'static [u8], TextForm)> {
     match job {
         Job::Tune(_) => Some((b"tune", TextForm::Script)),
+        Job::Import(_) => Some((b"import", TextForm::Capture)),
         Job::OfText(TextJob::Judge { .. }) => Some((b"judge", TextForm::Schedule)),
         Job::OfText(TextJob::OfScript(Running::Drawn(_))) => Some((
             b"picture --script",
@@ -36,8 +38,38 @@ fn reader_of(job: Job) -> Option<(&'static [u8], TextForm)> {
     }
 }
 
-/// Adds what a text is whose first record this is.
-fn push_what(draft: &mut Draft, row: &ByteRecord) -> Result<(), AllocError> {
+/// The recorder that printed a text whose first record this is, if its first line tells.
+fn printer_of(alloc: Global, row: &ByteRecord) -> Result<Option<Recorder>, AllocError> {
+    let mut line = Vec::new(alloc);
+    for place in 0..row.len() {
+        if place > 0 {
+            line.push(b',')?;
+        }
+        line.extend_from_slice(field(row, place))?;
+    }
+    match form_of(alloc, line.as_slice())? {
+        CaptureForm::Printed(recorder) => Ok(Some(recorder)),
+        CaptureForm::Records => Ok(None),
+    }
+}
+
+/// Adds what a text is that a recorder printed: `import` takes it, but for NUL.
+fn push_printed(draft: &mut Draft, recorder: Recorder, wanted: TextForm) -> Result<(), AllocError> {
+    if wanted == TextForm::Capture {
+        return draft.text(b"no text: NUL stands among its first bytes");
+    }
+    draft.text(b"what ")?;
+    draft.text(recorder.called().as_bytes())?;
+    draft.text(b" prints")
+}
+
+/// Adds what a text is whose first record this is, for a subcommand that reads another.
+fn push_what(
+    alloc: Global,
+    draft: &mut Draft,
+    wanted: TextForm,
+    row: &ByteRecord,
+) -> Result<(), AllocError> {
     let found = field(row, 0);
     if row.len() == 0 {
         return draft.text(b"the input is empty");
@@ -46,7 +78,19 @@ fn push_what(draft: &mut Draft, row: &ByteRecord) -> Result<(), AllocError> {
         return draft.text(b"this has no title");
     }
     draft.text(b"this is ")?;
-    draft.text(called(found).as_bytes())
+    match printer_of(alloc, row)? {
+        Some(recorder) => push_printed(draft, recorder, wanted),
+        None => draft.text(called(found).as_bytes()),
+    }
+}
+
+/// Adds what a subcommand reads: `import` takes captures in more forms than one.
+fn push_wanted(draft: &mut Draft, wanted: TextForm) -> Result<(), AllocError> {
+    draft.text(wanted.called().as_bytes())?;
+    if wanted == TextForm::Capture {
+        draft.text(b", or what blkparse, ftrace, perf or bpftrace prints")?;
+    }
+    Ok(())
 }
 
 /// What is said behind the fault of a text with another title than this subcommand reads, given its first record.
@@ -57,7 +101,7 @@ fn title_text(
     row: &ByteRecord,
 ) -> Result<Vec<u8>, AllocError> {
     let mut draft = Draft::new(alloc);
-    push_what(&mut draft, row)?;
+    push_what(alloc, &mut draft, wanted, row)?;
     if form_named(field(row, 0)) == Some(wanted) {
         draft.text(b" of no version that ")?;
         draft.text(name)?;
@@ -66,7 +110,7 @@ fn title_text(
         draft.text(b", and ")?;
         draft.text(name)?;
         draft.text(b" reads ")?;
-        draft.text(wanted.called().as_bytes())?;
+        push_wanted(&mut draft, wanted)?;
     }
     draft.text(b"; see blk explain")?;
     draft.finish()

@@ -5,4 +5,5 @@ pub mod Findings
 pub mod Broken
 pub mod Counts
 pub mod Explained
+pub mod Printed
 pub mod Inside

@@ -33,7 +33,7 @@ fn hex_digit(digit: u8) -> u8
 
 /// Adds a byte as it is shown: one of ASCII that prints as itself, but for a quote and a backslash, which have a backslash before them, and
 /// any other by its number.
-fn push_byte(draft: &mut Draft, byte: u8) -> Result<(), AllocError> {
+pub fn push_byte(draft: &mut Draft, byte: u8) -> Result<(), AllocError> {
     if byte == b'"' || byte == b'\\' {
         draft.text(&[b'\\', byte])
     } else if byte > 31 && byte < 127 {

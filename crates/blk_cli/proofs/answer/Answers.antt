@@ -1,5 +1,5 @@
 use Rattle.std.proofs.Common.{map, string_bytes}
-use Rattle.blk_cli.proofs.Failed.{without_by}
+use Rattle.blk_cli.proofs.Failed.{without_of}
 use Rattle.blk_cli.proofs.answer.Goals as goal
 
 pub returns-in-Ok-answer_of : goal.returns-in-Ok-answer_of
@@ -7,5 +7,5 @@ returns-in-Ok-answer_of g c = record { answers = (c.in-Ok.job, c.in-Ok.ensures.a
 
 pub returns-in-Err : goal.returns-in-Err
 returns-in-Err g c =
-    let by = without_by (map string_bytes c.args.words.now) c.args.records.now.left c.args.records.now.bytes c.answer_of.new.records.failed in
-    record { answers = tt; without = by c.in-Ok.job c.in-Err.failure c.without.result c.in-Ok.ensures.asked c.in-Err.ensures.fails c.without.ensures }
+    let of = without_of (map string_bytes c.args.words.now) c.args.records.now.left c.args.records.now.bytes c.answer_of.new.records.failed in
+    record { answers = tt; without = of c.in-Ok.job c.in-Err.none c.in-Ok.ensures.asked c.in-Err.ensures.none }

@@ -7,8 +7,8 @@ pub part_of-requires-clause-few : goal.part_of-requires-clause-few
 part_of-requires-clause-few c =
     omega (arith, c.in-Ok.ensures.opened, told_few opens c.args.records.now c.in-Ok.whole.fates.items)
 
-pub returns-then-len-gt-MAX_COMMANDS-clause-err : goal.returns-then-len-gt-MAX_COMMANDS-clause-err
-returns-then-len-gt-MAX_COMMANDS-clause-err c =
+pub returns-then-count-gt-MAX_COMMANDS-clause-err : goal.returns-then-count-gt-MAX_COMMANDS-clause-err
+returns-then-count-gt-MAX_COMMANDS-clause-err c =
     let all = c.in-Ok.ensures in
     let part = c.in-Ok-part_of.ensures in record {
       requests = c.in-Ok-part_of.part.requests.items;
@@ -19,6 +19,7 @@ returns-then-len-gt-MAX_COMMANDS-clause-err c =
       imported = imported c.args.records.now c.args.asked.now _ _ _ _ _ _ _ _ _ _ _ c.begin_after.ensures
           (record { timed = all.timed; due = all.due; have_bios = all.bios; tallied = all.tallied; gone = all.gone; told_each = all.fates; passed = all.passed; below = all.below; opened = all.opened; made = all.made })
           part.requests part.bios part.fates part.absorbed part.left_out;
+      counted = omega (arith, c.len-count.ensures);
       many = omega arith;
     }
 

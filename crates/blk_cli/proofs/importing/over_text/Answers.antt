@@ -15,5 +15,5 @@ returns-in-Ok-with_source-clause-answers c = record {
   is_read = c.in-Ok.ensures.ok;
   base = said_of c.in-Ok-imported.answer;
   imported = rw c.as_slice.ensures.value at c.in-Ok-imported.ensures.answers;
-  said = c.in-Ok-with_source.ensures.ok;
+  said = rw c.as_slice-2.ensures.value at c.in-Ok-with_source.ensures.ok;
 }
