@@ -14,7 +14,7 @@ use Rattle.blk_trace.specs.Legal.{IsLegalTrace}
 use Rattle.blk_trace.specs.Meaning.{timed, release_of, due_of, served, issued_ids, command_of, commands_of, rounds_of}
 use Rattle.blk_report.specs.declared.serving.Service.{Service}
 use Rattle.blk_report.specs.Services.{service_of, services_of}
-use Rattle.blk_report.specs.Inside.Ranges.{range_of}
+use Rattle.blk_report.specs.Inside.Ranges.{range_of_bios}
 use Rattle.blk_report.proofs.Requests.{range_there, same_range}
 use Rattle.blk_picture.specs.declared.boxes.IssueBox.{IssueBox}
 use Rattle.blk_picture.specs.Boxes.{box_of, boxes_from, boxes_of}
@@ -124,9 +124,9 @@ abbrev Fills : List Happened → Service → Type 0
 Fills events s = first_of (request_of events s.id) + s.sectors ≡ last_of (request_of events s.id)
 
 service_fills : (setup : Setup) (events : List Happened) (k : ℕ) (x : Service) → IsLegalTrace setup events → k < length (services_of setup events) → (bios : List Bio) → request_of events (get_or (services_of setup events) k x).id ≡ bios → Fills events (get_or (services_of setup events) k x)
-service_fills setup events k x legal l [] h = absurd (range_there setup events k x (get_or (services_of setup events) k x).id legal l refl (ap range_of h))
+service_fills setup events k x legal l [] h = absurd (range_there setup events k x (get_or (services_of setup events) k x).id legal l refl (ap range_of_bios h))
 service_fills setup events k x legal l (b ∷ bs) h =
-    let got = same_range setup events k x (get_or (services_of setup events) k x).id (record { dir = b.dir; first = b.first; end = last_of (b ∷ bs) }) legal l refl (ap range_of h) in
+    let got = same_range setup events k x (get_or (services_of setup events) k x).id (record { dir = b.dir; first = b.first; end = last_of (b ∷ bs) }) legal l refl (ap range_of_bios h) in
     subst (λ (bios : List Bio). first_of bios + (get_or (services_of setup events) k x).sectors ≡ last_of bios) (sym h) got.2
 
 served_fills : (setup : Setup) (events : List Happened) (k : ℕ) (d : ℕ × ℕ) → IsLegalTrace setup events → k < length (served 0 events) → Fills events (service_of setup events (get_or (served 0 events) k d))
