@@ -56,28 +56,38 @@ fn allowance(release: u64, deadline: u64) -> Allowance {
     Allowance { release, deadline }
 }
 
-/// Six requests in the order of their dispatches: one is on time, and one that had to go out then too is full; one is on time though it
-/// could wait, and one is spare that couldn't; while nothing went out one stalled; and one came in after its deadline.
-#[test]
-fn four_causes(rt: HostRuntime) {
-    let one = fixed(&rt, rt.alloc(), 1);
-    let dispatches = [10, 20, 21, 50, 51, 60];
-    let allowances = [
+/// The time that each of six requests has.
+fn six_allowances() -> [Allowance; 6] {
+    [
         allowance(5, 10),
         allowance(6, 12),
         allowance(15, 55),
         allowance(18, 25),
         allowance(30, 40),
         allowance(45, 44),
-    ];
-    let commands = [
+    ]
+}
+
+/// Their commands.
+fn six_commands() -> [Command; 6] {
+    [
         command(1, 1, 1),
         command(2, 1, 1),
         command(3, 2, 5),
         command(4, 2, 3),
         command(5, 4, 3),
         command(6, 4, 3),
-    ];
+    ]
+}
+
+/// Six requests in the order of their dispatches: one is on time, and one that had to go out then too is full; one is on time though it
+/// could wait, and one is spare that couldn't; while nothing went out one stalled; and one came in after its deadline.
+#[test]
+fn four_causes(rt: HostRuntime) {
+    let one = fixed(&rt, rt.alloc(), 1);
+    let dispatches = [10, 20, 21, 50, 51, 60];
+    let allowances = six_allowances();
+    let commands = six_commands();
     let rounds = [1, 2, 3, 4, 5, 6];
     assert!(rt; matches!(solve(rt.alloc(), &commands, &one), Ok(_)));
     assert!(rt; is_legal(&commands, &rounds, &one));
