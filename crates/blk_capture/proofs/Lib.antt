@@ -1,5 +1,5 @@
 pub mod Rounds
-pub mod Opened
+pub mod Openers
 pub mod Taking
 pub mod Tallying
 pub mod Settling
@@ -8,3 +8,9 @@ pub mod Counted
 pub mod Flying
 pub mod Parted
 pub mod LookupKeys
+pub mod Indexed
+pub mod Listed
+pub mod Found
+pub mod Sounding
+pub mod Growing
+pub mod Folding

@@ -1,4 +1,4 @@
-use Rattle.std.proofs.Common.{ℕ, ◌≡◌, ◌<◌, ◌≤◌, ◌∙◌, List, length, get_or, map, Option, None, Some, inl, inr, refl, arith, ap, sym, subst, lit<}
+use Rattle.std.proofs.Common.{ℕ, ◌≡◌, ◌<◌, ◌≤◌, ◌∙◌, List, length, get_or, map, Option, None, Some, inl, inr, refl, arith, ap, sym, subst}
 use Rattle.std.specs.List.{All}
 use Rattle.std.specs.Prelude.{IfSome}
 use Rattle.std.proofs.lemmas.Bool.{cases_lt}
@@ -6,7 +6,8 @@ use Rattle.std.proofs.lemmas.List.{get_or_past, get_or-map, length-map}
 use Rattle.edd_commands.specs.declared.Command.{Command}
 use Rattle.blk_bio.specs.declared.bio.Dir.TheVariants.{Read}
 use Rattle.blk_capture.specs.Counting.{AreServed, AreLateByClock}
-use Rattle.blk_capture.specs.Inside.Members.{AreOpened}
+use Rattle.blk_capture.specs.Inside.Members.{AreOpened, request_into}
+use Rattle.blk_capture.specs.declared.members.BioStage.TheVariants.{Waiting}
 use Rattle.blk_capture.specs.Requests.{times_of, AreTimed, HaveBios, AgreeOnLateness, IsDue}
 use Rattle.blk_capture.specs.Inside.Taken.{ArePlaced, ArePlacedBios, IsTalliedFrom}
 use Rattle.blk_capture.specs.declared.counting.TimedRequest.{TimedRequest}
@@ -15,10 +16,10 @@ use Rattle.blk_capture.specs.declared.requests.CapturedBio.{CapturedBio}
 use Rattle.blk_capture.specs.declared.requests.Life.{Life}
 use Rattle.blk_capture.specs.declared.requests.Options.{Options}
 use Rattle.blk_capture.specs.declared.requests.CapturedRequest.{CapturedRequest}
-use Rattle.blk_capture.proofs.Opened.{opener_there}
+use Rattle.blk_capture.proofs.Openers.{opener_there}
 
 abbrev no_bio : QueuedBio
-no_bio = record { range = record { dir = Read; first = 0; end = 1; some = lit< tt }; pid = 0; time = 0; age = 0; request = None }
+no_bio = record { range = record { dir = Read; first = 0; end = 1 }; pid = 0; time = 0; age = 0; stage = Waiting }
 
 abbrev no_request : CapturedRequest
 no_request = record { dir = Read; first = 0; sectors = 0; bios = 0; bio = 0; pid = 0; queued = 0; got = 0; inserted = None; merged = None; entry = 0; released = 0; earlier = None; deadline = 0; dispatched = 0; completed = None }
@@ -45,7 +46,7 @@ have_bios lives openers places old new queued bios placed tallied are opened k d
     let b : ℕ = get_or openers r 0 in
     let is : (get_or new k d).bio ≡ b = ap (λ (q : CapturedRequest). q.bio) (tallied.rest k d) ∙ at.1.opener d in
     let there : b < length queued = opener_there queued openers no_bio opened refl r at.1.opened in
-    let went : (get_or queued b no_bio).request ≡ Some r = opened r no_bio at.1.opened in
+    let went : request_into (get_or queued b no_bio).stage ≡ Some r = opened r no_bio at.1.opened in
     let out : (get_or bios b e).request ≡ get_or places r None = are.place b r no_bio e there went at.1.own (there_at places r k at.1.place) in
     ap (λ n. (get_or bios n e).request) is ∙ out ∙ at.1.place
 

@@ -1,7 +1,7 @@
 -- What private functions and proofs alone need: where requests wait, what records are of, and how those that are taken are found.
 pub mod Members
 pub mod LookupKeys
-pub mod MergeIndex
+pub mod Indexes
 pub mod Roles
 pub mod Matchings
 pub mod Taken

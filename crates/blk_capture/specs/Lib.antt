@@ -7,3 +7,6 @@ pub mod Tables
 pub mod Summaries
 pub mod Matched
 pub mod Inside
+pub mod Ranges
+pub mod Rules
+pub mod Settled

@@ -1,7 +1,9 @@
 //! The time of a capture, and which request went out to the device when.
 
-ghost use Rattle.std.specs.Prelude.{◌≡◌, ◌≤◌, ◌↔◌, IsTrue, All};
+ghost use Rattle.std.specs.Prelude.{◌≡◌, ◌≤◌, ◌↔◌, ◌++◌, ◌∷◌, [], IsTrue, All, IfOk, OnOk, length};
+ghost use Rattle.std.specs.Bool.{OnTrue};
 ghost use Rattle.std.specs.List.Sorted.{IsNonDecreasingBy};
+ghost use Rattle.blk_capture.specs.Rules.{sent_at};
 
 use std::alloc::{AllocError, Allocator, Global};
 
@@ -28,7 +30,8 @@ pub(crate) struct Clock<A: Allocator = Global> {
 impl<A: Allocator + Clone> Clock<A> {
     /// At 0, with no dispatch.
     pub(crate) fn new(alloc: A) -> Clock<A>
-        ensures { result.now ≡ 0 }
+        ensures now { result.now ≡ 0 }
+        ensures none { result.dispatches.items ≡ [] }
     {
         Clock {
             now: 0,
@@ -38,7 +41,9 @@ impl<A: Allocator + Clone> Clock<A> {
 
     /// Sets the time; false where it would fall.
     pub(crate) fn set(&mut self, time: u64) -> bool
-        ensures { IsTrue result ↔ (self.old.now ≤ time) }
+        ensures value { IsTrue result ↔ (self.old.now ≤ time) }
+        ensures now { OnTrue result (self.new.now ≡ time) }
+        ensures same { self.new.dispatches.items ≡ self.old.dispatches.items }
     {
         if time < self.now {
             return false;
@@ -49,7 +54,9 @@ impl<A: Allocator + Clone> Clock<A> {
 
     /// A request goes out now. Answers the dispatch's number.
     pub(crate) fn dispatch(&mut self, request: usize) -> Result<usize, AllocError>
-        ensures { self.new.now ≡ self.old.now }
+        ensures now { self.new.now ≡ self.old.now }
+        ensures value { IfOk result (λ n. n ≡ length self.old.dispatches.items) }
+        ensures more { OnOk result (self.new.dispatches.items ≡ self.old.dispatches.items ++ sent_at request self.old.now ∷ []) }
     {
         let number = self.dispatches.len();
         self.dispatches.push(Dispatch {

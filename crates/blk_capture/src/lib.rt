@@ -8,9 +8,11 @@
 mod clock;
 mod counting;
 mod fates;
+mod index;
 mod lookup;
 mod matching;
 mod members;
+mod opened;
 mod part;
 mod record;
 mod requests;

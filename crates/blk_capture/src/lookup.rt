@@ -1,27 +1,26 @@
 //! What waits, found by where it stands on the device, the oldest or the newest there.
 
-ghost use Rattle.std.specs.Prelude.{◌≡◌, None, Some, false, IfSome, IfNone};
+ghost use Rattle.std.specs.Prelude.{◌≡◌, ◌+◌, ◌<◌, ◌≤◌, ◌^◌, true, false, IfSome, IfNone, OnOk, IfOk};
 ghost use Rattle.std.specs.Ordering.{is_eq, is_gt};
-ghost use Rattle.std.specs.BTreeMap.{get};
-ghost use Rattle.blk_capture.specs.Inside.LookupKeys.{AgedKey, lookup_cmp, aged_cmp, IsOldestUnder, IsNewestUnder, IsEmptyAt, IsLeastKeyFrom, IsGreatestUpTo};
-ghost use Rattle.blk_capture.specs.Inside.MergeIndex.{whole_key, edge_key, abutting_key, facing};
+ghost use Rattle.std.specs.BTreeSet.{contains};
+ghost use Rattle.blk_capture.specs.Inside.LookupKeys.{lookup_cmp, seat_cmp, seat, has, whole_key, edge_key, PutsIf, TakesIf, IsOldestUnder, IsNewestUnder, IsEmptyAt, IsUnusedAt, IsShortestOver, IsEmptyOver, IsLeastSeatFrom, IsGreatestUpTo};
+ghost use Rattle.blk_capture.specs.declared.lookup.Seat.{Seat};
 
 use crate::record::Range;
-use blk_bio::Side;
 use std::alloc::{AllocError, Allocator, Global};
-use std::collections::BTreeMap;
+use std::collections::BTreeSet;
 
 /// The key of a search; a part that isn't searched by is 0.
 #[derive(Clone, Copy, Debug, PartialEq, Eq, PartialOrd, Ord)]
 pub(crate) struct LookupKey {
     /// A sector, the first one or the one after the last. It comes first, since it tells most keys apart.
-    sector: u64,
+    pub(crate) sector: u64,
     /// Whether it is written.
-    write: bool,
+    pub(crate) write: bool,
     /// The process that owns it.
-    pid: u64,
+    pub(crate) pid: u64,
     /// Where it ends.
-    end: u64,
+    pub(crate) end: u64,
 }
 
 impl LookupKey {
@@ -50,12 +49,12 @@ impl LookupKey {
     }
 }
 
-/// What stands under a key.
-#[derive(Clone, Copy)]
-struct Standing {
-    key: LookupKey,
-    age: u64,
-    place: usize,
+/// What stands under a key: the number of a bio or a request, and how old it is.
+#[derive(Clone, Copy, Debug, PartialEq, Eq, PartialOrd, Ord)]
+pub(crate) struct Seat {
+    pub(crate) key: LookupKey,
+    pub(crate) age: u64,
+    pub(crate) place: usize,
 }
 
 /// Whether two keys are equal.
@@ -65,171 +64,108 @@ fn is_same(a: LookupKey, b: LookupKey) -> bool
     a.cmp(&b).is_eq()
 }
 
-/// The first that stands under a key and age or after it.
-fn first_from<A: Allocator + Clone>(
-    places: &BTreeMap<(LookupKey, u64), usize, A>,
-    lower: (LookupKey, u64),
-) -> Option<Standing>
-    ensures there { IfSome result (λ e. get aged_cmp places.now (e.key, e.age) ≡ Some e.place) }
-    ensures high { IfSome result (λ e. is_gt (aged_cmp lower (e.key, e.age)) ≡ false) }
-    ensures least { IfSome result (λ e. IsLeastKeyFrom (get aged_cmp places.now) lower (e.key, e.age)) }
-    ensures none { IfNone result ((q : AgedKey) → is_gt (aged_cmp lower q) ≡ false → get aged_cmp places.now q ≡ None) }
+/// The first that stands at a seat or after it.
+fn first_from<A: Allocator + Clone>(seats: &BTreeSet<Seat, A>, lower: Seat) -> Option<Seat>
+    ensures there { IfSome result (λ s. contains seat_cmp seats.now s ≡ true) }
+    ensures high { IfSome result (λ s. is_gt (seat_cmp lower s) ≡ false) }
+    ensures least { IfSome result (λ s. IsLeastSeatFrom (contains seat_cmp seats.now) lower s) }
+    ensures none { IfNone result ((q : Seat) → is_gt (seat_cmp lower q) ≡ false → contains seat_cmp seats.now q ≡ false) }
 {
-    let ((key, age), place) = places.range(lower..).next()?;
-    Some(Standing {
-        key: *key,
-        age: *age,
-        place: *place,
-    })
+    let found = seats.range(lower..).next()?;
+    Some(*found)
 }
 
-/// The last that stands under a key and age or before it.
-fn last_upto<A: Allocator + Clone>(
-    places: &BTreeMap<(LookupKey, u64), usize, A>,
-    upper: (LookupKey, u64),
-) -> Option<Standing>
-    ensures there { IfSome result (λ e. get aged_cmp places.now (e.key, e.age) ≡ Some e.place) }
-    ensures low { IfSome result (λ e. is_gt (aged_cmp (e.key, e.age) upper) ≡ false) }
-    ensures greatest { IfSome result (λ e. IsGreatestUpTo (get aged_cmp places.now) upper (e.key, e.age)) }
-    ensures none { IfNone result ((q : AgedKey) → is_gt (aged_cmp q upper) ≡ false → get aged_cmp places.now q ≡ None) }
+/// The last that stands at a seat or before it.
+fn last_upto<A: Allocator + Clone>(seats: &BTreeSet<Seat, A>, upper: Seat) -> Option<Seat>
+    ensures there { IfSome result (λ s. contains seat_cmp seats.now s ≡ true) }
+    ensures low { IfSome result (λ s. is_gt (seat_cmp s upper) ≡ false) }
+    ensures greatest { IfSome result (λ s. IsGreatestUpTo (contains seat_cmp seats.now) upper s) }
+    ensures none { IfNone result ((q : Seat) → is_gt (seat_cmp q upper) ≡ false → contains seat_cmp seats.now q ≡ false) }
 {
-    let ((key, age), place) = places.range(..=upper).next_back()?;
-    Some(Standing {
-        key: *key,
-        age: *age,
-        place: *place,
-    })
+    let found = seats.range(..=upper).next_back()?;
+    Some(*found)
 }
 
-/// Places by keys, and of one key by age: the number of a record, of which no two of one key are equal.
+/// Bios or requests by keys, and of one key by age: the number of a record.
 #[derive(Drop)]
 pub(crate) struct KeyIndex<A: Allocator = Global> {
-    /// By keys and ages.
-    pub(crate) places: BTreeMap<(LookupKey, u64), usize, A>,
+    /// By keys, ages and places.
+    pub(crate) seats: BTreeSet<Seat, A>,
 }
 
 impl<A: Allocator + Clone> KeyIndex<A> {
     /// None. It takes no memory.
-    pub(crate) fn new(alloc: A) -> KeyIndex<A> {
+    pub(crate) fn new(alloc: A) -> KeyIndex<A>
+        ensures { (q : Seat) → has result q ≡ false }
+    {
         KeyIndex {
-            places: BTreeMap::new(alloc),
+            seats: BTreeSet::new(alloc),
         }
     }
 
-    /// Puts a place in.
-    pub(crate) fn put(&mut self, key: LookupKey, age: u64, place: usize) -> Result<(), AllocError> {
-        self.places.insert((key, age), place)?;
+    /// Puts one in.
+    pub(crate) fn put(&mut self, key: LookupKey, age: u64, place: usize) -> Result<(), AllocError>
+        ensures { OnOk result (PutsIf true (seat key age place) (has self.old) (has self.new)) }
+    {
+        self.seats.insert(Seat { key, age, place })?;
         Ok(())
     }
 
-    /// Takes a place out.
-    pub(crate) fn take(&mut self, key: LookupKey, age: u64) {
-        let _ = self.places.remove(&(key, age));
+    /// Takes one out, if it is there.
+    pub(crate) fn take(&mut self, key: LookupKey, age: u64, place: usize)
+        ensures { TakesIf true (seat key age place) (has self.old) (has self.new) }
+    {
+        let _ = self.seats.remove(&Seat { key, age, place });
     }
 
     /// The oldest under a key.
     pub(crate) fn oldest(&self, key: LookupKey) -> Option<usize>
-        ensures some { IfSome result (IsOldestUnder (get aged_cmp self.now.places) key) }
-        ensures none { IfNone result (IsEmptyAt (get aged_cmp self.now.places) key) }
+        ensures some { IfSome result (IsOldestUnder (has self.now) key) }
+        ensures none { IfNone result (IsEmptyAt (has self.now) key) }
     {
-        let found = first_from(&self.places, (key, 0))?;
+        let lower = Seat {
+            key,
+            age: 0,
+            place: 0,
+        };
+        let found = first_from(&self.seats, lower)?;
         let same = is_same(found.key, key);
         if same { Some(found.place) } else { None }
     }
 
     /// The newest under a key.
     pub(crate) fn newest(&self, key: LookupKey) -> Option<usize>
-        ensures some { IfSome result (IsNewestUnder (get aged_cmp self.now.places) key) }
-        ensures none { IfNone result (IsEmptyAt (get aged_cmp self.now.places) key) }
+        ensures some { IfSome result (IsNewestUnder (has self.now) key) }
+        ensures none { IfNone result (IsUnusedAt (has self.now) key) }
     {
-        let found = last_upto(&self.places, (key, u64::MAX))?;
+        let upper = Seat {
+            key,
+            age: u64::MAX,
+            place: usize::MAX,
+        };
+        let found = last_upto(&self.seats, upper)?;
         let same = is_same(found.key, key);
         if same { Some(found.place) } else { None }
     }
 
     /// What begins where this range does and ends after it: the one that ends first, of several the oldest.
-    pub(crate) fn longer(&self, range: Range) -> Option<usize> {
+    pub(crate) fn longer(&self, range: Range) -> Option<usize>
+        requires { range.end < 2 ^ 63 }
+        ensures some { IfSome result (IsShortestOver (has self.now) range) }
+        ensures none { IfNone result (IsEmptyOver (has self.now) range) }
+    {
         let key = LookupKey::whole(range);
-        let ((found, _), place) = self.places.range((key, u64::MAX)..).next()?;
-        if found.sector == key.sector && found.write == key.write && found.end > key.end {
-            Some(*place)
-        } else {
-            None
-        }
-    }
-}
-
-/// Requests by their whole ranges, and by where they begin and end together with who owns them.
-#[derive(Drop)]
-pub(crate) struct MergeIndex<A: Allocator = Global> {
-    /// By their ranges.
-    pub(crate) wholes: KeyIndex<A>,
-    /// By where they begin.
-    pub(crate) firsts: KeyIndex<A>,
-    /// By where they end.
-    pub(crate) ends: KeyIndex<A>,
-}
-
-impl<A: Allocator + Clone> MergeIndex<A> {
-    /// None.
-    pub(crate) fn new(alloc: A) -> Result<MergeIndex<A>, AllocError> {
-        Ok(MergeIndex {
-            wholes: KeyIndex::new(alloc.clone()?),
-            firsts: KeyIndex::new(alloc.clone()?),
-            ends: KeyIndex::new(alloc),
-        })
-    }
-
-    /// Puts a request in, owned by `pid`, or by none at 0.
-    pub(crate) fn insert(
-        &mut self,
-        range: Range,
-        pid: u64,
-        age: u64,
-        place: usize,
-    ) -> Result<(), AllocError> {
-        self.wholes.put(LookupKey::whole(range), age, place)?;
-        self.firsts
-            .put(LookupKey::edge(range, range.first, pid), age, place)?;
-        self.ends
-            .put(LookupKey::edge(range, range.end, pid), age, place)
-    }
-
-    /// Takes it out.
-    pub(crate) fn remove(&mut self, range: Range, pid: u64, age: u64) {
-        self.wholes.take(LookupKey::whole(range), age);
-        self.firsts
-            .take(LookupKey::edge(range, range.first, pid), age);
-        self.ends.take(LookupKey::edge(range, range.end, pid), age);
-    }
-
-    /// The oldest that a newcomer at a side abuts.
-    pub(crate) fn oldest(&self, newcomer: Range, side: Side, pid: u64) -> Option<usize>
-        ensures some { IfSome result (IsOldestUnder (facing side self.now) (abutting_key newcomer side pid)) }
-        ensures none { IfNone result (IsEmptyAt (facing side self.now) (abutting_key newcomer side pid)) }
-    {
-        match side {
-            Side::Back => self
-                .ends
-                .oldest(LookupKey::edge(newcomer, newcomer.first, pid)),
-            Side::Front => self
-                .firsts
-                .oldest(LookupKey::edge(newcomer, newcomer.end, pid)),
-        }
-    }
-
-    /// The newest that a newcomer at a side abuts.
-    pub(crate) fn newest(&self, newcomer: Range, side: Side, pid: u64) -> Option<usize>
-        ensures some { IfSome result (IsNewestUnder (facing side self.now) (abutting_key newcomer side pid)) }
-        ensures none { IfNone result (IsEmptyAt (facing side self.now) (abutting_key newcomer side pid)) }
-    {
-        match side {
-            Side::Back => self
-                .ends
-                .newest(LookupKey::edge(newcomer, newcomer.first, pid)),
-            Side::Front => self
-                .firsts
-                .newest(LookupKey::edge(newcomer, newcomer.end, pid)),
-        }
+        let lower = Seat {
+            key: LookupKey {
+                end: range.end + 1,
+                ..key
+            },
+            age: 0,
+            place: 0,
+        };
+        let found = first_from(&self.seats, lower)?;
+        let end = found.key.end;
+        let same = is_same(found.key, LookupKey { end, ..key });
+        if same { Some(found.place) } else { None }
     }
 }

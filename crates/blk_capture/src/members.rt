@@ -1,10 +1,33 @@
 //! Bios, and which request each went into.
 
-ghost use Rattle.std.specs.Prelude.{◌≡◌, ◌+◌, OnOk, IfOk, length};
-ghost use Rattle.blk_capture.specs.Inside.Members.{AreOpened};
+ghost use Rattle.std.specs.Prelude.{◌≡◌, ◌+◌, ◌++◌, ◌∷◌, [], None, Some, OnOk, IfOk, length, slice_get, slice_set};
+ghost use Rattle.blk_capture.specs.Inside.Members.{AreOpened, IsWaitingAt, request_into};
 
 use crate::record::Range;
 use std::alloc::{AllocError, Allocator, Global};
+
+/// Where a bio is.
+#[derive(Clone, Copy, Debug)]
+pub(crate) enum BioStage {
+    /// It waits.
+    Waiting,
+    /// It went into the request of this number.
+    Into(usize),
+    /// It went into a request that isn't known.
+    Unknown,
+}
+
+impl BioStage {
+    /// The request that it went into, if that is known.
+    pub(crate) fn request(self) -> Option<usize>
+        ensures { result ≡ request_into self }
+    {
+        match self {
+            BioStage::Into(request) => Some(request),
+            BioStage::Waiting | BioStage::Unknown => None,
+        }
+    }
+}
 
 /// A bio, as it was queued or cut from one that was.
 #[derive(Clone, Copy, Debug)]
@@ -17,8 +40,8 @@ pub(crate) struct QueuedBio {
     pub(crate) time: u64,
     /// The number of the record by which it was queued.
     pub(crate) age: u64,
-    /// The request that it went into, if it did.
-    pub(crate) request: Option<usize>,
+    /// Where it is.
+    pub(crate) stage: BioStage,
 }
 
 /// Bios with the requests that they went into, and for each request the bio that it was opened for, which went into it. All are known by
@@ -35,7 +58,8 @@ pub(crate) struct Members<A: Allocator = Global> {
 impl<A: Allocator + Clone> Members<A> {
     /// None.
     pub(crate) fn new(alloc: A) -> Result<Members<A>, AllocError>
-        ensures { IfOk result (λ m. length m.bios.items ≡ 0) }
+        ensures bios { IfOk result (λ m. m.bios.items ≡ []) }
+        ensures openers { IfOk result (λ m. m.openers.items ≡ []) }
     {
         Ok(Members {
             bios: Vec::new(alloc.clone()?),
@@ -43,61 +67,36 @@ impl<A: Allocator + Clone> Members<A> {
         })
     }
 
-    /// One more bio, which went into no request yet. Answers its number.
+    /// One more bio, which waits. Answers its number.
     pub(crate) fn queue(&mut self, bio: QueuedBio) -> Result<usize, AllocError>
-        ensures { OnOk result (length self.new.bios.items ≡ length self.old.bios.items + 1) }
+        requires { request_into bio.stage ≡ None }
+        ensures value { IfOk result (λ n. n ≡ length self.old.bios.items) }
+        ensures bios { OnOk result (self.new.bios.items ≡ self.old.bios.items ++ bio ∷ []) }
+        ensures openers { self.new.openers.items ≡ self.old.openers.items }
     {
         let number = self.bios.len();
-        self.bios.push(QueuedBio {
-            request: None,
-            ..bio
-        })?;
+        self.bios.push(bio)?;
         Ok(number)
     }
 
-    /// A bio keeps a part of its range.
-    pub(crate) fn cut(&mut self, bio: usize, range: Range)
-        ensures { length self.new.bios.items ≡ length self.old.bios.items }
+    /// A waiting bio is changed: it waits on with a part of its range, or goes into a request.
+    pub(crate) fn change(&mut self, number: usize, bio: QueuedBio)
+        requires { IsWaitingAt self.old.bios.items number }
+        ensures bios { self.new.bios.items ≡ slice_set self.old.bios.items number bio }
+        ensures openers { self.new.openers.items ≡ self.old.openers.items }
     {
-        let Some(queued) = self.bios.get(bio).copied() else {
-            return;
-        };
-        self.bios[bio] = QueuedBio { range, ..queued };
+        self.bios[number] = bio;
     }
 
-    /// Opens a request for a bio, which goes into it, and answers its number; None where the bio went into one before.
-    pub(crate) fn open(&mut self, bio: usize) -> Result<Option<usize>, AllocError>
-        ensures { length self.new.bios.items ≡ length self.old.bios.items }
+    /// Opens a request for a waiting bio, which goes into it.
+    pub(crate) fn open(&mut self, number: usize, bio: QueuedBio) -> Result<(), AllocError>
+        requires there { IsWaitingAt self.old.bios.items number }
+        requires into { request_into bio.stage ≡ Some (length self.old.openers.items) }
+        ensures bios { OnOk result (self.new.bios.items ≡ slice_set self.old.bios.items number bio) }
+        ensures openers { OnOk result (self.new.openers.items ≡ self.old.openers.items ++ number ∷ []) }
     {
-        let Some(queued) = self.bios.get(bio).copied() else {
-            return Ok(None);
-        };
-        if queued.request.is_some() {
-            return Ok(None);
-        }
-        let request = self.openers.len();
-        self.openers.push(bio)?;
-        self.bios[bio] = QueuedBio {
-            request: Some(request),
-            ..queued
-        };
-        Ok(Some(request))
-    }
-
-    /// Puts a bio into a request; false where it went into one before.
-    pub(crate) fn join(&mut self, bio: usize, request: usize) -> bool
-        ensures { length self.new.bios.items ≡ length self.old.bios.items }
-    {
-        let Some(queued) = self.bios.get(bio).copied() else {
-            return false;
-        };
-        if queued.request.is_some() {
-            return false;
-        }
-        self.bios[bio] = QueuedBio {
-            request: Some(request),
-            ..queued
-        };
-        true
+        self.openers.push(number)?;
+        self.bios[number] = bio;
+        Ok(())
     }
 }

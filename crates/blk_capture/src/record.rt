@@ -1,8 +1,8 @@
 //! Records of a capture: one step each that a block layer took, as blktrace and the tracepoints of `block` tell them.
 
-ghost use Rattle.std.specs.Prelude.{◌≡◌, ◌<◌, None, Some, IfErr, IfOk};
+ghost use Rattle.std.specs.Prelude.{◌≡◌, ◌≤◌, ◌<◌, ◌-◌, None, Some, IfErr, IfOk};
 ghost use Rattle.blk_capture.specs.Passing.{place_of, kind_place, passed_action, passed_op, passed_over, dir_of_op, op_by, action_by, letter_action};
-ghost use Rattle.blk_capture.specs.Inside.LookupKeys.{writes};
+ghost use Rattle.blk_capture.specs.Ranges.{writes, range_of, grown};
 
 use blk_bio::{Dir, MAX_END, Side};
 
@@ -234,7 +234,7 @@ pub struct Record {
     pub sectors: u64,
 }
 
-/// A direction, and a range of some sectors.
+/// A direction, and a range of sectors.
 #[derive(Clone, Copy, Debug)]
 pub(crate) struct Range {
     /// Which way the data goes.
@@ -243,31 +243,31 @@ pub(crate) struct Range {
     pub(crate) first: u64,
     /// The sector after the last one.
     pub(crate) end: u64,
-    ghost some: { first < end },
 }
 
 impl Range {
-    /// The sectors from `first` on and before `end`, if there are any.
-    pub(crate) fn new(dir: Dir, first: u64, end: u64) -> Option<Range> {
-        if first < end {
-            Some(Range { dir, first, end })
-        } else {
-            None
-        }
-    }
-
     /// This range grown at a side by another, which lies beside it there.
-    pub(crate) fn grown(self, by: Range, side: Side) -> Range {
-        let grown = match side {
-            Side::Back => Range::new(self.dir, self.first, by.end),
-            Side::Front => Range::new(self.dir, by.first, self.end),
-        };
-        grown.unwrap_or(self)
+    pub(crate) fn grown(self, by: Range, side: Side) -> Range
+        ensures { result ≡ grown side by self }
+    {
+        match side {
+            Side::Back => Range {
+                end: by.end,
+                ..self
+            },
+            Side::Front => Range {
+                first: by.first,
+                ..self
+            },
+        }
     }
 
     /// The range of a record, unless it is passed over.
     pub(crate) fn of(record: &Record) -> Result<Range, PassReason>
         ensures ok { IfOk result (λ _. passed_over record.now ≡ None) }
+        ensures value { IfOk result (λ range. range ≡ range_of record.now) }
+        ensures some { IfOk result (λ range. range.first < range.end) }
+        ensures low { IfOk result (λ range. range.end ≤ MAX_END) }
         ensures err { IfErr result (λ kind. passed_over record.now ≡ Some kind) }
     {
         if let Some(kind) = record.action.passed() {
@@ -295,9 +295,9 @@ impl Range {
 
     /// How many sectors it has.
     pub(crate) fn sectors(&self) -> u64
-        ensures { 0 < result }
+        ensures { result ≡ self.now.end - self.now.first }
     {
-        self.end - self.first
+        self.end.saturating_sub(self.first)
     }
 
     /// Whether it is written.

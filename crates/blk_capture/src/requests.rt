@@ -11,13 +11,16 @@ ghost use Rattle.blk_capture.specs.Requests.{times_of, AreTimed, HaveBios, AreTa
 ghost use Rattle.blk_capture.specs.Inside.Taken.{IsRequestOf, Puts, ArePlacedBios, IsTalliedFrom, AreWithin, ArePlacedIn, IsPlaceOfOwn};
 ghost use Rattle.blk_capture.specs.declared.members.QueuedBio.{QueuedBio};
 ghost use Rattle.blk_capture.specs.Matched.{all_opened};
+ghost use Rattle.blk_capture.specs.Settled.{completed_after, IsTakenBy, IsTakenFrom, without_request, captured_bio, IsMatching};
+ghost use Rattle.blk_capture.specs.Inside.Matchings.{all_known};
 
 use crate::clock::Dispatch;
 use crate::counting::{CountedSchedule, TimedRequest, count_rounds};
 use crate::fates::Fate;
-use crate::matching::{Matching, Opened, Role};
+use crate::matching::{Matching, Role};
 use crate::members::QueuedBio;
-use crate::record::{MAX_TIME, Record};
+use crate::opened::Opened;
+use crate::record::Record;
 use blk_bio::Dir;
 use std::alloc::{AllocError, Allocator, Global};
 
@@ -110,12 +113,10 @@ pub struct CapturedBio {
 struct Life {
     /// The request that it was merged into in the end, or itself.
     root: usize,
-    /// The earliest deadline of those that were merged into it, if any.
-    earlier: Option<u64>,
 }
 
 /// When a request came in.
-fn entry_of(opened: &Opened, options: &Options) -> u64
+pub(crate) fn entry_of(opened: &Opened, options: &Options) -> u64
     ensures { result ≡ entry_by options.now.entry opened.now.queued opened.now.inserted }
 {
     match options.entry {
@@ -145,7 +146,7 @@ fn expire_for(options: &Options, dir: Dir) -> u64
 }
 
 /// The sooner of two times, of which one may be unknown.
-fn sooner(earlier: Option<u64>, time: u64) -> u64
+pub(crate) fn sooner(earlier: Option<u64>, time: u64) -> u64
     ensures { result ≡ earlier_of earlier time }
 {
     match earlier {
@@ -155,32 +156,19 @@ fn sooner(earlier: Option<u64>, time: u64) -> u64
 }
 
 /// When a request that came in at a time was due.
-fn deadline_of(options: &Options, dir: Dir, entry: u64, earlier: Option<u64>) -> u64
+pub(crate) fn deadline_of(options: &Options, dir: Dir, entry: u64, earlier: Option<u64>) -> u64
     ensures { result ≡ deadline_of options.now dir entry earlier }
 {
     sooner(earlier, entry.saturating_add(expire_for(options, dir)))
 }
 
-/// The same of each.
-fn lives<A: Allocator + Clone>(
-    alloc: A,
-    matching: &Matching<A>,
-    options: &Options,
-) -> Result<Vec<Life, A>, AllocError>
+/// The request that each went into in the end.
+fn lives<A: Allocator + Clone>(alloc: A, matching: &Matching<A>) -> Result<Vec<Life, A>, AllocError>
     ensures { IfOk result (λ v. length v.items ≡ length matching.now.requests.items) }
 {
     let mut lives = Vec::with_capacity(alloc, matching.requests.len())?;
     for root in 0..matching.requests.len() {
-        lives.push(Life {
-            root,
-            earlier: None,
-        })?;
-    }
-    for absorption in &matching.absorptions {
-        let deadline = deadline_at(matching, lives.as_slice(), absorption.request, options);
-        if let Some(life) = lives.get_mut(absorption.into) {
-            life.earlier = Some(sooner(life.earlier, deadline));
-        }
+        lives.push(Life { root })?;
     }
     // the last absorption first, so that where the other went is known
     for absorption in matching.absorptions.iter().rev() {
@@ -195,27 +183,10 @@ fn lives<A: Allocator + Clone>(
     Ok(lives)
 }
 
-/// When a request that was merged into another was due.
-fn deadline_at<A: Allocator + Clone>(
-    matching: &Matching<A>,
-    lives: &[Life],
-    request: usize,
-    options: &Options,
-) -> u64 {
-    match (matching.requests.get(request), lives.get(request)) {
-        (Some(opened), Some(life)) => deadline_of(
-            options,
-            opened.range.dir,
-            entry_of(opened, options),
-            life.earlier,
-        ),
-        _ => MAX_TIME,
-    }
-}
-
 /// A time, if it is known and not before another.
 fn not_before(time: Option<u64>, other: u64) -> Option<u64>
-    ensures { IfSome result (λ t. other ≤ t) }
+    ensures value { result ≡ completed_after other time }
+    ensures later { IfSome result (λ t. other ≤ t) }
 {
     match time {
         Some(time) if time >= other => Some(time),
@@ -233,6 +204,7 @@ fn request_of<A: Allocator + Clone>(
 ) -> Option<CapturedRequest>
     ensures of { IfSome result (IsRequestOf lives.now matching.now.members.openers.items dispatch) }
     ensures due { IfSome result (IsDue options.now) }
+    ensures taken { IfSome result (IsTakenBy options.now (all_known matching.now) number dispatch) }
 {
     let place = dispatch.request;
     if place >= lives.len()
@@ -261,8 +233,8 @@ fn request_of<A: Allocator + Clone>(
         merged: opened.merged,
         entry,
         released,
-        earlier: life.earlier,
-        deadline: deadline_of(options, opened.range.dir, entry, life.earlier),
+        earlier: opened.earlier,
+        deadline: deadline_of(options, opened.range.dir, entry, opened.earlier),
         dispatched: dispatch.time,
         completed: not_before(opened.completed, dispatch.time),
     })
@@ -300,6 +272,7 @@ fn take_requests<A: Allocator + Clone>(
     ensures timed { IfOk result (λ t. AreTimed t.requests.items) }
     ensures untallied { IfOk result (λ t. All (λ q. q.bios ≡ 0) t.requests.items) }
     ensures due { IfOk result (λ t. All (IsDue options.now) t.requests.items) }
+    ensures taken { IfOk result (λ t. All (IsTakenFrom options.now (all_known matching.now)) t.requests.items) }
     ensures each { IfOk result (λ t. length t.places.items ≡ length lives.now) }
     ensures many { IfOk result (λ t. count_by is_some t.places.items ≡ length t.requests.items) }
     ensures within { IfOk result (λ t. AreWithin (length t.requests.items) t.places.items) }
@@ -363,6 +336,7 @@ fn bios_of<A: Allocator + Clone>(
     places: &[Option<usize>],
 ) -> Result<Vec<CapturedBio, A>, AllocError>
     ensures placed { IfOk result (λ v. ArePlacedBios lives.now places.now queued.now (length queued.now) v.items) }
+    ensures are { IfOk result (λ v. map without_request v.items ≡ map captured_bio queued.now) }
     ensures within { (n : ℕ) → AreWithin n places.now → IfOk result (λ v. AreGone n v.items) }
 {
     let mut bios = Vec::with_capacity(alloc, queued.len())?;
@@ -373,7 +347,7 @@ fn bios_of<A: Allocator + Clone>(
             sectors: bio.range.sectors(),
             pid: bio.pid,
             queued: bio.time,
-            request: place_of(lives, places, bio.request),
+            request: place_of(lives, places, bio.stage.request()),
         })?;
     }
     Ok(bios)
@@ -502,8 +476,10 @@ fn settle<A: Allocator + Clone>(
     ensures below { IfOk result (λ m. AreOfTaken (length m.requests.items) m.fates.items) }
     ensures opened { IfOk result (λ m. all_opened m ≡ length matching.now.requests.items) }
     ensures made { IfOk result (λ m. length m.bios.items ≡ length matching.now.members.bios.items) }
+    ensures taken { IfOk result (λ m. All (IsTakenFrom options.now (all_known matching.now)) m.requests.items) }
+    ensures bios_are { IfOk result (λ m. map without_request m.bios.items ≡ map captured_bio matching.now.members.bios.items) }
 {
-    let lives = lives(alloc.clone()?, matching, options)?;
+    let lives = lives(alloc.clone()?, matching)?;
     let taken = take_requests(alloc.clone()?, matching, lives.as_slice(), options)?;
     let Taken { requests, places } = taken;
     let bios = bios_of(
@@ -553,6 +529,8 @@ pub fn match_records<A: Allocator + Clone>(
     ensures opened { IfOk result (λ m. all_opened m ≡ told opens records.now m.fates.items) }
     // each bio was made by a record
     ensures made { IfOk result (λ m. length m.bios.items ≡ told makes records.now m.fates.items) }
+    // by the rules, letter by letter
+    ensures matching { IfOk result (λ m. IsMatching options.now records.now m.requests.items m.bios.items m.fates.items) }
     ensures order { OnOk result (AreInOrder records.now (length records.now)) }
     ensures fault { IfErr result (IsCaptureFault records.now) }
 {
@@ -571,6 +549,7 @@ fn match_in_order<A: Allocator + Clone>(
     records: &[Record],
     options: &Options,
 ) -> Result<Matched<A>, AllocError>
+    requires { AreInOrder records.now (length records.now) }
     ensures timed { IfOk result (λ m. AreTimed m.requests.items) }
     ensures due { IfOk result (λ m. All (IsDue options.now) m.requests.items) }
     ensures bios { IfOk result (λ m. HaveBios m.requests.items m.bios.items) }
@@ -581,12 +560,12 @@ fn match_in_order<A: Allocator + Clone>(
     ensures below { IfOk result (λ m. AreOfTaken (length m.requests.items) m.fates.items) }
     ensures opened { IfOk result (λ m. all_opened m ≡ told opens records.now m.fates.items) }
     ensures made { IfOk result (λ m. length m.bios.items ≡ told makes records.now m.fates.items) }
+    ensures matching { IfOk result (λ m. IsMatching options.now records.now m.requests.items m.bios.items m.fates.items) }
 {
-    let mut matching = Matching::new(alloc.clone()?)?;
+    let mut matching = Matching::new(alloc.clone()?, options)?;
     let mut roles = Vec::with_capacity(alloc.clone()?, records.len())?;
     for (place, record) in records.iter().enumerate() {
-        // the records are in the order of their times, so the clock never refuses one
-        let _ = matching.clock.set(record.time);
+        matching.set_time(record.time);
         let role = matching.take(place as u64, record)?;
         roles.push(role)?;
     }

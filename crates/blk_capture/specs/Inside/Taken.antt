@@ -1,6 +1,7 @@
 -- How the requests of a capture that are taken are found among all that were opened.
 use Rattle.std.specs.Prelude.{ℕ, All, ◌≡◌, ◌≤◌, ◌<◌, ◌⊎◌, ◌++◌, List, [], ◌∷◌, length, Option, Some, None, IfSome, slice_index, slice_index_or, slice_set}
 use Rattle.blk_capture.specs.declared.clock.Dispatch.{Dispatch}
+use Rattle.blk_capture.specs.Inside.Members.{request_into}
 use Rattle.blk_capture.specs.declared.members.QueuedBio.{QueuedBio}
 use Rattle.blk_capture.specs.declared.requests.CapturedBio.{CapturedBio}
 use Rattle.blk_capture.specs.declared.requests.Life.{Life}
@@ -58,7 +59,7 @@ Puts number q old new = PutsAt number q old.requests.items old.places.items new.
 -- the first n bios, with the places of the requests that they went out with: where they went into one that was merged into no other, its own
 pub record ArePlacedBios (lives : List Life) (places : List (Option ℕ)) (queued : List QueuedBio) (n : ℕ) (bios : List CapturedBio) : Type 0 where
   pub each : length bios ≡ n
-  pub place : (b r : ℕ) (d : QueuedBio) (e : CapturedBio) → b < n → (slice_index_or queued b d).request ≡ Some r → IsOwn lives r → r < length places → (slice_index_or bios b e).request ≡ slice_index_or places r None
+  pub place : (b r : ℕ) (d : QueuedBio) (e : CapturedBio) → b < n → request_into (slice_index_or queued b d).stage ≡ Some r → IsOwn lives r → r < length places → (slice_index_or bios b e).request ≡ slice_index_or places r None
 
 -- the same requests, each with the number of its bios
 pub record IsTalliedFrom (old new : List CapturedRequest) (bios : List CapturedBio) : Type 0 where

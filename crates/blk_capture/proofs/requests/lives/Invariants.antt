@@ -6,6 +6,3 @@ invariant-loop-root g l = length l.lives.items ≡ l.root
 
 abbrev pub invariant-loop-absorption : goal.invariant-loop-absorption
 invariant-loop-absorption g l = length l.lives.items ≡ length l.matching.requests.items
-
-abbrev pub invariant-loop-absorption-2 : goal.invariant-loop-absorption-2
-invariant-loop-absorption-2 g l = length l.lives.items ≡ length l.matching.requests.items

@@ -1,8 +1,11 @@
-use Rattle.std.proofs.Common.{ℕ, ◌≡◌, ◌∙◌, List, length, sym, subst}
+use Rattle.std.proofs.Common.{ℕ, ◌≡◌, ◌∙◌, List, length, map, sym, ap, subst}
 use Rattle.blk_capture.specs.Fates.{AreOfTaken}
 use Rattle.blk_capture.specs.Requests.{AreTallied, AreGone}
 use Rattle.blk_capture.specs.Inside.Taken.{AreWithin}
 use Rattle.blk_capture.specs.declared.requests.CapturedBio.{CapturedBio}
+use Rattle.blk_capture.proofs.Taking.{taken_bios}
+use Rattle.blk_capture.specs.Settled.{captured_bio}
+use Rattle.blk_capture.specs.Inside.Matchings.{all_known}
 use Rattle.blk_capture.proofs.Settling.{have_bios_of, tallied_timed, tallied_due}
 use Rattle.blk_capture.proofs.requests.settle.Goals as goal
 
@@ -29,3 +32,9 @@ returns-clause-below g c =
     let gone : AreGone n c.as_slice-5.result.now =
     subst (AreGone n) (sym c.as_slice-5.ensures.value) (c.in_ok-bios.ensures.within n (subst (AreWithin n) (sym c.as_slice-4.ensures.value) c.in_ok-taken.ensures.within)) in
     subst (λ m. AreOfTaken m c.in_ok-fates.fates.items) (sym same) (c.in_ok-fates.ensures.below n within gone)
+
+pub returns-clause-taken : goal.returns-clause-taken
+returns-clause-taken g c = taken_bios c.args.options.now (all_known c.args.matching.now) c.in_ok-taken.taken.requests.items c.count_bios.result.items c.as_slice-10.result.now c.in_ok-taken.ensures.taken c.count_bios.ensures
+
+pub returns-clause-bios_are : goal.returns-clause-bios_are
+returns-clause-bios_are g c = c.in_ok-bios.ensures.are ∙ ap (map captured_bio) c.as_slice-2.ensures.value

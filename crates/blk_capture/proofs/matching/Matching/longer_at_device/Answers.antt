@@ -1,0 +1,22 @@
+use Rattle.std.proofs.Common.{arith, ◌≡◌, true}
+use Rattle.blk_capture.specs.Ranges.{IsLonger}
+use Rattle.blk_capture.specs.Rules.{is_in_flight}
+use Rattle.blk_capture.specs.Inside.LookupKeys.{has}
+use Rattle.blk_capture.specs.Inside.Indexes.{AtDevice}
+use Rattle.blk_capture.proofs.Indexed.{shortest_in, none_longer_in}
+use Rattle.blk_capture.proofs.Found.{within, read_shortest}
+use Rattle.blk_capture.proofs.matching.Matching.longer_at_device.Goals as goal
+
+pub index-requires : goal.index-requires
+index-requires g c =
+    let o = shortest_in (λ q. is_in_flight q.stage) (λ q. q.left) (λ q. q.age) c.args.self.now.requests.items (has c.args.self.now.index.in_flight) c.args.range c.in-Some.number (c.requires.sound.indexed AtDevice) c.in-Some.ensures.some in
+    let lt = within c.args.self.now.requests.items c.in-Some.number o.0 o.1.there in
+    omega (arith, lt)
+
+pub returns-in-Some : goal.returns-in-Some
+returns-in-Some g c =
+    let o = shortest_in (λ q. is_in_flight q.stage) (λ q. q.left) (λ q. q.age) c.args.self.now.requests.items (has c.args.self.now.index.in_flight) c.args.range c.in-Some.number (c.requires.sound.indexed AtDevice) c.in-Some.ensures.some in
+    read_shortest (λ q. q.left.end) (λ q. q.age) (λ q. (is_in_flight q.stage ≡ true) × IsLonger c.args.range q.left) c.args.self.now.requests.items c.in-Some.number c.index.result.now o.0 o.1 c.index.ensures
+
+pub returns-in-None : goal.returns-in-None
+returns-in-None g c = none_longer_in (λ q. is_in_flight q.stage) (λ q. q.left) (λ q. q.age) c.args.self.now.requests.items (has c.args.self.now.index.in_flight) c.args.range (c.requires.sound.indexed AtDevice) c.in-None.ensures.none

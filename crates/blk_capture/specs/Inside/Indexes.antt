@@ -1,0 +1,86 @@
+-- Indexes hold just what stands in the lists.
+use Rattle.std.specs.Prelude.{ℕ, ◌≡◌, ◌&&◌, Bool, false, List, slice_get}
+use Rattle.std.specs.Option.{option_map_or}
+use Rattle.blk_bio.specs.declared.request.Side.{Side}
+use Rattle.blk_bio.specs.declared.request.Side.TheVariants.{Back, Front}
+use Rattle.blk_capture.specs.Rules.{is_opened, is_inserted, is_in_flight}
+use Rattle.blk_capture.specs.Inside.LookupKeys.{Seats, has, seat, is_seat, whole_key, edge_key, PutsIf, TakesIf}
+use Rattle.blk_capture.specs.declared.index.MergeIndex.{MergeIndex}
+use Rattle.blk_capture.specs.declared.index.RequestIndex.{RequestIndex}
+use Rattle.blk_capture.specs.declared.lookup.LookupKey.{LookupKey}
+use Rattle.blk_capture.specs.declared.lookup.Seat.{Seat}
+use Rattle.blk_capture.specs.declared.opened.Opened.{Opened}
+use Rattle.blk_capture.specs.declared.record.Range.{Range}
+
+-- where a request begins or ends that the newcomer abuts at this side
+abbrev pub abutting_key : Range → Side → ℕ → LookupKey
+abutting_key newcomer Back pid = edge_key newcomer newcomer.first pid
+abutting_key newcomer Front pid = edge_key newcomer newcomer.end pid
+
+-- the index that a merge at this side looks in: of requests by their ends, or by their first sectors
+abbrev pub facing : {A : Type 0} → Side → MergeIndex A → Seats
+facing Back e = has e.ends
+facing Front e = has e.firsts
+
+-- the parts of the index of requests
+pub data IndexPart : Type 0 where
+  OpenedWhole : IndexPart
+  OpenedFirst : IndexPart
+  OpenedEnd : IndexPart
+  OpenedStart : IndexPart
+  InsertedWhole : IndexPart
+  InsertedFirst : IndexPart
+  InsertedEnd : IndexPart
+  AtDevice : IndexPart
+
+abbrev pub part_of : {A : Type 0} → IndexPart → RequestIndex A → Seats
+part_of OpenedWhole e = has e.opened.wholes
+part_of OpenedFirst e = has e.opened.firsts
+part_of OpenedEnd e = has e.opened.ends
+part_of OpenedStart e = has e.starts
+part_of InsertedWhole e = has e.inserted.wholes
+part_of InsertedFirst e = has e.inserted.firsts
+part_of InsertedEnd e = has e.inserted.ends
+part_of AtDevice e = has e.in_flight
+
+-- whether a request stands in a part, and its key there
+abbrev pub stands_in : IndexPart → Opened → Bool
+stands_in OpenedWhole q = is_opened q.stage
+stands_in OpenedFirst q = is_opened q.stage
+stands_in OpenedEnd q = is_opened q.stage
+stands_in OpenedStart q = is_opened q.stage
+stands_in InsertedWhole q = is_inserted q.stage
+stands_in InsertedFirst q = is_inserted q.stage
+stands_in InsertedEnd q = is_inserted q.stage
+stands_in AtDevice q = is_in_flight q.stage
+
+abbrev pub part_key : IndexPart → Opened → LookupKey
+part_key OpenedWhole q = whole_key q.left
+part_key OpenedFirst q = edge_key q.left q.left.first q.pid
+part_key OpenedEnd q = edge_key q.left q.left.end q.pid
+part_key OpenedStart q = edge_key q.left q.left.first 0
+part_key InsertedWhole q = whole_key q.left
+part_key InsertedFirst q = edge_key q.left q.left.first 0
+part_key InsertedEnd q = edge_key q.left q.left.end 0
+part_key AtDevice q = whole_key q.left
+
+-- the request of a number is put into each part where it stands, or taken out of it
+abbrev pub Lists : {A : Type 0} → ℕ → Opened → RequestIndex A → RequestIndex A → Type 0
+Lists k q old new = (part : IndexPart) → PutsIf (stands_in part q) (seat (part_key part q) q.age k) (part_of part old) (part_of part new)
+
+abbrev pub Unlists : {A : Type 0} → ℕ → Opened → RequestIndex A → RequestIndex A → Type 0
+Unlists k q old new = (part : IndexPart) → TakesIf (stands_in part q) (seat (part_key part q) q.age k) (part_of part old) (part_of part new)
+
+-- what an index has of a list: of each of those that stand in it the key, the age and the place
+abbrev pub sits : {X : Type 0} → (X → Bool) → (X → LookupKey) → (X → ℕ) → Seat → X → Bool
+sits stands key age s x = stands x && is_seat (seat (key x) (age x) s.place) s
+
+abbrev pub seated : {X : Type 0} → (X → Bool) → (X → LookupKey) → (X → ℕ) → List X → Seats
+seated stands key age xs s = option_map_or (sits stands key age s) (slice_get xs s.place) false
+
+abbrev pub IsIndexOf : {X : Type 0} → (X → Bool) → (X → LookupKey) → (X → ℕ) → List X → Seats → Type 0
+IsIndexOf stands key age xs seats = (s : Seat) → seats s ≡ seated stands key age xs s
+
+-- each part of the index of requests has just those that stand there
+abbrev pub AreIndexed : {A : Type 0} → List Opened → RequestIndex A → Type 0
+AreIndexed requests e = (part : IndexPart) → IsIndexOf (stands_in part) (part_key part) (λ q. q.age) requests (part_of part e)
