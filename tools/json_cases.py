@@ -62,9 +62,9 @@ def of_table(lines):
 
 def settings(text):
     """The settings of a scheduler, `NAME=VALUE` with a space between, or `-` where it has none."""
-    switches = {"on": True, "off": False}
+    words = {"on": True, "off": False, "one": "one", "each": "each"}
     named = [] if text == "-" else (it.split("=") for it in text.split(" "))
-    return {name: switches[it] if it in switches else number(it) for name, it in named}
+    return {name: words[it] if it in words else number(it) for name, it in named}
 
 
 def of_trial(lines):
