@@ -399,7 +399,10 @@ def input_typed_at_a_terminal(trials):
 
 
 # what is said of an empty text, by the subcommands whose line says no more than the fault, by the project's own, and by explain
-READS = {"tune": "a script", "spread": "a trace", "late": "a trace", "misses": "a trace"}
+READS = {
+    **{"tune": "a script", "spread": "a trace", "late": "a trace", "misses": "a trace"},
+    "import": "a capture, or what blkparse, ftrace, perf or bpftrace prints",
+}
 EXPLAINED = Run(1, b"line 1, record 1, found nothing, wanted a title\nblk: record 1: Title\n", b"")
 
 
