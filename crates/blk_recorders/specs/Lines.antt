@@ -1,12 +1,12 @@
 -- The lines of each recorder.
 use Rattle.std.specs.Prelude.{ℕ, ◌+◌, ◌-◌, ◌==◌, ◌&&◌, ◌||◌, not, if◌then◌else◌, nat_lt, nat_le, Bool, true, false, List, [], ◌∷◌, length, get_or, take, drop, is_some, Option, None, Some, option_map, Result, Ok, Err, codes}
-use Rattle.std.specs.List.{slice_split, list_any}
+use Rattle.std.specs.List.{list_any}
 use Rattle.std.specs.Str.{bytes_eq}
 use denote.Ref.{Bor}
 use Rattle.blk_capture.specs.Passing.{action_by, passed_action}
 use Rattle.blk_capture.specs.declared.record.Action.{Action}
 use Rattle.blk_capture.specs.declared.record.Action.TheVariants as action
-use Rattle.blk_recorders.specs.Words.{Word, is_digit, begins_with, before_byte, behind_last, number}
+use Rattle.blk_recorders.specs.Words.{Word, fields, is_digit, begins_with, before_byte, behind_last, number}
 use Rattle.blk_recorders.specs.Layouts.{at, laid, device_of, placed, seconds_of, fraction_of, span_from, with_span}
 use Rattle.blk_recorders.specs.declared.fault.LineWhy.{LineWhy}
 use Rattle.blk_recorders.specs.declared.fault.LineWhy.TheVariants as why
@@ -63,7 +63,7 @@ row_layout r =
     else Err why.Fields
 
 abbrev pub row_step : Word → Result (Line Word) LineWhy
-row_step row = as_step (row_layout (slice_split (λ c. c == 44) row))
+row_step row = as_step (row_layout (fields row))
 
 -- what stands between brackets
 abbrev pub inside : Word → Word

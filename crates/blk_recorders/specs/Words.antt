@@ -14,9 +14,15 @@ word_texts ws = map (λ w. w.now) ws
 abbrev pub is_blank : ℕ → Bool
 is_blank c = (c == 32) || (c == 9) || (c == 13)
 
--- what stands between blanks
+-- those that aren't empty; what stands between blanks; and what stands between commas
+abbrev pub not_empty : List Word → List Word
+not_empty ws = filter (λ w. not (length w == 0)) ws
+
 abbrev pub words : List ℕ → List Word
-words line = filter (λ w. not (length w == 0)) (slice_split is_blank line)
+words line = not_empty (slice_split is_blank line)
+
+abbrev pub fields : Word → List Word
+fields row = slice_split (λ c. c == 44) row
 
 abbrev pub begins_with : ℕ → Word → Bool
 begins_with c [] = false

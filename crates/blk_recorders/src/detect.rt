@@ -8,7 +8,7 @@ use crate::fault::LineWhy;
 use crate::layout::step_told;
 use crate::lines::{Line, line_of};
 use crate::recorder::Recorder;
-use crate::words::{word_at, words};
+use crate::words::{Cuts, cut_words, word_at};
 use std::alloc::{AllocError, Global};
 
 /// How many of a text's first lines are looked at.
@@ -33,10 +33,14 @@ fn is_title(word: &[u8]) -> bool
 }
 
 /// Whether a line tells a step in the form of a recorder.
-fn tells_step(alloc: Global, recorder: Recorder, words: &[&[u8]]) -> Result<bool, AllocError>
+fn tells_step<'a>(
+    recorder: Recorder,
+    words: &[&'a [u8]],
+    fields: &mut Vec<&'a [u8]>,
+) -> Result<bool, AllocError>
     ensures { IfOk result (λ b. b ≡ tells_step recorder (word_texts words.now)) }
 {
-    match line_of(alloc, recorder, words) {
+    match line_of(recorder, words, fields) {
         Ok(Line::Step(layout)) => Ok(step_told(&layout).is_ok()),
         Ok(Line::Remark) | Ok(Line::Loss) => Ok(false),
         Err(LineWhy::Memory) => Err(AllocError),
@@ -63,32 +67,36 @@ fn heading(words: &[&[u8]]) -> Option<Recorder>
 }
 
 /// The recorder of which a line tells a step, if it does of one.
-fn recorder_of_step(alloc: Global, words: &[&[u8]]) -> Result<Option<Recorder>, AllocError>
+fn recorder_of_step<'a>(
+    words: &[&'a [u8]],
+    fields: &mut Vec<&'a [u8]>,
+) -> Result<Option<Recorder>, AllocError>
     ensures { IfOk result (λ r. r ≡ recorder_of_step (word_texts words.now)) }
 {
-    if tells_step(alloc, Recorder::Ftrace, words)? {
+    if tells_step(Recorder::Ftrace, words, fields)? {
         return Ok(Some(Recorder::Ftrace));
     }
-    if tells_step(alloc, Recorder::Blkparse, words)? {
+    if tells_step(Recorder::Blkparse, words, fields)? {
         return Ok(Some(Recorder::Blkparse));
     }
-    if tells_step(alloc, Recorder::Perf, words)? {
+    if tells_step(Recorder::Perf, words, fields)? {
         return Ok(Some(Recorder::Perf));
     }
     Ok(None)
 }
 
-/// The form of which a line is, if it tells: a title; what a recorder prints before its steps; or a step.
-fn form_by(alloc: Global, words: &[&[u8]]) -> Result<Option<CaptureForm>, AllocError>
-    ensures { IfOk result (λ f. f ≡ form_told (word_texts words.now)) }
+/// The form of which the line that was cut is, if it tells: a title; what a recorder prints before its steps; or a step.
+fn form_by(cuts: &mut Cuts<'_>) -> Result<Option<CaptureForm>, AllocError>
+    ensures { IfOk result (λ f. f ≡ form_told (word_texts cuts.old.words.items)) }
 {
+    let words = cuts.words.as_slice();
     if is_title(word_at(words, 0)) {
         return Ok(Some(CaptureForm::Records));
     }
     if let Some(recorder) = heading(words) {
         return Ok(Some(CaptureForm::Printed(recorder)));
     }
-    match recorder_of_step(alloc, words)? {
+    match recorder_of_step(words, &mut cuts.fields)? {
         Some(recorder) => Ok(Some(CaptureForm::Printed(recorder))),
         None => Ok(None),
     }
@@ -101,9 +109,10 @@ fn form_by(alloc: Global, words: &[&[u8]]) -> Result<Option<CaptureForm>, AllocE
 pub fn form_of(alloc: Global, text: &[u8]) -> Result<CaptureForm, AllocError>
     ensures { IfOk result (λ f. f ≡ form_of_lines text.now) }
 {
+    let mut cuts = Cuts::new(alloc);
     for line in text.split(|byte| *byte == b'\n').take(FIRST_LINES) {
-        let words = words(alloc, line)?;
-        match form_by(alloc, words.as_slice())? {
+        cut_words(line, &mut cuts.words)?;
+        match form_by(&mut cuts)? {
             Some(form) => return Ok(form),
             None => {}
         }

@@ -11,9 +11,8 @@ use crate::device::Device;
 use crate::fault::LineWhy;
 use crate::layout::{Layout, Places, Span, is_passed, placed, span_from};
 use crate::recorder::Recorder;
-use crate::words::{before, begins_with, behind, behind_last, fields, number, word_at};
+use crate::words::{before, begins_with, behind, behind_last, cut_fields, number, word_at};
 use blk_capture::Action;
-use std::alloc::Global;
 
 /// What a line is.
 #[derive(Clone, Copy, Debug)]
@@ -397,7 +396,10 @@ fn perf_line<'a>(words: &[&'a [u8]]) -> Result<Line<&'a [u8]>, LineWhy>
 }
 
 /// A line of blkparse: a step where it begins with a digit, in a row of its own or in the default layout.
-fn blkparse_line<'a>(alloc: Global, words: &[&'a [u8]]) -> Result<Line<&'a [u8]>, LineWhy>
+fn blkparse_line<'a>(
+    words: &[&'a [u8]],
+    fields: &mut Vec<&'a [u8]>,
+) -> Result<Line<&'a [u8]>, LineWhy>
     ensures ok { IfOk result (λ l. blkparse_line (word_texts words.now) ≡ Ok (lined l)) }
     ensures err { IfErr result (λ w. (w ≡ LineWhy.Memory) ⊎ (blkparse_line (word_texts words.now) ≡ Err w)) }
 {
@@ -408,22 +410,25 @@ fn blkparse_line<'a>(alloc: Global, words: &[&'a [u8]]) -> Result<Line<&'a [u8]>
     if words.len() != 1 {
         return as_step(placed(words, BLKPARSE));
     }
-    row_line(alloc, first)
+    row_line(first, fields)
 }
 
-/// A row by itself.
-fn row_line(alloc: Global, row: &[u8]) -> Result<Line<&[u8]>, LineWhy>
+/// A row by itself, whose fields are put in a list.
+fn row_line<'a>(row: &'a [u8], fields: &mut Vec<&'a [u8]>) -> Result<Line<&'a [u8]>, LineWhy>
     ensures ok { IfOk result (λ l. row_step row.now ≡ Ok (lined l)) }
     ensures err { IfErr result (λ w. (w ≡ LineWhy.Memory) ⊎ (row_step row.now ≡ Err w)) }
 {
-    match fields(alloc, row) {
-        Ok(fields) => as_step(row_layout(fields.as_slice())),
+    match cut_fields(row, fields) {
+        Ok(()) => as_step(row_layout(fields.as_slice())),
         Err(_) => Err(LineWhy::Memory),
     }
 }
 
 /// A line of bpftrace: a row where it begins with a digit.
-fn bpftrace_line<'a>(alloc: Global, words: &[&'a [u8]]) -> Result<Line<&'a [u8]>, LineWhy>
+fn bpftrace_line<'a>(
+    words: &[&'a [u8]],
+    fields: &mut Vec<&'a [u8]>,
+) -> Result<Line<&'a [u8]>, LineWhy>
     ensures ok { IfOk result (λ l. bpftrace_line (word_texts words.now) ≡ Ok (lined l)) }
     ensures err { IfErr result (λ w. (w ≡ LineWhy.Memory) ⊎ (bpftrace_line (word_texts words.now) ≡ Err w)) }
 {
@@ -434,22 +439,22 @@ fn bpftrace_line<'a>(alloc: Global, words: &[&'a [u8]]) -> Result<Line<&'a [u8]>
     if words.len() != 1 {
         return Err(LineWhy::Fields);
     }
-    row_line(alloc, first)
+    row_line(first, fields)
 }
 
-/// What a line of a recorder is, by its words, or the first thing that is wrong with it.
+/// What a line of a recorder is, by its words, or the first thing that is wrong with it. If it is a row, its fields are put in a list.
 pub(crate) fn line_of<'a>(
-    alloc: Global,
     recorder: Recorder,
     words: &[&'a [u8]],
+    fields: &mut Vec<&'a [u8]>,
 ) -> Result<Line<&'a [u8]>, LineWhy>
     ensures ok { IfOk result (λ l. printed_line_of recorder (word_texts words.now) ≡ Ok (lined l)) }
     ensures err { IfErr result (λ w. (w ≡ LineWhy.Memory) ⊎ (printed_line_of recorder (word_texts words.now) ≡ Err w)) }
 {
     match recorder {
-        Recorder::Blkparse => blkparse_line(alloc, words),
+        Recorder::Blkparse => blkparse_line(words, fields),
         Recorder::Ftrace => ftrace_line(words),
         Recorder::Perf => perf_line(words),
-        Recorder::Bpftrace => bpftrace_line(alloc, words),
+        Recorder::Bpftrace => bpftrace_line(words, fields),
     }
 }

@@ -11,7 +11,7 @@ use crate::fault::{LineFault, LineWhy};
 use crate::layout::{Step, step_told};
 use crate::lines::{Line, line_of};
 use crate::recorder::Recorder;
-use crate::words::words;
+use crate::words::{Cuts, cut_words};
 use blk_capture::Record;
 use std::alloc::{AllocError, Global};
 
@@ -130,23 +130,23 @@ impl Reading {
         Ok(())
     }
 
-    /// Takes a line in.
-    fn take(
+    /// Takes a line in, which is cut on the way.
+    fn take<'a>(
         &mut self,
-        alloc: Global,
+        cuts: &mut Cuts<'a>,
         recorder: Recorder,
         asked: Option<Device>,
-        line: &[u8],
+        line: &'a [u8],
     ) -> Result<(), LineWhy>
         ensures { Takes (sofar self.new) result (take recorder asked (sofar self.old) line.now) }
     {
-        let Ok(words) = words(alloc, line) else {
+        let Ok(()) = cut_words(line, &mut cuts.words) else {
             return Err(LineWhy::Memory);
         };
-        if words.is_empty() {
+        if cuts.words.is_empty() {
             return Ok(());
         }
-        match line_of(alloc, recorder, words.as_slice()) {
+        match line_of(recorder, cuts.words.as_slice(), &mut cuts.fields) {
             Ok(line) => self.take_line(recorder, asked, line),
             Err(why) => Err(why),
         }
@@ -219,9 +219,10 @@ pub fn read_lines(
     ensures err { IfErr result (IsLineFault recorder asked text.now) }
 {
     let mut reading = Reading::new(alloc);
+    let mut cuts = Cuts::new(alloc);
     let mut number = 1;
     for line in text.split(|byte| *byte == b'\n') {
-        match reading.take(alloc, recorder, asked, line) {
+        match reading.take(&mut cuts, recorder, asked, line) {
             Ok(()) => {}
             Err(why) => return Err(LineFault { at: number, why }),
         }

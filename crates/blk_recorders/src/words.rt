@@ -1,8 +1,8 @@
 //! The words of a line, and what a word may be: a number, the nanoseconds of a second.
 
-ghost use Rattle.std.specs.Prelude.{◌≡◌, ◌==◌, ◌<◌, ◌^◌, IfOk, IfSome, get_or, length, []};
-ghost use Rattle.std.specs.List.{position, slice_split};
-ghost use Rattle.blk_recorders.specs.Words.{is_blank, words, number, nanoseconds, before_byte, behind_byte, behind_last, begins_with, word_texts};
+ghost use Rattle.std.specs.Prelude.{◌≡◌, ◌==◌, ◌<◌, ◌^◌, ◌∷◌, ◌++◌, OnOk, IfSome, get_or, length, []};
+ghost use Rattle.std.specs.List.{position};
+ghost use Rattle.blk_recorders.specs.Words.{is_blank, words, fields, not_empty, number, nanoseconds, before_byte, behind_byte, behind_last, begins_with, word_texts};
 
 use std::alloc::{AllocError, Global};
 
@@ -13,20 +13,64 @@ pub(crate) fn is_blank(byte: u8) -> bool
     byte == b' ' || byte == b'\t' || byte == b'\r'
 }
 
-/// The words of a line: what stands between blanks.
-pub(crate) fn words(alloc: Global, line: &[u8]) -> Result<Vec<&[u8]>, AllocError>
-    ensures { IfOk result (λ v. word_texts v.items ≡ words line.now) }
-{
-    line.split(|byte| is_blank(*byte))
-        .filter(|word| !word.is_empty())
-        .collect(alloc)
+/// The words of lines, and the fields of rows: two lists that are filled anew for each line, so that few lines ask for memory.
+#[derive(Drop)]
+pub(crate) struct Cuts<'a> {
+    /// The words of the line that was cut last.
+    pub(crate) words: Vec<&'a [u8]>,
+    /// The fields of the row that was cut last.
+    pub(crate) fields: Vec<&'a [u8]>,
 }
 
-/// The fields of a row: what stands between commas.
-pub(crate) fn fields(alloc: Global, row: &[u8]) -> Result<Vec<&[u8]>, AllocError>
-    ensures { IfOk result (λ v. word_texts v.items ≡ slice_split (λ c. c == 44) row.now) }
+impl<'a> Cuts<'a> {
+    /// Empty lists, which take no memory.
+    pub(crate) fn new(alloc: Global) -> Cuts<'a> {
+        Cuts {
+            words: Vec::new(alloc),
+            fields: Vec::new(alloc),
+        }
+    }
+}
+
+/// Puts the words of a line, what stands between blanks, in place of those in a list.
+pub(crate) fn cut_words<'a>(line: &'a [u8], cut: &mut Vec<&'a [u8]>) -> Result<(), AllocError>
+    ensures { OnOk result (word_texts cut.new.items ≡ words line.now) }
 {
-    row.split(|byte| *byte == b',').collect(alloc)
+    cut.clear();
+    let mut begin = 0;
+    for place in 0..line.len() {
+        if is_blank(line[place]) {
+            push_word(&line[begin..place], cut)?;
+            begin = place + 1;
+        }
+    }
+    push_word(&line[begin..], cut)
+}
+
+/// Adds a word, unless it is empty.
+fn push_word<'a>(word: &'a [u8], cut: &mut Vec<&'a [u8]>) -> Result<(), AllocError>
+    ensures { OnOk result (word_texts cut.new.items ≡ word_texts cut.old.items ++ not_empty (word.now ∷ [])) }
+{
+    if !word.is_empty() {
+        cut.push(word)?;
+    }
+    Ok(())
+}
+
+/// Puts the fields of a row, what stands between commas, in place of those in a list.
+pub(crate) fn cut_fields<'a>(row: &'a [u8], cut: &mut Vec<&'a [u8]>) -> Result<(), AllocError>
+    ensures { OnOk result (word_texts cut.new.items ≡ fields row.now) }
+{
+    cut.clear();
+    let mut begin = 0;
+    for place in 0..row.len() {
+        if row[place] == b',' {
+            cut.push(&row[begin..place])?;
+            begin = place + 1;
+        }
+    }
+    cut.push(&row[begin..])?;
+    Ok(())
 }
 
 /// The word at a place, empty where there are fewer.
