@@ -3,7 +3,6 @@ pub mod Picking
 pub mod Events
 pub mod Chains
 pub mod Serving
-pub mod Spreading
 pub mod Holding
 pub mod Draining
 pub mod Standing

@@ -1,10 +1,12 @@
 -- The requests of the software queues that a hardware queue serves, and lists after a write.
-use Rattle.std.proofs.Common.{arith, ◌≡◌, ◌≢◌, ◌+◌, ◌<◌, ◌≤◌, ◌%◌, ◌==◌, ◌∙◌, ◌++◌, ◌∷◌, ℕ, zero, suc, cond, List, [], Some, length, get_or, set, refl, sym, ap, subst, inl, inr, add-one, append_assoc}
+use Rattle.std.proofs.Common.{arith, ◌≡◌, ◌≢◌, ◌+◌, ◌<◌, ◌≤◌, ◌-◌, ◌%◌, ◌==◌, ◌*◌, ◌/◌, ◌∙◌, ◌++◌, Bool, true, false, ◌∷◌, ℕ, zero, suc, cond, List, [], Some, length, get_or, set, refl, sym, ap, subst, inl, inr, add-one, append_assoc}
 use Rattle.std.specs.Prelude.{slice_get}
 use Rattle.std.proofs.lemmas.Bool.{cases_eq, cases_lt, eq-eqb, ne_eqb}
 use Rattle.std.proofs.lemmas.List.{append-nil, length-set, get_or-set_other, get_or_default}
 use Rattle.std.proofs.lemmas.Option.{slice_get_read, slice_get_past, slice_get_within}
 use Rattle.std.specs.Option.{option_map}
+use Rattle.std.proofs.lemmas.Nat.{div-add-mod', mul-le}
+use Rattle.std.proofs.Math.Nat.{lt_of_mul-lt-mul_right}
 use Rattle.blk_bio.specs.Bios.{Bio}
 use Rattle.blk_soft.specs.Queues.{Queue}
 use Rattle.blk_core.specs.State.{CoreState}
@@ -71,6 +73,43 @@ move_later policy queues hw h s n q a b w lt at e t r =
       entered = enter_both policy h front r.before a b r.middle t r.entered;
       refused = r.refused;
     }
+
+-- the software queue behind one that a hardware queue serves that it serves next is `hw` behind it
+pub none_between : (hw h s j : ℕ) → (s % hw) ≡ h → s < j → j < s + hw → (j % hw) ≢ h
+none_between hw h s j e above below here =
+    let low : (s / hw) * hw + s % hw ≡ s = div-add-mod' s hw in
+    let high : (j / hw) * hw + j % hw ≡ j = div-add-mod' j hw in
+    let more : (s / hw) * hw < (j / hw) * hw = omega (arith, low, high, e, here, above) in
+    let next : (s / hw) + 1 ≤ j / hw = let lt = lt_of_mul-lt-mul_right hw more in omega (arith, lt) in
+    let far : ((s / hw) + 1) * hw ≤ (j / hw) * hw = mul-le ((s / hw) + 1) hw (j / hw) hw next (omega arith) in
+    let split : ((s / hw) + 1) * hw ≡ (s / hw) * hw + hw = omega arith in
+    absurd (omega (arith, low, high, e, here, below, far, split))
+
+either_same : {X : Type 0} (b : Bool) (x : X) → cond b x x ≡ x
+either_same true x = refl
+either_same false x = refl
+
+-- what is passed over holds nothing that enters
+pub enter_past : (policy : Policy) (queues : List Queue) (hw h n k : ℕ) (a b : CoreState) → ((j : ℕ) → n ≤ j → j < n + k → (j % hw) ≢ h) → EnterInTurn policy h (served_requests queues hw h n) a b → EnterInTurn policy h (served_requests queues hw h (n + k)) a b
+enter_past policy queues hw h n zero a b none t = subst (λ m. EnterInTurn policy h (served_requests queues hw h m) a b) (let e : n ≡ n + zero = omega arith in e) t
+enter_past policy queues hw h n (suc k) a b none t =
+    subst (λ m. EnterInTurn policy h (served_requests queues hw h m) a b) (let e : (n + k) + 1 ≡ n + suc k = omega arith in e)
+    (enter_pass policy queues hw h (n + k) a b (none (n + k) (omega arith) (omega arith))
+    (enter_past policy queues hw h n k a b (λ j le lt. none j le (omega (arith, lt))) t))
+
+-- behind the last software queue there is none
+served_end : (queues : List Queue) (hw h k : ℕ) → served_requests queues hw h (length queues + k) ≡ served_requests queues hw h (length queues)
+served_end queues hw h zero = ap (served_requests queues hw h) (let e : length queues + zero ≡ length queues = omega arith in e)
+served_end queues hw h (suc k) =
+    ap (served_requests queues hw h) (let e : length queues + suc k ≡ (length queues + k) + 1 = omega arith in e)
+    ∙ served_suc queues hw h (length queues + k)
+    ∙ ap (λ o. served_requests queues hw h (length queues + k) ++ cond (((length queues + k) % hw) == h) (requests_in o) []) (slice_get_past queues (length queues + k) (omega arith))
+    ∙ ap (λ l. served_requests queues hw h (length queues + k) ++ l) (either_same (((length queues + k) % hw) == h) [])
+    ∙ append-nil (served_requests queues hw h (length queues + k))
+    ∙ served_end queues hw h k
+
+pub served_past : (queues : List Queue) (hw h n : ℕ) → length queues ≤ n → served_requests queues hw h n ≡ served_requests queues hw h (length queues)
+served_past queues hw h n le = ap (served_requests queues hw h) (let e : n ≡ length queues + (n - length queues) = omega (arith, le) in e) ∙ served_end queues hw h (n - length queues)
 
 -- what was written stands there
 pub get_same : {X : Type 0} (xs : List X) (k : ℕ) (x y : X) → slice_get xs k ≡ Some x → slice_get (set xs k y) k ≡ Some y

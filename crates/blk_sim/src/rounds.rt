@@ -7,14 +7,12 @@ ghost use Rattle.blk_sim.specs.Moves.{DrainsAll};
 ghost use Rattle.blk_sim.specs.Rounds.{IssuesAll, CompleteInTurn, Works, Rounds};
 ghost use Rattle.blk_sim.specs.Inside.Given.{IsGiven};
 ghost use Rattle.blk_sim.specs.Refusals.{IsAskRefused, IsIssueInTurnRefused, IsWorkRefused, IsDrainInTurnRefused, IsRunRefused};
-ghost use Rattle.blk_sim.specs.Inside.Places.{IsModuloMap};
 ghost use Rattle.blk_sim.specs.Inside.Working.{WorkInTurn, IsWorkInTurnRefused};
 
 use crate::refusal::SimWhy;
 use crate::steps::{done, drain, issue, tick};
 use blk_core::Core;
 use blk_core::laws::{listed_issues_are_open, open_picks_are_open_issues};
-use blk_hw::Map;
 use blk_sched::Scheduler;
 use blk_soft::SoftQueue;
 use edd_commands::MAX_DEPTH;
@@ -112,9 +110,7 @@ fn work_rounds<S: Scheduler>(core: &mut Core<S>, count: u64) -> Result<(), SimWh
 fn drain_all<S: Scheduler>(
     core: &mut Core<S>,
     queues: &mut Vec<SoftQueue<S::A>, S::A>,
-    map: &Map<S::A>,
 ) -> Result<(), SimWhy>
-    requires map { IsModuloMap core.old.setup.hw (length queues.old.items) map.now }
     requires limits { (s : ℕ) (queue : QueueFields) → slice_get queues.old.items s ≡ Some queue → queue.limits ≡ core.old.setup.limits }
     ensures some { 0 < core.old.setup.hw }
     ensures drained { OnOk result (DrainsAll S.policy queues.old.items core.old queues.new.items core.new) }
@@ -122,7 +118,7 @@ fn drain_all<S: Scheduler>(
 {
     let count = core.trace().setup().hw();
     for hw in 0..count {
-        drain(core, queues, map, hw)?;
+        drain(core, queues, hw)?;
     }
     Ok(())
 }
@@ -132,16 +128,14 @@ fn drain_all<S: Scheduler>(
 pub(crate) fn run<S: Scheduler>(
     core: &mut Core<S>,
     queues: &mut Vec<SoftQueue<S::A>, S::A>,
-    map: &Map<S::A>,
     count: u64,
 ) -> Result<(), SimWhy>
     requires some { 1 ≤ count }
-    requires map { IsModuloMap core.old.setup.hw (length queues.old.items) map.now }
     requires limits { (s : ℕ) (queue : QueueFields) → slice_get queues.old.items s ≡ Some queue → queue.limits ≡ core.old.setup.limits }
     ensures passed { OnOk result (Rounds S.policy count queues.old.items core.old queues.new.items core.new) }
     ensures refused { IfErr result (λ w. IsRunRefused S.policy count queues.old.items core.old w) }
 {
-    drain_all(core, queues, map)?;
+    drain_all(core, queues)?;
     work_rounds(core, count)?;
     Ok(())
 }

@@ -1,7 +1,7 @@
 //! A script's steps, run one after the other over plugs, software queues and the core.
 
-ghost use Rattle.std.specs.Prelude.{◌≡◌, ◌<◌, ◌≤◌, ◌%◌, [], replicate, IfOk, OnOk, IfErr, length, sum_by, IsPermutation};
-ghost use Rattle.blk_bio.specs.declared.limits.TheConstants.{MAX_QUEUES, MAX_SOFT_DEPTH, MAX_SOFT_QUEUES};
+ghost use Rattle.std.specs.Prelude.{◌≡◌, ◌<◌, ◌≤◌, [], replicate, IfOk, OnOk, IfErr, length, sum_by, IsPermutation};
+ghost use Rattle.blk_bio.specs.declared.limits.TheConstants.{MAX_SOFT_DEPTH};
 ghost use Rattle.blk_sched.specs.Meaning.{at_start};
 ghost use Rattle.blk_trace.specs.Events.{entered, round_of};
 ghost use Rattle.blk_trace.specs.Legal.{IsLegalTrace};
@@ -11,14 +11,12 @@ ghost use Rattle.blk_sim.specs.State.{SimState, start_of, empty_queue};
 ghost use Rattle.blk_sim.specs.Runs.{Steps, LeadsTo};
 ghost use Rattle.blk_sim.specs.Refusals.{IsSimFault, IsStepRefused};
 ghost use Rattle.blk_sim.specs.Simulated.{IsReady};
-ghost use Rattle.blk_sim.specs.Inside.Places.{IsModuloMap};
 
 use crate::refusal::{SimFault, SimWhy};
 use crate::rounds::run;
 use crate::steps::{add, back, done, drain, flush, issue, set_depth, tick};
 use blk_bio::Limits;
 use blk_core::Core;
-use blk_hw::Map;
 use blk_plug::Plug;
 use blk_sched::Scheduler;
 use blk_soft::{MAX_BIOS, SoftQueue};
@@ -90,35 +88,6 @@ fn new_queues<A: Allocator + Clone>(
     Ok(queues)
 }
 
-/// The hardware queues of `count` software queues: of queue s, s modulo `hw`.
-fn spread<A: Allocator>(alloc: A, count: u64, hw: u8) -> Result<Vec<u8, A>, AllocError>
-    requires { 0 < hw }
-    ensures { IfOk result (λ entries. IsModuloMap hw count entries.items) }
-{
-    let mut entries = Vec::new(alloc);
-    for s in 0..count {
-        let Ok(()) = entries.push((s % hw as u64) as u8) else {
-            return Err(AllocError);
-        };
-    }
-    Ok(entries)
-}
-
-/// The map of `count` software queues to `hw` hardware queues.
-fn new_map<A: Allocator>(alloc: A, count: u64, hw: u8) -> Result<Map<A>, AllocError>
-    requires some { 0 < hw }
-    requires few { hw ≤ MAX_QUEUES }
-    requires enough { hw ≤ count }
-    requires submitters { count ≤ MAX_SOFT_QUEUES }
-    ensures { IfOk result (λ map. IsModuloMap hw count map) }
-{
-    let entries = spread(alloc, count, hw)?;
-    match Map::new(entries) {
-        Ok(map) => Ok(map),
-        Err(_) => unreachable!(),
-    }
-}
-
 impl<S: Scheduler> Simulation<S> {
     /// A script before its first step.
     fn new(alloc: S::A, script: &Script, scheduler: S) -> Result<Simulation<S>, AllocError>
@@ -154,10 +123,9 @@ impl<S: Scheduler> Simulation<S> {
         core.into_trace()
     }
 
-    /// Runs one step, with this map of the software queues to the hardware queues.
-    fn step(&mut self, map: &Map<S::A>, line: Line) -> Result<(), SimWhy>
+    /// Runs one step.
+    fn step(&mut self, line: Line) -> Result<(), SimWhy>
         requires ready { IsReady MAX_BIOS self.old }
-        requires map { IsModuloMap self.old.core.setup.hw (length self.old.plugs) map.now }
         requires fits { LineFits self.old.core.setup.hw (length self.old.plugs) line }
         ensures stepped { OnOk result (Steps S.policy self.old line self.new) }
         ensures refused { IfErr result (λ w. IsStepRefused S.policy self.old line w) }
@@ -172,7 +140,7 @@ impl<S: Scheduler> Simulation<S> {
                 Ok(())
             }
             Line::Drain { hw } => {
-                drain(&mut self.core, &mut self.queues, map, hw)?;
+                drain(&mut self.core, &mut self.queues, hw)?;
                 Ok(())
             }
             Line::Issue { hw, tag } => {
@@ -196,27 +164,11 @@ impl<S: Scheduler> Simulation<S> {
                 Ok(())
             }
             Line::Run(count) => {
-                run(&mut self.core, &mut self.queues, map, count)?;
+                run(&mut self.core, &mut self.queues, count)?;
                 Ok(())
             }
         }
     }
-}
-
-/// The map of a script's software queues and its simulation before the first step.
-fn start<S: Scheduler>(
-    alloc: S::A,
-    script: &Script,
-    scheduler: S,
-) -> Result<(Map<S::A>, Simulation<S>), AllocError>
-    requires script { IsScript (scripted script.now) }
-    requires start { S.meaning scheduler ≡ at_start (S.meaning scheduler).front }
-    ensures map { IfOk result (λ r. IsModuloMap script.now.setup.hw script.now.submitters r.0) }
-    ensures simulation { IfOk result (λ r. r.1 ≡ start_of (scripted script.now) (S.meaning scheduler) (S.kept scheduler)) }
-{
-    let map = new_map(alloc.clone()?, script.submitters, script.setup.hw())?;
-    let simulation = Simulation::new(alloc, script, scheduler)?;
-    Ok((map, simulation))
 }
 
 /// The trace of a script under a scheduler in which nothing waits: its steps are run in their order, each bio going
@@ -237,14 +189,14 @@ pub fn simulate<S: Scheduler>(
     ensures ticks { IfOk result (λ trace. round_of trace.events ≡ sum_by ticks_of script.now.lines.items) }
     ensures fault { IfErr result (IsSimFault S.policy (scripted script.now) (S.meaning scheduler) (S.kept scheduler)) }
 {
-    let Ok((map, mut simulation)) = start(alloc, script, scheduler) else {
+    let Ok(mut simulation) = Simulation::new(alloc, script, scheduler) else {
         return Err(SimFault {
             at: SETUP_RECORD,
             why: SimWhy::Memory,
         });
     };
     for (place, line) in script.lines.iter().enumerate() {
-        if let Err(why) = simulation.step(&map, *line) {
+        if let Err(why) = simulation.step(*line) {
             return Err(SimFault {
                 at: place as u64 + FIRST_STEP,
                 why,

@@ -10,14 +10,12 @@ ghost use Rattle.blk_sim.specs.Rounds.{AsksQueue, Ticks};
 ghost use Rattle.blk_sim.specs.Refusals.{IsBioRefused, IsFlushRefused, IsOverfull, overflow_of, IsReleaseRefused, IsIssueRefused, IsBackRefused, IsDepthRefused, IsTickRefused, IsMoveRefused, IsDrainRefused};
 ghost use Rattle.blk_sim.specs.Simulated.{HaveCome};
 ghost use Rattle.blk_sim.specs.Inside.Limits.{ShareLimits};
-ghost use Rattle.blk_sim.specs.Inside.Places.{IsModuloMap};
 
 use crate::refusal::{
     Overflow, SimWhy, why_added, why_issued, why_kept, why_released, why_ticked, why_unset,
 };
 use blk_bio::{Bio, Request};
 use blk_core::Core;
-use blk_hw::Map;
 use blk_plug::Plug;
 use blk_sched::Scheduler;
 use blk_soft::{MAX_BIOS, SoftQueue};
@@ -147,23 +145,23 @@ fn drain_queue<S: Scheduler>(
     Ok(())
 }
 
-/// Moves the requests of a hardware queue's software queues, by their rising number, into the core.
+/// Moves the requests of a hardware queue's software queues, by their rising number, into the core: of queue `hw` of `count` those
+/// of `hw`, `hw + count` and so on, as the map of Linux's blk-mq spreads processors.
 pub(crate) fn drain<S: Scheduler>(
     core: &mut Core<S>,
     queues: &mut Vec<SoftQueue<S::A>, S::A>,
-    map: &Map<S::A>,
     hw: u8,
 ) -> Result<(), SimWhy>
     requires queue { hw < core.old.setup.hw }
-    requires map { IsModuloMap core.old.setup.hw (length queues.old.items) map.now }
     requires limits { (s : ℕ) (queue : QueueFields) → slice_get queues.old.items s ≡ Some queue → queue.limits ≡ core.old.setup.limits }
     ensures drained { OnOk result (Drains S.policy core.old.setup.hw hw queues.old.items core.old queues.new.items core.new) }
     ensures refused { IfErr result (λ w. IsDrainRefused S.policy core.old.setup.hw hw queues.old.items core.old w) }
 {
-    for s in 0..queues.len() {
-        if map.hw_of(s) == hw {
-            drain_queue(core, &mut queues[s], hw)?;
-        }
+    let count = core.trace().setup().hw() as usize;
+    let mut s = hw as usize;
+    while s < queues.len() {
+        drain_queue(core, &mut queues[s], hw)?;
+        s += count;
     }
     Ok(())
 }

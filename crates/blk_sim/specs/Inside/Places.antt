@@ -15,11 +15,6 @@ placings hw (l ∷ ls) = placed_by hw l ls ++ placings hw ls
 abbrev pub is_served : ℕ → ℕ → ℕ → ℕ → Bool
 is_served count hw h s = nat_lt s count && ((s % hw) == h)
 
--- a map of `count` software queues to `hw` hardware queues, each to its own number modulo `hw`
-pub record IsModuloMap (hw count : ℕ) (entries : List ℕ) : Type 0 where
-  pub counts : length entries ≡ count
-  pub spread : (s d : ℕ) → s < count → slice_index_or entries s d ≡ s % hw
-
 -- these rounds passed in the core, and no bio entered
 pub record RoundsPassed (rounds : ℕ) (old new : CoreState) : Type 0 where
   pub setup : new.setup ≡ old.setup

@@ -6,14 +6,10 @@ use Rattle.blk_sim.specs.Refusals.{IsDrainRefused}
 use Rattle.blk_sim.proofs.Chains.{drain_none, drain_more}
 use Rattle.blk_sim.proofs.Events.{chain_took}
 use Rattle.blk_sim.proofs.Keeping.{kept_drained}
-use Rattle.blk_sim.proofs.Spreading.{spread_along}
 use Rattle.blk_sim.proofs.rounds.drain_all.Goals as goal
 
 pub loop-hw-init : goal.loop-hw-init
 loop-hw-init g c = record { drained = drain_none _ _ _ _; setup = refl; as_many = refl; limits = c.requires.limits }
-
-pub drain-requires-clause-map : goal.drain-requires-clause-map
-drain-requires-clause-map g c = spread_along _ _ _ _ _ (ap (λ (s : Setup). s.hw) c.loop-hw.invariant.setup) c.loop-hw.invariant.as_many c.requires.map
 
 pub loop-hw-preserved : goal.loop-hw-preserved
 loop-hw-preserved g c =

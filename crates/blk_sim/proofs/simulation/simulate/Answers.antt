@@ -17,7 +17,7 @@ use Rattle.blk_sim.proofs.simulation.simulate.Goals as goal
 
 pub loop-place-init : goal.loop-place-init
 loop-place-init g c =
-    let is : c.in-Ok.simulation ≡ start_of (scripted c.args.script.now) (g.S.Scheduler.meaning c.args.scheduler) (g.S.Scheduler.kept c.args.scheduler) = cc (c.in-Ok.ensures.simulation, c.in-Ok.simulation-is) in
+    let is : c.in-Ok.simulation ≡ start_of (scripted c.args.script.now) (g.S.Scheduler.meaning c.args.scheduler) (g.S.Scheduler.kept c.args.scheduler) = cc (c.in-Ok.ensures, c.in-Ok.is) in
     record {
       runs = runs_none g.S.Scheduler.policy _ c.in-Ok.simulation is;
       stands = subst (λ b. Stands b c.in-Ok.simulation.plugs c.in-Ok.simulation.queues c.in-Ok.simulation.core.events) (sym (placings_nil c.args.script.now.setup.hw)) (start_stands (scripted c.args.script.now) (g.S.Scheduler.meaning c.args.scheduler) (g.S.Scheduler.kept c.args.scheduler) c.in-Ok.simulation is);
