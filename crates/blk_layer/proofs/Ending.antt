@@ -1,11 +1,15 @@
 -- A worker that ends one command and is issued the next.
-use Rattle.std.proofs.Common.{◌≡◌, ℕ, refl, ap, inl, inr, Option, Some, None, Result, Ok, Err, IfOk, IfErr}
+use Rattle.std.proofs.Common.{◌≡◌, ℕ, refl, ap, inl, inr, Option, Some, None, Result, Ok, Err, IfOk, IfErr, OnErr}
 use Rattle.edd_commands.specs.declared.Command.{Command}
 use Rattle.blk_layer.specs.declared.serving.Ran.{Ran}
 use Rattle.blk_layer.specs.declared.serving.Ran.TheVariants.{Done, Busy}
 use Rattle.blk_layer.specs.declared.serving.Issued.{Issued}
 use Rattle.blk_layer.specs.declared.serving.WorkFault.{WorkFault}
 use Rattle.blk_layer.specs.declared.serving.WorkFault.TheVariants.{Memory}
+use Rattle.blk_layer.specs.declared.seats.NoNext.{NoNext}
+use Rattle.blk_layer.specs.declared.seats.NoNext.TheVariants.{NoTag, UsedUp, Nothing, Full, Ended, TraceFull}
+use Rattle.blk_layer.specs.declared.seats.NoNext.TheVariants as no
+use Rattle.blk_layer.specs.Inside.Next.{found_next}
 use Rattle.blk_layer.specs.Seats.{WorkerSeat}
 use Rattle.blk_layer.specs.Serving.{TakesInHand, AccountsFor, LetsGo, IsIssueAnswer, RunsMore, IsWorkFault}
 use Rattle.blk_layer.specs.Inside.Serving.{IsEndedAs, IsPassRefusal, ServesOne, IsServeFault}
@@ -34,16 +38,41 @@ pub ended_set : (old : WorkerSeat) (tag : ℕ) (ran : Ran) (new : WorkerSeat) �
 ended_set old tag Done new h = ap (λ (s : WorkerSeat). s.tag_set) h.gone
 ended_set old tag Busy new h = ap (λ (s : WorkerSeat). s.tag_set) h.1.gone
 
--- what the call that issues the next one answered
-pub served_next : (old : WorkerSeat) (tag : ℕ) (ran : Ran) (between : WorkerSeat) (r answer : Result (Option Issued) WorkFault) (next new : WorkerSeat) → IsEndedAs ran old tag between → answer ≡ r → new ≡ next
-    → IfOk r (λ found. IsIssueAnswer between found next) → IfOk answer (λ found. ServesOne old tag ran found new)
-served_next old tag ran between (Ok found) answer next new ended e f is = rw (e, f) (served old tag ran between found next ended is)
-served_next old tag ran between (Err why) answer next new ended e f is = rw e tt
+-- what the call that issues the next one answered, and what a pass makes of it
+abbrev pub IsOnNext : WorkerSeat → Result Issued NoNext → WorkerSeat → Type 0
+IsOnNext between r next = IfOk r (λ issued. TakesInHand between issued.tag issued.command next) × OnErr r (next ≡ between)
 
-pub serve_fault : (old : WorkerSeat) (tag : ℕ) (ran : Ran) (between : WorkerSeat) (r answer : Result (Option Issued) WorkFault) (next new : WorkerSeat) → IsEndedAs ran old tag between → answer ≡ r → new ≡ next
-    → IfErr r (λ why. IsPassRefusal why × (next ≡ between)) → IfErr answer (λ why. IsServeFault old tag ran why new)
-serve_fault old tag ran between (Ok found) answer next new ended e f is = rw e tt
-serve_fault old tag ran between (Err why) answer next new ended e f is = rw (e, f) (none_next old tag ran between why next ended is.0 is.1)
+pub found_answer : (between : WorkerSeat) (r : Result Issued NoNext) (next : WorkerSeat) → IsOnNext between r next
+    → IfOk (found_next r) (λ found. IsIssueAnswer between found next)
+found_answer between (Ok issued) next is = is.0
+found_answer between (Err NoTag) next is = is.1
+found_answer between (Err UsedUp) next is = is.1
+found_answer between (Err Nothing) next is = is.1
+found_answer between (Err Full) next is = is.1
+found_answer between (Err Ended) next is = is.1
+found_answer between (Err TraceFull) next is = tt
+found_answer between (Err no.Memory) next is = tt
+
+pub found_fault : (between : WorkerSeat) (r : Result Issued NoNext) (next : WorkerSeat) → IsOnNext between r next
+    → IfErr (found_next r) (λ why. IsPassRefusal why × (next ≡ between))
+found_fault between (Ok issued) next is = tt
+found_fault between (Err NoTag) next is = tt
+found_fault between (Err UsedUp) next is = tt
+found_fault between (Err Nothing) next is = tt
+found_fault between (Err Full) next is = tt
+found_fault between (Err Ended) next is = tt
+found_fault between (Err TraceFull) next is = (inl refl, is.1)
+found_fault between (Err no.Memory) next is = (inr refl, is.1)
+
+pub served_next : (old : WorkerSeat) (tag : ℕ) (ran : Ran) (between : WorkerSeat) (r : Result (Option Issued) WorkFault) (next : WorkerSeat) → IsEndedAs ran old tag between
+    → IfOk r (λ found. IsIssueAnswer between found next) → IfOk r (λ found. ServesOne old tag ran found next)
+served_next old tag ran between (Ok found) next ended is = served old tag ran between found next ended is
+served_next old tag ran between (Err why) next ended is = tt
+
+pub serve_fault : (old : WorkerSeat) (tag : ℕ) (ran : Ran) (between : WorkerSeat) (r : Result (Option Issued) WorkFault) (next : WorkerSeat) → IsEndedAs ran old tag between
+    → IfErr r (λ why. IsPassRefusal why × (next ≡ between)) → IfErr r (λ why. IsServeFault old tag ran why next)
+serve_fault old tag ran between (Ok found) next ended is = tt
+serve_fault old tag ran between (Err why) next ended is = none_next old tag ran between why next ended is.0 is.1
 
 -- what a worker ran so far, and the command that it has in its hands
 pub record IsServing (old : WorkerSeat) (tag : ℕ) (command : Command) (new : WorkerSeat) : Type 0 where

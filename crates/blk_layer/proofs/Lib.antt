@@ -16,5 +16,6 @@ mod Gathered
 mod Agreed
 mod Moved
 mod Ending
+mod Tries
 mod Onces
 mod Ruled

@@ -1,5 +1,5 @@
 -- What a move leaves of the core.
-use Rattle.std.proofs.Common.{◌≡◌, ◌∙◌, ◌+◌, ◌⊎◌, ℕ, ap, refl, arith, subst, inl, inr, cond, Bool, true, false, List, [], ◌∷◌, ◌++◌, Result, Ok, Err, Option, Some, None, IfOk, IfErr, OnErr}
+use Rattle.std.proofs.Common.{◌≡◌, ◌∙◌, ◌+◌, ℕ, ap, refl, arith, cond, Bool, true, false, List, [], ◌∷◌, ◌++◌, Result, Ok, Err, Option, Some, None, IfOk, IfErr, OnErr}
 use Rattle.blk_bio.specs.Bios.{Bio}
 use Rattle.blk_soft.specs.Queues.{Queue}
 use Rattle.blk_sched.specs.Meaning.{Waiting}
@@ -88,9 +88,3 @@ pub tried_stays : (serves : ℕ → Waiting → Bool) (chooses : Choice) (told :
     → IfOk r (λ command. Issues serves chooses old hw tag (Some command) new) → IfErr r (λ why. IsNoneIssued serves chooses told old hw tag why new) → Stays old new
 tried_stays serves chooses told old hw tag new (Ok command) issued fault = issue_stays serves chooses old hw tag new (Some command) issued
 tried_stays serves chooses told old hw tag new (Err why) issued fault = none_stays serves chooses told old hw tag why new fault
-
--- a try under a tag that is used up in a round which carries more leaves the core as it was
-pub used_up_same : (serves : ℕ → Waiting → Bool) (chooses : Choice) (told : OfTick) (old : CoreState) (hw tag : ℕ) (why : NoneIssued) (new : CoreState)
-    → IsNoneIssued serves chooses told old hw tag why new → (why ≡ none.TagRange) ⊎ (why ≡ none.SlotUsed) → new ≡ old
-used_up_same serves chooses told old hw tag why new f (inl e) = (subst (λ (w : NoneIssued). IsNoneIssued serves chooses told old hw tag w new) e f).2
-used_up_same serves chooses told old hw tag why new f (inr e) = (subst (λ (w : NoneIssued). IsNoneIssued serves chooses told old hw tag w new) e f).2

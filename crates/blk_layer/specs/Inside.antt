@@ -2,4 +2,5 @@
 pub mod Seats
 pub mod Submitting
 pub mod Serving
+pub mod Next
 pub mod Closing

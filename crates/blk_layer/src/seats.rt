@@ -1,6 +1,6 @@
 //! The seats of a layer: what a submitter and a worker have for themselves.
 
-ghost use Rattle.std.specs.Prelude.{◌≡◌, ◌++◌, OnErr, IfSome, IfNone, ◌<◌, ◌≤◌, ◌+◌, [], ℕ, IfOk, IfErr, OnOk, All, length, map, replicate, vec_len, slice_get, Some, None, Contains};
+ghost use Rattle.std.specs.Prelude.{◌≡◌, ◌⊎◌, ◌++◌, OnErr, IfSome, IfNone, ◌<◌, ◌≤◌, ◌+◌, [], ℕ, IfOk, IfErr, OnOk, All, length, map, replicate, vec_len, slice_get, Some, None, Contains};
 ghost use Rattle.blk_trace.specs.Events.{AreOnce};
 ghost use Rattle.blk_core.specs.Calls.{Completes, RequeuesTag};
 ghost use Rattle.blk_layer.specs.Seats.{AreOwn, HoldsItsTags, new_submitter, new_worker};
@@ -8,12 +8,13 @@ ghost use Rattle.blk_layer.specs.Submitting.{CanAccept, IsFlushReason};
 ghost use Rattle.blk_layer.specs.Serving.{TakesInHand, AccountsFor, LetsGo, IsInHand, IsIssueAnswer};
 ghost use Rattle.blk_layer.specs.Closing.{all_ran};
 ghost use Rattle.blk_layer.specs.Inside.Submitting.{IsOfBios};
-ghost use Rattle.blk_layer.specs.Inside.Serving.{IssuesTo, IssuesAsTold, IsPassRefusal};
+ghost use Rattle.blk_layer.specs.Inside.Serving.{IssuesTo, IssuesAsTold};
+ghost use Rattle.blk_layer.specs.Inside.Next.{no_next, IsNoNext, TakesTag, KeepsTags, TriesEach};
 
 use crate::accounts::Account;
 use crate::layer::Named;
 use crate::locked::LockedCore;
-use crate::serving::{Issued, LayerIssueFault, WorkFault, of_core};
+use crate::serving::{Issued, LayerIssueFault, of_core};
 use crate::submitting::{FlushWhy, first_foreign};
 use blk_bio::{Bio, Request};
 use blk_core::{BackFault, NoneIssued, NotIssued};
@@ -23,6 +24,25 @@ use edd_commands::Command;
 use std::alloc::{AllocError, Allocator, Global};
 use std::marker::{Model, PhantomData};
 use std::sync::ledger::{Book, Share};
+
+/// Why a worker is issued no next command.
+#[derive(Clone, Copy, Debug, PartialEq, Eq)]
+pub(crate) enum NoNext {
+    /// Each tag was tried, and is taken.
+    NoTag,
+    /// As many tags as there are were taken one after the other, and are used up in the round, which carries more commands.
+    UsedUp,
+    /// There is none for its hardware queue.
+    Nothing,
+    /// The round is full, and a command is in flight in it.
+    Full,
+    /// The round was full, and has ended.
+    Ended,
+    /// The trace has no places for an Issue and its end, or for the end of the round.
+    TraceFull,
+    /// Memory ran out.
+    Memory,
+}
 
 /// A submitter's seat: the software queue that is its own, and the account of its bios that were accepted.
 #[derive(Drop)]
@@ -287,45 +307,83 @@ impl<L: Named, A: Allocator + Clone> Worker<L, A> {
         Ok(command.id)
     }
 
-    /// Issues the next command to it out of the core, if there is one. It tries one free tag after the other (`Core::try_issue`),
-    /// beginning after the tag that was issued last, until one isn't used up in the round or the round is full. Without a command it
-    /// holds the tags that it held.
+    /// Issues the next command to it out of the core, if there is one, under the first free tag that isn't used up in the round
+    /// ([`issue_next`]). Without a command it is as it was; [`NoNext`] says why, and what was done.
     pub(crate) fn next<S: Scheduler<A = A>>(
         &mut self,
         core: &mut LockedCore<S, L>,
         tags: &TagSet<A>,
-    ) -> Result<Option<Issued>, WorkFault>
+    ) -> Result<Issued, NoNext>
         requires { self.old.tag_set ≡ tags.now }
-        ensures issued { IfOk result (λ found. IsIssueAnswer self.old found self.new) }
-        ensures core { IfOk result (λ found. IfSome found (λ issued. IssuesTo S.policy core.old.core self.old.hw issued core.new.core)) }
-        ensures fault { IfErr result (λ why. IsPassRefusal why × (self.new ≡ self.old)) }
+        ensures issued { IfOk result (λ issued. TakesInHand self.old issued.tag issued.command self.new) }
+        ensures core { IfOk result (λ issued. IssuesTo S.policy core.old.core self.old.hw issued core.new.core) }
+        ensures none { IfErr result (λ why. IsNoNext S.policy core.old.core self.old.hw why core.new.core) }
+        ensures same { OnErr result (self.new ≡ self.old) }
     {
         if self.ran.reserve(self.hands.len()).is_err() {
-            return Err(WorkFault::Memory);
+            return Err(NoNext::Memory);
         }
-        let mut from = core.next_tag;
-        for _ in 0..tags.depth() {
-            let Some(tag) = tags.get_from(&mut self.seat, from) else {
-                return Ok(None);
-            };
-            from = tag.saturating_add(1);
-            let why = match core.core.try_issue(self.hw, tag) {
-                Ok(command) => {
-                    core.next_tag = from;
-                    self.hands[usize::from(tag)] = Some(command);
-                    return Ok(Some(Issued { command, tag }));
-                }
-                Err(why) => why,
-            };
-            tags.give(&mut self.seat, tag);
-            match why {
-                NoneIssued::TagRange | NoneIssued::SlotUsed => {}
-                NoneIssued::Nothing | NoneIssued::Full | NoneIssued::Ended => return Ok(None),
-                NoneIssued::TraceFull => return Err(WorkFault::TraceFull),
-                NoneIssued::Memory => return Err(WorkFault::Memory),
+        match issue_next(&mut self.seat, core, tags, self.hw) {
+            Ok(issued) => {
+                self.hands[usize::from(issued.tag)] = Some(issued.command);
+                Ok(issued)
             }
+            Err(why) => Err(why),
         }
-        Ok(None)
+    }
+}
+
+/// Issues the next command for a hardware queue out of the core, under a tag that it takes with a seat of the set. It tries one free tag after
+/// the other (`Core::try_issue`), beginning after the tag that was issued last, until one isn't used up in the round or the round is full.
+/// Without a command the seat holds the tags that it held.
+fn issue_next<S: Scheduler, L: Named>(
+    seat: &mut TagSeat<S::A>,
+    core: &mut LockedCore<S, L>,
+    tags: &TagSet<S::A>,
+    hw: u8,
+) -> Result<Issued, NoNext>
+    requires set { seat.old.of_set ≡ tags.now }
+    requires depth { tags.now.depth ≡ L.setup.depth }
+    requires queue { hw < L.setup.hw }
+    ensures taken { IfOk result (λ issued. TakesTag seat.old issued.tag seat.new) }
+    ensures core { IfOk result (λ issued. IssuesTo S.policy core.old.core hw issued core.new.core) }
+    ensures none { IfErr result (λ why. IsNoNext S.policy core.old.core hw why core.new.core) }
+    ensures tried { IfErr result (λ why. (why ≡ NoNext.NoTag) ⊎ (why ≡ NoNext.UsedUp) → TriesEach seat.old seat.new) }
+    ensures kept { OnErr result (KeepsTags seat.old seat.new) }
+{
+    let mut from = core.next_tag;
+    for _ in 0..tags.depth() {
+        let Some(tag) = tags.get_from(seat, from) else {
+            return Err(NoNext::NoTag);
+        };
+        from = tag.saturating_add(1);
+        let why = match core.core.try_issue(hw, tag) {
+            Ok(command) => {
+                core.next_tag = from;
+                return Ok(Issued { command, tag });
+            }
+            Err(why) => no_next(why),
+        };
+        tags.give(seat, tag);
+        match why {
+            NoNext::UsedUp => {}
+            why => return Err(why),
+        }
+    }
+    Err(NoNext::UsedUp)
+}
+
+/// Why there is no next command, where a try for one ended so.
+fn no_next(why: NoneIssued) -> NoNext
+    ensures { result ≡ no_next why }
+{
+    match why {
+        NoneIssued::TagRange | NoneIssued::SlotUsed => NoNext::UsedUp,
+        NoneIssued::Nothing => NoNext::Nothing,
+        NoneIssued::Full => NoNext::Full,
+        NoneIssued::Ended => NoNext::Ended,
+        NoneIssued::TraceFull => NoNext::TraceFull,
+        NoneIssued::Memory => NoNext::Memory,
     }
 }
 

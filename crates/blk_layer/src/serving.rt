@@ -3,9 +3,10 @@
 ghost use Rattle.std.specs.Prelude.{◌≡◌, ◌≢◌, OnOk, OnErr, IfOk, IfErr, None, Some};
 ghost use Rattle.blk_layer.specs.Serving.{IsIssueAnswer, AccountsFor, LetsGo, IsInHand, IsTickAnswer, IsDepthAnswer, RunsMore, IsWorked, IsWorkFault, IsAfterPass};
 ghost use Rattle.blk_layer.specs.Inside.Serving.{ServesOne, IsServeFault, IsPassRefusal, work_name};
+ghost use Rattle.blk_layer.specs.Inside.Next.{found_next};
 
 use crate::layer::{Layer, Named};
-use crate::seats::Worker;
+use crate::seats::{NoNext, Worker};
 use blk_bio::BioId;
 use blk_core::{BackFault, CoreFault, DepthFault, IssueFault, NotIssued, TickFault};
 use blk_sched::Scheduler;
@@ -306,7 +307,9 @@ impl<S: Scheduler, L: Named> Layer<S, L> {
             return Err(WorkFault::Memory);
         }
         let mut core = self.lock_core(rt);
-        worker.next(&mut *core, &self.tags)
+        let next = worker.next(&mut *core, &self.tags);
+        drop(core);
+        found_next(next)
     }
 
     /// Reports what became of the command in the worker's hands under a tag, and answers the next one, both under one hold of the core's
@@ -338,11 +341,11 @@ impl<S: Scheduler, L: Named> Layer<S, L> {
         let next = if has_room {
             worker.next(&mut *core, &self.tags)
         } else {
-            Err(WorkFault::Memory)
+            Err(NoNext::Memory)
         };
         drop(core);
         drop(freed);
-        next
+        found_next(next)
     }
 }
 
@@ -356,6 +359,19 @@ pub(crate) fn of_core(why: IssueFault) -> LayerIssueFault
         IssueFault::SlotUsed => LayerIssueFault::SlotUsed,
         IssueFault::TraceFull => LayerIssueFault::TraceFull,
         IssueFault::Memory => LayerIssueFault::Memory,
+    }
+}
+
+/// What a pass makes of the answer: a command, none, at which it ends, or the fault at which the work does.
+fn found_next(next: Result<Issued, NoNext>) -> Result<Option<Issued>, WorkFault>
+    ensures { result ≡ found_next next }
+{
+    match next {
+        Ok(issued) => Ok(Some(issued)),
+        Err(NoNext::NoTag | NoNext::UsedUp) => Ok(None),
+        Err(NoNext::Nothing | NoNext::Full | NoNext::Ended) => Ok(None),
+        Err(NoNext::TraceFull) => Err(WorkFault::TraceFull),
+        Err(NoNext::Memory) => Err(WorkFault::Memory),
     }
 }
 

@@ -1,8 +1,11 @@
-use Rattle.std.proofs.Common.{◌∙◌, refl, sym, ap, inl, inr}
-use Rattle.blk_layer.specs.declared.serving.WorkFault.TheVariants.{Memory}
+use Rattle.std.proofs.Common.{◌≡◌, ◌∙◌, refl, sym, ap, subst, inl}
+use Rattle.std.specs.Prelude.{IfOk, IfErr, Option, Result}
 use Rattle.blk_layer.specs.Seats.{LayerShape}
-use Rattle.blk_layer.specs.Inside.Serving.{IsEndedAs}
-use Rattle.blk_layer.proofs.Ending.{done_as, back_as, ended_set, none_next, served_next, serve_fault}
+use Rattle.blk_layer.specs.declared.serving.Issued.{Issued}
+use Rattle.blk_layer.specs.declared.serving.WorkFault.{WorkFault}
+use Rattle.blk_layer.specs.Serving.{IsIssueAnswer}
+use Rattle.blk_layer.specs.Inside.Serving.{IsEndedAs, IsPassRefusal}
+use Rattle.blk_layer.proofs.Ending.{done_as, back_as, ended_set, IsOnNext, found_answer, found_fault, served_next, serve_fault}
 use Rattle.blk_layer.proofs.layer.Layer.end_and_next.Goals as goal
 use Rattle.blk_layer.proofs.layer.Layer.end_and_next.Goals.{in-Done+in-Ok, in-Busy+in-Ok-back, then-has_room, else-has_room}
 
@@ -23,10 +26,13 @@ returns-clause-served g c =
       | in-Done+in-Ok w ↦ done_as c.args.worker.now c.args.tag c.args.ran c.make_room.new.self w.done.new.self c.match-ran.worker c.make_room.ensures w.in-Done.is w.worker-is w.in-Ok.ensures.done
       | in-Busy+in-Ok-back w ↦ back_as c.args.worker.now c.args.tag c.args.ran c.make_room.new.self w.back.new.self c.match-ran.worker w.in-Ok-back.field-0 c.make_room.ensures w.in-Busy.is w.worker-is w.in-Ok-back.ensures.back
     ] in
-    elim c.if-has_room.branch [
-      | then-has_room w ↦ served_next c.args.worker.now c.args.tag c.args.ran c.match-ran.worker w.next-next.result c.if-has_room.next w.next-next.new.self c.if-has_room.worker ended w.next-is w.worker-is w.next-next.ensures.issued
-      | else-has_room w ↦ rw w.next-is tt
-    ]
+    let on : IsOnNext c.match-ran.worker c.if-has_room.next c.if-has_room.worker = elim c.if-has_room.branch [
+      | then-has_room w ↦ rw (w.next-is, w.worker-is) (w.next-next.ensures.issued, w.next-next.ensures.same)
+      | else-has_room w ↦ rw w.next-is (tt, w.worker-is)
+    ] in
+    served_next c.args.worker.now c.args.tag c.args.ran c.match-ran.worker c.found_next.result c.if-has_room.worker ended
+    (subst (λ (r : Result (Option Issued) WorkFault). IfOk r (λ found. IsIssueAnswer c.match-ran.worker found c.if-has_room.worker)) (sym c.found_next.ensures)
+    (found_answer c.match-ran.worker c.if-has_room.next c.if-has_room.worker on))
 
 pub returns-clause-fault : goal.returns-clause-fault
 returns-clause-fault g c =
@@ -34,7 +40,10 @@ returns-clause-fault g c =
       | in-Done+in-Ok w ↦ done_as c.args.worker.now c.args.tag c.args.ran c.make_room.new.self w.done.new.self c.match-ran.worker c.make_room.ensures w.in-Done.is w.worker-is w.in-Ok.ensures.done
       | in-Busy+in-Ok-back w ↦ back_as c.args.worker.now c.args.tag c.args.ran c.make_room.new.self w.back.new.self c.match-ran.worker w.in-Ok-back.field-0 c.make_room.ensures w.in-Busy.is w.worker-is w.in-Ok-back.ensures.back
     ] in
-    elim c.if-has_room.branch [
-      | then-has_room w ↦ serve_fault c.args.worker.now c.args.tag c.args.ran c.match-ran.worker w.next-next.result c.if-has_room.next w.next-next.new.self c.if-has_room.worker ended w.next-is w.worker-is w.next-next.ensures.fault
-      | else-has_room w ↦ rw w.next-is (none_next c.args.worker.now c.args.tag c.args.ran c.match-ran.worker Memory c.if-has_room.worker ended (inr refl) w.worker-is)
-    ]
+    let on : IsOnNext c.match-ran.worker c.if-has_room.next c.if-has_room.worker = elim c.if-has_room.branch [
+      | then-has_room w ↦ rw (w.next-is, w.worker-is) (w.next-next.ensures.issued, w.next-next.ensures.same)
+      | else-has_room w ↦ rw w.next-is (tt, w.worker-is)
+    ] in
+    serve_fault c.args.worker.now c.args.tag c.args.ran c.match-ran.worker c.found_next.result c.if-has_room.worker ended
+    (subst (λ (r : Result (Option Issued) WorkFault). IfErr r (λ why. IsPassRefusal why × (c.if-has_room.worker ≡ c.match-ran.worker))) (sym c.found_next.ensures)
+    (found_fault c.match-ran.worker c.if-has_room.next c.if-has_room.worker on))

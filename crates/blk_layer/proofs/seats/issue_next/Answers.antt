@@ -1,0 +1,61 @@
+use Rattle.std.proofs.Common.{◌≡◌, ◌∙◌, length, sym, ap, inr, arith, length-append, ◌∷◌, []}
+use Rattle.std.proofs.Math.Logic.{∥∥₁_map}
+use Rattle.blk_tags.specs.Tags.{Set, Seat, tag_or_first}
+use Rattle.blk_layer.specs.declared.seats.NoNext.TheVariants.{UsedUp}
+use Rattle.blk_layer.specs.Inside.Next.{no_next}
+use Rattle.blk_layer.proofs.Moving.{tried_stays}
+use Rattle.blk_layer.proofs.Ruled.{tried}
+use Rattle.blk_layer.proofs.InHand.{given_back}
+use Rattle.blk_layer.proofs.Tries.{each_tried, one_tried, used_up_same, used_up_vain}
+use Rattle.blk_layer.proofs.seats.issue_next.Goals as goal
+
+pub returns-in_default-clause-tried : goal.returns-in_default-clause-tried
+returns-in_default-clause-tried g c = λ _.
+    let tries = each_tried c.args.tags.now.depth (tag_or_first c.args.tags.now.depth c.loop.from) c.loop.seat.steps c.get_from.new.seat.steps c.in_default.ensures.steps in
+    omega (arith, tries, c.loop.invariant.tries, ap (λ (s : Set). s.depth) c.requires.set)
+
+pub invariant_of-core : goal.invariant_of-core
+invariant_of-core g c =
+    let locked = c.loop.core in
+    let S = g.S.Scheduler in
+    let stays = tried_stays S.policy.serves S.policy.chooses S.policy.told_tick locked.core c.args.hw c.in-Some.tag c.try_issue.new.self c.try_issue.result c.try_issue.ensures.issued c.try_issue.ensures.fault in
+    record {
+      named = stays.setup ∙ locked.named;
+      counted = locked.counted ∙ sym stays.dones;
+      all_out = locked.all_out;
+      none = locked.none;
+      ran = ∥∥₁_map locked.ran (tried S.policy g.L.Named.start locked.core c.args.hw c.in-Some.tag c.try_issue.new.self c.try_issue.result c.try_issue.ensures.issued c.try_issue.ensures.fault);
+    }
+
+pub invariant_of-core-in-Err-1 : goal.invariant_of-core-in-Err-1
+invariant_of-core-in-Err-1 g c =
+    let locked = c.loop.core in
+    let S = g.S.Scheduler in
+    let stays = tried_stays S.policy.serves S.policy.chooses S.policy.told_tick locked.core c.args.hw c.in-Some.tag c.try_issue.new.self c.try_issue.result c.try_issue.ensures.issued c.try_issue.ensures.fault in
+    record {
+      named = stays.setup ∙ locked.named;
+      counted = locked.counted ∙ sym stays.dones;
+      all_out = locked.all_out;
+      none = locked.none;
+      ran = ∥∥₁_map locked.ran (tried S.policy g.L.Named.start locked.core c.args.hw c.in-Some.tag c.try_issue.new.self c.try_issue.result c.try_issue.ensures.issued c.try_issue.ensures.fault);
+    }
+
+pub returns-in_default-why-clause-kept : goal.returns-in_default-why-clause-kept
+returns-in_default-why-clause-kept g c =
+    let back = given_back c.loop.seat c.get_from.new.seat c.give.new.seat c.in-Some.tag _ _ c.in-Some.ensures.some c.give.ensures c.in-Some.ensures.free in
+    (back.0 ∙ c.loop.invariant.set, back.1 ∙ c.loop.invariant.tags)
+
+pub loop-preserved : goal.loop-preserved
+loop-preserved g c =
+    let policy = g.S.Scheduler.policy in
+    let back = given_back c.loop.seat c.get_from.new.seat c.give.new.seat c.in-Some.tag _ _ c.in-Some.ensures.some c.give.ensures c.in-Some.ensures.free in
+    let used : no_next c.in-Err.why ≡ UsedUp = sym c.no_next-why.ensures ∙ c.in-UsedUp.is in
+    let more = one_tried c.args.tags.now.depth (tag_or_first c.args.tags.now.depth c.loop.from) c.in-Some.tag c.loop.seat.steps c.get_from.new.seat.steps c.in-Some.ensures.steps in
+    let given = ap (λ (s : Seat). length s.steps) c.give.ensures ∙ length-append c.get_from.new.seat.steps (c.in-Some.tag ∷ []) in
+    record {
+      set = back.0 ∙ c.loop.invariant.set;
+      tags = back.1 ∙ c.loop.invariant.tags;
+      core = used_up_same policy c.loop.core.core c.args.hw c.in-Some.tag c.in-Err.why c.try_issue.new.self c.in-Err.ensures.fault used ∙ c.loop.invariant.core;
+      tries = omega (arith, more, given, c.loop.invariant.tries);
+      last = inr (used_up_vain policy c.args.core.now.core c.loop.core.core c.args.hw c.in-Some.tag c.in-Err.why c.try_issue.new.self c.loop.invariant.core c.in-Err.ensures.fault used);
+    }

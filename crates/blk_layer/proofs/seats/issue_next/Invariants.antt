@@ -1,0 +1,13 @@
+use Rattle.std.proofs.Common.{◌≡◌, ◌+◌, ◌≤◌, ◌⊎◌, length}
+use Rattle.blk_layer.specs.declared.seats.NoNext.TheVariants.{UsedUp}
+use Rattle.blk_layer.specs.Inside.Next.{TriesInVain}
+use Rattle.blk_layer.proofs.seats.issue_next.Given as goal
+
+abbrev pub invariant-loop : goal.invariant-loop
+invariant-loop g l = record {
+  set : l.seat.of_set ≡ l.initial.seat.of_set;
+  tags : l.seat.tags ≡ l.initial.seat.tags;
+  core : l.core.core ≡ l.initial.core.core;
+  tries : length l.initial.seat.steps + l.counter ≤ length l.seat.steps;
+  last : (l.counter ≡ 0) ⊎ TriesInVain g.S.Scheduler.policy l.initial.core.core l.hw UsedUp l.initial.core.core;
+}
