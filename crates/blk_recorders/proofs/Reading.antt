@@ -1,15 +1,15 @@
 -- The lines of a text, one after another.
-use Rattle.std.proofs.Common.{ℕ, ◌≡◌, ◌+◌, ◌<◌, ◌≤◌, ◌∙◌, Bool, true, false, List, [], ◌∷◌, ◌++◌, length, get_or, drop, refl, sym, ap, subst, arith, Option, None, Some, Result, Ok, Err}
+use Rattle.std.proofs.Common.{ℕ, ◌≡◌, ◌+◌, ◌<◌, ◌≤◌, Bool, true, false, List, [], ◌∷◌, ◌++◌, length, refl, subst, arith, Option, None, Some, Result, Ok, Err}
 use Rattle.std.specs.Prelude.{nat_lt, nat_le, if◌then◌else◌, slice_index_or}
 use Rattle.std.proofs.lemmas.Bool.Decides.{nat_tests}
 use Rattle.std.proofs.lemmas.Grind.{common_steps}
-use Rattle.std.proofs.lemmas.List.{drop_more}
 use Rattle.std.proofs.lemmas.List.Sorted.{IsNonDecreasingBy-from_sort}
 use Rattle.blk_capture.specs.Requests.{AreInOrder}
 use Rattle.blk_capture.specs.declared.record.Record.{Record}
 use Rattle.blk_recorders.specs.Layouts.{step_told}
 use Rattle.blk_recorders.specs.Lines.{printed_line_of}
-use Rattle.blk_recorders.specs.Words.{Word, words}
+use Rattle.blk_recorders.specs.Words.{Word, words, line_between, IsLineEnd}
+use Rattle.blk_recorders.proofs.Cutting.{lines_left, next_line, no_line}
 use Rattle.blk_recorders.specs.Steps.{Sofar, none_yet, more, is_other, settle, is_unordered, falls, keep, if_step, take_line, take_words, take, go_on, read_from, lines_of, read_printed, AreOrdered}
 use Rattle.blk_recorders.specs.declared.device.Device.{Device}
 use Rattle.blk_recorders.specs.declared.fault.LineWhy.{LineWhy}
@@ -21,28 +21,22 @@ use Rattle.blk_recorders.specs.declared.recorder.Recorder.{Recorder}
 use Rattle.blk_recorders.specs.declared.recorder.Recorder.TheVariants.{Blkparse, Ftrace, Perf, Bpftrace}
 use Rattle.blk_recorders.specs.declared.steps.TheConstants.{MAX_STEPS}
 
--- the line at a place is the next one
-next_line : (text : List ℕ) (k : ℕ) (l : List ℕ) → (k < length (lines_of text)) × (l ≡ get_or (lines_of text) k l) → drop k (lines_of text) ≡ l ∷ drop (k + 1) (lines_of text)
-next_line text k l h = drop_more (lines_of text) k l h.0 ∙ ap (λ (x : List ℕ). x ∷ drop (k + 1) (lines_of text)) (sym h.1)
-
-pub line_taken : (f : Recorder) (asked : Option Device) (n : ℕ) (s t : Sofar) (text : List ℕ) (k : ℕ) (l : List ℕ) → (k < length (lines_of text)) × (l ≡ get_or (lines_of text) k l) → take f asked s l ≡ Ok t
-    → read_from f asked n s (drop k (lines_of text)) ≡ read_from f asked (more n) t (drop (k + 1) (lines_of text))
+pub line_taken : (f : Recorder) (asked : Option Device) (n : ℕ) (s t : Sofar) (text : List ℕ) (begin end : ℕ) → IsLineEnd text begin end → take f asked s (line_between text begin end) ≡ Ok t
+    → read_from f asked n s (lines_left text begin) ≡ read_from f asked (more n) t (lines_left text (end + 1))
 unfolding read_from
-line_taken f asked n s t text k l h e = rw (next_line text k l h, e) refl
+line_taken f asked n s t text begin end h e = rw (next_line text begin end h, e) refl
 
-pub line_refused : (f : Recorder) (asked : Option Device) (n : ℕ) (s : Sofar) (w : LineWhy) (text : List ℕ) (k : ℕ) (l : List ℕ) → (k < length (lines_of text)) × (l ≡ get_or (lines_of text) k l) → take f asked s l ≡ Err w
-    → read_from f asked n s (drop k (lines_of text)) ≡ Err (record { at = n; why = w })
+pub line_refused : (f : Recorder) (asked : Option Device) (n : ℕ) (s : Sofar) (w : LineWhy) (text : List ℕ) (begin end : ℕ) → IsLineEnd text begin end → take f asked s (line_between text begin end) ≡ Err w
+    → read_from f asked n s (lines_left text begin) ≡ Err (record { at = n; why = w })
 unfolding read_from
-line_refused f asked n s w text k l h e = rw (next_line text k l h, e) refl
+line_refused f asked n s w text begin end h e = rw (next_line text begin end h, e) refl
 
-no_line : (f : Recorder) (asked : Option Device) (n : ℕ) (s : Sofar) → read_from f asked n s [] ≡ Ok s
+none_over : (f : Recorder) (asked : Option Device) (n : ℕ) (s : Sofar) → read_from f asked n s [] ≡ Ok s
 unfolding read_from
-no_line f asked n s = refl
+none_over f asked n s = refl
 
-pub lines_over : (f : Recorder) (asked : Option Device) (n : ℕ) (s : Sofar) (text : List ℕ) (k : ℕ) → k ≡ length (lines_of text) → read_from f asked n s (drop k (lines_of text)) ≡ Ok s
-lines_over f asked n s text k e =
-    let none : drop k (lines_of text) ≡ [] = grind (arith, common_steps) in
-    rw none (no_line f asked n s)
+pub lines_over : (f : Recorder) (asked : Option Device) (n : ℕ) (s : Sofar) (text : List ℕ) (begin : ℕ) → length text < begin → read_from f asked n s (lines_left text begin) ≡ Ok s
+lines_over f asked n s text begin l = rw (no_line text begin l) (none_over f asked n s)
 
 -- the records so far rise, up to the last time
 pub record Rises (s : Sofar) : Type 0 where

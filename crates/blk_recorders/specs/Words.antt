@@ -1,5 +1,5 @@
 -- The words of a line that a recorder prints.
-use Rattle.std.specs.Prelude.{ℕ, ◌+◌, ◌-◌, ◌*◌, ◌^◌, ◌==◌, ◌&&◌, ◌||◌, not, if◌then◌else◌, nat_lt, nat_le, Bool, false, List, [], ◌∷◌, length, map, take, drop, Option, None, Some, option_map}
+use Rattle.std.specs.Prelude.{ℕ, ◌≡◌, ◌≤◌, ◌<◌, true, get_or, ◌+◌, ◌-◌, ◌*◌, ◌^◌, ◌==◌, ◌&&◌, ◌||◌, not, if◌then◌else◌, nat_lt, nat_le, Bool, false, List, [], ◌∷◌, length, map, take, drop, Option, None, Some, option_map}
 use Rattle.std.specs.List.{slice_split, filter, position}
 use denote.Ref.{Bor}
 
@@ -20,6 +20,16 @@ not_empty ws = filter (λ w. not (length w == 0)) ws
 
 abbrev pub words : List ℕ → List Word
 words line = not_empty (slice_split is_blank line)
+
+-- the line of a text from a place up to its end, which is its line feed or the end of the text
+abbrev pub line_between : List ℕ → ℕ → ℕ → List ℕ
+line_between text from end = drop from (take end text)
+
+pub record IsLineEnd (text : List ℕ) (from end : ℕ) : Type 0 where
+  pub behind : from ≤ end
+  pub within : end ≤ length text
+  pub plain : (k : ℕ) → from ≤ k → k < end → (get_or text k 0 == 10) ≡ false
+  pub fed : end < length text → (get_or text end 0 == 10) ≡ true
 
 abbrev pub fields : Word → List Word
 fields row = slice_split (λ c. c == 44) row

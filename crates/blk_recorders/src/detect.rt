@@ -8,7 +8,7 @@ use crate::fault::LineWhy;
 use crate::layout::step_told;
 use crate::lines::{Line, line_of};
 use crate::recorder::Recorder;
-use crate::words::{Cuts, cut_words, word_at};
+use crate::words::{Cuts, cut_line, word_at};
 use std::alloc::{AllocError, Global};
 
 /// How many of a text's first lines are looked at.
@@ -110,12 +110,17 @@ pub fn form_of(alloc: Global, text: &[u8]) -> Result<CaptureForm, AllocError>
     ensures { IfOk result (λ f. f ≡ form_of_lines text.now) }
 {
     let mut cuts = Cuts::new(alloc);
-    for line in text.split(|byte| *byte == b'\n').take(FIRST_LINES) {
-        cut_words(line, &mut cuts.words)?;
+    let mut begin = 0;
+    for _line in 0..FIRST_LINES {
+        if begin > text.len() {
+            return Ok(CaptureForm::Records);
+        }
+        let end = cut_line(text, begin, &mut cuts.words)?;
         match form_by(&mut cuts)? {
             Some(form) => return Ok(form),
             None => {}
         }
+        begin = end + 1;
     }
     Ok(CaptureForm::Records)
 }

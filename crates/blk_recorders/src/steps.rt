@@ -2,8 +2,9 @@
 
 ghost use Rattle.std.specs.Prelude.{◌≡◌, IfOk, IfErr, OnOk, Ok, length};
 ghost use Rattle.blk_capture.specs.Requests.{AreInOrder};
+ghost use Rattle.blk_recorders.specs.Words.{word_texts};
 ghost use Rattle.blk_recorders.specs.Lines.{lined};
-ghost use Rattle.blk_recorders.specs.Steps.{none_yet, more, is_other, settle, is_unordered, take, take_line, take_step, AreByTime, AreOrdered, AreSteps, IsLineFault};
+ghost use Rattle.blk_recorders.specs.Steps.{none_yet, more, is_other, settle, is_unordered, take_words, take_line, take_step, AreByTime, AreOrdered, AreSteps, IsLineFault};
 ghost use Rattle.blk_recorders.specs.Inside.Reading.{sofar, Takes, HaveSameCounts};
 
 use crate::device::Device;
@@ -11,7 +12,7 @@ use crate::fault::{LineFault, LineWhy};
 use crate::layout::{Step, step_told};
 use crate::lines::{Line, line_of};
 use crate::recorder::Recorder;
-use crate::words::{Cuts, cut_words};
+use crate::words::{Cuts, cut_line};
 use blk_capture::Record;
 use std::alloc::{AllocError, Global};
 
@@ -130,19 +131,15 @@ impl Reading {
         Ok(())
     }
 
-    /// Takes a line in, which is cut on the way.
-    fn take<'a>(
+    /// Takes in the line that was cut.
+    fn take(
         &mut self,
-        cuts: &mut Cuts<'a>,
+        cuts: &mut Cuts<'_>,
         recorder: Recorder,
         asked: Option<Device>,
-        line: &'a [u8],
     ) -> Result<(), LineWhy>
-        ensures { Takes (sofar self.new) result (take recorder asked (sofar self.old) line.now) }
+        ensures { Takes (sofar self.new) result (take_words recorder asked (sofar self.old) (word_texts cuts.old.words.items)) }
     {
-        let Ok(()) = cut_words(line, &mut cuts.words) else {
-            return Err(LineWhy::Memory);
-        };
         if cuts.words.is_empty() {
             return Ok(());
         }
@@ -221,12 +218,20 @@ pub fn read_lines(
     let mut reading = Reading::new(alloc);
     let mut cuts = Cuts::new(alloc);
     let mut number = 1;
-    for line in text.split(|byte| *byte == b'\n') {
-        match reading.take(&mut cuts, recorder, asked, line) {
+    let mut begin = 0;
+    while begin <= text.len() {
+        let Ok(end) = cut_line(text, begin, &mut cuts.words) else {
+            return Err(LineFault {
+                at: number,
+                why: LineWhy::Memory,
+            });
+        };
+        match reading.take(&mut cuts, recorder, asked) {
             Ok(()) => {}
             Err(why) => return Err(LineFault { at: number, why }),
         }
         number = more(number);
+        begin = end + 1;
     }
     match in_order(recorder, reading.steps) {
         Ok(steps) => Ok(steps),

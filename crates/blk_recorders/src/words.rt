@@ -1,8 +1,8 @@
 //! The words of a line, and what a word may be: a number, the nanoseconds of a second.
 
-ghost use Rattle.std.specs.Prelude.{◌≡◌, ◌==◌, ◌<◌, ◌^◌, ◌∷◌, ◌++◌, OnOk, IfSome, get_or, length, []};
+ghost use Rattle.std.specs.Prelude.{◌≡◌, ◌==◌, ◌≤◌, ◌<◌, ◌^◌, ◌∷◌, ◌++◌, IfOk, OnOk, IfSome, get_or, length, []};
 ghost use Rattle.std.specs.List.{position};
-ghost use Rattle.blk_recorders.specs.Words.{is_blank, words, fields, not_empty, number, nanoseconds, before_byte, behind_byte, behind_last, begins_with, word_texts};
+ghost use Rattle.blk_recorders.specs.Words.{is_blank, words, line_between, IsLineEnd, fields, not_empty, number, nanoseconds, before_byte, behind_byte, behind_last, begins_with, word_texts};
 
 use std::alloc::{AllocError, Global};
 
@@ -32,19 +32,31 @@ impl<'a> Cuts<'a> {
     }
 }
 
-/// Puts the words of a line, what stands between blanks, in place of those in a list.
-pub(crate) fn cut_words<'a>(line: &'a [u8], cut: &mut Vec<&'a [u8]>) -> Result<(), AllocError>
-    ensures { OnOk result (word_texts cut.new.items ≡ words line.now) }
+/// Puts the words of the line of a text that begins at a place, what stands between blanks, in place of those in a list. Answers where the line
+/// ends: at its line feed, or else at the end of the text.
+pub(crate) fn cut_line<'a>(
+    text: &'a [u8],
+    from: usize,
+    cut: &mut Vec<&'a [u8]>,
+) -> Result<usize, AllocError>
+    requires { from ≤ length text.now }
+    ensures end { IfOk result (IsLineEnd text.now from) }
+    ensures cut { IfOk result (λ end. word_texts cut.new.items ≡ words (line_between text.now from end)) }
 {
     cut.clear();
-    let mut begin = 0;
-    for place in 0..line.len() {
-        if is_blank(line[place]) {
-            push_word(&line[begin..place], cut)?;
+    let mut begin = from;
+    for place in from..text.len() {
+        let byte = text[place];
+        if is_blank(byte) {
+            push_word(&text[begin..place], cut)?;
             begin = place + 1;
+        } else if byte == b'\n' {
+            push_word(&text[begin..place], cut)?;
+            return Ok(place);
         }
     }
-    push_word(&line[begin..], cut)
+    push_word(&text[begin..], cut)?;
+    Ok(text.len())
 }
 
 /// Adds a word, unless it is empty.

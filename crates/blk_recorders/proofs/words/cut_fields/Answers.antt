@@ -1,4 +1,4 @@
-use Rattle.std.proofs.Common.{◌≡◌, ◌==◌, ℕ, ◌≤◌, ◌<◌, ◌+◌, ◌-◌, true, false, take, drop, get_or, length, List, [], ◌∷◌, ◌++◌, refl, rules, arith}
+use Rattle.std.proofs.Common.{◌≡◌, ◌==◌, ℕ, ◌≤◌, ◌<◌, ◌-◌, true, false, take, drop, get_or, length, [], ◌∷◌, ◌++◌, refl, rules, arith}
 use Rattle.std.proofs.lemmas.Grind.{common_steps}
 use Rattle.blk_recorders.specs.Words.{word_texts}
 use Rattle.blk_recorders.proofs.Cutting.{field_taken, field_last, one_more}
