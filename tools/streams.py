@@ -68,6 +68,9 @@ GOOD = [
     "explain_script",
 ]
 
+# Cases of what each recorder prints, which write and have a line to say at status 0.
+PRINTED = ["import_blkparse", "import_blkparse_rows", "import_ftrace", "import_ftrace_classic", "import_perf", "import_bpftrace"]
+
 # Cases that write to standard output and read nothing.
 UNREAD = ["load_of_four_bios", "words_version"]
 
@@ -176,7 +179,7 @@ class Trials:
 
     def unread(self, make):
         """Each subcommand over an input that can't be read, which `make` opens of a text."""
-        for name, args, text, _ in self.each(GOOD):
+        for name, args, text, _ in self.each([*GOOD, *PRINTED]):
             with contextlib.ExitStack() as stack:
                 self.see(name, run(args, make(stack, text)), Run(3, b"", READ))
         for name, args, _, wanted in self.each(UNREAD):
@@ -185,13 +188,13 @@ class Trials:
 
     def read(self, make):
         """Each subcommand over an input that can be read."""
-        for name, args, text, wanted in self.each([*GOOD, *REFUSED]):
+        for name, args, text, wanted in self.each([*GOOD, *PRINTED, *REFUSED]):
             with contextlib.ExitStack() as stack:
                 self.see(name, run(args, make(stack, text)), wanted)
 
     def unwritten(self, make, **how):
         """Each subcommand over an output that can't be written, which `make` opens."""
-        for name, args, text, _ in self.each([*GOOD, *UNREAD]):
+        for name, args, text, _ in self.each([*GOOD, *PRINTED, *UNREAD]):
             with contextlib.ExitStack() as stack:
                 self.see(name, run(args, piped(stack, text), make(stack), **how), Run(3, b"", WRITE))
 
@@ -483,7 +486,7 @@ def output_of_a_terminal_that_was_left(trials):
 
 @trial
 def output_of_a_pipe_that_is_read_in_the_end(trials):
-    for name, args, text, wanted in trials.each([*GOOD, *UNREAD]):
+    for name, args, text, wanted in trials.each([*GOOD, *PRINTED, *UNREAD]):
         with contextlib.ExitStack() as stack:
             reader, writer = os.pipe()
             closing(stack, reader, writer)

@@ -1,19 +1,59 @@
 -- How a run ends that has an answer, and what is answered where words ask for texts alone.
-use Rattle.std.proofs.Common.{◌≡◌, ◌∙◌, ℕ, Bool, true, false, List, Option, sym, inl, inr}
+use Rattle.std.proofs.Common.{◌≡◌, ◌∙◌, ℕ, Bool, true, false, List, Option, ap, sym, inl, inr}
 use Rattle.drafts.specs.Outputs.{Stream}
 use Rattle.blk_lists.specs.Sources.{Row}
+use Rattle.blk_capture.specs.declared.record.Record.{Record}
+use Rattle.blk_words.specs.declared.inputs.Running.TheVariants as running
+use Rattle.blk_words.specs.declared.inputs.TextJob.TheVariants as text_job
+use Rattle.blk_words.specs.declared.words.Import.{Import}
+use Rattle.blk_words.specs.declared.words.Written.{Written}
+use Rattle.blk_words.specs.declared.words.Written.TheVariants as written
 use Rattle.blk_words.specs.declared.words.Job.{Job}
 use Rattle.blk_words.specs.declared.words.Job.TheVariants as job
 use Rattle.blk_cli.specs.Said.{Said, IsAlone}
-use Rattle.blk_cli.specs.Gives.{GivesAnswer, AnswersText}
+use Rattle.blk_cli.specs.Gives.{GivesAnswer, AnswersGood, AnswersText}
 use Rattle.blk_cli.specs.declared.Ended.{Ended}
-use Rattle.blk_cli.specs.Ends.{Answers, AskForTexts, EndsPut, status_with}
+use Rattle.blk_cli.specs.Importing.{IsWrittenAs}
+use Rattle.blk_cli.specs.Ends.{Answers, AskForGood, AskForTexts, EndsPut, status_with}
+
+-- what is written of a capture is good
+written_good : (w : Written) (i : Import) (records : List Record) (s : Said) → IsWrittenAs w i records s → s.good ≡ true
+written_good written.Schedule i records s h = h.good
+written_good written.Table i records s h = h.good
+written_good written.Summary i records s h = h.good
+written_good (written.Script round depth) i records s h = h.alone.1
+
+-- a job whose answer is good
+good : (words : List (List ℕ)) (j : Job) (input : Option (List Row)) (bytes : Option (List ℕ)) (s : Said) → AnswersGood j → GivesAnswer words j input bytes s → s.good ≡ true
+good words job.Version input bytes s answers g = g.1.1
+good words (job.OfText (text_job.OfScript (running.One x))) input bytes s answers g = g.1.2.1
+good words (job.OfText (text_job.OfScript (running.Each x y))) input bytes s answers g = g.1.2.1
+good words (job.OfText (text_job.OfScript (running.Drawn x))) input bytes s answers g = g.1.2.1
+good words (job.OfText (text_job.OfTrace x)) input bytes s answers g = g.1.1
+good words (job.OfText (text_job.OfList x)) input bytes s answers g = g.1.1
+good words (job.OfText (text_job.Check x)) input bytes s answers g = g.1.1
+good words (job.OfText (text_job.Judge x)) input bytes s answers g = g.1.2.1
+good words (job.Tune x) input bytes s answers g = g.1.2.1
+good words (job.Import x) input bytes s answers g =
+    let base : Said = g.of.base in ap (λ (t : Said). t.good) g.of.said.2 ∙ written_good x.written x g.of.read.records.items base g.of.imported
+good words (job.Refuse x) input bytes s answers g = absurd g
+good words job.Explain input bytes s answers g = absurd answers
+good words (job.Load x y z) input bytes s answers g = g.1.1
+
+pub good_by : (words : List (List ℕ)) (input : Option (List Row)) (bytes : Option (List ℕ)) (s : Said) → AskForGood words → Answers words input bytes s → s.good ≡ true
+good_by words input bytes s ask a = good words a.0 input bytes s (ask a.0 a.1) a.2
 
 -- a job that answers a text alone
 alone : (words : List (List ℕ)) (j : Job) (input : Option (List Row)) (bytes : Option (List ℕ)) (s : Said) → AnswersText j → GivesAnswer words j input bytes s → IsAlone s
 alone words job.Version input bytes s answers g = g.1
-alone words (job.OfText x) input bytes s answers g = g.1
-alone words (job.Tune x) input bytes s answers g = g.1
+alone words (job.OfText (text_job.OfScript (running.One x))) input bytes s answers g = g.1.2
+alone words (job.OfText (text_job.OfScript (running.Each x y))) input bytes s answers g = g.1.2
+alone words (job.OfText (text_job.OfScript (running.Drawn x))) input bytes s answers g = absurd answers
+alone words (job.OfText (text_job.OfTrace x)) input bytes s answers g = g.1
+alone words (job.OfText (text_job.OfList x)) input bytes s answers g = g.1
+alone words (job.OfText (text_job.Check x)) input bytes s answers g = g.1
+alone words (job.OfText (text_job.Judge x)) input bytes s answers g = absurd answers
+alone words (job.Tune x) input bytes s answers g = absurd answers
 alone words (job.Import x) input bytes s answers g = absurd answers
 alone words (job.Refuse x) input bytes s answers g = absurd g
 alone words job.Explain input bytes s answers g = absurd answers
@@ -27,8 +67,8 @@ not_one true e f = cc f
 not_one false e f = cc e
 
 -- where it was put, the status is not 1
-pub put_not_one : (s : Said) (old new faults_old faults_new : Stream) (ended : Ended) → IsAlone s → EndsPut s old new faults_old faults_new ended → ended.status ≡ 1 → ⊥
+pub put_not_one : (s : Said) (old new faults_old faults_new : Stream) (ended : Ended) → s.good ≡ true → EndsPut s old new faults_old faults_new ended → ended.status ≡ 1 → ⊥
 put_not_one s old new faults_old faults_new ended is put e = elim put [
-  | inl whole ↦ not_one s.good is.1 (sym whole.1 ∙ e)
+  | inl whole ↦ not_one s.good is (sym whole.1 ∙ e)
   | inr cut ↦ (let f : 3 ≡ 1 = sym cut.1.0 ∙ e in cc f)
 ]

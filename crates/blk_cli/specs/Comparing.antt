@@ -18,7 +18,9 @@ use Rattle.blk_settings.specs.declared.sched.Sched.{Sched}
 use Rattle.blk_settings.specs.Scheds.{name_of, in_turn}
 use Rattle.blk_cli.specs.declared.failure.Failure.{Failure}
 use Rattle.blk_cli.specs.declared.failure.Failure.TheVariants as failure
+use Rattle.blk_cli.specs.Said.{Said, IsAlone}
 use Rattle.blk_cli.specs.Scripts.{IsSimText, FailsToRun}
+use Rattle.blk_cli.specs.Unflushed.{TellsPlugs}
 
 -- the report of the trace of the script under a scheduler
 pub record IsReportUnder (s : Sched) (script : Scripted) (report : Report) : Type 0 where
@@ -68,6 +70,11 @@ abbrev pub IsRunText : Running → Scripted → List ℕ → Type 0
 IsRunText (running.One s) script text = IsSimText s script text
 IsRunText (running.Each l f) script text = IsComparedText l f script text
 IsRunText (running.Drawn l) script text = ArePicturesText l script text
+
+-- what is said beside it: of what is drawn, bios that stay in their plugs
+abbrev pub TellsRun : Running → Scripted → Said → Type 0
+TellsRun (running.Drawn l) script s = TellsPlugs script s
+TellsRun r script s = IsAlone s
 
 abbrev pub HasNoRunText : Running → Scripted → Failure → Type 0
 HasNoRunText (running.One s) script f = FailsToRun s script f

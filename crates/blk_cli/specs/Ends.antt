@@ -15,15 +15,23 @@ use Rattle.blk_cli.specs.Lines.{failure_line, status_of, write_fault, excluded}
 use Rattle.blk_words.specs.declared.words.Import.{Import}
 use Rattle.blk_cli.specs.Importing.{IsUnimportedFrom}
 use Rattle.blk_cli.specs.Said.{Said}
-use Rattle.blk_cli.specs.Gives.{GivesAnswer, HasNoAnswer, AnswersText}
+use Rattle.blk_cli.specs.Gives.{GivesAnswer, HasNoAnswer, AnswersText, AnswersGood, ReadsNothing}
 
 -- the words ask for a job that answers this
 abbrev pub Answers : List (List ℕ) → Option (List Row) → Option (List ℕ) → Said → Type 0
 Answers words input bytes s = (j : Job) × Asks words j × GivesAnswer words j input bytes s
 
--- they ask for nothing but texts alone
+-- they ask for nothing but what is good
+abbrev pub AskForGood : List (List ℕ) → Type 0
+AskForGood words = (j : Job) → Asks words j → AnswersGood j
+
+-- and for nothing but texts alone
 abbrev pub AskForTexts : List (List ℕ) → Type 0
 AskForTexts words = (j : Job) → Asks words j → AnswersText j
+
+-- they ask for nothing that needs the input: for jobs that read none of it, or for no job at all
+abbrev pub AskForNoInput : List (List ℕ) → Type 0
+AskForNoInput words = (j : Job) → Asks words j → ReadsNothing j
 
 -- what is said of a failure: itself, or that memory ran out; or, of a title that is another, more than that
 abbrev pub IsFailureOf : Failure → NoText → Type 0

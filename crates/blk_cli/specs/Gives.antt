@@ -7,6 +7,7 @@ use Rattle.blk_lists.specs.Schedule.{SpellsSchedule, ScheduleFault}
 use Rattle.blk_text.specs.Script.{SpellsScript, ScriptFault}
 use Rattle.blk_text.specs.TraceForm.{SpellsTrace, TraceTextFault}
 use Rattle.blk_words.specs.CommandLine.{program_version}
+use Rattle.blk_words.specs.declared.inputs.Running.TheVariants as running
 use Rattle.blk_words.specs.declared.inputs.TextJob.{TextJob}
 use Rattle.blk_words.specs.declared.inputs.TextJob.TheVariants as text_job
 use Rattle.blk_words.specs.declared.words.Job.{Job}
@@ -15,20 +16,36 @@ use Rattle.blk_cli.specs.declared.failure.Failure.{Failure}
 use Rattle.blk_cli.specs.declared.failure.Failure.TheVariants as failure
 use Rattle.blk_cli.specs.Said.{Said, IsAlone}
 use Rattle.blk_cli.specs.Inputs.{Of, FailsOver}
-use Rattle.blk_cli.specs.Comparing.{IsRunText, HasNoRunText}
+use Rattle.blk_cli.specs.Comparing.{IsRunText, HasNoRunText, TellsRun}
 use Rattle.blk_cli.specs.OfTraces.{IsTellingText, IsUntold}
 use Rattle.blk_cli.specs.Certificates.{SpellsList, IsSolved, IsUnsolved, IsCheckText, IsBad}
-use Rattle.blk_cli.specs.Judging.{IsJudgedText, IsUnjudged}
+use Rattle.blk_cli.specs.Judging.{IsJudgedText, IsUnjudged, TellsEmpty}
 use Rattle.blk_cli.specs.Importing.{IsImportedFrom, IsUnimportedFrom}
 use Rattle.blk_cli.specs.Explaining.{IsTextExplained, IsUnexplained}
 use Rattle.blk_cli.specs.Tuning.{IsTrial, FailsToTry}
 use Rattle.blk_cli.specs.Loading.{IsLoadOf, IsUnloaded}
+use Rattle.blk_cli.specs.Unflushed.{TellsPlugs}
 
 -- a job that answers a text alone
 abbrev pub AnswersText : Job → Type 0
+AnswersText (job.OfText (text_job.OfScript (running.Drawn l))) = ⊥
+AnswersText (job.OfText (text_job.Judge e)) = ⊥
+AnswersText (job.Tune t) = ⊥
 AnswersText (job.Import i) = ⊥
 AnswersText job.Explain = ⊥
 AnswersText j = ⊤
+
+-- a job whose answer is good, if it has one
+abbrev pub AnswersGood : Job → Type 0
+AnswersGood job.Explain = ⊥
+AnswersGood j = ⊤
+
+-- a job that asks its input for nothing
+abbrev pub ReadsNothing : Job → Type 0
+ReadsNothing job.Version = ⊤
+ReadsNothing (job.Refuse r) = ⊤
+ReadsNothing (job.Load sched l w) = ⊤
+ReadsNothing j = ⊥
 
 -- the line with the program's name and version
 abbrev pub version_line : List ℕ
@@ -43,6 +60,12 @@ GivesText (text_job.OfList s) input text = Of SpellsList (IsSolved s) input text
 GivesText (text_job.Check o) input text = Of SpellsProof (IsCheckText o) input text
 GivesText (text_job.Judge e) input text = Of SpellsSchedule (IsJudgedText e) input text
 
+-- what is said beside it, of the same records
+abbrev pub TellsOf : TextJob → Option (List Row) → Said → Type 0
+TellsOf (text_job.OfScript r) input s = Of SpellsScript (TellsRun r) input s
+TellsOf (text_job.Judge e) input s = Of SpellsSchedule TellsEmpty input s
+TellsOf j input s = IsAlone s
+
 abbrev pub HasNoText : TextJob → Option (List Row) → Bool → Failure → Type 0
 HasNoText (text_job.OfScript r) input failed f = FailsOver SpellsScript ScriptFault (HasNoRunText r) input failed f
 HasNoText (text_job.OfTrace t) input failed f = FailsOver SpellsTrace TraceTextFault (IsUntold t) input failed f
@@ -53,8 +76,8 @@ HasNoText (text_job.Judge e) input failed f = FailsOver SpellsSchedule ScheduleF
 -- the answer of a job to its words and its input: the records and the bytes, where they are known; a refusal has none
 abbrev pub GivesAnswer : List (List ℕ) → Job → Option (List Row) → Option (List ℕ) → Said → Type 0
 GivesAnswer words job.Version input bytes s = (s.text ≡ version_line) × IsAlone s
-GivesAnswer words (job.OfText j) input bytes s = GivesText j input s.text × IsAlone s
-GivesAnswer words (job.Tune t) input bytes s = Of SpellsScript (IsTrial words t) input s.text × IsAlone s
+GivesAnswer words (job.OfText j) input bytes s = GivesText j input s.text × TellsOf j input s
+GivesAnswer words (job.Tune t) input bytes s = Of SpellsScript (IsTrial words t) input s.text × Of SpellsScript TellsPlugs input s
 GivesAnswer words (job.Import i) input bytes s = IsImportedFrom i bytes s
 GivesAnswer words (job.Refuse r) input bytes s = ⊥
 GivesAnswer words job.Explain input bytes s = IsTextExplained bytes s

@@ -1,5 +1,5 @@
 -- What is said about a schedule, and why nothing is.
-use Rattle.std.specs.Prelude.{◌≡◌, ⊤, ℕ, Bool, true, false, List, Option}
+use Rattle.std.specs.Prelude.{◌≡◌, ◌==◌, ⊤, ℕ, Bool, true, false, if◌then◌else◌, List, length, Option, None, Some, codes}
 use Rattle.edd_commands.specs.Capacity.{fixed}
 use Rattle.edd_figures.specs.declared.lateness.Figures.{Figures}
 use Rattle.edd_figures.specs.declared.missing.Counts.{Counts}
@@ -9,6 +9,8 @@ use Rattle.blk_judge.specs.Judged.{IsRefusedSchedule, IsJudgement}
 use Rattle.blk_judge.specs.Late.{AreMissed}
 use Rattle.blk_judge.specs.Text.{judged_text, miss_records}
 use Rattle.blk_lists.specs.Schedule.{ScheduleView}
+use Rattle.blk_cli.specs.Lines.{line}
+use Rattle.blk_cli.specs.Said.{Said}
 use Rattle.blk_cli.specs.declared.failure.Failure.{Failure}
 use Rattle.blk_cli.specs.declared.failure.Failure.TheVariants as failure
 
@@ -30,6 +32,13 @@ pub record IsEachText (s : ScheduleView) (text : List ℕ) : Type 0 where
 abbrev pub IsJudgedText : Bool → ScheduleView → List ℕ → Type 0
 IsJudgedText false s text = IsWholeText s text
 IsJudgedText true s text = IsEachText s text
+
+-- a schedule without commands is told beside that
+abbrev pub empty_note : ScheduleView → Option (List ℕ)
+empty_note s = if length s.commands == 0 then Some (line (codes "the schedule has no commands")) else None
+
+abbrev pub TellsEmpty : ScheduleView → Said → Type 0
+TellsEmpty s said = (said.note ≡ empty_note s) × (said.good ≡ true)
 
 -- the schedule isn't legal, or memory ran out
 abbrev pub IsUnjudged : ScheduleView → Failure → Type 0

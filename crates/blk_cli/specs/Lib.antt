@@ -1,6 +1,7 @@
 pub mod Said
 pub mod Inputs
 pub mod Scripts
+pub mod Unflushed
 pub mod Comparing
 pub mod OfTraces
 pub mod Certificates

@@ -1,17 +1,22 @@
 //! The job over a schedule: what is said about it, as a whole or of each of its late commands.
 
-ghost use Rattle.std.specs.Prelude.{◌≡◌, IfOk, IfErr};
+ghost use Rattle.std.specs.Prelude.{◌≡◌, IfOk, IfErr, option_map};
 ghost use Rattle.edd_commands.specs.Capacity.{fixed};
 ghost use Rattle.blk_lists.specs.Schedule.{IsScheduleView, viewed, SpellsSchedule, ScheduleFault};
 ghost use Rattle.blk_cli.specs.Inputs.{Of, FailsOver};
-ghost use Rattle.blk_cli.specs.Judging.{IsWholeText, IsEachText, IsJudgedText, IsUnjudged};
+ghost use Rattle.blk_cli.specs.Judging.{IsWholeText, IsEachText, IsJudgedText, IsUnjudged, empty_note, TellsEmpty};
+ghost use Rattle.blk_cli.specs.Said.{said_of};
 
+use crate::Answered;
 use crate::failure::Failure;
 use blk_judge::{judge, judged_lines, late_of, miss_lines};
 use blk_lists::{Records, Schedule, read_schedule};
 use edd_commands::Capacity;
-use std::alloc::Global;
+use std::alloc::{AllocError, Global};
 use std::io::Read;
+
+/// The line on a schedule without commands.
+const EMPTY: &[u8] = b"blk: the schedule has no commands\n";
 
 /// The text about a schedule as a whole.
 fn whole(
@@ -75,19 +80,53 @@ fn judged(alloc: Global, each: bool, schedule: &Schedule) -> Result<Vec<u8>, Fai
     }
 }
 
+/// The line on a schedule without commands, of which all numbers are 0.
+fn empty_note(alloc: Global, schedule: &Schedule) -> Result<Option<Vec<u8>>, AllocError>
+    ensures { IfOk result (λ note. option_map (λ line. line.items) note ≡ empty_note (viewed schedule.now)) }
+{
+    if schedule.commands.is_empty() {
+        let line = EMPTY.to_vec(alloc)?;
+        Ok(Some(line))
+    } else {
+        Ok(None)
+    }
+}
+
+/// What is answered to a schedule.
+fn judge_answer(alloc: Global, each: bool, schedule: &Schedule) -> Result<Answered, Failure>
+    requires { IsScheduleView (viewed schedule.now) }
+    ensures text { IfOk result (λ a. IsJudgedText each (viewed schedule.now) (said_of a).text) }
+    ensures beside { IfOk result (λ a. TellsEmpty (viewed schedule.now) (said_of a)) }
+    ensures fails { IfErr result (IsUnjudged (viewed schedule.now)) }
+{
+    let text = match judged(alloc, each, schedule) {
+        Ok(text) => text,
+        Err(failure) => return Err(failure),
+    };
+    match empty_note(alloc, schedule) {
+        Ok(note) => Ok(Answered {
+            text,
+            note,
+            good: true,
+        }),
+        Err(_) => Err(Failure::Memory),
+    }
+}
+
 /// Reads a schedule, and gives what is said about it, as a whole or of each of its late commands.
 pub fn over_schedule<R: Read + Drop>(
     alloc: Global,
     each: bool,
     records: &mut Records<R>,
-) -> Result<Vec<u8>, Failure>
+) -> Result<Answered, Failure>
     requires { records.old.at ≡ 0 }
-    ensures text { IfOk result (λ text. Of SpellsSchedule (IsJudgedText each) records.old.left text.items) }
+    ensures text { IfOk result (λ a. Of SpellsSchedule (IsJudgedText each) records.old.left (said_of a).text) }
+    ensures beside { IfOk result (λ a. Of SpellsSchedule TellsEmpty records.old.left (said_of a)) }
     ensures fails { IfErr result (FailsOver SpellsSchedule ScheduleFault IsUnjudged records.old.left records.new.failed) }
 {
     let schedule = match read_schedule(alloc, records) {
         Ok(schedule) => schedule,
         Err(fault) => return Err(Failure::Text(fault)),
     };
-    judged(alloc, each, &schedule)
+    judge_answer(alloc, each, &schedule)
 }

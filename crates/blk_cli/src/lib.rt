@@ -4,8 +4,8 @@
 ghost use Rattle.std.specs.Prelude.{◌≡◌, ◌≤◌, IfOk, IfErr, map, string_bytes};
 ghost use Rattle.drafts.specs.Outputs.{stream_of};
 ghost use Rattle.blk_cli.specs.Said.{only, said_of, IsAlone};
-ghost use Rattle.blk_cli.specs.Gives.{GivesText, HasNoText, GivesAnswer, HasNoAnswer, version_line};
-ghost use Rattle.blk_cli.specs.Ends.{Answers, AskForTexts, IsWithout, IsWithoutAnswer, IsFailureOf, title_line, status_with, SaysBeside, EndsSaying, EndsWithout, RunEndsOn};
+ghost use Rattle.blk_cli.specs.Gives.{GivesText, TellsOf, HasNoText, GivesAnswer, HasNoAnswer, ReadsNothing, version_line};
+ghost use Rattle.blk_cli.specs.Ends.{Answers, AskForGood, AskForNoInput, AskForTexts, IsWithout, IsWithoutAnswer, IsFailureOf, title_line, status_with, SaysBeside, EndsSaying, EndsWithout, RunEndsOn};
 ghost use Rattle.blk_cli.specs.Inside.Ends.{EndsPutOn};
 
 mod checking;
@@ -22,6 +22,7 @@ mod scripts;
 mod titles;
 mod traces;
 mod tuning;
+mod unflushed;
 
 use crate::checking::over_proof;
 use crate::explaining::over_bytes;
@@ -197,21 +198,31 @@ fn version_text(alloc: Global) -> Result<Vec<u8>, Failure>
     }
 }
 
-/// The text of a job over a text. Each kind of such a job is a row here: what it reads.
+/// What a job over a text answers. Each kind of such a job is a row here: what it reads.
 fn work<R: Read + Drop>(
     alloc: Global,
     job: TextJob,
     records: &mut Records<R>,
-) -> Result<Vec<u8>, Failure>
+) -> Result<Answered, Failure>
     requires { records.old.at ≡ 0 }
-    ensures text { IfOk result (λ text. GivesText job records.old.left text.items) }
+    ensures text { IfOk result (λ a. GivesText job records.old.left (said_of a).text) }
+    ensures beside { IfOk result (λ a. TellsOf job records.old.left (said_of a)) }
     ensures fails { IfErr result (HasNoText job records.old.left records.new.failed) }
 {
     match job {
         TextJob::OfScript(running) => over_script(alloc, running, records),
-        TextJob::OfTrace(telling) => over_trace(alloc, telling, records),
-        TextJob::OfList(solving) => over_list(alloc, solving, records),
-        TextJob::Check(form) => over_proof(alloc, form, records),
+        TextJob::OfTrace(telling) => match over_trace(alloc, telling, records) {
+            Ok(text) => Ok(Answered::alone(text)),
+            Err(failure) => Err(failure),
+        },
+        TextJob::OfList(solving) => match over_list(alloc, solving, records) {
+            Ok(text) => Ok(Answered::alone(text)),
+            Err(failure) => Err(failure),
+        },
+        TextJob::Check(form) => match over_proof(alloc, form, records) {
+            Ok(text) => Ok(Answered::alone(text)),
+            Err(failure) => Err(failure),
+        },
         TextJob::Judge { each } => over_schedule(alloc, each, records),
     }
 }
@@ -248,6 +259,7 @@ fn answer_of<L: Loads, T: Threads + Wait + Sync, R: Read + Drop, P: Progress>(
     requires { records.old.at ≡ 0 }
     ensures answer { IfOk result (λ a. GivesAnswer (map string_bytes words.now) job records.old.left records.old.bytes (said_of a)) }
     ensures none { IfErr result (IsWithoutAnswer (map string_bytes words.now) job records.old.left records.old.bytes records.new.failed) }
+    ensures unread { ReadsNothing job → records.new ≡ records.old }
 {
     match job {
         Job::Version => match version_text(alloc) {
@@ -255,11 +267,11 @@ fn answer_of<L: Loads, T: Threads + Wait + Sync, R: Read + Drop, P: Progress>(
             Err(failure) => Err(NoText::Failure(failure)),
         },
         Job::OfText(of_text) => match work(alloc, of_text, records) {
-            Ok(text) => Ok(Answered::alone(text)),
+            Ok(answer) => Ok(answer),
             Err(failure) => Err(without(alloc, job, failure, records.row())),
         },
         Job::Tune(tuning) => match over_trial(rt, alloc, words, tuning, records, progress) {
-            Ok(text) => Ok(Answered::alone(text)),
+            Ok(answer) => Ok(answer),
             Err(failure) => Err(without(alloc, job, failure, records.row())),
         },
         Job::Import(import) => over_capture(alloc, import, records),
@@ -291,6 +303,7 @@ pub fn answer<L: Loads, T: Threads + Wait + Sync, R: Read + Drop, P: Progress>(
     requires { records.old.at ≡ 0 }
     ensures answers { IfOk result (λ answer. Answers (map string_bytes words.now) records.old.left records.old.bytes (said_of answer)) }
     ensures without { IfErr result (IsWithout (map string_bytes words.now) records.old.left records.old.bytes records.new.failed) }
+    ensures unread { AskForNoInput (map string_bytes words.now) → records.new ≡ records.old }
 {
     match choose(alloc, words) {
         Ok(job) => match answer_of(loads, rt, alloc, words, job, records, progress) {
@@ -334,10 +347,12 @@ pub fn run<L: Loads, T: Threads + Wait + Sync, R: Read + Drop, W: Write, F: Writ
 ) -> Ended
     requires { records.old.at ≡ 0 }
     ensures ended { RunEndsOn W.contents F.contents words.now records.old records.new out.old out.new faults.old faults.new result }
+    // nothing is read where the words ask for nothing of the input: for the version or a load, for what is refused, or for no job
+    ensures unread { AskForNoInput (map string_bytes words.now) → records.new ≡ records.old }
     // nothing is written at status 2
     ensures unwritten { result.status ≡ 2 → out.new ≡ out.old }
-    // where the words ask for a text alone: nothing is written at status 1 either, and nothing is said at status 0
-    ensures kept { AskForTexts (map string_bytes words.now) → result.status ≡ 1 → out.new ≡ out.old }
+    // nor at status 1, where the words ask for what is good if it is answered; where they ask for a text alone, nothing is said at status 0
+    ensures kept { AskForGood (map string_bytes words.now) → result.status ≡ 1 → out.new ≡ out.old }
     ensures quiet { AskForTexts (map string_bytes words.now) → result.status ≡ 0 → faults.new ≡ faults.old }
     ensures range { result.status ≤ 3 }
 {

@@ -4,11 +4,14 @@ ghost use Rattle.std.specs.Prelude.{◌≡◌, IfOk, IfErr};
 ghost use Rattle.blk_text.specs.Script.{IsScript, SpellsScript, ScriptFault, scripted};
 ghost use Rattle.blk_cli.specs.Inputs.{Of, FailsOver};
 ghost use Rattle.blk_cli.specs.Scripts.{IsSimText, FailsToRun};
-ghost use Rattle.blk_cli.specs.Comparing.{IsRunText, HasNoRunText};
+ghost use Rattle.blk_cli.specs.Comparing.{IsRunText, HasNoRunText, TellsRun};
+ghost use Rattle.blk_cli.specs.Said.{said_of};
 
+use crate::Answered;
 use crate::comparing::table_of;
 use crate::failure::Failure;
 use crate::picturing::pictures_of;
+use crate::unflushed::with_plugs;
 use blk_lists::Records;
 use blk_runs::traced;
 use blk_settings::Sched;
@@ -46,19 +49,55 @@ fn run_text(alloc: Global, running: Running, script: &Script) -> Result<Vec<u8>,
     }
 }
 
+/// What is said beside the text that was made of a script.
+fn beside(
+    alloc: Global,
+    running: Running,
+    text: Vec<u8>,
+    script: &Script,
+) -> Result<Answered, Failure>
+    requires { IsScript (scripted script.now) }
+    ensures text { IfOk result (λ a. (said_of a).text ≡ text.items) }
+    ensures beside { IfOk result (λ a. TellsRun running (scripted script.now) (said_of a)) }
+    ensures memory { IfErr result (λ f. f ≡ Failure.Memory) }
+{
+    match running {
+        Running::One(_) | Running::Each(_, _) => Ok(Answered::alone(text)),
+        Running::Drawn(_) => with_plugs(alloc, text, script),
+    }
+}
+
+/// What is answered to a script.
+fn run_answer(alloc: Global, running: Running, script: &Script) -> Result<Answered, Failure>
+    requires { IsScript (scripted script.now) }
+    ensures text { IfOk result (λ a. IsRunText running (scripted script.now) (said_of a).text) }
+    ensures beside { IfOk result (λ a. TellsRun running (scripted script.now) (said_of a)) }
+    ensures none { IfErr result (HasNoRunText running (scripted script.now)) }
+{
+    let text = match run_text(alloc, running, script) {
+        Ok(text) => text,
+        Err(failure) => return Err(failure),
+    };
+    match beside(alloc, running, text, script) {
+        Ok(answer) => Ok(answer),
+        Err(failure) => Err(failure),
+    }
+}
+
 /// Reads a script, and runs it.
 pub fn over_script<R: Read + Drop>(
     alloc: Global,
     running: Running,
     records: &mut Records<R>,
-) -> Result<Vec<u8>, Failure>
+) -> Result<Answered, Failure>
     requires { records.old.at ≡ 0 }
-    ensures text { IfOk result (λ text. Of SpellsScript (IsRunText running) records.old.left text.items) }
+    ensures text { IfOk result (λ a. Of SpellsScript (IsRunText running) records.old.left (said_of a).text) }
+    ensures beside { IfOk result (λ a. Of SpellsScript (TellsRun running) records.old.left (said_of a)) }
     ensures fails { IfErr result (FailsOver SpellsScript ScriptFault (HasNoRunText running) records.old.left records.new.failed) }
 {
     let script = match read_script(alloc, records) {
         Ok(script) => script,
         Err(fault) => return Err(Failure::Text(fault)),
     };
-    run_text(alloc, running, &script)
+    run_answer(alloc, running, &script)
 }

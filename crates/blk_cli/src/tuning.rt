@@ -5,9 +5,13 @@ ghost use Rattle.blk_text.specs.Script.{IsScript, SpellsScript, scripted};
 ghost use Rattle.blk_settings.specs.Wanted.{as_wanted};
 ghost use Rattle.blk_runs.specs.Firsts.{AreUnrun};
 ghost use Rattle.blk_cli.specs.Inputs.{Of};
+ghost use Rattle.blk_cli.specs.Said.{said_of};
+ghost use Rattle.blk_cli.specs.Unflushed.{TellsPlugs};
 ghost use Rattle.blk_cli.specs.Tuning.{IsTunedJson, IsTunedIn, IsTrial, IsUntried, FailsToTry};
 
+use crate::Answered;
 use crate::failure::Failure;
+use crate::unflushed::with_plugs;
 use blk_answers::trial_json;
 use blk_lists::Records;
 use blk_runs::RunFault;
@@ -89,6 +93,30 @@ fn trial_of<T: Threads + Sync, P: Progress>(
     }
 }
 
+/// What is answered to a trial: its rows, and beside them bios that stay in their plugs.
+fn trial_answer<T: Threads + Sync, P: Progress>(
+    rt: &T,
+    alloc: Global,
+    words: &[String],
+    tuning: Tuning,
+    script: &Script,
+    progress: &mut P,
+) -> Result<Answered, Failure>
+    requires { IsScript (scripted script.now) }
+    ensures text { IfOk result (λ a. IsTrial (map string_bytes words.now) tuning (scripted script.now) (said_of a).text) }
+    ensures beside { IfOk result (λ a. TellsPlugs (scripted script.now) (said_of a)) }
+    ensures untried { IfErr result (IsUntried (map string_bytes words.now) (scripted script.now)) }
+{
+    let text = match trial_of(rt, alloc, words, tuning, script, progress) {
+        Ok(text) => text,
+        Err(failure) => return Err(failure),
+    };
+    match with_plugs(alloc, text, script) {
+        Ok(answer) => Ok(answer),
+        Err(failure) => Err(failure),
+    }
+}
+
 /// Reads a script, and tries it under each setting of the grid that the words ask for, on the threads of `rt`. `progress` hears
 /// how far it has come.
 pub fn over_trial<T: Threads + Sync, R: Read + Drop, P: Progress>(
@@ -98,14 +126,15 @@ pub fn over_trial<T: Threads + Sync, R: Read + Drop, P: Progress>(
     tuning: Tuning,
     records: &mut Records<R>,
     progress: &mut P,
-) -> Result<Vec<u8>, Failure>
+) -> Result<Answered, Failure>
     requires { records.old.at ≡ 0 }
-    ensures text { IfOk result (λ text. Of SpellsScript (IsTrial (map string_bytes words.now) tuning) records.old.left text.items) }
+    ensures text { IfOk result (λ a. Of SpellsScript (IsTrial (map string_bytes words.now) tuning) records.old.left (said_of a).text) }
+    ensures beside { IfOk result (λ a. Of SpellsScript TellsPlugs records.old.left (said_of a)) }
     ensures fails { IfErr result (FailsToTry (map string_bytes words.now) records.old.left records.new.failed) }
 {
     let script = match read_script(alloc, records) {
         Ok(script) => script,
         Err(fault) => return Err(Failure::Text(fault)),
     };
-    trial_of(rt, alloc, words, tuning, &script, progress)
+    trial_answer(rt, alloc, words, tuning, &script, progress)
 }

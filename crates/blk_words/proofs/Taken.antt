@@ -1,6 +1,5 @@
 -- What a subcommand takes and what its job reads.
 use Rattle.std.proofs.Common.{◌≡◌, ◌∙◌, ◌∷◌, [], ℕ, Bool, true, false, List, Option, None, Some, map, sym, refl, subst, codes, inl, inr}
-use Rattle.std.proofs.lemmas.Bool.{cases_Bool}
 use Rattle.std.specs.Prelude.{◌≢◌, ◌++◌, IfSome, Result, Ok, Err, option_map}
 use Rattle.clap.specs.Words.{Row, Text}
 use Rattle.clap.specs.declared.builder.value_parser.Reading.TheVariants as reading
@@ -9,6 +8,7 @@ use Rattle.blk_settings.specs.declared.form.Form.{Form}
 use Rattle.blk_settings.specs.declared.grid.By.{By}
 use Rattle.blk_settings.specs.declared.lists.ListFault.{ListFault}
 use Rattle.blk_settings.specs.declared.numbers.Load.{Load}
+use Rattle.blk_settings.specs.declared.sched.Lineup.{Lineup}
 use Rattle.blk_settings.specs.declared.sched.Sched.{Sched}
 use Rattle.blk_words.specs.declared.inputs.TextKind.{TextKind}
 use Rattle.blk_words.specs.declared.inputs.TextKind.TheVariants as kind
@@ -21,7 +21,7 @@ use Rattle.blk_words.specs.declared.words.Refusal.{Refusal}
 use Rattle.blk_words.specs.declared.words.ShownLoad.{ShownLoad}
 use Rattle.blk_words.specs.declared.words.Written.{Written}
 use Rattle.blk_words.specs.declared.words.Written.TheVariants as written
-use Rattle.blk_words.specs.Asked.{job_made, is_flagged, time_given, number_given, from_given, source_given, written_of, sched_asked, amounts_of, oracle_job, tune_by, import_by, import_as, takes_all, load_job, loaded}
+use Rattle.blk_words.specs.Asked.{job_made, is_flagged, is_some_given, lineup_asked, pictured, time_given, number_given, from_given, source_given, written_of, sched_asked, amounts_of, oracle_job, tune_by, import_by, import_as, takes_all, load_job, loaded}
 use Rattle.blk_words.specs.Options.{json_option, met_option, script_option, trace_option, by_option, read_expire_option, write_expire_option, from_option, skip_option, first_option}
 use Rattle.blk_words.specs.Takers.{takes_as, kind_read, CanRead}
 
@@ -46,6 +46,11 @@ oracle_fits name true false json = reads_one makes.Oracle name kind.Trace (λ e.
 oracle_fits name false met true = reads_none makes.Oracle name _ refl
 oracle_fits name false true false = reads_one makes.Oracle name kind.Commands (λ e. cc e) _ refl
 oracle_fits name false false false = reads_one makes.Oracle name kind.Commands (λ e. cc e) _ refl
+
+picture_fits : (name : Text) (script given : Bool) (lineup : Option Lineup) → IfSome (pictured script given lineup) (Fits makes.Picture name)
+picture_fits name true given lineup = mapped (Fits makes.Picture name) _ lineup (λ l. reads_one makes.Picture name kind.Script (λ e. cc e) _ refl)
+picture_fits name false true lineup = reads_none makes.Picture name _ refl
+picture_fits name false false lineup = reads_one makes.Picture name kind.Trace (λ e. cc e) _ refl
 
 tune_fits : (name : Text) (fault : Option ListFault) (by : Option By) (top threads : Option ℕ) (f : Form) → Fits makes.Tune name (tune_by fault by top threads f)
 tune_fits name (Some r) by top threads f = reads_none makes.Tune name _ refl
@@ -83,10 +88,7 @@ fits makes.Explain rows name = reads_none makes.Explain name _ refl
 fits makes.Sim rows name = mapped (Fits makes.Sim name) _ _ (λ s. reads_one makes.Sim name kind.Script (λ e. cc e) _ refl)
 fits makes.Compare rows name = mapped (Fits makes.Compare name) _ _ (λ l. reads_one makes.Compare name kind.Script (λ e. cc e) _ refl)
 fits makes.Tune rows name = tune_fits name _ _ _ _ _
-fits makes.Picture rows name = elim (cases_Bool (is_flagged script_option.name rows)) [
-  | inl t ↦ rw t (mapped (Fits makes.Picture name) _ _ (λ l. reads_one makes.Picture name kind.Script (λ e. cc e) _ refl))
-  | inr f ↦ rw f (reads_one makes.Picture name kind.Trace (λ e. cc e) _ refl)
-]
+fits makes.Picture rows name = picture_fits name (is_flagged script_option.name rows) (is_some_given rows) (lineup_asked rows)
 fits makes.Oracle rows name = oracle_fits name (is_flagged trace_option.name rows) (is_flagged met_option.name rows) (is_flagged json_option.name rows)
 fits makes.Check rows name = reads_one makes.Check name kind.Certificate (λ e. cc e) _ refl
 fits makes.Import rows name =

@@ -1,9 +1,11 @@
 -- What the words of a command line ask for.
 use Rattle.std.specs.Prelude.{◌≡◌, ◌≢◌, ◌⊎◌, ◌&&◌, ◌||◌, ◌==◌, ⊤, ℕ, Bool, true, false, not, List, [], find, Option, Some, None, Result, Ok, Err, codes, option_map, option_and_then, if◌then◌else◌}
+use Rattle.std.specs.List.{list_any}
 use Rattle.std.specs.Option.{option_map_or}
 use Rattle.std.specs.Str.{bytes_eq}
 use Rattle.blk_settings.specs.declared.given.TheConstants.{MAX_SHORT}
 use Rattle.blk_settings.specs.declared.numbers.Load.{Load}
+use Rattle.clap.specs.Facts.{explicit_source}
 use Rattle.clap.specs.Words.{Row, Text, IsAmong, fault_of, first_of, one_of, subcommand_of}
 use Rattle.clap.specs.declared.error.kind.ErrorKind.{ErrorKind}
 use Rattle.clap.specs.declared.error.kind.ErrorKind.TheVariants as kind
@@ -69,6 +71,10 @@ number_given id rows = option_and_then (number_in MAX_NUMBER) (one_of id rows)
 abbrev pub is_flagged : Text → List Row → Bool
 is_flagged id rows = option_map_or (λ text. bytes_eq text (codes "true")) (first_of id rows) false
 
+-- whether the words give some option; a default doesn't count
+abbrev pub is_some_given : List Row → Bool
+is_some_given rows = list_any (λ r. explicit_source r.source) rows
+
 -- the time that an option is given, in nanoseconds
 abbrev pub time_given : Text → List Row → Option ℕ
 time_given id rows = option_and_then time_of (first_of id rows)
@@ -101,12 +107,17 @@ form_by json = if json then form.Json else form.Lines
 abbrev pub form_asked : List Row → Form
 form_asked rows = form_by (is_flagged json_option.name rows)
 
--- their comparison in a form, and the picture of a trace, or of a script under them
+-- their comparison in a form, and the picture of a trace, which takes no options, or of a script under them
 abbrev pub compared : Form → Option Lineup → Option Job
 compared f lineup = option_map (λ l. of_script (running.Each l f)) lineup
 
-abbrev pub pictured : Bool → Option Lineup → Option Job
-pictured script lineup = if script then option_map (λ l. of_script (running.Drawn l)) lineup else Some (of_trace telling.Picture)
+abbrev pub pictured : Bool → Bool → Option Lineup → Option Job
+pictured script given lineup =
+    if script then option_map (λ l. of_script (running.Drawn l)) lineup
+    else (if given then Some (job.Refuse refusal.NoScriptDrawn) else Some (of_trace telling.Picture))
+
+abbrev pub picture_given : List Row → Option Job
+picture_given rows = pictured (is_flagged script_option.name rows) (is_some_given rows) (lineup_asked rows)
 
 -- a load of these numbers, whose devices may be busy and take time, under this scheduler, and what is written of it
 abbrev pub amounts : Option ℕ → Option ℕ → Option ℕ → Option ℕ → Option ℕ → Option ℕ → Option Load
@@ -264,7 +275,7 @@ job_made (makes.Formed k) rows = Some (of_trace (telling.Figures k (form_asked r
 job_made makes.Sim rows = option_map (λ s. of_script (running.One s)) (sched_asked rows)
 job_made makes.Compare rows = compared (form_asked rows) (lineup_asked rows)
 job_made makes.Tune rows = Some (tune_job rows)
-job_made makes.Picture rows = pictured (is_flagged script_option.name rows) (lineup_asked rows)
+job_made makes.Picture rows = picture_given rows
 job_made makes.Oracle rows = oracle_given rows
 job_made makes.Check rows = Some (job.OfText (text_job.Check (form_asked rows)))
 job_made makes.Import rows = Some (import_job rows)

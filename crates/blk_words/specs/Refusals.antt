@@ -19,5 +19,6 @@ refusal_text refusal.NoScript = codes "--round and --depth need --script"
 refusal_text refusal.OfRequests = codes "--script takes no --from, --skip or --first"
 refusal_text refusal.JsonAlone = codes "--json needs --trace"
 refusal_text refusal.TraceAndJson = codes "--trace and --json exclude one another"
+refusal_text refusal.NoScriptDrawn = codes "options of schedulers need --script"
 refusal_text (refusal.Lists f) = list_fault_text f
 refusal_text refusal.By = codes "--by takes misses or lateness"

@@ -19,7 +19,7 @@ pub enum TextKind {
     Capture,
 }
 
-/// A job over a text: it needs no more than the records that it reads, and answers a text alone. A row for each kind of text.
+/// A job over a text: it needs no more than the records that it reads. A row for each kind of text.
 #[derive(Clone, Copy, Debug, PartialEq, Eq)]
 pub enum TextJob {
     /// Run a script, and write what is asked of it.

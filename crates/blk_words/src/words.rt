@@ -6,7 +6,7 @@ ghost use Rattle.clap.specs.Words.{subcommand_rows_of};
 ghost use Rattle.blk_settings.specs.Grids.{grid_given};
 ghost use Rattle.blk_words.specs.CommandLine.{command_table, program_version};
 ghost use Rattle.blk_words.specs.Inside.Tables.{subcommand_of, makes_among};
-ghost use Rattle.blk_words.specs.Asked.{Asks, AsksGrid, AsksNoGrid, IsNoJob, list_given, by_named, by_given, tune_job, short_given, number_given, is_flagged, given_options, sched_asked, lineup_asked, compared, pictured, amounts_of, shown_of, loaded, load_given, form_by, form_asked, time_given, entry_named, from_given, source_given, round_by, round_given, script_asked, unscripted, written_of, takes_all, import_of, import_job, oracle_given, job_made, job_of};
+ghost use Rattle.blk_words.specs.Asked.{Asks, AsksGrid, AsksNoGrid, IsNoJob, list_given, by_named, by_given, tune_job, short_given, number_given, is_flagged, is_some_given, given_options, sched_asked, lineup_asked, compared, picture_given, amounts_of, shown_of, loaded, load_given, form_by, form_asked, time_given, entry_named, from_given, source_given, round_by, round_given, script_asked, unscripted, written_of, takes_all, import_of, import_job, oracle_given, job_made, job_of};
 ghost use Rattle.blk_words.specs.Options.{script_option};
 ghost use Rattle.blk_settings.specs.Complaints.{complaint_text};
 ghost use Rattle.blk_words.specs.Refusals.{refusal_text};
@@ -149,6 +149,8 @@ pub enum Refusal {
     JsonAlone,
     /// `load` is asked for its trace, and for JSON.
     TraceAndJson,
+    /// `picture` is given an option of schedulers, and asked for no script.
+    NoScriptDrawn,
     /// An option of `tune` is given no list.
     Lists(ListFault),
     /// `--by` is neither `misses` nor `lateness`.
@@ -177,6 +179,7 @@ impl Refusal {
             Refusal::OfRequests => "--script takes no --from, --skip or --first",
             Refusal::JsonAlone => "--json needs --trace",
             Refusal::TraceAndJson => "--trace and --json exclude one another",
+            Refusal::NoScriptDrawn => "options of schedulers need --script",
             Refusal::Lists(fault) => return fault.text(),
             Refusal::By => "--by takes misses or lateness",
         };
@@ -301,13 +304,22 @@ fn compare_of(options: &ArgMatches<'_>) -> Option<Job>
     Some(Job::OfText(TextJob::OfScript(Running::Each(lineup, form))))
 }
 
-/// The picture of a trace, or with the flag `--script` those of a script under the schedulers that run it in turn.
+/// Whether the words give any option: a default doesn't count.
+fn is_some_given(options: &ArgMatches<'_>) -> bool
+    ensures { result ≡ is_some_given (given options.now) }
+{
+    options.args_present()
+}
+
+/// The picture of a trace, for which there are no options; or with the flag `--script` those of a script under the schedulers that run it in turn.
 fn picture_of(options: &ArgMatches<'_>) -> Option<Job>
-    ensures { result ≡ pictured (is_flagged script_option.name (given options.now)) (lineup_asked (given options.now)) }
+    ensures { result ≡ picture_given (given options.now) }
 {
     if is_flagged(options, option_names::SCRIPT) {
         let lineup = Lineup::given(&MatchedOptions { matches: options })?;
         Some(Job::OfText(TextJob::OfScript(Running::Drawn(lineup))))
+    } else if is_some_given(options) {
+        Some(Job::Refuse(Refusal::NoScriptDrawn))
     } else {
         Some(Job::OfText(TextJob::OfTrace(Telling::Picture)))
     }

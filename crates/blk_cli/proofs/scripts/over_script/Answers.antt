@@ -1,6 +1,7 @@
 use Rattle.std.proofs.Common.{inl}
 use Rattle.blk_text.specs.Script.{SpellsScript, ScriptFault, scripted}
-use Rattle.blk_cli.specs.Comparing.{IsRunText, HasNoRunText}
+use Rattle.blk_cli.specs.Comparing.{IsRunText, HasNoRunText, TellsRun}
+use Rattle.blk_cli.specs.Said.{said_of}
 use Rattle.blk_cli.proofs.OfRead.{told, refused}
 use Rattle.blk_cli.proofs.scripts.over_script.Goals as goal
 
@@ -8,7 +9,11 @@ pub returns-in-Err-clause-fails : goal.returns-in-Err-clause-fails
 returns-in-Err-clause-fails g c = inl c.in-Err.ensures.err
 
 pub returns-clause-text : goal.returns-clause-text
-returns-clause-text g c = told SpellsScript (IsRunText c.args.running) c.args.records.now.left (scripted c.in-Ok.script) (λ text. text.items) _ c.in-Ok.ensures.ok c.run_text.ensures.text
+returns-clause-text g c =
+    told SpellsScript (IsRunText c.args.running) c.args.records.now.left (scripted c.in-Ok.script) (λ a. (said_of a).text) _ c.in-Ok.ensures.ok c.run_answer.ensures.text
+
+pub returns-clause-beside : goal.returns-clause-beside
+returns-clause-beside g c = told SpellsScript (TellsRun c.args.running) c.args.records.now.left (scripted c.in-Ok.script) said_of _ c.in-Ok.ensures.ok c.run_answer.ensures.beside
 
 pub returns-clause-fails : goal.returns-clause-fails
-returns-clause-fails g c = refused SpellsScript ScriptFault (HasNoRunText c.args.running) c.args.records.now.left _ (scripted c.in-Ok.script) _ c.in-Ok.ensures.ok c.run_text.ensures.none
+returns-clause-fails g c = refused SpellsScript ScriptFault (HasNoRunText c.args.running) c.args.records.now.left _ (scripted c.in-Ok.script) _ c.in-Ok.ensures.ok c.run_answer.ensures.none

@@ -1,0 +1,31 @@
+-- The bios of a script that no flush takes out of their plugs, and the line on them.
+use Rattle.std.specs.Prelude.{ℕ, ◌≡◌, true, zero, suc, ◌+◌, ◌==◌, ◌++◌, ◌∷◌, if◌then◌else◌, List, [], fold, Option, None, Some, codes, decimal}
+use Rattle.blk_text.specs.Script.{Scripted}
+use Rattle.blk_text.specs.declared.script.Line.{Line}
+use Rattle.blk_text.specs.declared.script.Line.TheVariants as line
+use Rattle.blk_cli.specs.Said.{Said}
+
+-- how many bios the plug of a submitter holds after one more line, and after all of them
+abbrev pub plugged_after : ℕ → ℕ → Line → ℕ
+plugged_after s held (line.Bio b) = if b.id.submitter == s then held + 1 else held
+plugged_after s held (line.Flush t) = if t == s then 0 else held
+plugged_after s held l = held
+
+abbrev pub plugged : List Line → ℕ → ℕ
+plugged lines s = fold (plugged_after s) 0 lines
+
+-- those of the first submitters together
+unfoldable pub left_in_plugs : List Line → ℕ → ℕ
+left_in_plugs lines zero = 0
+left_in_plugs lines (suc s) = left_in_plugs lines s + plugged lines s
+
+-- the line on so many, where there are any
+abbrev pub plugs_line : ℕ → List ℕ
+plugs_line n = ((codes "blk: not flushed: " ++ decimal n) ++ codes " bios stay in their plugs") ++ 10 ∷ []
+
+abbrev pub plugs_note : Scripted → Option (List ℕ)
+plugs_note s = if left_in_plugs s.lines s.submitters == 0 then None else Some (plugs_line (left_in_plugs s.lines s.submitters))
+
+-- they are told beside what is written of the script, which is good
+abbrev pub TellsPlugs : Scripted → Said → Type 0
+TellsPlugs script s = (s.note ≡ plugs_note script) × (s.good ≡ true)
