@@ -14,3 +14,5 @@ pub mod Found
 pub mod Sounding
 pub mod Growing
 pub mod Folding
+pub mod Cohering
+pub mod Placing

@@ -2,7 +2,7 @@ use Rattle.std.proofs.Common.{ℕ, ◌≡◌, ◌<◌, ◌≤◌, ◌∙◌, Lis
 use Rattle.std.specs.List.{All}
 use Rattle.std.specs.Prelude.{IfSome}
 use Rattle.std.proofs.lemmas.Bool.{cases_lt}
-use Rattle.std.proofs.lemmas.List.{get_or_past, get_or-map, length-map}
+use Rattle.std.proofs.lemmas.List.{get_or_past, get_or-map, length-map, same_lists}
 use Rattle.edd_commands.specs.declared.Command.{Command}
 use Rattle.blk_bio.specs.declared.bio.Dir.TheVariants.{Read}
 use Rattle.blk_capture.specs.Counting.{AreServed, AreLateByClock}
@@ -16,6 +16,7 @@ use Rattle.blk_capture.specs.declared.requests.CapturedBio.{CapturedBio}
 use Rattle.blk_capture.specs.declared.requests.Life.{Life}
 use Rattle.blk_capture.specs.declared.requests.Options.{Options}
 use Rattle.blk_capture.specs.declared.requests.CapturedRequest.{CapturedRequest}
+use Rattle.blk_capture.specs.Settled.{uncounted}
 use Rattle.blk_capture.proofs.Openers.{opener_there}
 
 abbrev no_bio : QueuedBio
@@ -113,3 +114,19 @@ pub tallied_due : (options : Options) (old new : List CapturedRequest) (bios : L
 tallied_due options old new bios due tallied k d h =
     let was : IsDue options (get_or old k d) = due k d (omega (arith, h, tallied.each)) in
     subst (IsDue options) (sym (tallied.rest k d)) record { entered = was.entered; released = was.released; due = was.due }
+
+-- the number of its bios is told apart
+uncounted_is : (x q : CapturedRequest) (n : ℕ) → x ≡ record q { bios = n } → q.bios ≡ 0 → uncounted x ≡ q
+uncounted_is x q n e none = ap uncounted e ∙ zeroed q none
+  where
+    zeroed : (q : CapturedRequest) → q.bios ≡ 0 → uncounted q ≡ q
+    zeroed q e = ap (λ k. record q { bios = k }) (sym e)
+
+pub uncounted_all : (old new : List CapturedRequest) (bios : List CapturedBio) → All (λ q. q.bios ≡ 0) old → IsTalliedFrom old new bios → map uncounted new ≡ old
+uncounted_all old new bios none tallied =
+    same_lists (map uncounted new) old (length-map new uncounted ∙ tallied.each)
+    (λ k d h.
+    let n : length (map uncounted new) ≡ length new = length-map new uncounted in
+    let here : k < length new = omega (arith, h, n) in
+    let there : k < length old = omega (arith, here, tallied.each) in
+    get_or-map uncounted new k d d here ∙ uncounted_is (get_or new k d) (get_or old k d) (get_or new k d).bios (tallied.rest k d) (none k d there))

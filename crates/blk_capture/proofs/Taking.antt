@@ -7,18 +7,15 @@ use Rattle.std.proofs.lemmas.List.Sums.{sum_by-set, sum_by-cons}
 use Rattle.std.proofs.lemmas.List.Sorted.{IsNonDecreasingBy-push}
 use Rattle.std.proofs.lemmas.List.Elements.{All-replicate, All-set, All-weaker}
 use Rattle.std.specs.Prelude.{IfSome}
-use Rattle.std.specs.List.{slice_get}
-use Rattle.std.proofs.lemmas.Option.{slice_get-get_or}
-use Rattle.blk_capture.specs.Requests.{IsDue, released_by, deadline_of}
-use Rattle.blk_capture.specs.Rules.{Known}
-use Rattle.blk_capture.specs.Settled.{captured, completed_after, entry_at, IsTakenBy, IsTakenFrom}
+use Rattle.blk_capture.specs.Requests.{released_by, deadline_of}
+use Rattle.blk_capture.specs.Settled.{captured, completed_after, entry_at}
 use Rattle.blk_capture.specs.declared.opened.Opened.{Opened}
-use Rattle.blk_capture.specs.Inside.Taken.{IsRequestOf, ArePlaced, PutsAt, AreWithin, IsTalliedFrom}
-use Rattle.blk_capture.specs.declared.requests.CapturedBio.{CapturedBio}
+use Rattle.blk_capture.specs.Inside.Taken.{IsOwn, IsRequestOf, ArePlaced, Puts, AreWithin}
 use Rattle.blk_capture.specs.declared.clock.Dispatch.{Dispatch}
 use Rattle.blk_capture.specs.declared.requests.Life.{Life}
 use Rattle.blk_capture.specs.declared.requests.Options.{Options}
 use Rattle.blk_capture.specs.declared.requests.CapturedRequest.{CapturedRequest}
+use Rattle.blk_capture.specs.declared.requests.Taken.{Taken}
 
 -- what is taken of the first n dispatches
 pub record IsTakenTo (P : CapturedRequest → Type 0) (lives : List Life) (openers : List ℕ) (dispatches : List Dispatch) (places : List (Option ℕ)) (requests : List CapturedRequest) (n : ℕ) : Type 0 where
@@ -91,9 +88,9 @@ some_is_none : (k : ℕ) → Some k ≡ None → ⊥
 some_is_none k e = cc
 
 placed_more : (lives : List Life) (openers : List ℕ) (places : List (Option ℕ)) (requests : List CapturedRequest) (x : Dispatch) (q : CapturedRequest)
-    → ArePlaced lives openers places requests → IsRequestOf lives openers x q → x.request < length places → get_or places x.request None ≡ None
+    → ArePlaced lives openers places requests → IsOwn lives x.request → IsRequestOf openers x q → x.request < length places → get_or places x.request None ≡ None
     → ArePlaced lives openers (set places x.request (Some (length requests))) (requests ++ q ∷ [])
-placed_more lives openers places requests x q placed of there free k h =
+placed_more lives openers places requests x q placed own of there free k h =
     let n : length (requests ++ q ∷ []) ≡ length requests + 1 = length_push requests q in
     elim (cases_lt k (length requests)) [
       | inl before ↦
@@ -111,7 +108,7 @@ placed_more lives openers places requests x q placed of there free k h =
           let last : length requests ≡ k = omega (arith, past, h, n) in (
             x.request,
             record {
-              own = of.own;
+              own = own;
               opened = of.opened;
               opener = λ d. ap (λ (p : CapturedRequest). p.bio) (get_or_push requests q d k last) ∙ of.opener;
               place = get_or-set_same places x.request (Some (length requests)) None there ∙ ap (λ j. Some j) last;
@@ -121,11 +118,11 @@ placed_more lives openers places requests x q placed of there free k h =
 
 -- one more that is put in
 taken_more : (P : CapturedRequest → Type 0) (lives : List Life) (openers : List ℕ) (dispatches : List Dispatch) (places : List (Option ℕ)) (requests : List CapturedRequest) (n : ℕ) (x : Dispatch) (q : CapturedRequest)
-    → IsTakenTo P lives openers dispatches places requests n → IsRequestOf lives openers x q → P q → x.request < length places → get_or places x.request None ≡ None
+    → IsTakenTo P lives openers dispatches places requests n → IsOwn lives x.request → IsRequestOf openers x q → P q → x.request < length places → get_or places x.request None ≡ None
     → IsNonDecreasingBy (λ y. y.time) dispatches → n < length dispatches → x.time ≡ (get_or dispatches n x).time
     → IsTakenTo P lives openers dispatches (set places x.request (Some (length requests))) (requests ++ q ∷ []) (n + 1)
-taken_more P lives openers dispatches places requests n x q old of is_due there free up here is = record {
-  placed = placed_more lives openers places requests x q old.placed of there free;
+taken_more P lives openers dispatches places requests n x q old own of is_due there free up here is = record {
+  placed = placed_more lives openers places requests x q old.placed own of there free;
   rising =
       IsNonDecreasingBy-push (λ (p : CapturedRequest). p.dispatched) requests q old.rising
       (λ d some.
@@ -157,48 +154,16 @@ taken_more P lives openers dispatches places requests n x q old of is_due there 
       ];
 }
 
-pub taken_put : (P : CapturedRequest → Type 0) (lives : List Life) (openers : List ℕ) (dispatches : List Dispatch) (places new_places : List (Option ℕ)) (requests new_requests : List CapturedRequest) (n : ℕ) (x : Dispatch) (q : CapturedRequest)
-    → IsTakenTo P lives openers dispatches places requests n → IsRequestOf lives openers x q → P q → PutsAt x.request q requests places new_requests new_places
+pub taken_put : {A : Type 0} (P : CapturedRequest → Type 0) (lives : List Life) (openers : List ℕ) (dispatches : List Dispatch) (old new : Taken A) (n : ℕ) (x : Dispatch) (q : CapturedRequest)
+    → IsTakenTo P lives openers dispatches old.places.items old.requests.items n → IsOwn lives x.request → IsRequestOf openers x q → P q → Puts x.request q old new → x.request < length old.places.items → get_or old.places.items x.request None ≡ None
     → IsNonDecreasingBy (λ y. y.time) dispatches → n < length dispatches → x ≡ get_or dispatches n x
-    → IsTakenTo P lives openers dispatches new_places new_requests (n + 1)
-taken_put P lives openers dispatches places new_places requests new_requests n x q old of is_due put up here is =
-    elim put [
-      | inl same ↦
-          subst (λ ps. IsTakenTo P lives openers dispatches ps new_requests (n + 1)) (sym same.1)
-          (subst (λ qs. IsTakenTo P lives openers dispatches places qs (n + 1)) (sym same.0) (taken_same P lives openers dispatches places requests n old))
-      | inr new ↦
-          subst (λ ps. IsTakenTo P lives openers dispatches ps new_requests (n + 1)) (sym new.2)
-          (subst (λ qs. IsTakenTo P lives openers dispatches (set places x.request (Some (length requests))) qs (n + 1)) (sym new.3)
-          (taken_more P lives openers dispatches places requests n x q old of is_due new.0 new.1 up here (ap (λ (y : Dispatch). y.time) is)))
-    ]
-
--- what is said of each request that is taken
-abbrev pub IsToldOf : Options → Known → CapturedRequest → Type 0
-IsToldOf o m q = IsDue o q × IsTakenFrom o m q
-
-pub told_of : (o : Options) (m : Known) (ds : List Dispatch) (n : ℕ) (x : Dispatch) (q : CapturedRequest) → ds ≡ m.dispatches → n < length ds → x ≡ get_or ds n x → IsDue o q → IsTakenBy o m n x q → IsToldOf o m q
-told_of o m ds n x q same here is due taken =
-    let sent : slice_get ds n ≡ Some x = slice_get-get_or ds n x here ∙ ap (λ (y : Dispatch). Some y) (sym is) in
-    (due, record { number = n; dispatch = x; sent = subst (λ (es : List Dispatch). slice_get es n ≡ Some x) same sent; taken = taken })
-
--- the number of its bios is told apart
-pub taken_bios : (o : Options) (m : Known) (old new : List CapturedRequest) (bios : List CapturedBio) → All (IsTakenFrom o m) old → IsTalliedFrom old new bios → All (IsTakenFrom o m) new
-taken_bios o m old new bios all tallied k d h =
-    let was : IsTakenFrom o m (get_or old k d) = all k d (omega (arith, h, tallied.each)) in
-    let n : ℕ = (get_or new k d).bios in
-    record {
-      number = was.number;
-      dispatch = was.dispatch;
-      sent = was.sent;
-      taken = record {
-        opened = was.taken.opened;
-        there = was.taken.there;
-        last = was.taken.last;
-        is = tallied.rest k d ∙ ap (λ (q : CapturedRequest). record q { bios = n }) was.taken.is;
-      };
-    }
+    → IsTakenTo P lives openers dispatches new.places.items new.requests.items (n + 1)
+taken_put P lives openers dispatches old new n x q is own of is_due put there free up here at =
+    subst (λ ps. IsTakenTo P lives openers dispatches ps new.requests.items (n + 1)) (sym put.places)
+    (subst (λ qs. IsTakenTo P lives openers dispatches (set old.places.items x.request (Some (length old.requests.items))) qs (n + 1)) (sym put.requests)
+    (taken_more P lives openers dispatches old.places.items old.requests.items n x q is own of is_due there free up here (ap (λ (y : Dispatch). y.time) at)))
 
 -- the request as it is told
 pub request_is : (o : Options) (q : Opened) (time sectors bio opener entry released deadline : ℕ) (completed : Option ℕ) → sectors ≡ q.range.end - q.range.first → bio ≡ opener → entry ≡ entry_at o q → released ≡ released_by entry q.merged → deadline ≡ deadline_of o q.range.dir entry q.earlier → completed ≡ completed_after time q.completed
-    → (let r : CapturedRequest = record { dir = q.range.dir; first = q.range.first; sectors = sectors; bios = 0; bio = bio; pid = q.pid; queued = q.queued; got = q.got; inserted = q.inserted; merged = q.merged; entry = entry; released = released; earlier = q.earlier; deadline = deadline; dispatched = time; completed = completed } in r) ≡ captured o opener 0 time q
+    → (let r : CapturedRequest = record { dir = q.range.dir; first = q.range.first; sectors = sectors; bios = 0; bio = bio; pid = q.pid; queued = q.queued; got = q.got; inserted = q.inserted; merged = q.merged; entry = entry; released = released; earlier = q.earlier; deadline = deadline; dispatched = time; completed = completed } in r) ≡ captured o opener time q
 request_is o q time sectors bio opener entry released deadline completed a b c d e f = cc

@@ -3,6 +3,7 @@ pub mod Members
 pub mod LookupKeys
 pub mod Indexes
 pub mod Roles
+pub mod Coherent
 pub mod Matchings
 pub mod Taken
 pub mod Tallies

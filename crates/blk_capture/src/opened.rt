@@ -2,6 +2,7 @@
 
 ghost use Rattle.std.specs.Prelude.{◌≡◌};
 ghost use Rattle.blk_capture.specs.Rules.{goes_out_by};
+ghost use Rattle.blk_capture.specs.Settled.{is_absorbed};
 
 use crate::record::Range;
 
@@ -56,6 +57,13 @@ impl Opened {
             Stage::InFlight(last) | Stage::Completed(last) => last == number,
             Stage::Opened | Stage::Inserted | Stage::Absorbed => false,
         }
+    }
+
+    /// Whether it was merged into another.
+    pub(crate) fn is_absorbed(&self) -> bool
+        ensures { result ≡ is_absorbed self.now.stage }
+    {
+        matches!(self.stage, Stage::Absorbed)
     }
 }
 

@@ -1,6 +1,6 @@
 //! The requests of a capture that went out to the device, with their bios.
 
-ghost use Rattle.std.specs.Prelude.{◌≡◌, ◌≤◌, ◌<◌, ◌+◌, ℕ, true, count_by, is_some, None, Some, All, IfOk, IfErr, IfSome, IfNone, OnOk, length, map};
+ghost use Rattle.std.specs.Prelude.{◌≡◌, ◌≤◌, ◌<◌, ◌+◌, ℕ, true, count_by, is_some, None, Some, All, IfOk, IfErr, IfSome, IfNone, OnOk, length, map, slice_get, option_and_then};
 ghost use Rattle.edd_commands.specs.Capacity.{fixed};
 ghost use Rattle.edd_commands.specs.declared.TheConstants.{MAX_COMMANDS};
 ghost use Rattle.edd_commands.specs.Schedule.{IsLegal, RoundsInRange};
@@ -8,10 +8,13 @@ ghost use Rattle.blk_capture.specs.Counting.{AreSolvable, AreInRounds};
 ghost use Rattle.blk_capture.specs.Fates.{opens, makes, told, is_matched, passed_by, IsTakenBelow, AreOfTaken, ArePassed};
 ghost use Rattle.blk_capture.specs.Inside.Roles.{is_known, passed_role};
 ghost use Rattle.blk_capture.specs.Requests.{times_of, AreTimed, HaveBios, AreTallied, AreGone, AreInOrder, IsFirstFall, AgreeOnLateness, entry_by, released_by, expire_for, earlier_of, deadline_of, IsDue, IsCaptureFault};
+ghost use Rattle.blk_capture.specs.Inside.Coherent.{IsCoherent, IsLast, AreMerges, AreRoots, AreLaidOut, HaveNoPlace, AreToldBios, IsToldFate, AreToldFates};
 ghost use Rattle.blk_capture.specs.Inside.Taken.{IsRequestOf, Puts, ArePlacedBios, IsTalliedFrom, AreWithin, ArePlacedIn, IsPlaceOfOwn};
 ghost use Rattle.blk_capture.specs.declared.members.QueuedBio.{QueuedBio};
 ghost use Rattle.blk_capture.specs.Matched.{all_opened};
-ghost use Rattle.blk_capture.specs.Settled.{completed_after, IsTakenBy, IsTakenFrom, without_request, captured_bio, IsMatching};
+ghost use Rattle.blk_capture.specs.Parting.{fate_at};
+ghost use Rattle.blk_capture.specs.Rules.{Known};
+ghost use Rattle.blk_capture.specs.Settled.{completed_after, uncounted, taken_last, all_taken, all_bios, place_in_end, fate_by, is_absorbed, IsMatching};
 ghost use Rattle.blk_capture.specs.Inside.Matchings.{all_known};
 
 use crate::clock::Dispatch;
@@ -19,7 +22,7 @@ use crate::counting::{CountedSchedule, TimedRequest, count_rounds};
 use crate::fates::Fate;
 use crate::matching::{Matching, Role};
 use crate::members::QueuedBio;
-use crate::opened::Opened;
+use crate::opened::{Absorption, Opened};
 use crate::record::Record;
 use blk_bio::Dir;
 use std::alloc::{AllocError, Allocator, Global};
@@ -162,23 +165,24 @@ pub(crate) fn deadline_of(options: &Options, dir: Dir, entry: u64, earlier: Opti
     sooner(earlier, entry.saturating_add(expire_for(options, dir)))
 }
 
-/// The request that each went into in the end.
-fn lives<A: Allocator + Clone>(alloc: A, matching: &Matching<A>) -> Result<Vec<Life, A>, AllocError>
-    ensures { IfOk result (λ v. length v.items ≡ length matching.now.requests.items) }
+/// The request that each of `count` went into in the end.
+fn lives<A: Allocator + Clone>(
+    alloc: A,
+    count: usize,
+    absorptions: &[Absorption],
+) -> Result<Vec<Life, A>, AllocError>
+    requires { AreMerges count absorptions.now }
+    ensures each { IfOk result (λ v. length v.items ≡ count) }
+    ensures roots { IfOk result (λ v. AreRoots absorptions.now v.items) }
 {
-    let mut lives = Vec::with_capacity(alloc, matching.requests.len())?;
-    for root in 0..matching.requests.len() {
+    let mut lives = Vec::with_capacity(alloc, count)?;
+    for root in 0..count {
         lives.push(Life { root })?;
     }
     // the last absorption first, so that where the other went is known
-    for absorption in matching.absorptions.iter().rev() {
-        let root = match lives.get(absorption.into) {
-            Some(life) => life.root,
-            None => absorption.into,
-        };
-        if let Some(life) = lives.get_mut(absorption.request) {
-            life.root = root;
-        }
+    for place in (0..absorptions.len()).rev() {
+        let absorption = absorptions[place];
+        lives[absorption.request] = lives[absorption.into];
     }
     Ok(lives)
 }
@@ -194,32 +198,30 @@ fn not_before(time: Option<u64>, other: u64) -> Option<u64>
     }
 }
 
-/// The request of a dispatch, where that is its last one, it wasn't merged into another, and it was released by then.
+/// The request of the dispatch of a number, where that is its last one.
 fn request_of<A: Allocator + Clone>(
     matching: &Matching<A>,
-    lives: &[Life],
     options: &Options,
     number: usize,
     dispatch: Dispatch,
 ) -> Option<CapturedRequest>
-    ensures of { IfSome result (IsRequestOf lives.now matching.now.members.openers.items dispatch) }
+    requires coherent { IsCoherent options.now matching.now.clock.now (all_known matching.now) }
+    requires paired { length matching.now.members.openers.items ≡ length matching.now.requests.items }
+    requires sent { slice_get matching.now.clock.dispatches.items number ≡ Some dispatch }
+    ensures of { IfSome result (IsRequestOf matching.now.members.openers.items dispatch) }
     ensures due { IfSome result (IsDue options.now) }
-    ensures taken { IfSome result (IsTakenBy options.now (all_known matching.now) number dispatch) }
+    ensures last { IfSome result (λ _. IsLast (all_known matching.now) number dispatch) }
+    ensures taken { result ≡ taken_last options.now (all_known matching.now) (number, dispatch) }
 {
     let place = dispatch.request;
-    if place >= lives.len()
-        || place >= matching.requests.len()
-        || place >= matching.members.openers.len()
-    {
+    if place >= matching.requests.len() {
         return None;
     }
-    let life = lives[place];
     let opened = matching.requests[place];
-    let entry = entry_of(&opened, options);
-    let released = released_by(entry, opened.merged);
-    if life.root != place || released > dispatch.time || !opened.goes_out_by(number) {
+    if !opened.goes_out_by(number) {
         return None;
     }
+    let entry = entry_of(&opened, options);
     Some(CapturedRequest {
         dir: opened.range.dir,
         first: opened.range.first,
@@ -232,7 +234,7 @@ fn request_of<A: Allocator + Clone>(
         inserted: opened.inserted,
         merged: opened.merged,
         entry,
-        released,
+        released: released_by(entry, opened.merged),
         earlier: opened.earlier,
         deadline: deadline_of(options, opened.range.dir, entry, opened.earlier),
         dispatched: dispatch.time,
@@ -248,13 +250,11 @@ struct Taken<A: Allocator = Global> {
 }
 
 impl<A: Allocator + Clone> Taken<A> {
-    /// Takes the request of a number, unless it is taken.
+    /// Takes the request of a number.
     fn put(&mut self, number: usize, request: CapturedRequest) -> Result<(), AllocError>
+        requires { number < length self.old.places.items }
         ensures { OnOk result (Puts number request self.old self.new) }
     {
-        let Some(None) = self.places.get(number).copied() else {
-            return Ok(());
-        };
         self.places[number] = Some(self.requests.len());
         self.requests.push(request)?;
         Ok(())
@@ -268,12 +268,16 @@ fn take_requests<A: Allocator + Clone>(
     lives: &[Life],
     options: &Options,
 ) -> Result<Taken<A>, AllocError>
+    requires coherent { IsCoherent options.now matching.now.clock.now (all_known matching.now) }
+    requires paired { length matching.now.members.openers.items ≡ length matching.now.requests.items }
+    requires each_life { length lives.now ≡ length matching.now.requests.items }
+    requires roots { AreRoots matching.now.absorptions.items lives.now }
     ensures placed { IfOk result (ArePlacedIn lives.now matching.now.members.openers.items) }
     ensures timed { IfOk result (λ t. AreTimed t.requests.items) }
     ensures untallied { IfOk result (λ t. All (λ q. q.bios ≡ 0) t.requests.items) }
     ensures due { IfOk result (λ t. All (IsDue options.now) t.requests.items) }
-    ensures taken { IfOk result (λ t. All (IsTakenFrom options.now (all_known matching.now)) t.requests.items) }
-    ensures each { IfOk result (λ t. length t.places.items ≡ length lives.now) }
+    ensures taken { IfOk result (λ t. t.requests.items ≡ all_taken options.now (all_known matching.now)) }
+    ensures laid { IfOk result (λ t. AreLaidOut options.now (all_known matching.now) lives.now t.places.items) }
     ensures many { IfOk result (λ t. count_by is_some t.places.items ≡ length t.requests.items) }
     ensures within { IfOk result (λ t. AreWithin (length t.requests.items) t.places.items) }
 {
@@ -285,7 +289,7 @@ fn take_requests<A: Allocator + Clone>(
     let dispatches = matching.clock.dispatches.as_slice();
     for number in 0..dispatches.len() {
         let dispatch = dispatches[number];
-        if let Some(request) = request_of(matching, lives, options, number, dispatch) {
+        if let Some(request) = request_of(matching, options, number, dispatch) {
             taken.put(dispatch.request, request)?;
         }
     }
@@ -293,20 +297,19 @@ fn take_requests<A: Allocator + Clone>(
 }
 
 /// Of the requests that are not taken, how many were merged into others, and how many were not.
-fn count_others(lives: &[Life], places: &[Option<usize>]) -> (u64, u64)
-    requires { length places.now ≡ length lives.now }
-    ensures { count_by is_some places.now + result.0 + result.1 ≡ length lives.now }
+fn count_others(requests: &[Opened], places: &[Option<usize>]) -> (u64, u64)
+    requires each { length places.now ≡ length requests.now }
+    requires apart { HaveNoPlace requests.now places.now }
+    ensures sum { count_by is_some places.now + result.0 + result.1 ≡ length requests.now }
+    ensures absorbed { result.0 ≡ count_by (λ q. is_absorbed q.stage) requests.now }
 {
     let mut absorbed = 0;
     let mut left_out = 0;
-    for (request, life) in lives.iter().enumerate() {
-        if places[request].is_some() {
-            continue;
-        }
-        if life.root == request {
-            left_out += 1;
-        } else {
+    for (place, request) in requests.iter().enumerate() {
+        if request.is_absorbed() {
             absorbed += 1;
+        } else if places[place].is_none() {
+            left_out += 1;
         }
     }
     (absorbed, left_out)
@@ -316,6 +319,7 @@ fn count_others(lives: &[Life], places: &[Option<usize>]) -> (u64, u64)
 fn place_of(lives: &[Life], places: &[Option<usize>], request: Option<usize>) -> Option<usize>
     ensures own { IsPlaceOfOwn lives.now places.now request result }
     ensures within { (n : ℕ) → AreWithin n places.now → IfSome result (λ k. k < n) }
+    ensures place { (o : Options) (m : Known) → AreLaidOut o m lives.now places.now → result ≡ option_and_then (place_in_end o m) request }
 {
     let request = request?;
     if request >= lives.len() {
@@ -336,7 +340,7 @@ fn bios_of<A: Allocator + Clone>(
     places: &[Option<usize>],
 ) -> Result<Vec<CapturedBio, A>, AllocError>
     ensures placed { IfOk result (λ v. ArePlacedBios lives.now places.now queued.now (length queued.now) v.items) }
-    ensures are { IfOk result (λ v. map without_request v.items ≡ map captured_bio queued.now) }
+    ensures are { IfOk result (λ v. AreToldBios lives.now places.now queued.now v.items) }
     ensures within { (n : ℕ) → AreWithin n places.now → IfOk result (λ v. AreGone n v.items) }
 {
     let mut bios = Vec::with_capacity(alloc, queued.len())?;
@@ -355,7 +359,8 @@ fn bios_of<A: Allocator + Clone>(
 
 /// The place of the request that the bio of a number went out with.
 fn bio_place(bios: &[CapturedBio], bio: usize) -> Option<usize>
-    ensures { (n : ℕ) → AreGone n bios.now → IfSome result (λ k. k < n) }
+    ensures within { (n : ℕ) → AreGone n bios.now → IfSome result (λ k. k < n) }
+    ensures place { result ≡ option_and_then (λ b. b.request) (slice_get bios.now bio) }
 {
     if bio >= bios.len() {
         return None;
@@ -368,6 +373,7 @@ fn fate_at(place: Option<usize>) -> Fate
     ensures matched { is_matched result ≡ true }
     ensures passed { passed_by result ≡ None }
     ensures below { (n : ℕ) → IfSome place (λ k. k < n) → IsTakenBelow n result }
+    ensures value { result ≡ fate_at place }
 {
     match place {
         Some(place) => Fate::Taken(place),
@@ -380,6 +386,7 @@ fn fate_of(role: Role, bios: &[CapturedBio], lives: &[Life], places: &[Option<us
     ensures matched { is_matched result ≡ is_known role }
     ensures passed { passed_by result ≡ passed_role role }
     ensures below { (n : ℕ) → AreWithin n places.now → AreGone n bios.now → IsTakenBelow n result }
+    ensures fate { IsToldFate lives.now places.now bios.now role result }
 {
     match role {
         Role::Bio(bio) => fate_at(bio_place(bios, bio)),
@@ -400,6 +407,7 @@ fn fates_of<A: Allocator + Clone>(
     ensures matched { IfOk result (λ v. map is_matched v.items ≡ map is_known roles.now) }
     ensures passed { IfOk result (λ v. map passed_by v.items ≡ map passed_role roles.now) }
     ensures below { (n : ℕ) → AreWithin n places.now → AreGone n bios.now → IfOk result (λ v. AreOfTaken n v.items) }
+    ensures are { IfOk result (λ v. AreToldFates lives.now places.now bios.now roles.now v.items) }
 {
     let mut fates = Vec::with_capacity(alloc, roles.len())?;
     for role in roles {
@@ -466,6 +474,8 @@ fn settle<A: Allocator + Clone>(
     roles: &[Role],
     options: &Options,
 ) -> Result<Matched<A>, AllocError>
+    requires coherent { IsCoherent options.now matching.now.clock.now (all_known matching.now) }
+    requires paired { length matching.now.members.openers.items ≡ length matching.now.requests.items }
     ensures timed { IfOk result (λ m. AreTimed m.requests.items) }
     ensures due { IfOk result (λ m. All (IsDue options.now) m.requests.items) }
     ensures bios { IfOk result (λ m. HaveBios m.requests.items m.bios.items) }
@@ -476,10 +486,16 @@ fn settle<A: Allocator + Clone>(
     ensures below { IfOk result (λ m. AreOfTaken (length m.requests.items) m.fates.items) }
     ensures opened { IfOk result (λ m. all_opened m ≡ length matching.now.requests.items) }
     ensures made { IfOk result (λ m. length m.bios.items ≡ length matching.now.members.bios.items) }
-    ensures taken { IfOk result (λ m. All (IsTakenFrom options.now (all_known matching.now)) m.requests.items) }
-    ensures bios_are { IfOk result (λ m. map without_request m.bios.items ≡ map captured_bio matching.now.members.bios.items) }
+    ensures taken { IfOk result (λ m. map uncounted m.requests.items ≡ all_taken options.now (all_known matching.now)) }
+    ensures bios_are { IfOk result (λ m. m.bios.items ≡ all_bios options.now (all_known matching.now)) }
+    ensures fates_are { IfOk result (λ m. m.fates.items ≡ map (fate_by options.now (all_known matching.now)) roles.now) }
+    ensures absorbed { IfOk result (λ m. m.absorbed ≡ count_by (λ q. is_absorbed q.stage) matching.now.requests.items) }
 {
-    let lives = lives(alloc.clone()?, matching)?;
+    let lives = lives(
+        alloc.clone()?,
+        matching.requests.len(),
+        matching.absorptions.as_slice(),
+    )?;
     let taken = take_requests(alloc.clone()?, matching, lives.as_slice(), options)?;
     let Taken { requests, places } = taken;
     let bios = bios_of(
@@ -495,7 +511,7 @@ fn settle<A: Allocator + Clone>(
         lives.as_slice(),
         places.as_slice(),
     )?;
-    let (absorbed, left_out) = count_others(lives.as_slice(), places.as_slice());
+    let (absorbed, left_out) = count_others(matching.requests.as_slice(), places.as_slice());
     Ok(Matched {
         requests: count_bios(requests, bios.as_slice()),
         bios,
@@ -530,7 +546,7 @@ pub fn match_records<A: Allocator + Clone>(
     // each bio was made by a record
     ensures made { IfOk result (λ m. length m.bios.items ≡ told makes records.now m.fates.items) }
     // by the rules, letter by letter
-    ensures matching { IfOk result (λ m. IsMatching options.now records.now m.requests.items m.bios.items m.fates.items) }
+    ensures matching { IfOk result (λ m. IsMatching options.now records.now m.requests.items m.bios.items m.fates.items m.absorbed) }
     ensures order { OnOk result (AreInOrder records.now (length records.now)) }
     ensures fault { IfErr result (IsCaptureFault records.now) }
 {
@@ -560,7 +576,7 @@ fn match_in_order<A: Allocator + Clone>(
     ensures below { IfOk result (λ m. AreOfTaken (length m.requests.items) m.fates.items) }
     ensures opened { IfOk result (λ m. all_opened m ≡ told opens records.now m.fates.items) }
     ensures made { IfOk result (λ m. length m.bios.items ≡ told makes records.now m.fates.items) }
-    ensures matching { IfOk result (λ m. IsMatching options.now records.now m.requests.items m.bios.items m.fates.items) }
+    ensures matching { IfOk result (λ m. IsMatching options.now records.now m.requests.items m.bios.items m.fates.items m.absorbed) }
 {
     let mut matching = Matching::new(alloc.clone()?, options)?;
     let mut roles = Vec::with_capacity(alloc.clone()?, records.len())?;

@@ -3,6 +3,7 @@ use Rattle.std.specs.Prelude.{ℕ, ◌≡◌, ◌<◌, ◌+◌, min, List, [], �
 use Rattle.edd_commands.specs.declared.TheConstants.{MAX_COMMANDS}
 use Rattle.blk_capture.specs.Fates.{ArePassed, AreOfTaken, opens, makes, told}
 use Rattle.blk_capture.specs.Parting.{gone_before, part, bio_in, fate_in}
+use Rattle.blk_capture.specs.Settled.{IsMatching}
 use Rattle.blk_capture.specs.Requests.{AreTimed, HaveBios, AreTallied, AreGone, IsDue}
 use Rattle.blk_capture.specs.declared.fates.Fate.{Fate}
 use Rattle.blk_capture.specs.declared.record.Record.{Record}
@@ -34,6 +35,7 @@ pub record IsWholeImport (records : List Record) (options : Options) (requests :
   pub below : AreOfTaken (length requests) fates
   pub opened : length requests + absorbed + left_out ≡ told opens records fates
   pub made : length bios ≡ told makes records fates
+  pub matching : IsMatching options records requests bios fates absorbed
 
 -- and the part of it that is taken
 pub record IsImport (records : List Record) (asked : ImportAsked) (requests : List CapturedRequest) (bios : List CapturedBio) (fates : List Fate) (absorbed left_out : ℕ) : Type 0 where

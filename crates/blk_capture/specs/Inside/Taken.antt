@@ -1,5 +1,5 @@
 -- How the requests of a capture that are taken are found among all that were opened.
-use Rattle.std.specs.Prelude.{ℕ, All, ◌≡◌, ◌≤◌, ◌<◌, ◌⊎◌, ◌++◌, List, [], ◌∷◌, length, Option, Some, None, IfSome, slice_index, slice_index_or, slice_set}
+use Rattle.std.specs.Prelude.{ℕ, All, ◌≡◌, ◌≤◌, ◌<◌, ◌++◌, List, [], ◌∷◌, length, Option, Some, None, IfSome, slice_index, slice_index_or, slice_set}
 use Rattle.blk_capture.specs.declared.clock.Dispatch.{Dispatch}
 use Rattle.blk_capture.specs.Inside.Members.{request_into}
 use Rattle.blk_capture.specs.declared.members.QueuedBio.{QueuedBio}
@@ -14,9 +14,8 @@ pub record IsOwn (lives : List Life) (r : ℕ) : Type 0 where
   pub in_list : r < length lives
   pub root : (d : Life) → (slice_index_or lives r d).root ≡ r
 
--- the request of a dispatch, one that was merged into no other
-pub record IsRequestOf (lives : List Life) (openers : List ℕ) (x : Dispatch) (q : CapturedRequest) : Type 0 where
-  pub own : IsOwn lives x.request
+-- the request of a dispatch
+pub record IsRequestOf (openers : List ℕ) (x : Dispatch) (q : CapturedRequest) : Type 0 where
   pub opened : x.request < length openers
   pub opener : q.bio ≡ slice_index openers x.request
   pub timed : q.dispatched ≡ x.time
@@ -47,14 +46,10 @@ abbrev pub IsPlaceOfOwn : List Life → List (Option ℕ) → Option ℕ → Opt
 IsPlaceOfOwn lives places request place =
     (r : ℕ) → request ≡ Some r → IsOwn lives r → r < length places → place ≡ slice_index_or places r None
 
--- the request of a number is put in last, or was there
-abbrev pub PutsAt : ℕ → CapturedRequest → List CapturedRequest → List (Option ℕ) → List CapturedRequest → List (Option ℕ) → Type 0
-PutsAt number q old_requests old_places new_requests new_places =
-    ((new_requests ≡ old_requests) × (new_places ≡ old_places))
-    ⊎ ((number < length old_places) × (slice_index_or old_places number None ≡ None) × (new_places ≡ slice_set old_places number (Some (length old_requests))) × (new_requests ≡ old_requests ++ q ∷ []))
-
-abbrev pub Puts : {A : Type 0} → ℕ → CapturedRequest → Taken A → Taken A → Type 0
-Puts number q old new = PutsAt number q old.requests.items old.places.items new.requests.items new.places.items
+-- the request of a number is put in last
+pub record Puts {A : Type 0} (number : ℕ) (q : CapturedRequest) (old new : Taken A) : Type 0 where
+  pub places : new.places.items ≡ slice_set old.places.items number (Some (length old.requests.items))
+  pub requests : new.requests.items ≡ old.requests.items ++ q ∷ []
 
 -- the first n bios, with the places of the requests that they went out with: where they went into one that was merged into no other, its own
 pub record ArePlacedBios (lives : List Life) (places : List (Option ℕ)) (queued : List QueuedBio) (n : ℕ) (bios : List CapturedBio) : Type 0 where

@@ -1,13 +1,14 @@
-use Rattle.std.proofs.Common.{◌≡◌, ◌+◌, ◌<◌, ◌≤◌, ◌∙◌, ℕ, List, length, get_or, map, sym, ap, subst, arith}
+use Rattle.std.proofs.Common.{◌≡◌, ◌+◌, ◌<◌, ◌≤◌, ◌∙◌, ℕ, List, length, get_or, map, count_by, sym, ap, subst, arith}
 use Rattle.std.proofs.lemmas.Option.{slice_get-get_or}
 use Rattle.std.proofs.lemmas.List.{length_push, take_all}
 use Rattle.std.proofs.lemmas.Result.{IfOk-weaker}
 use Rattle.blk_capture.specs.Fates.{opened_by, made_by, told, opens, makes, is_matched, passed_by, ArePassed}
 use Rattle.blk_capture.specs.Inside.Roles.{is_known, opens_role, makes_role, passed_role}
 use Rattle.blk_capture.specs.Passing.{passed_over}
-use Rattle.blk_capture.proofs.Telling.{told_none, told_next, told_alike, mapped_more, fates_each, both_ok, three_ok}
-use Rattle.std.specs.List.{All}
-use Rattle.blk_capture.specs.Settled.{IsTakenFrom, IsMatching, without_request, captured_bio}
+use Rattle.blk_capture.proofs.Telling.{told_none, told_next, told_alike, mapped_more, fates_each, both_ok, four_ok}
+use Rattle.blk_capture.specs.Inside.Coherent.{IsCoherent}
+use Rattle.blk_capture.proofs.Cohering.{coherent_none, coherent_told}
+use Rattle.blk_capture.specs.Settled.{uncounted, taken_from, captured_bio, fate_by, is_absorbed, IsMatching}
 use Rattle.blk_capture.specs.Rules.{Known, IsTold, AreTold}
 use Rattle.blk_capture.specs.Inside.Matchings.{all_known}
 use Rattle.blk_capture.specs.declared.matching.Role.{Role}
@@ -27,6 +28,7 @@ loop-place-init g c =
       passed = ap (map passed_role) c.in_ok-roles.ensures.items;
       told = known;
       sound = c.in_ok-matching.ensures.sound;
+      coherent = subst (IsCoherent c.args.options.now c.in_ok-matching.matching.clock.now) (sym known) (coherent_none c.args.options.now c.in_ok-matching.matching.clock.now);
       options = c.in_ok-matching.ensures.options;
       now = λ d some. omega (arith, c.in_ok-matching.ensures.now);
     }
@@ -56,6 +58,9 @@ loop-place-preserved g c =
       passed = mapped_more passed_role passed_over roles new records n role no_record c.loop-place.invariant.passed here c.in_ok-role.ensures.passed c.in_ok-push.ensures.items;
       told = told_more o records roles new role n r before after c.loop-place.invariant.told c.loop-place.invariant.each (slice_get-get_or records n no_record here) c.in_ok-push.ensures.items rule;
       sound = c.in_ok-role.ensures.sound;
+      coherent =
+          subst (λ t. IsCoherent o t after) (sym (c.in_ok-role.ensures.rest.now ∙ c.set_time.ensures.now))
+          (coherent_told o n c.loop-place.matching.clock.now r before (after, role) (c.loop-place.invariant.now no_record here) c.loop-place.invariant.coherent rule);
       options = c.in_ok-role.ensures.rest.options ∙ same;
       now = λ d some. later_record records n no_record d c.take.new.self.clock.now here (c.in_ok-role.ensures.rest.now ∙ c.set_time.ensures.now) (c.requires n d some);
     }
@@ -103,7 +108,7 @@ returns-clause-matching g c =
     let roles : List Role = c.loop-place.roles.items in
     let all : c.loop-place.place ≡ length c.args.records.now = omega arith in
     let rules : AreTold o c.args.records.now roles (length c.args.records.now) m = subst (λ n. AreTold o c.args.records.now roles n m) all c.loop-place.invariant.told in
-    three_ok c.settle.result (λ t. All (IsTakenFrom o m) t.requests.items) (λ t. map without_request t.bios.items ≡ map captured_bio m.bios) (λ t. map is_matched t.fates.items ≡ map is_known c.as_slice.result.now)
-    (λ t. IsMatching o c.args.records.now t.requests.items t.bios.items t.fates.items)
-    (λ t taken are matched. record { known = m; roles = roles; by_rules = rules; requests_are = taken; bios_are = are; matched = matched ∙ ap (map is_known) c.as_slice.ensures.value })
-    c.settle.ensures.taken c.settle.ensures.bios_are c.settle.ensures.matched
+    four_ok c.settle.result (λ t. map uncounted t.requests.items ≡ taken_from o m m.dispatches) (λ t. t.bios.items ≡ map (captured_bio o m) m.bios) (λ t. t.fates.items ≡ map (fate_by o m) c.as_slice.result.now) (λ t. t.absorbed ≡ count_by (λ q. is_absorbed q.stage) m.requests)
+    (λ t. IsMatching o c.args.records.now t.requests.items t.bios.items t.fates.items t.absorbed)
+    (λ t taken bios fates gone. record { known = m; roles = roles; by_rules = rules; requests_are = taken; bios_are = bios; fates_are = fates ∙ ap (map (fate_by o m)) c.as_slice.ensures.value; absorbed_are = gone })
+    c.settle.ensures.taken c.settle.ensures.bios_are c.settle.ensures.fates_are c.settle.ensures.absorbed

@@ -17,7 +17,7 @@ returns-then-count-gt-MAX_COMMANDS-clause-err c =
       absorbed = c.in-Ok-part_of.part.absorbed;
       left_out = c.in-Ok-part_of.part.left_out;
       imported = imported c.args.records.now c.args.asked.now _ _ _ _ _ _ _ _ _ _ _ c.begin_after.ensures
-          (record { timed = all.timed; due = all.due; have_bios = all.bios; tallied = all.tallied; gone = all.gone; told_each = all.fates; passed = all.passed; below = all.below; opened = all.opened; made = all.made })
+          (record { timed = all.timed; due = all.due; have_bios = all.bios; tallied = all.tallied; gone = all.gone; told_each = all.fates; passed = all.passed; below = all.below; opened = all.opened; made = all.made; matching = all.matching })
           part.requests part.bios part.fates part.absorbed part.left_out;
       counted = omega (arith, c.len-count.ensures);
       many = omega arith;
@@ -28,5 +28,5 @@ returns-in-Ok-part_of-clause-ok c =
     let all = c.in-Ok.ensures in
     let part = c.in-Ok-part_of.ensures in
     imported c.args.records.now c.args.asked.now _ _ _ _ _ _ _ _ _ _ _ c.begin_after.ensures
-    (record { timed = all.timed; due = all.due; have_bios = all.bios; tallied = all.tallied; gone = all.gone; told_each = all.fates; passed = all.passed; below = all.below; opened = all.opened; made = all.made })
+    (record { timed = all.timed; due = all.due; have_bios = all.bios; tallied = all.tallied; gone = all.gone; told_each = all.fates; passed = all.passed; below = all.below; opened = all.opened; made = all.made; matching = all.matching })
     part.requests part.bios part.fates part.absorbed part.left_out
