@@ -1,5 +1,0 @@
-//! Tests of a script tried under a grid of settings.
-#![tactic(auto)]
-
-#[cfg(test)]
-mod tables;
