@@ -1,12 +1,12 @@
 -- An answer as a JSON value.
-use Rattle.std.specs.Prelude.{ℕ, List, [], ◌∷◌, Some, map, codes}
+use Rattle.std.specs.Prelude.{ℕ, List, [], ◌∷◌, map, codes}
 use Rattle.std.specs.List.{flat_map}
 use Rattle.json.specs.Json as json
 use Rattle.answer.specs.declared.names.TheConstants as names
 use Rattle.answer.specs.declared.value.Value.{Value}
 use Rattle.answer.specs.declared.value.Value.TheVariants.{Count, Signed, Text, Nothing, Remark, Window, Settings}
 use Rattle.answer.specs.declared.value.Set.{Set}
-use Rattle.answer.specs.declared.value.Set.TheVariants.{Number, Switch}
+use Rattle.answer.specs.declared.value.Set.TheVariants.{Number, Switch, Word}
 use Rattle.answer.specs.declared.value.Setting.{Setting}
 use Rattle.answer.specs.declared.cells.Column.{Column}
 use Rattle.answer.specs.declared.cells.Cell.{Cell}
@@ -14,7 +14,7 @@ use Rattle.answer.specs.declared.answer.Part.{Part}
 use Rattle.answer.specs.declared.answer.Part.TheVariants.{Member, Line, Rows, Object, Group}
 use Rattle.answer.specs.declared.answer.Entry.{Entry}
 use Rattle.answer.specs.Parts.{Sentence, Table, Grouped, row_cells}
-use Rattle.answer.specs.Values.{count, figure, array_of, object_of, value_line}
+use Rattle.answer.specs.Values.{count, signed_count, array_of, object_of, value_line}
 
 -- the first round of a window and the one in which it is due
 abbrev pub window_value : ℕ → ℕ → json.Json
@@ -24,13 +24,14 @@ window_value from due = object_of ((names.FROM.now, count from) ∷ (names.DUE.n
 abbrev pub set_value : Set → json.Json
 set_value (Number n) = count n
 set_value (Switch is_on) = json.boolean is_on
+set_value (Word w) = json.string w
 
 abbrev pub setting_told : Setting → List ℕ × json.Json
 setting_told s = (s.name, set_value s.set)
 
 abbrev pub json_value : Value → json.Json
 json_value (Count n) = count n
-json_value (Signed z) = figure (Some z)
+json_value (Signed z) = signed_count z
 json_value (Text w) = json.string w
 json_value (Nothing w) = json.null
 json_value (Remark w) = json.string w

@@ -6,7 +6,7 @@ use Rattle.std.proofs.Math.ListN.{replicate}
 use Rattle.answer.specs.declared.value.Value.{Value}
 use Rattle.answer.specs.declared.value.Value.TheVariants.{Count, Signed, Text, Nothing, Remark, Window, Settings}
 use Rattle.answer.specs.declared.value.Set.{Set}
-use Rattle.answer.specs.declared.value.Set.TheVariants.{Number, Switch}
+use Rattle.answer.specs.declared.value.Set.TheVariants.{Number, Switch, Word}
 use Rattle.answer.specs.declared.value.Setting.{Setting}
 use Rattle.answer.specs.declared.cells.Layout.{Layout}
 use Rattle.answer.specs.declared.cells.Layout.TheVariants as layout
@@ -21,6 +21,7 @@ abbrev pub set_text : Set → List ℕ
 set_text (Number n) = decimal n
 set_text (Switch true) = codes "on"
 set_text (Switch false) = codes "off"
+set_text (Word w) = w
 
 abbrev pub named_setting : Setting → List ℕ
 named_setting s = (s.name ++ codes "=") ++ set_text s.set

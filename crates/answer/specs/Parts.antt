@@ -50,6 +50,9 @@ windowed (Some w) = Window w.0 w.1
 abbrev pub column : Layout → List ℕ → Column
 column how name = record { layout = how; name = name }
 
+abbrev pub cell : Layout → List ℕ → Value → Cell
+cell how name value = record { column = column how name; value = value }
+
 -- the columns of records: all but the first stand after a comma
 abbrev pub record_columns : List (List ℕ) → List Column
 record_columns [] = []

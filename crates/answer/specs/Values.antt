@@ -1,5 +1,5 @@
 -- JSON values of numbers, lists and objects, and the line of a value.
-use Rattle.std.specs.Prelude.{ℕ, ℤ, List, [], ◌∷◌, ◌++◌, Option, None, Some, decimal}
+use Rattle.std.specs.Prelude.{ℕ, ℤ, List, [], ◌∷◌, ◌++◌, decimal}
 use Rattle.std.specs.Fmt.{signed_decimal}
 use Rattle.json.specs.Json as json
 use Rattle.json.specs.Print.{print}
@@ -9,10 +9,9 @@ use Rattle.json.specs.Tree.{json_tokens}
 abbrev pub count : ℕ → json.Json
 count n = json.number (decimal n)
 
--- a figure of either sign, or `null` where there is none
-abbrev pub figure : Option ℤ → json.Json
-figure None = json.null
-figure (Some z) = json.number (signed_decimal z)
+-- a number of either sign
+abbrev pub signed_count : ℤ → json.Json
+signed_count z = json.number (signed_decimal z)
 
 -- an object with these members, in this order
 abbrev pub members_of : List (List ℕ × json.Json) → json.Members

@@ -33,9 +33,10 @@ fn write_window(page: &mut Page, name: &str, from: u64, due: u64) -> Result<(), 
 fn write_setting(page: &mut Page, setting: &Setting) -> Result<(), AllocError>
     ensures { OnOk result (page.new ≡ page.old ++ set_tokens setting.now) }
 {
-    match setting.set {
-        Set::Number(number) => page.count(setting.name.text(), number),
-        Set::Switch(is_on) => page.boolean(setting.name.text(), is_on),
+    match &setting.set {
+        Set::Number(number) => page.count(setting.name.text(), *number),
+        Set::Switch(is_on) => page.boolean(setting.name.text(), *is_on),
+        Set::Word(word) => page.string(setting.name.text(), word.text()),
     }
 }
 
@@ -66,7 +67,7 @@ fn write_member(page: &mut Page, name: &Word, value: &Value) -> Result<(), Alloc
 {
     match value {
         Value::Count(count) => page.count(name.text(), *count),
-        Value::Signed(number) => page.figure(name.text(), Some(*number)),
+        Value::Signed(number) => page.signed(name.text(), *number),
         Value::Text(word) => page.string(name.text(), word.text()),
         Value::Nothing(_) => page.null(name.text()),
         Value::Remark(word) => page.string(name.text(), word.text()),

@@ -13,13 +13,14 @@ use drafts::Draft;
 use std::alloc::{AllocError, Global};
 
 /// Adds what a setting is set to.
-fn push_set(draft: &mut Draft, set: Set) -> Result<(), AllocError>
-    ensures { OnOk result (draft.new ≡ draft.old ++ set_text set) }
+fn push_set(draft: &mut Draft, set: &Set) -> Result<(), AllocError>
+    ensures { OnOk result (draft.new ≡ draft.old ++ set_text set.now) }
 {
     match set {
-        Set::Number(number) => draft.number(number),
+        Set::Number(number) => draft.number(*number),
         Set::Switch(true) => draft.text(b"on"),
         Set::Switch(false) => draft.text(b"off"),
+        Set::Word(word) => draft.text(word.text().as_bytes()),
     }
 }
 
@@ -29,7 +30,7 @@ fn push_setting(draft: &mut Draft, setting: &Setting) -> Result<(), AllocError>
 {
     draft.text(setting.name.text().as_bytes())?;
     draft.text(b"=")?;
-    push_set(draft, setting.set)
+    push_set(draft, &setting.set)
 }
 
 /// Adds settings that others stand before.

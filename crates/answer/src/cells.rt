@@ -1,7 +1,7 @@
 //! Cells of a line.
 
 ghost use Rattle.std.specs.Prelude.{◌≡◌, ◌∷◌, IfOk, map};
-ghost use Rattle.answer.specs.Parts.{record_columns};
+ghost use Rattle.answer.specs.Parts.{cell, record_columns};
 
 use crate::value::Value;
 use crate::word::Word;
@@ -82,4 +82,16 @@ pub struct Cell {
     pub column: Column,
     /// What it says.
     pub value: Value,
+}
+
+impl Cell {
+    /// Of this name, with this value.
+    pub fn new(layout: Layout, name: &'static str, value: Value) -> Cell
+        ensures { result ≡ cell layout name.now value }
+    {
+        Cell {
+            column: Column::new(layout, name),
+            value,
+        }
+    }
 }

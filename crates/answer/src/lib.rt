@@ -14,7 +14,6 @@ pub use crate::answer::{Answer, Entry, Group, Line, Part, Row, Rows, member};
 pub use crate::as_json::json;
 pub use crate::as_lines::lines;
 pub use crate::cells::{Cell, Column, Layout, record_columns};
-pub use crate::page::Page;
 pub use crate::value::{
     Set, Setting, Settings, Value, count_or_none, signed_or_none, window_or_none,
 };

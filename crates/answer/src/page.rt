@@ -1,10 +1,10 @@
 //! JSON that is being written, token by token.
 
-ghost use Rattle.std.specs.Prelude.{◌≡◌, ◌++◌, ◌∷◌, [], Some, IfOk, OnOk};
+ghost use Rattle.std.specs.Prelude.{◌≡◌, ◌++◌, ◌∷◌, [], IfOk, OnOk};
 ghost use Rattle.json.specs.Token as token;
 ghost use Rattle.json.specs.Json as value;
 ghost use Rattle.json.specs.Print.{print};
-ghost use Rattle.answer.specs.Values.{count, figure};
+ghost use Rattle.answer.specs.Values.{count, signed_count};
 ghost use Rattle.answer.specs.Inside.Tokens.{member_tokens};
 
 use json::Writer;
@@ -107,13 +107,10 @@ impl Page {
         self.writer.u64(number)
     }
 
-    /// Writes a member that is a figure of either sign, or `null`.
-    pub fn figure(&mut self, name: &str, number: Option<i64>) -> Result<(), AllocError>
-        ensures { OnOk result (self.new ≡ self.old ++ member_tokens name.now (figure number)) }
+    /// Writes a member that is a number of either sign.
+    pub fn signed(&mut self, name: &str, number: i64) -> Result<(), AllocError>
+        ensures { OnOk result (self.new ≡ self.old ++ member_tokens name.now (signed_count number)) }
     {
-        let Some(number) = number else {
-            return self.null(name);
-        };
         self.writer.key(name)?;
         self.writer.i64(number)
     }

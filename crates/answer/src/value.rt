@@ -27,12 +27,14 @@ pub enum Value {
 }
 
 /// What a setting is set to.
-#[derive(Clone, Copy, Debug, PartialEq, Eq)]
+#[derive(Drop)]
 pub enum Set {
     /// A number.
     Number(u64),
     /// On or off.
     Switch(bool),
+    /// A word of a list.
+    Word(Word),
 }
 
 /// A setting.

@@ -16,8 +16,8 @@ use Rattle.edd_check.specs.declared.Crowding.{Crowding}
 use Rattle.edd_check.specs.declared.CheckFault.{CheckFault}
 use Rattle.edd_check.specs.Check.{IsAnswer, IsCrowding}
 use Rattle.edd_commands.proofs.InForce.{carried_fixed}
-use Rattle.blk_settings.specs.declared.form.Form.{Form}
-use Rattle.blk_cli.specs.Certificates.{IsProof, IsRefusedBound, bound_in, verdict_in}
+use Rattle.answer.specs.declared.answer.Part.{Part}
+use Rattle.blk_cli.specs.Certificates.{IsProof, IsRefusedBound, bound_parts, verdict_parts}
 use Rattle.blk_cli.specs.Inside.Certificates.{IsCrowdingOf}
 use Rattle.edd_oracle.specs.Answer.{IsBest}
 use Rattle.blk_text.specs.TraceRecords.{EventFits}
@@ -99,11 +99,11 @@ crowding_of claim commands steps late other window c same_commands under is same
     let Q : ℤ → Type 0 = λ z. IsCrowding claim.commands (fixed claim.depth) z window c in
     subst (λ (b : Option (ℤ × Window)). IsCrowdingOf claim b (Some c)) (sym is) (subst Q same (subst P under (subst C same_commands h)))
 
--- what is written of a certificate with a bound
-pub verdict_is : {S E : Type 0} (f : Form) (text : S → List ℕ) (r : Result S E) (claim : Claim) (late other : ℤ) (window : Window) (found : Option Crowding) (c : Crowding) → claim.bound ≡ Some (late, window) → found ≡ Some c → other ≡ late
-    → IsCrowdingOf claim claim.bound found → IfOk r (λ s. text s ≡ bound_in f other c.load c.carries) → IfOk r (λ s. text s ≡ verdict_in f claim claim.bound)
-verdict_is f text (Err e) claim late other window found c is has same are h = tt
-verdict_is f text (Ok s) claim late other window found c is has same are h =
+-- what is said of a certificate with a bound
+pub verdict_is : {E : Type 0} (r : Result (List Part) E) (claim : Claim) (late other : ℤ) (window : Window) (found : Option Crowding) (c : Crowding) → claim.bound ≡ Some (late, window) → found ≡ Some c → other ≡ late
+    → IsCrowdingOf claim claim.bound found → IfOk r (λ a. a ≡ bound_parts other c.load c.carries) → IfOk r (λ a. a ≡ verdict_parts claim claim.bound)
+verdict_is (Err e) claim late other window found c is has same are h = tt
+verdict_is (Ok a) claim late other window found c is has same are h =
     let here : IsCrowding claim.commands (fixed claim.depth) late window c =
     subst (λ (o : Option Crowding). IsCrowdingOf claim (Some (late, window)) o) has (subst (λ (b : Option (ℤ × Window)). IsCrowdingOf claim b found) is are) in
     let carries : c.carries ≡ claim.depth * rounds_between window.from (pos window.due +ℤ late) =

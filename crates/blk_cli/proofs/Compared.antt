@@ -11,13 +11,16 @@ use Rattle.blk_runs.specs.declared.fault.RunFault.TheVariants as run
 use Rattle.blk_runs.specs.Runs.{IsTraceOfScript, IsUnrunBy}
 use Rattle.blk_runs.specs.Firsts.{RunsWhole, AreUnrun}
 use Rattle.blk_text.specs.Script.{Scripted}
+use Rattle.answer.specs.declared.answer.Part.{Part}
+use Rattle.blk_report.specs.Table.{IsTable}
 use Rattle.blk_report.specs.declared.figures.Report.{Report}
+use Rattle.blk_cli.specs.Forms.{written_in}
 use Rattle.blk_picture.specs.Pictures.{IsPictures}
 use Rattle.blk_trace.specs.Traces.{Traced}
 use Rattle.blk_settings.specs.declared.form.Form.{Form}
 use Rattle.blk_cli.specs.Scripts.{FailsToRun}
 use Rattle.blk_cli.specs.Inside.Scripts.{failure_of_run}
-use Rattle.blk_cli.specs.Comparing.{IsReportUnder, AreUnder, AreReports, AreTraces, IsUncompared, IsTableIn, IsComparedText, ArePicturesText}
+use Rattle.blk_cli.specs.Comparing.{IsReportUnder, AreUnder, AreReports, AreTraces, IsUncompared, IsComparedText, ArePicturesText}
 
 -- nothing yet, one more, and as many as schedulers
 pub none_yet : {X : Type 0} (Comes : Sched → Scripted → X → Type 0) (s : Scripted) → AreUnder Comes [] s []
@@ -79,11 +82,13 @@ said_of_runs ss s (run.Step f) h = h
 said_of_runs ss s run.Memory h = tt
 
 -- the table of what was compared
-pub table_is : (l : Lineup) (f : Form) (ss : List Sched) (s : Scripted) (rs : List Report) (text : List ℕ) → ss ≡ in_turn l → AreReports ss s rs → IsTableIn f (map name_of ss) rs text → IsComparedText l f s text
-table_is l f ss s rs text e are is = record {
+pub table_is : (l : Lineup) (f : Form) (ss : List Sched) (s : Scripted) (rs : List Report) (told : List Part) (text : List ℕ) → ss ≡ in_turn l → AreReports ss s rs → IsTable (map name_of ss) rs told → text ≡ written_in f told → IsComparedText l f s text
+table_is l f ss s rs told text e are is written = record {
   reports = rs;
   are_reports = subst (λ (xs : List Sched). AreReports xs s rs) e are;
-  is_table = subst (λ (xs : List Sched). IsTableIn f (map name_of xs) rs text) e is;
+  told = told;
+  is_table = subst (λ (xs : List Sched). IsTable (map name_of xs) rs told) e is;
+  is_text = written;
 }
 
 -- the pictures of what was traced

@@ -8,6 +8,6 @@ use Rattle.blk_settings.specs.Scheds.{name_of}
 pub as_long : (names : List (Bor (List ℕ))) (scheds : List Sched) → map (λ (name : Bor (List ℕ)). name.now) names ≡ map name_of scheds → length names ≡ length scheds
 as_long names scheds e = sym (length-map names (λ (name : Bor (List ℕ)). name.now)) ∙ ap length e ∙ length-map scheds name_of
 
--- what holds of a text under names holds of it under names that are equal
-pub named_as : {X E : Type 0} (text : X → List ℕ) (r : Result X E) (names own : List (List ℕ)) (Is : List (List ℕ) → List ℕ → Type 0) → names ≡ own → IfOk r (λ x. Is names (text x)) → IfOk r (λ x. Is own (text x))
-named_as text r names own Is e h = subst (λ (ns : List (List ℕ)). IfOk r (λ x. Is ns (text x))) e h
+-- what holds of an answer under names holds of it under names that are equal
+pub named_as : {X E : Type 0} (r : Result X E) (names own : List (List ℕ)) (Is : List (List ℕ) → X → Type 0) → names ≡ own → IfOk r (Is names) → IfOk r (Is own)
+named_as r names own Is e h = subst (λ (ns : List (List ℕ)). IfOk r (Is ns)) e h

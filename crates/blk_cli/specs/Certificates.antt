@@ -1,6 +1,12 @@
 -- Certificates: what one proves, what is written of a list, and the line on one that was checked.
-use Rattle.std.specs.Prelude.{◌≡◌, ◌↔◌, ◌*◌, ◌++◌, ◌∷◌, ⊤, ℕ, ℤ, pos, ◌+ℤ◌, List, [], length, Option, None, Some, Err, IfSome, codes, decimal}
-use Rattle.std.specs.Fmt.{signed_decimal}
+use Rattle.std.specs.Prelude.{◌≡◌, ◌↔◌, ◌*◌, ◌++◌, ◌∷◌, ⊤, ℕ, ℤ, pos, ◌+ℤ◌, List, [], length, Option, None, Some, Err, IfSome, codes}
+use Rattle.answer.specs.declared.names.TheConstants as names
+use Rattle.answer.specs.declared.value.Value.TheVariants.{Count, Signed, Nothing}
+use Rattle.answer.specs.declared.cells.Cell.{Cell}
+use Rattle.answer.specs.declared.cells.Layout.TheVariants.{Plain, NextName, Words}
+use Rattle.answer.specs.declared.answer.Part.{Part}
+use Rattle.answer.specs.declared.answer.Part.TheVariants.{Line}
+use Rattle.answer.specs.Parts.{cell}
 use Rattle.edd_commands.specs.declared.Command.{Command}
 use Rattle.edd_check.specs.declared.CheckFault.{CheckFault}
 use Rattle.edd_check.specs.declared.on_time.OnTimeFault.{OnTimeFault}
@@ -19,9 +25,8 @@ use Rattle.blk_lists.specs.Commands.{SpellsCommands}
 use Rattle.blk_lists.specs.Certificate.{Claim, claim_rows, SpellsClaim}
 use Rattle.blk_lists.specs.OnTime.{OnTimeClaim, on_time_rows, SpellsOnTime}
 use Rattle.blk_lists.specs.Proof.{ProofClaim, OfLateness, OfOnTime}
-use Rattle.blk_answers.specs.Proofs.{bound_json, no_commands_json, on_time_json}
 use Rattle.blk_settings.specs.declared.form.Form.{Form}
-use Rattle.blk_settings.specs.declared.form.Form.TheVariants as form
+use Rattle.blk_cli.specs.Forms.{written_in}
 use Rattle.blk_cli.specs.declared.failure.Failure.{Failure}
 use Rattle.blk_cli.specs.declared.failure.Failure.TheVariants as failure
 use Rattle.blk_words.specs.declared.inputs.Solving.{Solving}
@@ -75,41 +80,35 @@ IsUnsolved list (failure.Solve f) = IsRefusal list.1 f
 IsUnsolved list failure.Memory = ⊤
 IsUnsolved list f = ⊥
 
--- the line on a certificate: how late it is, and what its window holds and carries
-abbrev pub bound_line : ℤ → ℕ → ℕ → List ℕ
-bound_line late load carries =
-    codes "ok lateness " ++ (signed_decimal late ++ (codes " load " ++ (decimal load ++ (codes " carries " ++ (decimal carries ++ 10 ∷ [])))))
+-- what is said on one line
+abbrev pub sentence_parts : List Cell → List ℕ → List Part
+sentence_parts cells end = Line (record { cells = cells; end = end }) ∷ []
 
--- the line for a certificate, as text or JSON; the next word is for one without commands
-abbrev pub bound_in : Form → ℤ → ℕ → ℕ → List ℕ
-bound_in form.Lines late load carries = bound_line late load carries
-bound_in form.Json late load carries = bound_json late load carries
+-- what is said of a certificate: how late it is, and what its window holds and carries; nothing of one without commands
+abbrev pub bound_parts : ℤ → ℕ → ℕ → List Part
+bound_parts late load carries =
+    sentence_parts (cell (Words (codes "ok lateness ")) names.LATENESS.now (Signed late) ∷ cell NextName names.LOAD.now (Count load) ∷ cell NextName names.CARRIES.now (Count carries) ∷ []) (10 ∷ [])
 
-abbrev pub no_commands_in : Form → List ℕ
-no_commands_in form.Lines = codes "ok no commands" ++ 10 ∷ []
-no_commands_in form.Json = no_commands_json
+abbrev pub no_commands_parts : List Part
+no_commands_parts =
+    sentence_parts (cell (Words (codes "ok ")) names.LATENESS.now (Nothing (codes "no commands")) ∷ cell Plain names.LOAD.now (Nothing []) ∷ cell Plain names.CARRIES.now (Nothing []) ∷ []) (10 ∷ [])
 
-abbrev pub verdict_in : Form → Claim → Option (ℤ × Window) → List ℕ
-verdict_in f claim None = no_commands_in f
-verdict_in f claim (Some b) = bound_in f b.0 (load_of claim.commands b.1) (claim.depth * rounds_between b.1.from (pos b.1.due +ℤ b.0))
+abbrev pub verdict_parts : Claim → Option (ℤ × Window) → List Part
+verdict_parts claim None = no_commands_parts
+verdict_parts claim (Some b) = bound_parts b.0 (load_of claim.commands b.1) (claim.depth * rounds_between b.1.from (pos b.1.due +ℤ b.0))
 
 -- the check refuses the certificate that was read, which has a bound
 abbrev pub IsRefusedBound : Claim → CheckFault → Option (ℤ × Window) → Type 0
 IsRefusedBound claim f b = (late : ℤ) × (window : Window) × (b ≡ Some (late, window))
     × IsAnswer claim.commands (fixed claim.depth) late claim.rounds window (Err f)
 
--- the line on such a certificate: how many commands are on time and how many there are, how many windows, what these carry, and how many
+-- what is said of one of what is on time: how many commands are and how many there are, how many windows, what these carry, and how many
 -- commands that can be on time lie in none
-abbrev pub on_time_line : ℕ → ℕ → ℕ → ℕ → ℕ → List ℕ
-on_time_line on_time count windows carried rest =
-    codes "ok met " ++ (decimal on_time ++ (codes " of " ++ (decimal count ++ (codes " windows " ++ (decimal windows ++ (codes " carry " ++ (decimal carried ++ (codes " and " ++ (decimal rest ++ (codes " outside" ++ 10 ∷ []))))))))))
-
-abbrev pub on_time_in : Form → ℕ → ℕ → ℕ → ℕ → ℕ → List ℕ
-on_time_in form.Lines on_time count windows carried rest = on_time_line on_time count windows carried rest
-on_time_in form.Json on_time count windows carried rest = on_time_json on_time count windows carried rest
-
-abbrev pub on_time_verdict_in : Form → OnTimeClaim → List ℕ
-on_time_verdict_in f claim = on_time_in f claim.on_time (length claim.commands) (length claim.cover) (carried_by (fixed claim.depth) claim.cover) (outside_of claim.commands claim.cover)
+abbrev pub on_time_verdict_parts : OnTimeClaim → List Part
+on_time_verdict_parts claim =
+    sentence_parts (cell (Words (codes "ok met ")) names.MET.now (Count claim.on_time) ∷ cell NextName names.OF.now (Count (length claim.commands))
+    ∷ cell NextName names.WINDOWS.now (Count (length claim.cover)) ∷ cell NextName names.CARRY.now (Count (carried_by (fixed claim.depth) claim.cover))
+    ∷ cell (Words (codes " and ")) names.OUTSIDE.now (Count (outside_of claim.commands claim.cover)) ∷ []) (codes " outside" ++ 10 ∷ [])
 
 -- the check refuses one of what is on time
 abbrev pub IsRefusedOnTime : OnTimeClaim → OnTimeFault → Type 0
@@ -117,8 +116,8 @@ IsRefusedOnTime claim f = IsOnTimeAnswer claim.commands (fixed claim.depth) clai
 
 -- what `check` writes in a form, of a certificate of either kind, which is proved
 abbrev pub IsCheckText : Form → ProofClaim → List ℕ → Type 0
-IsCheckText f (OfLateness claim) text = IsProved claim × (text ≡ verdict_in f claim claim.bound)
-IsCheckText f (OfOnTime claim) text = IsOnTimeProved claim × (text ≡ on_time_verdict_in f claim)
+IsCheckText f (OfLateness claim) text = IsProved claim × (text ≡ written_in f (verdict_parts claim claim.bound))
+IsCheckText f (OfOnTime claim) text = IsOnTimeProved claim × (text ≡ written_in f (on_time_verdict_parts claim))
 
 -- why a certificate is not proved
 abbrev pub IsUnproved : Claim → Failure → Type 0

@@ -1,16 +1,15 @@
 -- The schedulers beside one another over a script, and what is written of a script.
-use Rattle.std.specs.Prelude.{◌∷◌, ⊤, ℕ, List, [], map}
+use Rattle.std.specs.Prelude.{◌≡◌, ◌∷◌, ⊤, ℕ, List, [], map}
+use Rattle.answer.specs.declared.answer.Part.{Part}
 use Rattle.blk_trace.specs.Traces.{Traced}
 use Rattle.blk_text.specs.Script.{Scripted}
 use Rattle.blk_report.specs.declared.figures.Report.{Report}
 use Rattle.blk_report.specs.Shortfall.{IsReport}
 use Rattle.blk_report.specs.Table.{IsTable}
 use Rattle.blk_picture.specs.Pictures.{IsPictures}
-use Rattle.blk_answers.specs.Tables.{IsTableJson}
 use Rattle.blk_words.specs.declared.inputs.Running.{Running}
 use Rattle.blk_words.specs.declared.inputs.Running.TheVariants as running
 use Rattle.blk_settings.specs.declared.form.Form.{Form}
-use Rattle.blk_settings.specs.declared.form.Form.TheVariants as form
 use Rattle.blk_runs.specs.Runs.{IsTraceOfScript}
 use Rattle.blk_runs.specs.Firsts.{AreUnmade, IsFirstRefused}
 use Rattle.blk_settings.specs.declared.sched.Lineup.{Lineup}
@@ -19,6 +18,7 @@ use Rattle.blk_settings.specs.Scheds.{name_of, in_turn}
 use Rattle.blk_cli.specs.declared.failure.Failure.{Failure}
 use Rattle.blk_cli.specs.declared.failure.Failure.TheVariants as failure
 use Rattle.blk_cli.specs.Said.{Said, IsAlone}
+use Rattle.blk_cli.specs.Forms.{written_in}
 use Rattle.blk_cli.specs.Scripts.{IsSimText, FailsToRun}
 use Rattle.blk_cli.specs.Unflushed.{TellsPlugs}
 
@@ -41,16 +41,13 @@ AreReports ss script rs = AreUnder IsReportUnder ss script rs
 abbrev pub AreTraces : List Sched → Scripted → List Traced → Type 0
 AreTraces ss script ts = AreUnder IsTraceOfScript ss script ts
 
--- the table of reports in a form, each with its scheduler's name
-abbrev pub IsTableIn : Form → List (List ℕ) → List Report → List ℕ → Type 0
-IsTableIn form.Lines names reports text = IsTable names reports text
-IsTableIn form.Json names reports text = IsTableJson names reports text
-
--- what `compare` writes: the table of these reports
+-- what `compare` writes: the table of these reports, each under its scheduler's name
 pub record IsComparedText (l : Lineup) (f : Form) (script : Scripted) (text : List ℕ) : Type 0 where
   pub reports : List Report
   pub are_reports : AreReports (in_turn l) script reports
-  pub is_table : IsTableIn f (map name_of (in_turn l)) reports text
+  pub told : List Part
+  pub is_table : IsTable (map name_of (in_turn l)) reports told
+  pub is_text : text ≡ written_in f told
 
 -- what `picture --script` writes: the pictures of these traces as one
 pub record ArePicturesText (l : Lineup) (script : Scripted) (text : List ℕ) : Type 0 where

@@ -1,13 +1,14 @@
 -- What is said about a schedule, and why nothing is.
 use Rattle.std.specs.Prelude.{◌≡◌, ◌==◌, ⊤, ℕ, Bool, true, false, if◌then◌else◌, List, length, Option, None, Some, codes}
+use Rattle.answer.specs.Lines.{answer_lines}
 use Rattle.edd_commands.specs.Capacity.{fixed}
 use Rattle.edd_figures.specs.declared.lateness.Figures.{Figures}
 use Rattle.edd_figures.specs.declared.missing.Counts.{Counts}
 use Rattle.edd_figures.specs.declared.missing.Crowd.{Crowd}
+use Rattle.blk_judge.specs.Answers.{judged_parts, missed_parts}
 use Rattle.blk_judge.specs.declared.missing.Miss.{Miss}
 use Rattle.blk_judge.specs.Judged.{IsRefusedSchedule, IsJudgement}
 use Rattle.blk_judge.specs.Late.{AreMissed}
-use Rattle.blk_judge.specs.Text.{judged_text, miss_records}
 use Rattle.blk_lists.specs.Schedule.{ScheduleView}
 use Rattle.blk_cli.specs.Lines.{line}
 use Rattle.blk_cli.specs.Said.{Said}
@@ -20,13 +21,13 @@ pub record IsWholeText (s : ScheduleView) (text : List ℕ) : Type 0 where
   pub windows : List Crowd
   pub figures : Option Figures
   pub judged : IsJudgement s.commands s.rounds (fixed s.depth) counts windows figures
-  pub is_text : text ≡ judged_text counts figures windows
+  pub is_text : text ≡ answer_lines (judged_parts counts figures windows)
 
 -- and of each of its late commands
 pub record IsEachText (s : ScheduleView) (text : List ℕ) : Type 0 where
   pub misses : List Miss
   pub missed : AreMissed s.commands s.rounds (fixed s.depth) misses
-  pub is_text : text ≡ miss_records misses
+  pub is_text : text ≡ answer_lines (missed_parts misses)
 
 -- the one that is asked for
 abbrev pub IsJudgedText : Bool → ScheduleView → List ℕ → Type 0

@@ -1,5 +1,7 @@
 pub mod Said
 pub mod Inputs
+pub mod Forms
+pub mod Figures
 pub mod Scripts
 pub mod Unflushed
 pub mod Comparing

@@ -1,5 +1,9 @@
 -- What a load comes to.
-use Rattle.std.specs.Prelude.{◌≡◌, ◌++◌, ◌∷◌, ⊤, ℕ, List, [], codes, decimal}
+use Rattle.std.specs.Prelude.{◌≡◌, ◌∷◌, ⊤, ℕ, List, []}
+use Rattle.answer.specs.declared.names.TheConstants as names
+use Rattle.answer.specs.declared.value.Value.TheVariants.{Count}
+use Rattle.answer.specs.declared.answer.Part.{Part}
+use Rattle.answer.specs.declared.answer.Part.TheVariants.{Member}
 use Rattle.blk_settings.specs.declared.sched.Sched.{Sched}
 use Rattle.blk_cli.specs.declared.failure.Failure.{Failure}
 use Rattle.blk_cli.specs.declared.failure.Failure.TheVariants as failure
@@ -11,26 +15,18 @@ use Rattle.blk_settings.specs.declared.Settled.{Settled}
 use Rattle.blk_settings.specs.declared.numbers.Load.{Load}
 use Rattle.blk_trace.specs.Events.{AreOnce}
 use Rattle.blk_trace.specs.Traces.{Traced}
-use Rattle.blk_answers.specs.Loads.{load_json}
-use Rattle.blk_settings.specs.declared.form.Form.{Form}
-use Rattle.blk_settings.specs.declared.form.Form.TheVariants as form
 use Rattle.blk_words.specs.declared.words.ShownLoad.{ShownLoad}
 use Rattle.blk_words.specs.declared.words.ShownLoad.TheVariants as shown
+use Rattle.blk_cli.specs.Forms.{written_in}
 use Rattle.blk_cli.specs.OfTraces.{IsTraceText}
 
--- the lines on what came of a load: how many bios were accepted, served and left
-abbrev pub load_lines : ℕ → ℕ → ℕ → List ℕ
-load_lines accepted served left =
-    codes "accepted " ++ (decimal accepted ++ (10 ∷ codes "served " ++ (decimal served ++ (10 ∷ codes "left " ++ (decimal left ++ 10 ∷ [])))))
+-- what came of a load: how many bios were accepted, served and left
+abbrev pub load_parts : Settled → List Part
+load_parts s = Member names.ACCEPTED.now (Count s.accepted) ∷ Member names.SERVED.now (Count s.served) ∷ Member names.LEFT.now (Count s.left) ∷ []
 
--- these numbers in a form
-abbrev pub account_in : Form → ℕ → ℕ → ℕ → List ℕ
-account_in form.Lines accepted served left = load_lines accepted served left
-account_in form.Json accepted served left = load_json accepted served left
-
--- the text on it: its numbers in a form, or the text that spells its trace
+-- the text on it: this in a form, or the text that spells its trace
 abbrev pub IsLoadText : ShownLoad → Traced → Settled → List ℕ → Type 0
-IsLoadText (shown.Account f) trace s text = text ≡ account_in f s.accepted s.served s.left
+IsLoadText (shown.Account f) trace s text = text ≡ written_in f (load_parts s)
 IsLoadText shown.Trace trace s text = IsTraceText trace text
 
 -- what `load` writes, of the trace of its layer, which is one that the scheduler makes, and of what it came to by this, where no two

@@ -8,7 +8,7 @@ use Rattle.blk_lists.specs.Commands.{SpellsCommands, commands_rows}
 use Rattle.blk_lists.specs.Texts.{rows_text}
 use Rattle.blk_text.specs.TraceForm.{trace_rows, SpellsTraceIn}
 use Rattle.blk_text.specs.declared.setup.TheConstants.{LATEST}
-use Rattle.blk_answers.specs.Figures.{IsFiguresText}
+use Rattle.blk_cli.specs.Figures.{IsFiguresText}
 use Rattle.blk_picture.specs.Pictures.{IsPicture}
 use Rattle.blk_words.specs.declared.inputs.Telling.{Telling}
 use Rattle.blk_words.specs.declared.inputs.Telling.TheVariants as telling

@@ -5,14 +5,14 @@ use Rattle.blk_text.specs.Script.{Scripted, SpellsScript, ScriptFault}
 use Rattle.blk_settings.specs.declared.sched.Sched.{Sched}
 use Rattle.blk_settings.specs.Wanted.{Wanted}
 use Rattle.blk_tune.specs.declared.row.TrialRow.{TrialRow}
-use Rattle.blk_tune.specs.Tuned.{AreTuned, IsTuned}
-use Rattle.blk_answers.specs.Trials.{trial_json}
+use Rattle.blk_tune.specs.Tuned.{AreTuned}
+use Rattle.blk_tune.specs.Answers.{trial_parts}
 use Rattle.blk_words.specs.Asked.{AsksGrid}
 use Rattle.blk_settings.specs.declared.form.Form.{Form}
-use Rattle.blk_settings.specs.declared.form.Form.TheVariants as form
 use Rattle.blk_words.specs.declared.words.Tuning.{Tuning}
 use Rattle.blk_cli.specs.declared.failure.Failure.{Failure}
 use Rattle.blk_cli.specs.declared.failure.Failure.TheVariants as failure
+use Rattle.blk_cli.specs.Forms.{written_in}
 use Rattle.blk_cli.specs.Comparing.{IsUncompared}
 use Rattle.blk_cli.specs.Inputs.{FailsOver}
 
@@ -20,15 +20,11 @@ use Rattle.blk_cli.specs.Inputs.{FailsOver}
 abbrev pub wanted_by : Tuning → List Sched → Wanted
 wanted_by t g = record { grid = g; by = t.by; top = t.top }
 
--- the rows of a trial as a JSON value, and in a form
-pub record IsTunedJson (w : Wanted) (script : Scripted) (text : List ℕ) : Type 0 where
+-- what is said of a trial, in a form
+pub record IsTunedIn (f : Form) (w : Wanted) (script : Scripted) (text : List ℕ) : Type 0 where
   pub rows : List TrialRow
   pub are_tuned : AreTuned w script rows
-  pub is_text : text ≡ trial_json w.by w.top rows
-
-abbrev pub IsTunedIn : Form → Wanted → Scripted → List ℕ → Type 0
-IsTunedIn form.Lines w script text = IsTuned w script text
-IsTunedIn form.Json w script text = IsTunedJson w script text
+  pub is_text : text ≡ written_in f (trial_parts w.by w.top rows)
 
 -- what `tune` writes: the rows of the grid that the words ask for
 pub record IsTrial (words : List (List ℕ)) (t : Tuning) (script : Scripted) (text : List ℕ) : Type 0 where

@@ -6,11 +6,13 @@ ghost use Rattle.blk_lists.specs.Certificate.{IsClaim, claimed};
 ghost use Rattle.blk_lists.specs.OnTime.{on_time_claimed, IsOnTimeClaim};
 ghost use Rattle.blk_lists.specs.Proof.{OfLateness, OfOnTime, SpellsProof, ProofFault, proof_claimed, IsProofClaim};
 ghost use Rattle.blk_cli.specs.Inputs.{Of, FailsOver};
-ghost use Rattle.blk_cli.specs.Certificates.{IsProved, IsOnTimeProved, IsUnproved, IsOnTimeUnproved, IsCheckText, IsBad, bound_in, no_commands_in, verdict_in, on_time_in, on_time_verdict_in};
+ghost use Rattle.blk_cli.specs.Certificates.{IsProved, IsOnTimeProved, IsUnproved, IsOnTimeUnproved, IsCheckText, IsBad, sentence_parts, bound_parts, no_commands_parts, verdict_parts, on_time_verdict_parts};
 ghost use Rattle.blk_cli.specs.Inside.Certificates.{IsCrowdingOf, IsBoundOf};
 
 use crate::failure::Failure;
-use blk_answers::{bound_json, no_commands_json, on_time_json};
+use crate::forms::written;
+use answer::names::{CARRIES, CARRY, LATENESS, LOAD, MET, OF, OUTSIDE, WINDOWS};
+use answer::{Answer, Cell, Layout, Line, Part, Value, Word};
 use blk_lists::{Certificate, OnTimeCertificate, Proof, Records, read_proof};
 use blk_words::Form;
 use edd_check::{Bound, Crowding, check, check_on_time};
@@ -41,55 +43,72 @@ fn verify(alloc: Global, certificate: &Certificate) -> Result<Option<Crowding>, 
     }
 }
 
-/// What is written of a certificate without commands, in this form.
-fn no_commands_text(alloc: Global, form: Form) -> Result<Vec<u8>, AllocError>
-    ensures { IfOk result (λ text. text.items ≡ no_commands_in form) }
+/// What is said on one line, and what ends it.
+fn sentence(alloc: Global, cells: Vec<Cell>, end: &'static str) -> Result<Answer, AllocError>
+    ensures { IfOk result (λ answer. answer ≡ sentence_parts cells.items end.now) }
 {
-    match form {
-        Form::Lines => match String::from_str(alloc, "ok no commands\n") {
-            Ok(line) => Ok(line.into_bytes()),
-            Err(refused) => Err(refused),
-        },
-        Form::Json => no_commands_json(alloc),
-    }
+    let mut answer = Answer::new(alloc);
+    answer.add(Part::Line(Line::new(cells, end)))?;
+    Ok(answer)
 }
 
-/// What is written of one with a bound, whose window holds `asked` commands and carries `carries`.
-fn bound_text(
+/// What is said of a certificate without commands: each of its members is nothing.
+fn no_commands_answer(alloc: Global) -> Result<Answer, AllocError>
+    ensures { IfOk result (λ answer. answer ≡ no_commands_parts) }
+{
+    let cells = Vec::from_array(
+        alloc,
+        [
+            Cell::new(
+                Layout::Words(Word::new("ok ")),
+                LATENESS,
+                Value::Nothing(Word::new("no commands")),
+            ),
+            Cell::new(Layout::Plain, LOAD, Value::Nothing(Word::new(""))),
+            Cell::new(Layout::Plain, CARRIES, Value::Nothing(Word::new(""))),
+        ],
+    )?;
+    sentence(alloc, cells, "\n")
+}
+
+/// What is said of one with a bound, whose window holds `asked` commands and carries `carries`.
+fn bound_answer(
     alloc: Global,
-    form: Form,
     lateness: i64,
     asked: u64,
     carries: u64,
-) -> Result<Vec<u8>, AllocError>
-    ensures { IfOk result (λ text. text.items ≡ bound_in form lateness asked carries) }
+) -> Result<Answer, AllocError>
+    ensures { IfOk result (λ answer. answer ≡ bound_parts lateness asked carries) }
 {
-    match form {
-        Form::Lines => {
-            match format!(in alloc; "ok lateness {lateness} load {asked} carries {carries}\n") {
-                Ok(line) => Ok(line.into_bytes()),
-                Err(refused) => Err(refused),
-            }
-        }
-        Form::Json => bound_json(alloc, lateness, asked, carries),
-    }
+    let cells = Vec::from_array(
+        alloc,
+        [
+            Cell::new(
+                Layout::Words(Word::new("ok lateness ")),
+                LATENESS,
+                Value::Signed(lateness),
+            ),
+            Cell::new(Layout::NextName, LOAD, Value::Count(asked)),
+            Cell::new(Layout::NextName, CARRIES, Value::Count(carries)),
+        ],
+    )?;
+    sentence(alloc, cells, "\n")
 }
 
-/// What is written of a certificate that was verified, whose window is this crowded.
+/// What is said of a certificate that was verified, whose window is this crowded.
 fn verdict(
     alloc: Global,
-    form: Form,
     certificate: &Certificate,
     crowding: Option<Crowding>,
-) -> Result<Vec<u8>, AllocError>
+) -> Result<Answer, AllocError>
     requires { IsCrowdingOf (claimed certificate.now) (claimed certificate.now).bound crowding }
-    ensures { IfOk result (λ text. text.items ≡ verdict_in form (claimed certificate.now) (claimed certificate.now).bound) }
+    ensures { IfOk result (λ answer. answer ≡ verdict_parts (claimed certificate.now) (claimed certificate.now).bound) }
 {
     match (certificate.bound, crowding) {
         (Some((lateness, _)), Some(crowding)) => {
-            bound_text(alloc, form, lateness, crowding.load, crowding.carries)
+            bound_answer(alloc, lateness, crowding.load, crowding.carries)
         }
-        _ => no_commands_text(alloc, form),
+        _ => no_commands_answer(alloc),
     }
 }
 
@@ -107,7 +126,10 @@ fn lateness_checked(
         Ok(crowding) => crowding,
         Err(failure) => return Err(failure),
     };
-    match verdict(alloc, form, certificate, crowding) {
+    let Ok(answer) = verdict(alloc, certificate, crowding) else {
+        return Err(Failure::Memory);
+    };
+    match written(alloc, form, &answer) {
         Ok(text) => Ok(text),
         Err(_) => Err(Failure::Memory),
     }
@@ -141,53 +163,36 @@ fn verify_on_time(
     }
 }
 
-/// What is written of one of `count` commands of which `on_time` are on time, whose `windows` carry `carries`, with `rest` outside of them.
-fn on_time_text(
-    alloc: Global,
-    form: Form,
-    on_time: u64,
-    count: u64,
-    windows: u64,
-    carries: u64,
-    rest: u64,
-) -> Result<Vec<u8>, AllocError>
-    ensures { IfOk result (λ text. text.items ≡ on_time_in form on_time count windows carries rest) }
-{
-    match form {
-        Form::Lines => {
-            match format!(in alloc;
-                "ok met {on_time} of {count} windows {windows} carry {carries} and {rest} outside\n"
-            ) {
-                Ok(line) => Ok(line.into_bytes()),
-                Err(refused) => Err(refused),
-            }
-        }
-        Form::Json => on_time_json(alloc, on_time, count, windows, carries, rest),
-    }
-}
-
-/// What is written of a certificate that was verified, whose windows have this bound.
+/// What is said of a certificate that was verified, whose windows have this bound.
 fn on_time_verdict(
     alloc: Global,
-    form: Form,
     certificate: &OnTimeCertificate,
     bound: Bound,
-) -> Result<Vec<u8>, AllocError>
+) -> Result<Answer, AllocError>
     requires { IsBoundOf (on_time_claimed certificate.now) bound }
-    ensures { IfOk result (λ text. text.items ≡ on_time_verdict_in form (on_time_claimed certificate.now)) }
+    ensures { IfOk result (λ answer. answer ≡ on_time_verdict_parts (on_time_claimed certificate.now)) }
 {
-    let on_time = certificate.on_time;
     let count = certificate.commands.len() as u64;
     let windows = certificate.cover.len() as u64;
-    on_time_text(
+    let cells = Vec::from_array(
         alloc,
-        form,
-        on_time,
-        count,
-        windows,
-        bound.carries,
-        bound.outside,
-    )
+        [
+            Cell::new(
+                Layout::Words(Word::new("ok met ")),
+                MET,
+                Value::Count(certificate.on_time),
+            ),
+            Cell::new(Layout::NextName, OF, Value::Count(count)),
+            Cell::new(Layout::NextName, WINDOWS, Value::Count(windows)),
+            Cell::new(Layout::NextName, CARRY, Value::Count(bound.carries)),
+            Cell::new(
+                Layout::Words(Word::new(" and ")),
+                OUTSIDE,
+                Value::Count(bound.outside),
+            ),
+        ],
+    )?;
+    sentence(alloc, cells, " outside\n")
 }
 
 /// What is written of a certificate of what is on time, which proves it.
@@ -207,7 +212,10 @@ fn on_time_checked(
         Ok(bound) => bound,
         Err(failure) => return Err(failure),
     };
-    match on_time_verdict(alloc, form, certificate, bound) {
+    let Ok(answer) = on_time_verdict(alloc, certificate, bound) else {
+        return Err(Failure::Memory);
+    };
+    match written(alloc, form, &answer) {
         Ok(text) => Ok(text),
         Err(_) => Err(Failure::Memory),
     }

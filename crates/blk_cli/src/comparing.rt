@@ -4,13 +4,15 @@ ghost use Rattle.std.specs.Prelude.{◌≡◌, IfOk, IfErr, All, map, length};
 ghost use Rattle.blk_text.specs.Script.{IsScript, scripted};
 ghost use Rattle.blk_settings.specs.Made.{IsMade};
 ghost use Rattle.blk_settings.specs.Scheds.{name_of, in_turn};
+ghost use Rattle.blk_report.specs.Table.{IsTable};
 ghost use Rattle.blk_runs.specs.Runs.{IsUnrun};
 ghost use Rattle.blk_runs.specs.Firsts.{AreUnrun};
-ghost use Rattle.blk_cli.specs.Comparing.{IsReportUnder, AreReports, IsUncompared, IsTableIn, IsComparedText};
+ghost use Rattle.blk_cli.specs.Comparing.{IsReportUnder, AreReports, IsUncompared, IsComparedText};
 
 use crate::failure::Failure;
-use blk_answers::table_json;
-use blk_report::{Report, report, table_lines};
+use crate::forms::written;
+use answer::Answer;
+use blk_report::{Report, report, table_answer};
 use blk_runs::{RunFault, traced, unmade};
 use blk_settings::{Lineup, Sched};
 use blk_text::Script;
@@ -77,7 +79,7 @@ pub fn names_of<'a>(alloc: Global, scheds: &[Sched]) -> Result<Vec<&'a [u8]>, Al
 }
 
 /// The names of schedulers, as texts.
-fn titles_of<'a>(alloc: Global, scheds: &[Sched]) -> Result<Vec<&'a str>, AllocError>
+fn titles_of(alloc: Global, scheds: &[Sched]) -> Result<Vec<&'static str>, AllocError>
     ensures { IfOk result (λ names. map (λ name. name.now) names.items ≡ map name_of scheds.now) }
 {
     let mut names = Vec::new(alloc);
@@ -87,41 +89,14 @@ fn titles_of<'a>(alloc: Global, scheds: &[Sched]) -> Result<Vec<&'a str>, AllocE
     Ok(names)
 }
 
-/// The table of reports in lines, each under its scheduler's name.
-fn lines_of(alloc: Global, scheds: &[Sched], reports: &[Report]) -> Result<Vec<u8>, AllocError>
+/// What is said of reports, each under its scheduler's name.
+fn table_under(alloc: Global, scheds: &[Sched], reports: &[Report]) -> Result<Answer, AllocError>
     requires { length scheds.now ≡ length reports.now }
-    ensures { IfOk result (λ text. IsTableIn Form.Lines (map name_of scheds.now) reports.now text.items) }
-{
-    match names_of(alloc, scheds) {
-        Ok(names) => table_lines(alloc, names.as_slice(), reports),
-        Err(refused) => Err(refused),
-    }
-}
-
-/// The same as a JSON value.
-fn json_of(alloc: Global, scheds: &[Sched], reports: &[Report]) -> Result<Vec<u8>, AllocError>
-    requires { length scheds.now ≡ length reports.now }
-    ensures { IfOk result (λ text. IsTableIn Form.Json (map name_of scheds.now) reports.now text.items) }
+    ensures { IfOk result (IsTable (map name_of scheds.now) reports.now) }
 {
     match titles_of(alloc, scheds) {
-        Ok(names) => table_json(alloc, names.as_slice(), reports),
+        Ok(names) => table_answer(alloc, names.as_slice(), reports),
         Err(refused) => Err(refused),
-    }
-}
-
-/// The same in a form.
-fn table_text(
-    alloc: Global,
-    form: Form,
-    scheds: &[Sched],
-    reports: &[Report],
-) -> Result<Vec<u8>, AllocError>
-    requires { length scheds.now ≡ length reports.now }
-    ensures { IfOk result (λ text. IsTableIn form (map name_of scheds.now) reports.now text.items) }
-{
-    match form {
-        Form::Lines => lines_of(alloc, scheds, reports),
-        Form::Json => json_of(alloc, scheds, reports),
     }
 }
 
@@ -144,7 +119,10 @@ pub fn table_of(
         Ok(reports) => reports,
         Err(fault) => return Err(Failure::of_run(fault)),
     };
-    match table_text(alloc, form, rows, reports.as_slice()) {
+    let Ok(answer) = table_under(alloc, rows, reports.as_slice()) else {
+        return Err(Failure::Memory);
+    };
+    match written(alloc, form, &answer) {
         Ok(text) => Ok(text),
         Err(_) => Err(Failure::Memory),
     }

@@ -9,7 +9,8 @@ ghost use Rattle.blk_cli.specs.Said.{said_of};
 
 use crate::Answered;
 use crate::failure::Failure;
-use blk_judge::{judge, judged_lines, late_of, miss_lines};
+use answer::lines;
+use blk_judge::{judge, judged_answer, late_of, missed_answer};
 use blk_lists::{Records, Schedule, read_schedule};
 use edd_commands::Capacity;
 use std::alloc::{AllocError, Global};
@@ -35,7 +36,10 @@ fn whole(
         Ok(judged) => judged,
         Err(fault) => return Err(Failure::Check(fault)),
     };
-    match judged_lines(alloc, &judged) {
+    let Ok(answer) = judged_answer(alloc, &judged) else {
+        return Err(Failure::Memory);
+    };
+    match lines(alloc, &answer) {
         Ok(text) => Ok(text),
         Err(_) => Err(Failure::Memory),
     }
@@ -58,7 +62,10 @@ fn each_late(
         Ok(misses) => misses,
         Err(fault) => return Err(Failure::Check(fault)),
     };
-    match miss_lines(alloc, misses.as_slice()) {
+    let Ok(answer) = missed_answer(alloc, misses.as_slice()) else {
+        return Err(Failure::Memory);
+    };
+    match lines(alloc, &answer) {
         Ok(text) => Ok(text),
         Err(_) => Err(Failure::Memory),
     }

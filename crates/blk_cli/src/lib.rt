@@ -12,6 +12,8 @@ mod checking;
 mod comparing;
 mod explaining;
 mod failure;
+mod figures;
+mod forms;
 mod importing;
 mod judging;
 mod lists;

@@ -1,10 +1,13 @@
 //! A load on the running layer.
 
 ghost use Rattle.std.specs.Prelude.{◌≡◌, IfOk, IfErr};
-ghost use Rattle.blk_cli.specs.Loading.{IsLoadText, IsLoadOf, IsUnloaded, account_in};
+ghost use Rattle.blk_cli.specs.Forms.{written_in};
+ghost use Rattle.blk_cli.specs.Loading.{IsLoadText, IsLoadOf, IsUnloaded, load_parts};
 
 use crate::failure::Failure;
-use blk_answers::load_json;
+use crate::forms::written;
+use answer::names::{ACCEPTED, LEFT, SERVED};
+use answer::{Answer, Value, member};
 use blk_settings::{Load, Loaded, Loads, Sched, Settled, Unsettled};
 use blk_text::trace_text;
 use blk_words::{Form, ShownLoad};
@@ -12,24 +15,23 @@ use std::alloc::{AllocError, Global};
 use std::sync::Wait;
 use std::thread::Threads;
 
-/// What came of a load, in this form.
-fn account_text(alloc: Global, form: Form, settled: Settled) -> Result<Vec<u8>, AllocError>
-    ensures { IfOk result (λ text. text.items ≡ account_in form settled.accepted settled.served settled.left) }
+/// What came of a load: the members `accepted`, `served` and `left`, in bios.
+fn load_answer(alloc: Global, settled: Settled) -> Result<Answer, AllocError>
+    ensures { IfOk result (λ answer. answer ≡ load_parts settled) }
 {
-    let Settled {
-        accepted,
-        served,
-        left,
-    } = settled;
-    match form {
-        Form::Lines => {
-            match format!(in alloc; "accepted {accepted}\nserved {served}\nleft {left}\n") {
-                Ok(lines) => Ok(lines.into_bytes()),
-                Err(refused) => Err(refused),
-            }
-        }
-        Form::Json => load_json(alloc, accepted, served, left),
-    }
+    let mut answer = Answer::new(alloc);
+    answer.add(member(ACCEPTED, Value::Count(settled.accepted)))?;
+    answer.add(member(SERVED, Value::Count(settled.served)))?;
+    answer.add(member(LEFT, Value::Count(settled.left)))?;
+    Ok(answer)
+}
+
+/// The same in this form.
+fn account_text(alloc: Global, form: Form, settled: Settled) -> Result<Vec<u8>, AllocError>
+    ensures { IfOk result (λ text. text.items ≡ written_in form (load_parts settled)) }
+{
+    let answer = load_answer(alloc, settled)?;
+    written(alloc, form, &answer)
 }
 
 /// The text that is asked for, of a load.

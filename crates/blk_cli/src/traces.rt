@@ -8,7 +8,7 @@ ghost use Rattle.blk_cli.specs.Names.{unlisted_fault_name};
 ghost use Rattle.blk_cli.specs.OfTraces.{IsTellingText, IsUntold};
 
 use crate::failure::Failure;
-use blk_answers::figures_answer;
+use crate::figures::figures_text;
 use blk_lists::{Records, commands_text};
 use blk_picture::picture;
 use blk_text::{read_trace, trace_text};
@@ -86,7 +86,7 @@ fn told_of(alloc: Global, telling: Telling, trace: &Trace) -> Result<Vec<u8>, Fa
         Telling::Whole => whole_of(alloc, trace),
         Telling::Commands => list_of(alloc, trace),
         Telling::Picture => picture_of(alloc, trace),
-        Telling::Figures(asked, form) => match figures_answer(alloc, asked, form, trace) {
+        Telling::Figures(asked, form) => match figures_text(alloc, asked, form, trace) {
             Ok(text) => Ok(text),
             Err(_) => Err(Failure::Memory),
         },

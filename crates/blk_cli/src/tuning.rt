@@ -7,45 +7,23 @@ ghost use Rattle.blk_runs.specs.Firsts.{AreUnrun};
 ghost use Rattle.blk_cli.specs.Inputs.{Of};
 ghost use Rattle.blk_cli.specs.Said.{said_of};
 ghost use Rattle.blk_cli.specs.Unflushed.{TellsPlugs};
-ghost use Rattle.blk_cli.specs.Tuning.{IsTunedJson, IsTunedIn, IsTrial, IsUntried, FailsToTry};
+ghost use Rattle.blk_cli.specs.Tuning.{IsTunedIn, IsTrial, IsUntried, FailsToTry};
 
 use crate::Answered;
 use crate::failure::Failure;
 use crate::unflushed::with_plugs;
-use blk_answers::trial_json;
+use crate::forms::written;
 use blk_lists::Records;
 use blk_runs::RunFault;
 use blk_settings::TrialAsked;
 use blk_text::{Script, read_script};
-use blk_tune::{Progress, rows, tune};
+use blk_tune::{Progress, rows, trial_answer};
 use blk_words::{Form, Tuning, grid_asked};
 use std::alloc::Global;
 use std::io::Read;
 use std::thread::Threads;
 
-/// The rows of a trial as a JSON value.
-fn json_of<T: Threads + Sync, P: Progress>(
-    rt: &T,
-    alloc: Global,
-    asked: &TrialAsked,
-    script: &Script,
-    progress: &mut P,
-) -> Result<Vec<u8>, RunFault>
-    requires { IsScript (scripted script.now) }
-    ensures text { IfOk result (λ text. IsTunedJson (as_wanted asked.now) (scripted script.now) text.items) }
-    ensures unrun { IfErr result (AreUnrun (as_wanted asked.now).grid (scripted script.now)) }
-{
-    let rows = match rows(rt, alloc, asked, script, progress) {
-        Ok(rows) => rows,
-        Err(fault) => return Err(fault),
-    };
-    match trial_json(alloc, asked.by, asked.top, rows.as_slice()) {
-        Ok(text) => Ok(text),
-        Err(_) => Err(RunFault::Memory),
-    }
-}
-
-/// The rows of a trial in a form.
+/// What is said of a trial, in a form.
 fn tuned_in<T: Threads + Sync, P: Progress>(
     rt: &T,
     alloc: Global,
@@ -58,9 +36,16 @@ fn tuned_in<T: Threads + Sync, P: Progress>(
     ensures text { IfOk result (λ text. IsTunedIn form (as_wanted asked.now) (scripted script.now) text.items) }
     ensures unrun { IfErr result (AreUnrun (as_wanted asked.now).grid (scripted script.now)) }
 {
-    match form {
-        Form::Lines => tune(rt, alloc, asked, script, progress),
-        Form::Json => json_of(rt, alloc, asked, script, progress),
+    let rows = match rows(rt, alloc, asked, script, progress) {
+        Ok(rows) => rows,
+        Err(fault) => return Err(fault),
+    };
+    let Ok(answer) = trial_answer(alloc, asked.by, asked.top, rows.as_slice()) else {
+        return Err(RunFault::Memory);
+    };
+    match written(alloc, form, &answer) {
+        Ok(text) => Ok(text),
+        Err(_) => Err(RunFault::Memory),
     }
 }
 
@@ -94,7 +79,7 @@ fn trial_of<T: Threads + Sync, P: Progress>(
 }
 
 /// What is answered to a trial: its rows, and beside them bios that stay in their plugs.
-fn trial_answer<T: Threads + Sync, P: Progress>(
+fn answer_trial<T: Threads + Sync, P: Progress>(
     rt: &T,
     alloc: Global,
     words: &[String],
@@ -136,5 +121,5 @@ pub fn over_trial<T: Threads + Sync, R: Read + Drop, P: Progress>(
         Ok(script) => script,
         Err(fault) => return Err(Failure::Text(fault)),
     };
-    trial_answer(rt, alloc, words, tuning, &script, progress)
+    answer_trial(rt, alloc, words, tuning, &script, progress)
 }

@@ -1,3 +1,3 @@
 pub mod Judged
 pub mod Late
-pub mod Text
+pub mod Answers

@@ -5,11 +5,11 @@
 //! tardy jobs). Whoever made the schedule, its judgement is measured against all legal schedules of the same commands.
 #![tactic(auto)]
 
+mod answers;
 mod judging;
 mod legality;
 mod missing;
-mod texts;
 
+pub use crate::answers::{judged_answer, missed_answer};
 pub use crate::judging::{Judged, judge};
 pub use crate::missing::{Miss, late_of};
-pub use crate::texts::{judged_lines, miss_lines};

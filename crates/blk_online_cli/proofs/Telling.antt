@@ -23,8 +23,7 @@ use Rattle.blk_online_sim.specs.ByRounds.{IsByRounds, HoldsNow}
 use Rattle.blk_online_sim.proofs.Running.{trace_holds, least_late, has_most_on_time}
 use Rattle.blk_online_sim.proofs.Telling as telling
 use Rattle.blk_cli.specs.Gives.{GivesText}
-use Rattle.blk_answers.specs.Missing.{IsMissesText}
-use Rattle.blk_answers.specs.Reports.{IsReportText}
+use Rattle.blk_cli.specs.Figures.{IsMissesText, IsReportText}
 use Rattle.blk_settings.specs.declared.form.Form.TheVariants as form
 use Rattle.blk_settings.specs.declared.figures.FiguresAsked.TheVariants as figures
 use Rattle.blk_words.specs.declared.inputs.Running.TheVariants as running

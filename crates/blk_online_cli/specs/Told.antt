@@ -19,8 +19,7 @@ use Rattle.blk_words.specs.declared.words.Job.TheVariants as job
 use Rattle.blk_words.specs.Asked.{Asks}
 use Rattle.blk_cli.specs.declared.Ended.{Ended}
 use Rattle.blk_cli.specs.Ends.{RunEnds}
-use Rattle.blk_answers.specs.Missing.{IsMissesText}
-use Rattle.blk_answers.specs.Reports.{IsReportText}
+use Rattle.blk_cli.specs.Figures.{IsMissesText, IsReportText}
 use Rattle.blk_online_sim.specs.ByRounds.{IsByRounds}
 
 -- the records of these bytes

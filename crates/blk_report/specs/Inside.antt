@@ -4,5 +4,4 @@ pub mod Below
 pub mod Waited
 pub mod Outstayed
 pub mod Best
-pub mod Table
 pub mod Services

@@ -18,16 +18,16 @@ mod missing;
 mod outstaying;
 mod serving;
 mod spreading;
-mod table;
 
-pub use crate::answers::{late_answer, misses_answer, report_answer, report_lines, spread_answer};
+pub use crate::answers::{
+    late_answer, misses_answer, report_answer, report_lines, spread_answer, table_answer,
+};
 pub use crate::comparison::compare;
 pub use crate::delays::{LateCommand, late};
 pub use crate::figures::Report;
 pub use crate::missing::{Missed, Tally, misses};
 pub use crate::serving::{Service, services};
 pub use crate::spreading::{ByDir, Quantiles, Spreads, spread};
-pub use crate::table::{drafted as table_lines, write_table};
 use blk_trace::Trace;
 use edd_figures::figures_of;
 use std::alloc::{AllocError, Allocator};

@@ -17,5 +17,3 @@ mod reports;
 mod serving;
 #[cfg(test)]
 mod spreads;
-#[cfg(test)]
-mod texts;

@@ -1,5 +1,5 @@
 pub mod Inside
 pub mod Row
 pub mod Order
-pub mod Text
+pub mod Answers
 pub mod Tuned

@@ -7,18 +7,18 @@ ghost use Rattle.std.specs.Prelude.{IfOk, IfErr};
 ghost use Rattle.blk_text.specs.Script.{IsScript, scripted};
 ghost use Rattle.blk_settings.specs.Wanted.{as_wanted};
 ghost use Rattle.blk_runs.specs.Firsts.{AreUnrun};
-ghost use Rattle.blk_tune.specs.Tuned.{AreTuned, IsTuned};
+ghost use Rattle.blk_tune.specs.Tuned.{AreTuned};
 
+mod answers;
 mod order;
 mod progress;
 mod row;
-mod text;
 mod trial;
 
+pub use crate::answers::trial_answer;
 use crate::order::best_first;
 pub use crate::progress::{Progress, ProgressLine, Quiet};
 pub use crate::row::TrialRow;
-pub use crate::text::{shown, table};
 use crate::trial::tried;
 use blk_runs::{RunFault, unmade};
 use blk_settings::TrialAsked;
@@ -26,7 +26,7 @@ use blk_text::Script;
 use std::alloc::Global;
 use std::thread::Threads;
 
-/// The rows of a script under each setting of a grid, the best first. All of them run, and are answered: `top` is about the text alone.
+/// The rows of a script under each setting of a grid, the best first. All of them run, and are answered: `top` is about the answer alone.
 ///
 /// Refused, by the first of these that applies: as the first scheduler is that isn't made of its settings, before any step; as the run
 /// of the first one in the grid's order that refuses a step, with its record and its reason, whichever thread found it first. Out of
@@ -63,26 +63,4 @@ pub fn rows<T: Threads + Sync, P: Progress>(
         return Err(RunFault::Memory);
     };
     Ok(rows)
-}
-
-/// The table of a script under each setting of a grid: what `blk tune` writes. It is refused as [`rows`] is.
-pub fn tune<T: Threads + Sync, P: Progress>(
-    rt: &T,
-    alloc: Global,
-    asked: &TrialAsked,
-    script: &Script,
-    progress: &mut P,
-) -> Result<Vec<u8>, RunFault>
-    requires { IsScript (scripted script.now) }
-    ensures text { IfOk result (λ text. IsTuned (as_wanted asked.now) (scripted script.now) text.items) }
-    ensures unrun { IfErr result (AreUnrun (as_wanted asked.now).grid (scripted script.now)) }
-{
-    let rows = match rows(rt, alloc, asked, script, progress) {
-        Ok(rows) => rows,
-        Err(fault) => return Err(fault),
-    };
-    match table(alloc, asked.by, asked.top, rows.as_slice()) {
-        Ok(text) => Ok(text),
-        Err(_) => Err(RunFault::Memory),
-    }
 }

@@ -7,5 +7,5 @@ use Rattle.blk_cli.proofs.checking.verdict.Goals as goal
 pub returns-in-Some-Some : goal.returns-in-Some-Some
 returns-in-Some-Some c =
     let back : to_z w64 (of_z w64 c.in-Some-Some.lateness) ≡ c.in-Some-Some.lateness = search (rules, to_z-of_z) in
-    verdict_is c.args.form (λ text. text.items) c.bound_text.result (claimed c.args.certificate.now) c.in-Some-Some.lateness (to_z w64 (of_z w64 c.in-Some-Some.lateness)) _ c.args.crowding c.in-Some-Some.crowding
-    c.in-Some-Some.is-0 c.in-Some-Some.is-1 back c.requires c.bound_text.ensures
+    verdict_is c.bound_answer.result (claimed c.args.certificate.now) c.in-Some-Some.lateness (to_z w64 (of_z w64 c.in-Some-Some.lateness)) _ c.args.crowding c.in-Some-Some.crowding
+    c.in-Some-Some.is-0 c.in-Some-Some.is-1 back c.requires c.bound_answer.ensures

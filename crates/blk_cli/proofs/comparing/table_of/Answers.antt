@@ -13,15 +13,15 @@ returns-in-Err-clause-uncompared c =
     let said : IsUncompared c.as_slice-rows.result.now (scripted c.args.script.now) c.of_run.result = rw c.of_run.ensures (said_of_runs c.as_slice-rows.result.now (scripted c.args.script.now) c.in-Err.fault c.in-Err.ensures.uncompared) in
     subst (λ (ss : List Sched). IsUncompared ss (scripted c.args.script.now) c.of_run.result) turn said
 
-pub table_text-requires : goal.table_text-requires
-table_text-requires c =
+pub table_under-requires : goal.table_under-requires
+table_under-requires c =
     let rows = c.as_slice-rows.result.now in
     sym (ap length c.as_slice.ensures.value ∙ as_many IsReportUnder rows (scripted c.args.script.now) c.in-Ok-compared.reports.items c.in-Ok-compared.ensures.reports)
 
-pub returns-in-Ok-table_text-clause-text : goal.returns-in-Ok-table_text-clause-text
-returns-in-Ok-table_text-clause-text c =
+pub returns-in-Ok-written-clause-text : goal.returns-in-Ok-written-clause-text
+returns-in-Ok-written-clause-text c =
     let rows = c.as_slice-rows.result.now in
     let turn : rows ≡ in_turn c.args.lineup = c.as_slice-rows.ensures.value ∙ c.in-Ok.ensures in
     let are : AreReports rows (scripted c.args.script.now) c.as_slice.result.now =
     subst (λ (rs : List Report). AreReports rows (scripted c.args.script.now) rs) (sym c.as_slice.ensures.value) c.in-Ok-compared.ensures.reports in
-    table_is c.args.lineup c.args.form rows (scripted c.args.script.now) c.as_slice.result.now c.in-Ok-table_text.text.items turn are c.in-Ok-table_text.ensures
+    table_is c.args.lineup c.args.form rows (scripted c.args.script.now) c.as_slice.result.now c.in-Ok-table_under.answer c.in-Ok-written.text.items turn are c.in-Ok-table_under.ensures c.in-Ok-written.ensures

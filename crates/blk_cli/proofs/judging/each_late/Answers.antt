@@ -1,5 +1,6 @@
 use Rattle.std.proofs.Common.{rules, ◌≡◌, ◌∙◌, ap}
-use Rattle.blk_judge.specs.Text.{miss_records}
+use Rattle.answer.specs.Lines.{answer_lines}
+use Rattle.blk_judge.specs.Answers.{missed_parts}
 use Rattle.blk_lists.specs.Schedule.{viewed}
 use Rattle.blk_cli.proofs.Schedules.{taken_of, rounds_of, missed_of, refused_as}
 use Rattle.blk_cli.proofs.judging.each_late.Goals as goal
@@ -10,15 +11,15 @@ late_of-requires-clause-taken c = taken_of (viewed c.args.schedule.now) c.requir
 pub late_of-requires-clause-rounds_in : goal.late_of-requires-clause-rounds_in
 late_of-requires-clause-rounds_in c = rounds_of (viewed c.args.schedule.now) c.requires.ran c.as_slice-rounds.result.now (search rules)
 
-pub returns-in-Ok-miss_lines-clause-text : goal.returns-in-Ok-miss_lines-clause-text
-returns-in-Ok-miss_lines-clause-text c =
+pub returns-in-Ok-lines-clause-text : goal.returns-in-Ok-lines-clause-text
+returns-in-Ok-lines-clause-text c =
     let s = viewed c.args.schedule.now in
     let commands : c.as_slice-commands.result.now ≡ s.commands = search rules in
     let rounds : c.as_slice-rounds.result.now ≡ s.rounds = search rules in
     record {
       misses = c.in-Ok.misses.items;
       missed = missed_of s c.as_slice-commands.result.now c.as_slice-rounds.result.now c.args.capacity.now commands rounds c.requires.capacity _ c.in-Ok.ensures.late;
-      is_text = c.in-Ok-miss_lines.ensures ∙ ap miss_records c.as_slice.ensures.value;
+      is_text = c.in-Ok-lines.ensures ∙ ap answer_lines (c.in-Ok-missed_answer.ensures ∙ ap missed_parts c.as_slice.ensures.value);
     }
 
 pub returns-in-Err-clause-fails : goal.returns-in-Err-clause-fails

@@ -1,4 +1,5 @@
-use Rattle.std.proofs.Common.{rules, ◌≡◌}
+use Rattle.std.proofs.Common.{rules, ◌≡◌, ◌∙◌, ap}
+use Rattle.answer.specs.Lines.{answer_lines}
 use Rattle.blk_lists.specs.Schedule.{viewed}
 use Rattle.blk_cli.proofs.Schedules.{taken_of, rounds_of, judged_of, refused_as}
 use Rattle.blk_cli.proofs.judging.whole.Goals as goal
@@ -9,8 +10,8 @@ judge-requires-clause-taken c = taken_of (viewed c.args.schedule.now) c.requires
 pub judge-requires-clause-rounds_in : goal.judge-requires-clause-rounds_in
 judge-requires-clause-rounds_in c = rounds_of (viewed c.args.schedule.now) c.requires.ran c.as_slice-rounds.result.now (search rules)
 
-pub returns-in-Ok-judged_lines-clause-text : goal.returns-in-Ok-judged_lines-clause-text
-returns-in-Ok-judged_lines-clause-text c =
+pub returns-in-Ok-lines-clause-text : goal.returns-in-Ok-lines-clause-text
+returns-in-Ok-lines-clause-text c =
     let s = viewed c.args.schedule.now in
     let commands : c.as_slice-commands.result.now ≡ s.commands = search rules in
     let rounds : c.as_slice-rounds.result.now ≡ s.rounds = search rules in
@@ -19,7 +20,7 @@ returns-in-Ok-judged_lines-clause-text c =
       windows = c.in-Ok.judged.misses.windows.items;
       figures = c.in-Ok.judged.figures;
       judged = judged_of s c.as_slice-commands.result.now c.as_slice-rounds.result.now c.args.capacity.now commands rounds c.requires.capacity _ _ _ c.in-Ok.ensures.judged;
-      is_text = c.in-Ok-judged_lines.ensures;
+      is_text = c.in-Ok-lines.ensures ∙ ap answer_lines c.in-Ok-judged_answer.ensures;
     }
 
 pub returns-in-Err-clause-fails : goal.returns-in-Err-clause-fails

@@ -1,2 +1,0 @@
--- What private functions and proofs alone need.
-pub mod Tokens

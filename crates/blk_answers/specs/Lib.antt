@@ -1,9 +1,0 @@
-pub mod Forms
-pub mod Missing
-pub mod Reports
-pub mod Figures
-pub mod Tables
-pub mod Trials
-pub mod Proofs
-pub mod Loads
-pub mod Inside
