@@ -161,13 +161,15 @@ def other_memory(paths):
 def unlisted_names(paths):
     """Keys of the JSON examples of docs/FORMATS.md that are neither a name of the answers nor a setting's."""
     text = (TOP / "docs/FORMATS.md").read_text()
-    names = set(re.findall(r'(?m)^pub const \w+: &str = "([^"]+)"', (TOP / "crates/answer/src/names.rt").read_text()))
+    names = set()
     for path in paths:
+        if re.fullmatch(r"crates/\w+/src/names.rt", path):
+            names.update(re.findall(r'(?m)^pub const \w+: &str = "([^"]+)"', (TOP / path).read_text()))
         if path.startswith("crates/blk_settings/src/"):
             names.update(re.findall(r'name: "(\w+)"', (TOP / path).read_text()))
     for it in re.finditer(r"(?m)^    {.*}$", text):
         for key in sorted(set(re.findall(r'"([\w-]+)":', it[0])) - names):
-            yield f"docs/FORMATS.md:{line_of(text, it.start())}: {key} is no name of crates/answer/src/names.rt"
+            yield f"docs/FORMATS.md:{line_of(text, it.start())}: {key} is no name of a names.rt"
 
 
 def main():

@@ -4,7 +4,7 @@ use Rattle.std.specs.List.{flat_map}
 use Rattle.json.specs.Json as json
 use Rattle.answer.specs.declared.names.TheConstants as names
 use Rattle.answer.specs.declared.value.Value.{Value}
-use Rattle.answer.specs.declared.value.Value.TheVariants.{Count, Signed, Text, Nothing, Remark, Window, Settings}
+use Rattle.answer.specs.declared.value.Value.TheVariants.{Count, Signed, Text, Nothing, Remark, Window, Time, Share, Settings}
 use Rattle.answer.specs.declared.value.Set.{Set}
 use Rattle.answer.specs.declared.value.Set.TheVariants.{Number, Switch, Word}
 use Rattle.answer.specs.declared.value.Setting.{Setting}
@@ -36,6 +36,8 @@ json_value (Text w) = json.string w
 json_value (Nothing w) = json.null
 json_value (Remark w) = json.string w
 json_value (Window from due) = window_value from due
+json_value (Time n) = count n
+json_value (Share n) = count n
 json_value (Settings ss) = object_of (map setting_told ss)
 
 abbrev pub cell_member : Cell → List ℕ × json.Json

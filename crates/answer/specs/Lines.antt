@@ -1,10 +1,10 @@
 -- An answer in lines.
-use Rattle.std.specs.Prelude.{ℕ, List, [], ◌∷◌, ◌++◌, ◌-◌, Bool, true, false, length, decimal, codes}
+use Rattle.std.specs.Prelude.{ℕ, List, [], ◌∷◌, ◌++◌, ◌+◌, ◌-◌, ◌/◌, ◌%◌, Bool, true, false, length, decimal, codes}
 use Rattle.std.specs.Fmt.{signed_decimal}
 use Rattle.std.specs.List.{flat_map}
 use Rattle.std.proofs.Math.ListN.{replicate}
 use Rattle.answer.specs.declared.value.Value.{Value}
-use Rattle.answer.specs.declared.value.Value.TheVariants.{Count, Signed, Text, Nothing, Remark, Window, Settings}
+use Rattle.answer.specs.declared.value.Value.TheVariants.{Count, Signed, Text, Nothing, Remark, Window, Time, Share, Settings}
 use Rattle.answer.specs.declared.value.Set.{Set}
 use Rattle.answer.specs.declared.value.Set.TheVariants.{Number, Switch, Word}
 use Rattle.answer.specs.declared.value.Setting.{Setting}
@@ -31,6 +31,16 @@ abbrev pub settings_line : List Setting → List ℕ
 settings_line [] = codes "-"
 settings_line (s ∷ ss) = named_setting s ++ flat_map (λ t. 32 ∷ named_setting t) ss
 
+-- a number below 1,000 in three digits; a time of so many nanoseconds in milliseconds, and thousandths in hundredths
+abbrev pub three_digits : ℕ → List ℕ
+three_digits n = (48 + n / 100) ∷ (48 + n / 10 % 10) ∷ (48 + n % 10) ∷ []
+
+abbrev pub time_words : ℕ → List ℕ
+time_words n = (decimal (n / 1000000) ++ codes ".") ++ three_digits (n / 1000 % 1000)
+
+abbrev pub share_words : ℕ → List ℕ
+share_words n = (decimal (n / 10) ++ codes ".") ++ decimal (n % 10)
+
 abbrev pub value_words : Value → List ℕ
 value_words (Count n) = decimal n
 value_words (Signed z) = signed_decimal z
@@ -38,6 +48,8 @@ value_words (Text w) = w
 value_words (Nothing w) = w
 value_words (Remark w) = (codes " (" ++ w) ++ codes ")"
 value_words (Window from due) = (decimal from ++ 32 ∷ []) ++ decimal due
+value_words (Time n) = time_words n
+value_words (Share n) = share_words n
 value_words (Settings ss) = settings_line ss
 
 -- bytes at the left and at the right of a number of places; more of them are not cut

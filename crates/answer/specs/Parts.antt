@@ -2,7 +2,7 @@
 use Rattle.std.specs.Prelude.{ℕ, ℤ, Bool, List, [], ◌∷◌, Option, None, Some, map}
 use Rattle.answer.specs.declared.names.TheConstants as names
 use Rattle.answer.specs.declared.value.Value.{Value}
-use Rattle.answer.specs.declared.value.Value.TheVariants.{Count, Signed, Nothing, Window}
+use Rattle.answer.specs.declared.value.Value.TheVariants.{Count, Signed, Nothing, Time, Window}
 use Rattle.answer.specs.declared.cells.Cell.{Cell}
 use Rattle.answer.specs.declared.answer.Entry.{Entry}
 use Rattle.answer.specs.declared.cells.Column.{Column}
@@ -42,6 +42,10 @@ counted (Some n) = Count n
 abbrev pub signed : Option ℤ → Value
 signed None = Nothing names.NONE.now
 signed (Some z) = Signed z
+
+abbrev pub clocked : Option ℕ → Value
+clocked None = Nothing names.NONE.now
+clocked (Some n) = Time n
 
 abbrev pub windowed : Option (ℕ × ℕ) → Value
 windowed None = Nothing names.NONE.now

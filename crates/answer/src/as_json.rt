@@ -71,6 +71,8 @@ fn write_member(page: &mut Page, name: &Word, value: &Value) -> Result<(), Alloc
         Value::Text(word) => page.string(name.text(), word.text()),
         Value::Nothing(_) => page.null(name.text()),
         Value::Remark(word) => page.string(name.text(), word.text()),
+        Value::Time(time) => page.count(name.text(), *time),
+        Value::Share(thousandths) => page.count(name.text(), *thousandths),
         Value::Settings(settings) => write_settings(page, name.text(), settings.all()),
         Value::Window(from, due) => write_window(page, name.text(), *from, *due),
     }

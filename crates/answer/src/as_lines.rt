@@ -1,9 +1,9 @@
 //! An answer in lines.
 
-ghost use Rattle.std.specs.Prelude.{◌≡◌, ◌++◌, ◌∷◌, [], OnOk, IfOk};
+ghost use Rattle.std.specs.Prelude.{◌≡◌, ◌+◌, ◌<◌, ◌++◌, ◌∷◌, [], OnOk, IfOk};
 ghost use Rattle.std.specs.List.{flat_map};
 ghost use Rattle.answer.specs.Parts.{row_cells};
-ghost use Rattle.answer.specs.Lines.{set_text, named_setting, settings_line, entry_text, group_head, value_words, lead_text, in_places, in_layout, cell_text, name_text, column_heads, row_text, member_text, part_text, answer_lines};
+ghost use Rattle.answer.specs.Lines.{three_digits, time_words, share_words, set_text, named_setting, settings_line, entry_text, group_head, value_words, lead_text, in_places, in_layout, cell_text, name_text, column_heads, row_text, member_text, part_text, answer_lines};
 
 use crate::answer::{Answer, Entry, Part, Row};
 use crate::cells::{Cell, Column, Layout};
@@ -57,6 +57,44 @@ fn push_settings(draft: &mut Draft, settings: &[Setting]) -> Result<(), AllocErr
     }
 }
 
+/// The digit of a number.
+fn digit(number: u64) -> u8
+    requires { number < 10 }
+    ensures { result ≡ 48 + number }
+{
+    b'0' + number as u8
+}
+
+/// A number below 1,000 in three digits.
+fn three_digits(number: u64) -> [u8; 3]
+    requires { number < 1000 }
+    ensures { result ≡ three_digits number }
+{
+    [
+        digit(number / 100),
+        digit(number / 10 % 10),
+        digit(number % 10),
+    ]
+}
+
+/// Adds a time in milliseconds.
+fn push_time(draft: &mut Draft, time: u64) -> Result<(), AllocError>
+    ensures { OnOk result (draft.new ≡ draft.old ++ time_words time) }
+{
+    draft.number(time / 1_000_000)?;
+    draft.text(b".")?;
+    draft.text(&three_digits(time / 1000 % 1000))
+}
+
+/// Adds a share in hundredths.
+fn push_share(draft: &mut Draft, thousandths: u64) -> Result<(), AllocError>
+    ensures { OnOk result (draft.new ≡ draft.old ++ share_words thousandths) }
+{
+    draft.number(thousandths / 10)?;
+    draft.text(b".")?;
+    draft.number(thousandths % 10)
+}
+
 /// Adds what a value says.
 fn push_value(draft: &mut Draft, alloc: Global, value: &Value) -> Result<(), AllocError>
     ensures { OnOk result (draft.new ≡ draft.old ++ value_words value.now) }
@@ -76,6 +114,8 @@ fn push_value(draft: &mut Draft, alloc: Global, value: &Value) -> Result<(), All
             draft.text(b" ")?;
             draft.number(*due)
         }
+        Value::Time(time) => push_time(draft, *time),
+        Value::Share(thousandths) => push_share(draft, *thousandths),
         Value::Settings(settings) => push_settings(draft, settings.all()),
     }
 }

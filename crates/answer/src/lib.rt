@@ -15,6 +15,6 @@ pub use crate::as_json::json;
 pub use crate::as_lines::lines;
 pub use crate::cells::{Cell, Column, Layout, record_columns};
 pub use crate::value::{
-    Set, Setting, Settings, Value, count_or_none, signed_or_none, window_or_none,
+    Set, Setting, Settings, Value, count_or_none, signed_or_none, time_or_none, window_or_none,
 };
 pub use crate::word::Word;

@@ -1,7 +1,7 @@
 //! What a member or a cell says.
 
 ghost use Rattle.std.specs.Prelude.{◌≡◌};
-ghost use Rattle.answer.specs.Parts.{counted, signed, windowed};
+ghost use Rattle.answer.specs.Parts.{counted, signed, clocked, windowed};
 
 use crate::names::NONE;
 use crate::word::Word;
@@ -22,6 +22,10 @@ pub enum Value {
     Remark(Word),
     /// The first round of a window, and the one in which it is due: in the lines with a space between, in JSON an object of `from` and `due`.
     Window(u64, u64),
+    /// A time in nanoseconds: in the lines in milliseconds with three digits behind the point, what is less cut off; in JSON the nanoseconds.
+    Time(u64),
+    /// A share in thousandths: in the lines in hundredths with one digit behind the point; in JSON the thousandths.
+    Share(u64),
     /// Settings: in the lines `NAME=VALUE` each, with spaces between, or `-` where there are none; in JSON an object.
     Settings(Settings),
 }
@@ -83,6 +87,16 @@ pub fn count_or_none(count: Option<u64>) -> Value
 {
     match count {
         Some(count) => Value::Count(count),
+        None => Value::Nothing(Word::new(NONE)),
+    }
+}
+
+/// A time, or `none` where there is none.
+pub fn time_or_none(time: Option<u64>) -> Value
+    ensures { result ≡ clocked time }
+{
+    match time {
+        Some(time) => Value::Time(time),
         None => Value::Nothing(Word::new(NONE)),
     }
 }

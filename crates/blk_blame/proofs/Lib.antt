@@ -1,0 +1,5 @@
+pub mod Glue
+pub mod Few
+pub mod Counting
+pub mod Pushing
+pub mod Placing

@@ -1,0 +1,7 @@
+use Rattle.std.proofs.Common.{◌≡◌, map, take}
+use Rattle.blk_blame.specs.Hurts.{hurt_by}
+use Rattle.blk_blame.proofs.hurts.hurts_by.Given as goal
+
+-- the processes so far
+abbrev pub invariant-loop-pid : goal.invariant-loop-pid
+invariant-loop-pid l = l.hurts.items ≡ map (hurt_by l.requests) (take l.pid-index l.pids)

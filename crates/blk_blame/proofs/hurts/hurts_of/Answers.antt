@@ -1,0 +1,16 @@
+use Rattle.std.proofs.Common.{◌∙◌, map, ap}
+use Rattle.std.proofs.lemmas.List.Sorted.{IsNonDecreasingBy-from_sort}
+use Rattle.blk_blame.specs.Hurts.{hurt_by}
+use Rattle.blk_blame.proofs.hurts.hurts_of.Goals as goal
+
+pub hurts_by-requires-clause-rising : goal.hurts_by-requires-clause-rising
+hurts_by-requires-clause-rising c = rw c.as_slice.ensures.value (IsNonDecreasingBy-from_sort (λ x. x) _ c.sort_unstable.ensures.sorted)
+
+pub returns : goal.returns
+returns c = record {
+  pids = c.once_each.new.numbers.items;
+  rise = c.once_each.ensures.rises;
+  all = λ p h. c.once_each.ensures.keeps p (rw c.in_ok-pids.ensures h);
+  only = λ p h. rw c.in_ok-pids.ensures at (c.once_each.ensures.adds_none p h);
+  are = c.in_ok-hurts.ensures ∙ ap (map (hurt_by c.args.requests.now)) c.as_slice-2.ensures.value;
+}

@@ -1,0 +1,31 @@
+use Rattle.std.proofs.Common.{refl}
+use Rattle.blk_blame.proofs.names.law_of_names.Goals as goal
+
+pub returns : goal.returns
+returns c = record {
+  requests = refl;
+  span = refl;
+  late_reads = refl;
+  late_writes = refl;
+  arrivals = refl;
+  stalled = refl;
+  crowded = refl;
+  overrun = refl;
+  stalls = refl;
+  length = refl;
+  pid = refl;
+  cause = refl;
+  stall = refl;
+  processes = refl;
+  least = refl;
+  savable = refl;
+  wait_p50 = refl;
+  wait_p99 = refl;
+  stages = refl;
+  stage = refl;
+  q2g = refl;
+  g2i = refl;
+  i2d = refl;
+  d2c = refl;
+  q2c = refl;
+}

@@ -1,0 +1,61 @@
+-- What is said of each late request.
+use Rattle.std.specs.Prelude.{ℕ, List, [], ◌∷◌, Option, None, Some, map, true}
+use Rattle.answer.specs.declared.names.TheConstants as names
+use Rattle.answer.specs.declared.value.Value.{Value}
+use Rattle.answer.specs.declared.value.Value.TheVariants.{Count, Text, Nothing, Time}
+use Rattle.answer.specs.declared.cells.Column.{Column}
+use Rattle.answer.specs.declared.answer.Part.{Part}
+use Rattle.answer.specs.declared.answer.Part.TheVariants.{Rows}
+use Rattle.answer.specs.Parts.{record_columns}
+use Rattle.blk_bio.specs.declared.bio.Dir.{Dir}
+use Rattle.blk_bio.specs.declared.bio.Dir.TheVariants.{Read, Write}
+use Rattle.blk_capture.specs.declared.requests.CapturedRequest.{CapturedRequest}
+use Rattle.edd_blame.specs.declared.late.Cause.{Cause}
+use Rattle.edd_blame.specs.declared.late.Cause.TheVariants.{Arrival, Stall, Spare, Full}
+use Rattle.blk_blame.specs.declared.names.TheConstants as own
+use Rattle.blk_blame.specs.declared.each.LateRequest.{LateRequest}
+use Rattle.blk_blame.specs.Answers.{time_after, time_of_dispatch}
+
+abbrev pub dir_value : Dir → Value
+dir_value Read = Text names.READS.now
+dir_value Write = Text names.WRITES.now
+
+abbrev pub cause_value : Cause → Value
+cause_value Arrival = Text names.ARRIVAL.now
+cause_value Stall = Text own.STALL.now
+cause_value Spare = Text names.SPARE.now
+cause_value (Full w) = Text names.FULL.now
+
+-- of one that stalled when the dispatches before and after its time were; of one whose window is full its first and last
+abbrev pub from_by : ℕ → List CapturedRequest → Cause → ℕ → Option ℕ
+from_by begin requests Arrival due = None
+from_by begin requests Stall due = time_of_dispatch begin requests due
+from_by begin requests Spare due = None
+from_by begin requests (Full w) due = time_of_dispatch begin requests w.from
+
+abbrev pub until_by : ℕ → List CapturedRequest → Cause → ℕ → Option ℕ
+until_by begin requests Arrival due = None
+until_by begin requests Stall due = time_after begin requests due
+until_by begin requests Spare due = None
+until_by begin requests (Full w) due = time_of_dispatch begin requests w.due
+
+abbrev pub gap_from : ℕ → List CapturedRequest → LateRequest → Option ℕ
+gap_from begin requests l = from_by begin requests l.cause l.command.due
+
+abbrev pub gap_until : ℕ → List CapturedRequest → LateRequest → Option ℕ
+gap_until begin requests l = until_by begin requests l.cause l.command.due
+
+abbrev pub spoken : Option ℕ → Value
+spoken None = Nothing []
+spoken (Some n) = Time n
+
+abbrev pub each_columns : List Column
+each_columns = record_columns (names.ID.now ∷ own.PID.now ∷ names.DIR.now ∷ names.FIRST.now ∷ names.SECTORS.now ∷ names.WAIT.now ∷ own.OVERRUN.now ∷ own.CAUSE.now ∷ names.FROM.now ∷ names.UNTIL.now ∷ [])
+
+abbrev pub each_row : ℕ → List CapturedRequest → LateRequest → List Value
+each_row begin requests l =
+    Count l.command.id ∷ Count l.pid ∷ dir_value l.dir ∷ Count l.first ∷ Count l.sectors ∷ Time l.wait ∷ Time l.overrun ∷ cause_value l.cause
+    ∷ spoken (gap_from begin requests l) ∷ spoken (gap_until begin requests l) ∷ []
+
+abbrev pub each_part : ℕ → List CapturedRequest → List LateRequest → Part
+each_part begin requests lates = Rows (record { name = names.LATE.now; columns = each_columns; head = true; rows = map (each_row begin requests) lates })

@@ -1,0 +1,2 @@
+-- What private functions alone need.
+pub mod Keys

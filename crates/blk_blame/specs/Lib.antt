@@ -1,0 +1,15 @@
+pub mod Names
+pub mod Clock
+pub mod Account
+pub mod Totals
+pub mod Each
+pub mod EachSaid
+pub mod Hurts
+pub mod Processes
+pub mod ProcessesSaid
+pub mod Stages
+pub mod StagesSaid
+pub mod Greatest
+pub mod Answers
+pub mod Blamed
+pub mod Inside

@@ -1,0 +1,30 @@
+-- The names of members and columns, and the words of causes and stages, as docs/FORMATS.md spells them.
+use Rattle.std.specs.Prelude.{◌≡◌, codes}
+use Rattle.blk_blame.specs.declared.names.TheConstants as own
+
+pub record AreNamesOfBlame : Type 0 where
+  pub requests : own.REQUESTS.now ≡ codes "requests"
+  pub span : own.SPAN.now ≡ codes "span"
+  pub late_reads : own.LATE_READS.now ≡ codes "late_reads"
+  pub late_writes : own.LATE_WRITES.now ≡ codes "late_writes"
+  pub arrivals : own.ARRIVALS.now ≡ codes "arrivals"
+  pub stalled : own.STALLED.now ≡ codes "stalled"
+  pub crowded : own.CROWDED.now ≡ codes "crowded"
+  pub overrun : own.OVERRUN.now ≡ codes "overrun"
+  pub stalls : own.STALLS.now ≡ codes "stalls"
+  pub length : own.LENGTH.now ≡ codes "length"
+  pub pid : own.PID.now ≡ codes "pid"
+  pub cause : own.CAUSE.now ≡ codes "cause"
+  pub stall : own.STALL.now ≡ codes "stall"
+  pub processes : own.PROCESSES.now ≡ codes "processes"
+  pub least : own.LEAST.now ≡ codes "least"
+  pub savable : own.SAVABLE.now ≡ codes "savable"
+  pub wait_p50 : own.WAIT_P50.now ≡ codes "wait_p50"
+  pub wait_p99 : own.WAIT_P99.now ≡ codes "wait_p99"
+  pub stages : own.STAGES.now ≡ codes "stages"
+  pub stage : own.STAGE.now ≡ codes "stage"
+  pub q2g : own.Q2G.now ≡ codes "Q2G"
+  pub g2i : own.G2I.now ≡ codes "G2I"
+  pub i2d : own.I2D.now ≡ codes "I2D"
+  pub d2c : own.D2C.now ≡ codes "D2C"
+  pub q2c : own.Q2C.now ≡ codes "Q2C"

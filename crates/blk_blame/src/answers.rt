@@ -1,0 +1,314 @@
+//! What is said of who was late, and why.
+
+ghost use Rattle.std.specs.Prelude.{◌≡◌, IfOk, OnOk, map};
+ghost use Rattle.answer.specs.Parts.{clocked};
+ghost use Rattle.blk_blame.specs.Answers.{cell, time_after, time_of_dispatch, time_between, requests_part, late_part, unavoidable_part, avoidable_part, overrun_part, with_totals, stall_columns, stall_row, with_stalls, window_columns, window_row, with_windows};
+
+use crate::names::{
+    ARRIVALS, CROWDED, LATE_READS, LATE_WRITES, LENGTH, OVERRUN, REQUESTS, SPAN, STALLED, STALLS,
+};
+use crate::totals::Totals;
+use answer::names::{AVOIDABLE, CARRIES, FROM, LATE, MAX, P50, P99, UNAVOIDABLE, UNTIL, WINDOWS};
+use answer::{Answer, Cell, Column, Layout, Line, Part, Row, Rows, Value, Word, time_or_none};
+use blk_capture::{CapturedRequest, Percentiles};
+use edd_blame::{Reasons, StallTime};
+use edd_figures::{Counts, Crowd};
+use std::alloc::{AllocError, Global};
+
+/// A cell.
+fn cell(layout: Layout, name: &'static str, value: Value) -> Cell
+    ensures { result ≡ cell layout name.now value }
+{
+    Cell {
+        column: Column::new(layout, name),
+        value,
+    }
+}
+
+/// A cell of a number behind words.
+fn count_behind(words: &'static str, name: &'static str, count: u64) -> Cell
+    ensures { result ≡ cell (Layout.Words words.now) name.now (Value.Count count) }
+{
+    cell(Layout::Words(Word::new(words)), name, Value::Count(count))
+}
+
+/// A cell of a time behind words.
+fn time_behind(words: &'static str, name: &'static str, time: Option<u64>) -> Cell
+    ensures { result ≡ cell (Layout.Words words.now) name.now (clocked time) }
+{
+    cell(Layout::Words(Word::new(words)), name, time_or_none(time))
+}
+
+/// How many requests, and how long.
+fn requests_part(alloc: Global, totals: &Totals) -> Result<Part, AllocError>
+    ensures { IfOk result (λ part. part ≡ requests_part totals.now) }
+{
+    let cells = Vec::from_array(
+        alloc,
+        [
+            count_behind("", REQUESTS, totals.requests),
+            time_behind(" requests in ", SPAN, Some(totals.span)),
+        ],
+    )?;
+    Ok(Part::Line(Line::new(cells, " ms\n")))
+}
+
+/// How many were late, by direction.
+fn late_part(alloc: Global, totals: &Totals, counts: Counts) -> Result<Part, AllocError>
+    ensures { IfOk result (λ part. part ≡ late_part totals.now counts) }
+{
+    let cells = Vec::from_array(
+        alloc,
+        [
+            count_behind("late ", LATE, counts.late),
+            count_behind(": reads ", LATE_READS, totals.late_reads),
+            count_behind(", writes ", LATE_WRITES, totals.late_writes),
+        ],
+    )?;
+    Ok(Part::Line(Line::new(cells, "\n")))
+}
+
+/// How many had to be late, by what made them so.
+fn unavoidable_part(alloc: Global, counts: Counts, reasons: Reasons) -> Result<Part, AllocError>
+    ensures { IfOk result (λ part. part ≡ unavoidable_part counts reasons) }
+{
+    let cells = Vec::from_array(
+        alloc,
+        [
+            count_behind("had to be ", UNAVOIDABLE, counts.unavoidable),
+            count_behind(": by stall ", STALLED, reasons.stalled),
+            count_behind(", by crowding ", CROWDED, reasons.crowded),
+            count_behind(", by arrival ", ARRIVALS, reasons.arrivals),
+        ],
+    )?;
+    Ok(Part::Line(Line::new(cells, "\n")))
+}
+
+/// How many need not have been late.
+fn avoidable_part(alloc: Global, counts: Counts) -> Result<Part, AllocError>
+    ensures { IfOk result (λ part. part ≡ avoidable_part counts) }
+{
+    let cells = Vec::from_array(
+        alloc,
+        [count_behind("the scheduler's ", AVOIDABLE, counts.avoidable)],
+    )?;
+    Ok(Part::Line(Line::new(cells, "\n")))
+}
+
+/// By how much late ones were late.
+fn overrun_part(alloc: Global, overrun: Percentiles) -> Result<Part, AllocError>
+    ensures { IfOk result (λ part. part ≡ overrun_part overrun) }
+{
+    let cells = Vec::from_array(
+        alloc,
+        [
+            time_behind("overrun in ms: p50 ", P50, overrun.p50),
+            time_behind(", p99 ", P99, overrun.p99),
+            time_behind(", max ", MAX, overrun.max),
+        ],
+    )?;
+    Ok(Part::Object(Word::new(OVERRUN), Line::new(cells, "\n")))
+}
+
+/// Adds what is said of a capture as a whole.
+pub fn add_totals(
+    answer: &mut Answer,
+    alloc: Global,
+    totals: &Totals,
+    counts: Counts,
+    reasons: Reasons,
+) -> Result<(), AllocError>
+    ensures { OnOk result (answer.new ≡ with_totals totals.now counts reasons answer.old) }
+{
+    answer.add(requests_part(alloc, totals)?)?;
+    answer.add(late_part(alloc, totals, counts)?)?;
+    answer.add(unavoidable_part(alloc, counts, reasons)?)?;
+    answer.add(avoidable_part(alloc, counts)?)?;
+    answer.add(overrun_part(alloc, totals.overrun)?)
+}
+
+/// When the dispatch of a number, counted from 1, was, from a beginning on; before the first there is none.
+pub(crate) fn time_of_dispatch(begin: u64, requests: &[CapturedRequest], number: u64) -> Option<u64>
+    ensures { result ≡ time_of_dispatch begin requests.now number }
+{
+    if number == 0 {
+        return None;
+    }
+    time_after(begin, requests, number - 1)
+}
+
+/// When the one after so many dispatches was.
+pub(crate) fn time_after(begin: u64, requests: &[CapturedRequest], count: u64) -> Option<u64>
+    ensures { result ≡ time_after begin requests.now count }
+{
+    match requests.get(count as usize) {
+        Some(request) => Some(request.dispatched.saturating_sub(begin)),
+        None => None,
+    }
+}
+
+/// How long it is between two times, where both are known.
+fn time_between(from: Option<u64>, until: Option<u64>) -> Option<u64>
+    ensures { result ≡ time_between from until }
+{
+    match from {
+        Some(from) => match until {
+            Some(until) => Some(until.saturating_sub(from)),
+            None => None,
+        },
+        None => None,
+    }
+}
+
+/// The columns of stalls.
+fn stall_columns(alloc: Global) -> Result<Vec<Column>, AllocError>
+    ensures { IfOk result (λ columns. columns.items ≡ stall_columns) }
+{
+    let columns = Vec::from_array(
+        alloc,
+        [
+            Column::new(Layout::Right(12), FROM),
+            Column::new(Layout::Right(12), UNTIL),
+            Column::new(Layout::Right(10), LENGTH),
+            Column::new(Layout::Right(10), REQUESTS),
+        ],
+    )?;
+    Ok(columns)
+}
+
+/// The row of a stall: from the dispatch before it to the next one.
+fn stall_row(
+    alloc: Global,
+    begin: u64,
+    requests: &[CapturedRequest],
+    stall: StallTime,
+) -> Result<Row, AllocError>
+    ensures { IfOk result (λ row. row ≡ stall_row begin requests.now stall) }
+{
+    let from = time_of_dispatch(begin, requests, stall.after);
+    let until = time_after(begin, requests, stall.after);
+    let values = Vec::from_array(
+        alloc,
+        [
+            time_or_none(from),
+            time_or_none(until),
+            time_or_none(time_between(from, until)),
+            Value::Count(stall.requests),
+        ],
+    )?;
+    Ok(Row::new(values))
+}
+
+/// The rows of stalls.
+fn stall_rows(
+    alloc: Global,
+    begin: u64,
+    requests: &[CapturedRequest],
+    stalls: &[StallTime],
+) -> Result<Vec<Row>, AllocError>
+    ensures { IfOk result (λ rows. rows.items ≡ map (λ s. stall_row begin requests.now s) stalls.now) }
+{
+    let mut rows = Vec::new(alloc);
+    for stall in stalls {
+        rows.push(stall_row(alloc, begin, requests, *stall)?)?;
+    }
+    Ok(rows)
+}
+
+/// Adds stalls, with times from a beginning on.
+pub fn add_stalls(
+    answer: &mut Answer,
+    alloc: Global,
+    begin: u64,
+    requests: &[CapturedRequest],
+    stalls: &[StallTime],
+) -> Result<(), AllocError>
+    ensures { OnOk result (answer.new ≡ with_stalls begin requests.now stalls.now answer.old) }
+{
+    let columns = stall_columns(alloc)?;
+    let rows = stall_rows(alloc, begin, requests, stalls)?;
+    let title = Line::new(
+        Vec::new(alloc),
+        "\nstalls, in which the device took nothing, the greatest first, in ms:\n",
+    );
+    answer.add(Part::Line(title))?;
+    answer.add(Part::Rows(Rows::new(STALLS, columns, true, rows)))?;
+    Ok(())
+}
+
+/// The columns of windows.
+fn window_columns(alloc: Global) -> Result<Vec<Column>, AllocError>
+    ensures { IfOk result (λ columns. columns.items ≡ window_columns) }
+{
+    let columns = Vec::from_array(
+        alloc,
+        [
+            Column::new(Layout::Right(12), FROM),
+            Column::new(Layout::Right(12), UNTIL),
+            Column::new(Layout::Right(10), LENGTH),
+            Column::new(Layout::Right(10), REQUESTS),
+            Column::new(Layout::Right(10), CARRIES),
+        ],
+    )?;
+    Ok(columns)
+}
+
+/// The row of a window: from its first dispatch to its last.
+fn window_row(
+    alloc: Global,
+    begin: u64,
+    requests: &[CapturedRequest],
+    crowd: &Crowd,
+) -> Result<Row, AllocError>
+    ensures { IfOk result (λ row. row ≡ window_row begin requests.now crowd.now) }
+{
+    let from = time_of_dispatch(begin, requests, crowd.window.from);
+    let until = time_of_dispatch(begin, requests, crowd.window.due);
+    let values = Vec::from_array(
+        alloc,
+        [
+            time_or_none(from),
+            time_or_none(until),
+            time_or_none(time_between(from, until)),
+            Value::Count(crowd.commands),
+            Value::Count(crowd.carries),
+        ],
+    )?;
+    Ok(Row::new(values))
+}
+
+/// The rows of windows.
+fn window_rows(
+    alloc: Global,
+    begin: u64,
+    requests: &[CapturedRequest],
+    crowds: &[Crowd],
+) -> Result<Vec<Row>, AllocError>
+    ensures { IfOk result (λ rows. rows.items ≡ map (λ w. window_row begin requests.now w) crowds.now) }
+{
+    let mut rows = Vec::new(alloc);
+    for crowd in crowds {
+        rows.push(window_row(alloc, begin, requests, crowd)?)?;
+    }
+    Ok(rows)
+}
+
+/// Adds windows, with times from a beginning on.
+pub fn add_windows(
+    answer: &mut Answer,
+    alloc: Global,
+    begin: u64,
+    requests: &[CapturedRequest],
+    crowds: &[Crowd],
+) -> Result<(), AllocError>
+    ensures { OnOk result (answer.new ≡ with_windows begin requests.now crowds.now answer.old) }
+{
+    let columns = window_columns(alloc)?;
+    let rows = window_rows(alloc, begin, requests, crowds)?;
+    let title = Line::new(
+        Vec::new(alloc),
+        "\ncrowded windows, with more requests than dispatches, the greatest first, in ms:\n",
+    );
+    answer.add(Part::Line(title))?;
+    answer.add(Part::Rows(Rows::new(WINDOWS, columns, true, rows)))
+}

@@ -1,0 +1,156 @@
+//! What is said of what the late requests of a capture are blamed on.
+
+ghost use Rattle.std.specs.Prelude.{◌≡◌, ◌≤◌, ◌∷◌, [], IfOk, length};
+ghost use Rattle.edd_commands.specs.declared.TheConstants.{MAX_COMMANDS};
+ghost use Rattle.blk_capture.specs.Requests.{AreTimed};
+ghost use Rattle.blk_blame.specs.Account.{IsBlameAccount};
+ghost use Rattle.blk_blame.specs.Blamed.{AreProcesses, AreFindings, blame_parts, IsBlameAnswer, IsEachAnswer};
+
+use crate::account::{Account, account_of};
+use crate::answers::{add_stalls, add_totals, add_windows};
+use crate::each::lates_of;
+use crate::each_said::add_each;
+use crate::hurts::{Hurt, hurts_of};
+use crate::processes::{Process, process_of};
+use crate::processes_said::add_processes;
+use crate::stages::{StageRow, stages_of};
+use crate::stages_said::add_stages;
+use crate::top::{first_of, sort_hurts, sort_stalls, sort_windows};
+use crate::totals::{Totals, totals_of};
+use answer::Answer;
+use blk_capture::CapturedRequest;
+use edd_blame::StallTime;
+use edd_figures::Crowd;
+use std::alloc::{AllocError, Global};
+
+/// What is found of a capture.
+#[derive(Debug, Drop)]
+pub struct Findings {
+    /// What its late requests are blamed on.
+    pub account: Account,
+    /// It as a whole.
+    pub totals: Totals,
+    /// How long requests were in each stage, by direction.
+    pub stages: Vec<StageRow>,
+    /// The processes that have the most late requests, at most so many.
+    pub processes: Vec<Process>,
+    /// Its stalls, the greatest first.
+    pub stalls: Vec<StallTime>,
+    /// Its crowded windows, the greatest first.
+    pub windows: Vec<Crowd>,
+}
+
+/// What the late requests of these processes are blamed on.
+fn processes_of(
+    alloc: Global,
+    requests: &[CapturedRequest],
+    account: &Account,
+    hurts: &[Hurt],
+) -> Result<Vec<Process>, AllocError>
+    requires account { IsBlameAccount requests.now account.now }
+    requires few { length requests.now ≤ MAX_COMMANDS }
+    ensures { IfOk result (λ v. AreProcesses requests.now account.now hurts.now v.items) }
+{
+    let mut processes = Vec::with_capacity(alloc, hurts.len())?;
+    for hurt in hurts {
+        processes.push(process_of(alloc, requests, account, *hurt)?)?;
+    }
+    Ok(processes)
+}
+
+/// What is found of these requests, and of the processes that have the most late ones, at most so many. The requests are as
+/// [`blk_capture::match_records`] gives them, at most [`edd_commands::MAX_COMMANDS`] of them. Fails only when out of memory. The time grows as n
+/// log n, once more for each of these processes.
+pub fn findings_of(
+    alloc: Global,
+    most: u64,
+    requests: &[CapturedRequest],
+) -> Result<Findings, AllocError>
+    requires timed { AreTimed requests.now }
+    requires few { length requests.now ≤ MAX_COMMANDS }
+    ensures { IfOk result (AreFindings most requests.now) }
+{
+    let account = account_of(alloc, requests)?;
+    let totals = totals_of(alloc, requests)?;
+    let stages = stages_of(alloc, requests)?;
+    let mut hurts = hurts_of(alloc, requests)?;
+    sort_hurts(&mut hurts)?;
+    let processes = processes_of(alloc, requests, &account, first_of(hurts.as_slice(), most))?;
+    let mut stalls = Vec::from_slice(alloc, account.blame.stalls.as_slice())?;
+    sort_stalls(&mut stalls)?;
+    let mut windows = Vec::from_slice(alloc, account.blame.misses.windows.as_slice())?;
+    sort_windows(&mut windows)?;
+    Ok(Findings {
+        account,
+        totals,
+        stages,
+        processes,
+        stalls,
+        windows,
+    })
+}
+
+/// What is said of that: of at most so many stalls and windows.
+fn told(
+    alloc: Global,
+    most: u64,
+    begin: u64,
+    requests: &[CapturedRequest],
+    found: &Findings,
+) -> Result<Answer, AllocError>
+    ensures { IfOk result (λ a. a ≡ blame_parts most begin requests.now found.now) }
+{
+    let mut answer = Answer::new(alloc);
+    let blame = &found.account.blame;
+    let stalls = first_of(found.stalls.as_slice(), most);
+    let windows = first_of(found.windows.as_slice(), most);
+    add_totals(
+        &mut answer,
+        alloc,
+        &found.totals,
+        blame.misses.counts,
+        blame.reasons,
+    )?;
+    add_stages(&mut answer, alloc, found.stages.as_slice())?;
+    add_processes(&mut answer, alloc, found.processes.as_slice())?;
+    add_stalls(&mut answer, alloc, begin, requests, stalls)?;
+    add_windows(&mut answer, alloc, begin, requests, windows)?;
+    Ok(answer)
+}
+
+/// What the late ones of these requests are blamed on: how many were late and had to be, by what and by how much, the stages, the processes that
+/// have the most late ones, and the greatest stalls and crowded windows, at most `most` of each, with times from `begin` on, which mostly is
+/// that of the capture's first record. The requests are as for [`findings_of`]. Fails only when out of memory.
+pub fn blame_answer(
+    alloc: Global,
+    most: u64,
+    begin: u64,
+    requests: &[CapturedRequest],
+) -> Result<Answer, AllocError>
+    requires timed { AreTimed requests.now }
+    requires few { length requests.now ≤ MAX_COMMANDS }
+    ensures { IfOk result (IsBlameAnswer most begin requests.now) }
+{
+    let found = findings_of(alloc, most, requests)?;
+    let answer = told(alloc, most, begin, requests, &found)?;
+    Ok(answer)
+}
+
+/// The late ones of these requests, in the order of their dispatches, each with why it was late, with times from `begin` on. The requests are
+/// as for [`findings_of`]. Fails only when out of memory. The time grows as n log n.
+pub fn each_answer(
+    alloc: Global,
+    begin: u64,
+    requests: &[CapturedRequest],
+) -> Result<Answer, AllocError>
+    requires timed { AreTimed requests.now }
+    requires few { length requests.now ≤ MAX_COMMANDS }
+    ensures { IfOk result (IsEachAnswer begin requests.now) }
+{
+    let account = account_of(alloc, requests)?;
+    let commands = account.counted.commands.as_slice();
+    let lates = lates_of(alloc, commands, requests, account.causes.as_slice())?;
+    let mut answer = Answer::new(alloc);
+    add_each(&mut answer, alloc, begin, requests, lates.as_slice())?;
+    Ok(answer)
+}

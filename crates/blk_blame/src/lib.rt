@@ -1,0 +1,27 @@
+//! What the late requests of a capture are blamed on: how many were late, how many had to be and by what, and what proves it.
+//!
+//! The requests are those of a capture, counted in rounds that are its dispatches, and their causes are told by the clock.
+#![tactic(auto)]
+
+mod account;
+mod answers;
+mod blamed;
+mod each;
+mod each_said;
+mod hurts;
+pub mod names;
+mod percentiles;
+mod processes;
+mod processes_said;
+mod stages;
+mod stages_said;
+mod top;
+mod totals;
+
+pub use crate::account::{Account, account_of};
+pub use crate::blamed::{Findings, blame_answer, each_answer, findings_of};
+pub use crate::each::{LateRequest, lates_of};
+pub use crate::hurts::{Hurt, hurts_of};
+pub use crate::processes::{Process, process_of};
+pub use crate::stages::{Stage, StageRow, stages_of};
+pub use crate::totals::{Totals, totals_of};
