@@ -6,7 +6,7 @@
 
 There are two kinds. A case NAME_json, whose words have `--json`, stands beside the case NAME of the same other words and the same
 input: what it has to write is compared with what NAME has to write. And the program is run once more over each case of `oracle --trace`,
-`compare`, `tune`, `spread`, `late`, `misses`, `check` and `load` that has not `--json`, with that word added: at status 0 what it writes is
+`compare`, `tune`, `spread`, `late`, `misses`, `blame`, `check` and `load` that has not `--json`, with that word added: at status 0 what it writes is
 compared with the case's text, and at another status all is to be as it is without.
 
 Compared are the keys and their order, numbers as numbers, null where the text has none or leaves a field empty, and lists item by item;
@@ -118,6 +118,41 @@ def of_load(lines):
     return {word: number(text) for word, text in (line.split(" ") for line in lines)}
 
 
+# The words of a blame that are times: nanoseconds in JSON, and in the text milliseconds, cut behind three digits.
+TIMES = ("span", "p50", "p99", "max", "from", "until", "length", "wait", "wait_p50", "wait_p99", "overrun")
+
+
+def in_ms(value, word=""):
+    """What JSON tells of a blame, with its times as the text has them."""
+    if isinstance(value, dict):
+        return {key: in_ms(it, key) for key, it in value.items()}
+    if isinstance(value, list):
+        return [in_ms(it) for it in value]
+    return f"{value // 10**6}.{value // 1000 % 1000:03}" if word in TIMES and value is not None else value
+
+
+def blamed(words, texts):
+    """An object of numbers, of times as they stand and of words."""
+    read = lambda word, it: None if it in ("none", "") else it if word in (*TIMES, "dir", "cause", "stage") else int(it)
+    return {word: read(word, it) for word, it in zip(words, texts, strict=True)}
+
+
+def of_blame(lines):
+    if lines[0].startswith("id,"):
+        head, *rows = (line.split(",") for line in lines)
+        return {"late": [blamed(head, row) for row in rows]}
+    top, *tables = "\n".join(lines).split("\n\n")
+    form = r"(\d+) requests in (\S+) ms\nlate (\d+): reads (\d+), writes (\d+)\nhad to be (\d+): by stall (\d+), by crowding (\d+), by arrival (\d+)\n"
+    form += r"the scheduler's (\d+)\noverrun in ms: p50 (\S+), p99 (\S+), max (\S+)"
+    found = re.fullmatch(form, top).groups()
+    words = ("requests", "span", "late", "late_reads", "late_writes", "unavoidable", "stalled", "crowded", "arrivals", "avoidable")
+    told = {**blamed(words, found[:10]), "overrun": blamed(("p50", "p99", "max"), found[10:])}
+    for table in tables:
+        title, head, *rows = table.split("\n")
+        told[re.sub(r".*(windows|stages|processes|stalls),.*", r"\1", title)] = [blamed(head.split(), row.split()) for row in rows]
+    return told
+
+
 FORMS = {
     b"oracle": of_report,
     b"compare": of_table,
@@ -125,6 +160,7 @@ FORMS = {
     b"spread": of_spread,
     b"late": of_late,
     b"misses": of_misses,
+    b"blame": of_blame,
     b"check": of_check,
     b"load": of_load,
 }
@@ -163,7 +199,8 @@ def value_of(text):
 def compared(form, text, told):
     """How a JSON text differs from a text, empty where it doesn't."""
     wanted = json.dumps(form(text.decode("ascii").splitlines()))
-    got = json.dumps(value_of(told))
+    value = value_of(told)
+    got = json.dumps(in_ms(value) if form is of_blame else value)
     return "" if got == wanted else f"    wanted  {wanted[:4000]}\n    written {got[:4000]}\n"
 
 
@@ -190,7 +227,7 @@ def once_more(case):
     if case.status or "stdout" in case.places:
         return judge(PROGRAM, case)
     status, wrote, said = run(PROGRAM, case)
-    if status or said:
+    if status or said != case.bytes_wanted("stderr"):
         return f"    ended with status {status} and said {said[:400]!r}\n"
     return compared(form_of(case), case.bytes_wanted("stdout"), wrote)
 

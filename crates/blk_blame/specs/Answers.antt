@@ -5,11 +5,10 @@ use Rattle.answer.specs.declared.value.Value.{Value}
 use Rattle.answer.specs.declared.value.Value.TheVariants.{Count}
 use Rattle.answer.specs.declared.cells.Cell.{Cell}
 use Rattle.answer.specs.declared.cells.Column.{Column}
-use Rattle.answer.specs.declared.cells.Layout.{Layout}
 use Rattle.answer.specs.declared.cells.Layout.TheVariants.{Words, Right}
 use Rattle.answer.specs.declared.answer.Part.{Part}
 use Rattle.answer.specs.declared.answer.Part.TheVariants.{Line, Object, Rows}
-use Rattle.answer.specs.Parts.{column, clocked}
+use Rattle.answer.specs.Parts.{cell, column, clocked}
 use Rattle.blk_capture.specs.Tables.{since}
 use Rattle.blk_capture.specs.declared.requests.CapturedRequest.{CapturedRequest}
 use Rattle.blk_capture.specs.declared.summary.Percentiles.{Percentiles}
@@ -19,9 +18,6 @@ use Rattle.edd_figures.specs.declared.missing.Counts.{Counts}
 use Rattle.edd_figures.specs.declared.missing.Crowd.{Crowd}
 use Rattle.blk_blame.specs.declared.names.TheConstants as own
 use Rattle.blk_blame.specs.declared.totals.Totals.{Totals}
-
-abbrev pub cell : Layout → List ℕ → Value → Cell
-cell how name value = record { column = column how name; value = value }
 
 abbrev pub behind : List ℕ → List ℕ → Value → Cell
 behind words name value = cell (Words words) name value

@@ -1,8 +1,8 @@
 //! What is said of who was late, and why.
 
 ghost use Rattle.std.specs.Prelude.{◌≡◌, IfOk, OnOk, map};
-ghost use Rattle.answer.specs.Parts.{clocked};
-ghost use Rattle.blk_blame.specs.Answers.{cell, time_after, time_of_dispatch, time_between, requests_part, late_part, unavoidable_part, avoidable_part, overrun_part, with_totals, stall_columns, stall_row, with_stalls, window_columns, window_row, with_windows};
+ghost use Rattle.answer.specs.Parts.{cell, clocked};
+ghost use Rattle.blk_blame.specs.Answers.{time_after, time_of_dispatch, time_between, requests_part, late_part, unavoidable_part, avoidable_part, overrun_part, with_totals, stall_columns, stall_row, with_stalls, window_columns, window_row, with_windows};
 
 use crate::names::{
     ARRIVALS, CROWDED, LATE_READS, LATE_WRITES, LENGTH, OVERRUN, REQUESTS, SPAN, STALLED, STALLS,

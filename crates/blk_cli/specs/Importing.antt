@@ -6,6 +6,9 @@ use Rattle.blk_arrivals.specs.Scripts.{script_of, script_rules}
 use Rattle.blk_arrivals.specs.declared.terms.ArrivalsFault.TheVariants as arrivals
 use Rattle.blk_arrivals.specs.declared.terms.TheConstants.{USUAL_DEPTH}
 use Rattle.blk_arrivals.specs.declared.terms.Terms.{Terms}
+use Rattle.answer.specs.declared.answer.Part.{Part}
+use Rattle.blk_answers.specs.Forms.{written_in}
+use Rattle.blk_blame.specs.Blamed.{IsBlameAnswer, IsEachAnswer}
 use Rattle.blk_capture.specs.Summaries.{IsMostInFlight}
 use Rattle.blk_capture.specs.declared.fates.Fate.{Fate}
 use Rattle.blk_capture.specs.declared.record.Record.{Record}
@@ -13,7 +16,7 @@ use Rattle.blk_capture.specs.declared.requests.CapturedBio.{CapturedBio}
 use Rattle.blk_capture.specs.declared.requests.Entry.{Entry}
 use Rattle.blk_capture.specs.declared.requests.Entry.TheVariants as entry
 use Rattle.blk_capture.specs.declared.requests.CapturedRequest.{CapturedRequest}
-use Rattle.blk_capture_text.specs.Imports.{IsImport, IsImportFault}
+use Rattle.blk_capture_text.specs.Imports.{IsImport, IsImportFault, first_time}
 use Rattle.blk_capture_text.specs.Shown.{IsShown}
 use Rattle.blk_capture_text.specs.SummaryText.{counts_of, notice_line}
 use Rattle.blk_capture_text.specs.declared.importing.ImportAsked.{ImportAsked}
@@ -24,6 +27,7 @@ use Rattle.blk_lists.specs.Texts.{rows_text}
 use Rattle.blk_text.specs.Script.{IsScript, script_rows}
 use Rattle.blk_text.specs.declared.setup.TheConstants.{LATEST}
 use Rattle.blk_words.specs.Times.{MAX_NUMBER}
+use Rattle.blk_words.specs.declared.blaming.Blaming.{Blaming}
 use Rattle.blk_words.specs.declared.words.Import.{Import}
 use Rattle.blk_words.specs.declared.words.Written.{Written}
 use Rattle.blk_words.specs.declared.words.Written.TheVariants as written
@@ -106,6 +110,28 @@ IsUnshown i records (failure.Import f) = IsImportFault records (asked_of i) f
 IsUnshown i records failure.Memory = ⊤
 IsUnshown i records f = ⊥
 
+-- what the late ones of requests are blamed on, or each of them; and this of those that are taken, and what is said beside it
+abbrev pub IsBlamedBy : Bool → Blaming → ℕ → List CapturedRequest → List Part → Type 0
+IsBlamedBy true b begin requests parts = IsEachAnswer begin requests parts
+IsBlamedBy false b begin requests parts = IsBlameAnswer b.most begin requests parts
+
+abbrev pub IsBlamingAnswer : Blaming → ℕ → List CapturedRequest → List Part → Type 0
+IsBlamingAnswer b begin requests parts = IsBlamedBy b.each b begin requests parts
+
+abbrev pub IsBlamingText : Blaming → ℕ → List CapturedRequest → List ℕ → Type 0
+IsBlamingText b begin requests text = (parts : List Part) × IsBlamingAnswer b begin requests parts × (text ≡ written_in b.form parts)
+
+pub record IsBlamedOf (b : Blaming) (i : Import) (records : List Record) (s : Said) : Type 0 where
+  pub requests : List CapturedRequest
+  pub bios : List CapturedBio
+  pub fates : List Fate
+  pub absorbed : ℕ
+  pub left_out : ℕ
+  pub is_import : IsImport records (asked_of i) requests bios fates absorbed left_out
+  pub is_text : IsBlamingText b (first_time records) requests s.text
+  pub is_note : IsNoteOf (tags_asked i.source.tags) shown.Schedule records requests fates s.note
+  pub good : s.good ≡ true
+
 -- its arrivals as a script: a text of records that spell it, and nothing beside it
 pub record IsScripted (t : Terms) (records : List Record) (s : Said) : Type 0 where
   pub is_script : IsScript (script_of t records)
@@ -124,6 +150,7 @@ IsWrittenAs written.Schedule i records s = IsShownOf shown.Schedule i records s
 IsWrittenAs written.Table i records s = IsShownOf shown.Table i records s
 IsWrittenAs written.Summary i records s = IsShownOf shown.Summary i records s
 IsWrittenAs (written.Script round depth) i records s = IsScripted (terms_of i round depth) records s
+IsWrittenAs (written.Blame b) i records s = IsBlamedOf b i records s
 
 abbrev pub IsUnwrittenAs : Written → Import → List Record → Failure → Type 0
 IsUnwrittenAs (written.Script round depth) i records f = IsUnscripted (terms_of i round depth) records f

@@ -7,6 +7,7 @@ ghost use Rattle.blk_cli.specs.Said.{said_of};
 ghost use Rattle.blk_cli.specs.Importing.{entry_asked, most_asked, asked_of, terms_of, line_on, note_by, IsShownOf, IsUnshown, IsScripted, IsUnscripted, IsImported, IsUnimported, noted, tags_asked, IsNoteOn, IsSaidFrom, IsImportedOf, IsUnimportedOf, IsImportedFrom};
 ghost use Rattle.blk_cli.specs.Ends.{IsFailureOf, IsUntaken};
 
+use crate::blaming::blamed;
 use crate::failure::Failure;
 use crate::notes::{doubt_text, source_text};
 use crate::{Answered, NoText, without};
@@ -43,7 +44,7 @@ fn most_asked(first: Option<u64>) -> u64
 }
 
 /// What is asked of the import.
-fn asked_of(wanted: Import) -> ImportAsked
+pub(crate) fn asked_of(wanted: Import) -> ImportAsked
     ensures { result ≡ asked_of wanted }
 {
     let entry = entry_asked(wanted.from_queue);
@@ -121,7 +122,7 @@ fn noted(told: Vec<u8>, note: Option<Vec<u8>>) -> Result<Option<Vec<u8>>, AllocE
 const USUAL_TAGS: u64 = 4096;
 
 /// How many requests the device takes at once.
-fn tags_asked(tags: Option<u64>) -> u64
+pub(crate) fn tags_asked(tags: Option<u64>) -> u64
     ensures { result ≡ tags_asked tags }
 {
     match tags {
@@ -131,7 +132,7 @@ fn tags_asked(tags: Option<u64>) -> u64
 }
 
 /// What is said beside the text, and before it what of the requests is dubious.
-fn note_on(
+pub(crate) fn note_on(
     alloc: Global,
     shown: ShownImport,
     tags: u64,
@@ -229,6 +230,7 @@ fn imported(alloc: Global, wanted: Import, records: &[Record]) -> Result<Answere
             let terms = terms_of(wanted, round, depth);
             scripted(alloc, terms, records)
         }
+        Written::Blame(blaming) => blamed(alloc, wanted, blaming, records),
     }
 }
 

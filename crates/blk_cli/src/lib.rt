@@ -8,6 +8,7 @@ ghost use Rattle.blk_cli.specs.Gives.{GivesText, TellsOf, HasNoText, GivesAnswer
 ghost use Rattle.blk_cli.specs.Ends.{Answers, AskForGood, AskForNoInput, AskForTexts, IsWithout, IsWithoutAnswer, IsFailureOf, title_line, status_with, SaysBeside, EndsSaying, EndsWithout, RunEndsOn};
 ghost use Rattle.blk_cli.specs.Inside.Ends.{EndsPutOn};
 
+mod blaming;
 mod checking;
 mod comparing;
 mod explaining;

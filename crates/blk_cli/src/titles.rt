@@ -4,7 +4,7 @@ use blk_explain::{TextForm, called, form_named};
 use blk_lists::fields::field;
 use blk_recorders::{CaptureForm, Recorder, form_of};
 use blk_settings::FiguresAsked;
-use blk_words::{Job, Running, Telling, TextJob};
+use blk_words::{Import, Job, Running, Telling, TextJob, Written};
 use csv::ByteRecord;
 use drafts::Draft;
 use std::alloc::{AllocError, Global};
@@ -20,11 +20,19 @@ fn teller_of(telling: Telling) -> Option<&'static [u8]> {
     }
 }
 
+/// What a capture is written by.
+fn importer_of(import: Import) -> &'static [u8] {
+    match import.written {
+        Written::Blame(_) => b"blame",
+        _ => b"import",
+    }
+}
+
 /// The subcommand of the project's own that a job is of, and the form of the texts that it reads.
 fn reader_of(job: Job) -> Option<(&'static [u8], TextForm)> {
     match job {
         Job::Tune(_) => Some((b"tune", TextForm::Script)),
-        Job::Import(_) => Some((b"import", TextForm::Capture)),
+        Job::Import(import) => Some((importer_of(import), TextForm::Capture)),
         Job::OfText(TextJob::Judge { .. }) => Some((b"judge", TextForm::Schedule)),
         Job::OfText(TextJob::OfScript(Running::Drawn(_))) => Some((
             b"picture --script",

@@ -21,7 +21,7 @@ use Rattle.blk_words.specs.declared.words.Refusal.{Refusal}
 use Rattle.blk_words.specs.declared.words.ShownLoad.{ShownLoad}
 use Rattle.blk_words.specs.declared.words.Written.{Written}
 use Rattle.blk_words.specs.declared.words.Written.TheVariants as written
-use Rattle.blk_words.specs.Asked.{job_made, is_flagged, is_some_given, lineup_asked, pictured, time_given, number_given, from_given, source_given, written_of, sched_asked, amounts_of, oracle_job, tune_by, import_by, import_as, takes_all, load_job, loaded}
+use Rattle.blk_words.specs.Asked.{job_made, is_flagged, is_some_given, lineup_asked, pictured, time_given, number_given, from_given, source_given, written_of, sched_asked, amounts_of, oracle_job, tune_by, import_by, import_as, takes_all, load_job, loaded, blaming_of}
 use Rattle.blk_words.specs.Options.{json_option, met_option, script_option, trace_option, by_option, read_expire_option, write_expire_option, from_option, skip_option, first_option}
 use Rattle.blk_words.specs.Takers.{takes_as, kind_read, CanRead}
 
@@ -57,19 +57,19 @@ tune_fits name (Some r) by top threads f = reads_none makes.Tune name _ refl
 tune_fits name None None top threads f = reads_none makes.Tune name _ refl
 tune_fits name None (Some b) top threads f = reads_one makes.Tune name kind.Script (λ e. cc e) _ refl
 
-import_as_fits : (name : Text) (i : Import) (all : Bool) → takes_all i ≡ all → (w : Written) → Fits makes.Import name (import_as i w)
-import_as_fits name i true e (written.Script n d) = rw e (reads_one makes.Import name kind.Capture (λ e. cc e) _ refl)
-import_as_fits name i false e (written.Script n d) = rw e (reads_none makes.Import name _ refl)
-import_as_fits name i all e w = reads_one makes.Import name kind.Capture (λ e. cc e) _ refl
+import_as_fits : (m : Makes) (name : Text) → takes_as m kind.Capture name ≢ None → (i : Import) (all : Bool) → takes_all i ≡ all → (w : Written) → Fits m name (import_as i w)
+import_as_fits m name taken i true e (written.Script n d) = rw e (reads_one m name kind.Capture taken _ refl)
+import_as_fits m name taken i false e (written.Script n d) = rw e (reads_none m name _ refl)
+import_as_fits m name taken i all e w = reads_one m name kind.Capture taken _ refl
 
-import_fits : (name : Text) (read write : Option ℕ) (queued : Option Bool) (source : Result CaptureSource Refusal) (skip first : Option ℕ) (w : Result Written Refusal) → Fits makes.Import name (import_by read write queued source skip first w)
-import_fits name None write queued source skip first w = reads_none makes.Import name _ refl
-import_fits name (Some r) None queued source skip first w = reads_none makes.Import name _ refl
-import_fits name (Some r) (Some d) None source skip first w = reads_none makes.Import name _ refl
-import_fits name (Some r) (Some d) (Some q) (Err f) skip first w = reads_none makes.Import name _ refl
-import_fits name (Some r) (Some d) (Some q) (Ok c) None first w = reads_none makes.Import name _ refl
-import_fits name (Some r) (Some d) (Some q) (Ok c) (Some s) first (Err f) = reads_none makes.Import name _ refl
-import_fits name (Some r) (Some d) (Some q) (Ok c) (Some s) first (Ok w) = import_as_fits name _ _ refl w
+import_fits : (m : Makes) (name : Text) → takes_as m kind.Capture name ≢ None → (read write : Option ℕ) (queued : Option Bool) (source : Result CaptureSource Refusal) (skip first : Option ℕ) (w : Result Written Refusal) → Fits m name (import_by read write queued source skip first w)
+import_fits m name taken None write queued source skip first w = reads_none m name _ refl
+import_fits m name taken (Some r) None queued source skip first w = reads_none m name _ refl
+import_fits m name taken (Some r) (Some d) None source skip first w = reads_none m name _ refl
+import_fits m name taken (Some r) (Some d) (Some q) (Err f) skip first w = reads_none m name _ refl
+import_fits m name taken (Some r) (Some d) (Some q) (Ok c) None first w = reads_none m name _ refl
+import_fits m name taken (Some r) (Some d) (Some q) (Ok c) (Some s) first (Err f) = reads_none m name _ refl
+import_fits m name taken (Some r) (Some d) (Some q) (Ok c) (Some s) first (Ok w) = import_as_fits m name taken _ _ refl w
 
 loaded_fits : (name : Text) (w : ShownLoad) (s : Option Sched) (l : Option Load) → IfSome (loaded w s l) (Fits makes.Load name)
 loaded_fits name w None l = tt
@@ -92,8 +92,11 @@ fits makes.Picture rows name = picture_fits name (is_flagged script_option.name 
 fits makes.Oracle rows name = oracle_fits name (is_flagged trace_option.name rows) (is_flagged met_option.name rows) (is_flagged json_option.name rows)
 fits makes.Check rows name = reads_one makes.Check name kind.Certificate (λ e. cc e) _ refl
 fits makes.Import rows name =
-    import_fits name (time_given read_expire_option.name rows) (time_given write_expire_option.name rows) (from_given rows) (source_given rows) (time_given skip_option.name rows)
+    import_fits makes.Import name (λ e. cc e) (time_given read_expire_option.name rows) (time_given write_expire_option.name rows) (from_given rows) (source_given rows) (time_given skip_option.name rows)
     (number_given first_option.name rows) (written_of rows)
+fits makes.Blame rows name =
+    import_fits makes.Blame name (λ e. cc e) (time_given read_expire_option.name rows) (time_given write_expire_option.name rows) (from_given rows) (source_given rows) (time_given skip_option.name rows)
+    (number_given first_option.name rows) (blaming_of rows)
 fits makes.Judge rows name = reads_one makes.Judge name kind.Schedule (λ e. cc e) _ refl
 fits makes.Load rows name = load_fits name (is_flagged trace_option.name rows) (is_flagged json_option.name rows) (sched_asked rows) (amounts_of rows)
 
@@ -127,4 +130,5 @@ reads_each makes.Oracle kind.Commands name h = ([], _, refl, refl)
 reads_each makes.Check kind.Certificate name h = ([], _, refl, refl)
 reads_each makes.Judge kind.Schedule name h = ([], _, refl, refl)
 reads_each makes.Import kind.Capture name h = (defaults (read_expire_option ∷ write_expire_option ∷ from_option ∷ skip_option ∷ []), _, refl, refl)
+reads_each makes.Blame kind.Capture name h = (defaults (read_expire_option ∷ write_expire_option ∷ from_option ∷ skip_option ∷ []), _, refl, refl)
 reads_each m i name h = absurd (h refl)

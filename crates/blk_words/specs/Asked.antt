@@ -1,5 +1,5 @@
 -- What the words of a command line ask for.
-use Rattle.std.specs.Prelude.{◌≡◌, ◌≢◌, ◌⊎◌, ◌&&◌, ◌||◌, ◌==◌, ⊤, ℕ, Bool, true, false, not, List, [], find, Option, Some, None, Result, Ok, Err, codes, option_map, option_and_then, if◌then◌else◌}
+use Rattle.std.specs.Prelude.{◌≡◌, ◌≢◌, ◌⊎◌, ◌&&◌, ◌||◌, ◌==◌, ⊤, ℕ, Bool, true, false, not, List, [], find, Option, Some, None, Result, Ok, Err, codes, option_map, option_and_then, if◌then◌else◌, unwrap_or}
 use Rattle.std.specs.List.{list_any}
 use Rattle.std.specs.Option.{option_map_or}
 use Rattle.std.specs.Str.{bytes_eq}
@@ -44,10 +44,11 @@ use Rattle.blk_words.specs.declared.words.Refusal.{Refusal}
 use Rattle.blk_words.specs.declared.words.Refusal.TheVariants as refusal
 use Rattle.blk_words.specs.declared.words.Written.{Written}
 use Rattle.blk_words.specs.declared.words.Written.TheVariants as written
+use Rattle.blk_words.specs.declared.blaming.TheConstants.{USUAL_TOP}
 use Rattle.blk_words.specs.declared.table.Makes.{Makes}
 use Rattle.blk_words.specs.declared.table.Makes.TheVariants as makes
 use Rattle.blk_words.specs.CommandLine.{Names, AreNames, command_table, blk_app}
-use Rattle.blk_words.specs.Options.{json_option, script_option, trace_option, by_option, top_option, threads_option, met_option, each_option, read_expire_option, write_expire_option, from_option, as_option, device_option, tags_option, skip_option, first_option, table_option, summary_option, round_option, depth_option, submitters_option, workers_option, bios_option, load_depth_option, busy_option, service_option}
+use Rattle.blk_words.specs.Options.{json_option, script_option, trace_option, by_option, top_option, threads_option, met_option, each_option, read_expire_option, write_expire_option, from_option, as_option, device_option, tags_option, skip_option, first_option, all_option, table_option, summary_option, round_option, depth_option, submitters_option, workers_option, bios_option, load_depth_option, busy_option, service_option}
 use Rattle.blk_words.specs.Lists.{list_of}
 use Rattle.blk_words.specs.Times.{MAX_NUMBER, number_in, time_of}
 
@@ -234,9 +235,27 @@ import_by (Some r) (Some d) (Some q) (Ok c) (Some s) first (Err f) = job.Refuse 
 import_by (Some r) (Some d) (Some q) (Ok c) (Some s) first (Ok w) =
     import_of (record { read_expire = r; write_expire = d; from_queue = q; source = c; skip = s; first = first; written = w })
 
+abbrev pub import_with : Result Written Refusal → List Row → Job
+import_with written rows = import_by (time_given read_expire_option.name rows) (time_given write_expire_option.name rows) (from_given rows) (source_given rows) (time_given skip_option.name rows)
+    (number_given first_option.name rows) written
+
 abbrev pub import_job : List Row → Job
-import_job rows = import_by (time_given read_expire_option.name rows) (time_given write_expire_option.name rows) (from_given rows) (source_given rows) (time_given skip_option.name rows)
-    (number_given first_option.name rows) (written_of rows)
+import_job rows = import_with (written_of rows) rows
+
+-- how many stalls and windows are written at most, and how that is
+abbrev pub most_shown : Bool → Option ℕ → ℕ
+most_shown true top = MAX_NUMBER
+most_shown false top = unwrap_or top USUAL_TOP
+
+abbrev pub blaming_by : Bool → Bool → Option ℕ → Form → Result Written Refusal
+blaming_by each true (Some n) f = Err refusal.AllAndTop
+blaming_by each all top f = Ok (written.Blame (record { each = each; most = most_shown all top; form = f }))
+
+abbrev pub blaming_of : List Row → Result Written Refusal
+blaming_of rows = blaming_by (is_flagged each_option.name rows) (is_flagged all_option.name rows) (number_given top_option.name rows) (form_asked rows)
+
+abbrev pub blame_job : List Row → Job
+blame_job rows = import_with (blaming_of rows) rows
 
 -- by what rows are put in order
 abbrev pub by_named : Text → Option By
@@ -279,6 +298,7 @@ job_made makes.Picture rows = picture_given rows
 job_made makes.Oracle rows = oracle_given rows
 job_made makes.Check rows = Some (job.OfText (text_job.Check (form_asked rows)))
 job_made makes.Import rows = Some (import_job rows)
+job_made makes.Blame rows = Some (blame_job rows)
 job_made makes.Judge rows = Some (job.OfText (text_job.Judge (is_flagged each_option.name rows)))
 job_made makes.Load rows = load_given rows
 

@@ -13,7 +13,7 @@ use Rattle.blk_words.specs.declared.inputs.Telling.TheVariants as telling
 pub use Rattle.blk_words.specs.declared.command.Names.{Names}
 use Rattle.blk_words.specs.declared.table.Makes.{Makes}
 use Rattle.blk_words.specs.declared.table.Makes.TheVariants as makes
-use Rattle.blk_words.specs.Options.{json_option, script_option, trace_option, by_option, top_option, threads_option, met_option, each_option, read_expire_option, write_expire_option, from_option, as_option, device_option, tags_option, skip_option, first_option, table_option, summary_option, round_option, depth_option, submitters_option, workers_option, bios_option, load_depth_option, busy_option, service_option}
+use Rattle.blk_words.specs.Options.{json_option, script_option, trace_option, by_option, top_option, threads_option, met_option, each_option, read_expire_option, write_expire_option, from_option, as_option, device_option, tags_option, skip_option, first_option, all_option, table_option, summary_option, round_option, depth_option, submitters_option, workers_option, bios_option, load_depth_option, busy_option, service_option}
 
 -- texts behind references
 abbrev pub Texts : Type 0
@@ -86,11 +86,17 @@ formed name k place = taking name (json_option ∷ []) (makes.Formed k) place
 abbrev pub trying : List OptionOf
 trying = by_option ∷ top_option ∷ threads_option ∷ json_option ∷ []
 
--- how a capture is imported
+-- which requests of a capture are taken, and when they came in and are due
+abbrev pub capturing : List OptionOf
+capturing =
+    read_expire_option ∷ write_expire_option ∷ from_option ∷ as_option ∷ device_option ∷ tags_option ∷ skip_option ∷ first_option ∷ []
+
+-- how they are imported, and how they are blamed
 abbrev pub importing : List OptionOf
-importing =
-    read_expire_option ∷ write_expire_option ∷ from_option ∷ as_option ∷ device_option ∷ tags_option ∷ skip_option ∷ first_option ∷ table_option ∷ summary_option ∷ script_option ∷ round_option
-    ∷ depth_option ∷ []
+importing = capturing ++ table_option ∷ summary_option ∷ script_option ∷ round_option ∷ depth_option ∷ []
+
+abbrev pub blaming : List OptionOf
+blaming = capturing ++ each_option ∷ top_option ∷ all_option ∷ json_option ∷ []
 
 -- how much load there is
 abbrev pub amount_options : List OptionOf
@@ -119,6 +125,7 @@ other_table =
     ∷ taking (codes "judge") (each_option ∷ []) makes.Judge 11
     ∷ plain (codes "explain") makes.Explain 13
     ∷ taking (codes "load") (sched_option ∷ trace_option ∷ json_option ∷ (amount_options ++ tuning)) makes.Load 14
+    ∷ taking (codes "blame") blaming makes.Blame 15
     ∷ []
 
 -- all of them

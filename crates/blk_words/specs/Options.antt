@@ -58,6 +58,11 @@ skip_option = record { name = codes "skip"; kind = Words (codes "0s") }
 abbrev pub first_option : OptionOf
 first_option = record { name = codes "first"; kind = MaybeNumber 1 MAX_COMMANDS }
 
+-- of `blame`
+abbrev pub all_option : OptionOf
+all_option = record { name = codes "all"; kind = Flag }
+
+-- of `import` again
 abbrev pub table_option : OptionOf
 table_option = record { name = codes "table"; kind = Flag }
 

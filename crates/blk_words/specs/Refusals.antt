@@ -22,3 +22,4 @@ refusal_text refusal.TraceAndJson = codes "--trace and --json exclude one anothe
 refusal_text refusal.NoScriptDrawn = codes "options of schedulers need --script"
 refusal_text (refusal.Lists f) = list_fault_text f
 refusal_text refusal.By = codes "--by takes misses or lateness"
+refusal_text refusal.AllAndTop = codes "--all and --top exclude one another"

@@ -3,6 +3,7 @@
 #![tactic(auto)]
 
 pub mod asking;
+mod blaming;
 mod command;
 mod inputs;
 pub mod laws;
@@ -14,6 +15,7 @@ mod takers;
 mod times;
 mod words;
 
+pub use crate::blaming::Blaming;
 pub use crate::inputs::{Running, Solving, Telling, TextJob, TextKind};
 pub use crate::table::{MAX_TAGS, MAX_THREADS, MAX_TOP, Makes};
 pub use crate::takers::{takers_text, takes_what_it_reads};

@@ -10,6 +10,9 @@ pub const BY: &str = "by";
 /// How many of them are written.
 pub const TOP: &str = "top";
 
+/// Whether all of them are.
+pub const ALL: &str = "all";
+
 /// How many runs go side by side.
 pub const THREADS: &str = "threads";
 

@@ -44,6 +44,8 @@ pub enum Makes {
     Check,
     /// The import of a capture, if its times are times.
     Import,
+    /// What the late requests of a capture are blamed on, if its times are times.
+    Blame,
     /// The judgement of a schedule, or of each of its late commands.
     Judge,
     /// A load of their numbers under the scheduler that they name.
@@ -85,11 +87,67 @@ const JSON: OptionRow<'static> = OptionRow {
     help: "Writes it as JSON",
 };
 
+/// The option that says when a read is due.
+const READ_EXPIRE: OptionRow<'static> = OptionRow {
+    name: option_names::READ_EXPIRE,
+    takes: Takes::Text("500ms"),
+    help: "How long after it came in a read is due: a number with ns, us, ms or s",
+};
+
+/// The option that says when a write is due.
+const WRITE_EXPIRE: OptionRow<'static> = OptionRow {
+    name: option_names::WRITE_EXPIRE,
+    takes: Takes::Text("5s"),
+    help: "How long after it came in a write is due",
+};
+
+/// The option that says when a request came in.
+const FROM: OptionRow<'static> = OptionRow {
+    name: option_names::FROM,
+    takes: Takes::Text("insert"),
+    help: "When a request came in: insert, when it was inserted into the scheduler; queue, when its first bio was queued",
+};
+
+/// The option that says who printed a capture.
+const AS: OptionRow<'static> = OptionRow {
+    name: option_names::AS,
+    takes: Takes::MaybeText,
+    help: "Who printed the capture: capture, blkparse, ftrace, perf or bpftrace; without it, what the first lines tell",
+};
+
+/// The option that says of which device requests are taken.
+const DEVICE: OptionRow<'static> = OptionRow {
+    name: option_names::DEVICE,
+    takes: Takes::MaybeText,
+    help: "Takes only requests of this device, MAJOR,MINOR",
+};
+
+/// The option that says how many requests the device takes at once.
+const TAGS: OptionRow<'static> = OptionRow {
+    name: option_names::TAGS,
+    takes: Takes::Maybe(1, MAX_TAGS),
+    help: "How many requests the device takes at once: more in flight are told; without it, more than 4096",
+};
+
+/// The option that says how much of the beginning is left out.
+const SKIP: OptionRow<'static> = OptionRow {
+    name: option_names::SKIP,
+    takes: Takes::Text("0s"),
+    help: "Leaves out what went out sooner than so long after the first record",
+};
+
+/// The option that says how many requests are taken.
+const FIRST: OptionRow<'static> = OptionRow {
+    name: option_names::FIRST,
+    takes: Takes::Maybe(1, MAX_COMMANDS),
+    help: "Takes only so many requests, those that went out first; without it, all",
+};
+
 /// How many subcommands there are over scripts and over traces.
 const RUN_COUNT: usize = 9;
 
 /// How many others there are.
-const OTHER_COUNT: usize = 6;
+const OTHER_COUNT: usize = 7;
 
 /// How many there are.
 pub const COMMAND_COUNT: usize = RUN_COUNT + OTHER_COUNT;
@@ -227,46 +285,14 @@ pub static OTHER_COMMANDS: [CommandRow; OTHER_COUNT] = [
         name: "import",
         about: "Reads a capture of a machine's requests, and writes their schedule",
         options: &[
-            OptionGroup::Own(OptionRow {
-                name: option_names::READ_EXPIRE,
-                takes: Takes::Text("500ms"),
-                help: "How long after it came in a read is due: a number with ns, us, ms or s",
-            }),
-            OptionGroup::Own(OptionRow {
-                name: option_names::WRITE_EXPIRE,
-                takes: Takes::Text("5s"),
-                help: "How long after it came in a write is due",
-            }),
-            OptionGroup::Own(OptionRow {
-                name: option_names::FROM,
-                takes: Takes::Text("insert"),
-                help: "When a request came in: insert, when it was inserted into the scheduler; queue, when its first bio was queued",
-            }),
-            OptionGroup::Own(OptionRow {
-                name: option_names::AS,
-                takes: Takes::MaybeText,
-                help: "Who printed the capture: capture, blkparse, ftrace, perf or bpftrace; without it, what the first lines tell",
-            }),
-            OptionGroup::Own(OptionRow {
-                name: option_names::DEVICE,
-                takes: Takes::MaybeText,
-                help: "Takes only requests of this device, MAJOR,MINOR",
-            }),
-            OptionGroup::Own(OptionRow {
-                name: option_names::TAGS,
-                takes: Takes::Maybe(1, MAX_TAGS),
-                help: "How many requests the device takes at once: more in flight are told; without it, more than 4096",
-            }),
-            OptionGroup::Own(OptionRow {
-                name: option_names::SKIP,
-                takes: Takes::Text("0s"),
-                help: "Leaves out what went out sooner than so long after the first record",
-            }),
-            OptionGroup::Own(OptionRow {
-                name: option_names::FIRST,
-                takes: Takes::Maybe(1, MAX_COMMANDS),
-                help: "Takes only so many requests, those that went out first; without it, all",
-            }),
+            OptionGroup::Own(READ_EXPIRE),
+            OptionGroup::Own(WRITE_EXPIRE),
+            OptionGroup::Own(FROM),
+            OptionGroup::Own(AS),
+            OptionGroup::Own(DEVICE),
+            OptionGroup::Own(TAGS),
+            OptionGroup::Own(SKIP),
+            OptionGroup::Own(FIRST),
             OptionGroup::Own(OptionRow {
                 name: option_names::TABLE,
                 takes: Takes::Nothing,
@@ -359,5 +385,37 @@ pub static OTHER_COMMANDS: [CommandRow; OTHER_COUNT] = [
         ],
         makes: Makes::Load,
         place: 14,
+    },
+    CommandRow {
+        name: "blame",
+        about: "Writes which requests of a capture were late, how many had to be, and what made them late",
+        options: &[
+            OptionGroup::Own(READ_EXPIRE),
+            OptionGroup::Own(WRITE_EXPIRE),
+            OptionGroup::Own(FROM),
+            OptionGroup::Own(AS),
+            OptionGroup::Own(DEVICE),
+            OptionGroup::Own(TAGS),
+            OptionGroup::Own(SKIP),
+            OptionGroup::Own(FIRST),
+            OptionGroup::Own(OptionRow {
+                name: option_names::EACH,
+                takes: Takes::Nothing,
+                help: "Writes each late request instead, and why it was late",
+            }),
+            OptionGroup::Own(OptionRow {
+                name: option_names::TOP,
+                takes: Takes::Maybe(1, MAX_TOP),
+                help: "How many processes, stalls and windows are written at most, the greatest ones; without it, 10",
+            }),
+            OptionGroup::Own(OptionRow {
+                name: option_names::ALL,
+                takes: Takes::Nothing,
+                help: "Writes all of them",
+            }),
+            OptionGroup::Own(JSON),
+        ],
+        makes: Makes::Blame,
+        place: 15,
     },
 ];

@@ -6,12 +6,13 @@ ghost use Rattle.clap.specs.Words.{subcommand_rows_of};
 ghost use Rattle.blk_settings.specs.Grids.{grid_given};
 ghost use Rattle.blk_words.specs.CommandLine.{command_table, program_version};
 ghost use Rattle.blk_words.specs.Inside.Tables.{subcommand_of, makes_among};
-ghost use Rattle.blk_words.specs.Asked.{Asks, AsksGrid, AsksNoGrid, IsNoJob, list_given, by_named, by_given, tune_job, short_given, number_given, is_flagged, is_some_given, given_options, sched_asked, lineup_asked, compared, picture_given, amounts_of, shown_of, loaded, load_given, form_by, form_asked, time_given, entry_named, from_given, source_given, round_by, round_given, script_asked, unscripted, written_of, takes_all, import_of, import_job, oracle_given, job_made, job_of};
+ghost use Rattle.blk_words.specs.Asked.{Asks, AsksGrid, AsksNoGrid, IsNoJob, list_given, by_named, by_given, tune_job, short_given, number_given, is_flagged, is_some_given, given_options, sched_asked, lineup_asked, compared, picture_given, amounts_of, shown_of, loaded, load_given, form_by, form_asked, time_given, entry_named, from_given, source_given, round_by, round_given, script_asked, unscripted, written_of, takes_all, import_of, import_job, oracle_given, job_made, job_of, import_with, blame_job};
 ghost use Rattle.blk_words.specs.Options.{script_option};
 ghost use Rattle.blk_settings.specs.Complaints.{complaint_text};
 ghost use Rattle.blk_words.specs.Refusals.{refusal_text};
 ghost use Rattle.blk_words.specs.Inside.Options.{given};
 
+use crate::blaming::{Blaming, blaming_of};
 use crate::command::{Names, blk_command, other_commands, run_commands};
 use crate::inputs::{Running, Solving, Telling, TextJob};
 use crate::lists::numbers_of;
@@ -115,6 +116,8 @@ pub enum Written {
         /// How many commands a round carries, 1 to [`edd_commands::MAX_DEPTH`]; without it, the depth of the arrivals' own.
         depth: Option<u64>,
     },
+    /// What its late requests are blamed on.
+    Blame(Blaming),
 }
 
 /// Why words that clap accepts are refused, in the order of the checks: a bad value of an option of `import` or `tune`, or flags that exclude
@@ -155,6 +158,8 @@ pub enum Refusal {
     Lists(ListFault),
     /// `--by` is neither `misses` nor `lateness`.
     By,
+    /// All are asked for, and only so many.
+    AllAndTop,
 }
 
 impl Refusal {
@@ -182,6 +187,7 @@ impl Refusal {
             Refusal::NoScriptDrawn => "options of schedulers need --script",
             Refusal::Lists(fault) => return fault.text(),
             Refusal::By => "--by takes misses or lateness",
+            Refusal::AllAndTop => "--all and --top exclude one another",
         };
         Complaint::Text(text)
     }
@@ -231,7 +237,7 @@ pub(crate) fn number_of(options: &ArgMatches<'_>, id: &str) -> Option<u64>
 }
 
 /// Whether a flag is given.
-fn is_flagged(options: &ArgMatches<'_>, id: &str) -> bool
+pub(crate) fn is_flagged(options: &ArgMatches<'_>, id: &str) -> bool
     ensures { result ≡ is_flagged id.now (given options.now) }
 {
     match options.get_str(id) {
@@ -289,7 +295,7 @@ fn form_by(json: bool) -> Form
 }
 
 /// The same by the options.
-fn form_asked(options: &ArgMatches<'_>) -> Form
+pub(crate) fn form_asked(options: &ArgMatches<'_>) -> Form
     ensures { result ≡ form_asked (given options.now) }
 {
     form_by(is_flagged(options, option_names::JSON))
@@ -500,9 +506,9 @@ fn import_of(wanted: Import) -> Job
     }
 }
 
-/// The import that the options of `import` ask for, or the refusal of the first of them that can't be done.
-fn import_job(options: &ArgMatches<'_>) -> Job
-    ensures { result ≡ import_job (given options.now) }
+/// The import of what the options of a capture take, with this written of it, or the refusal of the first of them that can't be done.
+fn import_with(options: &ArgMatches<'_>, written: Result<Written, Refusal>) -> Job
+    ensures { result ≡ import_with written (given options.now) }
 {
     let Some(read_expire) = time_given(options, option_names::READ_EXPIRE) else {
         return Job::Refuse(Refusal::ReadExpire);
@@ -521,7 +527,7 @@ fn import_job(options: &ArgMatches<'_>) -> Job
         return Job::Refuse(Refusal::Skip);
     };
     let first = number_of(options, option_names::FIRST);
-    let written = match written_of(options) {
+    let written = match written {
         Ok(written) => written,
         Err(refusal) => return Job::Refuse(refusal),
     };
@@ -534,6 +540,20 @@ fn import_job(options: &ArgMatches<'_>) -> Job
         first,
         written,
     })
+}
+
+/// The import that the options of `import` ask for.
+fn import_job(options: &ArgMatches<'_>) -> Job
+    ensures { result ≡ import_job (given options.now) }
+{
+    import_with(options, written_of(options))
+}
+
+/// The blame that the options of `blame` ask for.
+fn blame_job(options: &ArgMatches<'_>) -> Job
+    ensures { result ≡ blame_job (given options.now) }
+{
+    import_with(options, blaming_of(options))
 }
 
 /// The numbers up to the most of the list that an option is given.
@@ -629,6 +649,7 @@ fn job_made(makes: Makes, options: &ArgMatches<'_>) -> Option<Job>
         Makes::Check => Some(Job::OfText(TextJob::Check(form_asked(options)))),
         Makes::Oracle => oracle_job(options),
         Makes::Import => Some(import_job(options)),
+        Makes::Blame => Some(blame_job(options)),
         Makes::Judge => Some(Job::OfText(TextJob::Judge {
             each: is_flagged(options, option_names::EACH),
         })),

@@ -4,7 +4,10 @@ ghost use Rattle.std.specs.Prelude.{◌≡◌, ◌↔◌, IsTrue, length};
 ghost use Rattle.edd_blame.specs.Clock.{times_before, times_by, IsByClock, EachByClock, AreByClock};
 
 use crate::made::{command, fixed, window};
-use edd_blame::{Allowance, Cause, Reasons, StallTime, blame_of, causes, law_of_causes};
+use edd_blame::{
+    Allowance, Cause, Reasons, StallTime, blame_of, causes, law_of_causes, least_late_at,
+    least_late_beside, most_saved_at,
+};
 use edd_check::is_legal;
 use edd_commands::Command;
 use edd_oracle::solve;
@@ -133,4 +136,26 @@ fn four_causes(rt: HostRuntime) {
         requests: 1,
     };
     assert!(rt; blame.stalls.as_slice() == [stall].as_slice());
+}
+
+/// Of two that have to run in the one round one is late, and none of two that haven't; of the second and the fourth only the fourth can be saved
+/// beside the first and the third; and where the others keep their best the first and the fifth are late of the marked ones.
+#[test]
+fn parts_of_six(rt: HostRuntime) {
+    let one = fixed(&rt, rt.alloc(), 1);
+    let commands = six_commands();
+    let rounds = [1, 2, 3, 4, 5, 6];
+    assert!(rt; matches!(solve(rt.alloc(), &commands, &one), Ok(_)));
+    assert!(rt; is_legal(&commands, &rounds, &one));
+    let least = least_late_at(rt.alloc(), &commands, &one, &[0, 1]).expect(&rt, "out of memory");
+    assert_eq!(rt; least, 1);
+    let none = least_late_at(rt.alloc(), &commands, &one, &[1, 3]).expect(&rt, "out of memory");
+    assert_eq!(rt; none, 0);
+    let saved = most_saved_at(rt.alloc(), &commands, &rounds, &one, &[1, 3])
+        .expect(&rt, "out of memory");
+    assert_eq!(rt; saved, 1);
+    let marks = [true, false, false, true, true, false];
+    let beside = least_late_beside(rt.alloc(), &commands, &one, &marks)
+        .expect(&rt, "out of memory");
+    assert_eq!(rt; beside, 2);
 }

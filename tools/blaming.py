@@ -1,0 +1,274 @@
+#!/usr/bin/env python3
+"""Blames drawn captures by the rules of docs/FORMATS.md, in plain lists, and compares what `blame` writes of each.
+
+    tools/blaming.py             400 drawn captures
+    tools/blaming.py N           N of them
+    tools/blaming.py N SEED      N, drawn from another seed (a number)
+    tools/blaming.py FILE..      these captures
+
+The captures, their options and their requests are those of tools/matching.py. Of each capture `blame` is asked for the whole, for all of it
+and for each late request, in lines. What can be on time is found by matching requests to dispatches one by one, each along a path that
+frees a place, and not in the order of the due rounds.
+
+Prints what is wrong, and as the last line 'N passed, M failed', counted in texts. Ends with 0 where none failed, 1 where one did, 2
+where a word is neither a number nor a file, and 3 where the program isn't there.
+"""
+import os
+import signal
+import subprocess
+import sys
+from bisect import bisect_left, bisect_right
+
+sys.dont_write_bytecode = True
+
+from cases import PROGRAM, SECONDS, TOP, counted, difference, ended, side_by_side
+from matching import Told, captures_of, text_of, waits
+
+EACH = "id,pid,dir,first,sectors,wait,overrun,cause,from,until"
+
+
+def ms(time):
+    """A time in milliseconds, cut behind three digits."""
+    return "none" if time is None else f"{time // 10**6}.{time // 1000 % 1000:03}"
+
+
+def spread(pairs):
+    """Percentiles of the times between pairs, in milliseconds."""
+    return [it if it == "none" else ms(int(it)) for it in waits(pairs).split()]
+
+
+def most_on_time(spans):
+    """How many of the spans of dispatches can each have a dispatch of its own in it."""
+    taken = {}
+
+    def seated(place, seen):
+        low, high = spans[place]
+        for at in range(low, high + 1):
+            if at not in seen:
+                seen.add(at)
+                if at not in taken or seated(taken[at], seen):
+                    taken[at] = place
+                    return True
+        return False
+
+    return sum(seated(place, set()) for place in range(len(spans)))
+
+
+def passed_windows(spans, last):
+    """The windows of what earliest due first passes over, joined where they overlap."""
+    waiting, ran, passed = [], {}, []
+    for at in range(1, last + 1):
+        passed += [it for it in waiting if it[1] < at]
+        waiting = [it for it in waiting if it[1] >= at] + [it for it in spans if it[0] == at]
+        if waiting:
+            first = min(waiting, key=lambda it: it[1])
+            waiting.remove(first)
+            ran[at] = first[1]
+    passed += [it for it in waiting if it[1] <= last]
+    found = []
+    for _, due in passed:
+        low = due
+        while low > 1 and ran.get(low - 1, due + 1) <= due:
+            low -= 1
+        found.append((low, due))
+    joined = []
+    for low, high in sorted(found):
+        if joined and low <= joined[-1][1]:
+            joined[-1] = (joined[-1][0], max(joined[-1][1], high))
+        else:
+            joined.append((low, high))
+    return joined
+
+
+class Blame:
+    """What the late requests of a capture are blamed on."""
+
+    def __init__(self, told):
+        self.told, self.taken = told, told.taken
+        self.times = [it.went for it in self.taken]
+        self.deadlines = [told.deadline(it) for it in self.taken]
+        self.releases = [told.release(it) for it in self.taken]
+        self.spans = [
+            (bisect_left(self.times, came) + 1, bisect_right(self.times, due)) for came, due in zip(self.releases, self.deadlines)
+        ]
+        self.late = [place for place, it in enumerate(self.taken) if it.went > self.deadlines[place]]
+        self.arrivals = [place for place in range(len(self.taken)) if self.deadlines[place] < self.releases[place]]
+        self.stalled = [
+            place
+            for place in range(len(self.taken))
+            if self.releases[place] <= self.deadlines[place]
+            and not any(self.releases[place] <= it <= self.deadlines[place] for it in self.times)
+        ]
+
+    def at(self, number):
+        """When a dispatch was, from the first record on."""
+        return max(self.times[number - 1] - self.told.begin, 0) if 0 < number <= len(self.times) else None
+
+    def between(self, low, high):
+        low, high = self.at(low), self.at(high)
+        return low, high, None if low is None or high is None else high - low
+
+    def stalls(self):
+        """After how many dispatches there was one, and how many requests stalled in it, the greatest first."""
+        after = [self.spans[place][1] for place in self.stalled]
+        return sorted(((it, after.count(it)) for it in sorted(set(after))), key=lambda it: -it[1])
+
+    def windows(self):
+        """Windows with how many requests lie in each and how many dispatches, the greatest first."""
+        can = [it for it in self.spans if it[0] <= it[1]]
+        found = [
+            (low, high, sum(low <= it[0] and it[1] <= high for it in can), high - low + 1)
+            for low, high in passed_windows(can, len(self.taken))
+        ]
+        return sorted(found, key=lambda it: -(it[2] - it[3]))
+
+    def whole(self, most):
+        ways = [self.taken[place].span[0] for place in self.late]
+        had = len(self.taken) - most_on_time(self.spans)
+        stalls, windows = self.stalls(), self.windows()
+        entries = [self.told.entry(it) for it in self.taken]
+        yield f"{len(self.taken)} requests in {ms(max(self.times[-1] - min(entries), 0) if entries else 0)} ms"
+        yield f"late {len(ways)}: reads {ways.count('R')}, writes {ways.count('W')}"
+        crowded = sum(it[2] - it[3] for it in windows)
+        yield f"had to be {had}: by stall {len(self.stalled)}, by crowding {crowded}, by arrival {len(self.arrivals)}"
+        yield f"the scheduler's {len(ways) - had}"
+        half, most_of, top = spread((self.deadlines[place], self.times[place]) for place in self.late)
+        yield f"overrun in ms: p50 {half}, p99 {most_of}, max {top}"
+        yield from self.stages()
+        yield from self.processes(most)
+        yield ""
+        yield "stalls, in which the device took nothing, the greatest first, in ms:"
+        yield "        from       until    length  requests"
+        for after, count in stalls[:most]:
+            low, high, long = map(ms, self.between(after, after + 1))
+            yield f"{low:>12}{high:>12}{long:>10}{count:>10}"
+        yield ""
+        yield "crowded windows, with more requests than dispatches, the greatest first, in ms:"
+        yield "        from       until    length  requests   carries"
+        for low, high, inside, carries in windows[:most]:
+            low, high, long = map(ms, self.between(low, high))
+            yield f"{low:>12}{high:>12}{long:>10}{inside:>10}{carries:>10}"
+
+    def stages(self):
+        """How long requests were in each stage, by direction."""
+        yield ""
+        yield "stages, in ms:"
+        yield "stage dir     count         p50         p99         max"
+        for name, ends in (
+            ("Q2G", lambda it: (it.opener.queued, it.got)),
+            ("G2I", lambda it: (it.got, it.inserted)),
+            ("I2D", lambda it: (it.inserted, it.went)),
+            ("D2C", lambda it: (it.went, it.completed)),
+            ("Q2C", lambda it: (it.opener.queued, it.completed)),
+        ):
+            for way in "RW":
+                pairs = [ends(it) for it in self.taken if it.span[0] == way]
+                count = sum(None not in it for it in pairs)
+                yield f"{name:<6}{way:<4}{count:>9}" + "".join(f"{it:>12}" for it in spread(pairs))
+
+    def hurt(self):
+        """The processes that have late requests, the most late ones first, and then by their numbers."""
+        pids = [self.taken[place].pid for place in self.late]
+        return sorted(set(pids), key=lambda pid: (-pids.count(pid), pid))
+
+    def process(self, pid):
+        """Of a process how many requests it has, how many were late, stalled and came in late, the fewest late ones of it in any order, and
+        the most of these that can be on time beside all that were; how long it waited, and by how much its late ones were late."""
+        own = [place for place, it in enumerate(self.taken) if it.pid == pid]
+        late = [place for place in own if place in self.late]
+        timely = [it for place, it in enumerate(self.spans) if place not in self.late]
+        least = len(own) - most_on_time([self.spans[place] for place in own])
+        savable = most_on_time([*timely, *(self.spans[place] for place in late)]) - len(timely)
+        stalled = sum(place in self.stalled for place in late)
+        arrivals = sum(place in self.arrivals for place in late)
+        waited = [(self.told.entry(self.taken[place]), self.times[place]) for place in own]
+        over = [(self.deadlines[place], self.times[place]) for place in late]
+        return len(own), len(late), stalled, arrivals, least, savable, waited, over
+
+    def processes(self, most):
+        yield ""
+        yield "processes, the most late ones first, waits and the greatest overrun in ms:"
+        yield "       pid  requests    late  stalled  arrivals   least  savable   wait_p50   wait_p99    overrun"
+        for pid in self.hurt()[:most]:
+            count, late, stalled, arrivals, least, savable, waited, over = self.process(pid)
+            half, most_of, _ = spread(waited)
+            told = f"{pid:>10}{count:>10}{late:>8}{stalled:>9}{arrivals:>10}{least:>8}{savable:>9}"
+            yield f"{told}{half:>11}{most_of:>11}{spread(over)[2]:>11}"
+
+    def cause(self, place):
+        """Why a late request was late, and from which dispatch to which."""
+        if place in self.arrivals:
+            return "arrival", None
+        low, high = self.spans[place]
+        if place in self.stalled:
+            return "stall", (high, high + 1)
+        late = set(self.late)
+        timely = [it for at, it in enumerate(self.spans) if at not in late]
+        if most_on_time([*timely, (low, high)]) == len(timely) + 1:
+            return "spare", None
+        for until in range(high, len(self.taken) + 1):
+            for since in range(1, low + 1):
+                if sum(since <= it[0] and it[1] <= until for it in timely) == until - since + 1:
+                    return "full", (since, until)
+        raise ValueError("neither spare nor full")
+
+    def each(self):
+        yield EACH
+        for place in self.late:
+            it = self.taken[place]
+            way, low, high = it.span
+            cause, gap = self.cause(place)
+            since, until = ("" if gap is None or self.at(at) is None else ms(self.at(at)) for at in gap or (0, 0))
+            wait = max(it.went - self.told.entry(it), 0)
+            told = (way, low, high - low, ms(wait), ms(it.went - self.deadlines[place]), cause, since, until)
+            yield ",".join(map(str, (place + 1, it.pid, *told)))
+
+    def texts(self):
+        lines = lambda it: "".join(f"{line}\n" for line in it)
+        yield [], lines(self.whole(10))
+        yield ["--all"], lines(self.whole(len(self.taken)))
+        yield ["--each"], lines(self.each())
+
+
+def outcome(text, words, written):
+    """What is wrong with what the program makes of a capture."""
+    run = subprocess.run([PROGRAM, "blame", *words], input=text.encode(), capture_output=True, timeout=SECONDS)
+    told = f"    it ended with status {run.returncode}\n" if run.returncode else ""
+    return told + ("" if written.encode() == run.stdout else difference("stdout", written.encode(), run.stdout))
+
+
+def checked(given):
+    """What is wrong with each text of a capture under options, beside what it is of."""
+    name, records, asked = given
+    text = text_of(records)
+    found = []
+    for words, written in Blame(Told(records, asked)).texts():
+        words = [*asked.words(), *words]
+        found.append((f"{name}, blame {' '.join(words)}", outcome(text, words, written)))
+    return found
+
+
+def outcomes(captures):
+    """The same of all captures."""
+    for _, found in side_by_side(lambda given: checked(given), ((given, given) for given in captures)):
+        yield from found
+
+
+def main(words):
+    """The comparison as a command; its exit status."""
+    if any(it in ("-h", "--help") for it in words):
+        print(__doc__, end="")
+        return 0
+    captures = captures_of(words)
+    if captures is None:
+        print("tools/blaming.py: the words are a number of captures and a seed, or files", file=sys.stderr)
+        return 2
+    if not os.access(PROGRAM, os.X_OK):
+        print(f"tools/blaming.py: there is no program {PROGRAM.relative_to(TOP)}: ./blk builds it", file=sys.stderr)
+        return 3
+    return 1 if counted(outcomes(captures), "{}:\n") else 0
+
+
+if __name__ == "__main__":
+    signal.signal(signal.SIGTERM, ended)
+    sys.exit(main(sys.argv[1:]))
