@@ -20,4 +20,4 @@ pub use crate::record::RECORD_ROW;
 pub use crate::schedule::schedule_of;
 pub use crate::shown::{ShownImport, shown_text};
 pub use crate::source::{CaptureRead, Printed, UnreadCapture, form_taken, read_source};
-pub use crate::table::write_table;
+pub use crate::table::{table_text, write_table};

@@ -64,8 +64,8 @@ fn push_rows(draft: &mut Draft, rows: &[RequestRow]) -> Result<(), AllocError>
     Ok(())
 }
 
-/// The head line and the lines of the requests.
-pub(crate) fn table_text(alloc: Global, rows: &[RequestRow]) -> Result<Vec<u8>, AllocError>
+/// The head line and the lines of the requests, as [`write_table`] writes them. Fails only when out of memory.
+pub fn table_text(alloc: Global, rows: &[RequestRow]) -> Result<Vec<u8>, AllocError>
     ensures { IfOk result (λ v. v.items ≡ table_lines rows.now) }
 {
     let mut draft = Draft::new(alloc);

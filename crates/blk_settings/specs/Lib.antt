@@ -15,4 +15,5 @@ pub mod Grids
 pub mod Wanted
 pub mod Complaints
 pub mod Lists
+pub mod Plans
 pub mod Defaults

@@ -78,7 +78,7 @@ fn given_at<G: Given>(options: &G, settings: &[SettingRow], place: usize) -> Opt
 }
 
 /// The scheduler of this row, with the settings that the options give.
-fn sched_by<G: Given>(options: &G, row: &SchedRow) -> Option<Sched>
+pub(crate) fn sched_by<G: Given>(options: &G, row: &SchedRow) -> Option<Sched>
     ensures { result ≡ sched_by (G.given options.now) (sched_row_of row.now) }
 {
     let values = [

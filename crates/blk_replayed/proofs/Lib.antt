@@ -1,0 +1,6 @@
+mod Counted
+mod Late
+mod Scheduled
+mod Starts
+mod Told
+mod Turns

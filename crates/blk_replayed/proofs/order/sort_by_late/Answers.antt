@@ -1,0 +1,11 @@
+use Rattle.std.proofs.Common.{rules}
+use Rattle.std.proofs.lemmas.List.Sorted.{answers_always}
+use Rattle.blk_replayed.specs.Inside.Order.{late_key}
+use Rattle.blk_replayed.proofs.order.sort_by_late.Goals as goal
+
+pub returns : goal.returns
+returns c = record {
+  same = c.sort_by_key.ensures.permutation;
+  sorted = c.in_ok-sort_by_key.ensures.sorted late_key (answers_always _ _ _ (λ f a r g h. search rules));
+  stable = c.sort_by_key.ensures.stable late_key (answers_always _ _ _ (λ f a r g h. search rules));
+}

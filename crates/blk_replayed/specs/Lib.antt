@@ -1,0 +1,7 @@
+pub mod Rows
+pub mod Order
+pub mod Replays
+pub mod Answers
+pub mod Text
+pub mod Shown
+pub mod Inside
