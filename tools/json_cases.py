@@ -6,7 +6,7 @@
 
 There are two kinds. A case NAME_json, whose words have `--json`, stands beside the case NAME of the same other words and the same
 input: what it has to write is compared with what NAME has to write. And the program is run once more over each case of `oracle --trace`,
-`compare`, `tune`, `spread`, `late`, `misses`, `blame`, `check` and `load` that has not `--json`, with that word added: at status 0 what it writes is
+`compare`, `tune`, `replay`, `spread`, `late`, `misses`, `blame`, `check` and `load` that has not `--json`, with that word added: at status 0 what it writes is
 compared with the case's text, and at another status all is to be as it is without.
 
 Compared are the keys and their order, numbers as numbers, null where the text has none or leaves a field empty, and lists item by item;
@@ -157,6 +157,7 @@ FORMS = {
     b"oracle": of_report,
     b"compare": of_table,
     b"tune": of_trial,
+    b"replay": of_trial,
     b"spread": of_spread,
     b"late": of_late,
     b"misses": of_misses,
@@ -170,6 +171,8 @@ def form_of(case):
     """What reads the text of a case, or None where it has no JSON."""
     word = case.args[0] if case.args else b""
     if word == b"oracle" and b"--trace" not in case.args or word == b"load" and b"--trace" in case.args:
+        return None
+    if word == b"replay" and b"--sched" in case.args:
         return None
     return FORMS.get(word)
 

@@ -404,9 +404,9 @@ def records_of(text):
         yield Record(int(seconds) * 10**9 + int(nanoseconds), action, int(pid), rwbs, int(first), int(sectors))
 
 
-def outcome(text, words, written, said):
-    """What is wrong with what the program makes of a capture."""
-    run = subprocess.run([PROGRAM, "import", *words], input=text.encode(), capture_output=True, timeout=SECONDS)
+def run_of(subcommand, words, text, written, said):
+    """What is wrong with what a subcommand makes of a capture."""
+    run = subprocess.run([PROGRAM, subcommand, *words], input=text.encode(), capture_output=True, timeout=SECONDS)
     told = f"    it ended with status {run.returncode}\n" if run.returncode else ""
     for stream, wanted, got in (("stdout", written, run.stdout), ("stderr", said, run.stderr)):
         told += "" if wanted.encode() == got else difference(stream, wanted.encode(), got)
@@ -420,7 +420,7 @@ def checked(given):
     found = []
     for words, written, said in Told(records, asked).texts():
         words = [*asked.words(), *words]
-        found.append((f"{name}, import {' '.join(words)}", outcome(text, words, written, said)))
+        found.append((f"{name}, import {' '.join(words)}", run_of("import", words, text, written, said)))
     return found
 
 

@@ -404,7 +404,7 @@ def input_typed_at_a_terminal(trials):
 # what is said of an empty text, by the subcommands whose line says no more than the fault, by the project's own, and by explain
 READS = {
     **{"tune": "a script", "spread": "a trace", "late": "a trace", "misses": "a trace"},
-    **dict.fromkeys(("import", "blame"), "a capture, or what blkparse, ftrace, perf or bpftrace prints"),
+    **dict.fromkeys(("import", "blame", "replay"), "a capture, or what blkparse, ftrace, perf or bpftrace prints"),
 }
 EXPLAINED = Run(1, b"line 1, record 1, found nothing, wanted a title\nblk: record 1: Title\n", b"")
 
@@ -675,6 +675,7 @@ FORMS = {
     b"import": b"blk-capture,1,,,,,,\n0,000000010,0,Q,1,R,0,8\n",
     b"blame": b"blk-capture,1,,,,,,\n0,000000010,0,Q,1,R,0,8\n",
     b"import --script --round 1ms": b"blk-capture,1,,,,,,\n0,000000010,0,Q,1,R,0,8\n",
+    b"replay": b"blk-capture,1,,,,,,\n0,000000010,0,Q,1,R,0,8\n",
 }
 
 # What a record without end may be made of, after its beginning.

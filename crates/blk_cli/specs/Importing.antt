@@ -24,11 +24,19 @@ use Rattle.blk_capture_text.specs.declared.numbers.UnusedCounts.{UnusedCounts}
 use Rattle.blk_capture_text.specs.declared.shown.ShownImport.{ShownImport}
 use Rattle.blk_capture_text.specs.declared.shown.ShownImport.TheVariants as shown
 use Rattle.blk_lists.specs.Texts.{rows_text}
+use Rattle.blk_replayed.specs.Replays.{AreUnreplayed}
+use Rattle.blk_replayed.specs.Text.{IsReplaysText}
+use Rattle.blk_replayed.specs.Shown.{IsReplayScheduleText, IsReplayTableText}
+use Rattle.blk_settings.specs.Made.{IsUnmade}
+use Rattle.blk_settings.specs.declared.plans.Plan.{Plan}
 use Rattle.blk_text.specs.Script.{IsScript, script_rows}
 use Rattle.blk_text.specs.declared.setup.TheConstants.{LATEST}
 use Rattle.blk_words.specs.Times.{MAX_NUMBER}
 use Rattle.blk_words.specs.declared.blaming.Blaming.{Blaming}
 use Rattle.blk_words.specs.declared.words.Import.{Import}
+use Rattle.blk_words.specs.declared.words.Replaying.{Replaying}
+use Rattle.blk_words.specs.declared.words.ShownReplay.{ShownReplay}
+use Rattle.blk_words.specs.declared.words.ShownReplay.TheVariants as shown_as
 use Rattle.blk_words.specs.declared.words.Written.{Written}
 use Rattle.blk_words.specs.declared.words.Written.TheVariants as written
 use Rattle.blk_capture_text.specs.Source.{IsCaptureRead, IsCaptureUnread}
@@ -132,6 +140,57 @@ pub record IsBlamedOf (b : Blaming) (i : Import) (records : List Record) (s : Sa
   pub is_note : IsNoteOf (tags_asked i.source.tags) shown.Schedule records requests fates s.note
   pub good : s.good ≡ true
 
+-- the requests that are taken, and what is said beside them
+abbrev pub IsTakenOf : {A : Type 0} → Import → List Record → Matched A → Type 0
+IsTakenOf i records m = IsImport records (asked_of i) m.requests.items m.bios.items m.fates.items m.absorbed m.left_out
+
+abbrev pub IsNoteBeside : {A : Type 0} → Import → List Record → Matched A → Option (List ℕ) → Type 0
+IsNoteBeside i records m note = IsNoteOn (tags_asked i.source.tags) shown.Schedule records m note
+
+-- what is said of them, as they went and in replays
+abbrev pub IsReplayText : Replaying → List CapturedRequest → List ℕ → Type 0
+IsReplayText r requests text = IsReplaysText r.form r.by r.top r.plans requests text
+
+pub record IsReplayedOf (r : Replaying) (i : Import) (records : List Record) (s : Said) : Type 0 where
+  pub requests : List CapturedRequest
+  pub bios : List CapturedBio
+  pub fates : List Fate
+  pub absorbed : ℕ
+  pub left_out : ℕ
+  pub is_import : IsImport records (asked_of i) requests bios fates absorbed left_out
+  pub is_text : IsReplayText r requests s.text
+  pub is_note : IsNoteOf (tags_asked i.source.tags) shown.Schedule records requests fates s.note
+  pub good : s.good ≡ true
+
+-- too many would be taken, a scheduler isn't made of its settings, or memory ran out
+abbrev pub IsNotReplayed : Replaying → Failure → Type 0
+IsNotReplayed r (failure.Sched f) = AreUnreplayed r.plans f
+IsNotReplayed r f = ⊥
+
+abbrev pub IsUnreplayedOf : Replaying → Import → List Record → Failure → Type 0
+IsUnreplayedOf r i records (failure.Sched f) = AreUnreplayed r.plans f
+IsUnreplayedOf r i records f = IsUnshown i records f
+
+-- one replay of them, as a schedule or a table, whose times are from the first record on
+abbrev pub IsOneReplayText : Plan → ShownReplay → List Record → List CapturedRequest → List ℕ → Type 0
+IsOneReplayText p shown_as.Schedule records requests text = IsReplayScheduleText p requests text
+IsOneReplayText p shown_as.Table records requests text = IsReplayTableText p (first_time records) requests text
+
+pub record IsReplayedOnce (p : Plan) (how : ShownReplay) (i : Import) (records : List Record) (s : Said) : Type 0 where
+  pub requests : List CapturedRequest
+  pub bios : List CapturedBio
+  pub fates : List Fate
+  pub absorbed : ℕ
+  pub left_out : ℕ
+  pub is_import : IsImport records (asked_of i) requests bios fates absorbed left_out
+  pub is_text : IsOneReplayText p how records requests s.text
+  pub is_note : IsNoteOf (tags_asked i.source.tags) shown.Schedule records requests fates s.note
+  pub good : s.good ≡ true
+
+abbrev pub IsUnreplayedOnce : Plan → Import → List Record → Failure → Type 0
+IsUnreplayedOnce p i records (failure.Sched f) = IsUnmade p.sched f
+IsUnreplayedOnce p i records f = IsUnshown i records f
+
 -- its arrivals as a script: a text of records that spell it, and nothing beside it
 pub record IsScripted (t : Terms) (records : List Record) (s : Said) : Type 0 where
   pub is_script : IsScript (script_of t records)
@@ -151,9 +210,13 @@ IsWrittenAs written.Table i records s = IsShownOf shown.Table i records s
 IsWrittenAs written.Summary i records s = IsShownOf shown.Summary i records s
 IsWrittenAs (written.Script round depth) i records s = IsScripted (terms_of i round depth) records s
 IsWrittenAs (written.Blame b) i records s = IsBlamedOf b i records s
+IsWrittenAs (written.Replay r) i records s = IsReplayedOf r i records s
+IsWrittenAs (written.Replayed p how) i records s = IsReplayedOnce p how i records s
 
 abbrev pub IsUnwrittenAs : Written → Import → List Record → Failure → Type 0
 IsUnwrittenAs (written.Script round depth) i records f = IsUnscripted (terms_of i round depth) records f
+IsUnwrittenAs (written.Replay r) i records f = IsUnreplayedOf r i records f
+IsUnwrittenAs (written.Replayed p how) i records f = IsUnreplayedOnce p i records f
 IsUnwrittenAs w i records f = IsUnshown i records f
 
 abbrev pub IsImported : Import → List Record → Said → Type 0

@@ -10,6 +10,7 @@ ghost use Rattle.blk_cli.specs.Ends.{IsFailureOf, IsUntaken};
 use crate::blaming::blamed;
 use crate::failure::Failure;
 use crate::notes::{doubt_text, source_text};
+use crate::replaying::{replayed, replayed_once};
 use crate::{Answered, NoText, without};
 use blk_arrivals::{Terms, USUAL_DEPTH, script_of, script_text};
 use blk_capture::{Entry, Matched, Options, Record, summarize};
@@ -231,6 +232,8 @@ fn imported(alloc: Global, wanted: Import, records: &[Record]) -> Result<Answere
             scripted(alloc, terms, records)
         }
         Written::Blame(blaming) => blamed(alloc, wanted, blaming, records),
+        Written::Replay(replaying) => replayed(alloc, wanted, replaying, records),
+        Written::Replayed(plan, shown) => replayed_once(alloc, wanted, plan, shown, records),
     }
 }
 

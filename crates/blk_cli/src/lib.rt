@@ -21,6 +21,7 @@ mod lists;
 mod loading;
 mod notes;
 mod picturing;
+mod replaying;
 mod scripts;
 mod titles;
 mod traces;

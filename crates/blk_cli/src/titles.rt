@@ -24,6 +24,7 @@ fn teller_of(telling: Telling) -> Option<&'static [u8]> {
 fn importer_of(import: Import) -> &'static [u8] {
     match import.written {
         Written::Blame(_) => b"blame",
+        Written::Replay(_) | Written::Replayed(_, _) => b"replay",
         _ => b"import",
     }
 }

@@ -21,8 +21,8 @@ use Rattle.blk_words.specs.declared.words.Refusal.{Refusal}
 use Rattle.blk_words.specs.declared.words.ShownLoad.{ShownLoad}
 use Rattle.blk_words.specs.declared.words.Written.{Written}
 use Rattle.blk_words.specs.declared.words.Written.TheVariants as written
-use Rattle.blk_words.specs.Asked.{job_made, is_flagged, is_some_given, lineup_asked, pictured, time_given, number_given, from_given, source_given, written_of, sched_asked, amounts_of, oracle_job, tune_by, import_by, import_as, takes_all, load_job, loaded, blaming_of}
-use Rattle.blk_words.specs.Options.{json_option, met_option, script_option, trace_option, by_option, read_expire_option, write_expire_option, from_option, skip_option, first_option}
+use Rattle.blk_words.specs.Asked.{job_made, is_flagged, is_some_given, lineup_asked, pictured, time_given, number_given, from_given, source_given, written_of, sched_asked, amounts_of, oracle_job, tune_by, import_by, import_as, takes_all, load_job, loaded, blaming_of, replaying_of}
+use Rattle.blk_words.specs.Options.{json_option, met_option, script_option, trace_option, by_option, read_expire_option, write_expire_option, from_option, skip_option, first_option, fifo_read_expire_option, fifo_write_expire_option}
 use Rattle.blk_words.specs.Takers.{takes_as, kind_read, CanRead}
 
 -- a job reads no other texts than a subcommand takes
@@ -97,6 +97,9 @@ fits makes.Import rows name =
 fits makes.Blame rows name =
     import_fits makes.Blame name (λ e. cc e) (time_given read_expire_option.name rows) (time_given write_expire_option.name rows) (from_given rows) (source_given rows) (time_given skip_option.name rows)
     (number_given first_option.name rows) (blaming_of rows)
+fits makes.Replay rows name =
+    import_fits makes.Replay name (λ e. cc e) (time_given read_expire_option.name rows) (time_given write_expire_option.name rows) (from_given rows) (source_given rows) (time_given skip_option.name rows)
+    (number_given first_option.name rows) (replaying_of rows)
 fits makes.Judge rows name = reads_one makes.Judge name kind.Schedule (λ e. cc e) _ refl
 fits makes.Load rows name = load_fits name (is_flagged trace_option.name rows) (is_flagged json_option.name rows) (sched_asked rows) (amounts_of rows)
 
@@ -131,4 +134,6 @@ reads_each makes.Check kind.Certificate name h = ([], _, refl, refl)
 reads_each makes.Judge kind.Schedule name h = ([], _, refl, refl)
 reads_each makes.Import kind.Capture name h = (defaults (read_expire_option ∷ write_expire_option ∷ from_option ∷ skip_option ∷ []), _, refl, refl)
 reads_each makes.Blame kind.Capture name h = (defaults (read_expire_option ∷ write_expire_option ∷ from_option ∷ skip_option ∷ []), _, refl, refl)
+reads_each makes.Replay kind.Capture name h =
+    (defaults (read_expire_option ∷ write_expire_option ∷ from_option ∷ skip_option ∷ fifo_read_expire_option ∷ fifo_write_expire_option ∷ []), _, refl, refl)
 reads_each m i name h = absurd (h refl)

@@ -1,7 +1,7 @@
 -- What the words of a command line ask for.
-use Rattle.std.specs.Prelude.{◌≡◌, ◌≢◌, ◌⊎◌, ◌&&◌, ◌||◌, ◌==◌, ⊤, ℕ, Bool, true, false, not, List, [], find, Option, Some, None, Result, Ok, Err, codes, option_map, option_and_then, if◌then◌else◌, unwrap_or}
+use Rattle.std.specs.Prelude.{◌≡◌, ◌≢◌, ◌⊎◌, ◌&&◌, ◌||◌, ◌==◌, ⊤, ℕ, Bool, true, false, not, List, [], find, Option, Some, None, Result, Ok, Err, codes, option_map, option_and_then, if◌then◌else◌, unwrap_or, ◌∷◌}
 use Rattle.std.specs.List.{list_any}
-use Rattle.std.specs.Option.{option_map_or}
+use Rattle.std.specs.Option.{option_map_or, option_or}
 use Rattle.std.specs.Str.{bytes_eq}
 use Rattle.blk_settings.specs.declared.given.TheConstants.{MAX_SHORT}
 use Rattle.blk_settings.specs.declared.numbers.Load.{Load}
@@ -11,6 +11,11 @@ use Rattle.clap.specs.declared.error.kind.ErrorKind.{ErrorKind}
 use Rattle.clap.specs.declared.error.kind.ErrorKind.TheVariants as kind
 use Rattle.blk_settings.specs.declared.grid.By.{By}
 use Rattle.blk_settings.specs.declared.grid.By.TheVariants as by
+use Rattle.blk_settings.specs.declared.plans.FifoExpire.{FifoExpire}
+use Rattle.blk_settings.specs.declared.plans.Plan.{Plan}
+use Rattle.blk_settings.specs.declared.plans.ReplayBy.{ReplayBy}
+use Rattle.blk_settings.specs.declared.plans.ReplayBy.TheVariants as replay_by
+use Rattle.blk_settings.specs.Plans.{plans_given, replay_default}
 use Rattle.blk_settings.specs.Given.{GivenOptions, sched_given, lineup_given}
 use Rattle.blk_settings.specs.Grids.{grid_given}
 use Rattle.blk_settings.specs.Lists.{list_fault}
@@ -25,6 +30,8 @@ use Rattle.blk_settings.specs.declared.form.Form.{Form}
 use Rattle.blk_settings.specs.declared.form.Form.TheVariants as form
 use Rattle.blk_words.specs.declared.words.ShownLoad.{ShownLoad}
 use Rattle.blk_words.specs.declared.words.ShownLoad.TheVariants as shown
+use Rattle.blk_words.specs.declared.words.ShownReplay.{ShownReplay}
+use Rattle.blk_words.specs.declared.words.ShownReplay.TheVariants as shown_as
 use Rattle.blk_settings.specs.declared.figures.FiguresAsked.TheVariants as figures
 use Rattle.blk_words.specs.declared.inputs.Running.{Running}
 use Rattle.blk_words.specs.declared.inputs.Running.TheVariants as running
@@ -48,7 +55,7 @@ use Rattle.blk_words.specs.declared.blaming.TheConstants.{USUAL_TOP}
 use Rattle.blk_words.specs.declared.table.Makes.{Makes}
 use Rattle.blk_words.specs.declared.table.Makes.TheVariants as makes
 use Rattle.blk_words.specs.CommandLine.{Names, AreNames, command_table, blk_app}
-use Rattle.blk_words.specs.Options.{json_option, script_option, trace_option, by_option, top_option, threads_option, met_option, each_option, read_expire_option, write_expire_option, from_option, as_option, device_option, tags_option, skip_option, first_option, all_option, table_option, summary_option, round_option, depth_option, submitters_option, workers_option, bios_option, load_depth_option, busy_option, service_option}
+use Rattle.blk_words.specs.Options.{json_option, script_option, trace_option, by_option, top_option, threads_option, met_option, each_option, read_expire_option, write_expire_option, from_option, as_option, device_option, tags_option, skip_option, first_option, all_option, table_option, summary_option, round_option, depth_option, submitters_option, workers_option, bios_option, load_depth_option, busy_option, service_option, replay_sched_option, fifo_read_expire_option, fifo_write_expire_option, replay_by_option}
 use Rattle.blk_words.specs.Lists.{list_of}
 use Rattle.blk_words.specs.Times.{MAX_NUMBER, number_in, time_of}
 
@@ -266,6 +273,81 @@ by_named text =
 abbrev pub by_given : List Row → Option By
 by_given rows = option_and_then by_named (first_of by_option.name rows)
 
+-- by what replays are
+abbrev pub replay_by_named : Text → Option ReplayBy
+replay_by_named text =
+    if bytes_eq text (codes "late") then Some replay_by.Late
+    else (if bytes_eq text (codes "lateness") then Some replay_by.Lateness
+    else (if bytes_eq text (codes "read_p99") then Some replay_by.ReadP99 else None))
+
+abbrev pub replay_by_given : List Row → Option ReplayBy
+replay_by_given rows = option_map_or replay_by_named (first_of replay_by_option.name rows) (Some replay_by.Late)
+
+-- what the options of a replay are given: a text, or what stands for one that isn't; numbers and lists of these
+abbrev pub replay_text : List Row → Text → Option Text
+replay_text rows id = option_or (first_of id rows) (replay_default false id)
+
+abbrev pub only_one : List ℕ → Option ℕ
+only_one [] = None
+only_one (n ∷ []) = Some n
+only_one (n ∷ m ∷ ns) = None
+
+abbrev pub replay_list : ℕ → List Row → Text → Option (List ℕ)
+replay_list most rows id = option_and_then (list_of most) (replay_text rows id)
+
+abbrev pub replay_number : ℕ → List Row → Text → Option ℕ
+replay_number most rows id = option_and_then only_one (replay_list most rows id)
+
+abbrev pub replay_options : List Row → GivenOptions
+replay_options rows = record {
+  text = replay_text rows;
+  short = replay_number MAX_SHORT rows;
+  number = replay_number MAX_NUMBER rows;
+  list = λ most id. replay_list most rows id;
+  is_set = λ id. is_flagged id rows;
+}
+
+-- whether an option is given, and one of rows
+abbrev pub is_given : Text → List Row → Bool
+is_given id rows = option_map_or (λ t. true) (first_of id rows) false
+
+abbrev pub asks_rows : List Row → Bool
+asks_rows rows = is_given replay_by_option.name rows || is_given top_option.name rows || is_flagged json_option.name rows
+
+-- replays under each scheduler, and one under the scheduler that is named, which have options of their own
+abbrev pub replays_by : Bool → Option (List Plan) → ReplayBy → Option ℕ → Form → Result Written Refusal
+replays_by true p b top f = Err refusal.TableAlone
+replays_by false None b top f = Err refusal.ListAlone
+replays_by false (Some p) b top f = Ok (written.Replay (record { plans = p; by = b; top = top; form = f }))
+
+abbrev pub shown_replay : Bool → ShownReplay
+shown_replay table = if table then shown_as.Table else shown_as.Schedule
+
+abbrev pub one_replay_by : Bool → Bool → FifoExpire → Option Sched → Result Written Refusal
+one_replay_by true table fifo s = Err refusal.OneReplay
+one_replay_by false table fifo None = Err refusal.ListAlone
+one_replay_by false table fifo (Some s) = Ok (written.Replayed (record { sched = s; fifo = fifo }) (shown_replay table))
+
+abbrev pub replays_of : List Row → FifoExpire → ReplayBy → Result Written Refusal
+replays_of rows fifo b = replays_by (is_flagged table_option.name rows) (plans_given (replay_options rows) fifo) b (number_given top_option.name rows) (form_asked rows)
+
+abbrev pub one_replay_of : List Row → FifoExpire → Result Written Refusal
+one_replay_of rows fifo = one_replay_by (asks_rows rows) (is_flagged table_option.name rows) fifo (sched_given (replay_options rows))
+
+-- what is replayed and how it is written, or the refusal of the first option of it that can't be done
+abbrev pub replaying_in : List Row → Option ListFault → FifoExpire → ReplayBy → Result Written Refusal
+replaying_in rows (Some fault) fifo b = Err (refusal.Lists fault)
+replaying_in rows None fifo b = if is_given replay_sched_option.name rows then one_replay_of rows fifo else replays_of rows fifo b
+
+abbrev pub replaying_by : List Row → Option ℕ → Option ℕ → Option ReplayBy → Result Written Refusal
+replaying_by rows None write b = Err refusal.FifoReadExpire
+replaying_by rows (Some r) None b = Err refusal.FifoWriteExpire
+replaying_by rows (Some r) (Some w) None = Err refusal.ReplayBy
+replaying_by rows (Some r) (Some w) (Some b) = replaying_in rows (list_fault (replay_options rows)) (record { read = r; write = w }) b
+
+abbrev pub replaying_of : List Row → Result Written Refusal
+replaying_of rows = replaying_by rows (time_given fifo_read_expire_option.name rows) (time_given fifo_write_expire_option.name rows) (replay_by_given rows)
+
 -- a trial, or the refusal of the first option of it that can't be done
 abbrev pub tune_by : Option ListFault → Option By → Option ℕ → Option ℕ → Form → Job
 tune_by (Some r) b top threads f = job.Refuse (refusal.Lists r)
@@ -274,6 +356,9 @@ tune_by None (Some b) top threads f = job.Tune (record { by = b; top = top; thre
 
 abbrev pub tune_job : List Row → Job
 tune_job rows = tune_by (list_fault (given_options rows)) (by_given rows) (number_given top_option.name rows) (number_given threads_option.name rows) (form_asked rows)
+
+abbrev pub replay_job : List Row → Job
+replay_job rows = import_with (replaying_of rows) rows
 
 -- the job of `oracle` by whether its flags are given, the first two of which may not stand together, nor the last without the first
 abbrev pub oracle_job : Bool → Bool → Bool → Option Job
@@ -299,6 +384,7 @@ job_made makes.Oracle rows = oracle_given rows
 job_made makes.Check rows = Some (job.OfText (text_job.Check (form_asked rows)))
 job_made makes.Import rows = Some (import_job rows)
 job_made makes.Blame rows = Some (blame_job rows)
+job_made makes.Replay rows = Some (replay_job rows)
 job_made makes.Judge rows = Some (job.OfText (text_job.Judge (is_flagged each_option.name rows)))
 job_made makes.Load rows = load_given rows
 

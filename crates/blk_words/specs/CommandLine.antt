@@ -7,13 +7,14 @@ use Rattle.clap.specs.declared.builder.value_parser.ValueParser.{ValueParser}
 use Rattle.clap.specs.declared.builder.value_parser.ValueParser.TheVariants as vp
 use Rattle.blk_settings.specs.declared.given.TheConstants.{MAX_SHORT}
 use Rattle.blk_settings.specs.Options.{OptionKind, Flag, Name, Short, Number, MaybeNumber, Words, MaybeWords, PositionName, OptionOf, sched_names, position_names, sched_option, flags, tuning, listing}
+use Rattle.blk_settings.specs.Plans.{text_options}
 use Rattle.blk_settings.specs.declared.figures.FiguresAsked.{FiguresAsked}
 use Rattle.blk_settings.specs.declared.figures.FiguresAsked.TheVariants as figures
 use Rattle.blk_words.specs.declared.inputs.Telling.TheVariants as telling
 pub use Rattle.blk_words.specs.declared.command.Names.{Names}
 use Rattle.blk_words.specs.declared.table.Makes.{Makes}
 use Rattle.blk_words.specs.declared.table.Makes.TheVariants as makes
-use Rattle.blk_words.specs.Options.{json_option, script_option, trace_option, by_option, top_option, threads_option, met_option, each_option, read_expire_option, write_expire_option, from_option, as_option, device_option, tags_option, skip_option, first_option, all_option, table_option, summary_option, round_option, depth_option, submitters_option, workers_option, bios_option, load_depth_option, busy_option, service_option}
+use Rattle.blk_words.specs.Options.{json_option, script_option, trace_option, by_option, top_option, threads_option, met_option, each_option, read_expire_option, write_expire_option, from_option, as_option, device_option, tags_option, skip_option, first_option, all_option, table_option, summary_option, round_option, depth_option, submitters_option, workers_option, bios_option, load_depth_option, busy_option, service_option, replay_sched_option, fifo_read_expire_option, fifo_write_expire_option, replay_by_option}
 
 -- texts behind references
 abbrev pub Texts : Type 0
@@ -91,12 +92,16 @@ abbrev pub capturing : List OptionOf
 capturing =
     read_expire_option ∷ write_expire_option ∷ from_option ∷ as_option ∷ device_option ∷ tags_option ∷ skip_option ∷ first_option ∷ []
 
--- how they are imported, and how they are blamed
+-- how they are imported, how they are blamed, and how they are replayed
 abbrev pub importing : List OptionOf
 importing = capturing ++ table_option ∷ summary_option ∷ script_option ∷ round_option ∷ depth_option ∷ []
 
 abbrev pub blaming : List OptionOf
 blaming = capturing ++ each_option ∷ top_option ∷ all_option ∷ json_option ∷ []
+
+abbrev pub replaying : List OptionOf
+replaying =
+    capturing ++ fifo_read_expire_option ∷ fifo_write_expire_option ∷ replay_sched_option ∷ table_option ∷ replay_by_option ∷ top_option ∷ json_option ∷ text_options
 
 -- how much load there is
 abbrev pub amount_options : List OptionOf
@@ -126,6 +131,7 @@ other_table =
     ∷ plain (codes "explain") makes.Explain 13
     ∷ taking (codes "load") (sched_option ∷ trace_option ∷ json_option ∷ (amount_options ++ tuning)) makes.Load 14
     ∷ taking (codes "blame") blaming makes.Blame 15
+    ∷ taking (codes "replay") replaying makes.Replay 16
     ∷ []
 
 -- all of them

@@ -3,7 +3,7 @@ use Rattle.std.specs.Prelude.{codes}
 use Rattle.edd_commands.specs.declared.TheConstants.{MAX_COMMANDS}
 use Rattle.edd_commands.specs.declared.steps.TheConstants.{MAX_DEPTH}
 use Rattle.blk_settings.specs.declared.numbers.TheConstants.{MAX_LOAD_SUBMITTERS, MAX_LOAD_WORKERS, MAX_LOAD_BIOS, MAX_LOAD_DEPTH, MAX_LOAD_SERVICE}
-use Rattle.blk_settings.specs.Options.{Flag, Number, MaybeNumber, Words, MaybeWords, OptionOf}
+use Rattle.blk_settings.specs.Options.{Flag, Number, MaybeNumber, Words, MaybeWords, OptionOf, sched_option}
 use Rattle.blk_words.specs.declared.table.TheConstants.{MAX_BUSY, MAX_TAGS, MAX_TOP, MAX_THREADS}
 
 -- flags of several subcommands: to write JSON, to read or write a script, to read or write a trace
@@ -74,6 +74,19 @@ round_option = record { name = codes "round"; kind = MaybeWords }
 
 abbrev pub depth_option : OptionOf
 depth_option = record { name = codes "depth"; kind = MaybeNumber 1 MAX_DEPTH }
+
+-- of `replay`
+abbrev pub replay_sched_option : OptionOf
+replay_sched_option = record { name = sched_option.name; kind = MaybeWords }
+
+abbrev pub fifo_read_expire_option : OptionOf
+fifo_read_expire_option = record { name = codes "fifo-read-expire"; kind = Words (codes "500ms") }
+
+abbrev pub fifo_write_expire_option : OptionOf
+fifo_write_expire_option = record { name = codes "fifo-write-expire"; kind = Words (codes "5s") }
+
+abbrev pub replay_by_option : OptionOf
+replay_by_option = record { name = codes "by"; kind = MaybeWords }
 
 -- of `load`, whose depth has a default
 abbrev pub submitters_option : OptionOf

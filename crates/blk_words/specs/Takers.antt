@@ -34,6 +34,7 @@ takes_as makes.Check kind.Certificate name = Some name
 takes_as makes.Judge kind.Schedule name = Some name
 takes_as makes.Import kind.Capture name = Some name
 takes_as makes.Blame kind.Capture name = Some name
+takes_as makes.Replay kind.Capture name = Some name
 takes_as m i name = None
 
 abbrev pub taker : TextKind → Subcommand → Option Text

@@ -10,6 +10,7 @@ ghost use Rattle.blk_words.specs.Inside.Tables.{options_in, subcommand_of};
 use crate::table::{CommandRow, OTHER_COMMANDS, OptionGroup, RUN_COMMANDS};
 use crate::words::version;
 use blk_settings::options::{OptionRow, Takes, flag_options, list_options, tuning_options};
+use blk_settings::plans::text_options;
 use clap::builder::ValueParser;
 use clap::{Arg, ArgAction, Command, value_parser};
 use std::alloc::{AllocError, Global};
@@ -108,6 +109,9 @@ fn with_group<'a>(
             tuning_options(alloc)?.as_slice(),
             names,
         ),
+        OptionGroup::Texts => {
+            with_options(alloc, command, text_options(alloc)?.as_slice(), names)
+        }
         OptionGroup::Lists => {
             let rows = list_options(alloc, names.tried)?;
             with_options(alloc, command, rows.as_slice(), names)

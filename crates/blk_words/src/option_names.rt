@@ -49,6 +49,15 @@ pub const SKIP: &str = "skip";
 /// How many requests of it are taken.
 pub const FIRST: &str = "first";
 
+/// Under which scheduler requests are replayed.
+pub const SCHED: &str = "sched";
+
+/// How long after it came in a scheduler lets a read go first.
+pub const FIFO_READ_EXPIRE: &str = "fifo-read-expire";
+
+/// How long after it came in a scheduler lets a write go first.
+pub const FIFO_WRITE_EXPIRE: &str = "fifo-write-expire";
+
 /// Whether its requests are written with their times.
 pub const TABLE: &str = "table";
 

@@ -46,6 +46,8 @@ pub enum Makes {
     Import,
     /// What the late requests of a capture are blamed on, if its times are times.
     Blame,
+    /// Replays of a capture, if its times are times.
+    Replay,
     /// The judgement of a schedule, or of each of its late commands.
     Judge,
     /// A load of their numbers under the scheduler that they name.
@@ -63,6 +65,8 @@ pub enum OptionGroup {
     Settings,
     /// The options that list which schedulers are tried, and under which settings.
     Lists,
+    /// The options that set the schedulers of replays.
+    Texts,
 }
 
 /// A subcommand.
@@ -147,7 +151,7 @@ const FIRST: OptionRow<'static> = OptionRow {
 const RUN_COUNT: usize = 9;
 
 /// How many others there are.
-const OTHER_COUNT: usize = 7;
+const OTHER_COUNT: usize = 8;
 
 /// How many there are.
 pub const COMMAND_COUNT: usize = RUN_COUNT + OTHER_COUNT;
@@ -417,5 +421,53 @@ pub static OTHER_COMMANDS: [CommandRow; OTHER_COUNT] = [
         ],
         makes: Makes::Blame,
         place: 15,
+    },
+    CommandRow {
+        name: "replay",
+        about: "Replays a capture's requests under each scheduler, and writes how many were late, would have been and had to be",
+        options: &[
+            OptionGroup::Own(READ_EXPIRE),
+            OptionGroup::Own(WRITE_EXPIRE),
+            OptionGroup::Own(FROM),
+            OptionGroup::Own(AS),
+            OptionGroup::Own(DEVICE),
+            OptionGroup::Own(TAGS),
+            OptionGroup::Own(SKIP),
+            OptionGroup::Own(FIRST),
+            OptionGroup::Own(OptionRow {
+                name: option_names::FIFO_READ_EXPIRE,
+                takes: Takes::Text("500ms"),
+                help: "How long after it came in a scheduler with FIFO lists lets a read go first",
+            }),
+            OptionGroup::Own(OptionRow {
+                name: option_names::FIFO_WRITE_EXPIRE,
+                takes: Takes::Text("5s"),
+                help: "How long after it came in a scheduler with FIFO lists lets a write go first",
+            }),
+            OptionGroup::Own(OptionRow {
+                name: option_names::SCHED,
+                takes: Takes::MaybeText,
+                help: "Writes the schedule of the replay under this scheduler instead",
+            }),
+            OptionGroup::Own(OptionRow {
+                name: option_names::TABLE,
+                takes: Takes::Nothing,
+                help: "With --sched, writes a record for each request instead, with its times",
+            }),
+            OptionGroup::Own(OptionRow {
+                name: option_names::BY,
+                takes: Takes::MaybeText,
+                help: "What the best has least of: late, late requests; lateness, by how much the latest was late; read_p99, the wait that 99 of 100 reads don't pass; without it, late",
+            }),
+            OptionGroup::Own(OptionRow {
+                name: option_names::TOP,
+                takes: Takes::Maybe(1, MAX_TOP),
+                help: "Writes only so many replays, the best ones; without it, all",
+            }),
+            OptionGroup::Own(JSON),
+            OptionGroup::Texts,
+        ],
+        makes: Makes::Replay,
+        place: 16,
     },
 ];

@@ -46,7 +46,7 @@ fn taker_of(row: &CommandRow, kind: TextKind) -> Option<Taker>
         | (Makes::Oracle, TextKind::Commands)
         | (Makes::Check, TextKind::Certificate)
         | (Makes::Judge, TextKind::Schedule)
-        | (Makes::Import | Makes::Blame, TextKind::Capture) => None,
+        | (Makes::Import | Makes::Blame | Makes::Replay, TextKind::Capture) => None,
         (Makes::Picture, TextKind::Script) => Some(option_names::SCRIPT),
         (Makes::Oracle, TextKind::Trace) => Some(option_names::TRACE),
         _ => return None,

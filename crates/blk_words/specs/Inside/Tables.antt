@@ -5,6 +5,7 @@ use Rattle.std.specs.Str.{bytes_eq}
 use Rattle.clap.specs.Words.{Text}
 use Rattle.std.specs.Borrow.{Bor}
 use Rattle.blk_settings.specs.Options.{OptionOf, option_of, flags, tuning, listing}
+use Rattle.blk_settings.specs.Plans.{text_options}
 use Rattle.blk_words.specs.declared.table.Makes.{Makes}
 use Rattle.blk_words.specs.declared.table.OptionGroup.{OptionGroup}
 use Rattle.blk_words.specs.declared.table.OptionGroup.TheVariants as group
@@ -19,6 +20,7 @@ options_in (group.Own row) = option_of row ∷ []
 options_in group.Flags = flags
 options_in group.Settings = tuning
 options_in group.Lists = listing
+options_in group.Texts = text_options
 
 -- the subcommand of a row
 abbrev pub subcommand_of : CommandRow → Subcommand

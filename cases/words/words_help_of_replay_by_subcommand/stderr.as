@@ -1,0 +1,1 @@
+../../../tools/help/blk-replay
