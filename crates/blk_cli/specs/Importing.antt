@@ -34,9 +34,9 @@ use Rattle.blk_text.specs.declared.setup.TheConstants.{LATEST}
 use Rattle.blk_words.specs.Times.{MAX_NUMBER}
 use Rattle.blk_words.specs.declared.blaming.Blaming.{Blaming}
 use Rattle.blk_words.specs.declared.words.Import.{Import}
-use Rattle.blk_words.specs.declared.words.Replaying.{Replaying}
-use Rattle.blk_words.specs.declared.words.ShownReplay.{ShownReplay}
-use Rattle.blk_words.specs.declared.words.ShownReplay.TheVariants as shown_as
+use Rattle.blk_words.specs.declared.replaying.Replaying.{Replaying}
+use Rattle.blk_words.specs.declared.replaying.ShownReplay.{ShownReplay}
+use Rattle.blk_words.specs.declared.replaying.ShownReplay.TheVariants as shown_as
 use Rattle.blk_words.specs.declared.words.Written.{Written}
 use Rattle.blk_words.specs.declared.words.Written.TheVariants as written
 use Rattle.blk_capture_text.specs.Source.{IsCaptureRead, IsCaptureUnread}

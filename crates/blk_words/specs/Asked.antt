@@ -30,8 +30,8 @@ use Rattle.blk_settings.specs.declared.form.Form.{Form}
 use Rattle.blk_settings.specs.declared.form.Form.TheVariants as form
 use Rattle.blk_words.specs.declared.words.ShownLoad.{ShownLoad}
 use Rattle.blk_words.specs.declared.words.ShownLoad.TheVariants as shown
-use Rattle.blk_words.specs.declared.words.ShownReplay.{ShownReplay}
-use Rattle.blk_words.specs.declared.words.ShownReplay.TheVariants as shown_as
+use Rattle.blk_words.specs.declared.replaying.ShownReplay.{ShownReplay}
+use Rattle.blk_words.specs.declared.replaying.ShownReplay.TheVariants as shown_as
 use Rattle.blk_settings.specs.declared.figures.FiguresAsked.TheVariants as figures
 use Rattle.blk_words.specs.declared.inputs.Running.{Running}
 use Rattle.blk_words.specs.declared.inputs.Running.TheVariants as running

@@ -1,11 +1,11 @@
 //! The words of `blame`.
 
 ghost use Rattle.std.specs.Prelude.{◌≡◌};
-ghost use Rattle.blk_words.specs.Asked.{most_shown, blaming_of};
+ghost use Rattle.blk_words.specs.Asked.{most_shown, blaming_of, blame_job};
 ghost use Rattle.blk_words.specs.Inside.Options.{given};
 
 use crate::option_names;
-use crate::words::{Refusal, Written, form_asked, is_flagged, number_of};
+use crate::words::{Job, Refusal, Written, form_asked, import_with, is_flagged, number_of};
 use blk_settings::Form;
 use clap::ArgMatches;
 
@@ -35,7 +35,7 @@ fn most_shown(all: bool, top: Option<u64>) -> u64
 }
 
 /// What the options of `blame` ask to be written.
-pub(crate) fn blaming_of(options: &ArgMatches<'_>) -> Result<Written, Refusal>
+fn blaming_of(options: &ArgMatches<'_>) -> Result<Written, Refusal>
     ensures { result ≡ blaming_of (given options.now) }
 {
     let all = is_flagged(options, option_names::ALL);
@@ -48,4 +48,11 @@ pub(crate) fn blaming_of(options: &ArgMatches<'_>) -> Result<Written, Refusal>
         most: most_shown(all, top),
         form: form_asked(options),
     }))
+}
+
+/// The blame that the options of `blame` ask for.
+pub(crate) fn blame_job(options: &ArgMatches<'_>) -> Job
+    ensures { result ≡ blame_job (given options.now) }
+{
+    import_with(options, blaming_of(options))
 }

@@ -9,6 +9,7 @@ mod inputs;
 pub mod laws;
 mod lists;
 mod option_names;
+mod replaying;
 mod source;
 mod table;
 mod takers;
@@ -17,10 +18,11 @@ mod words;
 
 pub use crate::blaming::Blaming;
 pub use crate::inputs::{Running, Solving, Telling, TextJob, TextKind};
+pub use crate::replaying::{Replaying, ShownReplay};
 pub use crate::table::{MAX_TAGS, MAX_THREADS, MAX_TOP, Makes};
 pub use crate::takers::{takers_text, takes_what_it_reads};
 pub use crate::words::{
-    CaptureSource, Import, Job, NoGrid, NoJob, Refusal, Replaying, ShownLoad, ShownReplay, Tuning,
-    Written, choose, grid_asked, version,
+    CaptureSource, Import, Job, NoGrid, NoJob, Refusal, ShownLoad, Tuning, Written, choose,
+    grid_asked, version,
 };
 pub use blk_settings::{FiguresAsked, Form};

@@ -3,7 +3,7 @@ use Rattle.std.specs.Option.{option_or}
 use Rattle.clap.proofs.WalkLemmas.{first_value-rows}
 use Rattle.clap.specs.Words.{Text, found_of}
 use Rattle.blk_settings.specs.Plans.{replay_default}
-use Rattle.blk_words.proofs.words.replay_text.Goals as goal
+use Rattle.blk_words.proofs.replaying.replay_text.Goals as goal
 
 pub returns-in-Some : goal.returns-in-Some
 returns-in-Some c =

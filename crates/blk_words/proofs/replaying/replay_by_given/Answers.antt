@@ -4,7 +4,7 @@ use Rattle.blk_settings.specs.declared.plans.ReplayBy.TheVariants as replay_by
 use Rattle.blk_words.specs.Options.{replay_by_option}
 use Rattle.blk_words.specs.Asked.{replay_by_named}
 use Rattle.blk_words.proofs.Lines.{read_by, unread_by}
-use Rattle.blk_words.proofs.words.replay_by_given.Goals as goal
+use Rattle.blk_words.proofs.replaying.replay_by_given.Goals as goal
 
 pub returns-in-Some : goal.returns-in-Some
 returns-in-Some c = read_by (found_of c.args.options.now) replay_by_option.name c.in-Some.text.now replay_by_named (Some replay_by.Late) c.replay_by_named.result c.in-Some.ensures c.replay_by_named.ensures

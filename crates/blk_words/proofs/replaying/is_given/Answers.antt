@@ -1,7 +1,7 @@
 use Rattle.std.proofs.Common.{Bool, true, false, refl}
 use Rattle.clap.specs.Words.{Text, found_of}
 use Rattle.blk_words.proofs.Lines.{read_by, unread_by}
-use Rattle.blk_words.proofs.words.is_given.Goals as goal
+use Rattle.blk_words.proofs.replaying.is_given.Goals as goal
 
 abbrev always : Text → Bool
 always t = true
