@@ -10,19 +10,20 @@ use Rattle.blk_picture.specs.declared.scale.Scale.{Scale}
 use Rattle.blk_picture.specs.declared.scale.TheConstants.{LEFT, MAX_AXIS_STEPS, MAX_WIDE, TOP}
 use Rattle.blk_picture.specs.Templates.{from_template, texts}
 use Rattle.blk_picture.specs.Scales.{step_of}
+use Rattle.blk_picture.specs.declared.words.TheConstants as words
 
 -- the colours and what they mean
 abbrev pub legend : List ℕ
-legend = codes "<g transform='translate(24,78)'><rect class='r' width='14' height='14'/><text x='20' y='12'>read</text><rect class='w' x='70' width='14' height='14'/><text x='90' y='12'>write</text><rect class='r l' x='146' y='1' width='12' height='12'/><rect class='w l' x='164' y='1' width='12' height='12'/><text x='184' y='12'>late, with the rounds late (in columns </text><rect class='m' x='402' width='14' height='14'/><text x='420' y='12'>)</text><rect class='hr' x='446' width='14' height='14'/><rect class='hw' x='464' width='14' height='14'/><text x='486' y='12'>handed back (in columns </text><rect class='b' x='634' width='14' height='14'/><text x='652' y='12'>)</text><rect class='f' x='676' width='14' height='14'/><text x='696' y='12'>idle</text><rect class='g' x='742' width='14' height='14'/><text x='762' y='12'>not carried by the round</text><path class='q' d='M946 4v6H970v-6'/><text x='976' y='12'>crowded window; below it those of misses</text></g>\n"
+legend = words.LEGEND.now
 
 -- the four values of misses, and what a column stands for
 abbrev pub numbers_text : Scale → Tally → List ℕ
-numbers_text scale t = from_template (codes "</text>\n<text x='24' y='68'>late $ unavoidable $ avoidable $ spare $; rounds in a column: $</text>\n") (t.late ∷ t.unavoidable ∷ t.avoidable ∷ t.spare ∷ scale.per ∷ [])
+numbers_text scale t = from_template words.NUMBERS.now (t.late ∷ t.unavoidable ∷ t.avoidable ∷ t.spare ∷ scale.per ∷ [])
 
 -- the name, the eight values of the report, and these
 abbrev pub heading_text : Scale → List ℕ → Report → Tally → List ℕ
 heading_text scale name r t =
-    ((((codes "<text class='t' x='24' y='28'>" ++ name) ++ codes "</text>\n<text x='24' y='50' xml:space='preserve'>") ++ report_text r) ++ numbers_text scale t) ++ legend
+    ((((codes "<text class='t' x='24' y='28'>" ++ name) ++ words.AFTER_NAME.now) ++ report_text r) ++ numbers_text scale t) ++ legend
 
 -- the column of a round, or the last one
 abbrev pub column_at : Scale → ℕ → ℕ
@@ -32,7 +33,7 @@ column_at scale round = min round (scale.rounds - 1) / scale.per
 abbrev pub tick_text : Scale → ℕ → List ℕ
 tick_text scale n =
     cond (nat_le scale.rounds (n * step_of scale.rounds + 0)) []
-    (from_template (codes "<path class='k' d='M$ 0v5'/><text class='s c' x='$' y='17'>$</text>\n") ((column_at scale (n * step_of scale.rounds + 0) * scale.wide + LEFT) ∷ (column_at scale (n * step_of scale.rounds + 0) * scale.wide + LEFT) ∷ (n * step_of scale.rounds + 0) ∷ []))
+    (from_template words.TICK.now ((column_at scale (n * step_of scale.rounds + 0) * scale.wide + LEFT) ∷ (column_at scale (n * step_of scale.rounds + 0) * scale.wide + LEFT) ∷ (n * step_of scale.rounds + 0) ∷ []))
 
 -- the axis
 abbrev pub axis_text : Scale → List ℕ
@@ -41,13 +42,13 @@ axis_text scale = texts (tick_text scale) (MAX_AXIS_STEPS + 1) ++ codes "<text c
 -- the bracket of a window in a row, from the column of its first round to that of its last one, and its two numbers in its title
 abbrev pub line_text : Scale → ℕ → Crowd → List ℕ
 line_text scale row c =
-    from_template (codes " d='M$ $v6H$v-6'><title>rounds $ to $: $ commands, room for $</title></path>\n")
+    from_template words.BRACKET.now
     ((column_at scale c.window.from * scale.wide + LEFT) ∷ (row * 28 + 28) ∷ (column_at scale c.window.due * scale.wide + (LEFT + min scale.wide MAX_WIDE)) ∷ c.window.from ∷ c.window.due ∷ c.commands ∷ c.carries ∷ [])
 
 -- and below it, where it is labelled
 abbrev pub named_text : Scale → ℕ → Crowd → Bool → List ℕ
 named_text scale row c labelled =
-    cond labelled (from_template (codes "<text class='s' x='$' y='$'>$ commands, room for $</text>\n") ((column_at scale c.window.from * scale.wide + LEFT) ∷ (row * 28 + 46) ∷ c.commands ∷ c.carries ∷ [])) []
+    cond labelled (from_template words.LABEL.now ((column_at scale c.window.from * scale.wide + LEFT) ∷ (row * 28 + 46) ∷ c.commands ∷ c.carries ∷ [])) []
 
 abbrev pub bracket_text : Scale → ℕ → Crowd → Bool → List ℕ
 bracket_text scale row c labelled = line_text scale row c ++ named_text scale row c labelled

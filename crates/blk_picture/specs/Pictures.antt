@@ -20,6 +20,7 @@ use Rattle.blk_picture.specs.Templates.{from_template, made}
 use Rattle.blk_picture.specs.Scales.{scale_of}
 use Rattle.blk_picture.specs.Shapes.{strip_text, frame_text}
 use Rattle.blk_picture.specs.Around.{heading_text, windows_text}
+use Rattle.blk_picture.specs.declared.words.TheConstants as words
 
 -- how many rounds of a trace are shown: the one that is on is the last
 abbrev pub rounds_shown : Traced → ℕ
@@ -63,11 +64,11 @@ height_of scale = scale.deep * scale.tall + 372
 
 -- the colours, light and dark, and the hatching
 abbrev pub style : List ℕ
-style = codes "<style>text{font-family:sans-serif;font-size:13px;fill:#222}.t{font-size:18px;font-weight:bold}.s{font-size:11px}.e{text-anchor:end}.c,.n{text-anchor:middle}.n{font-size:10px;fill:#000}.o{fill:#fff}.p{fill:#fff}.f{fill:#f0f0f0}.g{fill:#a8a8a8}.r{fill:#0072b2}.w{fill:#e69f00}.m{fill:#000}.b{fill:#cc79a7}.l{stroke:#000;stroke-width:2}.hr{fill:url(#hr);stroke:#0072b2}.hw{fill:url(#hw);stroke:#e69f00}.k,.q{fill:none;stroke:#222}.q{stroke-width:2.5}.dr{stroke:#0072b2;stroke-width:2}.dw{stroke:#e69f00;stroke-width:2}@media(prefers-color-scheme:dark){text{fill:#ddd}.n{fill:#000}.o{fill:#fff}.p{fill:#161616}.f{fill:#262626}.g{fill:#5c5c5c}.m{fill:#fff}.l{stroke:#fff}.k,.q{stroke:#ddd}.r{fill:#2a92d0}}</style><defs><pattern id='hr' width='5' height='5' patternUnits='userSpaceOnUse' patternTransform='rotate(45)'><path class='dr' d='M0 0V5'/></pattern><pattern id='hw' width='5' height='5' patternUnits='userSpaceOnUse' patternTransform='rotate(45)'><path class='dw' d='M0 0V5'/></pattern></defs>\n"
+style = words.STYLE.now
 
 -- how a picture begins
 abbrev pub svg_text : ℕ → List ℕ
-svg_text height = from_template (codes "<svg xmlns='http://www.w3.org/2000/svg' version='1.1' width='1280' height='$' viewBox='0 0 1280 $'>\n") (height ∷ height ∷ [])
+svg_text height = from_template words.HEAD.now (height ∷ height ∷ [])
 
 abbrev pub page_text : ℕ → List ℕ
 page_text height = from_template (codes "<rect class='p' width='1280' height='$'/>\n") (height ∷ [])

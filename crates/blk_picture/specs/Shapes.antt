@@ -9,6 +9,7 @@ use Rattle.blk_picture.specs.declared.columns.Column.{Column}
 use Rattle.blk_picture.specs.declared.shapes.TheConstants.{MIN_LABEL_TALL}
 use Rattle.blk_picture.specs.Columns.{is_late}
 use Rattle.blk_picture.specs.Templates.{from_template, texts}
+use Rattle.blk_picture.specs.declared.words.TheConstants as words
 
 -- how a box begins: its class is its direction, with a heavy edge where it was late, and hatched where it was requeued
 abbrev pub class_by : Dir → Bool → Bool → List ℕ
@@ -28,9 +29,9 @@ dir_words Write = codes "write"
 
 -- how its title ends
 abbrev pub tail_by : Bool → Bool → List ℕ
-tail_by true early = codes ", sectors $ to $, released in round $, due $, issued $ and handed back</title></rect>\n"
-tail_by false true = codes ", sectors $ to $, released in round $, due $, issued $, lateness -$</title></rect>\n"
-tail_by false false = codes ", sectors $ to $, released in round $, due $, issued $, lateness $</title></rect>\n"
+tail_by true early = words.BOX_BACK.now
+tail_by false true = words.BOX_EARLY.now
+tail_by false false = words.BOX_LATE.now
 
 abbrev pub tail_words : IssueBox → List ℕ
 tail_words b = tail_by b.back (nat_lt b.round b.due)
@@ -56,7 +57,7 @@ label_text scale b =
 
 -- where a box lies: in the column of its round and the row of its tag; and how its title begins
 abbrev pub place_text : Scale → IssueBox → List ℕ
-place_text scale b = from_template (codes " x='$' y='$' width='$' height='$'><title>request $, ") ((b.round * scale.wide + LEFT) ∷ (b.tag * scale.tall + TOP) ∷ (scale.wide - 1) ∷ (scale.tall - 1) ∷ b.id ∷ [])
+place_text scale b = from_template words.BOX_PLACE.now ((b.round * scale.wide + LEFT) ∷ (b.tag * scale.tall + TOP) ∷ (scale.wide - 1) ∷ (scale.tall - 1) ∷ b.id ∷ [])
 
 abbrev pub tail_text : IssueBox → List ℕ
 tail_text b = from_template (tail_words b) (b.first ∷ b.end ∷ b.release ∷ b.due ∷ b.round ∷ apart b ∷ [])
@@ -69,14 +70,14 @@ box_text scale b = (((class_words b ++ place_text scale b) ++ dir_words b.dir) +
 -- do not carry. A unit of height is a place
 abbrev pub stack_text : Scale → ℕ → Column → List ℕ
 stack_text scale c n =
-    from_template (codes "<g><title>column $: $ reads and $ writes on time, $ late, $ handed back, $ idle places</title><rect class='r' x='$' y='0' width='1' height='$'/><rect class='w' x='$' y='$' width='1' height='$'/><rect class='m' x='$' y='$' width='1' height='$'/><rect class='b' x='$' y='$' width='1' height='$'/><rect class='g' x='$' y='$' width='1' height='$'/></g>\n")
+    from_template words.STACK.now
     (c ∷ n.reads ∷ n.writes ∷ n.lates ∷ n.backs ∷ (n.room - (n.reads + n.writes + n.lates + n.backs)) ∷ c ∷ n.reads ∷ c ∷ n.reads ∷ n.writes ∷ c ∷ (n.reads + n.writes) ∷ n.lates ∷ c ∷ (n.reads + n.writes + n.lates) ∷ n.backs ∷ c ∷ n.room ∷ (scale.per * scale.deep + 0 - n.room) ∷ [])
 
 -- what the round of a column does not carry
 abbrev pub grey_text : Scale → ℕ → Column → List ℕ
 grey_text scale c n =
     cond (scale.deep - n.room == 0) []
-    (from_template (codes "<rect class='g' x='$' y='$' width='1' height='$'/>\n") (c ∷ n.room ∷ (scale.deep - n.room) ∷ []))
+    (from_template words.NO_ROOM.now (c ∷ n.room ∷ (scale.deep - n.room) ∷ []))
 
 abbrev pub column_text : Scale → ℕ → Column → List ℕ
 column_text scale c n = cond (scale.per == 1) (grey_text scale c n) (stack_text scale c n)
@@ -90,7 +91,7 @@ columns_text scale columns n = texts (λ c. column_text scale c (slice_index_or 
 
 -- how the frame begins
 abbrev pub border_text : Scale → List ℕ
-border_text scale = from_template (codes "<svg x='64' y='182' width='$' height='$' viewBox='0 0 $ $' preserveAspectRatio='none'><rect class='f' width='$' height='$'/>\n") ((scale.columns * scale.wide + 0) ∷ (scale.deep * scale.tall + 0) ∷ scale.columns ∷ (scale.per * scale.deep + 0) ∷ scale.columns ∷ (scale.per * scale.deep + 0) ∷ [])
+border_text scale = from_template words.FRAME.now ((scale.columns * scale.wide + 0) ∷ (scale.deep * scale.tall + 0) ∷ scale.columns ∷ (scale.per * scale.deep + 0) ∷ scale.columns ∷ (scale.per * scale.deep + 0) ∷ [])
 
 -- the frame, and the boxes where each column is a round
 abbrev pub frame_text : Scale → List IssueBox → List Column → List ℕ
@@ -100,7 +101,7 @@ frame_text scale boxes columns =
 -- the requests that wait in a column
 abbrev pub waiting_text : ℕ → Column → List ℕ
 waiting_text c n =
-    from_template (codes "<g><title>$ reads and $ writes wait</title><rect class='r' x='$' y='0' width='1' height='$'/><rect class='w' x='$' y='$' width='1' height='$'/></g>\n")
+    from_template words.WAITING.now
     (n.read_waits ∷ n.write_waits ∷ c ∷ n.read_waits ∷ c ∷ n.read_waits ∷ n.write_waits ∷ [])
 
 -- the most that wait in a column, at least 1
@@ -109,7 +110,7 @@ most_waiting columns = fold max 1 (map (λ n. n.read_waits + n.write_waits) colu
 
 -- how the strip begins, by the most that wait
 abbrev pub scale_text : Scale → ℕ → List ℕ
-scale_text scale most = from_template (codes "<text class='s e' x='58' y='120'>$</text><text class='s e' x='58' y='168'>waiting</text><text class='s e' x='58' y='194'>tag 0</text><svg x='64' y='110' width='$' height='60' viewBox='0 0 $ $' preserveAspectRatio='none'><rect class='f' width='$' height='$'/><g transform='matrix(1 0 0 -1 0 $)'>\n") (most ∷ (scale.columns * scale.wide + 0) ∷ scale.columns ∷ most ∷ scale.columns ∷ most ∷ most ∷ [])
+scale_text scale most = from_template words.WAIT_SCALE.now (most ∷ (scale.columns * scale.wide + 0) ∷ scale.columns ∷ most ∷ scale.columns ∷ most ∷ most ∷ [])
 
 abbrev pub waits_text : List Column → ℕ → List ℕ
 waits_text columns n = texts (λ c. waiting_text c (slice_index_or columns c no_column)) n

@@ -5,6 +5,7 @@ ghost use Rattle.blk_picture.specs.Around.{numbers_text, legend, heading_text, t
 
 use crate::scale::{LEFT, MAX_AXIS_STEPS, MAX_WIDE, Scale, TOP, place, step_of};
 use crate::template::push_template;
+use crate::words::{AFTER_NAME, BRACKET, LABEL, LEGEND, NUMBERS, TICK};
 use blk_report::{Report, Tally, report_lines};
 use drafts::Draft;
 use edd_figures::{Crowd, Figures};
@@ -23,7 +24,7 @@ fn push_numbers(draft: &mut Draft, scale: &Scale, tally: &Tally) -> Result<(), A
     let per = u64::from(scale.per);
     push_template(
         draft,
-        b"</text>\n<text x='24' y='68'>late $ unavoidable $ avoidable $ spare $; rounds in a column: $</text>\n",
+        NUMBERS.as_bytes(),
         &[
             tally.late,
             tally.unavoidable,
@@ -38,9 +39,7 @@ fn push_numbers(draft: &mut Draft, scale: &Scale, tally: &Tally) -> Result<(), A
 fn push_legend(draft: &mut Draft) -> Result<(), AllocError>
     ensures { OnOk result (draft.new ≡ draft.old ++ legend) }
 {
-    draft.text(
-        b"<g transform='translate(24,78)'><rect class='r' width='14' height='14'/><text x='20' y='12'>read</text><rect class='w' x='70' width='14' height='14'/><text x='90' y='12'>write</text><rect class='r l' x='146' y='1' width='12' height='12'/><rect class='w l' x='164' y='1' width='12' height='12'/><text x='184' y='12'>late, with the rounds late (in columns </text><rect class='m' x='402' width='14' height='14'/><text x='420' y='12'>)</text><rect class='hr' x='446' width='14' height='14'/><rect class='hw' x='464' width='14' height='14'/><text x='486' y='12'>handed back (in columns </text><rect class='b' x='634' width='14' height='14'/><text x='652' y='12'>)</text><rect class='f' x='676' width='14' height='14'/><text x='696' y='12'>idle</text><rect class='g' x='742' width='14' height='14'/><text x='762' y='12'>not carried by the round</text><path class='q' d='M946 4v6H970v-6'/><text x='976' y='12'>crowded window; below it those of misses</text></g>\n",
-    )
+    draft.text(LEGEND.as_bytes())
 }
 
 /// Adds the heading: the name, the report, what was late, and what a column stands for.
@@ -57,7 +56,7 @@ pub(crate) fn push_heading(
     let lines = report_lines(alloc, report)?;
     draft.text(b"<text class='t' x='24' y='28'>")?;
     draft.text(name)?;
-    draft.text(b"</text>\n<text x='24' y='50' xml:space='preserve'>")?;
+    draft.text(AFTER_NAME.as_bytes())?;
     draft.text(lines.as_slice())?;
     push_numbers(draft, scale, tally)?;
     push_legend(draft)?;
@@ -83,11 +82,7 @@ fn push_tick(draft: &mut Draft, scale: &Scale, number: u32) -> Result<(), AllocE
         return Ok(());
     }
     let x = place(column_at(scale, round), scale.wide, LEFT);
-    push_template(
-        draft,
-        b"<path class='k' d='M$ 0v5'/><text class='s c' x='$' y='17'>$</text>\n",
-        &[x, x, round],
-    )
+    push_template(draft, TICK.as_bytes(), &[x, x, round])
 }
 
 /// Adds the axis.
@@ -113,7 +108,7 @@ fn push_line(draft: &mut Draft, scale: &Scale, row: u32, crowd: Crowd) -> Result
     let top = place(row, 28, 28);
     push_template(
         draft,
-        b" d='M$ $v6H$v-6'><title>rounds $ to $: $ commands, room for $</title></path>\n",
+        BRACKET.as_bytes(),
         &[
             from,
             top,
@@ -145,7 +140,7 @@ fn push_named(
     let top = place(row, 28, 46);
     push_template(
         draft,
-        b"<text class='s' x='$' y='$'>$ commands, room for $</text>\n",
+        LABEL.as_bytes(),
         &[from, top, crowd.commands, crowd.carries],
     )
 }

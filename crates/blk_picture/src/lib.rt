@@ -10,5 +10,6 @@ mod parts;
 mod scale;
 mod shapes;
 mod template;
+mod words;
 
 pub use crate::parts::{picture, pictures};

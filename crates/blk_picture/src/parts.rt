@@ -15,6 +15,7 @@ use crate::columns::{Column, columns};
 use crate::scale::{Scale, place};
 use crate::shapes::{push_frame, push_strip};
 use crate::template::push_template;
+use crate::words::{HEAD, STYLE};
 use blk_report::{Report, Tally, misses, report};
 use blk_trace::Trace;
 use drafts::Draft;
@@ -107,20 +108,14 @@ fn height_of(scale: &Scale) -> u32
 fn push_style(draft: &mut Draft) -> Result<(), AllocError>
     ensures { OnOk result (draft.new ≡ draft.old ++ style) }
 {
-    draft.text(
-        b"<style>text{font-family:sans-serif;font-size:13px;fill:#222}.t{font-size:18px;font-weight:bold}.s{font-size:11px}.e{text-anchor:end}.c,.n{text-anchor:middle}.n{font-size:10px;fill:#000}.o{fill:#fff}.p{fill:#fff}.f{fill:#f0f0f0}.g{fill:#a8a8a8}.r{fill:#0072b2}.w{fill:#e69f00}.m{fill:#000}.b{fill:#cc79a7}.l{stroke:#000;stroke-width:2}.hr{fill:url(#hr);stroke:#0072b2}.hw{fill:url(#hw);stroke:#e69f00}.k,.q{fill:none;stroke:#222}.q{stroke-width:2.5}.dr{stroke:#0072b2;stroke-width:2}.dw{stroke:#e69f00;stroke-width:2}@media(prefers-color-scheme:dark){text{fill:#ddd}.n{fill:#000}.o{fill:#fff}.p{fill:#161616}.f{fill:#262626}.g{fill:#5c5c5c}.m{fill:#fff}.l{stroke:#fff}.k,.q{stroke:#ddd}.r{fill:#2a92d0}}</style><defs><pattern id='hr' width='5' height='5' patternUnits='userSpaceOnUse' patternTransform='rotate(45)'><path class='dr' d='M0 0V5'/></pattern><pattern id='hw' width='5' height='5' patternUnits='userSpaceOnUse' patternTransform='rotate(45)'><path class='dw' d='M0 0V5'/></pattern></defs>\n",
-    )
+    draft.text(STYLE.as_bytes())
 }
 
 /// Adds how a picture of this height in pixels begins.
 fn push_head(draft: &mut Draft, height: u64) -> Result<(), AllocError>
     ensures { OnOk result (draft.new ≡ draft.old ++ head_text height) }
 {
-    push_template(
-        draft,
-        b"<svg xmlns='http://www.w3.org/2000/svg' version='1.1' width='1280' height='$' viewBox='0 0 1280 $'>\n",
-        &[height, height],
-    )?;
+    push_template(draft, HEAD.as_bytes(), &[height, height])?;
     push_style(draft)?;
     push_template(
         draft,

@@ -7,6 +7,9 @@ use crate::boxes::IssueBox;
 use crate::columns::{Column, is_late};
 use crate::scale::{LEFT, Scale, TOP, place};
 use crate::template::push_template;
+use crate::words::{
+    BOX_BACK, BOX_EARLY, BOX_LATE, BOX_PLACE, FRAME, NO_ROOM, STACK, WAIT_SCALE, WAITING,
+};
 use blk_bio::Dir;
 use drafts::Draft;
 use std::alloc::AllocError;
@@ -43,15 +46,9 @@ fn tail_words(issued: &IssueBox) -> &'static [u8]
     ensures { result.now ≡ tail_words issued.now }
 {
     match (issued.back, u64::from(issued.round) < issued.due) {
-        (true, _) => {
-            b", sectors $ to $, released in round $, due $, issued $ and handed back</title></rect>\n"
-        }
-        (false, true) => {
-            b", sectors $ to $, released in round $, due $, issued $, lateness -$</title></rect>\n"
-        }
-        (false, false) => {
-            b", sectors $ to $, released in round $, due $, issued $, lateness $</title></rect>\n"
-        }
+        (true, _) => { BOX_BACK.as_bytes() }
+        (false, true) => { BOX_EARLY.as_bytes() }
+        (false, false) => { BOX_LATE.as_bytes() }
     }
 }
 
@@ -106,11 +103,7 @@ fn push_place(draft: &mut Draft, scale: &Scale, issued: &IssueBox) -> Result<(),
     let y = place(u32::from(issued.tag), scale.tall, TOP);
     let wide = u64::from(scale.wide.saturating_sub(1));
     let tall = u64::from(scale.tall.saturating_sub(1));
-    push_template(
-        draft,
-        b" x='$' y='$' width='$' height='$'><title>request $, ",
-        &[x, y, wide, tall, issued.id],
-    )
+    push_template(draft, BOX_PLACE.as_bytes(), &[x, y, wide, tall, issued.id])
 }
 
 /// Adds how the title of a box ends.
@@ -187,7 +180,7 @@ fn push_stack(
     let away = whole.saturating_sub(column.room);
     push_template(
         draft,
-        b"<g><title>column $: $ reads and $ writes on time, $ late, $ handed back, $ idle places</title><rect class='r' x='$' y='0' width='1' height='$'/><rect class='w' x='$' y='$' width='1' height='$'/><rect class='m' x='$' y='$' width='1' height='$'/><rect class='b' x='$' y='$' width='1' height='$'/><rect class='g' x='$' y='$' width='1' height='$'/></g>\n",
+        STACK.as_bytes(),
         &[
             number,
             reads,
@@ -226,11 +219,7 @@ fn push_grey(
     if away == 0 {
         return Ok(());
     }
-    push_template(
-        draft,
-        b"<rect class='g' x='$' y='$' width='1' height='$'/>\n",
-        &[number, column.room, away],
-    )
+    push_template(draft, NO_ROOM.as_bytes(), &[number, column.room, away])
 }
 
 /// Adds a column: a stack where it stands for several rounds, and else what its round does not carry.
@@ -269,7 +258,7 @@ fn push_border(draft: &mut Draft, scale: &Scale) -> Result<(), AllocError>
     let whole = place(scale.per, scale.deep, 0);
     push_template(
         draft,
-        b"<svg x='64' y='182' width='$' height='$' viewBox='0 0 $ $' preserveAspectRatio='none'><rect class='f' width='$' height='$'/>\n",
+        FRAME.as_bytes(),
         &[wide, tall, columns, whole, columns, whole],
     )
 }
@@ -298,7 +287,7 @@ fn push_waiting(draft: &mut Draft, number: u64, column: Column) -> Result<(), Al
     let writes = u64::from(column.write_waits);
     push_template(
         draft,
-        b"<g><title>$ reads and $ writes wait</title><rect class='r' x='$' y='0' width='1' height='$'/><rect class='w' x='$' y='$' width='1' height='$'/></g>\n",
+        WAITING.as_bytes(),
         &[reads, writes, number, reads, number, reads, writes],
     )
 }
@@ -322,7 +311,7 @@ fn push_scale(draft: &mut Draft, scale: &Scale, most: u64) -> Result<(), AllocEr
     let columns = u64::from(scale.columns);
     push_template(
         draft,
-        b"<text class='s e' x='58' y='120'>$</text><text class='s e' x='58' y='168'>waiting</text><text class='s e' x='58' y='194'>tag 0</text><svg x='64' y='110' width='$' height='60' viewBox='0 0 $ $' preserveAspectRatio='none'><rect class='f' width='$' height='$'/><g transform='matrix(1 0 0 -1 0 $)'>\n",
+        WAIT_SCALE.as_bytes(),
         &[most, wide, columns, most, columns, most, most],
     )
 }
