@@ -1,5 +1,5 @@
 -- What is said of a trial, as an answer.
-use Rattle.std.specs.Prelude.{ℕ, ◌++◌, ◌∷◌, [], List, Bool, true, false, Option, None, Some, ℤ, pos, if◌then◌else◌, ◌&&◌, ◌==◌, nat_lt, codes, map, take}
+use Rattle.std.specs.Prelude.{ℕ, ◌∷◌, [], List, Bool, true, false, Option, None, Some, ℤ, pos, if◌then◌else◌, ◌&&◌, ◌==◌, nat_lt, codes, map, take}
 use Rattle.std.specs.Ordering.{int_eq}
 use Rattle.answer.specs.declared.names.TheConstants as names
 use Rattle.answer.specs.declared.value.Set.{Set}
