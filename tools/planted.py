@@ -74,7 +74,7 @@ def failed_loads(top, names):
         if tool[1] != b"ended" or tool[2] != b"0":
             continue
         try:
-            loads.look_at(loads.Asked(loads.LOADS[name]), ran.stdout)
+            loads.look_at(loads.Asked(loads.LOADS[name]), ran.stdout, name)
             good.add(name)
         except (loads.Fault, ValueError, KeyError, IndexError):
             pass
