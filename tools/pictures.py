@@ -14,6 +14,8 @@ where they are few; and by how many rounds the axis counts.
 Prints what is wrong, and as the last line 'N passed, M failed'. Ends with 0 where none failed, and with 1 where one did.
 """
 import copy
+import csv
+import io
 import os
 import re
 import signal
@@ -264,13 +266,25 @@ def look_at(text, trace):
         look_at_trace(parts[0], trace)
 
 
+def not_flushed(text):
+    """What is said of a script whose bios no flush takes out of their plugs."""
+    held = Counter()
+    for row in csv.reader(io.StringIO(text, newline="")):
+        if row[:1] == ["bio"]:
+            held[row[1]] += 1
+        elif row[:1] == ["flush"]:
+            held[row[1]] = 0
+    return f"blk: not flushed: {held.total()} bios stay in their plugs\n".encode() if held.total() else b""
+
+
 def drawn(case):
     """What is wrong with the picture that the program draws of a case's input, empty where nothing is."""
     once = copy.copy(case)
     once.args = [b"picture"] if of_trace(case) else [b"picture", b"--script"]
     try:
         status, wrote, said = run(PROGRAM, once)
-        hold(status == 0 and not said, f"it ended with status {status} and said {said[:400]!r}")
+        wanted = b"" if of_trace(case) else not_flushed(case.stdin.read_text())
+        hold(status == 0 and said == wanted, f"it ended with status {status} and said {said[:400]!r}")
         look_at(wrote.decode("ascii"), Drawn(case.stdin.read_text()) if of_trace(case) else None)
     except (Fault, OSError, ValueError, AttributeError) as fault:
         return f"{fault}\n"

@@ -7,7 +7,7 @@ use Rattle.blk_arrivals.specs.declared.terms.ArrivalsFault.TheVariants as arriva
 use Rattle.blk_arrivals.specs.declared.terms.TheConstants.{USUAL_DEPTH}
 use Rattle.blk_arrivals.specs.declared.terms.Terms.{Terms}
 use Rattle.answer.specs.declared.answer.Part.{Part}
-use Rattle.blk_answers.specs.Forms.{written_in}
+use Rattle.blk_cli.specs.Forms.{written_in}
 use Rattle.blk_blame.specs.Blamed.{IsBlameAnswer, IsEachAnswer}
 use Rattle.blk_capture.specs.Summaries.{IsMostInFlight}
 use Rattle.blk_capture.specs.declared.fates.Fate.{Fate}

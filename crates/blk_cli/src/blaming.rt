@@ -5,27 +5,17 @@ ghost use Rattle.edd_commands.specs.declared.TheConstants.{MAX_COMMANDS};
 ghost use Rattle.blk_capture.specs.Requests.{AreInOrder, AreTimed};
 ghost use Rattle.blk_cli.specs.Said.{said_of};
 ghost use Rattle.blk_cli.specs.Importing.{IsBlamingAnswer, IsBlamingText, IsBlamedOf, IsUnshown};
-ghost use Rattle.blk_answers.specs.Forms.{written_in};
 
 use crate::Answered;
 use crate::failure::Failure;
+use crate::forms::written;
 use crate::importing::{asked_of, note_on, tags_asked};
-use answer::{Answer, json, lines};
+use answer::Answer;
 use blk_blame::{blame_answer, each_answer};
 use blk_capture::{CapturedRequest, Record};
 use blk_capture_text::{ShownImport, first_time};
-use blk_words::{Blaming, Form, Import};
+use blk_words::{Blaming, Import};
 use std::alloc::{AllocError, Global};
-
-/// An answer in a form.
-fn written(alloc: Global, form: Form, answer: &Answer) -> Result<Vec<u8>, AllocError>
-    ensures { IfOk result (λ text. text.items ≡ written_in form answer.now) }
-{
-    match form {
-        Form::Lines => lines(alloc, answer),
-        Form::Json => json(alloc, answer),
-    }
-}
 
 /// What is said of what the late ones of requests are blamed on, or of each of them.
 fn answer_of(

@@ -11,8 +11,8 @@ ghost use Rattle.blk_cli.specs.Tuning.{IsTunedIn, IsTrial, IsUntried, FailsToTry
 
 use crate::Answered;
 use crate::failure::Failure;
-use crate::unflushed::with_plugs;
 use crate::forms::written;
+use crate::unflushed::with_plugs;
 use blk_lists::Records;
 use blk_runs::RunFault;
 use blk_settings::TrialAsked;
