@@ -22,6 +22,9 @@ written_good written.Schedule i records s h = h.good
 written_good written.Table i records s h = h.good
 written_good written.Summary i records s h = h.good
 written_good (written.Script round depth) i records s h = h.alone.1
+written_good (written.Blame b) i records s h = h.good
+written_good (written.Replay r) i records s h = h.good
+written_good (written.Replayed p how) i records s h = h.good
 
 -- a job whose answer is good
 good : (words : List (List ℕ)) (j : Job) (input : Option (List Row)) (bytes : Option (List ℕ)) (s : Said) → AnswersGood j → GivesAnswer words j input bytes s → s.good ≡ true

@@ -123,7 +123,10 @@ pub fn replayed(
         Ok(text) => text,
         Err(failure) => return Err(failure),
     };
-    beside(alloc, wanted, records, &matched, text)
+    match beside(alloc, wanted, records, &matched, text) {
+        Ok(answer) => Ok(answer),
+        Err(failure) => Err(failure),
+    }
 }
 
 /// What is written of a replay of the requests of a capture, and what is said beside it, as of their schedule.
