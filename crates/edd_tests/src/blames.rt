@@ -151,11 +151,15 @@ fn parts_of_six(rt: HostRuntime) {
     assert_eq!(rt; least, 1);
     let none = least_late_at(rt.alloc(), &commands, &one, &[1, 3]).expect(&rt, "out of memory");
     assert_eq!(rt; none, 0);
-    let saved = most_saved_at(rt.alloc(), &commands, &rounds, &one, &[1, 3])
-        .expect(&rt, "out of memory");
+    let saved = most_saved_at(rt.alloc(), &commands, &rounds, &one, &[1, 3]).expect(
+        &rt,
+        "out of memory",
+    );
     assert_eq!(rt; saved, 1);
     let marks = [true, false, false, true, true, false];
-    let beside = least_late_beside(rt.alloc(), &commands, &one, &marks)
-        .expect(&rt, "out of memory");
+    let beside = least_late_beside(rt.alloc(), &commands, &one, &marks).expect(
+        &rt,
+        "out of memory",
+    );
     assert_eq!(rt; beside, 2);
 }
