@@ -21,7 +21,7 @@ fn takers_of_each_kind(rt: HostRuntime) {
         (TextKind::Commands, "oracle"),
         (TextKind::Certificate, "check"),
         (TextKind::Schedule, "judge"),
-        (TextKind::Capture, "import"),
+        (TextKind::Capture, "import, blame, replay"),
     ];
     for (kind, names) in takers {
         assert!(rt; is_taken_by(&rt, rt.alloc(), kind, names));
