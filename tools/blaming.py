@@ -13,16 +13,14 @@ frees a place, and not in the order of the due rounds.
 Prints what is wrong, and as the last line 'N passed, M failed', counted in texts. Ends with 0 where none failed, 1 where one did, 2
 where a word is neither a number nor a file, and 3 where the program isn't there.
 """
-import os
 import signal
-import subprocess
 import sys
 from bisect import bisect_left, bisect_right
 
 sys.dont_write_bytecode = True
 
-from cases import PROGRAM, SECONDS, TOP, counted, difference, ended, side_by_side
-from matching import Told, captures_of, text_of, waits
+from cases import ended
+from matching import Told, captures_of, command, run_of, text_of, waits
 
 EACH = "id,pid,dir,first,sectors,wait,overrun,cause,from,until"
 
@@ -230,45 +228,19 @@ class Blame:
         yield ["--each"], lines(self.each())
 
 
-def outcome(text, words, written):
-    """What is wrong with what the program makes of a capture."""
-    run = subprocess.run([PROGRAM, "blame", *words], input=text.encode(), capture_output=True, timeout=SECONDS)
-    told = f"    it ended with status {run.returncode}\n" if run.returncode else ""
-    return told + ("" if written.encode() == run.stdout else difference("stdout", written.encode(), run.stdout))
-
-
 def checked(given):
     """What is wrong with each text of a capture under options, beside what it is of."""
     name, records, asked = given
     text = text_of(records)
+    told = Told(records, asked)
+    said = "".join(told.doubts()) + told.said()
     found = []
-    for words, written in Blame(Told(records, asked)).texts():
+    for words, written in Blame(told).texts():
         words = [*asked.words(), *words]
-        found.append((f"{name}, blame {' '.join(words)}", outcome(text, words, written)))
+        found.append((f"{name}, blame {' '.join(words)}", run_of("blame", words, text, written, said)))
     return found
-
-
-def outcomes(captures):
-    """The same of all captures."""
-    for _, found in side_by_side(lambda given: checked(given), ((given, given) for given in captures)):
-        yield from found
-
-
-def main(words):
-    """The comparison as a command; its exit status."""
-    if any(it in ("-h", "--help") for it in words):
-        print(__doc__, end="")
-        return 0
-    captures = captures_of(words)
-    if captures is None:
-        print("tools/blaming.py: the words are a number of captures and a seed, or files", file=sys.stderr)
-        return 2
-    if not os.access(PROGRAM, os.X_OK):
-        print(f"tools/blaming.py: there is no program {PROGRAM.relative_to(TOP)}: ./blk builds it", file=sys.stderr)
-        return 3
-    return 1 if counted(outcomes(captures), "{}:\n") else 0
 
 
 if __name__ == "__main__":
     signal.signal(signal.SIGTERM, ended)
-    sys.exit(main(sys.argv[1:]))
+    sys.exit(command("blaming.py", __doc__, sys.argv[1:], captures_of, checked))

@@ -424,9 +424,9 @@ def checked(given):
     return found
 
 
-def outcomes(captures):
-    """The same of all captures."""
-    for _, found in side_by_side(lambda given: checked(given), ((given, given) for given in captures)):
+def outcomes(check, captures):
+    """What a check finds of all captures."""
+    for _, found in side_by_side(check, ((given, given) for given in captures)):
         yield from found
 
 
@@ -441,21 +441,21 @@ def captures_of(words):
     return [(f"capture {place} of seed {seed}", *drawn(f"{seed}.{place}")) for place in range(count)]
 
 
-def main(words):
-    """The comparison as a command; its exit status."""
+def command(name, about, words, captures, check):
+    """A comparison over the captures that the words name, as a command; its exit status."""
     if any(it in ("-h", "--help") for it in words):
-        print(__doc__, end="")
+        print(about, end="")
         return 0
-    captures = captures_of(words)
-    if captures is None:
-        print("tools/matching.py: the words are a number of captures and a seed, or files", file=sys.stderr)
+    found = captures(words)
+    if found is None:
+        print(f"tools/{name}: the words are a number of captures and a seed, or files", file=sys.stderr)
         return 2
     if not os.access(PROGRAM, os.X_OK):
-        print(f"tools/matching.py: there is no program {PROGRAM.relative_to(TOP)}: ./blk builds it", file=sys.stderr)
+        print(f"tools/{name}: there is no program {PROGRAM.relative_to(TOP)}: ./blk builds it", file=sys.stderr)
         return 3
-    return 1 if counted(outcomes(captures), "{}:\n") else 0
+    return 1 if counted(outcomes(check, found), "{}:\n") else 0
 
 
 if __name__ == "__main__":
     signal.signal(signal.SIGTERM, ended)
-    sys.exit(main(sys.argv[1:]))
+    sys.exit(command("matching.py", __doc__, sys.argv[1:], captures_of, checked))

@@ -25,7 +25,7 @@ from pathlib import Path
 
 sys.dont_write_bytecode = True
 
-from cases import PROGRAM, TOP, counted, ended, side_by_side
+from cases import ended
 import loads
 import matching
 
@@ -243,13 +243,7 @@ def checked(given):
     replays = Replays(records, Words(words))
     told = "".join(replays.told.doubts()) + replays.told.said()
     run = matching.run_of("replay", words, matching.text_of(records), replays.text(), told)
-    return f"{name}, replay {' '.join(words)}", run
-
-
-def outcomes(captures):
-    """The same of all captures."""
-    for _, found in side_by_side(checked, ((it, it) for it in captures)):
-        yield found
+    return [(f"{name}, replay {' '.join(words)}", run)]
 
 
 def captures_of(words):
@@ -269,20 +263,10 @@ def captures_of(words):
 
 def main(words):
     """The comparison as a command; its exit status."""
-    if any(it in ("-h", "--help") for it in words):
-        print(__doc__, end="")
-        return 0
     if words[:1] == ["--show"] and len(words) > 1:
         print(Replays(list(matching.records_of(Path(words[1]).read_text())), Words(words[2:])).text(), end="")
         return 0
-    captures = captures_of(words)
-    if captures is None:
-        print("tools/replays.py: the words are a number of captures and a seed, or files", file=sys.stderr)
-        return 2
-    if not os.access(PROGRAM, os.X_OK):
-        print(f"tools/replays.py: there is no program {PROGRAM.relative_to(TOP)}: ./blk builds it", file=sys.stderr)
-        return 3
-    return 1 if counted(outcomes(captures), "{}:\n") else 0
+    return matching.command("replays.py", __doc__, words, captures_of, checked)
 
 
 if __name__ == "__main__":
