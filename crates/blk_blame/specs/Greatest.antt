@@ -3,7 +3,6 @@ use Rattle.std.specs.Prelude.{ℕ, ◌-◌, List}
 use Rattle.std.specs.List.Sorted.{IsPermutation, IsSorted, IsStable}
 use Rattle.std.specs.Ordering.{nat_cmp}
 use Rattle.std.specs.declared.cmp.Ordering.{Ordering}
-use Rattle.edd_commands.specs.declared.TheConstants.{MAX_COMMANDS}
 use Rattle.edd_blame.specs.declared.sum.StallTime.{StallTime}
 use Rattle.blk_blame.specs.declared.hurts.Hurt.{Hurt}
 use Rattle.edd_figures.specs.declared.missing.Crowd.{Crowd}
@@ -19,9 +18,9 @@ stall_size s = s.requests
 abbrev pub window_size : Crowd → ℕ
 window_size w = w.commands - w.carries
 
--- the greater one, up to the most commands that there can be, comes first
+-- the greater one comes first
 abbrev pub greater_cmp : {X : Type 0} → (X → ℕ) → X → X → Ordering
-greater_cmp size x y = nat_cmp (MAX_COMMANDS - size x) (MAX_COMMANDS - size y)
+greater_cmp size x y = nat_cmp (size y) (size x)
 
 -- the same, the greatest first; of those that are as great in the order that they had
 pub record AreGreatestFirst {X : Type 0} (size : X → ℕ) (before after : List X) : Type 0 where

@@ -12,4 +12,3 @@ pub mod StagesSaid
 pub mod Greatest
 pub mod Answers
 pub mod Blamed
-pub mod Inside

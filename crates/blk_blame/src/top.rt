@@ -2,41 +2,25 @@
 
 ghost use Rattle.std.specs.Prelude.{◌≡◌, OnOk, take};
 ghost use Rattle.blk_blame.specs.Greatest.{AreGreatestFirst, hurt_size, stall_size, window_size};
-ghost use Rattle.blk_blame.specs.Inside.Keys.{hurt_key, stall_key, window_key};
 
 use crate::hurts::Hurt;
 use edd_blame::StallTime;
-use edd_commands::MAX_COMMANDS;
 use edd_figures::Crowd;
 use std::alloc::AllocError;
+use std::cmp::Reverse;
 
-/// By how much fewer than the most requests were due in a stall.
-fn stall_key(stall: &StallTime) -> u64
-    ensures { result ≡ stall_key stall.now }
+/// How many more requests a window has than it carries.
+fn excess(window: &Crowd) -> u64
+    ensures { result ≡ window_size window.now }
 {
-    MAX_COMMANDS.saturating_sub(stall.requests)
-}
-
-/// By how much fewer than the most a window has more than it carries.
-fn window_key(window: &Crowd) -> u64
-    ensures { result ≡ window_key window.now }
-{
-    let excess = window.commands.saturating_sub(window.carries);
-    MAX_COMMANDS.saturating_sub(excess)
-}
-
-/// By how much fewer than the most requests of a process were late.
-fn hurt_key(hurt: &Hurt) -> u64
-    ensures { result ≡ hurt_key hurt.now }
-{
-    MAX_COMMANDS.saturating_sub(hurt.late)
+    window.commands.saturating_sub(window.carries)
 }
 
 /// Puts processes in order, those first that have the most late requests.
 pub fn sort_hurts(hurts: &mut Vec<Hurt>) -> Result<(), AllocError>
     ensures { OnOk result (AreGreatestFirst hurt_size hurts.old.items hurts.new.items) }
 {
-    hurts.sort_by_key(|hurt| hurt_key(hurt))?;
+    hurts.sort_by_key(|hurt| Reverse(hurt.late))?;
     Ok(())
 }
 
@@ -44,7 +28,7 @@ pub fn sort_hurts(hurts: &mut Vec<Hurt>) -> Result<(), AllocError>
 pub fn sort_stalls(stalls: &mut Vec<StallTime>) -> Result<(), AllocError>
     ensures { OnOk result (AreGreatestFirst stall_size stalls.old.items stalls.new.items) }
 {
-    stalls.sort_by_key(|stall| stall_key(stall))?;
+    stalls.sort_by_key(|stall| Reverse(stall.requests))?;
     Ok(())
 }
 
@@ -52,7 +36,7 @@ pub fn sort_stalls(stalls: &mut Vec<StallTime>) -> Result<(), AllocError>
 pub fn sort_windows(windows: &mut Vec<Crowd>) -> Result<(), AllocError>
     ensures { OnOk result (AreGreatestFirst window_size windows.old.items windows.new.items) }
 {
-    windows.sort_by_key(|window| window_key(window))?;
+    windows.sort_by_key(|window| Reverse(excess(window)))?;
     Ok(())
 }
 

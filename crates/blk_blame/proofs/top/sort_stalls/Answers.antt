@@ -1,11 +1,11 @@
 use Rattle.std.proofs.Common.{rules}
 use Rattle.std.proofs.lemmas.List.Sorted.{answers_always}
-use Rattle.blk_blame.specs.Inside.Keys.{stall_key}
+use Rattle.blk_blame.specs.Greatest.{stall_size}
 use Rattle.blk_blame.proofs.top.sort_stalls.Goals as goal
 
 pub returns : goal.returns
 returns c = record {
   same = c.sort_by_key.ensures.permutation;
-  sorted = c.in_ok-sort_by_key.ensures.sorted stall_key (answers_always _ _ _ (λ f a r g h. search rules));
-  stable = c.sort_by_key.ensures.stable stall_key (answers_always _ _ _ (λ f a r g h. search rules));
+  sorted = c.in_ok-sort_by_key.ensures.sorted (λ x. record { 0 = stall_size x }) (answers_always _ _ _ (λ f a r g h. search rules));
+  stable = c.sort_by_key.ensures.stable (λ x. record { 0 = stall_size x }) (answers_always _ _ _ (λ f a r g h. search rules));
 }

@@ -1,2 +1,0 @@
--- What private functions alone need.
-pub mod Keys
