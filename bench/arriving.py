@@ -53,7 +53,7 @@ def script(text, round="1ms", depth=64, read="500ms", write="5s"):
         if len(order) <= 64:
             break
     else:
-        return "TooMany"
+        return "TooMany: a script has at most 64 submitters, and more processes and processors queue bios, so take less of the capture"
     begin = records[0]["t"] if records else 0
     by_round = {}
     serial = 0
@@ -69,7 +69,7 @@ def script(text, round="1ms", depth=64, read="500ms", write="5s"):
             by_round.setdefault(n, []).append(("unplug", s, None, None))
     rounds = sorted(n for n, events in by_round.items() if any(e[0] == "bio" for e in events))
     if rounds and rounds[-1] > 1_000_000:
-        return "TraceFull"
+        return "TraceFull: a bio comes in after round 1000000, so take a longer --round"
     steps = []
     if rounds and rounds[0] > 0:
         steps.append(f"run,{rounds[0]},,,,")
@@ -89,7 +89,7 @@ def script(text, round="1ms", depth=64, read="500ms", write="5s"):
         after = rounds[place + 1] - n if place + 1 < len(rounds) else serial
         steps.append(f"run,{after},,,,")
     if len(steps) > 999_998:
-        return "TooLong"
+        return "TooLong: a script has at most 999998 steps, so take a longer --round or less of the capture"
     head = [f"blk-script,2,{depth},1,64,{max(1, len(order))}", f"setup,{expiries[0]},{expiries[1]},2560,128,"]
     return "\n".join(head + steps) + "\n"
 

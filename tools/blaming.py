@@ -7,19 +7,24 @@
     tools/blaming.py FILE..      these captures
 
 The captures, their options and their requests are those of tools/matching.py. Of each capture `blame` is asked for the whole, for all of it
-and for each late request, in lines. What can be on time is found by matching requests to dispatches one by one, each along a path that
-frees a place, and not in the order of the due rounds.
+and for each late request, in lines, for its certificate, and for the tightest deadlines of reads and of writes. What can be on time is found by
+matching requests to dispatches one by one, each along a path that frees a place, and not in the order of the due rounds; the tightest deadlines
+among the differences of a dispatch and of when a request came in, each tried by what would be imported with it.
 
 Prints what is wrong, and as the last line 'N passed, M failed', counted in texts. Ends with 0 where none failed, 1 where one did, 2
 where a word is neither a number nor a file, and 3 where the program isn't there.
 """
+import copy
 import signal
+import subprocess
 import sys
 from bisect import bisect_left, bisect_right
 
 sys.dont_write_bytecode = True
 
-from cases import ended
+from dataclasses import replace
+
+from cases import PROGRAM, SECONDS, ended
 from matching import Told, captures_of, command, run_of, text_of, waits
 
 EACH = "id,pid,dir,first,sectors,wait,overrun,cause,from,until"
@@ -151,18 +156,28 @@ class Blame:
         """How long requests were in each stage, by direction."""
         yield ""
         yield "stages, in ms:"
-        yield "stage dir     count         p50         p99         max"
-        for name, ends in (
+        yield "stage dir     count         p50         p99         max   share"
+        stages = (
             ("Q2G", lambda it: (it.opener.queued, it.got)),
             ("G2I", lambda it: (it.got, it.inserted)),
             ("I2D", lambda it: (it.inserted, it.went)),
             ("D2C", lambda it: (it.went, it.completed)),
             ("Q2C", lambda it: (it.opener.queued, it.completed)),
-        ):
+        )
+        for name, ends in stages:
             for way in "RW":
                 pairs = [ends(it) for it in self.taken if it.span[0] == way]
                 count = sum(None not in it for it in pairs)
-                yield f"{name:<6}{way:<4}{count:>9}" + "".join(f"{it:>12}" for it in spread(pairs))
+                told = "".join(f"{it:>12}" for it in spread(pairs))
+                yield f"{name:<6}{way:<4}{count:>9}{told}{self.share(way, ends):>8}"
+
+    def share(self, way, ends):
+        """The share that a stage has of the whole way of the requests of a direction, of those whose whole way is known."""
+        done = [it for it in self.taken if it.span[0] == way and it.completed is not None]
+        between = lambda since, until: 0 if None in (since, until) else max(until - since, 0)
+        whole = sum(between(it.opener.queued, it.completed) for it in done)
+        share = 1000 * sum(between(*ends(it)) for it in done) // whole if whole else None
+        return "none" if share is None else f"{share // 10}.{share % 10}"
 
     def hurt(self):
         """The processes that have late requests, the most late ones first, and then by their numbers."""
@@ -221,11 +236,61 @@ class Blame:
             told = (way, low, high - low, ms(wait), ms(it.went - self.deadlines[place]), cause, since, until)
             yield ",".join(map(str, (place + 1, it.pid, *told)))
 
+    def spans_after(self, way, time):
+        """The spans of dispatches where the requests of a direction are due that long after they came in."""
+        told = copy.copy(self.told)
+        told.asked = replace(told.asked, **{"read" if way == "R" else "write": time})
+        return [(low, bisect_right(self.times, told.deadline(it))) for (low, _), it in zip(self.spans, self.taken)], told
+
+    def tightest(self, way, share):
+        """The least times after which the requests of a direction are due so that no more are late than a share leaves: with no more of the others
+        late than have to be, and whatever becomes of these."""
+        own = [place for place, it in enumerate(self.taken) if it.span[0] == way]
+        rest = [place for place, it in enumerate(self.taken) if it.span[0] != way]
+        _, told = self.spans_after(way, 0)
+        came_in = [told.deadline(self.taken[place]) for place in own]
+        times = sorted({0, *(went - came for went in self.times for came in came_in if went > came)})
+        allowed = (100 - share) * len(own) // 100
+
+        def fewest(time, is_alone):
+            spans, _ = self.spans_after(way, time)
+            late = lambda places: len(places) - most_on_time([spans[place] for place in places])
+            return late(own) if is_alone else late([*own, *rest]) - late(rest)
+
+        yield f"{way} {len(own)} requests, of which {allowed} may be late"
+        for is_alone, where in ((False, "with no more of the others late than have to be"), (True, "whatever becomes of the others")):
+            found = times[bisect_left(times, True, key=lambda time: fewest(time, is_alone) <= allowed)]
+            yield f"due after {found} ns, {where}"
+
+    def wrongs(self, certificate):
+        """What is wrong with a certificate of how many can be on time."""
+        title, *records = (line.split(",") for line in certificate.splitlines())
+        (word, met, count, _), records = records[0], records[1:]
+        windows = [(int(low), int(high)) for _, low, high, _ in records[: int(count)]]
+        commands = [tuple(map(int, it)) for it in records[int(count) :]]
+        rounds = [at for *_, at in commands]
+        can = [(low, high) for _, low, high, _ in commands if low <= high]
+        outside = sum(not any(since <= low and high <= until for since, until in windows) for low, high in can)
+        if (title, word) != (["blk-met", "1", "1", str(len(self.taken))], "met"):
+            yield "    another title\n"
+        if [it[:3] for it in commands] != [(place + 1, *span) for place, span in enumerate(self.spans)]:
+            yield "    other commands\n"
+        if len(set(rounds)) < len(rounds) or any(at < low for _, low, _, at in commands):
+            yield "    a schedule that isn't legal\n"
+        if sum(at <= high for _, _, high, at in commands) != int(met) or int(met) != most_on_time(self.spans):
+            yield "    another number on time\n"
+        if any(one[1] >= other[0] for one, other in zip(windows, windows[1:])):
+            yield "    windows that aren't disjoint\n"
+        if sum(until - since + 1 for since, until in windows) + outside != int(met):
+            yield "    another bound\n"
+
     def texts(self):
         lines = lambda it: "".join(f"{line}\n" for line in it)
         yield [], lines(self.whole(10))
         yield ["--all"], lines(self.whole(len(self.taken)))
         yield ["--each"], lines(self.each())
+        yield ["--tightest", "99%"], lines(self.tightest("R", 99))
+        yield ["--tightest", "80%", "--for", "writes"], lines(self.tightest("W", 80))
 
 
 def checked(given):
@@ -234,10 +299,14 @@ def checked(given):
     text = text_of(records)
     told = Told(records, asked)
     said = "".join(told.doubts()) + told.said()
-    found = []
-    for words, written in Blame(told).texts():
+    found, blame = [], Blame(told)
+    for words, written in blame.texts():
         words = [*asked.words(), *words]
         found.append((f"{name}, blame {' '.join(words)}", run_of("blame", words, text, written, said)))
+    words = [*asked.words(), "--certificate"]
+    written = subprocess.run([PROGRAM, "blame", *words], input=text.encode(), capture_output=True, timeout=SECONDS).stdout.decode()
+    told_of = "".join(blame.wrongs(written)) + run_of("blame", words, text, written, said)
+    found.append((f"{name}, blame {' '.join(words)}", told_of))
     return found
 
 

@@ -132,12 +132,16 @@ def in_ms(value, word=""):
 
 
 def blamed(words, texts):
-    """An object of numbers, of times as they stand and of words."""
-    read = lambda word, it: None if it in ("none", "") else it if word in (*TIMES, "dir", "cause", "stage") else int(it)
+    """An object of numbers, of times as they stand, of shares in thousandths and of words."""
+    plain = lambda word, it: int(it.replace(".", "") if word == "share" else it)
+    read = lambda word, it: None if it in ("none", "") else it if word in (*TIMES, "dir", "cause", "stage") else plain(word, it)
     return {word: read(word, it) for word, it in zip(words, texts, strict=True)}
 
 
 def of_blame(lines):
+    if re.match("[RW] ", lines[0]):
+        form = r"([RW]) (\d+) requests, of which (\d+) may be late\ndue after (\S+) ns, .*\ndue after (\S+) ns, .*"
+        return blamed(("dir", "requests", "allowed", "beside", "alone"), re.fullmatch(form, "\n".join(lines)).groups())
     if lines[0].startswith("id,"):
         head, *rows = (line.split(",") for line in lines)
         return {"late": [blamed(head, row) for row in rows]}
@@ -172,7 +176,7 @@ def form_of(case):
     word = case.args[0] if case.args else b""
     if word == b"oracle" and b"--trace" not in case.args or word == b"load" and b"--trace" in case.args:
         return None
-    if word == b"replay" and b"--sched" in case.args:
+    if word == b"replay" and b"--sched" in case.args or word == b"blame" and b"--certificate" in case.args:
         return None
     return FORMS.get(word)
 

@@ -8,18 +8,20 @@
 
 Of each trace: the setup is that of the words; each bio of each submitter came in once, with its sectors and its direction, and those
 of a submitter in their order; no round has more commands than the depth or ends with fewer; no more commands are in flight than there
-are workers, and under `none` and `kyber` no more of a hardware queue than it has workers; each command that went out is what a model of
-the scheduler chooses then, which is the rule of its own page said once more, without the program; devices were busy just at each so
-many-th run of their own; each command was done once, and nothing waits. Other subcommands then read the trace, and the three lines of
-the same load without `--trace` say that all was served. With `--service` the load takes the time that its devices need at least.
+are workers, and under `none` and `kyber` no more of a hardware queue than it has workers; submitters' requests come in by whole plugs; each
+command that went out is what a model of the scheduler chooses then, which is the rule of its own page said once more, without the program; devices
+were busy just at each so many-th run of their own; each command was done once, and nothing waits. Other subcommands then read the trace, and
+the three lines of the same load without `--trace` say that all was served. With `--service` the load takes the time that its devices need at
+least.
 
-Of the loads of a list of their own, besides: submitters came in by turns, and not one after the other; a drain found several requests of one
-submitter; more commands were in flight than there are submitters; and devices took no more than their time, by the fastest of three runs.
+Of the loads of a list of their own, besides: submitters came in by turns, and not one after the other; more commands were in flight than there
+are submitters; and devices took no more than their time, by the fastest of three runs.
 
 Prints what is wrong, and as the last line 'N passed, M failed'. Ends with 0 where none failed, 1 where one did, 2 where a word names no
 load, and 3 where the program isn't there.
 """
 import argparse
+import itertools
 import random
 import subprocess
 import sys
@@ -57,16 +59,15 @@ LOADS["deadline_positions"] = "--sched deadline --submitters 6 --workers 3 --bio
 LOADS["earliest_late_last"] = "--sched earliest --late-last --submitters 6 --workers 3 --bios 200 --depth 2 --busy 6"
 LOADS["none_served"] = "--sched none --submitters 4 --workers 4 --bios 50 --depth 64 --service 1000"
 
-# What is looked at beside the rest: that submitters come in by turns; that one flush of a submitter comes in at once; that more workers
-# than there are submitters have a command each; and by how much longer a load may take than its one device does.
+# What is looked at beside the rest: that submitters come in by turns; that more workers than there are submitters have a command each; and
+# by how much longer a load may take than its one device does.
 LOADS["none_by_turns"] = "--sched none --submitters 4 --workers 2 --bios 2000 --depth 64"
-LOADS["none_by_plugs"] = "--sched none --submitters 2 --workers 2 --bios 2000 --depth 64"
 LOADS["none_all_workers"] = "--sched none --submitters 2 --workers 8 --bios 40 --depth 64 --service 10000"
 LOADS["none_paced"] = "--sched none --submitters 1 --workers 1 --bios 1000 --depth 64 --service 900"
 LOADS["none_paced_busy"] = "--sched none --submitters 1 --workers 1 --bios 40 --depth 64 --busy 2 --service 20000"
-BY_TURNS, BY_PLUGS, ALL_WORKERS, PACED = {"none_by_turns"}, {"none_by_plugs"}, {"none_all_workers"}, {"none_paced", "none_paced_busy"}
-# Of so many requests that follow on one another, all of one submitter, a longest row has at least as many as this: a plug has 32.
-PLUG = 8
+BY_TURNS, ALL_WORKERS, PACED = {"none_by_turns"}, {"none_all_workers"}, {"none_paced", "none_paced_busy"}
+# A plug has so many bios, and a software queue has room for those of two plugs; either is emptied at once.
+PLUG = 32
 LONGER, RUNS = 1.6, 3
 
 # How many bios all submitters of a drawn load have together at most, since the models look at all that waits for each command.
@@ -305,7 +306,7 @@ class Replay:
         self.requests, self.waiting, self.flying = {}, {}, {}
         self.held, self.serials, self.done_ids = defaultdict(list), Counter(), set()
         self.runs = defaultdict(list)
-        self.most_flying, self.row, self.rows = 0, None, [0]
+        self.most_flying = 0
 
     def release(self, record):
         asked, number, bio = self.asked, int(record[1]), record[6]
@@ -364,19 +365,9 @@ class Replay:
         self.round, self.used = self.round + 1, set()
         self.model.tick(self.round)
 
-    def note(self, record):
-        """Notes how many are in flight at most, and how long the rows of releases are that follow on one another, all of one submitter."""
-        self.most_flying = max(self.most_flying, len(self.flying))
-        came = int(record[6][0]) if record[0] == "release" else None
-        if came is not None and came == self.row:
-            self.rows[-1] += 1
-        elif came is not None:
-            self.rows.append(1)
-        self.row = came
-
     def take(self, record):
         {"release": self.release, "issue": self.issue, "done": self.end, "back": self.end, "tick": self.tick}[record[0]](record)
-        self.note(record)
+        self.most_flying = max(self.most_flying, len(self.flying))
 
 
 def look_at_backs(asked, replay):
@@ -394,12 +385,19 @@ def look_at_backs(asked, replay):
             wants(0 <= rest <= workers * (asked.busy - 1), "queue", queue, "devices were busy", backs, "times in", len(runs), "runs")
 
 
+def look_at_plugs(asked, events):
+    """Requests of one submitter that follow on one another are those of whole plugs, up to its last bio."""
+    for came, row in itertools.groupby(events, lambda it: it[6][0] if it[0] == "release" else None):
+        serials = [int(it[6][1]) for it in row if came is not None]
+        whole = len(serials) % PLUG == 0 or serials[-1] == asked.bios - 1
+        wants(whole, "submitter", came, "came in by", len(serials), "requests, up to its bio", serials[-1:])
+
+
 def look_at_threads(name, asked, events, replay):
     """What a load has to show of its threads: how its submitters came in, and how many of its workers had a command at once."""
     came = [int(record[6][0]) for record in events if record[0] == "release"]
     turns = 1 + sum(one != other for one, other in zip(came, came[1:]))
     wants(name not in BY_TURNS or turns > 2 * asked.submitters, "the submitters came in one after the other:", turns, "turns")
-    wants(name not in BY_PLUGS or max(replay.rows) >= PLUG, "no submitter came in with more at once than", max(replay.rows))
     wants(name not in ALL_WORKERS or replay.most_flying > asked.submitters, "in flight at once were", replay.most_flying)
 
 
@@ -409,6 +407,7 @@ def look_at(asked, text, name=""):
     events = read_events(asked, text)
     for record in events:
         replay.take(record)
+    look_at_plugs(asked, events)
     look_at_threads(name, asked, events, replay)
     wants(all(replay.serials[it] == asked.bios for it in range(asked.submitters)), "bios that came in:", dict(replay.serials))
     wants(not replay.waiting and not replay.flying and not any(replay.held.values()), "something isn't served")

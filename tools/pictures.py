@@ -11,6 +11,9 @@ its class; or, where a column stands for several rounds, that each column has th
 as the trace says; that each window has the two numbers that its commands and its rounds give, with those of the heading, and below it
 where they are few; and by how many rounds the axis counts.
 
+Of more than 400 rounds those columns are drawn in which a late request waits or goes out, by the first step that makes them few enough: of
+these it looks at all of that, and that broken lines stand where others are cut.
+
 Prints what is wrong, and as the last line 'N passed, M failed'. Ends with 0 where none failed, and with 1 where one did.
 """
 import copy
@@ -22,6 +25,7 @@ import signal
 import sys
 import xml.etree.ElementTree as ET
 from collections import Counter
+from bisect import bisect_left
 from itertools import accumulate
 
 sys.dont_write_bytecode = True
@@ -32,7 +36,7 @@ from traces import Trace
 
 SVG = "{http://www.w3.org/2000/svg}"
 ELEMENTS = {"svg", "style", "defs", "pattern", "path", "rect", "g", "text", "title"}
-LEFT, ABOVE, LABELLED = 64, 182, 12
+LEFT, ABOVE, LABELLED, COLUMNS = 64, 182, 12, 400
 # The words that read a trace and look at it: all that do by the table in docs/FORMATS.md, but what draws it and what takes its commands.
 LOOKED_AT = [it.encode().split() for it in command_line.that_read("a trace") if it not in ("picture", "commands")]
 
@@ -72,6 +76,30 @@ class Drawn(Trace):
     def carried(self, first, last):
         """What the rounds from one to another carry; after the last one each carries as much as that would."""
         return sum(self.depths[first : last + 1]) + self.beyond * max(0, last - max(first, self.rounds) + 1)
+
+
+class Layout:
+    """Which columns of a trace are drawn: all, or those in which a late request waits or goes out."""
+
+    def __init__(self, trace):
+        self.rounds = trace.rounds
+        self.per = max(1, -(-trace.rounds // COLUMNS))
+        self.all = -(-trace.rounds // self.per)
+        self.shown, self.cut = list(range(self.all)), False
+        late = [it for it in trace.issues if it.late and not it.back]
+        steps = (m * 10**k for k in range(5) for m in (1, 2, 5))
+        for step in () if self.per == 1 else (it for it in steps if it < self.per):
+            kept = {c for it in late for c in range(it.request.release // step, it.round // step + 1)}
+            if 0 < len(kept) <= COLUMNS:
+                self.per, self.all, self.shown, self.cut = step, -(-trace.rounds // step), sorted(kept), True
+                break
+
+    def place(self, column):
+        """Where a column is drawn, or would be."""
+        return bisect_left(self.shown, column)
+
+    def column(self, round_):
+        return min(round_, self.rounds - 1) // self.per
 
 
 def numbers(element, *names):
@@ -120,14 +148,15 @@ def look_at_frame(part):
             hold(all(a[1] <= b[0] for a, b in zip(spans, spans[1:])), f"a part of column {x} over another")
 
 
-def look_at_boxes(part, trace, wide, tall):
+def look_at_boxes(part, trace, layout, wide, tall):
     seen = {}
     for box in boxes_of(part):
         x, y = numbers(box, "x", "y")
         hold((x - LEFT) % wide == 0 and (y - ABOVE) % tall == 0, "a box between two rounds or tags")
-        seen[(x - LEFT) // wide, (y - ABOVE) // tall] = box
-    hold(len(seen) == len(trace.issues), f"{len(seen)} boxes and {len(trace.issues)} Issues")
-    for issue in trace.issues:
+        seen[layout.shown[(x - LEFT) // wide], (y - ABOVE) // tall] = box
+    drawn = [it for it in trace.issues if it.round in set(layout.shown)] if layout.cut else trace.issues
+    hold(len(seen) == len(drawn), f"{len(seen)} boxes and {len(drawn)} Issues")
+    for issue in drawn:
         box, it = seen.get((issue.round, issue.tag)), issue.request
         hold(box is not None, f"no box in round {issue.round} under tag {issue.tag}")
         hold(box.get("class") == trace.class_of(issue), f"the class of request {it.id}")
@@ -137,11 +166,13 @@ def look_at_boxes(part, trace, wide, tall):
         hold(box.find(SVG + "title").text == want, f"the title of request {it.id}: {box.find(SVG + 'title').text}")
 
 
-def look_at_columns(frame, trace, per):
+def look_at_columns(frame, trace, layout):
     _, _, columns, whole = map(int, frame.get("viewBox").split())
-    want = [Counter() for _ in range(columns)]
+    per, want = layout.per, [Counter() for _ in range(columns)]
+    places = {column: place for place, column in enumerate(layout.shown)}
     for issue in trace.issues:
-        want[issue.round // per][trace.kind_of(issue)] += 1
+        if issue.round // per in places:
+            want[places[issue.round // per]][trace.kind_of(issue)] += 1
     for rect in frame.iter(SVG + "rect"):
         kind = rect.get("class")
         if kind in "rwmb":
@@ -150,45 +181,54 @@ def look_at_columns(frame, trace, per):
             del want[x][kind]
         elif kind == "g":
             x, y, h = numbers(rect, "x", "y", "height")
-            room = trace.carried(x * per, min((x + 1) * per, trace.rounds) - 1)
+            low = layout.shown[x] * per
+            room = trace.carried(low, min(low + per, trace.rounds) - 1)
             hold((y, y + h) == (room, whole), f"what column {x} does not carry")
     hold(not any(want), "a column is missing")
+    names = [int(it.find(SVG + "title").text.split()[1].rstrip(":")) for it in frame.findall(SVG + "g")]
+    hold(names == layout.shown, "the numbers of the columns")
 
 
-def look_at_strip(strip, trace, per):
+def look_at_strip(strip, trace, layout):
     reads, writes = trace.waiting_in("R"), trace.waiting_in("W")
-    _, _, columns, _ = map(int, strip.get("viewBox").split())
     told = {"r": {}, "w": {}}
     for rect in strip.iter(SVG + "rect"):
         if rect.get("class") in told:
             told[rect.get("class")][int(rect.get("x"))] = int(rect.get("height"))
-    for x in range(columns):
+    for x, column in enumerate(layout.shown):
         for kind, waits in (("r", reads), ("w", writes)):
-            want = max(waits[x * per:(x + 1) * per])
+            want = max(waits[column * layout.per:(column + 1) * layout.per])
             hold(told[kind].get(x) == want, f"{told[kind].get(x)} of {kind} wait in column {x} and not {want}")
 
 
-def look_at_windows(part, trace, per, wide):
+def look_at_cut(part, layout):
+    """The heading says how many columns are cut, with nothing late in them; broken lines stand where they are."""
+    told = [it for it in part_texts(part) if it.startswith("cut at broken lines")]
+    want = f"cut at broken lines: {layout.all - len(layout.shown)} of {layout.all} columns, with 0 late"
+    hold(told == ([want] if layout.cut else []), f"the line {told}")
+
+
+def look_at_windows(part, trace, layout, wide):
     served = trace.served
     heading = part_texts(part)
     report = dict(re.findall(r"(commands|waiting|depth|least|load) (-?\d+|none)", heading[1]))
     late, unavoidable, avoidable, spare, told_per = map(int, re.findall(r"\d+", heading[2]))
-    hold(told_per == per, "how many rounds a column is")
+    hold(told_per == layout.per, "how many rounds a column is")
     hold(int(report["commands"]) == len(served) and int(report["depth"]) == trace.depth, "the report's counts")
     hold(late == sum(it.issue > it.due for it in served) and late == unavoidable + avoidable, "how many were late")
     hold(avoidable <= spare <= late, "what could have been avoided")
     (below,) = [it for it in part.findall(SVG + "g") if it.get("transform").startswith("translate(0,")]
-    look_at_axis(below, trace, per, wide)
+    (look_at_cut_axis if layout.cut else look_at_axis)(below, layout, wide)
     look_at_labels(below)
     bound, outside, before = 0, set(range(len(served))), -1
-    brackets = [it for it in below.findall(SVG + "path") if it.find(SVG + "title") is not None]
+    brackets = [it for it in below.findall(SVG + "path") if it.get("class") in ("k", "q") and it.find(SVG + "title") is not None]
     hold(sum(it.get("class") == "q" for it in brackets) == (1 if served else 0), "the crowded window")
     for bracket in brackets:
         title = bracket.find(SVG + "title").text
         first, last, commands, room = map(int, re.findall(r"\d+", title))
         x, to = map(int, re.match(r"M(\d+) .*H(\d+)", bracket.get("d")).groups())
-        ends = [min(it, trace.rounds - 1) // per for it in (first, last)]
-        hold([x, to] == [LEFT + wide * ends[0], LEFT + wide * (ends[1] + 1)], f"the bracket of {title}")
+        low, high = layout.place(layout.column(first)), layout.place(layout.column(last) + 1)
+        hold([x, to] == [LEFT + wide * low, LEFT + wide * high], f"the bracket of {title}")
         if bracket.get("class") == "q":
             load = sum(first <= it.release and it.due <= last for it in served)
             hold(commands == load and int(report["load"]) == load, f"the load of {title}")
@@ -205,19 +245,42 @@ def look_at_windows(part, trace, per, wide):
         hold(bound + unavoidable == len(served), f"the windows leave {len(served) - bound} late and not {unavoidable}")
 
 
-def look_at_axis(below, trace, per, wide):
-    """The axis counts by 1, 2 or 5 times a power of ten, the first of these by which it has at most 24 steps."""
-    step = next(it for it in (m * 10**k for k in range(12) for m in (1, 2, 5)) if trace.rounds <= 24 * it)
-    want = [(round_, LEFT + wide * (round_ // per)) for round_ in range(0, trace.rounds, step)]
+def ticks_of(below):
+    """The numbers of the axis, and the places of its marks."""
     told = [(int(it.text), int(it.get("x"))) for it in below.findall(SVG + "text") if it.get("class") == "s c"]
+    marks = [int(it[1]) for it in (re.fullmatch(r"M(\d+) 0v5", path.get("d")) for path in below.findall(SVG + "path")) if it]
+    hold(marks == [x for _, x in told], "the marks of the axis")
+    return told
+
+
+def look_at_axis(below, layout, wide):
+    """The axis counts by 1, 2 or 5 times a power of ten, the first of these by which it has at most 24 steps."""
+    step = next(it for it in (m * 10**k for k in range(12) for m in (1, 2, 5)) if layout.rounds <= 24 * it)
+    want = [(round_, LEFT + wide * (round_ // layout.per)) for round_ in range(0, layout.rounds, step)]
+    told = ticks_of(below)
     hold(told == want, f"the axis counts {told[:4]} .. and not {want[:4]} ..")
-    marks = [int(re.fullmatch(r"M(\d+) 0v5", it.get("d")).group(1)) for it in below.findall(SVG + "path") if it.find(SVG + "title") is None]
-    hold(marks == [x for _, x in want], "the marks of the axis")
+
+
+def look_at_cut_axis(below, layout, wide):
+    """Each number of the axis is the round by which its column begins, and broken lines stand where columns are cut."""
+    told = ticks_of(below)
+    hold(told and told[0][0] == layout.shown[0] * layout.per, "the first number of the axis")
+    for round_, x in told:
+        hold(round_ == layout.shown[(x - LEFT) // wide] * layout.per, f"the number {round_} of the axis")
+    next_ones = [0, *(it + 1 for it in layout.shown)]
+    want = [
+        (LEFT + wide * place, f"rounds {low * layout.per} to {column * layout.per - 1} are cut")
+        for place, (low, column) in enumerate(zip(next_ones, layout.shown))
+        if low < column
+    ]
+    broken = [it for it in below.findall(SVG + "path") if it.get("class") == "z"]
+    drawn = [(int(re.match(r"M(\d+) ", it.get("d"))[1]), it.find(SVG + "title").text) for it in broken]
+    hold(drawn == want, f"the broken lines {drawn[:2]} .. and not {want[:2]} ..")
 
 
 def look_at_labels(below):
     """The crowded window has its numbers below it, and those of misses have where they are at most 12."""
-    brackets = [it for it in below.findall(SVG + "path") if it.find(SVG + "title") is not None]
+    brackets = [it for it in below.findall(SVG + "path") if it.get("class") in ("k", "q") and it.find(SVG + "title") is not None]
     few = sum(it.get("class") == "k" for it in brackets) <= LABELLED
     want = []
     for it in brackets:
@@ -231,19 +294,21 @@ def look_at_labels(below):
 
 def look_at_trace(part, trace):
     strip, frame = frames_of(part)
+    layout = Layout(trace)
     _, _, columns, whole = map(int, frame.get("viewBox").split())
     wide, tall = int(frame.get("width")) // columns, int(frame.get("height")) // trace.depth
-    per = max(1, -(-trace.rounds // 400))
-    hold(columns == -(-trace.rounds // per) and whole == per * trace.depth, "how many columns there are")
-    if per == 1:
-        look_at_boxes(part, trace, wide, tall)
+    hold(columns == len(layout.shown) and whole == layout.per * trace.depth, "how many columns there are")
+    look_at_cut(part, layout)
+    if layout.per == 1:
+        look_at_boxes(part, trace, layout, wide, tall)
         grey = {int(it.get("x")): numbers(it, "y", "height") for it in frame.iter(SVG + "rect") if it.get("class") == "g"}
-        want = {r: [d, trace.depth - d] for r, d in enumerate(trace.depths) if d < trace.depth}
+        depths = [trace.depths[it] for it in layout.shown]
+        want = {place: [d, trace.depth - d] for place, d in enumerate(depths) if d < trace.depth}
         hold(grey == want, "the depths of the rounds")
     else:
-        look_at_columns(frame, trace, per)
-    look_at_strip(strip, trace, per)
-    look_at_windows(part, trace, per, wide)
+        look_at_columns(frame, trace, layout)
+    look_at_strip(strip, trace, layout)
+    look_at_windows(part, trace, layout, wide)
 
 
 def look_at(text, trace):

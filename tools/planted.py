@@ -51,13 +51,14 @@ def plant(top, edit):
 
 
 def failed_tests(folder):
-    """The tests of a crate that fail, and those that pass."""
+    """The tests of a crate that fail, and those that pass; of several of one name, any that fails."""
     words = ["rt", "try", "--test", "--seconds", str(SECONDS)]
     ran = subprocess.run(words, cwd=folder, stdin=subprocess.DEVNULL, capture_output=True, text=True, check=False)
-    told = dict(re.findall(r"(?m)^test (?:\S+::)?(\w+) \.\.\. (ok|FAILED)$", ran.stdout))
+    told = re.findall(r"(?m)^test (?:\S+::)?(\w+) \.\.\. (ok|FAILED)$", ran.stdout)
     if not told:
         raise Fault(f"no test ran: {(ran.stdout + ran.stderr).strip().splitlines()[-1:]}")
-    return {it for it, how in told.items() if how == "FAILED"}, {it for it, how in told.items() if how == "ok"}
+    failed = {it for it, how in told if how == "FAILED"}
+    return failed, {it for it, _ in told} - failed
 
 
 def failed_loads(top, names):

@@ -9,12 +9,13 @@
                                  what `replay` has to write of a capture with these options
 
 The requests of a capture are those of the model in tools/matching.py, the choices of each scheduler those of the models in tools/loads.py; how
-many are late in any order comes from a greedy choice round by round. Settings, expiries and orders are drawn too.
+many are late in any order comes from a greedy choice round by round. Settings, expiries and orders are drawn too, and grids of them.
 
 Prints what is wrong, and as the last line 'N passed, M failed'. Ends with 0 where none failed, 1 where one did, 2 where a word is neither a
 number nor a file, and 3 where the program isn't there.
 """
 import heapq
+import itertools
 import math
 import os
 import random
@@ -32,6 +33,17 @@ import matching
 COUNT, SEED = 100, 1
 HEAD = "sched,settings,late,late_reads,late_writes,unavoidable,avoidable,greatest,read_p50,read_p99,read_max,write_p50,write_p99,write_max"
 UNITS = {"ns": 1, "us": 10**3, "ms": 10**6, "s": 10**9}
+# what a grid tries of a setting where its option lists nothing, and of the scheduler
+TRIED = {
+    "fifo-batch": "1,2,4,8,16,32,64",
+    "writes-starved": "0,1,2,4,8",
+    "no-front-merges": "on,off",
+    "positions": "each",
+    "read-target": "1,2,5,10,20,50,100",
+    "write-target": "1,2,5,10,20,50,100",
+    "late-last": "on,off",
+}
+IN_TURN = ("none", "earliest", "deadline", "kyber")
 SETTINGS = {
     "deadline": (("fifo_batch", "fifo-batch", "16"), ("writes_starved", "writes-starved", "2"), ("front_merges", "no-front-merges", "on"), ("positions", "positions", "each")),
     "kyber": (("read_target", "read-target", "2"), ("write_target", "write-target", "10")),
@@ -61,12 +73,28 @@ class Words:
         self.asked = matching.Asked(
             time("read-expire", "500ms"), time("write-expire", "5s"), self.given.get("from") == "queue", time("skip", "0s"), int(first) if first else None
         )
-        self.fifo = {"R": time("fifo-read-expire", "500ms"), "W": time("fifo-write-expire", "5s")}
+        times = lambda name, default: [nanoseconds(it) for it in self.given.get(name, default).split(",")]
+        self.fifos = [{"R": read, "W": write} for read in times("fifo-read-expire", "500ms") for write in times("fifo-write-expire", "5s")]
+        self.grid = "grid" in self.flags
         self.by = self.given.get("by", "late")
         self.top = int(self.given["top"]) if "top" in self.given else None
 
     def plans(self):
-        """The schedulers of the rows, each with its settings by the names of their options."""
+        """The replays of the rows: a scheduler, its settings by the names of their options, and the expiries by which it goes."""
+        if not self.grid:
+            yield from ((sched, own, self.fifos[0]) for sched, own in self.each())
+            return
+        asked = self.given.get("sched", ",".join(IN_TURN)).split(",")
+        for sched in (it for it in IN_TURN if it in asked):
+            options = [option for _, option, _ in SETTINGS[sched]]
+            lists = [(TRIED[it] if it in ("no-front-merges", "late-last") else self.given.get(it, TRIED[it])).split(",") for it in options]
+            for values in itertools.product(*lists):
+                # only deadline has FIFO lists
+                for fifo in self.fifos if sched == "deadline" else self.fifos[:1]:
+                    yield sched, dict(zip(options, values)), fifo
+
+    def each(self):
+        """The schedulers of the rows without a grid, each with its settings by the names of their options."""
         yield "none", {}
         yield "deadline", {"positions": "one"}
         yield "deadline", {"positions": "each"}
@@ -135,15 +163,15 @@ class Replays:
                 served += 1
         return served
 
-    def due(self, sched, place):
-        """The round in which a request is due in a scheduler."""
+    def due(self, sched, fifo, place):
+        """The round in which a request is due in a scheduler that goes by these expiries."""
         if sched == "earliest":
             return self.dues[place]
         request = self.requests[place]
-        expires = min(self.told.entry(request) + self.words.fifo[request.span[0]], matching.LAST_TIME)
+        expires = min(self.told.entry(request) + fifo[request.span[0]], matching.LAST_TIME)
         return bisect_left(self.times, expires) + 1
 
-    def rounds(self, sched, settings):
+    def rounds(self, sched, settings, fifo):
         """The round of each request under a scheduler."""
         asked = Model(sched, settings)
         model = loads.MODELS[sched](asked)
@@ -153,7 +181,7 @@ class Replays:
         for now in range(1, len(order) + 1):
             while number < len(order) and self.releases[order[number]] == now:
                 place = order[number]
-                waiting.append(Waiting(number, place, self.requests[place], now, self.due(sched, place)))
+                waiting.append(Waiting(number, place, self.requests[place], now, self.due(sched, fifo, place)))
                 number += 1
             picked = model.pick(waiting, 0, now)
             model.picked(picked)
@@ -181,7 +209,7 @@ class Replays:
 
     def one(self, sched):
         """The schedule of the replay under a scheduler, or its table."""
-        rounds = self.rounds(sched, list(self.words.settings(sched, {})))
+        rounds = self.rounds(sched, list(self.words.settings(sched, {})), self.words.fifos[0])
         if "table" not in self.words.flags:
             yield f"blk-schedule,1,1,{len(rounds)}"
             for place, (release, due, now) in enumerate(zip(self.releases, self.dues, rounds)):
@@ -196,17 +224,19 @@ class Replays:
             yield ",".join(fields)
 
     def lines(self):
-        if "sched" in self.words.given:
+        if "sched" in self.words.given and not self.words.grid:
             yield from self.one(self.words.given["sched"])
             return
         line = lambda row: ",".join("none" if it is None else str(it) for it in row)
         yield HEAD
         yield line(["captured", "-", *self.numbers([it + 1 for it in range(len(self.requests))])])
         rows = []
-        for sched, own in self.words.plans():
+        for sched, own, fifo in self.words.plans():
             settings = list(self.words.settings(sched, own))
-            told = " ".join(f"{name}={value}" for name, _, value in settings) or "-"
-            rows.append([sched, told, *self.numbers(self.rounds(sched, settings))])
+            shown = [f"{name}={value}" for name, _, value in settings]
+            if self.words.grid and sched == "deadline":
+                shown += [f"fifo_read_expire={fifo['R']}", f"fifo_write_expire={fifo['W']}"]
+            rows.append([sched, " ".join(shown) or "-", *self.numbers(self.rounds(sched, settings, fifo))])
         rows.sort(key=self.key)
         yield from map(line, rows if self.words.top is None else rows[: self.words.top])
         best = rows[0]
@@ -217,9 +247,35 @@ class Replays:
         return "".join(f"{it}\n" for it in self.lines())
 
 
+def some_of(draw, values):
+    """Some of these values, in any order, with commas between."""
+    return ",".join(str(it) for it in draw.sample(values, draw.randint(1, len(values))))
+
+
+def grid_of(draw):
+    """Options of a grid, drawn."""
+    words = ["--grid"]
+    for name, some in (("fifo-read-expire", ("0ns", "3ns", "50ns")), ("fifo-write-expire", ("0ns", "9ns", "200ns"))):
+        if draw.random() < 0.6:
+            words += [f"--{name}", some_of(draw, some)]
+    for name, some in (("fifo-batch", (1, 2, 16)), ("writes-starved", (0, 1, 8)), ("read-target", (1, 5)), ("write-target", (1, 7)), ("positions", ("one", "each"))):
+        if draw.random() < 0.7:
+            words += [f"--{name}", some_of(draw, some)]
+    if draw.random() < 0.5:
+        words += ["--sched", some_of(draw, IN_TURN)]
+    if draw.random() < 0.5:
+        words += ["--threads", str(draw.randint(1, 4))]
+    return words
+
+
 def words_of(draw, asked):
     """Options, drawn, beside those of an import."""
     words = asked.words()
+    if draw.random() < 0.3:
+        words += grid_of(draw)
+        if draw.random() < 0.6:
+            words += ["--by", draw.choice(("late", "lateness", "read_p99"))]
+        return words + (["--top", str(draw.randint(1, 7))] if draw.random() < 0.5 else [])
     for name, some in (("fifo-read-expire", (0, 3, 50)), ("fifo-write-expire", (0, 9, 200))):
         if draw.random() < 0.7:
             words += [f"--{name}", f"{draw.choice(some)}ns"]

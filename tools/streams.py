@@ -544,6 +544,43 @@ def progress_at_no_terminal(trials):
             trials.see(name, run(args, piped(stack, text)), wanted)
 
 
+def slowly(rows):
+    """So many rows of a capture, of which the last comes some seconds after the others."""
+    row = b"0,000000001,0,P,1,N,0,0\n"
+    yield b"blk-capture,1,,,,,,\n"
+    for _ in range(rows // 1000):
+        yield 1000 * row
+    time.sleep(4)
+    yield row
+
+
+SUMMARY_OF_PLUGS = [b"import", b"--summary"]
+
+
+@trial
+def lines_read_at_a_terminal(trials):
+    """How much of a long input was read is told where standard error is a terminal, and is gone at the end; of a short one it isn't."""
+    for rows, shows in ((1_000_000, True), (999_000, False)):
+        with contextlib.ExitStack() as stack:
+            ours, theirs = terminal()
+            closing(stack, ours, theirs)
+            ended = run(SUMMARY_OF_PLUGS, fed(stack, slowly(rows)), KEPT, theirs)
+            shown = os.read(ours, PIECE)
+            trials.see(f"{rows} rows", (ended.status, b"plugs %d\n" % (rows + 1) in ended.wrote), (0, True))
+            told = re.match(rb"(?:\r\x1b\[K(\d+) lines read, [2-9] s)+\r\x1b\[K", shown)
+            trials.see(f"{rows} rows, progress", bool(told and int(told[1]) > 1_000_000), shows)
+            still = b"blk: %d of %d records have the time of the one before: waits may be too short\n" % (rows, rows + 1)
+            trials.see(f"{rows} rows, what stays", seen(shown), still + b"blk: 0 requests with all their times: no Q records\n")
+
+
+@trial
+def lines_read_at_no_terminal(trials):
+    with contextlib.ExitStack() as stack:
+        ended = run(SUMMARY_OF_PLUGS, fed(stack, slowly(1_000_000)))
+        trials.see("status", ended.status, 0)
+        trials.see("line", b"lines read" in ended.said, False)
+
+
 @trial
 def line_where_standard_error_is_closed(trials):
     trials.unsaid(lambda stack: None)

@@ -1,14 +1,20 @@
 //! The program `blk`: the standard streams and the words of the command line, handed to `blk_cli::run`, and loads run on its threads.
 #![tactic(auto)]
 
-use blk_cli::Failure;
+mod watching;
+
+use crate::watching::{Counted, Sofar, Watching};
+use blk_cli::{Ended, Failure};
 use blk_lists::Records;
 use blk_load::OnThreads;
-use blk_tune::ProgressLine;
 use drafts::Output;
-use std::io::ErrorKind;
+use std::alloc::Global;
+use std::io::{ErrorKind, Write};
 use std::os::unix::fs::{FileTypeExt, MetadataExt};
 use std::process::ExitCode;
+use std::sync::Wait;
+use std::thread::{Scope, Threads, scope, scope_env};
+use turns::{Progress, ProgressLine};
 use std::{env, fs, io};
 
 /// Whether standard error is a terminal, by the major number of its device: Linux has 4 for consoles and serial lines, 5 for a process's
@@ -21,6 +27,32 @@ fn says_to_a_terminal(rt: &HostRuntime) -> bool {
         }
         Err(_) => false,
     }
+}
+
+/// Runs the program on its words, beside a thread that shows how much of a long input was read where somebody looks.
+fn run_beside<'s, E, R: Threads + Wait + Sync, F: Write>(
+    threads: &'s Scope<'s, E>,
+    rt: &'s R,
+    host: HostRuntime,
+    alloc: Global,
+    words: &[String],
+    sofar: &'s Sofar,
+    faults: &mut Output<F>,
+) -> Ended {
+    let runs = ProgressLine::new(alloc, host, host.stderr(), sofar.is_watched());
+    let mut watching = Watching::new(threads, rt, host, alloc, sofar, runs);
+    let ended = blk_cli::run(
+        &OnThreads { clock: host },
+        rt,
+        alloc,
+        words,
+        &mut Records::new(alloc, Counted::new(host.reader(), sofar)),
+        &mut Output::new(io::writer(&host)),
+        faults,
+        &mut watching,
+    );
+    watching.over();
+    ended
 }
 
 fn main(rt: HostRuntime) -> ExitCode {
@@ -40,16 +72,12 @@ fn main(rt: HostRuntime) -> ExitCode {
     let Ok(words) = args.collect::<Vec<String>>(alloc) else {
         return ExitCode::from(Failure::Memory.say(&mut faults).status);
     };
-    let is_terminal = says_to_a_terminal(&rt);
-    let ended = blk_cli::run(
-        &OnThreads { clock: rt },
-        &rt,
-        alloc,
-        words.as_slice(),
-        &mut Records::new(alloc, rt.reader()),
-        &mut Output::new(io::writer(&rt)),
-        &mut faults,
-        &mut ProgressLine::new(alloc, rt, rt.stderr(), is_terminal),
+    let sofar = Sofar::new(says_to_a_terminal(&rt));
+    let (waits, all, sofar, faults) = (&rt, words.as_slice(), &sofar, &mut faults);
+    let ended = scope(
+        scope_env(),
+        waits,
+        move |threads| run_beside(threads, waits, rt, alloc, all, sofar, faults),
     );
     ExitCode::from(ended.status)
 }

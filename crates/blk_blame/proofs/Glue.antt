@@ -26,10 +26,10 @@ unfolding times_by dispatched_by
 by_is [] t = refl
 by_is (q ∷ qs) t = omega (arith, by_is qs t, sum_by-cons (λ x. cond (nat_le x t) 1 0) q.dispatched (dispatches_of qs), sum_by-cons (λ (r : TimedRequest). cond (nat_le r.dispatch t) 1 0) (times_of q) (map times_of qs))
 
-no_request : TimedRequest
+pub no_request : TimedRequest
 no_request = record { release = 0; deadline = 0; dispatch = 0 }
 
-nobody : CapturedRequest
+pub nobody : CapturedRequest
 nobody = record {
   dir = Read;
   first = 0;
@@ -47,6 +47,17 @@ nobody = record {
   deadline = 0;
   dispatched = 0;
   completed = None;
+}
+
+-- commands that count requests have numbers of their own
+pub taken_in : (rs : List TimedRequest) (commands : List Command) (rounds : List ℕ) → AreInRounds rs commands rounds → length rs ≤ MAX_COMMANDS → AreSolvable commands → IsTaken commands
+taken_in rs commands rounds counted few solvable = record {
+  few = omega (arith, few, counted.a_command);
+  in_range = solvable;
+  distinct = λ j k d below low same.
+      let at_j = ap (λ (c : Command). c.id) (counted.commands_are j no_request d (omega (arith, below, low, counted.a_command))) in
+      let at_k = ap (λ (c : Command). c.id) (counted.commands_are k no_request d (omega (arith, low, counted.a_command))) in
+      omega (arith, below, same, at_j, at_k);
 }
 
 module _ (qs : List CapturedRequest) (commands : List Command) (rounds : List ℕ) (counted : AreInRounds (map times_of qs) commands rounds) where
@@ -70,11 +81,4 @@ module _ (qs : List CapturedRequest) (commands : List Command) (rounds : List �
   }
 
   pub taken : length qs ≤ MAX_COMMANDS → AreSolvable commands → IsTaken commands
-  taken few solvable = record {
-    few = omega (arith, few, one_each);
-    in_range = solvable;
-    distinct = λ j k d below low same.
-        let at_j = ap (λ (c : Command). c.id) (counted.commands_are j no_request d (omega (arith, below, low, counted.a_command))) in
-        let at_k = ap (λ (c : Command). c.id) (counted.commands_are k no_request d (omega (arith, low, counted.a_command))) in
-        omega (arith, below, same, at_j, at_k);
-  }
+  taken few solvable = taken_in (map times_of qs) commands rounds counted (omega (arith, few, length-map qs times_of)) solvable

@@ -3,3 +3,5 @@ pub mod Few
 pub mod Counting
 pub mod Pushing
 pub mod Placing
+pub mod Laxer
+pub mod Serving

@@ -2,6 +2,7 @@ pub mod Names
 pub mod Clock
 pub mod Account
 pub mod Totals
+pub mod Drawing
 pub mod Each
 pub mod EachSaid
 pub mod Hurts
@@ -12,3 +13,5 @@ pub mod StagesSaid
 pub mod Greatest
 pub mod Answers
 pub mod Blamed
+pub mod Tightest
+pub mod TightestSaid

@@ -16,7 +16,7 @@ use edd_figures::{Counts, Crowd};
 use std::alloc::{AllocError, Global};
 
 /// A cell.
-fn cell(layout: Layout, name: &'static str, value: Value) -> Cell
+pub(crate) fn cell(layout: Layout, name: &'static str, value: Value) -> Cell
     ensures { result ≡ cell layout name.now value }
 {
     Cell {
@@ -26,7 +26,7 @@ fn cell(layout: Layout, name: &'static str, value: Value) -> Cell
 }
 
 /// A cell of a number behind words.
-fn count_behind(words: &'static str, name: &'static str, count: u64) -> Cell
+pub(crate) fn count_behind(words: &'static str, name: &'static str, count: u64) -> Cell
     ensures { result ≡ cell (Layout.Words words.now) name.now (Value.Count count) }
 {
     cell(Layout::Words(Word::new(words)), name, Value::Count(count))

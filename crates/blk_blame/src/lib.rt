@@ -6,6 +6,7 @@
 mod account;
 mod answers;
 mod blamed;
+mod drawing;
 mod each;
 mod each_said;
 mod hurts;
@@ -15,13 +16,18 @@ mod processes;
 mod processes_said;
 mod stages;
 mod stages_said;
+mod tightest;
+mod tightest_said;
 mod top;
 mod totals;
 
 pub use crate::account::{Account, account_of};
 pub use crate::blamed::{Findings, blame_answer, each_answer, findings_of};
+pub use crate::drawing::blame_picture;
 pub use crate::each::{LateRequest, lates_of};
 pub use crate::hurts::{Hurt, hurts_of};
 pub use crate::processes::{Process, process_of};
 pub use crate::stages::{Stage, StageRow, stages_of};
+pub use crate::tightest::{Aim, Others, tightest_of};
+pub use crate::tightest_said::tightest_answer;
 pub use crate::totals::{Totals, totals_of};

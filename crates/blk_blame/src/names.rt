@@ -34,6 +34,12 @@ pub const PROCESSES: &str = "processes";
 pub const LEAST: &str = "least";
 /// The most of its late ones that can be on time beside all that were.
 pub const SAVABLE: &str = "savable";
+/// How many requests may be late.
+pub const ALLOWED: &str = "allowed";
+/// After how long requests are due where as few of the others are late as can be.
+pub const BESIDE: &str = "beside";
+/// After how long they are whatever becomes of the others.
+pub const ALONE: &str = "alone";
 /// The median wait.
 pub const WAIT_P50: &str = "wait_p50";
 /// The wait that 99 of 100 don't exceed.
@@ -42,6 +48,8 @@ pub const WAIT_P99: &str = "wait_p99";
 pub const STAGES: &str = "stages";
 /// A stage.
 pub const STAGE: &str = "stage";
+/// How many thousandths of the whole way it is.
+pub const SHARE: &str = "share";
 /// From the queueing of the first bio until it was opened.
 pub const Q2G: &str = "Q2G";
 /// Until it was inserted.

@@ -1,11 +1,11 @@
 //! How long requests were in each stage of their way.
 
-ghost use Rattle.std.specs.Prelude.{◌≡◌, ◌≤◌, IfOk, length};
+ghost use Rattle.std.specs.Prelude.{◌≡◌, ◌≤◌, ◌^◌, IfOk, length};
 ghost use Rattle.std.specs.List.{filter_map};
 ghost use Rattle.edd_commands.specs.declared.TheConstants.{MAX_COMMANDS};
 ghost use Rattle.blk_capture.specs.Summaries.{ArePercentiles};
 ghost use Rattle.blk_capture.specs.Summaries.{until_known};
-ghost use Rattle.blk_blame.specs.Stages.{stage_time, stage_in, IsStageRow, all_stages, AreStageRows};
+ghost use Rattle.blk_blame.specs.Stages.{stage_time, stage_in, way_time, stage_sum, stage_share, IsStageRow, all_stages, AreStageRows};
 
 use crate::percentiles::percentiles_of;
 use blk_bio::Dir;
@@ -36,6 +36,8 @@ pub struct StageRow {
     pub dir: Dir,
     /// How long, in nanoseconds.
     pub times: Percentiles,
+    /// How many thousandths of their whole way those were in it whose whole way is known, all together; none where that took no time.
+    pub share: Option<u64>,
 }
 
 /// How long it is from a time to another, if that is known.
@@ -90,6 +92,46 @@ fn times_in(
         .collect(alloc)
 }
 
+/// How long a request of the direction was in a stage, if its whole way is known.
+fn way_time(dir: Dir, stage: Stage, request: &CapturedRequest) -> u64
+    ensures { result ≡ way_time dir stage request.now }
+{
+    match stage_in(dir, Stage::Whole, request) {
+        Some(_) => stage_in(dir, stage, request).unwrap_or(0),
+        None => 0,
+    }
+}
+
+/// How long those were in it, all together.
+#[tactic(auto, unfolding(crate::specs::Stages::stage_sum))]
+fn stage_sum(requests: &[CapturedRequest], dir: Dir, stage: Stage) -> u128
+    requires { length requests.now ≤ MAX_COMMANDS }
+    ensures value { result ≡ stage_sum requests.now dir stage }
+    ensures small { result ≤ 2 ^ 84 }
+{
+    let mut sum = 0_u128;
+    for request in requests {
+        sum += way_time(dir, stage, request) as u128;
+    }
+    sum
+}
+
+/// How many thousandths of the whole a part is.
+fn stage_share(part: u128, whole: u128) -> Option<u64>
+    requires { part ≤ 2 ^ 84 }
+    ensures { result ≡ stage_share part whole }
+{
+    if whole == 0 {
+        return None;
+    }
+    let share = part * 1_000 / whole;
+    if share <= u64::MAX as u128 {
+        Some(share as u64)
+    } else {
+        Some(u64::MAX)
+    }
+}
+
 /// How long the requests of a direction were in a stage.
 #[tactic(auto, using(crate::proofs::Few::few_of))]
 fn stage_row(
@@ -102,10 +144,13 @@ fn stage_row(
     ensures { IfOk result (IsStageRow requests.now dir stage) }
 {
     let mut values = times_in(alloc, requests, dir, stage)?;
+    let part = stage_sum(requests, dir, stage);
+    let whole = stage_sum(requests, dir, Stage::Whole);
     Ok(StageRow {
         stage,
         dir,
         times: percentiles_of(values.as_mut_slice()),
+        share: stage_share(part, whole),
     })
 }
 

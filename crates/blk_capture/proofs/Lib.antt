@@ -16,3 +16,4 @@ pub mod Growing
 pub mod Folding
 pub mod Cohering
 pub mod Placing
+pub mod Adding

@@ -10,3 +10,4 @@ pub mod Inside
 pub mod Ranges
 pub mod Rules
 pub mod Settled
+pub mod Running

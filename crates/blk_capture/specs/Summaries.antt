@@ -94,12 +94,16 @@ pub record IsMostInFlight (requests : List CapturedRequest) (n : ℕ) : Type 0 w
   pub bound : (k : ℕ) (d : CapturedRequest) → k < length requests → in_flight_with requests (slice_index_or requests k d) ≤ n
   pub reached : 0 < n → (k : ℕ) × AreWith requests n k
 
+-- how many records of a merge are of requests that are taken
+abbrev pub all_merges : List Record → List Fate → ℕ
+all_merges records fates = (tally_of BackMerge records fates).taken + (tally_of FrontMerge records fates).taken
+
 -- a capture in numbers
 pub record IsSummary (records : List Record) (requests : List CapturedRequest) (bios : List CapturedBio) (fates : List Fate) (s : Summary) : Type 0 where
   pub records_are : s.records ≡ length records
   pub bios_are : s.bios ≡ count_by is_dispatched bios
   pub requests_are : s.requests ≡ length requests
-  pub merges_are : s.merges ≡ (tally_of BackMerge records fates).taken + (tally_of FrontMerge records fates).taken
+  pub merges_are : s.merges ≡ all_merges records fates
   pub late_reads_are : s.late_reads ≡ count_by (is_late_request Read) requests
   pub late_writes_are : s.late_writes ≡ count_by (is_late_request Write) requests
   pub tag_is : ArePercentiles (filter_map (time_in Tag) requests) s.tag

@@ -16,6 +16,7 @@ mod opened;
 mod part;
 mod record;
 mod requests;
+mod running;
 mod summary;
 mod table;
 
@@ -26,5 +27,6 @@ pub use record::{Action, MAX_TIME, Op, PassReason, Record};
 pub use requests::{
     CaptureFault, CapturedBio, CapturedRequest, Entry, Matched, Options, match_records, rounds_of,
 };
-pub use summary::{Percentiles, Phase, Summary, summarize};
+pub use running::Running;
+pub use summary::{MAX_STREAMED, Percentiles, Phase, Summary, summarize, summarize_run};
 pub use table::{RequestRow, rows_of};

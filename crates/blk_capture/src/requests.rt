@@ -468,7 +468,7 @@ fn first_fall(records: &[Record]) -> Option<usize>
 }
 
 /// The requests of what was matched, with their bios.
-fn settle<A: Allocator + Clone>(
+pub(crate) fn settle<A: Allocator + Clone>(
     alloc: A,
     matching: &Matching<A>,
     roles: &[Role],
@@ -484,6 +484,8 @@ fn settle<A: Allocator + Clone>(
     ensures matched { IfOk result (λ m. map is_matched m.fates.items ≡ map is_known roles.now) }
     ensures passed { IfOk result (λ m. map passed_by m.fates.items ≡ map passed_role roles.now) }
     ensures below { IfOk result (λ m. AreOfTaken (length m.requests.items) m.fates.items) }
+    // whatever a record is of
+    ensures within { (r : Role) → IfOk result (λ m. IsTakenBelow (length m.requests.items) (fate_by options.now (all_known matching.now) r)) }
     ensures opened { IfOk result (λ m. all_opened m ≡ length matching.now.requests.items) }
     ensures made { IfOk result (λ m. length m.bios.items ≡ length matching.now.members.bios.items) }
     ensures taken { IfOk result (λ m. map uncounted m.requests.items ≡ all_taken options.now (all_known matching.now)) }

@@ -3,16 +3,20 @@
 ghost use Rattle.std.specs.Prelude.{◌≡◌, ◌≤◌, ◌<◌, ◌^◌, ℕ, IfOk, count_by, length, nat_le};
 ghost use Rattle.std.specs.List.{filter_map};
 ghost use Rattle.std.specs.List.Sorted.{IsNonDecreasingBy};
-ghost use Rattle.edd_commands.specs.declared.TheConstants.{MAX_COMMANDS};
 ghost use Rattle.blk_capture.specs.Requests.{AreTimed};
 ghost use Rattle.blk_capture.specs.Summaries.{is_late_request, is_dispatched, time_in, at_percent, percentiles_of, ArePercentiles, IsMostInFlight, in_flight_at, in_flight_with, back_by, out_by};
+ghost use Rattle.blk_capture.specs.Fates.{is_taken};
 ghost use Rattle.blk_capture.specs.Matched.{IsSummaryOf};
+ghost use Rattle.blk_capture.specs.Running.{FiguresRun, SummarizesRun};
 
 use crate::fates::{Fate, tally_of};
 use crate::record::{Action, Record};
 use crate::requests::{CapturedBio, CapturedRequest, Matched};
 use blk_bio::Dir;
 use std::alloc::{AllocError, Allocator};
+
+/// The most records of a capture that is put in numbers as it is read, and the most requests that are.
+pub const MAX_STREAMED: usize = 1 << 40;
 
 /// A phase of a request's way, of those that `btt` tells apart.
 #[derive(Clone, Copy, Debug, PartialEq, Eq)]
@@ -115,7 +119,7 @@ fn time_in(phase: Phase, request: &CapturedRequest) -> Option<u64>
 
 /// The number at the nearest rank of `percent`.
 fn at_percent(sorted: &[u64], percent: usize) -> Option<u64>
-    requires few { length sorted.now ≤ MAX_COMMANDS }
+    requires few { length sorted.now ≤ MAX_STREAMED }
     requires part { percent ≤ 100 }
     ensures { result ≡ at_percent percent sorted.now }
 {
@@ -125,7 +129,7 @@ fn at_percent(sorted: &[u64], percent: usize) -> Option<u64>
 
 /// The percentiles of numbers in their order.
 fn of_sorted(sorted: &[u64]) -> Percentiles
-    requires { length sorted.now ≤ MAX_COMMANDS }
+    requires { length sorted.now ≤ MAX_STREAMED }
     ensures { result ≡ percentiles_of sorted.now }
 {
     Percentiles {
@@ -152,22 +156,22 @@ fn times_in<A: Allocator>(
 
 /// The percentiles of numbers, which it puts in order.
 fn percentiles_of(values: &mut [u64]) -> Percentiles
-    requires { length values.old ≤ MAX_COMMANDS }
+    requires { length values.old ≤ MAX_STREAMED }
     ensures { ArePercentiles values.old result }
 {
     values.sort_unstable();
     of_sorted(values)
 }
 
-/// How long the phase took of those requests of which both its ends are known. At most [`edd_commands::MAX_COMMANDS`] requests. Fails only when
-/// out of memory. The time grows as n log n.
+/// How long the phase took of those requests of which both its ends are known. At most [`MAX_STREAMED`] requests. Fails only when out of
+/// memory. The time grows as n log n.
 #[tactic(auto, using(crate::proofs::Flying::few_known))]
 fn percentiles_in<A: Allocator>(
     alloc: A,
     requests: &[CapturedRequest],
     phase: Phase,
 ) -> Result<Percentiles, AllocError>
-    requires { length requests.now ≤ MAX_COMMANDS }
+    requires { length requests.now ≤ MAX_STREAMED }
     ensures { IfOk result (ArePercentiles (filter_map (time_in phase) requests.now)) }
 {
     let mut values = times_in(alloc, requests, phase)?;
@@ -272,26 +276,46 @@ fn most_in_flight<A: Allocator>(alloc: A, requests: &[CapturedRequest]) -> Resul
     Ok(most_at_once(requests, completions.as_mut_slice()))
 }
 
-/// The capture in numbers. Fails only when out of memory. The time grows as n log n.
-pub fn summarize<A: Allocator + Clone>(
+/// Whether a record is of a request that is taken.
+fn is_taken(fate: Fate) -> bool
+    ensures { result ≡ is_taken fate }
+{
+    match fate {
+        Fate::Taken(_) => true,
+        Fate::LeftOut | Fate::Unmatched | Fate::PassedOver(_) => false,
+    }
+}
+
+/// How many records are of requests that are taken.
+fn count_taken(fates: &[Fate]) -> u64
+    ensures { result ≡ count_by is_taken fates.now }
+{
+    let mut count = 0;
+    for fate in fates {
+        if is_taken(*fate) {
+            count += 1;
+        }
+    }
+    count
+}
+
+/// The capture in numbers, by how many records it has, and how many of these are of a merge and of requests that are taken.
+fn figures_of<A: Allocator + Clone>(
     alloc: A,
-    records: &[Record],
+    records: u64,
+    merges: u64,
     matched: &Matched<A>,
 ) -> Result<Summary, AllocError>
     requires timed { AreTimed matched.now.requests.items }
-    requires few { length matched.now.requests.items ≤ MAX_COMMANDS }
-    requires fates { length matched.now.fates.items ≡ length records.now }
-    ensures { IfOk result (IsSummaryOf records.now matched.now) }
+    requires few { length matched.now.requests.items ≤ MAX_STREAMED }
+    ensures { FiguresRun records merges matched.now result }
 {
     let requests = matched.requests.as_slice();
-    let fates = matched.fates.as_slice();
-    let back = tally_of(records, fates, Action::BackMerge);
-    let front = tally_of(records, fates, Action::FrontMerge);
     Ok(Summary {
-        records: records.len() as u64,
+        records,
         bios: count_gone(matched.bios.as_slice()),
         requests: requests.len() as u64,
-        merges: back.taken + front.taken,
+        merges,
         late_reads: count_late(requests, Dir::Read),
         late_writes: count_late(requests, Dir::Write),
         tag: percentiles_in(alloc.clone()?, requests, Phase::Tag)?,
@@ -299,4 +323,40 @@ pub fn summarize<A: Allocator + Clone>(
         device: percentiles_in(alloc.clone()?, requests, Phase::Device)?,
         in_flight: most_in_flight(alloc, requests)?,
     })
+}
+
+/// The capture in numbers. At most [`MAX_STREAMED`] requests. Fails only when out of memory. The time grows as n log n.
+pub fn summarize<A: Allocator + Clone>(
+    alloc: A,
+    records: &[Record],
+    matched: &Matched<A>,
+) -> Result<Summary, AllocError>
+    requires timed { AreTimed matched.now.requests.items }
+    requires few { length matched.now.requests.items ≤ MAX_STREAMED }
+    requires fates { length matched.now.fates.items ≡ length records.now }
+    ensures { IfOk result (IsSummaryOf records.now matched.now) }
+{
+    let fates = matched.fates.as_slice();
+    let back = tally_of(records, fates, Action::BackMerge);
+    let front = tally_of(records, fates, Action::FrontMerge);
+    figures_of(
+        alloc,
+        records.len() as u64,
+        back.taken + front.taken,
+        matched,
+    )
+}
+
+/// The same of so many records that were matched one by one ([`crate::Running`]), of whose fates only those of the merges are at hand.
+pub fn summarize_run<A: Allocator + Clone>(
+    alloc: A,
+    count: u64,
+    matched: &Matched<A>,
+) -> Result<Summary, AllocError>
+    requires timed { AreTimed matched.now.requests.items }
+    requires few { length matched.now.requests.items ≤ MAX_STREAMED }
+    ensures { SummarizesRun count matched.now result }
+{
+    let merges = count_taken(matched.fates.as_slice());
+    figures_of(alloc, count, merges, matched)
 }

@@ -12,4 +12,11 @@ mod numbers;
 #[cfg(test)]
 mod refusals;
 #[cfg(test)]
+mod running;
+#[cfg(test)]
 mod tallies;
+#[cfg(test)]
+mod text;
+#[cfg(test)]
+mod arrivals;
+pub mod replay;

@@ -5,6 +5,8 @@ pub mod TableText
 pub mod SummaryText
 pub mod Imports
 pub mod Doubts
+pub mod Counts
 pub mod Shown
 pub mod Source
+pub mod Streaming
 pub mod Inside

@@ -1,5 +1,5 @@
 -- A capture in numbers, as text.
-use Rattle.std.specs.Prelude.{ℕ, ◌++◌, ◌∷◌, [], List, Option, None, Some, count_by, decimal, codes}
+use Rattle.std.specs.Prelude.{ℕ, ◌+◌, ◌-◌, ◌^◌, min, Bool, true, false, ◌++◌, ◌∷◌, [], List, Option, None, Some, count_by, decimal, codes}
 use Rattle.blk_capture.specs.Fates.{is_of_kind, is_passed, is_unmatched}
 use Rattle.blk_capture.specs.declared.fates.Fate.{Fate}
 use Rattle.blk_capture.specs.declared.record.PassReason.TheVariants as passed
@@ -21,6 +21,26 @@ counts_of fates = record {
   others = count_by (is_of_kind passed.Nothing) fates;
   empty = count_by (is_of_kind passed.Empty) fates;
   past_end = count_by (is_of_kind passed.PastEnd) fates;
+}
+
+-- one more where something holds, of a count that stays at the greatest number of 64 bits; and one record more, of which this is known
+abbrev pub one_counted : ℕ → Bool → ℕ
+one_counted n true = min (n + 1) (2 ^ 64 - 1)
+one_counted n false = n
+
+abbrev pub counts_with : UnusedCounts → Fate → UnusedCounts
+counts_with c f = record {
+  unmatched = one_counted c.unmatched (is_unmatched f);
+  passed = one_counted c.passed (is_passed f);
+  plugs = one_counted c.plugs (is_of_kind passed.Plug f);
+  unplugs = one_counted c.unplugs (is_of_kind passed.Unplug f);
+  actions = one_counted c.actions (is_of_kind passed.Action f);
+  discards = one_counted c.discards (is_of_kind passed.Discard f);
+  erases = one_counted c.erases (is_of_kind passed.Erase f);
+  flushes = one_counted c.flushes (is_of_kind passed.Flush f);
+  others = one_counted c.others (is_of_kind passed.Nothing f);
+  empty = one_counted c.empty (is_of_kind passed.Empty f);
+  past_end = one_counted c.past_end (is_of_kind passed.PastEnd f);
 }
 
 -- a word, a space, its number and a line's end

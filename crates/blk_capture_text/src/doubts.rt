@@ -1,6 +1,6 @@
 //! What of a capture is dubious.
 
-ghost use Rattle.std.specs.Prelude.{◌≡◌, ◌+◌, ◌<◌, ◌^◌};
+ghost use Rattle.std.specs.Prelude.{◌≡◌, ◌+◌, ◌<◌, ◌≤◌, ◌^◌};
 ghost use Rattle.std.specs.List.{list_any};
 ghost use Rattle.blk_capture_text.specs.Doubts.{is_at, one_if_at, count_still, is_still, tells_action, has_action, lacked_action, is_completed, has_nothing_whole};
 
@@ -17,9 +17,10 @@ fn is_at(last: Option<u64>, time: u64) -> bool
 }
 
 /// One more, where a time is the last one.
-fn one_if_at(count: u64, last: Option<u64>, time: u64) -> u64
+pub(crate) fn one_if_at(count: u64, last: Option<u64>, time: u64) -> u64
     requires { count + 1 < 2 ^ 64 }
-    ensures { result ≡ one_if_at count last time }
+    ensures value { result ≡ one_if_at count last time }
+    ensures few { result ≤ count + 1 }
 {
     if is_at(last, time) { count + 1 } else { count }
 }
@@ -45,7 +46,7 @@ pub fn is_still(records: &[Record]) -> bool
 }
 
 /// Whether a record is of an action.
-fn tells_action(record: &Record, action: Action) -> bool
+pub(crate) fn tells_action(record: &Record, action: Action) -> bool
     ensures { result ≡ tells_action action record.now }
 {
     record.action.place() == action.place()

@@ -1,6 +1,7 @@
 //! Laws of the form, each the contract of a function that does nothing.
 
-ghost use Rattle.std.specs.Prelude.{◌≡◌, ◌∷◌, [], take, drop, replicate};
+ghost use Rattle.std.specs.Prelude.{◌≡◌, ◌^◌, ◌∷◌, [], take, drop, replicate};
+ghost use Rattle.blk_capture.specs.declared.summary.TheConstants.{MAX_STREAMED};
 ghost use Rattle.blk_lists.specs.Laws.{OneValue, ReadsBack, ValueOrFault, NeverBoth, OneFault};
 ghost use Rattle.blk_capture_text.specs.Captures.{MakeCapture, TellsRecords, SpellsCapture, CaptureTextFault, capture_rows};
 ghost use Rattle.blk_capture_text.specs.declared.reading.TheConstants.{CAPTURE, MAX_RECORDS};
@@ -45,7 +46,8 @@ pub fn names_of_captures()
     ensures others { drop 3 RECORD_ROW.names ≡ name.Action ∷ name.Process ∷ name.Rwbs ∷ name.First ∷ name.Sectors ∷ [] }
 {}
 
-/// How many records a capture has at most, by the number.
+/// How many records a capture has at most, and how many one that is put in numbers as it is read, by the numbers.
 pub fn law_of_limits()
-    ensures { MAX_RECORDS ≡ 16_000_000 }
+    ensures kept { MAX_RECORDS ≡ 16_000_000 }
+    ensures streamed { MAX_STREAMED ≡ 2 ^ 40 }
 {}

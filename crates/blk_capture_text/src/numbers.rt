@@ -1,10 +1,10 @@
 //! A capture in numbers, as text.
 
-ghost use Rattle.std.specs.Prelude.{◌≡◌, ◌++◌, IfOk, IfErr, OnOk, count_by};
+ghost use Rattle.std.specs.Prelude.{◌≡◌, ◌++◌, [], IfOk, IfErr, OnOk, count_by};
 ghost use Rattle.std.specs.Io.KnownBytes.{Appends};
 ghost use Rattle.drafts.specs.Parts.{AppendsPart};
-ghost use Rattle.blk_capture.specs.Fates.{is_unmatched, is_passed};
-ghost use Rattle.blk_capture_text.specs.SummaryText.{counts_of, number_line, percentiles_line, figure_text, number_lines, phase_lines, count_lines, summary_lines, notice_line};
+ghost use Rattle.blk_capture.specs.Fates.{is_unmatched, is_passed, is_of_kind};
+ghost use Rattle.blk_capture_text.specs.SummaryText.{counts_of, one_counted, counts_with, number_line, percentiles_line, figure_text, number_lines, phase_lines, count_lines, summary_lines, notice_line};
 
 use blk_capture::{Fate, PassReason, Percentiles, Summary, count_passed};
 use drafts::{Draft, WriteFault, write_whole};
@@ -36,6 +36,67 @@ pub struct UnusedCounts {
     pub empty: u64,
     /// With sectors past the last one.
     pub past_end: u64,
+}
+
+/// One more where something holds, of a count that stays at the greatest number.
+fn one_counted(count: u64, holds: bool) -> u64
+    ensures { result ≡ one_counted count holds }
+{
+    if holds {
+        count.saturating_add(1)
+    } else {
+        count
+    }
+}
+
+/// Whether a record was passed over for a reason.
+fn is_of_kind(fate: Fate, kind: PassReason) -> bool
+    ensures { result ≡ is_of_kind kind fate }
+{
+    match fate {
+        Fate::PassedOver(found) => found.place() == kind.place(),
+        Fate::Taken(_) | Fate::LeftOut | Fate::Unmatched => false,
+    }
+}
+
+impl UnusedCounts {
+    /// Of no records.
+    pub fn none() -> UnusedCounts
+        ensures { result ≡ counts_of [] }
+    {
+        UnusedCounts {
+            unmatched: 0,
+            passed: 0,
+            plugs: 0,
+            unplugs: 0,
+            actions: 0,
+            discards: 0,
+            erases: 0,
+            flushes: 0,
+            others: 0,
+            empty: 0,
+            past_end: 0,
+        }
+    }
+
+    /// With one record more, of which this is known.
+    pub fn with(self, fate: Fate) -> UnusedCounts
+        ensures { result ≡ counts_with self fate }
+    {
+        UnusedCounts {
+            unmatched: one_counted(self.unmatched, is_unmatched(fate)),
+            passed: one_counted(self.passed, is_passed(fate)),
+            plugs: one_counted(self.plugs, is_of_kind(fate, PassReason::Plug)),
+            unplugs: one_counted(self.unplugs, is_of_kind(fate, PassReason::Unplug)),
+            actions: one_counted(self.actions, is_of_kind(fate, PassReason::Action)),
+            discards: one_counted(self.discards, is_of_kind(fate, PassReason::Discard)),
+            erases: one_counted(self.erases, is_of_kind(fate, PassReason::Erase)),
+            flushes: one_counted(self.flushes, is_of_kind(fate, PassReason::Flush)),
+            others: one_counted(self.others, is_of_kind(fate, PassReason::Nothing)),
+            empty: one_counted(self.empty, is_of_kind(fate, PassReason::Empty)),
+            past_end: one_counted(self.past_end, is_of_kind(fate, PassReason::PastEnd)),
+        }
+    }
 }
 
 /// Whether a record was not matched.

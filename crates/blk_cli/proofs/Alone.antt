@@ -17,14 +17,15 @@ use Rattle.blk_cli.specs.Importing.{IsWrittenAs}
 use Rattle.blk_cli.specs.Ends.{Answers, AskForGood, AskForTexts, EndsPut, status_with}
 
 -- what is written of a capture is good
-written_good : (w : Written) (i : Import) (records : List Record) (s : Said) → IsWrittenAs w i records s → s.good ≡ true
-written_good written.Schedule i records s h = h.good
-written_good written.Table i records s h = h.good
-written_good written.Summary i records s h = h.good
-written_good (written.Script round depth) i records s h = h.alone.1
-written_good (written.Blame b) i records s h = h.good
-written_good (written.Replay r) i records s h = h.good
-written_good (written.Replayed p how) i records s h = h.good
+written_good : (w : Written) (words : List (List ℕ)) (i : Import) (records : List Record) (s : Said) → IsWrittenAs w words i records s → s.good ≡ true
+written_good written.Schedule words i records s h = h.good
+written_good written.Table words i records s h = h.good
+written_good written.Summary words i records s h = h.good
+written_good (written.Script round depth) words i records s h = h.alone.1
+written_good (written.Blame b) words i records s h = h.good
+written_good (written.Replay r) words i records s h = h.good
+written_good (written.Grid g) words i records s h = h.good
+written_good (written.Replayed p how) words i records s h = h.good
 
 -- a job whose answer is good
 good : (words : List (List ℕ)) (j : Job) (input : Option (List Row)) (bytes : Option (List ℕ)) (s : Said) → AnswersGood j → GivesAnswer words j input bytes s → s.good ≡ true
@@ -38,7 +39,7 @@ good words (job.OfText (text_job.Check x)) input bytes s answers g = g.1.1
 good words (job.OfText (text_job.Judge x)) input bytes s answers g = g.1.2.1
 good words (job.Tune x) input bytes s answers g = g.1.2.1
 good words (job.Import x) input bytes s answers g =
-    let base : Said = g.of.base in ap (λ (t : Said). t.good) g.of.said.2 ∙ written_good x.written x g.of.read.records.items base g.of.imported
+    let base : Said = g.of.written.base in ap (λ (t : Said). t.good) g.of.written.said.2 ∙ written_good x.written words x g.of.read.records.items base g.of.written.imported
 good words (job.Refuse x) input bytes s answers g = absurd g
 good words job.Explain input bytes s answers g = absurd answers
 good words (job.Load x y z) input bytes s answers g = g.1.1

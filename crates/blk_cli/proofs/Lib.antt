@@ -7,3 +7,4 @@ mod OfRead
 mod Schedules
 mod Given
 mod Failed
+mod Counted

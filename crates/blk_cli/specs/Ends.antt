@@ -3,6 +3,9 @@ use Rattle.std.specs.Prelude.{◌≡◌, ◌⊎◌, ◌++◌, ◌∷◌, [], cod
 use Rattle.drafts.specs.declared.output.Output.{Output}
 use Rattle.drafts.specs.Outputs.{Stream, IsWritten, IsCut, stream_of}
 use Rattle.blk_lists.specs.Sources.{Row, Source}
+use Rattle.blk_lists.specs.Names.{why_name}
+use Rattle.blk_lists.specs.declared.fault.TextFault.{TextFault}
+use Rattle.blk_lists.specs.declared.fault.Why.{Why}
 use Rattle.blk_lists.specs.declared.fault.Why.TheVariants as why
 use Rattle.blk_words.specs.declared.words.Job.{Job}
 use Rattle.blk_words.specs.Asked.{Asks, AreFaulty, NameNone}
@@ -11,7 +14,7 @@ use Rattle.blk_cli.specs.declared.NoText.{NoText}
 use Rattle.blk_cli.specs.declared.NoText.TheVariants as none
 use Rattle.blk_cli.specs.declared.failure.Failure.{Failure}
 use Rattle.blk_cli.specs.declared.failure.Failure.TheVariants as failure
-use Rattle.blk_cli.specs.Lines.{failure_line, status_of, write_fault, excluded}
+use Rattle.blk_cli.specs.Lines.{more_line, failure_line, status_of, write_fault, excluded}
 use Rattle.blk_words.specs.declared.words.Import.{Import}
 use Rattle.blk_cli.specs.Importing.{IsUnimportedFrom}
 use Rattle.blk_cli.specs.Said.{Said}
@@ -33,41 +36,47 @@ AskForTexts words = (j : Job) → Asks words j → AnswersText j
 abbrev pub AskForNoInput : List (List ℕ) → Type 0
 AskForNoInput words = (j : Job) → Asks words j → ReadsNothing j
 
--- what is said of a failure: itself, or that memory ran out; or, of a title that is another, more than that
+-- of some faults of a text more is said than their name: of a title that is another, and of a text that is too long
+abbrev pub says_more : Why → Bool
+says_more why.Title = true
+says_more why.TooLong = true
+says_more w = false
+
+-- what is said of a failure: itself, or that memory ran out; or, of such a fault, more than that
 abbrev pub IsFailureOf : Failure → NoText → Type 0
 IsFailureOf f (none.Failure g) = (g ≡ f) ⊎ (g ≡ failure.Memory)
-IsFailureOf f (none.Title text) = f ≡ failure.Text (record { at = 1; why = why.Title })
+IsFailureOf f (none.Told fault text) = (f ≡ failure.Text fault) × (says_more fault.why ≡ true)
 IsFailureOf f n = ⊥
 
 -- why a job has no answer
 abbrev pub IsWithoutAnswer : List (List ℕ) → Job → Option (List Row) → Option (List ℕ) → Bool → NoText → Type 0
 IsWithoutAnswer words j input bytes failed n = (f : Failure) × HasNoAnswer words j input bytes failed f × IsFailureOf f n
 
-abbrev pub IsUntaken : Import → Option (List ℕ) → Bool → NoText → Type 0
-IsUntaken i bytes failed n = (f : Failure) × IsUnimportedFrom i bytes failed f × IsFailureOf f n
+abbrev pub IsUntaken : List (List ℕ) → Import → Option (List ℕ) → Bool → NoText → Type 0
+IsUntaken words i bytes failed n = (f : Failure) × IsUnimportedFrom words i bytes failed f × IsFailureOf f n
 
 -- or there is none: the job that they ask for fails, memory ran out before they were read, or they ask for nothing
 abbrev pub IsWithout : List (List ℕ) → Option (List Row) → Option (List ℕ) → Bool → NoText → Type 0
 IsWithout words input bytes failed (none.Failure f) = ((j : Job) × Asks words j × HasNoAnswer words j input bytes failed f) ⊎ (f ≡ failure.Memory)
-IsWithout words input bytes failed (none.Title text) =
-    (j : Job) × Asks words j × HasNoAnswer words j input bytes failed (failure.Text (record { at = 1; why = why.Title }))
+IsWithout words input bytes failed (none.Told fault text) =
+    (j : Job) × Asks words j × HasNoAnswer words j input bytes failed (failure.Text fault) × (says_more fault.why ≡ true)
 IsWithout words input bytes failed (none.Usage text) = AreFaulty words
 IsWithout words input bytes failed none.Excluded = NameNone words
 
 -- the status and the line then
 abbrev pub status_without : NoText → ℕ
 status_without (none.Failure f) = status_of f
-status_without (none.Title text) = 1
+status_without (none.Told fault text) = 1
 status_without (none.Usage text) = 2
 status_without none.Excluded = 2
 
--- the line on a title that is another
-abbrev pub title_line : List ℕ → List ℕ
-title_line text = codes "blk: record 1: Title: " ++ (text ++ 10 ∷ [])
+-- the line on a fault of a text of which more is said than its name
+abbrev pub line_told : TextFault → List ℕ → List ℕ
+line_told fault text = more_line fault.at (why_name fault.why) text
 
 abbrev pub line_without : NoText → List ℕ
 line_without (none.Failure f) = failure_line f
-line_without (none.Title text) = title_line text.items
+line_without (none.Told fault text) = line_told fault text.items
 line_without (none.Usage text) = string_bytes text
 line_without none.Excluded = excluded
 

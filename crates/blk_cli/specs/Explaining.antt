@@ -1,12 +1,21 @@
 -- What is said about a text of any form, and why nothing is.
-use Rattle.std.specs.Prelude.{◌≡◌, ◌++◌, ◌∷◌, ⊤, ℕ, Bool, List, [], Option, None, Some, IfSome, codes, decimal, is_some, not}
-use Rattle.blk_explain.specs.Explained.{IsExplained, form_without_fault}
+use Rattle.std.specs.Prelude.{◌≡◌, ◌++◌, ◌∷◌, ⊤, ℕ, Bool, false, List, [], Option, None, Some, IfSome, codes, decimal, is_some, not}
+use Rattle.blk_explain.specs.Explained.{IsExplained, form_without_fault, fault_line, EndsWith}
+use Rattle.blk_explain.specs.Findings.{rows_of}
 use Rattle.blk_explain.specs.declared.details.Detail.{Detail}
 use Rattle.blk_explain.specs.declared.findings.Finding.{Finding}
 use Rattle.blk_explain.specs.declared.forms.TextForm.{TextForm}
 use Rattle.blk_explain.specs.declared.forms.TextForm.TheVariants as form
 use Rattle.blk_explain.specs.Printed.{AreLinesExplained}
 use Rattle.blk_lists.specs.Reads.{IsOutside}
+use Rattle.blk_lists.specs.Sources.{Row}
+use Rattle.blk_text.specs.Script.{Scripted, SpellsScript}
+use Rattle.blk_trace.specs.Traces.{Traced}
+use Rattle.blk_settings.specs.declared.rows.SchedKind.TheVariants as sched_kind
+use Rattle.blk_settings.specs.declared.sched.Sched.{Sched}
+use Rattle.blk_sim.specs.Names.{step_name}
+use Rattle.blk_sim.specs.declared.refusal.SimFault.{SimFault}
+use Rattle.blk_runs.specs.Runs.{RunsUnder, IsRefusedUnder}
 use Rattle.blk_capture_text.specs.Source.{form_taken}
 use Rattle.blk_recorders.specs.declared.detect.CaptureForm.{CaptureForm}
 use Rattle.blk_recorders.specs.declared.detect.CaptureForm.TheVariants as capture_form
@@ -45,16 +54,39 @@ takers_line (Some f) refuser.Nobody = names_line (text_kind f) []
 takers_line (Some f) refuser.Commands = names_line (text_kind f) (codes "commands")
 takers_line (Some f) (refuser.Oracle id) = repeated_line id
 
--- of the records of bytes without a fault it is said what takes them; and nothing else is said
+-- the records spell a script, and a run of it under `none` takes each of its steps, or refuses this one
+abbrev pub IsScriptRun : List Row → Option SimFault → Type 0
+IsScriptRun rows None = (s : Scripted) × (sched : Sched) × (trace : Traced) × SpellsScript rows s × (sched.kind ≡ sched_kind.None) × RunsUnder sched s trace
+IsScriptRun rows (Some fault) = (s : Scripted) × (sched : Sched) × SpellsScript rows s × (sched.kind ≡ sched_kind.None) × IsRefusedUnder sched s fault
+
+-- of records without a fault: those of a script are run
+abbrev pub IsStepIn : Option TextForm → List Row → Option SimFault → Type 0
+IsStepIn (Some form.Script) rows refused = IsScriptRun rows refused
+IsStepIn f rows refused = refused ≡ None
+
+-- the line on a refused step, as the program has it
+abbrev pub step_line : SimFault → List ℕ
+step_line fault = fault_line (Some form.Script) fault.at (step_name fault.why)
+
+-- what is said of a refused step
+abbrev pub IsToldRefused : SimFault → Said → Type 0
+IsToldRefused fault s = EndsWith (step_line fault) s.text × (s.good ≡ false) × (s.note ≡ None)
+
+-- of records of which this is told, where no step is refused and where one is
+abbrev pub IsToldWith : Option SimFault → Option TextForm → List ℕ → Said → Type 0
+IsToldWith None f told s = (refuser : Refuser) × (s.text ≡ told ++ takers_line f refuser) × (s.good ≡ is_some f)
+IsToldWith (Some fault) f told s = IsToldRefused fault s
+
+-- of the records of bytes without a fault it is said what takes them, or which step of a script is refused; and nothing else is said
 pub record AreRowsExplained (bytes : List ℕ) (s : Said) : Type 0 where
   pub finding : Finding
   pub line : ℕ
   pub detail : Detail
   pub told : List ℕ
   pub explained : IsExplained bytes finding line detail told
-  pub refuser : Refuser
-  pub text : s.text ≡ told ++ takers_line (form_without_fault finding) refuser
-  pub good : s.good ≡ is_some (form_without_fault finding)
+  pub refused : Option SimFault
+  pub ran : IsStepIn (form_without_fault finding) (rows_of bytes) refused
+  pub said : IsToldWith refused (form_without_fault finding) told s
   pub quiet : s.note ≡ None
 
 -- the line that says who takes what a recorder printed, where no line is wrong

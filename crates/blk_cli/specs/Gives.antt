@@ -78,7 +78,7 @@ abbrev pub GivesAnswer : List (List ℕ) → Job → Option (List Row) → Optio
 GivesAnswer words job.Version input bytes s = (s.text ≡ version_line) × IsAlone s
 GivesAnswer words (job.OfText j) input bytes s = GivesText j input s.text × TellsOf j input s
 GivesAnswer words (job.Tune t) input bytes s = Of SpellsScript (IsTrial words t) input s.text × Of SpellsScript TellsPlugs input s
-GivesAnswer words (job.Import i) input bytes s = IsImportedFrom i bytes s
+GivesAnswer words (job.Import i) input bytes s = IsImportedFrom words i bytes s
 GivesAnswer words (job.Refuse r) input bytes s = ⊥
 GivesAnswer words job.Explain input bytes s = IsTextExplained bytes s
 GivesAnswer words (job.Load sched l w) input bytes s = IsLoadOf sched w l s.text × IsAlone s
@@ -88,7 +88,7 @@ abbrev pub HasNoAnswer : List (List ℕ) → Job → Option (List Row) → Optio
 HasNoAnswer words job.Version input bytes failed f = f ≡ failure.Memory
 HasNoAnswer words (job.OfText j) input bytes failed f = HasNoText j input failed f
 HasNoAnswer words (job.Tune t) input bytes failed f = FailsToTry words input failed f
-HasNoAnswer words (job.Import i) input bytes failed f = IsUnimportedFrom i bytes failed f
+HasNoAnswer words (job.Import i) input bytes failed f = IsUnimportedFrom words i bytes failed f
 HasNoAnswer words (job.Refuse r) input bytes failed f = f ≡ failure.Words r
 HasNoAnswer words job.Explain input bytes failed f = IsUnexplained failed f
 HasNoAnswer words (job.Load sched l w) input bytes failed f = IsUnloaded sched l f

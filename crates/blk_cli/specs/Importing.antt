@@ -1,5 +1,5 @@
 -- What is written of a capture, what is said of what that leaves out, its arrivals as a script, and why there is nothing.
-use Rattle.std.specs.Prelude.{◌≡◌, ◌⊎◌, ◌++◌, ◌∷◌, ◌≤◌, ◌==◌, ◌&&◌, ⊤, ℕ, Bool, true, false, if◌then◌else◌, List, [], Option, None, Some, IfSome, unwrap_or}
+use Rattle.std.specs.Prelude.{◌≡◌, ◌⊎◌, ◌++◌, ◌∷◌, ◌≤◌, ◌==◌, ◌&&◌, ⊤, ℕ, Bool, true, false, if◌then◌else◌, List, [], map, Option, None, Some, IfSome, unwrap_or}
 use Rattle.std.specs.Option.{option_map_or}
 use Rattle.faults.specs.Order.{IsFirstFault}
 use Rattle.blk_arrivals.specs.Scripts.{script_of, script_rules}
@@ -7,8 +7,16 @@ use Rattle.blk_arrivals.specs.declared.terms.ArrivalsFault.TheVariants as arriva
 use Rattle.blk_arrivals.specs.declared.terms.TheConstants.{USUAL_DEPTH}
 use Rattle.blk_arrivals.specs.declared.terms.Terms.{Terms}
 use Rattle.answer.specs.declared.answer.Part.{Part}
+use Rattle.blk_cli.specs.Certificates.{IsMostText}
 use Rattle.blk_cli.specs.Forms.{written_in}
+use Rattle.blk_settings.specs.declared.form.Form.{Form}
+use Rattle.edd_commands.specs.declared.Command.{Command}
+use Rattle.blk_capture.specs.Counting.{AreInRounds}
+use Rattle.blk_capture.specs.Requests.{times_of}
+use Rattle.blk_bio.specs.declared.bio.Dir.TheVariants.{Read, Write}
 use Rattle.blk_blame.specs.Blamed.{IsBlameAnswer, IsEachAnswer}
+use Rattle.blk_blame.specs.TightestSaid.{IsTightestAnswer}
+use Rattle.blk_blame.specs.declared.tightest.Aim.{Aim}
 use Rattle.blk_capture.specs.Summaries.{IsMostInFlight}
 use Rattle.blk_capture.specs.declared.fates.Fate.{Fate}
 use Rattle.blk_capture.specs.declared.record.Record.{Record}
@@ -25,15 +33,21 @@ use Rattle.blk_capture_text.specs.declared.shown.ShownImport.{ShownImport}
 use Rattle.blk_capture_text.specs.declared.shown.ShownImport.TheVariants as shown
 use Rattle.blk_lists.specs.Texts.{rows_text}
 use Rattle.blk_replayed.specs.Replays.{AreUnreplayed}
-use Rattle.blk_replayed.specs.Text.{IsReplaysText}
+use Rattle.blk_replayed.specs.Text.{WantedReplays, IsReplaysText}
 use Rattle.blk_replayed.specs.Shown.{IsReplayScheduleText, IsReplayTableText}
 use Rattle.blk_settings.specs.Made.{IsUnmade}
 use Rattle.blk_settings.specs.declared.plans.Plan.{Plan}
+use Rattle.blk_settings.specs.declared.sched.SchedFault.{SchedFault}
 use Rattle.blk_text.specs.Script.{IsScript, script_rows}
 use Rattle.blk_text.specs.declared.setup.TheConstants.{LATEST}
+use Rattle.blk_words.specs.Asked.{AsksPlans}
 use Rattle.blk_words.specs.Times.{MAX_NUMBER}
 use Rattle.blk_words.specs.declared.blaming.Blaming.{Blaming}
+use Rattle.blk_words.specs.declared.blaming.ShownBlame.{ShownBlame}
+use Rattle.blk_words.specs.declared.blaming.ShownBlame.TheVariants as shown_blame
+use Rattle.blk_words.specs.declared.blaming.TightestAsked.{TightestAsked}
 use Rattle.blk_words.specs.declared.words.Import.{Import}
+use Rattle.blk_words.specs.declared.replaying.GridReplaying.{GridReplaying}
 use Rattle.blk_words.specs.declared.replaying.Replaying.{Replaying}
 use Rattle.blk_words.specs.declared.replaying.ShownReplay.{ShownReplay}
 use Rattle.blk_words.specs.declared.replaying.ShownReplay.TheVariants as shown_as
@@ -118,16 +132,39 @@ IsUnshown i records (failure.Import f) = IsImportFault records (asked_of i) f
 IsUnshown i records failure.Memory = ⊤
 IsUnshown i records f = ⊥
 
--- what the late ones of requests are blamed on, or each of them; and this of those that are taken, and what is said beside it
-abbrev pub IsBlamedBy : Bool → Blaming → ℕ → List CapturedRequest → List Part → Type 0
-IsBlamedBy true b begin requests parts = IsEachAnswer begin requests parts
-IsBlamedBy false b begin requests parts = IsBlameAnswer b.most begin requests parts
+-- what the late ones of requests are blamed on, each of them, and the certificate of how many can be on time, that of the commands that count them
+abbrev pub IsWholeBlame : Blaming → ℕ → List CapturedRequest → List ℕ → Type 0
+IsWholeBlame b begin requests text = (parts : List Part) × IsBlameAnswer b.most begin requests parts × (text ≡ written_in b.form parts)
 
-abbrev pub IsBlamingAnswer : Blaming → ℕ → List CapturedRequest → List Part → Type 0
-IsBlamingAnswer b begin requests parts = IsBlamedBy b.each b begin requests parts
+abbrev pub IsEachBlame : Form → ℕ → List CapturedRequest → List ℕ → Type 0
+IsEachBlame f begin requests text = (parts : List Part) × IsEachAnswer begin requests parts × (text ≡ written_in f parts)
 
-abbrev pub IsBlamingText : Blaming → ℕ → List CapturedRequest → List ℕ → Type 0
-IsBlamingText b begin requests text = (parts : List Part) × IsBlamingAnswer b begin requests parts × (text ≡ written_in b.form parts)
+pub record IsBlameCertificate (requests : List CapturedRequest) (text : List ℕ) : Type 0 where
+  pub commands : List Command
+  pub rounds : List ℕ
+  pub counted : AreInRounds (map times_of requests) commands rounds
+  pub certificate : IsMostText (1, commands) text
+
+-- the least deadline of a direction's requests, which were due by the import
+abbrev pub aim_by : Import → ℕ → Bool → Aim
+aim_by i share true = record { dir = Write; expire = i.write_expire; share = share }
+aim_by i share false = record { dir = Read; expire = i.read_expire; share = share }
+
+abbrev pub aim_of : Import → TightestAsked → Aim
+aim_of i asked = aim_by i asked.share asked.writes
+
+abbrev pub IsTightestText : Form → Aim → List CapturedRequest → List ℕ → Type 0
+IsTightestText f aim requests text = (parts : List Part) × IsTightestAnswer requests aim parts × (text ≡ written_in f parts)
+
+-- this of those that are taken, as is asked for, and what is said beside it
+abbrev pub IsBlameText : ShownBlame → Blaming → Import → ℕ → List CapturedRequest → List ℕ → Type 0
+IsBlameText shown_blame.Whole b i begin requests text = IsWholeBlame b begin requests text
+IsBlameText shown_blame.Each b i begin requests text = IsEachBlame b.form begin requests text
+IsBlameText shown_blame.Certificate b i begin requests text = IsBlameCertificate requests text
+IsBlameText (shown_blame.Tightest asked) b i begin requests text = IsTightestText b.form (aim_of i asked) requests text
+
+abbrev pub IsBlamingText : Blaming → Import → ℕ → List CapturedRequest → List ℕ → Type 0
+IsBlamingText b i begin requests text = IsBlameText b.shown b i begin requests text
 
 pub record IsBlamedOf (b : Blaming) (i : Import) (records : List Record) (s : Said) : Type 0 where
   pub requests : List CapturedRequest
@@ -136,7 +173,7 @@ pub record IsBlamedOf (b : Blaming) (i : Import) (records : List Record) (s : Sa
   pub absorbed : ℕ
   pub left_out : ℕ
   pub is_import : IsImport records (asked_of i) requests bios fates absorbed left_out
-  pub is_text : IsBlamingText b (first_time records) requests s.text
+  pub is_text : IsBlamingText b i (first_time records) requests s.text
   pub is_note : IsNoteOf (tags_asked i.source.tags) shown.Schedule records requests fates s.note
   pub good : s.good ≡ true
 
@@ -147,49 +184,46 @@ IsTakenOf i records m = IsImport records (asked_of i) m.requests.items m.bios.it
 abbrev pub IsNoteBeside : {A : Type 0} → Import → List Record → Matched A → Option (List ℕ) → Type 0
 IsNoteBeside i records m note = IsNoteOn (tags_asked i.source.tags) shown.Schedule records m note
 
--- what is said of them, as they went and in replays
-abbrev pub IsReplayText : Replaying → List CapturedRequest → List ℕ → Type 0
-IsReplayText r requests text = IsReplaysText r.form r.by r.top r.plans requests text
-
-pub record IsReplayedOf (r : Replaying) (i : Import) (records : List Record) (s : Said) : Type 0 where
+-- this is written of them, and what is said beside it
+pub record IsReplayedOf (writes : List CapturedRequest → List ℕ → Type 0) (i : Import) (records : List Record) (s : Said) : Type 0 where
   pub requests : List CapturedRequest
   pub bios : List CapturedBio
   pub fates : List Fate
   pub absorbed : ℕ
   pub left_out : ℕ
   pub is_import : IsImport records (asked_of i) requests bios fates absorbed left_out
-  pub is_text : IsReplayText r requests s.text
+  pub is_text : writes requests s.text
   pub is_note : IsNoteOf (tags_asked i.source.tags) shown.Schedule records requests fates s.note
   pub good : s.good ≡ true
 
--- too many would be taken, a scheduler isn't made of its settings, or memory ran out
-abbrev pub IsNotReplayed : Replaying → Failure → Type 0
-IsNotReplayed r (failure.Sched f) = AreUnreplayed r.plans f
-IsNotReplayed r f = ⊥
+-- a scheduler isn't made of its settings, for a reason like this, or memory ran out; or too many requests would be taken
+abbrev pub IsNotReplayed : (SchedFault → Type 0) → Failure → Type 0
+IsNotReplayed why (failure.Sched f) = why f
+IsNotReplayed why failure.Memory = ⊤
+IsNotReplayed why f = ⊥
 
-abbrev pub IsUnreplayedOf : Replaying → Import → List Record → Failure → Type 0
-IsUnreplayedOf r i records (failure.Sched f) = AreUnreplayed r.plans f
-IsUnreplayedOf r i records f = IsUnshown i records f
+abbrev pub IsUnreplayedOf : (SchedFault → Type 0) → Import → List Record → Failure → Type 0
+IsUnreplayedOf why i records (failure.Sched f) = why f
+IsUnreplayedOf why i records f = IsUnshown i records f
+
+-- what is asked of replays under each scheduler, and under each setting of a grid, whose settings are shown with their expiries
+abbrev pub each_wanted : Replaying → WantedReplays
+each_wanted r = record { plans = r.plans; by = r.by; top = r.top; expiries = false; form = r.form }
+
+abbrev pub grid_wanted : GridReplaying → List Plan → WantedReplays
+grid_wanted g plans = record { plans = plans; by = g.by; top = g.top; expiries = true; form = g.form }
+
+-- what is said of requests in replays of the grid that the words ask for, and why nothing is
+abbrev pub IsGridText : List (List ℕ) → GridReplaying → List CapturedRequest → List ℕ → Type 0
+IsGridText words g requests text = (plans : List Plan) × AsksPlans words plans × IsReplaysText (grid_wanted g plans) requests text
+
+abbrev pub IsGridUnreplayed : List (List ℕ) → SchedFault → Type 0
+IsGridUnreplayed words f = (plans : List Plan) × AsksPlans words plans × AreUnreplayed plans f
 
 -- one replay of them, as a schedule or a table, whose times are from the first record on
 abbrev pub IsOneReplayText : Plan → ShownReplay → List Record → List CapturedRequest → List ℕ → Type 0
 IsOneReplayText p shown_as.Schedule records requests text = IsReplayScheduleText p requests text
 IsOneReplayText p shown_as.Table records requests text = IsReplayTableText p (first_time records) requests text
-
-pub record IsReplayedOnce (p : Plan) (how : ShownReplay) (i : Import) (records : List Record) (s : Said) : Type 0 where
-  pub requests : List CapturedRequest
-  pub bios : List CapturedBio
-  pub fates : List Fate
-  pub absorbed : ℕ
-  pub left_out : ℕ
-  pub is_import : IsImport records (asked_of i) requests bios fates absorbed left_out
-  pub is_text : IsOneReplayText p how records requests s.text
-  pub is_note : IsNoteOf (tags_asked i.source.tags) shown.Schedule records requests fates s.note
-  pub good : s.good ≡ true
-
-abbrev pub IsUnreplayedOnce : Plan → Import → List Record → Failure → Type 0
-IsUnreplayedOnce p i records (failure.Sched f) = IsUnmade p.sched f
-IsUnreplayedOnce p i records f = IsUnshown i records f
 
 -- its arrivals as a script: a text of records that spell it, and nothing beside it
 pub record IsScripted (t : Terms) (records : List Record) (s : Said) : Type 0 where
@@ -203,39 +237,49 @@ IsUnscripted t records (failure.Arrivals f) = (f ≡ arrivals.Memory) ⊎ IsFirs
 IsUnscripted t records failure.Memory = ⊤
 IsUnscripted t records f = ⊥
 
--- what is written of a capture, by what is asked for, and why nothing is
-abbrev pub IsWrittenAs : Written → Import → List Record → Said → Type 0
-IsWrittenAs written.Schedule i records s = IsShownOf shown.Schedule i records s
-IsWrittenAs written.Table i records s = IsShownOf shown.Table i records s
-IsWrittenAs written.Summary i records s = IsShownOf shown.Summary i records s
-IsWrittenAs (written.Script round depth) i records s = IsScripted (terms_of i round depth) records s
-IsWrittenAs (written.Blame b) i records s = IsBlamedOf b i records s
-IsWrittenAs (written.Replay r) i records s = IsReplayedOf r i records s
-IsWrittenAs (written.Replayed p how) i records s = IsReplayedOnce p how i records s
+-- what is written of a capture, by what is asked for in words, and why nothing is
+abbrev pub IsWrittenAs : Written → List (List ℕ) → Import → List Record → Said → Type 0
+IsWrittenAs written.Schedule words i records s = IsShownOf shown.Schedule i records s
+IsWrittenAs written.Table words i records s = IsShownOf shown.Table i records s
+IsWrittenAs written.Summary words i records s = IsShownOf shown.Summary i records s
+IsWrittenAs (written.Script round depth) words i records s = IsScripted (terms_of i round depth) records s
+IsWrittenAs (written.Blame b) words i records s = IsBlamedOf b i records s
+IsWrittenAs (written.Replay r) words i records s = IsReplayedOf (IsReplaysText (each_wanted r)) i records s
+IsWrittenAs (written.Grid g) words i records s = IsReplayedOf (IsGridText words g) i records s
+IsWrittenAs (written.Replayed p how) words i records s = IsReplayedOf (IsOneReplayText p how records) i records s
 
-abbrev pub IsUnwrittenAs : Written → Import → List Record → Failure → Type 0
-IsUnwrittenAs (written.Script round depth) i records f = IsUnscripted (terms_of i round depth) records f
-IsUnwrittenAs (written.Replay r) i records f = IsUnreplayedOf r i records f
-IsUnwrittenAs (written.Replayed p how) i records f = IsUnreplayedOnce p i records f
-IsUnwrittenAs w i records f = IsUnshown i records f
+abbrev pub IsUnwrittenAs : Written → List (List ℕ) → Import → List Record → Failure → Type 0
+IsUnwrittenAs (written.Script round depth) words i records f = IsUnscripted (terms_of i round depth) records f
+IsUnwrittenAs (written.Replay r) words i records f = IsUnreplayedOf (AreUnreplayed r.plans) i records f
+IsUnwrittenAs (written.Grid g) words i records f = IsUnreplayedOf (IsGridUnreplayed words) i records f
+IsUnwrittenAs (written.Replayed p how) words i records f = IsUnreplayedOf (IsUnmade p.sched) i records f
+IsUnwrittenAs w words i records f = IsUnshown i records f
 
-abbrev pub IsImported : Import → List Record → Said → Type 0
-IsImported i records s = IsWrittenAs i.written i records s
+abbrev pub IsImported : List (List ℕ) → Import → List Record → Said → Type 0
+IsImported words i records s = IsWrittenAs i.written words i records s
 
-abbrev pub IsUnimported : Import → List Record → Failure → Type 0
-IsUnimported i records f = IsUnwrittenAs i.written i records f
+abbrev pub IsUnimported : List (List ℕ) → Import → List Record → Failure → Type 0
+IsUnimported words i records f = IsUnwrittenAs i.written words i records f
 
 -- what is said of where a capture comes from is said before the note
 abbrev pub IsSaidFrom : Option Printed → List Record → Said → Said → Type 0
 IsSaidFrom p records base s = (told : List ℕ) × IsSourceTold p records told × (s ≡ record base { note = noted told base.note })
 
+-- this is written of a capture that was read
+pub record IsWrittenOf (words : List (List ℕ)) (i : Import) (read : CaptureRead) (s : Said) : Type 0 where
+  pub base : Said
+  pub imported : IsImported words i read.records.items base
+  pub said : IsSaidFrom read.printed read.records.items base s
+
+-- or nothing is, or memory ran out
+abbrev pub IsUnwrittenOf : List (List ℕ) → Import → CaptureRead → Failure → Type 0
+IsUnwrittenOf words i read f = IsUnimported words i read.records.items f ⊎ (f ≡ failure.Memory)
+
 -- bytes are a capture of the form that is asked for, or that its first lines tell, and this is written of it
-pub record IsImportedOf (i : Import) (bytes : List ℕ) (s : Said) : Type 0 where
+pub record IsImportedOf (words : List (List ℕ)) (i : Import) (bytes : List ℕ) (s : Said) : Type 0 where
   pub read : CaptureRead
   pub is_read : IsCaptureRead i.source.form i.source.device bytes read
-  pub base : Said
-  pub imported : IsImported i read.records.items base
-  pub said : IsSaidFrom read.printed read.records.items base s
+  pub written : IsWrittenOf words i read s
 
 -- they are refused for their first fault
 abbrev pub IsUnreadFrom : Import → List ℕ → Failure → Type 0
@@ -245,25 +289,25 @@ IsUnreadFrom i bytes failure.Memory = ⊤
 IsUnreadFrom i bytes f = ⊥
 
 -- or nothing is written of the capture that was read
-pub record IsRefusedFrom (i : Import) (bytes : List ℕ) (f : Failure) : Type 0 where
+pub record IsRefusedFrom (words : List (List ℕ)) (i : Import) (bytes : List ℕ) (f : Failure) : Type 0 where
   pub read : CaptureRead
   pub is_read : IsCaptureRead i.source.form i.source.device bytes read
-  pub refused : IsUnimported i read.records.items f
+  pub refused : IsUnimported words i read.records.items f
 
-abbrev pub IsUnimportedOf : Import → List ℕ → Failure → Type 0
-IsUnimportedOf i bytes f = IsUnreadFrom i bytes f ⊎ IsRefusedFrom i bytes f
+abbrev pub IsUnimportedOf : List (List ℕ) → Import → List ℕ → Failure → Type 0
+IsUnimportedOf words i bytes f = IsUnreadFrom i bytes f ⊎ IsRefusedFrom words i bytes f
 
 -- the same of the bytes of the input, where these are known
-pub record IsImportedFrom (i : Import) (input : Option (List ℕ)) (s : Said) : Type 0 where
+pub record IsImportedFrom (words : List (List ℕ)) (i : Import) (input : Option (List ℕ)) (s : Said) : Type 0 where
   pub bytes : List ℕ
   pub given : IfSome input (λ known. bytes ≡ known)
-  pub of : IsImportedOf i bytes s
+  pub of : IsImportedOf words i bytes s
 
-pub record IsRefusedInput (i : Import) (input : Option (List ℕ)) (f : Failure) : Type 0 where
+pub record IsRefusedInput (words : List (List ℕ)) (i : Import) (input : Option (List ℕ)) (f : Failure) : Type 0 where
   pub bytes : List ℕ
   pub given : IfSome input (λ known. bytes ≡ known)
-  pub of : IsUnimportedOf i bytes f
+  pub of : IsUnimportedOf words i bytes f
 
 -- or the reader failed, or memory ran out
-abbrev pub IsUnimportedFrom : Import → Option (List ℕ) → Bool → Failure → Type 0
-IsUnimportedFrom i input failed f = IsUnexplained failed f ⊎ IsRefusedInput i input f
+abbrev pub IsUnimportedFrom : List (List ℕ) → Import → Option (List ℕ) → Bool → Failure → Type 0
+IsUnimportedFrom words i input failed f = IsUnexplained failed f ⊎ IsRefusedInput words i input f

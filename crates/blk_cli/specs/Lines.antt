@@ -48,6 +48,10 @@ signed_line name number = numbered name (signed_decimal number)
 abbrev pub at_record : ℕ → List ℕ → List ℕ
 at_record at name = codes "blk: record " ++ (decimal at ++ (codes ": " ++ (name ++ 10 ∷ [])))
 
+-- and more behind it
+abbrev pub more_line : ℕ → List ℕ → List ℕ → List ℕ
+more_line at name more = codes "blk: record " ++ (decimal at ++ (codes ": " ++ (name ++ (codes ": " ++ (more ++ 10 ∷ [])))))
+
 abbrev pub at_line : ℕ → List ℕ → List ℕ
 at_line at name = codes "blk: line " ++ (decimal at ++ (codes ": " ++ (name ++ 10 ∷ [])))
 
@@ -119,9 +123,16 @@ abbrev pub import_line : ImportFault → List ℕ
 import_line capture.Memory = want_of_memory
 import_line (capture.TooMany n) = too_many_line (import_fault_name (capture.TooMany n)) n
 
+-- of arrivals that are no script, of some what to do
+abbrev pub arrivals_text : ArrivalsFault → List ℕ
+arrivals_text arrivals.TooMany = codes "TooMany: a script has at most 64 submitters, and more processes and processors queue bios, so take less of the capture"
+arrivals_text arrivals.TraceFull = codes "TraceFull: a bio comes in after round 1000000, so take a longer --round"
+arrivals_text arrivals.TooLong = codes "TooLong: a script has at most 999998 steps, so take a longer --round or less of the capture"
+arrivals_text fault = fault_name fault
+
 abbrev pub arrivals_line : ArrivalsFault → List ℕ
 arrivals_line arrivals.Memory = want_of_memory
-arrivals_line fault = line (fault_name fault)
+arrivals_line fault = line (arrivals_text fault)
 
 -- the line on a failure
 abbrev pub failure_line : Failure → List ℕ

@@ -15,8 +15,8 @@ use Rattle.blk_settings.specs.declared.Settled.{Settled}
 use Rattle.blk_settings.specs.declared.numbers.Load.{Load}
 use Rattle.blk_trace.specs.Events.{AreOnce}
 use Rattle.blk_trace.specs.Traces.{Traced}
-use Rattle.blk_words.specs.declared.words.ShownLoad.{ShownLoad}
-use Rattle.blk_words.specs.declared.words.ShownLoad.TheVariants as shown
+use Rattle.blk_words.specs.declared.inputs.ShownLoad.{ShownLoad}
+use Rattle.blk_words.specs.declared.inputs.ShownLoad.TheVariants as shown
 use Rattle.blk_cli.specs.Forms.{written_in}
 use Rattle.blk_cli.specs.OfTraces.{IsTraceText}
 

@@ -4,39 +4,22 @@ ghost use Rattle.std.specs.Prelude.{◌≡◌, ◌≤◌, IfOk, IfErr, length};
 ghost use Rattle.edd_commands.specs.declared.TheConstants.{MAX_COMMANDS};
 ghost use Rattle.blk_capture.specs.Requests.{AreInOrder, AreTimed};
 ghost use Rattle.blk_cli.specs.Said.{said_of};
-ghost use Rattle.blk_cli.specs.Importing.{IsBlamingAnswer, IsBlamingText, IsBlamedOf, IsUnshown};
+ghost use Rattle.blk_cli.specs.Importing.{IsWholeBlame, IsEachBlame, IsBlameCertificate, aim_of, IsTightestText, IsBlamingText, IsBlamedOf, IsUnshown};
 
 use crate::Answered;
 use crate::failure::Failure;
 use crate::forms::written;
 use crate::importing::{asked_of, note_on, tags_asked};
-use answer::Answer;
-use blk_blame::{blame_answer, each_answer};
-use blk_capture::{CapturedRequest, Record};
+use crate::lists::most_of;
+use blk_bio::Dir;
+use blk_blame::{Aim, blame_answer, each_answer, tightest_answer};
+use blk_capture::{CapturedRequest, CountedSchedule, Record, rounds_of};
 use blk_capture_text::{ShownImport, first_time};
-use blk_words::{Blaming, Import};
+use blk_words::{Blaming, Form, Import, ShownBlame, TightestAsked};
 use std::alloc::{AllocError, Global};
 
-/// What is said of what the late ones of requests are blamed on, or of each of them.
-fn answer_of(
-    alloc: Global,
-    blaming: Blaming,
-    begin: u64,
-    requests: &[CapturedRequest],
-) -> Result<Answer, AllocError>
-    requires timed { AreTimed requests.now }
-    requires few { length requests.now ≤ MAX_COMMANDS }
-    ensures { IfOk result (IsBlamingAnswer blaming begin requests.now) }
-{
-    if blaming.each {
-        each_answer(alloc, begin, requests)
-    } else {
-        blame_answer(alloc, blaming.most, begin, requests)
-    }
-}
-
-/// The same as text.
-fn text_of(
+/// What is said of what the late ones of requests are blamed on.
+fn whole_text(
     alloc: Global,
     blaming: Blaming,
     begin: u64,
@@ -44,10 +27,99 @@ fn text_of(
 ) -> Result<Vec<u8>, AllocError>
     requires timed { AreTimed requests.now }
     requires few { length requests.now ≤ MAX_COMMANDS }
-    ensures { IfOk result (λ text. IsBlamingText blaming begin requests.now text.items) }
+    ensures { IfOk result (λ text. IsWholeBlame blaming begin requests.now text.items) }
 {
-    let answer = answer_of(alloc, blaming, begin, requests)?;
+    let answer = blame_answer(alloc, blaming.most, begin, requests)?;
     written(alloc, blaming.form, &answer)
+}
+
+/// What is said of each of them.
+fn each_text(
+    alloc: Global,
+    form: Form,
+    begin: u64,
+    requests: &[CapturedRequest],
+) -> Result<Vec<u8>, AllocError>
+    requires timed { AreTimed requests.now }
+    requires few { length requests.now ≤ MAX_COMMANDS }
+    ensures { IfOk result (λ text. IsEachBlame form begin requests.now text.items) }
+{
+    let answer = each_answer(alloc, begin, requests)?;
+    written(alloc, form, &answer)
+}
+
+/// The certificate of how many requests can be on time.
+fn certificate_of(alloc: Global, requests: &[CapturedRequest]) -> Result<Vec<u8>, AllocError>
+    requires timed { AreTimed requests.now }
+    requires few { length requests.now ≤ MAX_COMMANDS }
+    ensures { IfOk result (λ text. IsBlameCertificate requests.now text.items) }
+{
+    let counted = rounds_of(alloc, requests)?;
+    let CountedSchedule {
+        commands,
+        rounds: _,
+    } = counted;
+    // commands that count requests are refused only when out of memory
+    match most_of(alloc, 1, commands) {
+        Ok(text) => Ok(text),
+        Err(_) => Err(AllocError),
+    }
+}
+
+/// Of which direction the tightest is asked for, by what its requests are due, and how many of them are to be on time.
+fn aim_of(wanted: Import, asked: TightestAsked) -> Aim
+    ensures { result ≡ aim_of wanted asked }
+{
+    if asked.writes {
+        Aim {
+            dir: Dir::Write,
+            expire: wanted.write_expire,
+            share: asked.share,
+        }
+    } else {
+        Aim {
+            dir: Dir::Read,
+            expire: wanted.read_expire,
+            share: asked.share,
+        }
+    }
+}
+
+/// What is said of the least deadline of a direction.
+fn tightest_text(
+    alloc: Global,
+    form: Form,
+    aim: Aim,
+    requests: &[CapturedRequest],
+) -> Result<Vec<u8>, AllocError>
+    requires timed { AreTimed requests.now }
+    requires few { length requests.now ≤ MAX_COMMANDS }
+    ensures { IfOk result (λ text. IsTightestText form aim requests.now text.items) }
+{
+    let answer = tightest_answer(alloc, requests, aim)?;
+    written(alloc, form, &answer)
+}
+
+/// What is asked for of these.
+fn text_of(
+    alloc: Global,
+    wanted: Import,
+    blaming: Blaming,
+    begin: u64,
+    requests: &[CapturedRequest],
+) -> Result<Vec<u8>, AllocError>
+    requires timed { AreTimed requests.now }
+    requires few { length requests.now ≤ MAX_COMMANDS }
+    ensures { IfOk result (λ text. IsBlamingText blaming wanted begin requests.now text.items) }
+{
+    match blaming.shown {
+        ShownBlame::Whole => whole_text(alloc, blaming, begin, requests),
+        ShownBlame::Each => each_text(alloc, blaming.form, begin, requests),
+        ShownBlame::Certificate => certificate_of(alloc, requests),
+        ShownBlame::Tightest(asked) => {
+            tightest_text(alloc, blaming.form, aim_of(wanted, asked), requests)
+        }
+    }
 }
 
 /// What the late requests of a capture are blamed on, and what is said beside it, as of their schedule.
@@ -67,7 +139,7 @@ pub fn blamed(
         Err(fault) => return Err(Failure::Import(fault)),
     };
     let requests = matched.requests.as_slice();
-    let Ok(text) = text_of(alloc, blaming, first_time(records), requests) else {
+    let Ok(text) = text_of(alloc, wanted, blaming, first_time(records), requests) else {
         return Err(Failure::Memory);
     };
     let tags = tags_asked(wanted.source.tags);

@@ -1,16 +1,21 @@
 //! The job over a text of any form: what it is, with the subcommands that take it, or what is wrong with it.
 
-ghost use Rattle.std.specs.Prelude.{◌≡◌, ◌++◌, IfOk, IfErr, Some};
+ghost use Rattle.std.specs.Prelude.{◌≡◌, ◌++◌, IfOk, IfErr};
+ghost use Rattle.blk_explain.specs.Findings.{rows_of};
 ghost use Rattle.blk_cli.specs.Said.{said_of};
-ghost use Rattle.blk_cli.specs.Explaining.{text_kind, names_line, repeated_line, takers_line, AreRowsExplained, IsPrintedExplained, IsTextExplained, IsUnexplained};
+ghost use Rattle.blk_cli.specs.Explaining.{text_kind, names_line, repeated_line, takers_line, IsScriptRun, IsStepIn, IsToldRefused, AreRowsExplained, IsPrintedExplained, IsTextExplained, IsUnexplained};
 
 use crate::Answered;
 use crate::failure::Failure;
 use blk_capture_text::form_taken;
-use blk_explain::{TextForm, explain, explain_lines};
+use blk_explain::{RefusedStep, StepState, TextForm, explain, explain_lines, explain_step};
 use blk_lists::{Records, read_commands};
 use blk_recorders::{CaptureForm, Recorder};
-use blk_text::read_trace;
+use blk_runs::{RunFault, traced};
+use blk_settings::setting::MAX_SETTINGS;
+use blk_settings::{Sched, SchedKind};
+use blk_sim::{SimFault, SimWhy};
+use blk_text::{read_script, read_trace};
 use blk_words::{TextKind, takers_text};
 use edd_commands::Capacity;
 use edd_oracle::{OracleFault, solve};
@@ -151,12 +156,98 @@ fn lines_about(alloc: Global, recorder: Recorder, bytes: &[u8]) -> Result<Answer
     }
 }
 
+/// What a step has to be instead of one that is refused.
+fn step_wanted(why: SimWhy) -> &'static str {
+    match why {
+        SimWhy::Full => "a flush of the plug before",
+        SimWhy::SoftFull(_) => "room in the software queue",
+        SimWhy::Repeated(_) => "bios that did not enter before",
+        SimWhy::TraceFull => "no more events than a trace may have",
+        SimWhy::TagRange => "a tag below the depth of the round",
+        SimWhy::SlotUsed => "a tag that was not issued in this round",
+        SimWhy::NotIssued => "a tag with a command in flight",
+        SimWhy::InFlight => "no command in flight at the end of a round",
+        SimWhy::DepthRange => "a depth of 1 to that of the title",
+        SimWhy::Memory => "more memory",
+    }
+}
+
+/// What refuses a step.
+fn state_of(why: SimWhy) -> StepState {
+    match why {
+        SimWhy::SoftFull(overflow) => StepState::Full(
+            overflow.holds,
+            overflow.room,
+            overflow.brings,
+        ),
+        SimWhy::Repeated(id) => StepState::Entered(id),
+        _ => StepState::Other(step_wanted(why)),
+    }
+}
+
+/// The step of a script that a run under the scheduler `none` refuses, if it refuses one.
+fn refused_in(alloc: Global, bytes: &[u8]) -> Result<Option<SimFault>, AllocError>
+    ensures { IfOk result (IsScriptRun (rows_of bytes.now)) }
+{
+    let Ok(script) = read_script(alloc, &mut Records::new(alloc, bytes)) else {
+        return Err(AllocError);
+    };
+    let none = Sched {
+        kind: SchedKind::None,
+        values: [0; MAX_SETTINGS],
+    };
+    match traced(alloc, none, &script) {
+        Ok(_) => Ok(None),
+        Err(RunFault::Step(fault)) => {
+            if fault.why == SimWhy::Memory {
+                return Err(AllocError);
+            }
+            Ok(Some(fault))
+        }
+        Err(_) => Err(AllocError),
+    }
+}
+
+/// The step that is refused of records of this form, which have no fault.
+fn step_in(
+    alloc: Global,
+    bytes: &[u8],
+    form: Option<TextForm>,
+) -> Result<Option<SimFault>, AllocError>
+    ensures { IfOk result (IsStepIn form (rows_of bytes.now)) }
+{
+    match form {
+        Some(TextForm::Script) => refused_in(alloc, bytes),
+        _ => Ok(None),
+    }
+}
+
+/// What is said of a refused step.
+fn refused_about(alloc: Global, bytes: &[u8], fault: SimFault) -> Result<Answered, AllocError>
+    ensures { IfOk result (λ answer. IsToldRefused fault (said_of answer)) }
+{
+    let step = RefusedStep {
+        at: fault.at,
+        why: fault.why.name(),
+        state: state_of(fault.why),
+    };
+    let text = explain_step(alloc, bytes, step)?;
+    Ok(Answered {
+        text,
+        note: None,
+        good: false,
+    })
+}
+
 /// What is said about the records of these bytes, with the subcommands that take them.
 fn rows_about(alloc: Global, bytes: &[u8]) -> Result<Answered, AllocError>
     ensures { IfOk result (λ answer. AreRowsExplained bytes.now (said_of answer)) }
 {
     let explained = explain(alloc, bytes)?;
     let form = explained.finding.form();
+    if let Some(fault) = step_in(alloc, bytes, form)? {
+        return refused_about(alloc, bytes, fault);
+    }
     let refuser = refuser_of(alloc, bytes, form)?;
     let text = with_takers(alloc, explained.text, form, refuser)?;
     Ok(Answered {

@@ -3,7 +3,7 @@
 ghost use Rattle.std.specs.Prelude.{◌≡◌, ◌≤◌, decimal};
 ghost use Rattle.drafts.specs.Outputs.{Writes, stream_of};
 ghost use Rattle.blk_words.specs.Refusals.{refusal_text};
-ghost use Rattle.blk_cli.specs.Lines.{line, want_of_memory, numbered, signed_line, at_record, at_line, text_line, printed_line, step_line, oracle_line, too_many_line, import_line, check_line, on_time_check_line, failure_line, status_of};
+ghost use Rattle.blk_cli.specs.Lines.{line, want_of_memory, numbered, signed_line, at_record, more_line, at_line, text_line, printed_line, step_line, oracle_line, too_many_line, import_line, arrivals_text, check_line, on_time_check_line, failure_line, status_of};
 ghost use Rattle.blk_cli.specs.Ends.{EndsFailing};
 ghost use Rattle.blk_cli.specs.Inside.Lines.{list_line};
 ghost use Rattle.blk_cli.specs.Inside.Scripts.{failure_of_run};
@@ -139,7 +139,7 @@ impl Failure {
             Failure::Import(fault) => tell_import(faults, *fault),
             Failure::Arrivals(fault) => match fault {
                 ArrivalsFault::Memory => tell_memory(faults),
-                _ => tell_name(faults, fault.name()),
+                _ => tell_name(faults, arrivals_text(*fault)),
             },
             Failure::Words(refusal) => tell_words(faults, *refusal),
             Failure::Write => tell_name(faults, "write fault"),
@@ -186,6 +186,30 @@ fn tell_record<F: Write>(faults: &mut Output<F>, at: u64, name: &str) -> Result<
     let record: &[u8] = b"blk: record ";
     let colon: &[u8] = b": ";
     faults.put_all(&[record, &digits[..end], colon, name.as_bytes(), END])
+}
+
+/// The same with more behind the name.
+pub(crate) fn tell_more<F: Write>(
+    faults: &mut Output<F>,
+    at: u64,
+    name: &str,
+    more: &[u8],
+) -> Result<(), WriteFault>
+    ensures { Writes (more_line at name.now more.now) (stream_of F.contents faults.old) (stream_of F.contents faults.new) result }
+{
+    let mut digits = [0; MAX_DIGITS];
+    let end = put_number(at, &mut digits, 0);
+    let record: &[u8] = b"blk: record ";
+    let colon: &[u8] = b": ";
+    faults.put_all(&[
+        record,
+        &digits[..end],
+        colon,
+        name.as_bytes(),
+        colon,
+        more,
+        END,
+    ])
 }
 
 /// Writes the line on a line that a recorder printed.
@@ -265,6 +289,21 @@ fn tell_too_many<F: Write>(faults: &mut Output<F>, name: &str, count: u64) -> Re
     let rest: &[u8] =
         b" requests, and a schedule has at most 1000000: take a part by --first or --skip";
     faults.put_all(&[START, name.as_bytes(), colon, &digits[..end], rest, END])
+}
+
+/// What is said of a capture whose arrivals are no script: the name, and of some what to do.
+fn arrivals_text(fault: ArrivalsFault) -> &'static str
+    ensures { result.now ≡ arrivals_text fault }
+{
+    match fault {
+        ArrivalsFault::TooMany =>
+            "TooMany: a script has at most 64 submitters, and more processes and processors queue bios, so take less of the capture",
+        ArrivalsFault::TraceFull =>
+            "TraceFull: a bio comes in after round 1000000, so take a longer --round",
+        ArrivalsFault::TooLong =>
+            "TooLong: a script has at most 999998 steps, so take a longer --round or less of the capture",
+        _ => fault.name(),
+    }
 }
 
 /// Writes the line on words that can't be done.

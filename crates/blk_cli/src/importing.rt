@@ -1,27 +1,30 @@
 //! The job over a capture: what is written of it, what is said of what that leaves out, and its arrivals as a script.
 
-ghost use Rattle.std.specs.Prelude.{◌≡◌, ◌≤◌, [], IfOk, IfErr, length, option_map};
+ghost use Rattle.std.specs.Prelude.{◌≡◌, ◌≤◌, [], IfOk, IfErr, length, map, option_map, string_bytes};
 ghost use Rattle.edd_commands.specs.declared.TheConstants.{MAX_COMMANDS};
 ghost use Rattle.blk_capture.specs.Requests.{AreInOrder, AreTimed};
+ghost use Rattle.blk_capture_text.specs.Source.{IsCaptureRead};
 ghost use Rattle.blk_cli.specs.Said.{said_of};
-ghost use Rattle.blk_cli.specs.Importing.{entry_asked, most_asked, asked_of, terms_of, line_on, note_by, IsShownOf, IsUnshown, IsScripted, IsUnscripted, IsImported, IsUnimported, noted, tags_asked, IsNoteOn, IsSaidFrom, IsImportedOf, IsUnimportedOf, IsImportedFrom};
+ghost use Rattle.blk_cli.specs.Importing.{entry_asked, most_asked, asked_of, terms_of, line_on, note_by, IsShownOf, IsUnshown, IsScripted, IsUnscripted, IsImported, IsUnimported, noted, tags_asked, IsNoteOn, IsSaidFrom, IsImportedFrom, IsUnreadFrom, IsWrittenOf, IsUnwrittenOf};
 ghost use Rattle.blk_cli.specs.Ends.{IsFailureOf, IsUntaken};
 
 use crate::blaming::blamed;
 use crate::failure::Failure;
 use crate::notes::{doubt_text, source_text};
-use crate::replaying::{replayed, replayed_once};
+use crate::replaying::{replayed, replayed_grid, replayed_once};
 use crate::{Answered, NoText, without};
 use blk_arrivals::{Terms, USUAL_DEPTH, script_of, script_text};
 use blk_capture::{Entry, Matched, Options, Record, summarize};
 use blk_capture_text::{
-    ImportAsked, Printed, ShownImport, UnreadCapture, UnusedCounts, count_fates, notice_text,
-    read_source, shown_text,
+    CaptureRead, ImportAsked, Printed, ShownImport, UnreadCapture, UnusedCounts, count_fates,
+    notice_text, read_source, shown_text,
 };
 use blk_lists::Records;
 use blk_words::{Import, Job, Written};
 use std::alloc::{AllocError, Global};
 use std::io::Read;
+use std::thread::Threads;
+use turns::Progress;
 
 /// When a request counts as having come in.
 fn entry_asked(from_queue: bool) -> Entry
@@ -218,10 +221,17 @@ fn scripted(alloc: Global, terms: Terms, records: &[Record]) -> Result<Answered,
 }
 
 /// What is written of the records of a capture.
-fn imported(alloc: Global, wanted: Import, records: &[Record]) -> Result<Answered, Failure>
+fn imported<T: Threads + Sync, P: Progress>(
+    rt: &T,
+    alloc: Global,
+    words: &[String],
+    wanted: Import,
+    records: &[Record],
+    progress: &mut P,
+) -> Result<Answered, Failure>
     requires { AreInOrder records.now (length records.now) }
-    ensures answers { IfOk result (λ answer. IsImported wanted records.now (said_of answer)) }
-    ensures fails { IfErr result (IsUnimported wanted records.now) }
+    ensures answers { IfOk result (λ answer. IsImported (map string_bytes words.now) wanted records.now (said_of answer)) }
+    ensures fails { IfErr result (IsUnimported (map string_bytes words.now) wanted records.now) }
 {
     match wanted.written {
         Written::Schedule => shown_of(alloc, wanted, ShownImport::Schedule, records),
@@ -232,7 +242,8 @@ fn imported(alloc: Global, wanted: Import, records: &[Record]) -> Result<Answere
             scripted(alloc, terms, records)
         }
         Written::Blame(blaming) => blamed(alloc, wanted, blaming, records),
-        Written::Replay(replaying) => replayed(alloc, wanted, replaying, records),
+        Written::Replay(replaying) => replayed(rt, alloc, wanted, replaying, records, progress),
+        Written::Grid(grid) => replayed_grid(rt, alloc, words, wanted, grid, records, progress),
         Written::Replayed(plan, shown) => replayed_once(alloc, wanted, plan, shown, records),
     }
 }
@@ -257,18 +268,34 @@ fn with_source(
     }
 }
 
-/// What is written of the bytes of a capture.
-fn over_text(alloc: Global, wanted: Import, bytes: &[u8]) -> Result<Answered, Failure>
-    ensures answers { IfOk result (λ answer. IsImportedOf wanted bytes.now (said_of answer)) }
-    ensures fails { IfErr result (IsUnimportedOf wanted bytes.now) }
+/// The capture that bytes are, by what is wanted of it.
+fn capture_of(alloc: Global, wanted: Import, bytes: &[u8]) -> Result<CaptureRead, Failure>
+    ensures ok { IfOk result (IsCaptureRead wanted.source.form wanted.source.device bytes.now) }
+    ensures in_order { IfOk result (λ r. AreInOrder r.records.items (length r.records.items)) }
+    ensures err { IfErr result (IsUnreadFrom wanted bytes.now) }
 {
-    let read = match read_source(alloc, wanted.source.form, wanted.source.device, bytes) {
-        Ok(read) => read,
-        Err(UnreadCapture::Text(fault)) => return Err(Failure::Text(fault)),
-        Err(UnreadCapture::Line(fault)) => return Err(Failure::Line(fault)),
-        Err(UnreadCapture::Memory) => return Err(Failure::Memory),
-    };
-    let answer = match imported(alloc, wanted, read.records.as_slice()) {
+    match read_source(alloc, wanted.source.form, wanted.source.device, bytes) {
+        Ok(read) => Ok(read),
+        Err(UnreadCapture::Text(fault)) => Err(Failure::Text(fault)),
+        Err(UnreadCapture::Line(fault)) => Err(Failure::Line(fault)),
+        Err(UnreadCapture::Memory) => Err(Failure::Memory),
+    }
+}
+
+/// What is written of a capture that was read.
+fn over_read<T: Threads + Sync, P: Progress>(
+    rt: &T,
+    alloc: Global,
+    words: &[String],
+    wanted: Import,
+    read: &CaptureRead,
+    progress: &mut P,
+) -> Result<Answered, Failure>
+    requires { AreInOrder read.now.records.items (length read.now.records.items) }
+    ensures answers { IfOk result (λ answer. IsWrittenOf (map string_bytes words.now) wanted read.now (said_of answer)) }
+    ensures fails { IfErr result (IsUnwrittenOf (map string_bytes words.now) wanted read.now) }
+{
+    let answer = match imported(rt, alloc, words, wanted, read.records.as_slice(), progress) {
         Ok(answer) => answer,
         Err(failure) => return Err(failure),
     };
@@ -289,21 +316,30 @@ fn untaken(alloc: Global, wanted: Import, bytes: &[u8], failure: Failure) -> NoT
     }
 }
 
-/// Reads all of the input as a capture, and gives what is written of it.
-pub fn over_capture<R: Read + Drop>(
+/// Reads all of the input as a capture, and gives what is written of it. The text is given back before its records are matched, which takes as
+/// much memory again. Replays go on the threads of `rt`, and `progress` hears how far they have come.
+pub fn over_capture<T: Threads + Sync, R: Read + Drop, P: Progress>(
+    rt: &T,
     alloc: Global,
+    words: &[String],
     wanted: Import,
     records: &mut Records<R>,
+    progress: &mut P,
 ) -> Result<Answered, NoText>
-    ensures answers { IfOk result (λ answer. IsImportedFrom wanted records.old.bytes (said_of answer)) }
-    ensures fails { IfErr result (IsUntaken wanted records.old.bytes records.new.failed) }
+    ensures answers { IfOk result (λ answer. IsImportedFrom (map string_bytes words.now) wanted records.old.bytes (said_of answer)) }
+    ensures fails { IfErr result (IsUntaken (map string_bytes words.now) wanted records.old.bytes records.new.failed) }
 {
     let bytes = match records.bytes(alloc) {
         Ok(bytes) => bytes,
         Err(why) => return Err(NoText::Failure(Failure::Text(records.fault(why)))),
     };
-    match over_text(alloc, wanted, bytes.as_slice()) {
+    let read = match capture_of(alloc, wanted, bytes.as_slice()) {
+        Ok(read) => read,
+        Err(failure) => return Err(untaken(alloc, wanted, bytes.as_slice(), failure)),
+    };
+    drop(bytes);
+    match over_read(rt, alloc, words, wanted, &read, progress) {
         Ok(answer) => Ok(answer),
-        Err(failure) => Err(untaken(alloc, wanted, bytes.as_slice(), failure)),
+        Err(failure) => Err(NoText::Failure(failure)),
     }
 }

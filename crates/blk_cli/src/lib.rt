@@ -5,7 +5,7 @@ ghost use Rattle.std.specs.Prelude.{◌≡◌, ◌≤◌, IfOk, IfErr, map, stri
 ghost use Rattle.drafts.specs.Outputs.{stream_of};
 ghost use Rattle.blk_cli.specs.Said.{only, said_of, IsAlone};
 ghost use Rattle.blk_cli.specs.Gives.{GivesText, TellsOf, HasNoText, GivesAnswer, HasNoAnswer, ReadsNothing, version_line};
-ghost use Rattle.blk_cli.specs.Ends.{Answers, AskForGood, AskForNoInput, AskForTexts, IsWithout, IsWithoutAnswer, IsFailureOf, title_line, status_with, SaysBeside, EndsSaying, EndsWithout, RunEndsOn};
+ghost use Rattle.blk_cli.specs.Ends.{Answers, AskForGood, AskForNoInput, AskForTexts, IsWithout, IsWithoutAnswer, IsFailureOf, says_more, line_told, status_with, SaysBeside, EndsSaying, EndsWithout, RunEndsOn};
 ghost use Rattle.blk_cli.specs.Inside.Ends.{EndsPutOn};
 
 mod blaming;
@@ -31,18 +31,18 @@ mod unflushed;
 use crate::checking::over_proof;
 use crate::explaining::over_bytes;
 pub use crate::failure::Failure;
+use crate::failure::tell_more;
 use crate::importing::over_capture;
 use crate::judging::over_schedule;
 use crate::lists::over_list;
 use crate::loading::run_load;
 use crate::scripts::over_script;
-use crate::titles::title_of;
+use crate::titles::more_of;
 use crate::traces::over_trace;
 use crate::tuning::over_trial;
-use blk_lists::{Records, Why};
+use blk_lists::{Records, TextFault, Why};
 use blk_settings::Loads;
 pub use blk_sim::laws;
-use blk_tune::Progress;
 use blk_words::{Job, NoJob, TextJob, choose, version};
 use csv::ByteRecord;
 use drafts::Output;
@@ -50,6 +50,7 @@ use std::alloc::Global;
 use std::io::{Read, Write};
 use std::sync::Wait;
 use std::thread::Threads;
+use turns::Progress;
 
 /// The exit status of a run that did what it was asked.
 const GOOD: u8 = 0;
@@ -65,11 +66,6 @@ const FAILED: u8 = 3;
 
 /// The line for words that clap takes and that name no job: only these two flags do.
 const NO_JOB: &[u8] = b"blk: --trace and --met exclude one another\n";
-
-/// What the line on a text with the title of another begins with, and what it ends with.
-const TITLE: &[u8] = b"blk: record 1: Title: ";
-
-const END: &[u8] = b"\n";
 
 /// How a run ended.
 #[derive(Clone, Copy, Debug, PartialEq, Eq)]
@@ -135,8 +131,9 @@ impl Answered {
 pub enum NoText {
     /// The job that they ask for fails, or memory ran out before they were read.
     Failure(Failure),
-    /// The job that they ask for fails since the title is that of another text: what that is, and what was wanted.
-    Title(Vec<u8>),
+    /// The job that they ask for fails for a fault of its text, of which more is said than its name: what the text is and what was wanted, where
+    /// the title is that of another; or what to do with one that is too long.
+    Told(TextFault, Vec<u8>),
     /// They are no command line of the program, or ask for its help: what clap says of them.
     Usage(String),
     /// Their flags exclude one another.
@@ -151,7 +148,7 @@ impl NoText {
     {
         match self {
             NoText::Failure(failure) => failure.say(faults),
-            NoText::Title(text) => refuse_title(text.as_slice(), faults),
+            NoText::Told(fault, text) => refuse_text(*fault, text.as_slice(), faults),
             NoText::Usage(text) => refuse(text.as_bytes(), faults),
             NoText::Excluded => refuse(NO_JOB, faults),
         }
@@ -174,11 +171,11 @@ fn refuse<F: Write>(line: &[u8], faults: &mut Output<F>) -> Ended
     }
 }
 
-/// Writes the line on a text with the title of another and ends with its status, even where the line can't be written.
-fn refuse_title<F: Write>(text: &[u8], faults: &mut Output<F>) -> Ended
-    ensures { EndsSaying 1 (title_line text.now) (stream_of F.contents faults.old) (stream_of F.contents faults.new) result }
+/// Writes the line on a fault of a text of which more is said than its name, and ends with its status, even where the line can't be written.
+fn refuse_text<F: Write>(fault: TextFault, text: &[u8], faults: &mut Output<F>) -> Ended
+    ensures { EndsSaying 1 (line_told fault text.now) (stream_of F.contents faults.old) (stream_of F.contents faults.new) result }
 {
-    match faults.put_all(&[TITLE, text, END]) {
+    match tell_more(faults, fault.at, fault.why.name(), text) {
         Ok(()) => Ended {
             status: REFUSED,
             said: true,
@@ -231,26 +228,36 @@ fn work<R: Read + Drop>(
     }
 }
 
+/// Whether more is said of a fault than its name.
+fn says_more(why: Why) -> bool
+    ensures { result ≡ says_more why }
+{
+    match why {
+        Why::Title | Why::TooLong => true,
+        _ => false,
+    }
+}
+
 /// Why a job has no answer, given its failure and the record that was read last. Where a subcommand of the project's own was given the text of
-/// another, that is said.
+/// another, or a capture that is too long, more is said of that.
 fn without(alloc: Global, job: Job, failure: Failure, row: &ByteRecord) -> NoText
     ensures { IsFailureOf failure result }
 {
     let Failure::Text(fault) = failure else {
         return NoText::Failure(failure);
     };
-    if fault.at != 1 || fault.why != Why::Title {
+    if !says_more(fault.why) {
         return NoText::Failure(failure);
     }
-    match title_of(alloc, job, row) {
-        Ok(Some(text)) => NoText::Title(text),
+    match more_of(alloc, job, fault.why, row) {
+        Ok(Some(text)) => NoText::Told(fault, text),
         Ok(None) => NoText::Failure(failure),
         Err(_) => NoText::Failure(Failure::Memory),
     }
 }
 
 /// What a job answers, or why there is none. Each kind is a row here: what it needs. Loads are run by `loads`, on the threads of `rt`, and so are
-/// trials of the grid that the words ask for, which tell `progress` how far they have come.
+/// trials and replays of the grid that the words ask for, which tell `progress` how far they have come.
 fn answer_of<L: Loads, T: Threads + Wait + Sync, R: Read + Drop, P: Progress>(
     loads: &L,
     rt: &T,
@@ -278,7 +285,7 @@ fn answer_of<L: Loads, T: Threads + Wait + Sync, R: Read + Drop, P: Progress>(
             Ok(answer) => Ok(answer),
             Err(failure) => Err(without(alloc, job, failure, records.row())),
         },
-        Job::Import(import) => over_capture(alloc, import, records),
+        Job::Import(import) => over_capture(rt, alloc, words, import, records, progress),
         Job::Refuse(refusal) => Err(NoText::Failure(Failure::Words(refusal))),
         Job::Explain => match over_bytes(alloc, records) {
             Ok(answer) => Ok(answer),
@@ -360,7 +367,9 @@ pub fn run<L: Loads, T: Threads + Wait + Sync, R: Read + Drop, W: Write, F: Writ
     ensures quiet { AskForTexts (map string_bytes words.now) → result.status ≡ 0 → faults.new ≡ faults.old }
     ensures range { result.status ≤ 3 }
 {
-    match answer(loads, rt, alloc, words, records, progress) {
+    let answered = answer(loads, rt, alloc, words, records, progress);
+    progress.over();
+    match answered {
         Ok(answer) => put_out(&answer, out, faults),
         Err(none) => none.say(faults),
     }

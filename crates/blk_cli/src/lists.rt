@@ -91,7 +91,7 @@ fn least_of(alloc: Global, depth: u64, commands: Vec<Command>) -> Result<Vec<u8>
 }
 
 /// The text of the certificate of how many commands can be on time.
-fn most_of(alloc: Global, depth: u64, commands: Vec<Command>) -> Result<Vec<u8>, Failure>
+pub(crate) fn most_of(alloc: Global, depth: u64, commands: Vec<Command>) -> Result<Vec<u8>, Failure>
     requires { AreCommands depth commands.items }
     ensures text { IfOk result (λ text. IsSolved Solving.Most (depth, commands.items) text.items) }
     ensures unsolved { IfErr result (IsUnsolved (depth, commands.items)) }

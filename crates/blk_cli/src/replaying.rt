@@ -1,44 +1,88 @@
 //! The job over a capture that replays its requests.
 
-ghost use Rattle.std.specs.Prelude.{◌≡◌, ◌≤◌, true, IfOk, IfErr, length};
+ghost use Rattle.std.specs.Prelude.{◌≡◌, ◌≤◌, true, IfOk, IfErr, length, map, string_bytes};
 ghost use Rattle.edd_commands.specs.declared.TheConstants.{MAX_COMMANDS};
 ghost use Rattle.blk_capture.specs.Requests.{AreInOrder, AreTimed};
 ghost use Rattle.blk_cli.specs.Said.{said_of};
 ghost use Rattle.blk_settings.specs.Made.{IsUnmade};
-ghost use Rattle.blk_cli.specs.Importing.{IsTakenOf, IsNoteBeside, IsUnshown, IsReplayText, IsNotReplayed, IsReplayedOf, IsUnreplayedOf, IsOneReplayText, IsReplayedOnce, IsUnreplayedOnce};
+ghost use Rattle.blk_replayed.specs.Replays.{AreUnreplayed};
+ghost use Rattle.blk_replayed.specs.Text.{wanted_of, IsReplaysText};
+ghost use Rattle.blk_cli.specs.Importing.{IsTakenOf, IsNoteBeside, IsUnshown, IsNotReplayed, IsReplayedOf, IsUnreplayedOf, each_wanted, IsGridText, IsGridUnreplayed, IsOneReplayText};
 
 use crate::Answered;
 use crate::failure::Failure;
 use crate::importing::{asked_of, note_on, tags_asked};
 use blk_capture::{CapturedRequest, Matched, Record};
 use blk_capture_text::{ShownImport, first_time};
-use blk_replayed::{replay_schedule_text, replay_table_text, replays_text};
+use blk_replayed::{ReplaysAsked, replay_schedule_text, replay_table_text, replays_text};
 use blk_settings::{Plan, SchedFault};
-use blk_words::{Import, Replaying, ShownReplay};
+use blk_words::{GridReplaying, Import, Replaying, ShownReplay, plans_asked};
 use std::alloc::Global;
+use std::thread::Threads;
+use turns::Progress;
 
-/// What is written of replays.
-fn text_of(
+/// What is written of replays, as it is asked.
+fn text_of<T: Threads + Sync, P: Progress>(
+    rt: &T,
     alloc: Global,
-    replaying: &Replaying,
+    asked: &ReplaysAsked<'_>,
     requests: &[CapturedRequest],
+    progress: &mut P,
 ) -> Result<Vec<u8>, Failure>
     requires timed { AreTimed requests.now }
     requires few { length requests.now ≤ MAX_COMMANDS }
-    ensures text { IfOk result (λ text. IsReplayText replaying.now requests.now text.items) }
-    ensures fails { IfErr result (IsNotReplayed replaying.now) }
+    ensures text { IfOk result (λ text. IsReplaysText (wanted_of asked.now) requests.now text.items) }
+    ensures fails { IfErr result (IsNotReplayed (AreUnreplayed asked.now.plans.now)) }
 {
-    let plans = replaying.plans.as_slice();
-    match replays_text(
-        alloc,
-        replaying.form,
-        replaying.by,
-        replaying.top,
-        plans,
-        requests,
-    ) {
+    match replays_text(rt, alloc, asked, requests, progress) {
         Ok(text) => Ok(text),
         Err(fault) => Err(Failure::Sched(fault)),
+    }
+}
+
+/// What is asked of replays under each scheduler: one after the other, so that memory is that of one.
+fn each_asked(replaying: &Replaying) -> ReplaysAsked<'_>
+    ensures { wanted_of result ≡ each_wanted replaying.now }
+{
+    ReplaysAsked {
+        plans: replaying.plans.as_slice(),
+        by: replaying.by,
+        top: replaying.top,
+        expiries: false,
+        threads: Some(1),
+        form: replaying.form,
+    }
+}
+
+/// What is written of replays under each setting of the grid that the words ask for.
+fn grid_text<T: Threads + Sync, P: Progress>(
+    rt: &T,
+    alloc: Global,
+    words: &[String],
+    grid: GridReplaying,
+    requests: &[CapturedRequest],
+    progress: &mut P,
+) -> Result<Vec<u8>, Failure>
+    requires timed { AreTimed requests.now }
+    requires few { length requests.now ≤ MAX_COMMANDS }
+    ensures text { IfOk result (λ text. IsGridText (map string_bytes words.now) grid requests.now text.items) }
+    ensures fails { IfErr result (IsNotReplayed (IsGridUnreplayed (map string_bytes words.now))) }
+{
+    // `choose` found a grid in these words, so only memory can run out.
+    let Ok(plans) = plans_asked(alloc, words) else {
+        return Err(Failure::Memory);
+    };
+    let asked = ReplaysAsked {
+        plans: plans.as_slice(),
+        by: grid.by,
+        top: grid.top,
+        expiries: true,
+        threads: grid.threads,
+        form: grid.form,
+    };
+    match text_of(rt, alloc, &asked, requests, progress) {
+        Ok(text) => Ok(text),
+        Err(failure) => Err(failure),
     }
 }
 
@@ -105,28 +149,60 @@ fn beside(
 }
 
 /// What is written of the requests of a capture, as they went and in replays, and what is said beside it, as of their schedule.
-pub fn replayed(
+pub fn replayed<T: Threads + Sync, P: Progress>(
+    rt: &T,
     alloc: Global,
     wanted: Import,
     replaying: Replaying,
     records: &[Record],
+    progress: &mut P,
 ) -> Result<Answered, Failure>
     requires { AreInOrder records.now (length records.now) }
-    ensures answers { IfOk result (λ answer. IsReplayedOf replaying wanted records.now (said_of answer)) }
-    ensures fails { IfErr result (IsUnreplayedOf replaying wanted records.now) }
+    ensures answers { IfOk result (λ answer. IsReplayedOf (IsReplaysText (each_wanted replaying)) wanted records.now (said_of answer)) }
+    ensures fails { IfErr result (IsUnreplayedOf (AreUnreplayed replaying.plans) wanted records.now) }
 {
     let matched = match taken(alloc, wanted, records) {
         Ok(matched) => matched,
         Err(failure) => return Err(failure),
     };
-    let text = match text_of(alloc, &replaying, matched.requests.as_slice()) {
+    let asked = each_asked(&replaying);
+    let text = match text_of(rt, alloc, &asked, matched.requests.as_slice(), progress) {
         Ok(text) => text,
         Err(failure) => return Err(failure),
     };
-    match beside(alloc, wanted, records, &matched, text) {
-        Ok(answer) => Ok(answer),
-        Err(failure) => Err(failure),
-    }
+    beside(alloc, wanted, records, &matched, text)
+}
+
+/// What is written of them in replays under each setting of the grid that the words ask for, and what is said beside it.
+pub fn replayed_grid<T: Threads + Sync, P: Progress>(
+    rt: &T,
+    alloc: Global,
+    words: &[String],
+    wanted: Import,
+    grid: GridReplaying,
+    records: &[Record],
+    progress: &mut P,
+) -> Result<Answered, Failure>
+    requires { AreInOrder records.now (length records.now) }
+    ensures answers { IfOk result (λ answer. IsReplayedOf (IsGridText (map string_bytes words.now) grid) wanted records.now (said_of answer)) }
+    ensures fails { IfErr result (IsUnreplayedOf (IsGridUnreplayed (map string_bytes words.now)) wanted records.now) }
+{
+    let matched = match taken(alloc, wanted, records) {
+        Ok(matched) => matched,
+        Err(failure) => return Err(failure),
+    };
+    let text = match grid_text(
+        rt,
+        alloc,
+        words,
+        grid,
+        matched.requests.as_slice(),
+        progress,
+    ) {
+        Ok(text) => text,
+        Err(failure) => return Err(failure),
+    };
+    beside(alloc, wanted, records, &matched, text)
 }
 
 /// What is written of a replay of the requests of a capture, and what is said beside it, as of their schedule.
@@ -138,8 +214,8 @@ pub fn replayed_once(
     records: &[Record],
 ) -> Result<Answered, Failure>
     requires { AreInOrder records.now (length records.now) }
-    ensures answers { IfOk result (λ answer. IsReplayedOnce plan shown wanted records.now (said_of answer)) }
-    ensures fails { IfErr result (IsUnreplayedOnce plan wanted records.now) }
+    ensures answers { IfOk result (λ answer. IsReplayedOf (IsOneReplayText plan shown records.now) wanted records.now (said_of answer)) }
+    ensures fails { IfErr result (IsUnreplayedOf (IsUnmade plan.sched) wanted records.now) }
 {
     let matched = match taken(alloc, wanted, records) {
         Ok(matched) => matched,

@@ -1,6 +1,8 @@
-//! The line of the project's own subcommands on a text that is none of those they read: what it is, and what was wanted.
+//! The line of the project's own subcommands on a text that is none of those they read: what it is, and what was wanted; and that of `import` on
+//! a capture that is too long.
 
 use blk_explain::{TextForm, called, form_named};
+use blk_lists::Why;
 use blk_lists::fields::field;
 use blk_recorders::{CaptureForm, Recorder, form_of};
 use blk_settings::FiguresAsked;
@@ -24,7 +26,7 @@ fn teller_of(telling: Telling) -> Option<&'static [u8]> {
 fn importer_of(import: Import) -> &'static [u8] {
     match import.written {
         Written::Blame(_) => b"blame",
-        Written::Replay(_) | Written::Replayed(_, _) => b"replay",
+        Written::Replay(_) | Written::Grid(_) | Written::Replayed(_, _) => b"replay",
         _ => b"import",
     }
 }
@@ -125,10 +127,37 @@ fn title_text(
     draft.finish()
 }
 
+/// What is said behind the fault of a capture with more records than one may have.
+const TOO_LONG: &[u8] = b"a capture has at most 16000000 records, so cut the text before this one";
+
+/// What is said behind the fault of a text that is too long: of a capture, what to do.
+fn length_of(alloc: Global, job: Job) -> Result<Option<Vec<u8>>, AllocError> {
+    let Job::Import(_) = job else {
+        return Ok(None);
+    };
+    let mut text = Vec::new(alloc);
+    text.extend_from_slice(TOO_LONG)?;
+    Ok(Some(text))
+}
+
 /// What is said behind the fault of a text with another title than this job reads, where it is one of the project's own.
-pub fn title_of(alloc: Global, job: Job, row: &ByteRecord) -> Result<Option<Vec<u8>>, AllocError> {
+fn title_of(alloc: Global, job: Job, row: &ByteRecord) -> Result<Option<Vec<u8>>, AllocError> {
     match reader_of(job) {
         Some((name, wanted)) => Ok(Some(title_text(alloc, name, wanted, row)?)),
         None => Ok(None),
+    }
+}
+
+/// What is said behind the name of a fault of the text of a job, given the record that was read last, where there is more to say.
+pub fn more_of(
+    alloc: Global,
+    job: Job,
+    why: Why,
+    row: &ByteRecord,
+) -> Result<Option<Vec<u8>>, AllocError> {
+    match why {
+        Why::Title => title_of(alloc, job, row),
+        Why::TooLong => length_of(alloc, job),
+        _ => Ok(None),
     }
 }

@@ -17,11 +17,12 @@ use blk_lists::Records;
 use blk_runs::RunFault;
 use blk_settings::TrialAsked;
 use blk_text::{Script, read_script};
-use blk_tune::{Progress, rows, trial_answer};
+use blk_tune::{rows, trial_answer};
 use blk_words::{Form, Tuning, grid_asked};
 use std::alloc::Global;
 use std::io::Read;
 use std::thread::Threads;
+use turns::Progress;
 
 /// What is said of a trial, in a form.
 fn tuned_in<T: Threads + Sync, P: Progress>(

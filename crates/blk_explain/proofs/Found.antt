@@ -1,5 +1,5 @@
 -- What a reader finds.
-use Rattle.std.proofs.Common.{◌≡◌, ◌∙◌, List, Option, Some, ap}
+use Rattle.std.proofs.Common.{◌≡◌, List, Option, Some}
 use Rattle.std.specs.Prelude.{IfSome, IfOk, Result, Ok, Err}
 use Rattle.blk_lists.specs.Sources.{Row}
 use Rattle.blk_explain.specs.Forms.{form_name}
@@ -23,4 +23,3 @@ pub found_as : (form : TextForm) (rows : List Row) → name_in rows ≡ form_nam
 found_as form rows e finding.Untitled r = absurd r
 found_as form rows e (finding.Good g) r = rw r.0 (e, r.1)
 found_as form rows e (finding.Faulty g t) r = rw r.0 (e, r.1)
-found_as form rows e (finding.Refused t) r = (e ∙ ap form_name r.0, r.1)

@@ -7,7 +7,6 @@ use Rattle.blk_lists.specs.Names.{why_name}
 use Rattle.blk_lists.specs.declared.fault.TextFault.{TextFault}
 use Rattle.blk_lists.specs.declared.fault.Why.{Why}
 use Rattle.blk_lists.specs.declared.fault.Why.TheVariants as why
-use Rattle.blk_sim.specs.Names.{step_name}
 use Rattle.blk_explain.specs.Forms.{form_row, form_name, IsRecordKind}
 use Rattle.blk_explain.specs.Lines.{line_at}
 use Rattle.blk_explain.specs.Findings.{rows_of, row_at, name_in, IsFound}
@@ -18,7 +17,6 @@ use Rattle.blk_explain.specs.declared.details.Detail.{Detail}
 use Rattle.blk_explain.specs.declared.details.Detail.TheVariants as detail
 use Rattle.blk_explain.specs.declared.fields.Allowed.{Allowed}
 use Rattle.blk_explain.specs.declared.forms.TextForm.{TextForm}
-use Rattle.blk_explain.specs.declared.forms.TextForm.TheVariants as form
 use Rattle.blk_explain.specs.declared.forms.FormRow.{FormRow}
 use Rattle.blk_explain.specs.declared.findings.Finding.{Finding}
 use Rattle.blk_explain.specs.declared.findings.Finding.TheVariants as finding
@@ -56,14 +54,12 @@ IsFaultDetail form rows fault d =
 abbrev pub IsDetailOf : List Row → Finding → Detail → Type 0
 IsDetailOf rows (finding.Good f) d = d ≡ detail.Whole
 IsDetailOf rows (finding.Faulty f fault) d = IsFaultDetail (form_row f) rows fault d
-IsDetailOf rows (finding.Refused fault) d = d ≡ detail.Whole
 IsDetailOf rows finding.Untitled d = (d ≡ detail.Whole) ⊎ ((near : TextForm) × IsNearest (name_in rows) near × (d ≡ detail.Nearest near))
 
 -- the record that is told about
 abbrev pub record_told : Finding → ℕ
 record_told (finding.Good f) = 1
 record_told (finding.Faulty f fault) = fault.at
-record_told (finding.Refused fault) = fault.at
 record_told finding.Untitled = 1
 
 -- the name of a form, and that of the program where it is none
@@ -87,14 +83,12 @@ nearest_in d = None
 abbrev pub IsToldOf : Finding → Detail → List ℕ → Type 0
 IsToldOf (finding.Good f) d text = Unit {0}
 IsToldOf (finding.Faulty f fault) d text = EndsWith (fault_line (Some f) fault.at (why_name fault.why)) text
-IsToldOf (finding.Refused fault) d text = EndsWith (fault_line (Some form.Script) fault.at (step_name fault.why)) text
 IsToldOf finding.Untitled d text = EndsWith (fault_line (nearest_in d) 1 (why_name why.Title)) text
 
 -- the form of a text that a finding says to have no fault
 abbrev pub form_without_fault : Finding → Option TextForm
 form_without_fault (finding.Good f) = Some f
 form_without_fault (finding.Faulty f fault) = None
-form_without_fault (finding.Refused fault) = None
 form_without_fault finding.Untitled = None
 
 -- what the reader of the named form finds in these bytes, on which line, what is known of it, and what is told of it

@@ -1,9 +1,7 @@
 -- What is found in a text, as the reader of its form finds it.
-use Rattle.std.specs.Prelude.{◌≡◌, ◌-◌, ℕ, List, [], true, get_or}
+use Rattle.std.specs.Prelude.{◌≡◌, ◌-◌, ℕ, List, [], get_or}
 use Rattle.csv.specs.Reading.{default_config, records, strip_bom}
 use Rattle.edd_commands.specs.declared.Command.{Command}
-use Rattle.blk_sched.specs.Meaning.{at_start}
-use Rattle.blk_none.specs.Choice.{none_policy}
 use Rattle.blk_trace.specs.Traces.{Traced}
 use Rattle.blk_lists.specs.Sources.{Row}
 use Rattle.blk_lists.specs.Commands.{SpellsCommands, CommandsFault}
@@ -15,10 +13,6 @@ use Rattle.blk_capture.specs.declared.record.Record.{Record}
 use Rattle.blk_capture_text.specs.Captures.{SpellsCapture, CaptureTextFault}
 use Rattle.blk_text.specs.Script.{Scripted, SpellsScript, ScriptFault}
 use Rattle.blk_text.specs.TraceForm.{SpellsTrace, TraceTextFault}
-use Rattle.blk_sim.specs.State.{SimState, start_of}
-use Rattle.blk_sim.specs.Runs.{Runs}
-use Rattle.blk_sim.specs.Refusals.{IsSimFault}
-use Rattle.blk_sim.specs.declared.refusal.SimFault.{SimFault}
 use Rattle.blk_explain.specs.Forms.{form_name}
 use Rattle.blk_explain.specs.declared.forms.TextForm.{TextForm}
 use Rattle.blk_explain.specs.declared.forms.TextForm.TheVariants as form
@@ -37,22 +31,14 @@ row_at rows n = get_or rows (n - 1) []
 abbrev pub name_in : List Row → List ℕ
 name_in rows = get_or (row_at rows 1) 0 []
 
--- each step of a script is taken where requests wait in the order of their entry, the scheduler `none`
-abbrev pub DoesRun : Scripted → Type 0
-DoesRun script = (end : SimState) × Runs none_policy script.lines (start_of script (at_start true) []) end
-
--- one is refused there
-abbrev pub IsRefusedStep : Scripted → SimFault → Type 0
-IsRefusedStep script fault = IsSimFault none_policy script (at_start true) [] fault
-
--- the records spell a text of this form, and if it is a script it runs
+-- the records spell a text of this form
 abbrev pub IsText : TextForm → List Row → Type 0
 IsText form.Commands rows = (depth : ℕ) × (commands : List Command) × SpellsCommands rows depth commands
 IsText form.Certificate rows = (c : Claim) × SpellsClaim rows c
 IsText form.OnTime rows = (c : OnTimeClaim) × SpellsOnTime rows c
 IsText form.Schedule rows = (s : ScheduleView) × SpellsSchedule rows s
 IsText form.Capture rows = (all : List Record) × SpellsCapture rows all
-IsText form.Script rows = (s : Scripted) × SpellsScript rows s × DoesRun s
+IsText form.Script rows = (s : Scripted) × SpellsScript rows s
 IsText form.Trace rows = (t : Traced) × SpellsTrace rows t
 
 -- the first fault of a text of this form
@@ -65,13 +51,8 @@ FaultOf form.Capture = CaptureTextFault
 FaultOf form.Script = ScriptFault
 FaultOf form.Trace = TraceTextFault
 
--- the records spell a script, and one of its steps is refused
-abbrev pub IsRefusedScript : List Row → SimFault → Type 0
-IsRefusedScript rows fault = (s : Scripted) × SpellsScript rows s × IsRefusedStep s fault
-
 -- what is found: by the name that the first record begins with, what the reader of that form finds
 abbrev pub IsFound : List Row → Finding → Type 0
 IsFound rows finding.Untitled = (f : TextForm) → ¬ (name_in rows ≡ form_name f)
 IsFound rows (finding.Good found) = (name_in rows ≡ form_name found) × IsText found rows
 IsFound rows (finding.Faulty found fault) = (name_in rows ≡ form_name found) × FaultOf found rows fault.at fault.why
-IsFound rows (finding.Refused fault) = (name_in rows ≡ form_name form.Script) × IsRefusedScript rows fault

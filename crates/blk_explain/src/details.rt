@@ -126,7 +126,7 @@ pub fn detail_of(alloc: Global, bytes: &[u8], finding: Finding) -> Result<Detail
     ensures { IfOk result (IsDetailOf (rows_of bytes.now) finding) }
 {
     match finding {
-        Finding::Good(_) | Finding::Refused(_) => Ok(Detail::Whole),
+        Finding::Good(_) => Ok(Detail::Whole),
         Finding::Faulty(form, fault) => {
             if fault.at == u64::MAX {
                 return Err(AllocError);

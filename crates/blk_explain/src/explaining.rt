@@ -31,7 +31,6 @@ impl Finding {
         match self {
             Finding::Good(_) | Finding::Untitled => 1,
             Finding::Faulty(_, fault) => fault.at,
-            Finding::Refused(fault) => fault.at,
         }
     }
 
@@ -41,17 +40,17 @@ impl Finding {
     {
         match self {
             Finding::Good(form) => Some(form),
-            Finding::Faulty(_, _) | Finding::Refused(_) | Finding::Untitled => None,
+            Finding::Faulty(_, _) | Finding::Untitled => None,
         }
     }
 }
 
 /// What a text is: its form by its title, version and number of records; or its first fault, by line, record and field, with what was
-/// found and what is wanted, or the first step of a script that is refused. Fails only when out of memory.
+/// found and what is wanted. Fails only when out of memory.
 ///
-/// The form is the one whose name the text begins with, and the fault the one that the reader of that form answers; a good script is run
-/// under the scheduler `none`. For a text that begins with no such name the nearest name is wanted, the one that is the fewest edits
-/// away, and for one whose first field is empty, or no text, a title.
+/// The form is the one whose name the text begins with, and the fault the one that the reader of that form answers; whether a good
+/// script runs is for its caller to look at ([`explain_step`](crate::explain_step)). For a text that begins with no such name the nearest name is wanted, the one
+/// that is the fewest edits away, and for one whose first field is empty, or no text, a title.
 pub fn explain(alloc: Global, bytes: &[u8]) -> Result<Explained, AllocError>
     ensures { IfOk result (λ e. IsExplained bytes.now e.finding e.line e.detail e.text.items) }
 {

@@ -1,9 +1,8 @@
 //! What is found in a text, by the reader of its form.
 
-ghost use Rattle.std.specs.Prelude.{◌≡◌, ◌<◌, ◌-◌, ◌^◌, IfOk, MatchOption, length};
+ghost use Rattle.std.specs.Prelude.{◌≡◌, ◌<◌, ◌-◌, ◌^◌, IfOk, length};
 ghost use Rattle.csv.specs.Records.{fields_of};
-ghost use Rattle.blk_text.specs.Script.{IsScript, scripted};
-ghost use Rattle.blk_explain.specs.Findings.{rows_of, row_at, DoesRun, IsRefusedStep, IsFound};
+ghost use Rattle.blk_explain.specs.Findings.{rows_of, row_at, IsFound};
 ghost use Rattle.blk_explain.specs.Inside.Read.{IsRead};
 ghost use Rattle.blk_lists.specs.declared.fault.Why.TheVariants as why;
 
@@ -13,21 +12,17 @@ use blk_lists::fields::field;
 use blk_lists::{
     Records, TextFault, Why, read_certificate, read_commands, read_on_time, read_schedule,
 };
-use blk_none::NoneSched;
-use blk_sim::{SimFault, SimWhy, simulate};
-use blk_text::{Script, read_script, read_trace};
+use blk_text::{read_script, read_trace};
 use csv::ByteRecord;
 use std::alloc::{AllocError, Global};
 
 /// What is found in a text.
 #[derive(Clone, Copy, Debug, PartialEq, Eq)]
 pub enum Finding {
-    /// It is of this form; a script runs.
+    /// It is of this form.
     Good(TextForm),
     /// Its title has the name of this form, and this is its first fault.
     Faulty(TextForm, TextFault),
-    /// It is a script, and a step of it is refused.
-    Refused(SimFault),
     /// It begins with the name of no form.
     Untitled,
 }
@@ -141,43 +136,13 @@ fn find_trace(alloc: Global, bytes: &[u8]) -> Result<Finding, AllocError>
     }
 }
 
-/// The finding of a refused step. Err where it was refused because memory ran out.
-fn stepped(fault: SimFault) -> Result<Finding, AllocError>
-    ensures { IfOk result (λ f. f ≡ Finding.Refused fault) }
-{
-    if fault.why == SimWhy::Memory {
-        return Err(AllocError);
-    }
-    Ok(Finding::Refused(fault))
-}
-
-/// The step of a script that is refused, if one is.
-fn refused(alloc: Global, script: &Script) -> Result<Option<SimFault>, AllocError>
-    requires { IsScript (scripted script.now) }
-    ensures { IfOk result (λ o. MatchOption o (DoesRun (scripted script.now)) (IsRefusedStep (scripted script.now))) }
-{
-    let scheduler = match NoneSched::new(alloc) {
-        Ok(scheduler) => scheduler,
-        Err(_) => return Err(AllocError),
-    };
-    match simulate(alloc, script, scheduler) {
-        Ok(_) => return Ok(None),
-        Err(fault) => return Ok(Some(fault)),
-    }
-}
-
-/// What the reader of scripts finds, and what a run does.
+/// What the reader of scripts finds.
 fn find_script(alloc: Global, bytes: &[u8]) -> Result<Finding, AllocError>
     ensures { IfOk result (IsRead TextForm.Script (rows_of bytes.now)) }
 {
-    let script = match read_script(alloc, &mut Records::new(alloc, bytes)) {
-        Ok(script) => script,
-        Err(fault) => return faulty(TextForm::Script, fault),
-    };
-    match refused(alloc, &script) {
-        Ok(None) => Ok(Finding::Good(TextForm::Script)),
-        Ok(Some(fault)) => stepped(fault),
-        Err(_) => Err(AllocError),
+    match read_script(alloc, &mut Records::new(alloc, bytes)) {
+        Ok(_) => Ok(Finding::Good(TextForm::Script)),
+        Err(fault) => faulty(TextForm::Script, fault),
     }
 }
 

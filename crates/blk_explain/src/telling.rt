@@ -3,22 +3,19 @@
 ghost use Rattle.std.specs.Prelude.{◌≡◌, ◌<◌, ◌-◌, ◌^◌, ◌++◌, OnOk, IfOk};
 ghost use Rattle.blk_explain.specs.Explained.{fault_line, nearest_in, IsToldOf};
 
-use crate::broken::number_in;
-use crate::counts::{Counted, Tally, is_of_bio};
+use crate::counts::{Counted, Tally};
 use crate::details::Detail;
 use crate::fields::Allowed;
 use crate::findings::{Finding, count_rows, row_at};
 use crate::flushing::staged_in;
 use crate::forms::{FormRow, Later, TextForm, kind_of};
-use crate::lines::line_at;
 use crate::titles::file_of;
-use crate::wanted::{field_name, rule_wanted, step_wanted, why_wanted};
-use blk_bio::{BioFault, BioId, MAX_END};
+use crate::wanted::{field_name, rule_wanted, why_wanted};
+use blk_bio::{BioFault, MAX_END};
 use blk_lists::any::AnyKind;
 use blk_lists::fields::{Slot, field};
 use blk_lists::on_time::WINDOW;
 use blk_lists::{Records, TextFault, Why};
-use blk_sim::{SimFault, SimWhy};
 use blk_text::{event_kinds, read_script, step_kinds};
 use csv::ByteRecord;
 use drafts::Draft;
@@ -213,7 +210,7 @@ fn push_tally(draft: &mut Draft, counted: Counted, tally: Tally) -> Result<(), A
 }
 
 /// Adds where a fault is.
-fn push_place(draft: &mut Draft, line: u64, at: u64) -> Result<(), AllocError> {
+pub(crate) fn push_place(draft: &mut Draft, line: u64, at: u64) -> Result<(), AllocError> {
     draft.text(b"line ")?;
     draft.number(line)?;
     draft.text(b", record ")?;
@@ -245,82 +242,6 @@ fn push_fault(
         Detail::Counted(tally) => push_tally(draft, form.counted, tally)?,
         Detail::Whole | Detail::Nearest(_) => push_whole(draft, form, fault.at, fault.why, &row)?,
     }
-    draft.text(b"\n")
-}
-
-/// The number of the first record of this bio, 0 where there is none.
-fn first_of(alloc: Global, bytes: &[u8], id: BioId) -> Result<u64, AllocError> {
-    let mut records = Records::new(alloc, bytes);
-    for n in 0..u64::MAX {
-        match records.advance() {
-            Ok(true) => {
-                let row = records.row();
-                if is_of_bio(row)
-                    && number_in(row, 1) == id.submitter as u64
-                    && number_in(row, 2) == id.serial
-                {
-                    return Ok(n + 1);
-                }
-            }
-            Ok(false) => return Ok(0),
-            Err(_) => return Err(AllocError),
-        }
-    }
-    Ok(0)
-}
-
-/// Adds the state that refuses a step, or what the step has to be instead.
-fn push_state(
-    draft: &mut Draft,
-    alloc: Global,
-    bytes: &[u8],
-    fault: SimFault,
-) -> Result<(), AllocError>
-    requires { fault.at < 2 ^ 64 - 1 }
-{
-    match fault.why {
-        SimWhy::SoftFull(overflow) => {
-            let row = row_at(alloc, bytes, fault.at)?;
-            draft.text(b"software queue ")?;
-            draft.number(number_in(&row, 1))?;
-            draft.text(b" holds ")?;
-            draft.number(overflow.holds)?;
-            draft.text(b" of ")?;
-            draft.number(overflow.room)?;
-            draft.text(b" requests, and the plug brings ")?;
-            draft.number(overflow.brings)
-        }
-        SimWhy::Repeated(id) => {
-            let first = first_of(alloc, bytes, id)?;
-            draft.text(b"bio ")?;
-            draft.number(id.submitter as u64)?;
-            draft.text(b",")?;
-            draft.number(id.serial)?;
-            draft.text(b" entered at line ")?;
-            draft.number(line_at(bytes, first))
-        }
-        _ => {
-            draft.text(b"wanted ")?;
-            draft.text(step_wanted(fault.why))
-        }
-    }
-}
-
-/// Adds the line on a refused step.
-fn push_refused(
-    draft: &mut Draft,
-    alloc: Global,
-    bytes: &[u8],
-    fault: SimFault,
-    line: u64,
-) -> Result<(), AllocError> {
-    if fault.at == u64::MAX {
-        return Err(AllocError);
-    }
-    push_place(draft, line, fault.at)?;
-    draft.text(fault.why.name().as_bytes())?;
-    draft.text(b": ")?;
-    push_state(draft, alloc, bytes, fault)?;
     draft.text(b"\n")
 }
 
@@ -423,7 +344,7 @@ fn nearest_in(detail: Detail) -> Option<TextForm>
 }
 
 /// Words with the line on a fault behind them, as the program has it.
-fn named(
+pub(crate) fn named(
     alloc: Global,
     words: Vec<u8>,
     form: Option<TextForm>,
@@ -474,38 +395,6 @@ fn faulty_told(
     named(alloc, words, Some(form), fault.at, fault.why.name())
 }
 
-/// The line on a refused step.
-fn refused_words(
-    alloc: Global,
-    bytes: &[u8],
-    fault: SimFault,
-    line: u64,
-) -> Result<Vec<u8>, AllocError> {
-    let mut draft = Draft::new(alloc);
-    push_refused(&mut draft, alloc, bytes, fault, line)?;
-    draft.finish()
-}
-
-/// What is told of a refused step.
-fn refused_told(
-    alloc: Global,
-    bytes: &[u8],
-    fault: SimFault,
-    line: u64,
-    detail: Detail,
-) -> Result<Vec<u8>, AllocError>
-    ensures { IfOk result (λ text. IsToldOf (Finding.Refused fault) detail text.items) }
-{
-    let words = refused_words(alloc, bytes, fault, line)?;
-    named(
-        alloc,
-        words,
-        Some(TextForm::Script),
-        fault.at,
-        fault.why.name(),
-    )
-}
-
 /// The line on a text that begins with the name of no form.
 fn untitled_words(
     alloc: Global,
@@ -545,7 +434,6 @@ pub fn told(
     match finding {
         Finding::Good(form) => good_told(alloc, bytes, form),
         Finding::Faulty(form, fault) => faulty_told(alloc, bytes, form, fault, line, detail),
-        Finding::Refused(fault) => refused_told(alloc, bytes, fault, line, detail),
         Finding::Untitled => untitled_told(alloc, bytes, line, detail),
     }
 }

@@ -1,9 +1,8 @@
-//! What is wanted, in words: what fields are called, and what a record or a step has to be instead.
+//! What is wanted, in words: what fields are called, and what a record has to be instead.
 
 use blk_bio::{BioFault, TraceRule};
 use blk_lists::Why;
 use blk_lists::names::FieldName;
-use blk_sim::SimWhy;
 
 /// What a field is called, as docs/FORMATS.md has it.
 pub fn field_name(name: FieldName) -> &'static [u8] {
@@ -94,21 +93,5 @@ pub fn why_wanted(why: Why) -> &'static [u8] {
         Why::TooLong => b"no more records than the form may have",
         Why::Read => b"a reader that does not fail",
         Why::Memory => b"more memory",
-    }
-}
-
-/// What a step has to be instead of one that is refused.
-pub fn step_wanted(why: SimWhy) -> &'static [u8] {
-    match why {
-        SimWhy::Full => b"a flush of the plug before",
-        SimWhy::SoftFull(_) => b"room in the software queue",
-        SimWhy::Repeated(_) => b"bios that did not enter before",
-        SimWhy::TraceFull => b"no more events than a trace may have",
-        SimWhy::TagRange => b"a tag below the depth of the round",
-        SimWhy::SlotUsed => b"a tag that was not issued in this round",
-        SimWhy::NotIssued => b"a tag with a command in flight",
-        SimWhy::InFlight => b"no command in flight at the end of a round",
-        SimWhy::DepthRange => b"a depth of 1 to that of the title",
-        SimWhy::Memory => b"more memory",
     }
 }

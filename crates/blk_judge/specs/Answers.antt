@@ -1,8 +1,8 @@
 -- What is said of a schedule, as answers.
-use Rattle.std.specs.Prelude.{◌++◌, ◌∷◌, [], List, Option, true, map}
+use Rattle.std.specs.Prelude.{◌-◌, ◌==◌, ◌++◌, ◌∷◌, [], List, Option, true, map, codes, if◌then◌else◌}
 use Rattle.answer.specs.declared.names.TheConstants as names
 use Rattle.answer.specs.declared.value.Value.{Value}
-use Rattle.answer.specs.declared.value.Value.TheVariants.{Count}
+use Rattle.answer.specs.declared.value.Value.TheVariants.{Count, Text}
 use Rattle.answer.specs.declared.cells.Column.{Column}
 use Rattle.answer.specs.declared.answer.Part.{Part}
 use Rattle.answer.specs.declared.answer.Part.TheVariants.{Member, Rows}
@@ -22,11 +22,16 @@ counts_parts c =
 abbrev pub judged_parts : Counts → Option Figures → List Crowd → List Part
 judged_parts c f windows = (counts_parts c ++ figures_parts f) ++ crowds_part windows ∷ []
 
+-- why a command was late, as far as rounds tell: of one due in the round before its release they don't tell whether a deadline passed before it
+-- came in, or after
+abbrev pub miss_cause : Miss → Value
+miss_cause m = if m.command.release - m.command.due == 1 then Text (codes "gap") else verdict_value m.verdict
+
 -- late commands, and why each is late
 abbrev pub miss_row : Miss → List Value
 miss_row m =
     Count m.command.id ∷ Count m.command.release ∷ Count m.command.due ∷ Count m.round ∷ Count m.lateness
-    ∷ verdict_value m.verdict ∷ from_value m.verdict ∷ until_value m.verdict ∷ []
+    ∷ miss_cause m ∷ from_value m.verdict ∷ until_value m.verdict ∷ []
 
 abbrev pub miss_columns : List Column
 miss_columns =

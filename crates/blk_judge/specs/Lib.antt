@@ -1,3 +1,4 @@
 pub mod Judged
 pub mod Late
 pub mod Answers
+pub mod Drawing

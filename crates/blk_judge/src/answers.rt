@@ -1,20 +1,20 @@
 //! What is said of a schedule, as answers.
 
 ghost use Rattle.std.specs.Prelude.{◌≡◌, ◌++◌, IfOk, OnOk, map};
-ghost use Rattle.blk_judge.specs.Answers.{counts_parts, judged_parts, miss_row, missed_parts};
+ghost use Rattle.blk_judge.specs.Answers.{counts_parts, judged_parts, miss_cause, miss_row, missed_parts};
 
 use crate::{Judged, Miss};
 use answer::names::{
     AVOIDABLE, COMMANDS, DUE, FROM, ID, LATE, LATENESS, RELEASE, ROUND, SPARE, UNAVOIDABLE, UNTIL,
     VERDICT,
 };
-use answer::{Answer, Part, Row, Rows, Value, member, record_columns};
+use answer::{Answer, Part, Row, Rows, Value, Word, member, record_columns};
 use edd_figures::Counts;
 use edd_figures::answers::{add_crowds, add_figures, from_value, until_value, verdict_value};
 use std::alloc::{AllocError, Allocator, Global};
 
 /// Adds counts.
-fn add_counts(answer: &mut Answer, counts: Counts) -> Result<(), AllocError>
+pub(crate) fn add_counts(answer: &mut Answer, counts: Counts) -> Result<(), AllocError>
     ensures { OnOk result (answer.new ≡ answer.old ++ counts_parts counts) }
 {
     answer.add(member(COMMANDS, Value::Count(counts.commands)))?;
@@ -37,6 +37,17 @@ pub fn judged_answer<A: Allocator>(alloc: Global, judged: &Judged<A>) -> Result<
     Ok(answer)
 }
 
+/// Why a command was late, as far as rounds tell.
+fn miss_cause(miss: &Miss) -> Value
+    ensures { result ≡ miss_cause miss.now }
+{
+    if miss.command.release.saturating_sub(miss.command.due) == 1 {
+        Value::Text(Word::new("gap"))
+    } else {
+        verdict_value(miss.verdict)
+    }
+}
+
 /// The row of a late command.
 fn miss_row(alloc: Global, miss: &Miss) -> Result<Row, AllocError>
     ensures { IfOk result (λ row. row ≡ miss_row miss.now) }
@@ -49,7 +60,7 @@ fn miss_row(alloc: Global, miss: &Miss) -> Result<Row, AllocError>
             Value::Count(miss.command.due),
             Value::Count(miss.round),
             Value::Count(miss.lateness),
-            verdict_value(miss.verdict),
+            miss_cause(miss),
             from_value(miss.verdict),
             until_value(miss.verdict),
         ],
@@ -68,8 +79,9 @@ fn miss_rows(alloc: Global, misses: &[Miss]) -> Result<Vec<Row>, AllocError>
     Ok(rows)
 }
 
-/// What is said of the late commands of a schedule: a row for each, in their order. The verdict is `arrival` or `spare` with no window, or `full`
-/// with the first and the last round of its window. Fails only when out of memory.
+/// What is said of the late commands of a schedule: a row for each, in their order. The verdict is `gap`, `arrival` or `spare` with no window, or
+/// `full` with the first and the last round of its window. It is `gap` of a command that is due in the round before its release: rounds don't tell
+/// whether a deadline that lies between the two passed before the command came in. Fails only when out of memory.
 pub fn missed_answer(alloc: Global, misses: &[Miss]) -> Result<Answer, AllocError>
     ensures { IfOk result (λ answer. answer ≡ missed_parts misses.now) }
 {

@@ -6,10 +6,12 @@
 #![tactic(auto)]
 
 mod answers;
+mod drawing;
 mod judging;
 mod legality;
 mod missing;
 
 pub use crate::answers::{judged_answer, missed_answer};
+pub use crate::drawing::schedule_picture;
 pub use crate::judging::{Judged, judge};
 pub use crate::missing::{Miss, late_of};

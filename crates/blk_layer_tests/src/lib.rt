@@ -41,3 +41,5 @@ mod served;
 mod told;
 #[cfg(test)]
 mod worked;
+#[cfg(test)]
+mod tags;

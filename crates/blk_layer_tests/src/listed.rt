@@ -38,6 +38,8 @@ pub enum LayerCall {
     /// A worker works for at most this number of passes, with a device that is busy at one of its runs: how many passes it makes, how many
     /// commands it runs, and whether it is finished; and how often the device runs.
     Work(u8, u64, u64, Result<(u64, u64, bool), WorkFault>, u64),
+    /// A worker is issued this number of commands by themselves, each in a round of its own, and reports them done.
+    Serve(u8, u64),
     /// This number of commands are in a worker's account.
     Ran(u8, usize),
     /// Nothing more will be flushed.
@@ -262,6 +264,27 @@ fn works<R: Wait, S: Scheduler, L: Named>(
     did == wanted && device.runs == runs && device.ids == ids
 }
 
+/// Whether a worker is issued this number of commands, each in a round of its own, and reports them done.
+fn serves<R: Wait, S: Scheduler, L: Named>(
+    rt: &R,
+    layer: &Layer<S, L>,
+    worker: &mut Worker<L, S::A>,
+    count: u64,
+) -> bool
+    requires { worker.old.tag_set ≡ layer.now.tag_set }
+    ensures { worker.new.tag_set ≡ worker.old.tag_set }
+{
+    for _ in 0..count {
+        let Ok(Some((_, tag))) = issued(rt, layer, worker) else {
+            return false;
+        };
+        if layer.done(rt, worker, tag).is_err() || tick(rt, layer).is_err() {
+            return false;
+        }
+    }
+    true
+}
+
 /// Whether a worker's call has the wanted answer.
 fn by_worker<R: Wait, S: Scheduler, L: Named>(
     rt: &R,
@@ -280,6 +303,7 @@ fn by_worker<R: Wait, S: Scheduler, L: Named>(
         LayerCall::Work(_, most, busy_at, answer, runs) => {
             works(rt, layer, worker, most, busy_at, answer, runs)
         }
+        LayerCall::Serve(_, count) => serves(rt, layer, worker, count),
         LayerCall::Ran(_, count) => worker.ran().len() == count,
         _ => false,
     }
@@ -371,6 +395,7 @@ fn is_answered<R: Abort + Wait, S: Scheduler, L: Named>(
         | LayerCall::Done(0, _, _)
         | LayerCall::Back(0, _, _)
         | LayerCall::Work(0, _, _, _, _)
+        | LayerCall::Serve(0, _)
         | LayerCall::Ran(0, _) => by_worker(rt, layer, zero, call),
         _ => by_worker(rt, layer, one, call),
     }

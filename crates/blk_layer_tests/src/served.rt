@@ -106,3 +106,27 @@ fn layer_depth_of_three(rt: HostRuntime) {
     );
     assert_eq!(rt; other, None);
 }
+
+// A thousand commands and more are issued one by one, each in a round of its own.
+#[test]
+fn layer_a_thousand_issues(rt: HostRuntime) {
+    let calls = [
+        LayerCall::Fill(0, 0, 1024),
+        LayerCall::Drain(0, Ok(1024)),
+        LayerCall::Serve(0, 1024),
+        LayerCall::Issue(0, Ok(None)),
+        LayerCall::Ran(0, 1024),
+        LayerCall::Tick(Ok(1025)),
+    ];
+    let other = other_than(
+        &rt,
+        rt.alloc(),
+        (1, 1, 1024),
+        &[0, 0],
+        &[0, 0],
+        &calls,
+        &[],
+        4097,
+    );
+    assert_eq!(rt; other, None);
+}

@@ -8,8 +8,8 @@ use blk_bio::Limits;
 use blk_core::{Core, CoreFault};
 use blk_hw::Map;
 use blk_layer::{
-    Device, DrainFault, Layer, LayerIssueFault, MAX_WORKERS, Named, Ran, Submitter, WorkFault,
-    Worker,
+    CloseFault, CloseRefused, Device, DrainFault, Layer, LayerIssueFault, MAX_WORKERS, Named, Ran,
+    Submitter, WorkFault, Worker,
 };
 use blk_none::NoneSched;
 use blk_plug::Plug;
@@ -187,4 +187,79 @@ fn out_of_memory_is_told(rt: HostRuntime) {
     assert!(rt; all_told(&rt, alloc, Made::Drain) > 3);
     assert!(rt; all_told(&rt, alloc, Made::Issue) > 0);
     assert!(rt; all_told(&rt, alloc, Made::Work) > 5);
+}
+
+/// Makes a layer to which nothing more comes, and closes it in vain, without its worker and then where an allocation is refused; how many
+/// commands the worker runs then, if it finishes.
+#[tactic(auto, using(crate::proofs::Seated::all_of))]
+fn ran_after_refusals<'a, R: Abort + Wait, L: Named>(
+    rt: &R,
+    heap: Heap<'a>,
+    blank: Blank,
+    core: Core<NoneSched<Heap<'a>>>,
+    map: Map<Heap<'a>>,
+    worker_queues: Vec<u8, Heap<'a>>,
+    limits: Limits,
+) -> Option<usize>
+    requires name { blank.name ≡ L.name }
+    requires parts { (blank.parts ≡ MAX_WORKERS) × (L.parts ≡ MAX_WORKERS) }
+    requires setup { core.setup ≡ L.setup }
+    requires start { core ≡ L.start }
+    requires limits { L.setup.limits ≡ limits }
+    requires workers { L.workers ≡ vec_len worker_queues }
+    requires empty { core.events ≡ [] }
+{
+    let new = Layer::<NoneSched<Heap<'a>>, L>::new(heap, blank, core, map, 4, worker_queues);
+    let Ok((layer, mut submitters, workers)) = new else {
+        panic!(rt; "a layer");
+    };
+    let count = submitters.len();
+    let mut submitter = submitters.pop().expect(rt, "a submitter");
+    assert!(rt; usize::from(submitter.number()) < count);
+    flush_three(rt, heap, &layer, &mut submitter, limits);
+    submitters.push(submitter).expect(rt, "memory");
+    layer.finish();
+    let Err(
+        CloseRefused::Whole {
+            fault: CloseFault::SeatMissing,
+            layer,
+            submitters,
+            ..
+        },
+    ) = layer.close(heap, submitters, Vec::new(heap))
+    else {
+        panic!(rt; "a seat is missing");
+    };
+    heap.refuse(1);
+    let Err(
+        CloseRefused::Whole {
+            fault: CloseFault::Memory,
+            layer,
+            mut workers,
+            ..
+        },
+    ) = layer.close(heap, submitters, workers)
+    else {
+        panic!(rt; "memory is refused");
+    };
+    let mut worker = last(rt, &layer, &mut workers);
+    match answer_of(rt, &layer, &mut worker, Made::Work) {
+        OfMemory::Enough => Some(worker.ran().len()),
+        _ => None,
+    }
+}
+
+// A layer that a refused close hands back still knows that nothing more comes, and has all that it had.
+#[test]
+fn finish_outlasts_a_refused_close(rt: HostRuntime) {
+    let heap = Refusing::new(rt.alloc());
+    let limits = limits(&rt);
+    let core = core(&rt, &heap, setup(&rt, 2, 1, limits));
+    let map = Map::new(Vec::from_slice(&heap, &[0]).expect(&rt, "memory")).expect(&rt, "a map");
+    let queues = Vec::from_slice(&heap, &[0]).expect(&rt, "memory");
+    let blank = Blank::new(MAX_WORKERS);
+    let ran = ran_after_refusals::<HostRuntime, Brand>(
+        &rt, &heap, blank, core, map, queues, limits,
+    );
+    assert_eq!(rt; ran, Some(3));
 }

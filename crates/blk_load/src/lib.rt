@@ -6,6 +6,7 @@
 
 mod counts;
 mod device;
+pub mod laws;
 mod running;
 mod serving;
 mod site;

@@ -25,7 +25,7 @@ failed false false e = cc e
 
 without : (n : NoText) → status_without n ≡ 0 → ⊥
 without (none.Failure f) e = failed (is_outside f) (is_of_words f) e
-without (none.Title text) e = cc e
+without (none.Told fault text) e = cc e
 without (none.Usage text) e = cc e
 without none.Excluded e = cc e
 

@@ -10,7 +10,7 @@ ghost use Rattle.blk_online_cli.specs.Inside.Words.{sim_words, report_words, mis
 use blk_cli::{Ended, answer, run};
 use blk_lists::Records;
 use blk_settings::Loads;
-use blk_tune::Quiet;
+use turns::Quiet;
 use blk_words::FiguresAsked;
 use blk_words::asking::plain_lines;
 use drafts::Output;

@@ -1,14 +1,13 @@
 -- Parts one below another, and what several traces share.
 use Rattle.std.proofs.Common.{◌≡◌, ◌<◌, ◌+◌, ◌*◌, ◌++◌, ◌∙◌, ℕ, List, [], ◌∷◌, length, map, suc, get_or, take, refl, sym, subst, ap, arith}
-use Rattle.std.specs.Prelude.{max, codes}
-use Rattle.blk_picture.specs.Scales.{scale_of}
+use Rattle.std.specs.Prelude.{max}
 use Rattle.std.specs.Borrow.{Bor}
 use Rattle.std.proofs.lemmas.List.{get_or_default, get_or-map, take_more, map_push}
 use Rattle.std.proofs.lemmas.List.Sums.{fold_push}
 use Rattle.blk_trace.specs.Traces.{Traced}
 use Rattle.blk_trace.specs.Meaning.{greatest}
 use Rattle.blk_picture.specs.declared.scale.Scale.{Scale}
-use Rattle.blk_picture.specs.Pictures.{rounds_shown, most_rounds, most_deep, height_of, IsPart, AreParts, EndsWithPart, head_text, IsPicture, IsPictures}
+use Rattle.blk_picture.specs.Pictures.{rounds_shown, most_rounds, most_deep, height_of, IsPart, AreParts, EndsWithPart}
 
 -- the names behind their references
 abbrev pub names_of : List (Bor (List ℕ)) → List (List ℕ)
@@ -61,17 +60,3 @@ none_most traces = refl
 pub none_deep : (traces : List Traced) → 0 ≡ most_deep (take 0 traces)
 unfolding most_deep
 none_deep traces = refl
-
-pub picture_is : (t : Traced) (scale : Scale) (part text : List ℕ) → scale ≡ scale_of (rounds_shown t) t.setup.depth → IsPart scale 0 (codes "trace") t part → text ≡ (head_text (height_of scale) ++ part) ++ codes "</svg>\n" → IsPicture t text
-picture_is t scale part text e p h = record {
-  part = part;
-  is_part = subst (λ (s : Scale). IsPart s 0 (codes "trace") t part) e p;
-  is_text = h ∙ ap (λ (s : Scale). (head_text (height_of s) ++ part) ++ codes "</svg>\n") e;
-}
-
-pub pictures_are : (names : List (List ℕ)) (traces : List Traced) (scale : Scale) (parts text : List ℕ) → scale ≡ scale_of (most_rounds traces) (most_deep traces) → AreParts scale names traces (length traces) parts → text ≡ (head_text (length traces * height_of scale + 0) ++ parts) ++ codes "</svg>\n" → IsPictures names traces text
-pictures_are names traces scale parts text e p h = record {
-  parts = parts;
-  are_parts = subst (λ (s : Scale). AreParts s names traces (length traces) parts) e p;
-  is_text = h ∙ ap (λ (s : Scale). (head_text (length traces * height_of s + 0) ++ parts) ++ codes "</svg>\n") e;
-}

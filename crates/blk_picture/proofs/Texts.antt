@@ -78,3 +78,6 @@ grow5 old p q r s t a b c d e h i j k l = grow old s t (((a ++ b) ++ c) ++ d) e 
 
 pub grow6 : (old p q r s t u a b c d e f : List ℕ) → p ≡ old ++ a → q ≡ p ++ b → r ≡ q ++ c → s ≡ r ++ d → t ≡ s ++ e → u ≡ t ++ f → u ≡ old ++ (((((a ++ b) ++ c) ++ d) ++ e) ++ f)
 grow6 old p q r s t u a b c d e f h i j k l m = grow old t u ((((a ++ b) ++ c) ++ d) ++ e) f (grow5 old p q r s t a b c d e h i j k l) m
+
+pub grow7 : (old p q r s t u v a b c d e f g : List ℕ) → p ≡ old ++ a → q ≡ p ++ b → r ≡ q ++ c → s ≡ r ++ d → t ≡ s ++ e → u ≡ t ++ f → v ≡ u ++ g → v ≡ old ++ ((((((a ++ b) ++ c) ++ d) ++ e) ++ f) ++ g)
+grow7 old p q r s t u v a b c d e f g h i j k l m n = grow old u v (((((a ++ b) ++ c) ++ d) ++ e) ++ f) g (grow6 old p q r s t u a b c d e f h i j k l m) n

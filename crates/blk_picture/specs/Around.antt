@@ -7,9 +7,9 @@ use Rattle.blk_report.specs.declared.missing.Tally.{Tally}
 use Rattle.blk_report.specs.Lines.{report_text}
 use Rattle.blk_picture.specs.declared.around.TheConstants.{MAX_CROWDS, MAX_LABELLED}
 use Rattle.blk_picture.specs.declared.scale.Scale.{Scale}
-use Rattle.blk_picture.specs.declared.scale.TheConstants.{LEFT, MAX_AXIS_STEPS, MAX_WIDE, TOP}
+use Rattle.blk_picture.specs.declared.scale.TheConstants.{LEFT, MAX_WIDE, TOP}
 use Rattle.blk_picture.specs.Templates.{from_template, texts}
-use Rattle.blk_picture.specs.Scales.{step_of}
+use Rattle.blk_picture.specs.Scales.{drawn_place, shows}
 use Rattle.blk_picture.specs.declared.words.TheConstants as words
 
 -- the colours and what they mean
@@ -25,25 +25,18 @@ abbrev pub heading_text : Scale → List ℕ → Report → Tally → List ℕ
 heading_text scale name r t =
     ((((codes "<text class='t' x='24' y='28'>" ++ name) ++ words.AFTER_NAME.now) ++ report_text r) ++ numbers_text scale t) ++ legend
 
--- the column of a round, or the last one
+-- where the column of a round, or the last one, begins, and how far behind that it ends, where it is drawn
 abbrev pub column_at : Scale → ℕ → ℕ
-column_at scale round = min round (scale.rounds - 1) / scale.per
+column_at scale round = drawn_place scale (min round (scale.rounds - 1) / scale.per)
 
--- a number of the axis, where the picture has that round
-abbrev pub tick_text : Scale → ℕ → List ℕ
-tick_text scale n =
-    cond (nat_le scale.rounds (n * step_of scale.rounds + 0)) []
-    (from_template words.TICK.now ((column_at scale (n * step_of scale.rounds + 0) * scale.wide + LEFT) ∷ (column_at scale (n * step_of scale.rounds + 0) * scale.wide + LEFT) ∷ (n * step_of scale.rounds + 0) ∷ []))
-
--- the axis
-abbrev pub axis_text : Scale → List ℕ
-axis_text scale = texts (tick_text scale) (MAX_AXIS_STEPS + 1) ++ codes "<text class='s e' x='58' y='17'>round</text>\n"
+abbrev pub beyond : Scale → ℕ → ℕ
+beyond scale round = cond (shows scale (min round (scale.rounds - 1) / scale.per)) (min scale.wide MAX_WIDE) 0
 
 -- the bracket of a window in a row, from the column of its first round to that of its last one, and its two numbers in its title
 abbrev pub line_text : Scale → ℕ → Crowd → List ℕ
 line_text scale row c =
     from_template words.BRACKET.now
-    ((column_at scale c.window.from * scale.wide + LEFT) ∷ (row * 28 + 28) ∷ (column_at scale c.window.due * scale.wide + (LEFT + min scale.wide MAX_WIDE)) ∷ c.window.from ∷ c.window.due ∷ c.commands ∷ c.carries ∷ [])
+    ((column_at scale c.window.from * scale.wide + LEFT) ∷ (row * 28 + 28) ∷ (column_at scale c.window.due * scale.wide + (LEFT + beyond scale c.window.due)) ∷ c.window.from ∷ c.window.due ∷ c.commands ∷ c.carries ∷ [])
 
 -- and below it, where it is labelled
 abbrev pub named_text : Scale → ℕ → Crowd → Bool → List ℕ
@@ -72,7 +65,7 @@ crowds_text scale crowds = texts (crowd_text scale crowds) (min (length crowds) 
 abbrev pub foot_text : Scale → List ℕ
 foot_text scale = from_template (codes "<g transform='translate(0,$)'>\n") ((scale.deep * scale.tall + TOP) ∷ [])
 
--- what stands below the frame
-abbrev pub windows_text : Scale → Report → ℕ → List Crowd → List ℕ
-windows_text scale r carries crowds =
-    (((foot_text scale ++ axis_text scale) ++ crowded_text scale r.figures carries) ++ crowds_text scale crowds) ++ codes "</g>\n"
+-- what stands below the frame: an axis, and the windows
+abbrev pub windows_text : Scale → List ℕ → Report → ℕ → List Crowd → List ℕ
+windows_text scale axis r carries crowds =
+    (((foot_text scale ++ axis) ++ crowded_text scale r.figures carries) ++ crowds_text scale crowds) ++ codes "</g>\n"

@@ -2,6 +2,7 @@ pub mod Templates
 pub mod Boxes
 pub mod Scales
 pub mod Columns
+pub mod Cuts
 pub mod Shapes
 pub mod Around
 pub mod Pictures

@@ -17,8 +17,10 @@ use Rattle.blk_picture.specs.declared.scale.Scale.{Scale}
 use Rattle.blk_picture.specs.Boxes.{boxes_of}
 use Rattle.blk_picture.specs.Columns.{column_of}
 use Rattle.blk_picture.specs.Templates.{from_template, made}
-use Rattle.blk_picture.specs.Scales.{scale_of}
-use Rattle.blk_picture.specs.Shapes.{strip_text, frame_text}
+use Rattle.blk_picture.specs.Cuts.{cut_text}
+use Rattle.blk_picture.specs.declared.columns.Column.{Column}
+use Rattle.blk_picture.specs.Scales.{IsScaled}
+use Rattle.blk_picture.specs.Shapes.{drawn_columns, strip_text, frame_text}
 use Rattle.blk_picture.specs.Around.{heading_text, windows_text}
 use Rattle.blk_picture.specs.declared.words.TheConstants as words
 
@@ -43,19 +45,25 @@ abbrev pub crowded_room : List Step → Option Figures → ℕ
 crowded_room steps (Some f) = carried steps f.window.from (latest_end f.window.due f.least - f.window.from)
 crowded_room steps None = 0
 
+-- the columns of a trace that are drawn
+abbrev pub drawn_of : Traced → Scale → List Column
+drawn_of t scale = drawn_columns scale (made (column_of t.setup t.events scale) scale.columns)
+
 -- the part that shows a trace under a name, so far from the top: its report and its misses, and all that is drawn of it: its boxes, in
--- the columns of their rounds and the rows of their tags, and its columns
+-- the columns of their rounds and the rows of their tags, and its columns, of which some may be cut, and an axis
 pub record IsPart (scale : Scale) (top : ℕ) (name : List ℕ) (t : Traced) (text : List ℕ) : Type 0 where
   pub report : Report
   pub tally : Tally
   pub windows : List Crowd
   pub is_report : IsReport t.setup t.events report
   pub is_tallied : IsTallied t.setup t.events tally windows
-  pub is_text : text ≡ ((((from_template (codes "<g transform='translate(0,$)'>\n") (top ∷ [])
+  pub axis : List ℕ
+  pub is_text : text ≡ (((((from_template (codes "<g transform='translate(0,$)'>\n") (top ∷ [])
       ++ heading_text scale name report tally)
-      ++ strip_text scale (made (column_of t.setup t.events scale) scale.columns))
-      ++ frame_text scale (boxes_of t.setup t.events) (made (column_of t.setup t.events scale) scale.columns))
-      ++ windows_text scale report (crowded_room (capacity_of t.setup t.events) report.figures) windows)
+      ++ cut_text scale (boxes_of t.setup t.events))
+      ++ strip_text scale (drawn_of t scale))
+      ++ frame_text scale (boxes_of t.setup t.events) (drawn_of t scale))
+      ++ windows_text scale axis report (crowded_room (capacity_of t.setup t.events) report.figures) windows)
       ++ codes "</g>\n"
 
 -- how many pixels a part is high
@@ -78,9 +86,11 @@ head_text height = (svg_text height ++ style) ++ page_text height
 
 -- the picture of a trace
 pub record IsPicture (t : Traced) (text : List ℕ) : Type 0 where
+  pub scale : Scale
+  pub is_scaled : IsScaled (rounds_shown t) t.setup.depth scale
   pub part : List ℕ
-  pub is_part : IsPart (scale_of (rounds_shown t) t.setup.depth) 0 (codes "trace") t part
-  pub is_text : text ≡ (head_text (height_of (scale_of (rounds_shown t) t.setup.depth)) ++ part) ++ codes "</svg>\n"
+  pub is_part : IsPart scale 0 (codes "trace") t part
+  pub is_text : text ≡ (head_text (height_of scale) ++ part) ++ codes "</svg>\n"
 
 -- the part of the trace at the place is at the end of a text
 pub record EndsWithPart (scale : Scale) (names : List (List ℕ)) (traces : List Traced) (n : ℕ) (AreBefore : List ℕ → Type 0) (text : List ℕ) : Type 0 where
@@ -97,6 +107,8 @@ AreParts scale names traces (suc n) text = EndsWithPart scale names traces n (Ar
 
 -- the pictures of several traces, each under its name, on one scale
 pub record IsPictures (names : List (List ℕ)) (traces : List Traced) (text : List ℕ) : Type 0 where
+  pub scale : Scale
+  pub is_scaled : IsScaled (most_rounds traces) (most_deep traces) scale
   pub parts : List ℕ
-  pub are_parts : AreParts (scale_of (most_rounds traces) (most_deep traces)) names traces (length traces) parts
-  pub is_text : text ≡ (head_text (length traces * height_of (scale_of (most_rounds traces) (most_deep traces)) + 0) ++ parts) ++ codes "</svg>\n"
+  pub are_parts : AreParts scale names traces (length traces) parts
+  pub is_text : text ≡ (head_text (length traces * height_of scale + 0) ++ parts) ++ codes "</svg>\n"

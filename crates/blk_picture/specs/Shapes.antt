@@ -8,7 +8,8 @@ use Rattle.blk_picture.specs.declared.scale.TheConstants.{LEFT, TOP}
 use Rattle.blk_picture.specs.declared.columns.Column.{Column}
 use Rattle.blk_picture.specs.declared.shapes.TheConstants.{MIN_LABEL_TALL}
 use Rattle.blk_picture.specs.Columns.{is_late}
-use Rattle.blk_picture.specs.Templates.{from_template, texts}
+use Rattle.blk_picture.specs.Scales.{drawn_place, shows, shown_at}
+use Rattle.blk_picture.specs.Templates.{from_template, texts, made}
 use Rattle.blk_picture.specs.declared.words.TheConstants as words
 
 -- how a box begins: its class is its direction, with a heavy edge where it was late, and hatched where it was requeued
@@ -53,25 +54,29 @@ label_words Write = codes "<text class='n' x='$' y='$'>$</text>\n"
 abbrev pub label_text : Scale → IssueBox → List ℕ
 label_text scale b =
     cond (b.back || (not (is_late b) || not (fits scale (apart b)))) []
-    (from_template (label_words b.dir) ((b.round * scale.wide + (LEFT + scale.wide / 2)) ∷ (b.tag * scale.tall + (TOP + scale.tall / 2 + 3)) ∷ apart b ∷ []))
+    (from_template (label_words b.dir) ((drawn_place scale b.round * scale.wide + (LEFT + scale.wide / 2)) ∷ (b.tag * scale.tall + (TOP + scale.tall / 2 + 3)) ∷ apart b ∷ []))
 
 -- where a box lies: in the column of its round and the row of its tag; and how its title begins
 abbrev pub place_text : Scale → IssueBox → List ℕ
-place_text scale b = from_template words.BOX_PLACE.now ((b.round * scale.wide + LEFT) ∷ (b.tag * scale.tall + TOP) ∷ (scale.wide - 1) ∷ (scale.tall - 1) ∷ b.id ∷ [])
+place_text scale b = from_template words.BOX_PLACE.now ((drawn_place scale b.round * scale.wide + LEFT) ∷ (b.tag * scale.tall + TOP) ∷ (scale.wide - 1) ∷ (scale.tall - 1) ∷ b.id ∷ [])
 
 abbrev pub tail_text : IssueBox → List ℕ
 tail_text b = from_template (tail_words b) (b.first ∷ b.end ∷ b.release ∷ b.due ∷ b.round ∷ apart b ∷ [])
 
 -- a box: its class, its place, its title, and the rounds late
+abbrev pub whole_box : Scale → IssueBox → List ℕ
+whole_box scale b = (((class_words b ++ place_text scale b) ++ dir_words b.dir) ++ tail_text b) ++ label_text scale b
+
+-- it is drawn where the column of its round is
 abbrev pub box_text : Scale → IssueBox → List ℕ
-box_text scale b = (((class_words b ++ place_text scale b) ++ dir_words b.dir) ++ tail_text b) ++ label_text scale b
+box_text scale b = cond (shows scale b.round) (whole_box scale b) []
 
 -- a column of several rounds, from the top: reads and writes on time, late ones, those requeued, idle places, and what the rounds
 -- do not carry. A unit of height is a place
 abbrev pub stack_text : Scale → ℕ → Column → List ℕ
 stack_text scale c n =
     from_template words.STACK.now
-    (c ∷ n.reads ∷ n.writes ∷ n.lates ∷ n.backs ∷ (n.room - (n.reads + n.writes + n.lates + n.backs)) ∷ c ∷ n.reads ∷ c ∷ n.reads ∷ n.writes ∷ c ∷ (n.reads + n.writes) ∷ n.lates ∷ c ∷ (n.reads + n.writes + n.lates) ∷ n.backs ∷ c ∷ n.room ∷ (scale.per * scale.deep + 0 - n.room) ∷ [])
+    (shown_at scale c ∷ n.reads ∷ n.writes ∷ n.lates ∷ n.backs ∷ (n.room - (n.reads + n.writes + n.lates + n.backs)) ∷ c ∷ n.reads ∷ c ∷ n.reads ∷ n.writes ∷ c ∷ (n.reads + n.writes) ∷ n.lates ∷ c ∷ (n.reads + n.writes + n.lates) ∷ n.backs ∷ c ∷ n.room ∷ (scale.per * scale.deep + 0 - n.room) ∷ [])
 
 -- what the round of a column does not carry
 abbrev pub grey_text : Scale → ℕ → Column → List ℕ
@@ -85,13 +90,17 @@ column_text scale c n = cond (scale.per == 1) (grey_text scale c n) (stack_text 
 abbrev pub no_column : Column
 no_column = record { reads = 0; writes = 0; lates = 0; backs = 0; room = 0; read_waits = 0; write_waits = 0 }
 
+-- those of all columns that are drawn
+unfoldable pub drawn_columns : Scale → List Column → List Column
+drawn_columns scale columns = made (λ n. slice_index_or columns (shown_at scale n) no_column) scale.drawn
+
 -- the columns
 abbrev pub columns_text : Scale → List Column → ℕ → List ℕ
 columns_text scale columns n = texts (λ c. column_text scale c (slice_index_or columns c no_column)) n
 
 -- how the frame begins
 abbrev pub border_text : Scale → List ℕ
-border_text scale = from_template words.FRAME.now ((scale.columns * scale.wide + 0) ∷ (scale.deep * scale.tall + 0) ∷ scale.columns ∷ (scale.per * scale.deep + 0) ∷ scale.columns ∷ (scale.per * scale.deep + 0) ∷ [])
+border_text scale = from_template words.FRAME.now ((scale.drawn * scale.wide + 0) ∷ (scale.deep * scale.tall + 0) ∷ scale.drawn ∷ (scale.per * scale.deep + 0) ∷ scale.drawn ∷ (scale.per * scale.deep + 0) ∷ [])
 
 -- the frame, and the boxes where each column is a round
 abbrev pub frame_text : Scale → List IssueBox → List Column → List ℕ
@@ -110,7 +119,7 @@ most_waiting columns = fold max 1 (map (λ n. n.read_waits + n.write_waits) colu
 
 -- how the strip begins, by the most that wait
 abbrev pub scale_text : Scale → ℕ → List ℕ
-scale_text scale most = from_template words.WAIT_SCALE.now (most ∷ (scale.columns * scale.wide + 0) ∷ scale.columns ∷ most ∷ scale.columns ∷ most ∷ most ∷ [])
+scale_text scale most = from_template words.WAIT_SCALE.now (most ∷ (scale.drawn * scale.wide + 0) ∷ scale.drawn ∷ most ∷ scale.drawn ∷ most ∷ most ∷ [])
 
 abbrev pub waits_text : List Column → ℕ → List ℕ
 waits_text columns n = texts (λ c. waiting_text c (slice_index_or columns c no_column)) n

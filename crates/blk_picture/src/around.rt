@@ -1,11 +1,12 @@
 //! What stands around the boxes of a picture, as text: its heading, its axis and its windows.
 
-ghost use Rattle.std.specs.Prelude.{◌≡◌, ◌<◌, ◌++◌, OnOk, length};
-ghost use Rattle.blk_picture.specs.Around.{numbers_text, legend, heading_text, tick_text, axis_text, column_at, line_text, named_text, bracket_text, crowded_text, crowd_text, crowds_text, foot_text, windows_text};
+ghost use Rattle.std.specs.Prelude.{◌≡◌, ◌<◌, ◌≤◌, ◌-◌, ◌/◌, ◌++◌, OnOk, length, min};
+ghost use Rattle.blk_picture.specs.declared.scale.TheConstants.{MAX_WIDE};
+ghost use Rattle.blk_picture.specs.Around.{numbers_text, legend, heading_text, column_at, beyond, line_text, named_text, bracket_text, crowded_text, crowd_text, crowds_text, foot_text, windows_text};
 
 use crate::scale::{LEFT, MAX_AXIS_STEPS, MAX_WIDE, Scale, TOP, place, step_of};
 use crate::template::push_template;
-use crate::words::{AFTER_NAME, BRACKET, LABEL, LEGEND, NUMBERS, TICK};
+use crate::words::{AFTER_NAME, BRACKET, BREAK, LABEL, LEGEND, NUMBERS, TICK};
 use blk_report::{Report, Tally, report_lines};
 use drafts::Draft;
 use edd_figures::{Crowd, Figures};
@@ -64,36 +65,108 @@ pub(crate) fn push_heading(
 }
 
 /// The column of a round, or the last one.
-fn column_at(scale: &Scale, round: u64) -> u32
+fn column_of(scale: &Scale, round: u64) -> u32
     requires { 0 < scale.now.per }
-    ensures { result ≡ column_at scale.now round }
+    ensures { result ≡ min round (scale.now.rounds - 1) / scale.now.per }
 {
     let last = u64::from(scale.rounds.saturating_sub(1));
     (round.min(last) as u32) / scale.per
 }
 
-/// Adds a number of the axis, at a number of steps from its start, where the picture has that round.
-fn push_tick(draft: &mut Draft, scale: &Scale, number: u32) -> Result<(), AllocError>
+/// Where the column of a round begins, or the last one.
+fn column_at(scale: &Scale, round: u64) -> u32
     requires { 0 < scale.now.per }
-    ensures { OnOk result (draft.new ≡ draft.old ++ tick_text scale.now number) }
+    ensures { result ≡ column_at scale.now round }
 {
-    let round = place(number, step_of(scale.rounds), 0);
-    if round >= u64::from(scale.rounds) {
-        return Ok(());
+    scale.place_of(column_of(scale, round))
+}
+
+/// How far behind that it ends, where it is drawn.
+fn beyond(scale: &Scale, round: u64) -> u32
+    requires { 0 < scale.now.per }
+    ensures value { result ≡ beyond scale.now round }
+    ensures small { result ≤ MAX_WIDE }
+{
+    if scale.shows(column_of(scale, round)) {
+        scale.wide.min(MAX_WIDE)
+    } else {
+        0
     }
+}
+
+/// Adds a number of the axis.
+fn put_tick(draft: &mut Draft, scale: &Scale, round: u64) -> Result<(), AllocError>
+    requires { 0 < scale.now.per }
+{
     let x = place(column_at(scale, round), scale.wide, LEFT);
     push_template(draft, TICK.as_bytes(), &[x, x, round])
 }
 
-/// Adds the axis.
-fn push_axis(draft: &mut Draft, scale: &Scale) -> Result<(), AllocError>
+/// Adds the axis of all rounds: by 1, 2 or 5 times a power of ten.
+fn put_whole_axis(draft: &mut Draft, scale: &Scale) -> Result<(), AllocError>
     requires { 0 < scale.now.per }
-    ensures { OnOk result (draft.new ≡ draft.old ++ axis_text scale.now) }
 {
+    let step = step_of(scale.rounds);
     for number in 0..MAX_AXIS_STEPS + 1 {
-        push_tick(draft, scale, number)?;
+        let round = place(number, step, 0);
+        if round < u64::from(scale.rounds) {
+            put_tick(draft, scale, round)?;
+        }
     }
-    draft.text(b"<text class='s e' x='58' y='17'>round</text>\n")
+    Ok(())
+}
+
+/// Adds where columns are cut before the one that is drawn at a place, if some are, and says whether.
+fn put_break(draft: &mut Draft, scale: &Scale, number: u32) -> Result<bool, AllocError> {
+    let column = scale.shown_at(u64::from(number));
+    let next = if number == 0 {
+        0
+    } else {
+        scale.shown_at(u64::from(number - 1)).saturating_add(1)
+    };
+    if column <= next {
+        return Ok(false);
+    }
+    let x = place(number, scale.wide, LEFT);
+    let high = place(scale.deep, scale.tall, TOP - 105);
+    let per = u64::from(scale.per);
+    let first = next.saturating_mul(per);
+    let last = column.saturating_mul(per).saturating_sub(1);
+    push_template(draft, BREAK.as_bytes(), &[x, high, first, last])?;
+    Ok(true)
+}
+
+/// Adds the axis of those columns that are drawn: where some are cut, and by which round a column begins, where there is room for that.
+fn put_cut_axis(draft: &mut Draft, scale: &Scale) -> Result<(), AllocError>
+    requires { 0 < scale.now.per }
+{
+    let mut free: u64 = 0;
+    for number in 0..scale.drawn {
+        let broken = put_break(draft, scale, number)?;
+        let x = place(number, scale.wide, LEFT);
+        if free <= x && (broken || free.saturating_add(60) <= x) {
+            let round = scale
+                .shown_at(u64::from(number))
+                .saturating_mul(u64::from(scale.per));
+            put_tick(draft, scale, round)?;
+            free = x.saturating_add(56);
+        }
+    }
+    Ok(())
+}
+
+/// The axis.
+pub(crate) fn axis(alloc: Global, scale: &Scale) -> Result<Vec<u8>, AllocError>
+    requires { 0 < scale.now.per }
+{
+    let mut draft = Draft::new(alloc);
+    if scale.cut {
+        put_cut_axis(&mut draft, scale)?;
+    } else {
+        put_whole_axis(&mut draft, scale)?;
+    }
+    draft.text(b"<text class='s e' x='44' y='17'>round</text>\n")?;
+    draft.finish()
 }
 
 /// Adds the bracket of a window in a row, with its two numbers in its title.
@@ -104,7 +177,7 @@ fn push_line(draft: &mut Draft, scale: &Scale, row: u32, crowd: Crowd) -> Result
     let first = column_at(scale, crowd.window.from);
     let last = column_at(scale, crowd.window.due);
     let from = place(first, scale.wide, LEFT);
-    let to = place(last, scale.wide, LEFT + scale.wide.min(MAX_WIDE));
+    let to = place(last, scale.wide, LEFT + beyond(scale, crowd.window.due));
     let top = place(row, 28, 28);
     push_template(
         draft,
@@ -226,15 +299,16 @@ fn push_foot(draft: &mut Draft, scale: &Scale) -> Result<(), AllocError>
 pub(crate) fn push_windows(
     draft: &mut Draft,
     scale: &Scale,
+    axis: &[u8],
     report: &Report,
     carries: u64,
     crowds: &[Crowd],
 ) -> Result<(), AllocError>
     requires { 0 < scale.now.per }
-    ensures { OnOk result (draft.new ≡ draft.old ++ windows_text scale.now report.now carries crowds.now) }
+    ensures { OnOk result (draft.new ≡ draft.old ++ windows_text scale.now axis.now report.now carries crowds.now) }
 {
     push_foot(draft, scale)?;
-    push_axis(draft, scale)?;
+    draft.text(axis)?;
     push_crowded(draft, scale, report.figures, carries)?;
     push_crowds(draft, scale, crowds)?;
     draft.text(b"</g>\n")?;

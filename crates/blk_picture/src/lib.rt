@@ -4,6 +4,7 @@
 mod around;
 mod boxes;
 mod columns;
+mod cut;
 mod facts;
 pub mod laws;
 mod parts;

@@ -5,15 +5,16 @@ ghost use Rattle.edd_commands.specs.declared.steps.TheConstants.{MAX_DEPTH};
 ghost use Rattle.blk_trace.specs.declared.trace.TheConstants.{MAX_EVENTS};
 ghost use Rattle.blk_picture.specs.declared.parts.TheConstants.{MAX_TRACES};
 ghost use Rattle.blk_picture.specs.declared.scale.TheConstants.{MAX_TAG_TALL};
-ghost use Rattle.blk_picture.specs.Scales.{scale_of};
+ghost use Rattle.blk_picture.specs.Scales.{IsScaled};
 ghost use Rattle.blk_picture.specs.Pictures.{rounds_shown, most_rounds, most_deep, latest_end, crowded_room, IsPart, height_of, style, head_text, IsPicture, IsPictures};
 ghost use Rattle.blk_picture.specs.Inside.Several.{HasParts};
 
-use crate::around::{push_heading, push_windows};
+use crate::around::{axis, push_heading, push_windows};
 use crate::boxes::{IssueBox, boxes};
 use crate::columns::{Column, columns};
-use crate::scale::{Scale, place};
-use crate::shapes::{push_frame, push_strip};
+use crate::cut::{LateWaits, chosen, push_cut};
+use crate::scale::{MAX_COLUMNS, Scale, place};
+use crate::shapes::{drawn_columns, push_frame, push_strip};
 use crate::template::push_template;
 use crate::words::{HEAD, STYLE};
 use blk_report::{Report, Tally, misses, report};
@@ -84,13 +85,38 @@ fn push_part(
     let missed = misses(trace)?;
     let boxes = boxes(alloc, trace)?;
     let columns = columns(alloc, trace, boxes.as_slice(), scale)?;
+    let drawn = drawn_columns(alloc, &scale, columns.as_slice())?;
+    let axis = axis(alloc, &scale)?;
     let room = crowded_room(&trace.capacity()?, report.figures);
     push_template(draft, b"<g transform='translate(0,$)'>\n", &[top])?;
     push_heading(draft, alloc, &scale, name, &report, &missed.tally)?;
-    push_strip(draft, &scale, columns.as_slice())?;
-    push_frame(draft, &scale, boxes.as_slice(), columns.as_slice())?;
-    push_windows(draft, &scale, &report, room, missed.windows.as_slice())?;
+    push_cut(draft, &scale, boxes.as_slice())?;
+    push_strip(draft, &scale, drawn.as_slice())?;
+    push_frame(draft, &scale, boxes.as_slice(), drawn.as_slice())?;
+    push_windows(
+        draft,
+        &scale,
+        axis.as_slice(),
+        &report,
+        room,
+        missed.windows.as_slice(),
+    )?;
     draft.text(b"</g>\n")?;
+    Ok(())
+}
+
+/// Adds how late requests of another trace wait; where there are few rounds nobody asks.
+fn add_late(
+    late: &mut LateWaits,
+    alloc: Global,
+    rounds: u32,
+    trace: &Trace,
+) -> Result<(), AllocError> {
+    if rounds <= MAX_COLUMNS {
+        return Ok(());
+    }
+    let boxes = boxes(alloc, trace)?;
+    late.add(boxes.as_slice());
     Ok(())
 }
 
@@ -126,14 +152,17 @@ fn push_head(draft: &mut Draft, height: u64) -> Result<(), AllocError>
 }
 
 /// The picture of a trace as SVG 1.1, without scripts, fonts or links: a heading, a strip of what waits at the end of each round, a
-/// box for each Issue in its round and under its tag, an axis, and the windows of the report and of misses as brackets. Over 400
-/// rounds a column stands for several rounds, and is a stack of what they served. Fails only when out of memory.
+/// box for each Issue in its round and under its tag, an axis, and the windows of the report and of misses as brackets. Of more than 400
+/// rounds those columns are drawn in which a late request waits or goes out, and it says what is cut; where these are more than 400, or nothing
+/// is late, a column stands for several rounds, and is a stack of what they served. Fails only when out of memory.
 pub fn picture(alloc: Global, trace: &Trace) -> Result<Vec<u8>, AllocError>
     ensures { IfOk result (λ v. IsPicture trace.now v.items) }
 {
     let rounds = rounds_shown(trace);
     let deep = tags_shown(trace);
-    let scale = Scale::of(rounds, deep);
+    let mut late = LateWaits::new(alloc, rounds)?;
+    add_late(&mut late, alloc, rounds, trace)?;
+    let scale = chosen(alloc, rounds, deep, &late)?;
     let height = height_of(&scale);
     let mut draft = Draft::new(alloc);
     push_head(&mut draft, u64::from(height))?;
@@ -143,12 +172,21 @@ pub fn picture(alloc: Global, trace: &Trace) -> Result<Vec<u8>, AllocError>
     Ok(svg)
 }
 
-/// The scale that several traces share: that of the most rounds and the most tags.
-fn shared(traces: &[Trace]) -> Scale
-    ensures scale { result ≡ scale_of (most_rounds traces.now) (most_deep traces.now) }
-    ensures deep { result.deep ≤ MAX_DEPTH }
-    ensures some { 0 < result.per }
-    ensures low { result.tall ≤ MAX_TAG_TALL }
+/// The most rounds and the most tags of several traces.
+#[derive(Clone, Copy)]
+struct Extent {
+    /// The most rounds.
+    rounds: u32,
+    /// The most tags.
+    deep: u32,
+}
+
+/// Those of these traces.
+fn largest_of(traces: &[Trace]) -> Extent
+    ensures rounds { result.rounds ≡ most_rounds traces.now }
+    ensures deep { result.deep ≡ most_deep traces.now }
+    ensures few { result.rounds ≤ MAX_EVENTS + 1 }
+    ensures low { result.deep ≤ MAX_DEPTH }
 {
     let mut rounds = 0;
     let mut deep = 0;
@@ -156,7 +194,23 @@ fn shared(traces: &[Trace]) -> Scale
         rounds = rounds_shown(trace).max(rounds);
         deep = tags_shown(trace).max(deep);
     }
-    Scale::of(rounds, deep)
+    Extent { rounds, deep }
+}
+
+/// The scale that several traces share: that of the most rounds and the most tags.
+fn shared(alloc: Global, traces: &[Trace]) -> Result<Scale, AllocError>
+    ensures scale { IfOk result (λ s. IsScaled (most_rounds traces.now) (most_deep traces.now) s) }
+    ensures deep { IfOk result (λ s. s.deep ≤ MAX_DEPTH) }
+    ensures some { IfOk result (λ s. 0 < s.per) }
+    ensures low { IfOk result (λ s. s.tall ≤ MAX_TAG_TALL) }
+{
+    let extent = largest_of(traces);
+    let mut late = LateWaits::new(alloc, extent.rounds)?;
+    for trace in traces {
+        add_late(&mut late, alloc, extent.rounds, trace)?;
+    }
+    let scale = chosen(alloc, extent.rounds, extent.deep, &late)?;
+    Ok(scale)
 }
 
 /// Adds the parts of several traces, one below another.
@@ -191,7 +245,7 @@ pub fn pictures(alloc: Global, names: &[&[u8]], traces: &[Trace]) -> Result<Vec<
     if traces.len() > MAX_TRACES {
         return Err(AllocError);
     }
-    let scale = shared(traces);
+    let scale = shared(alloc, traces)?;
     let height = height_of(&scale);
     let mut draft = Draft::new(alloc);
     let whole = place(traces.len() as u32, height, 0);

@@ -1,7 +1,7 @@
 //! The boxes, the columns and the strip of a picture as text.
 
-ghost use Rattle.std.specs.Prelude.{◌≡◌, ◌==◌, ◌++◌, [], cond, OnOk, flat_map, length};
-ghost use Rattle.blk_picture.specs.Shapes.{class_words, dir_words, tail_words, apart, fits, label_text, place_text, tail_text, box_text, stack_text, grey_text, column_text, columns_text, border_text, frame_text, waiting_text, most_waiting, scale_text, waits_text, strip_text};
+ghost use Rattle.std.specs.Prelude.{◌≡◌, ◌==◌, ◌++◌, [], cond, OnOk, IfOk, flat_map, length, slice_index_or};
+ghost use Rattle.blk_picture.specs.Shapes.{class_words, dir_words, tail_words, apart, fits, label_text, place_text, tail_text, whole_box, box_text, stack_text, grey_text, column_text, no_column, drawn_columns, columns_text, border_text, frame_text, waiting_text, most_waiting, scale_text, waits_text, strip_text};
 
 use crate::boxes::IssueBox;
 use crate::columns::{Column, is_late};
@@ -12,7 +12,18 @@ use crate::words::{
 };
 use blk_bio::Dir;
 use drafts::Draft;
-use std::alloc::AllocError;
+use std::alloc::{AllocError, Global};
+
+/// A column in which nothing is.
+const NO_COLUMN: Column = Column {
+    reads: 0,
+    writes: 0,
+    lates: 0,
+    backs: 0,
+    room: 0,
+    read_waits: 0,
+    write_waits: 0,
+};
 
 /// How many pixels a tag is high at least where a number is written inside a box.
 const MIN_LABEL_TALL: u32 = 12;
@@ -86,7 +97,11 @@ fn push_label(draft: &mut Draft, scale: &Scale, issued: &IssueBox) -> Result<(),
     if issued.back || !is_late(issued) || !fits(scale, rounds) {
         return Ok(());
     }
-    let x = place(issued.round, scale.wide, LEFT + scale.wide / 2);
+    let x = place(
+        scale.place_of(issued.round),
+        scale.wide,
+        LEFT + scale.wide / 2,
+    );
     let y = place(u32::from(issued.tag), scale.tall, TOP + scale.tall / 2 + 3);
     let words: &[u8] = match issued.dir {
         Dir::Read => b"<text class='n o' x='$' y='$'>$</text>\n",
@@ -99,7 +114,7 @@ fn push_label(draft: &mut Draft, scale: &Scale, issued: &IssueBox) -> Result<(),
 fn push_place(draft: &mut Draft, scale: &Scale, issued: &IssueBox) -> Result<(), AllocError>
     ensures { OnOk result (draft.new ≡ draft.old ++ place_text scale.now issued.now) }
 {
-    let x = place(issued.round, scale.wide, LEFT);
+    let x = place(scale.place_of(issued.round), scale.wide, LEFT);
     let y = place(u32::from(issued.tag), scale.tall, TOP);
     let wide = u64::from(scale.wide.saturating_sub(1));
     let tall = u64::from(scale.tall.saturating_sub(1));
@@ -127,8 +142,8 @@ fn push_tail(draft: &mut Draft, issued: &IssueBox) -> Result<(), AllocError>
 }
 
 /// Adds a box.
-fn push_box(draft: &mut Draft, scale: &Scale, issued: &IssueBox) -> Result<(), AllocError>
-    ensures { OnOk result (draft.new ≡ draft.old ++ box_text scale.now issued.now) }
+fn push_whole_box(draft: &mut Draft, scale: &Scale, issued: &IssueBox) -> Result<(), AllocError>
+    ensures { OnOk result (draft.new ≡ draft.old ++ whole_box scale.now issued.now) }
 {
     let class = class_words(issued);
     draft.text(class)?;
@@ -138,6 +153,17 @@ fn push_box(draft: &mut Draft, scale: &Scale, issued: &IssueBox) -> Result<(), A
     push_tail(draft, issued)?;
     push_label(draft, scale, issued)?;
     Ok(())
+}
+
+/// Adds a box, where the column of its round is drawn.
+fn push_box(draft: &mut Draft, scale: &Scale, issued: &IssueBox) -> Result<(), AllocError>
+    ensures { OnOk result (draft.new ≡ draft.old ++ box_text scale.now issued.now) }
+{
+    if scale.shows(issued.round) {
+        push_whole_box(draft, scale, issued)
+    } else {
+        Ok(())
+    }
 }
 
 /// Adds the boxes, where each column is a round.
@@ -178,11 +204,12 @@ fn push_stack(
     let served = reads + writes + lates;
     let idle = column.room.saturating_sub(served + backs);
     let away = whole.saturating_sub(column.room);
+    let name = scale.shown_at(number);
     push_template(
         draft,
         STACK.as_bytes(),
         &[
-            number,
+            name,
             reads,
             writes,
             lates,
@@ -238,6 +265,32 @@ fn push_column(
     }
 }
 
+/// A column, or one in which nothing is.
+fn column_or(columns: &[Column], number: u64) -> Column
+    ensures { result ≡ slice_index_or columns.now number no_column }
+{
+    match columns.get(number as usize) {
+        Some(column) => *column,
+        None => NO_COLUMN,
+    }
+}
+
+/// Those of all columns that are drawn, in their order.
+pub(crate) fn drawn_columns(
+    alloc: Global,
+    scale: &Scale,
+    columns: &[Column],
+) -> Result<Vec<Column>, AllocError>
+    ensures { IfOk result (λ v. v.items ≡ drawn_columns scale.now columns.now) }
+{
+    let mut drawn = Vec::new(alloc);
+    for number in 0..scale.drawn {
+        let column = scale.shown_at(u64::from(number));
+        drawn.push(column_or(columns, column))?;
+    }
+    Ok(drawn)
+}
+
 /// Adds the columns.
 fn push_columns(draft: &mut Draft, scale: &Scale, columns: &[Column]) -> Result<(), AllocError>
     ensures { OnOk result (draft.new ≡ draft.old ++ columns_text scale.now columns.now (length columns.now)) }
@@ -252,9 +305,9 @@ fn push_columns(draft: &mut Draft, scale: &Scale, columns: &[Column]) -> Result<
 fn push_border(draft: &mut Draft, scale: &Scale) -> Result<(), AllocError>
     ensures { OnOk result (draft.new ≡ draft.old ++ border_text scale.now) }
 {
-    let wide = place(scale.columns, scale.wide, 0);
+    let wide = place(scale.drawn, scale.wide, 0);
     let tall = place(scale.deep, scale.tall, 0);
-    let columns = u64::from(scale.columns);
+    let columns = u64::from(scale.drawn);
     let whole = place(scale.per, scale.deep, 0);
     push_template(
         draft,
@@ -307,8 +360,8 @@ fn most_waiting(columns: &[Column]) -> u64
 fn push_scale(draft: &mut Draft, scale: &Scale, most: u64) -> Result<(), AllocError>
     ensures { OnOk result (draft.new ≡ draft.old ++ scale_text scale.now most) }
 {
-    let wide = place(scale.columns, scale.wide, 0);
-    let columns = u64::from(scale.columns);
+    let wide = place(scale.drawn, scale.wide, 0);
+    let columns = u64::from(scale.drawn);
     push_template(
         draft,
         WAIT_SCALE.as_bytes(),

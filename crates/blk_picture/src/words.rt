@@ -4,12 +4,19 @@
 pub const NUMBERS: &str =
     "</text>\n<text x='24' y='68'>late $ unavoidable $ avoidable $ spare $; rounds in a column: $</text>\n";
 
+/// How many columns are not drawn, and that nothing late is in them.
+pub const CUT: &str =
+    "<text class='e' x='1264' y='68'>cut at broken lines: $ of $ columns, with $ late</text>\n";
+
 /// The colours, and what they mean.
 pub const LEGEND: &str =
-    "<g transform='translate(24,78)'><rect class='r' width='14' height='14'/><text x='20' y='12'>read</text><rect class='w' x='70' width='14' height='14'/><text x='90' y='12'>write</text><rect class='r l' x='146' y='1' width='12' height='12'/><rect class='w l' x='164' y='1' width='12' height='12'/><text x='184' y='12'>late, with the rounds late (in columns </text><rect class='m' x='402' width='14' height='14'/><text x='420' y='12'>)</text><rect class='hr' x='446' width='14' height='14'/><rect class='hw' x='464' width='14' height='14'/><text x='486' y='12'>handed back (in columns </text><rect class='b' x='634' width='14' height='14'/><text x='652' y='12'>)</text><rect class='f' x='676' width='14' height='14'/><text x='696' y='12'>idle</text><rect class='g' x='742' width='14' height='14'/><text x='762' y='12'>not carried by the round</text><path class='q' d='M946 4v6H970v-6'/><text x='976' y='12'>crowded window; below it those of misses</text></g>\n";
+    "<g transform='translate(24,78)'><rect class='r' width='14' height='14'/><text class='s' x='19' y='12'>read</text><rect class='w' x='61' width='14' height='14'/><text class='s' x='80' y='12'>write</text><rect class='r l' x='124' y='1' width='12' height='12'/><rect class='w l' x='142' y='1' width='12' height='12'/><text class='s' x='160' y='12'>late, by how many rounds</text><rect class='m' x='320' width='14' height='14'/><text class='s' x='339' y='12'>late in columns</text><rect class='hr' x='440' width='14' height='14'/><rect class='hw' x='459' width='14' height='14'/><text class='s' x='478' y='12'>handed back</text><rect class='b' x='566' width='14' height='14'/><text class='s' x='585' y='12'>back in columns</text><rect class='f' x='691' width='14' height='14'/><text class='s' x='710' y='12'>idle</text><rect class='g' x='746' width='14' height='14'/><text class='s' x='765' y='12'>not carried</text><path class='q' d='M842 4v6H866v-6'/><text class='s' x='872' y='12'>crowded window, below it those of misses</text></g>\n";
 
 /// What stands between the name and the report.
 pub const AFTER_NAME: &str = "</text>\n<text x='24' y='50' xml:space='preserve'>";
+
+/// Where columns are cut, through the strip and the frame, and that in words.
+pub const BREAK: &str = "<path class='z' d='M$ 5v-$'><title>rounds $ to $ are cut</title></path>\n";
 
 /// A number of the axis.
 pub const TICK: &str = "<path class='k' d='M$ 0v5'/><text class='s c' x='$' y='17'>$</text>\n";
@@ -23,7 +30,7 @@ pub const LABEL: &str = "<text class='s' x='$' y='$'>$ commands, room for $</tex
 
 /// The style sheet.
 pub const STYLE: &str =
-    "<style>text{font-family:sans-serif;font-size:13px;fill:#222}.t{font-size:18px;font-weight:bold}.s{font-size:11px}.e{text-anchor:end}.c,.n{text-anchor:middle}.n{font-size:10px;fill:#000}.o{fill:#fff}.p{fill:#fff}.f{fill:#f0f0f0}.g{fill:#a8a8a8}.r{fill:#0072b2}.w{fill:#e69f00}.m{fill:#000}.b{fill:#cc79a7}.l{stroke:#000;stroke-width:2}.hr{fill:url(#hr);stroke:#0072b2}.hw{fill:url(#hw);stroke:#e69f00}.k,.q{fill:none;stroke:#222}.q{stroke-width:2.5}.dr{stroke:#0072b2;stroke-width:2}.dw{stroke:#e69f00;stroke-width:2}@media(prefers-color-scheme:dark){text{fill:#ddd}.n{fill:#000}.o{fill:#fff}.p{fill:#161616}.f{fill:#262626}.g{fill:#5c5c5c}.m{fill:#fff}.l{stroke:#fff}.k,.q{stroke:#ddd}.r{fill:#2a92d0}}</style><defs><pattern id='hr' width='5' height='5' patternUnits='userSpaceOnUse' patternTransform='rotate(45)'><path class='dr' d='M0 0V5'/></pattern><pattern id='hw' width='5' height='5' patternUnits='userSpaceOnUse' patternTransform='rotate(45)'><path class='dw' d='M0 0V5'/></pattern></defs>\n";
+    "<style>text{font-family:sans-serif;font-size:13px;fill:#222}.t{font-size:18px;font-weight:bold}.s{font-size:11px}.e{text-anchor:end}.c,.n{text-anchor:middle}.n{font-size:10px;fill:#000}.o{fill:#fff}.p{fill:#fff}.f{fill:#f0f0f0}.g{fill:#a8a8a8}.r{fill:#0072b2}.w{fill:#e69f00}.m{fill:#000}.b{fill:#cc79a7}.l{stroke:#000;stroke-width:2}.hr{fill:url(#hr);stroke:#0072b2}.hw{fill:url(#hw);stroke:#e69f00}.k,.q{fill:none;stroke:#222}.q{stroke-width:2.5}.z{fill:none;stroke:#d55e00;stroke-width:1.5;stroke-dasharray:4 3}.dr{stroke:#0072b2;stroke-width:2}.dw{stroke:#e69f00;stroke-width:2}@media(prefers-color-scheme:dark){text{fill:#ddd}.n{fill:#000}.o{fill:#fff}.p{fill:#161616}.f{fill:#262626}.g{fill:#5c5c5c}.m{fill:#fff}.l{stroke:#fff}.k,.q{stroke:#ddd}.r{fill:#2a92d0}}</style><defs><pattern id='hr' width='5' height='5' patternUnits='userSpaceOnUse' patternTransform='rotate(45)'><path class='dr' d='M0 0V5'/></pattern><pattern id='hw' width='5' height='5' patternUnits='userSpaceOnUse' patternTransform='rotate(45)'><path class='dw' d='M0 0V5'/></pattern></defs>\n";
 
 /// How a picture of some height begins.
 pub const HEAD: &str =

@@ -29,7 +29,7 @@ use Rattle.blk_picture.specs.declared.columns.IssueKind.TheVariants.{Reads, Writ
 use Rattle.blk_picture.specs.Boxes.{box_of, boxes_from, boxes_of}
 use Rattle.blk_picture.specs.Columns.{counts_as, is_late, in_column, round_in, rounds_in, column_of, rooms_of}
 use Rattle.blk_picture.specs.Templates.{made}
-use Rattle.blk_picture.specs.Scales.{per_of, columns_of, scale_of}
+use Rattle.blk_picture.specs.Scales.{IsScaled, columns_by}
 use Rattle.blk_picture.specs.Pictures.{rounds_shown, most_rounds}
 use Rattle.blk_picture_laws.specs.Sums.{columns_in, issued_in, ShowsAll}
 
@@ -260,28 +260,28 @@ rooms_sum g f steps per rounds m is whole =
 
 -- ---- scales
 
-some_per : (rounds : ℕ) → 0 < per_of rounds
-unfolding per_of
-some_per rounds = omega arith
-
 -- this number of columns is enough
-enough : (rounds : ℕ) → rounds ≤ columns_of rounds * per_of rounds
-unfolding columns_of
-enough rounds =
-    let per : ℕ = per_of rounds in
-    let some : 0 < per = some_per rounds in
+enough : (rounds per : ℕ) → 0 < per → rounds ≤ columns_by rounds per * per
+unfolding columns_by
+enough rounds per some =
     let q : ℕ = (rounds + (per - 1)) / per in
     let most : rounds + (per - 1) < suc q * per = (div-lt_iff_lt-mul {k = per} {x = rounds + (per - 1)} {y = suc q} some).0 (omega arith) in
     let low : rounds ≤ q * per = omega (arith, suc-mul q per) in
     let more : q * per ≤ max q 1 * per = mul-le-mul_right {m = q} {n = max q 1} per (omega arith) in
     omega arith
 
-pub scales_show : (events : List Happened) (rounds deep : ℕ) → round_of events < rounds → ShowsAll events (scale_of rounds deep)
-unfolding scale_of
-scales_show events rounds deep l = record { some = some_per rounds; whole = enough rounds; last = l }
+pub scales_show : (events : List Happened) (rounds deep : ℕ) (scale : Scale) → round_of events < rounds → IsScaled rounds deep scale → ShowsAll events scale
+scales_show events rounds deep scale l is = record {
+  some = is.some;
+  whole =
+      let all : rounds ≤ columns_by rounds scale.per * scale.per = enough rounds scale.per is.some in
+      let same : scale.columns * scale.per ≡ columns_by rounds scale.per * scale.per = ap (λ n. n * scale.per) is.columns_are in
+      omega (arith, all, same, is.rounds_are);
+  last = omega (arith, l, is.rounds_are);
+}
 
-pub own_shows : (t : Traced) (deep : ℕ) → ShowsAll t.events (scale_of (rounds_shown t) deep)
-own_shows t deep = scales_show t.events (rounds_shown t) deep (omega arith)
+pub own_shows : (t : Traced) (deep : ℕ) (scale : Scale) → IsScaled (rounds_shown t) deep scale → ShowsAll t.events scale
+own_shows t deep scale is = scales_show t.events (rounds_shown t) deep scale (omega arith) is
 
 from_most : (a : ℕ) (xs : List ℕ) → a ≤ fold max a xs
 from_most a [] = omega arith
@@ -295,9 +295,9 @@ each_most a zero (u ∷ traces) t h =
     omega (arith, is, from_most (max a (rounds_shown u)) (map rounds_shown traces))
 each_most a (suc k) (u ∷ traces) t h = each_most (max a (rounds_shown u)) k traces t h
 
-pub several_show : (traces : List Traced) (k deep : ℕ) (t : Traced) → slice_get traces k ≡ Some t → ShowsAll t.events (scale_of (most_rounds traces) deep)
+pub several_show : (traces : List Traced) (k deep : ℕ) (scale : Scale) (t : Traced) → slice_get traces k ≡ Some t → IsScaled (most_rounds traces) deep scale → ShowsAll t.events scale
 unfolding most_rounds
-several_show traces k deep t h = scales_show t.events (most_rounds traces) deep (omega (arith, each_most 0 k traces t h))
+several_show traces k deep scale t h is = scales_show t.events (most_rounds traces) deep scale (omega (arith, each_most 0 k traces t h)) is
 
 -- ---- the columns of a trace
 

@@ -9,6 +9,7 @@ use Rattle.blk_trace.specs.Traces.{Traced}
 use Rattle.blk_picture.specs.declared.scale.Scale.{Scale}
 use Rattle.blk_picture.specs.declared.columns.Column.{Column}
 use Rattle.blk_picture.specs.declared.columns.IssueKind.TheVariants.{Reads, Writes, Lates, Backs}
+use Rattle.blk_picture.specs.Scales.{IsScaled}
 use Rattle.blk_picture.specs.Boxes.{boxes_of}
 use Rattle.blk_picture.specs.Columns.{counts_as, column_of}
 use Rattle.blk_picture.specs.Templates.{made}
@@ -30,6 +31,10 @@ pub record ShowsAll (events : List Happened) (scale : Scale) : Type 0 where
   pub some : 0 < scale.per
   pub whole : scale.rounds ≤ scale.columns * scale.per
   pub last : round_of events < scale.rounds
+
+-- it holds of each scale of so many rounds
+abbrev pub HoldsScaled : ℕ → (Scale → Type 0) → Type 0
+HoldsScaled rounds P = (deep : ℕ) → (scale : Scale) → IsScaled rounds deep scale → P scale
 
 -- it shows all of each of the traces
 abbrev pub ShowsAllOfEach : List Traced → Scale → Type 0

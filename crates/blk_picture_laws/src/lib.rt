@@ -8,10 +8,9 @@ ghost use Rattle.blk_trace.specs.Setups.{Setup};
 ghost use Rattle.blk_trace.specs.Events.{round_of};
 ghost use Rattle.blk_trace.specs.Legal.{IsLegalTrace};
 ghost use Rattle.blk_trace.specs.Meaning.{commands_of, rounds_of};
-ghost use Rattle.blk_picture.specs.Scales.{scale_of};
 ghost use Rattle.blk_picture.specs.Pictures.{rounds_shown, most_rounds};
 ghost use Rattle.blk_picture_laws.specs.Served.{boxes_in_order, boxes_kept, boxed_command, issue_of, timed_issues, BoxesAreServices};
-ghost use Rattle.blk_picture_laws.specs.Sums.{ShowsAll, ShowsAllOfEach, WhereAllIsShown, ReadsAddUp, WritesAddUp, LatesAddUp, BacksAddUp, BoxesAddUp, RoomsAddUp, ColumnsFit, IdlePlacesAddUp};
+ghost use Rattle.blk_picture_laws.specs.Sums.{HoldsScaled, ShowsAll, ShowsAllOfEach, WhereAllIsShown, ReadsAddUp, WritesAddUp, LatesAddUp, BacksAddUp, BoxesAddUp, RoomsAddUp, ColumnsFit, IdlePlacesAddUp};
 
 /// The boxes of a picture are those of the trace: one for each Issue, in its round and under its tag; and those that were not requeued
 /// are the trace's commands in their rounds, in the order of their Issues. In a legal trace they are its services, each with
@@ -29,15 +28,14 @@ pub fn law_of_boxes()
         → IsLegalTrace setup events → BoxesAreServices setup events }
 {}
 
-/// The scale of a number of rounds shows all that was issued before the last of them, however many rounds a column stands for, also
-/// where that does not divide their number. So does the one scale of several traces for each of them.
+/// The columns of the scale of a number of rounds stand for all that was issued before the last of them, however many rounds a column stands
+/// for, also where that does not divide their number, and whichever are drawn. So do those of the one scale of several traces for each of them.
 ///
 /// A law: it does nothing when it runs, and a caller has its clauses.
 pub fn law_of_scales()
-    ensures rounds { (events : List Happened) → (rounds deep : ℕ) → round_of events < rounds
-        → ShowsAll events (scale_of rounds deep) }
-    ensures own { (t : Traced) → (deep : ℕ) → ShowsAll t.events (scale_of (rounds_shown t) deep) }
-    ensures several { (traces : List Traced) → (deep : ℕ) → ShowsAllOfEach traces (scale_of (most_rounds traces) deep) }
+    ensures rounds { (events : List Happened) → (rounds : ℕ) → round_of events < rounds → HoldsScaled rounds (ShowsAll events) }
+    ensures own { (t : Traced) → HoldsScaled (rounds_shown t) (ShowsAll t.events) }
+    ensures several { (traces : List Traced) → HoldsScaled (most_rounds traces) (ShowsAllOfEach traces) }
 {}
 
 /// On such a scale the numbers of all columns add up to those of the trace: the boxes of each kind, and all boxes; and the rooms to

@@ -87,7 +87,7 @@ lines_left text begin = if nat_le begin (length text) then lines_of (drop begin 
 lines_behind : (text : List ℕ) (end : ℕ) → end ≡ length text → lines_left text (end + 1) ≡ []
 lines_behind text end e = let past : nat_le (end + 1) (length text) ≡ false = grind (arith, nat_tests) in rw past refl
 
-lines_within : (text : List ℕ) (begin : ℕ) → begin ≤ length text → lines_left text begin ≡ lines_of (drop begin text)
+pub lines_within : (text : List ℕ) (begin : ℕ) → begin ≤ length text → lines_left text begin ≡ lines_of (drop begin text)
 lines_within text begin l = let in_it : nat_le begin (length text) ≡ true = grind (arith, nat_tests) in rw in_it refl
 
 pub next_line : (text : List ℕ) (begin end : ℕ) → IsLineEnd text begin end → lines_left text begin ≡ line_between text begin end ∷ lines_left text (end + 1)

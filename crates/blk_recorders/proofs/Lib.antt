@@ -1,3 +1,5 @@
+pub mod Numbers
 pub mod Cutting
 pub mod Reading
 pub mod Detecting
+pub mod Wholes

@@ -16,4 +16,4 @@ pub use crate::detect::{CaptureForm, form_of};
 pub use crate::device::Device;
 pub use crate::fault::{LineFault, LineWhy};
 pub use crate::recorder::Recorder;
-pub use crate::steps::{MAX_STEPS, Steps, read_lines};
+pub use crate::steps::{MAX_STEPS, StepReader, Steps, read_lines};

@@ -1,11 +1,11 @@
 //! The steps that a recorder printed, read line by line.
 
-ghost use Rattle.std.specs.Prelude.{◌≡◌, IfOk, IfErr, OnOk, Ok, length};
+ghost use Rattle.std.specs.Prelude.{◌≡◌, ◌≤◌, [], IfOk, IfErr, OnOk, Ok, length};
 ghost use Rattle.blk_capture.specs.Requests.{AreInOrder};
 ghost use Rattle.blk_recorders.specs.Words.{word_texts};
 ghost use Rattle.blk_recorders.specs.Lines.{lined};
-ghost use Rattle.blk_recorders.specs.Steps.{none_yet, more, is_other, settle, is_unordered, take_words, take_line, take_step, AreByTime, AreOrdered, AreSteps, IsLineFault};
-ghost use Rattle.blk_recorders.specs.Inside.Reading.{sofar, Takes, HaveSameCounts};
+ghost use Rattle.blk_recorders.specs.Steps.{none_yet, more, is_other, settle, is_unordered, take_words, take_line, take_step, sofar, at_hand, steps_read, line_next, IsCountedOn, ReadsText, RisesOn, HandsOn, HasCounts, AreByTime, AreOrdered, AreSteps, IsLineFault};
+ghost use Rattle.blk_recorders.specs.Inside.Reading.{TakesBy, HaveSameCounts};
 
 use crate::device::Device;
 use crate::fault::{LineFault, LineWhy};
@@ -17,7 +17,7 @@ use blk_capture::Record;
 use std::alloc::{AllocError, Global};
 
 /// The most records of a capture that are kept at once.
-pub const MAX_STEPS: usize = 16_000_000;
+pub const MAX_STEPS: u64 = 16_000_000;
 
 /// What a recorder printed.
 #[derive(Debug, Drop)]
@@ -34,11 +34,16 @@ pub struct Steps {
     pub losses: u64,
 }
 
-/// What was read so far, and the time of the last record.
+/// Steps that are read text by text: those at hand, and what is known of all.
 #[derive(Drop)]
-struct Reading {
+pub struct StepReader {
     steps: Steps,
+    /// How many records there were, with those that are no longer at hand.
+    count: u64,
+    /// The time of the last one.
     last: u64,
+    /// The number of the next line.
+    number: u64,
 }
 
 /// Whether a step is of another device than the one that is asked for; what names none is of any.
@@ -84,12 +89,13 @@ impl Recorder {
     }
 }
 
-impl Reading {
+impl StepReader {
     /// Nothing yet.
-    fn new(alloc: Global) -> Reading
-        ensures none { sofar result ≡ none_yet }
+    pub fn new(alloc: Global) -> StepReader
+        ensures none { sofar [] result ≡ none_yet }
+        ensures first { line_next result ≡ 1 }
     {
-        Reading {
+        StepReader {
             steps: Steps {
                 records: Vec::new(alloc),
                 device: None,
@@ -97,7 +103,9 @@ impl Reading {
                 remarks: 0,
                 losses: 0,
             },
+            count: 0,
             last: 0,
+            number: 1,
         }
     }
 
@@ -106,9 +114,13 @@ impl Reading {
         &mut self,
         recorder: Recorder,
         asked: Option<Device>,
+        most: u64,
         step: Step,
     ) -> Result<(), LineWhy>
-        ensures { Takes (sofar self.new) result (take_step recorder asked (sofar self.old) step) }
+        ensures takes { TakesBy self.old self.new result (λ s. take_step most recorder asked s step) }
+        ensures counted { IsCountedOn self.old self.new }
+        ensures few { steps_read self.old ≤ most → steps_read self.new ≤ most }
+        ensures number { line_next self.new ≡ line_next self.old }
     {
         if is_other(asked, step.device) {
             self.steps.others = more(self.steps.others);
@@ -120,12 +132,13 @@ impl Reading {
         if !recorder.is_unordered() && step.told.time < self.last {
             return Err(LineWhy::Order);
         }
-        if self.steps.records.len() >= MAX_STEPS {
+        if self.count >= most {
             return Err(LineWhy::TooLong);
         }
         if self.steps.records.push(step.told).is_err() {
             return Err(LineWhy::Memory);
         }
+        self.count += 1;
         self.steps.device = device;
         self.last = step.told.time;
         Ok(())
@@ -137,14 +150,18 @@ impl Reading {
         cuts: &mut Cuts<'_>,
         recorder: Recorder,
         asked: Option<Device>,
+        most: u64,
     ) -> Result<(), LineWhy>
-        ensures { Takes (sofar self.new) result (take_words recorder asked (sofar self.old) (word_texts cuts.old.words.items)) }
+        ensures takes { TakesBy self.old self.new result (λ s. take_words most recorder asked s (word_texts cuts.old.words.items)) }
+        ensures counted { IsCountedOn self.old self.new }
+        ensures few { steps_read self.old ≤ most → steps_read self.new ≤ most }
+        ensures number { line_next self.new ≡ line_next self.old }
     {
         if cuts.words.is_empty() {
             return Ok(());
         }
         match line_of(recorder, cuts.words.as_slice(), &mut cuts.fields) {
-            Ok(line) => self.take_line(recorder, asked, line),
+            Ok(line) => self.take_line(recorder, asked, most, line),
             Err(why) => Err(why),
         }
     }
@@ -154,13 +171,17 @@ impl Reading {
         &mut self,
         recorder: Recorder,
         asked: Option<Device>,
+        most: u64,
         line: Line<&[u8]>,
     ) -> Result<(), LineWhy>
-        ensures { Takes (sofar self.new) result (take_line recorder asked (sofar self.old) (Ok (lined line.entry))) }
+        ensures takes { TakesBy self.old self.new result (λ s. take_line most recorder asked s (Ok (lined line.entry))) }
+        ensures counted { IsCountedOn self.old self.new }
+        ensures few { steps_read self.old ≤ most → steps_read self.new ≤ most }
+        ensures number { line_next self.new ≡ line_next self.old }
     {
         match line {
             Line::Step(layout) => match step_told(&layout) {
-                Ok(step) => self.take_step(recorder, asked, step),
+                Ok(step) => self.take_step(recorder, asked, most, step),
                 Err(why) => Err(why),
             },
             Line::Remark => {
@@ -172,6 +193,72 @@ impl Reading {
                 Ok(())
             }
         }
+    }
+
+    /// Takes in the lines of a text, at most so many records with those before: the text ends with a line's end, unless it is the last one.
+    ///
+    /// The fault is that of the first line that has one ([`read_lines`]).
+    pub fn take_lines(
+        &mut self,
+        alloc: Global,
+        recorder: Recorder,
+        asked: Option<Device>,
+        most: u64,
+        text: &[u8],
+    ) -> Result<(), LineFault>
+        ensures reads { ReadsText most recorder asked text.now self.old self.new result }
+        // their times don't fall, unless those of the recorder's lines may
+        ensures rises { RisesOn recorder self.old self.new result }
+        ensures counted { IsCountedOn self.old self.new }
+        ensures few { steps_read self.old ≤ most → steps_read self.new ≤ most }
+    {
+        let mut cuts = Cuts::new(alloc);
+        let mut begin = 0;
+        while begin < text.len() {
+            let Ok(end) = cut_line(text, begin, &mut cuts.words) else {
+                return Err(LineFault {
+                    at: self.number,
+                    why: LineWhy::Memory,
+                });
+            };
+            match self.take(&mut cuts, recorder, asked, most) {
+                Ok(()) => {}
+                Err(why) => {
+                    return Err(LineFault {
+                        at: self.number,
+                        why,
+                    });
+                }
+            }
+            self.number = more(self.number);
+            begin = end + 1;
+        }
+        Ok(())
+    }
+
+    /// The records at hand.
+    pub fn records(&self) -> &[Record]
+        ensures { result.now ≡ at_hand self.now }
+    {
+        self.steps.records.as_slice()
+    }
+
+    /// Lets the records at hand go.
+    pub fn let_go(&mut self)
+        ensures goes { HandsOn self.old self.new }
+        ensures none { at_hand self.new ≡ [] }
+        ensures number { line_next self.new ≡ line_next self.old }
+    {
+        self.steps.records.clear();
+    }
+
+    /// The steps, with the records at hand: those of a recorder whose lines may stand in any order by their times. Fails only when out of
+    /// memory.
+    pub fn steps(self, recorder: Recorder) -> Result<Steps, AllocError>
+        ensures ordered { IfOk result (λ s. AreOrdered recorder (at_hand self) s.records.items) }
+        ensures rest { IfOk result (HasCounts self) }
+    {
+        in_order(recorder, self.steps)
     }
 }
 
@@ -215,25 +302,13 @@ pub fn read_lines(
     ensures in_order { IfOk result (λ s. AreInOrder s.records.items (length s.records.items)) }
     ensures err { IfErr result (IsLineFault recorder asked text.now) }
 {
-    let mut reading = Reading::new(alloc);
-    let mut cuts = Cuts::new(alloc);
-    let mut number = 1;
-    let mut begin = 0;
-    while begin <= text.len() {
-        let Ok(end) = cut_line(text, begin, &mut cuts.words) else {
-            return Err(LineFault {
-                at: number,
-                why: LineWhy::Memory,
-            });
-        };
-        match reading.take(&mut cuts, recorder, asked) {
-            Ok(()) => {}
-            Err(why) => return Err(LineFault { at: number, why }),
-        }
-        number = more(number);
-        begin = end + 1;
+    let mut reading = StepReader::new(alloc);
+    match reading.take_lines(alloc, recorder, asked, MAX_STEPS, text) {
+        Ok(()) => {}
+        Err(fault) => return Err(fault),
     }
-    match in_order(recorder, reading.steps) {
+    let number = reading.number;
+    match reading.steps(recorder) {
         Ok(steps) => Ok(steps),
         Err(_) => Err(LineFault {
             at: number,

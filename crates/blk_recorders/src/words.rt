@@ -2,7 +2,7 @@
 
 ghost use Rattle.std.specs.Prelude.{◌≡◌, ◌==◌, ◌≤◌, ◌<◌, ◌^◌, ◌∷◌, ◌++◌, IfOk, OnOk, IfSome, get_or, length, []};
 ghost use Rattle.std.specs.List.{position};
-ghost use Rattle.blk_recorders.specs.Words.{is_blank, words, line_between, IsLineEnd, fields, not_empty, number, nanoseconds, before_byte, behind_byte, behind_last, begins_with, word_texts};
+ghost use Rattle.blk_recorders.specs.Words.{is_blank, words, line_between, IsLineEnd, fields, not_empty, number_from, number, nanoseconds, before_byte, behind_byte, behind_last, begins_with, word_texts};
 
 use std::alloc::{AllocError, Global};
 
@@ -47,6 +47,10 @@ pub(crate) fn cut_line<'a>(
     let mut begin = from;
     for place in from..text.len() {
         let byte = text[place];
+        // most bytes are greater than a blank, and are asked once
+        if byte > b' ' {
+            continue;
+        }
         if is_blank(byte) {
             push_word(&text[begin..place], cut)?;
             begin = place + 1;
@@ -147,14 +151,31 @@ pub(crate) fn behind_last(word: &[u8], byte: u8) -> &[u8]
     &word[begin..]
 }
 
-/// The number that a word writes, in decimal digits, perhaps with zeros before them, where it fits 64 bits.
-pub(crate) fn number(word: &[u8]) -> Option<u64>
-    ensures value { result ≡ number word.now }
+/// So many digits never write a number that passes 64 bits.
+const MAX_SAFE_DIGITS: usize = 19;
+
+/// The number that few digits write: few enough for any of them to fit.
+#[tactic(auto, using(crate::proofs::Numbers::room, crate::proofs::Numbers::next, crate::proofs::Numbers::low, crate::proofs::Numbers::high))]
+fn short_number(word: &[u8]) -> Option<u64>
+    requires { length word.now ≤ MAX_SAFE_DIGITS }
+    ensures value { result ≡ number_from 0 word.now }
     ensures short { IfSome result (λ n. n < 10 ^ length word.now) }
 {
-    if word.is_empty() {
-        return None;
+    let mut number: u64 = 0;
+    for byte in word {
+        if *byte < b'0' || *byte > b'9' {
+            return None;
+        }
+        number = number * 10 + u64::from(*byte - b'0');
     }
+    Some(number)
+}
+
+/// The number that digits write, where it fits.
+fn long_number(word: &[u8]) -> Option<u64>
+    ensures value { result ≡ number_from 0 word.now }
+    ensures short { IfSome result (λ n. n < 10 ^ length word.now) }
+{
     let mut number: u64 = 0;
     for byte in word {
         if !byte.is_ascii_digit() {
@@ -165,6 +186,20 @@ pub(crate) fn number(word: &[u8]) -> Option<u64>
             .checked_add(u64::from(*byte - b'0'))?;
     }
     Some(number)
+}
+
+/// The number that a word writes, in decimal digits, perhaps with zeros before them, where it fits 64 bits.
+pub(crate) fn number(word: &[u8]) -> Option<u64>
+    ensures value { result ≡ number word.now }
+    ensures short { IfSome result (λ n. n < 10 ^ length word.now) }
+{
+    if word.is_empty() {
+        None
+    } else if word.len() <= MAX_SAFE_DIGITS {
+        short_number(word)
+    } else {
+        long_number(word)
+    }
 }
 
 /// The nanoseconds of a time within its second: nine digits, or six of microseconds.

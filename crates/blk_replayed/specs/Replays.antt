@@ -1,12 +1,13 @@
 -- What replays of a capture answer.
-use Rattle.std.specs.Prelude.{◌≡◌, ℕ, List, map, All}
+use Rattle.std.specs.Prelude.{◌≡◌, ◌≤◌, ℕ, List, Result, IfOk, length, map, slice_index_or, All}
 use Rattle.edd_commands.specs.Capacity.{fixed}
 use Rattle.edd_commands.specs.declared.Command.{Command}
-use Rattle.edd_figures.specs.Misses.{HasMisses}
+use Rattle.edd_commands.specs.declared.TheConstants.{MAX_COMMANDS}
+use Rattle.edd_figures.specs.Misses.{HasMisses, IsLeastLate}
 use Rattle.edd_figures.specs.declared.missing.Counts.{Counts}
 use Rattle.edd_figures.specs.declared.missing.Crowd.{Crowd}
 use Rattle.blk_capture.specs.Counting.{AreInRounds}
-use Rattle.blk_capture.specs.Requests.{times_of}
+use Rattle.blk_capture.specs.Requests.{AreTimed, times_of}
 use Rattle.blk_capture.specs.declared.requests.CapturedRequest.{CapturedRequest}
 use Rattle.blk_runs.specs.Firsts.{AreUnmade}
 use Rattle.blk_settings.specs.declared.plans.Plan.{Plan}
@@ -14,10 +15,24 @@ use Rattle.blk_settings.specs.declared.plans.ReplayBy.{ReplayBy}
 use Rattle.blk_settings.specs.declared.sched.SchedFault.{SchedFault}
 use Rattle.blk_replayed.specs.declared.row.Chooser.TheVariants.{Machine, Replay}
 use Rattle.blk_replayed.specs.declared.row.ReplayRow.{ReplayRow}
+use Rattle.blk_replay.specs.Requests.{AreRoundCommands}
 use Rattle.blk_replayed.specs.Rows.{IsReplayRow}
 use Rattle.blk_replayed.specs.Order.{AreBetterFirst}
 
--- a row for each of these plans, in their order
+-- requests that are timed, as their commands, of which so many are late in any order
+pub record CanBeReplayed (unavoidable : ℕ) (requests : List CapturedRequest) (commands : List Command) : Type 0 where
+  pub timed : AreTimed requests
+  pub few : length requests ≤ MAX_COMMANDS
+  pub counted : AreRoundCommands requests commands
+  pub least : IsLeastLate commands (fixed 1) unavoidable
+
+-- the row of a plan; what is answered for the plan at a place; and a row for each of these plans, in their order
+abbrev pub IsPlanRow : ℕ → List CapturedRequest → List Command → Plan → ReplayRow → Type 0
+IsPlanRow unavoidable requests commands p r = (r.chooser ≡ Replay p) × IsReplayRow unavoidable requests commands r
+
+abbrev pub AnswersPlanAt : ℕ → List CapturedRequest → List Command → List Plan → ℕ → Result ReplayRow SchedFault → Type 0
+AnswersPlanAt unavoidable requests commands plans place answer = (d : Plan) → IfOk answer (IsPlanRow unavoidable requests commands (slice_index_or plans place d))
+
 abbrev pub AreRowsOf : ℕ → List CapturedRequest → List Command → List Plan → List ReplayRow → Type 0
 AreRowsOf unavoidable requests commands plans rows = (map (λ r. r.chooser) rows ≡ map Replay plans) × All (IsReplayRow unavoidable requests commands) rows
 

@@ -1,7 +1,7 @@
 //! What is said of replays, as an answer.
 
 ghost use Rattle.std.specs.Prelude.{◌≡◌, ◌++◌, ◌∷◌, [], IfOk, OnOk, map};
-ghost use Rattle.blk_replayed.specs.Answers.{set_told, setting_in_words, chooser_name, chooser_settings, replay_row, replay_columns, best_replays, replay_rows, is_least, proof_told, told_line, best_told, best_of_row, best_of_none, best_of_rows, replays_parts};
+ghost use Rattle.blk_replayed.specs.Answers.{expiry, expiries_of, plan_settings, chooser_name, chooser_settings, replay_row, replay_columns, best_replays, replay_rows, is_least, proof_told, told_line, best_told, best_of_row, best_of_none, best_of_rows, replays_parts};
 
 use crate::replays::Replays;
 use crate::row::{Chooser, ReplayRow};
@@ -12,40 +12,41 @@ use answer::{
     Answer, Cell, Column, Layout, Line, Part, Row, Rows, Set, Setting, Settings, Value, Word,
     count_or_none, member, record_columns,
 };
-use blk_settings::positions::positions_name;
-use blk_settings::{SettingValue, setting};
+use blk_settings::Plan;
+use blk_settings::told::told_settings;
 use std::alloc::{AllocError, Global};
 
-/// What a setting is set to.
-fn set_told(value: SettingValue) -> Set
-    ensures { result ≡ set_told value }
-{
-    match value {
-        SettingValue::Number(number) => Set::Number(number),
-        SettingValue::Switch(is_on) => Set::Switch(is_on),
-        SettingValue::Positions(positions) => Set::Word(Word::new(positions_name(positions))),
-    }
-}
-
-/// A setting by its name.
-fn told_setting(setting: &setting::Setting) -> Setting
-    ensures { result ≡ setting_in_words setting.now }
+/// An expiry of a FIFO list as a setting, in nanoseconds.
+fn expiry(name: &'static str, time: u64) -> Setting
+    ensures { result ≡ expiry name.now time }
 {
     Setting {
-        name: Word::new(setting.name()),
-        set: set_told(setting.value()),
+        name: Word::new(name),
+        set: Set::Number(time),
     }
 }
 
-/// Settings by their names.
-fn told_settings(alloc: Global, settings: &[setting::Setting]) -> Result<Vec<Setting>, AllocError>
-    ensures { IfOk result (λ all. all.items ≡ map setting_in_words settings.now) }
+/// Adds the expiries by which a replay goes, where its scheduler has FIFO lists.
+fn push_expiries(all: &mut Vec<Setting>, plan: &Plan) -> Result<(), AllocError>
+    ensures { OnOk result (all.new.items ≡ all.old.items ++ expiries_of plan.now) }
 {
-    let mut all = Vec::new(alloc);
-    for setting in settings {
-        all.push(told_setting(setting))?;
+    if plan.sched.kind.has_fifo_lists() {
+        all.push(expiry("fifo_read_expire", plan.fifo.read))?;
+        all.push(expiry("fifo_write_expire", plan.fifo.write))?;
     }
-    Ok(all)
+    Ok(())
+}
+
+/// The settings of a replay, and its expiries too where they are shown.
+fn plan_settings(alloc: Global, expiries: bool, plan: &Plan) -> Result<Vec<Setting>, AllocError>
+    ensures { IfOk result (λ all. all.items ≡ plan_settings expiries plan.now) }
+{
+    let settings = plan.sched.settings();
+    let mut told = told_settings(alloc, settings.as_slice())?;
+    if expiries {
+        push_expiries(&mut told, plan)?;
+    }
+    Ok(told)
 }
 
 /// Who chose an order.
@@ -59,14 +60,13 @@ fn chooser_word(chooser: &Chooser) -> Word
 }
 
 /// By which settings it was chosen.
-fn settings_value(alloc: Global, chooser: &Chooser) -> Result<Value, AllocError>
-    ensures { IfOk result (λ value. value ≡ Value.Settings (chooser_settings chooser.now)) }
+fn settings_value(alloc: Global, expiries: bool, chooser: &Chooser) -> Result<Value, AllocError>
+    ensures { IfOk result (λ value. value ≡ Value.Settings (chooser_settings expiries chooser.now)) }
 {
     match chooser {
         Chooser::Machine => Ok(Value::Settings(Settings::new(Vec::new(alloc)))),
         Chooser::Replay(plan) => {
-            let settings = plan.sched.settings();
-            let told = told_settings(alloc, settings.as_slice())?;
+            let told = plan_settings(alloc, expiries, plan)?;
             Ok(Value::Settings(Settings::new(told)))
         }
     }
@@ -74,15 +74,15 @@ fn settings_value(alloc: Global, chooser: &Chooser) -> Result<Value, AllocError>
 
 /// A row.
 #[tactic(auto, unfolding(crate::specs::Answers::replay_row))]
-fn replay_row(alloc: Global, row: &ReplayRow) -> Result<Row, AllocError>
-    ensures { IfOk result (λ told. told ≡ replay_row row.now) }
+fn replay_row(alloc: Global, expiries: bool, row: &ReplayRow) -> Result<Row, AllocError>
+    ensures { IfOk result (λ told. told ≡ replay_row expiries row.now) }
 {
     let clock = &row.clock;
     let values = Vec::from_array(
         alloc,
         [
             Value::Text(chooser_word(&row.chooser)),
-            settings_value(alloc, &row.chooser)?,
+            settings_value(alloc, expiries, &row.chooser)?,
             Value::Count(row.late),
             Value::Count(clock.late_reads),
             Value::Count(clock.late_writes),
@@ -101,11 +101,16 @@ fn replay_row(alloc: Global, row: &ReplayRow) -> Result<Row, AllocError>
 }
 
 /// Adds rows.
-fn push_rows(all: &mut Vec<Row>, alloc: Global, rows: &[ReplayRow]) -> Result<(), AllocError>
-    ensures { OnOk result (all.new.items ≡ all.old.items ++ map (λ r. replay_row r) rows.now) }
+fn push_rows(
+    all: &mut Vec<Row>,
+    alloc: Global,
+    expiries: bool,
+    rows: &[ReplayRow],
+) -> Result<(), AllocError>
+    ensures { OnOk result (all.new.items ≡ all.old.items ++ map (λ r. replay_row expiries r) rows.now) }
 {
     for row in rows {
-        all.push(replay_row(alloc, row)?)?;
+        all.push(replay_row(alloc, expiries, row)?)?;
     }
     Ok(())
 }
@@ -150,14 +155,20 @@ fn replay_columns(alloc: Global) -> Result<Vec<Column>, AllocError>
 }
 
 /// The rows: that of the capture, and the best of the replays.
-fn rows_part(alloc: Global, top: Option<u64>, replays: &Replays) -> Result<Part, AllocError>
-    ensures { IfOk result (λ part. part ≡ replay_rows top replays.now.captured replays.now.replayed.items) }
+fn rows_part(
+    alloc: Global,
+    expiries: bool,
+    top: Option<u64>,
+    replays: &Replays,
+) -> Result<Part, AllocError>
+    ensures { IfOk result (λ part. part ≡ replay_rows expiries top replays.now.captured replays.now.replayed.items) }
 {
     let columns = replay_columns(alloc)?;
-    let mut rows = vec![in alloc; replay_row(alloc, &replays.captured)?]?;
+    let mut rows = vec![in alloc; replay_row(alloc, expiries, &replays.captured)?]?;
     push_rows(
         &mut rows,
         alloc,
+        expiries,
         best_replays(top, replays.replayed.as_slice()),
     )?;
     Ok(Part::Rows(Rows::new(ROWS, columns, true, rows)))
@@ -194,8 +205,8 @@ fn proved_line(alloc: Global, told: Value, end: &'static str) -> Result<Part, Al
 }
 
 /// Which scheduler of which settings a row is of, as the best.
-fn best_told(alloc: Global, row: &ReplayRow) -> Result<Part, AllocError>
-    ensures { IfOk result (λ part. part ≡ best_told row.now) }
+fn best_told(alloc: Global, expiries: bool, row: &ReplayRow) -> Result<Part, AllocError>
+    ensures { IfOk result (λ part. part ≡ best_told expiries row.now) }
 {
     let sched = Cell {
         column: Column::new(Layout::Words(Word::new("best ")), SCHED),
@@ -203,7 +214,7 @@ fn best_told(alloc: Global, row: &ReplayRow) -> Result<Part, AllocError>
     };
     let settings = Cell {
         column: Column::new(Layout::Space, SETTINGS),
-        value: settings_value(alloc, &row.chooser)?,
+        value: settings_value(alloc, expiries, &row.chooser)?,
     };
     let mut cells = vec![in alloc; sched]?;
     cells.push(settings)?;
@@ -211,10 +222,15 @@ fn best_told(alloc: Global, row: &ReplayRow) -> Result<Part, AllocError>
 }
 
 /// Adds which row is the best.
-fn add_best_row(answer: &mut Answer, alloc: Global, row: &ReplayRow) -> Result<(), AllocError>
-    ensures { OnOk result (answer.new ≡ answer.old ++ best_of_row row.now) }
+fn add_best_row(
+    answer: &mut Answer,
+    alloc: Global,
+    expiries: bool,
+    row: &ReplayRow,
+) -> Result<(), AllocError>
+    ensures { OnOk result (answer.new ≡ answer.old ++ best_of_row expiries row.now) }
 {
-    let best = best_told(alloc, row)?;
+    let best = best_told(alloc, expiries, row)?;
     let proved = proved_line(alloc, proof_told(row), "\n")?;
     answer.add(best)?;
     answer.add(proved)
@@ -230,12 +246,17 @@ fn add_best_of_none(answer: &mut Answer, alloc: Global) -> Result<(), AllocError
 }
 
 /// Adds the best of the rows, the first one.
-fn add_best(answer: &mut Answer, alloc: Global, rows: &[ReplayRow]) -> Result<(), AllocError>
-    ensures { OnOk result (answer.new ≡ answer.old ++ best_of_rows rows.now) }
+fn add_best(
+    answer: &mut Answer,
+    alloc: Global,
+    expiries: bool,
+    rows: &[ReplayRow],
+) -> Result<(), AllocError>
+    ensures { OnOk result (answer.new ≡ answer.old ++ best_of_rows expiries rows.now) }
 {
     match rows.first() {
         None => add_best_of_none(answer, alloc),
-        Some(row) => add_best_row(answer, alloc, row),
+        Some(row) => add_best_row(answer, alloc, expiries, row),
     }
 }
 
@@ -243,16 +264,18 @@ fn add_best(answer: &mut Answer, alloc: Global, rows: &[ReplayRow]) -> Result<()
 /// of these; each with `sched` and `settings`, how many requests were `late`, of them `late_reads` and `late_writes`, how many had to be,
 /// `unavoidable`, and how many hadn't, `avoidable`, by how much the latest was late, `greatest` (ns, 0 where none was), and the percentiles of the
 /// waits from their entry to their dispatch, `read_p50` and so on (ns, `none` where there are none); then `best`, the first of the replays, and in
-/// `proved` that no order has fewer late, where it is so. Fails only when out of memory.
+/// `proved` that no order has fewer late, where it is so. With `expiries` the settings have those of FIFO lists too (`fifo_read_expire`,
+/// `fifo_write_expire`, ns), where the scheduler has such lists. Fails only when out of memory.
 pub fn replays_answer(
     alloc: Global,
+    expiries: bool,
     top: Option<u64>,
     replays: &Replays,
 ) -> Result<Answer, AllocError>
-    ensures { IfOk result (λ answer. answer ≡ replays_parts top replays.now.captured replays.now.replayed.items) }
+    ensures { IfOk result (λ answer. answer ≡ replays_parts expiries top replays.now.captured replays.now.replayed.items) }
 {
     let mut answer = Answer::new(alloc);
-    answer.add(rows_part(alloc, top, replays)?)?;
-    add_best(&mut answer, alloc, replays.replayed.as_slice())?;
+    answer.add(rows_part(alloc, expiries, top, replays)?)?;
+    add_best(&mut answer, alloc, expiries, replays.replayed.as_slice())?;
     Ok(answer)
 }

@@ -10,7 +10,7 @@ mod shown;
 mod text;
 
 pub use crate::answers::replays_answer;
-pub use crate::replays::{Replays, replay_plans};
+pub use crate::replays::{Replays, ReplaysAsked, replay_plans};
 pub use crate::row::{Chooser, ReplayRow};
 pub use crate::serving::rounds_under;
 pub use crate::shown::{replay_schedule_text, replay_table_text};

@@ -1,6 +1,6 @@
 //! The rows of replays beside that of the capture as it went.
 
-ghost use Rattle.std.specs.Prelude.{◌≡◌, ◌≤◌, IfOk, IfErr, IfSome, length, map};
+ghost use Rattle.std.specs.Prelude.{◌≡◌, ◌≤◌, ◌<◌, IfOk, IfErr, IfSome, length, map};
 ghost use Rattle.edd_commands.specs.Capacity.{fixed};
 ghost use Rattle.edd_commands.specs.Schedule.{IsLegal};
 ghost use Rattle.edd_commands.specs.declared.TheConstants.{MAX_COMMANDS};
@@ -9,16 +9,35 @@ ghost use Rattle.blk_capture.specs.Counting.{AreInRounds, AreSolvable};
 ghost use Rattle.blk_capture.specs.Requests.{AreTimed, times_of};
 ghost use Rattle.blk_runs.specs.Firsts.{IsFirstUnmade};
 ghost use Rattle.blk_replay.specs.Requests.{AreRoundCommands};
-ghost use Rattle.blk_replayed.specs.Replays.{AreRowsOf, AreReplays, AreUnreplayed};
+ghost use Rattle.blk_replayed.specs.Replays.{CanBeReplayed, AnswersPlanAt, AreRowsOf, AreReplays, AreUnreplayed};
 
 use crate::order::better_first;
 use crate::row::{ReplayRow, captured_row, replayed_row};
 use blk_capture::{CapturedRequest, rounds_of};
 use blk_runs::unmade;
-use blk_settings::{Plan, ReplayBy, Sched, SchedFault};
+use blk_settings::{Form, Plan, ReplayBy, Sched, SchedFault};
 use edd_commands::{Capacity, Command};
 use edd_figures::{Misses, misses_of};
 use std::alloc::{AllocError, Global};
+use std::thread::Threads;
+use turns::{Progress, in_turn};
+
+/// What is asked of replays.
+#[derive(Clone, Copy)]
+pub struct ReplaysAsked<'a> {
+    /// The replays, in the order in which those stand that are as good.
+    pub plans: &'a [Plan],
+    /// What their rows are ordered by first.
+    pub by: ReplayBy,
+    /// How many of them are shown at most, the best ones; without it all are.
+    pub top: Option<u64>,
+    /// Whether settings are shown with the expiries of FIFO lists.
+    pub expiries: bool,
+    /// How many replays go side by side at most; without it as many as there are processors, 16 at most. 0 counts as 1.
+    pub threads: Option<u64>,
+    /// In which form they are written.
+    pub form: Form,
+}
 
 /// What came of the requests of a capture, as they went and in replays.
 #[derive(Debug, Drop)]
@@ -62,41 +81,44 @@ fn misses_in(
     misses_of(alloc, commands, rounds, &capacity)
 }
 
-/// A row for each plan, in their order.
-#[tactic(auto, using(crate::proofs::Turns::one_more))]
-fn rows_of(
+/// A row for each plan, in their order, on threads.
+fn rows_of<T: Threads + Sync, P: Progress>(
+    rt: &T,
     alloc: Global,
-    plans: &[Plan],
+    asked: &ReplaysAsked<'_>,
     unavoidable: u64,
     requests: &[CapturedRequest],
     commands: &[Command],
+    progress: &mut P,
 ) -> Result<Vec<ReplayRow>, AllocError>
     requires timed { AreTimed requests.now }
     requires few { length requests.now ≤ MAX_COMMANDS }
     requires counted { AreRoundCommands requests.now commands.now }
     requires least { IsLeastLate commands.now (fixed 1) unavoidable }
-    ensures { IfOk result (λ v. AreRowsOf unavoidable requests.now commands.now plans.now v.items) }
+    ensures { IfOk result (λ v. AreRowsOf unavoidable requests.now commands.now asked.now.plans.now v.items) }
 {
-    let mut rows = Vec::new(alloc);
-    for plan in plans {
-        let Ok(row) = replayed_row(alloc, *plan, unavoidable, requests, commands) else {
-            return Err(AllocError);
-        };
-        rows.push(row)?;
+    let plans = asked.plans;
+    let run = |place: usize| -> Result<ReplayRow, SchedFault>
+        requires { (place < length plans.now) × CanBeReplayed unavoidable requests.now commands.now }
+        ensures { AnswersPlanAt unavoidable requests.entry.now commands.entry.now plans.entry.now place result }
+    { replayed_row(alloc, plans[place], unavoidable, requests, commands) };
+    match in_turn(rt, alloc, plans.len(), asked.threads, &run, progress) {
+        Ok(rows) => Ok(rows),
+        Err(_) => Err(AllocError),
     }
-    Ok(rows)
 }
 
 /// The rows of requests of which all schedulers are made.
-fn replays_in(
+fn replays_in<T: Threads + Sync, P: Progress>(
+    rt: &T,
     alloc: Global,
-    by: ReplayBy,
-    plans: &[Plan],
+    asked: &ReplaysAsked<'_>,
     requests: &[CapturedRequest],
+    progress: &mut P,
 ) -> Result<Replays, AllocError>
     requires timed { AreTimed requests.now }
     requires few { length requests.now ≤ MAX_COMMANDS }
-    ensures { IfOk result (λ r. AreReplays by plans.now requests.now r.captured r.replayed.items) }
+    ensures { IfOk result (λ r. AreReplays asked.now.by asked.now.plans.now requests.now r.captured r.replayed.items) }
 {
     let counted = rounds_of(alloc, requests)?;
     let commands = counted.commands.as_slice();
@@ -104,32 +126,34 @@ fn replays_in(
     let missed = misses_in(alloc, requests, commands, rounds)?;
     let unavoidable = missed.counts.unavoidable;
     let captured = captured_row(alloc, unavoidable, requests, commands, rounds)?;
-    let mut replayed = rows_of(alloc, plans, unavoidable, requests, commands)?;
-    better_first(by, &mut replayed)?;
+    let mut replayed = rows_of(rt, alloc, asked, unavoidable, requests, commands, progress)?;
+    better_first(asked.by, &mut replayed)?;
     Ok(Replays { captured, replayed })
 }
 
 /// What came of the requests of a capture, as they went and in a replay of each plan, the best first: of those that are as good the one that is
 /// planned first. The same number of them is unavoidable in all rows: it is the fewest that any order of the same dispatches has late.
 ///
-/// Refused as the first scheduler is that isn't made of its settings, before any replay, or as `Memory`. The time grows as n log n.
-pub fn replay_plans(
+/// Refused as the first scheduler is that isn't made of its settings, before any replay, or as `Memory`. The time grows as n log n. They go side by
+/// side on the threads of `rt`, as [`turns::in_turn`] has it, and `progress` hears how far they have come.
+pub fn replay_plans<T: Threads + Sync, P: Progress>(
+    rt: &T,
     alloc: Global,
-    by: ReplayBy,
-    plans: &[Plan],
+    asked: &ReplaysAsked<'_>,
     requests: &[CapturedRequest],
+    progress: &mut P,
 ) -> Result<Replays, SchedFault>
     requires timed { AreTimed requests.now }
     requires few { length requests.now ≤ MAX_COMMANDS }
-    ensures replays { IfOk result (λ r. AreReplays by plans.now requests.now r.captured r.replayed.items) }
-    ensures unmade { IfErr result (AreUnreplayed plans.now) }
+    ensures replays { IfOk result (λ r. AreReplays asked.now.by asked.now.plans.now requests.now r.captured r.replayed.items) }
+    ensures unmade { IfErr result (AreUnreplayed asked.now.plans.now) }
 {
-    match unmade_in(alloc, plans) {
+    match unmade_in(alloc, asked.plans) {
         Ok(Some(fault)) => return Err(fault),
         Ok(None) => {}
         Err(_) => return Err(SchedFault::Memory),
     }
-    match replays_in(alloc, by, plans, requests) {
+    match replays_in(rt, alloc, asked, requests, progress) {
         Ok(rows) => Ok(rows),
         Err(_) => Err(SchedFault::Memory),
     }

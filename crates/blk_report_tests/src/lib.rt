@@ -17,3 +17,9 @@ mod reports;
 mod serving;
 #[cfg(test)]
 mod spreads;
+#[cfg(test)]
+mod pictures;
+#[cfg(test)]
+mod online;
+#[cfg(test)]
+mod program;

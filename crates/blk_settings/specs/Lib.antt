@@ -16,4 +16,5 @@ pub mod Wanted
 pub mod Complaints
 pub mod Lists
 pub mod Plans
+pub mod Told
 pub mod Defaults

@@ -1,5 +1,5 @@
 -- How a capture is replayed: under which schedulers, and by what these go.
-use Rattle.std.specs.Prelude.{ℕ, ◌∷◌, [], Bool, true, false, List, Option, None, Some, codes, find, map, option_map, option_and_then, if◌then◌else◌}
+use Rattle.std.specs.Prelude.{ℕ, ◌∷◌, [], Bool, true, false, List, Option, None, Some, codes, find, map, take, option_map, option_and_then, if◌then◌else◌}
 use Rattle.std.specs.List.{flat_map}
 use Rattle.std.specs.Option.{option_or}
 use Rattle.std.specs.Str.{bytes_eq}
@@ -29,6 +29,27 @@ plans_of f none deadline kyber earliest =
 abbrev pub plans_given : GivenOptions → FifoExpire → Option (List Plan)
 plans_given o f =
     option_and_then (λ n. option_and_then (λ d. option_and_then (λ k. option_map (plans_of f n d k) (kind_given o kind.Earliest)) (kind_given o kind.Kyber)) (kind_given o kind.Deadline)) (kind_given o kind.None)
+
+-- the schedulers that have FIFO lists, by whose expiries they go
+abbrev pub has_fifo_lists : SchedKind → Bool
+has_fifo_lists kind.Deadline = true
+has_fifo_lists kind.None = false
+has_fifo_lists kind.Kyber = false
+has_fifo_lists kind.Earliest = false
+
+-- each choice of these expiries of reads and of writes; those that are tried under a scheduler of a kind, the first alone without FIFO lists
+abbrev pub fifo_of : ℕ → ℕ → FifoExpire
+fifo_of read write = record { read = read; write = write }
+
+abbrev pub fifos_of : List ℕ → List ℕ → List FifoExpire
+fifos_of reads writes = flat_map (λ r. map (fifo_of r) writes) reads
+
+abbrev pub fifos_tried : SchedKind → List FifoExpire → List FifoExpire
+fifos_tried k fifos = if has_fifo_lists k then fifos else take 1 fifos
+
+-- the replays under each of these schedulers
+abbrev pub plans_tried : List Sched → List ℕ → List ℕ → List Plan
+plans_tried scheds reads writes = flat_map (λ s. map (λ f. plan_of f s) (fifos_tried s.kind (fifos_of reads writes))) scheds
 
 -- the option that sets a setting in a replay, or lists the values of it that are tried: a text, or a flag
 abbrev pub replay_kind : RangeOf → OptionKind

@@ -26,6 +26,7 @@ pub mod rows;
 pub mod sched;
 pub mod setting;
 mod settling;
+pub mod told;
 
 pub use crate::fault::LoadFault;
 pub use crate::figures::FiguresAsked;

@@ -3,7 +3,7 @@
 ghost use Rattle.std.specs.Prelude.{◌≡◌, ◌++◌, ◌<◌, IfOk, OnOk, map, option_map};
 ghost use Rattle.blk_settings.specs.Grids.{with_value};
 ghost use Rattle.blk_settings.specs.Options.{option_of};
-ghost use Rattle.blk_settings.specs.Plans.{kind_given, plan_of, plans_of, plans_given, text_option, texts_of, text_options, setting_in, text_tried, tried_among, replay_default};
+ghost use Rattle.blk_settings.specs.Plans.{kind_given, plan_of, plans_of, plans_given, has_fifo_lists, fifo_of, fifos_of, fifos_tried, plans_tried, text_option, texts_of, text_options, setting_in, text_tried, tried_among, replay_default};
 ghost use Rattle.blk_settings.specs.Row.{setting_row_of};
 
 use crate::given::{Given, sched_by};
@@ -101,6 +101,80 @@ pub fn plans_given<G: Given>(options: &G, fifo: FifoExpire) -> Option<[Plan; PLA
     let kyber = kind_given(options, SchedKind::Kyber)?;
     let earliest = kind_given(options, SchedKind::Earliest)?;
     Some(plans_of(none, deadline, kyber, earliest, fifo))
+}
+
+impl SchedKind {
+    /// Whether a scheduler of this kind has FIFO lists, by whose expiries it goes.
+    pub fn has_fifo_lists(self) -> bool
+        ensures { result ≡ has_fifo_lists self }
+    {
+        match self {
+            SchedKind::Deadline => true,
+            SchedKind::None | SchedKind::Kyber | SchedKind::Earliest => false,
+        }
+    }
+}
+
+/// Adds the expiries of this one of reads, with each of these of writes.
+fn push_fifos(all: &mut Vec<FifoExpire>, read: u64, writes: &[u64]) -> Result<(), AllocError>
+    ensures { OnOk result (all.new.items ≡ all.old.items ++ map (fifo_of read) writes.now) }
+{
+    for write in writes {
+        all.push(FifoExpire {
+            read,
+            write: *write,
+        })?;
+    }
+    Ok(())
+}
+
+/// Each choice of these expiries of reads and of writes, those of writes changing first.
+fn fifos_of(alloc: Global, reads: &[u64], writes: &[u64]) -> Result<Vec<FifoExpire>, AllocError>
+    ensures { IfOk result (λ all. all.items ≡ fifos_of reads.now writes.now) }
+{
+    let mut all = Vec::new(alloc);
+    for read in reads {
+        push_fifos(&mut all, *read, writes)?;
+    }
+    Ok(all)
+}
+
+/// The expiries that are tried under a scheduler of a kind: one without FIFO lists has the first alone.
+fn fifos_tried(kind: SchedKind, fifos: &[FifoExpire]) -> &[FifoExpire]
+    ensures { result.now ≡ fifos_tried kind fifos.now }
+{
+    if kind.has_fifo_lists() || fifos.is_empty() {
+        fifos
+    } else {
+        &fifos[..1]
+    }
+}
+
+/// Adds replays under a scheduler by each of these expiries.
+fn push_plans(all: &mut Vec<Plan>, sched: Sched, fifos: &[FifoExpire]) -> Result<(), AllocError>
+    ensures { OnOk result (all.new.items ≡ all.old.items ++ map (λ f. plan_of f sched) fifos.now) }
+{
+    for fifo in fifos {
+        all.push(plan_of(sched, *fifo))?;
+    }
+    Ok(())
+}
+
+/// A replay under each of these schedulers, and where it has FIFO lists by each choice of these expiries, those of writes changing first.
+pub fn plans_tried(
+    alloc: Global,
+    scheds: &[Sched],
+    reads: &[u64],
+    writes: &[u64],
+) -> Result<Vec<Plan>, AllocError>
+    ensures { IfOk result (λ all. all.items ≡ plans_tried scheds.now reads.now writes.now) }
+{
+    let fifos = fifos_of(alloc, reads, writes)?;
+    let mut all = Vec::new(alloc);
+    for sched in scheds {
+        push_plans(&mut all, *sched, fifos_tried(sched.kind, fifos.as_slice()))?;
+    }
+    Ok(all)
 }
 
 impl SettingRow {

@@ -13,3 +13,7 @@ mod refusals;
 mod rules;
 #[cfg(test)]
 mod traces;
+#[cfg(test)]
+mod queues;
+#[cfg(test)]
+mod cores;

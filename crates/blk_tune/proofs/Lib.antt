@@ -1,3 +1,2 @@
 mod Best
-mod Shares
 mod Turns

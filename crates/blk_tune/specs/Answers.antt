@@ -2,9 +2,6 @@
 use Rattle.std.specs.Prelude.{ℕ, ◌∷◌, [], List, Bool, true, false, Option, None, Some, ℤ, pos, if◌then◌else◌, ◌&&◌, ◌==◌, nat_lt, codes, map, take}
 use Rattle.std.specs.Ordering.{int_eq}
 use Rattle.answer.specs.declared.names.TheConstants as names
-use Rattle.answer.specs.declared.value.Set.{Set}
-use Rattle.answer.specs.declared.value.Set.TheVariants as set
-use Rattle.answer.specs.declared.value.Setting.{Setting}
 use Rattle.answer.specs.declared.value.Value.{Value}
 use Rattle.answer.specs.declared.value.Value.TheVariants.{Count, Text, Nothing, Remark, Settings}
 use Rattle.answer.specs.declared.cells.Cell.{Cell}
@@ -14,25 +11,14 @@ use Rattle.answer.specs.declared.answer.Part.{Part}
 use Rattle.answer.specs.declared.answer.Part.TheVariants.{Member, Line, Object, Rows}
 use Rattle.answer.specs.Parts.{Sentence, cell, record_columns, signed}
 use Rattle.edd_figures.specs.Figures.{greatest_in, least_in, shortfall_in}
-use Rattle.blk_settings.specs.Positions.{positions_name}
 use Rattle.blk_settings.specs.Scheds.{name_of, settings_of}
-use Rattle.blk_settings.specs.Settings.{NamedSetting}
+use Rattle.blk_settings.specs.Told.{told_setting}
 use Rattle.blk_settings.specs.declared.sched.Sched.{Sched}
-use Rattle.blk_settings.specs.declared.setting.SettingValue.{SettingValue}
-use Rattle.blk_settings.specs.declared.setting.SettingValue.TheVariants as value
 use Rattle.blk_settings.specs.declared.grid.By.{By}
 use Rattle.blk_settings.specs.declared.grid.By.TheVariants as by
 use Rattle.blk_tune.specs.declared.row.TrialRow.{TrialRow}
 
 -- the settings of a scheduler, by the names that the command line has for them
-abbrev pub set_of : SettingValue → Set
-set_of (value.Number n) = set.Number n
-set_of (value.Switch is_on) = set.Switch is_on
-set_of (value.Positions p) = set.Word (positions_name p)
-
-abbrev pub told_setting : NamedSetting → Setting
-told_setting s = record { name = s.name; set = set_of s.value }
-
 abbrev pub settings_value : Sched → Value
 settings_value s = Settings (map told_setting (settings_of s))
 

@@ -2,7 +2,7 @@
 
 ghost use Rattle.std.specs.Prelude.{◌≡◌, ◌++◌, IfOk, OnOk, map};
 ghost use Rattle.blk_settings.specs.Scheds.{settings_of};
-ghost use Rattle.blk_tune.specs.Answers.{set_of, told_setting, settings_value, trial_row, is_proved, proved_words, proved_value, proved_line, best_cells, best_parts, shown, trial_parts};
+ghost use Rattle.blk_tune.specs.Answers.{settings_value, trial_row, is_proved, proved_words, proved_value, proved_line, best_cells, best_parts, shown, trial_parts};
 
 use crate::row::TrialRow;
 use answer::names::{
@@ -10,44 +10,19 @@ use answer::names::{
     SHORTFALL, UNAVOIDABLE, WAIT_READ, WAIT_WRITE, WAITING,
 };
 use answer::{
-    Answer, Cell, Layout, Line, Part, Row, Rows, Set, Setting, Settings, Value, Word, member,
-    record_columns, signed_or_none,
+    Answer, Cell, Layout, Line, Part, Row, Rows, Settings, Value, Word, member, record_columns,
+    signed_or_none,
 };
-use blk_settings::positions::positions_name;
-use blk_settings::{By, Sched, Setting as NamedSetting, SettingValue};
+use blk_settings::told::told_settings;
+use blk_settings::{By, Sched};
 use std::alloc::{AllocError, Global};
-
-/// What a setting is set to.
-fn set_of(value: SettingValue) -> Set
-    ensures { result ≡ set_of value }
-{
-    match value {
-        SettingValue::Number(number) => Set::Number(number),
-        SettingValue::Switch(is_on) => Set::Switch(is_on),
-        SettingValue::Positions(positions) => Set::Word(Word::new(positions_name(positions))),
-    }
-}
-
-/// Settings by their names.
-fn listed(alloc: Global, settings: &[NamedSetting]) -> Result<Vec<Setting>, AllocError>
-    ensures { IfOk result (λ all. all.items ≡ map (λ s. told_setting s) settings.now) }
-{
-    let mut all = Vec::new(alloc);
-    for setting in settings {
-        all.push(Setting {
-            name: Word::new(setting.name()),
-            set: set_of(setting.value()),
-        })?;
-    }
-    Ok(all)
-}
 
 /// The settings of a scheduler, by the names that the command line has for them.
 fn settings_value(alloc: Global, sched: Sched) -> Result<Value, AllocError>
     ensures { IfOk result (λ value. value ≡ settings_value sched) }
 {
     let settings = sched.settings();
-    let all = listed(alloc, settings.as_slice())?;
+    let all = told_settings(alloc, settings.as_slice())?;
     Ok(Value::Settings(Settings::new(all)))
 }
 

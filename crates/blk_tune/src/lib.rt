@@ -11,13 +11,11 @@ ghost use Rattle.blk_tune.specs.Tuned.{AreTuned};
 
 mod answers;
 mod order;
-mod progress;
 mod row;
 mod trial;
 
 pub use crate::answers::trial_answer;
 use crate::order::best_first;
-pub use crate::progress::{Progress, ProgressLine, Quiet};
 pub use crate::row::TrialRow;
 use crate::trial::tried;
 use blk_runs::{RunFault, unmade};
@@ -25,6 +23,7 @@ use blk_settings::TrialAsked;
 use blk_text::Script;
 use std::alloc::Global;
 use std::thread::Threads;
+use turns::Progress;
 
 /// The rows of a script under each setting of a grid, the best first. All of them run, and are answered: `top` is about the answer alone.
 ///
@@ -46,16 +45,14 @@ pub fn rows<T: Threads + Sync, P: Progress>(
         Some(fault) => return Err(RunFault::Sched(fault)),
         None => {}
     }
-    let all = tried(
+    let mut rows = match tried(
         rt,
         alloc,
         asked.grid.as_slice(),
         asked.threads,
         script,
         progress,
-    );
-    progress.over();
-    let mut rows = match all {
+    ) {
         Ok(rows) => rows,
         Err(fault) => return Err(fault),
     };

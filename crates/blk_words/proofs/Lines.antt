@@ -26,9 +26,9 @@ use Rattle.blk_settings.specs.declared.numbers.Load.{Load}
 use Rattle.blk_settings.specs.declared.sched.Sched.{Sched}
 use Rattle.blk_words.specs.declared.words.Refusal.{Refusal}
 use Rattle.blk_words.specs.declared.words.Refusal.TheVariants as refusal
-use Rattle.blk_words.specs.declared.words.ShownLoad.{ShownLoad}
+use Rattle.blk_words.specs.declared.inputs.ShownLoad.{ShownLoad}
 use Rattle.blk_words.specs.declared.words.Written.TheVariants as written
-use Rattle.blk_words.specs.Asked.{AsksNoGrid, unscripted, written_with, AreFaulty, Asks, is_flagged, loaded, shown_of, load_job, job_made}
+use Rattle.blk_words.specs.Asked.{AsksNoGrid, AsksNoPlans, unscripted, written_with, AreFaulty, Asks, is_flagged, loaded, shown_of, load_job, job_made}
 
 simple : (names : Names) → is_simple (blk_app names) ≡ true
 simple names = refl
@@ -152,10 +152,18 @@ pub named_in : {X Y : Type 0} (g : X → Y) (test : X → Bool) (xs ys : List X)
 named_in g test xs ys a b e f =
     ap (λ o. option_or o b) e ∙ ap (option_or (option_map g (find test xs))) f ∙ sym (map_or g (find test xs) (find test ys)) ∙ ap (option_map g) (sym (find-append test xs ys))
 
--- words that were not parsed, for another kind of error than out of memory, ask for no grid
+-- words that were not parsed, for another kind of error than out of memory, ask for no grid, be it of a trial or of replays
+faulty : (names : Names) (a : App) (words : List Text) (error : Error) (k : ErrorKind) → a ≡ blk_app names
+    → (is_simple_and_free a ≡ true → HasKind (fault_of a words) error) → k ≡ kind_of error → k ≢ kind.OutOfMemory → fault_of (blk_app names) words ≢ []
+faulty names a words error k e kinds is not = λ none. rw none at (among names a words error k e kinds is not)
+
 pub faulty_by : (names : Names) (a : App) (words : List Text) (error : Error) (k : ErrorKind) → AreNames names → a ≡ blk_app names
     → (is_simple_and_free a ≡ true → HasKind (fault_of a words) error) → k ≡ kind_of error → k ≢ kind.OutOfMemory → AsksNoGrid words
-faulty_by names a words error k are e kinds is not = (names, are, inl (λ none. rw none at (among names a words error k e kinds is not)))
+faulty_by names a words error k are e kinds is not = (names, are, inl (faulty names a words error k e kinds is not))
+
+pub no_plans_by : (names : Names) (a : App) (words : List Text) (error : Error) (k : ErrorKind) → AreNames names → a ≡ blk_app names
+    → (is_simple_and_free a ≡ true → HasKind (fault_of a words) error) → k ≡ kind_of error → k ≢ kind.OutOfMemory → AsksNoPlans words
+no_plans_by names a words error k are e kinds is not = (names, are, inl (faulty names a words error k e kinds is not))
 
 -- what an Ok is, and what an Err is, where it is something else
 pub ok_so : {X E : Type 0} (r : Result X E) (P Q : X → Type 0) → ((x : X) → P x → Q x) → IfOk r P → IfOk r Q

@@ -1,10 +1,11 @@
 -- Lists that are read, number by number.
-use Rattle.std.proofs.Common.{◌≡◌, ◌∙◌, ◌++◌, ◌∷◌, [], ◌+◌, ◌≤◌, ◌<◌, drop, get_or, ℕ, Bool, true, false, List, Option, Some, None, length, refl, sym, ap, arith}
+use Rattle.std.proofs.Common.{◌≡◌, ◌∙◌, ◌++◌, ◌∷◌, [], ◌+◌, ◌≤◌, ◌<◌, drop, get_or, ℕ, Bool, true, false, List, Option, Some, None, length, refl, sym, ap, arith, subst}
 use Rattle.std.proofs.lemmas.Bool.{leb-true, le-leb}
 use Rattle.std.proofs.lemmas.Bool.Decides.{nat_tests}
 use Rattle.std.proofs.lemmas.List.{append-nil, append_assoc, at_drop_all, at_drop_more, length-append}
+use Rattle.std.proofs.lemmas.List.Elements.{All-cons, All-nil}
 use Rattle.std.proofs.lemmas.List.Folds.{list_any-append}
-use Rattle.std.specs.Prelude.{◌&&◌, ◌||◌, ◌==◌, not, nat_le, nat_lt, option_and_then, option_map, if◌then◌else◌}
+use Rattle.std.specs.Prelude.{◌&&◌, ◌||◌, ◌==◌, not, nat_le, nat_lt, option_and_then, option_map, if◌then◌else◌, All, IfSome}
 use Rattle.std.specs.List.{list_any}
 use Rattle.std.specs.Str.Parse.{digits_value, without_leading_plus}
 use Rattle.clap.proofs.ValueTestLemmas.{accepts-Accepts, Accepts-accepts}
@@ -15,7 +16,8 @@ use Rattle.blk_words.proofs.Lines.{Parses}
 use Rattle.blk_settings.specs.declared.given.TheConstants.{MAX_LISTED}
 use Rattle.blk_words.specs.Times.{number_in, is_plain, plain_number_in}
 use Rattle.blk_settings.specs.Lists.{parts}
-use Rattle.blk_words.specs.Lists.{numbers_in, are_distinct, is_listed, if_listed, list_of}
+use Rattle.blk_words.specs.Lists.{part_in, numbers_in, are_distinct, is_listed, if_listed, list_by, list_of}
+use Rattle.blk_words.specs.declared.lists.Parts.TheVariants as part
 
 both : (a b : Bool) → (a && b) ≡ true → (a ≡ true) × (b ≡ true)
 both true b e = (refl, e)
@@ -73,9 +75,9 @@ listed_more ns n e =
     ap (λ (b : Bool). b && are_distinct (ns ++ n ∷ [])) fits ∙ ap (λ (b : Bool). nat_lt (length ns) MAX_LISTED && b) apart
 
 -- the numbers so far, and those of the texts that are left, each looked at as it comes
-abbrev pub gathered : ℕ → List ℕ → List Text → Option (List ℕ)
-gathered most so_far [] = Some so_far
-gathered most so_far (text ∷ texts) = option_and_then (λ n. if is_listed (so_far ++ n ∷ []) then gathered most (so_far ++ n ∷ []) texts else None) (plain_number_in most text)
+abbrev pub gathered : (Text → Option ℕ) → List ℕ → List Text → Option (List ℕ)
+gathered read so_far [] = Some so_far
+gathered read so_far (text ∷ texts) = option_and_then (λ n. if is_listed (so_far ++ n ∷ []) then gathered read (so_far ++ n ∷ []) texts else None) (read text)
 
 not_listed : (xs ys : List ℕ) (b : Bool) → is_listed (xs ++ ys) ≡ b → is_listed xs ≡ false → b ≡ false
 not_listed xs ys false e f = refl
@@ -90,45 +92,45 @@ moved xs n None = refl
 moved xs n (Some ns) = ap if_listed (append_assoc xs (n ∷ []) ns)
 
 -- how the rest is read from here on
-abbrev Reads : ℕ → List ℕ → List Text → Type 0
-Reads most ns texts = gathered most ns texts ≡ option_and_then (λ k. if_listed (ns ++ k)) (numbers_in most texts)
+abbrev Reads : (Text → Option ℕ) → List ℕ → List Text → Type 0
+Reads read ns texts = gathered read ns texts ≡ option_and_then (λ k. if_listed (ns ++ k)) (numbers_in read texts)
 
-after : (most : ℕ) (so_far : List ℕ) (texts : List Text) (n : ℕ) (b : Bool) → is_listed (so_far ++ n ∷ []) ≡ b → ((ns : List ℕ) → is_listed ns ≡ true → Reads most ns texts)
-    → (if b then gathered most (so_far ++ n ∷ []) texts else None) ≡ option_and_then (λ ns. if_listed (so_far ++ ns)) (option_map (λ ns. n ∷ ns) (numbers_in most texts))
-after most so_far texts n true e rest = rest (so_far ++ n ∷ []) e ∙ moved so_far n (numbers_in most texts)
-after most so_far texts n false e rest = sym (none_listed (so_far ++ n ∷ []) (numbers_in most texts) e) ∙ moved so_far n (numbers_in most texts)
+after : (read : Text → Option ℕ) (so_far : List ℕ) (texts : List Text) (n : ℕ) (b : Bool) → is_listed (so_far ++ n ∷ []) ≡ b → ((ns : List ℕ) → is_listed ns ≡ true → Reads read ns texts)
+    → (if b then gathered read (so_far ++ n ∷ []) texts else None) ≡ option_and_then (λ ns. if_listed (so_far ++ ns)) (option_map (λ ns. n ∷ ns) (numbers_in read texts))
+after read so_far texts n true e rest = rest (so_far ++ n ∷ []) e ∙ moved so_far n (numbers_in read texts)
+after read so_far texts n false e rest = sym (none_listed (so_far ++ n ∷ []) (numbers_in read texts) e) ∙ moved so_far n (numbers_in read texts)
 
-with_one : (most : ℕ) (so_far : List ℕ) (texts : List Text) (o : Option ℕ) → ((ns : List ℕ) → is_listed ns ≡ true → Reads most ns texts)
-    → option_and_then (λ n. if is_listed (so_far ++ n ∷ []) then gathered most (so_far ++ n ∷ []) texts else None) o
-    ≡ option_and_then (λ ns. if_listed (so_far ++ ns)) (option_and_then (λ n. option_map (λ ns. n ∷ ns) (numbers_in most texts)) o)
-with_one most so_far texts None rest = refl
-with_one most so_far texts (Some n) rest = after most so_far texts n (is_listed (so_far ++ n ∷ [])) refl rest
+with_one : (read : Text → Option ℕ) (so_far : List ℕ) (texts : List Text) (o : Option ℕ) → ((ns : List ℕ) → is_listed ns ≡ true → Reads read ns texts)
+    → option_and_then (λ n. if is_listed (so_far ++ n ∷ []) then gathered read (so_far ++ n ∷ []) texts else None) o
+    ≡ option_and_then (λ ns. if_listed (so_far ++ ns)) (option_and_then (λ n. option_map (λ ns. n ∷ ns) (numbers_in read texts)) o)
+with_one read so_far texts None rest = refl
+with_one read so_far texts (Some n) rest = after read so_far texts n (is_listed (so_far ++ n ∷ [])) refl rest
 
-reads : (most : ℕ) (so_far : List ℕ) (texts : List Text) → is_listed so_far ≡ true → Reads most so_far texts
-reads most so_far [] e = sym (ap if_listed (append-nil so_far) ∙ ap (λ (b : Bool). if b then Some so_far else None) e)
-reads most so_far (text ∷ texts) e = with_one most so_far texts (plain_number_in most text) (λ ns f. reads most ns texts f)
+reads : (read : Text → Option ℕ) (so_far : List ℕ) (texts : List Text) → is_listed so_far ≡ true → Reads read so_far texts
+reads read so_far [] e = sym (ap if_listed (append-nil so_far) ∙ ap (λ (b : Bool). if b then Some so_far else None) e)
+reads read so_far (text ∷ texts) e = with_one read so_far texts (read text) (λ ns f. reads read ns texts f)
 
-pub gathers : (most : ℕ) (text : Text) → gathered most [] (parts text) ≡ list_of most text
-gathers most text = reads most [] (parts text) refl
+pub gathers : (read : Text → Option ℕ) (text : Text) → gathered read [] (parts text) ≡ list_by read text
+gathers read text = reads read [] (parts text) refl
 
 -- the numbers so far with the one of a text that is read, and those of the texts after it
-abbrev pub goes : ℕ → List ℕ → List Text → Option ℕ → Option (List ℕ)
-goes most so_far texts o = option_and_then (λ n. if is_listed (so_far ++ n ∷ []) then gathered most (so_far ++ n ∷ []) texts else None) o
+abbrev pub goes : (Text → Option ℕ) → List ℕ → List Text → Option ℕ → Option (List ℕ)
+goes read so_far texts o = option_and_then (λ n. if is_listed (so_far ++ n ∷ []) then gathered read (so_far ++ n ∷ []) texts else None) o
 
 -- a part that comes
-pub takes_part : (most : ℕ) (so_far : List ℕ) (texts : List Text) (k : ℕ) (text : Text) (o : Option ℕ) → (k < length texts) × (text ≡ get_or texts k text) → o ≡ plain_number_in most text
-    → gathered most so_far (drop k texts) ≡ goes most so_far (drop (k + 1) texts) o
-takes_part most so_far texts k text o h e =
-    at_drop_more (gathered most so_far) texts k text h.0 ∙ ap (λ (t : Text). gathered most so_far (t ∷ drop (k + 1) texts)) (sym h.1) ∙ ap (goes most so_far (drop (k + 1) texts)) (sym e)
+pub takes_part : (read : Text → Option ℕ) (so_far : List ℕ) (texts : List Text) (k : ℕ) (text : Text) (o : Option ℕ) → (k < length texts) × (text ≡ get_or texts k text) → o ≡ read text
+    → gathered read so_far (drop k texts) ≡ goes read so_far (drop (k + 1) texts) o
+takes_part read so_far texts k text o h e =
+    at_drop_more (gathered read so_far) texts k text h.0 ∙ ap (λ (t : Text). gathered read so_far (t ∷ drop (k + 1) texts)) (sym h.1) ∙ ap (goes read so_far (drop (k + 1) texts)) (sym e)
 
-pub goes_over : (most : ℕ) (so_far : List ℕ) (texts : List Text) (n : ℕ) → is_listed (so_far ++ n ∷ []) ≡ true → goes most so_far texts (Some n) ≡ gathered most (so_far ++ n ∷ []) texts
-goes_over most so_far texts n e = ap (λ (b : Bool). if b then gathered most (so_far ++ n ∷ []) texts else None) e
+pub goes_over : (read : Text → Option ℕ) (so_far : List ℕ) (texts : List Text) (n : ℕ) → is_listed (so_far ++ n ∷ []) ≡ true → goes read so_far texts (Some n) ≡ gathered read (so_far ++ n ∷ []) texts
+goes_over read so_far texts n e = ap (λ (b : Bool). if b then gathered read (so_far ++ n ∷ []) texts else None) e
 
-pub goes_no_further : (most : ℕ) (so_far : List ℕ) (texts : List Text) (n : ℕ) → is_listed (so_far ++ n ∷ []) ≡ false → goes most so_far texts (Some n) ≡ None
-goes_no_further most so_far texts n e = ap (λ (b : Bool). if b then gathered most (so_far ++ n ∷ []) texts else None) e
+pub goes_no_further : (read : Text → Option ℕ) (so_far : List ℕ) (texts : List Text) (n : ℕ) → is_listed (so_far ++ n ∷ []) ≡ false → goes read so_far texts (Some n) ≡ None
+goes_no_further read so_far texts n e = ap (λ (b : Bool). if b then gathered read (so_far ++ n ∷ []) texts else None) e
 
-pub all_taken : (most : ℕ) (so_far : List ℕ) (texts : List Text) (k : ℕ) → k ≡ length texts → gathered most so_far (drop k texts) ≡ Some so_far
-all_taken most so_far texts k e = at_drop_all (gathered most so_far) texts k (omega (arith, e))
+pub all_taken : (read : Text → Option ℕ) (so_far : List ℕ) (texts : List Text) (k : ℕ) → k ≡ length texts → gathered read so_far (drop k texts) ≡ Some so_far
+all_taken read so_far texts k e = at_drop_all (gathered read so_far) texts k (omega (arith, e))
 
 -- a number up to the most
 below : (most : ℕ) (text : Text) (n : ℕ) (b : Bool) → accepts false (vp.Unsigned 0 most) text ≡ b → Some n ≡ (if b then Some (digits_value 10 (without_leading_plus text)) else None) → n ≤ most
@@ -175,3 +177,30 @@ not_spelled most text true e wrong =
 pub misspelled : (most : ℕ) (text : Text) → (Parses 64 text → ⊥) → number_in most text ≡ None
 misspelled most text wrong =
     ap (λ (b : Bool). if b then Some (digits_value 10 (without_leading_plus text)) else None) (not_spelled most text (accepts false (vp.Unsigned 0 most) text) refl wrong)
+
+-- the numbers of a list are numbers up to the most
+one_more_up_to : (most : ℕ) (o : Option ℕ) (rest : Option (List ℕ)) (ns : List ℕ) → ((n : ℕ) → o ≡ Some n → n ≤ most) → ((ks : List ℕ) → rest ≡ Some ks → All (λ x. x ≤ most) ks)
+    → option_and_then (λ n. option_map (λ ks. n ∷ ks) rest) o ≡ Some ns → All (λ x. x ≤ most) ns
+one_more_up_to most None rest ns one others e = cc e
+one_more_up_to most (Some n) None ns one others e = cc e
+one_more_up_to most (Some n) (Some ks) ns one others e =
+    let same : n ∷ ks ≡ ns = cc e in
+    subst (λ (xs : List ℕ). All (λ x. x ≤ most) xs) same (All-cons (λ x. x ≤ most) n ks (one n refl) (others ks refl))
+
+each_up_to : (most : ℕ) (texts : List Text) (ns : List ℕ) → numbers_in (part_in (part.UpTo most)) texts ≡ Some ns → All (λ x. x ≤ most) ns
+each_up_to most [] ns e = let same : [] ≡ ns = cc e in subst (λ (xs : List ℕ). All (λ x. x ≤ most) xs) same (All-nil (λ x. x ≤ most))
+each_up_to most (text ∷ texts) ns e =
+    one_more_up_to most (plain_number_in most text) (numbers_in (part_in (part.UpTo most)) texts) ns (λ n is. up_to most text n (sym is)) (λ ks is. each_up_to most texts ks is) e
+
+was_read : (ks ns : List ℕ) (b : Bool) → (if b then Some ks else None) ≡ Some ns → Some ks ≡ Some ns
+was_read ks ns true e = e
+was_read ks ns false e = cc e
+
+were_read : (o : Option (List ℕ)) (ns : List ℕ) → option_and_then if_listed o ≡ Some ns → o ≡ Some ns
+were_read None ns e = cc e
+were_read (Some ks) ns e = was_read ks ns (is_listed ks) e
+
+pub all_up_to : {N : Type 0} (items : N → List ℕ) (o : Option N) (most : ℕ) (text : Text) → option_map items o ≡ list_of most text → IfSome o (λ n. All (λ x. x ≤ most) (items n))
+all_up_to items None most text e = tt
+all_up_to items (Some n) most text e =
+    each_up_to most (parts text) (items n) (were_read (numbers_in (part_in (part.UpTo most)) (parts text)) (items n) (sym e))

@@ -14,7 +14,7 @@ use Rattle.blk_words.specs.declared.inputs.Telling.TheVariants as telling
 use Rattle.blk_words.specs.declared.inputs.TextJob.TheVariants as text_job
 use Rattle.blk_words.specs.declared.words.Job.TheVariants as job
 use Rattle.blk_settings.specs.declared.form.Form.TheVariants as form
-use Rattle.blk_words.specs.declared.words.ShownLoad.TheVariants as shown
+use Rattle.blk_words.specs.declared.inputs.ShownLoad.TheVariants as shown
 use Rattle.blk_words.specs.declared.words.Refusal.TheVariants as refusal
 use Rattle.blk_words.specs.declared.words.Written.TheVariants as written
 use Rattle.blk_words.specs.CommandLine.{Names, AreNames, blk_app}

@@ -18,7 +18,7 @@ use Rattle.blk_words.specs.declared.words.CaptureSource.{CaptureSource}
 use Rattle.blk_words.specs.declared.words.Import.{Import}
 use Rattle.blk_words.specs.declared.words.Job.{Job}
 use Rattle.blk_words.specs.declared.words.Refusal.{Refusal}
-use Rattle.blk_words.specs.declared.words.ShownLoad.{ShownLoad}
+use Rattle.blk_words.specs.declared.inputs.ShownLoad.{ShownLoad}
 use Rattle.blk_words.specs.declared.words.Written.{Written}
 use Rattle.blk_words.specs.declared.words.Written.TheVariants as written
 use Rattle.blk_words.specs.Asked.{job_made, is_flagged, is_some_given, lineup_asked, pictured, time_given, number_given, from_given, source_given, written_of, sched_asked, amounts_of, oracle_job, tune_by, import_by, import_as, takes_all, load_job, loaded, blaming_of, replaying_of}

@@ -1,5 +1,5 @@
 -- What the words of a command line ask for.
-use Rattle.std.specs.Prelude.{◌≡◌, ◌≢◌, ◌⊎◌, ◌&&◌, ◌||◌, ◌==◌, ⊤, ℕ, Bool, true, false, not, List, [], find, Option, Some, None, Result, Ok, Err, codes, option_map, option_and_then, if◌then◌else◌, unwrap_or, ◌∷◌}
+use Rattle.std.specs.Prelude.{◌≡◌, ◌≢◌, ◌⊎◌, ◌&&◌, ◌||◌, ◌==◌, ⊤, ℕ, Bool, true, false, not, List, [], find, Option, Some, None, Result, Ok, Err, codes, nat_le, option_map, option_and_then, if◌then◌else◌, unwrap_or, ◌∷◌}
 use Rattle.std.specs.List.{list_any}
 use Rattle.std.specs.Option.{option_map_or, option_or}
 use Rattle.std.specs.Str.{bytes_eq}
@@ -15,7 +15,7 @@ use Rattle.blk_settings.specs.declared.plans.FifoExpire.{FifoExpire}
 use Rattle.blk_settings.specs.declared.plans.Plan.{Plan}
 use Rattle.blk_settings.specs.declared.plans.ReplayBy.{ReplayBy}
 use Rattle.blk_settings.specs.declared.plans.ReplayBy.TheVariants as replay_by
-use Rattle.blk_settings.specs.Plans.{plans_given, replay_default}
+use Rattle.blk_settings.specs.Plans.{plans_given, plans_tried, replay_default}
 use Rattle.blk_settings.specs.Given.{GivenOptions, sched_given, lineup_given}
 use Rattle.blk_settings.specs.Grids.{grid_given}
 use Rattle.blk_settings.specs.Lists.{list_fault}
@@ -28,8 +28,8 @@ use Rattle.blk_words.specs.declared.words.NoJob.{NoJob}
 use Rattle.blk_words.specs.declared.words.NoJob.TheVariants as no
 use Rattle.blk_settings.specs.declared.form.Form.{Form}
 use Rattle.blk_settings.specs.declared.form.Form.TheVariants as form
-use Rattle.blk_words.specs.declared.words.ShownLoad.{ShownLoad}
-use Rattle.blk_words.specs.declared.words.ShownLoad.TheVariants as shown
+use Rattle.blk_words.specs.declared.inputs.ShownLoad.{ShownLoad}
+use Rattle.blk_words.specs.declared.inputs.ShownLoad.TheVariants as shown
 use Rattle.blk_words.specs.declared.replaying.ShownReplay.{ShownReplay}
 use Rattle.blk_words.specs.declared.replaying.ShownReplay.TheVariants as shown_as
 use Rattle.blk_settings.specs.declared.figures.FiguresAsked.TheVariants as figures
@@ -51,13 +51,16 @@ use Rattle.blk_words.specs.declared.words.Refusal.{Refusal}
 use Rattle.blk_words.specs.declared.words.Refusal.TheVariants as refusal
 use Rattle.blk_words.specs.declared.words.Written.{Written}
 use Rattle.blk_words.specs.declared.words.Written.TheVariants as written
+use Rattle.blk_words.specs.declared.blaming.ShownBlame.{ShownBlame}
+use Rattle.blk_words.specs.declared.blaming.ShownBlame.TheVariants as blame
 use Rattle.blk_words.specs.declared.blaming.TheConstants.{USUAL_TOP}
+use Rattle.blk_words.specs.declared.blaming.TightestAsked.{TightestAsked}
 use Rattle.blk_words.specs.declared.table.Makes.{Makes}
 use Rattle.blk_words.specs.declared.table.Makes.TheVariants as makes
 use Rattle.blk_words.specs.CommandLine.{Names, AreNames, command_table, blk_app}
-use Rattle.blk_words.specs.Options.{json_option, script_option, trace_option, by_option, top_option, threads_option, met_option, each_option, read_expire_option, write_expire_option, from_option, as_option, device_option, tags_option, skip_option, first_option, all_option, table_option, summary_option, round_option, depth_option, submitters_option, workers_option, bios_option, load_depth_option, busy_option, service_option, replay_sched_option, fifo_read_expire_option, fifo_write_expire_option, replay_by_option}
-use Rattle.blk_words.specs.Lists.{list_of}
-use Rattle.blk_words.specs.Times.{MAX_NUMBER, number_in, time_of}
+use Rattle.blk_words.specs.Options.{json_option, script_option, trace_option, by_option, top_option, threads_option, met_option, each_option, read_expire_option, write_expire_option, from_option, as_option, device_option, tags_option, skip_option, first_option, all_option, certificate_option, tightest_option, for_option, table_option, summary_option, round_option, depth_option, submitters_option, workers_option, bios_option, load_depth_option, busy_option, service_option, replay_sched_option, fifo_read_expire_option, fifo_write_expire_option, replay_by_option, grid_option}
+use Rattle.blk_words.specs.Lists.{list_of, times_listed}
+use Rattle.blk_words.specs.Times.{MAX_NUMBER, number_in, in_unit, time_of}
 
 -- the job of which this is asked of a script, of a trace, and of a command list
 abbrev pub of_script : Running → Job
@@ -254,12 +257,73 @@ abbrev pub most_shown : Bool → Option ℕ → ℕ
 most_shown true top = MAX_NUMBER
 most_shown false top = unwrap_or top USUAL_TOP
 
-abbrev pub blaming_by : Bool → Bool → Option ℕ → Form → Result Written Refusal
-blaming_by each true (Some n) f = Err refusal.AllAndTop
-blaming_by each all top f = Ok (written.Blame (record { each = each; most = most_shown all top; form = f }))
+-- whether an option is given
+abbrev pub is_given : Text → List Row → Bool
+is_given id rows = option_map_or (λ t. true) (first_of id rows) false
+
+-- a share in thousandths, and whether it is of writes; of reads where nobody says so
+abbrev pub up_to_all : ℕ → Option ℕ
+up_to_all share = if nat_le share 1_000 then Some share else None
+
+abbrev pub share_of : Text → Option ℕ
+share_of text = option_and_then up_to_all (in_unit (codes "%") 10 text)
+
+abbrev pub share_by : Text → Result (Option ℕ) Refusal
+share_by text = option_map_or (λ n. Ok (Some n)) (share_of text) (Err refusal.Tightest)
+
+abbrev pub share_given : List Row → Result (Option ℕ) Refusal
+share_given rows = option_map_or share_by (first_of tightest_option.name rows) (Ok None)
+
+abbrev pub writes_named : Text → Option Bool
+writes_named text =
+    if bytes_eq text (codes "reads") then Some false else (if bytes_eq text (codes "writes") then Some true else None)
+
+abbrev pub writes_given : List Row → Option Bool
+writes_given rows = option_map_or writes_named (first_of for_option.name rows) (Some false)
+
+-- the tightest that is asked for, if one is; a direction is given with it alone
+abbrev pub tightest_with : Bool → Option Bool → Result (Option ℕ) Refusal → Result (Option TightestAsked) Refusal
+tightest_with given w (Err r) = Err r
+tightest_with given None (Ok s) = Err refusal.For
+tightest_with true (Some w) (Ok None) = Err refusal.NoTightest
+tightest_with false (Some w) (Ok None) = Ok None
+tightest_with given (Some w) (Ok (Some s)) = Ok (Some (record { writes = w; share = s }))
+
+abbrev pub tightest_given : List Row → Result (Option TightestAsked) Refusal
+tightest_given rows = tightest_with (is_given for_option.name rows) (writes_given rows) (share_given rows)
+
+-- what is written; a certificate is no JSON
+abbrev pub shown_blame : Bool → Bool → Option TightestAsked → Option ShownBlame
+shown_blame each certificate (Some asked) = if each || certificate then None else Some (blame.Tightest asked)
+shown_blame true true None = None
+shown_blame true false None = Some blame.Each
+shown_blame false true None = Some blame.Certificate
+shown_blame false false None = Some blame.Whole
+
+abbrev pub shown_in : Form → Option ShownBlame → Result ShownBlame Refusal
+shown_in f None = Err refusal.OneBlame
+shown_in f (Some blame.Whole) = Ok blame.Whole
+shown_in f (Some blame.Each) = Ok blame.Each
+shown_in form.Lines (Some blame.Certificate) = Ok blame.Certificate
+shown_in form.Json (Some blame.Certificate) = Err refusal.CertificateJson
+shown_in f (Some (blame.Tightest asked)) = Ok (blame.Tightest asked)
+
+abbrev pub blaming_in : ℕ → Form → Result ShownBlame Refusal → Result Written Refusal
+blaming_in most f (Err r) = Err r
+blaming_in most f (Ok s) = Ok (written.Blame (record { shown = s; most = most; form = f }))
+
+abbrev pub blaming_with : Bool → Bool → ℕ → Form → Result (Option TightestAsked) Refusal → Result Written Refusal
+blaming_with each certificate most f (Err r) = Err r
+blaming_with each certificate most f (Ok asked) = blaming_in most f (shown_in f (shown_blame each certificate asked))
+
+abbrev pub blaming_by : Bool → Bool → Bool → Option ℕ → Form → Result (Option TightestAsked) Refusal → Result Written Refusal
+blaming_by each certificate true (Some n) f asked = Err refusal.AllAndTop
+blaming_by each certificate all top f asked = blaming_with each certificate (most_shown all top) f asked
 
 abbrev pub blaming_of : List Row → Result Written Refusal
-blaming_of rows = blaming_by (is_flagged each_option.name rows) (is_flagged all_option.name rows) (number_given top_option.name rows) (form_asked rows)
+blaming_of rows =
+    blaming_by (is_flagged each_option.name rows) (is_flagged certificate_option.name rows) (is_flagged all_option.name rows) (number_given top_option.name rows) (form_asked rows)
+    (tightest_given rows)
 
 abbrev pub blame_job : List Row → Job
 blame_job rows = import_with (blaming_of rows) rows
@@ -283,34 +347,38 @@ replay_by_named text =
 abbrev pub replay_by_given : List Row → Option ReplayBy
 replay_by_given rows = option_map_or replay_by_named (first_of replay_by_option.name rows) (Some replay_by.Late)
 
--- what the options of a replay are given: a text, or what stands for one that isn't; numbers and lists of these
-abbrev pub replay_text : List Row → Text → Option Text
-replay_text rows id = option_or (first_of id rows) (replay_default false id)
+-- what the options of a replay are given, or of a grid of them: a text, or what stands for one that isn't; numbers and lists of these
+abbrev pub replay_text : Bool → List Row → Text → Option Text
+replay_text grid rows id = option_or (first_of id rows) (replay_default grid id)
 
 abbrev pub only_one : List ℕ → Option ℕ
 only_one [] = None
 only_one (n ∷ []) = Some n
 only_one (n ∷ m ∷ ns) = None
 
-abbrev pub replay_list : ℕ → List Row → Text → Option (List ℕ)
-replay_list most rows id = option_and_then (list_of most) (replay_text rows id)
+abbrev pub replay_list : Bool → ℕ → List Row → Text → Option (List ℕ)
+replay_list grid most rows id = option_and_then (list_of most) (replay_text grid rows id)
 
-abbrev pub replay_number : ℕ → List Row → Text → Option ℕ
-replay_number most rows id = option_and_then only_one (replay_list most rows id)
+abbrev pub replay_number : Bool → ℕ → List Row → Text → Option ℕ
+replay_number grid most rows id = option_and_then only_one (replay_list grid most rows id)
 
-abbrev pub replay_options : List Row → GivenOptions
-replay_options rows = record {
-  text = replay_text rows;
-  short = replay_number MAX_SHORT rows;
-  number = replay_number MAX_NUMBER rows;
-  list = λ most id. replay_list most rows id;
+abbrev pub replay_options : Bool → List Row → GivenOptions
+replay_options grid rows = record {
+  text = replay_text grid rows;
+  short = replay_number grid MAX_SHORT rows;
+  number = replay_number grid MAX_NUMBER rows;
+  list = λ most id. replay_list grid most rows id;
   is_set = λ id. is_flagged id rows;
 }
 
--- whether an option is given, and one of rows
-abbrev pub is_given : Text → List Row → Bool
-is_given id rows = option_map_or (λ t. true) (first_of id rows) false
+-- the times that an option lists, and the expiries of FIFO lists where each direction has one
+abbrev pub times_given : Text → List Row → Option (List ℕ)
+times_given id rows = option_and_then times_listed (first_of id rows)
 
+abbrev pub one_fifo : List ℕ → List ℕ → Option FifoExpire
+one_fifo reads writes = option_and_then (λ r. option_map (λ w. record { read = r; write = w }) (only_one writes)) (only_one reads)
+
+-- whether an option of rows is given
 abbrev pub asks_rows : List Row → Bool
 asks_rows rows = is_given replay_by_option.name rows || is_given top_option.name rows || is_flagged json_option.name rows
 
@@ -329,24 +397,47 @@ one_replay_by false table fifo None = Err refusal.ListAlone
 one_replay_by false table fifo (Some s) = Ok (written.Replayed (record { sched = s; fifo = fifo }) (shown_replay table))
 
 abbrev pub replays_of : List Row → FifoExpire → ReplayBy → Result Written Refusal
-replays_of rows fifo b = replays_by (is_flagged table_option.name rows) (plans_given (replay_options rows) fifo) b (number_given top_option.name rows) (form_asked rows)
+replays_of rows fifo b = replays_by (is_flagged table_option.name rows) (plans_given (replay_options false rows) fifo) b (number_given top_option.name rows) (form_asked rows)
 
 abbrev pub one_replay_of : List Row → FifoExpire → Result Written Refusal
-one_replay_of rows fifo = one_replay_by (asks_rows rows) (is_flagged table_option.name rows) fifo (sched_given (replay_options rows))
+one_replay_of rows fifo = one_replay_by (asks_rows rows) (is_flagged table_option.name rows) fifo (sched_given (replay_options false rows))
+
+-- replays under each setting of a grid, which have no table
+abbrev pub grid_replays_by : Bool → ReplayBy → Option ℕ → Option ℕ → Form → Result Written Refusal
+grid_replays_by true b top threads f = Err refusal.GridTable
+grid_replays_by false b top threads f = Ok (written.Grid (record { by = b; top = top; threads = threads; form = f }))
+
+abbrev pub grid_replays : List Row → ReplayBy → Result Written Refusal
+grid_replays rows b = grid_replays_by (is_flagged table_option.name rows) b (number_given top_option.name rows) (number_given threads_option.name rows) (form_asked rows)
+
+-- what is replayed without a grid, where no number of threads is given
+abbrev pub replays_with : List Row → Option FifoExpire → ReplayBy → Result Written Refusal
+replays_with rows None b = Err refusal.ListAlone
+replays_with rows (Some f) b = if is_given replay_sched_option.name rows then one_replay_of rows f else replays_of rows f b
+
+abbrev pub single_replays_by : Option ℕ → List Row → Option FifoExpire → ReplayBy → Result Written Refusal
+single_replays_by (Some n) rows fifo b = Err refusal.NoGridThreads
+single_replays_by None rows fifo b = replays_with rows fifo b
+
+abbrev pub single_replays : List Row → Option FifoExpire → ReplayBy → Result Written Refusal
+single_replays rows fifo b = single_replays_by (number_given threads_option.name rows) rows fifo b
 
 -- what is replayed and how it is written, or the refusal of the first option of it that can't be done
-abbrev pub replaying_in : List Row → Option ListFault → FifoExpire → ReplayBy → Result Written Refusal
-replaying_in rows (Some fault) fifo b = Err (refusal.Lists fault)
-replaying_in rows None fifo b = if is_given replay_sched_option.name rows then one_replay_of rows fifo else replays_of rows fifo b
+abbrev pub replaying_unless : Option ListFault → List Row → Bool → Option FifoExpire → ReplayBy → Result Written Refusal
+replaying_unless (Some fault) rows grid fifo b = Err (refusal.Lists fault)
+replaying_unless None rows grid fifo b = if grid then grid_replays rows b else single_replays rows fifo b
 
-abbrev pub replaying_by : List Row → Option ℕ → Option ℕ → Option ReplayBy → Result Written Refusal
-replaying_by rows None write b = Err refusal.FifoReadExpire
-replaying_by rows (Some r) None b = Err refusal.FifoWriteExpire
-replaying_by rows (Some r) (Some w) None = Err refusal.ReplayBy
-replaying_by rows (Some r) (Some w) (Some b) = replaying_in rows (list_fault (replay_options rows)) (record { read = r; write = w }) b
+abbrev pub replaying_in : List Row → Bool → Option FifoExpire → ReplayBy → Result Written Refusal
+replaying_in rows grid fifo b = replaying_unless (list_fault (replay_options grid rows)) rows grid fifo b
+
+abbrev pub replaying_by : List Row → Option (List ℕ) → Option (List ℕ) → Option ReplayBy → Result Written Refusal
+replaying_by rows None writes b = Err refusal.FifoReadExpire
+replaying_by rows (Some rs) None b = Err refusal.FifoWriteExpire
+replaying_by rows (Some rs) (Some ws) None = Err refusal.ReplayBy
+replaying_by rows (Some rs) (Some ws) (Some b) = replaying_in rows (is_flagged grid_option.name rows) (one_fifo rs ws) b
 
 abbrev pub replaying_of : List Row → Result Written Refusal
-replaying_of rows = replaying_by rows (time_given fifo_read_expire_option.name rows) (time_given fifo_write_expire_option.name rows) (replay_by_given rows)
+replaying_of rows = replaying_by rows (times_given fifo_read_expire_option.name rows) (times_given fifo_write_expire_option.name rows) (replay_by_given rows)
 
 -- a trial, or the refusal of the first option of it that can't be done
 abbrev pub tune_by : Option ListFault → Option By → Option ℕ → Option ℕ → Form → Job
@@ -441,3 +532,22 @@ AsksGrid words g = (names : Names) × AreNames names × (fault_of (blk_app names
 -- they ask for none: they have a fault, or the command line reads no grid in them
 abbrev pub AsksNoGrid : List Text → Type 0
 AsksNoGrid words = (names : Names) × AreNames names × ((fault_of (blk_app names) words ≢ []) ⊎ (grid_read names words ≡ None))
+
+-- the replays by what the options of a subcommand are given, those that the command line reads in words, and words that ask for these, or for none
+abbrev pub plans_by : Option (List ℕ) → Option (List ℕ) → Option (List Sched) → Option (List Plan)
+plans_by reads writes scheds = option_and_then (λ rs. option_and_then (λ ws. option_map (λ ss. plans_tried ss rs ws) scheds) writes) reads
+
+abbrev pub plans_by_options : List Row → Option (List Plan)
+plans_by_options rows = plans_by (times_given fifo_read_expire_option.name rows) (times_given fifo_write_expire_option.name rows) (grid_given (replay_options true rows))
+
+abbrev pub plans_behind : Option (Text × List Row) → Option (List Plan)
+plans_behind p = option_and_then (λ p. plans_by_options p.1) p
+
+abbrev pub plans_read : Names → List Text → Option (List Plan)
+plans_read names words = plans_behind (subcommand_of (blk_app names) words)
+
+abbrev pub AsksPlans : List Text → List Plan → Type 0
+AsksPlans words plans = (names : Names) × AreNames names × (fault_of (blk_app names) words ≡ []) × (plans_read names words ≡ Some plans)
+
+abbrev pub AsksNoPlans : List Text → Type 0
+AsksNoPlans words = (names : Names) × AreNames names × ((fault_of (blk_app names) words ≢ []) ⊎ (plans_read names words ≡ None))

@@ -62,6 +62,15 @@ first_option = record { name = codes "first"; kind = MaybeNumber 1 MAX_COMMANDS 
 abbrev pub all_option : OptionOf
 all_option = record { name = codes "all"; kind = Flag }
 
+abbrev pub certificate_option : OptionOf
+certificate_option = record { name = codes "certificate"; kind = Flag }
+
+abbrev pub tightest_option : OptionOf
+tightest_option = record { name = codes "tightest"; kind = MaybeWords }
+
+abbrev pub for_option : OptionOf
+for_option = record { name = codes "for"; kind = MaybeWords }
+
 -- of `import` again
 abbrev pub table_option : OptionOf
 table_option = record { name = codes "table"; kind = Flag }
@@ -84,6 +93,9 @@ fifo_read_expire_option = record { name = codes "fifo-read-expire"; kind = Words
 
 abbrev pub fifo_write_expire_option : OptionOf
 fifo_write_expire_option = record { name = codes "fifo-write-expire"; kind = Words (codes "5s") }
+
+abbrev pub grid_option : OptionOf
+grid_option = record { name = codes "grid"; kind = Flag }
 
 abbrev pub replay_by_option : OptionOf
 replay_by_option = record { name = codes "by"; kind = MaybeWords }

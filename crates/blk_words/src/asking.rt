@@ -6,8 +6,8 @@ ghost use Rattle.blk_settings.specs.Defaults.{default_sched, default_deadline, d
 ghost use Rattle.blk_words.specs.Asked.{Asks, of_script, of_trace, of_list};
 ghost use Rattle.blk_words.specs.Plain.{AsksFor, AsksForGrid, AsksForNothing, default_trial, five_by_lateness, whole_import, by_perf, default_load, own_grid, both_positions};
 
-use crate::inputs::{Running, Solving, Telling, TextJob};
-use crate::words::{Job, Refusal, ShownLoad, Written};
+use crate::inputs::{Running, ShownLoad, Solving, Telling, TextJob};
+use crate::words::{Job, Refusal, Written};
 use blk_settings::{FiguresAsked, Form, ListFault, SchedKind};
 
 /// Each of these lines asks for its job and, all but `--version`, for no other; `oracle --trace --met` asks for none. `tune` asks for the

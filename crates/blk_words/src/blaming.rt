@@ -1,19 +1,43 @@
 //! The words of `blame`.
 
 ghost use Rattle.std.specs.Prelude.{◌≡◌};
-ghost use Rattle.blk_words.specs.Asked.{most_shown, blaming_of, blame_job};
+ghost use Rattle.blk_words.specs.Asked.{most_shown, up_to_all, share_of, share_by, share_given, writes_named, writes_given, tightest_with, tightest_given, shown_blame, shown_in, blaming_in, blaming_with, blaming_of, blame_job};
 ghost use Rattle.blk_words.specs.Inside.Options.{given};
 
 use crate::option_names;
+use crate::replaying::is_given;
+use crate::times::in_unit;
 use crate::words::{Job, Refusal, Written, form_asked, import_with, is_flagged, number_of};
 use blk_settings::Form;
 use clap::ArgMatches;
 
+/// What is written of what late requests are blamed on.
+#[derive(Clone, Copy, Debug, PartialEq, Eq)]
+pub enum ShownBlame {
+    /// The capture as a whole.
+    Whole,
+    /// Each late request.
+    Each,
+    /// The certificate of how many requests can be on time.
+    Certificate,
+    /// The least deadline of a direction's requests, at which so many of them can be on time.
+    Tightest(TightestAsked),
+}
+
+/// How many requests of which direction are to be on time.
+#[derive(Clone, Copy, Debug, PartialEq, Eq)]
+pub struct TightestAsked {
+    /// Whether it is of writes, in place of reads.
+    pub writes: bool,
+    /// How many thousandths of them, 0 to 1,000.
+    pub share: u64,
+}
+
 /// How it is written what late requests are blamed on.
 #[derive(Clone, Copy, Debug, PartialEq, Eq)]
 pub struct Blaming {
-    /// Whether each late request is written, in place of the capture as a whole.
-    pub each: bool,
+    /// What is written.
+    pub shown: ShownBlame,
     /// How many processes, stalls and windows are written at most, the greatest ones.
     pub most: u64,
     /// In which form.
@@ -34,6 +58,166 @@ fn most_shown(all: bool, top: Option<u64>) -> u64
     }
 }
 
+/// A share up to all.
+fn up_to_all(share: u64) -> Option<u64>
+    ensures { result ≡ up_to_all share }
+{
+    if share <= 1_000 { Some(share) } else { None }
+}
+
+/// The thousandths of a share of hundreds, a number with a percent sign.
+fn share_of(text: &str) -> Option<u64>
+    ensures { result ≡ share_of text.now }
+{
+    match in_unit(text, "%", 10) {
+        Some(share) => up_to_all(share),
+        None => None,
+    }
+}
+
+/// The same, or that the text is none.
+fn share_by(text: &str) -> Result<Option<u64>, Refusal>
+    ensures { result ≡ share_by text.now }
+{
+    match share_of(text) {
+        Some(share) => Ok(Some(share)),
+        None => Err(Refusal::Tightest),
+    }
+}
+
+/// The same by the options, where it is given.
+fn share_given(options: &ArgMatches<'_>) -> Result<Option<u64>, Refusal>
+    ensures { result ≡ share_given (given options.now) }
+{
+    match options.get_str(option_names::TIGHTEST) {
+        Some(text) => share_by(text),
+        None => Ok(None),
+    }
+}
+
+/// Whether it is of writes, from the text of `--for`.
+fn writes_named(text: &str) -> Option<bool>
+    ensures { result ≡ writes_named text.now }
+{
+    if text == "reads" {
+        Some(false)
+    } else if text == "writes" {
+        Some(true)
+    } else {
+        None
+    }
+}
+
+/// The same by the options, of reads where none says so.
+fn writes_given(options: &ArgMatches<'_>) -> Option<bool>
+    ensures { result ≡ writes_given (given options.now) }
+{
+    match options.get_str(option_names::FOR) {
+        Some(text) => writes_named(text),
+        None => Some(false),
+    }
+}
+
+/// The tightest that is asked for by whether a direction is given, which it is, and the share; a direction is given with a share alone.
+fn tightest_with(
+    given: bool,
+    writes: Option<bool>,
+    share: Result<Option<u64>, Refusal>,
+) -> Result<Option<TightestAsked>, Refusal>
+    ensures { result ≡ tightest_with given writes share }
+{
+    match share {
+        Err(refusal) => Err(refusal),
+        Ok(share) => match writes {
+            None => Err(Refusal::For),
+            Some(writes) => match share {
+                Some(share) => Ok(Some(TightestAsked { writes, share })),
+                None => if given {
+                    Err(Refusal::NoTightest)
+                } else {
+                    Ok(None)
+                },
+            },
+        },
+    }
+}
+
+/// The same by the options.
+fn tightest_given(options: &ArgMatches<'_>) -> Result<Option<TightestAsked>, Refusal>
+    ensures { result ≡ tightest_given (given options.now) }
+{
+    tightest_with(
+        is_given(options, option_names::FOR),
+        writes_given(options),
+        share_given(options),
+    )
+}
+
+/// What is written by the flags, which exclude one another, and by the tightest that is asked for.
+fn shown_blame(each: bool, certificate: bool, asked: Option<TightestAsked>) -> Option<ShownBlame>
+    ensures { result ≡ shown_blame each certificate asked }
+{
+    match asked {
+        Some(asked) => if each || certificate {
+            None
+        } else {
+            Some(ShownBlame::Tightest(asked))
+        },
+        None => match (each, certificate) {
+            (true, true) => None,
+            (true, false) => Some(ShownBlame::Each),
+            (false, true) => Some(ShownBlame::Certificate),
+            (false, false) => Some(ShownBlame::Whole),
+        },
+    }
+}
+
+/// The same in a form: a certificate is no JSON.
+fn shown_in(form: Form, shown: Option<ShownBlame>) -> Result<ShownBlame, Refusal>
+    ensures { result ≡ shown_in form shown }
+{
+    match shown {
+        None => Err(Refusal::OneBlame),
+        Some(ShownBlame::Whole) => Ok(ShownBlame::Whole),
+        Some(ShownBlame::Each) => Ok(ShownBlame::Each),
+        Some(ShownBlame::Certificate) => match form {
+            Form::Lines => Ok(ShownBlame::Certificate),
+            Form::Json => Err(Refusal::CertificateJson),
+        },
+        Some(ShownBlame::Tightest(asked)) => Ok(ShownBlame::Tightest(asked)),
+    }
+}
+
+/// The blame in which that is written, at most so much of it.
+fn blaming_in(most: u64, form: Form, shown: Result<ShownBlame, Refusal>) -> Result<Written, Refusal>
+    ensures { result ≡ blaming_in most form shown }
+{
+    match shown {
+        Ok(shown) => Ok(Written::Blame(Blaming { shown, most, form })),
+        Err(refusal) => Err(refusal),
+    }
+}
+
+/// The same by the flags, and by the tightest that is asked for.
+fn blaming_with(
+    each: bool,
+    certificate: bool,
+    most: u64,
+    form: Form,
+    asked: Result<Option<TightestAsked>, Refusal>,
+) -> Result<Written, Refusal>
+    ensures { result ≡ blaming_with each certificate most form asked }
+{
+    match asked {
+        Ok(asked) => blaming_in(
+            most,
+            form,
+            shown_in(form, shown_blame(each, certificate, asked)),
+        ),
+        Err(refusal) => Err(refusal),
+    }
+}
+
 /// What the options of `blame` ask to be written.
 fn blaming_of(options: &ArgMatches<'_>) -> Result<Written, Refusal>
     ensures { result ≡ blaming_of (given options.now) }
@@ -43,11 +227,13 @@ fn blaming_of(options: &ArgMatches<'_>) -> Result<Written, Refusal>
     if all && top.is_some() {
         return Err(Refusal::AllAndTop);
     }
-    Ok(Written::Blame(Blaming {
-        each: is_flagged(options, option_names::EACH),
-        most: most_shown(all, top),
-        form: form_asked(options),
-    }))
+    blaming_with(
+        is_flagged(options, option_names::EACH),
+        is_flagged(options, option_names::CERTIFICATE),
+        most_shown(all, top),
+        form_asked(options),
+        tightest_given(options),
+    )
 }
 
 /// The blame that the options of `blame` ask for.

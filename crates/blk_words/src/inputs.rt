@@ -69,3 +69,12 @@ pub enum Solving {
     /// How many of its commands can be on time, with the certificate.
     Most,
 }
+
+/// What is written of a load.
+#[derive(Clone, Copy, Debug, PartialEq, Eq)]
+pub enum ShownLoad {
+    /// How many bios were accepted, served and left.
+    Account(Form),
+    /// The trace of what the layer did.
+    Trace,
+}

@@ -5,6 +5,7 @@
 pub mod asking;
 mod blaming;
 mod command;
+mod grids;
 mod inputs;
 pub mod laws;
 mod lists;
@@ -16,13 +17,13 @@ mod takers;
 mod times;
 mod words;
 
-pub use crate::blaming::Blaming;
-pub use crate::inputs::{Running, Solving, Telling, TextJob, TextKind};
-pub use crate::replaying::{Replaying, ShownReplay};
+pub use crate::blaming::{Blaming, ShownBlame, TightestAsked};
+pub use crate::grids::{NoGrid, grid_asked, plans_asked};
+pub use crate::inputs::{Running, ShownLoad, Solving, Telling, TextJob, TextKind};
+pub use crate::replaying::{GridReplaying, Replaying, ShownReplay};
 pub use crate::table::{MAX_TAGS, MAX_THREADS, MAX_TOP, Makes};
 pub use crate::takers::{takers_text, takes_what_it_reads};
 pub use crate::words::{
-    CaptureSource, Import, Job, NoGrid, NoJob, Refusal, ShownLoad, Tuning, Written, choose,
-    grid_asked, version,
+    CaptureSource, Import, Job, NoJob, Refusal, Tuning, Written, choose, version,
 };
 pub use blk_settings::{FiguresAsked, Form};

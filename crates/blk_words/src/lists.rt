@@ -1,9 +1,10 @@
-//! Lists of numbers on the command line, with commas between.
+//! Lists of numbers and of times on the command line, with commas between.
 
 ghost use Rattle.std.specs.Prelude.{◌≡◌, ◌≤◌, ◌++◌, ◌∷◌, [], true, All, IfSome, option_map};
-ghost use Rattle.blk_words.specs.Lists.{is_listed, list_of};
+ghost use Rattle.blk_words.specs.Lists.{part_in, is_listed, list_by, list_of, times_listed};
 ghost use Rattle.blk_words.specs.Times.{is_plain, number_in, plain_number_in};
 
+use crate::times::time_of;
 use blk_settings::given::{MAX_LISTED, Numbers};
 
 /// Whether a text begins with no sign, and with no zero that more follows.
@@ -45,18 +46,51 @@ fn goes_on(numbers: &Numbers, number: u64) -> bool
     numbers.len() < MAX_LISTED && !numbers.as_slice().contains(&number)
 }
 
-/// The numbers of a list of 1 to [`MAX_LISTED`] up to the most, each once, without signs or leading zeros. None where the text is no such list.
-pub fn numbers_of(text: &str, most: u64) -> Option<Numbers>
-    ensures numbers { option_map (λ n. n.items) result ≡ list_of most text.now }
-    ensures range { IfSome result (λ n. All (λ x. x ≤ most) n.items) }
+/// What stands between the commas of a list.
+#[derive(Clone, Copy)]
+pub enum Parts {
+    /// Numbers up to this one.
+    UpTo(u64),
+    /// Times.
+    Times,
+}
+
+/// A part of a list: a number, or the nanoseconds of a time.
+fn part_of(text: &str, parts: Parts) -> Option<u64>
+    ensures { result ≡ part_in parts text.now }
+{
+    match parts {
+        Parts::UpTo(most) => plain_number(text, most),
+        Parts::Times => time_of(text),
+    }
+}
+
+/// The numbers of a list of 1 to [`MAX_LISTED`] of such parts, each once. None where the text is no such list.
+fn listed(text: &str, parts: Parts) -> Option<Numbers>
+    ensures { option_map (λ n. n.items) result ≡ list_by (part_in parts) text.now }
 {
     let mut numbers = Numbers::new();
     for part in text.split(',') {
-        let number = plain_number(part, most)?;
+        let number = part_of(part, parts)?;
         if !goes_on(&numbers, number) {
             return None;
         }
         numbers.push(number);
     }
     Some(numbers)
+}
+
+/// The numbers of a list of 1 to [`MAX_LISTED`] up to the most, each once, without signs or leading zeros. None where the text is no such list.
+pub fn numbers_of(text: &str, most: u64) -> Option<Numbers>
+    ensures numbers { option_map (λ n. n.items) result ≡ list_of most text.now }
+    ensures range { IfSome result (λ n. All (λ x. x ≤ most) n.items) }
+{
+    listed(text, Parts::UpTo(most))
+}
+
+/// The nanoseconds of a list of 1 to [`MAX_LISTED`] times, each once. None where the text is no such list.
+pub fn times_of(text: &str) -> Option<Numbers>
+    ensures { option_map (λ n. n.items) result ≡ times_listed text.now }
+{
+    listed(text, Parts::Times)
 }

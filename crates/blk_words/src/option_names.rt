@@ -58,6 +58,9 @@ pub const FIFO_READ_EXPIRE: &str = "fifo-read-expire";
 /// How long after it came in a scheduler lets a write go first.
 pub const FIFO_WRITE_EXPIRE: &str = "fifo-write-expire";
 
+/// Whether they are replayed under each setting of a grid.
+pub const GRID: &str = "grid";
+
 /// Whether its requests are written with their times.
 pub const TABLE: &str = "table";
 
@@ -72,6 +75,15 @@ pub const DEPTH: &str = "depth";
 
 /// Whether each late command is judged.
 pub const EACH: &str = "each";
+
+/// Whether a certificate is written.
+pub const CERTIFICATE: &str = "certificate";
+
+/// How many requests of a direction are to be on time.
+pub const TIGHTEST: &str = "tightest";
+
+/// Of which direction.
+pub const FOR: &str = "for";
 
 /// How many threads submit.
 pub const SUBMITTERS: &str = "submitters";

@@ -408,6 +408,21 @@ pub static OTHER_COMMANDS: [CommandRow; OTHER_COUNT] = [
                 help: "Writes each late request instead, and why it was late",
             }),
             OptionGroup::Own(OptionRow {
+                name: option_names::CERTIFICATE,
+                takes: Takes::Nothing,
+                help: "Writes a certificate of how many can be on time instead, for check",
+            }),
+            OptionGroup::Own(OptionRow {
+                name: option_names::TIGHTEST,
+                takes: Takes::MaybeText,
+                help: "Writes instead the least deadline at which so many of 100 can be on time: 99%",
+            }),
+            OptionGroup::Own(OptionRow {
+                name: option_names::FOR,
+                takes: Takes::MaybeText,
+                help: "With --tightest, whose deadline: reads or writes; without it, reads",
+            }),
+            OptionGroup::Own(OptionRow {
                 name: option_names::TOP,
                 takes: Takes::Maybe(1, MAX_TOP),
                 help: "How many processes, stalls and windows are written at most, the greatest ones; without it, 10",
@@ -437,17 +452,22 @@ pub static OTHER_COMMANDS: [CommandRow; OTHER_COUNT] = [
             OptionGroup::Own(OptionRow {
                 name: option_names::FIFO_READ_EXPIRE,
                 takes: Takes::Text("500ms"),
-                help: "How long after it came in a scheduler with FIFO lists lets a read go first",
+                help: "How long after it came in a scheduler with FIFO lists lets a read go first; with --grid, times with commas between",
             }),
             OptionGroup::Own(OptionRow {
                 name: option_names::FIFO_WRITE_EXPIRE,
                 takes: Takes::Text("5s"),
-                help: "How long after it came in a scheduler with FIFO lists lets a write go first",
+                help: "How long after it came in a scheduler with FIFO lists lets a write go first; with --grid, times with commas between",
             }),
             OptionGroup::Own(OptionRow {
                 name: option_names::SCHED,
                 takes: Takes::MaybeText,
-                help: "Writes the schedule of the replay under this scheduler instead",
+                help: "Writes the schedule of the replay under this scheduler instead; with --grid, the schedulers to try: names with commas between",
+            }),
+            OptionGroup::Own(OptionRow {
+                name: option_names::GRID,
+                takes: Takes::Nothing,
+                help: "Replays under each setting of a grid: options of settings take lists, with commas between, and stand at the lists of tune where they aren't given, positions at each",
             }),
             OptionGroup::Own(OptionRow {
                 name: option_names::TABLE,
@@ -463,6 +483,11 @@ pub static OTHER_COMMANDS: [CommandRow; OTHER_COUNT] = [
                 name: option_names::TOP,
                 takes: Takes::Maybe(1, MAX_TOP),
                 help: "Writes only so many replays, the best ones; without it, all",
+            }),
+            OptionGroup::Own(OptionRow {
+                name: option_names::THREADS,
+                takes: Takes::Maybe(1, MAX_THREADS),
+                help: "With --grid, how many replays go side by side; without it, as many as there are processors, 16 at most",
             }),
             OptionGroup::Own(JSON),
             OptionGroup::Texts,

@@ -5,8 +5,8 @@ ghost use Rattle.blk_words.specs.Times.{in_unit, time_of};
 
 use crate::lists::plain_number;
 
-/// The nanoseconds of a number with this unit, which is one of `nanoseconds`.
-fn in_unit(text: &str, unit: &str, nanoseconds: u64) -> Option<u64>
+/// The nanoseconds of a number with this unit, which is one of `nanoseconds`; or of other units, what that stands for.
+pub(crate) fn in_unit(text: &str, unit: &str, nanoseconds: u64) -> Option<u64>
     ensures { result ≡ in_unit unit.now nanoseconds text.now }
 {
     match text.strip_suffix(unit) {

@@ -3,10 +3,9 @@
 ghost use Rattle.std.specs.Prelude.{ℕ, ◌≡◌, ◌≤◌, map, All, IfOk, IfErr, IfSome, Some, None, option_map, option_and_then, string_bytes};
 ghost use Rattle.std.specs.Option.{option_or};
 ghost use Rattle.clap.specs.Words.{subcommand_rows_of};
-ghost use Rattle.blk_settings.specs.Grids.{grid_given};
 ghost use Rattle.blk_words.specs.CommandLine.{command_table, program_version};
 ghost use Rattle.blk_words.specs.Inside.Tables.{subcommand_of, makes_among};
-ghost use Rattle.blk_words.specs.Asked.{Asks, AsksGrid, AsksNoGrid, IsNoJob, list_given, by_named, by_given, tune_job, short_given, number_given, is_flagged, is_some_given, given_options, sched_asked, lineup_asked, compared, picture_given, amounts_of, shown_of, loaded, load_given, form_by, form_asked, time_given, entry_named, from_given, source_given, round_by, round_given, script_asked, unscripted, written_of, takes_all, import_of, import_job, oracle_given, job_made, job_of, import_with};
+ghost use Rattle.blk_words.specs.Asked.{Asks, IsNoJob, list_given, by_named, by_given, tune_job, short_given, number_given, is_flagged, is_some_given, given_options, sched_asked, lineup_asked, compared, picture_given, amounts_of, shown_of, loaded, load_given, form_by, form_asked, time_given, entry_named, from_given, source_given, round_by, round_given, script_asked, unscripted, written_of, takes_all, import_of, import_job, oracle_given, job_made, job_of, import_with};
 ghost use Rattle.blk_words.specs.Options.{script_option};
 ghost use Rattle.blk_settings.specs.Complaints.{complaint_text};
 ghost use Rattle.blk_words.specs.Refusals.{refusal_text};
@@ -14,19 +13,18 @@ ghost use Rattle.blk_words.specs.Inside.Options.{given};
 
 use crate::blaming::{Blaming, blame_job};
 use crate::command::{Names, blk_command, other_commands, run_commands};
-use crate::inputs::{Running, Solving, Telling, TextJob};
+use crate::inputs::{Running, ShownLoad, Solving, Telling, TextJob};
 use crate::lists::numbers_of;
 use crate::option_names;
-use crate::replaying::{Replaying, ShownReplay, replay_job};
+use crate::replaying::{GridReplaying, Replaying, ShownReplay, replay_job};
 use crate::source::source_given;
 use crate::table::{CommandRow, Makes};
 use crate::times::time_of;
 use blk_recorders::{CaptureForm, Device};
 use blk_settings::given::{MAX_SHORT, Numbers};
-use blk_settings::grid::grid_given;
 use blk_settings::options::{position_names, scheduler_names, tried_names};
 use blk_settings::{
-    By, Complaint, FiguresAsked, Form, Given, GridFault, Lineup, ListFault, Load, Plan, Sched,
+    By, Complaint, FiguresAsked, Form, Given, Lineup, ListFault, Load, Plan, Sched,
 };
 use clap::ArgMatches;
 use clap::error::ErrorKind;
@@ -46,7 +44,7 @@ pub enum Job {
     Version,
     /// Write what is asked of a text.
     OfText(TextJob),
-    /// Run a script under each setting of the grid that the words ask for ([`grid_asked`]), and write the table of how well each did.
+    /// Run a script under each setting of the grid that the words ask for ([`crate::grid_asked`]), and write the table of how well each did.
     Tune(Tuning),
     /// Import a capture.
     Import(Import),
@@ -121,6 +119,8 @@ pub enum Written {
     Blame(Blaming),
     /// What comes of replays of its requests.
     Replay(Replaying),
+    /// What comes of replays under each setting of the grid that the words ask for ([`crate::plans_asked`]).
+    Grid(GridReplaying),
     /// A replay of its requests.
     Replayed(Plan, ShownReplay),
 }
@@ -165,16 +165,30 @@ pub enum Refusal {
     By,
     /// All are asked for, and only so many.
     AllAndTop,
-    /// `--fifo-read-expire` is no time.
+    /// More than one of what `blame` can write in place of the whole is asked for.
+    OneBlame,
+    /// A certificate is asked for, and JSON.
+    CertificateJson,
+    /// `--tightest` is no share.
+    Tightest,
+    /// `--for` is neither `reads` nor `writes`.
+    For,
+    /// A direction is given, and no tightest deadline asked for.
+    NoTightest,
+    /// `--fifo-read-expire` is no list of times.
     FifoReadExpire,
-    /// `--fifo-write-expire` is no time.
+    /// `--fifo-write-expire` is no list of times.
     FifoWriteExpire,
     /// `--by` of replays is neither `late` nor `lateness` nor `read_p99`.
     ReplayBy,
-    /// A setting of replays, or the scheduler, is given several values.
+    /// A setting of replays, an expiry or the scheduler, is given several values, and no grid asked for.
     ListAlone,
     /// Replays are asked for a table, and under no scheduler.
     TableAlone,
+    /// Replays of a grid are asked for, and a table.
+    GridTable,
+    /// A number of threads is given, and no grid asked for.
+    NoGridThreads,
     /// One replay is asked for, and how rows are written.
     OneReplay,
 }
@@ -205,24 +219,28 @@ impl Refusal {
             Refusal::Lists(fault) => return fault.text(),
             Refusal::By => "--by takes misses or lateness",
             Refusal::AllAndTop => "--all and --top exclude one another",
-            Refusal::FifoReadExpire => "--fifo-read-expire takes a number with ns, us, ms or s",
-            Refusal::FifoWriteExpire => "--fifo-write-expire takes a number with ns, us, ms or s",
+            Refusal::OneBlame => "--each, --certificate and --tightest exclude one another",
+            Refusal::CertificateJson => "--certificate takes no --json",
+            Refusal::Tightest => "--tightest takes a share: 99%",
+            Refusal::For => "--for takes reads or writes",
+            Refusal::NoTightest => "--for needs --tightest",
+            Refusal::FifoReadExpire => {
+                "--fifo-read-expire takes a number with ns, us, ms or s; with --grid up to 64, with commas between, each once"
+            }
+            Refusal::FifoWriteExpire => {
+                "--fifo-write-expire takes a number with ns, us, ms or s; with --grid up to 64, with commas between, each once"
+            }
             Refusal::ReplayBy => "--by takes late, lateness or read_p99",
-            Refusal::ListAlone => "a replay takes one value of each setting",
+            Refusal::ListAlone => {
+                "a replay takes one value of each setting, and --grid takes lists"
+            }
             Refusal::TableAlone => "--table needs --sched",
+            Refusal::GridTable => "--grid and --table exclude one another",
+            Refusal::NoGridThreads => "--threads needs --grid",
             Refusal::OneReplay => "--sched takes no --by, --top or --json",
         };
         Complaint::Text(text)
     }
-}
-
-/// What is written of a load.
-#[derive(Clone, Copy, Debug, PartialEq, Eq)]
-pub enum ShownLoad {
-    /// How many bios were accepted, served and left.
-    Account(Form),
-    /// The trace of what the layer did.
-    Trace,
 }
 
 /// Why there is no job.
@@ -233,15 +251,6 @@ pub enum NoJob {
     /// The words are no command line of the program, or ask for its help: what clap says of them.
     Usage(String),
     /// They are taken and name no job: flags exclude one another, those of `oracle --trace --met`.
-    Nothing,
-}
-
-/// Why there is no grid.
-#[derive(Clone, Copy, Debug, PartialEq, Eq)]
-pub enum NoGrid {
-    /// Memory ran out.
-    Memory,
-    /// The words ask for none: they are no command line of the program, or an option that lists what is tried is given no list.
     Nothing,
 }
 
@@ -271,9 +280,9 @@ pub(crate) fn is_flagged(options: &ArgMatches<'_>, id: &str) -> bool
 
 /// The options of a subcommand.
 #[derive(Clone, Copy)]
-struct MatchedOptions<'a, 'b> {
+pub(crate) struct MatchedOptions<'a, 'b> {
     /// As clap found them.
-    matches: &'a ArgMatches<'b>,
+    pub(crate) matches: &'a ArgMatches<'b>,
 }
 
 impl Given for MatchedOptions<'_, '_> {
@@ -744,51 +753,6 @@ pub fn choose(alloc: Global, words: &[String]) -> Result<Job, NoJob>
                 Ok(text) => Err(NoJob::Usage(text)),
                 Err(_) => Err(NoJob::Memory),
             },
-        },
-    }
-}
-
-/// The grid that the options of `tune` ask for.
-fn grid_of(alloc: Global, options: &ArgMatches<'_>) -> Result<Vec<Sched>, NoGrid>
-    ensures grid { IfOk result (λ g. grid_given (given_options (given options.now)) ≡ Some g.items) }
-    ensures none { IfErr result (λ n. n ≡ NoGrid.Nothing → grid_given (given_options (given options.now)) ≡ None) }
-{
-    match grid_given(alloc, &MatchedOptions { matches: options }) {
-        Ok(grid) => Ok(grid),
-        Err(GridFault::List(_)) => Err(NoGrid::Nothing),
-        Err(GridFault::Memory) => Err(NoGrid::Memory),
-    }
-}
-
-/// The grid that the words of a trial ask for, which are read once more.
-pub fn grid_asked(alloc: Global, words: &[String]) -> Result<Vec<Sched>, NoGrid>
-    ensures asked { IfOk result (λ g. AsksGrid (map string_bytes words.now) g.items) }
-    ensures none { IfErr result (λ n. n ≡ NoGrid.Nothing → AsksNoGrid (map string_bytes words.now)) }
-{
-    let Ok(scheds) = scheduler_names(alloc) else {
-        return Err(NoGrid::Memory);
-    };
-    let Ok(positions) = position_names(alloc) else {
-        return Err(NoGrid::Memory);
-    };
-    let Ok(tried) = tried_names(alloc) else {
-        return Err(NoGrid::Memory);
-    };
-    let names = Names {
-        scheds: scheds.as_slice(),
-        positions: positions.as_slice(),
-    };
-    let Ok(command) = blk_command(alloc, names, tried.as_str()) else {
-        return Err(NoGrid::Memory);
-    };
-    match command.try_get_matches_from(words) {
-        Ok(matches) => match matches.subcommand() {
-            Some((_, options)) => grid_of(alloc, options),
-            None => Err(NoGrid::Nothing),
-        },
-        Err(error) => match error.kind() {
-            ErrorKind::OutOfMemory => Err(NoGrid::Memory),
-            _ => Err(NoGrid::Nothing),
         },
     }
 }

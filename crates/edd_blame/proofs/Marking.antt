@@ -34,6 +34,10 @@ filter_places p n = record {
       omega (arith, low, first, other, e));
 }
 
+pub marked_are : (marks : List Bool) (n : ℕ) → length marks ≡ n → ArePlaces n (marked_places marks)
+unfolding marked_places
+marked_are marks n same = subst (λ m. ArePlaces m (filter (λ k. get_or marks k false) (range_with_len 0 (length marks)))) same (filter_places (λ k. get_or marks k false) (length marks))
+
 pub other_are : (marks : List Bool) (n : ℕ) → length marks ≡ n → ArePlaces n (other_places marks)
 unfolding other_places
 other_are marks n same = subst (λ m. ArePlaces m (filter (λ k. not (get_or marks k false)) (range_with_len 0 (length marks)))) same (filter_places (λ k. not (get_or marks k false)) (length marks))

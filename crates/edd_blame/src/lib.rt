@@ -10,5 +10,5 @@ mod part;
 mod sum;
 
 pub use late::{Allowance, Cause, causes, law_of_causes};
-pub use part::{least_late_at, least_late_beside, most_saved_at};
+pub use part::{least_late_at, least_late_beside, least_late_marked, most_saved_at};
 pub use sum::{Blame, Reasons, StallTime, blame_of};

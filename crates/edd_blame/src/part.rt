@@ -113,6 +113,24 @@ pub fn least_late_at<A: Allocator + Clone, B: Allocator>(
     Ok(places.len() as u64 - answer.on_time)
 }
 
+/// The fewest of the marked commands that any legal schedule of all commands has late, whatever becomes of the others.
+///
+/// Fails only when out of memory. The time grows as n log n in the number of commands.
+pub fn least_late_marked<A: Allocator + Clone, B: Allocator>(
+    alloc: A,
+    commands: &[Command],
+    capacity: &Capacity<B>,
+    marks: &[bool],
+) -> Result<u64, AllocError>
+    requires taken { IsTaken commands.now }
+    requires one_each { length marks.now ≡ length commands.now }
+    ensures { IfOk result (IsLeastLateAt commands.now capacity.now (marked_places marks.now)) }
+{
+    let parts = parted(alloc.clone()?, marks)?;
+    let least = least_late_at(alloc, commands, capacity, parts.marked.as_slice())?;
+    Ok(least)
+}
+
 /// The most of the late commands at these places that a legal schedule can have on time, beside all that are on time in this one. No
 /// place stands twice.
 ///

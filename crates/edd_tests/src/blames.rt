@@ -6,7 +6,7 @@ ghost use Rattle.edd_blame.specs.Clock.{times_before, times_by, IsByClock, EachB
 use crate::made::{command, fixed, window};
 use edd_blame::{
     Allowance, Cause, Reasons, StallTime, blame_of, causes, law_of_causes, least_late_at,
-    least_late_beside, most_saved_at,
+    least_late_beside, least_late_marked, most_saved_at,
 };
 use edd_check::is_legal;
 use edd_commands::Command;
@@ -139,7 +139,7 @@ fn four_causes(rt: HostRuntime) {
 }
 
 /// Of two that have to run in the one round one is late, and none of two that haven't; of the second and the fourth only the fourth can be saved
-/// beside the first and the third; and where the others keep their best the first and the fifth are late of the marked ones.
+/// beside the first and the third; and where the others keep their best the first and the fifth are late of the marked ones, and else the fifth alone.
 #[test]
 fn parts_of_six(rt: HostRuntime) {
     let one = fixed(&rt, rt.alloc(), 1);
@@ -162,4 +162,6 @@ fn parts_of_six(rt: HostRuntime) {
         "out of memory",
     );
     assert_eq!(rt; beside, 2);
+    let alone = least_late_marked(rt.alloc(), &commands, &one, &marks).expect(&rt, "out of memory");
+    assert_eq!(rt; alone, 1);
 }

@@ -3,8 +3,7 @@ use Rattle.std.specs.Prelude.{◌≡◌, List}
 use Rattle.blk_lists.specs.Sources.{Row}
 use Rattle.blk_explain.specs.declared.forms.TextForm.{TextForm}
 use Rattle.blk_explain.specs.declared.findings.Finding.{Finding}
-use Rattle.blk_explain.specs.Findings.{IsText, FaultOf, IsRefusedScript}
-use Rattle.blk_explain.specs.declared.forms.TextForm.TheVariants as form
+use Rattle.blk_explain.specs.Findings.{IsText, FaultOf}
 use Rattle.blk_explain.specs.declared.findings.Finding.TheVariants as finding
 
 -- what the reader of a form finds
@@ -12,4 +11,3 @@ abbrev pub IsRead : TextForm → List Row → Finding → Type 0
 IsRead f rows finding.Untitled = ⊥
 IsRead f rows (finding.Good found) = (found ≡ f) × IsText f rows
 IsRead f rows (finding.Faulty found fault) = (found ≡ f) × FaultOf f rows fault.at fault.why
-IsRead f rows (finding.Refused fault) = (f ≡ form.Script) × IsRefusedScript rows fault

@@ -1,13 +1,14 @@
 use Rattle.std.proofs.Common.{ℕ, ◌≡◌, ◌∙◌, List, length, map, count_by, sym, ap, subst}
-use Rattle.blk_capture.specs.Fates.{AreOfTaken}
+use Rattle.blk_capture.specs.Fates.{AreOfTaken, IsTakenBelow}
 use Rattle.blk_capture.specs.Requests.{AreTallied, AreGone}
 use Rattle.blk_capture.specs.Inside.Taken.{AreWithin}
 use Rattle.blk_capture.specs.declared.requests.CapturedBio.{CapturedBio}
 use Rattle.blk_capture.specs.Rules.{Known}
-use Rattle.blk_capture.specs.Settled.{captured_bio, is_absorbed}
+use Rattle.blk_capture.specs.Settled.{captured_bio, fate_by, is_absorbed}
 use Rattle.blk_capture.specs.Inside.Coherent.{AreLaidOut}
 use Rattle.blk_capture.specs.declared.opened.Opened.{Opened}
 use Rattle.blk_capture.specs.declared.requests.Options.{Options}
+use Rattle.blk_capture.proofs.Adding.{fate_within}
 use Rattle.blk_capture.proofs.Placing.{relaid, apart_of}
 use Rattle.blk_capture.specs.Inside.Matchings.{all_known}
 use Rattle.blk_capture.proofs.Settling.{have_bios_of, tallied_timed, tallied_due, uncounted_all}
@@ -65,3 +66,14 @@ returns-clause-absorbed g c = c.count_others-absorbed.ensures.absorbed ∙ ap (c
 
 pub count_others-absorbed-requires-clause-apart : goal.count_others-absorbed-requires-clause-apart
 count_others-absorbed-requires-clause-apart g c = apart_of c.args.options.now (all_known c.args.matching.now) _ _ _ _ c.as_slice-9.ensures.value c.as_slice-10.ensures.value c.in_ok-taken.ensures.laid
+
+pub returns-clause-within : goal.returns-clause-within
+returns-clause-within g c = λ p.
+    let o : Options = c.args.options.now in
+    let m : Known = all_known c.args.matching.now in
+    let n : ℕ = length c.in_ok-taken.taken.requests.items in
+    let laid : AreLaidOut o m c.as_slice-4.result.now c.as_slice-5.result.now =
+    relaid o m _ _ _ _ (c.as_slice-4.ensures.value ∙ sym c.as_slice-2.ensures.value) c.as_slice-5.ensures.value c.in_ok-taken.ensures.laid in
+    let within : AreWithin n c.as_slice-5.result.now = subst (AreWithin n) (sym c.as_slice-5.ensures.value) c.in_ok-taken.ensures.within in
+    let is : c.in_ok-bios.bios.items ≡ map (captured_bio o m) m.bios = c.in_ok-bios.ensures.are o m laid ∙ ap (map (captured_bio o m)) c.as_slice-3.ensures.value in
+    subst (λ k. IsTakenBelow k (fate_by o m p)) (sym c.count_bios.ensures.each) (fate_within o m c.as_slice-4.result.now c.as_slice-5.result.now c.in_ok-bios.bios.items n p laid within is (c.in_ok-bios.ensures.within n within))

@@ -4,4 +4,4 @@ use Rattle.blk_replayed.proofs.answers.push_rows.Given as goal
 
 -- the rows so far
 abbrev pub invariant-loop-row : goal.invariant-loop-row
-invariant-loop-row l = l.all.items ≡ l.fn.all.items ++ map (λ r. replay_row r) (take l.row-index l.rows)
+invariant-loop-row l = l.all.items ≡ l.fn.all.items ++ map (λ r. replay_row l.expiries r) (take l.row-index l.rows)

@@ -1,7 +1,7 @@
 use Rattle.blk_replayed.proofs.replays.replays_in.Goals as goal
 
 pub returns : goal.returns
-returns c = record {
+returns g c = record {
   commands = c.as_slice-commands.result.now;
   rounds = c.as_slice-rounds.result.now;
   counted = rw (c.as_slice-commands.ensures.value, c.as_slice-rounds.ensures.value) c.in_ok-counted.ensures.counted;

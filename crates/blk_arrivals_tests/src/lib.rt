@@ -1,5 +1,0 @@
-//! Tests of the arrivals of a capture as a script.
-#![tactic(auto)]
-
-#[cfg(test)]
-mod scripts;

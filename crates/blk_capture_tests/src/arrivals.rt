@@ -1,0 +1,3 @@
+//! Tests of the arrivals of a capture as a script.
+
+mod scripts;

@@ -1,0 +1,4 @@
+//! Tests of captures as texts.
+
+mod printed;
+mod texts;

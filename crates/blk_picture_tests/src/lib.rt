@@ -1,7 +1,0 @@
-//! Tests of pictures.
-#![tactic(auto)]
-
-#[cfg(test)]
-mod given;
-#[cfg(test)]
-mod pictured;

@@ -1,6 +1,0 @@
-//! Laws and tests of replays under the schedulers.
-#![tactic(auto)]
-
-pub mod laws;
-#[cfg(test)]
-mod replays;

@@ -1,0 +1,4 @@
+//! Tests of pictures.
+
+mod given;
+mod pictured;

@@ -1,4 +1,0 @@
-use Rattle.blk_tune.proofs.trial.shares.Goals as goal
-
-pub returns-clause-each : goal.returns-clause-each
-returns-clause-each g c = λ i e h. (c.in_ok-all.ensures.each i e h).1.met
