@@ -1,7 +1,7 @@
 //! The script of a capture's arrivals.
 
 ghost use Rattle.std.specs.Prelude.{◌≡◌, ◌⊎◌, IfOk, IfErr, length};
-ghost use Rattle.faults.specs.Order.{IsFirstFault};
+ghost use Rattle.edd_commands.specs.Order.{IsFirstFault};
 ghost use Rattle.blk_capture.specs.Requests.{AreInOrder};
 ghost use Rattle.blk_text.specs.Script.{IsScript, scripted};
 ghost use Rattle.blk_arrivals.specs.Brought.{arriving_bios, brought_by};

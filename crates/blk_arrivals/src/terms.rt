@@ -1,7 +1,7 @@
 //! How a capture becomes a script, and why it doesn't.
 
 ghost use Rattle.std.specs.Prelude.{◌≡◌, ◌<◌, IfOk, IfErr};
-ghost use Rattle.faults.specs.Order.{IsFirstFault};
+ghost use Rattle.edd_commands.specs.Order.{IsFirstFault};
 ghost use Rattle.blk_trace.specs.Setups.{IsSetup};
 ghost use Rattle.blk_arrivals.specs.Names.{fault_name};
 ghost use Rattle.blk_arrivals.specs.Scripts.{usual_limits, expiry_rounds, script_setup};
@@ -11,7 +11,7 @@ use blk_bio::{Limits, MAX_SEGMENTS};
 use blk_plug::MAX_STAGED;
 use blk_text::MAX_DEPTH_1;
 use blk_trace::{Setup, SetupFault};
-use faults::variant_name;
+use edd_commands::variant_name;
 
 /// The depth where none is asked for: the most tags of a version 1 script.
 pub const USUAL_DEPTH: u64 = MAX_DEPTH_1;

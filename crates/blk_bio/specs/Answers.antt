@@ -7,7 +7,7 @@ use Rattle.blk_bio.specs.declared.request.JoinFault.TheVariants.{Direction, Apar
 use Rattle.blk_bio.specs.Bios.{Bio}
 use Rattle.blk_bio.specs.Limits.{Limits}
 use Rattle.blk_bio.specs.Requests.{dir_of, last_of, sectors_of, Abuts, joined, Fits}
-use Rattle.faults.specs.Order.{BreaksFirst}
+use Rattle.edd_commands.specs.Order.{BreaksFirst}
 
 -- the rules of a join, in the order in which they are looked at
 abbrev pub join_rules : Limits → List Bio → List Bio → List (Type 0)

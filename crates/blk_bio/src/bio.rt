@@ -9,7 +9,7 @@ ghost use Rattle.blk_bio.specs.Letters.{direction_text};
 ghost use Rattle.blk_bio.specs.declared.bio.Dir.{Dir as Direction};
 
 use crate::extent::Extent;
-use faults::variant_name;
+use edd_commands::variant_name;
 use std::marker::Model;
 
 /// No bio reaches past this sector, counted from the device's beginning.

@@ -3,7 +3,7 @@
 ghost use Rattle.std.specs.Prelude.{◌≡◌};
 ghost use Rattle.blk_bio.specs.Names.{rule_name};
 
-use faults::variant_name;
+use edd_commands::variant_name;
 
 /// The rule that an event would break, in the order in which the rules are looked for.
 #[derive(Clone, Copy, Debug, PartialEq, Eq)]

@@ -1,7 +1,7 @@
 -- A record of a capture: seconds, nanoseconds, processor, action, process, rwbs, first sector, sectors.
 use Rattle.std.specs.Prelude.{◌≡◌, ◌≤◌, ◌+◌, ◌*◌, ℕ, List, [], ◌∷◌, length, get_or}
 use Rattle.std.specs.Str.Parse.{digits_value}
-use Rattle.faults.specs.Order.{IsFirstFault}
+use Rattle.edd_commands.specs.Order.{IsFirstFault}
 use Rattle.blk_capture.specs.Passing.{action_by, op_by}
 use Rattle.blk_capture.specs.declared.record.Record.{Record}
 use Rattle.blk_lists.specs.Sources.{Row}

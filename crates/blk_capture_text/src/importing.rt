@@ -6,8 +6,7 @@ ghost use Rattle.blk_capture_text.specs.Imports.{IsImport, IsImportFault, first_
 ghost use Rattle.blk_capture_text.specs.Names.{import_fault_name};
 
 use blk_capture::{Matched, Options, Record, match_records, part_of};
-use edd_commands::MAX_COMMANDS;
-use faults::variant_name;
+use edd_commands::{MAX_COMMANDS, variant_name};
 use std::alloc::Global;
 
 /// How a capture is imported.

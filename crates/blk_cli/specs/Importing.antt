@@ -1,7 +1,7 @@
 -- What is written of a capture, what is said of what that leaves out, its arrivals as a script, and why there is nothing.
 use Rattle.std.specs.Prelude.{◌≡◌, ◌⊎◌, ◌++◌, ◌∷◌, ◌≤◌, ◌==◌, ◌&&◌, ⊤, ℕ, Bool, true, false, if◌then◌else◌, List, [], map, Option, None, Some, IfSome, unwrap_or}
 use Rattle.std.specs.Option.{option_map_or}
-use Rattle.faults.specs.Order.{IsFirstFault}
+use Rattle.edd_commands.specs.Order.{IsFirstFault}
 use Rattle.blk_arrivals.specs.Scripts.{script_of, script_rules}
 use Rattle.blk_arrivals.specs.declared.terms.ArrivalsFault.TheVariants as arrivals
 use Rattle.blk_arrivals.specs.declared.terms.TheConstants.{USUAL_DEPTH}

@@ -14,7 +14,7 @@ use blk_picture::picture;
 use blk_text::{read_trace, trace_text};
 use blk_trace::Trace;
 use blk_words::Telling;
-use faults::variant_name;
+use edd_commands::variant_name;
 use std::alloc::Global;
 use std::io::Read;
 

@@ -10,3 +10,4 @@ mod Ended
 mod Opens
 mod Listed
 mod IssuedNow
+pub mod More

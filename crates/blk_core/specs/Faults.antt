@@ -15,7 +15,7 @@ use Rattle.blk_core.specs.declared.refusals.TickFault.{TickFault}
 use Rattle.blk_core.specs.declared.refusals.TickFault.TheVariants as tick
 use Rattle.blk_core.specs.declared.refusals.DepthFault.{DepthFault}
 use Rattle.blk_core.specs.declared.refusals.DepthFault.TheVariants as depth
-use Rattle.faults.specs.Order.{BreaksFirst, AreKept}
+use Rattle.edd_commands.specs.Order.{BreaksFirst, AreKept}
 
 -- how many events there are, with a Done counted for each open Issue
 abbrev pub places_taken : CoreState → ℕ

@@ -4,3 +4,4 @@ pub mod Faults
 pub mod Calls
 pub mod Tries
 pub mod Inside
+pub mod Runs

@@ -3,7 +3,7 @@ use Rattle.std.specs.Prelude.{ℕ, ◌≡◌, ◌<◌, ◌≤◌, ◌-◌, ◌�
 use Rattle.blk_bio.specs.declared.limits.TheConstants.{MAX_QUEUES, MAX_SOFT_QUEUES}
 use Rattle.blk_hw.specs.declared.MapFault.{MapFault}
 use Rattle.blk_hw.specs.declared.MapFault.TheVariants.{Empty, TooMany, Unserved}
-use Rattle.faults.specs.Order.{BreaksFirst}
+use Rattle.edd_commands.specs.Order.{BreaksFirst}
 
 -- the greatest number of a hardware queue
 abbrev pub greatest_hw : ℕ

@@ -1,6 +1,6 @@
 -- The judgement on a schedule of anyone's, and which schedules are refused.
 use Rattle.std.specs.Prelude.{take, ℕ, List, Option}
-use Rattle.faults.specs.Order.{BreaksFirst, AreKept}
+use Rattle.edd_commands.specs.Order.{BreaksFirst, AreKept}
 use Rattle.edd_check.specs.declared.CheckFault.{CheckFault}
 use Rattle.edd_check.specs.declared.CheckFault.TheVariants.{Length, BeforeRelease, Memory, OverDepth, WrongLateness, NotCrowded}
 use Rattle.edd_commands.specs.declared.Command.{Command}

@@ -13,7 +13,7 @@ use Rattle.blk_trace.specs.Setups.{Setup}
 use Rattle.blk_trace.specs.Events.{At, HasId, request_of}
 use Rattle.blk_trace.specs.Meaning.{command_of, issued_ids, waiting_of}
 use Rattle.blk_trace.specs.Inside.Seats.{issued_by}
-use Rattle.faults.specs.Order.{BreaksFirst, AreKept}
+use Rattle.edd_commands.specs.Order.{BreaksFirst, AreKept}
 use Rattle.blk_layer.specs.Seats.{LayerShape, SubmitterSeat, WorkerSeat}
 use Rattle.blk_layer.specs.declared.closing.CloseRefused.{CloseRefused}
 use Rattle.blk_layer.specs.declared.closing.CloseRefused.TheVariants.{Whole, Differs}

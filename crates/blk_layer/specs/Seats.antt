@@ -8,7 +8,7 @@ use Rattle.blk_hw.specs.Maps.{IsHwCount}
 use Rattle.blk_layer.specs.declared.layer.TheConstants.{MAX_WORKERS}
 use Rattle.blk_layer.specs.declared.layer.LayerFault.{LayerFault}
 use Rattle.blk_layer.specs.declared.layer.LayerFault.TheVariants.{Queues, SoftDepth, Workers, WorkerQueue, Memory}
-use Rattle.faults.specs.Order.{BreaksFirst}
+use Rattle.edd_commands.specs.Order.{BreaksFirst}
 
 -- what of a layer never changes: the hardware queue of each software queue, how many workers there are, and its tags
 pub record LayerShape : Type 0 where

@@ -10,7 +10,7 @@ use Rattle.blk_trace.specs.Events.{AreOnce, IsFirstRepeatedBio}
 use Rattle.blk_layer.specs.declared.submitting.FlushWhy.{FlushWhy}
 use Rattle.blk_layer.specs.declared.submitting.FlushWhy.TheVariants.{Foreign, Repeated, SoftFull, Memory}
 use Rattle.blk_layer.specs.Seats.{SubmitterSeat, AreOwn}
-use Rattle.faults.specs.Order.{BreaksFirst}
+use Rattle.edd_commands.specs.Order.{BreaksFirst}
 use Rattle.blk_sched.specs.Meaning.{Waiting}
 use Rattle.blk_core.specs.declared.calls.Placed.{Placed}
 use Rattle.blk_core.specs.declared.refusals.CoreFault.{CoreFault}

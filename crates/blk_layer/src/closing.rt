@@ -6,7 +6,7 @@ ghost use Rattle.std.specs.HashMap as hash;
 ghost use Rattle.blk_bio.specs.Bios.{Bio as Transfer};
 ghost use Rattle.blk_trace.specs.Events.{AreOnce, HasId, IsReleased};
 ghost use Rattle.blk_trace.specs.Kinds.{releases};
-ghost use Rattle.blk_policy.specs.Runs.{IsRunFrom};
+ghost use Rattle.blk_core.specs.Runs.{IsRunFrom};
 ghost use Rattle.blk_layer.specs.Seats.{SubmitterSeat};
 ghost use Rattle.blk_layer.specs.Closing.{AreAllThere, HasNumber, all_accepted, all_ran, issued_bios, done_by, done_ids, done_commands, done_count, AreSettled, AreCounted, IsBioOf, DiffersAsCommand, Disagrees, IsCloseRefusal};
 ghost use Rattle.blk_layer.specs.Inside.Closing.{IsAccountOf};

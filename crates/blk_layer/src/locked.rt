@@ -4,7 +4,7 @@ ghost use Rattle.std.specs.Prelude.{◌≡◌, ◌≤◌, ◌+◌, [], IfOk, IfE
 ghost use Rattle.blk_bio.specs.declared.limits.TheConstants.{MAX_SOFT_DEPTH};
 ghost use Rattle.blk_core.specs.Faults.{IsTickFault};
 ghost use Rattle.blk_core.specs.Calls.{Ends, SetsDepth};
-ghost use Rattle.blk_policy.specs.Runs.{MakesCalls, IsRunFrom};
+ghost use Rattle.blk_core.specs.Runs.{MakesCalls, IsRunFrom};
 ghost use Rattle.blk_layer.specs.Submitting.{AreOfFirst};
 ghost use Rattle.blk_layer.specs.Serving.{IsTickAnswer, IsDepthAnswer};
 ghost use Rattle.blk_layer.specs.Closing.{all_ran, done_count};

@@ -13,7 +13,7 @@ use Rattle.blk_lists.specs.Inside.Fields.{IsGood}
 use Rattle.blk_bio.specs.declared.bio.Dir.{Dir}
 use Rattle.blk_bio.specs.declared.bio.Dir.TheVariants as dir
 use Rattle.blk_bio.specs.Letters.{direction_text}
-use Rattle.faults.specs.Order.{IsFirstFault}
+use Rattle.edd_commands.specs.Order.{IsFirstFault}
 use Rattle.blk_lists.specs.Words.{StartsWith, HasNoWord, WordLacks}
 use Rattle.blk_lists.specs.declared.fault.Why.{Why}
 use Rattle.blk_lists.specs.declared.fault.Why.TheVariants as why

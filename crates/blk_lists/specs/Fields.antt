@@ -3,7 +3,7 @@ use Rattle.std.specs.Prelude.{◌≡◌, ◌⊎◌, ◌<◌, ◌≤◌, ◌^◌,
 use Rattle.std.specs.Str.Parse.{AllDigits, digits_value}
 use Rattle.blk_bio.specs.declared.bio.Dir.{Dir}
 use Rattle.blk_bio.specs.Letters.{direction_text}
-use Rattle.faults.specs.Order.{IsFirstFault}
+use Rattle.edd_commands.specs.Order.{IsFirstFault}
 use Rattle.blk_lists.specs.Sources.{Row}
 use Rattle.blk_lists.specs.declared.fault.Why.{Why}
 use Rattle.blk_lists.specs.declared.fault.Why.TheVariants as why

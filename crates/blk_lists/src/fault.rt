@@ -4,7 +4,7 @@ ghost use Rattle.std.specs.Prelude.{◌≡◌};
 ghost use Rattle.blk_lists.specs.Names.{why_name};
 
 use blk_bio::{BioFault, TraceRule};
-use faults::variant_name;
+use edd_commands::variant_name;
 
 /// What is wrong with a record, in the order in which it is looked for.
 #[derive(Debug, Clone, Copy, PartialEq, Eq)]

@@ -5,7 +5,7 @@ use Rattle.blk_sched.specs.Policies.{Policy}
 use Rattle.blk_trace.specs.Setups.{Setup}
 use Rattle.blk_trace.specs.Traces.{Traced}
 use Rattle.blk_core.specs.State.{CoreState, new_core}
-use Rattle.blk_policy.specs.Runs.{IsRunFrom, IsRunBy}
+use Rattle.blk_core.specs.Runs.{IsRunFrom, IsRunBy}
 use Rattle.blk_settings.specs.declared.numbers.Load.{Load}
 use Rattle.blk_settings.specs.declared.sched.SchedFault.{SchedFault}
 use Rattle.blk_settings.specs.Settles.{load_setup}

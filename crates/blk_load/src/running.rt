@@ -11,7 +11,7 @@ ghost use Rattle.blk_settings.specs.Numbers.{IsLoad};
 ghost use Rattle.blk_settings.specs.Settles.{IsSettled, served_bios, load_setup};
 ghost use Rattle.blk_trace.specs.Events.{AreOnce};
 ghost use Rattle.blk_load.specs.Inside.Loads.{AreInTurn};
-ghost use Rattle.blk_policy.specs.Runs.{IsRunBy, IsRunFrom};
+ghost use Rattle.blk_core.specs.Runs.{IsRunBy, IsRunFrom};
 
 use crate::counts::accepted;
 use crate::serving::serve_all;

@@ -8,7 +8,7 @@ use Rattle.blk_plug.specs.declared.plug.PlugFault.{PlugFault}
 use Rattle.blk_plug.specs.declared.plug.PlugFault.TheVariants.{Full, Memory}
 use Rattle.blk_plug.specs.Plugs.{Plug, HasPlugCandidate, HasNoPlugCandidate, IsJoinedAt}
 use Rattle.blk_plug.specs.declared.plug.TheConstants.{MAX_STAGED}
-use Rattle.faults.specs.Order.{BreaksFirst, AreKept}
+use Rattle.edd_commands.specs.Order.{BreaksFirst, AreKept}
 
 -- the rule of an addition: the bio joins a request, or there is a place for one more
 abbrev pub add_rules : Plug → Bio → List (Type 0)

@@ -3,7 +3,7 @@
 ghost use Rattle.std.specs.Prelude.{◌≡◌};
 ghost use Rattle.blk_recorders.specs.Names.{line_why_name};
 
-use faults::variant_name;
+use edd_commands::variant_name;
 
 /// What is wrong with a line, in the order in which it is looked for.
 #[derive(Debug, Clone, Copy, PartialEq, Eq)]

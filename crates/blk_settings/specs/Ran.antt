@@ -1,7 +1,7 @@
 -- Which scheduler ran.
 use Rattle.std.specs.Prelude.{ℕ}
 use Rattle.blk_trace.specs.Traces.{Traced}
-use Rattle.blk_policy.specs.Runs.{IsRunBy}
+use Rattle.blk_core.specs.Runs.{IsRunBy}
 use Rattle.blk_settings.specs.Scheds.{policy_of, first_meaning, numbers_at_first}
 use Rattle.blk_settings.specs.declared.sched.Sched.{Sched}
 

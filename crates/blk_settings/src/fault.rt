@@ -4,7 +4,7 @@ ghost use Rattle.std.specs.Prelude.{◌≡◌};
 ghost use Rattle.blk_settings.specs.Names.{load_fault_name};
 ghost use Rattle.blk_settings.specs.Faults.{fault_rank, IsFirstOfTwo};
 
-use faults::variant_name;
+use edd_commands::variant_name;
 
 /// Why a load fails. Of several reasons the first is reported.
 #[derive(Clone, Copy, Debug, PartialEq, Eq)]

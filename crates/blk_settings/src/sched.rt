@@ -9,7 +9,7 @@ use crate::given::MAX_SHORT;
 use crate::positions::positions_of;
 use crate::rows::{SCHED_COUNT, SchedKind, SettingRange, SettingRow};
 use crate::setting::{MAX_SETTINGS, Setting, Settings};
-use faults::variant_name;
+use edd_commands::variant_name;
 use std::alloc::{AllocError, Global};
 
 /// Why a scheduler is not made, in the order in which the reasons are looked for.

@@ -8,7 +8,7 @@ use Rattle.edd_commands.specs.declared.steps.Step.{Step}
 use Rattle.edd_check.specs.Rules.{round_rules, IsLeastOverDeep, IsFirstEarly}
 use Rattle.edd_commands.specs.Schedule.{IsLegal}
 use Rattle.edd_check.specs.OnTime.{number_on_time, carried_by, outside_of, bound_of, IsCover, IsFirstAstray}
-use Rattle.faults.specs.Order.{BreaksFirst, AreKept}
+use Rattle.edd_commands.specs.Order.{BreaksFirst, AreKept}
 
 -- the rules of a claim of a greatest number, in the order in which they are looked at; the rounds are legal by rules of their own
 abbrev pub on_time_rules : List Command → List Step → List ℕ → ℕ → List Window → List (Type 0)

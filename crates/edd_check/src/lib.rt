@@ -15,8 +15,7 @@ ghost use Rattle.edd_check.specs.Check.{IsAnswer, AcceptsClaim};
 
 mod on_time;
 
-use edd_commands::{Capacity, Command, MAX_ROUNDS};
-use faults::variant_name;
+use edd_commands::{Capacity, Command, MAX_ROUNDS, variant_name};
 pub use on_time::{
     Bound, OnTimeFault, carried_by, carried_in, check_on_time, cover_in_range, inside,
     law_of_covers, number_on_time, outside,

@@ -12,8 +12,7 @@ ghost use Rattle.edd_check.specs.OnTime.{number_on_time, IsOnTimeBound, IsMostOn
 ghost use Rattle.edd_check.specs.CheckOnTime.{IsOnTimeAnswer, AcceptsOnTimeClaim};
 
 use crate::{Window, first_early, least_over_deep};
-use edd_commands::{Capacity, Command, MAX_DEPTH, MAX_ROUNDS};
-use faults::variant_name;
+use edd_commands::{Capacity, Command, MAX_DEPTH, MAX_ROUNDS, variant_name};
 use std::alloc::Allocator;
 
 /// The bound of a good claim's cover: together the number of commands that the claim says are on time.

@@ -4,7 +4,7 @@ use Rattle.edd_commands.specs.declared.steps.CapacityFault.{CapacityFault}
 use Rattle.edd_commands.specs.declared.steps.CapacityFault.TheVariants.{Start, Rising, Depth, Round}
 use Rattle.edd_commands.specs.declared.steps.TheConstants.{MAX_DEPTH}
 use Rattle.edd_commands.specs.declared.TheConstants.{MAX_ROUNDS}
-use Rattle.faults.specs.Order.{BreaksFirst}
+use Rattle.edd_commands.specs.Order.{BreaksFirst}
 
 -- the depth of the last of these steps that begins in the round x or before, or `depth` where none does
 abbrev pub depth_after : ℕ → List Step → ℕ → ℕ

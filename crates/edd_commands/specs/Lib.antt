@@ -1,3 +1,4 @@
 pub mod Capacity
 pub mod Schedule
 pub mod Inside
+pub mod Order

@@ -3,7 +3,7 @@ use Rattle.edd_commands.specs.declared.Command.{Command}
 use Rattle.edd_commands.specs.declared.TheConstants.{MAX_COMMANDS, MAX_RELEASES, MAX_ROUNDS}
 use Rattle.edd_oracle.specs.declared.OracleFault.{OracleFault}
 use Rattle.edd_oracle.specs.declared.OracleFault.TheVariants.{TooMany, RoundRange, RepeatedId, Memory}
-use Rattle.faults.specs.Order.{BreaksFirst, AreKept}
+use Rattle.edd_commands.specs.Order.{BreaksFirst, AreKept}
 
 -- the release and the due round are within their limits
 abbrev pub IsSolvable : Command → Type 0

@@ -23,8 +23,7 @@ mod window;
 
 pub use cover::Served;
 use edd_check::{Window, law_of_covers, law_of_crowded_windows, number_on_time};
-use edd_commands::{Capacity, Command};
-use faults::variant_name;
+use edd_commands::{Capacity, Command, variant_name};
 use std::alloc::{Allocator, Global};
 
 /// Why a list is refused, in the order in which the reasons are looked for.

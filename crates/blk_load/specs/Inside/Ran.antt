@@ -1,6 +1,6 @@
 -- What ran in a load.
 use Rattle.std.specs.Prelude.{ℕ}
-use Rattle.blk_policy.specs.Runs.{IsRunBy}
+use Rattle.blk_core.specs.Runs.{IsRunBy}
 use Rattle.blk_sched.specs.Policies.{Policy}
 use Rattle.blk_settings.specs.Scheds.{policy_of, first_meaning, numbers_at_first}
 use Rattle.blk_settings.specs.declared.Loaded.{Loaded}

@@ -1,7 +1,7 @@
 use Rattle.std.proofs.Common.{sym, subst, List}
 use Rattle.std.proofs.Math.Logic.{∥∥₁_map}
 use Rattle.blk_trace.specs.Happened.{Happened}
-use Rattle.blk_policy.specs.Runs.{MakesCalls}
+use Rattle.blk_core.specs.Runs.{MakesCalls}
 use Rattle.blk_layer.proofs.locked.LockedCore.into_trace.Goals as goal
 
 pub returns-clause-ran : goal.returns-clause-ran

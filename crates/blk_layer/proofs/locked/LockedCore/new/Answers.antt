@@ -1,6 +1,6 @@
 use Rattle.std.proofs.Common.{◌≡◌, ◌∙◌, sym, ap, refl, []}
 use Rattle.blk_layer.specs.Closing.{done_count}
-use Rattle.blk_policy.proofs.More.{none_run}
+use Rattle.blk_core.proofs.More.{none_run}
 use Rattle.blk_layer.proofs.locked.LockedCore.new.Goals as goal
 
 none_done : done_count [] ≡ 0

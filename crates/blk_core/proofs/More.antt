@@ -3,7 +3,7 @@ use Rattle.std.proofs.Common.{◌≡◌, refl, subst, sym, List, [], ◌∷◌, 
 use Rattle.blk_trace.specs.Happened.{Happened}
 use Rattle.blk_core.specs.State.{CoreState}
 use Rattle.blk_sched.specs.Policies.{Policy}
-use Rattle.blk_policy.specs.Runs.{MakesCall, MakesCalls}
+use Rattle.blk_core.specs.Runs.{MakesCall, MakesCalls}
 
 -- no event leads to where it began
 pub none_run : (policy : Policy) (start c : CoreState) → c ≡ start → c.events ≡ []
