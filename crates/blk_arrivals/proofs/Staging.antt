@@ -4,7 +4,7 @@ use Rattle.std.specs.Prelude.{All, nat_lt, slice_index, slice_set}
 use Rattle.std.proofs.lemmas.List.{length-replicate}
 use Rattle.std.proofs.lemmas.List.Elements.{All-nil, All-replicate}
 use Rattle.blk_bio.specs.declared.bio.Dir.{Dir}
-use Rattle.blk_plug.specs.declared.plug.TheConstants.{MAX_STAGED}
+use Rattle.blk_queues.specs.declared.plug.TheConstants.{MAX_STAGED}
 use Rattle.blk_capture.specs.declared.record.Action.{Action}
 use Rattle.blk_capture.specs.declared.record.Action.TheVariants as action
 use Rattle.blk_capture.specs.declared.record.Record.{Record}

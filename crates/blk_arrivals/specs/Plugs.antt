@@ -3,7 +3,7 @@ use Rattle.std.specs.Prelude.{ℕ, ◌+◌, ◌-◌, ◌==◌, ◌++◌, List, [
 use Rattle.std.proofs.Math.ListN.{replicate}
 use Rattle.blk_bio.specs.Bios.{Bio}
 use Rattle.blk_bio.specs.declared.bio.Dir.{Dir}
-use Rattle.blk_plug.specs.declared.plug.TheConstants.{MAX_STAGED}
+use Rattle.blk_queues.specs.declared.plug.TheConstants.{MAX_STAGED}
 use Rattle.blk_capture.specs.declared.record.Record.{Record}
 use Rattle.blk_text.specs.declared.script.Line.{Line}
 use Rattle.blk_text.specs.declared.script.Line.TheVariants as line

@@ -1,7 +1,7 @@
 -- What stands in the plugs while steps are done.
 use Rattle.std.specs.Prelude.{ℕ, ◌≡◌, ◌<◌, ◌+◌, List, [], ◌∷◌, All, slice_index, slice_set}
 use Rattle.std.proofs.Math.ListN.{replicate}
-use Rattle.blk_plug.specs.declared.plug.TheConstants.{MAX_STAGED}
+use Rattle.blk_queues.specs.declared.plug.TheConstants.{MAX_STAGED}
 use Rattle.blk_text.specs.declared.script.Line.{Line}
 use Rattle.blk_text.specs.declared.script.Line.TheVariants as line
 

@@ -15,7 +15,7 @@ use crate::deeds::{Deed, deed_of};
 use crate::terms::ArrivalsFault;
 use blk_bio::{Bio, BioId, Dir};
 use blk_capture::Record;
-use blk_plug::MAX_STAGED;
+use blk_queues::MAX_STAGED;
 use blk_text::{Line, MAX_STEPS};
 use std::alloc::{AllocError, Global};
 

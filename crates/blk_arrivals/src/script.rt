@@ -21,7 +21,7 @@ use std::alloc::Global;
 ///
 /// Submitters are the processes, in the order of their first bios, or the processors where there are more processes than a script may have
 /// submitters. A bio's serial is its number among all, from 0 on. A plug is flushed, and drained, where the capture unplugs it in the same
-/// round, before a bio comes in where [`blk_plug::MAX_STAGED`] stand in it, and at the end of a round. At the end as many rounds run as
+/// round, before a bio comes in where [`blk_queues::MAX_STAGED`] stand in it, and at the end of a round. At the end as many rounds run as
 /// there are bios, so that all are served, whatever the scheduler.
 ///
 /// Fails with the first of [`ArrivalsFault`]; memory may run out at any place. Its time grows as n times the number of submitters.

@@ -8,7 +8,7 @@ ghost use Rattle.blk_arrivals.specs.Scripts.{usual_limits, expiry_rounds, script
 ghost use Rattle.blk_arrivals.specs.Inside.Scripts.{term_rules};
 
 use blk_bio::{Limits, MAX_SEGMENTS};
-use blk_plug::MAX_STAGED;
+use blk_queues::MAX_STAGED;
 use blk_text::MAX_DEPTH_1;
 use blk_trace::{Setup, SetupFault};
 use edd_commands::variant_name;

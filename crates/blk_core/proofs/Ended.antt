@@ -19,7 +19,7 @@ use Rattle.blk_trace.specs.Waits.{unissued_at, waiting_count, released_count}
 use Rattle.blk_trace.specs.Setups.{same_dir}
 use Rattle.blk_sched.specs.declared.picks.TheConstants.{MAX_REQUEUED}
 use Rattle.blk_sched.specs.Meaning.{Waiting, Meaning, Pending, RequeuesPick, opened, after_requeue, requeued_of}
-use Rattle.blk_hw.specs.Requeued.{requeued_total, requeued_count}
+use Rattle.blk_queues.specs.Requeued.{requeued_total, requeued_count}
 use Rattle.blk_core.specs.declared.tags.TagState.{TagState}
 use Rattle.blk_core.specs.declared.tags.TagState.TheVariants.{Free, InFlight, Spent}
 use Rattle.blk_core.specs.State.{entered_of, requeued_at, is_of, InFlightAs}

@@ -12,7 +12,7 @@ use Rattle.blk_bio.specs.Requests.{dir_of}
 use Rattle.blk_trace.specs.Waits.{Entered}
 use Rattle.blk_trace.specs.Setups.{same_dir}
 use Rattle.blk_sched.specs.Meaning.{Waiting}
-use Rattle.blk_hw.specs.Requeued.{requeued_total, requeued_count}
+use Rattle.blk_queues.specs.Requeued.{requeued_total, requeued_count}
 use Rattle.blk_core.specs.State.{entered_of, is_of, is_named}
 use Rattle.blk_core.proofs.Pushed.{get_more}
 

@@ -17,7 +17,7 @@ use Rattle.blk_trace.specs.Waits.{waits_at, unissued_at, waiting_count}
 use Rattle.blk_trace.specs.Inside.Seats.{seat_at}
 use Rattle.blk_trace.specs.Setups.{same_dir}
 use Rattle.blk_sched.specs.Meaning.{Waiting, Meaning, Pending, Picks, RequeuesPick, opened, after_requeue, requeued_of}
-use Rattle.blk_hw.specs.Requeued.{requeued_total, requeued_count}
+use Rattle.blk_queues.specs.Requeued.{requeued_total, requeued_count}
 use Rattle.blk_core.specs.declared.tags.TagState.{TagState}
 use Rattle.blk_core.specs.declared.tags.TagState.TheVariants.{Free, InFlight}
 use Rattle.blk_sched.specs.Policies.{Choice}

@@ -29,7 +29,7 @@ use Rattle.blk_trace.specs.Waits.{has_id, waits_at, was_issued, unissued_at, wai
 use Rattle.blk_trace.specs.Setups.{same_dir}
 use Rattle.blk_sched.specs.declared.picks.TheConstants.{MAX_OPEN}
 use Rattle.blk_sched.specs.Meaning.{Waiting, Meaning, Pending, OpenPicks, Joins, open_of as open_picks_of, requeued_of, no_picks, at_start, unfinished, joined_waiting}
-use Rattle.blk_hw.specs.Requeued.{requeued_total}
+use Rattle.blk_queues.specs.Requeued.{requeued_total}
 use Rattle.blk_core.specs.declared.tags.TagState.{TagState}
 use Rattle.blk_core.specs.declared.tags.TagState.TheVariants.{Free, InFlight, Spent}
 use Rattle.blk_core.specs.State.{Flight, CoreState, entered_of, requeued_at, is_of, is_named, InFlightAs}

@@ -12,7 +12,7 @@ use Rattle.blk_trace.specs.Meaning.{commands_of}
 use Rattle.blk_trace.specs.Waits.{released_count}
 use Rattle.blk_sched.specs.Meaning.{Waiting, Meaning, HasNoCandidate, ServesNothing, Picks, RequeuesPick, Joins, opened}
 use Rattle.blk_sched.specs.Policies.{Choice, OfDone, OfTick}
-use Rattle.blk_hw.specs.Requeued.{requeued_in, requeued_total}
+use Rattle.blk_queues.specs.Requeued.{requeued_in, requeued_total}
 use Rattle.blk_core.specs.declared.calls.Placed.{Placed}
 use Rattle.blk_core.specs.declared.calls.Placed.TheVariants.{New, Joined as JoinedTo}
 use Rattle.blk_core.specs.State.{Flight, CoreState, InFlightAs}

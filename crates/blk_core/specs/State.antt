@@ -16,7 +16,7 @@ use Rattle.blk_trace.specs.Meaning.{release_of, due_of}
 use Rattle.blk_trace.specs.Waits.{Entered, waits_at, was_issued, unissued_at, waiting_count}
 use Rattle.blk_trace.specs.Setups.{same_dir}
 use Rattle.blk_sched.specs.Meaning.{Waiting, Meaning, requeued_of, waiting_code, meaning_code}
-use Rattle.blk_hw.specs.Requeued.{requeued_in, requeued_total, requeued_count}
+use Rattle.blk_queues.specs.Requeued.{requeued_in, requeued_total, requeued_count}
 use Rattle.blk_core.specs.Opens.{open_issues_of}
 
 -- a command in flight: the hardware queue that it was issued for, and its request as it was picked

@@ -4,7 +4,7 @@ ghost use Rattle.std.specs.Prelude.{◌≡◌, ◌<◌, ◌+◌, [], None, OnOk,
 ghost use Rattle.blk_trace.specs.declared.trace.Prepared.{Prepared};
 ghost use Rattle.blk_bio.specs.declared.bio.Dir.{Dir as Way};
 ghost use Rattle.blk_sched.specs.Meaning.{requeued_of};
-ghost use Rattle.blk_hw.specs.Requeued.{requeued_in, requeued_count};
+ghost use Rattle.blk_queues.specs.Requeued.{requeued_in, requeued_count};
 ghost use Rattle.blk_core.specs.State.{is_of};
 ghost use Rattle.blk_core.specs.Inside.Calls.{Dispatches};
 ghost use Rattle.blk_core.specs.Inside.Ties.{MayPickNone};
@@ -12,7 +12,7 @@ ghost use Rattle.blk_core.specs.Inside.Ties.{MayPickNone};
 use crate::refusals::{BackFault, CoreFault, DepthFault, IssueFault, NotIssued, TickFault};
 use crate::tags::{TagState, clear, completed, free_tags, requeue};
 use blk_bio::{Dir, MAX_QUEUES, Request, Side};
-use blk_hw::RequeueLists;
+use blk_queues::RequeueLists;
 use blk_sched::{MAX_OPEN, Queued, Scheduler};
 use blk_trace::{Event, MAX_EVENTS, Setup, Trace};
 use edd_commands::Command;

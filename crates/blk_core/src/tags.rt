@@ -5,7 +5,7 @@ ghost use Rattle.blk_bio.specs.Requests.{dir_of};
 ghost use Rattle.blk_core.specs.Inside.Ties.{IfInFlight, Requeues};
 
 use blk_bio::{Dir, Request};
-use blk_hw::RequeueLists;
+use blk_queues::RequeueLists;
 use blk_sched::Queued;
 use std::alloc::{AllocError, Allocator};
 use std::mem;

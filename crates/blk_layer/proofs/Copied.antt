@@ -2,8 +2,8 @@
 use Rattle.std.proofs.Common.{◌≡◌, ℕ, refl, sym, ap, subst, List, [], ◌∷◌, ◌++◌, Some, None, length, take}
 use Rattle.std.specs.Prelude.{slice_get}
 use Rattle.blk_bio.specs.Bios.{Bio}
-use Rattle.blk_plug.specs.Plugs.{Plug}
-use Rattle.blk_soft.specs.Queues.{Queue}
+use Rattle.blk_queues.specs.Plugs.{Plug}
+use Rattle.blk_queues.specs.Queues.{Queue}
 use Rattle.blk_layer.specs.Seats.{SubmitterSeat}
 use Rattle.blk_layer.specs.Submitting.{FlushesInto, AreOfFirst, IsMoveFault}
 use Rattle.blk_core.specs.State.{CoreState}

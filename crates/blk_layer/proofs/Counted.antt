@@ -1,6 +1,6 @@
 -- How many hardware queues a map names.
 use Rattle.std.proofs.Common.{◌≡◌, ◌<◌, ℕ, List, arith, subst}
-use Rattle.blk_hw.specs.Maps.{IsHwCount}
+use Rattle.blk_queues.specs.Maps.{IsHwCount}
 use Rattle.blk_layer.specs.declared.layer.LayerFault.{LayerFault}
 use Rattle.blk_layer.specs.Seats.{CanMake, IsLayerFault}
 

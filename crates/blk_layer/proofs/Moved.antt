@@ -1,6 +1,6 @@
 -- Requests that move one after the other.
 use Rattle.std.proofs.Common.{◌≡◌, ◌∙◌, ◌+◌, ◌≤◌, ℕ, zero, suc, ap, sym, refl, arith, add-one, Bool, true, false, List, [], ◌∷◌, Result, Ok, Err, length}
-use Rattle.blk_soft.specs.Queues.{Queue}
+use Rattle.blk_queues.specs.Queues.{Queue}
 use Rattle.blk_sched.specs.Meaning.{Waiting}
 use Rattle.blk_core.specs.declared.refusals.CoreFault.{CoreFault}
 use Rattle.blk_core.specs.State.{CoreState}

@@ -2,7 +2,7 @@
 use Rattle.std.proofs.Common.{◌≡◌, ℕ, zero, suc, ap, sym, subst, List, [], ◌∷◌, ◌++◌, Result, Ok, Err, Option, Some, None, IfOk, IfErr, OnErr}
 use Rattle.edd_commands.specs.declared.Command.{Command}
 use Rattle.blk_bio.specs.Bios.{Bio}
-use Rattle.blk_soft.specs.Queues.{Queue}
+use Rattle.blk_queues.specs.Queues.{Queue}
 use Rattle.blk_trace.specs.Happened.{Happened}
 use Rattle.blk_trace.specs.declared.event.Event.TheVariants.{Release, Join, Issue, Done, Back, Tick, Depth}
 use Rattle.blk_core.specs.declared.calls.Placed.{Placed}

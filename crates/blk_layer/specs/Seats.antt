@@ -4,7 +4,7 @@ use Rattle.edd_commands.specs.declared.Command.{Command}
 use Rattle.blk_bio.specs.Bios.{Bio}
 use Rattle.blk_tags.specs.Tags.{Set}
 use Rattle.blk_bio.specs.declared.limits.TheConstants.{MAX_SOFT_DEPTH}
-use Rattle.blk_hw.specs.Maps.{IsHwCount}
+use Rattle.blk_queues.specs.Maps.{IsHwCount}
 use Rattle.blk_layer.specs.declared.layer.TheConstants.{MAX_WORKERS}
 use Rattle.blk_layer.specs.declared.layer.LayerFault.{LayerFault}
 use Rattle.blk_layer.specs.declared.layer.LayerFault.TheVariants.{Queues, SoftDepth, Workers, WorkerQueue, Memory}

@@ -11,7 +11,7 @@ use crate::locked::{LockedCore, LockedQueue, empty_queues};
 use crate::seats::{Submitter, Worker, seat_submitters, seat_workers};
 use blk_bio::MAX_SOFT_DEPTH;
 use blk_core::Core;
-use blk_hw::Map;
+use blk_queues::Map;
 use blk_sched::Scheduler;
 use blk_tags::TagSet;
 use std::alloc::Allocator;

@@ -2,7 +2,7 @@
 
 ghost use Rattle.std.specs.Prelude.{◌≡◌, ◌≢◌, ◌<◌, ◌≤◌, ◌+◌, [], ◌↔◌, IsTrue, OnOk, OnErr, IfOk, IfErr, IfSome, IfNone, List, Some, length, slice_get};
 ghost use Rattle.blk_bio.specs.Bios.{Bio as Transfer};
-ghost use Rattle.blk_plug.specs.Plugs.{bios_plugged};
+ghost use Rattle.blk_queues.specs.Plugs.{bios_plugged};
 ghost use Rattle.blk_layer.specs.Seats.{AreOwn};
 ghost use Rattle.blk_layer.specs.Submitting.{Flushes, FlushesInto, QueueHasRoom, IsFirstForeign, IsLeft, IsFirstRoomReason, AreOfFirst, IsMoveAnswer, IsMoveAllAnswer};
 ghost use Rattle.blk_layer.specs.Inside.Submitting.{LosesFirst, GetsFirst, bios_of_both};
@@ -11,9 +11,8 @@ use crate::layer::{Layer, Named};
 use crate::seats::{Submitter, Worker};
 use blk_bio::{Bio, BioId, MAX_SOFT_DEPTH, Request};
 use blk_core::{Core, CoreFault};
-use blk_plug::Plug;
+use blk_queues::{MAX_BIOS, Plug, SoftQueue};
 use blk_sched::Scheduler;
-use blk_soft::{MAX_BIOS, SoftQueue};
 use std::alloc::Allocator;
 use std::sync::Wait;
 

@@ -6,7 +6,7 @@ use crate::given::bio;
 use blk_bio::Limits;
 use blk_layer::{Closed, Flushed, Layer, MAX_WORKERS, Named, Submitter, Worker};
 use blk_none::NoneSched;
-use blk_plug::{Added, Plug};
+use blk_queues::{Added, Plug};
 use blk_sched::Scheduler;
 use std::alloc::Global;
 use std::process::Abort;

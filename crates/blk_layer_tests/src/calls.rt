@@ -10,7 +10,7 @@ use blk_bio::{Bio, Limits};
 use blk_core::Core;
 use blk_layer::{Layer, Named, Submitter, Worker};
 use blk_none::NoneSched;
-use blk_plug::Plug;
+use blk_queues::Plug;
 use std::alloc::Global;
 use std::process::Abort;
 use std::sync::Wait;

@@ -7,11 +7,10 @@ use crate::given::{core, limits, setup};
 use crate::listed::{LayerCall, first_other};
 use blk_bio::{Bio, Limits};
 use blk_core::Core;
-use blk_hw::Map;
 use blk_layer::{
     CloseFault, CloseRefused, Closed, Layer, LayerFault, MAX_WORKERS, Named, Submitter, Worker,
 };
-use blk_plug::Plug;
+use blk_queues::{Map, Plug};
 use blk_sched::Scheduler;
 use std::alloc::{Allocator, Global};
 use std::marker::Brand;

@@ -38,8 +38,8 @@ mod seen;
 #[cfg(test)]
 mod served;
 #[cfg(test)]
+mod tags;
+#[cfg(test)]
 mod told;
 #[cfg(test)]
 mod worked;
-#[cfg(test)]
-mod tags;

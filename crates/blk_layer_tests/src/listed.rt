@@ -9,7 +9,7 @@ use blk_layer::{
     Device, DrainFault, FlushFault, FlushWhy, Flushed, Layer, LayerIssueFault, Named, Ran,
     Submitter, WorkFault, Worked, Worker,
 };
-use blk_plug::{Added, MAX_STAGED, Plug, PlugFault};
+use blk_queues::{Added, MAX_STAGED, Plug, PlugFault};
 use blk_sched::Scheduler;
 use edd_commands::Command;
 use std::alloc::Allocator;

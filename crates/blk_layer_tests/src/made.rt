@@ -4,9 +4,9 @@ ghost use Rattle.std.specs.Prelude.{◌≡◌, [], vec_len};
 
 use crate::given::{core, limits, setup};
 use blk_core::Core;
-use blk_hw::Map;
 use blk_layer::{Layer, LayerFault, MAX_WORKERS, Named};
 use blk_none::NoneSched;
+use blk_queues::Map;
 use std::alloc::Global;
 use std::marker::Brand;
 use std::process::Abort;

@@ -7,7 +7,7 @@ use blk_bio::BioId;
 use blk_core::CoreFault;
 use blk_layer::{DrainFault, Layer};
 use blk_none::NoneSched;
-use blk_soft::SoftQueue;
+use blk_queues::SoftQueue;
 use std::alloc::Global;
 use std::marker::Brand;
 use std::process::Abort;

@@ -6,13 +6,12 @@ use crate::asked::last;
 use crate::given::{bio, core, limits, setup};
 use blk_bio::Limits;
 use blk_core::{Core, CoreFault};
-use blk_hw::Map;
 use blk_layer::{
     CloseFault, CloseRefused, Device, DrainFault, Layer, LayerIssueFault, MAX_WORKERS, Named, Ran,
     Submitter, WorkFault, Worker,
 };
 use blk_none::NoneSched;
-use blk_plug::Plug;
+use blk_queues::{Map, Plug};
 use edd_commands::Command;
 use refusing::Refusing;
 use std::alloc::Global;

@@ -5,9 +5,9 @@ use Rattle.std.specs.Prelude.{All, Result, Ok, Err, IfErr}
 use Rattle.std.proofs.Math.Nat.{min-le_left}
 use Rattle.std.proofs.lemmas.Nat.{mod_below}
 use Rattle.std.proofs.lemmas.Option.{slice_get_within, get_or_from_slice_get}
-use Rattle.blk_hw.specs.Maps.{IsHwCount, IsMapFault}
-use Rattle.blk_hw.specs.declared.MapFault.{MapFault}
-use Rattle.blk_hw.specs.declared.MapFault.TheVariants.{Empty, TooMany, Unserved}
+use Rattle.blk_queues.specs.Maps.{IsHwCount, IsMapFault}
+use Rattle.blk_queues.specs.declared.hardware.MapFault.{MapFault}
+use Rattle.blk_queues.specs.declared.hardware.MapFault.TheVariants.{Empty, TooMany, Unserved}
 use Rattle.blk_layer.specs.Seats.{CanMake, IsLayerFault}
 use Rattle.blk_layer.specs.declared.layer.LayerFault.{LayerFault}
 use Rattle.blk_layer.specs.declared.layer.LayerFault.TheVariants as layer

@@ -1,7 +1,7 @@
 //! What a load is made of, by its numbers.
 
 ghost use Rattle.std.specs.Prelude.{◌≡◌};
-ghost use Rattle.blk_plug.specs.declared.plug.TheConstants.{MAX_STAGED};
+ghost use Rattle.blk_queues.specs.declared.plug.TheConstants.{MAX_STAGED};
 ghost use Rattle.blk_load.specs.declared.running.TheConstants.{LOAD_SOFT_DEPTH};
 ghost use Rattle.blk_load.specs.declared.submitting.TheConstants.{SECTORS, STRIDE};
 

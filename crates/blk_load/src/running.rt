@@ -1,7 +1,7 @@
 //! A load, from its threads' start to its account.
 
 ghost use Rattle.std.specs.Prelude.{◌≡◌, ◌≢◌, ◌<◌, ◌≤◌, [], All, IsPermutation, IfOk, OnOk, IfErr, Some, length, min, vec_len};
-ghost use Rattle.blk_hw.specs.Maps.{IsHwCount};
+ghost use Rattle.blk_queues.specs.Maps.{IsHwCount};
 ghost use Rattle.blk_layer.specs.Closing.{all_accepted};
 ghost use Rattle.blk_layer.specs.Seats.{CanMake};
 ghost use Rattle.blk_sched.specs.Meaning.{at_start};
@@ -18,10 +18,10 @@ use crate::serving::serve_all;
 use crate::site::Site;
 use crate::submitting::submit_all;
 use blk_core::Core;
-use blk_hw::Map;
 use blk_layer::{
     CloseFault, CloseRefused, Closed, Layer, LayerFault, MAX_WORKERS, Named, Submitter, Worker,
 };
+use blk_queues::Map;
 use blk_sched::Scheduler;
 use blk_settings::fault::first_of;
 use blk_settings::numbers::MAX_LOAD_WORKERS;

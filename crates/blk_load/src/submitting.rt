@@ -7,7 +7,7 @@ ghost use Rattle.blk_load.specs.Inside.Loads.{nth_bio};
 use crate::site::Site;
 use blk_bio::{Bio, BioId, Dir};
 use blk_layer::{FlushWhy, Named, Submitter};
-use blk_plug::{MAX_STAGED, Plug, PlugFault};
+use blk_queues::{MAX_STAGED, Plug, PlugFault};
 use blk_sched::Scheduler;
 use blk_settings::{Load, LoadFault};
 use std::alloc::Global;

@@ -8,7 +8,7 @@ use Rattle.blk_bio.specs.Requests.{dir_of}
 use Rattle.blk_sched.specs.Meaning.{Waiting, Pending, Meaning, Picks, joined_waiting}
 use Rattle.blk_sched.proofs.Maps.{one_test}
 use Rattle.blk_index.proofs.Indexed.{becomes_given, becomes_taken}
-use Rattle.blk_hw.specs.Requeued.{requeued_in}
+use Rattle.blk_queues.specs.Requeued.{requeued_in}
 use Rattle.blk_trace.specs.Happened.{Happened}
 use Rattle.blk_trace.specs.declared.event.Event.TheVariants.{Tick, Release, Join, Issue, Done, Depth}
 use Rattle.blk_trace.specs.Setups.{Setup, expire_of}

@@ -2,7 +2,7 @@
 use Rattle.std.proofs.Common.{◌≡◌, ◌++◌, ℕ, zero, suc, List, [], ◌∷◌, length, Option, Some, None, refl, sym, ◌∙◌, ap, subst, inl, inr, append_assoc, append-nil}
 use Rattle.edd_commands.specs.declared.Command.{Command}
 use Rattle.blk_bio.specs.Bios.{Bio}
-use Rattle.blk_soft.specs.Queues.{Queue}
+use Rattle.blk_queues.specs.Queues.{Queue}
 use Rattle.blk_trace.specs.Happened.{Happened}
 use Rattle.blk_trace.specs.Setups.{Setup}
 use Rattle.blk_trace.specs.Legal.{IsLegalTrace}

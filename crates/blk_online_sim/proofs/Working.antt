@@ -5,7 +5,7 @@ use Rattle.std.specs.FinMap as map
 use Rattle.edd_commands.specs.Schedule.{places_at}
 use Rattle.blk_bio.specs.Bios.{Bio}
 use Rattle.blk_sched.specs.Meaning.{Waiting, Meaning}
-use Rattle.blk_soft.specs.Queues.{Queue}
+use Rattle.blk_queues.specs.Queues.{Queue}
 use Rattle.blk_trace.specs.Happened.{Happened}
 use Rattle.blk_trace.specs.declared.event.Event.TheVariants.{Tick, Release, Join, Done, Depth}
 use Rattle.blk_trace.specs.Setups.{Setup}

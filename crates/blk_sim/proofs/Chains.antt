@@ -4,8 +4,8 @@ use Rattle.std.specs.Prelude.{sum_by}
 use Rattle.std.proofs.lemmas.List.{append-nil}
 use Rattle.std.proofs.lemmas.List.Sums.{sum_by-cons}
 use Rattle.blk_bio.specs.Bios.{Bio}
-use Rattle.blk_plug.specs.Plugs.{Plug}
-use Rattle.blk_soft.specs.Queues.{Queue}
+use Rattle.blk_queues.specs.Plugs.{Plug}
+use Rattle.blk_queues.specs.Queues.{Queue}
 use Rattle.blk_trace.specs.Events.{IsUsed}
 use Rattle.blk_core.specs.State.{CoreState}
 use Rattle.blk_core.specs.Faults.{IsInFlight}

@@ -12,12 +12,12 @@ use Rattle.blk_bio.specs.Bios.{Bio}
 use Rattle.blk_trace.specs.Setups.{Setup}
 use Rattle.blk_trace.specs.Happened.{Happened}
 use Rattle.blk_trace.specs.Events.{round_of}
-use Rattle.blk_plug.specs.Plugs.{Plug}
-use Rattle.blk_plug.specs.Answers.{IsAddAnswer}
-use Rattle.blk_plug.specs.declared.plug.Added.{Added}
-use Rattle.blk_plug.specs.declared.plug.Added.TheVariants.{New, Joined}
+use Rattle.blk_queues.specs.Plugs.{Plug}
+use Rattle.blk_queues.specs.Answers.{IsAddAnswer}
+use Rattle.blk_queues.specs.declared.plug.Added.{Added}
+use Rattle.blk_queues.specs.declared.plug.Added.TheVariants.{New, Joined}
 use Rattle.std.specs.Prelude.{Ok}
-use Rattle.blk_soft.specs.Queues.{Queue}
+use Rattle.blk_queues.specs.Queues.{Queue}
 use Rattle.blk_sched.specs.Meaning.{Meaning}
 use Rattle.blk_core.specs.State.{CoreState}
 use Rattle.blk_core.specs.Calls.{Completes, Issues, RequeuesTag, SetsDepth}

@@ -13,8 +13,8 @@ use Rattle.blk_bio.specs.Bios.{Bio}
 use Rattle.blk_bio.specs.Limits.{Limits}
 use Rattle.blk_trace.specs.Happened.{Happened}
 use Rattle.blk_trace.specs.Events.{entered}
-use Rattle.blk_plug.specs.Plugs.{Plug}
-use Rattle.blk_soft.specs.Queues.{Queue}
+use Rattle.blk_queues.specs.Plugs.{Plug}
+use Rattle.blk_queues.specs.Queues.{Queue}
 use Rattle.blk_text.specs.declared.script.Line.{Line}
 use Rattle.blk_text.specs.declared.script.Line.TheVariants as line
 use Rattle.blk_sim.specs.Simulation.{Where, Plugged, Staged, Released, moved, place_after, is_where, bio_at, bios_at, ticks_of}

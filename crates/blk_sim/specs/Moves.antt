@@ -2,10 +2,10 @@
 use Rattle.std.specs.Prelude.{[], ◌∷◌, ◌≡◌, ◌≢◌, ◌+◌, ◌≤◌, ◌%◌, ◌==◌, ◌++◌, ℕ, zero, suc, cond, List, Option, Some, None, Ok, length, slice_get, slice_set, flat_map, IsPermutation}
 use Rattle.std.specs.Option.{option_map}
 use Rattle.blk_bio.specs.Bios.{Bio}
-use Rattle.blk_plug.specs.Plugs.{Plug, bios_plugged}
-use Rattle.blk_plug.specs.Answers.{IsAddAnswer}
-use Rattle.blk_plug.specs.declared.plug.Added.{Added}
-use Rattle.blk_soft.specs.Queues.{Queue, bios_held}
+use Rattle.blk_queues.specs.Plugs.{Plug, bios_plugged}
+use Rattle.blk_queues.specs.Answers.{IsAddAnswer}
+use Rattle.blk_queues.specs.declared.plug.Added.{Added}
+use Rattle.blk_queues.specs.Queues.{Queue, bios_held}
 use Rattle.blk_core.specs.State.{CoreState}
 use Rattle.blk_core.specs.Calls.{Places}
 use Rattle.blk_core.specs.Faults.{CanRelease}

@@ -1,11 +1,11 @@
 -- Which step of a script is refused, and for what.
 use Rattle.std.specs.Prelude.{◌∷◌, ◌≡◌, ◌≢◌, ◌+◌, ◌<◌, ◌⊎◌, ◌++◌, ℕ, List, Option, Some, None, length, take, slice_get}
 use Rattle.blk_bio.specs.Bios.{Bio}
-use Rattle.blk_plug.specs.Plugs.{Plug}
-use Rattle.blk_plug.specs.Answers.{IsPlugFault}
-use Rattle.blk_plug.specs.declared.plug.PlugFault.{PlugFault}
-use Rattle.blk_plug.specs.declared.plug.PlugFault.TheVariants as plug
-use Rattle.blk_soft.specs.Queues.{Queue}
+use Rattle.blk_queues.specs.Plugs.{Plug}
+use Rattle.blk_queues.specs.Answers.{IsPlugFault}
+use Rattle.blk_queues.specs.declared.plug.PlugFault.{PlugFault}
+use Rattle.blk_queues.specs.declared.plug.PlugFault.TheVariants as plug
+use Rattle.blk_queues.specs.Queues.{Queue}
 use Rattle.blk_sched.specs.Meaning.{Meaning}
 use Rattle.blk_trace.specs.Depths.{depth_now}
 use Rattle.blk_core.specs.State.{CoreState}

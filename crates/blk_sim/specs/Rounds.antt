@@ -1,7 +1,7 @@
 -- What a round of a script's `run` does.
 use Rattle.std.specs.Prelude.{◌≡◌, ◌+◌, ◌<◌, ◌≤◌, ◌%◌, ◌⊎◌, ℕ, zero, suc, List, Option, Some, None}
 use Rattle.edd_commands.specs.declared.Command.{Command}
-use Rattle.blk_soft.specs.Queues.{Queue}
+use Rattle.blk_queues.specs.Queues.{Queue}
 use Rattle.blk_trace.specs.Depths.{depth_now}
 use Rattle.blk_trace.specs.Events.{IsUsed}
 use Rattle.blk_core.specs.State.{CoreState}

@@ -1,8 +1,8 @@
 -- What a simulation holds between two steps.
 use Rattle.std.specs.Prelude.{ℕ, List, [], None, replicate}
 use Rattle.blk_bio.specs.Limits.{Limits}
-use Rattle.blk_plug.specs.Plugs.{Plug}
-use Rattle.blk_soft.specs.Queues.{Queue}
+use Rattle.blk_queues.specs.Plugs.{Plug}
+use Rattle.blk_queues.specs.Queues.{Queue}
 use Rattle.blk_sched.specs.Meaning.{Meaning}
 use Rattle.blk_core.specs.State.{CoreState}
 use Rattle.blk_text.specs.Script.{Scripted}

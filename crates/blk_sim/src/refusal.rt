@@ -6,7 +6,7 @@ ghost use Rattle.blk_sim.specs.Refusals.{added_why, released_why, issued_why, ba
 
 use blk_bio::BioId;
 use blk_core::{BackFault, CoreFault, DepthFault, IssueFault, TickFault};
-use blk_plug::PlugFault;
+use blk_queues::PlugFault;
 use edd_commands::variant_name;
 
 /// A flush for which a software queue has no room, in requests.

@@ -1,7 +1,7 @@
 //! The rounds of a script's `run`.
 
 ghost use Rattle.std.specs.Prelude.{IsTrue, ◌↔◌, ◌≡◌, ◌≢◌, ◌≤◌, ◌<◌, ℕ, Some, slice_get, OnOk, OnErr, IfOk, IfErr, length};
-ghost use Rattle.blk_soft.specs.Queues.{Queue as QueueFields};
+ghost use Rattle.blk_queues.specs.Queues.{Queue as QueueFields};
 ghost use Rattle.blk_trace.specs.Events.{IsUsed};
 ghost use Rattle.blk_sim.specs.Moves.{DrainsAll};
 ghost use Rattle.blk_sim.specs.Rounds.{IssuesAll, CompleteInTurn, Works, Rounds};
@@ -13,8 +13,8 @@ use crate::refusal::SimWhy;
 use crate::steps::{done, drain, issue, tick};
 use blk_core::Core;
 use blk_core::laws::{listed_issues_are_open, open_picks_are_open_issues};
+use blk_queues::SoftQueue;
 use blk_sched::Scheduler;
-use blk_soft::SoftQueue;
 use edd_commands::MAX_DEPTH;
 
 /// Asks the hardware queues in turn for a command under a tag until one gives one, and says whether one did. The first that is

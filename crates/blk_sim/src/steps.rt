@@ -2,7 +2,7 @@
 
 ghost use Rattle.std.specs.Prelude.{◌≡◌, ◌+◌, ◌<◌, ◌≤◌, ℕ, Some, slice_get, OnOk, OnErr, IfOk, IfErr, length};
 ghost use Rattle.blk_bio.specs.Requests.{IsWithin};
-ghost use Rattle.blk_soft.specs.Queues.{Queue as QueueFields};
+ghost use Rattle.blk_queues.specs.Queues.{Queue as QueueFields};
 ghost use Rattle.blk_core.specs.Calls.{Completes, RequeuesTag, SetsDepth};
 ghost use Rattle.blk_core.specs.Faults.{IsInFlight, CanSetDepth};
 ghost use Rattle.blk_sim.specs.Moves.{AddsBio, EmptiesPlug, HasSoftRoom, flushed_plug, with_requests, bios_in, EntersCore, EnterInTurn, drained, Drains};
@@ -16,9 +16,8 @@ use crate::refusal::{
 };
 use blk_bio::{Bio, Request};
 use blk_core::Core;
-use blk_plug::Plug;
+use blk_queues::{MAX_BIOS, Plug, SoftQueue};
 use blk_sched::Scheduler;
-use blk_soft::{MAX_BIOS, SoftQueue};
 use blk_trace::MAX_EVENTS;
 use edd_commands::Command;
 use std::alloc::Allocator;

@@ -2,7 +2,7 @@
 use Rattle.std.specs.Prelude.{ℕ, List}
 use Rattle.blk_sched.specs.Meaning.{Waiting, Meaning}
 use Rattle.blk_sched.specs.Policies.{Policy}
-use Rattle.blk_hw.specs.Requeued.{requeued_in}
+use Rattle.blk_queues.specs.Requeued.{requeued_in}
 use Rattle.blk_core.specs.Calls.{SendsFrom}
 
 -- which request goes to the device for a hardware queue, by what a scheduler of a policy means and keeps, before and after

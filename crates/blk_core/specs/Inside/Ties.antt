@@ -12,7 +12,7 @@ use Rattle.blk_trace.specs.Inside.Seats.{RoundSeat, seat_at}
 use Rattle.blk_trace.specs.Waits.{released_count}
 use Rattle.blk_trace.specs.Setups.{same_dir}
 use Rattle.blk_sched.specs.Meaning.{Waiting, Meaning, ServesNothing, unfinished}
-use Rattle.blk_hw.specs.Requeued.{requeued_in}
+use Rattle.blk_queues.specs.Requeued.{requeued_in}
 use Rattle.blk_core.specs.declared.tags.TagState.{TagState}
 use Rattle.blk_core.specs.declared.tags.TagState.TheVariants.{Free, InFlight, Spent}
 use Rattle.blk_core.specs.State.{Flight, InFlightAs, HoldsWhatWaits}

@@ -6,7 +6,7 @@ use Rattle.blk_bio.specs.declared.bio.BioId.{BioId}
 use Rattle.blk_trace.specs.Setups.{Setup}
 use Rattle.blk_trace.specs.Events.{AreOnce}
 use Rattle.blk_trace.specs.Inside.Kept.{has_bio_id}
-use Rattle.blk_hw.specs.Maps.{IsHwCount}
+use Rattle.blk_queues.specs.Maps.{IsHwCount}
 use Rattle.blk_tags.specs.Tags.{Seat}
 use Rattle.blk_tags.specs.Inside.{Marks}
 

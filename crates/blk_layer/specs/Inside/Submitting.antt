@@ -1,8 +1,8 @@
 -- How the first request of a plug gets into a software queue.
 use Rattle.std.specs.Prelude.{ℕ, ◌≡◌, ◌+◌, ⊤, length, List, Some, slice_get, ◌∷◌}
 use Rattle.blk_bio.specs.Bios.{Bio}
-use Rattle.blk_plug.specs.Plugs.{Plug, bios_plugged}
-use Rattle.blk_soft.specs.Queues.{Queue, with_last}
+use Rattle.blk_queues.specs.Plugs.{Plug, bios_plugged}
+use Rattle.blk_queues.specs.Queues.{Queue, with_last}
 use Rattle.blk_layer.specs.declared.submitting.FlushWhy.{FlushWhy}
 use Rattle.blk_layer.specs.declared.submitting.FlushWhy.TheVariants.{Foreign, Repeated, SoftFull, Memory}
 

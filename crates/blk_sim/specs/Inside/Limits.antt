@@ -1,7 +1,7 @@
 -- Limits of plugs and software queues.
 use Rattle.std.specs.Prelude.{◌≡◌, ℕ, List, Some, slice_get}
-use Rattle.blk_plug.specs.Plugs.{Plug}
-use Rattle.blk_soft.specs.Queues.{Queue}
+use Rattle.blk_queues.specs.Plugs.{Plug}
+use Rattle.blk_queues.specs.Queues.{Queue}
 
 -- each submitter's plug has the limits of its software queue
 abbrev pub ShareLimits : List Plug → List Queue → Type 0

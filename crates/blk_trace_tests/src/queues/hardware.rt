@@ -2,7 +2,7 @@
 
 use crate::queues::given::{Heap, bio, request};
 use blk_bio::Dir;
-use blk_hw::{Map, MapFault, RequeueList, RequeueLists};
+use blk_queues::{Map, MapFault, RequeueList, RequeueLists};
 use blk_sched::Queued;
 use refusing::Refusing;
 use std::alloc::Global;

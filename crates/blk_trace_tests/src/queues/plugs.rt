@@ -2,7 +2,7 @@
 
 use crate::queues::given::{Heap, bio, limits};
 use blk_bio::{Dir, Side};
-use blk_plug::{Added, Plug, PlugFault};
+use blk_queues::{Added, Plug, PlugFault};
 use refusing::Refusing;
 use std::alloc::Global;
 use std::process::Abort;

@@ -2,7 +2,7 @@
 
 use crate::queues::given::{Heap, bio, limits, request};
 use blk_bio::{Dir, Request};
-use blk_soft::SoftQueue;
+use blk_queues::SoftQueue;
 use refusing::Refusing;
 use std::process::Abort;
 

@@ -1,6 +1,6 @@
 use Rattle.std.proofs.Common.{◌≡◌, ◌<◌, ◌≤◌, ◌⊎◌, rules, arith, subst, inl, inr, length}
 use Rattle.blk_bio.specs.declared.limits.TheConstants.{MAX_SOFT_DEPTH}
-use Rattle.blk_hw.specs.Maps.{IsHwCount}
+use Rattle.blk_queues.specs.Maps.{IsHwCount}
 use Rattle.blk_layer.specs.declared.layer.TheConstants.{MAX_WORKERS}
 use Rattle.blk_layer.proofs.Counted.{one_count}
 use Rattle.blk_layer.proofs.layer.layer_fault.Goals as goal

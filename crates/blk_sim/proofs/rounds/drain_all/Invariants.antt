@@ -1,6 +1,6 @@
 use Rattle.std.proofs.Common.{◌≡◌, ℕ, length}
 use Rattle.std.specs.Prelude.{slice_get, Some}
-use Rattle.blk_soft.specs.Queues.{Queue}
+use Rattle.blk_queues.specs.Queues.{Queue}
 use Rattle.blk_sim.specs.Moves.{DrainInTurn}
 use Rattle.blk_sim.proofs.rounds.drain_all.Given as goal
 

@@ -1,6 +1,6 @@
 use Rattle.std.proofs.Common.{◌≡◌, ◌∙◌, ◌++◌, ◌∷◌, [], List, replicate, ap}
 use Rattle.std.proofs.lemmas.List.{replicate_more}
-use Rattle.blk_plug.specs.Plugs.{Plug}
+use Rattle.blk_queues.specs.Plugs.{Plug}
 use Rattle.blk_sim.proofs.simulation.new_plugs.Goals as goal
 
 pub loop-preserved : goal.loop-preserved

@@ -1,5 +1,5 @@
 use Rattle.std.proofs.Common.{◌≡◌, [], replicate}
-use Rattle.blk_plug.specs.Plugs.{Plug}
+use Rattle.blk_queues.specs.Plugs.{Plug}
 use Rattle.blk_sim.proofs.simulation.new_plugs.Given as goal
 
 abbrev pub invariant-loop : goal.invariant-loop

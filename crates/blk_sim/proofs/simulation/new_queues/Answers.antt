@@ -1,6 +1,6 @@
 use Rattle.std.proofs.Common.{◌≡◌, ◌∙◌, ◌++◌, ◌∷◌, [], List, replicate, ap}
 use Rattle.std.proofs.lemmas.List.{replicate_more}
-use Rattle.blk_soft.specs.Queues.{Queue}
+use Rattle.blk_queues.specs.Queues.{Queue}
 use Rattle.blk_sim.proofs.simulation.new_queues.Goals as goal
 
 pub loop-preserved : goal.loop-preserved

@@ -1,5 +1,5 @@
 use Rattle.std.proofs.Common.{◌≡◌, [], replicate}
-use Rattle.blk_soft.specs.Queues.{Queue}
+use Rattle.blk_queues.specs.Queues.{Queue}
 use Rattle.blk_sim.proofs.simulation.new_queues.Given as goal
 
 abbrev pub invariant-loop : goal.invariant-loop

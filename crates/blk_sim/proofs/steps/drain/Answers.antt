@@ -7,7 +7,7 @@ use Rattle.std.proofs.lemmas.Option.{slice_get_read}
 use Rattle.std.proofs.lemmas.Bool.{cases_eq, cases_lt}
 use Rattle.std.proofs.lemmas.List.{length-set}
 use Rattle.blk_trace.specs.Setups.{Setup}
-use Rattle.blk_soft.specs.Queues.{Queue}
+use Rattle.blk_queues.specs.Queues.{Queue}
 use Rattle.blk_sim.specs.Moves.{EnterInTurn, served_requests, drained}
 use Rattle.blk_sim.proofs.Chains.{enter_none}
 use Rattle.blk_sim.proofs.Events.{chain_took}

@@ -1,6 +1,6 @@
 use Rattle.std.proofs.Common.{arith, ◌≡◌, ◌+◌, ◌≤◌, ◌∙◌, ◌++◌, ◌∷◌, [], length, sym, ap, inl, append_assoc, length-append}
-use Rattle.blk_plug.specs.Plugs.{Plug}
-use Rattle.blk_soft.specs.Queues.{Queue}
+use Rattle.blk_queues.specs.Plugs.{Plug}
+use Rattle.blk_queues.specs.Queues.{Queue}
 use Rattle.blk_sim.proofs.Chains.{plug_flushed, queue_with}
 use Rattle.blk_sim.proofs.Holding.{counted_more, put_room}
 use Rattle.blk_sim.proofs.steps.flush_plug.Goals as goal

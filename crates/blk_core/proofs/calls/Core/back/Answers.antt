@@ -3,7 +3,7 @@ use Rattle.std.proofs.lemmas.List.{map-set}
 use Rattle.blk_bio.specs.declared.bio.Dir.{Dir}
 use Rattle.blk_bio.specs.Requests.{dir_of}
 use Rattle.blk_sched.specs.Meaning.{Waiting, Meaning, RequeuesPick, open_of}
-use Rattle.blk_hw.specs.Requeued.{requeued_in}
+use Rattle.blk_queues.specs.Requeued.{requeued_in}
 use Rattle.blk_core.specs.declared.tags.TagState.{TagState}
 use Rattle.blk_core.specs.declared.tags.TagState.TheVariants.{Free, InFlight, Spent}
 use Rattle.blk_core.specs.Inside.Ties.{flight_of, queue_of, IsTied}

@@ -1,7 +1,7 @@
 use Rattle.std.proofs.Common.{◌≡◌, ◌∙◌, sym, ap, subst, arith, length, length-append, ◌++◌, ◌∷◌, [], Some}
 use Rattle.std.specs.Prelude.{slice_get}
 use Rattle.std.specs.Option.{option_copied}
-use Rattle.blk_soft.specs.Queues.{Queue}
+use Rattle.blk_queues.specs.Queues.{Queue}
 use Rattle.blk_layer.specs.Submitting.{AreOfFirst}
 use Rattle.blk_layer.proofs.Copied.{one_more}
 use Rattle.blk_layer.proofs.layer.Layer.copy_ahead.Goals as goal

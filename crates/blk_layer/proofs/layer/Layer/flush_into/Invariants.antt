@@ -1,5 +1,5 @@
 use Rattle.std.proofs.Common.{◌≡◌, ◌+◌, length}
-use Rattle.blk_plug.specs.Plugs.{bios_plugged}
+use Rattle.blk_queues.specs.Plugs.{bios_plugged}
 use Rattle.blk_layer.specs.Submitting.{FlushesInto}
 use Rattle.blk_layer.proofs.layer.Layer.flush_into.Given as goal
 

@@ -1,2 +1,0 @@
-pub mod Plugs
-pub mod Answers

@@ -1,0 +1,4 @@
+pub mod Joining
+pub mod Slices
+pub mod Counts
+pub mod Counting

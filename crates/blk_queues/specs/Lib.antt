@@ -1,0 +1,6 @@
+pub mod Plugs
+pub mod Answers
+pub mod Queues
+pub mod Maps
+pub mod Requeued
+pub mod Inside
