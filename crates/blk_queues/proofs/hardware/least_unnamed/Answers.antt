@@ -1,6 +1,6 @@
 use Rattle.std.proofs.Common.{rules, ◌≡◌, true}
 use borrow.Author.Count.{below_more}
-use Rattle.blk_queues.proofs.least_unnamed.Goals as goal
+use Rattle.blk_queues.proofs.hardware.least_unnamed.Goals as goal
 
 pub loop-hw-preserved : goal.loop-hw-preserved
 loop-hw-preserved c =

@@ -1,6 +1,6 @@
 use Rattle.std.proofs.Common.{subst}
 use Rattle.blk_queues.specs.Maps.{IsHwCount}
-use Rattle.blk_queues.proofs.Map.hw_count.Goals as goal
+use Rattle.blk_queues.proofs.hardware.Map.hw_count.Goals as goal
 
 pub returns-clause-value : goal.returns-clause-value
 returns-clause-value g c =

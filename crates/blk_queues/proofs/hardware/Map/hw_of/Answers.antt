@@ -1,5 +1,5 @@
 use Rattle.std.proofs.Common.{◌≡◌, subst, sym, slice_index_or}
-use Rattle.blk_queues.proofs.Map.hw_of.Goals as goal
+use Rattle.blk_queues.proofs.hardware.Map.hw_of.Goals as goal
 
 pub returns-clause-below : goal.returns-clause-below
 returns-clause-below g c =

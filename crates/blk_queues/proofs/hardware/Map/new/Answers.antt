@@ -2,7 +2,7 @@ use Rattle.std.proofs.Common.{arith, rules, ◌<◌, ◌≤◌, length, refl}
 use Rattle.std.proofs.lemmas.Grind.{common_steps}
 use Rattle.blk_bio.specs.declared.limits.TheConstants.{MAX_SOFT_QUEUES}
 use Rattle.blk_queues.proofs.Counting.{made, unserved}
-use Rattle.blk_queues.proofs.Map.new.Goals as goal
+use Rattle.blk_queues.proofs.hardware.Map.new.Goals as goal
 
 pub returns-then-names_above-2-clause-answer : goal.returns-then-names_above-2-clause-answer
 returns-then-names_above-2-clause-answer g c =

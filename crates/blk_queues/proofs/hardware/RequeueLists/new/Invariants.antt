@@ -1,5 +1,5 @@
 use Rattle.std.proofs.Common.{◌≡◌, [], replicate}
-use Rattle.blk_queues.proofs.RequeueLists.new.Given as goal
+use Rattle.blk_queues.proofs.hardware.RequeueLists.new.Given as goal
 
 abbrev pub invariant-loop : goal.invariant-loop
 invariant-loop g l = l.lists.items ≡ replicate l.counter []

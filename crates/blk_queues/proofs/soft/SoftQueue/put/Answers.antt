@@ -1,7 +1,7 @@
 use Rattle.std.proofs.Common.{arith, ◌+◌, ◌<◌, ◌≤◌, ◌^◌, length, ap, subst, ◌∙◌, sym}
 use Rattle.blk_bio.specs.Requests.{IsWithin}
 use Rattle.blk_queues.proofs.Counts.{keep_all, put_kept}
-use Rattle.blk_queues.proofs.SoftQueue.put.Goals as goal
+use Rattle.blk_queues.proofs.soft.SoftQueue.put.Goals as goal
 
 pub invariant_of-self : goal.invariant_of-self
 invariant_of-self g c =

@@ -1,6 +1,6 @@
 use Rattle.std.proofs.Common.{ap}
 use Rattle.blk_queues.proofs.Counts.{taken_kept}
-use Rattle.blk_queues.proofs.SoftQueue.take_first.Goals as goal
+use Rattle.blk_queues.proofs.soft.SoftQueue.take_first.Goals as goal
 
 pub invariant_of-self-2 : goal.invariant_of-self-2
 invariant_of-self-2 g c =
