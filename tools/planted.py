@@ -1,5 +1,5 @@
 #!/usr/bin/env python3
-"""Plants wrong bodies that no clause refuses, one after the other, and looks that the tests fail over each that have to.
+"""Plants wrong bodies that no clause refuses, and looks that the tests fail over each that have to.
 
     tools/planted.py            every edit of a planted/
     tools/planted.py NAME..     those alone, by their names without .edit, or by the crates that they stand in
@@ -13,16 +13,19 @@ An edit is a file crates/CRATE/planted/NAME.edit with these lines, beside others
     fails: TEST..   the tests of the crate in whose folder it stands that have to fail
     loads: NAME..   in place of fails, the loads of tools/loads.py that have to fail: for what only the program shows
 
-The tests and the program run as Rattle's own compiler builds them, without a proof, on a copy of the repository. Prints a line for each edit, and as
-the last line 'N passed, M failed'. Ends with 0 where none failed, 1 where one did, 2 where a word names none, and 3 where rt isn't there.
+The tests and the program run as Rattle's own compiler builds them, without a proof, on copies of the repository: as many edits at once as there are
+processors, each with three gigabytes of free memory. Prints a line for each edit, and as the last line 'N passed, M failed'. Ends with 0 where none failed, 1 where one did, 2 where a word names none, and 3 where rt isn't there.
 """
 import argparse
+import os
+import queue
 import re
 import shutil
 import signal
 import subprocess
 import sys
 import tempfile
+from concurrent import futures
 from pathlib import Path
 
 sys.dont_write_bytecode = True
@@ -113,21 +116,42 @@ def chosen(words):
     return picked if words else every
 
 
+def at_once():
+    """How many edits are tried at once: a processor and three gigabytes of free memory for each."""
+    free = re.search(r"(?m)^MemAvailable: +(\d+)", Path("/proc/meminfo").read_text(encoding="ascii"))
+    return max(1, min(os.cpu_count() or 1, int(free[1]) // 3_000_000 if free else 1))
+
+
+def copied(top):
+    """A copy of the repository's crates there."""
+    shutil.copytree(TOP / "crates", top / "crates", ignore=shutil.ignore_patterns("out"))
+    for name in ("crates.txt", "HANDLES"):
+        shutil.copyfile(TOP / name, top / name)
+    return top
+
+
 def plant_all(picked):
-    """Plants edits one after the other, says what came of each, and how many passed and failed."""
+    """Plants edits, says what came of each, in their order, and how many passed and failed."""
     failed = 0
     with tempfile.TemporaryDirectory(prefix="blk-planted-") as scratch:
-        top = Path(scratch) / "copy"
-        shutil.copytree(TOP / "crates", top / "crates", ignore=shutil.ignore_patterns("out"))
-        for name in ("crates.txt", "HANDLES"):
-            shutil.copyfile(TOP / name, top / name)
-        for path in picked:
+        tops = queue.SimpleQueue()
+        lanes = min(at_once(), len(picked) or 1)
+        for lane in range(lanes):
+            tops.put(copied(Path(scratch) / f"copy{lane}"))
+
+        def told(path):
+            top = tops.get()
             try:
-                told = judge(top, path)
+                return judge(top, path)
             except Fault as fault:
-                told = str(fault)
-            failed += told != ""
-            print(f"planted {path.stem}: {told or 'the tests fail over it, as they must'}", flush=True)
+                return str(fault)
+            finally:
+                tops.put(top)
+
+        with futures.ThreadPoolExecutor(lanes) as pool:
+            for path, said in zip(picked, pool.map(told, picked)):
+                failed += said != ""
+                print(f"planted {path.stem}: {said or 'the tests fail over it, as they must'}", flush=True)
     print(f"{len(picked) - failed} passed, {failed} failed", flush=True)
     return failed
 
