@@ -2,6 +2,7 @@
 
 ghost use Rattle.std.specs.Prelude.{◌≡◌, ◌++◌, IfOk, IfErr};
 ghost use Rattle.blk_explain.specs.Findings.{rows_of};
+ghost use Rattle.blk_text.specs.Script.{IsScript, SpellsScript, scripted};
 ghost use Rattle.blk_cli.specs.Said.{said_of};
 ghost use Rattle.blk_cli.specs.Explaining.{text_kind, names_line, repeated_line, takers_line, IsScriptRun, IsStepIn, IsToldRefused, AreRowsExplained, IsPrintedExplained, IsTextExplained, IsUnexplained};
 
@@ -15,7 +16,7 @@ use blk_runs::{RunFault, traced};
 use blk_settings::setting::MAX_SETTINGS;
 use blk_settings::{Sched, SchedKind};
 use blk_sim::{SimFault, SimWhy};
-use blk_text::{read_script, read_trace};
+use blk_text::{Script, read_script, read_trace};
 use blk_words::{TextKind, takers_text};
 use edd_commands::Capacity;
 use edd_oracle::{OracleFault, solve};
@@ -185,13 +186,22 @@ fn state_of(why: SimWhy) -> StepState {
     }
 }
 
+/// The script that these bytes spell.
+fn script_in(alloc: Global, bytes: &[u8]) -> Result<Script, AllocError>
+    ensures spells { IfOk result (λ script. SpellsScript (rows_of bytes.now) (scripted script)) }
+    ensures in_range { IfOk result (λ script. IsScript (scripted script)) }
+{
+    match read_script(alloc, &mut Records::new(alloc, bytes)) {
+        Ok(script) => Ok(script),
+        Err(_) => Err(AllocError),
+    }
+}
+
 /// The step of a script that a run under the scheduler `none` refuses, if it refuses one.
 fn refused_in(alloc: Global, bytes: &[u8]) -> Result<Option<SimFault>, AllocError>
     ensures { IfOk result (IsScriptRun (rows_of bytes.now)) }
 {
-    let Ok(script) = read_script(alloc, &mut Records::new(alloc, bytes)) else {
-        return Err(AllocError);
-    };
+    let script = script_in(alloc, bytes)?;
     let none = Sched {
         kind: SchedKind::None,
         values: [0; MAX_SETTINGS],

@@ -6,7 +6,7 @@ ghost use Rattle.blk_capture.specs.Requests.{AreInOrder, AreTimed};
 ghost use Rattle.blk_cli.specs.Said.{said_of};
 ghost use Rattle.blk_settings.specs.Made.{IsUnmade};
 ghost use Rattle.blk_replayed.specs.Replays.{AreUnreplayed};
-ghost use Rattle.blk_replayed.specs.Text.{wanted_of, IsReplaysText};
+ghost use Rattle.blk_replayed.specs.Text.{IsReplaysText};
 ghost use Rattle.blk_cli.specs.Importing.{IsTakenOf, IsNoteBeside, IsUnshown, IsNotReplayed, IsReplayedOf, IsUnreplayedOf, each_wanted, IsGridText, IsGridUnreplayed, IsOneReplayText};
 
 use crate::Answered;
@@ -21,36 +21,30 @@ use std::alloc::Global;
 use std::thread::Threads;
 use turns::Progress;
 
-/// What is written of replays, as it is asked.
-fn text_of<T: Threads + Sync, P: Progress>(
+/// What is written of replays under each scheduler: one after the other, so that memory is that of one.
+fn each_text<T: Threads + Sync, P: Progress>(
     rt: &T,
     alloc: Global,
-    asked: &ReplaysAsked<'_>,
+    replaying: &Replaying,
     requests: &[CapturedRequest],
     progress: &mut P,
 ) -> Result<Vec<u8>, Failure>
     requires timed { AreTimed requests.now }
     requires few { length requests.now ≤ MAX_COMMANDS }
-    ensures text { IfOk result (λ text. IsReplaysText (wanted_of asked.now) requests.now text.items) }
-    ensures fails { IfErr result (IsNotReplayed (AreUnreplayed asked.now.plans.now)) }
+    ensures text { IfOk result (λ text. IsReplaysText (each_wanted replaying.now) requests.now text.items) }
+    ensures fails { IfErr result (IsNotReplayed (AreUnreplayed replaying.now.plans)) }
 {
-    match replays_text(rt, alloc, asked, requests, progress) {
-        Ok(text) => Ok(text),
-        Err(fault) => Err(Failure::Sched(fault)),
-    }
-}
-
-/// What is asked of replays under each scheduler: one after the other, so that memory is that of one.
-fn each_asked(replaying: &Replaying) -> ReplaysAsked<'_>
-    ensures { wanted_of result ≡ each_wanted replaying.now }
-{
-    ReplaysAsked {
+    let asked = ReplaysAsked {
         plans: replaying.plans.as_slice(),
         by: replaying.by,
         top: replaying.top,
         expiries: false,
         threads: Some(1),
         form: replaying.form,
+    };
+    match replays_text(rt, alloc, &asked, requests, progress) {
+        Ok(text) => Ok(text),
+        Err(fault) => Err(Failure::Sched(fault)),
     }
 }
 
@@ -80,9 +74,9 @@ fn grid_text<T: Threads + Sync, P: Progress>(
         threads: grid.threads,
         form: grid.form,
     };
-    match text_of(rt, alloc, &asked, requests, progress) {
+    match replays_text(rt, alloc, &asked, requests, progress) {
         Ok(text) => Ok(text),
-        Err(failure) => Err(failure),
+        Err(fault) => Err(Failure::Sched(fault)),
     }
 }
 
@@ -165,8 +159,7 @@ pub fn replayed<T: Threads + Sync, P: Progress>(
         Ok(matched) => matched,
         Err(failure) => return Err(failure),
     };
-    let asked = each_asked(&replaying);
-    let text = match text_of(rt, alloc, &asked, matched.requests.as_slice(), progress) {
+    let text = match each_text(rt, alloc, &replaying, matched.requests.as_slice(), progress) {
         Ok(text) => text,
         Err(failure) => return Err(failure),
     };
