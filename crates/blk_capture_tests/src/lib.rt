@@ -2,6 +2,8 @@
 #![tactic(auto)]
 
 #[cfg(test)]
+mod arrivals;
+#[cfg(test)]
 mod counting;
 #[cfg(test)]
 mod given;
@@ -11,12 +13,10 @@ mod matching;
 mod numbers;
 #[cfg(test)]
 mod refusals;
+pub mod replay;
 #[cfg(test)]
 mod running;
 #[cfg(test)]
 mod tallies;
 #[cfg(test)]
 mod text;
-#[cfg(test)]
-mod arrivals;
-pub mod replay;

@@ -1,15 +1,12 @@
 //! A capture in numbers, as text.
 
 ghost use Rattle.std.specs.Prelude.{◌≡◌, ◌++◌, [], IfOk, IfErr, OnOk, count_by};
-ghost use Rattle.std.specs.Io.KnownBytes.{Appends};
-ghost use Rattle.drafts.specs.Parts.{AppendsPart};
 ghost use Rattle.blk_capture.specs.Fates.{is_unmatched, is_passed, is_of_kind};
 ghost use Rattle.blk_capture_text.specs.SummaryText.{counts_of, one_counted, counts_with, number_line, percentiles_line, figure_text, number_lines, phase_lines, count_lines, summary_lines, notice_line};
 
 use blk_capture::{Fate, PassReason, Percentiles, Summary, count_passed};
-use drafts::{Draft, WriteFault, write_whole};
+use drafts::Draft;
 use std::alloc::{AllocError, Global};
-use std::io::Write;
 
 /// How many records of a capture were not matched, and how many passed over, by the reason.
 #[derive(Clone, Copy, Debug, PartialEq, Eq)]
@@ -241,7 +238,10 @@ fn push_counts(draft: &mut Draft, left_out: u64, counts: &UnusedCounts) -> Resul
     push_number_line(draft, b"past-end", counts.past_end)
 }
 
-/// The lines of a summary.
+/// A summary as lines of a word, a space and a number: `records`, `bios`, `requests`, `merges`, `late-reads`, `late-writes`; then
+/// `q-to-g`, `i-to-d` and `d-to-c` with the median, the 99th of a hundred and the greatest of these times in nanoseconds, or three
+/// times `none`; `in-flight`; `left-out`, requests that were opened and are not taken; and of records `unmatched`, and what was
+/// passed over: `plugs`, `unplugs`, `actions`, `discards`, `erases`, `flushes`, `others`, `empty`, `past-end`.
 pub(crate) fn summary_text(
     alloc: Global,
     summary: &Summary,
@@ -255,32 +255,6 @@ pub(crate) fn summary_text(
     push_phases(&mut draft, summary)?;
     push_counts(&mut draft, left_out, counts)?;
     draft.finish()
-}
-
-/// Writes a summary once the whole text is built: lines of a word, a space and a number, `records`, `bios`, `requests`, `merges`,
-/// `late-reads`, `late-writes`; then `q-to-g`, `i-to-d` and `d-to-c` with the median, the 99th of a hundred and the greatest of
-/// these times in nanoseconds, or three times `none`; `in-flight`; `left-out`, requests that were opened and are not taken; and
-/// of records `unmatched`, and what was passed over: `plugs`, `unplugs`, `actions`, `discards`, `erases`, `flushes`, `others`,
-/// `empty`, `past-end`.
-///
-/// [`WriteFault::Write`]: the writer answered a fault, and a prefix of the text, of unknown length, may be out.
-/// [`WriteFault::Memory`]: nothing was handed to the writer.
-pub fn write_summary<W: Write>(
-    alloc: Global,
-    summary: &Summary,
-    left_out: u64,
-    counts: &UnusedCounts,
-    writer: &mut W,
-) -> Result<(), WriteFault>
-    ensures ok { OnOk result (Appends (W.contents writer.old) (W.contents writer.new) (summary_lines summary.now left_out counts.now)) }
-    ensures memory { IfErr result (λ f. f ≡ WriteFault.Memory → writer.new ≡ writer.old) }
-    // whatever the answer
-    ensures part { AppendsPart (W.contents writer.old) (W.contents writer.new) (summary_lines summary.now left_out counts.now) }
-{
-    let Ok(text) = summary_text(alloc, summary, left_out, counts) else {
-        return Err(WriteFault::Memory);
-    };
-    write_whole(writer, text.as_slice())
 }
 
 /// The line that says how many records were passed over and how many not matched.

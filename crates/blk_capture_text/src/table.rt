@@ -2,15 +2,12 @@
 
 ghost use Rattle.std.specs.Prelude.{◌≡◌, ◌++◌, IfOk, IfErr, OnOk};
 ghost use Rattle.std.specs.List.{flat_map};
-ghost use Rattle.std.specs.Io.KnownBytes.{Appends};
-ghost use Rattle.drafts.specs.Parts.{AppendsPart};
 ghost use Rattle.blk_capture_text.specs.TableText.{known_text, range_fields, time_fields, row_line, table_lines};
 ghost use Rattle.drafts.specs.Drafts.{next_field};
 
 use blk_capture::RequestRow;
-use drafts::{Draft, WriteFault, write_whole};
+use drafts::Draft;
 use std::alloc::{AllocError, Global};
-use std::io::Write;
 
 /// Adds one more field, of a number that may not be known.
 fn push_known(draft: &mut Draft, number: Option<u64>) -> Result<(), AllocError>
@@ -64,7 +61,9 @@ fn push_rows(draft: &mut Draft, rows: &[RequestRow]) -> Result<(), AllocError>
     Ok(())
 }
 
-/// The head line and the lines of the requests, as [`write_table`] writes them. Fails only when out of memory.
+/// Requests as records of comma-separated fields: the head line
+/// `id,dir,first,sectors,bios,pid,queued,inserted,dispatched,completed,due`, and a line for each, in their order. The direction
+/// is `R` or `W`, times are in nanoseconds, and one that isn't known is empty. Fails only when out of memory.
 pub fn table_text(alloc: Global, rows: &[RequestRow]) -> Result<Vec<u8>, AllocError>
     ensures { IfOk result (λ v. v.items ≡ table_lines rows.now) }
 {
@@ -72,26 +71,4 @@ pub fn table_text(alloc: Global, rows: &[RequestRow]) -> Result<Vec<u8>, AllocEr
     draft.text(b"id,dir,first,sectors,bios,pid,queued,inserted,dispatched,completed,due\n")?;
     push_rows(&mut draft, rows)?;
     draft.finish()
-}
-
-/// Writes requests as records of comma-separated fields once the whole text is built: the head line
-/// `id,dir,first,sectors,bios,pid,queued,inserted,dispatched,completed,due`, and a line for each, in their order. The direction
-/// is `R` or `W`, times are in nanoseconds, and one that isn't known is empty.
-///
-/// [`WriteFault::Write`]: the writer answered a fault, and a prefix of the text, of unknown length, may be out.
-/// [`WriteFault::Memory`]: nothing was handed to the writer.
-pub fn write_table<W: Write>(
-    alloc: Global,
-    rows: &[RequestRow],
-    writer: &mut W,
-) -> Result<(), WriteFault>
-    ensures ok { OnOk result (Appends (W.contents writer.old) (W.contents writer.new) (table_lines rows.now)) }
-    ensures memory { IfErr result (λ f. f ≡ WriteFault.Memory → writer.new ≡ writer.old) }
-    // whatever the answer
-    ensures part { AppendsPart (W.contents writer.old) (W.contents writer.new) (table_lines rows.now) }
-{
-    let Ok(text) = table_text(alloc, rows) else {
-        return Err(WriteFault::Memory);
-    };
-    write_whole(writer, text.as_slice())
 }

@@ -3,7 +3,6 @@
 ghost use Rattle.std.specs.Prelude.{◌≡◌, ◌+◌, ◌++◌, ◌≤◌, ◌<◌, ◌-◌, ◌∷◌, [], IfOk, IfErr, IfSome, OnOk, map, length, codes, None, Some, IsTrue, ◌↔◌};
 ghost use Rattle.std.specs.Fmt.{signed_decimal};
 ghost use Rattle.std.specs.List.{zip};
-ghost use Rattle.std.specs.Io.KnownBytes.{Appends};
 ghost use Rattle.csv.specs.Records.{fields_of};
 ghost use Rattle.blk_lists.specs.Reads.{FaultsBy, IsRowOf, IsWrongRecord, ReadsAll, Halts, Reaches};
 ghost use Rattle.blk_lists.specs.Tables.{IsUpTo, FitsCells, row_by, slots_by};
@@ -11,7 +10,6 @@ ghost use Rattle.blk_lists.specs.Fields.{IsSized, FieldsSpell};
 ghost use Rattle.blk_lists.specs.declared.fields.Slot.TheVariants as slot;
 ghost use Rattle.blk_lists.specs.Words.{StartsWith};
 ghost use Rattle.blk_lists.specs.Texts.{rows_text, AddsRows};
-ghost use Rattle.drafts.specs.Parts.{AppendsPart};
 ghost use Rattle.drafts.specs.Drafts.{drafted};
 ghost use Rattle.blk_lists.specs.Titles.{IsCounted, IsTitleOf};
 ghost use Rattle.blk_lists.specs.Certificate.{claimed, claim_form, IsClaim, SpellsClaim, ClaimFault, claim_rows, claim_body, claim_told, bound as bound_part, bound_cells, no_bound_row, served_cells};
@@ -29,13 +27,13 @@ use crate::source::Records;
 use crate::titles::{COUNTED, COUNTED_NAMES, TitleRow, read_title};
 use crate::writing::push_numbers;
 use csv::ByteRecord;
+use drafts::Block;
 use drafts::pieces::{put, put_two};
-use drafts::{Block, WriteFault, write_whole};
 use edd_check::Window;
 use edd_commands::{Command, MAX_COMMANDS, MAX_ROUNDS};
 use parts::Repeats;
 use std::alloc::{AllocError, Global};
-use std::io::{Read, Write};
+use std::io::Read;
 
 /// The title record.
 pub const CERTIFICATE: TitleRow<15, 4> = TitleRow {
@@ -370,7 +368,8 @@ pub(crate) fn push_schedule(
     Ok(())
 }
 
-/// The text of a certificate.
+/// The text of a certificate: of at most [`MAX_COMMANDS`] commands with a round each, numbers in the ranges of the form, and no bound
+/// exactly where there are no commands.
 pub fn certificate_text(alloc: Global, certificate: &Certificate) -> Result<Vec<u8>, AllocError>
     requires { IsClaim (claimed certificate.now) }
     ensures { IfOk result (λ v. v.items ≡ rows_text (claim_rows (claimed certificate.now))) }
@@ -385,30 +384,4 @@ pub fn certificate_text(alloc: Global, certificate: &Certificate) -> Result<Vec<
     push_bound(alloc, &mut draft, certificate.bound)?;
     push_schedule(&mut draft, commands, rounds)?;
     draft.finish()
-}
-
-/// Writes the text of a certificate once all of it is built.
-///
-/// There are at most [`MAX_COMMANDS`] commands with a round each, the numbers lie in the ranges of the
-/// form, and there is no bound exactly where there are no commands.
-///
-/// [`WriteFault::Write`]: the writer answered a fault, and a prefix of the text, of unknown length, may be out.
-/// [`WriteFault::Memory`]: nothing was handed to the writer.
-pub fn write_certificate<W: Write>(
-    alloc: Global,
-    certificate: &Certificate,
-    writer: &mut W,
-) -> Result<(), WriteFault>
-    requires { IsClaim (claimed certificate.now) }
-    ensures ok { OnOk result (Appends (W.contents writer.old) (W.contents writer.new) (rows_text (claim_rows (claimed certificate.now)))) }
-    // the records of that text spell it
-    ensures spells { SpellsClaim (claim_rows (claimed certificate.now)) (claimed certificate.now) }
-    ensures memory { IfErr result (λ f. f ≡ WriteFault.Memory → writer.new ≡ writer.old) }
-    // whatever the answer
-    ensures part { AppendsPart (W.contents writer.old) (W.contents writer.new) (rows_text (claim_rows (claimed certificate.now))) }
-{
-    match certificate_text(alloc, certificate) {
-        Ok(text) => write_whole(writer, text.as_slice()),
-        Err(AllocError) => Err(WriteFault::Memory),
-    }
 }

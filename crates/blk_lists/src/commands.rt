@@ -1,9 +1,7 @@
 //! Command lists.
 
 ghost use Rattle.std.specs.Prelude.{◌≡◌, ◌+◌, ◌≤◌, ◌<◌, ◌^◌, IfOk, IfErr, IfSome, OnOk, length, codes};
-ghost use Rattle.std.specs.Io.KnownBytes.{Appends};
 ghost use Rattle.blk_lists.specs.Texts.{rows_text};
-ghost use Rattle.drafts.specs.Parts.{AppendsPart};
 ghost use Rattle.blk_lists.specs.Reads.{FaultsBy, Reaches};
 ghost use Rattle.blk_lists.specs.Commands.{AreCommands, SpellsCommands, CommandsFault, command_list, commands_rows};
 ghost use Rattle.blk_lists.specs.Titles.{IsTitleOf};
@@ -17,11 +15,11 @@ use crate::source::Records;
 use crate::titles::{TitleRow, read_title};
 use crate::writing::push_numbers;
 use csv::ByteRecord;
-use drafts::{Block, WriteFault, write_whole};
+use drafts::Block;
 use edd_commands::{Command, MAX_COMMANDS};
 use parts::Repeats;
 use std::alloc::{AllocError, Global};
-use std::io::{Read, Write};
+use std::io::Read;
 
 /// The title record: the version and the depth.
 pub const COMMANDS: TitleRow<12, 3> = TitleRow {
@@ -117,31 +115,4 @@ pub fn commands_text(alloc: Global, depth: u64, commands: &[Command]) -> Result<
         push_numbers(&mut draft, command.id, &[command.release, command.due])?;
     }
     draft.finish()
-}
-
-/// Writes the text of a depth and a list of commands once all of it is built.
-///
-/// There are at most [`MAX_COMMANDS`] commands, and the numbers lie in the ranges of the form: a depth of 1 to
-/// [`edd_commands::MAX_DEPTH`], releases below round [`edd_commands::MAX_RELEASES`], dues below [`edd_commands::MAX_ROUNDS`].
-///
-/// [`WriteFault::Write`]: the writer answered a fault, and a prefix of the text, of unknown length, may be out.
-/// [`WriteFault::Memory`]: nothing was handed to the writer.
-pub fn write_commands<W: Write>(
-    alloc: Global,
-    depth: u64,
-    commands: &[Command],
-    writer: &mut W,
-) -> Result<(), WriteFault>
-    requires { AreCommands depth commands.now }
-    ensures ok { OnOk result (Appends (W.contents writer.old) (W.contents writer.new) (rows_text (commands_rows depth commands.now))) }
-    // the records of that text spell them
-    ensures spells { SpellsCommands (commands_rows depth commands.now) depth commands.now }
-    ensures memory { IfErr result (λ f. f ≡ WriteFault.Memory → writer.new ≡ writer.old) }
-    // whatever the answer
-    ensures part { AppendsPart (W.contents writer.old) (W.contents writer.new) (rows_text (commands_rows depth commands.now)) }
-{
-    match commands_text(alloc, depth, commands) {
-        Ok(text) => write_whole(writer, text.as_slice()),
-        Err(AllocError) => Err(WriteFault::Memory),
-    }
 }

@@ -18,10 +18,10 @@ pub mod titles;
 mod watched;
 mod writing;
 
-pub use crate::certificate::{Certificate, certificate_text, read_certificate, write_certificate};
-pub use crate::commands::{commands_text, read_commands, write_commands};
+pub use crate::certificate::{Certificate, certificate_text, read_certificate};
+pub use crate::commands::{commands_text, read_commands};
 pub use crate::fault::{TextFault, Why};
-pub use crate::on_time::{OnTimeCertificate, on_time_text, read_on_time, write_on_time};
+pub use crate::on_time::{OnTimeCertificate, on_time_text, read_on_time};
 pub use crate::proof::{Proof, read_proof};
-pub use crate::schedule::{Schedule, read_schedule, schedule_text, write_schedule};
+pub use crate::schedule::{Schedule, read_schedule, schedule_text};
 pub use crate::source::Records;

@@ -1,12 +1,10 @@
 //! Certificates of the greatest number of commands that a schedule can have on time.
 
 ghost use Rattle.std.specs.Prelude.{◌≡◌, ◌+◌, ◌*◌, ◌≤◌, ◌<◌, ◌-◌, ◌^◌, ◌∷◌, All, IfOk, IfErr, IfSome, OnOk, map, length, codes};
-ghost use Rattle.std.specs.Io.KnownBytes.{Appends};
 ghost use Rattle.edd_check.specs.Window.{WindowInRange};
 ghost use Rattle.blk_lists.specs.Reads.{FaultsBy, Reads, ReadsAll, Halts, Reaches};
 ghost use Rattle.blk_lists.specs.Tables.{row_by};
 ghost use Rattle.blk_lists.specs.Texts.{rows_text, AddsRows};
-ghost use Rattle.drafts.specs.Parts.{AppendsPart};
 ghost use Rattle.blk_lists.specs.Titles.{IsCounted, IsTitleOf};
 ghost use Rattle.blk_lists.specs.OnTime.{on_time_claimed, on_time_form, IsOnTimeClaim, SpellsOnTime, OnTimeClaimFault, on_time_rows, text_of, window_cells, windows, on_time_body, on_time_told};
 
@@ -19,12 +17,12 @@ use crate::names::FieldName;
 use crate::source::Records;
 use crate::titles::{COUNTED, COUNTED_NAMES, TitleRow, read_title};
 use csv::ByteRecord;
-use drafts::{Block, WriteFault, write_whole};
+use drafts::Block;
 use edd_check::Window;
 use edd_commands::{Command, MAX_COMMANDS};
 use parts::Repeats;
 use std::alloc::{AllocError, Global};
-use std::io::{Read, Write};
+use std::io::Read;
 
 /// The title record.
 pub const ON_TIME: TitleRow<7, 4> = TitleRow {
@@ -247,7 +245,8 @@ fn push_cover(draft: &mut Block, cover: &[Window]) -> Result<(), AllocError>
     Ok(())
 }
 
-/// The text of a certificate.
+/// The text of a certificate: of at most [`MAX_COMMANDS`] commands with a round each and at most as many windows, and numbers in the
+/// ranges of the form.
 pub fn on_time_text(alloc: Global, certificate: &OnTimeCertificate) -> Result<Vec<u8>, AllocError>
     requires { IsOnTimeClaim (on_time_claimed certificate.now) }
     ensures { IfOk result (λ v. v.items ≡ rows_text (on_time_rows (on_time_claimed certificate.now))) }
@@ -263,30 +262,4 @@ pub fn on_time_text(alloc: Global, certificate: &OnTimeCertificate) -> Result<Ve
     push_cover(&mut draft, cover)?;
     push_schedule(&mut draft, commands, certificate.rounds.as_slice())?;
     draft.finish()
-}
-
-/// Writes the text of a certificate once all of it is built.
-///
-/// There are at most [`MAX_COMMANDS`] commands with a round each and at most as many windows, and the numbers lie in the
-/// ranges of the form.
-///
-/// [`WriteFault::Write`]: the writer answered a fault, and a prefix of the text, of unknown length, may be out.
-/// [`WriteFault::Memory`]: nothing was handed to the writer.
-pub fn write_on_time<W: Write>(
-    alloc: Global,
-    certificate: &OnTimeCertificate,
-    writer: &mut W,
-) -> Result<(), WriteFault>
-    requires { IsOnTimeClaim (on_time_claimed certificate.now) }
-    ensures ok { OnOk result (Appends (W.contents writer.old) (W.contents writer.new) (text_of (on_time_claimed certificate.now))) }
-    // the records of that text spell it
-    ensures spells { SpellsOnTime (on_time_rows (on_time_claimed certificate.now)) (on_time_claimed certificate.now) }
-    ensures memory { IfErr result (λ f. f ≡ WriteFault.Memory → writer.new ≡ writer.old) }
-    // whatever the answer
-    ensures part { AppendsPart (W.contents writer.old) (W.contents writer.new) (rows_text (on_time_rows (on_time_claimed certificate.now))) }
-{
-    match on_time_text(alloc, certificate) {
-        Ok(text) => write_whole(writer, text.as_slice()),
-        Err(AllocError) => Err(WriteFault::Memory),
-    }
 }

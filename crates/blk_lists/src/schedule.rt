@@ -2,11 +2,9 @@
 
 ghost use Rattle.std.specs.Prelude.{◌≡◌, ◌⊎◌, ◌+◌, ◌≤◌, ◌<◌, ◌-◌, ◌^◌, false, All, IfOk, IfErr, IfSome, OnOk, length, codes};
 ghost use Rattle.std.specs.Bool.{OnTrue};
-ghost use Rattle.std.specs.Io.KnownBytes.{Appends};
 ghost use Rattle.csv.specs.Records.{fields_of};
 ghost use Rattle.blk_lists.specs.Reads.{FaultsBy, ReadsAll, Halts, Reaches};
 ghost use Rattle.blk_lists.specs.Texts.{rows_text};
-ghost use Rattle.drafts.specs.Parts.{AppendsPart};
 ghost use Rattle.blk_lists.specs.Schedule.{viewed, schedule_form, schedule_body, schedule_rows, IsNew, IsScheduleView, SpellsSchedule, ScheduleFault};
 ghost use Rattle.blk_lists.specs.Inside.Schedule.{IsPastCommands, IsAdded, AreFit, AreIds, DoRise, HasIds};
 ghost use Rattle.blk_lists.specs.Titles.{IsTitleOf};
@@ -17,12 +15,12 @@ use crate::items::{ItemForm, RecordForm, gather};
 use crate::source::Records;
 use crate::titles::{COUNTED, COUNTED_NAMES, TitleRow, read_title};
 use csv::ByteRecord;
-use drafts::{Block, WriteFault, write_whole};
+use drafts::Block;
 use edd_commands::{Command, MAX_COMMANDS};
 use parts::Repeats;
 use std::alloc::{AllocError, Global};
 use std::collections::BTreeSet;
-use std::io::{Read, Write};
+use std::io::Read;
 
 /// The title record.
 pub const SCHEDULE: TitleRow<12, 4> = TitleRow {
@@ -276,7 +274,9 @@ pub fn read_schedule<R: Read + Drop>(
     }
 }
 
-/// The text of a schedule, which is as [`write_schedule`] asks.
+/// The text of a schedule: of at most [`MAX_COMMANDS`] commands, no two of one id, with a round each, and numbers in the ranges of the
+/// form: a depth of 1 to [`edd_commands::MAX_DEPTH`], releases below round [`edd_commands::MAX_RELEASES`], dues and rounds below
+/// [`edd_commands::MAX_ROUNDS`].
 pub fn schedule_text(alloc: Global, schedule: &Schedule) -> Result<Vec<u8>, AllocError>
     requires { IsScheduleView (viewed schedule.now) }
     ensures { IfOk result (λ v. v.items ≡ rows_text (schedule_rows (viewed schedule.now))) }
@@ -289,31 +289,4 @@ pub fn schedule_text(alloc: Global, schedule: &Schedule) -> Result<Vec<u8>, Allo
     )?;
     push_schedule(&mut draft, commands, schedule.rounds.as_slice())?;
     draft.finish()
-}
-
-/// Writes the text of a schedule once all of it is built.
-///
-/// There are at most [`MAX_COMMANDS`] commands, no two of one id, with a round each, and the numbers lie in the ranges of the
-/// form: a depth of 1 to [`edd_commands::MAX_DEPTH`], releases below round [`edd_commands::MAX_RELEASES`], dues and rounds below
-/// [`edd_commands::MAX_ROUNDS`].
-///
-/// [`WriteFault::Write`]: the writer answered a fault, and a prefix of the text, of unknown length, may be out.
-/// [`WriteFault::Memory`]: nothing was handed to the writer.
-pub fn write_schedule<W: Write>(
-    alloc: Global,
-    schedule: &Schedule,
-    writer: &mut W,
-) -> Result<(), WriteFault>
-    requires { IsScheduleView (viewed schedule.now) }
-    ensures ok { OnOk result (Appends (W.contents writer.old) (W.contents writer.new) (rows_text (schedule_rows (viewed schedule.now)))) }
-    // the records of that text spell it
-    ensures spells { SpellsSchedule (schedule_rows (viewed schedule.now)) (viewed schedule.now) }
-    ensures memory { IfErr result (λ f. f ≡ WriteFault.Memory → writer.new ≡ writer.old) }
-    // whatever the answer
-    ensures part { AppendsPart (W.contents writer.old) (W.contents writer.new) (rows_text (schedule_rows (viewed schedule.now))) }
-{
-    match schedule_text(alloc, schedule) {
-        Ok(text) => write_whole(writer, text.as_slice()),
-        Err(AllocError) => Err(WriteFault::Memory),
-    }
 }

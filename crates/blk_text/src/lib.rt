@@ -17,4 +17,4 @@ pub use crate::heads::TRACE;
 pub use crate::script::{Line, MAX_RUN, MAX_STEPS, Script, push_step, read_script};
 pub use crate::setup::{LATEST, MAX_DEPTH_1, MORE_TAGS, SETUP, push_setup};
 pub use crate::tables::{event_kinds, step_kinds};
-pub use crate::trace::{trace_text, write_trace};
+pub use crate::trace::trace_text;

@@ -1,14 +1,12 @@
 //! What comes of texts, form by form: what is read of them and written again, and their faults, each by its record and name.
 
 use blk_lists::{
-    Proof, Records, TextFault, Why, read_certificate, read_commands, read_on_time, read_proof,
-    read_schedule, write_certificate, write_commands, write_on_time, write_schedule,
+    Proof, Records, TextFault, Why, certificate_text, commands_text, on_time_text,
+    read_certificate, read_commands, read_on_time, read_proof, read_schedule, schedule_text,
 };
-use blk_text::{read_script, read_trace, write_trace};
-use drafts::WriteFault;
+use blk_text::{read_script, read_trace, trace_text};
 use std::alloc::Global;
-use std::io;
-use std::io::{ErrorKind, Read, Write};
+use std::io::Read;
 
 /// A form of a text.
 #[derive(Clone, Copy)]
@@ -54,52 +52,46 @@ pub fn first_other(alloc: Global, form: TextKind, texts: &[(&str, u64, Why)]) ->
     None
 }
 
-/// Writes again what is read of a text in a form. There is no answer where the text has a fault, or the form no writer.
-fn rewrite<W: Write>(
-    alloc: Global,
-    form: TextKind,
-    text: &str,
-    out: &mut W,
-) -> Option<Result<(), WriteFault>> {
+/// The text of what is read of a text in a form. There is none where the text has a fault, the form is only read, or memory runs out.
+fn rewritten(alloc: Global, form: TextKind, text: &str) -> Option<Vec<u8>> {
     let records = &mut Records::new(alloc, text.as_bytes());
-    match form {
-        TextKind::Script => None,
+    let written = match form {
+        TextKind::Script => return None,
         TextKind::Commands => match read_commands(alloc, records) {
-            Ok((depth, commands)) => Some(write_commands(alloc, depth, commands.as_slice(), out)),
-            Err(_) => None,
+            Ok((depth, commands)) => commands_text(alloc, depth, commands.as_slice()),
+            Err(_) => return None,
         },
         TextKind::Certificate => match read_certificate(alloc, records) {
-            Ok(certificate) => Some(write_certificate(alloc, &certificate, out)),
-            Err(_) => None,
+            Ok(certificate) => certificate_text(alloc, &certificate),
+            Err(_) => return None,
         },
         TextKind::OnTime => match read_on_time(alloc, records) {
-            Ok(certificate) => Some(write_on_time(alloc, &certificate, out)),
-            Err(_) => None,
+            Ok(certificate) => on_time_text(alloc, &certificate),
+            Err(_) => return None,
         },
         TextKind::Proof => match read_proof(alloc, records) {
-            Ok(Proof::Lateness(certificate)) => Some(write_certificate(alloc, &certificate, out)),
-            Ok(Proof::OnTime(certificate)) => Some(write_on_time(alloc, &certificate, out)),
-            Err(_) => None,
+            Ok(Proof::Lateness(certificate)) => certificate_text(alloc, &certificate),
+            Ok(Proof::OnTime(certificate)) => on_time_text(alloc, &certificate),
+            Err(_) => return None,
         },
         TextKind::Schedule => match read_schedule(alloc, records) {
-            Ok(schedule) => Some(write_schedule(alloc, &schedule, out)),
-            Err(_) => None,
+            Ok(schedule) => schedule_text(alloc, &schedule),
+            Err(_) => return None,
         },
         TextKind::Trace => match read_trace(alloc, records) {
-            Ok(trace) => Some(write_trace(alloc, &trace, out)),
-            Err(_) => None,
+            Ok(trace) => trace_text(alloc, &trace),
+            Err(_) => return None,
         },
-    }
+    };
+    written.ok()
 }
 
 /// The place of the first text of which something else is written again in a form than the text beside it, if there is one.
 pub fn first_unlike(alloc: Global, form: TextKind, texts: &[(&str, &str)]) -> Option<usize> {
     for (place, (text, written)) in texts.iter().enumerate() {
-        let mut out = Vec::new(alloc);
-        if rewrite(alloc, form, text, &mut out) != Some(Ok(()))
-            || out.as_slice() != written.as_bytes()
-        {
-            return Some(place);
+        match rewritten(alloc, form, text) {
+            Some(out) if out.as_slice() == written.as_bytes() => {}
+            _ => return Some(place),
         }
     }
     None
@@ -113,36 +105,4 @@ pub fn first_not_itself(alloc: Global, form: TextKind, texts: &[&str]) -> Option
         }
     }
     None
-}
-
-/// A writer that takes a number of bytes, and then fails.
-#[derive(Drop)]
-struct Narrow {
-    room: usize,
-}
-
-impl Write for Narrow {
-    fn write(&mut self, buf: &[u8]) -> io::Result<usize> {
-        if self.room == 0 {
-            return Err(io::Error::from(ErrorKind::Other));
-        }
-        let count = self.room.min(buf.len());
-        self.room -= count;
-        Ok(count)
-    }
-
-    fn flush(&mut self) -> io::Result<()> {
-        Ok(())
-    }
-}
-
-/// Whether what is read of a text in a form can be written just where there is room for the text.
-pub fn needs_its_room(alloc: Global, form: TextKind, text: &str) -> bool {
-    for room in 0..text.len() {
-        if rewrite(alloc, form, text, &mut Narrow { room }) != Some(Err(WriteFault::Write)) {
-            return false;
-        }
-    }
-    let room = text.len();
-    rewrite(alloc, form, text, &mut Narrow { room }) == Some(Ok(()))
 }

@@ -1,6 +1,6 @@
 //! Certificates of the greatest number on time, and certificates of either form.
 
-use crate::forms::{TextKind, first_not_itself, first_other, needs_its_room};
+use crate::forms::{TextKind, first_not_itself, first_other};
 use blk_lists::{Records, Why, read_on_time};
 use edd_check::Window;
 
@@ -85,9 +85,4 @@ fn faults_of_either_form(rt: HostRuntime) {
         ("blk-certificate,1,1,1\nbound,0,0,0\n", 3, Why::Count),
     ];
     assert_eq!(rt; first_other(rt.alloc(), TextKind::Proof, &texts), None);
-}
-
-#[test]
-fn what_is_on_time_cannot_be_written(rt: HostRuntime) {
-    assert!(rt; needs_its_room(rt.alloc(), TextKind::OnTime, TWO_OF_THREE));
 }

@@ -1,6 +1,6 @@
 //! Schedules, by whatever scheduler.
 
-use crate::forms::{TextKind, first_not_itself, first_other, needs_its_room};
+use crate::forms::{TextKind, first_not_itself, first_other};
 use blk_lists::{Records, Why, read_schedule};
 use edd_commands::Command;
 
@@ -79,9 +79,4 @@ fn ids_stand_once(rt: HostRuntime) {
     ];
     assert_eq!(rt; first_other(rt.alloc(), TextKind::Schedule, &texts), None);
     assert_eq!(rt; Why::RepeatedId.name(), "RepeatedId");
-}
-
-#[test]
-fn a_schedule_needs_its_room(rt: HostRuntime) {
-    assert!(rt; needs_its_room(rt.alloc(), TextKind::Schedule, THREE));
 }

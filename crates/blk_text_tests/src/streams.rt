@@ -1,7 +1,6 @@
-//! Texts whose reader or writer fails after a number of bytes.
+//! Texts whose reader fails after a number of bytes.
 
-use crate::forms::{TextKind, fault_of, needs_its_room};
-use crate::texts::JOINED;
+use crate::forms::{TextKind, fault_of};
 use blk_lists::{TextFault, Why};
 use std::alloc::Global;
 use std::io;
@@ -89,13 +88,4 @@ fn a_fault_before_the_read_that_fails(rt: HostRuntime) {
     assert!(rt; is_before(alloc, TextKind::Script, text, 42, Why::Range));
     let text = "blk-certificate,1,1,1\nbond,1,0,0\n1,0,0,0\n";
     assert!(rt; is_before(alloc, TextKind::Certificate, text, 35, Why::Word));
-}
-
-#[test]
-fn what_cannot_be_written(rt: HostRuntime) {
-    let commands = "blk-commands,1,1\n1,0,0\n";
-    let certificate = "blk-certificate,1,1,0\nbound,none,none,none\n";
-    assert!(rt; needs_its_room(rt.alloc(), TextKind::Commands, commands));
-    assert!(rt; needs_its_room(rt.alloc(), TextKind::Certificate, certificate));
-    assert!(rt; needs_its_room(rt.alloc(), TextKind::Trace, JOINED));
 }

@@ -3,7 +3,7 @@
 use crate::forms::{TextKind, first_not_itself, first_unlike};
 use blk_bio::{Bio, BioId, Dir, Limits, Request};
 use blk_lists::{Records, read_certificate};
-use blk_text::{Line, read_script, write_trace};
+use blk_text::{Line, read_script, trace_text};
 use blk_trace::{Event, Setup, Trace};
 use edd_check::Window;
 use std::alloc::Global;
@@ -177,8 +177,7 @@ pub const JOINED: &str =
 
 #[test]
 fn groups_and_joins_are_written(rt: HostRuntime) {
-    let mut out = Vec::new(rt.alloc());
     let trace = joined_trace(&rt, rt.alloc());
-    assert!(rt; write_trace(rt.alloc(), &trace, &mut out).is_ok());
-    assert!(rt; out.as_slice() == JOINED.as_bytes());
+    let text = trace_text(rt.alloc(), &trace).expect(&rt, "memory");
+    assert!(rt; text.as_slice() == JOINED.as_bytes());
 }

@@ -60,3 +60,32 @@ fn a_long_text_is_one_call(rt: HostRuntime) {
     let (answer, calls, taken) = put(text.as_slice(), &[]);
     assert!(rt; answer.is_ok() && calls == 1 && taken == 1_000_000);
 }
+
+/// A writer that takes a number of bytes, and then fails.
+#[derive(Drop)]
+struct Narrow {
+    room: usize,
+}
+
+impl Write for Narrow {
+    fn write(&mut self, buf: &[u8]) -> io::Result<usize> {
+        if self.room == 0 {
+            return Err(io::Error::from(ErrorKind::Other));
+        }
+        let count = self.room.min(buf.len());
+        self.room -= count;
+        Ok(count)
+    }
+
+    fn flush(&mut self) -> io::Result<()> {
+        Ok(())
+    }
+}
+
+#[test]
+fn a_text_needs_its_room(rt: HostRuntime) {
+    for room in 0..5 {
+        let answer = Output::new(Narrow { room }).put(b"four");
+        assert!(rt; answer.is_ok() == (room >= 4));
+    }
+}

@@ -1,23 +1,11 @@
 -- What a writer took of a text.
-use Rattle.std.proofs.Common.{◌≡◌, ◌∙◌, ◌<◌, ◌+◌, ◌==◌, false, Bor, flat_map, get_or, ℕ, List, [], ◌∷◌, ◌++◌, length, take, drop, sym, ap, subst, arith, append_assoc, append-nil, take-append-drop, Option, Some, None}
+use Rattle.std.proofs.Common.{◌≡◌, ◌∙◌, ◌<◌, ◌+◌, ◌==◌, false, Bor, flat_map, get_or, ℕ, List, [], ◌∷◌, ◌++◌, length, take, drop, sym, ap, subst, arith, append_assoc, append-nil, take-append-drop, Option}
 use Rattle.std.proofs.Math.Seq.{take-append_seam}
 use Rattle.std.proofs.lemmas.List.{length-append, length-drop, drop_more}
 use Rattle.std.proofs.lemmas.List.Concat.{flat_map-append}
 use Rattle.std.proofs.KnownBytes.{Appends-trans}
 use Rattle.std.specs.Io.KnownBytes.{Appends}
-use Rattle.drafts.specs.Parts.{AppendsLess, AppendsPart}
-
--- what was taken is a first part
-pub part_taken : (a b : Option (List ℕ)) (all done rest : List ℕ) → all ≡ done ++ rest → Appends a b done → AppendsPart a b all
-part_taken a b all done rest e p = (length done, subst (Appends a b) (sym (ap (take (length done)) e ∙ take-append_seam done rest)) p)
-
-none_taken : (a : Option (List ℕ)) → Appends a a []
-none_taken None = tt
-none_taken (Some x) = sym (append-nil x)
-
--- nothing was taken
-pub nothing_taken : (a b : Option (List ℕ)) (all : List ℕ) → b ≡ a → AppendsPart a b all
-nothing_taken a b all e = (0, subst (λ z. Appends a z []) (sym e) (none_taken a))
+use Rattle.drafts.specs.Parts.{AppendsLess}
 
 -- the rest is what comes first of it and what is left then
 pub split_at : (all done rest : List ℕ) (n : ℕ) → all ≡ done ++ rest → all ≡ (done ++ take n rest) ++ drop n rest

@@ -11,4 +11,4 @@ pub mod pieces;
 pub use crate::block::Block;
 pub use crate::draft::Draft;
 pub use crate::fault::WriteFault;
-pub use crate::output::{Output, write_whole};
+pub use crate::output::Output;

@@ -2,7 +2,7 @@
 
 ghost use Rattle.std.specs.Prelude.{◌≡◌, ◌<◌, false, true, OnOk, OnErr, IfErr, flat_map};
 ghost use Rattle.std.specs.Io.KnownBytes.{Appends};
-ghost use Rattle.drafts.specs.Parts.{AppendsLess, AppendsPart};
+ghost use Rattle.drafts.specs.Parts.{AppendsLess};
 ghost use Rattle.drafts.specs.Outputs.{Writes, is_set, stream_of};
 
 use crate::fault::WriteFault;
@@ -13,10 +13,8 @@ use std::io::Write;
 fn hand<W: Write>(mark: &mut Mark, writer: &mut W, text: &[u8]) -> Result<(), WriteFault>
     ensures ok { OnOk result (Appends (W.contents writer.old) (W.contents writer.new) text.now) }
     ensures good { OnOk result (mark.new ≡ mark.old) }
-    ensures err { IfErr result (λ f. f ≡ WriteFault.Write) }
     ensures set { OnErr result (is_set mark.new ≡ true) }
     ensures less { OnErr result (AppendsLess (W.contents writer.old) (W.contents writer.new) text.now) }
-    ensures part { AppendsPart (W.contents writer.old) (W.contents writer.new) text.now }
 {
     let mut rest = text;
     // each turn takes a byte at least
@@ -26,26 +24,10 @@ fn hand<W: Write>(mark: &mut Mark, writer: &mut W, text: &[u8]) -> Result<(), Wr
         }
         match mark.offer(writer, rest) {
             Some(count) => rest = &rest[count..],
-            None => return Err(WriteFault::Write),
+            None => return Err(WriteFault),
         }
     }
     Ok(())
-}
-
-/// Writes a text that is whole, by as many calls of the writer as it takes; one that is interrupted is made again.
-///
-/// [`WriteFault::Write`], the only fault: the writer answered another fault, or took nothing of what was left; a prefix of the text,
-/// never the whole, is out. `write_all` of std says nothing of what was taken before a fault, so the writer is called here.
-pub fn write_whole<W: Write>(writer: &mut W, text: &[u8]) -> Result<(), WriteFault>
-    ensures ok { OnOk result (Appends (W.contents writer.old) (W.contents writer.new) text.now) }
-    ensures err { IfErr result (λ f. f ≡ WriteFault.Write) }
-    // a fault comes only where some of the text was not taken
-    ensures less { OnErr result (AppendsLess (W.contents writer.old) (W.contents writer.new) text.now) }
-    // whatever the answer
-    ensures part { AppendsPart (W.contents writer.old) (W.contents writer.new) text.now }
-{
-    let mut mark = Mark::new();
-    hand(&mut mark, writer, text)
 }
 
 /// A writer, and whether it has failed, which std's `Write` has no word for. Nothing is written to it but by the methods here.
@@ -69,7 +51,7 @@ impl<W: Write> Output<W> {
 
     /// Writes a text that is whole, by as many calls of the writer as it takes; one that is interrupted is made again.
     ///
-    /// [`WriteFault::Write`], the only fault: the writer failed, and a prefix of the text, never the whole, is out.
+    /// [`WriteFault`]: the writer failed, or took nothing of what was left, and a prefix of the text, never the whole, is out.
     pub fn put(&mut self, text: &[u8]) -> Result<(), WriteFault>
         ensures { Writes text.now (stream_of W.contents self.old) (stream_of W.contents self.new) result }
     {

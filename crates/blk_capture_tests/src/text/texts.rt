@@ -3,17 +3,17 @@
 ghost use Rattle.std.specs.Prelude.{length};
 ghost use Rattle.blk_capture.specs.Requests.{AreInOrder};
 
-use blk_capture::{Action, Entry, Op, Options, Record, rows_of, summarize};
+use blk_capture::{Action, Entry, Op, Options, Record};
 use blk_capture_text::laws::{
     a_capture_has_one_fault, a_capture_is_spelled_or_has_a_fault, captures_are_spelled_once,
     captures_read_back, law_of_limits, names_of_captures, spelled_captures_have_no_fault,
     wordless_row,
 };
 use blk_capture_text::{
-    ImportAsked, ImportFault, ShownImport, count_fates, first_time, import, notice_text,
-    read_capture, schedule_of, shown_text, write_summary, write_table,
+    ImportAsked, ImportFault, ShownImport, count_fates, import, notice_text, read_capture,
+    shown_text,
 };
-use blk_lists::{Records, TextFault, Why, write_schedule};
+use blk_lists::{Records, TextFault, Why};
 use std::alloc::Global;
 use std::io;
 use std::io::{ErrorKind, Read};
@@ -221,47 +221,12 @@ const SUMMARY: &str = "records 13\nbios 2\nrequests 2\nmerges 0\nlate-reads 1\nl
     plugs 1\nunplugs 1\nactions 1\ndiscards 0\nerases 0\nflushes 0\nothers 0\nempty 0\npast-end 0\n";
 
 #[test]
-fn a_schedule_is_written(rt: HostRuntime) {
+fn what_is_not_taken_is_counted(rt: HostRuntime) {
     let records = records_of(&rt, rt.alloc(), TEXT);
     let Ok(matched) = import(rt.alloc(), records.as_slice(), &asked()) else {
-        panic!(rt; "memory");
-    };
-    let Ok(schedule) = schedule_of(rt.alloc(), matched.requests.as_slice()) else {
-        panic!(rt; "memory");
-    };
-    let mut out = Vec::new(rt.alloc());
-    assert!(rt; write_schedule(rt.alloc(), &schedule, &mut out).is_ok());
-    assert!(rt; out.as_slice() == SCHEDULE.as_bytes());
-}
-
-#[test]
-fn a_table_is_written(rt: HostRuntime) {
-    let records = records_of(&rt, rt.alloc(), TEXT);
-    let Ok(matched) = import(rt.alloc(), records.as_slice(), &asked()) else {
-        panic!(rt; "memory");
-    };
-    let begin = first_time(records.as_slice());
-    let Ok(rows) = rows_of(rt.alloc(), matched.requests.as_slice(), begin) else {
-        panic!(rt; "memory");
-    };
-    let mut out = Vec::new(rt.alloc());
-    assert!(rt; write_table(rt.alloc(), rows.as_slice(), &mut out).is_ok());
-    assert!(rt; out.as_slice() == TABLE.as_bytes());
-}
-
-#[test]
-fn a_summary_is_written(rt: HostRuntime) {
-    let records = records_of(&rt, rt.alloc(), TEXT);
-    let Ok(matched) = import(rt.alloc(), records.as_slice(), &asked()) else {
-        panic!(rt; "memory");
-    };
-    let Ok(summary) = summarize(rt.alloc(), records.as_slice(), &matched) else {
         panic!(rt; "memory");
     };
     let counts = count_fates(matched.fates.as_slice());
-    let mut out = Vec::new(rt.alloc());
-    assert!(rt; write_summary(rt.alloc(), &summary, matched.left_out, &counts, &mut out).is_ok());
-    assert!(rt; out.as_slice() == SUMMARY.as_bytes());
     let Ok(notice) = notice_text(rt.alloc(), &counts) else {
         panic!(rt; "memory");
     };

@@ -1,23 +1,14 @@
 use Rattle.std.proofs.Common.{◌∙◌, ◌++◌, ap, sym, take, length, refl, arith}
 use Rattle.std.proofs.lemmas.List.{take_rest, length-drop}
 use Rattle.std.proofs.KnownBytes.{Appends-trans}
-use Rattle.drafts.proofs.Written.{part_taken, split_at, less_taken, none_more, some_left}
+use Rattle.drafts.proofs.Written.{split_at, less_taken, none_more, some_left}
 use Rattle.drafts.proofs.output.hand.Goals as goal
-
-pub returns-then-is_empty-clause-part : goal.returns-then-is_empty-clause-part
-returns-then-is_empty-clause-part g c = let (done, split, appended) = c.loop-turn.invariant.taken in part_taken _ _ _ done c.loop-turn.rest.now split appended
 
 pub returns-in-None-clause-less : goal.returns-in-None-clause-less
 returns-in-None-clause-less g c =
     let (done, split, appended) = c.loop-turn.invariant.taken in
     let rest = c.loop-turn.rest.now in
     less_taken _ _ _ done rest split (some_left rest (sym c.is_empty.ensures ∙ c.if-is_empty.false)) (none_more _ _ _ done rest 0 refl appended c.in-None.ensures.kept)
-
-pub returns-in-None-clause-part : goal.returns-in-None-clause-part
-returns-in-None-clause-part g c =
-    let (done, split, appended) = c.loop-turn.invariant.taken in
-    let rest = c.loop-turn.rest.now in
-    part_taken _ _ _ done rest split (none_more _ _ _ done rest 0 refl appended c.in-None.ensures.kept)
 
 pub loop-turn-preserved : goal.loop-turn-preserved
 loop-turn-preserved g c =
