@@ -8,3 +8,4 @@ mod Schedules
 mod Given
 mod Failed
 mod Counted
+mod Beside
