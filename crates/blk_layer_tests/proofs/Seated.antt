@@ -26,3 +26,9 @@ submitters_in depth map_in queues layer submitters seats workers h same =
 pub workers_in : (depth : ℕ) (map_in queues : List ℕ) (layer : LayerShape) (submitters : List SubmitterSeat) (workers seats : List WorkerSeat) → IsNewLayer depth map_in queues layer submitters workers
     → seats ≡ workers → All (λ w. w.tag_set ≡ layer.tag_set) seats
 workers_in depth map_in queues layer submitters workers seats h same = all_of layer queues seats (same ∙ h.each_worker)
+
+-- the workers that come back from two closes that were refused, with the layer of the second
+pub workers_back : (layer back again : LayerShape) (queues : List ℕ) (workers seats : List WorkerSeat) → workers ≡ map (new_worker layer.tag_set) queues
+    → back ≡ layer → again ≡ back → seats ≡ workers → All (λ w. w.tag_set ≡ again.tag_set) seats
+workers_back layer back again queues workers seats made first second same =
+    subst (λ (l : LayerShape). All (λ (w : WorkerSeat). w.tag_set ≡ l.tag_set) seats) (sym (second ∙ first)) (all_of layer queues seats (same ∙ made))

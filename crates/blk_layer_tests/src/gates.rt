@@ -156,6 +156,20 @@ fn flush_and_finish<R: Abort + Wait, L: Named>(
     layer.finish();
 }
 
+/// The same of a worker that counts itself first.
+fn begun_and_ran<R: Wait, L: Named>(
+    rt: &R,
+    layer: &Layer<NoneSched, L>,
+    worker: Worker<L>,
+    begun: &AtomicU64,
+    alone: &AtomicU64,
+) -> u64
+    requires { worker.tag_set ≡ layer.now.tag_set }
+{
+    begun.fetch_add(1, Ordering::SeqCst);
+    ran(rt, layer, worker, begun, alone)
+}
+
 /// How many commands a worker runs that goes over many software queues, where a request comes late to the first of them.
 #[tactic(auto, using(crate::proofs::Seated::all_of))]
 fn served_late<R: Abort + Wait + Threads + Sync, L: Named + Send + Sync>(
@@ -189,10 +203,7 @@ fn served_late<R: Abort + Wait + Threads + Sync, L: Named + Send + Sync>(
     let shared = &layer;
     let (served, ()) = thread::join(
         rt,
-        || {
-            begun.fetch_add(1, Ordering::SeqCst);
-            ran(rt, shared, worker, &begun, &alone)
-        },
+        || begun_and_ran(rt, shared, worker, &begun, &alone),
         || flush_and_finish(rt, alloc, shared, first, limits, &begun, later),
     );
     served
