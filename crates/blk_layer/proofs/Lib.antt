@@ -19,3 +19,4 @@ mod Ending
 mod Tries
 mod Onces
 mod Ruled
+mod Rounds

@@ -1,5 +1,6 @@
 pub mod Seats
 pub mod Submitting
 pub mod Serving
+pub mod Rounds
 pub mod Closing
 pub mod Inside

@@ -1,12 +1,13 @@
 //! How a layer is closed: its accounts are settled, once and for all.
 
-ghost use Rattle.std.specs.Prelude.{ℕ, ◌≡◌, ◌<◌, ◌++◌, ◌↔◌, [], List, IsTrue, IfOk, IfErr, OnOk, IfSome, IfNone, Some, IsPermutation, length, nat_eq, slice_get, unwrap_or};
+ghost use Rattle.std.specs.Prelude.{ℕ, false, ◌≡◌, ◌<◌, ◌++◌, ◌↔◌, [], List, IsTrue, IfOk, IfErr, OnOk, IfSome, IfNone, Some, IsPermutation, length, nat_eq, slice_get, unwrap_or};
 ghost use Rattle.std.specs.List.{cons_option};
 ghost use Rattle.std.specs.HashMap as hash;
 ghost use Rattle.blk_bio.specs.Bios.{Bio as Transfer};
 ghost use Rattle.blk_trace.specs.Events.{AreOnce, HasId, IsReleased};
 ghost use Rattle.blk_trace.specs.Kinds.{releases};
 ghost use Rattle.blk_core.specs.Runs.{IsRunFrom};
+ghost use Rattle.blk_layer.specs.Rounds.{EndsFullRounds};
 ghost use Rattle.blk_layer.specs.Seats.{SubmitterSeat};
 ghost use Rattle.blk_layer.specs.Closing.{AreAllThere, HasNumber, all_accepted, all_ran, issued_bios, done_by, done_ids, done_commands, done_count, AreSettled, AreCounted, IsBioOf, DiffersAsCommand, Disagrees, IsCloseRefusal};
 ghost use Rattle.blk_layer.specs.Inside.Closing.{IsAccountOf};
@@ -87,7 +88,8 @@ impl<S: Scheduler, L: Named> Layer<S, L> {
     /// Ok where they agree: the bios that were accepted are those of the issued requests and those that are left, each once, and the
     /// commands that the workers ran are those that are done. Refused as `Whole`, and all comes back: as `SeatMissing` where
     /// a seat of the layer isn't there, and as `Memory`. Refused as `Differs` where the accounts disagree on a bio; the layer
-    /// is spent then. The trace is one that the policy of its scheduler makes.
+    /// is spent then. The trace is one that the policy of its scheduler makes, and each round of it was full as it ended, unless rounds may be ended
+    /// by hand.
     pub fn close(
         self,
         alloc: S::A,
@@ -98,6 +100,7 @@ impl<S: Scheduler, L: Named> Layer<S, L> {
         ensures there { OnOk result (AreAllThere self.map self.workers submitters.items workers.items) }
         ensures setup { IfOk result (λ c. c.trace.setup ≡ L.setup) }
         ensures ran { IfOk result (λ c. IsRunFrom S.policy L.start c.trace.events) }
+        ensures full { IfOk result (λ c. L.by_hand ≡ false → EndsFullRounds c.trace.setup c.trace.events) }
         ensures settled { IfOk result (λ c. AreSettled L.setup c.trace.events c.left.items submitters.items workers.items) }
         ensures once { IfOk result (λ c. AreOnce (issued_bios c.trace.events ++ c.left.items)) }
         ensures counted { IfOk result (λ c. AreCounted c.trace.events c.left.items workers.items) }
@@ -125,6 +128,7 @@ impl<S: Scheduler, L: Named> Layer<S, L> {
         requires there { AreAllThere self.map self.workers submitters.items workers.items }
         ensures setup { IfOk result (λ c. c.trace.setup ≡ L.setup) }
         ensures ran { IfOk result (λ c. IsRunFrom S.policy L.start c.trace.events) }
+        ensures full { IfOk result (λ c. L.by_hand ≡ false → EndsFullRounds c.trace.setup c.trace.events) }
         ensures settled { IfOk result (λ c. AreSettled L.setup c.trace.events c.left.items submitters.items workers.items) }
         ensures once { IfOk result (λ c. AreOnce (issued_bios c.trace.events ++ c.left.items)) }
         ensures counted { IfOk result (λ c. AreCounted c.trace.events c.left.items workers.items) }

@@ -1,6 +1,6 @@
 //! The layer: what its threads share, and how it is made.
 
-ghost use Rattle.std.specs.Prelude.{ℕ, true, ◌≡◌, ◌<◌, [], All, IfOk, IfErr, OnOk, IfSome, IfNone, length, vec_len};
+ghost use Rattle.std.specs.Prelude.{ℕ, Bool, true, false, ◌≡◌, ◌<◌, [], All, IfOk, IfErr, OnOk, IfSome, IfNone, length, vec_len};
 ghost use Rattle.blk_trace.specs.Setups.{Setup};
 ghost use Rattle.blk_sched.specs.Meaning.{at_start};
 ghost use Rattle.blk_core.specs.State.{CoreState, new_core};
@@ -38,6 +38,9 @@ pub trait Named: Ledger {
 
     /// How many workers there are.
     ghost workers: { ℕ };
+
+    /// Whether rounds may be ended by hand, by [`Layer::tick`]. Else each ends as it is full.
+    ghost by_hand: { Bool };
 }
 
 impl Named for Brand {
@@ -46,6 +49,8 @@ impl Named for Brand {
     ghost start = { new_core no_setup (at_start true) [] };
 
     ghost workers = { 0 };
+
+    ghost by_hand = { false };
 }
 
 /// Why a layer is not made, in the order in which the reasons are looked for.

@@ -1,11 +1,12 @@
 //! What lies under the locks: the core, and each software queue.
 
-ghost use Rattle.std.specs.Prelude.{◌≡◌, ◌≤◌, ◌+◌, [], IfOk, IfErr, OnOk, OnErr, length, vec_len};
+ghost use Rattle.std.specs.Prelude.{true, false, ◌≡◌, ◌≤◌, ◌+◌, [], IfOk, IfErr, OnOk, OnErr, length, vec_len};
 ghost use Rattle.blk_bio.specs.declared.limits.TheConstants.{MAX_SOFT_DEPTH};
 ghost use Rattle.blk_core.specs.Faults.{IsTickFault};
 ghost use Rattle.blk_core.specs.Calls.{Ends, SetsDepth};
 ghost use Rattle.blk_core.specs.Runs.{MakesCalls, IsRunFrom};
 ghost use Rattle.blk_layer.specs.Submitting.{AreOfFirst};
+ghost use Rattle.blk_layer.specs.Rounds.{EndsFullRounds};
 ghost use Rattle.blk_layer.specs.Serving.{IsTickAnswer, IsDepthAnswer};
 ghost use Rattle.blk_layer.specs.Closing.{all_ran, done_count};
 ghost use Rattle.blk_layer.specs.declared.layer.TheConstants.{MAX_WORKERS};
@@ -36,6 +37,7 @@ pub(crate) struct LockedCore<S: Scheduler, L: Named> {
     pub(crate) next_tag: u16,
     ghost named: { core.setup ≡ L.setup },
     ghost ran: { ∥ MakesCalls S.policy L.start core.events core ∥₁ },
+    ghost full: { L.by_hand ≡ false → EndsFullRounds core.setup core.events },
     ghost counted: { book.total ≡ done_count core.events },
     ghost all_out: { rest.parts + L.workers ≡ MAX_WORKERS },
     ghost none: { rest.amount ≡ 0 },
@@ -62,6 +64,7 @@ impl<S: Scheduler, L: Named> LockedCore<S, L> {
 
     /// Ends the round, and answers the number of the next one.
     pub(crate) fn tick(&mut self) -> Result<u64, TickFault>
+        requires { L.by_hand ≡ true }
         ensures ended { OnOk result (Ends S.policy.told_tick self.old.core self.new.core) }
         ensures answer { IsTickAnswer result }
         ensures fault { IfErr result (IsTickFault self.old.core) }
@@ -95,6 +98,7 @@ impl<S: Scheduler, L: Named> LockedCore<S, L> {
         ensures setup { result.setup ≡ self.core.setup }
         ensures events { result.events ≡ self.core.events }
         ensures ran { IsRunFrom S.policy L.start result.events }
+        ensures full { L.by_hand ≡ false → EndsFullRounds result.setup result.events }
     {
         let LockedCore { core, .. } = self;
         core.into_trace()

@@ -1,6 +1,6 @@
 //! What a worker does: commands that it is issued and reports, rounds that it ends, and whole passes of these.
 
-ghost use Rattle.std.specs.Prelude.{◌≡◌, ◌≢◌, OnOk, OnErr, IfOk, IfErr, None, Some};
+ghost use Rattle.std.specs.Prelude.{true, ◌≡◌, ◌≢◌, OnOk, OnErr, IfOk, IfErr, None, Some};
 ghost use Rattle.blk_layer.specs.Serving.{IsIssueAnswer, AccountsFor, LetsGo, IsInHand, IsTickAnswer, IsDepthAnswer, RunsMore, IsWorked, IsWorkFault, IsAfterPass};
 ghost use Rattle.blk_layer.specs.Inside.Serving.{ServesOne, IsServeFault, IsPassRefusal, work_name};
 ghost use Rattle.blk_layer.specs.Inside.Next.{found_next};
@@ -184,9 +184,10 @@ impl<S: Scheduler, L: Named> Layer<S, L> {
         worker.back(&mut *core, &self.tags, tag)
     }
 
-    /// Ends the round, and answers the number of the next one: how many Ticks there are then. Refused as the core's `tick` is,
-    /// by the first of these that applies: as `InFlight` with how many commands are in flight, as `TraceFull`, and as `Memory`.
+    /// Ends the round, full or not, where the layer's name says that this may be done by hand, and answers the number of the next one: how many
+    /// Ticks there are then. Refused as the core's `tick` is, by the first of these that applies: as `InFlight` with how many commands are in flight, as `TraceFull`, and as `Memory`.
     pub fn tick<R: Wait>(&self, rt: &R) -> Result<u64, TickFault>
+        requires { L.by_hand ≡ true }
         ensures { IsTickAnswer result }
     {
         self.core.lock(rt).tick()

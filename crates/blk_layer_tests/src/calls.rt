@@ -1,6 +1,6 @@
 //! Drawn calls of a layer, each beside the same call of its parts.
 
-ghost use Rattle.std.specs.Prelude.{◌≡◌, ◌<◌, length};
+ghost use Rattle.std.specs.Prelude.{true, ◌≡◌, ◌<◌, length};
 
 use crate::dice::Dice;
 use crate::given::bio;
@@ -160,7 +160,9 @@ fn tick<R: Abort + Wait, L: Named>(
     layer: &Layer<NoneSched, L>,
     core: &mut Core<NoneSched>,
     dice: &mut Dice,
-) -> CallOutcome {
+) -> CallOutcome
+    requires hand { L.by_hand ≡ true }
+{
     if dice.below(8) > 0 {
         let answer = layer.tick(rt);
         assert!(rt; answer == core.tick());
@@ -182,7 +184,8 @@ pub fn by_worker<R: Abort + Wait, L: Named>(
     core: &mut Core<NoneSched>,
     dice: &mut Dice,
 ) -> CallOutcome
-    requires { worker.old.tag_set ≡ layer.now.tag_set }
+    requires tags { worker.old.tag_set ≡ layer.now.tag_set }
+    requires hand { L.by_hand ≡ true }
     ensures { worker.new.tag_set ≡ worker.old.tag_set }
 {
     let tag = drawn_tag(dice);
@@ -220,6 +223,7 @@ pub fn by_either<R: Abort + Wait, L: Named>(
     requires seat { submitter.old.number < length layer.now.map }
     requires limits { L.setup.limits ≡ limits }
     requires tags { worker.old.tag_set ≡ layer.now.tag_set }
+    requires hand { L.by_hand ≡ true }
     ensures seat { submitter.new.number ≡ submitter.old.number }
     ensures tags { worker.new.tag_set ≡ worker.old.tag_set }
 {

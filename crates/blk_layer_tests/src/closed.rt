@@ -1,6 +1,6 @@
 //! Layers that follow a list of calls, and what is left of them.
 
-ghost use Rattle.std.specs.Prelude.{◌≡◌, ◌<◌, [], IfErr, length, vec_len};
+ghost use Rattle.std.specs.Prelude.{true, ◌≡◌, ◌<◌, [], IfErr, length, vec_len};
 
 use crate::asked::last;
 use crate::given::{core, limits, setup};
@@ -97,6 +97,7 @@ fn followed<R: Abort + Wait, S: Scheduler, L: Named>(
     requires limits { L.setup.limits ≡ limits }
     requires workers { L.workers ≡ vec_len worker_queues }
     requires empty { core.events ≡ [] }
+    requires hand { L.by_hand ≡ true }
     ensures core { IfErr result (λ back. back ≡ core) }
 {
     let made = Layer::<S, L>::new(

@@ -1,6 +1,6 @@
 //! Drawn lists of calls, whose answers are those of the layer's parts called directly.
 
-ghost use Rattle.std.specs.Prelude.{◌≡◌, ◌<◌, [], length, vec_len};
+ghost use Rattle.std.specs.Prelude.{true, ◌≡◌, ◌<◌, [], length, vec_len};
 
 use crate::asked::{close, last};
 use crate::calls::by_either;
@@ -117,6 +117,7 @@ fn call<R: Abort + Wait, L: Named>(
     requires limits { L.setup.limits ≡ limits }
     requires zero { zero.old.tag_set ≡ layer.now.tag_set }
     requires one { one.old.tag_set ≡ layer.now.tag_set }
+    requires hand { L.by_hand ≡ true }
     ensures first { first.new.number ≡ first.old.number }
     ensures second { second.new.number ≡ second.old.number }
     ensures zero { zero.new.tag_set ≡ zero.old.tag_set }
@@ -160,6 +161,7 @@ fn play<R: Abort + Wait, L: Named>(
     requires limits { L.setup.limits ≡ limits }
     requires zero { zero.old.tag_set ≡ layer.now.tag_set }
     requires one { one.old.tag_set ≡ layer.now.tag_set }
+    requires hand { L.by_hand ≡ true }
 {
     for _ in 0..CALLS {
         let seen = call(
@@ -195,6 +197,7 @@ fn list<R: Abort + Wait, L: Named>(
     requires limits { L.setup.limits ≡ limits }
     requires workers { L.workers ≡ vec_len worker_queues }
     requires empty { core.events ≡ [] }
+    requires hand { L.by_hand ≡ true }
 {
     let made = Layer::<NoneSched, L>::new(alloc, blank, core, map, SOFT_DEPTH, worker_queues);
     let Ok((layer, mut submitters, mut workers)) = made else {

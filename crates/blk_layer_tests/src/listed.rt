@@ -1,7 +1,7 @@
 //! Calls of a layer as plain values, each with the answer that it has to give. A call that runs out of memory is made once
 //! more.
 
-ghost use Rattle.std.specs.Prelude.{◌≡◌, ◌<◌, length};
+ghost use Rattle.std.specs.Prelude.{true, ◌≡◌, ◌<◌, length};
 
 use crate::given::bio;
 use blk_core::{BackFault, CoreFault, DepthFault, NotIssued, TickFault};
@@ -271,7 +271,8 @@ fn serves<R: Wait, S: Scheduler, L: Named>(
     worker: &mut Worker<L, S::A>,
     count: u64,
 ) -> bool
-    requires { worker.old.tag_set ≡ layer.now.tag_set }
+    requires tags { worker.old.tag_set ≡ layer.now.tag_set }
+    requires hand { L.by_hand ≡ true }
     ensures { worker.new.tag_set ≡ worker.old.tag_set }
 {
     for _ in 0..count {
@@ -292,7 +293,8 @@ fn by_worker<R: Wait, S: Scheduler, L: Named>(
     worker: &mut Worker<L, S::A>,
     call: LayerCall,
 ) -> bool
-    requires { worker.old.tag_set ≡ layer.now.tag_set }
+    requires tags { worker.old.tag_set ≡ layer.now.tag_set }
+    requires hand { L.by_hand ≡ true }
     ensures { worker.new.tag_set ≡ worker.old.tag_set }
 {
     match call {
@@ -310,7 +312,9 @@ fn by_worker<R: Wait, S: Scheduler, L: Named>(
 }
 
 /// Whether this number of rounds end, the first of a layer.
-fn end_all<R: Wait, S: Scheduler, L: Named>(rt: &R, layer: &Layer<S, L>, count: u64) -> bool {
+fn end_all<R: Wait, S: Scheduler, L: Named>(rt: &R, layer: &Layer<S, L>, count: u64) -> bool
+    requires hand { L.by_hand ≡ true }
+{
     for round in 0..count {
         if layer.tick(rt) != Ok(round + 1) {
             return false;
@@ -320,7 +324,9 @@ fn end_all<R: Wait, S: Scheduler, L: Named>(rt: &R, layer: &Layer<S, L>, count: 
 }
 
 /// What a tick answers, once more where memory was refused.
-fn tick<R: Wait, S: Scheduler, L: Named>(rt: &R, layer: &Layer<S, L>) -> Result<u64, TickFault> {
+fn tick<R: Wait, S: Scheduler, L: Named>(rt: &R, layer: &Layer<S, L>) -> Result<u64, TickFault>
+    requires hand { L.by_hand ≡ true }
+{
     match layer.tick(rt) {
         Err(TickFault::Memory) => layer.tick(rt),
         answer => answer,
@@ -340,7 +346,9 @@ fn set_depth<R: Wait, S: Scheduler, L: Named>(
 }
 
 /// Whether a call of the layer itself has the wanted answer.
-fn by_layer<R: Wait, S: Scheduler, L: Named>(rt: &R, layer: &Layer<S, L>, call: LayerCall) -> bool {
+fn by_layer<R: Wait, S: Scheduler, L: Named>(rt: &R, layer: &Layer<S, L>, call: LayerCall) -> bool
+    requires hand { L.by_hand ≡ true }
+{
     match call {
         LayerCall::Finish => {
             layer.finish();
@@ -371,6 +379,7 @@ fn is_answered<R: Abort + Wait, S: Scheduler, L: Named>(
     requires plug_second { plug_second.old.limits ≡ L.setup.limits }
     requires zero { zero.old.tag_set ≡ layer.now.tag_set }
     requires one { one.old.tag_set ≡ layer.now.tag_set }
+    requires hand { L.by_hand ≡ true }
     ensures first { first.new.number ≡ first.old.number }
     ensures second { second.new.number ≡ second.old.number }
     ensures plug_first { plug_first.new.limits ≡ plug_first.old.limits }
@@ -419,6 +428,7 @@ pub fn first_other<R: Abort + Wait, S: Scheduler, L: Named>(
     requires plug_second { plug_second.old.limits ≡ L.setup.limits }
     requires zero { zero.old.tag_set ≡ layer.now.tag_set }
     requires one { one.old.tag_set ≡ layer.now.tag_set }
+    requires hand { L.by_hand ≡ true }
 {
     for (place, call) in calls.iter().enumerate() {
         if !is_answered(

@@ -1,8 +1,9 @@
 //! A load, from its threads' start to its account.
 
-ghost use Rattle.std.specs.Prelude.{◌≡◌, ◌≢◌, ◌<◌, ◌≤◌, [], All, IsPermutation, IfOk, OnOk, IfErr, Some, length, min, vec_len};
+ghost use Rattle.std.specs.Prelude.{false, ◌≡◌, ◌≢◌, ◌<◌, ◌≤◌, [], All, IsPermutation, IfOk, OnOk, IfErr, Some, length, min, vec_len};
 ghost use Rattle.blk_queues.specs.Maps.{IsHwCount};
 ghost use Rattle.blk_layer.specs.Closing.{all_accepted};
+ghost use Rattle.blk_layer.specs.Rounds.{EndsFullRounds};
 ghost use Rattle.blk_layer.specs.Seats.{CanMake};
 ghost use Rattle.blk_sched.specs.Meaning.{at_start};
 ghost use Rattle.blk_settings.specs.Faults.{IsLoadFault};
@@ -54,6 +55,7 @@ pub fn load<R: Threads + Wait + Sync, S: Scheduler<A = Global> + Send>(
     requires start { S.meaning scheduler ≡ at_start (S.meaning scheduler).front }
     ensures range { OnOk result (IsLoad load) }
     ensures settled { IfOk result (λ l. IsSettled load l.trace l.settled) }
+    ensures full { IfOk result (λ l. EndsFullRounds l.trace.setup l.trace.events) }
     ensures ran { IfOk result (λ l. IsRunBy S.policy (S.meaning scheduler) (S.kept scheduler) l.trace) }
     ensures once { IfOk result (λ l. AreOnce (served_bios l.trace.events)) }
     ensures fault { IfErr result (IsLoadFault load) }
@@ -126,8 +128,10 @@ fn on_layer<R: Threads + Wait + Sync, S: Scheduler<A = Global> + Send, L: Named 
     requires empty { core.events ≡ [] }
     requires range { IsLoad load }
     requires setup_is { L.setup ≡ load_setup load }
+    requires hand { L.by_hand ≡ false }
     requires can { CanMake core.setup.hw map LOAD_SOFT_DEPTH queues.items }
     ensures settled { IfOk result (λ l. IsSettled load l.trace l.settled) }
+    ensures full { IfOk result (λ l. EndsFullRounds l.trace.setup l.trace.events) }
     ensures ran { IfOk result (λ l. IsRunFrom S.policy L.start l.trace.events) }
     ensures once { IfOk result (λ l. AreOnce (served_bios l.trace.events)) }
     ensures fault { IfErr result (λ f. f ≢ LoadFault.Range) }
@@ -228,7 +232,9 @@ fn settle<S: Scheduler<A = Global>, L: Named>(
     requires parts { L.parts ≡ MAX_WORKERS }
     requires range { IsLoad load }
     requires setup { L.setup ≡ load_setup load }
+    requires hand { L.by_hand ≡ false }
     ensures settled { IfOk result (λ l. IsSettled load l.trace l.settled) }
+    ensures full { IfOk result (λ l. EndsFullRounds l.trace.setup l.trace.events) }
     ensures ran { IfOk result (λ l. IsRunFrom S.policy L.start l.trace.events) }
     ensures accepted { IfOk result (λ l. l.settled.accepted ≡ length (all_accepted submitters.items)) }
     ensures agree { IfOk result (λ l. IsPermutation (all_accepted submitters.items) (served_bios l.trace.events)) }

@@ -1,6 +1,7 @@
 mod Least
 mod Tight
 mod Most
+mod Ties
 pub mod Splitting
 mod Staying
 mod Ticking

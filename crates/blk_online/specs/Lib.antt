@@ -1,4 +1,5 @@
 pub mod OnTimeFirst
+pub mod DueFirst
 pub mod Ticks
 pub mod Best
 pub mod Issues

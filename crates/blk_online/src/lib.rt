@@ -14,6 +14,7 @@ ghost use Rattle.blk_trace.specs.Setups.{Setup, IsSetup};
 ghost use Rattle.blk_trace.specs.Legal.{IsLegalTrace};
 ghost use Rattle.blk_online.specs.Ticks.{IsEarliestTrace, IsOnTimeFirstTrace};
 ghost use Rattle.blk_online.specs.Best.{EarliestDueFirstIsLeastLate, OnTimeFirstHasMostOnTime, RunsEarliestFirst, RunsOnTimeFirst, IsOneSchedule, HasLeastLateness, IsLaterThanLeast, HasMostOnTime};
+ghost use Rattle.blk_online.specs.DueFirst.{DueFirstIsLeastLate, OnTimeDueFirstHasMost};
 ghost use Rattle.blk_online.specs.Issues.{IsEarliestAtIssues, ServesOnTimeAtIssues, one_tag, read_too_late};
 
 /// A legal schedule by earliest due date first is least late.
@@ -28,6 +29,15 @@ pub fn law_of_earliest_due_first()
 /// A law: it does nothing when it runs, and a caller has its clause.
 pub fn law_of_on_time_first()
     ensures { (commands : List Command) → (steps : List Step) → OnTimeFirstHasMostOnTime commands steps }
+{}
+
+/// Ties may be broken in any way: where, of what waits, what is due first goes first, of two that are due in one round either, a legal schedule
+/// is least late; and where what can still be on time goes so before the rest, it has the most on time.
+///
+/// A law: it does nothing when it runs, and a caller has its clauses.
+pub fn law_of_ties()
+    ensures least { (commands : List Command) → (steps : List Step) → DueFirstIsLeastLate commands steps }
+    ensures most { (commands : List Command) → (steps : List Step) → OnTimeDueFirstHasMost commands steps }
 {}
 
 /// Where, as each round of a legal trace ends, what went out in it comes before all that waits, and the round is full if

@@ -5,4 +5,5 @@ mod Between
 mod Legal
 mod Alone
 mod Entrants
+mod Decided
 pub mod Outcomes

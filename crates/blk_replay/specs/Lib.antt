@@ -1,4 +1,5 @@
 pub mod Replay
 pub mod Inside
 pub mod Requests
+pub mod DueFirst
 pub mod Figures

@@ -7,12 +7,14 @@ ghost use Rattle.edd_commands.specs.Capacity.{fixed};
 ghost use Rattle.edd_commands.specs.Schedule.{IsLegal};
 ghost use Rattle.blk_sched.specs.Meaning.{Waiting, no_picks, at_start};
 ghost use Rattle.blk_replay.specs.Inside.{HaveEntered, ChangesPending, ServesId, IsLater};
+ghost use Rattle.blk_replay.specs.DueFirst.{ReplaysBest};
 ghost use Rattle.blk_replay.specs.Replay.{CanReplay, HasOneReplay, IsReplay, commands_by_arrival, standing};
 
 mod figures;
 mod requests;
 
 use blk_bio::{Bio, Request};
+use blk_online::law_of_ties;
 use blk_sched::{Queued, Scheduler};
 use edd_commands::{MAX_COMMANDS, MAX_ROUNDS};
 pub use figures::{ClockFigures, Outcome, figures_of};
@@ -142,3 +144,14 @@ pub fn replay<S: Scheduler>(
 pub fn law_of_one_replay<S: Scheduler>()
     ensures { HasOneReplay S.policy }
 {}
+
+/// Where a scheduler's policy takes what is due first of all that waits, of two that are due in one round either, no order of the same dispatches is
+/// less late than its replay of requests that are due by their deadlines; and where it takes so what can still be on time before the rest, none has
+/// more on time.
+///
+/// A law: it does nothing when it runs, and a caller has its clause.
+pub fn law_of_due_first<S: Scheduler>()
+    ensures { ReplaysBest S.policy }
+{
+    law_of_ties();
+}

@@ -1,4 +1,5 @@
 mod Counted
+mod Earliest
 mod Late
 mod Scheduled
 mod Starts

@@ -10,9 +10,11 @@ use Rattle.blk_lists.specs.Schedule.{ScheduleView, IsScheduleView, schedule_rows
 use Rattle.blk_lists.specs.Texts.{rows_text}
 use Rattle.blk_settings.specs.declared.plans.Plan.{Plan}
 use Rattle.blk_replay.specs.Requests.{AreRoundCommands, AreLateByTheClock, time_of_round}
-use Rattle.blk_replayed.specs.Rows.{IsReplayed}
+use Rattle.blk_replayed.specs.declared.row.Chooser.TheVariants.{Replay}
+use Rattle.blk_replayed.specs.Rows.{IsReplayed, IsBestUnderEarliest}
 
--- the schedule of a replay: of just the commands of an import, a round each, legal at depth 1, late just where by the clock
+-- the schedule of a replay: of just the commands of an import, a round each, legal at depth 1, late just where by the clock, and under earliest the
+-- best that there is
 pub record IsReplaySchedule (p : Plan) (requests : List CapturedRequest) (s : ScheduleView) : Type 0 where
   pub depth : s.depth ≡ 1
   pub ran : IsScheduleView s
@@ -20,6 +22,7 @@ pub record IsReplaySchedule (p : Plan) (requests : List CapturedRequest) (s : Sc
   pub replayed : IsReplayed p requests s.commands s.rounds
   pub legal : IsLegal s.commands s.rounds (fixed 1)
   pub alike : AreLateByTheClock requests s.commands s.rounds
+  pub best : IsBestUnderEarliest (Replay p) s.commands s.rounds
 
 abbrev pub IsReplayScheduleText : Plan → List CapturedRequest → List ℕ → Type 0
 IsReplayScheduleText p requests text = (s : ScheduleView) × IsReplaySchedule p requests s × (text ≡ rows_text (schedule_rows s))

@@ -87,7 +87,7 @@ fn row_in(
 }
 
 /// The row of the capture as it went, in the rounds of its dispatches.
-#[tactic(auto, using(crate::proofs::Counted::own_rounds, crate::proofs::Counted::own_late, crate::proofs::Told::row_of))]
+#[tactic(auto, using(crate::proofs::Counted::own_rounds, crate::proofs::Counted::own_late, crate::proofs::Told::as_it_went, crate::proofs::Told::row_of))]
 pub fn captured_row(
     alloc: Global,
     unavoidable: u64,
@@ -115,7 +115,6 @@ pub fn captured_row(
 }
 
 /// The row of a replay.
-#[tactic(auto, using(crate::proofs::Told::row_of))]
 pub fn replayed_row(
     alloc: Global,
     plan: Plan,

@@ -8,10 +8,12 @@ ghost use Rattle.blk_capture.specs.Requests.{AreTimed};
 ghost use Rattle.blk_settings.specs.Made.{IsUnmade, IsStart};
 ghost use Rattle.blk_settings.specs.Scheds.{policy_of};
 ghost use Rattle.blk_replay.specs.Requests.{AreRounds, AreRoundCommands, AreLateByTheClock};
-ghost use Rattle.blk_replayed.specs.Rows.{due_by, IsReplayedBy, IsReplayed};
+ghost use Rattle.blk_replayed.specs.declared.row.Chooser.TheVariants.{Replay};
+ghost use Rattle.blk_replayed.specs.Rows.{due_by, IsReplayedBy, IsReplayed, IsBestUnderEarliest};
 
 use blk_capture::CapturedRequest;
-use blk_replay::{DueBy, replay_requests};
+use blk_earliest::Earliest;
+use blk_replay::{DueBy, law_of_due_first, replay_requests};
 use blk_sched::Scheduler;
 use blk_settings::{FifoExpire, Plan, Sched, SchedFault, SchedKind, with_made};
 use edd_commands::Command;
@@ -63,9 +65,8 @@ fn rounds_by<S: Scheduler<A = Global>>(
     }
 }
 
-/// The rounds of the requests of a capture, served again as planned: by place, each a number of a dispatch. `commands` are those that
-/// [`blk_capture::rounds_of`] makes of them. Refused where the scheduler isn't made of its settings, or as `Memory`.
-pub fn rounds_under(
+/// The rounds of the requests under the scheduler of a plan.
+fn rounds_planned(
     alloc: Global,
     plan: Plan,
     requests: &[CapturedRequest],
@@ -82,4 +83,27 @@ pub fn rounds_under(
 {
     let by = due_by(plan.sched.kind, plan.fifo);
     with_made!(plan.sched, alloc, DEPTH, (sched, made) => rounds_by(alloc, sched, made, requests, commands, by))
+}
+
+/// The rounds of the requests of a capture, served again as planned: by place, each a number of a dispatch. `commands` are those that
+/// [`blk_capture::rounds_of`] makes of them. Under earliest they are least late, and with `late_last` most are on time, of all orders of the same
+/// dispatches. Refused where the scheduler isn't made of its settings, or as `Memory`.
+pub fn rounds_under(
+    alloc: Global,
+    plan: Plan,
+    requests: &[CapturedRequest],
+    commands: &[Command],
+) -> Result<Vec<u64>, SchedFault>
+    requires timed { AreTimed requests.now }
+    requires few { length requests.now ≤ MAX_COMMANDS }
+    requires counted { AreRoundCommands requests.now commands.now }
+    ensures replayed { IfOk result (λ v. IsReplayed plan requests.now commands.now v.items) }
+    ensures legal { IfOk result (λ v. IsLegal commands.now v.items (fixed 1)) }
+    ensures in_range { IfOk result (λ v. AreRounds (length requests.now) v.items) }
+    ensures late { IfOk result (λ v. AreLateByTheClock requests.now commands.now v.items) }
+    ensures best { IfOk result (λ v. IsBestUnderEarliest (Replay plan) commands.now v.items) }
+    ensures unmade { IfErr result (IsUnmade plan.sched) }
+{
+    law_of_due_first::<Earliest>();
+    rounds_planned(alloc, plan, requests, commands)
 }

@@ -5,6 +5,7 @@ use Rattle.blk_layer.specs.declared.seats.NoNext.TheVariants.{UsedUp}
 use Rattle.blk_layer.specs.Inside.Next.{no_next}
 use Rattle.blk_layer.proofs.Moving.{tried_stays}
 use Rattle.blk_layer.proofs.Ruled.{tried}
+use Rattle.blk_layer.proofs.Rounds.{tried_full}
 use Rattle.blk_layer.proofs.InHand.{given_back}
 use Rattle.blk_layer.proofs.Tries.{each_tried, one_tried, used_up_same, used_up_vain}
 use Rattle.blk_layer.proofs.seats.issue_next.Goals as goal
@@ -24,6 +25,7 @@ invariant_of-core g c =
       counted = locked.counted ∙ sym stays.dones;
       all_out = locked.all_out;
       none = locked.none;
+      full = λ off. tried_full S.policy locked.core c.args.hw c.in-Some.tag c.try_issue.new.self c.try_issue.result c.try_issue.ensures.issued c.try_issue.ensures.fault (locked.full off);
       ran = ∥∥₁_map locked.ran (tried S.policy g.L.Named.start locked.core c.args.hw c.in-Some.tag c.try_issue.new.self c.try_issue.result c.try_issue.ensures.issued c.try_issue.ensures.fault);
     }
 
@@ -37,6 +39,7 @@ invariant_of-core-in-Err-1 g c =
       counted = locked.counted ∙ sym stays.dones;
       all_out = locked.all_out;
       none = locked.none;
+      full = λ off. tried_full S.policy locked.core c.args.hw c.in-Some.tag c.try_issue.new.self c.try_issue.result c.try_issue.ensures.issued c.try_issue.ensures.fault (locked.full off);
       ran = ∥∥₁_map locked.ran (tried S.policy g.L.Named.start locked.core c.args.hw c.in-Some.tag c.try_issue.new.self c.try_issue.result c.try_issue.ensures.issued c.try_issue.ensures.fault);
     }
 

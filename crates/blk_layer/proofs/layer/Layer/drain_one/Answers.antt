@@ -2,6 +2,7 @@ use Rattle.std.proofs.Common.{◌∙◌, sym}
 use Rattle.std.proofs.Math.Logic.{∥∥₁_map}
 use Rattle.blk_layer.proofs.Moved.{all_stay, all_limits}
 use Rattle.blk_layer.proofs.Ruled.{all_moved}
+use Rattle.blk_layer.proofs.Rounds.{all_moved_full}
 use Rattle.blk_layer.proofs.layer.Layer.drain_one.Goals as goal
 
 pub invariant_of-staged-2 : goal.invariant_of-staged-2
@@ -24,5 +25,6 @@ invariant_of-locked g c =
       counted = locked.counted ∙ sym stays.dones;
       all_out = locked.all_out;
       none = locked.none;
+      full = λ off. all_moved_full S.policy queue locked.core c.args.hw c.move_all.new.queue c.move_all.new.core c.move_all.result c.move_all.ensures.answer (locked.full off);
       ran = ∥∥₁_map locked.ran (all_moved S.policy g.L.Named.start queue locked.core c.args.hw c.move_all.new.queue c.move_all.new.core c.move_all.result c.move_all.ensures.answer);
     }

@@ -1,6 +1,7 @@
 use Rattle.std.proofs.Common.{◌≡◌, ◌∙◌, sym, ap, refl, []}
 use Rattle.blk_layer.specs.Closing.{done_count}
 use Rattle.blk_core.proofs.More.{none_run}
+use Rattle.blk_layer.proofs.Rounds.{none_ended}
 use Rattle.blk_layer.proofs.locked.LockedCore.new.Goals as goal
 
 none_done : done_count [] ≡ 0
@@ -14,3 +15,6 @@ pub invariant_of-result-clause-ran : goal.invariant_of-result-clause-ran
 invariant_of-result-clause-ran g c =
     let S = g.S.Scheduler in
     ∣ none_run S.policy g.L.Named.start c.args.core c.requires.start c.requires.empty ∣₁
+
+pub invariant_of-result-clause-full : goal.invariant_of-result-clause-full
+invariant_of-result-clause-full g c = λ _. none_ended c.args.core.setup c.args.core.events c.requires.empty

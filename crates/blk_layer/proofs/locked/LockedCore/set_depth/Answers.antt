@@ -4,6 +4,7 @@ use Rattle.blk_core.specs.Calls.{SetsDepth}
 use Rattle.blk_trace.specs.Setups.{Setup}
 use Rattle.blk_layer.proofs.Moving.{depth_stays, stays_either}
 use Rattle.blk_layer.proofs.Ruled.{either, set}
+use Rattle.blk_layer.proofs.Rounds.{either_full, depth_full}
 use Rattle.blk_layer.proofs.Answered.{depth_answer}
 use Rattle.blk_layer.proofs.locked.LockedCore.set_depth.Goals as goal
 
@@ -18,6 +19,7 @@ invariant_of-self g c =
       counted = locked.counted ∙ sym stays.dones;
       all_out = locked.all_out;
       none = locked.none;
+      full = λ off. either_full (λ _. SetsDepth locked.core c.args.depth new) locked.core new c.set_depth.result (λ _. depth_full locked.core c.args.depth new) c.set_depth.ensures.set c.set_depth.ensures.same (locked.full off);
       ran = ∥∥₁_map locked.ran (either (λ _. SetsDepth locked.core c.args.depth new) S.policy g.L.Named.start locked.core new c.set_depth.result (λ _. set S.policy g.L.Named.start locked.core c.args.depth new) c.set_depth.ensures.set c.set_depth.ensures.same);
     }
 

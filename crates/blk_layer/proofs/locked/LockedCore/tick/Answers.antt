@@ -1,4 +1,4 @@
-use Rattle.std.proofs.Common.{◌∙◌, sym}
+use Rattle.std.proofs.Common.{◌≡◌, ◌∙◌, sym, true, false}
 use Rattle.std.proofs.Math.Logic.{∥∥₁_map}
 use Rattle.blk_core.specs.Calls.{Ends}
 use Rattle.blk_layer.proofs.Moving.{tick_stays, stays_either}
@@ -17,6 +17,7 @@ invariant_of-self g c =
       counted = locked.counted ∙ sym stays.dones;
       all_out = locked.all_out;
       none = locked.none;
+      full = λ off. let clash : true ≡ false = sym c.requires ∙ off in absurd (cc);
       ran = ∥∥₁_map locked.ran (either (λ _. Ends S.policy.told_tick locked.core new) S.policy g.L.Named.start locked.core new c.tick.result (λ _. ended S.policy g.L.Named.start locked.core new) c.tick.ensures.ended c.tick.ensures.same);
     }
 

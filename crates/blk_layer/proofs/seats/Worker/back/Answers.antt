@@ -7,6 +7,7 @@ use Rattle.blk_tags.specs.Tags.{Seat as TagSeat}
 use Rattle.blk_layer.specs.Seats.{WorkerSeat}
 use Rattle.blk_layer.proofs.Moving.{back_stays, stays_either}
 use Rattle.blk_layer.proofs.Ruled.{either, taken_back}
+use Rattle.blk_layer.proofs.Rounds.{either_full, back_full}
 use Rattle.blk_layer.proofs.InHand.{tag_held, one_fewer}
 use Rattle.blk_layer.proofs.seats.Worker.back.Goals as goal
 
@@ -36,5 +37,6 @@ invariant_of-core g c =
       counted = locked.counted ∙ sym stays.dones;
       all_out = locked.all_out;
       none = locked.none;
+      full = λ off. either_full (λ id. RequeuesTag locked.core c.args.tag id new) locked.core new c.back.result (back_full locked.core c.args.tag new) c.back.ensures.back c.back.ensures.same (locked.full off);
       ran = ∥∥₁_map locked.ran (either (λ id. RequeuesTag locked.core c.args.tag id new) S.policy g.L.Named.start locked.core new c.back.result (taken_back S.policy g.L.Named.start locked.core c.args.tag new) c.back.ensures.back c.back.ensures.same);
     }

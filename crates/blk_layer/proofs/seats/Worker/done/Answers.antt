@@ -6,6 +6,7 @@ use Rattle.blk_tags.specs.Tags.{Seat as TagSeat}
 use Rattle.blk_layer.specs.Seats.{WorkerSeat}
 use Rattle.blk_layer.proofs.Moving.{done_more}
 use Rattle.blk_layer.proofs.Ruled.{completed}
+use Rattle.blk_layer.proofs.Rounds.{completed_full}
 use Rattle.blk_layer.proofs.InHand.{one_less, tag_held, one_fewer}
 use Rattle.blk_layer.proofs.seats.Worker.done.Goals as goal
 
@@ -41,5 +42,6 @@ invariant_of-core-2 g c =
       counted = c.add.ensures.total ∙ ap (λ n. n + 1) locked.counted ∙ sym (done_more S.policy.told_done locked.core c.args.tag c.complete.new.self done);
       all_out = locked.all_out;
       none = locked.none;
+      full = λ off. completed_full S.policy locked.core c.args.tag c.complete.new.self done (locked.full off);
       ran = ∥∥₁_map locked.ran (completed S.policy g.L.Named.start locked.core c.args.tag c.complete.new.self done);
     }

@@ -3,10 +3,12 @@ use Rattle.std.proofs.Math.Logic.{∥∥₁_map}
 use Rattle.std.specs.Prelude.{slice_set}
 use Rattle.std.specs.Vec.{vec_capacity}
 use Rattle.blk_trace.proofs.Keeping.{on_ok}
+use Rattle.blk_core.specs.Calls.{Issues}
 use Rattle.blk_tags.specs.Tags.{Set, Seat as TagSeat}
 use Rattle.blk_layer.specs.Seats.{WorkerSeat}
 use Rattle.blk_layer.specs.Serving.{TakesInHand}
 use Rattle.blk_layer.proofs.Ruled.{asked}
+use Rattle.blk_layer.proofs.Rounds.{either_full, issued_full}
 use Rattle.blk_layer.proofs.InHand.{given_back, more_room, same_seat, one_more, takes}
 use Rattle.blk_layer.proofs.seats.Worker.issue.Goals as goal
 
@@ -101,5 +103,6 @@ invariant_of-core g c =
       counted = locked.counted ∙ sym goes.0.dones;
       all_out = locked.all_out;
       none = locked.none;
+      full = λ off. either_full (λ found. Issues S.policy.serves S.policy.chooses locked.core c.self.inside.hw c.in-Some.tag found c.issue.new.self) locked.core c.issue.new.self c.issue.result (issued_full S.policy locked.core c.self.inside.hw c.in-Some.tag c.issue.new.self) c.issue.ensures.issued c.issue.ensures.same (locked.full off);
       ran = ∥∥₁_map locked.ran goes.1;
     }
