@@ -6,8 +6,8 @@
     tools/blaming.py N SEED      N, drawn from another seed (a number)
     tools/blaming.py FILE..      these captures
 
-The captures, their options and their requests are those of tools/matching.py. Of each capture `blame` is asked for the whole, for all of it
-and for each late request, in lines, for its certificate, and for the tightest deadlines of reads and of writes. What can be on time is found by
+The captures, their options and their requests are those of tools/matching.py. Of each capture `blame` is asked for the whole, for all of it,
+by processors and without either table, and for each late request, in lines, for its certificate, and for the tightest deadlines of reads and of writes. What can be on time is found by
 matching requests to dispatches one by one, each along a path that frees a place, and not in the order of the due rounds; the tightest deadlines
 among the differences of a dispatch and of when a request came in, each tried by what would be imported with it.
 
@@ -27,12 +27,19 @@ from dataclasses import replace
 from cases import PROGRAM, SECONDS, ended
 from matching import Told, captures_of, command, run_of, text_of, waits
 
-EACH = "id,pid,dir,first,sectors,wait,overrun,cause,from,until"
+EACH = "id,pid,dir,first,sectors,wait,overrun,cause,from,until,in_flight"
+# By whom a table is put together: what the requests have of it, and what the table is named.
+BY = {"pid": (lambda it: it.pid, "processes"), "cpu": (lambda it: it.cpu, "processors")}
 
 
 def ms(time):
     """A time in milliseconds, cut behind three digits."""
     return "none" if time is None else f"{time // 10**6}.{time // 1000 % 1000:03}"
+
+
+def hundredths(share):
+    """A share in hundredths, of one in thousandths."""
+    return "none" if share is None else f"{share // 10}.{share % 10}"
 
 
 def spread(pairs):
@@ -125,12 +132,25 @@ class Blame:
         ]
         return sorted(found, key=lambda it: -(it[2] - it[3]))
 
-    def whole(self, most):
+    def flying(self, after):
+        """How many requests were at the device when the stall after so many dispatches began."""
+        return sum(it.is_out(self.times[after - 1]) for it in self.taken) if after else 0
+
+    def waited(self, span):
+        """In which share of a span at least one request waited."""
+        until, waited = 0, 0
+        for came, went in sorted((self.told.entry(it), it.went) for it in self.taken):
+            waited += max(went - max(came, until), 0)
+            until = max(until, went)
+        return hundredths(1000 * waited // span if span else None)
+
+    def whole(self, most, by="pid"):
         ways = [self.taken[place].span[0] for place in self.late]
         had = len(self.taken) - most_on_time(self.spans)
         stalls, windows = self.stalls(), self.windows()
         entries = [self.told.entry(it) for it in self.taken]
-        yield f"{len(self.taken)} requests in {ms(max(self.times[-1] - min(entries), 0) if entries else 0)} ms"
+        span = max(self.times[-1] - min(entries), 0) if entries else 0
+        yield f"{len(self.taken)} requests in {ms(span)} ms, at least one waiting in {self.waited(span)} % of it"
         yield f"late {len(ways)}: reads {ways.count('R')}, writes {ways.count('W')}"
         crowded = sum(it[2] - it[3] for it in windows)
         yield f"had to be {had}: by stall {len(self.stalled)}, by crowding {crowded}, by arrival {len(self.arrivals)}"
@@ -138,13 +158,13 @@ class Blame:
         half, most_of, top = spread((self.deadlines[place], self.times[place]) for place in self.late)
         yield f"overrun in ms: p50 {half}, p99 {most_of}, max {top}"
         yield from self.stages()
-        yield from self.processes(most)
+        yield from self.groups(most, by) if by != "none" else ()
         yield ""
         yield "stalls, in which the device took nothing, the greatest first, in ms:"
-        yield "        from       until    length  requests"
+        yield "        from       until    length  requests  in_flight"
         for after, count in stalls[:most]:
             low, high, long = map(ms, self.between(after, after + 1))
-            yield f"{low:>12}{high:>12}{long:>10}{count:>10}"
+            yield f"{low:>12}{high:>12}{long:>10}{count:>10}{self.flying(after):>11}"
         yield ""
         yield "crowded windows, with more requests than dispatches, the greatest first, in ms:"
         yield "        from       until    length  requests   carries"
@@ -176,18 +196,16 @@ class Blame:
         done = [it for it in self.taken if it.span[0] == way and it.completed is not None]
         between = lambda since, until: 0 if None in (since, until) else max(until - since, 0)
         whole = sum(between(it.opener.queued, it.completed) for it in done)
-        share = 1000 * sum(between(*ends(it)) for it in done) // whole if whole else None
-        return "none" if share is None else f"{share // 10}.{share % 10}"
+        return hundredths(1000 * sum(between(*ends(it)) for it in done) // whole if whole else None)
 
-    def hurt(self):
-        """The processes that have late requests, the most late ones first, and then by their numbers."""
-        pids = [self.taken[place].pid for place in self.late]
-        return sorted(set(pids), key=lambda pid: (-pids.count(pid), pid))
+    def hurt(self, key):
+        """The processes or processors that have late requests, the most late ones first, and then by their numbers."""
+        keys = [key(self.taken[place]) for place in self.late]
+        return sorted(set(keys), key=lambda it: (-keys.count(it), it))
 
-    def process(self, pid):
-        """Of a process how many requests it has, how many were late, stalled and came in late, the fewest late ones of it in any order, and
-        the most of these that can be on time beside all that were; how long it waited, and by how much its late ones were late."""
-        own = [place for place, it in enumerate(self.taken) if it.pid == pid]
+    def group(self, own):
+        """Of the requests at some places how many there are, how many were late, stalled and came in late, the fewest late ones of them in any order,
+        and the most of these that can be on time beside all that were; how long they waited, and by how much the late ones were late."""
         late = [place for place in own if place in self.late]
         timely = [it for place, it in enumerate(self.spans) if place not in self.late]
         least = len(own) - most_on_time([self.spans[place] for place in own])
@@ -198,14 +216,16 @@ class Blame:
         over = [(self.deadlines[place], self.times[place]) for place in late]
         return len(own), len(late), stalled, arrivals, least, savable, waited, over
 
-    def processes(self, most):
+    def groups(self, most, by):
+        key, name = BY[by]
         yield ""
-        yield "processes, the most late ones first, waits and the greatest overrun in ms:"
-        yield "       pid  requests    late  stalled  arrivals   least  savable   wait_p50   wait_p99    overrun"
-        for pid in self.hurt()[:most]:
-            count, late, stalled, arrivals, least, savable, waited, over = self.process(pid)
+        yield f"{name}, the most late ones first, waits and the greatest overrun in ms:"
+        yield f"       {by}  requests    late  stalled  arrivals   least  savable   wait_p50   wait_p99    overrun"
+        for number in self.hurt(key)[:most]:
+            own = [place for place, it in enumerate(self.taken) if key(it) == number]
+            count, late, stalled, arrivals, least, savable, waited, over = self.group(own)
             half, most_of, _ = spread(waited)
-            told = f"{pid:>10}{count:>10}{late:>8}{stalled:>9}{arrivals:>10}{least:>8}{savable:>9}"
+            told = f"{number:>10}{count:>10}{late:>8}{stalled:>9}{arrivals:>10}{least:>8}{savable:>9}"
             yield f"{told}{half:>11}{most_of:>11}{spread(over)[2]:>11}"
 
     def cause(self, place):
@@ -233,7 +253,8 @@ class Blame:
             cause, gap = self.cause(place)
             since, until = ("" if gap is None or self.at(at) is None else ms(self.at(at)) for at in gap or (0, 0))
             wait = max(it.went - self.told.entry(it), 0)
-            told = (way, low, high - low, ms(wait), ms(it.went - self.deadlines[place]), cause, since, until)
+            flying = self.flying(gap[0]) if cause == "stall" else ""
+            told = (way, low, high - low, ms(wait), ms(it.went - self.deadlines[place]), cause, since, until, flying)
             yield ",".join(map(str, (place + 1, it.pid, *told)))
 
     def spans_after(self, way, time):
@@ -288,6 +309,9 @@ class Blame:
         lines = lambda it: "".join(f"{line}\n" for line in it)
         yield [], lines(self.whole(10))
         yield ["--all"], lines(self.whole(len(self.taken)))
+        yield ["--by", "cpu"], lines(self.whole(10, "cpu"))
+        yield ["--by", "cpu", "--top", "1"], lines(self.whole(1, "cpu"))
+        yield ["--by", "none"], lines(self.whole(10, "none"))
         yield ["--each"], lines(self.each())
         yield ["--tightest", "99%"], lines(self.tightest("R", 99))
         yield ["--tightest", "80%", "--for", "writes"], lines(self.tightest("W", 80))

@@ -133,7 +133,7 @@ def in_ms(value, word=""):
 
 def blamed(words, texts):
     """An object of numbers, of times as they stand, of shares in thousandths and of words."""
-    plain = lambda word, it: int(it.replace(".", "") if word == "share" else it)
+    plain = lambda word, it: int(it.replace(".", "") if word in ("share", "waited") else it)
     read = lambda word, it: None if it in ("none", "") else it if word in (*TIMES, "dir", "cause", "stage") else plain(word, it)
     return {word: read(word, it) for word, it in zip(words, texts, strict=True)}
 
@@ -146,14 +146,14 @@ def of_blame(lines):
         head, *rows = (line.split(",") for line in lines)
         return {"late": [blamed(head, row) for row in rows]}
     top, *tables = "\n".join(lines).split("\n\n")
-    form = r"(\d+) requests in (\S+) ms\nlate (\d+): reads (\d+), writes (\d+)\nhad to be (\d+): by stall (\d+), by crowding (\d+), by arrival (\d+)\n"
+    form = r"(\d+) requests in (\S+) ms, at least one waiting in (\S+) % of it\nlate (\d+): reads (\d+), writes (\d+)\nhad to be (\d+): by stall (\d+), by crowding (\d+), by arrival (\d+)\n"
     form += r"the scheduler's (\d+)\noverrun in ms: p50 (\S+), p99 (\S+), max (\S+)"
     found = re.fullmatch(form, top).groups()
-    words = ("requests", "span", "late", "late_reads", "late_writes", "unavoidable", "stalled", "crowded", "arrivals", "avoidable")
-    told = {**blamed(words, found[:10]), "overrun": blamed(("p50", "p99", "max"), found[10:])}
+    words = ("requests", "span", "waited", "late", "late_reads", "late_writes", "unavoidable", "stalled", "crowded", "arrivals", "avoidable")
+    told = {**blamed(words, found[:11]), "overrun": blamed(("p50", "p99", "max"), found[11:])}
     for table in tables:
         title, head, *rows = table.split("\n")
-        told[re.sub(r".*(windows|stages|processes|stalls),.*", r"\1", title)] = [blamed(head.split(), row.split()) for row in rows]
+        told[re.sub(r".*(windows|stages|processes|processors|stalls),.*", r"\1", title)] = [blamed(head.split(), row.split()) for row in rows]
     return told
 
 

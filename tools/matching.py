@@ -23,7 +23,7 @@ import subprocess
 import sys
 from bisect import bisect_left, bisect_right
 from collections import Counter
-from dataclasses import dataclass, field
+from dataclasses import dataclass, field, replace
 from pathlib import Path
 
 sys.dont_write_bytecode = True
@@ -47,6 +47,7 @@ class Record:
     rwbs: str
     first: int
     sectors: int
+    cpu: int = 0
 
 
 @dataclass
@@ -70,6 +71,7 @@ class Request:
     pid: int
     got: int
     age: int
+    cpu: int = 0
     place: str = "opened"
     inserted: int = None
     merged: int = None
@@ -106,7 +108,7 @@ class Matching:
 
     def take(self, record):
         """Takes in a record."""
-        self.now, self.pid = record.time, record.pid
+        self.now, self.pid, self.cpu = record.time, record.pid, record.cpu
         if reason(record):
             self.roles.append(None)
             return
@@ -148,7 +150,7 @@ class Matching:
         if bio is None:
             return None
         bio.waits = False
-        bio.request = Request(span, span, bio, self.pid, self.now, len(self.roles))
+        bio.request = Request(span, span, bio, self.pid, self.now, len(self.roles), self.cpu)
         self.requests.append(bio.request)
         return bio.request
 
@@ -372,11 +374,11 @@ def drawn_record(draw, time, known):
 
 def drawn(seed):
     """A capture and options, the same ones for the same seed."""
-    draw = random.Random(seed)
+    draw, drawn_cpu = random.Random(seed), random.Random(f"{seed}, processors")
     known, records, time = Matching(), [], draw.choice((0, 0, 10**9 - 3, 17 * 10**9))
     rare = draw.choice((None, None, "I", "R", "X"))
     for _ in range(draw.choice((0, 1, 12, 40, 40, 120, 120, 300))):
-        record = drawn_record(draw, time, known)
+        record = replace(drawn_record(draw, time, known), cpu=drawn_cpu.choice((0, 0, 1, 3, 20)))
         # some captures have hardly any record of a letter
         if record.action != rare or draw.random() < 0.05:
             records.append(record)
@@ -393,15 +395,15 @@ def drawn(seed):
 
 def text_of(records):
     """The records as a capture."""
-    fields = (f"{it.time // 10**9},{it.time % 10**9:09},0,{it.action},{it.pid},{it.rwbs},{it.first},{it.sectors}\n" for it in records)
+    fields = (f"{it.time // 10**9},{it.time % 10**9:09},{it.cpu},{it.action},{it.pid},{it.rwbs},{it.first},{it.sectors}\n" for it in records)
     return "blk-capture,1,,,,,,\n" + "".join(fields)
 
 
 def records_of(text):
     """The records of a capture, of which nothing is wrong."""
     for line in text.splitlines()[1:]:
-        seconds, nanoseconds, _, action, pid, rwbs, first, sectors = line.split(",")
-        yield Record(int(seconds) * 10**9 + int(nanoseconds), action, int(pid), rwbs, int(first), int(sectors))
+        seconds, nanoseconds, cpu, action, pid, rwbs, first, sectors = line.split(",")
+        yield Record(int(seconds) * 10**9 + int(nanoseconds), action, int(pid), rwbs, int(first), int(sectors), int(cpu))
 
 
 def run_of(subcommand, words, text, written, said):

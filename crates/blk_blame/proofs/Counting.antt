@@ -1,4 +1,4 @@
--- Processes are counted in any order of them.
+-- Processes, or processors, are counted in any order of them.
 use Rattle.std.proofs.Common.{◌≡◌, ◌+◌, ℕ, List, cond, count_by, nat_lt, nat_le, inl, inr, arith, refl}
 use Rattle.std.specs.Prelude.{◌==◌, IsPermutation}
 use Rattle.std.proofs.lemmas.Bool.{cases_lt, lt-ltb, le-ltb, lt-leb, le-leb}
@@ -6,7 +6,8 @@ use Rattle.std.proofs.lemmas.Bool.Decides.{eqb_tells}
 use Rattle.std.proofs.lemmas.List.Sorted.{sum_by-IsPermutation}
 use Rattle.edd_blame.proofs.Clocks.{count_parts}
 use Rattle.blk_capture.specs.declared.requests.CapturedRequest.{CapturedRequest}
-use Rattle.blk_blame.specs.Hurts.{late_pids, number_late_of}
+use Rattle.blk_blame.specs.Hurts.{hurt_keys, number_late_of}
+use Rattle.blk_blame.specs.declared.grouped.GroupedBy.{GroupedBy}
 
 -- a number that is no greater is less or the same
 one_of : (p x : ℕ) → cond (nat_lt x p) 1 0 + cond (x == p) 1 0 ≡ cond (nat_le x p) 1 0
@@ -24,7 +25,7 @@ one_of p x =
           ]
     ]
 
-pub counted_of : (requests : List CapturedRequest) (sorted : List ℕ) (pid : ℕ) → IsPermutation (late_pids requests) sorted
-    → count_by (λ x. nat_lt x pid) sorted + number_late_of requests pid ≡ count_by (λ x. nat_le x pid) sorted
-counted_of requests sorted pid same =
-    omega (arith, count_parts (λ x. nat_lt x pid) (λ x. x == pid) (λ x. nat_le x pid) (one_of pid) sorted, sum_by-IsPermutation (λ x. cond (x == pid) 1 0) (late_pids requests) sorted same)
+pub counted_of : (by : GroupedBy) (requests : List CapturedRequest) (sorted : List ℕ) (key : ℕ) → IsPermutation (hurt_keys by requests) sorted
+    → count_by (λ x. nat_lt x key) sorted + number_late_of by requests key ≡ count_by (λ x. nat_le x key) sorted
+counted_of by requests sorted key same =
+    omega (arith, count_parts (λ x. nat_lt x key) (λ x. x == key) (λ x. nat_le x key) (one_of key) sorted, sum_by-IsPermutation (λ x. cond (x == key) 1 0) (hurt_keys by requests) sorted same)

@@ -37,6 +37,7 @@ nobody = record {
   bios = 0;
   bio = 0;
   pid = 0;
+  cpu = 0;
   queued = 0;
   got = 0;
   inserted = None;

@@ -7,7 +7,9 @@ use Rattle.std.proofs.lemmas.List.FromFn.{get_or-range_with_len, length-range_wi
 use Rattle.std.proofs.lemmas.List.Kept.{AllPairs-filter}
 use Rattle.edd_blame.specs.Parts.{ArePlaces}
 use Rattle.blk_capture.specs.declared.requests.CapturedRequest.{CapturedRequest}
-use Rattle.blk_blame.specs.Processes.{is_opened_by, own_places}
+use Rattle.blk_blame.specs.Grouped.{group_key}
+use Rattle.blk_blame.specs.Groups.{is_in_group, own_places}
+use Rattle.blk_blame.specs.declared.grouped.GroupedBy.{GroupedBy}
 
 -- they stand once each
 filter_places : (p : ℕ → Bool) (n : ℕ) → ArePlaces n (filter p (range_with_len 0 n))
@@ -24,22 +26,22 @@ filter_places p n = record {
       omega (arith, low, first, other, e));
 }
 
-pub are_own_places : (requests : List CapturedRequest) (pid : ℕ) → ArePlaces (length requests) (own_places requests pid)
+pub are_own_places : (by : GroupedBy) (requests : List CapturedRequest) (key : ℕ) → ArePlaces (length requests) (own_places by requests key)
 unfolding own_places
-are_own_places requests pid = filter_places (is_opened_by requests pid) (length requests)
+are_own_places by requests key = filter_places (is_in_group by requests key) (length requests)
 
--- whether the request at a place was opened by the process
-pub opened : (requests : List CapturedRequest) (pid i : ℕ) (d : CapturedRequest) → i < length requests → (get_or requests i d).pid ≡ pid → is_opened_by requests pid i ≡ true
-opened [] pid i d h e = absurd (omega (arith, h))
-opened (q ∷ qs) pid zero d h e = eq-eqb q.pid pid e
-opened (q ∷ qs) pid (suc i) d h e = opened qs pid i d (omega (arith, h)) e
+-- whether the request at a place was opened by the process, or on the processor
+pub opened : (by : GroupedBy) (requests : List CapturedRequest) (key i : ℕ) (d : CapturedRequest) → i < length requests → group_key by (get_or requests i d) ≡ key → is_in_group by requests key i ≡ true
+opened by [] key i d h e = absurd (omega (arith, h))
+opened by (q ∷ qs) key zero d h e = eq-eqb (group_key by q) key e
+opened by (q ∷ qs) key (suc i) d h e = opened by qs key i d (omega (arith, h)) e
 
-pub unopened : (requests : List CapturedRequest) (pid i : ℕ) (d : CapturedRequest) → i < length requests → (get_or requests i d).pid ≢ pid → is_opened_by requests pid i ≡ false
-unopened [] pid i d h e = absurd (omega (arith, h))
-unopened (q ∷ qs) pid zero d h e = ne_eqb q.pid pid e
-unopened (q ∷ qs) pid (suc i) d h e = unopened qs pid i d (omega (arith, h)) e
+pub unopened : (by : GroupedBy) (requests : List CapturedRequest) (key i : ℕ) (d : CapturedRequest) → i < length requests → group_key by (get_or requests i d) ≢ key → is_in_group by requests key i ≡ false
+unopened by [] key i d h e = absurd (omega (arith, h))
+unopened by (q ∷ qs) key zero d h e = ne_eqb (group_key by q) key e
+unopened by (q ∷ qs) key (suc i) d h e = unopened by qs key i d (omega (arith, h)) e
 
 -- all of them
-pub all_opened : (requests : List CapturedRequest) (pid i : ℕ) (found : List ℕ) → i ≡ length requests → found ≡ filter (is_opened_by requests pid) (range_with_len 0 i) → found ≡ own_places requests pid
+pub all_opened : (by : GroupedBy) (requests : List CapturedRequest) (key i : ℕ) (found : List ℕ) → i ≡ length requests → found ≡ filter (is_in_group by requests key) (range_with_len 0 i) → found ≡ own_places by requests key
 unfolding own_places
-all_opened requests pid i found all so_far = so_far ∙ ap (λ n. filter (is_opened_by requests pid) (range_with_len 0 n)) all
+all_opened by requests key i found all so_far = so_far ∙ ap (λ n. filter (is_in_group by requests key) (range_with_len 0 n)) all

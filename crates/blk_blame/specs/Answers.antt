@@ -2,7 +2,7 @@
 use Rattle.std.specs.Prelude.{ℕ, ◌-◌, ◌==◌, List, [], ◌∷◌, ◌++◌, map, true, Option, None, Some, codes, slice_get, option_map, option_and_then, if◌then◌else◌}
 use Rattle.answer.specs.declared.names.TheConstants as names
 use Rattle.answer.specs.declared.value.Value.{Value}
-use Rattle.answer.specs.declared.value.Value.TheVariants.{Count}
+use Rattle.answer.specs.declared.value.Value.TheVariants.{Count, Nothing, Share}
 use Rattle.answer.specs.declared.cells.Cell.{Cell}
 use Rattle.answer.specs.declared.cells.Column.{Column}
 use Rattle.answer.specs.declared.cells.Layout.TheVariants.{Words, Right}
@@ -16,16 +16,25 @@ use Rattle.edd_blame.specs.declared.sum.Reasons.{Reasons}
 use Rattle.edd_blame.specs.declared.sum.StallTime.{StallTime}
 use Rattle.edd_figures.specs.declared.missing.Counts.{Counts}
 use Rattle.edd_figures.specs.declared.missing.Crowd.{Crowd}
+use Rattle.blk_blame.specs.Flying.{in_flight_from}
 use Rattle.blk_blame.specs.declared.names.TheConstants as own
 use Rattle.blk_blame.specs.declared.totals.Totals.{Totals}
 
 abbrev pub behind : List ℕ → List ℕ → Value → Cell
 behind words name value = cell (Words words) name value
 
--- parts with what is said of the capture as a whole behind them: how many requests and how long, how many were late, how many had to be and by what, how many need not have been,
+-- a share, or none
+abbrev pub shared : Option ℕ → Value
+shared None = Nothing names.NONE.now
+shared (Some share) = Share share
+
+-- parts with what is said of the capture as a whole behind them: how many requests, how long and in which share of that at least one waited, how many were late, how many had to be and by what, how many need not have been,
 -- and by how much late ones were
 abbrev pub requests_part : Totals → Part
-requests_part t = Line (record { cells = behind [] own.REQUESTS.now (Count t.requests) ∷ behind (codes " requests in ") own.SPAN.now (clocked (Some t.span)) ∷ []; end = codes " ms" ++ 10 ∷ [] })
+requests_part t = Line (record {
+  cells = behind [] own.REQUESTS.now (Count t.requests) ∷ behind (codes " requests in ") own.SPAN.now (clocked (Some t.span)) ∷ behind (codes " ms, at least one waiting in ") own.WAITED.now (shared t.waited) ∷ [];
+  end = codes " % of it" ++ 10 ∷ [];
+})
 
 abbrev pub late_part : Totals → Counts → Part
 late_part t c = Line (record { cells = behind (codes "late ") names.LATE.now (Count c.late) ∷ behind (codes ": reads ") own.LATE_READS.now (Count t.late_reads) ∷ behind (codes ", writes ") own.LATE_WRITES.now (Count t.late_writes) ∷ []; end = 10 ∷ [] })
@@ -64,15 +73,15 @@ time_between from until = option_and_then (λ f. option_map (λ u. u - f) until)
 abbrev pub title : List ℕ → Part
 title words = Line (record { cells = []; end = words })
 
--- stalls: from the dispatch before to the next one, and how many requests were due in it
+-- stalls: from the dispatch before to the next one, how many requests were due in it, and how many were at the device when it began
 abbrev pub stall_columns : List Column
-stall_columns = column (Right 12) names.FROM.now ∷ column (Right 12) names.UNTIL.now ∷ column (Right 10) own.LENGTH.now ∷ column (Right 10) own.REQUESTS.now ∷ []
+stall_columns = column (Right 12) names.FROM.now ∷ column (Right 12) names.UNTIL.now ∷ column (Right 10) own.LENGTH.now ∷ column (Right 10) own.REQUESTS.now ∷ column (Right 11) own.IN_FLIGHT.now ∷ []
 
 abbrev pub stall_row : ℕ → List CapturedRequest → StallTime → List Value
 stall_row begin requests s =
     let from = time_of_dispatch begin requests s.after in
     let until = time_after begin requests s.after in
-    clocked from ∷ clocked until ∷ clocked (time_between from until) ∷ Count s.requests ∷ []
+    clocked from ∷ clocked until ∷ clocked (time_between from until) ∷ Count s.requests ∷ Count (in_flight_from requests s.after) ∷ []
 
 abbrev pub with_stalls : ℕ → List CapturedRequest → List StallTime → List Part → List Part
 with_stalls begin requests stalls parts =

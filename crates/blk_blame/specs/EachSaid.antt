@@ -15,6 +15,7 @@ use Rattle.edd_blame.specs.declared.late.Cause.TheVariants.{Arrival, Stall, Spar
 use Rattle.blk_blame.specs.declared.names.TheConstants as own
 use Rattle.blk_blame.specs.declared.each.LateRequest.{LateRequest}
 use Rattle.blk_blame.specs.Answers.{time_after, time_of_dispatch}
+use Rattle.blk_blame.specs.Flying.{in_flight_from}
 
 abbrev pub dir_value : Dir → Value
 dir_value Read = Text names.READS.now
@@ -39,23 +40,37 @@ until_by begin requests Stall due = time_after begin requests due
 until_by begin requests Spare due = None
 until_by begin requests (Full w) due = time_of_dispatch begin requests w.due
 
+-- and how many were at the device when its stall began
+abbrev pub flying_by : List CapturedRequest → Cause → ℕ → Option ℕ
+flying_by requests Arrival due = None
+flying_by requests Stall due = Some (in_flight_from requests due)
+flying_by requests Spare due = None
+flying_by requests (Full w) due = None
+
 abbrev pub gap_from : ℕ → List CapturedRequest → LateRequest → Option ℕ
 gap_from begin requests l = from_by begin requests l.cause l.command.due
 
 abbrev pub gap_until : ℕ → List CapturedRequest → LateRequest → Option ℕ
 gap_until begin requests l = until_by begin requests l.cause l.command.due
 
+abbrev pub gap_flying : List CapturedRequest → LateRequest → Option ℕ
+gap_flying requests l = flying_by requests l.cause l.command.due
+
 abbrev pub spoken : Option ℕ → Value
 spoken None = Nothing []
 spoken (Some n) = Time n
 
+abbrev pub number_spoken : Option ℕ → Value
+number_spoken None = Nothing []
+number_spoken (Some n) = Count n
+
 abbrev pub each_columns : List Column
-each_columns = record_columns (names.ID.now ∷ own.PID.now ∷ names.DIR.now ∷ names.FIRST.now ∷ names.SECTORS.now ∷ names.WAIT.now ∷ own.OVERRUN.now ∷ own.CAUSE.now ∷ names.FROM.now ∷ names.UNTIL.now ∷ [])
+each_columns = record_columns (names.ID.now ∷ own.PID.now ∷ names.DIR.now ∷ names.FIRST.now ∷ names.SECTORS.now ∷ names.WAIT.now ∷ own.OVERRUN.now ∷ own.CAUSE.now ∷ names.FROM.now ∷ names.UNTIL.now ∷ own.IN_FLIGHT.now ∷ [])
 
 abbrev pub each_row : ℕ → List CapturedRequest → LateRequest → List Value
 each_row begin requests l =
     Count l.command.id ∷ Count l.pid ∷ dir_value l.dir ∷ Count l.first ∷ Count l.sectors ∷ Time l.wait ∷ Time l.overrun ∷ cause_value l.cause
-    ∷ spoken (gap_from begin requests l) ∷ spoken (gap_until begin requests l) ∷ []
+    ∷ spoken (gap_from begin requests l) ∷ spoken (gap_until begin requests l) ∷ number_spoken (gap_flying requests l) ∷ []
 
 abbrev pub each_part : ℕ → List CapturedRequest → List LateRequest → Part
 each_part begin requests lates = Rows (record { name = names.LATE.now; columns = each_columns; head = true; rows = map (each_row begin requests) lates })

@@ -1,28 +1,30 @@
--- The processes whose requests were late, and how many of each were.
+-- The processes, or the processors, whose requests were late, and how many of each were.
 use Rattle.std.specs.Prelude.{ℕ, ◌≡◌, ◌==◌, List, map, count_by, Contains, Option, Some, None, cond, nat_lt}
 use Rattle.std.specs.List.{filter_map}
 use Rattle.std.specs.List.Sorted.{IsStrictlyIncreasing}
 use Rattle.blk_capture.specs.declared.requests.CapturedRequest.{CapturedRequest}
+use Rattle.blk_blame.specs.Grouped.{group_key}
+use Rattle.blk_blame.specs.declared.grouped.GroupedBy.{GroupedBy}
 use Rattle.blk_blame.specs.declared.hurts.Hurt.{Hurt}
 
--- the processes of late requests, one each
-abbrev pub late_pid : CapturedRequest → Option ℕ
-late_pid q = cond (nat_lt q.deadline q.dispatched) (Some q.pid) None
+-- those of late requests, one each
+abbrev pub hurt_key : GroupedBy → CapturedRequest → Option ℕ
+hurt_key by q = cond (nat_lt q.deadline q.dispatched) (Some (group_key by q)) None
 
-abbrev pub late_pids : List CapturedRequest → List ℕ
-late_pids requests = filter_map late_pid requests
+abbrev pub hurt_keys : GroupedBy → List CapturedRequest → List ℕ
+hurt_keys by requests = filter_map (hurt_key by) requests
 
--- how many late requests a process has
-abbrev pub number_late_of : List CapturedRequest → ℕ → ℕ
-number_late_of requests pid = count_by (λ p. p == pid) (late_pids requests)
+-- how many late requests one has
+abbrev pub number_late_of : GroupedBy → List CapturedRequest → ℕ → ℕ
+number_late_of by requests key = count_by (λ k. k == key) (hurt_keys by requests)
 
-abbrev pub hurt_by : List CapturedRequest → ℕ → Hurt
-hurt_by requests pid = record { pid = pid; late = number_late_of requests pid }
+abbrev pub hurt_by : GroupedBy → List CapturedRequest → ℕ → Hurt
+hurt_by by requests key = record { key = key; late = number_late_of by requests key }
 
--- the processes that have some, by rising numbers, each once
-pub record AreHurt (requests : List CapturedRequest) (hurts : List Hurt) : Type 0 where
-  pub pids : List ℕ
-  pub rise : IsStrictlyIncreasing pids
-  pub all : (p : ℕ) → Contains (late_pids requests) p → Contains pids p
-  pub only : (p : ℕ) → Contains pids p → Contains (late_pids requests) p
-  pub are : hurts ≡ map (hurt_by requests) pids
+-- those that have some, by rising numbers, each once
+pub record AreHurt (by : GroupedBy) (requests : List CapturedRequest) (hurts : List Hurt) : Type 0 where
+  pub keys : List ℕ
+  pub rise : IsStrictlyIncreasing keys
+  pub all : (k : ℕ) → Contains (hurt_keys by requests) k → Contains keys k
+  pub only : (k : ℕ) → Contains keys k → Contains (hurt_keys by requests) k
+  pub are : hurts ≡ map (hurt_by by requests) keys

@@ -1,14 +1,14 @@
 -- What is said of stages.
-use Rattle.std.specs.Prelude.{ℕ, ◌∷◌, ◌++◌, [], List, map, true, codes, Option, None, Some}
+use Rattle.std.specs.Prelude.{ℕ, ◌∷◌, ◌++◌, [], List, map, true, codes}
 use Rattle.answer.specs.declared.names.TheConstants as names
 use Rattle.answer.specs.declared.value.Value.{Value}
-use Rattle.answer.specs.declared.value.Value.TheVariants.{Count, Text, Nothing, Share}
+use Rattle.answer.specs.declared.value.Value.TheVariants.{Count, Text}
 use Rattle.answer.specs.declared.cells.Column.{Column}
 use Rattle.answer.specs.declared.cells.Layout.TheVariants.{Left, Right}
 use Rattle.answer.specs.declared.answer.Part.{Part}
 use Rattle.answer.specs.declared.answer.Part.TheVariants.{Rows}
 use Rattle.answer.specs.Parts.{column, clocked}
-use Rattle.blk_blame.specs.Answers.{title}
+use Rattle.blk_blame.specs.Answers.{title, shared}
 use Rattle.blk_blame.specs.EachSaid.{dir_value}
 use Rattle.blk_blame.specs.declared.names.TheConstants as own
 use Rattle.blk_blame.specs.declared.stages.Stage.{Stage}
@@ -25,11 +25,6 @@ stage_name Whole = Text own.Q2C.now
 
 abbrev pub stage_columns : List Column
 stage_columns = column (Left 6) own.STAGE.now ∷ column (Left 4) names.DIR.now ∷ column (Right 9) names.COUNT.now ∷ column (Right 12) names.P50.now ∷ column (Right 12) names.P99.now ∷ column (Right 12) names.MAX.now ∷ column (Right 8) own.SHARE.now ∷ []
-
--- a share, or none
-abbrev pub shared : Option ℕ → Value
-shared None = Nothing names.NONE.now
-shared (Some share) = Share share
 
 abbrev pub stage_cells : StageRow → List Value
 stage_cells r = stage_name r.stage ∷ dir_value r.dir ∷ Count r.times.count ∷ clocked r.times.p50 ∷ clocked r.times.p99 ∷ clocked r.times.max ∷ shared r.share ∷ []

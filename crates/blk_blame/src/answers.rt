@@ -1,14 +1,21 @@
 //! What is said of who was late, and why.
 
-ghost use Rattle.std.specs.Prelude.{◌≡◌, IfOk, OnOk, map};
+ghost use Rattle.std.specs.Prelude.{ℕ, ◌≡◌, IfOk, OnOk, count_by, map, nat_le};
+ghost use Rattle.std.specs.List.Sorted.{IsNonDecreasingBy};
 ghost use Rattle.answer.specs.Parts.{cell, clocked};
-ghost use Rattle.blk_blame.specs.Answers.{time_after, time_of_dispatch, time_between, requests_part, late_part, unavoidable_part, avoidable_part, overrun_part, with_totals, stall_columns, stall_row, with_stalls, window_columns, window_row, with_windows};
+ghost use Rattle.blk_capture.specs.Requests.{AreTimed};
+ghost use Rattle.blk_capture.specs.Summaries.{back_by};
+ghost use Rattle.blk_blame.specs.Answers.{shared, time_after, time_of_dispatch, time_between, requests_part, late_part, unavoidable_part, avoidable_part, overrun_part, with_totals, stall_columns, stall_row, with_stalls, window_columns, window_row, with_windows};
 
+use crate::flying::in_flight_from;
 use crate::names::{
-    ARRIVALS, CROWDED, LATE_READS, LATE_WRITES, LENGTH, OVERRUN, REQUESTS, SPAN, STALLED, STALLS,
+    ARRIVALS, CROWDED, IN_FLIGHT, LATE_READS, LATE_WRITES, LENGTH, OVERRUN, REQUESTS, SPAN,
+    STALLED, STALLS, WAITED,
 };
 use crate::totals::Totals;
-use answer::names::{AVOIDABLE, CARRIES, FROM, LATE, MAX, P50, P99, UNAVOIDABLE, UNTIL, WINDOWS};
+use answer::names::{
+    AVOIDABLE, CARRIES, FROM, LATE, MAX, NONE, P50, P99, UNAVOIDABLE, UNTIL, WINDOWS,
+};
 use answer::{Answer, Cell, Column, Layout, Line, Part, Row, Rows, Value, Word, time_or_none};
 use blk_capture::{CapturedRequest, Percentiles};
 use edd_blame::{Reasons, StallTime};
@@ -39,7 +46,24 @@ fn time_behind(words: &'static str, name: &'static str, time: Option<u64>) -> Ce
     cell(Layout::Words(Word::new(words)), name, time_or_none(time))
 }
 
-/// How many requests, and how long.
+/// A share, or `none` where there is none.
+pub(crate) fn share_or_none(share: Option<u64>) -> Value
+    ensures { result ≡ shared share }
+{
+    match share {
+        Some(share) => Value::Share(share),
+        None => Value::Nothing(Word::new(NONE)),
+    }
+}
+
+/// A cell of a share behind words.
+fn share_behind(words: &'static str, name: &'static str, share: Option<u64>) -> Cell
+    ensures { result ≡ cell (Layout.Words words.now) name.now (shared share) }
+{
+    cell(Layout::Words(Word::new(words)), name, share_or_none(share))
+}
+
+/// How many requests, how long, and in which share of that at least one waited.
 fn requests_part(alloc: Global, totals: &Totals) -> Result<Part, AllocError>
     ensures { IfOk result (λ part. part ≡ requests_part totals.now) }
 {
@@ -48,9 +72,10 @@ fn requests_part(alloc: Global, totals: &Totals) -> Result<Part, AllocError>
         [
             count_behind("", REQUESTS, totals.requests),
             time_behind(" requests in ", SPAN, Some(totals.span)),
+            share_behind(" ms, at least one waiting in ", WAITED, totals.waited),
         ],
     )?;
-    Ok(Part::Line(Line::new(cells, " ms\n")))
+    Ok(Part::Line(Line::new(cells, " % of it\n")))
 }
 
 /// How many were late, by direction.
@@ -171,18 +196,23 @@ fn stall_columns(alloc: Global) -> Result<Vec<Column>, AllocError>
             Column::new(Layout::Right(12), UNTIL),
             Column::new(Layout::Right(10), LENGTH),
             Column::new(Layout::Right(10), REQUESTS),
+            Column::new(Layout::Right(11), IN_FLIGHT),
         ],
     )?;
     Ok(columns)
 }
 
-/// The row of a stall: from the dispatch before it to the next one.
+/// The row of a stall: from the dispatch before it to the next one, and how many were at the device then.
 fn stall_row(
     alloc: Global,
     begin: u64,
     requests: &[CapturedRequest],
+    completions: &[u64],
     stall: StallTime,
 ) -> Result<Row, AllocError>
+    requires timed { AreTimed requests.now }
+    requires sorted { IsNonDecreasingBy (λ x. x) completions.now }
+    requires counted { (t : ℕ) → count_by (λ x. nat_le x t) completions.now ≡ count_by (back_by t) requests.now }
     ensures { IfOk result (λ row. row ≡ stall_row begin requests.now stall) }
 {
     let from = time_of_dispatch(begin, requests, stall.after);
@@ -194,6 +224,7 @@ fn stall_row(
             time_or_none(until),
             time_or_none(time_between(from, until)),
             Value::Count(stall.requests),
+            Value::Count(in_flight_from(requests, completions, stall.after)),
         ],
     )?;
     Ok(Row::new(values))
@@ -204,29 +235,37 @@ fn stall_rows(
     alloc: Global,
     begin: u64,
     requests: &[CapturedRequest],
+    completions: &[u64],
     stalls: &[StallTime],
 ) -> Result<Vec<Row>, AllocError>
+    requires timed { AreTimed requests.now }
+    requires sorted { IsNonDecreasingBy (λ x. x) completions.now }
+    requires counted { (t : ℕ) → count_by (λ x. nat_le x t) completions.now ≡ count_by (back_by t) requests.now }
     ensures { IfOk result (λ rows. rows.items ≡ map (λ s. stall_row begin requests.now s) stalls.now) }
 {
     let mut rows = Vec::new(alloc);
     for stall in stalls {
-        rows.push(stall_row(alloc, begin, requests, *stall)?)?;
+        rows.push(stall_row(alloc, begin, requests, completions, *stall)?)?;
     }
     Ok(rows)
 }
 
-/// Adds stalls, with times from a beginning on.
+/// Adds stalls, with times from a beginning on. `completions` are those of [`blk_capture::completions_of`].
 pub fn add_stalls(
     answer: &mut Answer,
     alloc: Global,
     begin: u64,
     requests: &[CapturedRequest],
+    completions: &[u64],
     stalls: &[StallTime],
 ) -> Result<(), AllocError>
+    requires timed { AreTimed requests.now }
+    requires sorted { IsNonDecreasingBy (λ x. x) completions.now }
+    requires counted { (t : ℕ) → count_by (λ x. nat_le x t) completions.now ≡ count_by (back_by t) requests.now }
     ensures { OnOk result (answer.new ≡ with_stalls begin requests.now stalls.now answer.old) }
 {
     let columns = stall_columns(alloc)?;
-    let rows = stall_rows(alloc, begin, requests, stalls)?;
+    let rows = stall_rows(alloc, begin, requests, completions, stalls)?;
     let title = Line::new(
         Vec::new(alloc),
         "\nstalls, in which the device took nothing, the greatest first, in ms:\n",

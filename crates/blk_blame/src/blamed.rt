@@ -4,21 +4,22 @@ ghost use Rattle.std.specs.Prelude.{◌≡◌, ◌≤◌, ◌∷◌, [], IfOk, l
 ghost use Rattle.edd_commands.specs.declared.TheConstants.{MAX_COMMANDS};
 ghost use Rattle.blk_capture.specs.Requests.{AreTimed};
 ghost use Rattle.blk_blame.specs.Account.{IsBlameAccount};
-ghost use Rattle.blk_blame.specs.Blamed.{AreProcesses, AreFindings, blame_parts, IsBlameAnswer, IsEachAnswer};
+ghost use Rattle.blk_blame.specs.Blamed.{AreGroups, AreWorstBy, AreWorst, AreFindings, blame_parts, IsBlameAnswer, IsEachAnswer};
 
 use crate::account::{Account, account_of};
 use crate::answers::{add_stalls, add_totals, add_windows};
 use crate::each::lates_of;
 use crate::each_said::add_each;
+use crate::grouped::GroupedBy;
+use crate::groups::{Group, group_of};
+use crate::groups_said::add_groups;
 use crate::hurts::{Hurt, hurts_of};
-use crate::processes::{Process, process_of};
-use crate::processes_said::add_processes;
 use crate::stages::{StageRow, stages_of};
 use crate::stages_said::add_stages;
 use crate::top::{first_of, sort_hurts, sort_stalls, sort_windows};
 use crate::totals::{Totals, totals_of};
 use answer::Answer;
-use blk_capture::CapturedRequest;
+use blk_capture::{CapturedRequest, completions_of};
 use edd_blame::StallTime;
 use edd_figures::Crowd;
 use std::alloc::{AllocError, Global};
@@ -32,50 +33,92 @@ pub struct Findings {
     pub totals: Totals,
     /// How long requests were in each stage, by direction.
     pub stages: Vec<StageRow>,
-    /// The processes that have the most late requests, at most so many.
-    pub processes: Vec<Process>,
+    /// The processes, or the processors, that have the most late requests, at most so many, where they are asked for.
+    pub groups: Vec<Group>,
     /// Its stalls, the greatest first.
     pub stalls: Vec<StallTime>,
     /// Its crowded windows, the greatest first.
     pub windows: Vec<Crowd>,
 }
 
-/// What the late requests of these processes are blamed on.
-fn processes_of(
+/// What the late requests of these processes, or processors, are blamed on.
+fn groups_of(
     alloc: Global,
+    by: GroupedBy,
     requests: &[CapturedRequest],
     account: &Account,
     hurts: &[Hurt],
-) -> Result<Vec<Process>, AllocError>
+) -> Result<Vec<Group>, AllocError>
     requires account { IsBlameAccount requests.now account.now }
     requires few { length requests.now ≤ MAX_COMMANDS }
-    ensures { IfOk result (λ v. AreProcesses requests.now account.now hurts.now v.items) }
+    ensures { IfOk result (λ v. AreGroups by requests.now account.now hurts.now v.items) }
 {
-    let mut processes = Vec::with_capacity(alloc, hurts.len())?;
+    let mut groups = Vec::with_capacity(alloc, hurts.len())?;
     for hurt in hurts {
-        processes.push(process_of(alloc, requests, account, *hurt)?)?;
+        groups.push(group_of(alloc, by, requests, account, *hurt)?)?;
     }
-    Ok(processes)
+    Ok(groups)
 }
 
-/// What is found of these requests, and of the processes that have the most late ones, at most so many. The requests are as
-/// [`blk_capture::match_records`] gives them, at most [`edd_commands::MAX_COMMANDS`] of them. Fails only when out of memory. The time grows as n
-/// log n, once more for each of these processes.
+/// The same of those that have the most late ones, at most so many.
+fn worst_by(
+    alloc: Global,
+    by: GroupedBy,
+    most: u64,
+    requests: &[CapturedRequest],
+    account: &Account,
+) -> Result<Vec<Group>, AllocError>
+    requires account { IsBlameAccount requests.now account.now }
+    requires few { length requests.now ≤ MAX_COMMANDS }
+    ensures { IfOk result (λ v. AreWorstBy by most requests.now account.now v.items) }
+{
+    let mut hurts = hurts_of(alloc, by, requests)?;
+    sort_hurts(&mut hurts)?;
+    let groups = groups_of(
+        alloc,
+        by,
+        requests,
+        account,
+        first_of(hurts.as_slice(), most),
+    )?;
+    Ok(groups)
+}
+
+/// The same where they are asked for.
+fn worst_of(
+    alloc: Global,
+    by: Option<GroupedBy>,
+    most: u64,
+    requests: &[CapturedRequest],
+    account: &Account,
+) -> Result<Vec<Group>, AllocError>
+    requires account { IsBlameAccount requests.now account.now }
+    requires few { length requests.now ≤ MAX_COMMANDS }
+    ensures { IfOk result (λ v. AreWorst by most requests.now account.now v.items) }
+{
+    match by {
+        Some(by) => worst_by(alloc, by, most, requests, account),
+        None => Ok(Vec::new(alloc)),
+    }
+}
+
+/// What is found of these requests, and, where they are asked for, of the processes or processors that have the most late ones, at most so many.
+/// The requests are as [`blk_capture::match_records`] gives them, at most [`edd_commands::MAX_COMMANDS`] of them. Fails only when out of
+/// memory. The time grows as n log n, once more for each of these processes or processors.
 pub fn findings_of(
     alloc: Global,
+    by: Option<GroupedBy>,
     most: u64,
     requests: &[CapturedRequest],
 ) -> Result<Findings, AllocError>
     requires timed { AreTimed requests.now }
     requires few { length requests.now ≤ MAX_COMMANDS }
-    ensures { IfOk result (AreFindings most requests.now) }
+    ensures { IfOk result (AreFindings by most requests.now) }
 {
     let account = account_of(alloc, requests)?;
     let totals = totals_of(alloc, requests)?;
     let stages = stages_of(alloc, requests)?;
-    let mut hurts = hurts_of(alloc, requests)?;
-    sort_hurts(&mut hurts)?;
-    let processes = processes_of(alloc, requests, &account, first_of(hurts.as_slice(), most))?;
+    let groups = worst_of(alloc, by, most, requests, &account)?;
     let mut stalls = Vec::from_slice(alloc, account.blame.stalls.as_slice())?;
     sort_stalls(&mut stalls)?;
     let mut windows = Vec::from_slice(alloc, account.blame.misses.windows.as_slice())?;
@@ -84,7 +127,7 @@ pub fn findings_of(
         account,
         totals,
         stages,
-        processes,
+        groups,
         stalls,
         windows,
     })
@@ -93,14 +136,17 @@ pub fn findings_of(
 /// What is said of that: of at most so many stalls and windows.
 fn told(
     alloc: Global,
+    by: Option<GroupedBy>,
     most: u64,
     begin: u64,
     requests: &[CapturedRequest],
     found: &Findings,
 ) -> Result<Answer, AllocError>
-    ensures { IfOk result (λ a. a ≡ blame_parts most begin requests.now found.now) }
+    requires { AreTimed requests.now }
+    ensures { IfOk result (λ a. a ≡ blame_parts by most begin requests.now found.now) }
 {
     let mut answer = Answer::new(alloc);
+    let completions = completions_of(alloc, requests)?;
     let blame = &found.account.blame;
     let stalls = first_of(found.stalls.as_slice(), most);
     let windows = first_of(found.windows.as_slice(), most);
@@ -112,27 +158,36 @@ fn told(
         blame.reasons,
     )?;
     add_stages(&mut answer, alloc, found.stages.as_slice())?;
-    add_processes(&mut answer, alloc, found.processes.as_slice())?;
-    add_stalls(&mut answer, alloc, begin, requests, stalls)?;
+    add_groups(&mut answer, alloc, by, found.groups.as_slice())?;
+    add_stalls(
+        &mut answer,
+        alloc,
+        begin,
+        requests,
+        completions.as_slice(),
+        stalls,
+    )?;
     add_windows(&mut answer, alloc, begin, requests, windows)?;
     Ok(answer)
 }
 
-/// What the late ones of these requests are blamed on: how many were late and had to be, by what and by how much, the stages, the processes that
-/// have the most late ones, and the greatest stalls and crowded windows, at most `most` of each, with times from `begin` on, which mostly is
-/// that of the capture's first record. The requests are as for [`findings_of`]. Fails only when out of memory.
+/// What the late ones of these requests are blamed on: how many were late and had to be, by what and by how much, the stages, the processes or
+/// processors that have the most late ones, where they are asked for, and the greatest stalls and crowded windows, at most `most` of each, with
+/// times from `begin` on, which mostly is that of the capture's first record. The requests are as for [`findings_of`]. Fails only when out of
+/// memory.
 pub fn blame_answer(
     alloc: Global,
+    by: Option<GroupedBy>,
     most: u64,
     begin: u64,
     requests: &[CapturedRequest],
 ) -> Result<Answer, AllocError>
     requires timed { AreTimed requests.now }
     requires few { length requests.now ≤ MAX_COMMANDS }
-    ensures { IfOk result (IsBlameAnswer most begin requests.now) }
+    ensures { IfOk result (IsBlameAnswer by most begin requests.now) }
 {
-    let found = findings_of(alloc, most, requests)?;
-    let answer = told(alloc, most, begin, requests, &found)?;
+    let found = findings_of(alloc, by, most, requests)?;
+    let answer = told(alloc, by, most, begin, requests, &found)?;
     Ok(answer)
 }
 
@@ -150,7 +205,15 @@ pub fn each_answer(
     let account = account_of(alloc, requests)?;
     let commands = account.counted.commands.as_slice();
     let lates = lates_of(alloc, commands, requests, account.causes.as_slice())?;
+    let completions = completions_of(alloc, requests)?;
     let mut answer = Answer::new(alloc);
-    add_each(&mut answer, alloc, begin, requests, lates.as_slice())?;
+    add_each(
+        &mut answer,
+        alloc,
+        begin,
+        requests,
+        completions.as_slice(),
+        lates.as_slice(),
+    )?;
     Ok(answer)
 }

@@ -1,11 +1,15 @@
 //! What is said of each late request.
 
-ghost use Rattle.std.specs.Prelude.{◌≡◌, IfOk, OnOk, ◌++◌, ◌∷◌, [], map};
-ghost use Rattle.blk_blame.specs.EachSaid.{dir_value, cause_value, gap_from, gap_until, spoken, each_columns, each_row, each_part};
+ghost use Rattle.std.specs.Prelude.{ℕ, ◌≡◌, IfOk, OnOk, ◌++◌, ◌∷◌, [], count_by, map, nat_le};
+ghost use Rattle.std.specs.List.Sorted.{IsNonDecreasingBy};
+ghost use Rattle.blk_capture.specs.Requests.{AreTimed};
+ghost use Rattle.blk_capture.specs.Summaries.{back_by};
+ghost use Rattle.blk_blame.specs.EachSaid.{dir_value, cause_value, gap_from, gap_until, gap_flying, spoken, number_spoken, each_columns, each_row, each_part};
 
 use crate::answers::{time_after, time_of_dispatch};
 use crate::each::LateRequest;
-use crate::names::{CAUSE, OVERRUN, PID, STALL};
+use crate::flying::in_flight_from;
+use crate::names::{CAUSE, IN_FLIGHT, OVERRUN, PID, STALL};
 use answer::names::{
     ARRIVAL, DIR, FIRST, FROM, FULL, ID, LATE, READS, SECTORS, SPARE, UNTIL, WAIT, WRITES,
 };
@@ -59,12 +63,35 @@ fn gap_until(begin: u64, requests: &[CapturedRequest], late: &LateRequest) -> Op
     }
 }
 
+/// How many were at the device when the stall of one that stalled began.
+fn gap_flying(requests: &[CapturedRequest], completions: &[u64], late: &LateRequest) -> Option<u64>
+    requires timed { AreTimed requests.now }
+    requires sorted { IsNonDecreasingBy (λ x. x) completions.now }
+    requires counted { (t : ℕ) → count_by (λ x. nat_le x t) completions.now ≡ count_by (back_by t) requests.now }
+    ensures { result ≡ gap_flying requests.now late.now }
+{
+    match late.cause {
+        Cause::Arrival | Cause::Spare | Cause::Full(_) => None,
+        Cause::Stall => Some(in_flight_from(requests, completions, late.command.due)),
+    }
+}
+
 /// A time, or nothing.
 fn spoken(time: Option<u64>) -> Value
     ensures { result ≡ spoken time }
 {
     match time {
         Some(time) => Value::Time(time),
+        None => Value::Nothing(Word::new("")),
+    }
+}
+
+/// A number, or nothing.
+fn number_spoken(number: Option<u64>) -> Value
+    ensures { result ≡ number_spoken number }
+{
+    match number {
+        Some(number) => Value::Count(number),
         None => Value::Nothing(Word::new("")),
     }
 }
@@ -76,7 +103,7 @@ fn each_columns(alloc: Global) -> Result<Vec<Column>, AllocError>
     record_columns(
         alloc,
         &[
-            ID, PID, DIR, FIRST, SECTORS, WAIT, OVERRUN, CAUSE, FROM, UNTIL,
+            ID, PID, DIR, FIRST, SECTORS, WAIT, OVERRUN, CAUSE, FROM, UNTIL, IN_FLIGHT,
         ],
     )
 }
@@ -86,8 +113,12 @@ fn each_row(
     alloc: Global,
     begin: u64,
     requests: &[CapturedRequest],
+    completions: &[u64],
     late: &LateRequest,
 ) -> Result<Row, AllocError>
+    requires timed { AreTimed requests.now }
+    requires sorted { IsNonDecreasingBy (λ x. x) completions.now }
+    requires counted { (t : ℕ) → count_by (λ x. nat_le x t) completions.now ≡ count_by (back_by t) requests.now }
     ensures { IfOk result (λ row. row ≡ each_row begin requests.now late.now) }
 {
     let values = Vec::from_array(
@@ -103,6 +134,7 @@ fn each_row(
             cause_value(late.cause),
             spoken(gap_from(begin, requests, late)),
             spoken(gap_until(begin, requests, late)),
+            number_spoken(gap_flying(requests, completions, late)),
         ],
     )?;
     Ok(Row::new(values))
@@ -113,28 +145,36 @@ fn each_rows(
     alloc: Global,
     begin: u64,
     requests: &[CapturedRequest],
+    completions: &[u64],
     lates: &[LateRequest],
 ) -> Result<Vec<Row>, AllocError>
+    requires timed { AreTimed requests.now }
+    requires sorted { IsNonDecreasingBy (λ x. x) completions.now }
+    requires counted { (t : ℕ) → count_by (λ x. nat_le x t) completions.now ≡ count_by (back_by t) requests.now }
     ensures { IfOk result (λ rows. rows.items ≡ map (λ l. each_row begin requests.now l) lates.now) }
 {
     let mut rows = Vec::new(alloc);
     for late in lates {
-        rows.push(each_row(alloc, begin, requests, late)?)?;
+        rows.push(each_row(alloc, begin, requests, completions, late)?)?;
     }
     Ok(rows)
 }
 
-/// Adds late requests, with times from a beginning on.
+/// Adds late requests, with times from a beginning on. `completions` are those of [`blk_capture::completions_of`].
 pub fn add_each(
     answer: &mut Answer,
     alloc: Global,
     begin: u64,
     requests: &[CapturedRequest],
+    completions: &[u64],
     lates: &[LateRequest],
 ) -> Result<(), AllocError>
+    requires timed { AreTimed requests.now }
+    requires sorted { IsNonDecreasingBy (λ x. x) completions.now }
+    requires counted { (t : ℕ) → count_by (λ x. nat_le x t) completions.now ≡ count_by (back_by t) requests.now }
     ensures { OnOk result (answer.new ≡ answer.old ++ each_part begin requests.now lates.now ∷ []) }
 {
     let columns = each_columns(alloc)?;
-    let rows = each_rows(alloc, begin, requests, lates)?;
+    let rows = each_rows(alloc, begin, requests, completions, lates)?;
     answer.add(Part::Rows(Rows::new(LATE, columns, true, rows)))
 }

@@ -1,40 +1,45 @@
-//! The processes whose requests were late, and how many of each were.
+//! The processes, or the processors, whose requests were late, and how many of each were.
 
 ghost use Rattle.std.specs.Prelude.{ℕ, ◌≡◌, ◌≤◌, IfOk, Contains, count_by, nat_le, nat_lt, map};
 ghost use Rattle.std.specs.List.{filter_map};
 ghost use Rattle.std.specs.List.Sorted.{IsNonDecreasingBy, IsPermutation, IsStrictlyIncreasing};
-ghost use Rattle.blk_blame.specs.Hurts.{late_pid, late_pids, hurt_by, AreHurt};
+ghost use Rattle.blk_blame.specs.Hurts.{hurt_key, hurt_keys, hurt_by, AreHurt};
 
+use crate::grouped::GroupedBy;
 use blk_capture::CapturedRequest;
 use std::alloc::{AllocError, Global};
 
-/// A process whose requests were late.
+/// A process, or a processor, whose requests were late.
 #[derive(Clone, Copy, Debug, PartialEq, Eq)]
 pub struct Hurt {
-    /// The process.
-    pub pid: u64,
-    /// How many of the requests that it opened were late.
+    /// Its number.
+    pub key: u64,
+    /// How many of the requests that were opened by it, or on it, were late.
     pub late: u64,
 }
 
-/// The process of a request, if it was late.
-fn late_pid(request: &CapturedRequest) -> Option<u64>
-    ensures { result ≡ late_pid request.now }
+/// That of a request, if it was late.
+fn hurt_key(by: GroupedBy, request: &CapturedRequest) -> Option<u64>
+    ensures { result ≡ hurt_key by request.now }
 {
     if request.deadline < request.dispatched {
-        Some(request.pid)
+        Some(by.group_key(request))
     } else {
         None
     }
 }
 
-/// The processes of the late ones of the requests, in the order of these.
-fn late_pids(alloc: Global, requests: &[CapturedRequest]) -> Result<Vec<u64>, AllocError>
-    ensures { IfOk result (λ v. v.items ≡ late_pids requests.now) }
+/// Those of the late ones of the requests, in the order of these.
+fn hurt_keys(
+    alloc: Global,
+    by: GroupedBy,
+    requests: &[CapturedRequest],
+) -> Result<Vec<u64>, AllocError>
+    ensures { IfOk result (λ v. v.items ≡ hurt_keys by requests.now) }
 {
     requests
         .iter()
-        .filter_map(|request| late_pid(request))
+        .filter_map(|request| hurt_key(by, request))
         .collect(alloc)
 }
 
@@ -64,46 +69,53 @@ fn count_upto(numbers: &[u64], bound: u64) -> usize
     numbers.partition_point(|number| *number <= bound)
 }
 
-/// A process and how many of the late requests it opened, by the processes of all of these, in their order.
-fn hurt_of(requests: &[CapturedRequest], sorted: &[u64], pid: u64) -> Hurt
+/// One and how many late requests it has, by those of all late ones, in their order.
+fn hurt_of(by: GroupedBy, requests: &[CapturedRequest], sorted: &[u64], key: u64) -> Hurt
     requires rising { IsNonDecreasingBy (λ x. x) sorted.now }
-    requires same { IsPermutation (late_pids requests.now) sorted.now }
-    ensures { result ≡ hurt_by requests.now pid }
+    requires same { IsPermutation (hurt_keys by requests.now) sorted.now }
+    ensures { result ≡ hurt_by by requests.now key }
 {
-    // `requests` only tells the clauses whose processes these are
+    // `by` and `requests` only tell the clauses whose numbers these are
+    let _ = by;
     let _ = requests;
     Hurt {
-        pid,
-        late: (count_upto(sorted, pid) - count_below(sorted, pid)) as u64,
+        key,
+        late: (count_upto(sorted, key) - count_below(sorted, key)) as u64,
     }
 }
 
-/// These processes and how many late requests each opened.
+/// These and how many late requests each has.
 fn hurts_by(
     alloc: Global,
+    by: GroupedBy,
     requests: &[CapturedRequest],
     sorted: &[u64],
-    pids: &[u64],
+    keys: &[u64],
 ) -> Result<Vec<Hurt>, AllocError>
     requires rising { IsNonDecreasingBy (λ x. x) sorted.now }
-    requires same { IsPermutation (late_pids requests.now) sorted.now }
-    ensures { IfOk result (λ v. v.items ≡ map (hurt_by requests.now) pids.now) }
+    requires same { IsPermutation (hurt_keys by requests.now) sorted.now }
+    ensures { IfOk result (λ v. v.items ≡ map (hurt_by by requests.now) keys.now) }
 {
-    let mut hurts = Vec::with_capacity(alloc, pids.len())?;
-    for pid in pids {
-        hurts.push(hurt_of(requests, sorted, *pid))?;
+    let mut hurts = Vec::with_capacity(alloc, keys.len())?;
+    for key in keys {
+        hurts.push(hurt_of(by, requests, sorted, *key))?;
     }
     Ok(hurts)
 }
 
-/// The processes that have late requests, by rising numbers, and how many of each. Fails only when out of memory. The time grows as n log n.
-pub fn hurts_of(alloc: Global, requests: &[CapturedRequest]) -> Result<Vec<Hurt>, AllocError>
-    ensures { IfOk result (λ v. AreHurt requests.now v.items) }
+/// The processes, or the processors, that have late requests, by rising numbers, and how many of each. Fails only when out of memory. The time
+/// grows as n log n.
+pub fn hurts_of(
+    alloc: Global,
+    by: GroupedBy,
+    requests: &[CapturedRequest],
+) -> Result<Vec<Hurt>, AllocError>
+    ensures { IfOk result (λ v. AreHurt by requests.now v.items) }
 {
-    let mut pids = late_pids(alloc, requests)?;
-    once_each(&mut pids);
-    let mut sorted = late_pids(alloc, requests)?;
+    let mut keys = hurt_keys(alloc, by, requests)?;
+    once_each(&mut keys);
+    let mut sorted = hurt_keys(alloc, by, requests)?;
     sorted.sort_unstable();
-    let hurts = hurts_by(alloc, requests, sorted.as_slice(), pids.as_slice())?;
+    let hurts = hurts_by(alloc, by, requests, sorted.as_slice(), keys.as_slice())?;
     Ok(hurts)
 }

@@ -30,7 +30,15 @@ pub const CAUSE: &str = "cause";
 pub const STALL: &str = "stall";
 /// Processes.
 pub const PROCESSES: &str = "processes";
-/// The fewest late requests of a process in any order.
+/// Processors.
+pub const PROCESSORS: &str = "processors";
+/// The processor on which a request was opened.
+pub const CPU: &str = "cpu";
+/// In which share of the time at least one request waited.
+pub const WAITED: &str = "waited";
+/// How many requests were at the device.
+pub const IN_FLIGHT: &str = "in_flight";
+/// The fewest late requests of a process, or of a processor, in any order.
 pub const LEAST: &str = "least";
 /// The most of its late ones that can be on time beside all that were.
 pub const SAVABLE: &str = "savable";

@@ -117,7 +117,7 @@ fn stage_sum(requests: &[CapturedRequest], dir: Dir, stage: Stage) -> u128
 }
 
 /// How many thousandths of the whole a part is.
-fn stage_share(part: u128, whole: u128) -> Option<u64>
+pub(crate) fn stage_share(part: u128, whole: u128) -> Option<u64>
     requires { part ≤ 2 ^ 84 }
     ensures { result ≡ stage_share part whole }
 {

@@ -1,12 +1,13 @@
 //! What is said of stages.
 
 ghost use Rattle.std.specs.Prelude.{◌≡◌, IfOk, OnOk, map};
-ghost use Rattle.blk_blame.specs.StagesSaid.{stage_name, stage_columns, shared, stage_cells, with_stages};
+ghost use Rattle.blk_blame.specs.StagesSaid.{stage_name, stage_columns, stage_cells, with_stages};
 
+use crate::answers::share_or_none;
 use crate::each_said::dir_value;
 use crate::names::{D2C, G2I, I2D, Q2C, Q2G, SHARE, STAGE, STAGES};
 use crate::stages::{Stage, StageRow};
-use answer::names::{COUNT, DIR, MAX, NONE, P50, P99};
+use answer::names::{COUNT, DIR, MAX, P50, P99};
 use answer::{Answer, Column, Layout, Line, Part, Row, Rows, Value, Word, time_or_none};
 use std::alloc::{AllocError, Global};
 
@@ -40,16 +41,6 @@ fn stage_columns(alloc: Global) -> Result<Vec<Column>, AllocError>
         ],
     )?;
     Ok(columns)
-}
-
-/// A share, or `none` where there is none.
-fn share_or_none(share: Option<u64>) -> Value
-    ensures { result ≡ shared share }
-{
-    match share {
-        Some(share) => Value::Share(share),
-        None => Value::Nothing(Word::new(NONE)),
-    }
 }
 
 /// The row of a stage.

@@ -3,12 +3,15 @@
 ghost use Rattle.std.specs.Prelude.{◌≡◌, ◌≤◌, ◌↔◌, [], IfOk, IfSome, IsNone, count_by, length, map};
 ghost use Rattle.std.specs.List.{filter_map};
 ghost use Rattle.edd_commands.specs.declared.TheConstants.{MAX_COMMANDS};
+ghost use Rattle.blk_capture.specs.Requests.{AreTimed};
 ghost use Rattle.blk_capture.specs.Summaries.{is_late_request};
 ghost use Rattle.blk_capture.specs.Summaries.{ArePercentiles};
 ghost use Rattle.blk_blame.specs.Clock.{overrun_of, overruns_of};
 ghost use Rattle.blk_blame.specs.Totals.{IsLeastOf, span_after, AreTotals};
 
 use crate::percentiles::percentiles_of;
+use crate::stages::stage_share;
+use crate::waited::waited_of;
 use blk_bio::Dir;
 use blk_capture::{CapturedRequest, Percentiles};
 use std::alloc::{AllocError, Global};
@@ -20,6 +23,8 @@ pub struct Totals {
     pub requests: u64,
     /// How long it is from when the first of them came in to the last dispatch, 0 where there are none.
     pub span: u64,
+    /// In how many thousandths of that at least one request waited: it had come in, and had not gone out; none where that is no time.
+    pub waited: Option<u64>,
     /// How many reads went out after their deadlines.
     pub late_reads: u64,
     /// How many writes did.
@@ -105,16 +110,19 @@ fn overrun(alloc: Global, requests: &[CapturedRequest]) -> Result<Percentiles, A
     Ok(percentiles_of(values.as_mut_slice()))
 }
 
-/// The capture of these requests as a whole; at most [`edd_commands::MAX_COMMANDS`] of them. Fails only when out of memory.
+/// The capture of these requests as a whole. They are as [`blk_capture::match_records`] gives them, at most [`edd_commands::MAX_COMMANDS`] of
+/// them. Fails only when out of memory. The time grows as n log n.
 pub fn totals_of(alloc: Global, requests: &[CapturedRequest]) -> Result<Totals, AllocError>
-    requires { length requests.now ≤ MAX_COMMANDS }
+    requires timed { AreTimed requests.now }
+    requires few { length requests.now ≤ MAX_COMMANDS }
     ensures { IfOk result (AreTotals requests.now) }
 {
     let entries = entries(alloc, requests)?;
-    let first = least_of(entries.as_slice());
+    let span = span_after(least_of(entries.as_slice()), requests);
     Ok(Totals {
         requests: requests.len() as u64,
-        span: span_after(first, requests),
+        span,
+        waited: stage_share(waited_of(requests) as u128, span as u128),
         late_reads: count_late(requests, Dir::Read),
         late_writes: count_late(requests, Dir::Write),
         overrun: overrun(alloc, requests)?,

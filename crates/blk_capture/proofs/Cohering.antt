@@ -229,13 +229,13 @@ cut_stays o t s m (Some p) c finds =
     let low : p.1.time ≤ t = c.bios_past p.0 p.1 finds.there in
     with_bios o t m _ c (bio_pushed t _ (rest_of s p.1) (bio_put t m.bios p.0 p.1 (record p.1 { range = s }) c.bios_past finds.there refl) low)
 
-got_stays : (o : Options) (n pid : ℕ) (s : Range) (t : ℕ) (m : Known) (f : Found QueuedBio) → IsCoherent o t m → FindsWaitingBio s m.bios f → Stays o t (got n pid s t m f)
-got_stays o n pid s t m None c finds = c
-got_stays o n pid s t m (Some p) c finds =
+got_stays : (o : Options) (n pid cpu : ℕ) (s : Range) (t : ℕ) (m : Known) (f : Found QueuedBio) → IsCoherent o t m → FindsWaitingBio s m.bios f → Stays o t (got n pid cpu s t m f)
+got_stays o n pid cpu s t m None c finds = c
+got_stays o n pid cpu s t m (Some p) c finds =
     let low : p.1.time ≤ t = c.bios_past p.0 p.1 finds.there in
     let bs : List QueuedBio = set m.bios p.0 (record p.1 { stage = Into (length m.requests) }) in
     let changed : IsCoherent o t (record m { bios = bs }) = with_bios o t m bs c (bio_put t m.bios p.0 p.1 _ c.bios_past finds.there refl) in
-    request_pushed o t (record m { bios = bs }) _ (opened_for n pid s t p.1) changed (record { queued = low; inserted = tt; merged = tt }) refl
+    request_pushed o t (record m { bios = bs }) _ (opened_for n pid cpu s t p.1) changed (record { queued = low; inserted = tt; merged = tt }) refl
 
 inserted_stays : (o : Options) (n t : ℕ) (s : Range) (m : Known) (f : Found Opened) → IsCoherent o t m → FindsEntering s m.requests f → Stays o t (comes (inserted_at n t) m f)
 inserted_stays o n t s m None c finds = c
@@ -392,7 +392,7 @@ joined_stays o t pid side s m (Some b) f told some c waits abuts h = along o t t
 letter_stays : (a : Action) (o : Options) (n : ℕ) (r : Record) (m : Known) (told : Outcome) → (range_of r).first < (range_of r).end → IsCoherent o r.time m → IsByLetter a o n r m told → Stays o r.time told
 letter_stays action.Queue o n r m told some c h = along o r.time told _ h (with_bios o r.time m _ c (bio_pushed r.time m.bios (queued_bio n r.pid (range_of r) r.time) c.bios_past (omega arith)))
 letter_stays action.Split o n r m told some c h = along o r.time told _ h.is (cut_stays o r.time (range_of r) m h.found c h.finds)
-letter_stays action.Get o n r m told some c h = along o r.time told _ h.is (got_stays o n r.pid (range_of r) r.time m h.found c h.finds)
+letter_stays action.Get o n r m told some c h = along o r.time told _ h.is (got_stays o n r.pid r.cpu (range_of r) r.time m h.found c h.finds)
 letter_stays action.BackMerge o n r m told some c h = joined_stays o r.time r.pid Back (range_of r) m h.waiting h.abutting told some c h.waits h.abuts h.is
 letter_stays action.FrontMerge o n r m told some c h = joined_stays o r.time r.pid Front (range_of r) m h.waiting h.abutting told some c h.waits h.abuts h.is
 letter_stays action.Insert o n r m told some c h = along o r.time told _ h.is (inserted_stays o n r.time (range_of r) m h.found c h.finds)

@@ -62,9 +62,9 @@ same_grows m t s = (none_more _ _ s.0, none_more _ _ s.1)
 along_grows : (a : Action) (m : Known) (t u : Outcome) → t ≡ u → Grows a m u → Grows a m t
 along_grows a m t u e g = subst (Grows a m) (sym e) g
 
-got_grows : (n pid : ℕ) (s : Range) (time : ℕ) (m : Known) (f : Found QueuedBio) → Grows action.Get m (got n pid s time m f)
-got_grows n pid s time m None = (none_more _ _ refl, none_more _ _ refl)
-got_grows n pid s time m (Some p) = (length_push m.requests (opened_for n pid s time p.1), none_more _ _ (length-set m.bios p.0 _))
+got_grows : (n pid cpu : ℕ) (s : Range) (time : ℕ) (m : Known) (f : Found QueuedBio) → Grows action.Get m (got n pid cpu s time m f)
+got_grows n pid cpu s time m None = (none_more _ _ refl, none_more _ _ refl)
+got_grows n pid cpu s time m (Some p) = (length_push m.requests (opened_for n pid cpu s time p.1), none_more _ _ (length-set m.bios p.0 _))
 
 cut_grows : (s : Range) (m : Known) (f : Found QueuedBio) → Grows action.Split m (cut s m f)
 cut_grows s m None = (none_more _ _ refl, none_more _ _ refl)
@@ -73,7 +73,7 @@ cut_grows s m (Some p) = (none_more _ _ refl, length_push (set m.bios p.0 _) (re
 letter_grows : (a : Action) (o : Options) (n : ℕ) (r : Record) (m : Known) (t : Outcome) → IsByLetter a o n r m t → Grows a m t
 letter_grows action.Queue o n r m t h = along_grows action.Queue m t _ h (none_more _ _ refl, length_push m.bios (queued_bio n r.pid (range_of r) r.time))
 letter_grows action.Split o n r m t h = along_grows action.Split m t _ h.is (cut_grows (range_of r) m h.found)
-letter_grows action.Get o n r m t h = along_grows action.Get m t _ h.is (got_grows n r.pid (range_of r) r.time m h.found)
+letter_grows action.Get o n r m t h = along_grows action.Get m t _ h.is (got_grows n r.pid r.cpu (range_of r) r.time m h.found)
 letter_grows action.BackMerge o n r m t h = same_grows m t (joined_same o Back (range_of r) r.time m h.waiting h.abutting t h.is)
 letter_grows action.FrontMerge o n r m t h = same_grows m t (joined_same o Front (range_of r) r.time m h.waiting h.abutting t h.is)
 letter_grows action.Insert o n r m t h = same_grows m t (along m t _ h.is (comes_same _ m h.found))

@@ -165,5 +165,5 @@ taken_put P lives openers dispatches old new n x q is own of is_due put there fr
 
 -- the request as it is told
 pub request_is : (o : Options) (q : Opened) (time sectors bio opener entry released deadline : ℕ) (completed : Option ℕ) → sectors ≡ q.range.end - q.range.first → bio ≡ opener → entry ≡ entry_at o q → released ≡ released_by entry q.merged → deadline ≡ deadline_of o q.range.dir entry q.earlier → completed ≡ completed_after time q.completed
-    → (let r : CapturedRequest = record { dir = q.range.dir; first = q.range.first; sectors = sectors; bios = 0; bio = bio; pid = q.pid; queued = q.queued; got = q.got; inserted = q.inserted; merged = q.merged; entry = entry; released = released; earlier = q.earlier; deadline = deadline; dispatched = time; completed = completed } in r) ≡ captured o opener time q
+    → (let r : CapturedRequest = record { dir = q.range.dir; first = q.range.first; sectors = sectors; bios = 0; bio = bio; pid = q.pid; cpu = q.cpu; queued = q.queued; got = q.got; inserted = q.inserted; merged = q.merged; entry = entry; released = released; earlier = q.earlier; deadline = deadline; dispatched = time; completed = completed } in r) ≡ captured o opener time q
 request_is o q time sectors bio opener entry released deadline completed a b c d e f = cc

@@ -182,17 +182,17 @@ abbrev pub cut : Range → Known → Found QueuedBio → Outcome
 cut s m None = (m, role.Unmatched)
 cut s m (Some p) = (record m { bios = slice_set m.bios p.0 (record p.1 { range = s }) ++ rest_of s p.1 ∷ [] }, role.Bio (length m.bios))
 
--- G: a request is opened for a bio
-abbrev pub opened_for : ℕ → ℕ → Range → ℕ → QueuedBio → Opened
-opened_for n pid s time b = record { range = s; pid = pid; queued = b.time; got = time; inserted = None; merged = None; earlier = None; completed = None; stage = stage.Opened; left = s; age = n }
+-- G: a request is opened for a bio, by the process and on the processor of the record
+abbrev pub opened_for : ℕ → ℕ → ℕ → Range → ℕ → QueuedBio → Opened
+opened_for n pid cpu s time b = record { range = s; pid = pid; cpu = cpu; queued = b.time; got = time; inserted = None; merged = None; earlier = None; completed = None; stage = stage.Opened; left = s; age = n }
 
-abbrev pub got : ℕ → ℕ → Range → ℕ → Known → Found QueuedBio → Outcome
-got n pid s time m None = (m, role.Unmatched)
-got n pid s time m (Some p) = (
+abbrev pub got : ℕ → ℕ → ℕ → Range → ℕ → Known → Found QueuedBio → Outcome
+got n pid cpu s time m None = (m, role.Unmatched)
+got n pid cpu s time m (Some p) = (
   record m {
     bios = slice_set m.bios p.0 (record p.1 { stage = bio.Into (length m.requests) });
     openers = m.openers ++ p.0 ∷ [];
-    requests = m.requests ++ opened_for n pid s time p.1 ∷ [];
+    requests = m.requests ++ opened_for n pid cpu s time p.1 ∷ [];
   },
   role.Request (length m.requests),
 )
@@ -280,7 +280,7 @@ pub record IsMerged (o : Options) (side : Side) (pid : ℕ) (s : Range) (time : 
 abbrev pub IsByLetter : Action → Options → ℕ → Record → Known → Outcome → Type 0
 IsByLetter action.Queue o n r m told = told ≡ queued n r.pid (range_of r) r.time m
 IsByLetter action.Split o n r m told = IsBy (FindsLongerBio (range_of r) m.bios) (cut (range_of r) m) told
-IsByLetter action.Get o n r m told = IsBy (FindsWaitingBio (range_of r) m.bios) (got n r.pid (range_of r) r.time m) told
+IsByLetter action.Get o n r m told = IsBy (FindsWaitingBio (range_of r) m.bios) (got n r.pid r.cpu (range_of r) r.time m) told
 IsByLetter action.BackMerge o n r m told = IsMerged o Back r.pid (range_of r) r.time m told
 IsByLetter action.FrontMerge o n r m told = IsMerged o Front r.pid (range_of r) r.time m told
 IsByLetter action.Insert o n r m told = IsBy (FindsEntering (range_of r) m.requests) (comes (inserted_at n r.time) m) told

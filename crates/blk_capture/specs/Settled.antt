@@ -37,6 +37,7 @@ captured o opener time q = record {
   bios = 0;
   bio = opener;
   pid = q.pid;
+  cpu = q.cpu;
   queued = q.queued;
   got = q.got;
   inserted = q.inserted;

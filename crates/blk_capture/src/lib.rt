@@ -28,5 +28,8 @@ pub use requests::{
     CaptureFault, CapturedBio, CapturedRequest, Entry, Matched, Options, match_records, rounds_of,
 };
 pub use running::Running;
-pub use summary::{MAX_STREAMED, Percentiles, Phase, Summary, summarize, summarize_run};
+pub use summary::{
+    MAX_STREAMED, Percentiles, Phase, Summary, completions_of, in_flight_at, summarize,
+    summarize_run,
+};
 pub use table::{RequestRow, rows_of};

@@ -90,7 +90,7 @@ impl<A: Allocator + Clone> Matching<A> {
         };
         match record.action {
             Action::Queue => self.queue(number, record.pid, range),
-            Action::Get => self.get(number, record.pid, range),
+            Action::Get => self.get(number, record.pid, record.cpu, range),
             Action::BackMerge => self.merge(record.pid, range, Side::Back),
             Action::FrontMerge => self.merge(record.pid, range, Side::Front),
             Action::Insert => self.insert(number, range),
@@ -325,10 +325,10 @@ impl<A: Allocator + Clone> Matching<A> {
     }
 
     /// A request is opened for the oldest waiting bio of the range.
-    fn get(&mut self, number: u64, pid: u64, range: Range) -> Result<Role, AllocError>
+    fn get(&mut self, number: u64, pid: u64, cpu: u64, range: Range) -> Result<Role, AllocError>
         requires sound { IsSound self.old }
         requires few { number < 2 ^ 63 }
-        ensures told { IfOk result (IsGotIn number pid range self.old self.new) }
+        ensures told { IfOk result (IsGotIn number pid cpu range self.old self.new) }
         ensures sound { OnOk result (IsSound self.new) }
         ensures rest { OnOk result (KeepsRest self.old self.new) }
     {
@@ -343,6 +343,7 @@ impl<A: Allocator + Clone> Matching<A> {
         let opened = Opened {
             range,
             pid,
+            cpu,
             queued: bio.time,
             got: self.clock.now,
             inserted: None,

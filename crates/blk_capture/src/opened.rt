@@ -28,6 +28,8 @@ pub(crate) struct Opened {
     pub(crate) range: Range,
     /// The process that opened it.
     pub(crate) pid: u64,
+    /// The processor on which that ran then.
+    pub(crate) cpu: u64,
     /// When its first bio was queued.
     pub(crate) queued: u64,
     /// When it was opened.

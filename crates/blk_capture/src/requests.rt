@@ -71,6 +71,8 @@ pub struct CapturedRequest {
     pub bio: usize,
     /// The process that opened it.
     pub pid: u64,
+    /// The processor on which that ran then, whose software queue the request came to.
+    pub cpu: u64,
     /// When its first bio was queued.
     pub queued: u64,
     /// When it was opened.
@@ -229,6 +231,7 @@ fn request_of<A: Allocator + Clone>(
         bios: 0,
         bio: matching.members.openers[place],
         pid: opened.pid,
+        cpu: opened.cpu,
         queued: opened.queued,
         got: opened.got,
         inserted: opened.inserted,

@@ -181,6 +181,7 @@ fn percentiles_in<A: Allocator>(
 /// Puts the times in order at which requests were completed.
 fn put_in_order(requests: &[CapturedRequest], times: &mut [u64])
     requires { times.old ≡ filter_map (λ q. q.completed) requests.now }
+    ensures len { length times.new ≡ length times.old }
     ensures rising { IsNonDecreasingBy (λ x. x) times.new }
     ensures counted { (t : ℕ) → count_by (λ x. nat_le x t) times.new ≡ count_by (back_by t) requests.now }
 {
@@ -202,6 +203,20 @@ fn completions<A: Allocator>(
         .collect(alloc)
 }
 
+/// When the completed ones of the requests were completed, in order, as [`in_flight_at`] takes it. Fails only when out of memory. The time
+/// grows as n log n.
+pub fn completions_of<A: Allocator>(
+    alloc: A,
+    requests: &[CapturedRequest],
+) -> Result<Vec<u64, A>, AllocError>
+    ensures rising { IfOk result (λ v. IsNonDecreasingBy (λ x. x) v.items) }
+    ensures counted { IfOk result (λ v. (t : ℕ) → count_by (λ x. nat_le x t) v.items ≡ count_by (back_by t) requests.now) }
+{
+    let mut times = completions(alloc, requests)?;
+    put_in_order(requests, times.as_mut_slice());
+    Ok(times)
+}
+
 /// How many of the requests went out by a time. It is found by halves.
 fn count_out(requests: &[CapturedRequest], time: u64) -> usize
     requires { AreTimed requests.now }
@@ -218,8 +233,9 @@ fn count_upto(times: &[u64], time: u64) -> usize
     times.partition_point(|other| *other <= time)
 }
 
-/// How many of the requests were at the device at a time: they went out by then, and weren't completed.
-fn in_flight_at(requests: &[CapturedRequest], completions: &[u64], time: u64) -> u64
+/// How many of the requests were at the device at a time: they went out by then, and weren't completed. `completions` are those of
+/// [`completions_of`]. It is found by halves.
+pub fn in_flight_at(requests: &[CapturedRequest], completions: &[u64], time: u64) -> u64
     requires timed { AreTimed requests.now }
     requires sorted { IsNonDecreasingBy (λ x. x) completions.now }
     requires counted { (t : ℕ) → count_by (λ x. nat_le x t) completions.now ≡ count_by (back_by t) requests.now }

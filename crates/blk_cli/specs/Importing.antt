@@ -16,6 +16,8 @@ use Rattle.blk_capture.specs.Requests.{times_of}
 use Rattle.blk_bio.specs.declared.bio.Dir.TheVariants.{Read, Write}
 use Rattle.blk_blame.specs.Blamed.{IsBlameAnswer, IsEachAnswer}
 use Rattle.blk_blame.specs.TightestSaid.{IsTightestAnswer}
+use Rattle.blk_blame.specs.declared.grouped.GroupedBy.{GroupedBy}
+use Rattle.blk_blame.specs.declared.grouped.GroupedBy.TheVariants as grouped
 use Rattle.blk_blame.specs.declared.tightest.Aim.{Aim}
 use Rattle.blk_capture.specs.Summaries.{IsMostInFlight}
 use Rattle.blk_capture.specs.declared.fates.Fate.{Fate}
@@ -42,6 +44,8 @@ use Rattle.blk_text.specs.Script.{IsScript, script_rows}
 use Rattle.blk_text.specs.declared.setup.TheConstants.{LATEST}
 use Rattle.blk_words.specs.Asked.{AsksPlans}
 use Rattle.blk_words.specs.Times.{MAX_NUMBER}
+use Rattle.blk_words.specs.declared.blaming.BlameBy.{BlameBy}
+use Rattle.blk_words.specs.declared.blaming.BlameBy.TheVariants as by_whom
 use Rattle.blk_words.specs.declared.blaming.Blaming.{Blaming}
 use Rattle.blk_words.specs.declared.blaming.ShownBlame.{ShownBlame}
 use Rattle.blk_words.specs.declared.blaming.ShownBlame.TheVariants as shown_blame
@@ -132,9 +136,15 @@ IsUnshown i records (failure.Import f) = IsImportFault records (asked_of i) f
 IsUnshown i records failure.Memory = ⊤
 IsUnshown i records f = ⊥
 
+-- by what the table of whose requests were late is put together, where there is one
+abbrev pub grouped_by : BlameBy → Option GroupedBy
+grouped_by by_whom.Process = Some grouped.Process
+grouped_by by_whom.Processor = Some grouped.Processor
+grouped_by by_whom.Nobody = None
+
 -- what the late ones of requests are blamed on, each of them, and the certificate of how many can be on time, that of the commands that count them
 abbrev pub IsWholeBlame : Blaming → ℕ → List CapturedRequest → List ℕ → Type 0
-IsWholeBlame b begin requests text = (parts : List Part) × IsBlameAnswer b.most begin requests parts × (text ≡ written_in b.form parts)
+IsWholeBlame b begin requests text = (parts : List Part) × IsBlameAnswer (grouped_by b.by) b.most begin requests parts × (text ≡ written_in b.form parts)
 
 abbrev pub IsEachBlame : Form → ℕ → List CapturedRequest → List ℕ → Type 0
 IsEachBlame f begin requests text = (parts : List Part) × IsEachAnswer begin requests parts × (text ≡ written_in f parts)

@@ -4,7 +4,7 @@ ghost use Rattle.std.specs.Prelude.{◌≡◌, ◌≤◌, IfOk, IfErr, length};
 ghost use Rattle.edd_commands.specs.declared.TheConstants.{MAX_COMMANDS};
 ghost use Rattle.blk_capture.specs.Requests.{AreInOrder, AreTimed};
 ghost use Rattle.blk_cli.specs.Said.{said_of};
-ghost use Rattle.blk_cli.specs.Importing.{IsWholeBlame, IsEachBlame, IsBlameCertificate, aim_of, IsTightestText, IsBlamingText, IsBlamedOf, IsUnshown};
+ghost use Rattle.blk_cli.specs.Importing.{grouped_by, IsWholeBlame, IsEachBlame, IsBlameCertificate, aim_of, IsTightestText, IsBlamingText, IsBlamedOf, IsUnshown};
 
 use crate::Answered;
 use crate::failure::Failure;
@@ -12,11 +12,22 @@ use crate::forms::written;
 use crate::importing::{asked_of, note_on, tags_asked};
 use crate::lists::most_of;
 use blk_bio::Dir;
-use blk_blame::{Aim, blame_answer, each_answer, tightest_answer};
+use blk_blame::{Aim, GroupedBy, blame_answer, each_answer, tightest_answer};
 use blk_capture::{CapturedRequest, CountedSchedule, Record, rounds_of};
 use blk_capture_text::{ShownImport, first_time};
-use blk_words::{Blaming, Form, Import, ShownBlame, TightestAsked};
+use blk_words::{BlameBy, Blaming, Form, Import, ShownBlame, TightestAsked};
 use std::alloc::{AllocError, Global};
+
+/// By what the table of whose requests were late is put together, where there is one.
+fn grouped_by(by: BlameBy) -> Option<GroupedBy>
+    ensures { result ≡ grouped_by by }
+{
+    match by {
+        BlameBy::Process => Some(GroupedBy::Process),
+        BlameBy::Processor => Some(GroupedBy::Processor),
+        BlameBy::Nobody => None,
+    }
+}
 
 /// What is said of what the late ones of requests are blamed on.
 fn whole_text(
@@ -29,7 +40,8 @@ fn whole_text(
     requires few { length requests.now ≤ MAX_COMMANDS }
     ensures { IfOk result (λ text. IsWholeBlame blaming begin requests.now text.items) }
 {
-    let answer = blame_answer(alloc, blaming.most, begin, requests)?;
+    let by = grouped_by(blaming.by);
+    let answer = blame_answer(alloc, by, blaming.most, begin, requests)?;
     written(alloc, blaming.form, &answer)
 }
 

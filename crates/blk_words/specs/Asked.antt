@@ -51,6 +51,8 @@ use Rattle.blk_words.specs.declared.words.Refusal.{Refusal}
 use Rattle.blk_words.specs.declared.words.Refusal.TheVariants as refusal
 use Rattle.blk_words.specs.declared.words.Written.{Written}
 use Rattle.blk_words.specs.declared.words.Written.TheVariants as written
+use Rattle.blk_words.specs.declared.blaming.BlameBy.{BlameBy}
+use Rattle.blk_words.specs.declared.blaming.BlameBy.TheVariants as blame_by
 use Rattle.blk_words.specs.declared.blaming.ShownBlame.{ShownBlame}
 use Rattle.blk_words.specs.declared.blaming.ShownBlame.TheVariants as blame
 use Rattle.blk_words.specs.declared.blaming.TheConstants.{USUAL_TOP}
@@ -58,7 +60,7 @@ use Rattle.blk_words.specs.declared.blaming.TightestAsked.{TightestAsked}
 use Rattle.blk_words.specs.declared.table.Makes.{Makes}
 use Rattle.blk_words.specs.declared.table.Makes.TheVariants as makes
 use Rattle.blk_words.specs.CommandLine.{Names, AreNames, command_table, blk_app}
-use Rattle.blk_words.specs.Options.{json_option, script_option, trace_option, by_option, top_option, threads_option, met_option, each_option, read_expire_option, write_expire_option, from_option, as_option, device_option, tags_option, skip_option, first_option, all_option, certificate_option, tightest_option, for_option, table_option, summary_option, round_option, depth_option, submitters_option, workers_option, bios_option, load_depth_option, busy_option, service_option, replay_sched_option, fifo_read_expire_option, fifo_write_expire_option, replay_by_option, grid_option}
+use Rattle.blk_words.specs.Options.{json_option, script_option, trace_option, by_option, top_option, threads_option, met_option, each_option, read_expire_option, write_expire_option, from_option, as_option, device_option, tags_option, skip_option, first_option, all_option, certificate_option, tightest_option, for_option, blame_by_option, table_option, summary_option, round_option, depth_option, submitters_option, workers_option, bios_option, load_depth_option, busy_option, service_option, replay_sched_option, fifo_read_expire_option, fifo_write_expire_option, replay_by_option, grid_option}
 use Rattle.blk_words.specs.Lists.{list_of, times_listed}
 use Rattle.blk_words.specs.Times.{MAX_NUMBER, number_in, in_unit, time_of}
 
@@ -308,22 +310,32 @@ shown_in form.Lines (Some blame.Certificate) = Ok blame.Certificate
 shown_in form.Json (Some blame.Certificate) = Err refusal.CertificateJson
 shown_in f (Some (blame.Tightest asked)) = Ok (blame.Tightest asked)
 
-abbrev pub blaming_in : ℕ → Form → Result ShownBlame Refusal → Result Written Refusal
-blaming_in most f (Err r) = Err r
-blaming_in most f (Ok s) = Ok (written.Blame (record { shown = s; most = most; form = f }))
+-- of whom a table is written that tells whose requests were late; of processes where nobody says so
+abbrev pub blame_by_named : Text → Option BlameBy
+blame_by_named text =
+    if bytes_eq text (codes "pid") then Some blame_by.Process
+    else (if bytes_eq text (codes "cpu") then Some blame_by.Processor else (if bytes_eq text (codes "none") then Some blame_by.Nobody else None))
 
-abbrev pub blaming_with : Bool → Bool → ℕ → Form → Result (Option TightestAsked) Refusal → Result Written Refusal
-blaming_with each certificate most f (Err r) = Err r
-blaming_with each certificate most f (Ok asked) = blaming_in most f (shown_in f (shown_blame each certificate asked))
+abbrev pub blame_by_given : List Row → Option BlameBy
+blame_by_given rows = option_map_or blame_by_named (first_of blame_by_option.name rows) (Some blame_by.Process)
 
-abbrev pub blaming_by : Bool → Bool → Bool → Option ℕ → Form → Result (Option TightestAsked) Refusal → Result Written Refusal
-blaming_by each certificate true (Some n) f asked = Err refusal.AllAndTop
-blaming_by each certificate all top f asked = blaming_with each certificate (most_shown all top) f asked
+abbrev pub blaming_in : Option BlameBy → ℕ → Form → Result ShownBlame Refusal → Result Written Refusal
+blaming_in by most f (Err r) = Err r
+blaming_in None most f (Ok s) = Err refusal.BlameBy
+blaming_in (Some by) most f (Ok s) = Ok (written.Blame (record { shown = s; by = by; most = most; form = f }))
+
+abbrev pub blaming_with : Bool → Bool → Option BlameBy → ℕ → Form → Result (Option TightestAsked) Refusal → Result Written Refusal
+blaming_with each certificate by most f (Err r) = Err r
+blaming_with each certificate by most f (Ok asked) = blaming_in by most f (shown_in f (shown_blame each certificate asked))
+
+abbrev pub blaming_by : Bool → Bool → Option BlameBy → Bool → Option ℕ → Form → Result (Option TightestAsked) Refusal → Result Written Refusal
+blaming_by each certificate by true (Some n) f asked = Err refusal.AllAndTop
+blaming_by each certificate by all top f asked = blaming_with each certificate by (most_shown all top) f asked
 
 abbrev pub blaming_of : List Row → Result Written Refusal
 blaming_of rows =
-    blaming_by (is_flagged each_option.name rows) (is_flagged certificate_option.name rows) (is_flagged all_option.name rows) (number_given top_option.name rows) (form_asked rows)
-    (tightest_given rows)
+    blaming_by (is_flagged each_option.name rows) (is_flagged certificate_option.name rows) (blame_by_given rows) (is_flagged all_option.name rows) (number_given top_option.name rows)
+    (form_asked rows) (tightest_given rows)
 
 abbrev pub blame_job : List Row → Job
 blame_job rows = import_with (blaming_of rows) rows

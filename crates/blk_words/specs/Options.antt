@@ -71,6 +71,9 @@ tightest_option = record { name = codes "tightest"; kind = MaybeWords }
 abbrev pub for_option : OptionOf
 for_option = record { name = codes "for"; kind = MaybeWords }
 
+abbrev pub blame_by_option : OptionOf
+blame_by_option = record { name = codes "by"; kind = MaybeWords }
+
 -- of `import` again
 abbrev pub table_option : OptionOf
 table_option = record { name = codes "table"; kind = Flag }

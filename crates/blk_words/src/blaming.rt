@@ -1,7 +1,7 @@
 //! The words of `blame`.
 
 ghost use Rattle.std.specs.Prelude.{◌≡◌};
-ghost use Rattle.blk_words.specs.Asked.{most_shown, up_to_all, share_of, share_by, share_given, writes_named, writes_given, tightest_with, tightest_given, shown_blame, shown_in, blaming_in, blaming_with, blaming_of, blame_job};
+ghost use Rattle.blk_words.specs.Asked.{most_shown, up_to_all, share_of, share_by, share_given, writes_named, writes_given, tightest_with, tightest_given, shown_blame, shown_in, blame_by_named, blame_by_given, blaming_in, blaming_with, blaming_of, blame_job};
 ghost use Rattle.blk_words.specs.Inside.Options.{given};
 
 use crate::option_names;
@@ -33,18 +33,31 @@ pub struct TightestAsked {
     pub share: u64,
 }
 
+/// Of whom a table is written that tells whose requests were late.
+#[derive(Clone, Copy, Debug, PartialEq, Eq)]
+pub enum BlameBy {
+    /// Of the processes that opened them.
+    Process,
+    /// Of the processors on which they were opened.
+    Processor,
+    /// Of nobody.
+    Nobody,
+}
+
 /// How it is written what late requests are blamed on.
 #[derive(Clone, Copy, Debug, PartialEq, Eq)]
 pub struct Blaming {
     /// What is written.
     pub shown: ShownBlame,
-    /// How many processes, stalls and windows are written at most, the greatest ones.
+    /// Of whom.
+    pub by: BlameBy,
+    /// How many of these, of stalls and of windows are written at most, the greatest ones.
     pub most: u64,
     /// In which form.
     pub form: Form,
 }
 
-/// How many processes, stalls and windows are written at most, where nobody says so.
+/// How many processes or processors, stalls and windows are written at most, where nobody says so.
 const USUAL_TOP: u64 = 10;
 
 /// How many are, where all are asked for, or only so many.
@@ -188,12 +201,50 @@ fn shown_in(form: Form, shown: Option<ShownBlame>) -> Result<ShownBlame, Refusal
     }
 }
 
-/// The blame in which that is written, at most so much of it.
-fn blaming_in(most: u64, form: Form, shown: Result<ShownBlame, Refusal>) -> Result<Written, Refusal>
-    ensures { result ≡ blaming_in most form shown }
+/// Of whom a table is written, from the text of `--by`.
+fn blame_by_named(text: &str) -> Option<BlameBy>
+    ensures { result ≡ blame_by_named text.now }
+{
+    if text == "pid" {
+        Some(BlameBy::Process)
+    } else if text == "cpu" {
+        Some(BlameBy::Processor)
+    } else if text == "none" {
+        Some(BlameBy::Nobody)
+    } else {
+        None
+    }
+}
+
+/// The same by the options of `blame`, of processes where none says so.
+fn blame_by_given(options: &ArgMatches<'_>) -> Option<BlameBy>
+    ensures { result ≡ blame_by_given (given options.now) }
+{
+    match options.get_str(option_names::BY) {
+        Some(text) => blame_by_named(text),
+        None => Some(BlameBy::Process),
+    }
+}
+
+/// The blame in which that is written, of whom, and at most so much of it.
+fn blaming_in(
+    by: Option<BlameBy>,
+    most: u64,
+    form: Form,
+    shown: Result<ShownBlame, Refusal>,
+) -> Result<Written, Refusal>
+    ensures { result ≡ blaming_in by most form shown }
 {
     match shown {
-        Ok(shown) => Ok(Written::Blame(Blaming { shown, most, form })),
+        Ok(shown) => match by {
+            Some(by) => Ok(Written::Blame(Blaming {
+                shown,
+                by,
+                most,
+                form,
+            })),
+            None => Err(Refusal::BlameBy),
+        },
         Err(refusal) => Err(refusal),
     }
 }
@@ -202,14 +253,16 @@ fn blaming_in(most: u64, form: Form, shown: Result<ShownBlame, Refusal>) -> Resu
 fn blaming_with(
     each: bool,
     certificate: bool,
+    by: Option<BlameBy>,
     most: u64,
     form: Form,
     asked: Result<Option<TightestAsked>, Refusal>,
 ) -> Result<Written, Refusal>
-    ensures { result ≡ blaming_with each certificate most form asked }
+    ensures { result ≡ blaming_with each certificate by most form asked }
 {
     match asked {
         Ok(asked) => blaming_in(
+            by,
             most,
             form,
             shown_in(form, shown_blame(each, certificate, asked)),
@@ -230,6 +283,7 @@ fn blaming_of(options: &ArgMatches<'_>) -> Result<Written, Refusal>
     blaming_with(
         is_flagged(options, option_names::EACH),
         is_flagged(options, option_names::CERTIFICATE),
+        blame_by_given(options),
         most_shown(all, top),
         form_asked(options),
         tightest_given(options),

@@ -17,7 +17,7 @@ mod takers;
 mod times;
 mod words;
 
-pub use crate::blaming::{Blaming, ShownBlame, TightestAsked};
+pub use crate::blaming::{BlameBy, Blaming, ShownBlame, TightestAsked};
 pub use crate::grids::{NoGrid, grid_asked, plans_asked};
 pub use crate::inputs::{Running, ShownLoad, Solving, Telling, TextJob, TextKind};
 pub use crate::replaying::{GridReplaying, Replaying, ShownReplay};

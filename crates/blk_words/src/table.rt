@@ -423,9 +423,14 @@ pub static OTHER_COMMANDS: [CommandRow; OTHER_COUNT] = [
                 help: "With --tightest, whose deadline: reads or writes; without it, reads",
             }),
             OptionGroup::Own(OptionRow {
+                name: option_names::BY,
+                takes: Takes::MaybeText,
+                help: "Puts late requests together by pid, the process that opened them, or cpu, the processor on which it ran; none leaves that table out; without it, pid",
+            }),
+            OptionGroup::Own(OptionRow {
                 name: option_names::TOP,
                 takes: Takes::Maybe(1, MAX_TOP),
-                help: "How many processes, stalls and windows are written at most, the greatest ones; without it, 10",
+                help: "How many processes or processors, stalls and windows are written at most, the greatest ones; without it, 10",
             }),
             OptionGroup::Own(OptionRow {
                 name: option_names::ALL,

@@ -175,6 +175,8 @@ pub enum Refusal {
     For,
     /// A direction is given, and no tightest deadline asked for.
     NoTightest,
+    /// `--by` of a blame is neither `pid` nor `cpu` nor `none`.
+    BlameBy,
     /// `--fifo-read-expire` is no list of times.
     FifoReadExpire,
     /// `--fifo-write-expire` is no list of times.
@@ -224,6 +226,7 @@ impl Refusal {
             Refusal::Tightest => "--tightest takes a share: 99%",
             Refusal::For => "--for takes reads or writes",
             Refusal::NoTightest => "--for needs --tightest",
+            Refusal::BlameBy => "--by takes pid, cpu or none",
             Refusal::FifoReadExpire => {
                 "--fifo-read-expire takes a number with ns, us, ms or s; with --grid up to 64, with commas between, each once"
             }

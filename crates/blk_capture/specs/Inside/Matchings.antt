@@ -40,8 +40,8 @@ pub record KeepsRest {A : Type 0} (old new : Matching A) : Type 0 where
 abbrev pub IsCutIn : {A : Type 0} → Range → Matching A → Matching A → Role → Type 0
 IsCutIn s old new r = IsBy (FindsLongerBio s old.members.bios.items) (cut s (all_known old)) (told_of new r)
 
-abbrev pub IsGotIn : {A : Type 0} → ℕ → ℕ → Range → Matching A → Matching A → Role → Type 0
-IsGotIn n pid s old new r = IsBy (FindsWaitingBio s old.members.bios.items) (got n pid s old.clock.now (all_known old)) (told_of new r)
+abbrev pub IsGotIn : {A : Type 0} → ℕ → ℕ → ℕ → Range → Matching A → Matching A → Role → Type 0
+IsGotIn n pid cpu s old new r = IsBy (FindsWaitingBio s old.members.bios.items) (got n pid cpu s old.clock.now (all_known old)) (told_of new r)
 
 abbrev pub IsMergedIn : {A : Type 0} → Side → ℕ → Range → Matching A → Matching A → Role → Type 0
 IsMergedIn side pid s old new r = IsMerged old.options side pid s old.clock.now (all_known old) (told_of new r)

@@ -3,5 +3,5 @@ use Rattle.blk_blame.specs.Hurts.{hurt_by}
 use Rattle.blk_blame.proofs.hurts.hurts_by.Given as goal
 
 -- the processes so far
-abbrev pub invariant-loop-pid : goal.invariant-loop-pid
-invariant-loop-pid l = l.hurts.items ≡ map (hurt_by l.requests) (take l.pid-index l.pids)
+abbrev pub invariant-loop-key : goal.invariant-loop-key
+invariant-loop-key l = l.hurts.items ≡ map (hurt_by l.by l.requests) (take l.key-index l.keys)

@@ -8,9 +8,9 @@ hurts_by-requires-clause-rising c = rw c.as_slice.ensures.value (IsNonDecreasing
 
 pub returns : goal.returns
 returns c = record {
-  pids = c.once_each.new.numbers.items;
+  keys = c.once_each.new.numbers.items;
   rise = c.once_each.ensures.rises;
-  all = λ p h. c.once_each.ensures.keeps p (rw c.in_ok-pids.ensures h);
-  only = λ p h. rw c.in_ok-pids.ensures at (c.once_each.ensures.adds_none p h);
-  are = c.in_ok-hurts.ensures ∙ ap (map (hurt_by c.args.requests.now)) c.as_slice-2.ensures.value;
+  all = λ p h. c.once_each.ensures.keeps p (rw c.in_ok-keys.ensures h);
+  only = λ p h. rw c.in_ok-keys.ensures at (c.once_each.ensures.adds_none p h);
+  are = c.in_ok-hurts.ensures ∙ ap (map (hurt_by c.args.by c.args.requests.now)) c.as_slice-2.ensures.value;
 }

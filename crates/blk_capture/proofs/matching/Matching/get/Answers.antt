@@ -15,7 +15,7 @@ returns-clause-sound g c =
     let qs : List Opened = self.requests.items in
     let bio : QueuedBio = c.in-Some.bio in
     let into : QueuedBio = record bio { stage = Into c.len-request.result } in
-    let new : Opened = opened_for c.args.number c.args.pid c.args.range self.clock.now bio in
+    let new : Opened = opened_for c.args.number c.args.pid c.args.cpu c.args.range self.clock.now bio in
     let last : c.len-request.result ≡ length qs = omega (arith, c.len-request.ensures, self.requests.ok.0) in
     record {
       indexed =

@@ -1,5 +1,0 @@
-use Rattle.std.proofs.Common.{refl}
-use Rattle.blk_blame.proofs.processes_said.add_processes.Goals as goal
-
-pub returns : goal.returns
-returns c = rw (c.in_ok-add-2.ensures, c.in_ok-add.ensures, c.new-title.ensures, c.new.ensures.items, c.new-2.ensures, c.in_ok-columns.ensures, c.in_ok-rows.ensures) refl
