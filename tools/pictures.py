@@ -12,7 +12,7 @@ as the trace says; that each window has the two numbers that its commands and it
 where they are few; and by how many rounds the axis counts.
 
 Of more than 400 rounds those columns are drawn in which a late request waits or goes out, by the first step that makes them few enough: of
-these it looks at all of that, and that broken lines stand where others are cut.
+these it looks at all of that, and that broken lines stand where others are cut. Pictures of schedules and of captures are looked at by tools/lanes.py.
 
 Prints what is wrong, and as the last line 'N passed, M failed'. Ends with 0 where none failed, and with 1 where one did.
 """
@@ -22,6 +22,7 @@ import io
 import os
 import re
 import signal
+import subprocess
 import sys
 import xml.etree.ElementTree as ET
 from collections import Counter
@@ -30,6 +31,7 @@ from itertools import accumulate
 
 sys.dont_write_bytecode = True
 
+import lanes
 import words as command_line
 from cases import PROGRAM, Case, counted, ended, read_cases, run, side_by_side
 from traces import Trace
@@ -41,13 +43,7 @@ LEFT, ABOVE, LABELLED, COLUMNS = 64, 182, 12, 400
 LOOKED_AT = [it.encode().split() for it in command_line.that_read("a trace") if it not in ("picture", "commands")]
 
 
-class Fault(Exception):
-    """What is wrong with a picture."""
-
-
-def hold(it, what):
-    if not it:
-        raise Fault(what)
+Fault, hold = lanes.Fault, lanes.hold
 
 
 class Drawn(Trace):
@@ -311,8 +307,9 @@ def look_at_trace(part, trace):
     look_at_windows(part, trace, layout, wide)
 
 
-def look_at(text, trace):
-    hold(len(text) < 1_000_000, "1 MB and more")
+def read_of(text, most):
+    """A picture, of the elements that one has and no larger than this."""
+    hold(len(text) < most, f"{most} bytes and more")
     hold(not re.search(r"<script|@font|href|@import", text), "a script, a font or a link")
     try:
         top = ET.fromstring(text)
@@ -321,6 +318,11 @@ def look_at(text, trace):
     for it in top.iter():
         hold(it.tag.startswith(SVG) and it.tag[len(SVG):] in ELEMENTS, f"an element {it.tag}")
     hold(top.get("version") == "1.1" and top.get("width") == "1280", "the root")
+    return top
+
+
+def look_at(text, trace):
+    top = read_of(text, 1_000_000)
     parts, tops = top.findall(SVG + "g"), []
     for part in parts:
         tops.append(int(re.fullmatch(r"translate\(0,(\d+)\)", part.get("transform")).group(1)))
@@ -361,12 +363,26 @@ def of_trace(case):
     return any(case.args[: len(it)] == it for it in LOOKED_AT)
 
 
+def input_of(case):
+    """The input of a case, also where a program writes it."""
+    if case.generator:
+        made = subprocess.run([sys.executable, "-I", case.generator], stdin=subprocess.DEVNULL, capture_output=True, check=True)
+        return made.stdout.decode()
+    return case.stdin.read_text() if case.stdin else ""
+
+
 def kept(case):
     """What is wrong with the picture that a case holds, or None where it holds none."""
     picture = case.wanted["stdout"]
-    if case.args[:1] != [b"picture"] or not picture:
+    if case.args[:1] not in ([b"picture"], [b"blame"]) or not picture:
+        return None
+    shown = lanes.shown_by(case.args, input_of(case))
+    if shown is None and case.args[0] == b"blame":
         return None
     try:
+        if shown is not None:
+            lanes.look_at(read_of(picture.read_text(), 3_000_000), shown)
+            return ""
         look_at(picture.read_text(), Drawn(case.stdin.read_text()) if case.args == [b"picture"] else None)
     except Fault as fault:
         return f"{fault}\n"

@@ -65,6 +65,7 @@ GOOD = [
     "spread_write_before_read_json",
     "tune_none_and_earliest_json",
     "import_one_request",
+    "picture_schedule",
     "explain_script",
 ]
 
@@ -708,9 +709,11 @@ FORMS = {
     b"oracle --met": b"blk-commands,1,1\n1,0,0\n",
     b"check": b"blk-certificate,1,1,3\nbound,2,0,0\n",
     b"judge": b"blk-schedule,1,1,3\n1,0,0,0\n",
+    b"picture --schedule": b"blk-schedule,1,1,3\n1,0,0,0\n",
     b"explain": b"blk-script,1,1,1,4,1\nsetup,0,9,256,128,\n",
     b"import": b"blk-capture,1,,,,,,\n0,000000010,0,Q,1,R,0,8\n",
     b"blame": b"blk-capture,1,,,,,,\n0,000000010,0,Q,1,R,0,8\n",
+    b"blame --picture": b"blk-capture,1,,,,,,\n0,000000010,0,Q,1,R,0,8\n",
     b"import --script --round 1ms": b"blk-capture,1,,,,,,\n0,000000010,0,Q,1,R,0,8\n",
     b"replay": b"blk-capture,1,,,,,,\n0,000000010,0,Q,1,R,0,8\n",
 }

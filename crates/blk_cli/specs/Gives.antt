@@ -19,6 +19,7 @@ use Rattle.blk_cli.specs.Inputs.{Of, FailsOver}
 use Rattle.blk_cli.specs.Comparing.{IsRunText, HasNoRunText, TellsRun}
 use Rattle.blk_cli.specs.OfTraces.{IsTellingText, IsUntold}
 use Rattle.blk_cli.specs.Certificates.{SpellsList, IsSolved, IsUnsolved, IsCheckText, IsBad}
+use Rattle.blk_cli.specs.Drawing.{IsScheduleDrawn}
 use Rattle.blk_cli.specs.Judging.{IsJudgedText, IsUnjudged, TellsEmpty}
 use Rattle.blk_cli.specs.Importing.{IsImportedFrom, IsUnimportedFrom}
 use Rattle.blk_cli.specs.Explaining.{IsTextExplained, IsUnexplained}
@@ -59,6 +60,7 @@ GivesText (text_job.OfTrace t) input text = Of SpellsTrace (IsTellingText t) inp
 GivesText (text_job.OfList s) input text = Of SpellsList (IsSolved s) input text
 GivesText (text_job.Check o) input text = Of SpellsProof (IsCheckText o) input text
 GivesText (text_job.Judge e) input text = Of SpellsSchedule (IsJudgedText e) input text
+GivesText text_job.Draw input text = Of SpellsSchedule IsScheduleDrawn input text
 
 -- what is said beside it, of the same records
 abbrev pub TellsOf : TextJob → Option (List Row) → Said → Type 0
@@ -72,6 +74,7 @@ HasNoText (text_job.OfTrace t) input failed f = FailsOver SpellsTrace TraceTextF
 HasNoText (text_job.OfList s) input failed f = FailsOver SpellsList CommandsFault IsUnsolved input failed f
 HasNoText (text_job.Check o) input failed f = FailsOver SpellsProof ProofFault IsBad input failed f
 HasNoText (text_job.Judge e) input failed f = FailsOver SpellsSchedule ScheduleFault IsUnjudged input failed f
+HasNoText text_job.Draw input failed f = FailsOver SpellsSchedule ScheduleFault IsUnjudged input failed f
 
 -- the answer of a job to its words and its input: the records and the bytes, where they are known; a refusal has none
 abbrev pub GivesAnswer : List (List ℕ) → Job → Option (List Row) → Option (List ℕ) → Said → Type 0

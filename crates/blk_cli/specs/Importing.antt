@@ -15,6 +15,7 @@ use Rattle.blk_capture.specs.Counting.{AreInRounds}
 use Rattle.blk_capture.specs.Requests.{times_of}
 use Rattle.blk_bio.specs.declared.bio.Dir.TheVariants.{Read, Write}
 use Rattle.blk_blame.specs.Blamed.{IsBlameAnswer, IsEachAnswer}
+use Rattle.blk_blame.specs.Drawing.{IsBlamePicture}
 use Rattle.blk_blame.specs.TightestSaid.{IsTightestAnswer}
 use Rattle.blk_blame.specs.declared.grouped.GroupedBy.{GroupedBy}
 use Rattle.blk_blame.specs.declared.grouped.GroupedBy.TheVariants as grouped
@@ -172,6 +173,7 @@ IsBlameText shown_blame.Whole b i begin requests text = IsWholeBlame b begin req
 IsBlameText shown_blame.Each b i begin requests text = IsEachBlame b.form begin requests text
 IsBlameText shown_blame.Certificate b i begin requests text = IsBlameCertificate requests text
 IsBlameText (shown_blame.Tightest asked) b i begin requests text = IsTightestText b.form (aim_of i asked) requests text
+IsBlameText shown_blame.Picture b i begin requests text = IsBlamePicture begin requests text
 
 abbrev pub IsBlamingText : Blaming → Import → ℕ → List CapturedRequest → List ℕ → Type 0
 IsBlamingText b i begin requests text = IsBlameText b.shown b i begin requests text

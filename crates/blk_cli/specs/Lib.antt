@@ -9,6 +9,7 @@ pub mod OfTraces
 pub mod Certificates
 pub mod Loading
 pub mod Judging
+pub mod Drawing
 pub mod Notes
 pub mod Importing
 pub mod Explaining

@@ -12,7 +12,7 @@ use crate::forms::written;
 use crate::importing::{asked_of, note_on, tags_asked};
 use crate::lists::most_of;
 use blk_bio::Dir;
-use blk_blame::{Aim, GroupedBy, blame_answer, each_answer, tightest_answer};
+use blk_blame::{Aim, GroupedBy, blame_answer, blame_picture, each_answer, tightest_answer};
 use blk_capture::{CapturedRequest, CountedSchedule, Record, rounds_of};
 use blk_capture_text::{ShownImport, first_time};
 use blk_words::{BlameBy, Blaming, Form, Import, ShownBlame, TightestAsked};
@@ -131,6 +131,7 @@ fn text_of(
         ShownBlame::Tightest(asked) => {
             tightest_text(alloc, blaming.form, aim_of(wanted, asked), requests)
         }
+        ShownBlame::Picture => blame_picture(alloc, begin, requests),
     }
 }
 

@@ -11,6 +11,7 @@ ghost use Rattle.blk_cli.specs.Inside.Ends.{EndsPutOn};
 mod blaming;
 mod checking;
 mod comparing;
+mod drawing;
 mod explaining;
 mod failure;
 mod figures;
@@ -29,6 +30,7 @@ mod tuning;
 mod unflushed;
 
 use crate::checking::over_proof;
+use crate::drawing::draw_schedule;
 use crate::explaining::over_bytes;
 pub use crate::failure::Failure;
 use crate::failure::tell_more;
@@ -225,6 +227,10 @@ fn work<R: Read + Drop>(
             Err(failure) => Err(failure),
         },
         TextJob::Judge { each } => over_schedule(alloc, each, records),
+        TextJob::Draw => match draw_schedule(alloc, records) {
+            Ok(text) => Ok(Answered::alone(text)),
+            Err(failure) => Err(failure),
+        },
     }
 }
 

@@ -37,6 +37,7 @@ fn reader_of(job: Job) -> Option<(&'static [u8], TextForm)> {
         Job::Tune(_) => Some((b"tune", TextForm::Script)),
         Job::Import(import) => Some((importer_of(import), TextForm::Capture)),
         Job::OfText(TextJob::Judge { .. }) => Some((b"judge", TextForm::Schedule)),
+        Job::OfText(TextJob::Draw) => Some((b"picture --schedule", TextForm::Schedule)),
         Job::OfText(TextJob::OfScript(Running::Drawn(_))) => Some((
             b"picture --script",
             TextForm::Script,

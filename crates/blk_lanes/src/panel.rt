@@ -8,7 +8,7 @@ use crate::bars::{Bar, Interval, Span, Unit, bars_within, count_late, spans_with
 use crate::facts::{bar_fact, span_fact};
 use crate::lanes::{Lanes, lanes_of};
 use crate::ruler::Ruler;
-use crate::shapes::{Layout, bar_shape, panel_shape, put, put_time, span_shape};
+use crate::shapes::{Layout, bar_shape, has_room, panel_shape, put, put_time, span_shape};
 use crate::words::{AFTER_BAR, AFTER_TITLE, BAR};
 use drafts::Draft;
 use std::alloc::{AllocError, Global};
@@ -62,11 +62,12 @@ fn push_span(
     layout: &Layout,
     number: u64,
     span: Span,
+    labelled: bool,
 ) -> Result<(), AllocError>
     ensures { OnOk result (Says (span_fact layout.now.ruler.unit span ∷ []) draft.old draft.new) }
 {
     let fact = span_fact(alloc, layout.ruler.unit, span)?;
-    let shape = span_shape(alloc, layout, number, span)?;
+    let shape = span_shape(alloc, layout, number, span, labelled)?;
     draft.text(BAR.as_bytes())?;
     draft.text(fact.as_slice())?;
     draft.text(AFTER_TITLE.as_bytes())?;
@@ -105,7 +106,8 @@ fn push_spans(
     ensures { OnOk result (Says (map (span_fact layout.now.ruler.unit) spans.now) draft.old draft.new) }
 {
     for place in 0..spans.len() {
-        push_span(draft, alloc, layout, place as u64, spans[place])?;
+        let labelled = has_room(layout, spans, place);
+        push_span(draft, alloc, layout, place as u64, spans[place], labelled)?;
     }
     Ok(())
 }

@@ -12,8 +12,14 @@ pub(crate) const TOP: u64 = 24;
 /// How many rows of windows stand below a panel at most.
 const MAX_ROWS: u64 = 4;
 
-/// How many windows of a panel have their numbers beside them at most.
-const MAX_LABELLED: u64 = 12;
+/// How many pixels wide a picture is.
+const PICTURE_WIDE: u64 = 1280;
+
+/// How many pixels a digit of the numbers of the axis and of windows takes.
+const DIGIT_WIDE: u64 = 7;
+
+/// How many pixels the words between the numbers of a window take, with room behind them.
+const WORDS_WIDE: u64 = 110;
 
 /// How high a row is at least beside which the number of its request stands.
 const MIN_LABEL_TALL: u64 = 10;
@@ -156,23 +162,66 @@ fn put_stall(draft: &mut Draft, layout: &Layout, span: Span) -> Result<(), Alloc
     put(draft, PART, &[from, TOP, wide, layout.high()])
 }
 
-/// The shape of a window below the lanes, in a row, with its numbers where windows are few.
+/// How many digits a number has.
+fn count_digits(number: u64) -> u64 {
+    let mut rest = number;
+    let mut digits: u64 = 1;
+    for _ in 0..20 {
+        if rest < 10 {
+            break;
+        }
+        rest /= 10;
+        digits = digits.saturating_add(1);
+    }
+    digits
+}
+
+/// How many pixels the numbers of a window take.
+fn label_wide(span: Span) -> u64 {
+    count_digits(span.requests)
+        .saturating_add(count_digits(span.carries))
+        .saturating_mul(DIGIT_WIDE)
+        .saturating_add(WORDS_WIDE)
+}
+
+/// Where they begin: where it does, but for those at the right, which end where the picture does.
+fn label_left(layout: &Layout, span: Span) -> u64 {
+    let last = PICTURE_WIDE.saturating_sub(label_wide(span));
+    layout.ruler.at(span.from).min(last)
+}
+
+/// Whether there is room for the numbers of a window before the next one in its row.
+pub(crate) fn has_room(layout: &Layout, spans: &[Span], place: usize) -> bool {
+    match (
+        spans.get(place),
+        spans.get(place.saturating_add(MAX_ROWS as usize)),
+    ) {
+        (Some(span), Some(next)) => {
+            label_left(layout, *span).saturating_add(label_wide(*span)) <= label_left(layout, *next)
+        }
+        _ => true,
+    }
+}
+
+/// The shape of a window below the lanes, in a row, with its numbers where there is room.
 fn put_window(
     draft: &mut Draft,
     layout: &Layout,
     number: u64,
     span: Span,
+    labelled: bool,
 ) -> Result<(), AllocError> {
     let from = layout.ruler.at(span.from);
     let to = layout.ruler.after(span.to).max(from.saturating_add(2));
     let row = number.saturating_sub(layout.stalls) % MAX_ROWS;
     let y = layout.foot().saturating_add(row * 28 + 26);
     put(draft, BRACKET, &[from, y, to])?;
-    if MAX_LABELLED < layout.windows {
+    if !labelled {
         return Ok(());
     }
+    let left = label_left(layout, span);
     let below = y.saturating_add(18);
-    put(draft, LABEL, &[from, below, span.requests, span.carries])
+    put(draft, LABEL, &[left, below, span.requests, span.carries])
 }
 
 /// The shape of a stall or a window.
@@ -181,14 +230,24 @@ pub(crate) fn span_shape(
     layout: &Layout,
     number: u64,
     span: Span,
+    labelled: bool,
 ) -> Result<Vec<u8>, AllocError> {
     let mut draft = Draft::new(alloc);
     if span.stall {
         put_stall(&mut draft, layout, span)?;
     } else {
-        put_window(&mut draft, layout, number, span)?;
+        put_window(&mut draft, layout, number, span, labelled)?;
     }
     draft.finish()
+}
+
+/// How many pixels half of a time of the axis takes.
+fn half_wide(unit: Unit, time: u64) -> u64 {
+    let digits = match unit {
+        Unit::Rounds => count_digits(time),
+        Unit::Nanoseconds => count_digits(time / 1_000_000).saturating_add(4),
+    };
+    digits.saturating_mul(DIGIT_WIDE) / 2
 }
 
 /// Adds the numbers of an axis below the lanes.
@@ -203,7 +262,8 @@ fn put_axis(draft: &mut Draft, layout: &Layout) -> Result<(), AllocError> {
             return Ok(());
         }
         let x = ruler.at(time);
-        put(draft, TICK, &[x, foot, x, foot.saturating_add(17)])?;
+        let middle = x.min(PICTURE_WIDE.saturating_sub(half_wide(ruler.unit, time)));
+        put(draft, TICK, &[x, foot, middle, foot.saturating_add(17)])?;
         put_time(draft, ruler.unit, time)?;
         draft.text(b"</text>\n")?;
     }

@@ -28,7 +28,7 @@ pub(crate) const SHOWN: &str =
 
 pub(crate) const NONE_LATE: &str = "<text x='24' y='98'>None was late.</text>\n";
 
-pub(crate) const ALL: &str = "<text x='24' y='98'>All of them: $ were late.</text>\n";
+pub(crate) const ALL: &str = "<text x='24' y='98'>All are drawn, $ of them late.</text>\n";
 
 /// How a panel begins, so far from the top, and its title.
 pub(crate) const PANEL: &str = "<g transform='translate(0,$)'>\n<text class='b' x='24' y='14'>";

@@ -4,3 +4,4 @@ mod Grown
 mod Listed
 mod Timed
 mod Taken
+mod Sources

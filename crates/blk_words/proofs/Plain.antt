@@ -250,6 +250,10 @@ pub drawn_line : IsReadSo "picture --script --earliest --fifo-batch 1" (of_scrip
 unfolding clap_on_literals
 drawn_line name p f = (refl, refl)
 
+pub scheduled_line : IsReadSo "picture --schedule" (job.OfText text_job.Draw)
+unfolding clap_on_literals
+scheduled_line name p f = (refl, refl)
+
 pub oracle_line : IsReadSo "oracle" (of_list solving.Least)
 unfolding clap_on_literals
 oracle_line name p f = (refl, refl)

@@ -1,5 +1,5 @@
 -- What a subcommand takes and what its job reads.
-use Rattle.std.proofs.Common.{◌≡◌, ◌∙◌, ◌∷◌, [], ℕ, Bool, true, false, List, Option, None, Some, map, sym, refl, subst, codes, inl, inr}
+use Rattle.std.proofs.Common.{◌≡◌, ◌∙◌, ◌∷◌, [], ℕ, Bool, true, false, List, Option, None, Some, map, sym, refl, subst, codes}
 use Rattle.std.specs.Prelude.{◌≢◌, ◌++◌, IfSome, Result, Ok, Err, option_map}
 use Rattle.clap.specs.Words.{Row, Text}
 use Rattle.clap.specs.declared.builder.value_parser.Reading.TheVariants as reading
@@ -21,8 +21,8 @@ use Rattle.blk_words.specs.declared.words.Refusal.{Refusal}
 use Rattle.blk_words.specs.declared.inputs.ShownLoad.{ShownLoad}
 use Rattle.blk_words.specs.declared.words.Written.{Written}
 use Rattle.blk_words.specs.declared.words.Written.TheVariants as written
-use Rattle.blk_words.specs.Asked.{job_made, is_flagged, is_some_given, lineup_asked, pictured, time_given, number_given, from_given, source_given, written_of, sched_asked, amounts_of, oracle_job, tune_by, import_by, import_as, takes_all, load_job, loaded, blaming_of, replaying_of}
-use Rattle.blk_words.specs.Options.{json_option, met_option, script_option, trace_option, by_option, read_expire_option, write_expire_option, from_option, skip_option, first_option, fifo_read_expire_option, fifo_write_expire_option}
+use Rattle.blk_words.specs.Asked.{job_made, is_flagged, is_other_given, lineup_asked, pictured, time_given, number_given, from_given, source_given, written_of, sched_asked, amounts_of, oracle_job, tune_by, import_by, import_as, takes_all, load_job, loaded, blame_asked, replaying_of}
+use Rattle.blk_words.specs.Options.{json_option, met_option, schedule_option, script_option, trace_option, by_option, read_expire_option, write_expire_option, from_option, skip_option, first_option, fifo_read_expire_option, fifo_write_expire_option}
 use Rattle.blk_words.specs.Takers.{takes_as, kind_read, CanRead}
 
 -- a job reads no other texts than a subcommand takes
@@ -47,10 +47,12 @@ oracle_fits name false met true = reads_none makes.Oracle name _ refl
 oracle_fits name false true false = reads_one makes.Oracle name kind.Commands (λ e. cc e) _ refl
 oracle_fits name false false false = reads_one makes.Oracle name kind.Commands (λ e. cc e) _ refl
 
-picture_fits : (name : Text) (script given : Bool) (lineup : Option Lineup) → IfSome (pictured script given lineup) (Fits makes.Picture name)
-picture_fits name true given lineup = mapped (Fits makes.Picture name) _ lineup (λ l. reads_one makes.Picture name kind.Script (λ e. cc e) _ refl)
-picture_fits name false true lineup = reads_none makes.Picture name _ refl
-picture_fits name false false lineup = reads_one makes.Picture name kind.Trace (λ e. cc e) _ refl
+picture_fits : (name : Text) (script schedule given : Bool) (lineup : Option Lineup) → IfSome (pictured script schedule given lineup) (Fits makes.Picture name)
+picture_fits name true true given lineup = reads_none makes.Picture name _ refl
+picture_fits name true false given lineup = mapped (Fits makes.Picture name) _ lineup (λ l. reads_one makes.Picture name kind.Script (λ e. cc e) _ refl)
+picture_fits name false schedule true lineup = reads_none makes.Picture name _ refl
+picture_fits name false true false lineup = reads_one makes.Picture name kind.Schedule (λ e. cc e) _ refl
+picture_fits name false false false lineup = reads_one makes.Picture name kind.Trace (λ e. cc e) _ refl
 
 tune_fits : (name : Text) (fault : Option ListFault) (by : Option By) (top threads : Option ℕ) (f : Form) → Fits makes.Tune name (tune_by fault by top threads f)
 tune_fits name (Some r) by top threads f = reads_none makes.Tune name _ refl
@@ -88,7 +90,7 @@ fits makes.Explain rows name = reads_none makes.Explain name _ refl
 fits makes.Sim rows name = mapped (Fits makes.Sim name) _ _ (λ s. reads_one makes.Sim name kind.Script (λ e. cc e) _ refl)
 fits makes.Compare rows name = mapped (Fits makes.Compare name) _ _ (λ l. reads_one makes.Compare name kind.Script (λ e. cc e) _ refl)
 fits makes.Tune rows name = tune_fits name _ _ _ _ _
-fits makes.Picture rows name = picture_fits name (is_flagged script_option.name rows) (is_some_given rows) (lineup_asked rows)
+fits makes.Picture rows name = picture_fits name (is_flagged script_option.name rows) (is_flagged schedule_option.name rows) (is_other_given schedule_option.name rows) (lineup_asked rows)
 fits makes.Oracle rows name = oracle_fits name (is_flagged trace_option.name rows) (is_flagged met_option.name rows) (is_flagged json_option.name rows)
 fits makes.Check rows name = reads_one makes.Check name kind.Certificate (λ e. cc e) _ refl
 fits makes.Import rows name =
@@ -96,7 +98,7 @@ fits makes.Import rows name =
     (number_given first_option.name rows) (written_of rows)
 fits makes.Blame rows name =
     import_fits makes.Blame name (λ e. cc e) (time_given read_expire_option.name rows) (time_given write_expire_option.name rows) (from_given rows) (source_given rows) (time_given skip_option.name rows)
-    (number_given first_option.name rows) (blaming_of rows)
+    (number_given first_option.name rows) (blame_asked rows)
 fits makes.Replay rows name =
     import_fits makes.Replay name (λ e. cc e) (time_given read_expire_option.name rows) (time_given write_expire_option.name rows) (from_given rows) (source_given rows) (time_given skip_option.name rows)
     (number_given first_option.name rows) (replaying_of rows)
@@ -126,6 +128,7 @@ reads_each makes.Compare kind.Script name h = (defaults tuning, _, refl, refl)
 reads_each makes.Tune kind.Script name h = (defaults (listing ++ by_option ∷ []), _, refl, refl)
 reads_each makes.Picture kind.Script name h = (flagged script_option ∷ defaults tuning, _, refl, refl)
 reads_each makes.Picture kind.Trace name h = ([], _, refl, refl)
+reads_each makes.Picture kind.Schedule name h = (flagged schedule_option ∷ [], _, refl, refl)
 reads_each (makes.Told t) kind.Trace name h = ([], _, refl, refl)
 reads_each (makes.Formed k) kind.Trace name h = ([], _, refl, refl)
 reads_each makes.Oracle kind.Trace name h = (flagged trace_option ∷ [], _, refl, refl)

@@ -6,6 +6,7 @@ use Rattle.std.specs.Str.{bytes_eq}
 use Rattle.blk_settings.specs.declared.given.TheConstants.{MAX_SHORT}
 use Rattle.blk_settings.specs.declared.numbers.Load.{Load}
 use Rattle.clap.specs.Facts.{explicit_source}
+use Rattle.clap.specs.declared.parser.matches.ValueSource.{ValueSource}
 use Rattle.clap.specs.Words.{Row, Text, IsAmong, fault_of, first_of, one_of, subcommand_of}
 use Rattle.clap.specs.declared.error.kind.ErrorKind.{ErrorKind}
 use Rattle.clap.specs.declared.error.kind.ErrorKind.TheVariants as kind
@@ -60,7 +61,7 @@ use Rattle.blk_words.specs.declared.blaming.TightestAsked.{TightestAsked}
 use Rattle.blk_words.specs.declared.table.Makes.{Makes}
 use Rattle.blk_words.specs.declared.table.Makes.TheVariants as makes
 use Rattle.blk_words.specs.CommandLine.{Names, AreNames, command_table, blk_app}
-use Rattle.blk_words.specs.Options.{json_option, script_option, trace_option, by_option, top_option, threads_option, met_option, each_option, read_expire_option, write_expire_option, from_option, as_option, device_option, tags_option, skip_option, first_option, all_option, certificate_option, tightest_option, for_option, blame_by_option, table_option, summary_option, round_option, depth_option, submitters_option, workers_option, bios_option, load_depth_option, busy_option, service_option, replay_sched_option, fifo_read_expire_option, fifo_write_expire_option, replay_by_option, grid_option}
+use Rattle.blk_words.specs.Options.{json_option, picture_option, schedule_option, script_option, trace_option, by_option, top_option, threads_option, met_option, each_option, read_expire_option, write_expire_option, from_option, as_option, device_option, tags_option, skip_option, first_option, all_option, certificate_option, tightest_option, for_option, blame_by_option, table_option, summary_option, round_option, depth_option, submitters_option, workers_option, bios_option, load_depth_option, busy_option, service_option, replay_sched_option, fifo_read_expire_option, fifo_write_expire_option, replay_by_option, grid_option}
 use Rattle.blk_words.specs.Lists.{list_of, times_listed}
 use Rattle.blk_words.specs.Times.{MAX_NUMBER, number_in, in_unit, time_of}
 
@@ -84,9 +85,12 @@ number_given id rows = option_and_then (number_in MAX_NUMBER) (one_of id rows)
 abbrev pub is_flagged : Text → List Row → Bool
 is_flagged id rows = option_map_or (λ text. bytes_eq text (codes "true")) (first_of id rows) false
 
--- whether the words give some option; a default doesn't count
-abbrev pub is_some_given : List Row → Bool
-is_some_given rows = list_any (λ r. explicit_source r.source) rows
+-- where what an option is given comes from, and whether the words give another than this one; a default doesn't count
+abbrev pub source_of : Text → List Row → Option ValueSource
+source_of id rows = option_and_then (λ r. r.source) (find (λ r. bytes_eq r.id id) rows)
+
+abbrev pub is_other_given : Text → List Row → Bool
+is_other_given but rows = list_any (λ r. not (bytes_eq r.id but) && explicit_source (source_of r.id rows)) rows
 
 -- the time that an option is given, in nanoseconds
 abbrev pub time_given : Text → List Row → Option ℕ
@@ -120,17 +124,19 @@ form_by json = if json then form.Json else form.Lines
 abbrev pub form_asked : List Row → Form
 form_asked rows = form_by (is_flagged json_option.name rows)
 
--- their comparison in a form, and the picture of a trace, which takes no options, or of a script under them
+-- their comparison in a form, and the picture of a trace or of a schedule, which take no options, or of a script under them
 abbrev pub compared : Form → Option Lineup → Option Job
 compared f lineup = option_map (λ l. of_script (running.Each l f)) lineup
 
-abbrev pub pictured : Bool → Bool → Option Lineup → Option Job
-pictured script given lineup =
-    if script then option_map (λ l. of_script (running.Drawn l)) lineup
-    else (if given then Some (job.Refuse refusal.NoScriptDrawn) else Some (of_trace telling.Picture))
+abbrev pub pictured : Bool → Bool → Bool → Option Lineup → Option Job
+pictured true true given lineup = Some (job.Refuse refusal.ScriptAndSchedule)
+pictured true false given lineup = option_map (λ l. of_script (running.Drawn l)) lineup
+pictured false schedule true lineup = Some (job.Refuse refusal.NoScriptDrawn)
+pictured false true false lineup = Some (job.OfText text_job.Draw)
+pictured false false false lineup = Some (of_trace telling.Picture)
 
 abbrev pub picture_given : List Row → Option Job
-picture_given rows = pictured (is_flagged script_option.name rows) (is_some_given rows) (lineup_asked rows)
+picture_given rows = pictured (is_flagged script_option.name rows) (is_flagged schedule_option.name rows) (is_other_given schedule_option.name rows) (lineup_asked rows)
 
 -- a load of these numbers, whose devices may be busy and take time, under this scheduler, and what is written of it
 abbrev pub amounts : Option ℕ → Option ℕ → Option ℕ → Option ℕ → Option ℕ → Option ℕ → Option Load
@@ -309,6 +315,7 @@ shown_in f (Some blame.Each) = Ok blame.Each
 shown_in form.Lines (Some blame.Certificate) = Ok blame.Certificate
 shown_in form.Json (Some blame.Certificate) = Err refusal.CertificateJson
 shown_in f (Some (blame.Tightest asked)) = Ok (blame.Tightest asked)
+shown_in f (Some blame.Picture) = Ok blame.Picture
 
 -- of whom a table is written that tells whose requests were late; of processes where nobody says so
 abbrev pub blame_by_named : Text → Option BlameBy
@@ -337,8 +344,23 @@ blaming_of rows =
     blaming_by (is_flagged each_option.name rows) (is_flagged certificate_option.name rows) (blame_by_given rows) (is_flagged all_option.name rows) (number_given top_option.name rows)
     (form_asked rows) (tightest_given rows)
 
+-- the picture, beside which nothing is asked for that is written in lines
+abbrev pub asks_lines : List Row → Bool
+asks_lines rows =
+    is_flagged each_option.name rows || is_flagged certificate_option.name rows || is_given tightest_option.name rows || is_given for_option.name rows || is_given blame_by_option.name rows || is_given top_option.name rows
+    || is_flagged all_option.name rows || is_flagged json_option.name rows
+
+abbrev pub drawn_blame : Written
+drawn_blame = written.Blame (record { shown = blame.Picture; most = USUAL_TOP; by = blame_by.Process; form = form.Lines })
+
+abbrev pub drawn_unless : Bool → Result Written Refusal
+drawn_unless lines = if lines then Err refusal.PictureAlone else Ok drawn_blame
+
+abbrev pub blame_asked : List Row → Result Written Refusal
+blame_asked rows = if is_flagged picture_option.name rows then drawn_unless (asks_lines rows) else blaming_of rows
+
 abbrev pub blame_job : List Row → Job
-blame_job rows = import_with (blaming_of rows) rows
+blame_job rows = import_with (blame_asked rows) rows
 
 -- by what rows are put in order
 abbrev pub by_named : Text → Option By

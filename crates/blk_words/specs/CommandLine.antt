@@ -14,7 +14,7 @@ use Rattle.blk_words.specs.declared.inputs.Telling.TheVariants as telling
 pub use Rattle.blk_words.specs.declared.command.Names.{Names}
 use Rattle.blk_words.specs.declared.table.Makes.{Makes}
 use Rattle.blk_words.specs.declared.table.Makes.TheVariants as makes
-use Rattle.blk_words.specs.Options.{json_option, script_option, trace_option, by_option, top_option, threads_option, met_option, each_option, read_expire_option, write_expire_option, from_option, as_option, device_option, tags_option, skip_option, first_option, all_option, certificate_option, tightest_option, for_option, blame_by_option, table_option, summary_option, round_option, depth_option, submitters_option, workers_option, bios_option, load_depth_option, busy_option, service_option, replay_sched_option, fifo_read_expire_option, fifo_write_expire_option, replay_by_option, grid_option}
+use Rattle.blk_words.specs.Options.{json_option, picture_option, schedule_option, script_option, trace_option, by_option, top_option, threads_option, met_option, each_option, read_expire_option, write_expire_option, from_option, as_option, device_option, tags_option, skip_option, first_option, all_option, certificate_option, tightest_option, for_option, blame_by_option, table_option, summary_option, round_option, depth_option, submitters_option, workers_option, bios_option, load_depth_option, busy_option, service_option, replay_sched_option, fifo_read_expire_option, fifo_write_expire_option, replay_by_option, grid_option}
 
 -- texts behind references
 abbrev pub Texts : Type 0
@@ -97,7 +97,7 @@ abbrev pub importing : List OptionOf
 importing = capturing ++ table_option ∷ summary_option ∷ script_option ∷ round_option ∷ depth_option ∷ []
 
 abbrev pub blaming : List OptionOf
-blaming = capturing ++ each_option ∷ certificate_option ∷ tightest_option ∷ for_option ∷ blame_by_option ∷ top_option ∷ all_option ∷ json_option ∷ []
+blaming = capturing ++ each_option ∷ certificate_option ∷ tightest_option ∷ for_option ∷ picture_option ∷ blame_by_option ∷ top_option ∷ all_option ∷ json_option ∷ []
 
 abbrev pub replaying : List OptionOf
 replaying =
@@ -118,7 +118,7 @@ run_table =
     ∷ formed (codes "late") figures.Late 4
     ∷ formed (codes "misses") figures.Misses 5
     ∷ formed (codes "spread") figures.Spread 3
-    ∷ taking (codes "picture") (script_option ∷ (flags ++ tuning)) makes.Picture 8
+    ∷ taking (codes "picture") (script_option ∷ schedule_option ∷ (flags ++ tuning)) makes.Picture 8
     ∷ []
 
 -- the others: over command lists and certificates, over captures and schedules, over texts of any form, and over the running layer

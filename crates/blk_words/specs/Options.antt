@@ -6,12 +6,15 @@ use Rattle.blk_settings.specs.declared.numbers.TheConstants.{MAX_LOAD_SUBMITTERS
 use Rattle.blk_settings.specs.Options.{Flag, Number, MaybeNumber, Words, MaybeWords, OptionOf, sched_option}
 use Rattle.blk_words.specs.declared.table.TheConstants.{MAX_BUSY, MAX_TAGS, MAX_TOP, MAX_THREADS}
 
--- flags of several subcommands: to write JSON, to read or write a script, to read or write a trace
+-- flags of several subcommands: to write JSON, to read or write a script, to read a schedule, to read or write a trace
 abbrev pub json_option : OptionOf
 json_option = record { name = codes "json"; kind = Flag }
 
 abbrev pub script_option : OptionOf
 script_option = record { name = codes "script"; kind = Flag }
+
+abbrev pub schedule_option : OptionOf
+schedule_option = record { name = codes "schedule"; kind = Flag }
 
 abbrev pub trace_option : OptionOf
 trace_option = record { name = codes "trace"; kind = Flag }
@@ -59,6 +62,9 @@ abbrev pub first_option : OptionOf
 first_option = record { name = codes "first"; kind = MaybeNumber 1 MAX_COMMANDS }
 
 -- of `blame`
+abbrev pub picture_option : OptionOf
+picture_option = record { name = codes "picture"; kind = Flag }
+
 abbrev pub all_option : OptionOf
 all_option = record { name = codes "all"; kind = Flag }
 

@@ -13,7 +13,7 @@ use Rattle.blk_words.specs.declared.words.Job.{Job}
 use Rattle.blk_words.specs.declared.words.Job.TheVariants as job
 use Rattle.blk_words.specs.Asked.{job_made}
 use Rattle.blk_words.specs.CommandLine.{Subcommand, command_table}
-use Rattle.blk_words.specs.Options.{script_option, trace_option}
+use Rattle.blk_words.specs.Options.{schedule_option, script_option, trace_option}
 
 -- a name with a flag behind it
 abbrev pub name_with : Text → Text → Text
@@ -26,6 +26,7 @@ takes_as makes.Compare kind.Script name = Some name
 takes_as makes.Tune kind.Script name = Some name
 takes_as makes.Picture kind.Script name = Some (name_with script_option.name name)
 takes_as makes.Picture kind.Trace name = Some name
+takes_as makes.Picture kind.Schedule name = Some (name_with schedule_option.name name)
 takes_as (makes.Told t) kind.Trace name = Some name
 takes_as (makes.Formed k) kind.Trace name = Some name
 takes_as makes.Oracle kind.Trace name = Some (name_with trace_option.name name)
@@ -64,6 +65,7 @@ kind_read (job.OfText (text_job.OfTrace t)) = Some kind.Trace
 kind_read (job.OfText (text_job.OfList s)) = Some kind.Commands
 kind_read (job.OfText (text_job.Check f)) = Some kind.Certificate
 kind_read (job.OfText (text_job.Judge e)) = Some kind.Schedule
+kind_read (job.OfText text_job.Draw) = Some kind.Schedule
 kind_read (job.Tune t) = Some kind.Script
 kind_read (job.Import i) = Some kind.Capture
 kind_read j = None

@@ -46,6 +46,7 @@ pub fn plain_lines()
     ensures spread_json { AsksFor "spread --json" (of_trace (Telling.Figures FiguresAsked.Spread Form.Json)) }
     ensures picture { AsksFor "picture" (of_trace Telling.Picture) }
     ensures drawn { AsksFor "picture --script --earliest --fifo-batch 1" (of_script (Running.Drawn (in_batches 1))) }
+    ensures scheduled { AsksFor "picture --schedule" (Job.OfText TextJob.Draw) }
     ensures oracle { AsksFor "oracle" (of_list Solving.Least) }
     ensures report { AsksFor "oracle --trace" (of_trace (Telling.Figures FiguresAsked.Report Form.Lines)) }
     ensures report_json { AsksFor "oracle --trace --json" (of_trace (Telling.Figures FiguresAsked.Report Form.Json)) }

@@ -1,7 +1,7 @@
 //! The words of `blame`.
 
 ghost use Rattle.std.specs.Prelude.{◌≡◌};
-ghost use Rattle.blk_words.specs.Asked.{most_shown, up_to_all, share_of, share_by, share_given, writes_named, writes_given, tightest_with, tightest_given, shown_blame, shown_in, blame_by_named, blame_by_given, blaming_in, blaming_with, blaming_of, blame_job};
+ghost use Rattle.blk_words.specs.Asked.{most_shown, up_to_all, share_of, share_by, share_given, writes_named, writes_given, tightest_with, tightest_given, shown_blame, shown_in, blame_by_named, blame_by_given, blaming_in, blaming_with, blaming_of, asks_lines, drawn_blame, drawn_unless, blame_asked, blame_job};
 ghost use Rattle.blk_words.specs.Inside.Options.{given};
 
 use crate::option_names;
@@ -22,6 +22,8 @@ pub enum ShownBlame {
     Certificate,
     /// The least deadline of a direction's requests, at which so many of them can be on time.
     Tightest(TightestAsked),
+    /// Its requests, as a picture.
+    Picture,
 }
 
 /// How many requests of which direction are to be on time.
@@ -198,6 +200,7 @@ fn shown_in(form: Form, shown: Option<ShownBlame>) -> Result<ShownBlame, Refusal
             Form::Json => Err(Refusal::CertificateJson),
         },
         Some(ShownBlame::Tightest(asked)) => Ok(ShownBlame::Tightest(asked)),
+        Some(ShownBlame::Picture) => Ok(ShownBlame::Picture),
     }
 }
 
@@ -271,7 +274,7 @@ fn blaming_with(
     }
 }
 
-/// What the options of `blame` ask to be written.
+/// What the options of `blame` ask to be written in lines.
 fn blaming_of(options: &ArgMatches<'_>) -> Result<Written, Refusal>
     ensures { result ≡ blaming_of (given options.now) }
 {
@@ -290,9 +293,57 @@ fn blaming_of(options: &ArgMatches<'_>) -> Result<Written, Refusal>
     )
 }
 
+/// Whether options are given that say what is written in lines, of which a picture has none.
+fn asks_lines(options: &ArgMatches<'_>) -> bool
+    ensures { result ≡ asks_lines (given options.now) }
+{
+    is_flagged(options, option_names::EACH)
+        || is_flagged(options, option_names::CERTIFICATE)
+        || is_given(options, option_names::TIGHTEST)
+        || is_given(options, option_names::FOR)
+        || is_given(options, option_names::BY)
+        || is_given(options, option_names::TOP)
+        || is_flagged(options, option_names::ALL)
+        || is_flagged(options, option_names::JSON)
+}
+
+/// The picture, as it is written.
+fn drawn_blame() -> Written
+    ensures { result ≡ drawn_blame }
+{
+    Written::Blame(Blaming {
+        shown: ShownBlame::Picture,
+        most: USUAL_TOP,
+        by: BlameBy::Process,
+        form: Form::Lines,
+    })
+}
+
+/// The same, unless lines are asked for.
+fn drawn_unless(lines: bool) -> Result<Written, Refusal>
+    ensures { result ≡ drawn_unless lines }
+{
+    if lines {
+        Err(Refusal::PictureAlone)
+    } else {
+        Ok(drawn_blame())
+    }
+}
+
+/// What the options of `blame` ask to be written: the picture, or what is written in lines.
+fn blame_asked(options: &ArgMatches<'_>) -> Result<Written, Refusal>
+    ensures { result ≡ blame_asked (given options.now) }
+{
+    if is_flagged(options, option_names::PICTURE) {
+        drawn_unless(asks_lines(options))
+    } else {
+        blaming_of(options)
+    }
+}
+
 /// The blame that the options of `blame` ask for.
 pub(crate) fn blame_job(options: &ArgMatches<'_>) -> Job
     ensures { result ≡ blame_job (given options.now) }
 {
-    import_with(options, blaming_of(options))
+    import_with(options, blame_asked(options))
 }

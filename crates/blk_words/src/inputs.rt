@@ -35,6 +35,8 @@ pub enum TextJob {
         /// Whether each late command is written instead.
         each: bool,
     },
+    /// Draw a schedule.
+    Draw,
 }
 
 /// What is asked of a script.

@@ -19,6 +19,12 @@ pub const THREADS: &str = "threads";
 /// Whether a script is read, or written.
 pub const SCRIPT: &str = "script";
 
+/// Whether a schedule is read.
+pub const SCHEDULE: &str = "schedule";
+
+/// Whether a picture is written.
+pub const PICTURE: &str = "picture";
+
 /// Whether a trace is read, or written.
 pub const TRACE: &str = "trace";
 

@@ -36,7 +36,7 @@ pub enum Makes {
     Compare,
     /// The trial of the settings of their lists, if these are lists.
     Tune,
-    /// The picture of a trace, or of a script under schedulers of their settings.
+    /// The picture of a trace, of a script under schedulers of their settings, or of a schedule.
     Picture,
     /// What `oracle` is asked by its flags.
     Oracle,
@@ -245,6 +245,11 @@ pub static RUN_COMMANDS: [CommandRow; RUN_COUNT] = [
                 takes: Takes::Nothing,
                 help: "Reads a script instead, and draws its trace under each scheduler, one below the other",
             }),
+            OptionGroup::Own(OptionRow {
+                name: option_names::SCHEDULE,
+                takes: Takes::Nothing,
+                help: "Reads a schedule instead, as import and replay write it, and draws its commands from release to round",
+            }),
             OptionGroup::Flags,
             OptionGroup::Settings,
         ],
@@ -421,6 +426,11 @@ pub static OTHER_COMMANDS: [CommandRow; OTHER_COUNT] = [
                 name: option_names::FOR,
                 takes: Takes::MaybeText,
                 help: "With --tightest, whose deadline: reads or writes; without it, reads",
+            }),
+            OptionGroup::Own(OptionRow {
+                name: option_names::PICTURE,
+                takes: Takes::Nothing,
+                help: "Draws the requests instead, as an SVG picture: when each waited, which were late and why, stalls and crowded windows",
             }),
             OptionGroup::Own(OptionRow {
                 name: option_names::BY,

@@ -48,6 +48,7 @@ fn taker_of(row: &CommandRow, kind: TextKind) -> Option<Taker>
         | (Makes::Judge, TextKind::Schedule)
         | (Makes::Import | Makes::Blame | Makes::Replay, TextKind::Capture) => None,
         (Makes::Picture, TextKind::Script) => Some(option_names::SCRIPT),
+        (Makes::Picture, TextKind::Schedule) => Some(option_names::SCHEDULE),
         (Makes::Oracle, TextKind::Trace) => Some(option_names::TRACE),
         _ => return None,
     };

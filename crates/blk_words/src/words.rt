@@ -1,11 +1,12 @@
 //! The words of the command line, as a job.
 
-ghost use Rattle.std.specs.Prelude.{ℕ, ◌≡◌, ◌≤◌, map, All, IfOk, IfErr, IfSome, Some, None, option_map, option_and_then, string_bytes};
+ghost use Rattle.std.specs.Prelude.{ℕ, ◌≡◌, ◌≤◌, not, map, All, IfOk, IfErr, IfSome, Some, None, option_map, option_and_then, string_bytes};
 ghost use Rattle.std.specs.Option.{option_or};
+ghost use Rattle.clap.specs.Facts.{explicit_source};
 ghost use Rattle.clap.specs.Words.{subcommand_rows_of};
 ghost use Rattle.blk_words.specs.CommandLine.{command_table, program_version};
 ghost use Rattle.blk_words.specs.Inside.Tables.{subcommand_of, makes_among};
-ghost use Rattle.blk_words.specs.Asked.{Asks, IsNoJob, list_given, by_named, by_given, tune_job, short_given, number_given, is_flagged, is_some_given, given_options, sched_asked, lineup_asked, compared, picture_given, amounts_of, shown_of, loaded, load_given, form_by, form_asked, time_given, entry_named, from_given, source_given, round_by, round_given, script_asked, unscripted, written_of, takes_all, import_of, import_job, oracle_given, job_made, job_of, import_with};
+ghost use Rattle.blk_words.specs.Asked.{Asks, IsNoJob, list_given, by_named, by_given, tune_job, short_given, number_given, is_flagged, source_of, is_other_given, given_options, sched_asked, lineup_asked, compared, picture_given, amounts_of, shown_of, loaded, load_given, form_by, form_asked, time_given, entry_named, from_given, source_given, round_by, round_given, script_asked, unscripted, written_of, takes_all, import_of, import_job, oracle_given, job_made, job_of, import_with};
 ghost use Rattle.blk_words.specs.Options.{script_option};
 ghost use Rattle.blk_settings.specs.Complaints.{complaint_text};
 ghost use Rattle.blk_words.specs.Refusals.{refusal_text};
@@ -28,6 +29,7 @@ use blk_settings::{
 };
 use clap::ArgMatches;
 use clap::error::ErrorKind;
+use clap::parser::ValueSource;
 use std::alloc::Global;
 
 /// The version of the program.
@@ -159,6 +161,8 @@ pub enum Refusal {
     TraceAndJson,
     /// `picture` is given an option of schedulers, and asked for no script.
     NoScriptDrawn,
+    /// `picture` is asked for a script, and for a schedule.
+    ScriptAndSchedule,
     /// An option of `tune` is given no list.
     Lists(ListFault),
     /// `--by` of a trial is neither `misses` nor `lateness`.
@@ -177,6 +181,8 @@ pub enum Refusal {
     NoTightest,
     /// `--by` of a blame is neither `pid` nor `cpu` nor `none`.
     BlameBy,
+    /// `blame` is asked for a picture, and for lines.
+    PictureAlone,
     /// `--fifo-read-expire` is no list of times.
     FifoReadExpire,
     /// `--fifo-write-expire` is no list of times.
@@ -218,6 +224,7 @@ impl Refusal {
             Refusal::JsonAlone => "--json needs --trace",
             Refusal::TraceAndJson => "--trace and --json exclude one another",
             Refusal::NoScriptDrawn => "options of schedulers need --script",
+            Refusal::ScriptAndSchedule => "--script and --schedule exclude one another",
             Refusal::Lists(fault) => return fault.text(),
             Refusal::By => "--by takes misses or lateness",
             Refusal::AllAndTop => "--all and --top exclude one another",
@@ -227,6 +234,9 @@ impl Refusal {
             Refusal::For => "--for takes reads or writes",
             Refusal::NoTightest => "--for needs --tightest",
             Refusal::BlameBy => "--by takes pid, cpu or none",
+            Refusal::PictureAlone => {
+                "--picture takes no --each, --certificate, --tightest, --for, --by, --top, --all or --json"
+            }
             Refusal::FifoReadExpire => {
                 "--fifo-read-expire takes a number with ns, us, ms or s; with --grid up to 64, with commas between, each once"
             }
@@ -345,22 +355,45 @@ fn compare_of(options: &ArgMatches<'_>) -> Option<Job>
     Some(Job::OfText(TextJob::OfScript(Running::Each(lineup, form))))
 }
 
-/// Whether the words give any option: a default doesn't count.
-fn is_some_given(options: &ArgMatches<'_>) -> bool
-    ensures { result ≡ is_some_given (given options.now) }
+/// Whether what an option is given is none of the words, but its default.
+fn is_default(options: &ArgMatches<'_>, id: &str) -> bool
+    ensures { result ≡ not (explicit_source (source_of id.now (given options.now))) }
 {
-    options.args_present()
+    match options.value_source(id) {
+        Some(ValueSource::DefaultValue) => true,
+        Some(ValueSource::CommandLine) => false,
+        None => false,
+    }
 }
 
-/// The picture of a trace, for which there are no options; or with the flag `--script` those of a script under the schedulers that run it in turn.
+/// Whether the words give another option than this one: a default doesn't count.
+fn is_other_given(options: &ArgMatches<'_>, but: &str) -> bool
+    ensures { result ≡ is_other_given but.now (given options.now) }
+{
+    for id in options.ids() {
+        if id != but && !is_default(options, id) {
+            return true;
+        }
+    }
+    false
+}
+
+/// The picture of a trace, for which there are no options; with the flag `--schedule` that of a schedule, for which there are none either; or with
+/// the flag `--script` those of a script under the schedulers that run it in turn.
 fn picture_of(options: &ArgMatches<'_>) -> Option<Job>
     ensures { result ≡ picture_given (given options.now) }
 {
+    let scheduled = is_flagged(options, option_names::SCHEDULE);
     if is_flagged(options, option_names::SCRIPT) {
+        if scheduled {
+            return Some(Job::Refuse(Refusal::ScriptAndSchedule));
+        }
         let lineup = Lineup::given(&MatchedOptions { matches: options })?;
         Some(Job::OfText(TextJob::OfScript(Running::Drawn(lineup))))
-    } else if is_some_given(options) {
+    } else if is_other_given(options, option_names::SCHEDULE) {
         Some(Job::Refuse(Refusal::NoScriptDrawn))
+    } else if scheduled {
+        Some(Job::OfText(TextJob::Draw))
     } else {
         Some(Job::OfText(TextJob::OfTrace(Telling::Picture)))
     }

@@ -20,7 +20,7 @@ fn takers_of_each_kind(rt: HostRuntime) {
         ),
         (TextKind::Commands, "oracle"),
         (TextKind::Certificate, "check"),
-        (TextKind::Schedule, "judge"),
+        (TextKind::Schedule, "picture --schedule, judge"),
         (TextKind::Capture, "import, blame, replay"),
     ];
     for (kind, names) in takers {

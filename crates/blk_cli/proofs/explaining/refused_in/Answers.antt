@@ -12,6 +12,10 @@ pub returns-in-Ok : goal.returns-in-Ok
 returns-in-Ok c = (scripted c.in_ok-script.script, none, c.in-Ok.field-0, c.in_ok-script.ensures.spells, refl, c.in-Ok.ensures.ran)
 
 pub returns-in-Err-Step : goal.returns-in-Err-Step
-returns-in-Err-Step c =
-    (scripted c.in_ok-script.script, none, c.in_ok-script.ensures.spells, refl,
-    subst (IsUnrun none (scripted c.in_ok-script.script)) c.in-Err-Step.field-0-is c.in-Err-Step.ensures.unrun)
+returns-in-Err-Step c = (
+  scripted c.in_ok-script.script,
+  none,
+  c.in_ok-script.ensures.spells,
+  refl,
+  subst (IsUnrun none (scripted c.in_ok-script.script)) c.in-Err-Step.field-0-is c.in-Err-Step.ensures.unrun,
+)

@@ -14,7 +14,7 @@ use Rattle.blk_words.specs.declared.words.Written.TheVariants as written
 use Rattle.blk_settings.specs.Defaults.{default_sched, default_deadline, default_kyber, default_earliest, deadline_in, deadline_each, kyber_within, earliest_by, default_lineup, with_earliest, in_batches, whole}
 use Rattle.blk_words.specs.Asked.{of_script, of_trace, of_list}
 use Rattle.blk_words.specs.Plain.{default_trial, five_by_lateness, whole_import, by_perf, default_load, own_grid, both_positions}
-use Rattle.blk_words.proofs.Plain.{asks_for, asks_for_grid, asks_for_nothing, sim_line, none_line, deadline_line, kyber_line, earliest_line, late_last_line, batch_line, each_line, both_positions_line, target_line, compare_line, compare_earliest_line, compare_late_last_line, compare_json_line, tune_line, tune_so_line, tune_json_line, tune_unknown_line, tune_no_list_line, tune_twice_line, tune_by_what_line, whole_grid_line, own_grid_line, migrate_line, commands_line, late_line, late_json_line, misses_line, misses_json_line, spread_line, spread_json_line, picture_line, drawn_line, oracle_line, report_line, report_json_line, on_time_line, report_and_on_time_line, certificate_json_line, check_line, check_json_line, import_line, import_so_line, summary_line, no_time_line, no_entry_line, no_recorder_line, no_device_line, table_and_summary_line, script_line, script_alone_line, depth_alone_line, judge_line, judge_each_line, explain_line, load_line, load_json_line, busy_line, traced_line, traced_json_line, version_line}
+use Rattle.blk_words.proofs.Plain.{asks_for, asks_for_grid, asks_for_nothing, sim_line, none_line, deadline_line, kyber_line, earliest_line, late_last_line, batch_line, each_line, both_positions_line, target_line, compare_line, compare_earliest_line, compare_late_last_line, compare_json_line, tune_line, tune_so_line, tune_json_line, tune_unknown_line, tune_no_list_line, tune_twice_line, tune_by_what_line, whole_grid_line, own_grid_line, migrate_line, commands_line, late_line, late_json_line, misses_line, misses_json_line, spread_line, spread_json_line, picture_line, drawn_line, scheduled_line, oracle_line, report_line, report_json_line, on_time_line, report_and_on_time_line, certificate_json_line, check_line, check_json_line, import_line, import_so_line, summary_line, no_time_line, no_entry_line, no_recorder_line, no_device_line, table_and_summary_line, script_line, script_alone_line, depth_alone_line, judge_line, judge_each_line, explain_line, load_line, load_json_line, busy_line, traced_line, traced_json_line, version_line}
 use Rattle.blk_words.proofs.asking.plain_lines.Goals as goal
 
 pub returns : goal.returns
@@ -52,6 +52,7 @@ returns c = record {
   spread_json = asks_for "spread --json" (of_trace (telling.Figures figures.Spread form.Json)) spread_json_line;
   picture = asks_for "picture" (of_trace telling.Picture) picture_line;
   drawn = asks_for "picture --script --earliest --fifo-batch 1" (of_script (running.Drawn (in_batches 1))) drawn_line;
+  scheduled = asks_for "picture --schedule" (job.OfText text_job.Draw) scheduled_line;
   oracle = asks_for "oracle" (of_list solving.Least) oracle_line;
   report = asks_for "oracle --trace" (of_trace (telling.Figures figures.Report form.Lines)) report_line;
   report_json = asks_for "oracle --trace --json" (of_trace (telling.Figures figures.Report form.Json)) report_json_line;
