@@ -15,4 +15,4 @@ returns-in-Ok-schedule_picture-clause-text c =
     let s = viewed c.args.schedule.now in
     let commands : c.as_slice-commands.result.now ≡ s.commands = search rules in
     let rounds : c.as_slice-rounds.result.now ≡ s.rounds = search rules in
-    told_of s c.as_slice-commands.result.now c.as_slice-rounds.result.now _ commands rounds (search rules) (λ cs rs ss. IsSchedulePicture cs rs ss _) c.in-Ok-schedule_picture.ensures.drawn
+    told_of s c.as_slice-commands.result.now c.as_slice-rounds.result.now _ commands rounds (search rules) (λ cs rs ss. IsSchedulePicture cs rs ss c.in-Ok-schedule_picture.text.items) c.in-Ok-schedule_picture.ensures.drawn
