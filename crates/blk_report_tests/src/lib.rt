@@ -10,6 +10,12 @@ mod given;
 #[cfg(test)]
 mod missing;
 #[cfg(test)]
+mod online;
+#[cfg(test)]
+mod pictures;
+#[cfg(test)]
+mod program;
+#[cfg(test)]
 mod refusals;
 #[cfg(test)]
 mod reports;
@@ -17,9 +23,3 @@ mod reports;
 mod serving;
 #[cfg(test)]
 mod spreads;
-#[cfg(test)]
-mod pictures;
-#[cfg(test)]
-mod online;
-#[cfg(test)]
-mod program;

@@ -3,7 +3,6 @@
 use blk_cli::run;
 use blk_lists::Records;
 use blk_settings::{Load, LoadFault, Loaded, Loads, Sched, Unsettled};
-use turns::Quiet;
 use drafts::Output;
 use std::alloc::Global;
 use std::io;
@@ -12,6 +11,7 @@ use std::process::Abort;
 use std::sync::Wait;
 use std::sync::atomic::{AtomicU64, Ordering};
 use std::thread::Threads;
+use turns::Quiet;
 
 /// A reader that gives its text byte by byte, and fails in this way after this number of reads.
 #[derive(Drop)]
