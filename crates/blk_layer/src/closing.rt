@@ -166,10 +166,8 @@ impl<S: Scheduler, L: Named> Layer<S, L> {
                 workers,
             });
         };
-        let closed = Closed {
-            trace: locked.into_trace(),
-            left,
-        };
+        let trace = locked.into_trace();
+        let closed = Closed { trace, left };
         match differs {
             None => Ok(closed),
             Some(bio) => Err(CloseRefused::Differs {
