@@ -2,6 +2,7 @@
 use Rattle.std.proofs.Common.{◌≡◌, ◌∙◌, ◌<◌, ℕ, List, All, map, refl, sym, ap, subst, length, slice_index_or, arith}
 use Rattle.std.proofs.lemmas.List.Elements.{All-map}
 use Rattle.std.proofs.lemmas.Option.{get_or_from_slice_get}
+use Rattle.blk_layer.specs.Closing.{AreBack}
 use Rattle.blk_layer.specs.Seats.{WorkerSeat, SubmitterSeat, LayerShape, IsNewLayer, new_worker, new_submitter}
 
 -- the workers' tags are the layer's
@@ -28,7 +29,7 @@ pub workers_in : (depth : ℕ) (map_in queues : List ℕ) (layer : LayerShape) (
 workers_in depth map_in queues layer submitters workers seats h same = all_of layer queues seats (same ∙ h.each_worker)
 
 -- the workers that come back from two closes that were refused, with the layer of the second
-pub workers_back : (layer back again : LayerShape) (queues : List ℕ) (workers seats : List WorkerSeat) → workers ≡ map (new_worker layer.tag_set) queues
-    → back ≡ layer → again ≡ back → seats ≡ workers → All (λ w. w.tag_set ≡ again.tag_set) seats
-workers_back layer back again queues workers seats made first second same =
-    subst (λ (l : LayerShape). All (λ (w : WorkerSeat). w.tag_set ≡ l.tag_set) seats) (sym (second ∙ first)) (all_of layer queues seats (same ∙ made))
+pub workers_back : {F G : Type 0} (layer back again : LayerShape) (queues : List ℕ) (workers seats : List WorkerSeat) (given first second : List SubmitterSeat) (few left : List WorkerSeat)
+    → workers ≡ map (new_worker layer.tag_set) queues → F × AreBack layer given few back first left → G × AreBack back first workers again second seats → All (λ w. w.tag_set ≡ again.tag_set) seats
+workers_back layer back again queues workers seats given first second few left made once twice =
+    subst (λ (l : LayerShape). All (λ (w : WorkerSeat). w.tag_set ≡ l.tag_set) seats) (sym (twice.1.same_layer ∙ once.1.same_layer)) (all_of layer queues seats (twice.1.same_workers ∙ made))
