@@ -404,7 +404,7 @@ def input_typed_at_a_terminal(trials):
 
 # what is said of an empty text, by the subcommands whose line says no more than the fault, by the project's own, and by explain
 READS = {
-    **{"tune": "a script", "spread": "a trace", "late": "a trace", "misses": "a trace"},
+    **{"tune": "a script", "spread": "a trace", "late": "a trace", "misses": "a trace", "picture --schedule": "a schedule"},
     **dict.fromkeys(("import", "blame", "replay"), "a capture, or what blkparse, ftrace, perf or bpftrace prints"),
 }
 EXPLAINED = Run(1, b"line 1, record 1, found nothing, wanted a title\nblk: record 1: Title\n", b"")
@@ -421,7 +421,8 @@ def input_of_a_terminal_that_was_left(trials):
     """Its end comes at once, so it is an empty text."""
     for name, args, _, _ in trials.each(GOOD):
         with contextlib.ExitStack() as stack:
-            wanted = EXPLAINED if name == "explain_script" else Run(1, b"", of_nothing(os.fsdecode(args[0])))
+            words = b" ".join(args[:2]) if b"--schedule" in args else args[0]
+            wanted = EXPLAINED if name == "explain_script" else Run(1, b"", of_nothing(os.fsdecode(words)))
             trials.see(name, run(args, left(stack)), wanted)
 
 
