@@ -176,7 +176,7 @@ def form_of(case):
     word = case.args[0] if case.args else b""
     if word == b"oracle" and b"--trace" not in case.args or word == b"load" and b"--trace" in case.args:
         return None
-    if word == b"replay" and b"--sched" in case.args or word == b"blame" and {b"--certificate", b"--picture"} & set(case.args):
+    if word == b"replay" and b"--sched" in case.args and b"--grid" not in case.args or word == b"blame" and {b"--certificate", b"--picture"} & set(case.args):
         return None
     return FORMS.get(word)
 
