@@ -1,10 +1,14 @@
 -- What is known of records of which none is kept.
-use Rattle.std.proofs.Common.{◌≡◌, ◌+◌, ◌∙◌, ◌++◌, ◌∷◌, Bool, true, false, List, [], length, refl, arith}
-use Rattle.std.specs.Prelude.{◌||◌}
+use Rattle.std.proofs.Common.{◌≡◌, ◌+◌, ◌<◌, ◌∙◌, ◌++◌, ◌∷◌, ◌==◌, not, ℕ, Bool, true, false, List, [], length, drop, get_or, Option, None, Some, refl, sym, ap, arith}
+use Rattle.std.specs.List.{list_any}
+use Rattle.std.proofs.lemmas.List.{drop_more}
+use Rattle.std.specs.Prelude.{◌||◌, if◌then◌else◌}
+use Rattle.blk_capture.specs.declared.record.Action.{Action}
 use Rattle.blk_capture.specs.declared.record.Action.TheVariants as action
+use Rattle.blk_capture.specs.declared.requests.CapturedRequest.{CapturedRequest}
 use Rattle.blk_capture.specs.declared.record.Record.{Record}
 use Rattle.blk_capture_text.specs.Counts.{no_records, counted_with, counted_from, records_counted}
-use Rattle.blk_capture_text.specs.Doubts.{still_from, tells_action, has_action}
+use Rattle.blk_capture_text.specs.Doubts.{still_from, count_still, tells_action, has_action, lacked_action, is_completed, has_nothing_whole}
 use Rattle.blk_capture_text.specs.declared.counts.RecordCounts.{RecordCounts}
 
 pub none_counted : records_counted [] ≡ no_records
@@ -54,3 +58,80 @@ pub completes_counted : (c : RecordCounts) (rs : List Record) → (counted_from 
 unfolding counted_from
 completes_counted c [] = or_never c.completes
 completes_counted c (r ∷ rs) = completes_counted (counted_with c r) rs ∙ or_later c.completes (tells_action action.Complete r) (has_action action.Complete rs)
+
+pub none_more : (c : RecordCounts) → counted_from c [] ≡ c
+unfolding counted_from
+none_more c = refl
+
+-- the next of those that are left
+pub counted_next : (c : RecordCounts) (rs : List Record) (i : ℕ) (d : Record) → i < length rs → counted_from c (drop i rs) ≡ counted_from (counted_with c (get_or rs i d)) (drop (i + 1) rs)
+unfolding counted_from
+counted_next c rs i d l = ap (counted_from c) (drop_more rs i d l)
+
+-- what is known of the records
+pub records_known : (c : RecordCounts) (rs : List Record) → c ≡ records_counted rs → c.records ≡ length rs
+records_known c rs e = ap (λ (k : RecordCounts). k.records) e ∙ all_counted no_records rs ∙ omega arith
+
+pub still_known : (c : RecordCounts) (rs : List Record) → c ≡ records_counted rs → c.still ≡ count_still rs
+still_known c rs e = ap (λ (k : RecordCounts). k.still) e ∙ still_counted no_records rs
+
+pub queues_known : (c : RecordCounts) (rs : List Record) → c ≡ records_counted rs → c.queues ≡ has_action action.Queue rs
+queues_known c rs e = ap (λ (k : RecordCounts). k.queues) e ∙ queues_counted no_records rs
+
+pub gets_known : (c : RecordCounts) (rs : List Record) → c ≡ records_counted rs → c.gets ≡ has_action action.Get rs
+gets_known c rs e = ap (λ (k : RecordCounts). k.gets) e ∙ gets_counted no_records rs
+
+pub issues_known : (c : RecordCounts) (rs : List Record) → c ≡ records_counted rs → c.issues ≡ has_action action.Issue rs
+issues_known c rs e = ap (λ (k : RecordCounts). k.issues) e ∙ issues_counted no_records rs
+
+pub completes_known : (c : RecordCounts) (rs : List Record) → c ≡ records_counted rs → c.completes ≡ has_action action.Complete rs
+completes_known c rs e = ap (λ (k : RecordCounts). k.completes) e ∙ completes_counted no_records rs
+
+-- the first action of which there is no record
+abbrev pub lacked_of : Bool → Bool → Bool → Bool → Option Action
+lacked_of q g i d =
+    if not q then Some action.Queue
+    else (if not g then Some action.Get
+    else (if not i then Some action.Issue
+    else (if not d then Some action.Complete
+    else None)))
+
+pub lacked_known : (c : RecordCounts) (rs : List Record) → c ≡ records_counted rs → lacked_of c.queues c.gets c.issues c.completes ≡ lacked_action rs
+lacked_known c rs e =
+    ap (λ b. lacked_of b c.gets c.issues c.completes) (queues_known c rs e)
+    ∙ ap (λ b. lacked_of (has_action action.Queue rs) b c.issues c.completes) (gets_known c rs e)
+    ∙ ap (λ b. lacked_of (has_action action.Queue rs) (has_action action.Get rs) b c.completes) (issues_known c rs e)
+    ∙ ap (λ b. lacked_of (has_action action.Queue rs) (has_action action.Get rs) (has_action action.Issue rs) b) (completes_known c rs e)
+
+pub lacks_queue : (q g i d : Bool) → q ≡ false → Some action.Queue ≡ lacked_of q g i d
+lacks_queue true g i d a = absurd (cc a)
+lacks_queue false g i d a = refl
+
+pub lacks_get : (q g i d : Bool) → q ≡ true → g ≡ false → Some action.Get ≡ lacked_of q g i d
+lacks_get false g i d a b = absurd (cc a)
+lacks_get true true i d a b = absurd (cc b)
+lacks_get true false i d a b = refl
+
+pub lacks_issue : (q g i d : Bool) → q ≡ true → g ≡ true → i ≡ false → Some action.Issue ≡ lacked_of q g i d
+lacks_issue false g i d a b e = absurd (cc a)
+lacks_issue true false i d a b e = absurd (cc b)
+lacks_issue true true true d a b e = absurd (cc e)
+lacks_issue true true false d a b e = refl
+
+pub lacks_complete : (q g i d : Bool) → q ≡ true → g ≡ true → i ≡ true → d ≡ false → Some action.Complete ≡ lacked_of q g i d
+lacks_complete false g i d a b e f = absurd (cc a)
+lacks_complete true false i d a b e f = absurd (cc b)
+lacks_complete true true false d a b e f = absurd (cc e)
+lacks_complete true true true true a b e f = absurd (cc f)
+lacks_complete true true true false a b e f = refl
+
+pub lacks_none : (q g i d : Bool) → q ≡ true → g ≡ true → i ≡ true → d ≡ true → None ≡ lacked_of q g i d
+lacks_none false g i d a b e f = absurd (cc a)
+lacks_none true false i d a b e f = absurd (cc b)
+lacks_none true true false d a b e f = absurd (cc e)
+lacks_none true true true false a b e f = absurd (cc f)
+lacks_none true true true true a b e f = refl
+
+-- records, and none of the requests was completed
+pub nothing_whole : (c : RecordCounts) (rs : List Record) (qs : List CapturedRequest) → c ≡ records_counted rs → has_nothing_whole rs qs ≡ (if c.records == 0 then false else not (list_any is_completed qs))
+nothing_whole c rs qs e = ap (λ (n : ℕ). if n == 0 then false else not (list_any is_completed qs)) (sym (records_known c rs e))

@@ -4,3 +4,6 @@ pub mod Imported
 pub mod Doubting
 pub mod Counting
 pub mod Following
+pub mod Lining
+pub mod Passing
+pub mod Resting

@@ -9,4 +9,5 @@ pub mod Counts
 pub mod Shown
 pub mod Source
 pub mod Streaming
+pub mod Streams
 pub mod Inside

@@ -1,10 +1,11 @@
 //! What is asked of the records of a capture of which none is kept.
 
-ghost use Rattle.std.specs.Prelude.{◌≡◌, ◌+◌, ◌<◌, ◌≤◌, ◌^◌};
-ghost use Rattle.blk_capture_text.specs.Counts.{no_records, counted_with};
+ghost use Rattle.std.specs.Prelude.{◌≡◌, ◌+◌, ◌<◌, ◌≤◌, ◌^◌, List, length};
+ghost use Rattle.blk_capture_text.specs.Counts.{no_records, counted_with, records_counted};
+ghost use Rattle.blk_capture_text.specs.Doubts.{is_still, lacked_action, has_nothing_whole};
 
-use crate::doubts::{one_if_at, tells_action};
-use blk_capture::{Action, Record};
+use crate::doubts::{has_completed, one_if_at, tells_action};
+use blk_capture::{Action, CapturedRequest, Record};
 
 /// What is asked of the records of a capture where something of it may be dubious. It is known of each record after those before it, so that
 /// none need be kept.
@@ -58,5 +59,59 @@ impl RecordCounts {
             issues: self.issues || tells_action(next, Action::Issue),
             completes: self.completes || tells_action(next, Action::Complete),
         }
+    }
+
+    /// Of these records.
+    pub fn of(records: &[Record]) -> RecordCounts
+        ensures { result ≡ records_counted records.now }
+    {
+        // brings the prover how many there can be
+        let _ = records.len();
+        let mut counts = RecordCounts::none();
+        for record in records {
+            counts = counts.with(record);
+        }
+        counts
+    }
+
+    /// How many records there are.
+    pub fn count(&self) -> u64
+        ensures { (rs : List Record) → self.now ≡ records_counted rs → result ≡ length rs }
+    {
+        self.records
+    }
+
+    /// Whether times stand still: more than half of the records have the time of the record before them.
+    pub fn is_still(&self) -> bool
+        ensures { (rs : List Record) → self.now ≡ records_counted rs → result ≡ is_still rs }
+    {
+        self.still > self.records / 2
+    }
+
+    /// The first of the actions queue, get, issue and complete of which there is no record, if one lacks.
+    pub fn lacked_action(&self) -> Option<Action>
+        ensures { (rs : List Record) → self.now ≡ records_counted rs → result ≡ lacked_action rs }
+    {
+        if !self.queues {
+            Some(Action::Queue)
+        } else if !self.gets {
+            Some(Action::Get)
+        } else if !self.issues {
+            Some(Action::Issue)
+        } else if !self.completes {
+            Some(Action::Complete)
+        } else {
+            None
+        }
+    }
+
+    /// Whether there are records, and no request of which it is known when it came in, went out and was completed.
+    pub fn has_nothing_whole(&self, requests: &[CapturedRequest]) -> bool
+        ensures { (rs : List Record) → self.now ≡ records_counted rs → result ≡ has_nothing_whole rs requests.now }
+    {
+        if self.records == 0 {
+            return false;
+        }
+        !has_completed(requests)
     }
 }

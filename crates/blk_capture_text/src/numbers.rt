@@ -242,7 +242,7 @@ fn push_counts(draft: &mut Draft, left_out: u64, counts: &UnusedCounts) -> Resul
 /// `q-to-g`, `i-to-d` and `d-to-c` with the median, the 99th of a hundred and the greatest of these times in nanoseconds, or three
 /// times `none`; `in-flight`; `left-out`, requests that were opened and are not taken; and of records `unmatched`, and what was
 /// passed over: `plugs`, `unplugs`, `actions`, `discards`, `erases`, `flushes`, `others`, `empty`, `past-end`.
-pub(crate) fn summary_text(
+pub fn summary_text(
     alloc: Global,
     summary: &Summary,
     left_out: u64,

@@ -1,7 +1,8 @@
 //! A capture of any form, read from its bytes.
 
-ghost use Rattle.std.specs.Prelude.{◌≡◌, IfOk, IfErr, length};
+ghost use Rattle.std.specs.Prelude.{◌≡◌, ◌≤◌, IfOk, IfErr, length};
 ghost use Rattle.blk_capture.specs.Requests.{AreInOrder};
+ghost use Rattle.blk_capture_text.specs.declared.reading.TheConstants.{MAX_RECORDS};
 ghost use Rattle.blk_capture_text.specs.Source.{has_nul, is_text, form_taken, IsCaptureRead, IsCaptureUnread, ReadsRecords, ReadsLines, IsRecordsFault, IsLinesFault};
 
 use crate::reading::read_capture;
@@ -46,8 +47,9 @@ pub enum UnreadCapture {
 }
 
 /// The records of a text of the form `blk-capture`.
-fn read_records(alloc: Global, bytes: &[u8]) -> Result<CaptureRead, UnreadCapture>
+pub(crate) fn read_records(alloc: Global, bytes: &[u8]) -> Result<CaptureRead, UnreadCapture>
     ensures ok { IfOk result (ReadsRecords bytes.now) }
+    ensures few { IfOk result (λ r. length r.records.items ≤ MAX_RECORDS) }
     ensures in_order { IfOk result (λ r. AreInOrder r.records.items (length r.records.items)) }
     ensures err { IfErr result (IsRecordsFault bytes.now) }
 {
@@ -94,7 +96,7 @@ fn read_printed(
 }
 
 /// How many of its first bytes tell whether an input is a text.
-const FIRST_BYTES: usize = 1000;
+pub(crate) const FIRST_BYTES: usize = 1000;
 
 /// Whether NUL is among the first bytes.
 fn has_nul(bytes: &[u8]) -> bool

@@ -3,6 +3,7 @@
 ghost use Rattle.std.specs.Prelude.{◌≡◌, ◌+◌, ◌++◌, ◌∷◌, ◌≤◌, ◌<◌, ◌==◌, [], ℕ, List, cond, min, IfOk, OnOk, length};
 ghost use Rattle.blk_capture.specs.declared.record.TheConstants.{MAX_TIME};
 ghost use Rattle.blk_capture_text.specs.Streaming.{stream_time, stream_count, stream_options, IsAtWork, HasStreamed, IsStreamed};
+ghost use Rattle.blk_capture_text.specs.Inside.Along.{GoBehind};
 
 use crate::counts::RecordCounts;
 use crate::importing::ImportAsked;
@@ -86,24 +87,49 @@ impl Streamed {
         Ok(())
     }
 
-    /// The capture in numbers, of the requests that are asked for. Fails only when out of memory. The time grows as n log n.
-    pub fn summary(&self, alloc: Global, asked: &ImportAsked) -> Result<StreamedSummary, AllocError>
-        requires steady { IsAtWork self.now }
-        requires options { stream_options self.now ≡ asked.now.options }
-        requires streamed { (records : List Record) × HasStreamed records self.now }
-        requires few { stream_count self.now ≤ MAX_STREAMED }
-        ensures { (records : List Record) → HasStreamed records self.now → IfOk result (IsStreamed records asked.now) }
+    /// Takes in records, which go on from those before them. Fails only when out of memory.
+    pub fn take_all(&mut self, records: &[Record]) -> Result<(), AllocError>
+        requires steady { IsAtWork self.old }
+        requires behind { GoBehind records.now self.old }
+        requires few { stream_count self.old + length records.now ≤ MAX_STREAMED }
+        ensures steady { OnOk result (IsAtWork self.new) }
+        ensures streamed { (past : List Record) → HasStreamed past self.old → OnOk result (HasStreamed (past ++ records.now) self.new) }
+        ensures options { OnOk result (stream_options self.new ≡ stream_options self.old) }
+        ensures count { OnOk result (stream_count self.new ≡ stream_count self.old + length records.now) }
     {
-        let whole = self.running.settle(alloc)?;
-        let begin = begin_from(self.first, asked.skip);
+        for record in records {
+            self.take(record)?;
+        }
+        Ok(())
+    }
+
+    /// The capture in numbers, of the requests that are asked for. Fails only when out of memory. The time grows as n log n.
+    pub fn summary(self, alloc: Global, asked: &ImportAsked) -> Result<StreamedSummary, AllocError>
+        requires steady { IsAtWork self }
+        requires options { stream_options self ≡ asked.now.options }
+        requires streamed { (records : List Record) × HasStreamed records self }
+        requires few { stream_count self ≤ MAX_STREAMED }
+        ensures { (records : List Record) → HasStreamed records self → IfOk result (IsStreamed records asked.now) }
+    {
+        let Streamed {
+            running,
+            counts,
+            unused,
+            first,
+        } = self;
+        let whole = running.settle(alloc)?;
+        // what was matched takes more than what it comes to
+        drop(running);
+        let begin = begin_from(first, asked.skip);
         let part = part_of(alloc, &whole, begin, asked.first)?;
-        let summary = summarize_run(alloc, self.counts.records, &part)?;
+        drop(whole);
+        let summary = summarize_run(alloc, counts.records, &part)?;
         Ok(StreamedSummary {
             requests: part.requests,
             left_out: part.left_out,
             summary,
-            unused: self.unused,
-            counts: self.counts,
+            unused,
+            counts,
         })
     }
 }

@@ -13,7 +13,7 @@ use Rattle.blk_words.specs.declared.words.Job.TheVariants as job
 use Rattle.blk_cli.specs.Said.{Said, IsAlone}
 use Rattle.blk_cli.specs.Gives.{GivesAnswer, AnswersGood, AnswersText}
 use Rattle.blk_cli.specs.declared.Ended.{Ended}
-use Rattle.blk_cli.specs.Importing.{IsWrittenAs}
+use Rattle.blk_cli.specs.Importing.{IsWrittenAs, IsWrittenIf, is_summary}
 use Rattle.blk_cli.specs.Ends.{Answers, AskForGood, AskForTexts, EndsPut, status_with}
 
 -- what is written of a capture is good
@@ -27,6 +27,12 @@ written_good (written.Replay r) words i records s h = h.good
 written_good (written.Grid g) words i records s h = h.good
 written_good (written.Replayed p how) words i records s h = h.good
 
+-- in numbers or otherwise
+import_good : (in_numbers : Bool) (words : List (List ℕ)) (i : Import) (input : Option (List ℕ)) (s : Said) → IsWrittenIf in_numbers words i input s → s.good ≡ true
+import_good true words i input s g = ap (λ (t : Said). t.good) g.summed.said.2 ∙ g.summed.shown_of.good
+import_good false words i input s g =
+    let base : Said = g.of.written.base in ap (λ (t : Said). t.good) g.of.written.said.2 ∙ written_good i.written words i g.of.read.records.items base g.of.written.imported
+
 -- a job whose answer is good
 good : (words : List (List ℕ)) (j : Job) (input : Option (List Row)) (bytes : Option (List ℕ)) (s : Said) → AnswersGood j → GivesAnswer words j input bytes s → s.good ≡ true
 good words job.Version input bytes s answers g = g.1.1
@@ -39,8 +45,7 @@ good words (job.OfText (text_job.Check x)) input bytes s answers g = g.1.1
 good words (job.OfText (text_job.Judge x)) input bytes s answers g = g.1.2.1
 good words (job.OfText text_job.Draw) input bytes s answers g = g.1.1
 good words (job.Tune x) input bytes s answers g = g.1.2.1
-good words (job.Import x) input bytes s answers g =
-    let base : Said = g.of.written.base in ap (λ (t : Said). t.good) g.of.written.said.2 ∙ written_good x.written words x g.of.read.records.items base g.of.written.imported
+good words (job.Import x) input bytes s answers g = import_good (is_summary x.written) words x bytes s g
 good words (job.Refuse x) input bytes s answers g = absurd g
 good words job.Explain input bytes s answers g = absurd answers
 good words (job.Load x y z) input bytes s answers g = g.1.1

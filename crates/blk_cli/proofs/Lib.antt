@@ -9,3 +9,4 @@ mod Given
 mod Failed
 mod Counted
 mod Beside
+mod Sums

@@ -16,7 +16,9 @@ use Rattle.blk_cli.specs.declared.failure.Failure.{Failure}
 use Rattle.blk_cli.specs.declared.failure.Failure.TheVariants as failure
 use Rattle.blk_cli.specs.Lines.{more_line, failure_line, status_of, write_fault, excluded}
 use Rattle.blk_words.specs.declared.words.Import.{Import}
-use Rattle.blk_cli.specs.Importing.{IsUnimportedFrom}
+use Rattle.blk_capture_text.specs.Streams.{IsUnstreamed}
+use Rattle.blk_capture_text.specs.declared.summing.Unstreamed.{Unstreamed}
+use Rattle.blk_cli.specs.Importing.{IsUnimportedFrom, IsUnsummedFrom, IsCaptureFailure}
 use Rattle.blk_cli.specs.Said.{Said}
 use Rattle.blk_cli.specs.Gives.{GivesAnswer, HasNoAnswer, AnswersText, AnswersGood, ReadsNothing}
 
@@ -54,6 +56,16 @@ IsWithoutAnswer words j input bytes failed n = (f : Failure) × HasNoAnswer word
 
 abbrev pub IsUntaken : List (List ℕ) → Import → Option (List ℕ) → Bool → NoText → Type 0
 IsUntaken words i bytes failed n = (f : Failure) × IsUnimportedFrom words i bytes failed f × IsFailureOf f n
+
+abbrev pub IsUnsummed : Import → Option (List ℕ) → Bool → NoText → Type 0
+IsUnsummed i bytes failed n = (f : Failure) × IsUnsummedFrom i bytes failed f × IsFailureOf f n
+
+-- for what the input was refused
+abbrev pub IsUnsummedFor : Import → Unstreamed → NoText → Type 0
+IsUnsummedFor i x n = (input : Option (List ℕ)) (failed : Bool) → IsUnstreamed i.source.form i.source.device input failed x → IsUnsummed i input failed n
+
+abbrev pub IsCaptureUnwritten : List (List ℕ) → Import → Option (List ℕ) → Bool → NoText → Type 0
+IsCaptureUnwritten words i bytes failed n = (f : Failure) × IsCaptureFailure words i bytes failed f × IsFailureOf f n
 
 -- or there is none: the job that they ask for fails, memory ran out before they were read, or they ask for nothing
 abbrev pub IsWithout : List (List ℕ) → Option (List Row) → Option (List ℕ) → Bool → NoText → Type 0

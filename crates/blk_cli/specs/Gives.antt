@@ -21,7 +21,7 @@ use Rattle.blk_cli.specs.OfTraces.{IsTellingText, IsUntold}
 use Rattle.blk_cli.specs.Certificates.{SpellsList, IsSolved, IsUnsolved, IsCheckText, IsBad}
 use Rattle.blk_cli.specs.Drawing.{IsScheduleDrawn}
 use Rattle.blk_cli.specs.Judging.{IsJudgedText, IsUnjudged, TellsEmpty}
-use Rattle.blk_cli.specs.Importing.{IsImportedFrom, IsUnimportedFrom}
+use Rattle.blk_cli.specs.Importing.{IsCaptureWritten, IsCaptureFailure}
 use Rattle.blk_cli.specs.Explaining.{IsTextExplained, IsUnexplained}
 use Rattle.blk_cli.specs.Tuning.{IsTrial, FailsToTry}
 use Rattle.blk_cli.specs.Loading.{IsLoadOf, IsUnloaded}
@@ -81,7 +81,7 @@ abbrev pub GivesAnswer : List (List ℕ) → Job → Option (List Row) → Optio
 GivesAnswer words job.Version input bytes s = (s.text ≡ version_line) × IsAlone s
 GivesAnswer words (job.OfText j) input bytes s = GivesText j input s.text × TellsOf j input s
 GivesAnswer words (job.Tune t) input bytes s = Of SpellsScript (IsTrial words t) input s.text × Of SpellsScript TellsPlugs input s
-GivesAnswer words (job.Import i) input bytes s = IsImportedFrom words i bytes s
+GivesAnswer words (job.Import i) input bytes s = IsCaptureWritten words i bytes s
 GivesAnswer words (job.Refuse r) input bytes s = ⊥
 GivesAnswer words job.Explain input bytes s = IsTextExplained bytes s
 GivesAnswer words (job.Load sched l w) input bytes s = IsLoadOf sched w l s.text × IsAlone s
@@ -91,7 +91,7 @@ abbrev pub HasNoAnswer : List (List ℕ) → Job → Option (List Row) → Optio
 HasNoAnswer words job.Version input bytes failed f = f ≡ failure.Memory
 HasNoAnswer words (job.OfText j) input bytes failed f = HasNoText j input failed f
 HasNoAnswer words (job.Tune t) input bytes failed f = FailsToTry words input failed f
-HasNoAnswer words (job.Import i) input bytes failed f = IsUnimportedFrom words i bytes failed f
+HasNoAnswer words (job.Import i) input bytes failed f = IsCaptureFailure words i bytes failed f
 HasNoAnswer words (job.Refuse r) input bytes failed f = f ≡ failure.Words r
 HasNoAnswer words job.Explain input bytes failed f = IsUnexplained failed f
 HasNoAnswer words (job.Load sched l w) input bytes failed f = IsUnloaded sched l f

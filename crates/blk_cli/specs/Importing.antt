@@ -27,13 +27,19 @@ use Rattle.blk_capture.specs.declared.requests.CapturedBio.{CapturedBio}
 use Rattle.blk_capture.specs.declared.requests.Entry.{Entry}
 use Rattle.blk_capture.specs.declared.requests.Entry.TheVariants as entry
 use Rattle.blk_capture.specs.declared.requests.CapturedRequest.{CapturedRequest}
+use Rattle.blk_capture_text.specs.Counts.{records_counted}
 use Rattle.blk_capture_text.specs.Imports.{IsImport, IsImportFault, first_time}
+use Rattle.blk_capture_text.specs.declared.counts.RecordCounts.{RecordCounts}
 use Rattle.blk_capture_text.specs.Shown.{IsShown}
+use Rattle.blk_capture_text.specs.Streaming.{HasStreamed}
+use Rattle.blk_capture_text.specs.Streams.{IsCaptureTold, IsUntoldText, IsUntoldInput}
+use Rattle.blk_capture_text.specs.declared.lines.StreamedCapture.{StreamedCapture}
 use Rattle.blk_capture_text.specs.SummaryText.{counts_of, notice_line}
 use Rattle.blk_capture_text.specs.declared.importing.ImportAsked.{ImportAsked}
 use Rattle.blk_capture_text.specs.declared.numbers.UnusedCounts.{UnusedCounts}
 use Rattle.blk_capture_text.specs.declared.shown.ShownImport.{ShownImport}
 use Rattle.blk_capture_text.specs.declared.shown.ShownImport.TheVariants as shown
+use Rattle.blk_lists.specs.Reads.{IsOutside}
 use Rattle.blk_lists.specs.Texts.{rows_text}
 use Rattle.blk_replayed.specs.Replays.{AreUnreplayed}
 use Rattle.blk_replayed.specs.Text.{WantedReplays, IsReplaysText}
@@ -277,6 +283,9 @@ IsUnimported words i records f = IsUnwrittenAs i.written words i records f
 abbrev pub IsSaidFrom : Option Printed → List Record → Said → Said → Type 0
 IsSaidFrom p records base s = (told : List ℕ) × IsSourceTold p records told × (s ≡ record base { note = noted told base.note })
 
+abbrev pub SaysFrom : Option Printed → RecordCounts → Said → Said → Type 0
+SaysFrom p counts base s = (rs : List Record) → counts ≡ records_counted rs → IsSaidFrom p rs base s
+
 -- this is written of a capture that was read
 pub record IsWrittenOf (words : List (List ℕ)) (i : Import) (read : CaptureRead) (s : Said) : Type 0 where
   pub base : Said
@@ -323,3 +332,48 @@ pub record IsRefusedInput (words : List (List ℕ)) (i : Import) (input : Option
 -- or the reader failed, or memory ran out
 abbrev pub IsUnimportedFrom : List (List ℕ) → Import → Option (List ℕ) → Bool → Failure → Type 0
 IsUnimportedFrom words i input failed f = IsUnexplained failed f ⊎ IsRefusedInput words i input f
+
+-- whether a capture is put in numbers, as its bytes come
+abbrev pub is_summary : Written → Bool
+is_summary written.Summary = true
+is_summary w = false
+
+-- its numbers are written, and what is said beside them
+pub record IsSummed (i : Import) (records : List Record) (printed : Option Printed) (s : Said) : Type 0 where
+  pub base : Said
+  pub shown_of : IsShownOf shown.Summary i records base
+  pub said : IsSaidFrom printed records base s
+
+abbrev pub SumsUp : Import → StreamedCapture → Said → Type 0
+SumsUp i c s = (rs : List Record) → HasStreamed rs c.streamed → IsSummed i rs c.printed s
+
+-- of the records that the bytes of the input tell, where these are known
+pub record IsSummedFrom (i : Import) (input : Option (List ℕ)) (s : Said) : Type 0 where
+  pub bytes : List ℕ
+  pub given : IfSome input (λ known. bytes ≡ known)
+  pub records : List Record
+  pub printed : Option Printed
+  pub told : IsCaptureTold i.source.form i.source.device bytes records printed
+  pub summed : IsSummed i records printed s
+
+-- or they have a first fault, the reader failed, or memory ran out
+abbrev pub IsUnsummedFrom : Import → Option (List ℕ) → Bool → Failure → Type 0
+IsUnsummedFrom i input failed (failure.Text x) = IsOutside failed x.why ⊎ IsUntoldText i.source.form input x
+IsUnsummedFrom i input failed (failure.Line x) = IsUntoldInput i.source.form i.source.device input x
+IsUnsummedFrom i input failed failure.Memory = ⊤
+IsUnsummedFrom i input failed f = ⊥
+
+-- what is written of a capture by the bytes of the input, and why nothing is: in numbers or otherwise
+abbrev pub IsWrittenIf : Bool → List (List ℕ) → Import → Option (List ℕ) → Said → Type 0
+IsWrittenIf true words i input s = IsSummedFrom i input s
+IsWrittenIf false words i input s = IsImportedFrom words i input s
+
+abbrev pub IsUnwrittenIf : Bool → List (List ℕ) → Import → Option (List ℕ) → Bool → Failure → Type 0
+IsUnwrittenIf true words i input failed f = IsUnsummedFrom i input failed f
+IsUnwrittenIf false words i input failed f = IsUnimportedFrom words i input failed f
+
+abbrev pub IsCaptureWritten : List (List ℕ) → Import → Option (List ℕ) → Said → Type 0
+IsCaptureWritten words i input s = IsWrittenIf (is_summary i.written) words i input s
+
+abbrev pub IsCaptureFailure : List (List ℕ) → Import → Option (List ℕ) → Bool → Failure → Type 0
+IsCaptureFailure words i input failed f = IsUnwrittenIf (is_summary i.written) words i input failed f

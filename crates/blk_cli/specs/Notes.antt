@@ -2,7 +2,9 @@
 use Rattle.std.specs.Prelude.{ℕ, ◌≡◌, ◌≢◌, ◌/◌, ◌++◌, Bool, true, false, nat_lt, List, [], length, Option, None, Some, is_some}
 use Rattle.blk_capture.specs.declared.record.Record.{Record}
 use Rattle.blk_capture.specs.declared.requests.CapturedRequest.{CapturedRequest}
+use Rattle.blk_capture_text.specs.Counts.{records_counted}
 use Rattle.blk_capture_text.specs.Doubts.{is_still, has_nothing_whole}
+use Rattle.blk_capture_text.specs.declared.counts.RecordCounts.{RecordCounts}
 use Rattle.blk_capture_text.specs.declared.source.Printed.{Printed}
 
 -- a line is said just where there is a reason
@@ -38,3 +40,10 @@ pub record IsDoubtTold (records : List Record) (requests : List CapturedRequest)
   pub of_unmatched : IsToldIf (is_much unmatched (length records)) much
   pub of_requests : IsToldIf (has_nothing_whole records requests) nothing
   pub all : told ≡ (crowd ++ much) ++ nothing
+
+-- the same of the records of which this is known
+abbrev pub SaysSource : Option Printed → RecordCounts → List ℕ → Type 0
+SaysSource p counts told = (rs : List Record) → counts ≡ records_counted rs → IsSourceTold p rs told
+
+abbrev pub SaysDoubt : RecordCounts → List CapturedRequest → ℕ → ℕ → ℕ → List ℕ → Type 0
+SaysDoubt counts requests most tags unmatched told = (rs : List Record) → counts ≡ records_counted rs → IsDoubtTold rs requests most tags unmatched told

@@ -1,12 +1,15 @@
 //! The job over a capture: what is written of it, what is said of what that leaves out, and its arrivals as a script.
 
-ghost use Rattle.std.specs.Prelude.{◌≡◌, ◌≤◌, [], IfOk, IfErr, length, map, option_map, string_bytes};
+ghost use Rattle.std.specs.Prelude.{◌≡◌, ◌≤◌, List, [], IfOk, IfErr, length, map, option_map, string_bytes};
 ghost use Rattle.edd_commands.specs.declared.TheConstants.{MAX_COMMANDS};
 ghost use Rattle.blk_capture.specs.Requests.{AreInOrder, AreTimed};
+ghost use Rattle.blk_capture.specs.declared.record.Record.{Record};
 ghost use Rattle.blk_capture_text.specs.Source.{IsCaptureRead};
+ghost use Rattle.blk_capture_text.specs.Streaming.{HasStreamed};
+ghost use Rattle.blk_capture_text.specs.Streams.{IsSummable};
 ghost use Rattle.blk_cli.specs.Said.{said_of};
-ghost use Rattle.blk_cli.specs.Importing.{entry_asked, most_asked, asked_of, terms_of, line_on, note_by, IsShownOf, IsUnshown, IsScripted, IsUnscripted, IsImported, IsUnimported, noted, tags_asked, IsNoteOn, IsSaidFrom, IsImportedFrom, IsUnreadFrom, IsWrittenOf, IsUnwrittenOf};
-ghost use Rattle.blk_cli.specs.Ends.{IsFailureOf, IsUntaken};
+ghost use Rattle.blk_cli.specs.Importing.{entry_asked, most_asked, asked_of, terms_of, line_on, note_by, IsShownOf, IsUnshown, IsScripted, IsUnscripted, IsImported, IsUnimported, noted, tags_asked, IsNoteOn, SaysFrom, IsImportedFrom, IsUnreadFrom, IsWrittenOf, IsUnwrittenOf, is_summary, SumsUp, IsSummedFrom, IsCaptureWritten};
+ghost use Rattle.blk_cli.specs.Ends.{IsFailureOf, IsUntaken, IsUnsummed, IsUnsummedFor, IsCaptureUnwritten};
 
 use crate::blaming::blamed;
 use crate::failure::Failure;
@@ -16,10 +19,11 @@ use crate::{Answered, NoText, without};
 use blk_arrivals::{Terms, USUAL_DEPTH, script_of, script_text};
 use blk_capture::{Entry, Matched, Options, Record, summarize};
 use blk_capture_text::{
-    CaptureRead, ImportAsked, Printed, ShownImport, UnreadCapture, UnusedCounts, count_fates,
-    notice_text, read_source, shown_text,
+    CaptureRead, ImportAsked, Printed, RecordCounts, ShownImport, StreamedCapture, UnreadCapture,
+    Unstreamed, UnusedCounts, count_fates, notice_text, read_source, shown_text, stream_source,
+    summary_text,
 };
-use blk_lists::Records;
+use blk_lists::{Records, TextFault};
 use blk_words::{Import, Job, Written};
 use std::alloc::{AllocError, Global};
 use std::io::Read;
@@ -152,7 +156,7 @@ pub(crate) fn note_on(
     let counts = count_fates(matched.fates.as_slice());
     let doubts = doubt_text(
         alloc,
-        records,
+        &RecordCounts::of(records),
         matched.requests.as_slice(),
         summary.in_flight,
         tags,
@@ -253,12 +257,12 @@ fn with_source(
     alloc: Global,
     answer: Answered,
     printed: Option<Printed>,
-    records: &[Record],
+    counts: &RecordCounts,
 ) -> Result<Answered, Failure>
-    ensures ok { IfOk result (λ a. IsSaidFrom printed records.now (said_of answer) (said_of a)) }
+    ensures ok { IfOk result (λ a. SaysFrom printed counts.now (said_of answer) (said_of a)) }
     ensures err { IfErr result (λ f. f ≡ Failure.Memory) }
 {
-    let Ok(told) = source_text(alloc, printed, records) else {
+    let Ok(told) = source_text(alloc, printed, counts) else {
         return Err(Failure::Memory);
     };
     let Answered { text, note, good } = answer;
@@ -299,7 +303,8 @@ fn over_read<T: Threads + Sync, P: Progress>(
         Ok(answer) => answer,
         Err(failure) => return Err(failure),
     };
-    match with_source(alloc, answer, read.printed, read.records.as_slice()) {
+    let counts = RecordCounts::of(read.records.as_slice());
+    match with_source(alloc, answer, read.printed, &counts) {
         Ok(answer) => Ok(answer),
         Err(failure) => Err(failure),
     }
@@ -316,9 +321,83 @@ fn untaken(alloc: Global, wanted: Import, bytes: &[u8], failure: Failure) -> NoT
     }
 }
 
+/// What is written of a capture that was put in numbers as it was read.
+fn summed(alloc: Global, wanted: Import, capture: StreamedCapture) -> Result<Answered, Failure>
+    requires ready { IsSummable (asked_of wanted).options capture }
+    requires streamed { (rs : List Record) × HasStreamed rs capture.streamed }
+    ensures answers { IfOk result (λ a. SumsUp wanted capture (said_of a)) }
+    ensures fails { IfErr result (λ f. f ≡ Failure.Memory) }
+{
+    let asked = asked_of(wanted);
+    let StreamedCapture { streamed, printed } = capture;
+    let Ok(sum) = streamed.summary(alloc, &asked) else {
+        return Err(Failure::Memory);
+    };
+    let Ok(text) = summary_text(alloc, &sum.summary, sum.left_out, &sum.unused) else {
+        return Err(Failure::Memory);
+    };
+    let Ok(doubts) = doubt_text(
+        alloc,
+        &sum.counts,
+        sum.requests.as_slice(),
+        sum.summary.in_flight,
+        tags_asked(wanted.source.tags),
+        sum.unused.unmatched,
+    ) else {
+        return Err(Failure::Memory);
+    };
+    let Ok(note) = noted(doubts, None) else {
+        return Err(Failure::Memory);
+    };
+    let answer = Answered {
+        text,
+        note,
+        good: true,
+    };
+    match with_source(alloc, answer, printed, &sum.counts) {
+        Ok(answer) => Ok(answer),
+        Err(failure) => Err(failure),
+    }
+}
+
+/// Why there are no numbers of a capture. More is said of the title of a text that is none.
+fn unsummed(alloc: Global, wanted: Import, fault: Unstreamed, at: u64) -> NoText
+    ensures { IsUnsummedFor wanted fault result }
+{
+    match fault {
+        Unstreamed::Text(fault, bytes) => {
+            untaken(alloc, wanted, bytes.as_slice(), Failure::Text(fault))
+        }
+        Unstreamed::Line(fault) => NoText::Failure(Failure::Line(fault)),
+        Unstreamed::Outside(why) => NoText::Failure(Failure::Text(TextFault { at, why })),
+        Unstreamed::Memory => NoText::Failure(Failure::Memory),
+    }
+}
+
+/// Puts the input, a capture, in numbers as its bytes come. Of these none is kept that is not needed.
+fn over_summary<R: Read + Drop>(
+    alloc: Global,
+    wanted: Import,
+    records: &mut Records<R>,
+) -> Result<Answered, NoText>
+    ensures answers { IfOk result (λ a. IsSummedFrom wanted records.old.bytes (said_of a)) }
+    ensures fails { IfErr result (IsUnsummed wanted records.old.bytes records.new.failed) }
+{
+    let options = asked_of(wanted).options;
+    let source = wanted.source;
+    let capture = match stream_source(alloc, source.form, source.device, &options, records) {
+        Ok(capture) => capture,
+        Err(fault) => return Err(unsummed(alloc, wanted, fault, records.at())),
+    };
+    match summed(alloc, wanted, capture) {
+        Ok(answer) => Ok(answer),
+        Err(failure) => Err(NoText::Failure(failure)),
+    }
+}
+
 /// Reads all of the input as a capture, and gives what is written of it. The text is given back before its records are matched, which takes as
 /// much memory again. Replays go on the threads of `rt`, and `progress` hears how far they have come.
-pub fn over_capture<T: Threads + Sync, R: Read + Drop, P: Progress>(
+fn over_whole<T: Threads + Sync, R: Read + Drop, P: Progress>(
     rt: &T,
     alloc: Global,
     words: &[String],
@@ -341,5 +420,32 @@ pub fn over_capture<T: Threads + Sync, R: Read + Drop, P: Progress>(
     match over_read(rt, alloc, words, wanted, &read, progress) {
         Ok(answer) => Ok(answer),
         Err(failure) => Err(NoText::Failure(failure)),
+    }
+}
+
+/// Whether a capture is put in numbers.
+fn is_summary(written: Written) -> bool
+    ensures { result ≡ is_summary written }
+{
+    matches!(written, Written::Summary)
+}
+
+/// Reads the input as a capture, and gives what is written of it: of one that is put in numbers no record is kept. Replays go on the threads of
+/// `rt`, and `progress` hears how far they have come.
+pub fn over_capture<T: Threads + Sync, R: Read + Drop, P: Progress>(
+    rt: &T,
+    alloc: Global,
+    words: &[String],
+    wanted: Import,
+    records: &mut Records<R>,
+    progress: &mut P,
+) -> Result<Answered, NoText>
+    ensures answers { IfOk result (λ answer. IsCaptureWritten (map string_bytes words.now) wanted records.old.bytes (said_of answer)) }
+    ensures fails { IfErr result (IsCaptureUnwritten (map string_bytes words.now) wanted records.old.bytes records.new.failed) }
+{
+    if is_summary(wanted.written) {
+        over_summary(alloc, wanted, records)
+    } else {
+        over_whole(rt, alloc, words, wanted, records, progress)
     }
 }

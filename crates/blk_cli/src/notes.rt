@@ -1,19 +1,14 @@
 //! What is said beside what is written of a capture: who printed it, and what of it is dubious.
 
-ghost use Rattle.std.specs.Prelude.{◌≡◌, ◌/◌, IfOk, is_some, length, nat_lt};
-ghost use Rattle.blk_capture_text.specs.Doubts.{is_still, has_nothing_whole};
-ghost use Rattle.blk_cli.specs.Notes.{IsToldIf, has_losses, IsSourceTold, IsDoubtTold, is_much};
+ghost use Rattle.std.specs.Prelude.{◌≡◌, ◌/◌, IfOk, is_some, nat_lt};
+ghost use Rattle.blk_cli.specs.Notes.{IsToldIf, has_losses, SaysSource, SaysDoubt, is_much};
 
-use blk_capture::{Action, CapturedRequest, Record};
-use blk_capture_text::{Printed, count_still, has_nothing_whole, is_still, lacked_action};
+use blk_capture::{Action, CapturedRequest};
+use blk_capture_text::{Printed, RecordCounts};
 use std::alloc::{AllocError, Global};
 
 /// The line on who printed a capture: of which device, and how many lines are of other devices or no steps. Of one that no recorder printed there is none.
-fn recorder_text(
-    alloc: Global,
-    printed: Option<Printed>,
-    count: usize,
-) -> Result<Vec<u8>, AllocError>
+fn recorder_text(alloc: Global, printed: Option<Printed>, count: u64) -> Result<Vec<u8>, AllocError>
     ensures { IfOk result (λ told. IsToldIf (is_some printed) told.items) }
 {
     let Some(printed) = printed else {
@@ -64,14 +59,14 @@ fn losses_text(alloc: Global, printed: Option<Printed>) -> Result<Vec<u8>, Alloc
 }
 
 /// The line on times that stand still, where they do.
-fn still_text(alloc: Global, records: &[Record]) -> Result<Vec<u8>, AllocError>
-    ensures { IfOk result (λ told. IsToldIf (is_still records.now) told.items) }
+fn still_text(alloc: Global, is_still: bool, counts: &RecordCounts) -> Result<Vec<u8>, AllocError>
+    ensures { IfOk result (λ told. IsToldIf is_still told.items) }
 {
-    if !is_still(records) {
+    if !is_still {
         return Ok(Vec::new(alloc));
     }
-    let still = count_still(records);
-    let count = records.len();
+    let still = counts.still;
+    let count = counts.records;
     let text = format!(in alloc;
         "blk: {still} of {count} records have the time of the one before: waits may be too short\n"
     )?;
@@ -82,14 +77,14 @@ fn still_text(alloc: Global, records: &[Record]) -> Result<Vec<u8>, AllocError>
 pub fn source_text(
     alloc: Global,
     printed: Option<Printed>,
-    records: &[Record],
+    counts: &RecordCounts,
 ) -> Result<Vec<u8>, AllocError>
-    ensures { IfOk result (λ told. IsSourceTold printed records.now told.items) }
+    ensures { IfOk result (λ told. SaysSource printed counts.now told.items) }
 {
-    let mut told = recorder_text(alloc, printed, records.len())?;
+    let mut told = recorder_text(alloc, printed, counts.count())?;
     let losses = losses_text(alloc, printed)?;
     told.extend_from_slice(losses.as_slice())?;
-    let still = still_text(alloc, records)?;
+    let still = still_text(alloc, counts.is_still(), counts)?;
     told.extend_from_slice(still.as_slice())?;
     Ok(told)
 }
@@ -108,14 +103,14 @@ fn crowd_text(alloc: Global, most: u64, tags: u64) -> Result<Vec<u8>, AllocError
 }
 
 /// Whether so many records are more than a hundredth of all.
-fn is_much(unmatched: u64, records: usize) -> bool
+fn is_much(unmatched: u64, records: u64) -> bool
     ensures { result ≡ is_much unmatched records }
 {
-    unmatched > records as u64 / 100
+    unmatched > records / 100
 }
 
 /// The line on more than a hundredth of the records that are unmatched, where there are so many.
-fn unmatched_text(alloc: Global, unmatched: u64, records: usize) -> Result<Vec<u8>, AllocError>
+fn unmatched_text(alloc: Global, unmatched: u64, records: u64) -> Result<Vec<u8>, AllocError>
     ensures { IfOk result (λ told. IsToldIf (is_much unmatched records) told.items) }
 {
     if !is_much(unmatched, records) {
@@ -128,8 +123,8 @@ fn unmatched_text(alloc: Global, unmatched: u64, records: usize) -> Result<Vec<u
 }
 
 /// Which records there are none of, in words.
-fn lack(records: &[Record]) -> &'static str {
-    match lacked_action(records) {
+fn lack(lacked: Option<Action>) -> &'static str {
+    match lacked {
         Some(Action::Queue) => "no Q records",
         Some(Action::Get) => "no G records",
         Some(Action::Issue) => "no D records",
@@ -141,15 +136,15 @@ fn lack(records: &[Record]) -> &'static str {
 /// The line on records of which no request is known from its entry to its completion, where it is so.
 fn nothing_text(
     alloc: Global,
-    records: &[Record],
-    requests: &[CapturedRequest],
+    has_nothing: bool,
+    lacked: Option<Action>,
 ) -> Result<Vec<u8>, AllocError>
-    ensures { IfOk result (λ told. IsToldIf (has_nothing_whole records.now requests.now) told.items) }
+    ensures { IfOk result (λ told. IsToldIf has_nothing told.items) }
 {
-    if !has_nothing_whole(records, requests) {
+    if !has_nothing {
         return Ok(Vec::new(alloc));
     }
-    let lack = lack(records);
+    let lack = lack(lacked);
     let text = format!(in alloc; "blk: 0 requests with all their times: {lack}\n")?;
     Ok(text.into_bytes())
 }
@@ -157,18 +152,19 @@ fn nothing_text(
 /// What is dubious of the requests that are taken of a capture.
 pub fn doubt_text(
     alloc: Global,
-    records: &[Record],
+    counts: &RecordCounts,
     requests: &[CapturedRequest],
     most: u64,
     tags: u64,
     unmatched: u64,
 ) -> Result<Vec<u8>, AllocError>
-    ensures { IfOk result (λ told. IsDoubtTold records.now requests.now most tags unmatched told.items) }
+    ensures { IfOk result (λ told. SaysDoubt counts.now requests.now most tags unmatched told.items) }
 {
     let mut told = crowd_text(alloc, most, tags)?;
-    let much = unmatched_text(alloc, unmatched, records.len())?;
+    let much = unmatched_text(alloc, unmatched, counts.count())?;
     told.extend_from_slice(much.as_slice())?;
-    let nothing = nothing_text(alloc, records, requests)?;
+    let has_nothing = counts.has_nothing_whole(requests);
+    let nothing = nothing_text(alloc, has_nothing, counts.lacked_action())?;
     told.extend_from_slice(nothing.as_slice())?;
     Ok(told)
 }

@@ -1,6 +1,7 @@
 //! The records of a reader, one at a time.
 
-ghost use Rattle.std.specs.Prelude.{◌≡◌, ◌+◌, ◌-◌, ◌<◌, ◌^◌, true, false, IfOk, IfErr, IfSome};
+ghost use Rattle.std.specs.Prelude.{◌≡◌, ◌+◌, ◌-◌, ◌<◌, ◌≤◌, ◌^◌, true, false, IfOk, IfErr, IfSome, length, take};
+ghost use Rattle.std.specs.Io.KnownBytes.{Consumes, IsAtEnd};
 ghost use Rattle.csv.specs.Reading.{reader_source};
 ghost use Rattle.csv.specs.Records.{fields_of};
 ghost use Rattle.blk_lists.specs.Sources.{Source, TakesRecord, input_of, left_of};
@@ -138,5 +139,26 @@ impl<R: Read + Drop> Records<R> {
             Ok(_) => Ok(bytes),
             Err(_) => Err(self.outside()),
         }
+    }
+
+    /// Reads some of the bytes that the reader has yet to give into a buffer, before any record was asked for, and answers how many: none only
+    /// at their end, or where the buffer has no room. The records that are left are those of the other bytes.
+    pub fn read_bytes(&mut self, alloc: Global, buf: &mut [u8]) -> Result<usize, Why>
+        ensures bound { IfOk result (λ n. n ≤ length buf.new) }
+        ensures room { length buf.new ≡ length buf.old }
+        ensures bytes { IfOk result (λ n. Consumes self.old.bytes self.new.bytes (take n buf.new)) }
+        ensures end { IfOk result (λ n. n ≡ 0 → 0 < length buf.new → IsAtEnd self.new.bytes) }
+        ensures fault { IfErr result (IsOutside self.new.failed) }
+        // a read that failed is reported as nothing else
+        ensures told { IfErr result (λ why. self.new.failed ≡ true → why ≡ Why.Read) }
+    {
+        let out = replace(&mut self.rdr, plain_over(alloc, Holder::empty()));
+        let mut holder = out.into_inner();
+        let read = holder.read(buf);
+        self.rdr = plain_over(alloc, holder);
+        let Ok(count) = read else {
+            return Err(self.outside());
+        };
+        Ok(count)
     }
 }

@@ -12,7 +12,7 @@ use crate::words::{Cuts, cut_line, word_at};
 use std::alloc::{AllocError, Global};
 
 /// How many of a text's first lines are looked at.
-const FIRST_LINES: usize = 100;
+pub const FIRST_LINES: usize = 100;
 
 /// The form of a capture.
 #[derive(Clone, Copy, Debug, PartialEq, Eq)]

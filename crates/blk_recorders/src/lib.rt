@@ -12,7 +12,7 @@ mod recorder;
 mod steps;
 mod words;
 
-pub use crate::detect::{CaptureForm, form_of};
+pub use crate::detect::{CaptureForm, FIRST_LINES, form_of};
 pub use crate::device::Device;
 pub use crate::fault::{LineFault, LineWhy};
 pub use crate::recorder::Recorder;

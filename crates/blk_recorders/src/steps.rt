@@ -79,7 +79,7 @@ fn more(count: u64) -> u64
 
 impl Recorder {
     /// Whether its lines may stand in any order of their times: bpftrace has a buffer for each processor.
-    fn is_unordered(self) -> bool
+    pub fn is_unordered(self) -> bool
         ensures { result ≡ is_unordered self }
     {
         match self {

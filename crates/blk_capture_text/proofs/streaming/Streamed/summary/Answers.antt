@@ -55,6 +55,6 @@ returns c = λ records had.
           })
           part.requests part.bios refl part.absorbed part.left_out;
       is_summary = c.in_ok-summary.ensures records fates (c.requires.steady.each ∙ had.taken.run.counted) (merges_in from n records run.fates c.in_ok-whole.whole.fates.items c.in_ok-part.part.fates.items run.merges part.fates);
-      unused = counted_in from n run.fates had.fates c.args.self.now.unused run.known had.unused;
+      unused = counted_in from n run.fates had.fates c.args.self.unused run.known had.unused;
       counts = had.counts;
     }

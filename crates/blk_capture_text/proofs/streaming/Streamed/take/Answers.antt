@@ -1,4 +1,4 @@
-use Rattle.std.proofs.Common.{◌+◌, ◌∙◌, ◌++◌, ◌∷◌, [], ap, sym, arith}
+use Rattle.std.proofs.Common.{◌∙◌, ◌++◌, ◌∷◌, [], ap, sym, arith}
 use Rattle.blk_capture.specs.declared.record.Record.{Record}
 use Rattle.blk_capture_text.specs.Counts.{no_records, counted_with}
 use Rattle.blk_capture_text.proofs.Counting.{counts_next}

@@ -6,7 +6,7 @@ use Rattle.blk_words.specs.declared.words.Import.{Import}
 use Rattle.blk_cli.specs.Importing.{IsUnimportedFrom, IsUnwrittenOf}
 use Rattle.blk_cli.specs.declared.failure.Failure.{Failure}
 use Rattle.blk_cli.specs.declared.failure.Failure.TheVariants as failure
-use Rattle.blk_cli.proofs.importing.over_capture.Goals as goal
+use Rattle.blk_cli.proofs.importing.over_whole.Goals as goal
 
 -- why nothing is written of a capture that was read, of the bytes that it was read of
 unwritten : (words : List (List ℕ)) (i : Import) (input : Option (List ℕ)) (failed : Bool) (bytes : List ℕ) (read : CaptureRead) (f : Failure)
