@@ -196,9 +196,14 @@ def judge(ran):
     return "".join(f"{it}\n" for it in lines)
 
 
+def judged_verdict(ran, command):
+    """The same of a schedule, whose rounds don't tell whether a command due right before its release came in late."""
+    return ("gap", "", "") if command.due + 1 == command.release else verdict(ran, command)
+
+
 def judge_each(ran):
     """What `judge --each` writes of a legal schedule."""
-    rows = [(it.id, it.release, it.due, it.issue, it.issue - it.due, *verdict(ran, it)) for it in ran.served if it.issue > it.due]
+    rows = [(it.id, it.release, it.due, it.issue, it.issue - it.due, *judged_verdict(ran, it)) for it in ran.served if it.issue > it.due]
     return "".join(f"{it}\n" for it in ["id,release,due,round,lateness,verdict,from,until", *[",".join(map(str, row)) for row in rows]])
 
 
