@@ -14,8 +14,8 @@ use std::os::unix::fs::{FileTypeExt, MetadataExt};
 use std::process::ExitCode;
 use std::sync::Wait;
 use std::thread::{Scope, Threads, scope, scope_env};
-use turns::{Progress, ProgressLine};
 use std::{env, fs, io};
+use turns::{Progress, ProgressLine};
 
 /// Whether standard error is a terminal, by the major number of its device: Linux has 4 for consoles and serial lines, 5 for a process's
 /// own terminal and 136 to 143 for what terminal emulators open.

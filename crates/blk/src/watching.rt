@@ -3,7 +3,6 @@
 ghost use Rattle.std.specs.Io.{ReadsAtMost};
 ghost use Rattle.std.specs.Io.KnownBytes.{ReadConsumes};
 
-use turns::{Progress, ProgressLine};
 use std::alloc::Global;
 use std::io;
 use std::io::{Read, Write};
@@ -11,6 +10,7 @@ use std::sync::Wait;
 use std::sync::atomic::{AtomicU64, Ordering};
 use std::thread::{JoinHandle, Parker, Scope, Threads};
 use std::time::{Duration, Instant};
+use turns::{Progress, ProgressLine};
 
 /// For so many seconds nothing is shown.
 const QUIET_SECONDS: u64 = 2;

@@ -10,7 +10,6 @@ ghost use Rattle.blk_online_cli.specs.Inside.Words.{sim_words, report_words, mis
 use blk_cli::{Ended, answer, run};
 use blk_lists::Records;
 use blk_settings::Loads;
-use turns::Quiet;
 use blk_words::FiguresAsked;
 use blk_words::asking::plain_lines;
 use drafts::Output;
@@ -18,6 +17,7 @@ use std::alloc::{AllocError, Global};
 use std::io::{Read, Write};
 use std::sync::Wait;
 use std::thread::Threads;
+use turns::Quiet;
 
 /// Where a script's steps are bios, flushes, drains, depths and runs alone, what `sim --sched earliest` writes is a trace of which
 /// `oracle --trace` reports the shortfall 0, or no commands. It says nothing of joins, hardware queues, limits, depths, or of what
