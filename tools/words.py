@@ -6,7 +6,7 @@
                                           `explain` lists
     tools/words.py keep                   keeps the help texts of the program that is built
 
-The subcommands, their options and what each may be are those of the table in docs/FORMATS.md under 'Program'. What each
+The subcommands, their options and what each may be are those of the tables in docs/FORMATS.md under 'Program'. What each
 does is told by the program's own help texts, which are kept in tools/help/: `blk` is the program's, `blk-sim` that of
 `sim`, `version` what `--version` writes, and `no-words` what is said where there are no words. The cases with a file
 stdout.as or stderr.as hold the program to them. The rest of the man page is tools/man.roff.
@@ -14,6 +14,7 @@ stdout.as or stderr.as hold the program to them. The rest of the man page is too
 `check` prints what differs, and as the last line 'N passed, M failed'. Ends with 0, with 1 where something differs, 2 for
 other words, and 3 where there is no program, or no table that can be read.
 """
+import itertools
 import re
 import subprocess
 import sys
@@ -66,41 +67,40 @@ class Command:
 # --- the table of docs/FORMATS.md ---
 
 
-# An option in a cell: its name, its values by name or as a range or as a word for them, the default, and anything else.
-OWN = re.compile(r"`(--[\w-]+)`(?: (\w+(?:, \w+)* or \w+|\d+\.\.=\d+|[A-Z]+))?(?: \((\S+)\))?(?:, .*)?")
-# The options of a subcommand above it, or all but one of them.
-THOSE = re.compile(r"those of `(\w+)`(?: but `(--[\w-]+)`)?")
+# The values of an option: by name, as a range, or as a word for them.
+VALUES = re.compile(r"\w+(?:, \w+)* or \w+|\d+\.\.=\d+|[A-Z]+")
 
 
-def read_cell(cell, commands):
-    """The options that a cell of the table tells."""
-    options = {}
-    for item in filter(None, cell.split("; ")):
-        those, own = THOSE.fullmatch(item), OWN.fullmatch(item)
-        if those and those[1] in commands:
-            options.update({name: it for name, it in commands[those[1]].options.items() if name != those[2]})
-        elif own:
-            options[own[1]] = Option(own[2], own[3])
-        else:
-            raise Fault(f"{FORMATS.relative_to(TOP)}: this option isn't understood: {item}")
-    return options
+def rows_under(title):
+    """The rows of the first table under a headline of the page, each as its cells."""
+    lines = FORMATS.read_text().partition(f"\n{title}\n")[2].splitlines()
+    rows = itertools.takewhile(lambda it: it.startswith("|"), itertools.dropwhile(lambda it: not it.startswith(("|", "#")), lines))
+    cells = [[it.strip() for it in line.strip("|").split("|")] for line in rows][2:]
+    if not cells:
+        raise Fault(f"{FORMATS.relative_to(TOP)} has no table under '{title}'")
+    return cells
 
 
 def read_table():
-    """The subcommands by name, as the table under 'Program' has them."""
-    section = FORMATS.read_text().partition("\n## Program\n")[2]
+    """The subcommands by name, as the tables under 'Program' and 'Options' have them."""
     commands = {}
-    for line in section.strip().split("\n\n")[0].splitlines()[2:]:
-        first, options, reads, writes = (it.strip() for it in line.strip("|").split("|"))
+    for first, reads, writes in rows_under("## Program"):
         named = re.fullmatch(r"`(\w+)(?: (--[\w-]+))?`", first)
         if not named:
             raise Fault(f"{FORMATS.relative_to(TOP)}: this subcommand isn't understood: {first}")
         name, flag = named[1], named[2] or ""
         command = commands.setdefault(name, Command())
         command.flows[flag] = reads, writes
-        command.options.update({flag: Option()} if flag else read_cell(options, commands))
-    if not commands:
-        raise Fault(f"{FORMATS.relative_to(TOP)} has no table under 'Program'")
+        if flag:
+            command.options[flag] = Option()
+    for first, values, default, takers, _ in rows_under("### Options"):
+        named, (told, _, _) = re.fullmatch(r"`(--[\w-]+)`", first), takers.partition("; ")
+        names = re.findall(r"`(\w+)`", takers)
+        if not named or not names or not set(names) <= set(commands) or not VALUES.fullmatch(values or "TEXT"):
+            raise Fault(f"{FORMATS.relative_to(TOP)}: this option isn't understood: {first}")
+        for name in names:
+            # the help texts of those behind a semicolon don't tell the default
+            commands[name].options[named[1]] = Option(values or None, default if default and f"`{name}`" in told else None)
     return commands
 
 
