@@ -4,8 +4,8 @@
     tools/pages.py
 
 A page is README.md, and any in docs/, cases/ and crates/. A link leads to a file, and its anchor to a headline there. A word is
-a name with a letter, inside backticks and outside of blocks; it stands in some file that is no page, or in a file's path. The
-words of Linux and of other projects, and those of the examples that a reader makes, are listed here.
+a name with a letter, inside backticks and outside of blocks, or in a `use` of a Rattle block; it stands in some file that is no
+page, or in a file's path. The words of Linux and of other projects, and those of the examples that a reader makes, are listed here.
 
 No word is defined in the specs/ of two crates, but for those that mean one thing, which are listed here. A clause has at most
 120 characters between its braces. Pages and comments say 'out of memory': 'want of memory' is the program's own line, and
@@ -26,7 +26,7 @@ TOP = Path(__file__).resolve().parent.parent
 LINUX = """bio_merge blk_add_rq_to_plug blk_flush_plug blk_mq_requeue_request blk_mq_sched_dispatch_requests blk_rq_pos blk_rq_sectors
     dispatch_request elv_merge fifo_time has_work lsblk nr_hw_queues nr_requests queue_depth request_merge sbitmap submit_bio"""
 # Crates and answers of the toolchain that the sources don't name, and words of the guides' own examples.
-OTHERS = "Display document serde_json smallvec unsupported static blk_mine mine_policy burst"
+OTHERS = "Display document serde_json smallvec unsupported static blk_mine Mine mine_policy burst"
 KNOWN = {*LINUX.split(), *OTHERS.split()}
 WORD = re.compile(r"[A-Za-z_]\w*")
 # A word of fewer letters is a variable.
@@ -100,10 +100,22 @@ def lost_words(line, words):
                 yield f"no file has {word}"
 
 
+def uses(text):
+    """The lines of a page that use something in a block of Rattle, each with its number."""
+    is_block = False
+    for number, line in enumerate(text.splitlines(), 1):
+        is_block = line == "```rust" or is_block and not line.startswith("```")
+        if is_block and line.startswith("use "):
+            yield number, f"`{line}`"
+
+
 def lost(path, words):
     """What a page tells of that isn't there."""
-    for number, line in prose((TOP / path).read_text()):
+    text = (TOP / path).read_text()
+    for number, line in prose(text):
         yield from (f"{path}:{number}: {it}" for it in [*lost_links(path, line), *lost_words(line, words)])
+    for number, line in uses(text):
+        yield from (f"{path}:{number}: {it}" for it in lost_words(line, words))
 
 
 def line_of(text, at):
