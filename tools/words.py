@@ -94,13 +94,14 @@ def read_table():
         if flag:
             command.options[flag] = Option()
     for first, values, default, takers, _ in rows_under("### Options"):
-        named, (told, _, _) = re.fullmatch(r"`(--[\w-]+)`", first), takers.partition("; ")
-        names = re.findall(r"`(\w+)`", takers)
-        if not named or not names or not set(names) <= set(commands) or not VALUES.fullmatch(values or "TEXT"):
+        options, defaults = re.findall(r"`(--[\w-]+)`", first), default.split("; ") if default else []
+        names, (told, _, _) = re.findall(r"`(\w+)`", takers), takers.partition("; ")
+        defaults = defaults or [None] * len(options)
+        if not names or not set(names) <= set(commands) or len(options) != len(defaults) or not VALUES.fullmatch(values or "TEXT"):
             raise Fault(f"{FORMATS.relative_to(TOP)}: this option isn't understood: {first}")
-        for name in names:
+        for name, (option, it) in itertools.product(names, zip(options, defaults)):
             # the help texts of those behind a semicolon don't tell the default
-            commands[name].options[named[1]] = Option(values or None, default if default and f"`{name}`" in told else None)
+            commands[name].options[option] = Option(values or None, it if f"`{name}`" in told else None)
     return commands
 
 
