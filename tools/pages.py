@@ -26,7 +26,7 @@ TOP = Path(__file__).resolve().parent.parent
 LINUX = """bio_merge blk_add_rq_to_plug blk_flush_plug blk_mq_requeue_request blk_mq_sched_dispatch_requests blk_rq_pos blk_rq_sectors
     dispatch_request elv_merge fifo_time has_work lsblk nr_hw_queues nr_requests queue_depth request_merge sbitmap submit_bio"""
 # Crates and answers of the toolchain that the sources don't name, and words of the guides' own examples.
-OTHERS = "Display document serde_json smallvec unsupported static blk_mine Mine mine_policy burst"
+OTHERS = "Display document serde_json smallvec unsupported static holes blk_mine Mine MineScheduler mine_policy burst"
 KNOWN = {*LINUX.split(), *OTHERS.split()}
 WORD = re.compile(r"[A-Za-z_]\w*")
 # A word of fewer letters is a variable.
