@@ -71,20 +71,20 @@ class Command:
 VALUES = re.compile(r"\w+(?:, \w+)* or \w+|\d+\.\.=\d+|[A-Z]+")
 
 
-def rows_under(title):
+def rows_under(title, columns):
     """The rows of the first table under a headline of the page, each as its cells."""
     lines = FORMATS.read_text().partition(f"\n{title}\n")[2].splitlines()
     rows = itertools.takewhile(lambda it: it.startswith("|"), itertools.dropwhile(lambda it: not it.startswith(("|", "#")), lines))
     cells = [[it.strip() for it in line.strip("|").split("|")] for line in rows][2:]
-    if not cells:
-        raise Fault(f"{FORMATS.relative_to(TOP)} has no table under '{title}'")
+    if not cells or any(len(row) != columns for row in cells):
+        raise Fault(f"{FORMATS.relative_to(TOP)} has no table of {columns} columns under '{title}'")
     return cells
 
 
 def read_table():
     """The subcommands by name, as the tables under 'Program' and 'Options' have them."""
     commands = {}
-    for first, reads, writes in rows_under("## Program"):
+    for first, reads, writes in rows_under("## Program", 3):
         named = re.fullmatch(r"`(\w+)(?: (--[\w-]+))?`", first)
         if not named:
             raise Fault(f"{FORMATS.relative_to(TOP)}: this subcommand isn't understood: {first}")
@@ -93,7 +93,7 @@ def read_table():
         command.flows[flag] = reads, writes
         if flag:
             command.options[flag] = Option()
-    for first, values, default, takers, _ in rows_under("### Options"):
+    for first, values, default, takers, _ in rows_under("### Options", 5):
         options, defaults = re.findall(r"`(--[\w-]+)`", first), default.split("; ") if default else []
         names, (told, _, _) = re.findall(r"`(\w+)`", takers), takers.partition("; ")
         defaults = defaults or [None] * len(options)
