@@ -1,0 +1,4 @@
+pub mod State
+pub mod Replay
+pub mod Rows
+pub mod Laws
