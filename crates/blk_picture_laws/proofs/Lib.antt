@@ -1,3 +1,4 @@
 pub mod Adding
 pub mod Fitting
 pub mod Ordering
+pub mod States

@@ -21,7 +21,7 @@ use Rattle.blk_picture.specs.Boxes.{box_of, boxes_from, boxes_of}
 use Rattle.blk_picture_laws.specs.Served.{boxes_in_order, boxes_kept, boxed_command, service_in, issue_in, issue_of}
 
 -- the boxes of these events, the first Issue first
-unfoldable ahead : Setup → List Happened → ℕ → List Happened → List IssueBox
+unfoldable pub ahead : Setup → List Happened → ℕ → List Happened → List IssueBox
 ahead setup events round [] = []
 ahead setup events round (e ∷ es) = cons_option (option_map (box_of setup events round es) (issues e)) (ahead setup events (cond (is_tick e) (round + 1) round) es)
 
@@ -39,7 +39,7 @@ reversed setup events round (e ∷ es) =
     ∙ turned o (reverse (boxes_from setup events next es))
     ∙ ap (cons_option o) (reversed setup events next es)
 
-in_order : (setup : Setup) (events : List Happened) → boxes_in_order setup events ≡ ahead setup events 0 events
+pub in_order : (setup : Setup) (events : List Happened) → boxes_in_order setup events ≡ ahead setup events 0 events
 unfolding boxes_of
 in_order setup events = reversed setup events 0 events
 

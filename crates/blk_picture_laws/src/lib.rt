@@ -9,6 +9,10 @@ ghost use Rattle.blk_trace.specs.Events.{round_of};
 ghost use Rattle.blk_trace.specs.Legal.{IsLegalTrace};
 ghost use Rattle.blk_trace.specs.Meaning.{commands_of, rounds_of};
 ghost use Rattle.blk_picture.specs.Pictures.{rounds_shown, most_rounds};
+ghost use Rattle.blk_trace_state.specs.Laws.{Leaves};
+ghost use Rattle.blk_report.specs.Services.{services_of};
+ghost use Rattle.blk_report.specs.Overdue.{is_overdue};
+ghost use Rattle.blk_picture_laws.specs.States.{boxes_in, services_in, is_overdue_in};
 ghost use Rattle.blk_picture_laws.specs.Served.{boxes_in_order, boxes_kept, boxed_command, issue_of, timed_issues, BoxesAreServices};
 ghost use Rattle.blk_picture_laws.specs.Sums.{HoldsScaled, ShowsAll, ShowsAllOfEach, WhereAllIsShown, ReadsAddUp, WritesAddUp, LatesAddUp, BacksAddUp, BoxesAddUp, RoomsAddUp, ColumnsFit, IdlePlacesAddUp};
 
@@ -55,4 +59,13 @@ pub fn law_of_columns()
         → IsLegalTrace setup events → WhereAllIsShown ColumnsFit setup events }
     ensures idle { (setup : Setup) → (events : List Happened)
         → IsLegalTrace setup events → WhereAllIsShown IdlePlacesAddUp setup events }
+{}
+
+/// Boxes, services and what is overdue are read off the state that a legal list leaves (`blk_trace_state`).
+///
+/// A law: it does nothing when it runs, and a caller has its clauses.
+pub fn law_of_states()
+    ensures boxes { Leaves (λ setup events s. boxes_in s ≡ boxes_in_order setup events) }
+    ensures services { Leaves (λ setup events s. services_in s ≡ services_of setup events) }
+    ensures overdue { Leaves (λ setup events s. (id : ℕ) → is_overdue_in s id ≡ is_overdue setup events id) }
 {}
