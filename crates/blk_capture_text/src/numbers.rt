@@ -76,8 +76,18 @@ impl UnusedCounts {
         }
     }
 
-    /// With one record more, of which this is known.
+    /// With one record more, of which this is known: of what is of a request, as most are, nothing is counted.
     pub fn with(self, fate: Fate) -> UnusedCounts
+        ensures { result ≡ counts_with self fate }
+    {
+        match fate {
+            Fate::Taken(_) | Fate::LeftOut => self,
+            Fate::Unmatched | Fate::PassedOver(_) => self.with_unused(fate),
+        }
+    }
+
+    /// The same, of a record of no known request.
+    fn with_unused(self, fate: Fate) -> UnusedCounts
         ensures { result ≡ counts_with self fate }
     {
         UnusedCounts {

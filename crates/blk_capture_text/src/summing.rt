@@ -16,7 +16,7 @@ use std::alloc::Global;
 use std::io::Read;
 
 /// How many bytes are asked for at once.
-const PART: usize = 1 << 16;
+const PART: usize = 1 << 20;
 
 /// Why a capture isn't put in numbers.
 #[derive(Debug, Drop)]
