@@ -12,6 +12,7 @@ pub mod Indexed
 pub mod Listed
 pub mod Found
 pub mod Sounding
+pub mod Moved
 pub mod Growing
 pub mod Folding
 pub mod Cohering

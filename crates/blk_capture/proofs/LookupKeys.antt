@@ -42,7 +42,7 @@ exact_keys a b h =
     same_fields a b (ranked a.sector b.sector Equal (sym s.0)) (exact_bool a.write b.write w.0) (ranked a.pid b.pid Equal (sym p.0)) (ranked a.end b.end Equal (sym p.1))
 
 -- keys that compare alike are one
-one_key : (s t : LookupKey) → is_eq (lookup_cmp s t) ≡ true → s ≡ t
+pub one_key : (s t : LookupKey) → is_eq (lookup_cmp s t) ≡ true → s ≡ t
 one_key s t h = elim (lookup_cmp s t) as (λ o. lookup_cmp s t ≡ o → is_eq o ≡ true → s ≡ t) [
   | Less ↦ λ _ r. absurd (cc)
   | Equal ↦ λ e _. exact_keys s t e

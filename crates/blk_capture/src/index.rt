@@ -1,11 +1,11 @@
 //! Requests, found by where they wait and where they stand on the device.
 
-ghost use Rattle.std.specs.Prelude.{◌≡◌, ◌<◌, ◌^◌, Bool, true, false, IfSome, IfNone, IfOk, OnOk};
-ghost use Rattle.blk_capture.specs.Inside.LookupKeys.{has, whole_key, edge_key, seat, PutsIf, TakesIf, IsOldestUnder, IsNewestUnder, IsEmptyAt, IsUnusedAt};
-ghost use Rattle.blk_capture.specs.Inside.Indexes.{IndexPart, part_of, Lists, Unlists, facing, abutting_key};
+ghost use Rattle.std.specs.Prelude.{◌≡◌, ◌<◌, ◌^◌, Bool, List, Some, true, false, IfSome, IfNone, IfOk, OnOk, slice_get, slice_set};
+ghost use Rattle.blk_capture.specs.Inside.LookupKeys.{has, whole_key, edge_key, seat, PutsIf, TakesIf, MovesTo, IsOldestUnder, IsNewestUnder, IsEmptyAt, IsUnusedAt};
+ghost use Rattle.blk_capture.specs.Inside.Indexes.{IndexPart, part_of, Lists, Unlists, AreIndexed, keep_first, facing, abutting_key};
 ghost use Rattle.blk_capture.specs.declared.lookup.Seat.{Seat};
 
-use crate::lookup::{KeyIndex, LookupKey};
+use crate::lookup::{KeyIndex, LookupKey, is_same};
 use crate::opened::{Opened, Stage};
 use crate::record::Range;
 use blk_bio::Side;
@@ -68,6 +68,26 @@ impl<A: Allocator + Clone> MergeIndex<A> {
             .take(LookupKey::edge(range, range.end, pid), age, place);
     }
 
+    /// Lists a request by another range that begins where its range does.
+    pub(crate) fn move_end(
+        &mut self,
+        old: Range,
+        new: Range,
+        pid: u64,
+        age: u64,
+        place: usize,
+    ) -> Result<(), AllocError>
+        ensures wholes { OnOk result (MovesTo (seat (whole_key old) age place) (seat (whole_key new) age place) (has self.old.wholes) (has self.new.wholes)) }
+        ensures firsts { self.new.firsts ≡ self.old.firsts }
+        ensures ends { OnOk result (MovesTo (seat (edge_key old old.end pid) age place) (seat (edge_key new new.end pid) age place) (has self.old.ends) (has self.new.ends)) }
+    {
+        self.wholes
+            .shift(LookupKey::whole(old), LookupKey::whole(new), age, place)?;
+        let end = LookupKey::edge(old, old.end, pid);
+        self.ends
+            .shift(end, LookupKey::edge(new, new.end, pid), age, place)
+    }
+
     /// The oldest that a newcomer at a side abuts.
     pub(crate) fn oldest(&self, newcomer: Range, side: Side, pid: u64) -> Option<usize>
         ensures some { IfSome result (IsOldestUnder (facing side self.now) (abutting_key newcomer side pid)) }
@@ -110,6 +130,16 @@ pub(crate) struct RequestIndex<A: Allocator = Global> {
     pub(crate) inserted: MergeIndex<A>,
     /// Those at the device.
     pub(crate) in_flight: KeyIndex<A>,
+}
+
+/// Whether a request was opened and not inserted before and after, and begins where it did: then it goes on where it is listed by its first
+/// sector.
+fn keeps_first(old: &Opened, new: &Opened) -> bool
+    ensures { result ≡ keep_first old.now new.now }
+{
+    let first = LookupKey::edge(old.left, old.left.first, old.pid);
+    let next = LookupKey::edge(new.left, new.left.first, new.pid);
+    old.is_opened() && new.is_opened() && old.age == new.age && is_same(first, next)
 }
 
 impl<A: Allocator + Clone> RequestIndex<A> {
@@ -162,5 +192,25 @@ impl<A: Allocator + Clone> RequestIndex<A> {
             }
             Stage::Completed(_) | Stage::Absorbed => {}
         }
+    }
+
+    /// Lists the request of a number in another state, where it waits then.
+    pub(crate) fn change(
+        &mut self,
+        place: usize,
+        old: &Opened,
+        new: &Opened,
+    ) -> Result<(), AllocError>
+        ensures { OnOk result ((qs : List Opened) → AreIndexed qs self.old → slice_get qs place ≡ Some old.now → AreIndexed (slice_set qs place new.now) self.new) }
+    {
+        // so are most: a bio is merged at the back
+        let first = keeps_first(old, new);
+        if first {
+            return self
+                .opened
+                .move_end(old.left, new.left, old.pid, old.age, place);
+        }
+        self.take(place, old);
+        self.put(place, new)
     }
 }

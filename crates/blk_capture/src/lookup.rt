@@ -3,7 +3,7 @@
 ghost use Rattle.std.specs.Prelude.{◌≡◌, ◌+◌, ◌<◌, ◌≤◌, ◌^◌, true, false, IfSome, IfNone, OnOk, IfOk};
 ghost use Rattle.std.specs.Ordering.{is_eq, is_gt};
 ghost use Rattle.std.specs.BTreeSet.{contains};
-ghost use Rattle.blk_capture.specs.Inside.LookupKeys.{lookup_cmp, seat_cmp, seat, has, whole_key, edge_key, PutsIf, TakesIf, IsOldestUnder, IsNewestUnder, IsEmptyAt, IsUnusedAt, IsShortestOver, IsEmptyOver, IsLeastSeatFrom, IsGreatestUpTo};
+ghost use Rattle.blk_capture.specs.Inside.LookupKeys.{lookup_cmp, seat_cmp, seat, has, whole_key, edge_key, PutsIf, TakesIf, MovesTo, IsOldestUnder, IsNewestUnder, IsEmptyAt, IsUnusedAt, IsShortestOver, IsEmptyOver, IsLeastSeatFrom, IsGreatestUpTo};
 ghost use Rattle.blk_capture.specs.declared.lookup.Seat.{Seat};
 
 use crate::record::Range;
@@ -58,7 +58,7 @@ pub(crate) struct Seat {
 }
 
 /// Whether two keys are equal.
-fn is_same(a: LookupKey, b: LookupKey) -> bool
+pub(crate) fn is_same(a: LookupKey, b: LookupKey) -> bool
     ensures { result ≡ is_eq (lookup_cmp a b) }
 {
     a.cmp(&b).is_eq()
@@ -116,6 +116,20 @@ impl<A: Allocator + Clone> KeyIndex<A> {
         ensures { TakesIf true (seat key age place) (has self.old) (has self.new) }
     {
         let _ = self.seats.remove(&Seat { key, age, place });
+    }
+
+    /// Takes one out, if it is there, and puts it under another key.
+    pub(crate) fn shift(
+        &mut self,
+        old: LookupKey,
+        new: LookupKey,
+        age: u64,
+        place: usize,
+    ) -> Result<(), AllocError>
+        ensures { OnOk result (MovesTo (seat old age place) (seat new age place) (has self.old) (has self.new)) }
+    {
+        self.take(old, age, place);
+        self.put(new, age, place)
     }
 
     /// The oldest under a key.

@@ -260,9 +260,8 @@ impl<A: Allocator + Clone> Matching<A> {
         ensures sound { OnOk result (IsSound self.new) }
         ensures rest { OnOk result (KeepsRest self.old self.new) }
     {
-        self.index.take(number, &old);
         self.requests[number] = new;
-        self.index.put(number, &new)
+        self.index.change(number, &old, &new)
     }
 
     /// A bio waits no more.

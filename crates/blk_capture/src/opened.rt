@@ -1,7 +1,7 @@
 //! Requests, as they were opened and grew.
 
 ghost use Rattle.std.specs.Prelude.{◌≡◌};
-ghost use Rattle.blk_capture.specs.Rules.{goes_out_by};
+ghost use Rattle.blk_capture.specs.Rules.{goes_out_by, is_opened};
 ghost use Rattle.blk_capture.specs.Settled.{is_absorbed};
 
 use crate::record::Range;
@@ -59,6 +59,13 @@ impl Opened {
             Stage::InFlight(last) | Stage::Completed(last) => last == number,
             Stage::Opened | Stage::Inserted | Stage::Absorbed => false,
         }
+    }
+
+    /// Whether it was opened and not inserted.
+    pub(crate) fn is_opened(&self) -> bool
+        ensures { result ≡ is_opened self.now.stage }
+    {
+        matches!(self.stage, Stage::Opened)
     }
 
     /// Whether it was merged into another.

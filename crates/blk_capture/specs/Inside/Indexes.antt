@@ -1,10 +1,11 @@
 -- Indexes hold just what stands in the lists.
-use Rattle.std.specs.Prelude.{ℕ, ◌≡◌, ◌&&◌, Bool, false, List, slice_get}
+use Rattle.std.specs.Prelude.{ℕ, ◌≡◌, ◌==◌, ◌&&◌, Bool, false, List, slice_get}
+use Rattle.std.specs.Ordering.{is_eq}
 use Rattle.std.specs.Option.{option_map_or}
 use Rattle.blk_bio.specs.declared.request.Side.{Side}
 use Rattle.blk_bio.specs.declared.request.Side.TheVariants.{Back, Front}
 use Rattle.blk_capture.specs.Rules.{is_opened, is_inserted, is_in_flight}
-use Rattle.blk_capture.specs.Inside.LookupKeys.{Seats, has, seat, is_seat, whole_key, edge_key, PutsIf, TakesIf}
+use Rattle.blk_capture.specs.Inside.LookupKeys.{Seats, has, seat, is_seat, lookup_cmp, whole_key, edge_key, PutsIf, TakesIf}
 use Rattle.blk_capture.specs.declared.index.MergeIndex.{MergeIndex}
 use Rattle.blk_capture.specs.declared.index.RequestIndex.{RequestIndex}
 use Rattle.blk_capture.specs.declared.lookup.LookupKey.{LookupKey}
@@ -70,6 +71,13 @@ Lists k q old new = (part : IndexPart) → PutsIf (stands_in part q) (seat (part
 
 abbrev pub Unlists : {A : Type 0} → ℕ → Opened → RequestIndex A → RequestIndex A → Type 0
 Unlists k q old new = (part : IndexPart) → TakesIf (stands_in part q) (seat (part_key part q) q.age k) (part_of part old) (part_of part new)
+
+-- both were opened and not inserted, and have one age and one key by their first sectors
+abbrev pub first_key : Opened → LookupKey
+first_key q = edge_key q.left q.left.first q.pid
+
+abbrev pub keep_first : Opened → Opened → Bool
+keep_first p q = ((is_opened p.stage && is_opened q.stage) && (p.age == q.age)) && is_eq (lookup_cmp (first_key p) (first_key q))
 
 -- what an index has of a list: of each of those that stand in it the key, the age and the place
 abbrev pub sits : {X : Type 0} → (X → Bool) → (X → LookupKey) → (X → ℕ) → Seat → X → Bool

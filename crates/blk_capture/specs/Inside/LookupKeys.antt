@@ -46,6 +46,10 @@ PutsIf b s old new = (q : Seat) → new q ≡ cond b (cond (is_seat s q) true (o
 abbrev pub TakesIf : Bool → Seat → Seats → Seats → Type 0
 TakesIf b s old new = (q : Seat) → new q ≡ cond b (cond (is_seat s q) false (old q)) (old q)
 
+-- one is taken out, and put in elsewhere
+abbrev pub MovesTo : Seat → Seat → Seats → Seats → Type 0
+MovesTo s t old new = (q : Seat) → new q ≡ cond (is_seat t q) true (cond (is_seat s q) false (old q))
+
 -- the oldest under a key stands at this place; the newest does
 pub record IsOldestUnder (seats : Seats) (key : LookupKey) (place : ℕ) : Type 0 where
   pub age : ℕ
