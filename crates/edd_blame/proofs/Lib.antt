@@ -5,5 +5,6 @@ pub mod Stalling
 pub mod Fitting
 pub mod Parting
 pub mod Climbing
+pub mod Alike
 pub mod Beside
 pub mod Marking

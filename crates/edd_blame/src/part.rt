@@ -4,7 +4,7 @@ ghost use Rattle.std.specs.Prelude.{◌≡◌, IfOk, length, map};
 ghost use Rattle.edd_commands.specs.Schedule.{IsLegal};
 ghost use Rattle.edd_oracle.specs.Input.{IsTaken};
 ghost use Rattle.edd_blame.specs.Parts.{command_here, ArePlaces, IsLeastLateAt, IsMostSavedAt, IsLeastLateBeside, marked_places, other_places};
-ghost use Rattle.edd_blame.specs.Inside.{on_time_places, late_places};
+ghost use Rattle.edd_blame.specs.Inside.{on_time_places, late_places, times_of};
 
 use edd_commands::{Capacity, Command};
 use edd_oracle::most_on_time;
@@ -23,6 +23,25 @@ fn commands_at<A: Allocator>(
     let mut part = Vec::new(alloc);
     for place in places {
         part.push(commands[*place])?;
+    }
+    Ok(part)
+}
+
+/// The same with new ids, which rise: the oracle looks through a set for an id that stands twice where they don't.
+fn numbered_at<A: Allocator>(
+    alloc: A,
+    commands: &[Command],
+    places: &[usize],
+) -> Result<Vec<Command, A>, AllocError>
+    requires { ArePlaces (length commands.now) places.now }
+    ensures { IfOk result (λ v. map times_of v.items ≡ map (λ k. times_of (command_here commands.now k)) places.now) }
+{
+    let mut part = Vec::with_capacity(alloc, places.len())?;
+    for (number, place) in places.iter().enumerate() {
+        part.push(Command {
+            id: number as u64,
+            ..commands[*place]
+        })?;
     }
     Ok(part)
 }
@@ -155,7 +174,7 @@ pub fn most_saved_at<A: Allocator + Clone, B: Allocator>(
     let on_time = beside.as_slice().len() as u64;
     let late = late_places(alloc.clone()?, commands, rounds, places)?;
     beside.extend_from_slice(late.as_slice())?;
-    let part = commands_at(alloc.clone()?, commands, beside.as_slice())?;
+    let part = numbered_at(alloc.clone()?, commands, beside.as_slice())?;
     // what the oracle takes as a whole it takes in part, so that it is refused only when out of memory
     let Ok(answer) = most_on_time(alloc, part.as_slice(), capacity) else {
         return Err(AllocError);

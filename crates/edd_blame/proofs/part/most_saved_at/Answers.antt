@@ -1,24 +1,26 @@
 use Rattle.std.proofs.Common.{◌≡◌, ◌++◌, ℕ, List, length, map, arith, ap, sym, ◌∙◌, subst}
-use Rattle.edd_check.specs.declared.Window.{Window}
+use Rattle.std.proofs.lemmas.Simd.{map-map}
+use Rattle.edd_check.specs.OnTime.{IsMostOnTime}
 use Rattle.edd_commands.specs.declared.Command.{Command}
 use Rattle.edd_commands.specs.declared.steps.Step.{Step}
 use Rattle.edd_commands.proofs.InForce.{depth_bounds}
-use Rattle.edd_oracle.specs.OnTime.{IsMostAnswer}
-use Rattle.edd_blame.specs.Inside.{on_time_places, late_places}
+use Rattle.edd_blame.specs.Inside.{on_time_places, late_places, times_of}
 use Rattle.edd_blame.specs.Parts.{ArePlaces, command_here}
+use Rattle.edd_blame.proofs.Alike.{most_alike}
 use Rattle.edd_blame.proofs.Beside.{beside, are_beside, on_time_few, most_saved}
 use Rattle.edd_blame.proofs.part.most_saved_at.Goals as goal
 
--- the oracle's answer is of the part
-answer_of : (own list : List Command) (steps : List Step) (rounds : List ℕ) (on_time : ℕ) (cover : List Window) → list ≡ own → IsMostAnswer list steps rounds on_time cover → IsMostAnswer own steps rounds on_time cover
-answer_of own list steps rounds on_time cover same most = subst (λ l. IsMostAnswer l steps rounds on_time cover) same most
+-- the oracle's answer is of the part, whatever the ids
+answer_of : (cs : List Command) (places own : List ℕ) (list : List Command) (steps : List Step) (most : ℕ) → map times_of list ≡ map (λ k. times_of (command_here cs k)) places → places ≡ own → IsMostOnTime list steps most → IsMostOnTime (map (command_here cs) own) steps most
+answer_of cs places own list steps most times same is =
+    most_alike (map (command_here cs) own) list (times ∙ ap (λ l. map (λ k. times_of (command_here cs k)) l) same ∙ sym (map-map times_of (command_here cs) own)) steps most is
 
 -- the places of the part
 joined : (a b on_time late all : List ℕ) → a ≡ on_time → b ≡ late → all ≡ a ++ b → all ≡ on_time ++ late
 joined a b on_time late all first other same = cc
 
-pub commands_at-requires : goal.commands_at-requires
-commands_at-requires g c =
+pub numbered_at-requires : goal.numbered_at-requires
+numbered_at-requires g c =
     let cs : List Command = c.args.commands.now in
     let rs : List ℕ = c.args.rounds.now in
     let ps : List ℕ = c.args.places.now in
@@ -37,11 +39,10 @@ overflow_sub-result g c =
     let all : c.as_slice-3.result.now ≡ beside cs rs steps ps c.requires.legal c.requires.places =
     joined c.in_ok-beside.beside.items c.as_slice-2.result.now (on_time_places cs rs) (late_places cs rs ps) c.as_slice-3.result.now
     c.in_ok-beside.ensures (c.as_slice-2.ensures.value ∙ c.in_ok-late.ensures) (c.as_slice-3.ensures.value ∙ c.in_ok-extend_from_slice.ensures.items) in
-    let own : List Command = map (command_here cs) (beside cs rs steps ps c.requires.legal c.requires.places) in
-    let same : c.as_slice-4.result.now ≡ own = c.as_slice-4.ensures.value ∙ c.in_ok-part.ensures ∙ ap (λ l. map (command_here cs) l) all in
-    let most = answer_of own c.as_slice-4.result.now steps c.in-Ok.answer.rounds.items c.in-Ok.answer.on_time c.in-Ok.answer.cover.items same c.in-Ok.ensures.most in
+    let times = ap (λ l. map times_of l) c.as_slice-4.ensures.value ∙ c.in_ok-part.ensures in
+    let most = answer_of cs c.as_slice-3.result.now (beside cs rs steps ps c.requires.legal c.requires.places) c.as_slice-4.result.now steps c.in-Ok.answer.on_time times all c.in-Ok.ensures.most.most in
     let kept : length c.as_slice.result.now ≡ length (on_time_places cs rs) = ap length (c.as_slice.ensures.value ∙ c.in_ok-beside.ensures) in
-    let few = on_time_few cs rs steps ps c.requires.legal c.requires.places c.in-Ok.answer.on_time most.most in
+    let few = on_time_few cs rs steps ps c.requires.legal c.requires.places c.in-Ok.answer.on_time most in
     omega (arith, few, kept)
 
 pub returns : goal.returns
@@ -54,13 +55,13 @@ returns g c =
     joined c.in_ok-beside.beside.items c.as_slice-2.result.now (on_time_places cs rs) (late_places cs rs ps) c.as_slice-3.result.now
     c.in_ok-beside.ensures (c.as_slice-2.ensures.value ∙ c.in_ok-late.ensures) (c.as_slice-3.ensures.value ∙ c.in_ok-extend_from_slice.ensures.items) in
     let own : List Command = map (command_here cs) (beside cs rs steps ps c.requires.legal c.requires.places) in
-    let same : c.as_slice-4.result.now ≡ own = c.as_slice-4.ensures.value ∙ c.in_ok-part.ensures ∙ ap (λ l. map (command_here cs) l) all in
-    let most = answer_of own c.as_slice-4.result.now steps c.in-Ok.answer.rounds.items c.in-Ok.answer.on_time c.in-Ok.answer.cover.items same c.in-Ok.ensures.most in
+    let times = ap (λ l. map times_of l) c.as_slice-4.ensures.value ∙ c.in_ok-part.ensures in
+    let most = answer_of cs c.as_slice-3.result.now (beside cs rs steps ps c.requires.legal c.requires.places) c.as_slice-4.result.now steps c.in-Ok.answer.on_time times all c.in-Ok.ensures.most.most in
     let kept : length c.as_slice.result.now ≡ length (on_time_places cs rs) = ap length (c.as_slice.ensures.value ∙ c.in_ok-beside.ensures) in
-    let few = on_time_few cs rs steps ps c.requires.legal c.requires.places c.in-Ok.answer.on_time most.most in
+    let few = on_time_few cs rs steps ps c.requires.legal c.requires.places c.in-Ok.answer.on_time most in
     most_saved cs rs steps ps c.requires.legal c.requires.places c.in-Ok.answer.on_time _ (λ x. (depth_bounds steps x c.at.ensures.steps).0) c.requires.taken.in_range
     (record {
       one = λ rounds k legal h late. c.law_of_verdicts.ensures.one own rounds steps k legal c.at.ensures.steps h late;
       some = λ rounds verdicts legal are. c.law_of_spares.ensures.some own rounds steps verdicts legal are;
     })
-    most.most (omega (arith, few, kept))
+    most (omega (arith, few, kept))
