@@ -27,7 +27,7 @@ from dataclasses import replace
 from cases import PROGRAM, SECONDS, ended
 from matching import Told, captures_of, command, run_of, text_of, waits
 
-EACH = "id,pid,dir,first,sectors,wait,overrun,cause,from,until,in_flight"
+EACH = "id,pid,dir,first,sectors,wait,overrun,cause,from,until,length,from_id,until_id,in_flight"
 # By whom a table is put together: what the requests have of it, and what the table is named.
 BY = {"pid": (lambda it: it.pid, "processes"), "cpu": (lambda it: it.cpu, "processors")}
 
@@ -117,6 +117,11 @@ class Blame:
     def between(self, low, high):
         low, high = self.at(low), self.at(high)
         return low, high, None if low is None or high is None else high - low
+
+    def since_due(self, place):
+        """When a request was due, when its last bio came in, and how much later."""
+        low, high = (max(it - self.told.begin, 0) for it in (self.deadlines[place], self.releases[place]))
+        return low, high, high - low
 
     def stalls(self):
         """After how many dispatches there was one, and how many requests stalled in it, the greatest first."""
@@ -251,10 +256,12 @@ class Blame:
             it = self.taken[place]
             way, low, high = it.span
             cause, gap = self.cause(place)
-            since, until = ("" if gap is None or self.at(at) is None else ms(self.at(at)) for at in gap or (0, 0))
+            spent = self.since_due(place) if cause == "arrival" else self.between(*gap or (0, 0))
+            times = ["" if it is None else ms(it) for it in spent]
+            ids = gap if cause == "full" else ("", "")
             wait = max(it.went - self.told.entry(it), 0)
             flying = self.flying(gap[0]) if cause == "stall" else ""
-            told = (way, low, high - low, ms(wait), ms(it.went - self.deadlines[place]), cause, since, until, flying)
+            told = (way, low, high - low, ms(wait), ms(it.went - self.deadlines[place]), cause, *times, *ids, flying)
             yield ",".join(map(str, (place + 1, it.pid, *told)))
 
     def spans_after(self, way, time):

@@ -17,6 +17,8 @@ late_of (p, Some cause) = Some (record {
   sectors = p.1.sectors;
   wait = p.1.dispatched - p.1.entry;
   overrun = p.1.dispatched - p.1.deadline;
+  deadline = p.1.deadline;
+  released = p.1.released;
   cause = cause;
 })
 

@@ -20,6 +20,8 @@ pub record AreNamesOfBlame : Type 0 where
   pub processors : own.PROCESSORS.now ≡ codes "processors"
   pub cpu : own.CPU.now ≡ codes "cpu"
   pub waited : own.WAITED.now ≡ codes "waited"
+  pub from_id : own.FROM_ID.now ≡ codes "from_id"
+  pub until_id : own.UNTIL_ID.now ≡ codes "until_id"
   pub in_flight : own.IN_FLIGHT.now ≡ codes "in_flight"
   pub least : own.LEAST.now ≡ codes "least"
   pub savable : own.SAVABLE.now ≡ codes "savable"

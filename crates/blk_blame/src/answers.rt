@@ -173,7 +173,7 @@ pub(crate) fn time_after(begin: u64, requests: &[CapturedRequest], count: u64) -
 }
 
 /// How long it is between two times, where both are known.
-fn time_between(from: Option<u64>, until: Option<u64>) -> Option<u64>
+pub(crate) fn time_between(from: Option<u64>, until: Option<u64>) -> Option<u64>
     ensures { result ≡ time_between from until }
 {
     match from {

@@ -29,6 +29,10 @@ pub struct LateRequest {
     pub wait: u64,
     /// How long after its deadline it went out.
     pub overrun: u64,
+    /// When it was due.
+    pub deadline: u64,
+    /// When it was released, by its last bio.
+    pub released: u64,
     /// Why.
     pub cause: Cause,
 }
@@ -46,6 +50,8 @@ fn late_of(command: Command, request: &CapturedRequest, cause: Option<Cause>) ->
             sectors: request.sectors,
             wait: request.dispatched.saturating_sub(request.entry),
             overrun: request.dispatched.saturating_sub(request.deadline),
+            deadline: request.deadline,
+            released: request.released,
             cause,
         }),
         None => None,

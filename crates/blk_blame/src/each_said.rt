@@ -4,12 +4,12 @@ ghost use Rattle.std.specs.Prelude.{ℕ, ◌≡◌, IfOk, OnOk, ◌++◌, ◌∷
 ghost use Rattle.std.specs.List.Sorted.{IsNonDecreasingBy};
 ghost use Rattle.blk_capture.specs.Requests.{AreTimed};
 ghost use Rattle.blk_capture.specs.Summaries.{back_by};
-ghost use Rattle.blk_blame.specs.EachSaid.{dir_value, cause_value, gap_from, gap_until, gap_flying, spoken, number_spoken, each_columns, each_row, each_part};
+ghost use Rattle.blk_blame.specs.EachSaid.{dir_value, cause_value, gap_from, gap_until, gap_length, first_id, last_id, gap_flying, spoken, number_spoken, each_columns, each_row, each_part};
 
-use crate::answers::{time_after, time_of_dispatch};
+use crate::answers::{time_after, time_between, time_of_dispatch};
 use crate::each::LateRequest;
 use crate::flying::in_flight_from;
-use crate::names::{CAUSE, IN_FLIGHT, OVERRUN, PID, STALL};
+use crate::names::{CAUSE, FROM_ID, IN_FLIGHT, LENGTH, OVERRUN, PID, STALL, UNTIL_ID};
 use answer::names::{
     ARRIVAL, DIR, FIRST, FROM, FULL, ID, LATE, READS, SECTORS, SPARE, UNTIL, WAIT, WRITES,
 };
@@ -41,25 +41,57 @@ fn cause_value(cause: Cause) -> Value
     }
 }
 
-/// When the dispatch before the time of one that stalled was, or the first of its window.
+/// When one that came in late was due, the dispatch before the time of one that stalled was, or the first of its full window.
 fn gap_from(begin: u64, requests: &[CapturedRequest], late: &LateRequest) -> Option<u64>
     ensures { result ≡ gap_from begin requests.now late.now }
 {
     match late.cause {
-        Cause::Arrival | Cause::Spare => None,
+        Cause::Arrival => Some(late.deadline.saturating_sub(begin)),
+        Cause::Spare => None,
         Cause::Stall => time_of_dispatch(begin, requests, late.command.due),
         Cause::Full(window) => time_of_dispatch(begin, requests, window.from),
     }
 }
 
-/// When the one after it was, or the last of its window.
+/// When its last bio came in, the one after it was, or the last of its window.
 fn gap_until(begin: u64, requests: &[CapturedRequest], late: &LateRequest) -> Option<u64>
     ensures { result ≡ gap_until begin requests.now late.now }
 {
     match late.cause {
-        Cause::Arrival | Cause::Spare => None,
+        Cause::Arrival => Some(late.released.saturating_sub(begin)),
+        Cause::Spare => None,
         Cause::Stall => time_after(begin, requests, late.command.due),
         Cause::Full(window) => time_of_dispatch(begin, requests, window.due),
+    }
+}
+
+/// How long it is from the one to the other.
+fn gap_length(begin: u64, requests: &[CapturedRequest], late: &LateRequest) -> Option<u64>
+    ensures { result ≡ gap_length begin requests.now late.now }
+{
+    time_between(
+        gap_from(begin, requests, late),
+        gap_until(begin, requests, late),
+    )
+}
+
+/// The number of the first dispatch of its full window.
+fn first_id(late: &LateRequest) -> Option<u64>
+    ensures { result ≡ first_id late.now }
+{
+    match late.cause {
+        Cause::Arrival | Cause::Stall | Cause::Spare => None,
+        Cause::Full(window) => Some(window.from),
+    }
+}
+
+/// The number of the last.
+fn last_id(late: &LateRequest) -> Option<u64>
+    ensures { result ≡ last_id late.now }
+{
+    match late.cause {
+        Cause::Arrival | Cause::Stall | Cause::Spare => None,
+        Cause::Full(window) => Some(window.due),
     }
 }
 
@@ -103,7 +135,8 @@ fn each_columns(alloc: Global) -> Result<Vec<Column>, AllocError>
     record_columns(
         alloc,
         &[
-            ID, PID, DIR, FIRST, SECTORS, WAIT, OVERRUN, CAUSE, FROM, UNTIL, IN_FLIGHT,
+            ID, PID, DIR, FIRST, SECTORS, WAIT, OVERRUN, CAUSE, FROM, UNTIL, LENGTH, FROM_ID,
+            UNTIL_ID, IN_FLIGHT,
         ],
     )
 }
@@ -134,6 +167,9 @@ fn each_row(
             cause_value(late.cause),
             spoken(gap_from(begin, requests, late)),
             spoken(gap_until(begin, requests, late)),
+            spoken(gap_length(begin, requests, late)),
+            number_spoken(first_id(late)),
+            number_spoken(last_id(late)),
             number_spoken(gap_flying(requests, completions, late)),
         ],
     )?;

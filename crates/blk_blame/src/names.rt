@@ -36,6 +36,10 @@ pub const PROCESSORS: &str = "processors";
 pub const CPU: &str = "cpu";
 /// In which share of the time at least one request waited.
 pub const WAITED: &str = "waited";
+/// The number of the first dispatch of a window.
+pub const FROM_ID: &str = "from_id";
+/// The number of the last.
+pub const UNTIL_ID: &str = "until_id";
 /// How many requests were at the device.
 pub const IN_FLIGHT: &str = "in_flight";
 /// The fewest late requests of a process, or of a processor, in any order.
