@@ -43,17 +43,17 @@ until_by begin requests l Spare = None
 until_by begin requests l (Full w) = time_of_dispatch begin requests w.due
 
 -- the numbers of the first and the last dispatch of a full window
-abbrev pub first_by : Cause → Option ℕ
-first_by Arrival = None
-first_by Stall = None
-first_by Spare = None
-first_by (Full w) = Some w.from
+abbrev pub first_number_by : Cause → Option ℕ
+first_number_by Arrival = None
+first_number_by Stall = None
+first_number_by Spare = None
+first_number_by (Full w) = Some w.from
 
-abbrev pub last_by : Cause → Option ℕ
-last_by Arrival = None
-last_by Stall = None
-last_by Spare = None
-last_by (Full w) = Some w.due
+abbrev pub last_number_by : Cause → Option ℕ
+last_number_by Arrival = None
+last_number_by Stall = None
+last_number_by Spare = None
+last_number_by (Full w) = Some w.due
 
 -- and how many were at the device when its stall began
 abbrev pub flying_by : List CapturedRequest → Cause → ℕ → Option ℕ
@@ -71,11 +71,11 @@ gap_until begin requests l = until_by begin requests l l.cause
 abbrev pub gap_length : ℕ → List CapturedRequest → LateRequest → Option ℕ
 gap_length begin requests l = time_between (gap_from begin requests l) (gap_until begin requests l)
 
-abbrev pub first_id : LateRequest → Option ℕ
-first_id l = first_by l.cause
+abbrev pub first_number : LateRequest → Option ℕ
+first_number l = first_number_by l.cause
 
-abbrev pub last_id : LateRequest → Option ℕ
-last_id l = last_by l.cause
+abbrev pub last_number : LateRequest → Option ℕ
+last_number l = last_number_by l.cause
 
 abbrev pub gap_flying : List CapturedRequest → LateRequest → Option ℕ
 gap_flying requests l = flying_by requests l.cause l.command.due
@@ -94,7 +94,7 @@ each_columns = record_columns (names.ID.now ∷ own.PID.now ∷ names.DIR.now �
 abbrev pub each_row : ℕ → List CapturedRequest → LateRequest → List Value
 each_row begin requests l =
     Count l.command.id ∷ Count l.pid ∷ dir_value l.dir ∷ Count l.first ∷ Count l.sectors ∷ Time l.wait ∷ Time l.overrun ∷ cause_value l.cause
-    ∷ spoken (gap_from begin requests l) ∷ spoken (gap_until begin requests l) ∷ spoken (gap_length begin requests l) ∷ number_spoken (first_id l) ∷ number_spoken (last_id l) ∷ number_spoken (gap_flying requests l) ∷ []
+    ∷ spoken (gap_from begin requests l) ∷ spoken (gap_until begin requests l) ∷ spoken (gap_length begin requests l) ∷ number_spoken (first_number l) ∷ number_spoken (last_number l) ∷ number_spoken (gap_flying requests l) ∷ []
 
 abbrev pub each_part : ℕ → List CapturedRequest → List LateRequest → Part
 each_part begin requests lates = Rows (record { name = names.LATE.now; columns = each_columns; head = true; rows = map (each_row begin requests) lates })

@@ -4,7 +4,7 @@ ghost use Rattle.std.specs.Prelude.{ℕ, ◌≡◌, IfOk, OnOk, ◌++◌, ◌∷
 ghost use Rattle.std.specs.List.Sorted.{IsNonDecreasingBy};
 ghost use Rattle.blk_capture.specs.Requests.{AreTimed};
 ghost use Rattle.blk_capture.specs.Summaries.{back_by};
-ghost use Rattle.blk_blame.specs.EachSaid.{dir_value, cause_value, gap_from, gap_until, gap_length, first_id, last_id, gap_flying, spoken, number_spoken, each_columns, each_row, each_part};
+ghost use Rattle.blk_blame.specs.EachSaid.{dir_value, cause_value, gap_from, gap_until, gap_length, first_number, last_number, gap_flying, spoken, number_spoken, each_columns, each_row, each_part};
 
 use crate::answers::{time_after, time_between, time_of_dispatch};
 use crate::each::LateRequest;
@@ -76,8 +76,8 @@ fn gap_length(begin: u64, requests: &[CapturedRequest], late: &LateRequest) -> O
 }
 
 /// The number of the first dispatch of its full window.
-fn first_id(late: &LateRequest) -> Option<u64>
-    ensures { result ≡ first_id late.now }
+fn first_number(late: &LateRequest) -> Option<u64>
+    ensures { result ≡ first_number late.now }
 {
     match late.cause {
         Cause::Arrival | Cause::Stall | Cause::Spare => None,
@@ -86,8 +86,8 @@ fn first_id(late: &LateRequest) -> Option<u64>
 }
 
 /// The number of the last.
-fn last_id(late: &LateRequest) -> Option<u64>
-    ensures { result ≡ last_id late.now }
+fn last_number(late: &LateRequest) -> Option<u64>
+    ensures { result ≡ last_number late.now }
 {
     match late.cause {
         Cause::Arrival | Cause::Stall | Cause::Spare => None,
@@ -168,8 +168,8 @@ fn each_row(
             spoken(gap_from(begin, requests, late)),
             spoken(gap_until(begin, requests, late)),
             spoken(gap_length(begin, requests, late)),
-            number_spoken(first_id(late)),
-            number_spoken(last_id(late)),
+            number_spoken(first_number(late)),
+            number_spoken(last_number(late)),
             number_spoken(gap_flying(requests, completions, late)),
         ],
     )?;

@@ -7,17 +7,17 @@ use Rattle.edd_commands.specs.declared.steps.Step.{Step}
 use Rattle.edd_commands.specs.Schedule.{IsLegal}
 use Rattle.edd_check.specs.OnTime.{number_on_time, is_on_time, IsMostOnTime}
 use Rattle.edd_oracle.proofs.Pairs.{pair_at, length_pairs}
-use Rattle.edd_blame.specs.Inside.{times_of}
+use Rattle.edd_blame.specs.Inside.{release_and_due}
 use Rattle.edd_blame.proofs.Causing.{nobody}
 use Rattle.edd_blame.proofs.Parting.{count_same}
 
-module _ (own list : List Command) (same : map times_of list ≡ map times_of own) where
+module _ (own list : List Command) (same : map release_and_due list ≡ map release_and_due own) where
   long : length list ≡ length own
-  long = sym (length-map list times_of) ∙ ap length same ∙ length-map own times_of
+  long = sym (length-map list release_and_due) ∙ ap length same ∙ length-map own release_and_due
 
-  times_at : (k : ℕ) (c d : Command) → k < length own → times_of (get_or list k c) ≡ times_of (get_or own k d)
+  times_at : (k : ℕ) (c d : Command) → k < length own → release_and_due (get_or list k c) ≡ release_and_due (get_or own k d)
   times_at k c d h =
-      sym (get_or-map times_of list k c (0, 0) (omega (arith, h, long))) ∙ ap (λ l. get_or l k (0, 0)) same ∙ get_or-map times_of own k d (0, 0) h
+      sym (get_or-map release_and_due list k c (0, 0) (omega (arith, h, long))) ∙ ap (λ l. get_or l k (0, 0)) same ∙ get_or-map release_and_due own k d (0, 0) h
 
   release_at : (k : ℕ) (c d : Command) → k < length own → (get_or list k c).release ≡ (get_or own k d).release
   release_at k c d h = ap (λ (t : ℕ × ℕ). t.0) (times_at k c d h)

@@ -33,5 +33,5 @@ unfoldable pub late_places : List Command → List ℕ → List ℕ → List ℕ
 late_places commands rounds places = filter (is_late_at commands rounds) places
 
 -- when a command is released and due, whatever its id
-abbrev pub times_of : Command → ℕ × ℕ
-times_of c = (c.release, c.due)
+abbrev pub release_and_due : Command → ℕ × ℕ
+release_and_due c = (c.release, c.due)

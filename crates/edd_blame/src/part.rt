@@ -4,7 +4,7 @@ ghost use Rattle.std.specs.Prelude.{◌≡◌, IfOk, length, map};
 ghost use Rattle.edd_commands.specs.Schedule.{IsLegal};
 ghost use Rattle.edd_oracle.specs.Input.{IsTaken};
 ghost use Rattle.edd_blame.specs.Parts.{command_here, ArePlaces, IsLeastLateAt, IsMostSavedAt, IsLeastLateBeside, marked_places, other_places};
-ghost use Rattle.edd_blame.specs.Inside.{on_time_places, late_places, times_of};
+ghost use Rattle.edd_blame.specs.Inside.{on_time_places, late_places, release_and_due};
 
 use edd_commands::{Capacity, Command};
 use edd_oracle::most_on_time;
@@ -34,7 +34,7 @@ fn numbered_at<A: Allocator>(
     places: &[usize],
 ) -> Result<Vec<Command, A>, AllocError>
     requires { ArePlaces (length commands.now) places.now }
-    ensures { IfOk result (λ v. map times_of v.items ≡ map (λ k. times_of (command_here commands.now k)) places.now) }
+    ensures { IfOk result (λ v. map release_and_due v.items ≡ map (λ k. release_and_due (command_here commands.now k)) places.now) }
 {
     let mut part = Vec::with_capacity(alloc, places.len())?;
     for (number, place) in places.iter().enumerate() {
