@@ -10,7 +10,7 @@ ghost use Rattle.edd_figures.specs.Figures.{AreFigures};
 
 use edd_check::{Window, greatest_lateness, load};
 use edd_commands::{Capacity, Command};
-use edd_oracle::{Answer, solve};
+use edd_oracle::{Answer, solve_taken};
 use std::alloc::{AllocError, Allocator};
 
 /// How late the latest command of a schedule is, and how late it had to be.
@@ -59,7 +59,7 @@ fn compared<A: Allocator, B: Allocator>(
 
 /// How late the latest command of a legal schedule is, and how late it had to be; there is nothing to tell exactly where there are no
 /// commands. The commands are as the oracle takes them, and the rounds below [`edd_commands::MAX_ROUNDS`]. The window is that of the
-/// latest command in the oracle's own schedule ([`solve`]). Fails only when out of memory. The time grows as n log n in the number of commands.
+/// latest command in the oracle's own schedule ([`solve_taken`]). Fails only when out of memory. The time grows as n log n in the number of commands.
 pub fn figures_of<A: Allocator + Clone, B: Allocator>(
     alloc: A,
     commands: &[Command],
@@ -72,10 +72,9 @@ pub fn figures_of<A: Allocator + Clone, B: Allocator>(
     ensures none { IfOk result (λ found. IsNone found ↔ (commands.now ≡ [])) }
     ensures are { IfOk result (λ found. IfSome found (AreFigures commands.now rounds.now capacity.now)) }
 {
-    match solve(alloc, commands, capacity) {
+    match solve_taken(alloc, commands, capacity) {
         Ok(None) => Ok(None),
         Ok(Some(answer)) => Ok(Some(compared(commands, rounds, capacity, &answer))),
-        // commands within the limits of the oracle are refused only when out of memory
         Err(_) => Err(AllocError),
     }
 }

@@ -12,7 +12,7 @@ ghost use Rattle.edd_figures.specs.Inside.Placed.{IsPlaceOf};
 
 use edd_check::{Window, carried_in, number_on_time};
 use edd_commands::{Capacity, Command};
-use edd_oracle::{MostOnTime, most_on_time};
+use edd_oracle::{MostOnTime, most_on_time_taken};
 use edd_verdict::{Verdict, law_of_spares, law_of_verdicts, verdicts};
 use std::alloc::{AllocError, Allocator, Global};
 
@@ -211,8 +211,7 @@ pub fn misses_of<A: Allocator + Clone, B: Allocator>(
     ensures some { IfOk result (λ m. (0 < m.counts.avoidable) ↔ (0 < m.counts.spare)) }
 {
     law_of_spares();
-    // commands within the limits of the oracle are refused only when out of memory
-    let Ok(answer) = most_on_time(alloc.clone()?, commands, capacity) else {
+    let Ok(answer) = most_on_time_taken(alloc.clone()?, commands, capacity) else {
         return Err(AllocError);
     };
     let spare = spare_of(alloc.clone()?, commands, rounds, capacity, answer.on_time)?;

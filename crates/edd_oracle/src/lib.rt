@@ -24,7 +24,7 @@ mod window;
 pub use cover::Served;
 use edd_check::{Window, law_of_covers, law_of_crowded_windows, number_on_time};
 use edd_commands::{Capacity, Command, variant_name};
-use std::alloc::{Allocator, Global};
+use std::alloc::{AllocError, Allocator, Global};
 
 /// Why a list is refused, in the order in which the reasons are looked for.
 #[derive(Clone, Copy, Debug, PartialEq, Eq)]
@@ -96,18 +96,36 @@ pub fn solve<A: Allocator + Clone, B: Allocator>(
     if let Err(fault) = input::accept(&alloc, commands) {
         return Err(fault);
     }
+    match solve_taken(alloc, commands, capacity) {
+        Ok(found) => Ok(found),
+        Err(_) => Err(OracleFault::Memory),
+    }
+}
+
+/// Schedules commands that [`solve`] takes, as it does, without looking whether it takes them. Fails only when out of memory.
+pub fn solve_taken<A: Allocator + Clone, B: Allocator>(
+    alloc: A,
+    commands: &[Command],
+    capacity: &Capacity<B>,
+) -> Result<Option<Answer<A>>, AllocError>
+    requires { IsTaken commands.now }
+    ensures none { IfOk result (λ found. IsNone found ↔ (commands.now ≡ [])) }
+    ensures best { IfOk result (λ found. IfSome found (IsBestAnswer commands.now capacity.now)) }
+    ensures first { IfOk result (λ found. IfSome found (HasDueFirst commands.now capacity.now)) }
+    ensures latest { IfOk result (λ found. IfSome found (HasLatestWindow commands.now capacity.now)) }
+{
     if commands.is_empty() {
         return Ok(None);
     }
     let Ok(alloc_window) = alloc.clone() else {
-        return Err(OracleFault::Memory);
+        return Err(AllocError);
     };
     let Ok(rounds) = queue::schedule(alloc, commands, capacity) else {
-        return Err(OracleFault::Memory);
+        return Err(AllocError);
     };
     let latest = window::latest_window(alloc_window, commands, rounds.as_slice(), capacity);
     let Ok((lateness, window)) = latest else {
-        return Err(OracleFault::Memory);
+        return Err(AllocError);
     };
     law_of_crowded_windows(commands, capacity, lateness, window);
     Ok(Some(Answer {
@@ -181,14 +199,31 @@ pub fn most_on_time<A: Allocator + Clone, B: Allocator>(
     if let Err(fault) = input::accept(&alloc, commands) {
         return Err(fault);
     }
+    match most_on_time_taken(alloc, commands, capacity) {
+        Ok(answer) => Ok(answer),
+        Err(_) => Err(OracleFault::Memory),
+    }
+}
+
+/// Schedules commands that [`most_on_time`] takes, as it does, without looking whether it takes them. Fails only when out of memory.
+pub fn most_on_time_taken<A: Allocator + Clone, B: Allocator>(
+    alloc: A,
+    commands: &[Command],
+    capacity: &Capacity<B>,
+) -> Result<MostOnTime<A>, AllocError>
+    requires { IsTaken commands.now }
+    ensures most { IfOk result (IsMostOf commands.now capacity.now) }
+    ensures first { IfOk result (λ answer. IsOnTimeFirst commands.now answer.rounds.items capacity.now) }
+    ensures cover { IfOk result (HasPassedCover commands.now capacity.now) }
+{
     let Ok(alloc_cover) = alloc.clone() else {
-        return Err(OracleFault::Memory);
+        return Err(AllocError);
     };
     let Ok(rounds) = queue::schedule_on_time(alloc, commands, capacity) else {
-        return Err(OracleFault::Memory);
+        return Err(AllocError);
     };
     let Ok(cover) = cover::cover(alloc_cover, commands, rounds.as_slice(), capacity) else {
-        return Err(OracleFault::Memory);
+        return Err(AllocError);
     };
     let on_time = number_on_time(commands, rounds.as_slice());
     law_of_covers(commands, capacity, cover.as_slice());

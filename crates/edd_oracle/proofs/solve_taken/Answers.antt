@@ -3,7 +3,7 @@ use Rattle.std.specs.Prelude.{ℤ}
 use Rattle.std.proofs.lemmas.Int.{to_z-of_z}
 use Rattle.edd_commands.specs.Schedule.{IsLegal, IsGreatestLateness, IsLowerBound}
 use Rattle.edd_check.specs.Window.{IsCrowded}
-use Rattle.edd_oracle.proofs.solve.Goals as goal
+use Rattle.edd_oracle.proofs.solve_taken.Goals as goal
 
 pub returns-clause-best : goal.returns-clause-best
 returns-clause-best g c =

@@ -3,7 +3,7 @@ use Rattle.edd_check.specs.declared.Window.{Window}
 use Rattle.edd_check.specs.OnTime.{number_on_time, bound_of, IsOnTimeBound}
 use Rattle.edd_oracle.specs.OnTime.{IsPassedCover}
 use Rattle.edd_oracle.proofs.Bound.{most_answer}
-use Rattle.edd_oracle.proofs.most_on_time.Goals as goal
+use Rattle.edd_oracle.proofs.most_on_time_taken.Goals as goal
 
 pub returns-clause-most : goal.returns-clause-most
 returns-clause-most g c =
