@@ -1,9 +1,11 @@
 -- How many commands of each direction are in flight after one more event.
 use Rattle.std.proofs.Common.{◌≡◌, ◌<◌, ◌≤◌, ◌+◌, ◌++◌, ◌==◌, ℕ, List, [], ◌∷◌, refl, sym, ◌∙◌, ap, subst, arith, inl, inr, Some, None, append-nil, cond, Bool, true, false, ne_eqb, eq-eqb, eqb-true}
-use Rattle.std.specs.Prelude.{Option, is_some, ◌&&◌, not, count_by}
+use Rattle.std.specs.Prelude.{Option, is_some, ◌&&◌, not, count_by, ◌↔◌, IsTrue}
+use lib.Dec.{ltb}
 use Rattle.std.specs.List.{filter_map, cons_option}
 use Rattle.std.proofs.lemmas.List.Elements.{filter_map-append}
-use Rattle.std.proofs.lemmas.Bool.{cases_Bool}
+use Rattle.std.proofs.lemmas.Bool.{cases_Bool, cases_lt, ltb-true, lt-ltb}
+use Rattle.std.proofs.lemmas.List.Sums.{sum_by-cons}
 use Rattle.blk_bio.specs.Bios.{Bio}
 use Rattle.blk_bio.specs.declared.bio.Dir.{Dir}
 use Rattle.blk_bio.specs.declared.bio.Dir.TheVariants.{Read, Write}
@@ -226,6 +228,50 @@ open_positive setup events tag legal o =
     let flying : flies events p.0 tag ≡ true = ap (is_flying p.0) p.1 ∙ same_self p.0 in
     let some : 0 < flying_of events p.0 = rw (open_is events p.0) (count_positive (flies events p.0) tag (tags events) flying one) in
     omega (arith, either_dir events p.0 some, open-both setup events legal)
+
+-- and where a command is in flight, a tag is open
+counted : (p : ℕ → Bool) (xs : List ℕ) → 0 < count_by p xs → (t : ℕ) × (p t ≡ true)
+counted p [] some = absurd (omega arith)
+counted p (x ∷ xs) some =
+    elim (cases_Bool (p x)) [
+      | inl b ↦ (x, b)
+      | inr b ↦
+          let all : count_by p (x ∷ xs) ≡ one_if (p x) + count_by p xs = sum_by-cons (λ y. cond (p y) 1 0) x xs in
+          let none : one_if (p x) ≡ 0 = ap one_if b in
+          counted p xs (omega (arith, all, none, some))
+    ]
+
+flown : (d : Dir) (o : Option RoundSeat) → is_flying d o ≡ true → (seat : RoundSeat) × (o ≡ Some seat) × (seat.in_flight ≡ true)
+flown d None h = absurd (cc)
+flown d (Some seat) h =
+    elim (cases_Bool seat.in_flight) [
+      | inl b ↦ (seat, refl, b)
+      | inr b ↦ absurd (let n : is_flying d (Some seat) ≡ false = and_no (same_dir d seat.dir) seat.in_flight b in cc)
+    ]
+
+not_ended : (b : Bool) → true ≡ not b → b ≡ false
+not_ended true h = absurd (cc)
+not_ended false h = refl
+
+open_in : (setup : Setup) (events : List Happened) (d : Dir) → IsLegalTrace setup events → 0 < flying_of events d → (tag : ℕ) × IsOpen events tag
+open_in setup events d legal some =
+    let found = counted (flies events d) (tags events) (subst (λ (n : ℕ). 0 < n) (open_is events d) some) in
+    let flying = flown d (seat_at events found.0) found.1 in
+    let was : IsSeat events found.0 flying.0 = seat_parts events found.0 flying.0 flying.1 in
+    (found.0, (steady setup events legal).opens found.0 was.id was.taken_is (not_ended (ended events found.0) (sym flying.2 ∙ was.flying_is)))
+
+open_one : (setup : Setup) (events : List Happened) → IsLegalTrace setup events → 0 < open_count events → (tag : ℕ) × IsOpen events tag
+open_one setup events legal some =
+    elim (cases_lt 0 (flying_of events Read)) [
+      | inl reads ↦ open_in setup events Read legal reads
+      | inr none ↦ open_in setup events Write legal (omega (arith, open-both setup events legal, none, some))
+    ]
+
+pub open_by_count : (setup : Setup) (events : List Happened) (n : ℕ) → IsLegalTrace setup events → n ≡ open_count events → IsTrue (ltb 0 n) ↔ ((tag : ℕ) × IsOpen events tag)
+open_by_count setup events n legal is = (
+  λ t. open_one setup events legal (let some : 0 < n = ltb-true 0 n t in omega (arith, is, some)),
+  λ o. lt-ltb 0 n (let some = open_positive setup events o.0 legal o.1 in omega (arith, is, some)),
+)
 
 -- a legal list ends no more Issues than it has
 pub open_issues : (setup : Setup) (events : List Happened) → IsLegalTrace setup events → count_by is_end events ≤ count_by is_issue events

@@ -1,7 +1,9 @@
 -- How a tag stands with one more event.
-use Rattle.std.proofs.Common.{◌≡◌, ◌≢◌, ◌<◌, ◌+◌, ◌++◌, ℕ, zero, suc, List, [], ◌∷◌, length, take, refl, sym, ◌∙◌, ap, subst, arith, inl, inr, Some, None, cond, true, false, set}
+use Rattle.std.proofs.Common.{◌≡◌, ◌≢◌, ◌<◌, ◌≤◌, ◌+◌, ◌++◌, ℕ, zero, suc, List, [], ◌∷◌, length, take, refl, sym, ◌∙◌, ap, subst, arith, inl, inr, Some, None, cond, true, false, set}
 use Rattle.std.specs.Prelude.{slice_get, ◌⊎◌, replicate}
 use Rattle.std.proofs.lemmas.Option.{slice_get_within}
+use Rattle.std.proofs.lemmas.List.{length-set}
+use Rattle.std.proofs.lemmas.Bool.{cases_lt}
 use Rattle.blk_trace.specs.declared.tags.TagUse.{TagUse}
 use Rattle.blk_trace.specs.declared.tags.TagUse.TheVariants.{Free, Open, Ended}
 use Rattle.blk_trace.specs.Happened.{Happened, Tick, Issue}
@@ -9,9 +11,7 @@ use Rattle.blk_trace.specs.Kinds.{issues, ends}
 use Rattle.blk_trace.specs.Setups.{Setup}
 use Rattle.blk_trace.specs.Events.{is_tick, round_of, IsOpen, IsUsed, IsOpenBy}
 use Rattle.blk_trace.specs.Legal.{IsLegalTrace}
-use Rattle.blk_trace.specs.Inside.Kept.{IsTagUse, is_open_use}
-use Rattle.std.specs.List.{list_any}
-use Rattle.std.proofs.lemmas.Bool.{or_cases, or_left, or_right}
+use Rattle.blk_trace.specs.Inside.Kept.{IsTagUse, LeavesFree}
 use Rattle.blk_trace.proofs.Places.{split, keep, last, before, before_last}
 use Rattle.blk_trace.proofs.Words.{OnlyEnds, only_ends, issues_not, ends_not, split_end}
 use Rattle.blk_trace.proofs.Seats.{was_open, closed}
@@ -145,21 +145,68 @@ open_found setup es tags legal each h tag o =
 pub tags_empty : (n : ℕ) → TagsAre [] (replicate n Free)
 tags_empty n tag u h = subst (IsTagUse [] tag) (replicate_at n Free tag u h) (λ x. absurd (let p = x.issued in cc), λ x. absurd (let p = x.issued in cc))
 
--- whether a tag is kept as open
-open_use : (u : TagUse) → is_open_use u ≡ true → (id : ℕ) × (u ≡ Open id)
-open_use Free h = absurd (cc)
-open_use (Open id) h = (id, refl)
-open_use Ended h = absurd (cc)
+-- a bound from which on tags are free: none is below it in a new round, and each other one is at an Issue
+pub free_replicate : (n : ℕ) → LeavesFree 0 (replicate n Free)
+free_replicate n = record { within = omega arith; free = λ tag u from at. sym (replicate_at n Free tag u at) }
 
-pub any_found : (tags : List TagUse) → list_any is_open_use tags ≡ true → (tag id : ℕ) × (slice_get tags tag ≡ Some (Open id))
-any_found [] h = absurd (cc)
-any_found (u ∷ tags) h =
-    elim (or_cases (is_open_use u) (list_any is_open_use tags) h) [
-      | inl b ↦ let p = open_use u b in (0, p.0, ap Some p.1)
-      | inr b ↦ let p = any_found tags b in (suc p.0, p.1, p.2)
+pub free_set : (bound above tag : ℕ) (x : TagUse) (tags : List TagUse) → bound ≤ above → tag < above → above ≤ length tags → LeavesFree bound tags → LeavesFree above (set tags tag x)
+free_set bound above tag x tags le low within f = record {
+  within = subst (λ (n : ℕ). above ≤ n) (sym (length-set tags tag x)) within;
+  free = λ t u from at.
+      elim (written tags tag x t u at) [
+        | inl here ↦ absurd (omega (arith, here.0, from, low))
+        | inr other ↦ f.free t u (omega (arith, le, from)) other.1
+      ];
+}
+
+-- an open tag is below it
+pub open_below : (setup : Setup) (es : List Happened) (tags : List TagUse) (bound : ℕ) → IsLegalTrace setup es → length tags ≡ setup.depth → TagsAre es tags → LeavesFree bound tags → (tag : ℕ) → IsOpen es tag → tag < bound
+open_below setup es tags bound legal each h f tag o =
+    let found = open_found setup es tags legal each h tag o in
+    elim (cases_lt tag bound) [
+      | inl low ↦ low
+      | inr above ↦ absurd (let e : Open found.0 ≡ Free = f.free tag (Open found.0) above found.1 in cc)
     ]
 
-pub found_any : (tags : List TagUse) (tag id : ℕ) → slice_get tags tag ≡ Some (Open id) → list_any is_open_use tags ≡ true
-found_any [] tag id h = absurd (cc)
-found_any (u ∷ tags) zero id h = let same : u ≡ Open id = cc in or_left (is_open_use u) _ (ap is_open_use same)
-found_any (u ∷ tags) (suc tag) id h = or_right (is_open_use u) _ (found_any tags tag id h)
+pub free_ended : (setup : Setup) (es : List Happened) (tags : List TagUse) (bound : ℕ) → IsLegalTrace setup es → length tags ≡ setup.depth → TagsAre es tags → LeavesFree bound tags → (tag : ℕ) → IsOpen es tag → LeavesFree bound (set tags tag Ended)
+free_ended setup es tags bound legal each h f tag o = free_set bound bound tag Ended tags (omega arith) (open_below setup es tags bound legal each h f tag o) f.within f
+
+-- tags that were freed up to a place
+pub record AreFreedTo (place bound : ℕ) (old tags : List TagUse) : Type 0 where
+  pub long : length tags ≡ length old
+  pub free : (tag : ℕ) (u : TagUse) → (tag < place) ⊎ (bound ≤ tag) → slice_get tags tag ≡ Some u → u ≡ Free
+
+pub freed_none : (bound : ℕ) (tags : List TagUse) → LeavesFree bound tags → AreFreedTo 0 bound tags tags
+freed_none bound tags f = record {
+  long = refl;
+  free = λ tag u where_is at. elim where_is [ inl low ↦ absurd (omega (arith, low)) | inr above ↦ f.free tag u above at ];
+}
+
+pub freed_next : (place bound : ℕ) (old tags : List TagUse) → AreFreedTo place bound old tags → AreFreedTo (place + 1) bound old (set tags place Free)
+freed_next place bound old tags f = record {
+  long = length-set tags place Free ∙ f.long;
+  free = λ tag u where_is at.
+      elim (written tags place Free tag u at) [
+        | inl here ↦ sym here.1
+        | inr other ↦
+            elim where_is [
+              | inl low ↦ f.free tag u (inl (let apart = other.0 in below_other tag place low apart)) other.1
+              | inr above ↦ f.free tag u (inr above) other.1
+            ]
+      ];
+}
+  where
+    below_other : (tag place : ℕ) → tag < place + 1 → tag ≢ place → tag < place
+    below_other tag place low apart = elim (cases_lt tag place) [ inl less ↦ less | inr le ↦ absurd (apart (omega (arith, low, le))) ]
+
+all_free : (tags : List TagUse) → ((tag : ℕ) (u : TagUse) → slice_get tags tag ≡ Some u → u ≡ Free) → tags ≡ replicate (length tags) Free
+all_free [] h = refl
+all_free (u ∷ us) h =
+    let first : u ≡ Free = h 0 u refl in
+    let rest : us ≡ replicate (length us) Free = all_free us (λ k x at. h (suc k) x at) in
+    cc
+
+pub freed_all : (place bound : ℕ) (old tags : List TagUse) → bound ≤ place → AreFreedTo place bound old tags → tags ≡ replicate (length old) Free
+freed_all place bound old tags all f =
+    all_free tags (λ tag u at. elim (cases_lt tag place) [ inl low ↦ f.free tag u (inl low) at | inr above ↦ f.free tag u (inr (omega (arith, all, above))) at ])
+    ∙ ap (λ (n : ℕ). replicate n Free) f.long

@@ -1,8 +1,9 @@
 //! How the tags of a round stand.
 
-ghost use Rattle.std.specs.Prelude.{◌≡◌};
-ghost use Rattle.std.specs.List.{list_any};
-ghost use Rattle.blk_trace.specs.Inside.Kept.{is_open_use};
+ghost use Rattle.std.specs.Prelude.{ℕ, ◌≡◌, ◌≤◌, ◌<◌, length, replicate};
+ghost use Rattle.blk_trace.specs.Inside.Kept.{LeavesFree};
+
+use std::alloc::Allocator;
 
 /// How a tag stands in the current round.
 #[derive(Clone, Copy, Debug, PartialEq, Eq)]
@@ -15,22 +16,22 @@ pub enum TagUse {
     Ended,
 }
 
-impl TagUse {
-    /// Whether an Issue has it whose end is to come.
-    fn is_open(&self) -> bool
-        ensures { result ≡ is_open_use self.now }
-    {
-        match self {
-            TagUse::Free => false,
-            TagUse::Open(_) => true,
-            TagUse::Ended => false,
-        }
+/// Frees the tags below the bound, from which on all are free.
+pub(crate) fn free_below<A: Allocator>(tags: &mut Vec<TagUse, A>, bound: usize)
+    requires { LeavesFree bound tags.old.items }
+    ensures { tags.new.items ≡ replicate (length tags.old.items) TagUse.Free }
+{
+    for tag in 0..bound {
+        tags[tag] = TagUse::Free;
     }
 }
 
-/// Whether a tag is open.
-pub(crate) fn any_open(tags: &[TagUse]) -> bool
-    ensures { result ≡ list_any is_open_use tags.now }
+/// The least bound that is no lower and past a tag.
+pub(crate) fn past(bound: usize, tag: u16) -> usize
+    ensures higher { bound ≤ result }
+    ensures past { tag < result }
+    ensures least { (n : ℕ) → bound ≤ n → tag < n → result ≤ n }
 {
-    tags.iter().any(|tag| tag.is_open())
+    let tag = tag as usize;
+    if tag < bound { bound } else { tag + 1 }
 }

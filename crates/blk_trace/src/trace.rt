@@ -57,6 +57,8 @@ pub struct Trace<A: Allocator = Global> {
     ids: IdSet<A>,
     /// How each tag stands in the current round.
     tags: Vec<TagUse, A>,
+    /// Tags from this one on had no Issue in the current round.
+    unused_from: usize,
     /// The current round.
     round: u64,
     /// How many commands it carries.
@@ -102,6 +104,7 @@ impl<A: Allocator + Clone> Trace<A> {
             known,
             ids,
             tags,
+            unused_from: 0,
             round: 0,
             depth,
             next_depth: depth,

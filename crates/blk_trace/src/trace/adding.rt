@@ -18,7 +18,7 @@ ghost use Rattle.blk_trace.specs.Inside.Kept.{known_of, requeued_known, has_name
 
 use crate::event::Event;
 use crate::known::{Known, Unissued};
-use crate::tags::TagUse;
+use crate::tags::{TagUse, free_below, past};
 use crate::trace::{Prepared, Trace};
 use blk_bio::{Bio, Request};
 use blk_ids::{ById, IdSet};
@@ -57,7 +57,8 @@ impl<A: Allocator + Clone> Trace<A> {
     {
         self.round += 1;
         self.depth = self.next_depth;
-        self.tags.fill(TagUse::Free);
+        free_below(&mut self.tags, self.unused_from);
+        self.unused_from = 0;
         append(&mut self.events, Event::Tick);
         self.prepared = Prepared::Nothing;
     }
@@ -121,6 +122,7 @@ impl<A: Allocator + Clone> Trace<A> {
         append(&mut self.commands, command);
         append(&mut self.rounds, self.round);
         self.tags[tag as usize] = TagUse::Open(id);
+        self.unused_from = past(self.unused_from, tag);
         self.open += 1;
         append(&mut self.events, Event::Issue { id, tag });
         self.prepared = Prepared::Nothing;

@@ -12,7 +12,7 @@ ghost use Rattle.blk_trace.specs.Inside.Kept.{known_of, IsTagUse, has_bio_id};
 
 use crate::event::Event;
 use crate::known::Known;
-use crate::tags::{TagUse, any_open};
+use crate::tags::TagUse;
 use crate::trace::{MAX_EVENTS, Trace};
 use blk_bio::{Bio, BioId, Request, TraceRule};
 use std::alloc::Allocator;
@@ -211,7 +211,7 @@ impl<A: Allocator + Clone> Trace<A> {
     fn has_open(&self) -> bool
         ensures { IsTrue result ↔ ((tag : ℕ) × IsOpen self.now.events tag) }
     {
-        any_open(self.tags.as_slice())
+        self.open > 0
     }
 
     /// Whether there are places for that number of events more, with an end counted for each open Issue.

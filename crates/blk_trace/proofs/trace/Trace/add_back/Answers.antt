@@ -10,6 +10,7 @@ use Rattle.blk_trace.specs.Legal.{IsLegalTrace}
 use Rattle.blk_trace.specs.Rules.{IsUnbroken}
 use Rattle.blk_trace.proofs.Pushing.{push_legal}
 use Rattle.blk_trace.specs.Traces.{Traced}
+use Rattle.blk_trace.proofs.TagUses.{free_ended}
 use Rattle.blk_trace.proofs.Opening.{open_positive}
 use Rattle.blk_trace.proofs.Requeues.{IsDropped, dropped}
 use Rattle.blk_trace.proofs.Capacities.{tag_below, depths_kept}
@@ -98,7 +99,7 @@ invariant_of-self g c =
     let hc : length c.remove-command.new.self.items + 1 ≡ length s.commands.items = omega (arith, c.remove-command.ensures.len, s.commands.ok.0, c.remove-command.new.self.ok.0) in
     let hr : length c.remove.new.self.items + 1 ≡ length s.rounds.items = omega (arith, c.remove.ensures.len, s.rounds.ok.0, c.remove.new.self.ok.0) in
     let hk = λ (q : ℕ). c.requeue.ensures q ∙ ap (λ (y : Command). cond (y.id == q) (Some (Requeued y.release y.due)) (by_id.kept_at s.known q)) out.0 in
-    (kept_back s.setup es _ c.args.tag c.open_id-id.result s.commands.items _ s.rounds.items _ _ _ (by_id.kept_at s.known) _ _ s.tags.items k all by hz (c.remove-command.ensures.by_index.2 ∙ left.commands_left) (c.remove.ensures.by_index.2 ∙ left.rounds_left) hk, room_after_back s.prepared _ _ _ _ _ _ _ _ _ _ _ _ _ _ _ _ some room n c.append.ensures.room hc hr c.remove-command.ensures.capacity c.remove.ensures.capacity, depths_kept s.setup es _ (Back c.args.tag) s.depth s.next_depth c.self.invariant.2 refl refl hz)
+    (kept_back s.setup es _ c.args.tag c.open_id-id.result s.commands.items _ s.rounds.items _ _ _ (by_id.kept_at s.known) _ _ s.tags.items k all by hz (c.remove-command.ensures.by_index.2 ∙ left.commands_left) (c.remove.ensures.by_index.2 ∙ left.rounds_left) hk, room_after_back s.prepared _ _ _ _ _ _ _ _ _ _ _ _ _ _ _ _ some room n c.append.ensures.room hc hr c.remove-command.ensures.capacity c.remove.ensures.capacity, depths_kept s.setup es _ (Back c.args.tag) s.depth s.next_depth c.self.invariant.2 refl refl hz, free_ended s.setup es s.tags.items s.unused_from k.legal k.each_tag k.tags_are c.self.invariant.3 c.args.tag o)
 
 pub returns-clause-legal : goal.returns-clause-legal
 returns-clause-legal g c = push_legal _ _ _ (subst (λ (v : Traced). IsLegalTrace v.setup v.events) c.self.view_is c.self.invariant.0.legal) c.requires.unbroken tt

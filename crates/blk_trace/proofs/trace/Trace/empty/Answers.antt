@@ -1,11 +1,12 @@
-use Rattle.std.proofs.Common.{◌≡◌, ◌∙◌, ℕ, [], ap, refl, arith, length}
+use Rattle.std.proofs.Common.{◌≡◌, ◌∙◌, ℕ, [], ap, refl, sym, subst, arith, length}
 use Rattle.std.specs.Prelude.{replicate}
 use Rattle.blk_ids.specs.ById as by_id
 use Rattle.blk_ids.specs.IdSet as id_set
 use Rattle.blk_trace.specs.declared.tags.TagUse.TheVariants.{Free}
-use Rattle.blk_trace.specs.Inside.Kept.{has_named}
+use Rattle.blk_trace.specs.Inside.Kept.{LeavesFree, has_named}
 use Rattle.blk_bio.specs.declared.bio.BioId.{BioId}
 use Rattle.blk_trace.proofs.Capacities.{depths_empty, depths_same}
+use Rattle.blk_trace.proofs.TagUses.{free_replicate}
 use Rattle.blk_trace.proofs.Keeping.{kept_empty, kept_same, kept_tags, filled}
 use Rattle.blk_trace.proofs.trace.Trace.empty.Goals as goal
 
@@ -23,4 +24,5 @@ invariant_of-result g c =
         for_bios = omega arith;
       },
       depths_same c.args.setup [] _ c.depth-depth.result c.depth-depth.result (depths_empty c.args.setup _ _ c.depth-depth.ensures.value c.depth-depth.ensures.value) (c.new-events.ensures.items),
+      subst (LeavesFree 0) (sym ht) (free_replicate c.depth-depth.result),
     )

@@ -18,4 +18,5 @@ invariant_of-self-2 g c =
         for_bios = omega (arith, c.in_ok-make_room-2.ensures.ok);
       },
       depths_same s.setup _ _ s.depth s.next_depth c.self.invariant.2 (c.in_ok-reserve.ensures.items),
+      c.self.invariant.3,
     )
