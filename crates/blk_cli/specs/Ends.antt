@@ -1,5 +1,5 @@
 -- How a run of the program ends: its status, what stands on standard output, and what is said beside it or of why there is nothing.
-use Rattle.std.specs.Prelude.{◌≡◌, ◌⊎◌, ◌++◌, ◌∷◌, [], codes, ℕ, Bool, true, false, if◌then◌else◌, List, Option, None, Some, String, map, string_bytes}
+use Rattle.std.specs.Prelude.{◌≡◌, ◌⊎◌, ◌++◌, ◌∷◌, [], ⊤, ⊥, codes, ℕ, Bool, true, false, if◌then◌else◌, List, Option, None, Some, Result, Ok, Err, String, map, string_bytes}
 use Rattle.drafts.specs.declared.output.Output.{Output}
 use Rattle.drafts.specs.Outputs.{Stream, IsWritten, IsCut, stream_of}
 use Rattle.blk_lists.specs.Sources.{Row, Source}
@@ -9,6 +9,12 @@ use Rattle.blk_lists.specs.declared.fault.Why.{Why}
 use Rattle.blk_lists.specs.declared.fault.Why.TheVariants as why
 use Rattle.blk_words.specs.declared.words.Job.{Job}
 use Rattle.blk_words.specs.Asked.{Asks, AreFaulty, NameNone}
+use Rattle.blk_settings.specs.declared.Loaded.{Loaded}
+use Rattle.blk_settings.specs.declared.Unsettled.{Unsettled}
+use Rattle.blk_settings.specs.declared.numbers.Load.{Load}
+use Rattle.blk_settings.specs.declared.sched.Sched.{Sched}
+use Rattle.blk_words.specs.declared.words.Job.TheVariants as job
+use Rattle.blk_cli.specs.declared.Answered.{Answered}
 use Rattle.blk_cli.specs.declared.Ended.{Ended}
 use Rattle.blk_cli.specs.declared.NoText.{NoText}
 use Rattle.blk_cli.specs.declared.NoText.TheVariants as none
@@ -19,7 +25,8 @@ use Rattle.blk_words.specs.declared.words.Import.{Import}
 use Rattle.blk_capture_text.specs.Streams.{IsUnstreamed}
 use Rattle.blk_capture_text.specs.declared.summing.Unstreamed.{Unstreamed}
 use Rattle.blk_cli.specs.Importing.{IsUnimportedFrom, IsUnsummedFrom, IsCaptureFailure}
-use Rattle.blk_cli.specs.Said.{Said}
+use Rattle.blk_cli.specs.Loading.{IsTextOfRun, IsFailureOfRun}
+use Rattle.blk_cli.specs.Said.{Said, said_of}
 use Rattle.blk_cli.specs.Gives.{GivesAnswer, HasNoAnswer, AnswersText, AnswersGood, ReadsNothing}
 
 -- the words ask for a job that answers this
@@ -133,3 +140,27 @@ RunEnds words input bytes failed old new faults_old faults_new ended =
 abbrev pub RunEndsOn : {W F A : Type 0} → (W → Option (List ℕ)) → (F → Option (List ℕ)) → List (String A) → Source → Source → Output W → Output W → Output F → Output F → Ended → Type 0
 RunEndsOn held said words unread read old new faults_old faults_new ended =
     RunEnds (map string_bytes words) unread.left unread.bytes read.failed (stream_of held old) (stream_of held new) (stream_of said faults_old) (stream_of said faults_new) ended
+
+-- what a job comes to where loads may end so: a load's text and its failure are those of the load that it asks for
+abbrev pub HasRun : (Sched → Load → Result Loaded Unsettled → Type 0) → Job → Result Answered NoText → Type 0
+HasRun ends_as (job.Load s l w) (Ok a) = IsTextOfRun ends_as s l w a.text.items
+HasRun ends_as (job.Load s l w) (Err (none.Failure f)) = IsFailureOfRun ends_as s l f
+HasRun ends_as (job.Load s l w) (Err n) = ⊥
+HasRun ends_as j r = ⊤
+
+-- there is no job
+abbrev pub IsAskedNothing : Result Answered NoText → Type 0
+IsAskedNothing (Ok a) = ⊥
+IsAskedNothing (Err (none.Failure f)) = f ≡ failure.Memory
+IsAskedNothing (Err (none.Told fault text)) = ⊥
+IsAskedNothing (Err n) = ⊤
+
+-- that of the job that the words ask for; or there is none, since they ask for no job, or memory ran out before they were read
+abbrev pub IsRunOf : (Sched → Load → Result Loaded Unsettled → Type 0) → List (List ℕ) → Result Answered NoText → Type 0
+IsRunOf ends_as words r = ((j : Job) × Asks words j × HasRun ends_as j r) ⊎ IsAskedNothing r
+
+-- a run ends with it
+abbrev pub EndsAs : {W F : Type 0} → (W → Option (List ℕ)) → (F → Option (List ℕ)) → Result Answered NoText → Output W → Output W → Output F → Output F → Ended → Type 0
+EndsAs held said (Ok a) old new faults_old faults_new ended =
+    EndsPut (said_of a) (stream_of held old) (stream_of held new) (stream_of said faults_old) (stream_of said faults_new) ended
+EndsAs held said (Err n) old new faults_old faults_new ended = (new ≡ old) × EndsWithout n (stream_of said faults_old) (stream_of said faults_new) ended

@@ -1,5 +1,5 @@
 -- What a load comes to.
-use Rattle.std.specs.Prelude.{◌≡◌, ◌∷◌, ⊤, ℕ, List, []}
+use Rattle.std.specs.Prelude.{◌≡◌, ◌∷◌, ⊤, ℕ, List, [], Result, Ok, Err}
 use Rattle.answer.specs.declared.names.TheConstants as names
 use Rattle.answer.specs.declared.value.Value.TheVariants.{Count}
 use Rattle.answer.specs.declared.answer.Part.{Part}
@@ -11,7 +11,10 @@ use Rattle.blk_settings.specs.Made.{IsUnmade}
 use Rattle.blk_settings.specs.Ran.{IsRunUnder}
 use Rattle.blk_settings.specs.Faults.{IsLoadFault}
 use Rattle.blk_settings.specs.Settles.{IsSettled, served_bios}
+use Rattle.blk_settings.specs.declared.Loaded.{Loaded}
 use Rattle.blk_settings.specs.declared.Settled.{Settled}
+use Rattle.blk_settings.specs.declared.Unsettled.{Unsettled}
+use Rattle.blk_settings.specs.declared.Unsettled.TheVariants as unsettled
 use Rattle.blk_settings.specs.declared.numbers.Load.{Load}
 use Rattle.blk_trace.specs.Events.{AreOnce}
 use Rattle.blk_trace.specs.Traces.{Traced}
@@ -45,3 +48,15 @@ IsUnloaded s l (failure.Sched f) = IsUnmade s f
 IsUnloaded s l (failure.Load f) = IsLoadFault l f
 IsUnloaded s l failure.Memory = ⊤
 IsUnloaded s l f = ⊥
+
+-- a text of a load under this scheduler with these numbers: what it ended with, where it ended so
+pub record IsTextOfRun (ends_as : Sched → Load → Result Loaded Unsettled → Type 0) (s : Sched) (l : Load) (w : ShownLoad) (text : List ℕ) : Type 0 where
+  pub loaded : Loaded
+  pub ended : ends_as s l (Ok loaded)
+  pub is_text : IsLoadText w loaded.trace loaded.settled text
+
+-- and what is told of one: what it failed with, or that memory ran out
+abbrev pub IsFailureOfRun : (Sched → Load → Result Loaded Unsettled → Type 0) → Sched → Load → Failure → Type 0
+IsFailureOfRun ends_as s l (failure.Sched f) = ends_as s l (Err (unsettled.Sched f))
+IsFailureOfRun ends_as s l (failure.Load f) = ends_as s l (Err (unsettled.Load f))
+IsFailureOfRun ends_as s l f = f ≡ failure.Memory

@@ -1,11 +1,11 @@
 //! The command line of the program, over a reader and two writers.
 #![tactic(auto)]
 
-ghost use Rattle.std.specs.Prelude.{◌≡◌, ◌≤◌, IfOk, IfErr, map, string_bytes};
+ghost use Rattle.std.specs.Prelude.{◌≡◌, ◌≤◌, IfOk, IfErr, Result, map, string_bytes};
 ghost use Rattle.drafts.specs.Outputs.{stream_of};
 ghost use Rattle.blk_cli.specs.Said.{only, said_of, IsAlone};
 ghost use Rattle.blk_cli.specs.Gives.{GivesText, TellsOf, HasNoText, GivesAnswer, HasNoAnswer, ReadsNothing, version_line};
-ghost use Rattle.blk_cli.specs.Ends.{Answers, AskForGood, AskForNoInput, AskForTexts, IsWithout, IsWithoutAnswer, IsFailureOf, says_more, line_told, status_with, SaysBeside, EndsSaying, EndsWithout, RunEndsOn};
+ghost use Rattle.blk_cli.specs.Ends.{Answers, AskForGood, AskForNoInput, AskForTexts, IsWithout, IsWithoutAnswer, IsFailureOf, says_more, line_told, status_with, SaysBeside, EndsSaying, EndsWithout, RunEndsOn, EndsAs, HasRun, IsRunOf};
 ghost use Rattle.blk_cli.specs.Inside.Ends.{EndsPutOn};
 
 mod blaming;
@@ -277,6 +277,7 @@ fn answer_of<L: Loads, T: Threads + Wait + Sync, R: Read + Drop, P: Progress>(
     ensures answer { IfOk result (λ a. GivesAnswer (map string_bytes words.now) job records.old.left records.old.bytes (said_of a)) }
     ensures none { IfErr result (IsWithoutAnswer (map string_bytes words.now) job records.old.left records.old.bytes records.new.failed) }
     ensures unread { ReadsNothing job → records.new ≡ records.old }
+    ensures run { HasRun L.ends_as job result }
 {
     match job {
         Job::Version => match version_text(alloc) {
@@ -321,6 +322,8 @@ pub fn answer<L: Loads, T: Threads + Wait + Sync, R: Read + Drop, P: Progress>(
     ensures answers { IfOk result (λ answer. Answers (map string_bytes words.now) records.old.left records.old.bytes (said_of answer)) }
     ensures without { IfErr result (IsWithout (map string_bytes words.now) records.old.left records.old.bytes records.new.failed) }
     ensures unread { AskForNoInput (map string_bytes words.now) → records.new ≡ records.old }
+    // of a load that the words ask for, just it is run, and what it ends with is answered
+    ensures run { IsRunOf L.ends_as (map string_bytes words.now) result }
 {
     match choose(alloc, words) {
         Ok(job) => match answer_of(loads, rt, alloc, words, job, records, progress) {
@@ -372,6 +375,8 @@ pub fn run<L: Loads, T: Threads + Wait + Sync, R: Read + Drop, W: Write, F: Writ
     ensures kept { AskForGood (map string_bytes words.now) → result.status ≡ 1 → out.new ≡ out.old }
     ensures quiet { AskForTexts (map string_bytes words.now) → result.status ≡ 0 → faults.new ≡ faults.old }
     ensures range { result.status ≤ 3 }
+    // a load's text and its fault are those of just the load that the words ask for
+    ensures run { (r : Result Answered NoText) × IsRunOf L.ends_as (map string_bytes words.now) r × EndsAs W.contents F.contents r out.old out.new faults.old faults.new result }
 {
     let answered = answer(loads, rt, alloc, words, records, progress);
     progress.over();

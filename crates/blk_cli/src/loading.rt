@@ -2,7 +2,7 @@
 
 ghost use Rattle.std.specs.Prelude.{◌≡◌, IfOk, IfErr};
 ghost use Rattle.blk_cli.specs.Forms.{written_in};
-ghost use Rattle.blk_cli.specs.Loading.{IsLoadText, IsLoadOf, IsUnloaded, load_parts};
+ghost use Rattle.blk_cli.specs.Loading.{IsLoadText, IsLoadOf, IsTextOfRun, IsFailureOfRun, IsUnloaded, load_parts};
 
 use crate::failure::Failure;
 use crate::forms::written;
@@ -55,6 +55,8 @@ pub fn run_load<L: Loads, R: Threads + Wait + Sync>(
 ) -> Result<Vec<u8>, Failure>
     ensures text { IfOk result (λ text. IsLoadOf sched shown amounts text.items) }
     ensures unloaded { IfErr result (IsUnloaded sched amounts) }
+    ensures ran { IfOk result (λ text. IsTextOfRun L.ends_as sched amounts shown text.items) }
+    ensures failed { IfErr result (IsFailureOfRun L.ends_as sched amounts) }
 {
     match loads.run(rt, alloc, sched, amounts) {
         Ok(loaded) => match loaded_text(alloc, shown, &loaded) {

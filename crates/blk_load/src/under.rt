@@ -69,6 +69,8 @@ pub struct OnThreads {
 }
 
 impl Loads for OnThreads {
+    ghost ends_as = { λ sched load result. IfOk result (RanUnder sched load.depth) };
+
     fn run<R: Threads + Wait + Sync>(
         &self,
         rt: &R,

@@ -76,6 +76,9 @@ pub enum Unsettled {
 
 /// Whoever runs loads.
 pub trait Loads {
+    /// As what a load under this scheduler with these numbers may end here.
+    ghost ends_as: { Sched → Load → Result Loaded Unsettled → Type 0 };
+
     /// Runs a load over a layer of this scheduler, and settles its account.
     ///
     /// Refused, by the first of these that applies: as `Range` where a number of the load is out of its range; as the scheduler is
@@ -95,5 +98,6 @@ pub trait Loads {
         ensures settled { IfOk result (λ l. IsSettled load l.trace l.settled) }
         ensures ran { IfOk result (λ l. IsRunUnder sched load.depth l.trace) }
         ensures once { IfOk result (λ l. AreOnce (served_bios l.trace.events)) }
-        ensures unsettled { IfErr result (IsUnsettled sched load) };
+        ensures unsettled { IfErr result (IsUnsettled sched load) }
+        ensures ends { ends_as sched load result };
 }
