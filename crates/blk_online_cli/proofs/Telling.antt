@@ -19,9 +19,9 @@ use Rattle.blk_text.proofs.TraceLaws as traces
 use Rattle.blk_settings.specs.Defaults.{earliest_by}
 use Rattle.blk_settings.specs.Rows.Earliest.{is_late_last}
 use Rattle.blk_online.specs.Ticks.{AtTicks}
-use Rattle.blk_online_sim.specs.ByRounds.{IsByRounds, HoldsNow}
-use Rattle.blk_online_sim.proofs.Running.{trace_holds, least_late, has_most_on_time}
-use Rattle.blk_online_sim.proofs.Telling as telling
+use Rattle.blk_online_cli.specs.ByRounds.{IsByRounds, HoldsNow}
+use Rattle.blk_online_cli.proofs.Running.{trace_holds, least_late, has_most_on_time}
+use Rattle.blk_online_cli.proofs.Reporting as telling
 use Rattle.blk_cli.specs.Gives.{GivesText}
 use Rattle.blk_cli.specs.Figures.{IsMissesText, IsReportText}
 use Rattle.blk_settings.specs.declared.form.Form.TheVariants as form

@@ -1,2 +1,4 @@
+pub mod ByRounds
+pub mod Shortfalls
 pub mod Told
 pub mod Inside

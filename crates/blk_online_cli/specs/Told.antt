@@ -20,7 +20,7 @@ use Rattle.blk_words.specs.Asked.{Asks}
 use Rattle.blk_cli.specs.declared.Ended.{Ended}
 use Rattle.blk_cli.specs.Ends.{RunEnds}
 use Rattle.blk_cli.specs.Figures.{IsMissesText, IsReportText}
-use Rattle.blk_online_sim.specs.ByRounds.{IsByRounds}
+use Rattle.blk_online_cli.specs.ByRounds.{IsByRounds}
 
 -- the records of these bytes
 abbrev pub rows_in : List ℕ → List Row

@@ -7,6 +7,11 @@ ghost use Rattle.drafts.specs.Outputs.{stream_of};
 ghost use Rattle.blk_online_cli.specs.Told.{ReportsNoShortfall, CountsNoneAvoidable, OfTwoRuns, OfItsTrace, earliest_run, figures_in_lines};
 ghost use Rattle.blk_online_cli.specs.Inside.Words.{sim_words, report_words, misses_words};
 
+mod simulating;
+
+pub use crate::simulating::{
+    law_of_no_shortfall, law_of_none_avoidable, law_of_rounds_under_earliest, simulate_earliest,
+};
 use blk_cli::{Ended, answer, run};
 use blk_lists::Records;
 use blk_settings::Loads;

@@ -1,6 +1,5 @@
 //! Simulations under the scheduler that hands out what is due first: they never fall short of the best schedule of their
 //! commands.
-#![tactic(auto)]
 
 ghost use Rattle.std.specs.Prelude.{◌≡◌, Bool, true, false, List, IfOk, All};
 ghost use Rattle.blk_trace.specs.Happened.{Happened};
@@ -13,8 +12,8 @@ ghost use Rattle.blk_online.specs.Ticks.{AtTicks};
 ghost use Rattle.blk_online.specs.Best.{HasLeastLateness, IsOneSchedule, HasMostOnTime};
 ghost use Rattle.blk_report.specs.declared.figures.Report.{Report};
 ghost use Rattle.blk_report.specs.Shortfall.{IsReport};
-ghost use Rattle.blk_online_sim.specs.Told.{HasNoShortfall, HasNoneAvoidable};
-ghost use Rattle.blk_online_sim.specs.ByRounds.{IsByRounds, HoldsNow, HoldsByRounds};
+ghost use Rattle.blk_online_cli.specs.Shortfalls.{HasNoShortfall, HasNoneAvoidable};
+ghost use Rattle.blk_online_cli.specs.ByRounds.{IsByRounds, HoldsNow, HoldsByRounds};
 
 use blk_earliest::Earliest;
 use blk_sim::{SETUP_RECORD, SimFault, SimWhy, simulate};

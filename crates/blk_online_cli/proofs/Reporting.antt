@@ -19,7 +19,7 @@ use Rattle.edd_figures.specs.Figures.{HasFigures, shortfall_in}
 use Rattle.blk_report.specs.Shortfall.{IsReport}
 use Rattle.edd_figures.specs.Misses.{number_late}
 use Rattle.blk_online.specs.Best.{HasLeastLateness, HasMostOnTime}
-use Rattle.blk_online_sim.specs.Told.{HasNoShortfall, HasNoneAvoidable}
+use Rattle.blk_online_cli.specs.Shortfalls.{HasNoShortfall, HasNoneAvoidable}
 
 -- where the greatest is least there is no shortfall
 none_lost : (setup : Setup) (events : List Happened) (f : Option Figures) → HasLeastLateness setup events → HasFigures (commands_of setup events) (rounds_of events) (capacity_of setup events) f

@@ -6,9 +6,9 @@ use Rattle.blk_earliest.specs.Choice.{earliest_kept}
 use Rattle.blk_earliest.specs.Shown.{meaning_of}
 use Rattle.blk_online.specs.Ticks.{AtTicks}
 use Rattle.blk_online.specs.Best.{HasLeastLateness, IsOneSchedule, HasMostOnTime}
-use Rattle.blk_online_sim.specs.ByRounds.{IsByRounds, HoldsNow}
-use Rattle.blk_online_sim.proofs.Running.{HasRun, trace_holds, least_late, one_schedule, has_most_on_time, ok_three}
-use Rattle.blk_online_sim.proofs.simulate_earliest.Goals as goal
+use Rattle.blk_online_cli.specs.ByRounds.{IsByRounds, HoldsNow}
+use Rattle.blk_online_cli.proofs.Running.{HasRun, trace_holds, least_late, one_schedule, has_most_on_time, ok_three}
+use Rattle.blk_online_cli.proofs.simulating.simulate_earliest.Goals as goal
 
 pub returns-clause-rounds : goal.returns-clause-rounds
 returns-clause-rounds g c =

@@ -28,11 +28,11 @@ use Rattle.blk_sim.specs.Rounds.{CompleteInTurn, Works, Rounds}
 use Rattle.blk_earliest.specs.Choice.{earliest_kept, earliest_policy}
 use Rattle.blk_sched.specs.Policies.{serves_all}
 use Rattle.blk_online.specs.Ticks.{AtTicks, WentOut, IsRoundFull}
-use Rattle.blk_online_sim.specs.ByRounds.{HoldsNow}
-use Rattle.blk_online_sim.proofs.Growing.{Grows, grows_both, legal_before, grows_entered, grows_drained, grows_completed, grows_ended, grows_worked}
-use Rattle.blk_online_sim.proofs.Agreeing.{IsBooked, held_then, placed_booked, done_booked, ticked_booked, deep_booked}
-use Rattle.blk_online_sim.proofs.Quiet.{IsFresh, ticks_kept, ticks_more, served_same, fresh_kept, fresh_ticked}
-use Rattle.blk_online_sim.proofs.Issuing.{Goes, IsIssuing, issued_in_turn, all_issued}
+use Rattle.blk_online_cli.specs.ByRounds.{HoldsNow}
+use Rattle.blk_online_cli.proofs.Growing.{Grows, grows_both, legal_before, grows_entered, grows_drained, grows_completed, grows_ended, grows_worked}
+use Rattle.blk_online_cli.proofs.Agreeing.{IsBooked, held_then, placed_booked, done_booked, ticked_booked, deep_booked}
+use Rattle.blk_online_cli.proofs.Quiet.{IsFresh, ticks_kept, ticks_more, served_same, fresh_kept, fresh_ticked}
+use Rattle.blk_online_cli.proofs.Issuing.{Goes, IsIssuing, issued_in_turn, all_issued}
 
 -- between two rounds: what holds at each Tick so far, and nothing went out yet in this round
 pub record IsOnTrack (late_last : Bool) (setup : Setup) (c : CoreState) : Type 0 where

@@ -17,12 +17,12 @@ use Rattle.blk_sim.specs.State.{SimState, start_of}
 use Rattle.blk_sim.specs.Runs.{Steps, Runs}
 use Rattle.blk_earliest.specs.Choice.{earliest_kept, earliest_policy}
 use Rattle.blk_online.specs.Ticks.{AtTicks}
-use Rattle.blk_online_sim.specs.ByRounds.{HoldsNow, IsByRounds}
+use Rattle.blk_online_cli.specs.ByRounds.{HoldsNow, IsByRounds}
 use Rattle.blk_online.specs.Best.{HasLeastLateness, IsOneSchedule, HasMostOnTime}
 use Rattle.blk_online.proofs.Laws.{trace_least, oracle_same, trace_most}
-use Rattle.blk_online_sim.proofs.Growing.{legal_before, grows_run}
-use Rattle.blk_online_sim.proofs.Quiet.{fresh_start}
-use Rattle.blk_online_sim.proofs.Working.{IsOnTrack, all_entered, all_rounds, deepened}
+use Rattle.blk_online_cli.proofs.Growing.{legal_before, grows_run}
+use Rattle.blk_online_cli.proofs.Quiet.{fresh_start}
+use Rattle.blk_online_cli.proofs.Working.{IsOnTrack, all_entered, all_rounds, deepened}
 
 nobody_held : (n hw : ℕ) → get_or (replicate n (let none : List Waiting = [] in none)) hw [] ≡ []
 nobody_held zero hw = refl

@@ -31,10 +31,10 @@ use Rattle.blk_earliest.specs.Choice.{earliest_choice, earliest_chooses, earlies
 use Rattle.blk_sched.specs.Policies.{serves_all}
 use Rattle.blk_earliest.proofs.Chosen.{choice_first, choice_on_time, choice_none}
 use Rattle.blk_online.specs.Ticks.{AtTicks, WentOut}
-use Rattle.blk_online_sim.specs.ByRounds.{HoldsNow}
-use Rattle.blk_online_sim.proofs.Growing.{legal_before, grows_given}
-use Rattle.blk_online_sim.proofs.Agreeing.{IsBooked, waits_then, still_there, sent_booked}
-use Rattle.blk_online_sim.proofs.Quiet.{ticks_kept, used_or}
+use Rattle.blk_online_cli.specs.ByRounds.{HoldsNow}
+use Rattle.blk_online_cli.proofs.Growing.{legal_before, grows_given}
+use Rattle.blk_online_cli.proofs.Agreeing.{IsBooked, waits_then, still_there, sent_booked}
+use Rattle.blk_online_cli.proofs.Quiet.{ticks_kept, used_or}
 
 -- ---- the choice
 

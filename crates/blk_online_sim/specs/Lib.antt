@@ -1,2 +1,0 @@
-pub mod ByRounds
-pub mod Told
