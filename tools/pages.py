@@ -1,5 +1,5 @@
 #!/usr/bin/env python3
-"""Holds the pages to the tree, and the tree to the rules of docs/ARCHITECTURE.md that no proof looks at.
+"""Holds the pages to the tree.
 
     tools/pages.py
 
@@ -7,9 +7,7 @@ A page is README.md, and any in docs/, cases/ and crates/. A link leads to a fil
 a name with a letter, inside backticks and outside of blocks, or in a `use` of a Rattle block; it stands in some file that is no
 page, or in a file's path. The words of Linux and of other projects, and those of the examples that a reader makes, are listed here.
 
-No word is defined in the specs/ of two crates, but for those that mean one thing, which are listed here. A clause has at most
-120 characters between its braces. Pages and comments say 'out of memory': 'want of memory' is the program's own line, and
-stands there only as `blk: want of memory`.
+Pages and comments say 'out of memory': 'want of memory' is the program's own line, and stands there only as `blk: want of memory`.
 
 A key of a JSON example in docs/FORMATS.md is a name of crates/answer, or a setting's.
 
@@ -31,14 +29,6 @@ KNOWN = {*LINUX.split(), *OTHERS.split()}
 WORD = re.compile(r"[A-Za-z_]\w*")
 # A word of fewer letters is a variable.
 SHORT = 3
-# Words of several crates' specs/ that mean one thing: what a scheduler holds, as the record that all of them share.
-SHARED = {"meaning_of"}
-# The head of a definition in specs/, up to the word that it defines. A field of a record is indented, and so is no definition.
-DEFINED = re.compile(r"(?m)^(?: *(?:abbrev|unfoldable) (?:pub )?| *pub (?:record|data) |(?:pub )?(?=[\w'-]+ :))([\w'-]+)")
-# The head of a clause, up to its brace.
-CLAUSE = re.compile(r"\b(?:requires|ensures|ghost (?!use\b))[^{};]*{")
-# The most characters between the braces of a clause.
-LONGEST = 120
 # The words of the program's line where they stand elsewhere, on one line or on two.
 WANT = re.compile(r"(?i)(?<!`blk: )\bwants?[\s/!-]+of[\s/!-]+memory\b")
 
@@ -123,39 +113,6 @@ def line_of(text, at):
     return text.count("\n", 0, at) + 1
 
 
-def twice_defined(paths):
-    """Words that the specs/ of two crates define, each with where."""
-    places = {}
-    for path in paths:
-        if re.fullmatch(r"crates/\w+/specs/.*\.antt", path):
-            text = (TOP / path).read_text()
-            for it in DEFINED.finditer(text):
-                places.setdefault(it[1], []).append((path.split("/")[1], f"{path}:{line_of(text, it.start(1))}"))
-    for word, where in sorted(places.items()):
-        if word not in SHARED and len({crate for crate, _ in where}) > 1:
-            yield f"{word} is defined by two crates: {', '.join(place for _, place in where)}"
-
-
-def in_braces(code, at):
-    """What stands between the brace at a place and the one that closes it, as one line."""
-    depth = 0
-    for end in range(at, len(code)):
-        depth += (code[end] == "{") - (code[end] == "}")
-        if depth == 0:
-            break
-    return " ".join(code[at + 1 : end].split())
-
-
-def long_clauses(paths):
-    """Clauses that are too long, each with its place and length."""
-    for path in paths:
-        if path.endswith(".rt"):
-            code = re.sub(r"//.*", "", (TOP / path).read_text())
-            for it in CLAUSE.finditer(code):
-                if (length := len(in_braces(code, it.end() - 1))) > LONGEST:
-                    yield f"{path}:{line_of(code, it.start())}: a clause of {length} characters: a word of specs/ makes it shorter"
-
-
 def comments_of(text):
     """A source without what isn't a comment, line by line."""
     return "\n".join(line if re.match(r"\s*(?://|--)", line) else "" for line in text.splitlines())
@@ -189,7 +146,7 @@ def main():
     paths = tracked()
     words = words_of(paths) | KNOWN
     told = [list(lost(path, words)) for path in paths if is_page(path)]
-    told += [list(rule(paths)) for rule in (twice_defined, long_clauses, other_memory, unlisted_names)]
+    told += [list(rule(paths)) for rule in (other_memory, unlisted_names)]
     for line in (line for it in told for line in it):
         print(f"pages: {line}")
     failed = sum(map(bool, told))
