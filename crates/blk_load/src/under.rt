@@ -69,6 +69,9 @@ pub struct OnThreads {
 }
 
 impl Loads for OnThreads {
+    ghost use Rattle.std.specs.Prelude.{IfOk};
+    ghost use Rattle.blk_load.specs.Inside.Ran.{RanUnder};
+
     ghost ends_as = { λ sched load result. IfOk result (RanUnder sched load.depth) };
 
     fn run<R: Threads + Wait + Sync>(

@@ -76,6 +76,12 @@ pub enum Unsettled {
 
 /// Whoever runs loads.
 pub trait Loads {
+    ghost use Rattle.std.specs.Prelude.{Result};
+    ghost use Rattle.blk_settings.specs.declared.sched.Sched.{Sched};
+    ghost use Rattle.blk_settings.specs.declared.numbers.Load.{Load};
+    ghost use Rattle.blk_settings.specs.declared.Loaded.{Loaded};
+    ghost use Rattle.blk_settings.specs.declared.Unsettled.{Unsettled};
+
     /// As what a load under this scheduler with these numbers may end here.
     ghost ends_as: { Sched → Load → Result Loaded Unsettled → Type 0 };
 

@@ -1,7 +1,5 @@
 //! What the tests are given: runs of the program over readers and writers that fail.
 
-ghost use Rattle.std.specs.Prelude.{⊤};
-
 use blk_cli::run;
 use blk_lists::Records;
 use blk_settings::{Load, LoadFault, Loaded, Loads, Sched, Unsettled};
@@ -83,6 +81,8 @@ fn words_of(rt: &impl Abort, alloc: Global, words: &[&str]) -> Vec<String> {
 pub struct NoMemory;
 
 impl Loads for NoMemory {
+    ghost use Rattle.std.specs.Prelude.{⊤};
+
     ghost ends_as = { λ sched load result. ⊤ };
 
     fn run<R: Threads + Wait + Sync>(
@@ -138,6 +138,8 @@ impl Noting {
 }
 
 impl Loads for Noting {
+    ghost use Rattle.std.specs.Prelude.{⊤};
+
     ghost ends_as = { λ sched load result. ⊤ };
 
     fn run<R: Threads + Wait + Sync>(
