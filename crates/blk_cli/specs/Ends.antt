@@ -20,7 +20,7 @@ use Rattle.blk_cli.specs.declared.NoText.{NoText}
 use Rattle.blk_cli.specs.declared.NoText.TheVariants as none
 use Rattle.blk_cli.specs.declared.failure.Failure.{Failure}
 use Rattle.blk_cli.specs.declared.failure.Failure.TheVariants as failure
-use Rattle.blk_cli.specs.Lines.{more_line, failure_line, status_of, write_fault, excluded}
+use Rattle.blk_cli.specs.Lines.{more_line, status_of, write_fault, LineOn, OwnLine}
 use Rattle.blk_words.specs.declared.words.Import.{Import}
 use Rattle.blk_capture_text.specs.Streams.{IsUnstreamed}
 use Rattle.blk_capture_text.specs.declared.summing.Unstreamed.{Unstreamed}
@@ -93,11 +93,11 @@ status_without none.Excluded = 2
 abbrev pub line_told : TextFault → List ℕ → List ℕ
 line_told fault text = more_line fault.at (why_name fault.why) text
 
-abbrev pub line_without : NoText → List ℕ
-line_without (none.Failure f) = failure_line f
-line_without (none.Told fault text) = line_told fault text.items
-line_without (none.Usage text) = string_bytes text
-line_without none.Excluded = excluded
+abbrev pub LineWithout : NoText → (List ℕ → Type 0) → Type 0
+LineWithout (none.Failure f) P = LineOn f P
+LineWithout (none.Told fault text) P = P (line_told fault text.items)
+LineWithout (none.Usage text) P = P (string_bytes text)
+LineWithout none.Excluded P = OwnLine P
 
 -- a line was said whole; or its writer failed, and took a first part of it and nothing else
 abbrev pub SaysLine : List ℕ → Stream → Stream → Bool → Type 0
@@ -110,10 +110,10 @@ EndsSaying status line old new ended = (ended.status ≡ status) × SaysLine lin
 
 -- with those of a failure; and with those of why there is nothing
 abbrev pub EndsFailing : Failure → Stream → Stream → Ended → Type 0
-EndsFailing f old new ended = EndsSaying (status_of f) (failure_line f) old new ended
+EndsFailing f old new ended = (ended.status ≡ status_of f) × LineOn f (λ line. SaysLine line old new ended.said)
 
 abbrev pub EndsWithout : NoText → Stream → Stream → Ended → Type 0
-EndsWithout n old new ended = EndsSaying (status_without n) (line_without n) old new ended
+EndsWithout n old new ended = (ended.status ≡ status_without n) × LineWithout n (λ line. SaysLine line old new ended.said)
 
 -- the status of an answer, by whether what was looked at is good
 abbrev pub status_with : Bool → ℕ

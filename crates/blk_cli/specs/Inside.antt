@@ -1,5 +1,4 @@
 -- What private functions and proofs alone need.
 pub mod Certificates
 pub mod Ends
-pub mod Lines
 pub mod Scripts

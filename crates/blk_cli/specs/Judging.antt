@@ -1,5 +1,5 @@
 -- What is said about a schedule, and why nothing is.
-use Rattle.std.specs.Prelude.{◌≡◌, ◌==◌, ⊤, ℕ, Bool, true, false, if◌then◌else◌, List, length, Option, None, Some, codes}
+use Rattle.std.specs.Prelude.{◌≡◌, ◌==◌, ⊤, ℕ, Bool, true, false, List, length, Option, is_some}
 use Rattle.answer.specs.Lines.{answer_lines}
 use Rattle.edd_commands.specs.Capacity.{fixed}
 use Rattle.edd_figures.specs.declared.lateness.Figures.{Figures}
@@ -10,7 +10,6 @@ use Rattle.blk_judge.specs.declared.missing.Miss.{Miss}
 use Rattle.blk_judge.specs.Judged.{IsRefusedSchedule, IsJudgement}
 use Rattle.blk_judge.specs.Late.{AreMissed}
 use Rattle.blk_lists.specs.Schedule.{ScheduleView}
-use Rattle.blk_cli.specs.Lines.{line}
 use Rattle.blk_cli.specs.Said.{Said}
 use Rattle.blk_cli.specs.declared.failure.Failure.{Failure}
 use Rattle.blk_cli.specs.declared.failure.Failure.TheVariants as failure
@@ -34,12 +33,12 @@ abbrev pub IsJudgedText : Bool → ScheduleView → List ℕ → Type 0
 IsJudgedText false s text = IsWholeText s text
 IsJudgedText true s text = IsEachText s text
 
--- a schedule without commands is told beside that
-abbrev pub empty_note : ScheduleView → Option (List ℕ)
-empty_note s = if length s.commands == 0 then Some (line (codes "the schedule has no commands")) else None
+-- that a schedule has no commands is told beside that
+abbrev pub has_no_commands : ScheduleView → Bool
+has_no_commands s = length s.commands == 0
 
 abbrev pub TellsEmpty : ScheduleView → Said → Type 0
-TellsEmpty s said = (said.note ≡ empty_note s) × (said.good ≡ true)
+TellsEmpty s said = (is_some said.note ≡ has_no_commands s) × (said.good ≡ true)
 
 -- the schedule isn't legal, or memory ran out
 abbrev pub IsUnjudged : ScheduleView → Failure → Type 0

@@ -16,13 +16,10 @@ use Rattle.blk_settings.specs.declared.sched.SchedFault.{SchedFault}
 use Rattle.blk_settings.specs.declared.sched.SchedFault.TheVariants as setting
 use Rattle.blk_settings.specs.declared.fault.LoadFault.{LoadFault}
 use Rattle.blk_settings.specs.declared.fault.LoadFault.TheVariants as load
-use Rattle.blk_capture_text.specs.Names.{import_fault_name}
 use Rattle.blk_capture_text.specs.declared.importing.ImportFault.{ImportFault}
 use Rattle.blk_capture_text.specs.declared.importing.ImportFault.TheVariants as capture
-use Rattle.blk_arrivals.specs.Names.{fault_name}
 use Rattle.blk_arrivals.specs.declared.terms.ArrivalsFault.{ArrivalsFault}
 use Rattle.blk_arrivals.specs.declared.terms.ArrivalsFault.TheVariants as arrivals
-use Rattle.blk_words.specs.Refusals.{refusal_text}
 use Rattle.blk_recorders.specs.Names.{line_why_name}
 use Rattle.blk_recorders.specs.declared.fault.LineWhy.{LineWhy}
 use Rattle.blk_recorders.specs.declared.fault.LineWhy.TheVariants as printed
@@ -55,7 +52,11 @@ more_line at name more = codes "blk: record " ++ (decimal at ++ (codes ": " ++ (
 abbrev pub at_line : ℕ → List ℕ → List ℕ
 at_line at name = codes "blk: line " ++ (decimal at ++ (codes ": " ++ (name ++ 10 ∷ [])))
 
--- where the reader or the writer failed, where memory ran out, and where flags exclude one another
+-- a line of the program's own, of which the cases say how it goes on
+abbrev pub OwnLine : (List ℕ → Type 0) → Type 0
+OwnLine P = (rest : List ℕ) × P (codes "blk: " ++ rest)
+
+-- where the reader or the writer failed, and where memory ran out
 abbrev pub read_fault : List ℕ
 read_fault = line (codes "read fault")
 
@@ -65,19 +66,16 @@ write_fault = line (codes "write fault")
 abbrev pub want_of_memory : List ℕ
 want_of_memory = line (codes "want of memory")
 
-abbrev pub excluded : List ℕ
-excluded = line (codes "--trace and --met exclude one another")
-
 -- the line on a fault of a text, of a step, of the oracle and of the check
 abbrev pub text_line : ℕ → Why → List ℕ
 text_line at why.Read = read_fault
 text_line at why.Memory = want_of_memory
 text_line at w = at_record at (why_name w)
 
-abbrev pub printed_line : ℕ → LineWhy → List ℕ
-printed_line at printed.Memory = want_of_memory
-printed_line at printed.TooLong = at_line at (codes "TooLong: a capture has at most 16000000 records, so cut the text before this line")
-printed_line at w = at_line at (line_why_name w)
+abbrev pub PrintedLine : ℕ → LineWhy → (List ℕ → Type 0) → Type 0
+PrintedLine at printed.Memory P = P want_of_memory
+PrintedLine at printed.TooLong P = OwnLine P
+PrintedLine at w P = P (at_line at (line_why_name w))
 
 abbrev pub step_line : ℕ → SimWhy → List ℕ
 step_line at step.Memory = want_of_memory
@@ -114,42 +112,31 @@ abbrev pub load_line : LoadFault → List ℕ
 load_line load.Memory = want_of_memory
 load_line fault = line (load_fault_name fault)
 
--- of too many requests, how many, and what to do
-abbrev pub too_many_line : List ℕ → ℕ → List ℕ
-too_many_line name n =
-    codes "blk: " ++ (name ++ (codes ": " ++ (decimal n ++ (codes " requests, and a schedule has at most 1000000: take a part by --first or --skip" ++ 10 ∷ []))))
+-- of what a capture is refused for, and of arrivals that are no script
+abbrev pub ImportLine : ImportFault → (List ℕ → Type 0) → Type 0
+ImportLine capture.Memory P = P want_of_memory
+ImportLine (capture.TooMany n) P = OwnLine P
 
-abbrev pub import_line : ImportFault → List ℕ
-import_line capture.Memory = want_of_memory
-import_line (capture.TooMany n) = too_many_line (import_fault_name (capture.TooMany n)) n
+abbrev pub ArrivalsLine : ArrivalsFault → (List ℕ → Type 0) → Type 0
+ArrivalsLine arrivals.Memory P = P want_of_memory
+ArrivalsLine fault P = OwnLine P
 
--- of arrivals that are no script, of some what to do
-abbrev pub arrivals_text : ArrivalsFault → List ℕ
-arrivals_text arrivals.TooMany = codes "TooMany: a script has at most 64 submitters, and more processes and processors queue bios, so take less of the capture"
-arrivals_text arrivals.TraceFull = codes "TraceFull: a bio comes in after round 1000000, so take a longer --round"
-arrivals_text arrivals.TooLong = codes "TooLong: a script has at most 999998 steps, so take a longer --round or less of the capture"
-arrivals_text fault = fault_name fault
-
-abbrev pub arrivals_line : ArrivalsFault → List ℕ
-arrivals_line arrivals.Memory = want_of_memory
-arrivals_line fault = line (arrivals_text fault)
-
--- the line on a failure
-abbrev pub failure_line : Failure → List ℕ
-failure_line (failure.Text f) = text_line f.at f.why
-failure_line (failure.Line f) = printed_line f.at f.why
-failure_line (failure.Sched f) = sched_line f
-failure_line (failure.Step f) = step_line f.at f.why
-failure_line (failure.Solve f) = oracle_line f
-failure_line (failure.Check f) = check_line f
-failure_line (failure.OnTime f) = on_time_check_line f
-failure_line (failure.Unlisted f) = line (unlisted_fault_name f)
-failure_line (failure.Load f) = load_line f
-failure_line (failure.Import f) = import_line f
-failure_line (failure.Arrivals f) = arrivals_line f
-failure_line (failure.Words r) = line (refusal_text r)
-failure_line failure.Write = write_fault
-failure_line failure.Memory = want_of_memory
+-- this holds of the line on a failure
+abbrev pub LineOn : Failure → (List ℕ → Type 0) → Type 0
+LineOn (failure.Text f) P = P (text_line f.at f.why)
+LineOn (failure.Line f) P = PrintedLine f.at f.why P
+LineOn (failure.Sched f) P = P (sched_line f)
+LineOn (failure.Step f) P = P (step_line f.at f.why)
+LineOn (failure.Solve f) P = P (oracle_line f)
+LineOn (failure.Check f) P = P (check_line f)
+LineOn (failure.OnTime f) P = P (on_time_check_line f)
+LineOn (failure.Unlisted f) P = P (line (unlisted_fault_name f))
+LineOn (failure.Load f) P = P (load_line f)
+LineOn (failure.Import f) P = ImportLine f P
+LineOn (failure.Arrivals f) P = ArrivalsLine f P
+LineOn (failure.Words r) P = OwnLine P
+LineOn failure.Write P = P write_fault
+LineOn failure.Memory P = P want_of_memory
 
 -- whether it came from outside: a read or a write that failed, or memory that ran out
 abbrev pub is_text_outside : Why → Bool

@@ -1,5 +1,5 @@
--- The bios of a script that no flush takes out of their plugs, and the line on them.
-use Rattle.std.specs.Prelude.{ℕ, ◌≡◌, true, zero, suc, ◌+◌, ◌==◌, ◌++◌, ◌∷◌, if◌then◌else◌, List, [], fold, Option, None, Some, codes, decimal}
+-- The bios of a script that no flush takes out of their plugs.
+use Rattle.std.specs.Prelude.{ℕ, Bool, ◌≡◌, true, not, zero, suc, ◌+◌, ◌==◌, if◌then◌else◌, List, fold, is_some}
 use Rattle.blk_text.specs.Script.{Scripted}
 use Rattle.blk_text.specs.declared.script.Line.{Line}
 use Rattle.blk_text.specs.declared.script.Line.TheVariants as line
@@ -19,13 +19,9 @@ unfoldable pub left_in_plugs : List Line → ℕ → ℕ
 left_in_plugs lines zero = 0
 left_in_plugs lines (suc s) = left_in_plugs lines s + plugged lines s
 
--- the line on so many, where there are any
-abbrev pub plugs_line : ℕ → List ℕ
-plugs_line n = ((codes "blk: not flushed: " ++ decimal n) ++ codes " bios stay in their plugs") ++ 10 ∷ []
+-- whether some stay, which is told beside what is written of the script, which is good
+abbrev pub leaves_some : Scripted → Bool
+leaves_some s = not (left_in_plugs s.lines s.submitters == 0)
 
-abbrev pub plugs_note : Scripted → Option (List ℕ)
-plugs_note s = if left_in_plugs s.lines s.submitters == 0 then None else Some (plugs_line (left_in_plugs s.lines s.submitters))
-
--- they are told beside what is written of the script, which is good
 abbrev pub TellsPlugs : Scripted → Said → Type 0
-TellsPlugs script s = (s.note ≡ plugs_note script) × (s.good ≡ true)
+TellsPlugs script s = (is_some s.note ≡ leaves_some script) × (s.good ≡ true)

@@ -1,10 +1,10 @@
 //! The job over a text of any form: what it is, with the subcommands that take it, or what is wrong with it.
 
-ghost use Rattle.std.specs.Prelude.{◌≡◌, ◌++◌, IfOk, IfErr};
+ghost use Rattle.std.specs.Prelude.{◌≡◌, false, None, IfOk, IfErr};
 ghost use Rattle.blk_explain.specs.Findings.{rows_of};
 ghost use Rattle.blk_text.specs.Script.{IsScript, SpellsScript, scripted};
 ghost use Rattle.blk_cli.specs.Said.{said_of};
-ghost use Rattle.blk_cli.specs.Explaining.{text_kind, names_line, repeated_line, takers_line, IsScriptRun, IsStepIn, IsToldRefused, AreRowsExplained, IsPrintedExplained, IsTextExplained, IsUnexplained};
+ghost use Rattle.blk_cli.specs.Explaining.{IsScriptRun, IsStepIn, AreRowsExplained, IsPrintedExplained, IsTextExplained, IsUnexplained};
 
 use crate::Answered;
 use crate::failure::Failure;
@@ -35,9 +35,7 @@ pub enum Refuser {
 }
 
 /// What a text of a form is to the subcommands.
-fn text_kind(form: TextForm) -> TextKind
-    ensures { result ≡ text_kind form }
-{
+fn text_kind(form: TextForm) -> TextKind {
     match form {
         TextForm::Commands => TextKind::Commands,
         TextForm::Certificate | TextForm::OnTime => TextKind::Certificate,
@@ -86,60 +84,35 @@ fn refuser_of(alloc: Global, bytes: &[u8], form: Option<TextForm>) -> Result<Ref
     }
 }
 
-/// A text with a line behind it that names the subcommands of a kind's takers, but this one.
-fn with_names(
-    alloc: Global,
-    told: Vec<u8>,
-    kind: TextKind,
-    but: &str,
-) -> Result<Vec<u8>, AllocError>
-    ensures { IfOk result (λ text. text.items ≡ told.items ++ names_line kind but.now) }
-{
-    let mut text = told;
+/// The line that names the subcommands that take a kind of text, but this one.
+fn names_line(alloc: Global, kind: TextKind, but: &str) -> Result<String, AllocError> {
     let takers = takers_text(alloc, kind, but)?;
-    text.extend_from_slice(b"taken by ")?;
-    text.extend_from_slice(takers.as_bytes())?;
-    text.extend_from_slice(b"\n")?;
-    Ok(text)
+    let names = takers.as_str();
+    format!(in alloc; "taken by {names}\n")
 }
 
-/// The line that says that the oracle refuses a text for this id.
-fn repeated_text(alloc: Global, id: u64) -> Result<Vec<u8>, AllocError>
-    ensures { IfOk result (λ text. text.items ≡ repeated_line id) }
-{
-    match format!(in alloc; "refused by oracle: RepeatedId {id}\n") {
-        Ok(line) => Ok(line.into_bytes()),
-        Err(refused) => Err(refused),
+/// The line that names the subcommands which take texts of a form, or the one that refuses it.
+fn takers_line(alloc: Global, form: TextForm, refuser: Refuser) -> Result<String, AllocError> {
+    match refuser {
+        Refuser::Nobody => names_line(alloc, text_kind(form), ""),
+        Refuser::Commands => names_line(alloc, text_kind(form), "commands"),
+        Refuser::Oracle(id) => format!(in alloc; "refused by oracle: RepeatedId {id}\n"),
     }
 }
 
-/// A text with that line behind it.
-fn with_id(alloc: Global, told: Vec<u8>, id: u64) -> Result<Vec<u8>, AllocError>
-    ensures { IfOk result (λ text. text.items ≡ told.items ++ repeated_line id) }
-{
-    let mut text = told;
-    let line = repeated_text(alloc, id)?;
-    text.extend_from_slice(line.as_slice())?;
-    Ok(text)
-}
-
-/// A text with a line behind it that names the subcommands which take texts of a form, or the one that refuses it.
+/// A text with that line behind it, where it is of a form.
 fn with_takers(
     alloc: Global,
     told: Vec<u8>,
     form: Option<TextForm>,
     refuser: Refuser,
-) -> Result<Vec<u8>, AllocError>
-    ensures { IfOk result (λ text. text.items ≡ told.items ++ takers_line form refuser) }
-{
-    let Some(form) = form else {
-        return Ok(told);
-    };
-    match refuser {
-        Refuser::Nobody => with_names(alloc, told, text_kind(form), ""),
-        Refuser::Commands => with_names(alloc, told, text_kind(form), "commands"),
-        Refuser::Oracle(id) => with_id(alloc, told, id),
+) -> Result<Vec<u8>, AllocError> {
+    let mut text = told;
+    if let Some(form) = form {
+        let line = takers_line(alloc, form, refuser)?;
+        text.extend_from_slice(line.as_bytes())?;
     }
+    Ok(text)
 }
 
 /// What is said about the lines of a recorder, with the subcommands that take them where none is wrong.
@@ -148,7 +121,12 @@ fn lines_about(alloc: Global, recorder: Recorder, bytes: &[u8]) -> Result<Answer
 {
     let explained = explain_lines(alloc, recorder, bytes)?;
     match explained.fault {
-        None => Ok(Answered::alone(with_names(alloc, explained.text, TextKind::Capture, "")?)),
+        None => {
+            let mut text = explained.text;
+            let line = names_line(alloc, TextKind::Capture, "")?;
+            text.extend_from_slice(line.as_bytes())?;
+            Ok(Answered::alone(text))
+        }
         Some(_) => Ok(Answered {
             text: explained.text,
             note: None,
@@ -157,12 +135,14 @@ fn lines_about(alloc: Global, recorder: Recorder, bytes: &[u8]) -> Result<Answer
     }
 }
 
-/// What a step has to be instead of one that is refused.
-fn step_wanted(why: SimWhy) -> &'static str {
-    match why {
+/// What refuses a step: of most what the step has to be instead.
+fn state_of(why: SimWhy) -> StepState {
+    StepState::Other(match why {
+        SimWhy::SoftFull(overflow) => {
+            return StepState::Full(overflow.holds, overflow.room, overflow.brings);
+        }
+        SimWhy::Repeated(id) => return StepState::Entered(id),
         SimWhy::Full => "a flush of the plug before",
-        SimWhy::SoftFull(_) => "room in the software queue",
-        SimWhy::Repeated(_) => "bios that did not enter before",
         SimWhy::TraceFull => "no more events than a trace may have",
         SimWhy::TagRange => "a tag below the depth of the round",
         SimWhy::SlotUsed => "a tag that was not issued in this round",
@@ -170,20 +150,7 @@ fn step_wanted(why: SimWhy) -> &'static str {
         SimWhy::InFlight => "no command in flight at the end of a round",
         SimWhy::DepthRange => "a depth of 1 to that of the title",
         SimWhy::Memory => "more memory",
-    }
-}
-
-/// What refuses a step.
-fn state_of(why: SimWhy) -> StepState {
-    match why {
-        SimWhy::SoftFull(overflow) => StepState::Full(
-            overflow.holds,
-            overflow.room,
-            overflow.brings,
-        ),
-        SimWhy::Repeated(id) => StepState::Entered(id),
-        _ => StepState::Other(step_wanted(why)),
-    }
+    })
 }
 
 /// The script that these bytes spell.
@@ -234,7 +201,8 @@ fn step_in(
 
 /// What is said of a refused step.
 fn refused_about(alloc: Global, bytes: &[u8], fault: SimFault) -> Result<Answered, AllocError>
-    ensures { IfOk result (λ answer. IsToldRefused fault (said_of answer)) }
+    ensures bad { IfOk result (λ answer. (said_of answer).good ≡ false) }
+    ensures quiet { IfOk result (λ answer. (said_of answer).note ≡ None) }
 {
     let step = RefusedStep {
         at: fault.at,
@@ -256,7 +224,8 @@ fn rows_about(alloc: Global, bytes: &[u8]) -> Result<Answered, AllocError>
     let explained = explain(alloc, bytes)?;
     let form = explained.finding.form();
     if let Some(fault) = step_in(alloc, bytes, form)? {
-        return refused_about(alloc, bytes, fault);
+        let answer = refused_about(alloc, bytes, fault)?;
+        return Ok(answer);
     }
     let refuser = refuser_of(alloc, bytes, form)?;
     let text = with_takers(alloc, explained.text, form, refuser)?;

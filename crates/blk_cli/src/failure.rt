@@ -2,10 +2,8 @@
 
 ghost use Rattle.std.specs.Prelude.{◌≡◌, ◌≤◌, decimal};
 ghost use Rattle.drafts.specs.Outputs.{Writes, stream_of};
-ghost use Rattle.blk_words.specs.Refusals.{refusal_text};
-ghost use Rattle.blk_cli.specs.Lines.{line, want_of_memory, numbered, signed_line, at_record, more_line, at_line, text_line, printed_line, step_line, oracle_line, too_many_line, import_line, arrivals_text, check_line, on_time_check_line, failure_line, status_of};
+ghost use Rattle.blk_cli.specs.Lines.{line, want_of_memory, numbered, signed_line, at_record, more_line, at_line, text_line, step_line, oracle_line, check_line, on_time_check_line, status_of, OwnLine, PrintedLine, ImportLine, ArrivalsLine, LineOn};
 ghost use Rattle.blk_cli.specs.Ends.{EndsFailing};
-ghost use Rattle.blk_cli.specs.Inside.Lines.{list_line};
 ghost use Rattle.blk_cli.specs.Inside.Scripts.{failure_of_run};
 
 use crate::traces::UnlistedFault;
@@ -118,7 +116,7 @@ impl Failure {
 
     /// Writes the failure's line: `blk: ` and what was refused, where it stands or which id or number it has.
     fn tell<F: Write>(&self, faults: &mut Output<F>) -> Result<(), WriteFault>
-        ensures { Writes (failure_line self.now) (stream_of F.contents faults.old) (stream_of F.contents faults.new) result }
+        ensures { LineOn self.now (λ text. Writes text (stream_of F.contents faults.old) (stream_of F.contents faults.new) result) }
     {
         match self {
             Failure::Text(fault) => tell_text(faults, fault.at, fault.why),
@@ -137,10 +135,7 @@ impl Failure {
                 _ => tell_name(faults, fault.name()),
             },
             Failure::Import(fault) => tell_import(faults, *fault),
-            Failure::Arrivals(fault) => match fault {
-                ArrivalsFault::Memory => tell_memory(faults),
-                _ => tell_name(faults, arrivals_text(*fault)),
-            },
+            Failure::Arrivals(fault) => tell_arrivals(faults, *fault),
             Failure::Words(refusal) => tell_words(faults, *refusal),
             Failure::Write => tell_name(faults, "write fault"),
             Failure::Memory => tell_memory(faults),
@@ -214,7 +209,7 @@ pub(crate) fn tell_more<F: Write>(
 
 /// Writes the line on a line that a recorder printed.
 fn tell_line<F: Write>(faults: &mut Output<F>, at: u64, why: LineWhy) -> Result<(), WriteFault>
-    ensures { Writes (printed_line at why) (stream_of F.contents faults.old) (stream_of F.contents faults.new) result }
+    ensures { PrintedLine at why (λ text. Writes text (stream_of F.contents faults.old) (stream_of F.contents faults.new) result) }
 {
     match why {
         LineWhy::Memory => tell_memory(faults),
@@ -246,7 +241,7 @@ fn tell_number<F: Write>(faults: &mut Output<F>, name: &str, number: u64) -> Res
 
 /// Writes the line of an option that takes a list of numbers up to the most.
 fn tell_numbers<F: Write>(faults: &mut Output<F>, option: &str, most: u64) -> Result<(), WriteFault>
-    ensures { Writes (list_line option.now most) (stream_of F.contents faults.old) (stream_of F.contents faults.new) result }
+    ensures { OwnLine (λ text. Writes text (stream_of F.contents faults.old) (stream_of F.contents faults.new) result) }
 {
     let mut count = [0; MAX_DIGITS];
     let count_end = put_number(MAX_LISTED as u64, &mut count, 0);
@@ -271,7 +266,7 @@ fn tell_numbers<F: Write>(faults: &mut Output<F>, option: &str, most: u64) -> Re
 
 /// Writes the line on a capture that is not imported: of too many requests, how many, and what to do.
 fn tell_import<F: Write>(faults: &mut Output<F>, fault: ImportFault) -> Result<(), WriteFault>
-    ensures { Writes (import_line fault) (stream_of F.contents faults.old) (stream_of F.contents faults.new) result }
+    ensures { ImportLine fault (λ text. Writes text (stream_of F.contents faults.old) (stream_of F.contents faults.new) result) }
 {
     match fault {
         ImportFault::TooMany(count) => tell_too_many(faults, fault.name(), count),
@@ -281,7 +276,7 @@ fn tell_import<F: Write>(faults: &mut Output<F>, fault: ImportFault) -> Result<(
 
 /// Writes the line of a name of too many requests: how many, and what to do.
 fn tell_too_many<F: Write>(faults: &mut Output<F>, name: &str, count: u64) -> Result<(), WriteFault>
-    ensures { Writes (too_many_line name.now count) (stream_of F.contents faults.old) (stream_of F.contents faults.new) result }
+    ensures { OwnLine (λ text. Writes text (stream_of F.contents faults.old) (stream_of F.contents faults.new) result) }
 {
     let mut digits = [0; MAX_DIGITS];
     let end = put_number(count, &mut digits, 0);
@@ -292,9 +287,7 @@ fn tell_too_many<F: Write>(faults: &mut Output<F>, name: &str, count: u64) -> Re
 }
 
 /// What is said of a capture whose arrivals are no script: the name, and of some what to do.
-fn arrivals_text(fault: ArrivalsFault) -> &'static str
-    ensures { result.now ≡ arrivals_text fault }
-{
+fn arrivals_text(fault: ArrivalsFault) -> &'static str {
     match fault {
         ArrivalsFault::TooMany =>
             "TooMany: a script has at most 64 submitters, and more processes and processors queue bios, so take less of the capture",
@@ -306,9 +299,19 @@ fn arrivals_text(fault: ArrivalsFault) -> &'static str
     }
 }
 
+/// Writes the line on arrivals that are no script.
+fn tell_arrivals<F: Write>(faults: &mut Output<F>, fault: ArrivalsFault) -> Result<(), WriteFault>
+    ensures { ArrivalsLine fault (λ text. Writes text (stream_of F.contents faults.old) (stream_of F.contents faults.new) result) }
+{
+    match fault {
+        ArrivalsFault::Memory => tell_memory(faults),
+        _ => tell_name(faults, arrivals_text(fault)),
+    }
+}
+
 /// Writes the line on words that can't be done.
 fn tell_words<F: Write>(faults: &mut Output<F>, refusal: Refusal) -> Result<(), WriteFault>
-    ensures { Writes (line (refusal_text refusal)) (stream_of F.contents faults.old) (stream_of F.contents faults.new) result }
+    ensures { OwnLine (λ text. Writes text (stream_of F.contents faults.old) (stream_of F.contents faults.new) result) }
 {
     match refusal.text() {
         Complaint::Text(text) => tell_name(faults, text),

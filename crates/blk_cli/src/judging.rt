@@ -1,10 +1,10 @@
 //! The job over a schedule: what is said about it, as a whole or of each of its late commands.
 
-ghost use Rattle.std.specs.Prelude.{◌≡◌, IfOk, IfErr, option_map};
+ghost use Rattle.std.specs.Prelude.{◌≡◌, IfOk, IfErr, is_some, option_map};
 ghost use Rattle.edd_commands.specs.Capacity.{fixed};
 ghost use Rattle.blk_lists.specs.Schedule.{IsScheduleView, viewed, SpellsSchedule, ScheduleFault};
 ghost use Rattle.blk_cli.specs.Inputs.{Of, FailsOver};
-ghost use Rattle.blk_cli.specs.Judging.{IsWholeText, IsEachText, IsJudgedText, IsUnjudged, empty_note, TellsEmpty};
+ghost use Rattle.blk_cli.specs.Judging.{IsWholeText, IsEachText, IsJudgedText, IsUnjudged, has_no_commands, TellsEmpty};
 ghost use Rattle.blk_cli.specs.Said.{said_of};
 
 use crate::Answered;
@@ -89,7 +89,7 @@ fn judged(alloc: Global, each: bool, schedule: &Schedule) -> Result<Vec<u8>, Fai
 
 /// The line on a schedule without commands, of which all numbers are 0.
 fn empty_note(alloc: Global, schedule: &Schedule) -> Result<Option<Vec<u8>>, AllocError>
-    ensures { IfOk result (λ note. option_map (λ line. line.items) note ≡ empty_note (viewed schedule.now)) }
+    ensures { IfOk result (λ note. is_some (option_map (λ line. line.items) note) ≡ has_no_commands (viewed schedule.now)) }
 {
     if schedule.commands.is_empty() {
         let line = EMPTY.to_vec(alloc)?;

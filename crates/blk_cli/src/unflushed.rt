@@ -1,14 +1,13 @@
 //! What is said of a script beside what is written of it: how many of its bios no flush takes out of their plugs.
 
-ghost use Rattle.std.specs.Prelude.{◌≡◌, ◌+◌, ◌≤◌, ◌<◌, ◌^◌, IfOk, IfErr, length, option_map};
+ghost use Rattle.std.specs.Prelude.{◌≡◌, ◌+◌, ◌≤◌, ◌<◌, ◌^◌, IfOk, IfErr, length, is_some, option_map};
 ghost use Rattle.blk_text.specs.Script.{IsScript, scripted};
 ghost use Rattle.blk_cli.specs.Said.{said_of};
-ghost use Rattle.blk_cli.specs.Unflushed.{plugged_after, plugged, left_in_plugs, plugs_line, plugs_note, TellsPlugs};
+ghost use Rattle.blk_cli.specs.Unflushed.{plugged_after, plugged, left_in_plugs, leaves_some, TellsPlugs};
 
 use crate::Answered;
 use crate::failure::Failure;
 use blk_text::{Line, Script};
-use drafts::Draft;
 use std::alloc::{AllocError, Global};
 
 /// How many bios the plug of a submitter holds after one more line.
@@ -66,21 +65,17 @@ fn left_in_plugs(script: &Script) -> u64
 }
 
 /// The line on so many bios.
-fn plugs_line(alloc: Global, left: u64) -> Result<Vec<u8>, AllocError>
-    ensures { IfOk result (λ line. line.items ≡ plugs_line left) }
-{
-    let mut draft = Draft::new(alloc);
-    draft.text(b"blk: not flushed: ")?;
-    draft.number(left)?;
-    draft.text(b" bios stay in their plugs")?;
-    draft.text(b"\n")?;
-    draft.finish()
+fn plugs_line(alloc: Global, left: u64) -> Result<Vec<u8>, AllocError> {
+    match format!(in alloc; "blk: not flushed: {left} bios stay in their plugs\n") {
+        Ok(line) => Ok(line.into_bytes()),
+        Err(refused) => Err(refused),
+    }
 }
 
 /// The line on bios that stay in their plugs, where there are any: nothing else tells of them.
 fn plugs_note(alloc: Global, script: &Script) -> Result<Option<Vec<u8>>, AllocError>
     requires { IsScript (scripted script.now) }
-    ensures { IfOk result (λ note. option_map (λ line. line.items) note ≡ plugs_note (scripted script.now)) }
+    ensures { IfOk result (λ note. is_some (option_map (λ line. line.items) note) ≡ leaves_some (scripted script.now)) }
 {
     let left = left_in_plugs(script);
     if left == 0 {

@@ -1,9 +1,8 @@
 -- What a text is, or what is wrong with it.
-use Rattle.std.specs.Prelude.{◌≡◌, ◌≢◌, ◌⊎◌, ◌≤◌, ◌++◌, ℕ, Option, None, Some, List, [], length, get_or, codes, decimal, nat_eq}
+use Rattle.std.specs.Prelude.{◌≡◌, ◌≢◌, ◌⊎◌, ◌≤◌, ℕ, Option, None, Some, List, [], length, get_or, nat_eq}
 use Rattle.strsim.specs.Edits.{levenshtein_row}
 use Rattle.blk_lists.specs.Kinds.{KindRow}
 use Rattle.blk_lists.specs.Sources.{Row}
-use Rattle.blk_lists.specs.Names.{why_name}
 use Rattle.blk_lists.specs.declared.fault.TextFault.{TextFault}
 use Rattle.blk_lists.specs.declared.fault.Why.{Why}
 use Rattle.blk_lists.specs.declared.fault.Why.TheVariants as why
@@ -62,38 +61,14 @@ record_told (finding.Good f) = 1
 record_told (finding.Faulty f fault) = fault.at
 record_told finding.Untitled = 1
 
--- the name of a form, and that of the program where it is none
-abbrev pub named_as : Option TextForm → List ℕ
-named_as None = codes "blk"
-named_as (Some f) = form_name f
-
--- the line on a fault, as the program has it: the form, the record and the rule
-abbrev pub fault_line : Option TextForm → ℕ → List ℕ → List ℕ
-fault_line form at why = (((named_as form ++ codes ": record ") ++ decimal at) ++ codes ": ") ++ why ++ codes "\n"
-
--- a text ends with a line
-abbrev pub EndsWith : List ℕ → List ℕ → Type 0
-EndsWith line text = (words : List ℕ) × (text ≡ words ++ line)
-
-abbrev pub nearest_in : Detail → Option TextForm
-nearest_in (detail.Nearest f) = Some f
-nearest_in d = None
-
--- what is told of a fault ends with that line
-abbrev pub IsToldOf : Finding → Detail → List ℕ → Type 0
-IsToldOf (finding.Good f) d text = Unit {0}
-IsToldOf (finding.Faulty f fault) d text = EndsWith (fault_line (Some f) fault.at (why_name fault.why)) text
-IsToldOf finding.Untitled d text = EndsWith (fault_line (nearest_in d) 1 (why_name why.Title)) text
-
 -- the form of a text that a finding says to have no fault
 abbrev pub form_without_fault : Finding → Option TextForm
 form_without_fault (finding.Good f) = Some f
 form_without_fault (finding.Faulty f fault) = None
 form_without_fault finding.Untitled = None
 
--- what the reader of the named form finds in these bytes, on which line, what is known of it, and what is told of it
-pub record IsExplained (bytes : List ℕ) (f : Finding) (line : ℕ) (d : Detail) (text : List ℕ) : Type 0 where
+-- what the reader of the named form finds in these bytes, on which line, and what is known of it
+pub record IsExplained (bytes : List ℕ) (f : Finding) (line : ℕ) (d : Detail) : Type 0 where
   pub found : IsFound (rows_of bytes) f
   pub line_is : line ≡ line_at bytes (record_told f)
   pub known : IsDetailOf (rows_of bytes) f d
-  pub told : IsToldOf f d text

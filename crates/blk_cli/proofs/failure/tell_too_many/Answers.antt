@@ -1,4 +1,4 @@
 use Rattle.blk_cli.proofs.failure.tell_too_many.Goals as goal
 
 pub returns : goal.returns
-returns g c = rw (c.put_number-end.ensures.written, c.as_bytes.ensures.value) at c.put_all.ensures
+returns g c = (_, c.put_all.ensures)

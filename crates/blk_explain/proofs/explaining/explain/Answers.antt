@@ -5,5 +5,4 @@ returns c = record {
   found = c.in_ok-finding.ensures;
   line_is = (rw c.record.ensures at c.line_at-line.ensures);
   known = c.in_ok-detail.ensures;
-  told = c.in_ok-text.ensures;
 }

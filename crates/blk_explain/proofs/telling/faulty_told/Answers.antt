@@ -1,5 +1,0 @@
-use Rattle.blk_explain.proofs.Found.{ok_map}
-use Rattle.blk_explain.proofs.telling.faulty_told.Goals as goal
-
-pub returns : goal.returns
-returns c = ok_map _ _ c.named.result (λ text h. (c.in_ok-words.words.items, (rw c.name.ensures at h))) c.named.ensures
