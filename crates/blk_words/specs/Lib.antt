@@ -4,6 +4,5 @@ pub mod Times
 pub mod Lists
 pub mod Takers
 pub mod Asked
-pub mod Refusals
 pub mod Plain
 pub mod Inside

@@ -1,6 +1,6 @@
 -- Which subcommands take a kind of text, and how they are named.
 use Rattle.std.specs.Prelude.{ℕ, ◌≡◌, ◌≢◌, ◌↔◌, ◌==◌, ◌++◌, List, Option, None, Some, codes, filter, length, if◌then◌else◌}
-use Rattle.std.specs.List.{flat_map, join_by, range_with_len}
+use Rattle.std.specs.List.{flat_map, range_with_len}
 use Rattle.std.specs.Option.{option_to_list}
 use Rattle.std.specs.Str.{bytes_eq}
 use Rattle.clap.specs.Words.{Row, Text}
@@ -48,15 +48,12 @@ at_place place subcommands = filter (λ s. s.place == place) subcommands
 abbrev pub named_in_order : List Subcommand
 named_in_order = flat_map (λ place. at_place place command_table) (range_with_len 0 (length command_table))
 
--- those that take a text of this kind, but the one of a name, and their names with commas between
+-- those that take a text of this kind, but the one of a name
 abbrev pub taker_but : TextKind → Text → Subcommand → Option Text
 taker_but i but s = if bytes_eq s.name but then None else taker i s
 
 abbrev pub takers : TextKind → Text → List Text
 takers i but = flat_map (λ s. option_to_list (taker_but i but s)) named_in_order
-
-abbrev pub takers_text : TextKind → Text → Text
-takers_text i but = join_by (λ name. name) (codes ", ") (takers i but)
 
 -- the kind of text that a job reads, if it reads texts of one kind
 abbrev pub kind_read : Job → Option TextKind

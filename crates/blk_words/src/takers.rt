@@ -1,9 +1,9 @@
 //! Which subcommands take a kind of text, by the table, as they are named to somebody who has such a text.
 
-ghost use Rattle.std.specs.Prelude.{◌≡◌, ◌++◌, IfOk, OnOk, length, map, option_map, string_bytes};
+ghost use Rattle.std.specs.Prelude.{◌≡◌, ◌++◌, IfOk, OnOk, length, map, option_map};
 ghost use Rattle.blk_words.specs.CommandLine.{command_table};
-ghost use Rattle.blk_words.specs.Inside.Tables.{subcommand_of, subcommands_of, called, behind_commas};
-ghost use Rattle.blk_words.specs.Takers.{TakesWhatItReads, at_place, named_in_order, taker, taker_but, takers, takers_text};
+ghost use Rattle.blk_words.specs.Inside.Tables.{subcommand_of, subcommands_of, called};
+ghost use Rattle.blk_words.specs.Takers.{TakesWhatItReads, at_place, named_in_order, taker, taker_but, takers};
 ghost use Rattle.blk_words.specs.declared.inputs.TextKind.{TextKind as Kind};
 ghost use Rattle.blk_words.specs.declared.table.Makes.{Makes as Made};
 
@@ -24,9 +24,7 @@ struct Taker {
 
 impl Taker {
     /// Adds its name, with the flag.
-    fn push(self, names: &mut String) -> Result<(), AllocError>
-        ensures { OnOk result (string_bytes names.new ≡ string_bytes names.old ++ called self) }
-    {
+    fn push(self, names: &mut String) -> Result<(), AllocError> {
         names.push_str(self.name)?;
         if let Some(flag) = self.flag {
             names.push_str(" --")?;
@@ -115,9 +113,7 @@ fn takers_of(alloc: Global, kind: TextKind, but: &str) -> Result<Vec<Taker>, All
 }
 
 /// Adds the names of these, each behind a comma and a space.
-fn push_others(names: &mut String, others: &[Taker]) -> Result<(), AllocError>
-    ensures { OnOk result (string_bytes names.new ≡ string_bytes names.old ++ behind_commas (map called others.now)) }
-{
+fn push_others(names: &mut String, others: &[Taker]) -> Result<(), AllocError> {
     for taker in others {
         names.push_str(", ")?;
         taker.push(names)?;
@@ -129,8 +125,7 @@ fn push_others(names: &mut String, others: &[Taker]) -> Result<(), AllocError>
 /// it reads another kind without; the subcommand of the name `but` is left out. They stand in the order of the places in their rows, by which
 /// no other is left out. Fails only when out of memory.
 pub fn takers_text(alloc: Global, kind: TextKind, but: &str) -> Result<String, AllocError>
-    ensures names { IfOk result (λ names. string_bytes names ≡ takers_text kind but.now) }
-    ensures all { length named_in_order ≡ length command_table }
+    ensures { length named_in_order ≡ length command_table }
 {
     let all = takers_of(alloc, kind, but)?;
     let mut names = String::new(alloc);

@@ -8,8 +8,6 @@ ghost use Rattle.blk_words.specs.CommandLine.{command_table, program_version};
 ghost use Rattle.blk_words.specs.Inside.Tables.{subcommand_of, makes_among};
 ghost use Rattle.blk_words.specs.Asked.{Asks, IsNoJob, list_given, by_named, by_given, tune_job, short_given, number_given, is_flagged, source_of, is_other_given, given_options, sched_asked, lineup_asked, compared, picture_given, amounts_of, shown_of, loaded, load_given, form_by, form_asked, time_given, entry_named, from_given, source_given, round_by, round_given, script_asked, unscripted, written_of, takes_all, import_of, import_job, oracle_given, job_made, job_of, import_with};
 ghost use Rattle.blk_words.specs.Options.{script_option};
-ghost use Rattle.blk_settings.specs.Complaints.{complaint_text};
-ghost use Rattle.blk_words.specs.Refusals.{refusal_text};
 ghost use Rattle.blk_words.specs.Inside.Options.{given};
 
 use crate::blaming::{Blaming, blame_job};
@@ -202,10 +200,8 @@ pub enum Refusal {
 }
 
 impl Refusal {
-    /// What the program says of it.
-    pub fn text(self) -> Complaint
-        ensures { complaint_text result ≡ refusal_text self }
-    {
+    /// What the program says of it; the cases say in which words.
+    pub fn text(self) -> Complaint {
         let text = match self {
             Refusal::ReadExpire => "--read-expire takes a number with ns, us, ms or s",
             Refusal::WriteExpire => "--write-expire takes a number with ns, us, ms or s",

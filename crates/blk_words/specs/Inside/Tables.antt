@@ -1,5 +1,5 @@
 -- Subcommands and options by the rows of the program's table.
-use Rattle.std.specs.Prelude.{◌∷◌, ◌++◌, [], List, Option, None, Some, codes, find, map, option_map}
+use Rattle.std.specs.Prelude.{◌∷◌, [], List, Option, None, Some, find, map, option_map}
 use Rattle.std.specs.List.{flat_map}
 use Rattle.std.specs.Str.{bytes_eq}
 use Rattle.clap.specs.Words.{Text}
@@ -33,13 +33,10 @@ subcommands_of = map subcommand_of
 abbrev pub makes_among : Text → List Subcommand → Option Makes
 makes_among name subcommands = option_map (λ s. s.makes) (find (λ s. bytes_eq name s.name) subcommands)
 
--- how a subcommand that takes a text is named, by its name and the flag, if there is one; and names that stand behind others
+-- how a subcommand that takes a text is named, by its name and the flag, if there is one
 abbrev pub with_flag : Text → Option (Bor Text) → Text
 with_flag name None = name
 with_flag name (Some flag) = name_with flag.now name
 
 abbrev pub called : Taker → Text
 called t = with_flag t.name.now t.flag
-
-abbrev pub behind_commas : List Text → Text
-behind_commas names = flat_map (λ name. codes ", " ++ name) names
