@@ -15,12 +15,11 @@ use Rattle.answer.specs.declared.answer.Part.{Part}
 use Rattle.blk_report.specs.Table.{IsTable}
 use Rattle.blk_report.specs.declared.figures.Report.{Report}
 use Rattle.blk_cli.specs.Forms.{written_in}
-use Rattle.blk_picture.specs.Pictures.{IsPictures}
 use Rattle.blk_trace.specs.Traces.{Traced}
 use Rattle.blk_settings.specs.declared.form.Form.{Form}
 use Rattle.blk_cli.specs.Scripts.{FailsToRun}
 use Rattle.blk_cli.specs.Inside.Scripts.{failure_of_run}
-use Rattle.blk_cli.specs.Comparing.{IsReportUnder, AreUnder, AreReports, AreTraces, IsUncompared, IsComparedText, ArePicturesText}
+use Rattle.blk_cli.specs.Comparing.{IsReportUnder, AreUnder, AreReports, AreTraces, IsUncompared, IsComparedText}
 
 -- nothing yet, one more, and as many as schedulers
 pub none_yet : {X : Type 0} (Comes : Sched → Scripted → X → Type 0) (s : Scripted) → AreUnder Comes [] s []
@@ -89,12 +88,4 @@ table_is l f ss s rs told text e are is written = record {
   told = told;
   is_table = subst (λ (xs : List Sched). IsTable (map name_of xs) rs told) e is;
   is_text = written;
-}
-
--- the pictures of what was traced
-pub pictures_are : (l : Lineup) (ss : List Sched) (s : Scripted) (ts : List Traced) (names : List (List ℕ)) (text : List ℕ) → ss ≡ in_turn l → AreTraces ss s ts → names ≡ map name_of ss → IsPictures names ts text → ArePicturesText l s text
-pictures_are l ss s ts names text e are named is = record {
-  traces = ts;
-  are_traces = subst (λ (xs : List Sched). AreTraces xs s ts) e are;
-  are_pictures = subst (λ (xs : List Sched). IsPictures (map name_of xs) ts text) e (subst (λ (ns : List (List ℕ)). IsPictures ns ts text) named is);
 }

@@ -6,7 +6,6 @@ use Rattle.blk_text.specs.Script.{Scripted}
 use Rattle.blk_report.specs.declared.figures.Report.{Report}
 use Rattle.blk_report.specs.Shortfall.{IsReport}
 use Rattle.blk_report.specs.Table.{IsTable}
-use Rattle.blk_picture.specs.Pictures.{IsPictures}
 use Rattle.blk_words.specs.declared.inputs.Running.{Running}
 use Rattle.blk_words.specs.declared.inputs.Running.TheVariants as running
 use Rattle.blk_settings.specs.declared.form.Form.{Form}
@@ -49,11 +48,9 @@ pub record IsComparedText (l : Lineup) (f : Form) (script : Scripted) (text : Li
   pub is_table : IsTable (map name_of (in_turn l)) reports told
   pub is_text : text ≡ written_in f told
 
--- what `picture --script` writes: the pictures of these traces as one
-pub record ArePicturesText (l : Lineup) (script : Scripted) (text : List ℕ) : Type 0 where
-  pub traces : List Traced
-  pub are_traces : AreTraces (in_turn l) script traces
-  pub are_pictures : IsPictures (map name_of (in_turn l)) traces text
+-- what `picture --script` draws: these traces
+abbrev pub AreDrawn : Lineup → Scripted → Type 0
+AreDrawn l script = (traces : List Traced) × AreTraces (in_turn l) script traces
 
 -- why a script is not compared
 abbrev pub IsUncompared : List Sched → Scripted → Failure → Type 0
@@ -66,7 +63,7 @@ IsUncompared scheds script f = ⊥
 abbrev pub IsRunText : Running → Scripted → List ℕ → Type 0
 IsRunText (running.One s) script text = IsSimText s script text
 IsRunText (running.Each l f) script text = IsComparedText l f script text
-IsRunText (running.Drawn l) script text = ArePicturesText l script text
+IsRunText (running.Drawn l) script text = AreDrawn l script
 
 -- what is said beside it: of what is drawn, bios that stay in their plugs
 abbrev pub TellsRun : Running → Scripted → Said → Type 0

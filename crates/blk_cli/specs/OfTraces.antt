@@ -9,7 +9,6 @@ use Rattle.blk_lists.specs.Texts.{rows_text}
 use Rattle.blk_text.specs.TraceForm.{trace_rows, SpellsTraceIn}
 use Rattle.blk_text.specs.declared.setup.TheConstants.{LATEST}
 use Rattle.blk_cli.specs.Figures.{IsFiguresText}
-use Rattle.blk_picture.specs.Pictures.{IsPicture}
 use Rattle.blk_words.specs.declared.inputs.Telling.{Telling}
 use Rattle.blk_words.specs.declared.inputs.Telling.TheVariants as telling
 use Rattle.blk_cli.specs.declared.failure.Failure.{Failure}
@@ -28,11 +27,11 @@ pub record IsCommandsText (trace : Traced) (text : List ℕ) : Type 0 where
   pub spelled : SpellsCommands (commands_rows trace.setup.depth (commands_of trace.setup trace.events)) trace.setup.depth (commands_of trace.setup trace.events)
   pub is_text : text ≡ rows_text (commands_rows trace.setup.depth (commands_of trace.setup trace.events))
 
--- what is said about a trace
+-- what is said about a trace; what its picture shows, `drawing_of` of blk_picture says
 abbrev pub IsTellingText : Telling → Traced → List ℕ → Type 0
 IsTellingText telling.Whole trace text = IsTraceText trace text
 IsTellingText telling.Commands trace text = IsCommandsText trace text
-IsTellingText telling.Picture trace text = IsPicture trace text
+IsTellingText telling.Picture trace text = ⊤
 IsTellingText (telling.Figures asked f) trace text = IsFiguresText asked f trace text
 
 -- why a trace has no command list: an event sets a depth

@@ -5,7 +5,7 @@ ghost use Rattle.blk_text.specs.Script.{IsScript, scripted};
 ghost use Rattle.blk_settings.specs.Made.{IsMade};
 ghost use Rattle.blk_settings.specs.Scheds.{in_turn};
 ghost use Rattle.blk_runs.specs.Firsts.{AreUnrun};
-ghost use Rattle.blk_cli.specs.Comparing.{AreTraces, IsUncompared, ArePicturesText};
+ghost use Rattle.blk_cli.specs.Comparing.{AreTraces, IsUncompared, AreDrawn};
 
 use crate::comparing::names_of;
 use crate::failure::Failure;
@@ -51,7 +51,7 @@ fn drawn_under(alloc: Global, scheds: &[Sched], script: &Script) -> Result<Vec<T
 /// The pictures of a script under each scheduler of a lineup, as one.
 pub fn pictures_of(alloc: Global, lineup: Lineup, script: &Script) -> Result<Vec<u8>, Failure>
     requires { IsScript (scripted script.now) }
-    ensures text { IfOk result (λ text. ArePicturesText lineup (scripted script.now) text.items) }
+    ensures drawn { IfOk result (λ text. AreDrawn lineup (scripted script.now)) }
     ensures uncompared { IfErr result (IsUncompared (in_turn lineup) (scripted script.now)) }
 {
     let Ok(scheds) = lineup.in_turn(alloc) else {

@@ -1,4 +1,4 @@
-pub mod Texts
+pub mod Made
 pub mod Requests
 pub mod Walk
 pub mod Counting

@@ -18,6 +18,8 @@ use Rattle.blk_picture.specs.declared.columns.Column.{Column}
 use Rattle.blk_picture.specs.declared.columns.IssueKind.{IssueKind}
 use Rattle.blk_picture.specs.declared.columns.IssueKind.TheVariants.{Reads, Writes, Lates, Backs, GoneReads, GoneWrites}
 use Rattle.blk_picture.specs.Boxes.{boxes_of}
+use Rattle.blk_picture.specs.Made.{made}
+use Rattle.blk_picture.specs.Scales.{shown_at}
 
 -- whether it was issued after it was due
 abbrev pub is_late : IssueBox → Bool
@@ -82,3 +84,10 @@ column_of setup events scale c = record {
   read_waits = slice_index_or (peaks_of scale.per scale.columns (waits_of (entered_in Read events) (rounds_in GoneReads (boxes_of setup events)) scale.rounds)) c 0;
   write_waits = slice_index_or (peaks_of scale.per scale.columns (waits_of (entered_in Write events) (rounds_in GoneWrites (boxes_of setup events)) scale.rounds)) c 0;
 }
+
+-- one in which nothing is, and those that are drawn, in their order
+abbrev pub no_column : Column
+no_column = record { reads = 0; writes = 0; lates = 0; backs = 0; room = 0; read_waits = 0; write_waits = 0 }
+
+unfoldable pub drawn_columns : Scale → List Column → List Column
+drawn_columns scale columns = made (λ n. slice_index_or columns (shown_at scale n) no_column) scale.drawn

@@ -2,4 +2,3 @@
 pub mod Facts
 pub mod Walked
 pub mod Counted
-pub mod Several

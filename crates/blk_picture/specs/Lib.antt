@@ -1,9 +1,7 @@
-pub mod Templates
+pub mod Made
 pub mod Boxes
 pub mod Scales
 pub mod Columns
 pub mod Cuts
-pub mod Shapes
-pub mod Around
 pub mod Pictures
 pub mod Inside

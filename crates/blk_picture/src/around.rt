@@ -1,8 +1,7 @@
 //! What stands around the boxes of a picture, as text: its heading, its axis and its windows.
 
-ghost use Rattle.std.specs.Prelude.{◌≡◌, ◌<◌, ◌≤◌, ◌-◌, ◌/◌, ◌++◌, OnOk, length, min};
+ghost use Rattle.std.specs.Prelude.{◌<◌, ◌≤◌, length};
 ghost use Rattle.blk_picture.specs.declared.scale.TheConstants.{MAX_WIDE};
-ghost use Rattle.blk_picture.specs.Around.{numbers_text, legend, heading_text, column_at, beyond, line_text, named_text, bracket_text, crowded_text, crowd_text, crowds_text, foot_text, windows_text};
 
 use crate::scale::{LEFT, MAX_AXIS_STEPS, MAX_WIDE, Scale, TOP, place, step_of};
 use crate::template::push_template;
@@ -19,9 +18,7 @@ const MAX_CROWDS: usize = 400;
 const MAX_LABELLED: usize = 12;
 
 /// Adds what was late, and what a column stands for.
-fn push_numbers(draft: &mut Draft, scale: &Scale, tally: &Tally) -> Result<(), AllocError>
-    ensures { OnOk result (draft.new ≡ draft.old ++ numbers_text scale.now tally.now) }
-{
+fn push_numbers(draft: &mut Draft, scale: &Scale, tally: &Tally) -> Result<(), AllocError> {
     let per = u64::from(scale.per);
     push_template(
         draft,
@@ -37,9 +34,7 @@ fn push_numbers(draft: &mut Draft, scale: &Scale, tally: &Tally) -> Result<(), A
 }
 
 /// Adds the colours and what they mean.
-fn push_legend(draft: &mut Draft) -> Result<(), AllocError>
-    ensures { OnOk result (draft.new ≡ draft.old ++ legend) }
-{
+fn push_legend(draft: &mut Draft) -> Result<(), AllocError> {
     draft.text(LEGEND.as_bytes())
 }
 
@@ -51,9 +46,7 @@ pub(crate) fn push_heading(
     name: &[u8],
     report: &Report,
     tally: &Tally,
-) -> Result<(), AllocError>
-    ensures { OnOk result (draft.new ≡ draft.old ++ heading_text scale.now name.now report.now tally.now) }
-{
+) -> Result<(), AllocError> {
     let lines = report_lines(alloc, report)?;
     draft.text(b"<text class='t' x='24' y='28'>")?;
     draft.text(name)?;
@@ -67,7 +60,6 @@ pub(crate) fn push_heading(
 /// The column of a round, or the last one.
 fn column_of(scale: &Scale, round: u64) -> u32
     requires { 0 < scale.now.per }
-    ensures { result ≡ min round (scale.now.rounds - 1) / scale.now.per }
 {
     let last = u64::from(scale.rounds.saturating_sub(1));
     (round.min(last) as u32) / scale.per
@@ -76,7 +68,6 @@ fn column_of(scale: &Scale, round: u64) -> u32
 /// Where the column of a round begins, or the last one.
 fn column_at(scale: &Scale, round: u64) -> u32
     requires { 0 < scale.now.per }
-    ensures { result ≡ column_at scale.now round }
 {
     scale.place_of(column_of(scale, round))
 }
@@ -84,7 +75,6 @@ fn column_at(scale: &Scale, round: u64) -> u32
 /// How far behind that it ends, where it is drawn.
 fn beyond(scale: &Scale, round: u64) -> u32
     requires { 0 < scale.now.per }
-    ensures value { result ≡ beyond scale.now round }
     ensures small { result ≤ MAX_WIDE }
 {
     if scale.shows(column_of(scale, round)) {
@@ -172,7 +162,6 @@ pub(crate) fn axis(alloc: Global, scale: &Scale) -> Result<Vec<u8>, AllocError>
 /// Adds the bracket of a window in a row, with its two numbers in its title.
 fn push_line(draft: &mut Draft, scale: &Scale, row: u32, crowd: Crowd) -> Result<(), AllocError>
     requires { 0 < scale.now.per }
-    ensures { OnOk result (draft.new ≡ draft.old ++ line_text scale.now row crowd) }
 {
     let first = column_at(scale, crowd.window.from);
     let last = column_at(scale, crowd.window.due);
@@ -203,7 +192,6 @@ fn push_named(
     labelled: bool,
 ) -> Result<(), AllocError>
     requires { 0 < scale.now.per }
-    ensures { OnOk result (draft.new ≡ draft.old ++ named_text scale.now row crowd labelled) }
 {
     if !labelled {
         return Ok(());
@@ -227,7 +215,6 @@ fn push_bracket(
     labelled: bool,
 ) -> Result<(), AllocError>
     requires { 0 < scale.now.per }
-    ensures { OnOk result (draft.new ≡ draft.old ++ bracket_text scale.now row crowd labelled) }
 {
     push_line(draft, scale, row, crowd)?;
     push_named(draft, scale, row, crowd, labelled)?;
@@ -242,7 +229,6 @@ fn push_crowded(
     carries: u64,
 ) -> Result<(), AllocError>
     requires { 0 < scale.now.per }
-    ensures { OnOk result (draft.new ≡ draft.old ++ crowded_text scale.now figures carries) }
 {
     let Some(figures) = figures else {
         return Ok(());
@@ -265,7 +251,6 @@ fn push_crowd(
 ) -> Result<(), AllocError>
     requires some { 0 < scale.now.per }
     requires within { number < length crowds.now }
-    ensures { OnOk result (draft.new ≡ draft.old ++ crowd_text scale.now crowds.now number) }
 {
     let labelled = crowds.len() <= MAX_LABELLED;
     let row = (number % 4 + 1) as u32;
@@ -278,7 +263,6 @@ fn push_crowd(
 /// Adds the windows of misses, the first [`MAX_CROWDS`], in four rows, with their numbers where they are few.
 fn push_crowds(draft: &mut Draft, scale: &Scale, crowds: &[Crowd]) -> Result<(), AllocError>
     requires { 0 < scale.now.per }
-    ensures { OnOk result (draft.new ≡ draft.old ++ crowds_text scale.now crowds.now) }
 {
     let count = crowds.len().min(MAX_CROWDS);
     for number in 0..count {
@@ -288,9 +272,7 @@ fn push_crowds(draft: &mut Draft, scale: &Scale, crowds: &[Crowd]) -> Result<(),
 }
 
 /// Adds how what stands below the frame begins.
-fn push_foot(draft: &mut Draft, scale: &Scale) -> Result<(), AllocError>
-    ensures { OnOk result (draft.new ≡ draft.old ++ foot_text scale.now) }
-{
+fn push_foot(draft: &mut Draft, scale: &Scale) -> Result<(), AllocError> {
     let foot = place(scale.deep, scale.tall, TOP);
     push_template(draft, b"<g transform='translate(0,$)'>\n", &[foot])
 }
@@ -305,7 +287,6 @@ pub(crate) fn push_windows(
     crowds: &[Crowd],
 ) -> Result<(), AllocError>
     requires { 0 < scale.now.per }
-    ensures { OnOk result (draft.new ≡ draft.old ++ windows_text scale.now axis.now report.now carries crowds.now) }
 {
     push_foot(draft, scale)?;
     draft.text(axis)?;

@@ -6,7 +6,7 @@ ghost use Rattle.blk_trace.specs.Kinds.{is_tick};
 ghost use Rattle.blk_trace.specs.declared.trace.TheConstants.{MAX_EVENTS};
 ghost use Rattle.blk_trace.specs.Meaning.{greatest};
 ghost use Rattle.blk_picture.specs.Boxes.{boxes_of};
-ghost use Rattle.blk_picture.specs.Templates.{made};
+ghost use Rattle.blk_picture.specs.Made.{made};
 ghost use Rattle.blk_picture.specs.Columns.{is_late, round_in, rounds_in, entry_in, entered_in, in_column, waits_of, peaks_of, rooms_of, column_of};
 ghost use Rattle.blk_picture.specs.Inside.Counted.{column_from, CountsOneMore, AreCounts, most_waits, by_column};
 

@@ -1,9 +1,9 @@
 //! Which rounds of long traces are drawn: those in which a late request waits or goes out.
 
-ghost use Rattle.std.specs.Prelude.{◌≡◌, ◌≤◌, ◌<◌, ◌^◌, ◌++◌, OnOk, IfOk, count_by};
+ghost use Rattle.std.specs.Prelude.{◌≡◌, ◌≤◌, ◌<◌, ◌^◌, IfOk, count_by};
 ghost use Rattle.blk_picture.specs.declared.scale.TheConstants.{MAX_TAG_TALL};
 ghost use Rattle.blk_picture.specs.Scales.{IsScaled};
-ghost use Rattle.blk_picture.specs.Cuts.{is_cut, cut_text};
+ghost use Rattle.blk_picture.specs.Cuts.{is_cut};
 
 use crate::boxes::IssueBox;
 use crate::columns::is_late;
@@ -128,9 +128,7 @@ pub(crate) fn push_cut(
     draft: &mut Draft,
     scale: &Scale,
     boxes: &[IssueBox],
-) -> Result<(), AllocError>
-    ensures { OnOk result (draft.new ≡ draft.old ++ cut_text scale.now boxes.now) }
-{
+) -> Result<(), AllocError> {
     if !scale.cut {
         return Ok(());
     }

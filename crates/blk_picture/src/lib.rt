@@ -13,4 +13,7 @@ mod shapes;
 mod template;
 mod words;
 
-pub use crate::parts::{picture, pictures};
+pub use crate::boxes::IssueBox;
+pub use crate::columns::Column;
+pub use crate::parts::{Drawing, drawing_of, picture, pictures};
+pub use crate::scale::Scale;

@@ -1,13 +1,12 @@
 //! The part of a picture that shows a trace, and whole pictures.
 
-ghost use Rattle.std.specs.Prelude.{ℕ, List, ◌≡◌, ◌++◌, ◌*◌, ◌+◌, ◌≤◌, ◌<◌, OnOk, IfOk, length, map};
+ghost use Rattle.std.specs.Prelude.{◌≡◌, ◌*◌, ◌+◌, ◌≤◌, ◌<◌, IfOk, length};
 ghost use Rattle.edd_commands.specs.declared.steps.TheConstants.{MAX_DEPTH};
 ghost use Rattle.blk_trace.specs.declared.trace.TheConstants.{MAX_EVENTS};
 ghost use Rattle.blk_picture.specs.declared.parts.TheConstants.{MAX_TRACES};
 ghost use Rattle.blk_picture.specs.declared.scale.TheConstants.{MAX_TAG_TALL};
 ghost use Rattle.blk_picture.specs.Scales.{IsScaled};
-ghost use Rattle.blk_picture.specs.Pictures.{rounds_shown, most_rounds, most_deep, latest_end, crowded_room, IsPart, height_of, style, head_text, IsPicture, IsPictures};
-ghost use Rattle.blk_picture.specs.Inside.Several.{HasParts};
+ghost use Rattle.blk_picture.specs.Pictures.{rounds_shown, most_rounds, most_deep, latest_end, crowded_room, IsDrawing};
 
 use crate::around::{axis, push_heading, push_windows};
 use crate::boxes::{IssueBox, boxes};
@@ -17,11 +16,11 @@ use crate::scale::{MAX_COLUMNS, Scale, place};
 use crate::shapes::{drawn_columns, push_frame, push_strip};
 use crate::template::push_template;
 use crate::words::{HEAD, STYLE};
-use blk_report::{Report, Tally, misses, report};
+use blk_report::{Missed, Report, misses, report};
 use blk_trace::Trace;
 use drafts::Draft;
 use edd_commands::{Capacity, MAX_ROUNDS};
-use edd_figures::{Crowd, Figures};
+use edd_figures::Figures;
 use std::alloc::{AllocError, Global};
 
 /// How many traces are drawn below one another at most.
@@ -69,40 +68,76 @@ fn crowded_room(capacity: &Capacity, figures: Option<Figures>) -> u64
     capacity.sum(window.from, latest_end(window.due, figures.least))
 }
 
-/// Adds what shows a trace, so far from the top.
-fn push_part(
-    draft: &mut Draft,
-    alloc: Global,
-    trace: &Trace,
-    scale: Scale,
-    top: u64,
-    name: &[u8],
-) -> Result<(), AllocError>
-    requires { 0 < scale.per }
-    ensures { OnOk result ((t : List ℕ) × IsPart scale top name.now trace.now t × (draft.new ≡ draft.old ++ t)) }
+/// What is drawn of a trace on a scale.
+#[derive(Drop)]
+pub struct Drawing {
+    /// How far it fell short.
+    pub report: Report,
+    /// How many commands were late and had to be, with the windows that prove it.
+    pub missed: Missed,
+    /// How many commands the rounds of the report's window carry, if each is to be less late than the least lateness; 0 where there is none.
+    pub room: u64,
+    /// The box of each Issue, the last one first.
+    pub boxes: Vec<IssueBox>,
+    /// The columns that are drawn, from the left.
+    pub columns: Vec<Column>,
+}
+
+/// What is drawn of a trace on a scale. Fails only when out of memory.
+pub fn drawing_of(alloc: Global, trace: &Trace, scale: &Scale) -> Result<Drawing, AllocError>
+    requires { 0 < scale.now.per }
+    ensures { IfOk result (IsDrawing scale.now trace.now) }
 {
     let report = report(trace)?;
     let missed = misses(trace)?;
     let boxes = boxes(alloc, trace)?;
-    let columns = columns(alloc, trace, boxes.as_slice(), scale)?;
-    let drawn = drawn_columns(alloc, &scale, columns.as_slice())?;
-    let axis = axis(alloc, &scale)?;
+    let columns = columns(alloc, trace, boxes.as_slice(), *scale)?;
+    let drawn = drawn_columns(alloc, scale, columns.as_slice())?;
     let room = crowded_room(&trace.capacity()?, report.figures);
+    Ok(Drawing {
+        report,
+        missed,
+        room,
+        boxes,
+        columns: drawn,
+    })
+}
+
+/// Adds the part that shows what is drawn of a trace under a name, so far from the top.
+fn push_part(
+    draft: &mut Draft,
+    alloc: Global,
+    scale: &Scale,
+    drawing: &Drawing,
+    top: u64,
+    name: &[u8],
+) -> Result<(), AllocError>
+    requires { 0 < scale.now.per }
+{
+    let boxes = drawing.boxes.as_slice();
+    let columns = drawing.columns.as_slice();
+    let axis = axis(alloc, scale)?;
     push_template(draft, b"<g transform='translate(0,$)'>\n", &[top])?;
-    push_heading(draft, alloc, &scale, name, &report, &missed.tally)?;
-    push_cut(draft, &scale, boxes.as_slice())?;
-    push_strip(draft, &scale, drawn.as_slice())?;
-    push_frame(draft, &scale, boxes.as_slice(), drawn.as_slice())?;
+    push_heading(
+        draft,
+        alloc,
+        scale,
+        name,
+        &drawing.report,
+        &drawing.missed.tally,
+    )?;
+    push_cut(draft, scale, boxes)?;
+    push_strip(draft, scale, columns)?;
+    push_frame(draft, scale, boxes, columns)?;
     push_windows(
         draft,
-        &scale,
+        scale,
         axis.as_slice(),
-        &report,
-        room,
-        missed.windows.as_slice(),
+        &drawing.report,
+        drawing.room,
+        drawing.missed.windows.as_slice(),
     )?;
-    draft.text(b"</g>\n")?;
-    Ok(())
+    draft.text(b"</g>\n")
 }
 
 /// Adds how late requests of another trace wait; where there are few rounds nobody asks.
@@ -124,40 +159,28 @@ fn add_late(
 fn height_of(scale: &Scale) -> u32
     requires deep { scale.now.deep ≤ MAX_DEPTH }
     requires tall { scale.now.tall ≤ MAX_TAG_TALL }
-    ensures { result ≡ height_of scale.now }
 {
     let tall = place(scale.deep, scale.tall, 372);
     tall as u32
 }
 
-/// Adds the colours, light and dark, and the hatching.
-fn push_style(draft: &mut Draft) -> Result<(), AllocError>
-    ensures { OnOk result (draft.new ≡ draft.old ++ style) }
-{
-    draft.text(STYLE.as_bytes())
-}
-
 /// Adds how a picture of this height in pixels begins.
-fn push_head(draft: &mut Draft, height: u64) -> Result<(), AllocError>
-    ensures { OnOk result (draft.new ≡ draft.old ++ head_text height) }
-{
+fn push_head(draft: &mut Draft, height: u64) -> Result<(), AllocError> {
     push_template(draft, HEAD.as_bytes(), &[height, height])?;
-    push_style(draft)?;
+    draft.text(STYLE.as_bytes())?;
     push_template(
         draft,
         b"<rect class='p' width='1280' height='$'/>\n",
         &[height],
-    )?;
-    Ok(())
+    )
 }
 
 /// The picture of a trace as SVG 1.1, without scripts, fonts or links: a heading, a strip of what waits at the end of each round, a
 /// box for each Issue in its round and under its tag, an axis, and the windows of the report and of misses as brackets. Of more than 400
 /// rounds those columns are drawn in which a late request waits or goes out, and it says what is cut; where these are more than 400, or nothing
-/// is late, a column stands for several rounds, and is a stack of what they served. Fails only when out of memory.
-pub fn picture(alloc: Global, trace: &Trace) -> Result<Vec<u8>, AllocError>
-    ensures { IfOk result (λ v. IsPicture trace.now v.items) }
-{
+/// is late, a column stands for several rounds, and is a stack of what they served. It shows what [`drawing_of`] answers, as `tools/pictures.py`
+/// checks. Fails only when out of memory.
+pub fn picture(alloc: Global, trace: &Trace) -> Result<Vec<u8>, AllocError> {
     let rounds = rounds_shown(trace);
     let deep = tags_shown(trace);
     let mut late = LateWaits::new(alloc, rounds)?;
@@ -166,7 +189,8 @@ pub fn picture(alloc: Global, trace: &Trace) -> Result<Vec<u8>, AllocError>
     let height = height_of(&scale);
     let mut draft = Draft::new(alloc);
     push_head(&mut draft, u64::from(height))?;
-    push_part(&mut draft, alloc, trace, scale, 0, b"trace")?;
+    let drawing = drawing_of(alloc, trace, &scale)?;
+    push_part(&mut draft, alloc, &scale, &drawing, 0, b"trace")?;
     draft.text(b"</svg>\n")?;
     let svg = draft.finish()?;
     Ok(svg)
@@ -226,12 +250,12 @@ fn push_parts(
     requires some { 0 < scale.per }
     requires deep { scale.deep ≤ MAX_DEPTH }
     requires tall { scale.tall ≤ MAX_TAG_TALL }
-    ensures { OnOk result (HasParts scale (map (λ n. n.now) names.now) traces.now draft.old draft.new) }
 {
     let height = height_of(&scale);
     for number in 0..traces.len() {
         let top = place(number as u32, height, 0);
-        push_part(draft, alloc, &traces[number], scale, top, names[number])?;
+        let drawing = drawing_of(alloc, &traces[number], &scale)?;
+        push_part(draft, alloc, &scale, &drawing, top, names[number])?;
     }
     Ok(())
 }
@@ -240,7 +264,6 @@ fn push_parts(
 /// are plain words. Fails only when out of memory; more than 1,000 traces are refused as if memory had run out.
 pub fn pictures(alloc: Global, names: &[&[u8]], traces: &[Trace]) -> Result<Vec<u8>, AllocError>
     requires { length names.now ≡ length traces.now }
-    ensures { IfOk result (λ v. IsPictures (map (λ n. n.now) names.now) traces.now v.items) }
 {
     if traces.len() > MAX_TRACES {
         return Err(AllocError);

@@ -1,7 +1,7 @@
 //! The boxes, the columns and the strip of a picture as text.
 
-ghost use Rattle.std.specs.Prelude.{◌≡◌, ◌==◌, ◌++◌, [], cond, OnOk, IfOk, flat_map, length, slice_index_or};
-ghost use Rattle.blk_picture.specs.Shapes.{class_words, dir_words, tail_words, apart, fits, label_text, place_text, tail_text, whole_box, box_text, stack_text, grey_text, column_text, no_column, drawn_columns, columns_text, border_text, frame_text, waiting_text, most_waiting, scale_text, waits_text, strip_text};
+ghost use Rattle.std.specs.Prelude.{◌≡◌, IfOk, slice_index_or};
+ghost use Rattle.blk_picture.specs.Columns.{no_column, drawn_columns};
 
 use crate::boxes::IssueBox;
 use crate::columns::{Column, is_late};
@@ -29,9 +29,7 @@ const NO_COLUMN: Column = Column {
 const MIN_LABEL_TALL: u32 = 12;
 
 /// How a box begins, by its class.
-fn class_words(issued: &IssueBox) -> &'static [u8]
-    ensures { result.now ≡ class_words issued.now }
-{
+fn class_words(issued: &IssueBox) -> &'static [u8] {
     match (issued.dir, issued.back, is_late(issued)) {
         (Dir::Read, true, _) => b"<rect class='hr'",
         (Dir::Write, true, _) => b"<rect class='hw'",
@@ -43,9 +41,7 @@ fn class_words(issued: &IssueBox) -> &'static [u8]
 }
 
 /// The name of a direction.
-fn dir_words(dir: Dir) -> &'static [u8]
-    ensures { result.now ≡ dir_words dir }
-{
+fn dir_words(dir: Dir) -> &'static [u8] {
     match dir {
         Dir::Read => b"read",
         Dir::Write => b"write",
@@ -53,9 +49,7 @@ fn dir_words(dir: Dir) -> &'static [u8]
 }
 
 /// How the title of a box ends.
-fn tail_words(issued: &IssueBox) -> &'static [u8]
-    ensures { result.now ≡ tail_words issued.now }
-{
+fn tail_words(issued: &IssueBox) -> &'static [u8] {
     match (issued.back, u64::from(issued.round) < issued.due) {
         (true, _) => { BOX_BACK.as_bytes() }
         (false, true) => { BOX_EARLY.as_bytes() }
@@ -64,9 +58,7 @@ fn tail_words(issued: &IssueBox) -> &'static [u8]
 }
 
 /// How far the round of an Issue and its due round are apart.
-fn apart(issued: &IssueBox) -> u64
-    ensures { result ≡ apart issued.now }
-{
+fn apart(issued: &IssueBox) -> u64 {
     let round = u64::from(issued.round);
     if round < issued.due {
         issued.due - round
@@ -76,9 +68,7 @@ fn apart(issued: &IssueBox) -> u64
 }
 
 /// Whether a number of rounds can be written inside a box.
-fn fits(scale: &Scale, rounds: u64) -> bool
-    ensures { result ≡ fits scale.now rounds }
-{
+fn fits(scale: &Scale, rounds: u64) -> bool {
     let most = match scale.wide {
         0..10 => 0,
         10..16 => 10,
@@ -90,9 +80,7 @@ fn fits(scale: &Scale, rounds: u64) -> bool
 }
 
 /// Adds how many rounds late it was, inside its box, where it was late and the number fits.
-fn push_label(draft: &mut Draft, scale: &Scale, issued: &IssueBox) -> Result<(), AllocError>
-    ensures { OnOk result (draft.new ≡ draft.old ++ label_text scale.now issued.now) }
-{
+fn push_label(draft: &mut Draft, scale: &Scale, issued: &IssueBox) -> Result<(), AllocError> {
     let rounds = apart(issued);
     if issued.back || !is_late(issued) || !fits(scale, rounds) {
         return Ok(());
@@ -111,9 +99,7 @@ fn push_label(draft: &mut Draft, scale: &Scale, issued: &IssueBox) -> Result<(),
 }
 
 /// Adds where a box lies and how its title begins.
-fn push_place(draft: &mut Draft, scale: &Scale, issued: &IssueBox) -> Result<(), AllocError>
-    ensures { OnOk result (draft.new ≡ draft.old ++ place_text scale.now issued.now) }
-{
+fn push_place(draft: &mut Draft, scale: &Scale, issued: &IssueBox) -> Result<(), AllocError> {
     let x = place(scale.place_of(issued.round), scale.wide, LEFT);
     let y = place(u32::from(issued.tag), scale.tall, TOP);
     let wide = u64::from(scale.wide.saturating_sub(1));
@@ -122,9 +108,7 @@ fn push_place(draft: &mut Draft, scale: &Scale, issued: &IssueBox) -> Result<(),
 }
 
 /// Adds how the title of a box ends.
-fn push_tail(draft: &mut Draft, issued: &IssueBox) -> Result<(), AllocError>
-    ensures { OnOk result (draft.new ≡ draft.old ++ tail_text issued.now) }
-{
+fn push_tail(draft: &mut Draft, issued: &IssueBox) -> Result<(), AllocError> {
     let round = u64::from(issued.round);
     let apart = apart(issued);
     push_template(
@@ -142,9 +126,7 @@ fn push_tail(draft: &mut Draft, issued: &IssueBox) -> Result<(), AllocError>
 }
 
 /// Adds a box.
-fn push_whole_box(draft: &mut Draft, scale: &Scale, issued: &IssueBox) -> Result<(), AllocError>
-    ensures { OnOk result (draft.new ≡ draft.old ++ whole_box scale.now issued.now) }
-{
+fn push_whole_box(draft: &mut Draft, scale: &Scale, issued: &IssueBox) -> Result<(), AllocError> {
     let class = class_words(issued);
     draft.text(class)?;
     push_place(draft, scale, issued)?;
@@ -156,9 +138,7 @@ fn push_whole_box(draft: &mut Draft, scale: &Scale, issued: &IssueBox) -> Result
 }
 
 /// Adds a box, where the column of its round is drawn.
-fn push_box(draft: &mut Draft, scale: &Scale, issued: &IssueBox) -> Result<(), AllocError>
-    ensures { OnOk result (draft.new ≡ draft.old ++ box_text scale.now issued.now) }
-{
+fn push_box(draft: &mut Draft, scale: &Scale, issued: &IssueBox) -> Result<(), AllocError> {
     if scale.shows(issued.round) {
         push_whole_box(draft, scale, issued)
     } else {
@@ -167,9 +147,7 @@ fn push_box(draft: &mut Draft, scale: &Scale, issued: &IssueBox) -> Result<(), A
 }
 
 /// Adds the boxes, where each column is a round.
-fn push_boxes(draft: &mut Draft, scale: &Scale, boxes: &[IssueBox]) -> Result<(), AllocError>
-    ensures { OnOk result (draft.new ≡ draft.old ++ cond (scale.now.per == 1) (flat_map (box_text scale.now) boxes.now) []) }
-{
+fn push_boxes(draft: &mut Draft, scale: &Scale, boxes: &[IssueBox]) -> Result<(), AllocError> {
     if scale.per == 1 {
         push_each(draft, scale, boxes)
     } else {
@@ -178,9 +156,7 @@ fn push_boxes(draft: &mut Draft, scale: &Scale, boxes: &[IssueBox]) -> Result<()
 }
 
 /// Adds the boxes.
-fn push_each(draft: &mut Draft, scale: &Scale, boxes: &[IssueBox]) -> Result<(), AllocError>
-    ensures { OnOk result (draft.new ≡ draft.old ++ flat_map (box_text scale.now) boxes.now) }
-{
+fn push_each(draft: &mut Draft, scale: &Scale, boxes: &[IssueBox]) -> Result<(), AllocError> {
     for issued in boxes {
         push_box(draft, scale, issued)?;
     }
@@ -193,9 +169,7 @@ fn push_stack(
     scale: &Scale,
     number: u64,
     column: Column,
-) -> Result<(), AllocError>
-    ensures { OnOk result (draft.new ≡ draft.old ++ stack_text scale.now number column) }
-{
+) -> Result<(), AllocError> {
     let reads = u64::from(column.reads);
     let writes = u64::from(column.writes);
     let lates = u64::from(column.lates);
@@ -239,9 +213,7 @@ fn push_grey(
     scale: &Scale,
     number: u64,
     column: Column,
-) -> Result<(), AllocError>
-    ensures { OnOk result (draft.new ≡ draft.old ++ grey_text scale.now number column) }
-{
+) -> Result<(), AllocError> {
     let away = u64::from(scale.deep).saturating_sub(column.room);
     if away == 0 {
         return Ok(());
@@ -255,9 +227,7 @@ fn push_column(
     scale: &Scale,
     number: u64,
     column: Column,
-) -> Result<(), AllocError>
-    ensures { OnOk result (draft.new ≡ draft.old ++ column_text scale.now number column) }
-{
+) -> Result<(), AllocError> {
     if scale.per == 1 {
         push_grey(draft, scale, number, column)
     } else {
@@ -292,9 +262,7 @@ pub(crate) fn drawn_columns(
 }
 
 /// Adds the columns.
-fn push_columns(draft: &mut Draft, scale: &Scale, columns: &[Column]) -> Result<(), AllocError>
-    ensures { OnOk result (draft.new ≡ draft.old ++ columns_text scale.now columns.now (length columns.now)) }
-{
+fn push_columns(draft: &mut Draft, scale: &Scale, columns: &[Column]) -> Result<(), AllocError> {
     for number in 0..columns.len() {
         push_column(draft, scale, number as u64, columns[number])?;
     }
@@ -302,9 +270,7 @@ fn push_columns(draft: &mut Draft, scale: &Scale, columns: &[Column]) -> Result<
 }
 
 /// Adds how the frame begins.
-fn push_border(draft: &mut Draft, scale: &Scale) -> Result<(), AllocError>
-    ensures { OnOk result (draft.new ≡ draft.old ++ border_text scale.now) }
-{
+fn push_border(draft: &mut Draft, scale: &Scale) -> Result<(), AllocError> {
     let wide = place(scale.drawn, scale.wide, 0);
     let tall = place(scale.deep, scale.tall, 0);
     let columns = u64::from(scale.drawn);
@@ -322,9 +288,7 @@ pub(crate) fn push_frame(
     scale: &Scale,
     boxes: &[IssueBox],
     columns: &[Column],
-) -> Result<(), AllocError>
-    ensures { OnOk result (draft.new ≡ draft.old ++ frame_text scale.now boxes.now columns.now) }
-{
+) -> Result<(), AllocError> {
     push_border(draft, scale)?;
     push_columns(draft, scale, columns)?;
     draft.text(b"</svg>\n")?;
@@ -333,9 +297,7 @@ pub(crate) fn push_frame(
 }
 
 /// Adds the waiting requests of a column.
-fn push_waiting(draft: &mut Draft, number: u64, column: Column) -> Result<(), AllocError>
-    ensures { OnOk result (draft.new ≡ draft.old ++ waiting_text number column) }
-{
+fn push_waiting(draft: &mut Draft, number: u64, column: Column) -> Result<(), AllocError> {
     let reads = u64::from(column.read_waits);
     let writes = u64::from(column.write_waits);
     push_template(
@@ -346,9 +308,7 @@ fn push_waiting(draft: &mut Draft, number: u64, column: Column) -> Result<(), Al
 }
 
 /// The most requests that wait in a column, at least 1.
-fn most_waiting(columns: &[Column]) -> u64
-    ensures { result ≡ most_waiting columns.now }
-{
+fn most_waiting(columns: &[Column]) -> u64 {
     let mut most = 1;
     for column in columns {
         most = (u64::from(column.read_waits) + u64::from(column.write_waits)).max(most);
@@ -357,9 +317,7 @@ fn most_waiting(columns: &[Column]) -> u64
 }
 
 /// Adds how the strip begins, by the most that wait.
-fn push_scale(draft: &mut Draft, scale: &Scale, most: u64) -> Result<(), AllocError>
-    ensures { OnOk result (draft.new ≡ draft.old ++ scale_text scale.now most) }
-{
+fn push_scale(draft: &mut Draft, scale: &Scale, most: u64) -> Result<(), AllocError> {
     let wide = place(scale.drawn, scale.wide, 0);
     let columns = u64::from(scale.drawn);
     push_template(
@@ -370,9 +328,7 @@ fn push_scale(draft: &mut Draft, scale: &Scale, most: u64) -> Result<(), AllocEr
 }
 
 /// Adds the waiting requests of the columns.
-fn push_waits(draft: &mut Draft, columns: &[Column]) -> Result<(), AllocError>
-    ensures { OnOk result (draft.new ≡ draft.old ++ waits_text columns.now (length columns.now)) }
-{
+fn push_waits(draft: &mut Draft, columns: &[Column]) -> Result<(), AllocError> {
     for number in 0..columns.len() {
         push_waiting(draft, number as u64, columns[number])?;
     }
@@ -384,9 +340,7 @@ pub(crate) fn push_strip(
     draft: &mut Draft,
     scale: &Scale,
     columns: &[Column],
-) -> Result<(), AllocError>
-    ensures { OnOk result (draft.new ≡ draft.old ++ strip_text scale.now columns.now) }
-{
+) -> Result<(), AllocError> {
     let most = most_waiting(columns);
     push_scale(draft, scale, most)?;
     push_waits(draft, columns)?;

@@ -1,4 +1,4 @@
-//! The fixed words of a picture, with a dollar sign for each number. Code and meaning read them here.
+//! The fixed words of a picture, with a dollar sign for each number.
 
 /// What was late, and how many rounds stand in a column.
 pub const NUMBERS: &str =

@@ -28,7 +28,7 @@ use Rattle.blk_picture.specs.declared.columns.IssueKind.{IssueKind}
 use Rattle.blk_picture.specs.declared.columns.IssueKind.TheVariants.{Reads, Writes, Lates, Backs}
 use Rattle.blk_picture.specs.Boxes.{box_of, boxes_from, boxes_of}
 use Rattle.blk_picture.specs.Columns.{counts_as, is_late, in_column, round_in, rounds_in, column_of, rooms_of}
-use Rattle.blk_picture.specs.Templates.{made}
+use Rattle.blk_picture.specs.Made.{made}
 use Rattle.blk_picture.specs.Scales.{IsScaled, columns_by}
 use Rattle.blk_picture.specs.Pictures.{rounds_shown, most_rounds}
 use Rattle.blk_picture_laws.specs.Sums.{columns_in, issued_in, ShowsAll}

@@ -12,7 +12,7 @@ use Rattle.blk_picture.specs.declared.columns.IssueKind.TheVariants.{Reads, Writ
 use Rattle.blk_picture.specs.Scales.{IsScaled}
 use Rattle.blk_picture.specs.Boxes.{boxes_of}
 use Rattle.blk_picture.specs.Columns.{counts_as, column_of}
-use Rattle.blk_picture.specs.Templates.{made}
+use Rattle.blk_picture.specs.Made.{made}
 
 -- the columns of a trace
 abbrev pub columns_in : Setup → List Happened → Scale → List Column

@@ -7,7 +7,7 @@ use Rattle.blk_picture.specs.declared.scale.Scale.{Scale}
 use Rattle.blk_picture.specs.declared.columns.Column.{Column}
 use Rattle.blk_picture.specs.declared.columns.IssueKind.{IssueKind}
 use Rattle.blk_picture.specs.Columns.{in_column, rounds_in, entered_in, waits_of, peaks_of}
-use Rattle.blk_picture.specs.Templates.{made}
+use Rattle.blk_picture.specs.Made.{made}
 
 -- one more is counted in the column, where there is such a column
 abbrev pub CountsOneMore : ℕ → List ℕ → List ℕ → Type 0

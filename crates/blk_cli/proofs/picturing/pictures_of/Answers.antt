@@ -1,12 +1,11 @@
 use Rattle.std.proofs.Common.{◌≡◌, ◌∙◌, ℕ, Bor, List, ap, sym, subst, length, map}
 use Rattle.std.proofs.lemmas.List.{length-map}
 use Rattle.blk_text.specs.Script.{scripted}
-use Rattle.blk_trace.specs.Traces.{Traced}
 use Rattle.blk_settings.specs.declared.sched.Sched.{Sched}
 use Rattle.blk_settings.specs.Scheds.{name_of, in_turn}
 use Rattle.blk_runs.specs.Runs.{IsTraceOfScript}
 use Rattle.blk_cli.specs.Comparing.{AreTraces, IsUncompared}
-use Rattle.blk_cli.proofs.Compared.{as_many, pictures_are, said_of_runs}
+use Rattle.blk_cli.proofs.Compared.{as_many, said_of_runs}
 use Rattle.blk_cli.proofs.picturing.pictures_of.Goals as goal
 
 pub returns-in-Err-clause-uncompared : goal.returns-in-Err-clause-uncompared
@@ -22,12 +21,7 @@ pictures-requires c =
     sym (length-map c.in-Ok-names_of.names.items (λ (name : Bor (List ℕ)). name.now)) ∙ ap length c.in-Ok-names_of.ensures ∙ length-map rows name_of in
     rw (c.as_slice.ensures.value, c.as_slice-2.ensures.value) (names ∙ sym (as_many IsTraceOfScript rows (scripted c.args.script.now) c.in-Ok-drawn_under.traces.items c.in-Ok-drawn_under.ensures.traces))
 
-pub returns-in-Ok-pictures-clause-text : goal.returns-in-Ok-pictures-clause-text
-returns-in-Ok-pictures-clause-text c =
-    let rows = c.as_slice-rows.result.now in
-    let turn : rows ≡ in_turn c.args.lineup = c.as_slice-rows.ensures.value ∙ c.in-Ok.ensures in
-    let named : map (λ (name : Bor (List ℕ)). name.now) c.as_slice.result.now ≡ map name_of rows = ap (map (λ (name : Bor (List ℕ)). name.now)) c.as_slice.ensures.value ∙ c.in-Ok-names_of.ensures in
-    let are : AreTraces rows (scripted c.args.script.now) c.as_slice-2.result.now =
-    subst (λ (ts : List Traced). AreTraces rows (scripted c.args.script.now) ts) (sym c.as_slice-2.ensures.value) c.in-Ok-drawn_under.ensures.traces in
-    pictures_are c.args.lineup rows (scripted c.args.script.now) c.as_slice-2.result.now (map (λ (name : Bor (List ℕ)). name.now) c.as_slice.result.now) c.in-Ok-pictures.text.items turn are named
-    c.in-Ok-pictures.ensures
+pub returns-in-Ok-pictures-clause-drawn : goal.returns-in-Ok-pictures-clause-drawn
+returns-in-Ok-pictures-clause-drawn c =
+    let turn : c.as_slice-rows.result.now ≡ in_turn c.args.lineup = c.as_slice-rows.ensures.value ∙ c.in-Ok.ensures in
+    (c.in-Ok-drawn_under.traces.items, subst (λ (ss : List Sched). AreTraces ss (scripted c.args.script.now) c.in-Ok-drawn_under.traces.items) turn c.in-Ok-drawn_under.ensures.traces)

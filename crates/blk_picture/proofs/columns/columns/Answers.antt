@@ -1,8 +1,8 @@
 use Rattle.std.proofs.Common.{◌≡◌, ◌∙◌, length, get_or, ap}
-use Rattle.blk_picture.specs.Templates.{made}
+use Rattle.blk_picture.specs.Made.{made}
 use Rattle.blk_picture.specs.Columns.{column_of, rooms_of}
 use Rattle.blk_picture.specs.Inside.Counted.{column_from}
-use Rattle.blk_picture.proofs.Texts.{made_same}
+use Rattle.blk_picture.proofs.Made.{made_same}
 use Rattle.blk_picture.proofs.Counting.{column_is}
 use Rattle.blk_picture.proofs.columns.columns.Goals as goal
 

@@ -1,7 +1,7 @@
 use Rattle.std.proofs.Common.{◌≡◌, ◌∙◌, length, refl, ap, arith}
-use Rattle.blk_picture.specs.Templates.{made}
+use Rattle.blk_picture.specs.Made.{made}
 use Rattle.blk_picture.specs.Inside.Counted.{column_from}
-use Rattle.blk_picture.proofs.Texts.{made_none, made_push}
+use Rattle.blk_picture.proofs.Made.{made_none, made_push}
 use Rattle.blk_picture.proofs.columns.joined.Goals as goal
 
 pub loop-column-init : goal.loop-column-init

@@ -1,5 +1,5 @@
 use Rattle.std.proofs.Common.{◌≡◌}
-use Rattle.blk_picture.specs.Templates.{made}
+use Rattle.blk_picture.specs.Made.{made}
 use Rattle.blk_picture.specs.Inside.Counted.{column_from}
 use Rattle.blk_picture.proofs.columns.joined.Given as goal
 

@@ -1,9 +1,9 @@
 use Rattle.std.proofs.Common.{◌≡◌, ◌∙◌, ap, arith}
 use Rattle.std.specs.Prelude.{slice_index_or}
 use Rattle.blk_picture.specs.Scales.{shown_at}
-use Rattle.blk_picture.specs.Shapes.{no_column, drawn_columns}
-use Rattle.blk_picture.specs.Templates.{made}
-use Rattle.blk_picture.proofs.Texts.{made_none, made_push}
+use Rattle.blk_picture.specs.Columns.{no_column, drawn_columns}
+use Rattle.blk_picture.specs.Made.{made}
+use Rattle.blk_picture.proofs.Made.{made_none, made_push}
 use Rattle.blk_picture.proofs.shapes.drawn_columns.Goals as goal
 
 pub loop-number-init : goal.loop-number-init

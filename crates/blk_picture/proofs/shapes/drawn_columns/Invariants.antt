@@ -1,8 +1,8 @@
 use Rattle.std.proofs.Common.{◌≡◌}
 use Rattle.std.specs.Prelude.{slice_index_or}
 use Rattle.blk_picture.specs.Scales.{shown_at}
-use Rattle.blk_picture.specs.Shapes.{no_column}
-use Rattle.blk_picture.specs.Templates.{made}
+use Rattle.blk_picture.specs.Columns.{no_column}
+use Rattle.blk_picture.specs.Made.{made}
 use Rattle.blk_picture.proofs.shapes.drawn_columns.Given as goal
 
 -- those so far
