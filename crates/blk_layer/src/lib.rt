@@ -3,7 +3,8 @@
 //!
 //! After blk-mq of Linux: a software queue for each submitter (`struct blk_mq_ctx`), hardware queues that drain those mapped to
 //! them, and driver tags. The core, a scheduler beside its trace, lies under one lock, each software queue under a lock of
-//! its own, and tags are taken without a lock. What each seat had accepted is in its account.
+//! its own. Tags are taken and given back by atomic steps, while the core's lock is held, so that they wait for no lock of their
+//! own, and gain nothing beside one. What each seat had accepted is in its account.
 #![tactic(auto)]
 
 mod accounts;
