@@ -5,7 +5,7 @@ use Rattle.blk_bio.specs.Bios.{Bio}
 use Rattle.blk_queues.specs.Plugs.{Plug}
 use Rattle.blk_queues.specs.Queues.{Queue}
 use Rattle.blk_layer.specs.Seats.{SubmitterSeat}
-use Rattle.blk_layer.specs.Submitting.{FlushesInto, AreOfFirst, IsMoveFault}
+use Rattle.blk_layer.specs.Submitting.{FlushesInto, AreOfFirst, IsMoveFault, queue_of}
 use Rattle.blk_core.specs.State.{CoreState}
 use Rattle.blk_core.specs.declared.refusals.CoreFault.{CoreFault}
 use Rattle.blk_core.specs.Faults.{IsReleaseFault}
@@ -59,6 +59,6 @@ stands [] first e = absurd (let x : None ≡ Some first = e in cc)
 stands (one ∷ later) first e = let x : Some one ≡ Some first = e in let same : one ≡ first = cc in (later, ap (λ y. y ∷ later) same)
 
 -- the first request of a queue is refused
-pub refused_first : (queue : Queue) (core : CoreState) (hw : ℕ) (first : List Bio) (why : CoreFault) → slice_get queue.requests 0 ≡ Some first → IsReleaseFault core first hw why
-    → IsMoveFault queue core hw why
-refused_first queue core hw first why e fault = let s = stands queue.requests first e in record { first = first; later = s.0; stands = s.1; fault = fault }
+pub refused_first : (queue : Queue) (core : CoreState) (map : List ℕ) (first : List Bio) (why : CoreFault) → slice_get queue.requests 0 ≡ Some first → IsReleaseFault core first (queue_of map first) why
+    → IsMoveFault queue core map why
+refused_first queue core map first why e fault = let s = stands queue.requests first e in record { first = first; later = s.0; stands = s.1; fault = fault }

@@ -48,11 +48,12 @@ given_back old took gave t one other e f free = (
 )
 
 -- a worker whose account has more room
-pub more_room : (setup : Setup) (hw depth same : ℕ) (v w : List ℕ) (hands : List (Option Command)) (ran as_many room more parts amount : ℕ)
-    → IsWorking setup hw depth v hands ran room parts amount → same ≡ depth → w ≡ v → as_many ≡ ran → room ≤ more
-    → IsWorking setup hw same w hands as_many more parts amount
-more_room setup hw depth same v w hands ran as_many room more parts amount is d e r le = rw (d, e, r) (record {
+pub more_room : (setup : Setup) (queues : List ℕ) (hw depth same : ℕ) (v w : List ℕ) (hands : List (Option Command)) (ran as_many room more parts amount : ℕ)
+    → IsWorking setup queues hw depth v hands ran room parts amount → same ≡ depth → w ≡ v → as_many ≡ ran → room ≤ more
+    → IsWorking setup queues hw same w hands as_many more parts amount
+more_room setup queues hw depth same v w hands ran as_many room more parts amount is d e r le = rw (d, e, r) (record {
   queue = is.queue;
+  one = is.one;
   named = is.named;
   places = is.places;
   marks = is.marks;
@@ -66,16 +67,17 @@ pub same_seat : (set same : Set) (hw : ℕ) (v w : List ℕ) (hands : List (Opti
 same_seat set same hw v w hands ran all e f g = rw (e, f, g) refl
 
 -- a worker with a command more in its hands, whose account has room for all that it can hold
-pub one_more : (setup : Setup) (hw depth same : ℕ) (v w : List ℕ) (hands : List (Option Command)) (ran as_many room more parts amount at t : ℕ) (command : Command)
-    → IsWorking setup hw depth v hands ran room parts amount → same ≡ depth → as_many ≡ ran → as_many + length hands ≤ more → t < depth → ¬ Contains v t
-    → w ≡ v ++ t ∷ [] → at ≡ t → IsWorking setup hw same w (slice_set hands at (Some command)) as_many more parts amount
-one_more setup hw depth same v w hands ran as_many room more parts amount at t command is d r le less free e a =
+pub one_more : (setup : Setup) (queues : List ℕ) (hw depth same : ℕ) (v w : List ℕ) (hands : List (Option Command)) (ran as_many room more parts amount at t : ℕ) (command : Command)
+    → IsWorking setup queues hw depth v hands ran room parts amount → same ≡ depth → as_many ≡ ran → as_many + length hands ≤ more → t < depth → ¬ Contains v t
+    → w ≡ v ++ t ∷ [] → at ≡ t → IsWorking setup queues hw same w (slice_set hands at (Some command)) as_many more parts amount
+one_more setup queues hw depth same v w hands ran as_many room more parts amount at t command is d r le less free e a =
     let now : List (Option Command) = slice_set hands t (Some command) in
     let long : length now ≡ length hands = length-set hands t (Some command) in
     let below : t < length (map is_some hands) = omega (arith, length-map hands is_some, less, is.places) in
     let marks : Marks (map is_some now) w = subst (λ (marks : List Bool). Marks marks w) (sym (map-set is_some hands t (Some command))) (marked_take (map is_some hands) v w t is.marks below (none_count v t free) e) in
-    let whole : IsWorking setup hw depth w now ran more parts amount = record {
+    let whole : IsWorking setup queues hw depth w now ran more parts amount = record {
       queue = is.queue;
+      one = is.one;
       named = is.named;
       places = long ∙ is.places;
       marks = marks;
@@ -132,17 +134,18 @@ pub tag_held : (hands : List (Option Command)) (v : List ℕ) (t : ℕ) (command
 tag_held hands v t command m at = (tags_are v hands m t).1 (command, at)
 
 -- a worker with a command less in its hands, which its account may have more
-pub one_fewer : (setup : Setup) (hw depth same : ℕ) (v w : List ℕ) (hands : List (Option Command)) (ran as_many room more parts pieces amount sum at t : ℕ) (command : Command)
-    → IsWorking setup hw depth v hands ran room parts amount → same ≡ depth → slice_get hands t ≡ Some (Some command) → w ≡ without t v → at ≡ t
+pub one_fewer : (setup : Setup) (queues : List ℕ) (hw depth same : ℕ) (v w : List ℕ) (hands : List (Option Command)) (ran as_many room more parts pieces amount sum at t : ℕ) (command : Command)
+    → IsWorking setup queues hw depth v hands ran room parts amount → same ≡ depth → slice_get hands t ≡ Some (Some command) → w ≡ without t v → at ≡ t
     → as_many ≤ ran + 1 → more ≡ room → pieces ≡ parts → sum ≡ as_many
-    → IsWorking setup hw same w (slice_set hands at None) as_many more pieces sum
-one_fewer setup hw depth same v w hands ran as_many room more parts pieces amount sum at t command is d held e a few m p s =
+    → IsWorking setup queues hw same w (slice_set hands at None) as_many more pieces sum
+one_fewer setup queues hw depth same v w hands ran as_many room more parts pieces amount sum at t command is d held e a few m p s =
     let now : List (Option Command) = slice_set hands t None in
     let long : length now ≡ length hands = length-set hands t None in
     let below : t < length (map is_some hands) = omega (arith, length-map hands is_some, within hands t (Some command) held) in
     let marks : Marks (map is_some now) w = subst (λ (marks : List Bool). Marks marks w) (sym (map-set is_some hands t None)) (marked_give (map is_some hands) v w t is.marks below e) in
-    let whole : IsWorking setup hw depth w now as_many room parts as_many = record {
+    let whole : IsWorking setup queues hw depth w now as_many room parts as_many = record {
       queue = is.queue;
+      one = is.one;
       named = is.named;
       places = long ∙ is.places;
       marks = marks;

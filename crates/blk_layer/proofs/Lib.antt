@@ -6,6 +6,7 @@ mod Each
 mod Plugged
 mod Copied
 mod Moving
+mod Mapped
 mod InHand
 mod Answered
 mod Running

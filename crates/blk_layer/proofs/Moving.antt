@@ -14,7 +14,7 @@ use Rattle.edd_commands.specs.declared.Command.{Command}
 use Rattle.blk_sched.specs.Policies.{Choice, OfDone, OfTick}
 use Rattle.blk_core.specs.Calls.{Places, AddsEvent, Issues, Completes, RequeuesTag, Ends, SetsDepth}
 use Rattle.blk_layer.specs.Closing.{done_count, is_done}
-use Rattle.blk_layer.specs.Submitting.{IsMoveAnswer}
+use Rattle.blk_layer.specs.Submitting.{IsMoveAnswer, queue_of}
 use Rattle.blk_core.specs.declared.trying.NoneIssued.{NoneIssued}
 use Rattle.blk_core.specs.declared.trying.NoneIssued.TheVariants as none
 use Rattle.blk_core.specs.Tries.{IsNoneIssued}
@@ -36,11 +36,11 @@ placed_stays serves old bios hw (JoinedTo id side) new p = record { setup = p.1.
 pub same_stays : (old new : CoreState) → new ≡ old → Stays old new
 same_stays old new e = record { setup = ap (λ (c : CoreState). c.setup) e; dones = ap (λ (c : CoreState). done_count c.events) e }
 
-pub move_stays : (serves : ℕ → Waiting → Bool) (queue : Queue) (core : CoreState) (hw : ℕ) (new_queue : Queue) (new_core : CoreState) (r : Result Bool CoreFault)
-    → IsMoveAnswer serves queue core hw new_queue new_core r → Stays core new_core
-move_stays serves queue core hw new_queue new_core (Ok true) m = placed_stays serves core m.first hw m.placed new_core m.places
-move_stays serves queue core hw new_queue new_core (Ok false) m = same_stays core new_core m.2
-move_stays serves queue core hw new_queue new_core (Err why) m = same_stays core new_core m.2
+pub move_stays : (serves : ℕ → Waiting → Bool) (queue : Queue) (core : CoreState) (map : List ℕ) (new_queue : Queue) (new_core : CoreState) (r : Result Bool CoreFault)
+    → IsMoveAnswer serves queue core map new_queue new_core r → Stays core new_core
+move_stays serves queue core map new_queue new_core (Ok true) m = placed_stays serves core m.first (queue_of map m.first) m.placed new_core m.places
+move_stays serves queue core map new_queue new_core (Ok false) m = same_stays core new_core m.2
+move_stays serves queue core map new_queue new_core (Err why) m = same_stays core new_core m.2
 
 -- one event more that is no Done
 pub added_stays : (old : CoreState) (e : Happened) (new : CoreState) → is_done e ≡ false → AddsEvent old e new → Stays old new

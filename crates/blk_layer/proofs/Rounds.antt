@@ -18,7 +18,7 @@ use Rattle.blk_core.specs.State.{CoreState}
 use Rattle.blk_core.specs.Calls.{AddsEvent, Places, Issues, Completes, RequeuesTag, Ends, SetsDepth}
 use Rattle.blk_core.specs.Tries.{issued_now, IsFull, IsNoneIssued}
 use Rattle.blk_layer.specs.Rounds.{EndsFullRounds}
-use Rattle.blk_layer.specs.Submitting.{MovesSome, IsMoveAllAnswer}
+use Rattle.blk_layer.specs.Submitting.{MovesSome, IsMoveAllAnswer, queue_of}
 use Rattle.blk_layer.specs.declared.submitting.DrainFault.{DrainFault}
 
 -- so far each was full
@@ -49,15 +49,15 @@ placed : (policy : Policy) (old new : CoreState) (bios : List Bio) (hw : ℕ) (p
 placed policy old new bios hw (New id) p full = added old (Release id bios) new p.2 (λ is. absurd (cc)) full
 placed policy old new bios hw (JoinedTo id side) p full = added old (Join id bios) new p.1 (λ is. absurd (cc)) full
 
-some_moved : (policy : Policy) (queue : Queue) (core : CoreState) (hw n : ℕ) (now : Queue) (after : CoreState) → MovesSome policy.serves queue core hw n now after → AllFull core → AllFull after
+some_moved : (policy : Policy) (queue : Queue) (core : CoreState) (map : List ℕ) (n : ℕ) (now : Queue) (after : CoreState) → MovesSome policy.serves queue core map n now after → AllFull core → AllFull after
 unfolding MovesSome
-some_moved policy queue core hw zero now after m full = same core after m.1 full
-some_moved policy queue core hw (suc n) now after (between, (before, some, last)) full =
-    placed policy before after last.first hw last.placed last.places (some_moved policy queue core hw n between before some full)
+some_moved policy queue core map zero now after m full = same core after m.1 full
+some_moved policy queue core map (suc n) now after (between, (before, some, last)) full =
+    placed policy before after last.first (queue_of map last.first) last.placed last.places (some_moved policy queue core map n between before some full)
 
-pub all_moved_full : (policy : Policy) (queue : Queue) (core : CoreState) (hw : ℕ) (now : Queue) (after : CoreState) (r : Result ℕ DrainFault) → IsMoveAllAnswer policy.serves queue core hw now after r → AllFull core → AllFull after
-all_moved_full policy queue core hw now after (Ok moved) m full = some_moved policy queue core hw moved now after m.0 full
-all_moved_full policy queue core hw now after (Err fault) m full = some_moved policy queue core hw fault.moved now after m.0 full
+pub all_moved_full : (policy : Policy) (queue : Queue) (core : CoreState) (map : List ℕ) (now : Queue) (after : CoreState) (r : Result ℕ DrainFault) → IsMoveAllAnswer policy.serves queue core map now after r → AllFull core → AllFull after
+all_moved_full policy queue core map now after (Ok moved) m full = some_moved policy queue core map moved now after m.0 full
+all_moved_full policy queue core map now after (Err fault) m full = some_moved policy queue core map fault.moved now after m.0 full
 
 pub issued_full : (policy : Policy) (old : CoreState) (hw tag : ℕ) (new : CoreState) (found : Option Command) → Issues policy.serves policy.chooses old hw tag found new → AllFull old → AllFull new
 issued_full policy old hw tag new None i full = same old new i.0 full

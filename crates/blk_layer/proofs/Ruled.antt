@@ -1,5 +1,6 @@
--- A core that goes on under the policy of its scheduler: what each call leads to.
-use Rattle.std.proofs.Common.{◌≡◌, ℕ, zero, suc, ap, sym, subst, List, [], ◌∷◌, ◌++◌, Result, Ok, Err, Option, Some, None, IfOk, IfErr, OnErr}
+-- A core that goes on under the policy of its scheduler and the layer's map: what each call leads to.
+use Rattle.std.proofs.Common.{◌≡◌, ℕ, zero, suc, ap, sym, subst, List, [], ◌∷◌, ◌++◌, refl, Result, Ok, Err, Option, Some, None, IfOk, IfErr, OnErr}
+use Rattle.std.specs.Prelude.{Contains}
 use Rattle.edd_commands.specs.declared.Command.{Command}
 use Rattle.blk_bio.specs.Bios.{Bio}
 use Rattle.blk_queues.specs.Queues.{Queue}
@@ -10,96 +11,110 @@ use Rattle.blk_core.specs.declared.calls.Placed.TheVariants.{New, Joined as Join
 use Rattle.blk_core.specs.State.{CoreState}
 use Rattle.blk_sched.specs.Policies.{Policy}
 use Rattle.blk_core.specs.Calls.{Places, Issues, Completes, RequeuesTag, Ends, SetsDepth}
-use Rattle.blk_core.specs.Runs.{MakesCall, MakesCalls}
-use Rattle.blk_core.proofs.More.{run_on}
+use Rattle.blk_core.specs.Runs.{MakesCalls, IsRunFrom}
 use Rattle.blk_core.specs.declared.refusals.IssueFault.{IssueFault}
 use Rattle.blk_layer.proofs.Moving.{Stays, stays_either, issue_stays}
-use Rattle.blk_layer.specs.Submitting.{MovesSome, IsMoveAllAnswer}
+use Rattle.blk_layer.proofs.Mapped.{first_mapped, mapped_to, some_mapped}
+use Rattle.blk_layer.specs.Runs.{IsMappedTo, MakesLayerCall, MakesLayerCalls}
+use Rattle.blk_layer.specs.Submitting.{MovesSome, IsMoveAllAnswer, AreMapped, queue_of}
 use Rattle.blk_layer.specs.declared.submitting.DrainFault.{DrainFault}
 use Rattle.blk_core.specs.declared.trying.NoneIssued.{NoneIssued}
 use Rattle.blk_core.specs.declared.trying.NoneIssued.TheVariants as none
 use Rattle.blk_core.specs.Tries.{IsNoneIssued}
 
--- the calls so far lead from the start to the core
-abbrev pub Goes : Policy → CoreState → CoreState → Type 0
-Goes policy start c = MakesCalls policy start c.events c
+module _ (policy : Policy) (map queues : List ℕ) where
+  -- one call more
+  calls_on : (start : CoreState) (es : List Happened) (e : Happened) (middle end : CoreState)
+      → MakesLayerCalls policy map queues start es middle → MakesLayerCall policy map queues middle e end → MakesLayerCalls policy map queues start (es ++ e ∷ []) end
+  unfolding MakesLayerCalls
+  calls_on start [] e middle end is step = (end, subst (λ (c : CoreState). MakesLayerCall policy map queues c e end) is step, refl)
+  calls_on start (x ∷ es) e middle end (next, first, rest) step = (next, first, calls_on next es e middle end rest step)
 
--- one call more
-one : (policy : Policy) (start old new : CoreState) (e : Happened)
-    → MakesCall policy old e new → new.events ≡ old.events ++ e ∷ [] → Goes policy start old → Goes policy start new
-one policy start old new e step added runs =
-    subst (λ (es : List Happened). MakesCalls policy start es new) (sym added) (run_on policy start old.events e old new runs step)
+  -- no call leads to where it began
+  pub no_calls : (start c : CoreState) → c ≡ start → c.events ≡ [] → MakesLayerCalls policy map queues start c.events c
+  unfolding MakesLayerCalls
+  no_calls start c same none = subst (λ (es : List Happened). MakesLayerCalls policy map queues start es c) (sym none) same
 
--- nothing was done
-same : (policy : Policy) (start old new : CoreState) → new ≡ old → Goes policy start old → Goes policy start new
-same policy start old new e runs = subst (λ (c : CoreState). Goes policy start c) (sym e) runs
+  -- for whichever hardware queues the calls were, they follow the policy
+  pub calls_run : (start : CoreState) (es : List Happened) (end : CoreState) → MakesLayerCalls policy map queues start es end → MakesCalls policy start es end
+  unfolding MakesLayerCalls MakesCalls
+  calls_run start [] end is = is
+  calls_run start (e ∷ es) end (middle, first, rest) = (middle, first.call, calls_run middle es end rest)
 
-placed : (policy : Policy) (start old new : CoreState) (bios : List Bio) (hw : ℕ) (p : Placed)
-    → Places policy.serves old bios hw p new → Goes policy start old → Goes policy start new
-placed policy start old new bios hw (New id) p runs = one policy start old new (Release id bios) (record { hw = hw; places = p }) p.2.1 runs
-placed policy start old new bios hw (JoinedTo id side) p runs = one policy start old new (Join id bios) (side, record { hw = hw; places = p }) p.1.1 runs
+  module _ (start : CoreState) where
+    -- the calls so far lead from the start to the core
+    abbrev pub Goes : CoreState → Type 0
+    Goes c = MakesLayerCalls policy map queues start c.events c
 
-some_moved : (policy : Policy) (start : CoreState) (queue : Queue) (core : CoreState) (hw n : ℕ) (now : Queue) (after : CoreState)
-    → MovesSome policy.serves queue core hw n now after → Goes policy start core → Goes policy start after
-unfolding MovesSome
-some_moved policy start queue core hw zero now after m runs = same policy start core after m.1 runs
-some_moved policy start queue core hw (suc n) now after (between, (before, some, last)) runs =
-    placed policy start before after last.first hw last.placed last.places (some_moved policy start queue core hw n between before some runs)
+    one : (old new : CoreState) (e : Happened) → MakesLayerCall policy map queues old e new → new.events ≡ old.events ++ e ∷ [] → Goes old → Goes new
+    one old new e step added runs =
+        subst (λ (es : List Happened). MakesLayerCalls policy map queues start es new) (sym added) (calls_on start old.events e old new runs step)
 
-pub all_moved : (policy : Policy) (start : CoreState) (queue : Queue) (core : CoreState) (hw : ℕ) (now : Queue) (after : CoreState) (r : Result ℕ DrainFault)
-    → IsMoveAllAnswer policy.serves queue core hw now after r → Goes policy start core → Goes policy start after
-all_moved policy start queue core hw now after (Ok moved) m runs = some_moved policy start queue core hw moved now after m.0 runs
-all_moved policy start queue core hw now after (Err fault) m runs = some_moved policy start queue core hw fault.moved now after m.0 runs
+    -- nothing was done
+    same : (old new : CoreState) → new ≡ old → Goes old → Goes new
+    same old new e runs = subst (λ (c : CoreState). Goes c) (sym e) runs
 
-pub issued : (policy : Policy) (start old : CoreState) (hw tag : ℕ) (new : CoreState) (found : Option Command)
-    → Issues policy.serves policy.chooses old hw tag found new → Goes policy start old → Goes policy start new
-issued policy start old hw tag new None i runs = same policy start old new i.0 runs
-issued policy start old hw tag new (Some command) i runs =
-    one policy start old new (Issue i.0.id tag) (record { hw = hw; command = command; named = ap (λ (c : Command). c.id) i.3; issues = i }) i.2.1 runs
+    placed : (old new : CoreState) (bios : List Bio) (hw : ℕ) (p : Placed) → IsMappedTo map bios hw → Places policy.serves old bios hw p new → Goes old → Goes new
+    placed old new bios hw (New id) to p runs = one old new (Release id bios) (record { call = record { hw = hw; places = p }; its = to }) p.2.1 runs
+    placed old new bios hw (JoinedTo id side) to p runs = one old new (Join id bios) (record { call = (side, record { hw = hw; places = p }); its = to }) p.1.1 runs
 
-pub completed : (policy : Policy) (start old : CoreState) (tag : ℕ) (new : CoreState)
-    → Completes policy.told_done old tag new → Goes policy start old → Goes policy start new
-completed policy start old tag new d runs = one policy start old new (Done tag) d d.3.1 runs
+    some_moved : (queue : Queue) (core : CoreState) (n : ℕ) (now : Queue) (after : CoreState)
+        → AreMapped map queue.requests → MovesSome policy.serves queue core map n now after → Goes core → Goes after
+    unfolding MovesSome
+    some_moved queue core zero now after are m runs = same core after m.1 runs
+    some_moved queue core (suc n) now after are (between, (before, some, last)) runs =
+        placed before after last.first (queue_of map last.first) last.placed
+        (mapped_to map last.first (first_mapped map between.requests last.first now.requests last.stood (some_mapped policy.serves map queue core n between before some are)))
+        last.places (some_moved queue core n between before are some runs)
 
-pub taken_back : (policy : Policy) (start old : CoreState) (tag : ℕ) (new : CoreState) (id : ℕ)
-    → RequeuesTag old tag id new → Goes policy start old → Goes policy start new
-taken_back policy start old tag new id b runs = one policy start old new (Back tag) (record { id = id; taken = b }) b.4.1 runs
+    pub all_moved : (queue : Queue) (core : CoreState) (now : Queue) (after : CoreState) (r : Result ℕ DrainFault)
+        → AreMapped map queue.requests → IsMoveAllAnswer policy.serves queue core map now after r → Goes core → Goes after
+    all_moved queue core now after (Ok moved) are m runs = some_moved queue core moved now after are m.0 runs
+    all_moved queue core now after (Err fault) are m runs = some_moved queue core fault.moved now after are m.0 runs
 
-pub ended : (policy : Policy) (start old new : CoreState)
-    → Ends policy.told_tick old new → Goes policy start old → Goes policy start new
-ended policy start old new e runs = one policy start old new Tick e e.0.1 runs
+    pub completed : (old : CoreState) (tag : ℕ) (new : CoreState) → Completes policy.told_done old tag new → Goes old → Goes new
+    completed old tag new d runs = one old new (Done tag) (record { call = d; its = tt }) d.3.1 runs
 
-pub set : (policy : Policy) (start old : CoreState) (n : ℕ) (new : CoreState)
-    → SetsDepth old n new → Goes policy start old → Goes policy start new
-set policy start old n new s runs = one policy start old new (Depth n) s s.0.1 runs
+    pub taken_back : (old : CoreState) (tag : ℕ) (new : CoreState) (id : ℕ) → RequeuesTag old tag id new → Goes old → Goes new
+    taken_back old tag new id b runs = one old new (Back tag) (record { call = record { id = id; taken = b }; its = tt }) b.4.1 runs
 
--- a call that succeeded, or changed nothing
-pub either : {A E : Type 0} (P : A → Type 0) (policy : Policy) (start old new : CoreState) (r : Result A E)
-    → ((a : A) → P a → Goes policy start old → Goes policy start new) → IfOk r P → OnErr r (new ≡ old)
-    → Goes policy start old → Goes policy start new
-either P policy start old new (Ok a) on ok err runs = on a ok runs
-either P policy start old new (Err e) on ok err runs = same policy start old new err runs
+    pub ended : (old new : CoreState) → Ends policy.told_tick old new → Goes old → Goes new
+    ended old new e runs = one old new Tick (record { call = e; its = tt }) e.0.1 runs
 
-none_tried : (policy : Policy) (start old : CoreState) (hw tag : ℕ) (why : NoneIssued) (new : CoreState)
-    → IsNoneIssued policy.serves policy.chooses policy.told_tick old hw tag why new → Goes policy start old → Goes policy start new
-none_tried policy start old hw tag none.Nothing new f runs = issued policy start old hw tag new None f runs
-none_tried policy start old hw tag none.TagRange new f runs = same policy start old new f.2 runs
-none_tried policy start old hw tag none.SlotUsed new f runs = same policy start old new f.2 runs
-none_tried policy start old hw tag none.Full new f runs = same policy start old new f.3 runs
-none_tried policy start old hw tag none.Ended new f runs = ended policy start old new f.2 runs
-none_tried policy start old hw tag none.TraceFull new f runs = same policy start old new f.1 runs
-none_tried policy start old hw tag none.Memory new f runs = same policy start old new f.1 runs
+    pub set : (old : CoreState) (n : ℕ) (new : CoreState) → SetsDepth old n new → Goes old → Goes new
+    set old n new s runs = one old new (Depth n) (record { call = s; its = tt }) s.0.1 runs
 
-pub tried : (policy : Policy) (start old : CoreState) (hw tag : ℕ) (new : CoreState) (r : Result Command NoneIssued)
-    → IfOk r (λ command. Issues policy.serves policy.chooses old hw tag (Some command) new) → IfErr r (λ why. IsNoneIssued policy.serves policy.chooses policy.told_tick old hw tag why new)
-    → Goes policy start old → Goes policy start new
-tried policy start old hw tag new (Ok command) ok fault runs = issued policy start old hw tag new (Some command) ok runs
-tried policy start old hw tag new (Err why) ok fault runs = none_tried policy start old hw tag why new fault runs
+    -- a call that succeeded, or changed nothing
+    pub either : {A E : Type 0} (P : A → Type 0) (old new : CoreState) (r : Result A E)
+        → ((a : A) → P a → Goes old → Goes new) → IfOk r P → OnErr r (new ≡ old) → Goes old → Goes new
+    either P old new (Ok a) on ok err runs = on a ok runs
+    either P old new (Err e) on ok err runs = same old new err runs
 
--- what the core is after it was asked for a command
-pub asked : (policy : Policy) (start old : CoreState) (hw tag : ℕ) (new : CoreState) (r : Result (Option Command) IssueFault)
-    → IfOk r (λ found. Issues policy.serves policy.chooses old hw tag found new) → OnErr r (new ≡ old) → Stays old new × (Goes policy start old → Goes policy start new)
-asked policy start old hw tag new r ok err = (
-  stays_either (λ found. Issues policy.serves policy.chooses old hw tag found new) old new r (issue_stays policy.serves policy.chooses old hw tag new) ok err,
-  either (λ found. Issues policy.serves policy.chooses old hw tag found new) policy start old new r (issued policy start old hw tag new) ok err,
-)
+    module _ (old : CoreState) (hw tag : ℕ) (new : CoreState) (works : Contains queues hw) where
+      issued : (found : Option Command) → Issues policy.serves policy.chooses old hw tag found new → Goes old → Goes new
+      issued None i runs = same old new i.0 runs
+      issued (Some command) i runs =
+          one old new (Issue i.0.id tag) (record { call = record { hw = hw; command = command; named = ap (λ (c : Command). c.id) i.3; issues = i }; its = works }) i.2.1 runs
+
+      none_tried : (why : NoneIssued) → IsNoneIssued policy.serves policy.chooses policy.told_tick old hw tag why new → Goes old → Goes new
+      none_tried none.Nothing f runs = issued None f runs
+      none_tried none.TagRange f runs = same old new f.2 runs
+      none_tried none.SlotUsed f runs = same old new f.2 runs
+      none_tried none.Full f runs = same old new f.3 runs
+      none_tried none.Ended f runs = ended old new f.2 runs
+      none_tried none.TraceFull f runs = same old new f.1 runs
+      none_tried none.Memory f runs = same old new f.1 runs
+
+      pub tried : (r : Result Command NoneIssued)
+          → IfOk r (λ command. Issues policy.serves policy.chooses old hw tag (Some command) new) → IfErr r (λ why. IsNoneIssued policy.serves policy.chooses policy.told_tick old hw tag why new)
+          → Goes old → Goes new
+      tried (Ok command) ok fault runs = issued (Some command) ok runs
+      tried (Err why) ok fault runs = none_tried why fault runs
+
+      -- what the core is after it was asked for a command
+      pub asked : (r : Result (Option Command) IssueFault)
+          → IfOk r (λ found. Issues policy.serves policy.chooses old hw tag found new) → OnErr r (new ≡ old) → Stays old new × (Goes old → Goes new)
+      asked r ok err = (
+        stays_either (λ found. Issues policy.serves policy.chooses old hw tag found new) old new r (issue_stays policy.serves policy.chooses old hw tag new) ok err,
+        either (λ found. Issues policy.serves policy.chooses old hw tag found new) old new r issued ok err,
+      )

@@ -1,5 +1,5 @@
 -- What flushes and drains do, and why they end.
-use Rattle.std.specs.Prelude.{ℕ, ◌≡◌, ◌≢◌, ◌<◌, ◌≤◌, ◌+◌, ◌⊎◌, ◌++◌, ⊤, List, Some, length, slice_get, [], ◌∷◌, zero, suc, Bool, true, false, take, Result, Ok, Err}
+use Rattle.std.specs.Prelude.{ℕ, ◌≡◌, ◌≢◌, ◌<◌, ◌≤◌, ◌+◌, ◌⊎◌, ◌++◌, ⊤, List, Some, length, slice_get, slice_index_or, [], ◌∷◌, zero, suc, Bool, true, false, take, Result, Ok, Err}
 use Rattle.std.specs.List.{flat_map}
 use Rattle.blk_bio.specs.declared.bio.BioId.{BioId}
 use Rattle.blk_bio.specs.Bios.{Bio}
@@ -9,6 +9,7 @@ use Rattle.blk_queues.specs.declared.soft.TheConstants.{MAX_BIOS}
 use Rattle.blk_trace.specs.Events.{AreOnce, IsFirstRepeatedBio}
 use Rattle.blk_layer.specs.declared.submitting.FlushWhy.{FlushWhy}
 use Rattle.blk_layer.specs.declared.submitting.FlushWhy.TheVariants.{Foreign, Repeated, SoftFull, Memory}
+use Rattle.blk_bio.specs.declared.limits.TheConstants.{MAX_QUEUES}
 use Rattle.blk_layer.specs.Seats.{SubmitterSeat, AreOwn}
 use Rattle.edd_commands.specs.Order.{BreaksFirst}
 use Rattle.blk_sched.specs.Meaning.{Waiting}
@@ -78,41 +79,54 @@ IsRoomReason queue bios Memory = QueueHasRoom queue bios
 abbrev pub IsFirstRoomReason : Queue → Plug → FlushWhy → Type 0
 IsFirstRoomReason queue plug why = (first : List Bio) → slice_get plug.requests 0 ≡ Some first → IsRoomReason queue first why
 
--- the first request of the queue is released for the hardware queue, and leaves the queue
-pub record MovesFirst (serves : ℕ → Waiting → Bool) (queue : Queue) (core : CoreState) (hw : ℕ) (new_queue : Queue) (new_core : CoreState) : Type 0 where
+-- the submitter of a request, by its first bio
+abbrev pub submitter_of : List Bio → ℕ
+submitter_of [] = 0
+submitter_of (first ∷ later) = first.id.submitter
+
+-- the hardware queue that a map has for the submitter of a request, or a number of none where it has no such submitter
+abbrev pub queue_of : List ℕ → List Bio → ℕ
+queue_of map bios = slice_index_or map (submitter_of bios) MAX_QUEUES
+
+-- each request is of one submitter, and the map has a hardware queue for it
+abbrev pub AreMapped : List ℕ → List (List Bio) → Type 0
+AreMapped map requests = (k : ℕ) (bios : List Bio) → slice_get requests k ≡ Some bios → AreOwn (submitter_of bios) bios × (submitter_of bios < length map)
+
+-- the first request of the queue is released for its hardware queue by the map, and leaves the queue
+pub record MovesFirst (serves : ℕ → Waiting → Bool) (queue : Queue) (core : CoreState) (map : List ℕ) (new_queue : Queue) (new_core : CoreState) : Type 0 where
   pub first : List Bio
   pub placed : Placed
   pub stood : queue.requests ≡ first ∷ new_queue.requests
-  pub can : CanRelease core first hw
-  pub places : Places serves core first hw placed new_core
+  pub can : CanRelease core first (queue_of map first)
+  pub places : Places serves core first (queue_of map first) placed new_core
   pub left : new_queue ≡ record queue { requests = new_queue.requests; bios_out = queue.bios_out + length first }
 
--- the first request of the queue can't be released for the hardware queue, for this reason
-pub record IsMoveFault (queue : Queue) (core : CoreState) (hw : ℕ) (why : CoreFault) : Type 0 where
+-- the first request of the queue can't be released for its hardware queue by the map, for this reason
+pub record IsMoveFault (queue : Queue) (core : CoreState) (map : List ℕ) (why : CoreFault) : Type 0 where
   pub first : List Bio
   pub later : List (List Bio)
   pub stands : queue.requests ≡ first ∷ later
-  pub fault : IsReleaseFault core first hw why
+  pub fault : IsReleaseFault core first (queue_of map first) why
 
 -- what each answer of a move says of the queue and the core before and after it
-abbrev pub IsMoveAnswer : (ℕ → Waiting → Bool) → Queue → CoreState → ℕ → Queue → CoreState → Result Bool CoreFault → Type 0
-IsMoveAnswer serves queue core hw new_queue new_core (Ok true) = MovesFirst serves queue core hw new_queue new_core
-IsMoveAnswer serves queue core hw new_queue new_core (Ok false) = (queue.requests ≡ []) × (new_queue ≡ queue) × (new_core ≡ core)
-IsMoveAnswer serves queue core hw new_queue new_core (Err why) =
-    IsMoveFault queue core hw why × (new_queue ≡ queue) × (new_core ≡ core)
+abbrev pub IsMoveAnswer : (ℕ → Waiting → Bool) → Queue → CoreState → List ℕ → Queue → CoreState → Result Bool CoreFault → Type 0
+IsMoveAnswer serves queue core map new_queue new_core (Ok true) = MovesFirst serves queue core map new_queue new_core
+IsMoveAnswer serves queue core map new_queue new_core (Ok false) = (queue.requests ≡ []) × (new_queue ≡ queue) × (new_core ≡ core)
+IsMoveAnswer serves queue core map new_queue new_core (Err why) =
+    IsMoveFault queue core map why × (new_queue ≡ queue) × (new_core ≡ core)
 
 -- this many requests of the queue were moved into the core, one after the other, each the first of what was left
-unfoldable pub MovesSome : (ℕ → Waiting → Bool) → Queue → CoreState → ℕ → ℕ → Queue → CoreState → Type 0
-MovesSome serves queue core hw zero new_queue new_core = (new_queue ≡ queue) × (new_core ≡ core)
-MovesSome serves queue core hw (suc n) new_queue new_core =
-    (between : Queue) × ((after : CoreState) × MovesSome serves queue core hw n between after × MovesFirst serves between after hw new_queue new_core)
+unfoldable pub MovesSome : (ℕ → Waiting → Bool) → Queue → CoreState → List ℕ → ℕ → Queue → CoreState → Type 0
+MovesSome serves queue core map zero new_queue new_core = (new_queue ≡ queue) × (new_core ≡ core)
+MovesSome serves queue core map (suc n) new_queue new_core =
+    (between : Queue) × ((after : CoreState) × MovesSome serves queue core map n between after × MovesFirst serves between after map new_queue new_core)
 
 -- what each answer of `move_all` says: which requests were moved, and how many; and why the next one was refused
-abbrev pub IsMoveAllAnswer : (ℕ → Waiting → Bool) → Queue → CoreState → ℕ → Queue → CoreState → Result ℕ DrainFault → Type 0
-IsMoveAllAnswer serves queue core hw new_queue new_core (Ok moved) =
-    MovesSome serves queue core hw moved new_queue new_core × (moved ≡ length queue.requests) × (new_queue.requests ≡ [])
-IsMoveAllAnswer serves queue core hw new_queue new_core (Err fault) =
-    MovesSome serves queue core hw fault.moved new_queue new_core × (fault.moved + length new_queue.requests ≡ length queue.requests) × IsMoveFault new_queue new_core hw fault.why
+abbrev pub IsMoveAllAnswer : (ℕ → Waiting → Bool) → Queue → CoreState → List ℕ → Queue → CoreState → Result ℕ DrainFault → Type 0
+IsMoveAllAnswer serves queue core map new_queue new_core (Ok moved) =
+    MovesSome serves queue core map moved new_queue new_core × (moved ≡ length queue.requests) × (new_queue.requests ≡ [])
+IsMoveAllAnswer serves queue core map new_queue new_core (Err fault) =
+    MovesSome serves queue core map fault.moved new_queue new_core × (fault.moved + length new_queue.requests ≡ length queue.requests) × IsMoveFault new_queue new_core map fault.why
 
 -- copies of the first requests of a queue, in their order
 abbrev pub AreOfFirst : List (List Bio) → List (List Bio) → Type 0

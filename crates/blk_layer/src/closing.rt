@@ -8,6 +8,7 @@ ghost use Rattle.blk_trace.specs.Events.{AreOnce, HasId, IsReleased};
 ghost use Rattle.blk_trace.specs.Kinds.{releases};
 ghost use Rattle.blk_core.specs.Runs.{IsRunFrom};
 ghost use Rattle.blk_layer.specs.Rounds.{EndsFullRounds};
+ghost use Rattle.blk_layer.specs.Runs.{IsLayerRun};
 ghost use Rattle.blk_layer.specs.Seats.{SubmitterSeat};
 ghost use Rattle.blk_layer.specs.Closing.{AreAllThere, HasNumber, all_accepted, all_ran, issued_bios, done_by, done_ids, done_commands, done_count, AreSettled, AreCounted, IsBioOf, DiffersAsCommand, Disagrees, IsCloseRefusal};
 ghost use Rattle.blk_layer.specs.Inside.Closing.{IsAccountOf};
@@ -88,8 +89,8 @@ impl<S: Scheduler, L: Named> Layer<S, L> {
     /// Ok where they agree: the bios that were accepted are those of the issued requests and those that are left, each once, and the
     /// commands that the workers ran are those that are done. Refused as `Whole`, and all comes back: as `SeatMissing` where
     /// a seat of the layer isn't there, and as `Memory`. Refused as `Differs` where the accounts disagree on a bio; the layer
-    /// is spent then. The trace is one that the policy of its scheduler makes, and each round of it was full as it ended, unless rounds may be ended
-    /// by hand.
+    /// is spent then. The trace is one that the policy of its scheduler makes, with each request released for the hardware queue of its submitter
+    /// and each command issued for that of a worker; and each round of it was full as it ended, unless rounds may be ended by hand.
     pub fn close(
         self,
         alloc: S::A,
@@ -100,6 +101,7 @@ impl<S: Scheduler, L: Named> Layer<S, L> {
         ensures there { OnOk result (AreAllThere self.map self.workers submitters.items workers.items) }
         ensures setup { IfOk result (λ c. c.trace.setup ≡ L.setup) }
         ensures ran { IfOk result (λ c. IsRunFrom S.policy L.start c.trace.events) }
+        ensures routed { IfOk result (λ c. IsLayerRun S.policy L.map L.queues L.start c.trace.events) }
         ensures full { IfOk result (λ c. L.by_hand ≡ false → EndsFullRounds c.trace.setup c.trace.events) }
         ensures settled { IfOk result (λ c. AreSettled L.setup c.trace.events c.left.items submitters.items workers.items) }
         ensures once { IfOk result (λ c. AreOnce (issued_bios c.trace.events ++ c.left.items)) }
@@ -128,6 +130,7 @@ impl<S: Scheduler, L: Named> Layer<S, L> {
         requires there { AreAllThere self.map self.workers submitters.items workers.items }
         ensures setup { IfOk result (λ c. c.trace.setup ≡ L.setup) }
         ensures ran { IfOk result (λ c. IsRunFrom S.policy L.start c.trace.events) }
+        ensures routed { IfOk result (λ c. IsLayerRun S.policy L.map L.queues L.start c.trace.events) }
         ensures full { IfOk result (λ c. L.by_hand ≡ false → EndsFullRounds c.trace.setup c.trace.events) }
         ensures settled { IfOk result (λ c. AreSettled L.setup c.trace.events c.left.items submitters.items workers.items) }
         ensures once { IfOk result (λ c. AreOnce (issued_bios c.trace.events ++ c.left.items)) }

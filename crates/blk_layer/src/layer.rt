@@ -1,6 +1,6 @@
 //! The layer: what its threads share, and how it is made.
 
-ghost use Rattle.std.specs.Prelude.{ℕ, Bool, true, false, ◌≡◌, ◌<◌, [], All, IfOk, IfErr, OnOk, IfSome, IfNone, length, vec_len};
+ghost use Rattle.std.specs.Prelude.{ℕ, Bool, List, true, false, ◌≡◌, ◌<◌, [], All, IfOk, IfErr, OnOk, IfSome, IfNone, length};
 ghost use Rattle.blk_trace.specs.Setups.{Setup};
 ghost use Rattle.blk_sched.specs.Meaning.{at_start};
 ghost use Rattle.blk_core.specs.State.{CoreState, new_core};
@@ -36,8 +36,11 @@ pub trait Named: Ledger {
     /// The core before its first call.
     ghost start: { CoreState };
 
-    /// How many workers there are.
-    ghost workers: { ℕ };
+    /// The hardware queue of each software queue.
+    ghost map: { List ℕ };
+
+    /// The hardware queue of each worker.
+    ghost queues: { List ℕ };
 
     /// Whether rounds may be ended by hand, by [`Layer::tick`]. Else each ends as it is full.
     ghost by_hand: { Bool };
@@ -48,7 +51,9 @@ impl Named for Brand {
 
     ghost start = { new_core no_setup (at_start true) [] };
 
-    ghost workers = { 0 };
+    ghost map = { [] };
+
+    ghost queues = { [] };
 
     ghost by_hand = { false };
 }
@@ -89,7 +94,7 @@ impl<S: Scheduler, L: Named> Model for Layer<S, L> {
 
     ghost view = { λ l. record { map = l.map; workers = l.workers; tag_set = l.tags } };
 
-    ghost invariant = { λ l. IsLaidOut L.setup L.workers (vec_len l.queues) l.map l.tags.depth l.workers };
+    ghost invariant = { λ l. IsLaidOut L.setup L.map L.queues (vec_len l.queues) l.map l.tags.depth l.workers };
 }
 
 impl<S: Scheduler, L: Named> Layer<S, L> {
@@ -121,7 +126,8 @@ impl<S: Scheduler, L: Named> Layer<S, L> {
         requires parts { (blank.parts ≡ MAX_WORKERS) × (L.parts ≡ MAX_WORKERS) }
         requires setup { core.setup ≡ L.setup }
         requires start { core ≡ L.start }
-        requires workers { L.workers ≡ vec_len worker_queues }
+        requires map { L.map ≡ map }
+        requires queues { L.queues ≡ worker_queues.items }
         requires empty { core.events ≡ [] }
         ensures made { IfOk result (λ made. IsNewLayer core.setup.depth map worker_queues.items made.0 made.1.items made.2.items) }
         ensures no_fault { OnOk result (CanMake core.setup.hw map soft_depth worker_queues.items) }
@@ -155,7 +161,8 @@ impl<S: Scheduler, L: Named> Layer<S, L> {
         requires parts { (blank.parts ≡ MAX_WORKERS) × (L.parts ≡ MAX_WORKERS) }
         requires setup { core.setup ≡ L.setup }
         requires start { core ≡ L.start }
-        requires workers { L.workers ≡ vec_len worker_queues }
+        requires map { L.map ≡ map }
+        requires queues { L.queues ≡ worker_queues.items }
         requires empty { core.events ≡ [] }
         requires can { CanMake L.setup.hw map soft_depth worker_queues.items }
         ensures made { IfOk result (λ made. IsNewLayer core.setup.depth map worker_queues.items made.0 made.1.items made.2.items) }

@@ -4,9 +4,10 @@ ghost use Rattle.std.specs.Prelude.{true, false, ◌≡◌, ◌≤◌, ◌+◌, 
 ghost use Rattle.blk_bio.specs.declared.limits.TheConstants.{MAX_SOFT_DEPTH};
 ghost use Rattle.blk_core.specs.Faults.{IsTickFault};
 ghost use Rattle.blk_core.specs.Calls.{Ends, SetsDepth};
-ghost use Rattle.blk_core.specs.Runs.{MakesCalls, IsRunFrom};
-ghost use Rattle.blk_layer.specs.Submitting.{AreOfFirst};
+ghost use Rattle.blk_core.specs.Runs.{IsRunFrom};
+ghost use Rattle.blk_layer.specs.Submitting.{AreMapped, AreOfFirst};
 ghost use Rattle.blk_layer.specs.Rounds.{EndsFullRounds};
+ghost use Rattle.blk_layer.specs.Runs.{MakesLayerCalls, IsLayerRun};
 ghost use Rattle.blk_layer.specs.Serving.{IsTickAnswer, IsDepthAnswer};
 ghost use Rattle.blk_layer.specs.Closing.{all_ran, done_count};
 ghost use Rattle.blk_layer.specs.declared.layer.TheConstants.{MAX_WORKERS};
@@ -36,10 +37,10 @@ pub(crate) struct LockedCore<S: Scheduler, L: Named> {
     /// The tag after the last one that `work` issued: those before it are mostly used up in the round.
     pub(crate) next_tag: u16,
     ghost named: { core.setup ≡ L.setup },
-    ghost ran: { ∥ MakesCalls S.policy L.start core.events core ∥₁ },
+    ghost ran: { ∥ MakesLayerCalls S.policy L.map L.queues L.start core.events core ∥₁ },
     ghost full: { L.by_hand ≡ false → EndsFullRounds core.setup core.events },
     ghost counted: { book.total ≡ done_count core.events },
-    ghost all_out: { rest.parts + L.workers ≡ MAX_WORKERS },
+    ghost all_out: { rest.parts + length L.queues ≡ MAX_WORKERS },
     ghost none: { rest.amount ≡ 0 },
 }
 
@@ -50,7 +51,7 @@ impl<S: Scheduler, L: Named> LockedCore<S, L> {
         requires start { core ≡ L.start }
         requires empty { core.events ≡ [] }
         requires total { book.total ≡ 0 }
-        requires parts { rest.parts + L.workers ≡ MAX_WORKERS }
+        requires parts { rest.parts + length L.queues ≡ MAX_WORKERS }
         requires amount { rest.amount ≡ 0 }
         ensures { result.core ≡ core }
     {
@@ -85,7 +86,7 @@ impl<S: Scheduler, L: Named> LockedCore<S, L> {
     /// Audits the ledger: all the workers' accounts together have as many commands as the trace has Dones.
     pub(crate) fn audit(&mut self, workers: &mut [Worker<L, S::A>])
         requires parts { L.parts ≡ MAX_WORKERS }
-        requires all { length workers.old ≡ L.workers }
+        requires all { length workers.old ≡ length L.queues }
         ensures counted { length (all_ran workers.old) ≡ done_count self.old.core.events }
         ensures core { self.new.core ≡ self.old.core }
         ensures workers { workers.new ≡ workers.old }
@@ -98,6 +99,7 @@ impl<S: Scheduler, L: Named> LockedCore<S, L> {
         ensures setup { result.setup ≡ self.core.setup }
         ensures events { result.events ≡ self.core.events }
         ensures ran { IsRunFrom S.policy L.start result.events }
+        ensures routed { IsLayerRun S.policy L.map L.queues L.start result.events }
         ensures full { L.by_hand ≡ false → EndsFullRounds result.setup result.events }
     {
         let LockedCore { core, .. } = self;
@@ -116,13 +118,14 @@ pub(crate) struct LockedQueue<L: Named, A: Allocator> {
     ghost limits: { queue.limits ≡ L.setup.limits },
     ghost same_limits: { copies.limits ≡ L.setup.limits },
     ghost first: { AreOfFirst copies.requests queue.requests },
+    ghost mapped: { AreMapped L.map queue.requests },
 }
 
 impl<L: Named, A: Allocator> LockedQueue<L, A> {
     /// A queue of the layer's limits, and another one for copies, of which there are none yet.
     fn new(queue: SoftQueue<A>, copies: SoftQueue<A>) -> LockedQueue<L, A>
         requires limits { (queue.limits ≡ L.setup.limits) × (copies.limits ≡ L.setup.limits) }
-        requires none { copies.requests ≡ [] }
+        requires none { (queue.requests ≡ []) × (copies.requests ≡ []) }
         ensures { result.queue ≡ queue }
     {
         LockedQueue {

@@ -161,7 +161,7 @@ impl<L: Named, A: Allocator> Model for Worker<L, A> {
       ran = w.ran.items;
     } };
 
-    ghost invariant = { λ w. IsWorkingAt L.setup w.hw w.seat w.hands.items w.ran.items (vec_capacity w.ran) w.share.parts w.share.amount };
+    ghost invariant = { λ w. IsWorkingAt L.setup L.queues w.hw w.seat w.hands.items w.ran.items (vec_capacity w.ran) w.share.parts w.share.amount };
 }
 
 impl<L: Named, A: Allocator + Clone> Worker<L, A> {
@@ -177,6 +177,7 @@ impl<L: Named, A: Allocator + Clone> Worker<L, A> {
         requires seat { seat.tags ≡ [] }
         requires share { (share.parts ≡ 1) × (share.amount ≡ 0) }
         requires queue { hw < L.setup.hw }
+        requires one { Contains L.queues hw }
         ensures { IfOk result (λ w. w ≡ new_worker seat.of_set hw) }
     {
         let hands = empty_hands(alloc.clone()?, depth)?;
@@ -345,6 +346,7 @@ fn issue_next<S: Scheduler, L: Named>(
     requires set { seat.old.of_set ≡ tags.now }
     requires depth { tags.now.depth ≡ L.setup.depth }
     requires queue { hw < L.setup.hw }
+    requires one { Contains L.queues hw }
     ensures taken { IfOk result (λ issued. TakesTag seat.old issued.tag seat.new) }
     ensures core { IfOk result (λ issued. IssuesTo S.policy core.old.core hw issued core.new.core) }
     ensures none { IfErr result (λ why. IsNoNext S.policy core.old.core hw why core.new.core) }
@@ -409,6 +411,7 @@ pub(crate) fn seat_workers<L: Named, A: Allocator + Clone>(
     requires seat { first.old.of_set ≡ tags.now }
     requires depth { tags.now.depth ≡ L.setup.depth }
     requires queues { All (λ hw. hw < L.setup.hw) queues.now }
+    requires are { queues.now ≡ L.queues }
     requires parts { length queues.now ≤ rest.old.parts }
     requires amount { rest.old.amount ≡ 0 }
     ensures parts { OnOk result (rest.new.parts + length queues.now ≡ rest.old.parts) }

@@ -4,14 +4,14 @@ ghost use Rattle.std.specs.Prelude.{◌≡◌, ◌≢◌, ◌<◌, ◌≤◌, �
 ghost use Rattle.blk_bio.specs.Bios.{Bio as Transfer};
 ghost use Rattle.blk_queues.specs.Plugs.{bios_plugged};
 ghost use Rattle.blk_layer.specs.Seats.{AreOwn};
-ghost use Rattle.blk_layer.specs.Submitting.{Flushes, FlushesInto, QueueHasRoom, IsFirstForeign, IsLeft, IsFirstRoomReason, AreOfFirst, IsMoveAnswer, IsMoveAllAnswer};
+ghost use Rattle.blk_layer.specs.Submitting.{Flushes, FlushesInto, QueueHasRoom, IsFirstForeign, IsLeft, IsFirstRoomReason, AreOfFirst, queue_of, IsMoveAnswer, IsMoveAllAnswer};
 ghost use Rattle.blk_layer.specs.Inside.Submitting.{LosesFirst, GetsFirst, bios_of_both};
 
 use crate::layer::{Layer, Named};
 use crate::seats::{Submitter, Worker};
-use blk_bio::{Bio, BioId, MAX_SOFT_DEPTH, Request};
+use blk_bio::{Bio, BioId, MAX_QUEUES, MAX_SOFT_DEPTH, Request};
 use blk_core::{Core, CoreFault};
-use blk_queues::{MAX_BIOS, Plug, SoftQueue};
+use blk_queues::{MAX_BIOS, Map, Plug, SoftQueue};
 use blk_sched::Scheduler;
 use std::alloc::Allocator;
 use std::sync::Wait;
@@ -86,7 +86,10 @@ impl<S: Scheduler, L: Named> Layer<S, L> {
         let number = usize::from(submitter.number());
         let mut guard = self.queues[number].lock(rt);
         let staged = &mut *guard;
-        Self::flush_into(&mut staged.queue, submitter, plug)
+        let answer = Self::flush_into(&mut staged.queue, submitter, plug);
+        // Reads nothing that counts: the prover gets that all that was accepted is the submitter's own.
+        let _ = submitter.accepted();
+        answer
     }
 
     /// Moves the requests of a plug, from the first on, to the back of a software queue, and their bios into the submitter's
@@ -142,7 +145,7 @@ impl<S: Scheduler, L: Named> Layer<S, L> {
             if self.map.hw_of(soft) != hw {
                 continue;
             }
-            match self.drain_one(rt, soft, hw) {
+            match self.drain_one(rt, soft) {
                 Ok(more) => moved += more,
                 Err(fault) => {
                     return Err(DrainFault {
@@ -157,9 +160,8 @@ impl<S: Scheduler, L: Named> Layer<S, L> {
 
     /// Moves the requests of one software queue into the core, as [`Layer::drain`] does. The queue's lock is taken before the
     /// core's, so that no two threads wait for each other.
-    fn drain_one<R: Wait>(&self, rt: &R, soft: usize, hw: u8) -> Result<u64, DrainFault>
-        requires soft { soft < length self.now.map }
-        requires hw { hw < L.setup.hw }
+    fn drain_one<R: Wait>(&self, rt: &R, soft: usize) -> Result<u64, DrainFault>
+        requires { soft < length self.now.map }
         ensures few { IfOk result (λ moved. moved ≤ MAX_MOVES) }
         ensures few_err { IfErr result (λ e. e.moved ≤ MAX_MOVES) }
         ensures there { IfErr result (λ e. e.why ≢ CoreFault.NoQueue) }
@@ -172,7 +174,8 @@ impl<S: Scheduler, L: Named> Layer<S, L> {
         }
         let mut core = self.lock_core(rt);
         let locked = &mut *core;
-        Self::move_all(&mut staged.queue, &mut staged.copies, &mut locked.core, hw)
+        let map = &self.map;
+        Self::move_all(&mut staged.queue, &mut staged.copies, &mut locked.core, map)
     }
 
     /// Copies the requests of a software queue that have no copy yet, in their order, as long as there is memory, and room
@@ -198,11 +201,12 @@ impl<S: Scheduler, L: Named> Layer<S, L> {
         }
     }
 
-    /// Moves the first request of a software queue into the core, for a hardware queue: it is released there, with its copy for the
-    /// trace, and leaves the queue. False exactly where the queue is empty. The queue's limits are the core's, and the copies are those
-    /// of its first requests. It waits for nobody: a drain calls it for each request, through [`Layer::move_all`].
+    /// Moves the first request of a software queue into the core: it is released for the hardware queue that the map has for its
+    /// submitter, that of its first bio, with its copy for the trace, and leaves the queue. False exactly where the queue is empty. The
+    /// queue's limits are the core's, and the copies are those of its first requests. It waits for nobody: a drain calls it for each
+    /// request, through [`Layer::move_all`].
     ///
-    /// Refused as the core's release is: as `NoQueue` where the core has no such hardware queue, as `Repeated` with the first bio
+    /// Refused as the core's release is: as `NoQueue` where the map has no such submitter or the core no such hardware queue, as `Repeated` with the first bio
     /// whose id stands in the trace or twice in the request, as `TraceFull` and as `Memory`; and as `Memory` too where the core would
     /// take it and it has no copy. The request is first in the queue again then, as its copy is, and all are as they were.
     #[tactic(auto, using(crate::proofs::Copied::one_less, crate::proofs::Copied::one_back, crate::proofs::Copied::has_first))]
@@ -210,16 +214,16 @@ impl<S: Scheduler, L: Named> Layer<S, L> {
         queue: &mut SoftQueue<S::A>,
         copies: &mut SoftQueue<S::A>,
         core: &mut Core<S>,
-        hw: u8,
+        map: &Map<S::A>,
     ) -> Result<bool, CoreFault>
         requires limits { queue.old.limits ≡ core.old.setup.limits }
         requires first { AreOfFirst copies.old.requests queue.old.requests }
-        ensures answer { IsMoveAnswer S.policy.serves queue.old core.old hw queue.new core.new result }
+        ensures answer { IsMoveAnswer S.policy.serves queue.old core.old map.now queue.new core.new result }
         ensures first { AreOfFirst copies.new.requests queue.new.requests }
         ensures limits { copies.new.limits ≡ copies.old.limits }
     {
         if copies.len() == 0 || queue.len() == 0 {
-            return without_copy(queue, core, hw);
+            return without_copy(queue, core, map);
         }
         let Some(copy) = copies.take_first() else {
             unreachable!()
@@ -227,6 +231,7 @@ impl<S: Scheduler, L: Named> Layer<S, L> {
         let Some(request) = queue.take_first() else {
             unreachable!()
         };
+        let hw = queue_of(map, &request);
         match core.release_copied(request, copy, hw) {
             Ok(_) => Ok(true),
             Err((request, copy, why)) => {
@@ -249,17 +254,17 @@ impl<S: Scheduler, L: Named> Layer<S, L> {
         queue: &mut SoftQueue<S::A>,
         copies: &mut SoftQueue<S::A>,
         core: &mut Core<S>,
-        hw: u8,
+        map: &Map<S::A>,
     ) -> Result<u64, DrainFault>
         requires limits { queue.old.limits ≡ core.old.setup.limits }
         requires first { AreOfFirst copies.old.requests queue.old.requests }
-        ensures answer { IsMoveAllAnswer S.policy.serves queue.old core.old hw queue.new core.new result }
+        ensures answer { IsMoveAllAnswer S.policy.serves queue.old core.old map.now queue.new core.new result }
         ensures first { AreOfFirst copies.new.requests queue.new.requests }
         ensures limits { copies.new.limits ≡ copies.old.limits }
     {
         let most = queue.len() as u64;
         for moved in 0..most {
-            match Self::move_first(queue, copies, core, hw) {
+            match Self::move_first(queue, copies, core, map) {
                 Ok(true) => {}
                 Ok(false) => unreachable!(),
                 Err(why) => return Err(DrainFault { moved, why }),
@@ -348,15 +353,28 @@ pub(crate) fn first_foreign(number: u8, bios: &[Bio]) -> Option<BioId>
 fn without_copy<S: Scheduler>(
     queue: &SoftQueue<S::A>,
     core: &Core<S>,
-    hw: u8,
+    map: &Map<S::A>,
 ) -> Result<bool, CoreFault>
-    ensures { IsMoveAnswer S.policy.serves queue.now core.now hw queue.now core.now result }
+    ensures { IsMoveAnswer S.policy.serves queue.now core.now map.now queue.now core.now result }
 {
     let Some(request) = queue.get(0) else {
         return Ok(false);
     };
-    match core.release_fault(request, hw) {
+    match core.release_fault(request, queue_of(map, request)) {
         Some(why) => Err(why),
         None => Err(CoreFault::Memory),
+    }
+}
+
+/// The hardware queue that a map has for the submitter of a request, that of its first bio; [`MAX_QUEUES`], which is no hardware
+/// queue's number, where it has no such submitter.
+fn queue_of<A: Allocator + Clone>(map: &Map<A>, request: &Request<A>) -> u8
+    ensures { result ≡ queue_of map.now request.now }
+{
+    let submitter = usize::from(request.bios()[0].id().submitter);
+    if submitter < map.soft_count() {
+        map.hw_of(submitter)
+    } else {
+        MAX_QUEUES
     }
 }

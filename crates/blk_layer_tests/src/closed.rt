@@ -1,6 +1,6 @@
 //! Layers that follow a list of calls, and what is left of them.
 
-ghost use Rattle.std.specs.Prelude.{true, ◌≡◌, ◌<◌, [], IfErr, length, vec_len};
+ghost use Rattle.std.specs.Prelude.{true, ◌≡◌, ◌<◌, [], IfErr, length};
 
 use crate::asked::last;
 use crate::given::{core, limits, setup};
@@ -95,7 +95,8 @@ fn followed<R: Abort + Wait, S: Scheduler, L: Named>(
     requires setup { core.setup ≡ L.setup }
     requires start { core ≡ L.start }
     requires limits { L.setup.limits ≡ limits }
-    requires workers { L.workers ≡ vec_len worker_queues }
+    requires map { L.map ≡ map }
+    requires queues { L.queues ≡ worker_queues.items }
     requires empty { core.events ≡ [] }
     requires hand { L.by_hand ≡ true }
     ensures core { IfErr result (λ back. back ≡ core) }

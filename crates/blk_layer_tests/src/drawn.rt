@@ -1,6 +1,6 @@
 //! Drawn lists of calls, whose answers are those of the layer's parts called directly.
 
-ghost use Rattle.std.specs.Prelude.{true, ◌≡◌, ◌<◌, [], length, vec_len};
+ghost use Rattle.std.specs.Prelude.{true, ◌≡◌, ◌<◌, [], length};
 
 use crate::asked::{close, last};
 use crate::calls::by_either;
@@ -195,7 +195,8 @@ fn list<R: Abort + Wait, L: Named>(
     requires setup { core.setup ≡ L.setup }
     requires start { core ≡ L.start }
     requires limits { L.setup.limits ≡ limits }
-    requires workers { L.workers ≡ vec_len worker_queues }
+    requires map { L.map ≡ map }
+    requires queues { L.queues ≡ worker_queues.items }
     requires empty { core.events ≡ [] }
     requires hand { L.by_hand ≡ true }
 {

@@ -1,6 +1,6 @@
 //! Two workers that work at once, and a submitter beside a worker.
 
-ghost use Rattle.std.specs.Prelude.{◌≡◌, ◌<◌, [], length, vec_len};
+ghost use Rattle.std.specs.Prelude.{◌≡◌, ◌<◌, [], length};
 
 use crate::asked::{flush_one, last};
 use crate::given::{core, limits, setup};
@@ -82,7 +82,8 @@ fn at_once<R: Abort + Wait + Threads + Sync, L: Named + Send + Sync>(
     requires setup { core.setup ≡ L.setup }
     requires start { core ≡ L.start }
     requires limits { L.setup.limits ≡ limits }
-    requires workers { L.workers ≡ vec_len worker_queues }
+    requires map { L.map ≡ map }
+    requires queues { L.queues ≡ worker_queues.items }
     requires empty { core.events ≡ [] }
 {
     let made = Layer::<NoneSched, L>::new(alloc, blank, core, map, 4, worker_queues);
@@ -187,7 +188,8 @@ fn served_late<R: Abort + Wait + Threads + Sync, L: Named + Send + Sync>(
     requires setup { core.setup ≡ L.setup }
     requires start { core ≡ L.start }
     requires limits { L.setup.limits ≡ limits }
-    requires workers { L.workers ≡ vec_len worker_queues }
+    requires map { L.map ≡ map }
+    requires queues { L.queues ≡ worker_queues.items }
     requires empty { core.events ≡ [] }
 {
     let made = Layer::<NoneSched, L>::new(alloc, blank, core, map, 4, worker_queues);

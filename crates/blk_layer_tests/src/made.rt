@@ -1,6 +1,6 @@
 //! What a new layer has, and why none is made.
 
-ghost use Rattle.std.specs.Prelude.{◌≡◌, [], vec_len};
+ghost use Rattle.std.specs.Prelude.{◌≡◌, []};
 
 use crate::given::{core, limits, setup};
 use blk_core::Core;
@@ -25,7 +25,8 @@ fn made<L: Named>(
     requires parts { (blank.parts ≡ MAX_WORKERS) × (L.parts ≡ MAX_WORKERS) }
     requires setup { core.setup ≡ L.setup }
     requires start { core ≡ L.start }
-    requires workers { L.workers ≡ vec_len worker_queues }
+    requires map { L.map ≡ map }
+    requires queues { L.queues ≡ worker_queues.items }
     requires empty { core.events ≡ [] }
 {
     match Layer::<NoneSched, L>::new(alloc, blank, core, map, soft_depth, worker_queues) {

@@ -1,6 +1,6 @@
 //! Nine submitters and four workers at once, over four hardware queues.
 
-ghost use Rattle.std.specs.Prelude.{◌≡◌, ◌<◌, [], All, length, vec_len};
+ghost use Rattle.std.specs.Prelude.{◌≡◌, ◌<◌, [], All, length};
 
 use crate::asked::close;
 use crate::given::{bio, core, limits, setup};
@@ -164,7 +164,8 @@ fn at_once<R: Abort + Threads + Wait + Sync, L: Named + Send + Sync>(
     requires setup { core.setup ≡ L.setup }
     requires start { core ≡ L.start }
     requires limits { L.setup.limits ≡ limits }
-    requires workers { L.workers ≡ vec_len worker_queues }
+    requires map { L.map ≡ map }
+    requires queues { L.queues ≡ worker_queues.items }
     requires empty { core.events ≡ [] }
 {
     let made = Layer::<NoneSched, L>::new(alloc, blank, core, map, 4, worker_queues);

@@ -7,7 +7,7 @@ use blk_bio::BioId;
 use blk_core::CoreFault;
 use blk_layer::{DrainFault, Layer};
 use blk_none::NoneSched;
-use blk_queues::SoftQueue;
+use blk_queues::{Map, SoftQueue};
 use std::alloc::Global;
 use std::marker::Brand;
 use std::process::Abort;
@@ -18,13 +18,14 @@ type Plain = Layer<NoneSched, Brand>;
 fn move_first_then_none(rt: HostRuntime) {
     let alloc = rt.alloc();
     let mut core = core(&rt, alloc, setup(&rt, 1, 1, limits(&rt)));
+    let map = map_of(&rt, alloc, &[0]);
     let mut queue = queue_of(&rt, alloc, &[7]);
     let mut copies = copies_of(&rt, alloc, &queue);
     assert!(rt; queue.limits() == core.trace().setup().limits());
-    assert!(rt; Plain::move_first(&mut queue, &mut copies, &mut core, 0) == Ok(true));
+    assert!(rt; Plain::move_first(&mut queue, &mut copies, &mut core, &map) == Ok(true));
     assert!(rt; (queue.len(), copies.len(), core.pending()) == (0, 0, 1));
     assert!(rt; queue.limits() == core.trace().setup().limits());
-    assert!(rt; Plain::move_first(&mut queue, &mut copies, &mut core, 0) == Ok(false));
+    assert!(rt; Plain::move_first(&mut queue, &mut copies, &mut core, &map) == Ok(false));
     assert!(rt; core.trace().len() == 1);
 }
 
@@ -33,17 +34,51 @@ fn move_first_then_none(rt: HostRuntime) {
 fn move_first_refused(rt: HostRuntime) {
     let alloc = rt.alloc();
     let mut core = core(&rt, alloc, setup(&rt, 1, 1, limits(&rt)));
+    let map = map_of(&rt, alloc, &[0]);
     let mut queue = queue_of(&rt, alloc, &[7, 7]);
     let mut copies = copies_of(&rt, alloc, &queue);
     assert!(rt; queue.limits() == core.trace().setup().limits());
-    assert!(rt; Plain::move_first(&mut queue, &mut copies, &mut core, 0) == Ok(true));
+    assert!(rt; Plain::move_first(&mut queue, &mut copies, &mut core, &map) == Ok(true));
     assert!(rt; queue.limits() == core.trace().setup().limits());
     let again = CoreFault::Repeated(BioId {
         submitter: 0,
         serial: 7,
     });
-    assert!(rt; Plain::move_first(&mut queue, &mut copies, &mut core, 0) == Err(again));
+    assert!(rt; Plain::move_first(&mut queue, &mut copies, &mut core, &map) == Err(again));
     assert!(rt; (queue.len(), copies.len(), core.pending()) == (1, 1, 1));
+}
+
+/// What the move of a request of submitter 1 answers under a map, over a core of two hardware queues, and whether each of them is then
+/// issued a command.
+fn moved_by(
+    rt: &impl Abort,
+    alloc: Global,
+    entries: &[u8],
+) -> (Result<bool, CoreFault>, bool, bool) {
+    let limits = limits(rt);
+    let mut core = core(rt, alloc, setup(rt, 4, 2, limits));
+    let map = map_of(rt, alloc, entries);
+    let mut queue = SoftQueue::new(alloc, 4, limits).expect(rt, "memory");
+    let request = alone(rt, alloc, bio(rt, 1, 7, 0));
+    assert!(rt; request.within(&queue.limits()));
+    assert!(rt; queue.put(request).is_ok());
+    let mut copies = copies_of(rt, alloc, &queue);
+    assert!(rt; queue.limits() == core.trace().setup().limits());
+    let moved = Plain::move_first(&mut queue, &mut copies, &mut core, &map);
+    let first = core.issue(0, 0).expect(rt, "an issue");
+    let second = core.issue(1, 1).expect(rt, "an issue");
+    (moved, first.is_some(), second.is_some())
+}
+
+// A request goes to the hardware queue that the map has for its submitter. A map without that submitter refuses it, and one that has a
+// hardware queue for it that the core hasn't.
+#[test]
+fn move_first_by_the_map(rt: HostRuntime) {
+    let alloc = rt.alloc();
+    assert!(rt; moved_by(&rt, alloc, &[0, 1]) == (Ok(true), false, true));
+    assert!(rt; moved_by(&rt, alloc, &[1, 0]) == (Ok(true), true, false));
+    assert!(rt; moved_by(&rt, alloc, &[0]) == (Err(CoreFault::NoQueue), false, false));
+    assert!(rt; moved_by(&rt, alloc, &[0, 2, 1]) == (Err(CoreFault::NoQueue), false, false));
 }
 
 /// A queue of reads of submitter 0, of these serial numbers.
@@ -56,6 +91,12 @@ fn queue_of(rt: &impl Abort, alloc: Global, serials: &[u64]) -> SoftQueue {
         assert!(rt; queue.put(request).is_ok());
     }
     queue
+}
+
+/// A map of software queues to these hardware queues.
+fn map_of(rt: &impl Abort, alloc: Global, entries: &[u8]) -> Map {
+    let entries = Vec::from_slice(alloc, entries).expect(rt, "memory");
+    Map::new(entries).expect(rt, "a map")
 }
 
 /// Copies of all requests of a queue.
@@ -90,6 +131,7 @@ fn all_of(
 ) -> (Result<u64, DrainFault>, usize, u64, usize) {
     let limits = limits(rt);
     let mut core = core(rt, alloc, setup(rt, 1, 1, limits));
+    let map = map_of(rt, alloc, &[0]);
     let mut queue = queue_of(rt, alloc, serials);
     let mut copies = SoftQueue::new(alloc, 4, limits).expect(rt, "memory");
     assert!(rt; queue.limits() == core.trace().setup().limits());
@@ -98,7 +140,7 @@ fn all_of(
         Plain::copy_ahead(&queue, &mut copies);
         assert!(rt; copies.len() == queue.len());
     }
-    let answer = Plain::move_all(&mut queue, &mut copies, &mut core, 0);
+    let answer = Plain::move_all(&mut queue, &mut copies, &mut core, &map);
     (answer, queue.len(), core.pending(), copies.len())
 }
 

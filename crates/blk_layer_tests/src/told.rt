@@ -1,6 +1,6 @@
 //! A call answers that memory ran out inside it: each allocation of a drain, of an issue and of a worker's work is refused in turn.
 
-ghost use Rattle.std.specs.Prelude.{◌≡◌, ◌<◌, [], length, vec_len};
+ghost use Rattle.std.specs.Prelude.{◌≡◌, ◌<◌, [], length};
 
 use crate::asked::last;
 use crate::given::{bio, core, limits, setup};
@@ -133,7 +133,8 @@ fn refused<'a, R: Abort + Wait, L: Named>(
     requires setup { core.setup ≡ L.setup }
     requires start { core ≡ L.start }
     requires limits { L.setup.limits ≡ limits }
-    requires workers { L.workers ≡ vec_len worker_queues }
+    requires map { L.map ≡ map }
+    requires queues { L.queues ≡ worker_queues.items }
     requires empty { core.events ≡ [] }
 {
     let new = Layer::<NoneSched<Heap<'a>>, L>::new(heap, blank, core, map, 4, worker_queues);
@@ -205,7 +206,8 @@ fn ran_after_refusals<'a, R: Abort + Wait, L: Named>(
     requires setup { core.setup ≡ L.setup }
     requires start { core ≡ L.start }
     requires limits { L.setup.limits ≡ limits }
-    requires workers { L.workers ≡ vec_len worker_queues }
+    requires map { L.map ≡ map }
+    requires queues { L.queues ≡ worker_queues.items }
     requires empty { core.events ≡ [] }
 {
     let new = Layer::<NoneSched<Heap<'a>>, L>::new(heap, blank, core, map, 4, worker_queues);

@@ -1,6 +1,6 @@
 //! A load, from its threads' start to its account.
 
-ghost use Rattle.std.specs.Prelude.{false, ◌≡◌, ◌≢◌, ◌<◌, ◌≤◌, [], All, IsPermutation, IfOk, OnOk, IfErr, Some, length, min, vec_len};
+ghost use Rattle.std.specs.Prelude.{false, ◌≡◌, ◌≢◌, ◌<◌, ◌≤◌, [], All, IsPermutation, IfOk, OnOk, IfErr, Some, length, min};
 ghost use Rattle.blk_queues.specs.Maps.{IsHwCount};
 ghost use Rattle.blk_layer.specs.Closing.{all_accepted};
 ghost use Rattle.blk_layer.specs.Rounds.{EndsFullRounds};
@@ -124,7 +124,8 @@ fn on_layer<R: Threads + Wait + Sync, S: Scheduler<A = Global> + Send, L: Named 
     requires parts { (blank.parts ≡ MAX_WORKERS) × (L.parts ≡ MAX_WORKERS) }
     requires setup { core.setup ≡ L.setup }
     requires start { core ≡ L.start }
-    requires workers { L.workers ≡ vec_len queues }
+    requires map { L.map ≡ map }
+    requires queues { L.queues ≡ queues.items }
     requires empty { core.events ≡ [] }
     requires range { IsLoad load }
     requires setup_is { L.setup ≡ load_setup load }

@@ -26,7 +26,7 @@ invariant_of-core g c =
       all_out = locked.all_out;
       none = locked.none;
       full = λ off. tried_full S.policy locked.core c.args.hw c.in-Some.tag c.try_issue.new.self c.try_issue.result c.try_issue.ensures.issued c.try_issue.ensures.fault (locked.full off);
-      ran = ∥∥₁_map locked.ran (tried S.policy g.L.Named.start locked.core c.args.hw c.in-Some.tag c.try_issue.new.self c.try_issue.result c.try_issue.ensures.issued c.try_issue.ensures.fault);
+      ran = ∥∥₁_map locked.ran (tried S.policy g.L.Named.map g.L.Named.queues g.L.Named.start locked.core c.args.hw c.in-Some.tag c.try_issue.new.self c.requires.one c.try_issue.result c.try_issue.ensures.issued c.try_issue.ensures.fault);
     }
 
 pub invariant_of-core-in-Err-1 : goal.invariant_of-core-in-Err-1
@@ -40,7 +40,7 @@ invariant_of-core-in-Err-1 g c =
       all_out = locked.all_out;
       none = locked.none;
       full = λ off. tried_full S.policy locked.core c.args.hw c.in-Some.tag c.try_issue.new.self c.try_issue.result c.try_issue.ensures.issued c.try_issue.ensures.fault (locked.full off);
-      ran = ∥∥₁_map locked.ran (tried S.policy g.L.Named.start locked.core c.args.hw c.in-Some.tag c.try_issue.new.self c.try_issue.result c.try_issue.ensures.issued c.try_issue.ensures.fault);
+      ran = ∥∥₁_map locked.ran (tried S.policy g.L.Named.map g.L.Named.queues g.L.Named.start locked.core c.args.hw c.in-Some.tag c.try_issue.new.self c.requires.one c.try_issue.result c.try_issue.ensures.issued c.try_issue.ensures.fault);
     }
 
 pub returns-in_default-why-clause-kept : goal.returns-in_default-why-clause-kept

@@ -13,9 +13,9 @@ returns-in_default g c =
 pub returns-in-Some-release_fault : goal.returns-in-Some-release_fault
 returns-in-Some-release_fault g c =
     let first : Some c.in-Some.request.now ≡ slice_get c.args.queue.now.requests 0 = sym (ap option_copied c.in-Some.is) ∙ c.get.ensures in
-    (refused_first c.args.queue.now c.args.core.now c.args.hw c.in-Some.request.now c.in-Some-release_fault.why (sym first) c.in-Some-release_fault.ensures.some, refl, refl)
+    (refused_first c.args.queue.now c.args.core.now c.args.map.now c.in-Some.request.now c.in-Some-release_fault.why (sym first) c.in-Some-release_fault.ensures.some, refl, refl)
 
 pub returns-in-None : goal.returns-in-None
 returns-in-None g c =
     let first : Some c.in-Some.request.now ≡ slice_get c.args.queue.now.requests 0 = sym (ap option_copied c.in-Some.is) ∙ c.get.ensures in
-    (refused_first c.args.queue.now c.args.core.now c.args.hw c.in-Some.request.now Memory (sym first) c.in-None.ensures.none, refl, refl)
+    (refused_first c.args.queue.now c.args.core.now c.args.map.now c.in-Some.request.now Memory (sym first) c.in-None.ensures.none, refl, refl)

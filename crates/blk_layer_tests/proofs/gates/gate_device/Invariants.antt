@@ -1,8 +1,8 @@
-use Rattle.std.proofs.Common.{vec_len, false}
+use Rattle.std.proofs.Common.{false}
 use Rattle.blk_layer_tests.proofs.gates.gate_device.Given as goal
 
 abbrev pub ghosts-at_once-L-Named : goal.ghosts-at_once-L-Named
-ghosts-at_once-L-Named g a = record { setup = a.core.setup; start = a.core; workers = vec_len a.worker_queues; by_hand = false }
+ghosts-at_once-L-Named g a = record { setup = a.core.setup; start = a.core; map = a.map; queues = a.worker_queues.items; by_hand = false }
 
 abbrev pub ghosts-at_once-L-Ledger : goal.ghosts-at_once-L-Ledger
 ghosts-at_once-L-Ledger g a = record { name = a.blank.name; parts = a.blank.parts }

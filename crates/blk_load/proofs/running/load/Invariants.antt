@@ -1,8 +1,8 @@
-use Rattle.std.proofs.Common.{vec_len, false}
+use Rattle.std.proofs.Common.{false}
 use Rattle.blk_load.proofs.running.load.Given as goal
 
 abbrev pub ghosts-on_layer-L-Named : goal.ghosts-on_layer-L-Named
-ghosts-on_layer-L-Named g a = record { setup = a.core.setup; start = a.core; workers = vec_len a.queues; by_hand = false }
+ghosts-on_layer-L-Named g a = record { setup = a.core.setup; start = a.core; map = a.map; queues = a.queues.items; by_hand = false }
 
 abbrev pub ghosts-on_layer-L-Ledger : goal.ghosts-on_layer-L-Ledger
 ghosts-on_layer-L-Ledger g a = record { name = a.blank.name; parts = a.blank.parts }

@@ -1,4 +1,4 @@
-use Rattle.std.proofs.Common.{◌≡◌, ◌∙◌, ap, rules, arith, length, map}
+use Rattle.std.proofs.Common.{◌≡◌, ◌∙◌, ap, sym, rules, arith, length, map}
 use Rattle.blk_trace.specs.Setups.{Setup}
 use Rattle.blk_layer.specs.Seats.{new_worker}
 use Rattle.blk_layer.proofs.layer.Layer.make.Goals as goal
@@ -6,7 +6,7 @@ use Rattle.blk_layer.proofs.layer.Layer.make.Goals as goal
 pub invariant_of-layer : goal.invariant_of-layer
 invariant_of-layer g c =
     let depth : c.in-Ok-new.tags.depth ≡ g.L.Named.setup.depth = c.in-Ok-new.ensures.depth ∙ c.depth.ensures.value ∙ ap (λ (s : Setup). s.depth) (c.setup-setup.ensures ∙ c.trace.ensures.setup ∙ c.requires.setup) in
-    (c.in-Ok.ensures ∙ c.soft_count-soft_count.ensures.value, c.requires.can.named, depth, omega (arith, c.len.ensures, c.in-Ok-seat_workers.ensures.count, c.as_slice-queues.ensures.len, c.requires.workers))
+    (c.in-Ok.ensures ∙ c.soft_count-soft_count.ensures.value, c.requires.can.named, depth, omega (arith, c.len.ensures, c.in-Ok-seat_workers.ensures.count, ap length c.as_slice-queues.ensures.value, ap length c.requires.queues), sym c.requires.map)
 
 pub returns-clause-made : goal.returns-clause-made
 returns-clause-made g c =

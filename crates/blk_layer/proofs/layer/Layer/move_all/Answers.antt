@@ -4,7 +4,7 @@ use Rattle.blk_layer.proofs.layer.Layer.move_all.Goals as goal
 
 pub loop-moved-init : goal.loop-moved-init
 loop-moved-init g c = record {
-  moving = none_moved g.S.Scheduler.policy.serves c.args.queue.now c.args.core.now c.args.hw c.args.queue.now c.args.core.now refl refl c.requires.limits;
+  moving = none_moved g.S.Scheduler.policy.serves c.args.queue.now c.args.core.now c.args.map.now c.args.queue.now c.args.core.now refl refl c.requires.limits;
   first = c.requires.first;
   limits = refl;
 }

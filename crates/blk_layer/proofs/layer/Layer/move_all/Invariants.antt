@@ -5,7 +5,7 @@ use Rattle.blk_layer.proofs.layer.Layer.move_all.Given as goal
 
 abbrev pub invariant-loop-moved : goal.invariant-loop-moved
 invariant-loop-moved g l = record {
-  moving : IsMoving g.S.Scheduler.policy.serves l.initial.queue l.initial.core l.hw l.moved l.queue l.core;
+  moving : IsMoving g.S.Scheduler.policy.serves l.initial.queue l.initial.core l.map l.moved l.queue l.core;
   first : AreOfFirst l.copies.requests l.queue.requests;
   limits : l.copies.limits ≡ l.initial.copies.limits;
 }

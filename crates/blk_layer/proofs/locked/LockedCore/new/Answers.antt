@@ -1,6 +1,6 @@
 use Rattle.std.proofs.Common.{◌≡◌, ◌∙◌, sym, ap, refl, []}
 use Rattle.blk_layer.specs.Closing.{done_count}
-use Rattle.blk_core.proofs.More.{none_run}
+use Rattle.blk_layer.proofs.Ruled.{no_calls}
 use Rattle.blk_layer.proofs.Rounds.{none_ended}
 use Rattle.blk_layer.proofs.locked.LockedCore.new.Goals as goal
 
@@ -14,7 +14,7 @@ invariant_of-result-clause-counted g c = c.requires.total ∙ sym (ap done_count
 pub invariant_of-result-clause-ran : goal.invariant_of-result-clause-ran
 invariant_of-result-clause-ran g c =
     let S = g.S.Scheduler in
-    ∣ none_run S.policy g.L.Named.start c.args.core c.requires.start c.requires.empty ∣₁
+    ∣ no_calls S.policy g.L.Named.map g.L.Named.queues g.L.Named.start c.args.core c.requires.start c.requires.empty ∣₁
 
 pub invariant_of-result-clause-full : goal.invariant_of-result-clause-full
 invariant_of-result-clause-full g c = λ _. none_ended c.args.core.setup c.args.core.events c.requires.empty

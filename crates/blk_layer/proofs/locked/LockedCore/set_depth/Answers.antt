@@ -20,7 +20,7 @@ invariant_of-self g c =
       all_out = locked.all_out;
       none = locked.none;
       full = λ off. either_full (λ _. SetsDepth locked.core c.args.depth new) locked.core new c.set_depth.result (λ _. depth_full locked.core c.args.depth new) c.set_depth.ensures.set c.set_depth.ensures.same (locked.full off);
-      ran = ∥∥₁_map locked.ran (either (λ _. SetsDepth locked.core c.args.depth new) S.policy g.L.Named.start locked.core new c.set_depth.result (λ _. set S.policy g.L.Named.start locked.core c.args.depth new) c.set_depth.ensures.set c.set_depth.ensures.same);
+      ran = ∥∥₁_map locked.ran (either S.policy g.L.Named.map g.L.Named.queues g.L.Named.start (λ _. SetsDepth locked.core c.args.depth new) locked.core new c.set_depth.result (λ _. set S.policy g.L.Named.map g.L.Named.queues g.L.Named.start locked.core c.args.depth new) c.set_depth.ensures.set c.set_depth.ensures.same);
     }
 
 pub returns-clause-answer : goal.returns-clause-answer

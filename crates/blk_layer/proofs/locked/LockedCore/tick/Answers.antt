@@ -18,7 +18,7 @@ invariant_of-self g c =
       all_out = locked.all_out;
       none = locked.none;
       full = λ off. let clash : true ≡ false = sym c.requires ∙ off in absurd (cc);
-      ran = ∥∥₁_map locked.ran (either (λ _. Ends S.policy.told_tick locked.core new) S.policy g.L.Named.start locked.core new c.tick.result (λ _. ended S.policy g.L.Named.start locked.core new) c.tick.ensures.ended c.tick.ensures.same);
+      ran = ∥∥₁_map locked.ran (either S.policy g.L.Named.map g.L.Named.queues g.L.Named.start (λ _. Ends S.policy.told_tick locked.core new) locked.core new c.tick.result (λ _. ended S.policy g.L.Named.map g.L.Named.queues g.L.Named.start locked.core new) c.tick.ensures.ended c.tick.ensures.same);
     }
 
 pub returns-clause-answer : goal.returns-clause-answer

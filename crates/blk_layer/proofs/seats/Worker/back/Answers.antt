@@ -24,7 +24,7 @@ invariant_of-self g c =
     let gave = c.give.ensures in
     let ran = length own.ran.items in
     let few : ran ≤ ran + 1 = omega arith in
-    one_fewer g.L.Named.setup own.hw own.seat.of_set.depth c.give.new.seat.of_set.depth own.seat.tags c.give.new.seat.tags own.hands.items ran ran (vec_capacity own.ran) (vec_capacity own.ran) own.share.parts own.share.parts own.share.amount own.share.amount c.from.result c.args.tag c.in-Some.command c.self.invariant (ap (λ (s : TagSeat). s.of_set.depth) gave) held (ap (λ (s : TagSeat). s.tags) gave) c.from.ensures few refl refl c.self.invariant.counted
+    one_fewer g.L.Named.setup g.L.Named.queues own.hw own.seat.of_set.depth c.give.new.seat.of_set.depth own.seat.tags c.give.new.seat.tags own.hands.items ran ran (vec_capacity own.ran) (vec_capacity own.ran) own.share.parts own.share.parts own.share.amount own.share.amount c.from.result c.args.tag c.in-Some.command c.self.invariant (ap (λ (s : TagSeat). s.of_set.depth) gave) held (ap (λ (s : TagSeat). s.tags) gave) c.from.ensures few refl refl c.self.invariant.counted
 
 pub invariant_of-core : goal.invariant_of-core
 invariant_of-core g c =
@@ -38,5 +38,5 @@ invariant_of-core g c =
       all_out = locked.all_out;
       none = locked.none;
       full = λ off. either_full (λ id. RequeuesTag locked.core c.args.tag id new) locked.core new c.back.result (back_full locked.core c.args.tag new) c.back.ensures.back c.back.ensures.same (locked.full off);
-      ran = ∥∥₁_map locked.ran (either (λ id. RequeuesTag locked.core c.args.tag id new) S.policy g.L.Named.start locked.core new c.back.result (taken_back S.policy g.L.Named.start locked.core c.args.tag new) c.back.ensures.back c.back.ensures.same);
+      ran = ∥∥₁_map locked.ran (either S.policy g.L.Named.map g.L.Named.queues g.L.Named.start (λ id. RequeuesTag locked.core c.args.tag id new) locked.core new c.back.result (taken_back S.policy g.L.Named.map g.L.Named.queues g.L.Named.start locked.core c.args.tag new) c.back.ensures.back c.back.ensures.same);
     }

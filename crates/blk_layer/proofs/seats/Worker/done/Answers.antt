@@ -30,7 +30,7 @@ invariant_of-self g c =
     let put = c.push_reserved in
     let more : length put.new.self.items ≡ length own.ran.items + 1 = omega (arith, put.ensures.len, own.ran.ok.0, put.new.self.ok.0) in
     let sum : c.add.new.share.amount ≡ length put.new.self.items = omega (arith, c.add.ensures.amount, c.self.invariant.counted, more) in
-    one_fewer g.L.Named.setup own.hw own.seat.of_set.depth c.give.new.seat.of_set.depth own.seat.tags c.give.new.seat.tags own.hands.items (length own.ran.items) (length put.new.self.items) (vec_capacity own.ran) (vec_capacity put.new.self) own.share.parts c.add.new.share.parts own.share.amount c.add.new.share.amount c.from.result c.args.tag c.in-Some.command c.self.invariant (ap (λ (s : TagSeat). s.of_set.depth) gave) held (ap (λ (s : TagSeat). s.tags) gave) c.from.ensures (omega (arith, more)) put.ensures.capacity c.add.ensures.parts sum
+    one_fewer g.L.Named.setup g.L.Named.queues own.hw own.seat.of_set.depth c.give.new.seat.of_set.depth own.seat.tags c.give.new.seat.tags own.hands.items (length own.ran.items) (length put.new.self.items) (vec_capacity own.ran) (vec_capacity put.new.self) own.share.parts c.add.new.share.parts own.share.amount c.add.new.share.amount c.from.result c.args.tag c.in-Some.command c.self.invariant (ap (λ (s : TagSeat). s.of_set.depth) gave) held (ap (λ (s : TagSeat). s.tags) gave) c.from.ensures (omega (arith, more)) put.ensures.capacity c.add.ensures.parts sum
 
 pub invariant_of-core-2 : goal.invariant_of-core-2
 invariant_of-core-2 g c =
@@ -43,5 +43,5 @@ invariant_of-core-2 g c =
       all_out = locked.all_out;
       none = locked.none;
       full = λ off. completed_full S.policy locked.core c.args.tag c.complete.new.self done (locked.full off);
-      ran = ∥∥₁_map locked.ran (completed S.policy g.L.Named.start locked.core c.args.tag c.complete.new.self done);
+      ran = ∥∥₁_map locked.ran (completed S.policy g.L.Named.map g.L.Named.queues g.L.Named.start locked.core c.args.tag c.complete.new.self done);
     }

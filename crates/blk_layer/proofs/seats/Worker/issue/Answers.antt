@@ -26,7 +26,7 @@ pub invariant_of-self-then-is_err : goal.invariant_of-self-then-is_err
 invariant_of-self-then-is_err g c =
     let back = given_back c.self.inside.seat c.get.new.seat c.give.new.seat c.in-Some.tag (Some c.in-Some.tag) c.get.new.seat.last c.in-Some.ensures.some c.give.ensures c.in-Some.ensures.free in
     let own = c.self.inside in
-    more_room g.L.Named.setup own.hw own.seat.of_set.depth c.give.new.seat.of_set.depth own.seat.tags c.give.new.seat.tags own.hands.items (length own.ran.items) (length c.reserve.new.self.items) (vec_capacity own.ran) (vec_capacity c.reserve.new.self) own.share.parts own.share.amount c.self.invariant (ap (λ (s : Set). s.depth) back.0) back.1 (ap length c.reserve.ensures.items) c.reserve.ensures.capacity
+    more_room g.L.Named.setup g.L.Named.queues own.hw own.seat.of_set.depth c.give.new.seat.of_set.depth own.seat.tags c.give.new.seat.tags own.hands.items (length own.ran.items) (length c.reserve.new.self.items) (vec_capacity own.ran) (vec_capacity c.reserve.new.self) own.share.parts own.share.amount c.self.invariant (ap (λ (s : Set). s.depth) back.0) back.1 (ap length c.reserve.ensures.items) c.reserve.ensures.capacity
 
 pub returns-then-is_err-clause-same : goal.returns-then-is_err-clause-same
 returns-then-is_err-clause-same g c =
@@ -49,7 +49,7 @@ invariant_of-self-in-Ok-Some g c =
     let below : c.in-Some.tag < own.seat.of_set.depth = subst (λ (s : Set). c.in-Some.tag < s.depth) (sym set) c.in-Some.ensures.below in
     let room : vec_len c.reserve.new.self + c.len.result ≤ vec_capacity c.reserve.new.self = on_ok c.reserve.result (vec_len c.reserve.new.self + c.len.result ≤ vec_capacity c.reserve.new.self) (sym c.is_err.ensures.value ∙ c.if-is_err.false) c.reserve.ensures.ok in
     let enough : length c.reserve.new.self.items + length own.hands.items ≤ vec_capacity c.reserve.new.self = omega (arith, room, c.len.ensures) in
-    one_more g.L.Named.setup own.hw own.seat.of_set.depth c.get.new.seat.of_set.depth own.seat.tags c.get.new.seat.tags own.hands.items (length own.ran.items) (length c.reserve.new.self.items) (vec_capacity own.ran) (vec_capacity c.reserve.new.self) own.share.parts own.share.amount c.from.result c.in-Some.tag c.in-Ok-Some.command c.self.invariant (ap (λ (s : TagSeat). s.of_set.depth) got) (ap length c.reserve.ensures.items) enough below c.in-Some.ensures.free (ap (λ (s : TagSeat). s.tags) got) c.from.ensures
+    one_more g.L.Named.setup g.L.Named.queues own.hw own.seat.of_set.depth c.get.new.seat.of_set.depth own.seat.tags c.get.new.seat.tags own.hands.items (length own.ran.items) (length c.reserve.new.self.items) (vec_capacity own.ran) (vec_capacity c.reserve.new.self) own.share.parts own.share.amount c.from.result c.in-Some.tag c.in-Ok-Some.command c.self.invariant (ap (λ (s : TagSeat). s.of_set.depth) got) (ap length c.reserve.ensures.items) enough below c.in-Some.ensures.free (ap (λ (s : TagSeat). s.tags) got) c.from.ensures
 
 pub give-requires-in-Err-clause-of_set : goal.give-requires-in-Err-clause-of_set
 give-requires-in-Err-clause-of_set g c =
@@ -59,7 +59,7 @@ pub invariant_of-self-in-Err : goal.invariant_of-self-in-Err
 invariant_of-self-in-Err g c =
     let back = given_back c.self.inside.seat c.get.new.seat c.give-in-Err.new.seat c.in-Some.tag (Some c.in-Some.tag) c.get.new.seat.last c.in-Some.ensures.some c.give-in-Err.ensures c.in-Some.ensures.free in
     let own = c.self.inside in
-    more_room g.L.Named.setup own.hw own.seat.of_set.depth c.give-in-Err.new.seat.of_set.depth own.seat.tags c.give-in-Err.new.seat.tags own.hands.items (length own.ran.items) (length c.reserve.new.self.items) (vec_capacity own.ran) (vec_capacity c.reserve.new.self) own.share.parts own.share.amount c.self.invariant (ap (λ (s : Set). s.depth) back.0) back.1 (ap length c.reserve.ensures.items) c.reserve.ensures.capacity
+    more_room g.L.Named.setup g.L.Named.queues own.hw own.seat.of_set.depth c.give-in-Err.new.seat.of_set.depth own.seat.tags c.give-in-Err.new.seat.tags own.hands.items (length own.ran.items) (length c.reserve.new.self.items) (vec_capacity own.ran) (vec_capacity c.reserve.new.self) own.share.parts own.share.amount c.self.invariant (ap (λ (s : Set). s.depth) back.0) back.1 (ap length c.reserve.ensures.items) c.reserve.ensures.capacity
 
 pub returns-in-Ok-Some-clause-issued : goal.returns-in-Ok-Some-clause-issued
 returns-in-Ok-Some-clause-issued g c =
@@ -85,7 +85,7 @@ pub invariant_of-self-in-Ok-None : goal.invariant_of-self-in-Ok-None
 invariant_of-self-in-Ok-None g c =
     let back = given_back c.self.inside.seat c.get.new.seat c.give-in-Ok-None.new.seat c.in-Some.tag (Some c.in-Some.tag) c.get.new.seat.last c.in-Some.ensures.some c.give-in-Ok-None.ensures c.in-Some.ensures.free in
     let own = c.self.inside in
-    more_room g.L.Named.setup own.hw own.seat.of_set.depth c.give-in-Ok-None.new.seat.of_set.depth own.seat.tags c.give-in-Ok-None.new.seat.tags own.hands.items (length own.ran.items) (length c.reserve.new.self.items) (vec_capacity own.ran) (vec_capacity c.reserve.new.self) own.share.parts own.share.amount c.self.invariant (ap (λ (s : Set). s.depth) back.0) back.1 (ap length c.reserve.ensures.items) c.reserve.ensures.capacity
+    more_room g.L.Named.setup g.L.Named.queues own.hw own.seat.of_set.depth c.give-in-Ok-None.new.seat.of_set.depth own.seat.tags c.give-in-Ok-None.new.seat.tags own.hands.items (length own.ran.items) (length c.reserve.new.self.items) (vec_capacity own.ran) (vec_capacity c.reserve.new.self) own.share.parts own.share.amount c.self.invariant (ap (λ (s : Set). s.depth) back.0) back.1 (ap length c.reserve.ensures.items) c.reserve.ensures.capacity
 
 pub returns-in-Ok-None-clause-issued : goal.returns-in-Ok-None-clause-issued
 returns-in-Ok-None-clause-issued g c =
@@ -97,7 +97,7 @@ pub invariant_of-core : goal.invariant_of-core
 invariant_of-core g c =
     let locked = c.args.core.now in
     let S = g.S.Scheduler in
-    let goes = asked S.policy g.L.Named.start locked.core c.self.inside.hw c.in-Some.tag c.issue.new.self c.issue.result c.issue.ensures.issued c.issue.ensures.same in
+    let goes = asked S.policy g.L.Named.map g.L.Named.queues g.L.Named.start locked.core c.self.inside.hw c.in-Some.tag c.issue.new.self c.self.invariant.one c.issue.result c.issue.ensures.issued c.issue.ensures.same in
     record {
       named = goes.0.setup ∙ locked.named;
       counted = locked.counted ∙ sym goes.0.dones;

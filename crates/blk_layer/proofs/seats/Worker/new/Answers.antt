@@ -12,6 +12,7 @@ invariant_of-result g c =
     let depth : c.args.seat.of_set.depth ≡ n = c.requires.depth.0 in
     record {
       queue = c.requires.queue;
+      one = c.requires.one;
       named = depth ∙ c.requires.depth.1;
       places = ap length are ∙ no_length n ∙ sym depth;
       marks = subst (λ (tags : List ℕ). Marks (map is_some c.in_ok-hands.hands.items) tags) (sym c.requires.seat) (subst (λ (hands : List (Option Command)). Marks (map is_some hands) []) (sym are) (no_marks n));

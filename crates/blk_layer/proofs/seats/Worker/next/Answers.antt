@@ -14,7 +14,7 @@ invariant_of-self-in-Ok g c =
     let took = c.in-Ok.ensures.taken in
     let room : vec_len c.reserve.new.self + c.len.result ≤ vec_capacity c.reserve.new.self = on_ok c.reserve.result (vec_len c.reserve.new.self + c.len.result ≤ vec_capacity c.reserve.new.self) (sym c.is_err.ensures.value ∙ c.if-is_err.false) c.reserve.ensures.ok in
     let enough : length c.reserve.new.self.items + length own.hands.items ≤ vec_capacity c.reserve.new.self = omega (arith, room, c.len.ensures) in
-    one_more g.L.Named.setup own.hw own.seat.of_set.depth c.issue_next.new.seat.of_set.depth own.seat.tags c.issue_next.new.seat.tags own.hands.items (length own.ran.items) (length c.reserve.new.self.items) (vec_capacity own.ran) (vec_capacity c.reserve.new.self) own.share.parts own.share.amount c.from.result c.in-Ok.issued.tag c.in-Ok.issued.command c.self.invariant (ap (λ (s : Set). s.depth) took.same_set) (ap length c.reserve.ensures.items) enough took.below took.unheld took.taken c.from.ensures
+    one_more g.L.Named.setup g.L.Named.queues own.hw own.seat.of_set.depth c.issue_next.new.seat.of_set.depth own.seat.tags c.issue_next.new.seat.tags own.hands.items (length own.ran.items) (length c.reserve.new.self.items) (vec_capacity own.ran) (vec_capacity c.reserve.new.self) own.share.parts own.share.amount c.from.result c.in-Ok.issued.tag c.in-Ok.issued.command c.self.invariant (ap (λ (s : Set). s.depth) took.same_set) (ap length c.reserve.ensures.items) enough took.below took.unheld took.taken c.from.ensures
 
 pub returns-in-Ok-clause-issued : goal.returns-in-Ok-clause-issued
 returns-in-Ok-clause-issued g c =
