@@ -67,7 +67,6 @@ impl<S: Scheduler, L: Named> Layer<S, L> {
     /// The first request left is refused, by the first of these that applies: as `Foreign` with its first bio, by sector,
     /// whose id names another submitter; as `Repeated` with its first bio whose id was accepted before or stands earlier in
     /// it; as `SoftFull` where the software queue has no room for it; and as `Memory` where the account can't grow.
-    #[tactic(auto, using(crate::proofs::Copied::flushed_behind))]
     pub fn flush<R: Wait>(
         &self,
         rt: &R,
@@ -87,8 +86,9 @@ impl<S: Scheduler, L: Named> Layer<S, L> {
         let mut guard = self.queues[number].lock(rt);
         let staged = &mut *guard;
         let answer = Self::flush_into(&mut staged.queue, submitter, plug);
-        // Reads nothing that counts: the prover gets that all that was accepted is the submitter's own.
+        // Reads nothing that counts: the prover gets, while it has the queue, that all that was accepted is the submitter's own.
         let _ = submitter.accepted();
+        let _ = staged.queue.len();
         answer
     }
 

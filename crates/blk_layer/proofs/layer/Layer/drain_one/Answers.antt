@@ -1,8 +1,10 @@
-use Rattle.std.proofs.Common.{◌∙◌, sym, subst, List, ℕ}
+use Rattle.std.proofs.Common.{◌∙◌, ap, sym, subst, List, ℕ}
 use Rattle.std.proofs.Math.Logic.{∥∥₁_map}
 use Rattle.blk_layer.specs.Submitting.{IsMoveAllAnswer}
 use Rattle.blk_layer.proofs.Moved.{all_stay, all_limits}
-use Rattle.blk_layer.proofs.Mapped.{all_mapped}
+use Rattle.blk_queues.specs.Maps.{IsHwCount}
+use Rattle.blk_trace.specs.Setups.{Setup}
+use Rattle.blk_layer.proofs.Mapped.{all_mapped, all_there}
 use Rattle.blk_layer.proofs.Ruled.{all_moved}
 use Rattle.blk_layer.proofs.Rounds.{all_moved_full}
 use Rattle.blk_layer.proofs.layer.Layer.drain_one.Goals as goal
@@ -38,3 +40,15 @@ invariant_of-locked g c =
       full = λ off. all_moved_full S.policy queue locked.core g.L.Named.map c.move_all.new.queue c.move_all.new.core c.move_all.result answer (locked.full off);
       ran = ∥∥₁_map locked.ran (all_moved S.policy g.L.Named.map g.L.Named.queues g.L.Named.start queue locked.core c.move_all.new.queue c.move_all.new.core c.move_all.result staged.mapped answer);
     }
+
+pub returns-clause-there : goal.returns-clause-there
+returns-clause-there g c =
+    let staged = c.deref_mut-staged.result.now in
+    let locked = c.deref_mut-locked.result.now in
+    let serves = g.S.Scheduler.policy.serves in
+    let answer : IsMoveAllAnswer serves staged.queue locked.core g.L.Named.map c.move_all.new.queue c.move_all.new.core c.move_all.result =
+    subst (λ (map : List ℕ). IsMoveAllAnswer serves staged.queue locked.core map c.move_all.new.queue c.move_all.new.core c.move_all.result) c.self.invariant.4 c.move_all.ensures.answer in
+    let stays = all_stay serves staged.queue locked.core g.L.Named.map c.move_all.new.queue c.move_all.new.core c.move_all.result answer in
+    all_there serves g.L.Named.map g.L.Named.setup.hw staged.queue locked.core c.move_all.new.queue c.move_all.new.core c.move_all.result answer staged.mapped
+    (subst (λ (map : List ℕ). IsHwCount map g.L.Named.setup.hw) c.self.invariant.4 c.self.invariant.1)
+    (ap (λ (s : Setup). s.hw) (stays.setup ∙ locked.named))
