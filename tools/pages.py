@@ -21,7 +21,7 @@ from pathlib import Path
 sys.dont_write_bytecode = True
 TOP = Path(__file__).resolve().parent.parent
 # Linux's own, by which the pages say what stands for what.
-LINUX = """bio_merge blk_add_rq_to_plug blk_flush_plug blk_mq_requeue_request blk_mq_sched_dispatch_requests blk_rq_pos blk_rq_sectors
+LINUX = """bio_merge blk_add_rq_to_plug blk_flush_plug blk_mq_map_queue blk_mq_requeue_request blk_mq_sched_dispatch_requests blk_rq_pos blk_rq_sectors
     dispatch_request elv_merge fifo_time has_work lsblk nr_hw_queues nr_requests queue_depth request_merge sbitmap submit_bio"""
 # Crates and answers of the toolchain that the sources don't name, and words of the guides' own examples.
 OTHERS = "Display document serde_json smallvec unsupported static holes blk_mine Mine MineScheduler mine_policy burst"
