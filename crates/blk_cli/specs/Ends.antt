@@ -1,5 +1,5 @@
 -- How a run of the program ends: its status, what stands on standard output, and what is said beside it or of why there is nothing.
-use Rattle.std.specs.Prelude.{◌≡◌, ◌⊎◌, ◌++◌, ◌∷◌, [], ⊤, ⊥, codes, ℕ, Bool, true, false, if◌then◌else◌, List, Option, None, Some, Result, Ok, Err, String, map, string_bytes}
+use Rattle.std.specs.Prelude.{◌≡◌, ◌⊎◌, ◌++◌, ◌∷◌, [], ⊤, codes, ℕ, Bool, true, false, if◌then◌else◌, List, Option, None, Some, Result, Ok, Err, String, map, string_bytes}
 use Rattle.drafts.specs.declared.output.Output.{Output}
 use Rattle.drafts.specs.Outputs.{Stream, IsWritten, IsCut, stream_of}
 use Rattle.blk_lists.specs.Sources.{Row, Source}
