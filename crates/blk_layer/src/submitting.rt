@@ -85,11 +85,7 @@ impl<S: Scheduler, L: Named> Layer<S, L> {
         let number = usize::from(submitter.number());
         let mut guard = self.queues[number].lock(rt);
         let staged = &mut *guard;
-        let answer = Self::flush_into(&mut staged.queue, submitter, plug);
-        // Reads nothing that counts: the prover gets, while it has the queue, that all that was accepted is the submitter's own.
-        let _ = submitter.accepted();
-        let _ = staged.queue.len();
-        answer
+        Self::flush_into(&mut staged.queue, submitter, plug)
     }
 
     /// Moves the requests of a plug, from the first on, to the back of a software queue, and their bios into the submitter's
@@ -113,16 +109,20 @@ impl<S: Scheduler, L: Named> Layer<S, L> {
         ensures fault { IfErr result (λ e. IsLeft submitter.new plug.new e.why) }
         ensures room { IfErr result (λ e. IsFirstRoomReason queue.new plug.new e.why) }
         ensures limits { queue.new.limits ≡ queue.old.limits }
+        ensures own { AreOwn submitter.new.number submitter.new.accepted }
     {
         let (requests, bios_in) = (plug.len(), queue.bios_in());
         while plug.len() > 0 {
             if let Err(why) = flush_first(queue, submitter, plug) {
+                // Reads nothing that counts: the prover gets that all that was accepted is the submitter's own.
+                let _ = submitter.accepted();
                 return Err(FlushFault {
                     left: plug.len() as u64,
                     why,
                 });
             }
         }
+        let _ = submitter.accepted();
         Ok(Flushed {
             requests: requests as u64,
             bios: queue.bios_in() - bios_in,
