@@ -2,7 +2,7 @@
 
 ghost use Rattle.std.specs.Prelude.{◌≡◌, ◌≤◌, decimal};
 ghost use Rattle.drafts.specs.Outputs.{Writes, stream_of};
-ghost use Rattle.blk_cli.specs.Lines.{line, want_of_memory, numbered, signed_line, at_record, more_line, at_line, text_line, step_line, oracle_line, check_line, on_time_check_line, status_of, OwnLine, PrintedLine, ImportLine, ArrivalsLine, LineOn};
+ghost use Rattle.blk_cli.specs.Lines.{line, want_of_memory, numbered, signed_line, at_record, more_line, at_line, text_line, sched_line, load_line, step_line, oracle_line, check_line, on_time_check_line, status_of, OwnLine, PrintedLine, ImportLine, ArrivalsLine, LineOn};
 ghost use Rattle.blk_cli.specs.Ends.{EndsFailing};
 ghost use Rattle.blk_cli.specs.Inside.Scripts.{failure_of_run};
 
@@ -121,19 +121,13 @@ impl Failure {
         match self {
             Failure::Text(fault) => tell_text(faults, fault.at, fault.why),
             Failure::Line(fault) => tell_line(faults, fault.at, fault.why),
-            Failure::Sched(fault) => match fault {
-                SchedFault::Memory => tell_memory(faults),
-                _ => tell_name(faults, fault.name()),
-            },
+            Failure::Sched(fault) => tell_sched(faults, *fault),
             Failure::Step(fault) => tell_step(faults, fault.at, fault.why),
             Failure::Solve(fault) => tell_solve(faults, *fault),
             Failure::Check(fault) => tell_check(faults, *fault),
             Failure::OnTime(fault) => tell_on_time(faults, *fault),
             Failure::Unlisted(fault) => tell_name(faults, fault.name()),
-            Failure::Load(fault) => match fault {
-                LoadFault::Memory => tell_memory(faults),
-                _ => tell_name(faults, fault.name()),
-            },
+            Failure::Load(fault) => tell_load(faults, *fault),
             Failure::Import(fault) => tell_import(faults, *fault),
             Failure::Arrivals(fault) => tell_arrivals(faults, *fault),
             Failure::Words(refusal) => tell_words(faults, *refusal),
@@ -170,6 +164,26 @@ fn tell_memory<F: Write>(faults: &mut Output<F>) -> Result<(), WriteFault>
     ensures { Writes want_of_memory (stream_of F.contents faults.old) (stream_of F.contents faults.new) result }
 {
     tell_name(faults, "want of memory")
+}
+
+/// Writes the line of a scheduler that isn't made of its settings.
+fn tell_sched<F: Write>(faults: &mut Output<F>, fault: SchedFault) -> Result<(), WriteFault>
+    ensures { Writes (sched_line fault) (stream_of F.contents faults.old) (stream_of F.contents faults.new) result }
+{
+    match fault {
+        SchedFault::Memory => tell_memory(faults),
+        _ => tell_name(faults, fault.name()),
+    }
+}
+
+/// Writes the line of a load that fails.
+fn tell_load<F: Write>(faults: &mut Output<F>, fault: LoadFault) -> Result<(), WriteFault>
+    ensures { Writes (load_line fault) (stream_of F.contents faults.old) (stream_of F.contents faults.new) result }
+{
+    match fault {
+        LoadFault::Memory => tell_memory(faults),
+        _ => tell_name(faults, fault.name()),
+    }
 }
 
 /// Writes the line of what is refused at a record.

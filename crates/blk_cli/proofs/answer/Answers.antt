@@ -1,4 +1,4 @@
-use Rattle.std.proofs.Common.{map, string_bytes}
+use Rattle.std.proofs.Common.{inl, map, string_bytes}
 use Rattle.blk_cli.proofs.Failed.{without_of}
 use Rattle.blk_cli.proofs.answer.Goals as goal
 
@@ -7,6 +7,7 @@ returns-in-Ok-answer_of g c = record {
   answers = (c.in-Ok.job, c.in-Ok.ensures.asked, c.in-Ok-answer_of.ensures.answer);
   without = tt;
   unread = λ ask. c.answer_of.ensures.unread (ask c.in-Ok.job c.in-Ok.ensures.asked);
+  run = inl (c.in-Ok.job, c.in-Ok.ensures.asked, c.in-Ok-answer_of.ensures.run);
 }
 
 pub returns-in-Err : goal.returns-in-Err
@@ -16,4 +17,5 @@ returns-in-Err g c =
       answers = tt;
       without = of c.in-Ok.job c.in-Err.none c.in-Ok.ensures.asked c.in-Err.ensures.none;
       unread = λ ask. c.answer_of.ensures.unread (ask c.in-Ok.job c.in-Ok.ensures.asked);
+      run = inl (c.in-Ok.job, c.in-Ok.ensures.asked, c.in-Err.ensures.run);
     }
