@@ -1,5 +1,6 @@
--- What is shown of an import, as text.
+-- What is shown of an import.
 use Rattle.std.specs.Prelude.{ℕ, ◌≡◌, List, map}
+use Rattle.answer.specs.declared.answer.Part.{Part}
 use Rattle.edd_commands.specs.Capacity.{fixed}
 use Rattle.edd_commands.specs.Schedule.{IsLegal}
 use Rattle.blk_capture.specs.Counting.{AreInRounds}
@@ -9,7 +10,6 @@ use Rattle.blk_capture.specs.Tables.{AreRequestRows}
 use Rattle.blk_capture.specs.declared.fates.Fate.{Fate}
 use Rattle.blk_capture.specs.declared.record.Record.{Record}
 use Rattle.blk_capture.specs.declared.requests.CapturedBio.{CapturedBio}
-use Rattle.blk_capture.specs.declared.requests.Matched.{Matched}
 use Rattle.blk_capture.specs.declared.requests.CapturedRequest.{CapturedRequest}
 use Rattle.blk_capture.specs.declared.summary.Summary.{Summary}
 use Rattle.blk_capture.specs.declared.table.RequestRow.{RequestRow}
@@ -17,7 +17,7 @@ use Rattle.blk_lists.specs.Schedule.{ScheduleView, IsScheduleView, schedule_rows
 use Rattle.blk_lists.specs.Texts.{rows_text}
 use Rattle.blk_capture_text.specs.Imports.{first_time}
 use Rattle.blk_capture_text.specs.TableText.{table_lines}
-use Rattle.blk_capture_text.specs.SummaryText.{counts_of, summary_lines}
+use Rattle.blk_capture_text.specs.SummaryText.{counts_of, summary_parts}
 use Rattle.blk_capture_text.specs.declared.shown.ShownImport.{ShownImport}
 use Rattle.blk_capture_text.specs.declared.shown.ShownImport.TheVariants as shown
 
@@ -36,15 +36,10 @@ IsScheduleText requests text = (s : ScheduleView) × IsScheduleOf requests s × 
 abbrev pub IsTableText : List Record → List CapturedRequest → List ℕ → Type 0
 IsTableText records requests text = (rows : List RequestRow) × AreRequestRows (first_time records) requests rows × (text ≡ table_lines rows)
 
+abbrev pub IsShown : ShownImport → List Record → List CapturedRequest → List ℕ → Type 0
+IsShown shown.Schedule records requests text = IsScheduleText requests text
+IsShown shown.Table records requests text = IsTableText records requests text
+
 -- the capture in numbers
-abbrev pub IsSummaryText : List Record → List CapturedRequest → List CapturedBio → List Fate → ℕ → List ℕ → Type 0
-IsSummaryText records requests bios fates left_out text = (s : Summary) × IsSummary records requests bios fates s × (text ≡ summary_lines s left_out (counts_of fates))
-
-abbrev pub IsShown : ShownImport → List Record → List CapturedRequest → List CapturedBio → List Fate → ℕ → List ℕ → Type 0
-IsShown shown.Schedule records requests bios fates left_out text = IsScheduleText requests text
-IsShown shown.Table records requests bios fates left_out text = IsTableText records requests text
-IsShown shown.Summary records requests bios fates left_out text = IsSummaryText records requests bios fates left_out text
-
--- the text shows this of what was matched
-abbrev pub Shows : {A : Type 0} → ShownImport → List Record → Matched A → List ℕ → Type 0
-Shows what records m text = IsShown what records m.requests.items m.bios.items m.fates.items m.left_out text
+abbrev pub IsSummaryAnswer : List Record → List CapturedRequest → List CapturedBio → List Fate → ℕ → List Part → Type 0
+IsSummaryAnswer records requests bios fates left_out parts = (s : Summary) × IsSummary records requests bios fates s × (parts ≡ summary_parts s left_out (counts_of fates))

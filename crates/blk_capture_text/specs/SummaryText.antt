@@ -1,5 +1,11 @@
--- A capture in numbers, as text.
-use Rattle.std.specs.Prelude.{ℕ, ◌+◌, ◌-◌, ◌^◌, min, Bool, true, false, ◌++◌, ◌∷◌, [], List, Option, None, Some, count_by, decimal, codes}
+-- A capture in numbers.
+use Rattle.std.specs.Prelude.{ℕ, ◌+◌, ◌-◌, ◌^◌, min, Bool, true, false, ◌++◌, ◌∷◌, [], List, count_by, decimal, codes}
+use Rattle.answer.specs.declared.names.TheConstants as names
+use Rattle.answer.specs.declared.answer.Part.{Part}
+use Rattle.answer.specs.declared.answer.Part.TheVariants.{Member, Object}
+use Rattle.answer.specs.declared.cells.Layout.TheVariants.{Words, Space}
+use Rattle.answer.specs.declared.value.Value.TheVariants.{Count}
+use Rattle.answer.specs.Parts.{cell, counted}
 use Rattle.blk_capture.specs.Fates.{is_of_kind, is_passed, is_unmatched}
 use Rattle.blk_capture.specs.declared.fates.Fate.{Fate}
 use Rattle.blk_capture.specs.declared.record.PassReason.TheVariants as passed
@@ -43,33 +49,23 @@ counts_with c f = record {
   past_end = one_counted c.past_end (is_of_kind passed.PastEnd f);
 }
 
--- a word, a space, its number and a line's end
-abbrev pub number_line : List ℕ → ℕ → List ℕ
-number_line word n = ((word ++ 32 ∷ []) ++ decimal n) ++ 10 ∷ []
+-- a phase: the median, the 99th of a hundred and the greatest
+abbrev pub phase_part : List ℕ → List ℕ → Percentiles → Part
+phase_part name lead p = Object name (record {
+  cells = cell (Words lead) names.P50.now (counted p.p50) ∷ cell Space names.P99.now (counted p.p99) ∷ cell Space names.MAX.now (counted p.max) ∷ [];
+  end = 10 ∷ [];
+})
 
--- a number, or `none`
-abbrev pub figure_text : Option ℕ → List ℕ
-figure_text None = codes "none"
-figure_text (Some n) = decimal n
-
--- a word and the percentiles, each after a space
-abbrev pub percentiles_line : List ℕ → Percentiles → List ℕ
-percentiles_line word s = (((word ++ 32 ∷ figure_text s.p50) ++ 32 ∷ figure_text s.p99) ++ 32 ∷ figure_text s.max) ++ 10 ∷ []
-
--- what there is
-abbrev pub number_lines : Summary → List ℕ
-number_lines s = ((((number_line (codes "records") s.records ++ number_line (codes "bios") s.bios) ++ number_line (codes "requests") s.requests) ++ number_line (codes "merges") s.merges) ++ number_line (codes "late-reads") s.late_reads) ++ number_line (codes "late-writes") s.late_writes
-
--- how long the phases took, and how much was in flight
-abbrev pub phase_lines : Summary → List ℕ
-phase_lines s = ((percentiles_line (codes "q-to-g") s.tag ++ percentiles_line (codes "i-to-d") s.scheduler) ++ percentiles_line (codes "d-to-c") s.device) ++ number_line (codes "in-flight") s.in_flight
-
--- what isn't counted there
-abbrev pub count_lines : ℕ → UnusedCounts → List ℕ
-count_lines left_out c = ((((((((((number_line (codes "left-out") left_out ++ number_line (codes "unmatched") c.unmatched) ++ number_line (codes "plugs") c.plugs) ++ number_line (codes "unplugs") c.unplugs) ++ number_line (codes "actions") c.actions) ++ number_line (codes "discards") c.discards) ++ number_line (codes "erases") c.erases) ++ number_line (codes "flushes") c.flushes) ++ number_line (codes "others") c.others) ++ number_line (codes "empty") c.empty) ++ number_line (codes "past-end") c.past_end)
-
-abbrev pub summary_lines : Summary → ℕ → UnusedCounts → List ℕ
-summary_lines s left_out c = (number_lines s ++ phase_lines s) ++ count_lines left_out c
+-- how much there is, how long the phases took, and what isn't counted there
+abbrev pub summary_parts : Summary → ℕ → UnusedCounts → List Part
+summary_parts s left_out c =
+    Member (codes "records") (Count s.records) ∷ Member (codes "bios") (Count s.bios) ∷ Member (codes "requests") (Count s.requests)
+    ∷ Member (codes "merges") (Count s.merges) ∷ Member (codes "late-reads") (Count s.late_reads) ∷ Member (codes "late-writes") (Count s.late_writes)
+    ∷ phase_part (codes "q-to-g") (codes "q-to-g ") s.tag ∷ phase_part (codes "i-to-d") (codes "i-to-d ") s.scheduler ∷ phase_part (codes "d-to-c") (codes "d-to-c ") s.device
+    ∷ Member (codes "in-flight") (Count s.in_flight) ∷ Member (codes "left-out") (Count left_out) ∷ Member (codes "unmatched") (Count c.unmatched)
+    ∷ Member (codes "plugs") (Count c.plugs) ∷ Member (codes "unplugs") (Count c.unplugs) ∷ Member (codes "actions") (Count c.actions)
+    ∷ Member (codes "discards") (Count c.discards) ∷ Member (codes "erases") (Count c.erases) ∷ Member (codes "flushes") (Count c.flushes)
+    ∷ Member (codes "others") (Count c.others) ∷ Member (codes "empty") (Count c.empty) ∷ Member (codes "past-end") (Count c.past_end) ∷ []
 
 -- the line of what was passed over or not matched
 abbrev pub notice_line : UnusedCounts → List ℕ

@@ -19,7 +19,7 @@ mod table;
 pub use crate::counts::RecordCounts;
 pub use crate::importing::{ImportAsked, ImportFault, first_time, import};
 pub use crate::lines::StreamedCapture;
-pub use crate::numbers::{UnusedCounts, count_fates, notice_text, summary_text};
+pub use crate::numbers::{UnusedCounts, count_fates, notice_text, summary_answer};
 pub use crate::reading::{CAPTURE, MAX_RECORDS, read_capture};
 pub use crate::record::RECORD_ROW;
 pub use crate::schedule::schedule_of;

@@ -1,9 +1,11 @@
-//! A capture in numbers, as text.
+//! A capture in numbers.
 
-ghost use Rattle.std.specs.Prelude.{◌≡◌, ◌++◌, [], IfOk, IfErr, OnOk, count_by};
+ghost use Rattle.std.specs.Prelude.{◌≡◌, [], IfOk, count_by};
 ghost use Rattle.blk_capture.specs.Fates.{is_unmatched, is_passed, is_of_kind};
-ghost use Rattle.blk_capture_text.specs.SummaryText.{counts_of, one_counted, counts_with, number_line, percentiles_line, figure_text, number_lines, phase_lines, count_lines, summary_lines, notice_line};
+ghost use Rattle.blk_capture_text.specs.SummaryText.{counts_of, one_counted, counts_with, phase_part, summary_parts, notice_line};
 
+use answer::names::{MAX, P50, P99};
+use answer::{Answer, Cell, Layout, Line, Part, Value, Word, count_or_none, member};
 use blk_capture::{Fate, PassReason, Percentiles, Summary, count_passed};
 use drafts::Draft;
 use std::alloc::{AllocError, Global};
@@ -171,100 +173,63 @@ pub fn count_fates(fates: &[Fate]) -> UnusedCounts
     }
 }
 
-/// Adds the line of a number.
-fn push_number_line(draft: &mut Draft, word: &[u8], number: u64) -> Result<(), AllocError>
-    ensures { OnOk result (draft.new ≡ draft.old ++ number_line word.now number) }
-{
-    draft.text(word)?;
-    draft.text(b" ")?;
-    draft.number(number)?;
-    draft.text(b"\n")
-}
-
-/// Adds a number, or `none`.
-fn push_figure(draft: &mut Draft, number: Option<u64>) -> Result<(), AllocError>
-    ensures { OnOk result (draft.new ≡ draft.old ++ figure_text number) }
-{
-    match number {
-        Some(number) => draft.number(number),
-        None => draft.text(b"none"),
-    }
-}
-
-/// Adds the line of percentiles.
-fn push_percentiles_line(
-    draft: &mut Draft,
-    word: &[u8],
+/// The times of a phase in nanoseconds: the median, the 99th of a hundred and the greatest, or three times `none`.
+fn phase_part(
+    alloc: Global,
+    name: &'static str,
+    lead: &'static str,
     percentiles: &Percentiles,
-) -> Result<(), AllocError>
-    ensures { OnOk result (draft.new ≡ draft.old ++ percentiles_line word.now percentiles.now) }
+) -> Result<Part, AllocError>
+    ensures { IfOk result (λ part. part ≡ phase_part name.now lead.now percentiles.now) }
 {
-    draft.text(word)?;
-    draft.text(b" ")?;
-    push_figure(draft, percentiles.p50)?;
-    draft.text(b" ")?;
-    push_figure(draft, percentiles.p99)?;
-    draft.text(b" ")?;
-    push_figure(draft, percentiles.max)?;
-    draft.text(b"\n")
+    let cells = Vec::from_array(
+        alloc,
+        [
+            Cell::new(
+                Layout::Words(Word::new(lead)),
+                P50,
+                count_or_none(percentiles.p50),
+            ),
+            Cell::new(Layout::Space, P99, count_or_none(percentiles.p99)),
+            Cell::new(Layout::Space, MAX, count_or_none(percentiles.max)),
+        ],
+    )?;
+    Ok(Part::Object(Word::new(name), Line::new(cells, "\n")))
 }
 
-/// Adds the lines of what there is.
-fn push_numbers(draft: &mut Draft, summary: &Summary) -> Result<(), AllocError>
-    ensures { OnOk result (draft.new ≡ draft.old ++ number_lines summary.now) }
-{
-    push_number_line(draft, b"records", summary.records)?;
-    push_number_line(draft, b"bios", summary.bios)?;
-    push_number_line(draft, b"requests", summary.requests)?;
-    push_number_line(draft, b"merges", summary.merges)?;
-    push_number_line(draft, b"late-reads", summary.late_reads)?;
-    push_number_line(draft, b"late-writes", summary.late_writes)
-}
-
-/// Adds the lines of the phases and of the most in flight.
-fn push_phases(draft: &mut Draft, summary: &Summary) -> Result<(), AllocError>
-    ensures { OnOk result (draft.new ≡ draft.old ++ phase_lines summary.now) }
-{
-    push_percentiles_line(draft, b"q-to-g", &summary.tag)?;
-    push_percentiles_line(draft, b"i-to-d", &summary.scheduler)?;
-    push_percentiles_line(draft, b"d-to-c", &summary.device)?;
-    push_number_line(draft, b"in-flight", summary.in_flight)
-}
-
-/// Adds the lines of what isn't counted there.
-fn push_counts(draft: &mut Draft, left_out: u64, counts: &UnusedCounts) -> Result<(), AllocError>
-    ensures { OnOk result (draft.new ≡ draft.old ++ count_lines left_out counts.now) }
-{
-    push_number_line(draft, b"left-out", left_out)?;
-    push_number_line(draft, b"unmatched", counts.unmatched)?;
-    push_number_line(draft, b"plugs", counts.plugs)?;
-    push_number_line(draft, b"unplugs", counts.unplugs)?;
-    push_number_line(draft, b"actions", counts.actions)?;
-    push_number_line(draft, b"discards", counts.discards)?;
-    push_number_line(draft, b"erases", counts.erases)?;
-    push_number_line(draft, b"flushes", counts.flushes)?;
-    push_number_line(draft, b"others", counts.others)?;
-    push_number_line(draft, b"empty", counts.empty)?;
-    push_number_line(draft, b"past-end", counts.past_end)
-}
-
-/// A summary as lines of a word, a space and a number: `records`, `bios`, `requests`, `merges`, `late-reads`, `late-writes`; then
-/// `q-to-g`, `i-to-d` and `d-to-c` with the median, the 99th of a hundred and the greatest of these times in nanoseconds, or three
-/// times `none`; `in-flight`; `left-out`, requests that were opened and are not taken; and of records `unmatched`, and what was
-/// passed over: `plugs`, `unplugs`, `actions`, `discards`, `erases`, `flushes`, `others`, `empty`, `past-end`.
-pub fn summary_text(
+/// A summary: how much there is, how long the phases of requests took, how many requests were opened and are not taken, and what became of the
+/// records that are of none. Fails only when out of memory.
+pub fn summary_answer(
     alloc: Global,
     summary: &Summary,
     left_out: u64,
     counts: &UnusedCounts,
-) -> Result<Vec<u8>, AllocError>
-    ensures { IfOk result (λ v. v.items ≡ summary_lines summary.now left_out counts.now) }
+) -> Result<Answer, AllocError>
+    ensures { IfOk result (λ answer. answer ≡ summary_parts summary.now left_out counts.now) }
 {
-    let mut draft = Draft::new(alloc);
-    push_numbers(&mut draft, summary)?;
-    push_phases(&mut draft, summary)?;
-    push_counts(&mut draft, left_out, counts)?;
-    draft.finish()
+    let mut answer = Answer::new(alloc);
+    answer.add(member("records", Value::Count(summary.records)))?;
+    answer.add(member("bios", Value::Count(summary.bios)))?;
+    answer.add(member("requests", Value::Count(summary.requests)))?;
+    answer.add(member("merges", Value::Count(summary.merges)))?;
+    answer.add(member("late-reads", Value::Count(summary.late_reads)))?;
+    answer.add(member("late-writes", Value::Count(summary.late_writes)))?;
+    answer.add(phase_part(alloc, "q-to-g", "q-to-g ", &summary.tag)?)?;
+    answer.add(phase_part(alloc, "i-to-d", "i-to-d ", &summary.scheduler)?)?;
+    answer.add(phase_part(alloc, "d-to-c", "d-to-c ", &summary.device)?)?;
+    answer.add(member("in-flight", Value::Count(summary.in_flight)))?;
+    answer.add(member("left-out", Value::Count(left_out)))?;
+    answer.add(member("unmatched", Value::Count(counts.unmatched)))?;
+    answer.add(member("plugs", Value::Count(counts.plugs)))?;
+    answer.add(member("unplugs", Value::Count(counts.unplugs)))?;
+    answer.add(member("actions", Value::Count(counts.actions)))?;
+    answer.add(member("discards", Value::Count(counts.discards)))?;
+    answer.add(member("erases", Value::Count(counts.erases)))?;
+    answer.add(member("flushes", Value::Count(counts.flushes)))?;
+    answer.add(member("others", Value::Count(counts.others)))?;
+    answer.add(member("empty", Value::Count(counts.empty)))?;
+    answer.add(member("past-end", Value::Count(counts.past_end)))?;
+    Ok(answer)
 }
 
 /// The line that says how many records were passed over and how many not matched.

@@ -1,15 +1,14 @@
 //! What is shown of an import.
 
-ghost use Rattle.std.specs.Prelude.{◌≡◌, ◌≤◌, IfOk, length};
+ghost use Rattle.std.specs.Prelude.{◌≤◌, IfOk, length};
 ghost use Rattle.edd_commands.specs.declared.TheConstants.{MAX_COMMANDS};
 ghost use Rattle.blk_capture.specs.Requests.{AreTimed};
-ghost use Rattle.blk_capture_text.specs.Shown.{Shows, IsScheduleText, IsTableText};
+ghost use Rattle.blk_capture_text.specs.Shown.{IsShown, IsScheduleText, IsTableText};
 
 use crate::importing::first_time;
-use crate::numbers::{count_fates, summary_text};
 use crate::schedule::schedule_of;
 use crate::table::table_text;
-use blk_capture::{CapturedRequest, Matched, Record, rows_of, summarize};
+use blk_capture::{CapturedRequest, Record, rows_of};
 use blk_lists::schedule_text;
 use std::alloc::{AllocError, Global};
 
@@ -20,8 +19,6 @@ pub enum ShownImport {
     Schedule,
     /// A row a request.
     Table,
-    /// The import in numbers.
-    Summary,
 }
 
 /// The text of the schedule of requests.
@@ -46,37 +43,19 @@ fn text_of_table(
     table_text(alloc, rows.as_slice())
 }
 
-/// The text of an import in numbers.
-fn text_of_summary(
-    alloc: Global,
-    records: &[Record],
-    matched: &Matched,
-) -> Result<Vec<u8>, AllocError>
-    requires timed { AreTimed matched.now.requests.items }
-    requires few { length matched.now.requests.items ≤ MAX_COMMANDS }
-    requires fates { length matched.now.fates.items ≡ length records.now }
-    ensures { IfOk result (λ text. Shows ShownImport.Summary records.now matched.now text.items) }
-{
-    let summary = summarize(alloc, records, matched)?;
-    let counts = count_fates(matched.fates.as_slice());
-    summary_text(alloc, &summary, matched.left_out, &counts)
-}
-
-/// The text of what is shown of an import, as [`crate::import`] gives it of the records. Fails only when out of memory.
+/// The text of what is shown of the requests that [`crate::import`] takes of the records. Fails only when out of memory.
 pub fn shown_text(
     alloc: Global,
     shown: ShownImport,
     records: &[Record],
-    matched: &Matched,
+    requests: &[CapturedRequest],
 ) -> Result<Vec<u8>, AllocError>
-    requires timed { AreTimed matched.now.requests.items }
-    requires few { length matched.now.requests.items ≤ MAX_COMMANDS }
-    requires fates { length matched.now.fates.items ≡ length records.now }
-    ensures { IfOk result (λ text. Shows shown records.now matched.now text.items) }
+    requires timed { AreTimed requests.now }
+    requires few { length requests.now ≤ MAX_COMMANDS }
+    ensures { IfOk result (λ text. IsShown shown records.now requests.now text.items) }
 {
     match shown {
-        ShownImport::Schedule => text_of_schedule(alloc, matched.requests.as_slice()),
-        ShownImport::Table => text_of_table(alloc, records, matched.requests.as_slice()),
-        ShownImport::Summary => text_of_summary(alloc, records, matched),
+        ShownImport::Schedule => text_of_schedule(alloc, requests),
+        ShownImport::Table => text_of_table(alloc, records, requests),
     }
 }

@@ -6,6 +6,8 @@ use Rattle.blk_capture.specs.declared.record.Record.{Record}
 use Rattle.blk_words.specs.declared.inputs.Running.TheVariants as running
 use Rattle.blk_words.specs.declared.inputs.TextJob.TheVariants as text_job
 use Rattle.blk_words.specs.declared.words.Import.{Import}
+use Rattle.blk_words.specs.declared.words.Kept.{Kept}
+use Rattle.blk_words.specs.declared.words.Kept.TheVariants as kept
 use Rattle.blk_words.specs.declared.words.Written.{Written}
 use Rattle.blk_words.specs.declared.words.Written.TheVariants as written
 use Rattle.blk_words.specs.declared.words.Job.{Job}
@@ -13,25 +15,23 @@ use Rattle.blk_words.specs.declared.words.Job.TheVariants as job
 use Rattle.blk_cli.specs.Said.{Said, IsAlone}
 use Rattle.blk_cli.specs.Gives.{GivesAnswer, AnswersGood, AnswersText}
 use Rattle.blk_cli.specs.declared.Ended.{Ended}
-use Rattle.blk_cli.specs.Importing.{IsWrittenAs, IsWrittenIf, is_summary}
+use Rattle.blk_cli.specs.Importing.{IsImported, IsWrittenAs}
 use Rattle.blk_cli.specs.Ends.{Answers, AskForGood, AskForTexts, EndsPut, status_with}
 
--- what is written of a capture is good
-written_good : (w : Written) (words : List (List ℕ)) (i : Import) (records : List Record) (s : Said) → IsWrittenAs w words i records s → s.good ≡ true
-written_good written.Schedule words i records s h = h.good
-written_good written.Table words i records s h = h.good
-written_good written.Summary words i records s h = h.good
-written_good (written.Script round depth) words i records s h = h.alone.1
-written_good (written.Blame b) words i records s h = h.good
-written_good (written.Replay r) words i records s h = h.good
-written_good (written.Grid g) words i records s h = h.good
-written_good (written.Replayed p how) words i records s h = h.good
+-- what is written of a capture is good: of one whose records are kept, and in numbers
+kept_good : (k : Kept) (words : List (List ℕ)) (i : Import) (records : List Record) (s : Said) → IsImported k words i records s → s.good ≡ true
+kept_good kept.Schedule words i records s h = h.good
+kept_good kept.Table words i records s h = h.good
+kept_good (kept.Script round depth) words i records s h = h.alone.1
+kept_good (kept.Blame b) words i records s h = h.good
+kept_good (kept.Replay r) words i records s h = h.good
+kept_good (kept.Grid g) words i records s h = h.good
+kept_good (kept.Replayed p how) words i records s h = h.good
 
--- in numbers or otherwise
-import_good : (in_numbers : Bool) (words : List (List ℕ)) (i : Import) (input : Option (List ℕ)) (s : Said) → IsWrittenIf in_numbers words i input s → s.good ≡ true
-import_good true words i input s g = ap (λ (t : Said). t.good) g.summed.said.2 ∙ g.summed.shown_of.good
-import_good false words i input s g =
-    let base : Said = g.of.written.base in ap (λ (t : Said). t.good) g.of.written.said.2 ∙ written_good i.written words i g.of.read.records.items base g.of.written.imported
+import_good : (w : Written) (words : List (List ℕ)) (i : Import) (input : Option (List ℕ)) (s : Said) → IsWrittenAs w words i input s → s.good ≡ true
+import_good written.Summary words i input s g = ap (λ (t : Said). t.good) g.summed.said.2 ∙ g.summed.summary_of.good
+import_good (written.Kept k) words i input s g =
+    let base : Said = g.of.written.base in ap (λ (t : Said). t.good) g.of.written.said.2 ∙ kept_good k words i g.of.read.records.items base g.of.written.imported
 
 -- a job whose answer is good
 good : (words : List (List ℕ)) (j : Job) (input : Option (List Row)) (bytes : Option (List ℕ)) (s : Said) → AnswersGood j → GivesAnswer words j input bytes s → s.good ≡ true
@@ -45,7 +45,7 @@ good words (job.OfText (text_job.Check x)) input bytes s answers g = g.1.1
 good words (job.OfText (text_job.Judge x)) input bytes s answers g = g.1.2.1
 good words (job.OfText text_job.Draw) input bytes s answers g = g.1.1
 good words (job.Tune x) input bytes s answers g = g.1.2.1
-good words (job.Import x) input bytes s answers g = import_good (is_summary x.written) words x bytes s g
+good words (job.Import x) input bytes s answers g = import_good x.written words x bytes s g
 good words (job.Refuse x) input bytes s answers g = absurd g
 good words job.Explain input bytes s answers g = absurd answers
 good words (job.Load x y z) input bytes s answers g = g.1.1

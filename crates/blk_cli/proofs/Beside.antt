@@ -5,13 +5,13 @@ use Rattle.blk_capture.specs.declared.requests.CapturedRequest.{CapturedRequest}
 use Rattle.blk_capture.specs.declared.requests.Matched.{Matched}
 use Rattle.blk_words.specs.declared.words.Import.{Import}
 use Rattle.blk_cli.specs.Said.{Said}
-use Rattle.blk_cli.specs.Importing.{IsTakenOf, IsNoteBeside, IsReplayedOf}
+use Rattle.blk_cli.specs.Importing.{IsTakenOf, IsNoteBeside, IsMadeOf}
 
 -- what is written of the requests that were taken, with the note beside it, is all that is said
 pub replayed_as : {X E A : Type 0} (said : X → Said) (writes : List CapturedRequest → List ℕ → Type 0) (i : Import) (records : List Record) (m : Matched A) (seen : List CapturedRequest) (text : List ℕ) (r : Result X E)
     → IsTakenOf i records m → seen ≡ m.requests.items → writes seen text
     → IfOk r (λ a. (said a).text ≡ text) → IfOk r (λ a. IsNoteBeside i records m (said a).note) → IfOk r (λ a. (said a).good ≡ true)
-    → IfOk r (λ a. IsReplayedOf writes i records (said a))
+    → IfOk r (λ a. IsMadeOf writes i records (said a))
 replayed_as said writes i records m seen text (Ok a) taken same written is note good =
     record {
       requests = m.requests.items;

@@ -22,6 +22,7 @@ use Rattle.blk_cli.specs.declared.failure.Failure.{Failure}
 use Rattle.blk_cli.specs.declared.failure.Failure.TheVariants as failure
 use Rattle.blk_cli.specs.Lines.{more_line, status_of, write_fault, LineOn, OwnLine}
 use Rattle.blk_words.specs.declared.words.Import.{Import}
+use Rattle.blk_words.specs.declared.words.Kept.{Kept}
 use Rattle.blk_capture_text.specs.Streams.{IsUnstreamed}
 use Rattle.blk_capture_text.specs.declared.summing.Unstreamed.{Unstreamed}
 use Rattle.blk_cli.specs.Importing.{IsUnimportedFrom, IsUnsummedFrom, IsCaptureFailure}
@@ -61,8 +62,8 @@ IsFailureOf f n = ⊥
 abbrev pub IsWithoutAnswer : List (List ℕ) → Job → Option (List Row) → Option (List ℕ) → Bool → NoText → Type 0
 IsWithoutAnswer words j input bytes failed n = (f : Failure) × HasNoAnswer words j input bytes failed f × IsFailureOf f n
 
-abbrev pub IsUntaken : List (List ℕ) → Import → Option (List ℕ) → Bool → NoText → Type 0
-IsUntaken words i bytes failed n = (f : Failure) × IsUnimportedFrom words i bytes failed f × IsFailureOf f n
+abbrev pub IsUntaken : Kept → List (List ℕ) → Import → Option (List ℕ) → Bool → NoText → Type 0
+IsUntaken k words i bytes failed n = (f : Failure) × IsUnimportedFrom k words i bytes failed f × IsFailureOf f n
 
 abbrev pub IsUnsummed : Import → Option (List ℕ) → Bool → NoText → Type 0
 IsUnsummed i bytes failed n = (f : Failure) × IsUnsummedFrom i bytes failed f × IsFailureOf f n

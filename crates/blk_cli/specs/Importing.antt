@@ -6,6 +6,7 @@ use Rattle.blk_arrivals.specs.Scripts.{script_of, script_rules}
 use Rattle.blk_arrivals.specs.declared.terms.ArrivalsFault.TheVariants as arrivals
 use Rattle.blk_arrivals.specs.declared.terms.TheConstants.{USUAL_DEPTH}
 use Rattle.blk_arrivals.specs.declared.terms.Terms.{Terms}
+use Rattle.answer.specs.Lines.{answer_lines}
 use Rattle.answer.specs.declared.answer.Part.{Part}
 use Rattle.blk_cli.specs.Certificates.{IsMostText}
 use Rattle.blk_cli.specs.Forms.{written_in}
@@ -30,14 +31,13 @@ use Rattle.blk_capture.specs.declared.requests.CapturedRequest.{CapturedRequest}
 use Rattle.blk_capture_text.specs.Counts.{records_counted}
 use Rattle.blk_capture_text.specs.Imports.{IsImport, IsImportFault, first_time}
 use Rattle.blk_capture_text.specs.declared.counts.RecordCounts.{RecordCounts}
-use Rattle.blk_capture_text.specs.Shown.{IsShown}
+use Rattle.blk_capture_text.specs.Shown.{IsShown, IsSummaryAnswer}
 use Rattle.blk_capture_text.specs.Streaming.{HasStreamed}
 use Rattle.blk_capture_text.specs.Streams.{IsCaptureTold, IsUntoldText, IsUntoldInput}
 use Rattle.blk_capture_text.specs.declared.lines.StreamedCapture.{StreamedCapture}
 use Rattle.blk_capture_text.specs.SummaryText.{counts_of, notice_line}
 use Rattle.blk_capture_text.specs.declared.importing.ImportAsked.{ImportAsked}
 use Rattle.blk_capture_text.specs.declared.numbers.UnusedCounts.{UnusedCounts}
-use Rattle.blk_capture_text.specs.declared.shown.ShownImport.{ShownImport}
 use Rattle.blk_capture_text.specs.declared.shown.ShownImport.TheVariants as shown
 use Rattle.blk_lists.specs.Reads.{IsOutside}
 use Rattle.blk_lists.specs.Texts.{rows_text}
@@ -62,6 +62,8 @@ use Rattle.blk_words.specs.declared.replaying.GridReplaying.{GridReplaying}
 use Rattle.blk_words.specs.declared.replaying.Replaying.{Replaying}
 use Rattle.blk_words.specs.declared.replaying.ShownReplay.{ShownReplay}
 use Rattle.blk_words.specs.declared.replaying.ShownReplay.TheVariants as shown_as
+use Rattle.blk_words.specs.declared.words.Kept.{Kept}
+use Rattle.blk_words.specs.declared.words.Kept.TheVariants as kept
 use Rattle.blk_words.specs.declared.words.Written.{Written}
 use Rattle.blk_words.specs.declared.words.Written.TheVariants as written
 use Rattle.blk_capture_text.specs.Source.{IsCaptureRead, IsCaptureUnread}
@@ -96,14 +98,9 @@ asked_of i = record {
 abbrev pub terms_of : Import → ℕ → Option ℕ → Terms
 terms_of i round depth = record { round = round; depth = option_map_or (λ n. n) depth USUAL_DEPTH; read_expire = i.read_expire; write_expire = i.write_expire }
 
--- the line on what was passed over or not matched, where there is any; a summary has it among its own
+-- the line on what was passed over or not matched, where there is any
 abbrev pub line_on : UnusedCounts → Option (List ℕ)
 line_on c = if (c.passed == 0) && (c.unmatched == 0) then None else Some (notice_line c)
-
-abbrev pub note_by : ShownImport → UnusedCounts → Option (List ℕ)
-note_by shown.Schedule c = line_on c
-note_by shown.Table c = line_on c
-note_by shown.Summary c = None
 
 -- a note behind what is told before it
 abbrev pub noted : List ℕ → Option (List ℕ) → Option (List ℕ)
@@ -114,27 +111,27 @@ noted (c ∷ told) note = Some ((c ∷ told) ++ unwrap_or note [])
 abbrev pub tags_asked : Option ℕ → ℕ
 tags_asked tags = unwrap_or tags USUAL_TAGS
 
--- what is dubious of the requests is said before the note
-pub record IsNoteOf (tags : ℕ) (shown : ShownImport) (records : List Record) (requests : List CapturedRequest) (fates : List Fate) (note : Option (List ℕ)) : Type 0 where
+-- what is dubious of the requests is said before what is said else
+pub record IsNoteOf (tags : ℕ) (line : Option (List ℕ)) (records : List Record) (requests : List CapturedRequest) (fates : List Fate) (note : Option (List ℕ)) : Type 0 where
   pub most : ℕ
   pub is_most : IsMostInFlight requests most
   pub told : List ℕ
   pub doubts : IsDoubtTold records requests most tags (counts_of fates).unmatched told
-  pub is : note ≡ noted told (note_by shown (counts_of fates))
+  pub is : note ≡ noted told line
 
-abbrev pub IsNoteOn : {A : Type 0} → ℕ → ShownImport → List Record → Matched A → Option (List ℕ) → Type 0
-IsNoteOn tags shown records m note = IsNoteOf tags shown records m.requests.items m.fates.items note
+abbrev pub IsNoteOn : {A : Type 0} → ℕ → List Record → Matched A → Option (List ℕ) → Type 0
+IsNoteOn tags records m note = IsNoteOf tags (line_on (counts_of m.fates.items)) records m.requests.items m.fates.items note
 
--- what is shown of the requests of a capture that are taken, and what is said beside it
-pub record IsShownOf (shown : ShownImport) (i : Import) (records : List Record) (s : Said) : Type 0 where
+-- this is written of the requests of a capture that are taken, and what is said beside it
+pub record IsMadeOf (writes : List CapturedRequest → List ℕ → Type 0) (i : Import) (records : List Record) (s : Said) : Type 0 where
   pub requests : List CapturedRequest
   pub bios : List CapturedBio
   pub fates : List Fate
   pub absorbed : ℕ
   pub left_out : ℕ
   pub is_import : IsImport records (asked_of i) requests bios fates absorbed left_out
-  pub is_text : IsShown shown records requests bios fates left_out s.text
-  pub is_note : IsNoteOf (tags_asked i.source.tags) shown records requests fates s.note
+  pub is_text : writes requests s.text
+  pub is_note : IsNoteOf (tags_asked i.source.tags) (line_on (counts_of fates)) records requests fates s.note
   pub good : s.good ≡ true
 
 -- too many requests would be taken, or memory ran out
@@ -184,35 +181,12 @@ IsBlameText shown_blame.Picture b i begin requests text = IsBlamePicture begin r
 abbrev pub IsBlamingText : Blaming → Import → ℕ → List CapturedRequest → List ℕ → Type 0
 IsBlamingText b i begin requests text = IsBlameText b.shown b i begin requests text
 
-pub record IsBlamedOf (b : Blaming) (i : Import) (records : List Record) (s : Said) : Type 0 where
-  pub requests : List CapturedRequest
-  pub bios : List CapturedBio
-  pub fates : List Fate
-  pub absorbed : ℕ
-  pub left_out : ℕ
-  pub is_import : IsImport records (asked_of i) requests bios fates absorbed left_out
-  pub is_text : IsBlamingText b i (first_time records) requests s.text
-  pub is_note : IsNoteOf (tags_asked i.source.tags) shown.Schedule records requests fates s.note
-  pub good : s.good ≡ true
-
 -- the requests that are taken, and what is said beside them
 abbrev pub IsTakenOf : {A : Type 0} → Import → List Record → Matched A → Type 0
 IsTakenOf i records m = IsImport records (asked_of i) m.requests.items m.bios.items m.fates.items m.absorbed m.left_out
 
 abbrev pub IsNoteBeside : {A : Type 0} → Import → List Record → Matched A → Option (List ℕ) → Type 0
-IsNoteBeside i records m note = IsNoteOn (tags_asked i.source.tags) shown.Schedule records m note
-
--- this is written of them, and what is said beside it
-pub record IsReplayedOf (writes : List CapturedRequest → List ℕ → Type 0) (i : Import) (records : List Record) (s : Said) : Type 0 where
-  pub requests : List CapturedRequest
-  pub bios : List CapturedBio
-  pub fates : List Fate
-  pub absorbed : ℕ
-  pub left_out : ℕ
-  pub is_import : IsImport records (asked_of i) requests bios fates absorbed left_out
-  pub is_text : writes requests s.text
-  pub is_note : IsNoteOf (tags_asked i.source.tags) shown.Schedule records requests fates s.note
-  pub good : s.good ≡ true
+IsNoteBeside i records m note = IsNoteOn (tags_asked i.source.tags) records m note
 
 -- a scheduler isn't made of its settings, for a reason like this, or memory ran out; or too many requests would be taken
 abbrev pub IsNotReplayed : (SchedFault → Type 0) → Failure → Type 0
@@ -255,29 +229,22 @@ IsUnscripted t records (failure.Arrivals f) = (f ≡ arrivals.Memory) ⊎ IsFirs
 IsUnscripted t records failure.Memory = ⊤
 IsUnscripted t records f = ⊥
 
--- what is written of a capture, by what is asked for in words, and why nothing is
-abbrev pub IsWrittenAs : Written → List (List ℕ) → Import → List Record → Said → Type 0
-IsWrittenAs written.Schedule words i records s = IsShownOf shown.Schedule i records s
-IsWrittenAs written.Table words i records s = IsShownOf shown.Table i records s
-IsWrittenAs written.Summary words i records s = IsShownOf shown.Summary i records s
-IsWrittenAs (written.Script round depth) words i records s = IsScripted (terms_of i round depth) records s
-IsWrittenAs (written.Blame b) words i records s = IsBlamedOf b i records s
-IsWrittenAs (written.Replay r) words i records s = IsReplayedOf (IsReplaysText (each_wanted r)) i records s
-IsWrittenAs (written.Grid g) words i records s = IsReplayedOf (IsGridText words g) i records s
-IsWrittenAs (written.Replayed p how) words i records s = IsReplayedOf (IsOneReplayText p how records) i records s
+-- what is written of a capture whose records are kept, by what is asked for in words, and why nothing is
+abbrev pub IsImported : Kept → List (List ℕ) → Import → List Record → Said → Type 0
+IsImported kept.Schedule words i records s = IsMadeOf (IsShown shown.Schedule records) i records s
+IsImported kept.Table words i records s = IsMadeOf (IsShown shown.Table records) i records s
+IsImported (kept.Script round depth) words i records s = IsScripted (terms_of i round depth) records s
+IsImported (kept.Blame b) words i records s = IsMadeOf (IsBlamingText b i (first_time records)) i records s
+IsImported (kept.Replay r) words i records s = IsMadeOf (IsReplaysText (each_wanted r)) i records s
+IsImported (kept.Grid g) words i records s = IsMadeOf (IsGridText words g) i records s
+IsImported (kept.Replayed p how) words i records s = IsMadeOf (IsOneReplayText p how records) i records s
 
-abbrev pub IsUnwrittenAs : Written → List (List ℕ) → Import → List Record → Failure → Type 0
-IsUnwrittenAs (written.Script round depth) words i records f = IsUnscripted (terms_of i round depth) records f
-IsUnwrittenAs (written.Replay r) words i records f = IsUnreplayedOf (AreUnreplayed r.plans) i records f
-IsUnwrittenAs (written.Grid g) words i records f = IsUnreplayedOf (IsGridUnreplayed words) i records f
-IsUnwrittenAs (written.Replayed p how) words i records f = IsUnreplayedOf (IsUnmade p.sched) i records f
-IsUnwrittenAs w words i records f = IsUnshown i records f
-
-abbrev pub IsImported : List (List ℕ) → Import → List Record → Said → Type 0
-IsImported words i records s = IsWrittenAs i.written words i records s
-
-abbrev pub IsUnimported : List (List ℕ) → Import → List Record → Failure → Type 0
-IsUnimported words i records f = IsUnwrittenAs i.written words i records f
+abbrev pub IsUnimported : Kept → List (List ℕ) → Import → List Record → Failure → Type 0
+IsUnimported (kept.Script round depth) words i records f = IsUnscripted (terms_of i round depth) records f
+IsUnimported (kept.Replay r) words i records f = IsUnreplayedOf (AreUnreplayed r.plans) i records f
+IsUnimported (kept.Grid g) words i records f = IsUnreplayedOf (IsGridUnreplayed words) i records f
+IsUnimported (kept.Replayed p how) words i records f = IsUnreplayedOf (IsUnmade p.sched) i records f
+IsUnimported k words i records f = IsUnshown i records f
 
 -- what is said of where a capture comes from is said before the note
 abbrev pub IsSaidFrom : Option Printed → List Record → Said → Said → Type 0
@@ -287,20 +254,20 @@ abbrev pub SaysFrom : Option Printed → RecordCounts → Said → Said → Type
 SaysFrom p counts base s = (rs : List Record) → counts ≡ records_counted rs → IsSaidFrom p rs base s
 
 -- this is written of a capture that was read
-pub record IsWrittenOf (words : List (List ℕ)) (i : Import) (read : CaptureRead) (s : Said) : Type 0 where
+pub record IsWrittenOf (k : Kept) (words : List (List ℕ)) (i : Import) (read : CaptureRead) (s : Said) : Type 0 where
   pub base : Said
-  pub imported : IsImported words i read.records.items base
+  pub imported : IsImported k words i read.records.items base
   pub said : IsSaidFrom read.printed read.records.items base s
 
 -- or nothing is, or memory ran out
-abbrev pub IsUnwrittenOf : List (List ℕ) → Import → CaptureRead → Failure → Type 0
-IsUnwrittenOf words i read f = IsUnimported words i read.records.items f ⊎ (f ≡ failure.Memory)
+abbrev pub IsUnwrittenOf : Kept → List (List ℕ) → Import → CaptureRead → Failure → Type 0
+IsUnwrittenOf k words i read f = IsUnimported k words i read.records.items f ⊎ (f ≡ failure.Memory)
 
 -- bytes are a capture of the form that is asked for, or that its first lines tell, and this is written of it
-pub record IsImportedOf (words : List (List ℕ)) (i : Import) (bytes : List ℕ) (s : Said) : Type 0 where
+pub record IsImportedOf (k : Kept) (words : List (List ℕ)) (i : Import) (bytes : List ℕ) (s : Said) : Type 0 where
   pub read : CaptureRead
   pub is_read : IsCaptureRead i.source.form i.source.device bytes read
-  pub written : IsWrittenOf words i read s
+  pub written : IsWrittenOf k words i read s
 
 -- they are refused for their first fault
 abbrev pub IsUnreadFrom : Import → List ℕ → Failure → Type 0
@@ -310,38 +277,46 @@ IsUnreadFrom i bytes failure.Memory = ⊤
 IsUnreadFrom i bytes f = ⊥
 
 -- or nothing is written of the capture that was read
-pub record IsRefusedFrom (words : List (List ℕ)) (i : Import) (bytes : List ℕ) (f : Failure) : Type 0 where
+pub record IsRefusedFrom (k : Kept) (words : List (List ℕ)) (i : Import) (bytes : List ℕ) (f : Failure) : Type 0 where
   pub read : CaptureRead
   pub is_read : IsCaptureRead i.source.form i.source.device bytes read
-  pub refused : IsUnimported words i read.records.items f
+  pub refused : IsUnimported k words i read.records.items f
 
-abbrev pub IsUnimportedOf : List (List ℕ) → Import → List ℕ → Failure → Type 0
-IsUnimportedOf words i bytes f = IsUnreadFrom i bytes f ⊎ IsRefusedFrom words i bytes f
+abbrev pub IsUnimportedOf : Kept → List (List ℕ) → Import → List ℕ → Failure → Type 0
+IsUnimportedOf k words i bytes f = IsUnreadFrom i bytes f ⊎ IsRefusedFrom k words i bytes f
 
 -- the same of the bytes of the input, where these are known
-pub record IsImportedFrom (words : List (List ℕ)) (i : Import) (input : Option (List ℕ)) (s : Said) : Type 0 where
+pub record IsImportedFrom (k : Kept) (words : List (List ℕ)) (i : Import) (input : Option (List ℕ)) (s : Said) : Type 0 where
   pub bytes : List ℕ
   pub given : IfSome input (λ known. bytes ≡ known)
-  pub of : IsImportedOf words i bytes s
+  pub of : IsImportedOf k words i bytes s
 
-pub record IsRefusedInput (words : List (List ℕ)) (i : Import) (input : Option (List ℕ)) (f : Failure) : Type 0 where
+pub record IsRefusedInput (k : Kept) (words : List (List ℕ)) (i : Import) (input : Option (List ℕ)) (f : Failure) : Type 0 where
   pub bytes : List ℕ
   pub given : IfSome input (λ known. bytes ≡ known)
-  pub of : IsUnimportedOf words i bytes f
+  pub of : IsUnimportedOf k words i bytes f
 
 -- or the reader failed, or memory ran out
-abbrev pub IsUnimportedFrom : List (List ℕ) → Import → Option (List ℕ) → Bool → Failure → Type 0
-IsUnimportedFrom words i input failed f = IsUnexplained failed f ⊎ IsRefusedInput words i input f
+abbrev pub IsUnimportedFrom : Kept → List (List ℕ) → Import → Option (List ℕ) → Bool → Failure → Type 0
+IsUnimportedFrom k words i input failed f = IsUnexplained failed f ⊎ IsRefusedInput k words i input f
 
--- whether a capture is put in numbers, as its bytes come
-abbrev pub is_summary : Written → Bool
-is_summary written.Summary = true
-is_summary w = false
+-- its numbers are written, which have the line among them, and what is said beside them
+pub record IsSummaryOf (i : Import) (records : List Record) (s : Said) : Type 0 where
+  pub requests : List CapturedRequest
+  pub bios : List CapturedBio
+  pub fates : List Fate
+  pub absorbed : ℕ
+  pub left_out : ℕ
+  pub is_import : IsImport records (asked_of i) requests bios fates absorbed left_out
+  pub parts : List Part
+  pub is_answer : IsSummaryAnswer records requests bios fates left_out parts
+  pub is_text : s.text ≡ answer_lines parts
+  pub is_note : IsNoteOf (tags_asked i.source.tags) None records requests fates s.note
+  pub good : s.good ≡ true
 
--- its numbers are written, and what is said beside them
 pub record IsSummed (i : Import) (records : List Record) (printed : Option Printed) (s : Said) : Type 0 where
   pub base : Said
-  pub shown_of : IsShownOf shown.Summary i records base
+  pub summary_of : IsSummaryOf i records base
   pub said : IsSaidFrom printed records base s
 
 abbrev pub SumsUp : Import → StreamedCapture → Said → Type 0
@@ -364,16 +339,16 @@ IsUnsummedFrom i input failed failure.Memory = ⊤
 IsUnsummedFrom i input failed f = ⊥
 
 -- what is written of a capture by the bytes of the input, and why nothing is: in numbers or otherwise
-abbrev pub IsWrittenIf : Bool → List (List ℕ) → Import → Option (List ℕ) → Said → Type 0
-IsWrittenIf true words i input s = IsSummedFrom i input s
-IsWrittenIf false words i input s = IsImportedFrom words i input s
+abbrev pub IsWrittenAs : Written → List (List ℕ) → Import → Option (List ℕ) → Said → Type 0
+IsWrittenAs written.Summary words i input s = IsSummedFrom i input s
+IsWrittenAs (written.Kept k) words i input s = IsImportedFrom k words i input s
 
-abbrev pub IsUnwrittenIf : Bool → List (List ℕ) → Import → Option (List ℕ) → Bool → Failure → Type 0
-IsUnwrittenIf true words i input failed f = IsUnsummedFrom i input failed f
-IsUnwrittenIf false words i input failed f = IsUnimportedFrom words i input failed f
+abbrev pub IsUnwrittenAs : Written → List (List ℕ) → Import → Option (List ℕ) → Bool → Failure → Type 0
+IsUnwrittenAs written.Summary words i input failed f = IsUnsummedFrom i input failed f
+IsUnwrittenAs (written.Kept k) words i input failed f = IsUnimportedFrom k words i input failed f
 
 abbrev pub IsCaptureWritten : List (List ℕ) → Import → Option (List ℕ) → Said → Type 0
-IsCaptureWritten words i input s = IsWrittenIf (is_summary i.written) words i input s
+IsCaptureWritten words i input s = IsWrittenAs i.written words i input s
 
 abbrev pub IsCaptureFailure : List (List ℕ) → Import → Option (List ℕ) → Bool → Failure → Type 0
-IsCaptureFailure words i input failed f = IsUnwrittenIf (is_summary i.written) words i input failed f
+IsCaptureFailure words i input failed f = IsUnwrittenAs i.written words i input failed f

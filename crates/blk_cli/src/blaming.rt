@@ -3,8 +3,9 @@
 ghost use Rattle.std.specs.Prelude.{◌≡◌, ◌≤◌, IfOk, IfErr, length};
 ghost use Rattle.edd_commands.specs.declared.TheConstants.{MAX_COMMANDS};
 ghost use Rattle.blk_capture.specs.Requests.{AreInOrder, AreTimed};
+ghost use Rattle.blk_capture_text.specs.Imports.{first_time};
 ghost use Rattle.blk_cli.specs.Said.{said_of};
-ghost use Rattle.blk_cli.specs.Importing.{grouped_by, IsWholeBlame, IsEachBlame, IsBlameCertificate, aim_of, IsTightestText, IsBlamingText, IsBlamedOf, IsUnshown};
+ghost use Rattle.blk_cli.specs.Importing.{grouped_by, IsWholeBlame, IsEachBlame, IsBlameCertificate, aim_of, IsTightestText, IsBlamingText, IsMadeOf, IsUnshown};
 
 use crate::Answered;
 use crate::failure::Failure;
@@ -14,7 +15,7 @@ use crate::lists::most_of;
 use blk_bio::Dir;
 use blk_blame::{Aim, GroupedBy, blame_answer, blame_picture, each_answer, tightest_answer};
 use blk_capture::{CapturedRequest, CountedSchedule, Record, rounds_of};
-use blk_capture_text::{ShownImport, first_time};
+use blk_capture_text::first_time;
 use blk_words::{BlameBy, Blaming, Form, Import, ShownBlame, TightestAsked};
 use std::alloc::{AllocError, Global};
 
@@ -143,7 +144,7 @@ pub fn blamed(
     records: &[Record],
 ) -> Result<Answered, Failure>
     requires { AreInOrder records.now (length records.now) }
-    ensures answers { IfOk result (λ answer. IsBlamedOf blaming wanted records.now (said_of answer)) }
+    ensures answers { IfOk result (λ answer. IsMadeOf (IsBlamingText blaming wanted (first_time records.now)) wanted records.now (said_of answer)) }
     ensures fails { IfErr result (IsUnshown wanted records.now) }
 {
     let asked = asked_of(wanted);
@@ -156,7 +157,7 @@ pub fn blamed(
         return Err(Failure::Memory);
     };
     let tags = tags_asked(wanted.source.tags);
-    match note_on(alloc, ShownImport::Schedule, tags, records, &matched) {
+    match note_on(alloc, tags, records, &matched) {
         Ok(note) => Ok(Answered {
             text,
             note,

@@ -4,11 +4,12 @@ ghost use Rattle.std.specs.Prelude.{◌≡◌, ◌≤◌, List, [], IfOk, IfErr,
 ghost use Rattle.edd_commands.specs.declared.TheConstants.{MAX_COMMANDS};
 ghost use Rattle.blk_capture.specs.Requests.{AreInOrder, AreTimed};
 ghost use Rattle.blk_capture.specs.declared.record.Record.{Record};
+ghost use Rattle.blk_capture_text.specs.Shown.{IsShown};
 ghost use Rattle.blk_capture_text.specs.Source.{IsCaptureRead};
 ghost use Rattle.blk_capture_text.specs.Streaming.{HasStreamed};
 ghost use Rattle.blk_capture_text.specs.Streams.{IsSummable};
 ghost use Rattle.blk_cli.specs.Said.{said_of};
-ghost use Rattle.blk_cli.specs.Importing.{entry_asked, most_asked, asked_of, terms_of, line_on, note_by, IsShownOf, IsUnshown, IsScripted, IsUnscripted, IsImported, IsUnimported, noted, tags_asked, IsNoteOn, SaysFrom, IsImportedFrom, IsUnreadFrom, IsWrittenOf, IsUnwrittenOf, is_summary, SumsUp, IsSummedFrom, IsCaptureWritten};
+ghost use Rattle.blk_cli.specs.Importing.{entry_asked, most_asked, asked_of, terms_of, line_on, IsMadeOf, IsUnshown, IsScripted, IsUnscripted, IsImported, IsUnimported, noted, tags_asked, IsNoteOn, SaysFrom, IsImportedFrom, IsUnreadFrom, IsWrittenOf, IsUnwrittenOf, SumsUp, IsSummedFrom, IsCaptureWritten};
 ghost use Rattle.blk_cli.specs.Ends.{IsFailureOf, IsUntaken, IsUnsummed, IsUnsummedFor, IsCaptureUnwritten};
 
 use crate::blaming::blamed;
@@ -16,15 +17,16 @@ use crate::failure::Failure;
 use crate::notes::{doubt_text, source_text};
 use crate::replaying::{replayed, replayed_grid, replayed_once};
 use crate::{Answered, NoText, without};
+use answer::lines;
 use blk_arrivals::{Terms, USUAL_DEPTH, script_of, script_text};
 use blk_capture::{Entry, Matched, Options, Record, summarize};
 use blk_capture_text::{
     CaptureRead, ImportAsked, Printed, RecordCounts, ShownImport, StreamedCapture, UnreadCapture,
     Unstreamed, UnusedCounts, count_fates, notice_text, read_source, shown_text, stream_source,
-    summary_text,
+    summary_answer,
 };
 use blk_lists::{Records, TextFault};
-use blk_words::{Import, Job, Written};
+use blk_words::{Import, Job, Kept, Written};
 use std::alloc::{AllocError, Global};
 use std::io::Read;
 use std::thread::Threads;
@@ -97,21 +99,6 @@ fn line_on(alloc: Global, counts: &UnusedCounts) -> Result<Option<Vec<u8>>, Allo
     }
 }
 
-/// What is said beside the text: a summary has it among its own lines.
-fn note_by(
-    alloc: Global,
-    shown: ShownImport,
-    counts: &UnusedCounts,
-) -> Result<Option<Vec<u8>>, AllocError>
-    ensures { IfOk result (λ note. option_map (λ line. line.items) note ≡ note_by shown counts.now) }
-{
-    match shown {
-        ShownImport::Schedule => line_on(alloc, counts),
-        ShownImport::Table => line_on(alloc, counts),
-        ShownImport::Summary => Ok(None),
-    }
-}
-
 /// A note behind what is told before it; without that, as it is.
 fn noted(told: Vec<u8>, note: Option<Vec<u8>>) -> Result<Option<Vec<u8>>, AllocError>
     ensures { IfOk result (λ all. option_map (λ n. n.items) all ≡ noted told.items (option_map (λ n. n.items) note)) }
@@ -142,7 +129,6 @@ pub(crate) fn tags_asked(tags: Option<u64>) -> u64
 /// What is said beside the text, and before it what of the requests is dubious.
 pub(crate) fn note_on(
     alloc: Global,
-    shown: ShownImport,
     tags: u64,
     records: &[Record],
     matched: &Matched,
@@ -150,7 +136,7 @@ pub(crate) fn note_on(
     requires timed { AreTimed matched.now.requests.items }
     requires few { length matched.now.requests.items ≤ MAX_COMMANDS }
     requires fates { length matched.now.fates.items ≡ length records.now }
-    ensures { IfOk result (λ n. IsNoteOn tags shown records.now matched.now (option_map (λ v. v.items) n)) }
+    ensures { IfOk result (λ n. IsNoteOn tags records.now matched.now (option_map (λ v. v.items) n)) }
 {
     let summary = summarize(alloc, records, matched)?;
     let counts = count_fates(matched.fates.as_slice());
@@ -162,7 +148,7 @@ pub(crate) fn note_on(
         tags,
         counts.unmatched,
     )?;
-    let note = note_by(alloc, shown, &counts)?;
+    let note = line_on(alloc, &counts)?;
     match noted(doubts, note) {
         Ok(all) => Ok(all),
         Err(refused) => Err(refused),
@@ -177,7 +163,7 @@ fn shown_of(
     records: &[Record],
 ) -> Result<Answered, Failure>
     requires { AreInOrder records.now (length records.now) }
-    ensures answers { IfOk result (λ answer. IsShownOf shown wanted records.now (said_of answer)) }
+    ensures answers { IfOk result (λ answer. IsMadeOf (IsShown shown records.now) wanted records.now (said_of answer)) }
     ensures fails { IfErr result (IsUnshown wanted records.now) }
 {
     let asked = asked_of(wanted);
@@ -185,16 +171,11 @@ fn shown_of(
         Ok(matched) => matched,
         Err(fault) => return Err(Failure::Import(fault)),
     };
-    let Ok(text) = shown_text(alloc, shown, records, &matched) else {
+    let Ok(text) = shown_text(alloc, shown, records, matched.requests.as_slice()) else {
         return Err(Failure::Memory);
     };
-    let Ok(note) = note_on(
-        alloc,
-        shown,
-        tags_asked(wanted.source.tags),
-        records,
-        &matched,
-    ) else {
+    let tags = tags_asked(wanted.source.tags);
+    let Ok(note) = note_on(alloc, tags, records, &matched) else {
         return Err(Failure::Memory);
     };
     Ok(Answered {
@@ -230,25 +211,25 @@ fn imported<T: Threads + Sync, P: Progress>(
     alloc: Global,
     words: &[String],
     wanted: Import,
+    kept: Kept,
     records: &[Record],
     progress: &mut P,
 ) -> Result<Answered, Failure>
     requires { AreInOrder records.now (length records.now) }
-    ensures answers { IfOk result (λ answer. IsImported (map string_bytes words.now) wanted records.now (said_of answer)) }
-    ensures fails { IfErr result (IsUnimported (map string_bytes words.now) wanted records.now) }
+    ensures answers { IfOk result (λ answer. IsImported kept (map string_bytes words.now) wanted records.now (said_of answer)) }
+    ensures fails { IfErr result (IsUnimported kept (map string_bytes words.now) wanted records.now) }
 {
-    match wanted.written {
-        Written::Schedule => shown_of(alloc, wanted, ShownImport::Schedule, records),
-        Written::Table => shown_of(alloc, wanted, ShownImport::Table, records),
-        Written::Summary => shown_of(alloc, wanted, ShownImport::Summary, records),
-        Written::Script { round, depth } => {
+    match kept {
+        Kept::Schedule => shown_of(alloc, wanted, ShownImport::Schedule, records),
+        Kept::Table => shown_of(alloc, wanted, ShownImport::Table, records),
+        Kept::Script { round, depth } => {
             let terms = terms_of(wanted, round, depth);
             scripted(alloc, terms, records)
         }
-        Written::Blame(blaming) => blamed(alloc, wanted, blaming, records),
-        Written::Replay(replaying) => replayed(rt, alloc, wanted, replaying, records, progress),
-        Written::Grid(grid) => replayed_grid(rt, alloc, words, wanted, grid, records, progress),
-        Written::Replayed(plan, shown) => replayed_once(alloc, wanted, plan, shown, records),
+        Kept::Blame(blaming) => blamed(alloc, wanted, blaming, records),
+        Kept::Replay(replaying) => replayed(rt, alloc, wanted, replaying, records, progress),
+        Kept::Grid(grid) => replayed_grid(rt, alloc, words, wanted, grid, records, progress),
+        Kept::Replayed(plan, shown) => replayed_once(alloc, wanted, plan, shown, records),
     }
 }
 
@@ -292,14 +273,23 @@ fn over_read<T: Threads + Sync, P: Progress>(
     alloc: Global,
     words: &[String],
     wanted: Import,
+    kept: Kept,
     read: &CaptureRead,
     progress: &mut P,
 ) -> Result<Answered, Failure>
     requires { AreInOrder read.now.records.items (length read.now.records.items) }
-    ensures answers { IfOk result (λ answer. IsWrittenOf (map string_bytes words.now) wanted read.now (said_of answer)) }
-    ensures fails { IfErr result (IsUnwrittenOf (map string_bytes words.now) wanted read.now) }
+    ensures answers { IfOk result (λ answer. IsWrittenOf kept (map string_bytes words.now) wanted read.now (said_of answer)) }
+    ensures fails { IfErr result (IsUnwrittenOf kept (map string_bytes words.now) wanted read.now) }
 {
-    let answer = match imported(rt, alloc, words, wanted, read.records.as_slice(), progress) {
+    let answer = match imported(
+        rt,
+        alloc,
+        words,
+        wanted,
+        kept,
+        read.records.as_slice(),
+        progress,
+    ) {
         Ok(answer) => answer,
         Err(failure) => return Err(failure),
     };
@@ -333,7 +323,10 @@ fn summed(alloc: Global, wanted: Import, capture: StreamedCapture) -> Result<Ans
     let Ok(sum) = streamed.summary(alloc, &asked) else {
         return Err(Failure::Memory);
     };
-    let Ok(text) = summary_text(alloc, &sum.summary, sum.left_out, &sum.unused) else {
+    let Ok(numbers) = summary_answer(alloc, &sum.summary, sum.left_out, &sum.unused) else {
+        return Err(Failure::Memory);
+    };
+    let Ok(text) = lines(alloc, &numbers) else {
         return Err(Failure::Memory);
     };
     let Ok(doubts) = doubt_text(
@@ -402,11 +395,12 @@ fn over_whole<T: Threads + Sync, R: Read + Drop, P: Progress>(
     alloc: Global,
     words: &[String],
     wanted: Import,
+    kept: Kept,
     records: &mut Records<R>,
     progress: &mut P,
 ) -> Result<Answered, NoText>
-    ensures answers { IfOk result (λ answer. IsImportedFrom (map string_bytes words.now) wanted records.old.bytes (said_of answer)) }
-    ensures fails { IfErr result (IsUntaken (map string_bytes words.now) wanted records.old.bytes records.new.failed) }
+    ensures answers { IfOk result (λ answer. IsImportedFrom kept (map string_bytes words.now) wanted records.old.bytes (said_of answer)) }
+    ensures fails { IfErr result (IsUntaken kept (map string_bytes words.now) wanted records.old.bytes records.new.failed) }
 {
     let bytes = match records.bytes(alloc) {
         Ok(bytes) => bytes,
@@ -417,17 +411,10 @@ fn over_whole<T: Threads + Sync, R: Read + Drop, P: Progress>(
         Err(failure) => return Err(untaken(alloc, wanted, bytes.as_slice(), failure)),
     };
     drop(bytes);
-    match over_read(rt, alloc, words, wanted, &read, progress) {
+    match over_read(rt, alloc, words, wanted, kept, &read, progress) {
         Ok(answer) => Ok(answer),
         Err(failure) => Err(NoText::Failure(failure)),
     }
-}
-
-/// Whether a capture is put in numbers.
-fn is_summary(written: Written) -> bool
-    ensures { result ≡ is_summary written }
-{
-    matches!(written, Written::Summary)
 }
 
 /// Reads the input as a capture, and gives what is written of it: of one that is put in numbers no record is kept. Replays go on the threads of
@@ -443,9 +430,8 @@ pub fn over_capture<T: Threads + Sync, R: Read + Drop, P: Progress>(
     ensures answers { IfOk result (λ answer. IsCaptureWritten (map string_bytes words.now) wanted records.old.bytes (said_of answer)) }
     ensures fails { IfErr result (IsCaptureUnwritten (map string_bytes words.now) wanted records.old.bytes records.new.failed) }
 {
-    if is_summary(wanted.written) {
-        over_summary(alloc, wanted, records)
-    } else {
-        over_whole(rt, alloc, words, wanted, records, progress)
+    match wanted.written {
+        Written::Summary => over_summary(alloc, wanted, records),
+        Written::Kept(kept) => over_whole(rt, alloc, words, wanted, kept, records, progress),
     }
 }

@@ -7,13 +7,13 @@ ghost use Rattle.blk_cli.specs.Said.{said_of};
 ghost use Rattle.blk_settings.specs.Made.{IsUnmade};
 ghost use Rattle.blk_replayed.specs.Replays.{AreUnreplayed};
 ghost use Rattle.blk_replayed.specs.Text.{IsReplaysText};
-ghost use Rattle.blk_cli.specs.Importing.{IsTakenOf, IsNoteBeside, IsUnshown, IsNotReplayed, IsReplayedOf, IsUnreplayedOf, each_wanted, IsGridText, IsGridUnreplayed, IsOneReplayText};
+ghost use Rattle.blk_cli.specs.Importing.{IsTakenOf, IsNoteBeside, IsUnshown, IsNotReplayed, IsMadeOf, IsUnreplayedOf, each_wanted, IsGridText, IsGridUnreplayed, IsOneReplayText};
 
 use crate::Answered;
 use crate::failure::Failure;
 use crate::importing::{asked_of, note_on, tags_asked};
 use blk_capture::{CapturedRequest, Matched, Record};
-use blk_capture_text::{ShownImport, first_time};
+use blk_capture_text::first_time;
 use blk_replayed::{ReplaysAsked, replay_schedule_text, replay_table_text, replays_text};
 use blk_settings::{Plan, SchedFault};
 use blk_words::{GridReplaying, Import, Replaying, ShownReplay, plans_asked};
@@ -132,7 +132,7 @@ fn beside(
     ensures fails { IfErr result (λ failure. failure ≡ Failure.Memory) }
 {
     let tags = tags_asked(wanted.source.tags);
-    match note_on(alloc, ShownImport::Schedule, tags, records, matched) {
+    match note_on(alloc, tags, records, matched) {
         Ok(note) => Ok(Answered {
             text,
             note,
@@ -152,7 +152,7 @@ pub fn replayed<T: Threads + Sync, P: Progress>(
     progress: &mut P,
 ) -> Result<Answered, Failure>
     requires { AreInOrder records.now (length records.now) }
-    ensures answers { IfOk result (λ answer. IsReplayedOf (IsReplaysText (each_wanted replaying)) wanted records.now (said_of answer)) }
+    ensures answers { IfOk result (λ answer. IsMadeOf (IsReplaysText (each_wanted replaying)) wanted records.now (said_of answer)) }
     ensures fails { IfErr result (IsUnreplayedOf (AreUnreplayed replaying.plans) wanted records.now) }
 {
     let matched = match taken(alloc, wanted, records) {
@@ -177,7 +177,7 @@ pub fn replayed_grid<T: Threads + Sync, P: Progress>(
     progress: &mut P,
 ) -> Result<Answered, Failure>
     requires { AreInOrder records.now (length records.now) }
-    ensures answers { IfOk result (λ answer. IsReplayedOf (IsGridText (map string_bytes words.now) grid) wanted records.now (said_of answer)) }
+    ensures answers { IfOk result (λ answer. IsMadeOf (IsGridText (map string_bytes words.now) grid) wanted records.now (said_of answer)) }
     ensures fails { IfErr result (IsUnreplayedOf (IsGridUnreplayed (map string_bytes words.now)) wanted records.now) }
 {
     let matched = match taken(alloc, wanted, records) {
@@ -207,7 +207,7 @@ pub fn replayed_once(
     records: &[Record],
 ) -> Result<Answered, Failure>
     requires { AreInOrder records.now (length records.now) }
-    ensures answers { IfOk result (λ answer. IsReplayedOf (IsOneReplayText plan shown records.now) wanted records.now (said_of answer)) }
+    ensures answers { IfOk result (λ answer. IsMadeOf (IsOneReplayText plan shown records.now) wanted records.now (said_of answer)) }
     ensures fails { IfErr result (IsUnreplayedOf (IsUnmade plan.sched) wanted records.now) }
 {
     let matched = match taken(alloc, wanted, records) {

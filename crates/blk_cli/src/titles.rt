@@ -6,7 +6,7 @@ use blk_lists::Why;
 use blk_lists::fields::field;
 use blk_recorders::{CaptureForm, Recorder, form_of};
 use blk_settings::FiguresAsked;
-use blk_words::{Import, Job, Running, Telling, TextJob, Written};
+use blk_words::{Import, Job, Kept, Running, Telling, TextJob, Written};
 use csv::ByteRecord;
 use drafts::Draft;
 use std::alloc::{AllocError, Global};
@@ -25,8 +25,8 @@ fn teller_of(telling: Telling) -> Option<&'static [u8]> {
 /// What a capture is written by.
 fn importer_of(import: Import) -> &'static [u8] {
     match import.written {
-        Written::Blame(_) => b"blame",
-        Written::Replay(_) | Written::Grid(_) | Written::Replayed(_, _) => b"replay",
+        Written::Kept(Kept::Blame(_)) => b"blame",
+        Written::Kept(Kept::Replay(_) | Kept::Grid(_) | Kept::Replayed(_, _)) => b"replay",
         _ => b"import",
     }
 }

@@ -27,6 +27,7 @@ use Rattle.blk_settings.specs.declared.sched.Sched.{Sched}
 use Rattle.blk_words.specs.declared.words.Refusal.{Refusal}
 use Rattle.blk_words.specs.declared.words.Refusal.TheVariants as refusal
 use Rattle.blk_words.specs.declared.inputs.ShownLoad.{ShownLoad}
+use Rattle.blk_words.specs.declared.words.Kept.TheVariants as kept
 use Rattle.blk_words.specs.declared.words.Written.TheVariants as written
 use Rattle.blk_words.specs.Asked.{AsksNoGrid, AsksNoPlans, unscripted, written_with, AreFaulty, Asks, is_flagged, loaded, shown_of, load_job, job_made}
 
@@ -191,7 +192,7 @@ loads_by trace json a b w s l r not e f g h =
 
 -- what is written of an import without a script
 pub a_table : (round : Option ℕ) (r : Result (Option ℕ) Refusal) (script a table b summary c : Bool) (depth d : Option ℕ) → Ok round ≡ r → script ≡ a → script ≡ false → table ≡ b → table ≡ true → summary ≡ c → summary ≡ false → depth ≡ d
-    → unscripted written.Table round depth ≡ written_with a b c d r
+    → unscripted (written.Kept kept.Table) round depth ≡ written_with a b c d r
 a_table round r script a table b summary c depth d e f is g has h so i = rw (← e, ← f, is, ← g, has, ← h, so, ← i) refl
 
 pub a_summary : (round : Option ℕ) (r : Result (Option ℕ) Refusal) (script a table b summary c : Bool) (depth d : Option ℕ) → Ok round ≡ r → script ≡ a → script ≡ false → table ≡ b → table ≡ false → summary ≡ c → summary ≡ true → depth ≡ d
@@ -199,5 +200,5 @@ pub a_summary : (round : Option ℕ) (r : Result (Option ℕ) Refusal) (script a
 a_summary round r script a table b summary c depth d e f is g has h so i = rw (← e, ← f, is, ← g, has, ← h, so, ← i) refl
 
 pub a_schedule : (round : Option ℕ) (r : Result (Option ℕ) Refusal) (script a table b summary c : Bool) (depth d : Option ℕ) → Ok round ≡ r → script ≡ a → script ≡ false → table ≡ b → table ≡ false → summary ≡ c → summary ≡ false → depth ≡ d
-    → unscripted written.Schedule round depth ≡ written_with a b c d r
+    → unscripted (written.Kept kept.Schedule) round depth ≡ written_with a b c d r
 a_schedule round r script a table b summary c depth d e f is g has h so i = rw (← e, ← f, is, ← g, has, ← h, so, ← i) refl

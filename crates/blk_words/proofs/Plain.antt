@@ -16,6 +16,7 @@ use Rattle.blk_words.specs.declared.words.Job.TheVariants as job
 use Rattle.blk_settings.specs.declared.form.Form.TheVariants as form
 use Rattle.blk_words.specs.declared.inputs.ShownLoad.TheVariants as shown
 use Rattle.blk_words.specs.declared.words.Refusal.TheVariants as refusal
+use Rattle.blk_words.specs.declared.words.Kept.TheVariants as kept
 use Rattle.blk_words.specs.declared.words.Written.TheVariants as written
 use Rattle.blk_words.specs.CommandLine.{Names, AreNames, blk_app}
 use Rattle.blk_settings.specs.Options.{sched_names, position_names}
@@ -286,7 +287,7 @@ pub check_json_line : IsReadSo "check --json" (job.OfText (text_job.Check form.J
 unfolding clap_on_literals
 check_json_line name p f = (refl, refl)
 
-pub import_line : IsReadSo "import" (job.Import (whole_import written.Schedule))
+pub import_line : IsReadSo "import" (job.Import (whole_import (written.Kept kept.Schedule)))
 unfolding clap_on_literals
 import_line name p f = (refl, refl)
 
@@ -318,7 +319,7 @@ pub table_and_summary_line : IsReadSo "import --table --summary" (job.Refuse ref
 unfolding clap_on_literals
 table_and_summary_line name p f = (refl, refl)
 
-pub script_line : IsReadSo "import --script --round 1ms" (job.Import (whole_import (written.Script 1_000_000 None)))
+pub script_line : IsReadSo "import --script --round 1ms" (job.Import (whole_import (written.Kept (kept.Script 1_000_000 None))))
 unfolding clap_on_literals
 script_line name p f = (refl, refl)
 

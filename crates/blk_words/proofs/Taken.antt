@@ -20,6 +20,7 @@ use Rattle.blk_words.specs.declared.words.Job.{Job}
 use Rattle.blk_words.specs.declared.words.Refusal.{Refusal}
 use Rattle.blk_words.specs.declared.inputs.ShownLoad.{ShownLoad}
 use Rattle.blk_words.specs.declared.words.Written.{Written}
+use Rattle.blk_words.specs.declared.words.Kept.TheVariants as kept
 use Rattle.blk_words.specs.declared.words.Written.TheVariants as written
 use Rattle.blk_words.specs.Asked.{job_made, is_flagged, is_other_given, lineup_asked, pictured, time_given, number_given, from_given, source_given, written_of, sched_asked, amounts_of, oracle_job, tune_by, import_by, import_as, takes_all, load_job, loaded, blame_asked, replaying_of}
 use Rattle.blk_words.specs.Options.{json_option, met_option, schedule_option, script_option, trace_option, by_option, read_expire_option, write_expire_option, from_option, skip_option, first_option, fifo_read_expire_option, fifo_write_expire_option}
@@ -60,8 +61,8 @@ tune_fits name None None top threads f = reads_none makes.Tune name _ refl
 tune_fits name None (Some b) top threads f = reads_one makes.Tune name kind.Script (λ e. cc e) _ refl
 
 import_as_fits : (m : Makes) (name : Text) → takes_as m kind.Capture name ≢ None → (i : Import) (all : Bool) → takes_all i ≡ all → (w : Written) → Fits m name (import_as i w)
-import_as_fits m name taken i true e (written.Script n d) = rw e (reads_one m name kind.Capture taken _ refl)
-import_as_fits m name taken i false e (written.Script n d) = rw e (reads_none m name _ refl)
+import_as_fits m name taken i true e (written.Kept (kept.Script n d)) = rw e (reads_one m name kind.Capture taken _ refl)
+import_as_fits m name taken i false e (written.Kept (kept.Script n d)) = rw e (reads_none m name _ refl)
 import_as_fits m name taken i all e w = reads_one m name kind.Capture taken _ refl
 
 import_fits : (m : Makes) (name : Text) → takes_as m kind.Capture name ≢ None → (read write : Option ℕ) (queued : Option Bool) (source : Result CaptureSource Refusal) (skip first : Option ℕ) (w : Result Written Refusal) → Fits m name (import_by read write queued source skip first w)

@@ -51,6 +51,7 @@ use Rattle.blk_words.specs.declared.words.Import.{Import}
 use Rattle.blk_words.specs.declared.words.Refusal.{Refusal}
 use Rattle.blk_words.specs.declared.words.Refusal.TheVariants as refusal
 use Rattle.blk_words.specs.declared.words.Written.{Written}
+use Rattle.blk_words.specs.declared.words.Kept.TheVariants as kept
 use Rattle.blk_words.specs.declared.words.Written.TheVariants as written
 use Rattle.blk_words.specs.declared.blaming.BlameBy.{BlameBy}
 use Rattle.blk_words.specs.declared.blaming.BlameBy.TheVariants as blame_by
@@ -210,7 +211,7 @@ round_given rows = option_map_or round_by (first_of round_option.name rows) (Ok 
 -- a script, which needs a round, and something else, which has neither a round nor a depth
 abbrev pub script_asked : Option ℕ → Option ℕ → Result Written Refusal
 script_asked None depth = Err refusal.NoRound
-script_asked (Some n) depth = Ok (written.Script n depth)
+script_asked (Some n) depth = Ok (written.Kept (kept.Script n depth))
 
 abbrev pub unscripted : Written → Option ℕ → Option ℕ → Result Written Refusal
 unscripted w None None = Ok w
@@ -222,7 +223,7 @@ abbrev pub written_by : Bool → Bool → Bool → Option ℕ → Option ℕ →
 written_by script table summary round depth =
     if table && summary then Err refusal.TableAndSummary
     else (if script then (if table || summary then Err refusal.ScriptAlone else script_asked round depth)
-    else unscripted (if table then written.Table else (if summary then written.Summary else written.Schedule)) round depth)
+    else unscripted (if table then (written.Kept kept.Table) else (if summary then written.Summary else (written.Kept kept.Schedule))) round depth)
 
 abbrev pub written_with : Bool → Bool → Bool → Option ℕ → Result (Option ℕ) Refusal → Result Written Refusal
 written_with script table summary depth (Err r) = Err r
@@ -236,7 +237,7 @@ abbrev pub takes_all : Import → Bool
 takes_all i = option_map_or (λ n. false) i.first (not i.from_queue && (i.skip == 0))
 
 abbrev pub import_as : Import → Written → Job
-import_as i (written.Script n d) = if takes_all i then job.Import i else job.Refuse refusal.OfRequests
+import_as i (written.Kept (kept.Script n d)) = if takes_all i then job.Import i else job.Refuse refusal.OfRequests
 import_as i w = job.Import i
 
 abbrev pub import_of : Import → Job
@@ -329,7 +330,7 @@ blame_by_given rows = option_map_or blame_by_named (first_of blame_by_option.nam
 abbrev pub blaming_in : Option BlameBy → ℕ → Form → Result ShownBlame Refusal → Result Written Refusal
 blaming_in by most f (Err r) = Err r
 blaming_in None most f (Ok s) = Err refusal.BlameBy
-blaming_in (Some by) most f (Ok s) = Ok (written.Blame (record { shown = s; by = by; most = most; form = f }))
+blaming_in (Some by) most f (Ok s) = Ok (written.Kept (kept.Blame (record { shown = s; by = by; most = most; form = f })))
 
 abbrev pub blaming_with : Bool → Bool → Option BlameBy → ℕ → Form → Result (Option TightestAsked) Refusal → Result Written Refusal
 blaming_with each certificate by most f (Err r) = Err r
@@ -351,7 +352,7 @@ asks_lines rows =
     || is_flagged all_option.name rows || is_flagged json_option.name rows
 
 abbrev pub drawn_blame : Written
-drawn_blame = written.Blame (record { shown = blame.Picture; most = USUAL_TOP; by = blame_by.Process; form = form.Lines })
+drawn_blame = written.Kept (kept.Blame (record { shown = blame.Picture; most = USUAL_TOP; by = blame_by.Process; form = form.Lines }))
 
 abbrev pub drawn_unless : Bool → Result Written Refusal
 drawn_unless lines = if lines then Err refusal.PictureAlone else Ok drawn_blame
@@ -420,7 +421,7 @@ asks_rows rows = is_given replay_by_option.name rows || is_given top_option.name
 abbrev pub replays_by : Bool → Option (List Plan) → ReplayBy → Option ℕ → Form → Result Written Refusal
 replays_by true p b top f = Err refusal.TableAlone
 replays_by false None b top f = Err refusal.ListAlone
-replays_by false (Some p) b top f = Ok (written.Replay (record { plans = p; by = b; top = top; form = f }))
+replays_by false (Some p) b top f = Ok (written.Kept (kept.Replay (record { plans = p; by = b; top = top; form = f })))
 
 abbrev pub shown_replay : Bool → ShownReplay
 shown_replay table = if table then shown_as.Table else shown_as.Schedule
@@ -428,7 +429,7 @@ shown_replay table = if table then shown_as.Table else shown_as.Schedule
 abbrev pub one_replay_by : Bool → Bool → FifoExpire → Option Sched → Result Written Refusal
 one_replay_by true table fifo s = Err refusal.OneReplay
 one_replay_by false table fifo None = Err refusal.ListAlone
-one_replay_by false table fifo (Some s) = Ok (written.Replayed (record { sched = s; fifo = fifo }) (shown_replay table))
+one_replay_by false table fifo (Some s) = Ok (written.Kept (kept.Replayed (record { sched = s; fifo = fifo }) (shown_replay table)))
 
 abbrev pub replays_of : List Row → FifoExpire → ReplayBy → Result Written Refusal
 replays_of rows fifo b = replays_by (is_flagged table_option.name rows) (plans_given (replay_options false rows) fifo) b (number_given top_option.name rows) (form_asked rows)
@@ -439,7 +440,7 @@ one_replay_of rows fifo = one_replay_by (asks_rows rows) (is_flagged table_optio
 -- replays under each setting of a grid, which have no table
 abbrev pub grid_replays_by : Bool → ReplayBy → Option ℕ → Option ℕ → Form → Result Written Refusal
 grid_replays_by true b top threads f = Err refusal.GridTable
-grid_replays_by false b top threads f = Ok (written.Grid (record { by = b; top = top; threads = threads; form = f }))
+grid_replays_by false b top threads f = Ok (written.Kept (kept.Grid (record { by = b; top = top; threads = threads; form = f })))
 
 abbrev pub grid_replays : List Row → ReplayBy → Result Written Refusal
 grid_replays rows b = grid_replays_by (is_flagged table_option.name rows) b (number_given top_option.name rows) (number_given threads_option.name rows) (form_asked rows)

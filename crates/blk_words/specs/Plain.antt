@@ -17,6 +17,7 @@ use Rattle.blk_words.specs.declared.words.Import.{Import}
 use Rattle.blk_words.specs.declared.words.Job.{Job}
 use Rattle.blk_words.specs.declared.words.Job.TheVariants as job
 use Rattle.blk_words.specs.declared.words.Written.{Written}
+use Rattle.blk_words.specs.declared.words.Kept.TheVariants as kept
 use Rattle.blk_words.specs.declared.words.Written.TheVariants as written
 use Rattle.blk_words.specs.Options.{submitters_option, workers_option, bios_option, load_depth_option, service_option}
 use Rattle.blk_words.specs.Asked.{Asks, AsksGrid}
@@ -58,7 +59,7 @@ abbrev pub whole_import : Written → Import
 whole_import w = record { read_expire = 500_000_000; write_expire = 5_000_000_000; from_queue = false; source = any_source; skip = 0; first = None; written = w }
 
 abbrev pub by_perf : Import
-by_perf = record { read_expire = 8_000; write_expire = 5_000_000_000; from_queue = true; source = record { form = Some (Printed Perf); device = Some (record { major = 8; minor = 0 }); tags = None }; skip = 1_000_000_000; first = Some 9; written = written.Table }
+by_perf = record { read_expire = 8_000; write_expire = 5_000_000_000; from_queue = true; source = record { form = Some (Printed Perf); device = Some (record { major = 8; minor = 0 }); tags = None }; skip = 1_000_000_000; first = Some 9; written = (written.Kept kept.Table) }
 
 -- a load where no option sets it
 abbrev pub default_load : Load

@@ -7,7 +7,7 @@ ghost use Rattle.blk_words.specs.Asked.{Asks, of_script, of_trace, of_list};
 ghost use Rattle.blk_words.specs.Plain.{AsksFor, AsksForGrid, AsksForNothing, default_trial, five_by_lateness, whole_import, by_perf, default_load, own_grid, both_positions};
 
 use crate::inputs::{Running, ShownLoad, Solving, Telling, TextJob};
-use crate::words::{Job, Refusal, Written};
+use crate::words::{Job, Kept, Refusal, Written};
 use blk_settings::{FiguresAsked, Form, ListFault, SchedKind};
 
 /// Each of these lines asks for its job and, all but `--version`, for no other; `oracle --trace --met` asks for none. `tune` asks for the
@@ -55,7 +55,7 @@ pub fn plain_lines()
     ensures certificate_json { AsksFor "oracle --met --json" (Job.Refuse Refusal.JsonAlone) }
     ensures check { AsksFor "check" (Job.OfText (TextJob.Check Form.Lines)) }
     ensures check_json { AsksFor "check --json" (Job.OfText (TextJob.Check Form.Json)) }
-    ensures imported { AsksFor "import" (Job.Import (whole_import Written.Schedule)) }
+    ensures imported { AsksFor "import" (Job.Import (whole_import (Written.Kept Kept.Schedule))) }
     ensures imported_so { AsksFor "import --read-expire 8us --from queue --as perf --device 8,0 --skip 1s --first 9 --table" (Job.Import by_perf) }
     ensures summary { AsksFor "import --write-expire 8ns --summary" (Job.Import (record (whole_import Written.Summary) { write_expire = 8 })) }
     ensures no_time { AsksFor "import --skip 2" (Job.Refuse Refusal.Skip) }
@@ -63,7 +63,7 @@ pub fn plain_lines()
     ensures no_recorder { AsksFor "import --as iostat" (Job.Refuse Refusal.As) }
     ensures no_device { AsksFor "import --device sda" (Job.Refuse Refusal.Device) }
     ensures table_and_summary { AsksFor "import --table --summary" (Job.Refuse Refusal.TableAndSummary) }
-    ensures script { AsksFor "import --script --round 1ms" (Job.Import (whole_import (Written.Script 1_000_000 None))) }
+    ensures script { AsksFor "import --script --round 1ms" (Job.Import (whole_import (Written.Kept (Kept.Script 1_000_000 None)))) }
     ensures script_alone { AsksFor "import --script" (Job.Refuse Refusal.NoRound) }
     ensures depth_alone { AsksFor "import --depth 8" (Job.Refuse Refusal.NoScript) }
     ensures judge { AsksFor "judge" (Job.OfText (TextJob.Judge false)) }

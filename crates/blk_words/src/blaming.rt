@@ -7,7 +7,7 @@ ghost use Rattle.blk_words.specs.Inside.Options.{given};
 use crate::option_names;
 use crate::replaying::is_given;
 use crate::times::in_unit;
-use crate::words::{Job, Refusal, Written, form_asked, import_with, is_flagged, number_of};
+use crate::words::{Job, Kept, Refusal, Written, form_asked, import_with, is_flagged, number_of};
 use blk_settings::Form;
 use clap::ArgMatches;
 
@@ -240,12 +240,12 @@ fn blaming_in(
 {
     match shown {
         Ok(shown) => match by {
-            Some(by) => Ok(Written::Blame(Blaming {
+            Some(by) => Ok(Written::Kept(Kept::Blame(Blaming {
                 shown,
                 by,
                 most,
                 form,
-            })),
+            }))),
             None => Err(Refusal::BlameBy),
         },
         Err(refusal) => Err(refusal),
@@ -311,12 +311,12 @@ fn asks_lines(options: &ArgMatches<'_>) -> bool
 fn drawn_blame() -> Written
     ensures { result ≡ drawn_blame }
 {
-    Written::Blame(Blaming {
+    Written::Kept(Kept::Blame(Blaming {
         shown: ShownBlame::Picture,
         most: USUAL_TOP,
         by: BlameBy::Process,
         form: Form::Lines,
-    })
+    }))
 }
 
 /// The same, unless lines are asked for.

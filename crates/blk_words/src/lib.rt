@@ -24,6 +24,6 @@ pub use crate::replaying::{GridReplaying, Replaying, ShownReplay};
 pub use crate::table::{MAX_TAGS, MAX_THREADS, MAX_TOP, Makes};
 pub use crate::takers::{takers_text, takes_what_it_reads};
 pub use crate::words::{
-    CaptureSource, Import, Job, NoJob, Refusal, Tuning, Written, choose, version,
+    CaptureSource, Import, Job, Kept, NoJob, Refusal, Tuning, Written, choose, version,
 };
 pub use blk_settings::{FiguresAsked, Form};

@@ -7,7 +7,7 @@ ghost use Rattle.blk_words.specs.Inside.Options.{given};
 
 use crate::lists::{numbers_of, times_of};
 use crate::option_names;
-use crate::words::{Job, Refusal, Written, form_asked, import_with, is_flagged, number_of};
+use crate::words::{Job, Kept, Refusal, Written, form_asked, import_with, is_flagged, number_of};
 use blk_settings::given::{MAX_SHORT, Numbers};
 use blk_settings::plans::{PLAN_COUNT, plans_given, replay_default};
 use blk_settings::{FifoExpire, Form, Given, ListFault, Plan, ReplayBy, Sched};
@@ -189,12 +189,12 @@ fn grid_replays(options: &ArgMatches<'_>, by: ReplayBy) -> Result<Written, Refus
     if is_flagged(options, option_names::TABLE) {
         return Err(Refusal::GridTable);
     }
-    Ok(Written::Grid(GridReplaying {
+    Ok(Written::Kept(Kept::Grid(GridReplaying {
         by,
         top: number_of(options, option_names::TOP),
         threads: number_of(options, option_names::THREADS),
         form: form_asked(options),
-    }))
+    })))
 }
 
 /// Whether the options say how rows of replays are written.
@@ -219,12 +219,12 @@ fn replays_of(options: &ArgMatches<'_>, fifo: FifoExpire, by: ReplayBy) -> Resul
         is_grid: false,
     };
     match plans_given(&single, fifo) {
-        Some(plans) => Ok(Written::Replay(Replaying {
+        Some(plans) => Ok(Written::Kept(Kept::Replay(Replaying {
             plans,
             by,
             top: number_of(options, option_names::TOP),
             form: form_asked(options),
-        })),
+        }))),
         None => Err(Refusal::ListAlone),
     }
 }
@@ -253,7 +253,7 @@ fn one_replay_of(options: &ArgMatches<'_>, fifo: FifoExpire) -> Result<Written, 
         is_grid: false,
     };
     match Sched::given(&single) {
-        Some(sched) => Ok(Written::Replayed(Plan { sched, fifo }, shown)),
+        Some(sched) => Ok(Written::Kept(Kept::Replayed(Plan { sched, fifo }, shown))),
         None => Err(Refusal::ListAlone),
     }
 }

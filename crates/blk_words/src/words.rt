@@ -102,12 +102,19 @@ pub struct Import {
 /// What is written of an import.
 #[derive(Clone, Copy, Debug, PartialEq, Eq)]
 pub enum Written {
+    /// The capture in numbers, of whose records none is kept.
+    Summary,
+    /// What takes all records.
+    Kept(Kept),
+}
+
+/// What is written of a capture whose records are kept.
+#[derive(Clone, Copy, Debug, PartialEq, Eq)]
+pub enum Kept {
     /// The schedule of its requests.
     Schedule,
     /// A record for each request, with its times.
     Table,
-    /// The capture in numbers.
-    Summary,
     /// Its arrivals as a script.
     Script {
         /// The length of a round, in nanoseconds.
@@ -496,7 +503,7 @@ fn script_asked(round: Option<u64>, depth: Option<u64>) -> Result<Written, Refus
     ensures { result ≡ script_asked round depth }
 {
     match round {
-        Some(round) => Ok(Written::Script { round, depth }),
+        Some(round) => Ok(Written::Kept(Kept::Script { round, depth })),
         None => Err(Refusal::NoRound),
     }
 }
@@ -536,11 +543,11 @@ fn written_of(options: &ArgMatches<'_>) -> Result<Written, Refusal>
     } else if table && summary {
         Err(Refusal::TableAndSummary)
     } else if table {
-        unscripted(Written::Table, round, depth)
+        unscripted(Written::Kept(Kept::Table), round, depth)
     } else if summary {
         unscripted(Written::Summary, round, depth)
     } else {
-        unscripted(Written::Schedule, round, depth)
+        unscripted(Written::Kept(Kept::Schedule), round, depth)
     }
 }
 
@@ -559,7 +566,7 @@ fn import_of(wanted: Import) -> Job
     ensures { result ≡ import_of wanted }
 {
     match wanted.written {
-        Written::Script { .. } => {
+        Written::Kept(Kept::Script { .. }) => {
             if takes_all(&wanted) {
                 Job::Import(wanted)
             } else {

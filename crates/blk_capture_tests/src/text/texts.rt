@@ -3,7 +3,8 @@
 ghost use Rattle.std.specs.Prelude.{length};
 ghost use Rattle.blk_capture.specs.Requests.{AreInOrder};
 
-use blk_capture::{Action, Entry, Op, Options, Record};
+use answer::lines;
+use blk_capture::{Action, Entry, Op, Options, Record, summarize};
 use blk_capture_text::laws::{
     a_capture_has_one_fault, a_capture_is_spelled_or_has_a_fault, captures_are_spelled_once,
     captures_read_back, law_of_limits, names_of_captures, spelled_captures_have_no_fault,
@@ -11,7 +12,7 @@ use blk_capture_text::laws::{
 };
 use blk_capture_text::{
     ImportAsked, ImportFault, ShownImport, count_fates, import, notice_text, read_capture,
-    shown_text,
+    shown_text, summary_answer,
 };
 use blk_lists::{Records, TextFault, Why};
 use std::alloc::Global;
@@ -242,14 +243,26 @@ fn each_text_is_shown(rt: HostRuntime) {
     let wanted = [
         (ShownImport::Schedule, SCHEDULE),
         (ShownImport::Table, TABLE),
-        (ShownImport::Summary, SUMMARY),
     ];
     for (shown, wanted) in wanted {
-        let Ok(text) = shown_text(rt.alloc(), shown, records.as_slice(), &matched) else {
+        let requests = matched.requests.as_slice();
+        let Ok(text) = shown_text(rt.alloc(), shown, records.as_slice(), requests) else {
             panic!(rt; "memory");
         };
         assert!(rt; text.as_slice() == wanted.as_bytes());
     }
+}
+
+#[test]
+fn a_capture_is_put_in_numbers(rt: HostRuntime) {
+    let alloc = rt.alloc();
+    let records = records_of(&rt, alloc, TEXT);
+    let matched = import(alloc, records.as_slice(), &asked()).expect(&rt, "memory");
+    let summary = summarize(alloc, records.as_slice(), &matched).expect(&rt, "memory");
+    let counts = count_fates(matched.fates.as_slice());
+    let answer = summary_answer(alloc, &summary, matched.left_out, &counts).expect(&rt, "memory");
+    let text = lines(alloc, &answer).expect(&rt, "memory");
+    assert!(rt; text.as_slice() == SUMMARY.as_bytes());
 }
 
 /// Each can be called.

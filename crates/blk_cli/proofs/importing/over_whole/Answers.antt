@@ -3,18 +3,19 @@ use Rattle.std.specs.Prelude.{IfSome}
 use Rattle.blk_capture_text.specs.Source.{IsCaptureRead}
 use Rattle.blk_capture_text.specs.declared.source.CaptureRead.{CaptureRead}
 use Rattle.blk_words.specs.declared.words.Import.{Import}
+use Rattle.blk_words.specs.declared.words.Kept.{Kept}
 use Rattle.blk_cli.specs.Importing.{IsUnimportedFrom, IsUnwrittenOf}
 use Rattle.blk_cli.specs.declared.failure.Failure.{Failure}
 use Rattle.blk_cli.specs.declared.failure.Failure.TheVariants as failure
 use Rattle.blk_cli.proofs.importing.over_whole.Goals as goal
 
 -- why nothing is written of a capture that was read, of the bytes that it was read of
-unwritten : (words : List (List ℕ)) (i : Import) (input : Option (List ℕ)) (failed : Bool) (bytes : List ℕ) (read : CaptureRead) (f : Failure)
-    → IfSome input (λ known. bytes ≡ known) → IsCaptureRead i.source.form i.source.device bytes read → IsUnwrittenOf words i read f
-    → (x : Failure) × IsUnimportedFrom words i input failed x × ((f ≡ x) ⊎ (f ≡ failure.Memory))
-unwritten words i input failed bytes read f given is_read (inl refused) =
+unwritten : (k : Kept) (words : List (List ℕ)) (i : Import) (input : Option (List ℕ)) (failed : Bool) (bytes : List ℕ) (read : CaptureRead) (f : Failure)
+    → IfSome input (λ known. bytes ≡ known) → IsCaptureRead i.source.form i.source.device bytes read → IsUnwrittenOf k words i read f
+    → (x : Failure) × IsUnimportedFrom k words i input failed x × ((f ≡ x) ⊎ (f ≡ failure.Memory))
+unwritten k words i input failed bytes read f given is_read (inl refused) =
     (f, inr (record { bytes = bytes; given = given; of = inr (record { read = read; is_read = is_read; refused = refused }) }), inl refl)
-unwritten words i input failed bytes read f given is_read (inr memory) = (failure.Memory, inl tt, inr memory)
+unwritten k words i input failed bytes read f given is_read (inr memory) = (failure.Memory, inl tt, inr memory)
 
 pub returns-in-Err-clause-fails : goal.returns-in-Err-clause-fails
 returns-in-Err-clause-fails g c = (failure.Text c.fault.result, inl (search rules), inl refl)
@@ -32,5 +33,5 @@ returns-in-Ok-over_read-clause-answers g c = record {
 
 pub returns-clause-fails : goal.returns-clause-fails
 returns-clause-fails g c =
-    unwritten _ c.args.wanted _ _ c.in-Ok.bytes.items c.in-Ok-capture_of.read c.in-Err-over_read.failure c.in-Ok.ensures.bytes
+    unwritten c.args.kept _ c.args.wanted _ _ c.in-Ok.bytes.items c.in-Ok-capture_of.read c.in-Err-over_read.failure c.in-Ok.ensures.bytes
     (rw c.as_slice.ensures.value at c.in-Ok-capture_of.ensures.ok) c.in-Err-over_read.ensures.fails

@@ -10,6 +10,7 @@ use Rattle.blk_words.specs.declared.words.Job.TheVariants as job
 use Rattle.blk_settings.specs.declared.form.Form.TheVariants as form
 use Rattle.blk_words.specs.declared.inputs.ShownLoad.TheVariants as shown
 use Rattle.blk_words.specs.declared.words.Refusal.TheVariants as refusal
+use Rattle.blk_words.specs.declared.words.Kept.TheVariants as kept
 use Rattle.blk_words.specs.declared.words.Written.TheVariants as written
 use Rattle.blk_settings.specs.Defaults.{default_sched, default_deadline, default_kyber, default_earliest, deadline_in, deadline_each, kyber_within, earliest_by, default_lineup, with_earliest, in_batches, whole}
 use Rattle.blk_words.specs.Asked.{of_script, of_trace, of_list}
@@ -61,7 +62,7 @@ returns c = record {
   certificate_json = asks_for "oracle --met --json" (job.Refuse refusal.JsonAlone) certificate_json_line;
   check = asks_for "check" (job.OfText (text_job.Check form.Lines)) check_line;
   check_json = asks_for "check --json" (job.OfText (text_job.Check form.Json)) check_json_line;
-  imported = asks_for "import" (job.Import (whole_import written.Schedule)) import_line;
+  imported = asks_for "import" (job.Import (whole_import (written.Kept kept.Schedule))) import_line;
   imported_so = asks_for "import --read-expire 8us --from queue --as perf --device 8,0 --skip 1s --first 9 --table" (job.Import by_perf) import_so_line;
   summary = asks_for "import --write-expire 8ns --summary" (job.Import (record (whole_import written.Summary) { write_expire = 8 })) summary_line;
   no_time = asks_for "import --skip 2" (job.Refuse refusal.Skip) no_time_line;
@@ -69,7 +70,7 @@ returns c = record {
   no_recorder = asks_for "import --as iostat" (job.Refuse refusal.As) no_recorder_line;
   no_device = asks_for "import --device sda" (job.Refuse refusal.Device) no_device_line;
   table_and_summary = asks_for "import --table --summary" (job.Refuse refusal.TableAndSummary) table_and_summary_line;
-  script = asks_for "import --script --round 1ms" (job.Import (whole_import (written.Script 1_000_000 None))) script_line;
+  script = asks_for "import --script --round 1ms" (job.Import (whole_import (written.Kept (kept.Script 1_000_000 None)))) script_line;
   script_alone = asks_for "import --script" (job.Refuse refusal.NoRound) script_alone_line;
   depth_alone = asks_for "import --depth 8" (job.Refuse refusal.NoScript) depth_alone_line;
   judge = asks_for "judge" (job.OfText (text_job.Judge false)) judge_line;
