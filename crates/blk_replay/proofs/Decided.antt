@@ -1,31 +1,27 @@
 -- What a policy that goes by due rounds decides, round by round.
 use Rattle.std.proofs.Common.{◌≡◌, ◌≢◌, ◌<◌, ◌≤◌, ◌∙◌, sym, ap, subst, ℕ, suc, zero, ◌+◌, ◌-◌, ◌==◌, arith, cond, refl, Bool, true, false, List, [], ◌∷◌, length, get_or, map, Some, inl, inr}
 use Rattle.std.specs.Prelude.{slice_get}
-use Rattle.std.specs.FinMap.{get, insert, remove}
+use Rattle.std.specs.FinMap.{get, insert}
 use Rattle.std.proofs.lemmas.Bool.{cases_eq, cases_lt, eq-eqb, ne_eqb}
-use Rattle.std.proofs.lemmas.List.{get_or_past, get_or-map, length-map, get_or_default}
+use Rattle.std.proofs.lemmas.List.{get_or_past, length-map}
 use Rattle.std.proofs.lemmas.List.Sorted.{length_permutation}
-use Rattle.std.proofs.lemmas.Option.{slice_get_within, get_or_from_slice_get}
+use Rattle.std.proofs.lemmas.Option.{get_or_from_slice_get}
 use Rattle.blk_bio.specs.Requests.{dir_of}
 use Rattle.edd_commands.specs.declared.Command.{Command}
 use Rattle.edd_commands.specs.declared.steps.Step.{Step}
 use Rattle.edd_commands.specs.declared.TheConstants.{MAX_COMMANDS}
 use Rattle.edd_commands.specs.Capacity.{fixed, depth_at}
 use Rattle.edd_commands.specs.Schedule.{IsLegal, places_at}
-use Rattle.edd_oracle.specs.OnTime.{IsDelayed}
 use Rattle.edd_oracle.proofs.Counting.{count_some}
-use Rattle.blk_capture.specs.Counting.{AreInRounds}
 use Rattle.blk_capture.specs.Requests.{AreTimed, times_of}
-use Rattle.blk_capture.specs.declared.counting.TimedRequest.{TimedRequest}
 use Rattle.blk_capture.specs.declared.requests.CapturedRequest.{CapturedRequest}
-use Rattle.blk_sched.specs.Meaning.{Waiting, Pending, Meaning}
+use Rattle.blk_sched.specs.Meaning.{Pending, Meaning}
 use Rattle.blk_sched.specs.Policies.{Policy}
 use Rattle.blk_online.specs.DueFirst.{IsDueFirst, IsOnTimeDueFirst, DueFirstIsLeastLate, OnTimeDueFirstHasMost}
 use Rattle.blk_replay.specs.declared.Arrived.{Arrived}
 use Rattle.blk_replay.specs.declared.requests.DueBy.TheVariants.{Deadline}
-use Rattle.blk_replay.specs.declared.requests.Entrant.{Entrant}
-use Rattle.blk_replay.specs.Replay.{waiting, once_entered, Standing, standing, with_entered, ServesNext, IsRound, PlaysRounds, HaveOwnRounds, IsReplay}
-use Rattle.blk_replay.specs.Requests.{AreOnTheirWay, AreByRelease, ArePut, AreRoundCommands, IsReplayOf, entrant_of}
+use Rattle.blk_replay.specs.Replay.{waiting, once_entered, Standing, standing, with_entered, IsRound, PlaysRounds, HaveOwnRounds}
+use Rattle.blk_replay.specs.Requests.{AreRoundCommands, IsReplayOf, arrived_of}
 use Rattle.blk_replay.specs.DueFirst.{GoesFirst, GoesByDue, IsBestOrder, ReplaysBest}
 use Rattle.blk_replay.proofs.Pending.{get_new, get_old, get_left}
 use Rattle.blk_replay.proofs.Between.{at_place}
@@ -151,13 +147,13 @@ module _ (policy : Policy) (requests : List Arrived) (own : List ℕ) (start : S
 
 module _ (policy : Policy) (start : Standing) (requests : List CapturedRequest) (commands : List Command) (rounds : List ℕ) (timed : AreTimed requests) (few : length requests ≤ MAX_COMMANDS) (counted : AreRoundCommands requests commands) (h : IsReplayOf policy start requests commands Deadline rounds) (legal : IsLegal commands rounds (fixed 1)) where
   abbrev arrived : List Arrived
-  arrived = map (λ (e : Entrant). e.arrived) h.entrants
+  arrived = h.arrived
 
   many : length h.entrants ≡ length requests
   many = length_permutation h.placed h.entrants h.by_release.same ∙ h.are_placed.each
 
   own_many : length h.own ≡ length h.entrants
-  own_many = h.replayed.one_each ∙ length-map h.entrants (λ (e : Entrant). e.arrived)
+  own_many = h.replayed.one_each ∙ h.are_arriving.each
 
   commands_many : length commands ≡ length requests
   commands_many = counted.1.a_command ∙ length-map requests times_of
@@ -176,16 +172,16 @@ module _ (policy : Policy) (start : Standing) (requests : List CapturedRequest) 
   on_its_way : (k : ℕ) → k < length commands → OnItsWay k
   on_its_way k h_k =
       let here : k < length requests = omega (arith, h_k, commands_many) in
-      let s = somewhere requests commands counted.0 Deadline h.placed h.entrants timed few counted.1 h.are_placed h.by_release k here in
+      let s = somewhere requests h.placed h.entrants h.are_placed h.by_release k here in
       let e = at_place h.entrants s.0 s.1 in
       let q = at_place requests k here in
-      let a = at_place arrived s.0 (omega (arith, s.1, length-map h.entrants (λ (x : Entrant). x.arrived))) in
-      let is : (d : Command) → get_or h.entrants s.0 e.0 ≡ entrant_of requests Deadline k (get_or requests k q.0) (get_or commands k d) = λ d. s.2 e.0 ∙ h.are_placed.are k e.0 q.0 d here in
-      let this : a.0 ≡ (get_or h.entrants s.0 e.0).arrived = sym (get_or_from_slice_get arrived s.0 a.0 a.0 a.1) ∙ get_or-map (λ (x : Entrant). x.arrived) h.entrants s.0 e.0 a.0 s.1 in
+      let a = at_place arrived s.0 (omega (arith, s.1, h.are_arriving.each)) in
       let c : Command = record { id = 0; release = 0; due = 0 } in
-      let own : (get_or h.entrants s.0 e.0).place ≡ k = ap (λ (x : Entrant). x.place) (is c) in
+      let own : (get_or h.entrants s.0 e.0).place ≡ k = s.2 e.0 in
+      let this : (d : Command) → a.0 ≡ arrived_of requests Deadline k (get_or requests k q.0) (get_or commands k d) = λ d. sym (get_or_from_slice_get arrived s.0 a.0 a.0 a.1) ∙ h.are_arriving.are s.0 a.0 e.0 q.0 d s.1
+      ∙ ap (λ p. arrived_of requests Deadline p (get_or requests p q.0) (get_or commands p d)) own in
       let timed_here : k < length (map times_of requests) = omega (arith, here, length-map requests times_of) in
-      let release : (d : Command) → a.0.release ≡ (get_or commands k d).release = λ d. ap (λ (x : Arrived). x.release) this ∙ ap (λ (x : Entrant). x.arrived.release) (is d) in
+      let release : (d : Command) → a.0.release ≡ (get_or commands k d).release = λ d. ap (λ (x : Arrived). x.release) (this d) in
       record {
         place = s.0;
         inside = omega (arith, s.1, own_many);
@@ -193,7 +189,7 @@ module _ (policy : Policy) (start : Standing) (requests : List CapturedRequest) 
         there = a.1;
         round = ap (λ n. get_or rounds n 0) (sym own) ∙ h.put.put s.0 e.0 s.1;
         release = release;
-        due = λ d. ap (λ (x : Arrived). x.due) this ∙ ap (λ (x : Entrant). x.arrived.due) (is d);
+        due = λ d. ap (λ (x : Arrived). x.due) (this d);
         some_round =
             let command = ap (λ (x : Command). x.release) (counted.1.commands_are k (times_of q.0) c timed_here) in
             omega (arith, release c, command);
@@ -224,7 +220,7 @@ module _ (policy : Policy) (start : Standing) (requests : List CapturedRequest) 
       let e = at_place h.entrants id (omega (arith, id_in, own_many)) in
       let place : ℕ = (get_or h.entrants id e.0).place in
       let round : get_or rounds place 0 ≡ suc x = h.put.put id e.0 (omega (arith, id_in, own_many)) ∙ at.round.answered in
-      let inside : place < length rounds = omega (arith, within requests commands counted.0 Deadline h.placed h.entrants timed few counted.1 h.are_placed h.by_release id e.0 (omega (arith, id_in, own_many)), h.put.each) in
+      let inside : place < length rounds = omega (arith, within requests h.placed h.entrants h.are_placed h.by_release id e.0 (omega (arith, id_in, own_many)), h.put.each, many) in
       let some : 0 < places_at rounds (suc x) = count_some (λ y. y == suc x) rounds place 0 inside (eq-eqb (get_or rounds place 0) (suc x) round) in
       omega (arith, some, legal.within_depth (suc x), one_deep (suc x))
 

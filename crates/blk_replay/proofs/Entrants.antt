@@ -1,8 +1,7 @@
 -- The requests of a capture on their way into a scheduler: they can be replayed, and their rounds are a legal schedule of their commands.
-use Rattle.std.proofs.Common.{◌≡◌, ◌≢◌, ◌<◌, ◌≤◌, ◌∙◌, sym, ap, refl, subst, ℕ, suc, zero, ◌+◌, ◌-◌, ◌==◌, arith, cond, Bool, true, false, List, [], ◌∷◌, length, get_or, count_by, map, Some, inl, inr}
-use Rattle.std.specs.Prelude.{slice_get, All, nat_lt, nat_le, min, ◌↔◌}
-use Rattle.std.specs.List.{Contains}
-use Rattle.std.specs.List.Sorted.{IsPermutation, IsNonDecreasingBy}
+use Rattle.std.proofs.Common.{◌≡◌, ◌<◌, ◌≤◌, ◌∙◌, sym, ap, refl, subst, ℕ, suc, ◌+◌, ◌-◌, ◌==◌, arith, cond, Bool, true, false, List, [], ◌∷◌, length, get_or, count_by, map, inl, inr}
+use Rattle.std.specs.Prelude.{All, nat_lt, nat_le, min, ◌↔◌}
+use Rattle.std.specs.List.Sorted.{IsNonDecreasingBy}
 use Rattle.std.specs.Ordering.{nat_cmp, is_lt}
 use Rattle.std.specs.declared.cmp.Ordering.TheVariants.{Less, Equal, Greater}
 use Rattle.std.specs.Cmp.{nat_cmp_total}
@@ -22,14 +21,14 @@ use Rattle.blk_capture.specs.Requests.{times_of, AreTimed}
 use Rattle.blk_capture.specs.declared.counting.TimedRequest.{TimedRequest}
 use Rattle.blk_capture.specs.declared.record.TheConstants.{MAX_TIME}
 use Rattle.blk_capture.specs.declared.requests.CapturedRequest.{CapturedRequest}
-use Rattle.blk_capture.proofs.Rounds.{count_at_most, count_at_least, before_few, by_few}
+use Rattle.blk_capture.proofs.Rounds.{count_at_most, count_at_least, by_few}
 use Rattle.blk_capture.proofs.Settling.{map_served}
 use Rattle.blk_replay.specs.declared.Arrived.{Arrived}
 use Rattle.blk_replay.specs.declared.requests.DueBy.{DueBy}
 use Rattle.blk_replay.specs.declared.requests.DueBy.TheVariants.{Deadline, Fifo}
 use Rattle.blk_replay.specs.declared.requests.Entrant.{Entrant}
 use Rattle.blk_replay.specs.Replay.{CanReplay, HaveOwnRounds, commands_by_arrival}
-use Rattle.blk_replay.specs.Requests.{went_before, expire_by, due_round, entrant_of, AreOnTheirWay, AreByRelease, AreApart, ArePut, AreRounds, AreLateByTheClock}
+use Rattle.blk_replay.specs.Requests.{went_before, expire_by, due_round, ArePlaces, AreArriving, AreByRelease, AreApart, ArePut, AreRounds, AreLateByTheClock}
 use Rattle.blk_replay.proofs.Between.{at_place}
 use Rattle.blk_replay.proofs.Legal.{commands_long, command_at, count_once, one_deep}
 
@@ -99,9 +98,7 @@ late_by timed t m d served here =
 -- an entrant as it ought to be
 pub record IsOnItsWay (requests : List CapturedRequest) (e : Entrant) : Type 0 where
   pub in_list : e.place < length requests
-  pub release : e.arrived.release ≡ dispatched_before (map times_of requests) e.released + 1
-  pub due : e.arrived.due < MAX_ROUNDS
-  pub came : e.released ≤ e.dispatched
+  pub its : (q : CapturedRequest) → e.released ≡ (get_or requests e.place q).released
 
 due_in_range : (requests : List CapturedRequest) (q : CapturedRequest) (due : ℕ) (by : DueBy) → length requests ≤ MAX_COMMANDS → due ≤ length requests → due_round requests q due by < MAX_ROUNDS
 due_in_range requests q due Deadline few small = omega (arith, few, small)
@@ -123,31 +120,22 @@ differ_not x y lt = ne_eqb x y (λ (e : x ≡ y). absurd (omega (arith, e, lt)))
 same_not : (x y : ℕ) → x ≡ y → (x == y) ≡ false → ⊥
 same_not x y e never = let wrong : true ≡ false = sym (eq-eqb x y e) ∙ never in absurd (cc)
 
-module _ (requests : List CapturedRequest) (commands : List Command) (rounds : List ℕ) (by : DueBy) (placed entrants : List Entrant) (timed : AreTimed requests) (few : length requests ≤ MAX_COMMANDS) (counted : AreInRounds (map times_of requests) commands rounds) (are : AreOnTheirWay requests commands by placed) (sorted : AreByRelease placed entrants) where
-  long : length entrants ≡ length requests
+module _ (requests : List CapturedRequest) (placed entrants : List Entrant) (are : ArePlaces requests placed) (sorted : AreByRelease placed entrants) where
+  pub long : length entrants ≡ length requests
   long = length_permutation placed entrants sorted.same ∙ are.each
 
   on_their_way : All (IsOnItsWay requests) placed
   on_their_way k e lt =
       let here : k < length requests = omega (arith, lt, are.each) in
       let q = at_place requests k here in
-      let c : Command = record { id = 0; release = 0; due = 0 } in
-      let timed_here : k < length (map times_of requests) = omega (arith, here, length-map requests times_of) in
-      let command = counted.commands_are k (times_of q.0) c timed_here in
-      let times : get_or (map times_of requests) k (times_of q.0) ≡ times_of (get_or requests k q.0) = get_or-map times_of requests k q.0 (times_of q.0) here in
-      let release : (get_or commands k c).release ≡ dispatched_before (map times_of requests) (get_or requests k q.0).released + 1 =
-      ap (λ (x : Command). x.release) command ∙ ap (λ (t : TimedRequest). dispatched_before (map times_of requests) t.release + 1) times in
-      let due : (get_or commands k c).due ≡ dispatched_by (map times_of requests) (get_or (map times_of requests) k (times_of q.0)).deadline = ap (λ (x : Command). x.due) command in
-      subst (IsOnItsWay requests) (sym (are.are k e q.0 c here))
-      (record {
-        in_list = here;
-        release = release;
-        due = due_in_range requests (get_or requests k q.0) (get_or commands k c).due by few (omega (arith, due, by_few (map times_of requests) (get_or (map times_of requests) k (times_of q.0)).deadline, length-map requests times_of));
-        came = timed.came_in k q.0 here;
-      })
+      subst (IsOnItsWay requests) (sym (are.are k e q.0 here))
+      (record { in_list = here; its = λ d. ap (λ (x : CapturedRequest). x.released) (get_or_default requests k q.0 d here) })
 
   each : All (IsOnItsWay requests) entrants
   each = All-permutation (IsOnItsWay requests) placed entrants sorted.same on_their_way
+
+  pub within : All (λ (e : Entrant). e.place < length requests) entrants
+  within k e lt = (each k e lt).in_list
 
   rising : IsNonDecreasingBy (λ (e : Entrant). e.released) entrants
   rising i j d le lt =
@@ -160,67 +148,13 @@ module _ (requests : List CapturedRequest) (commands : List Command) (rounds : L
         | inr more ↦ more
       ]
 
-  -- by the release of the one at place k no more than k have gone out
-  few_went : (k : ℕ) (d : Entrant) → k < length entrants → dispatched_before (map times_of requests) (get_or entrants k d).released ≤ k
-  unfolding dispatched_before
-  few_went k d lt =
-      let t = (get_or entrants k d).released in
-      let same : count_by (λ (r : TimedRequest). nat_lt r.dispatch t) (map times_of requests) ≡ count_by (λ (e : Entrant). nat_lt e.dispatched t) placed =
-      count_same (λ (r : TimedRequest). nat_lt r.dispatch t) (λ (e : Entrant). nat_lt e.dispatched t) (map times_of requests) placed (length-map requests times_of ∙ sym are.each)
-      (λ j r e low.
-      let here : j < length requests = omega (arith, low, length-map requests times_of) in
-      let q = at_place requests j here in
-      let c : Command = record { id = 0; release = 0; due = 0 } in
-      ap (λ (x : TimedRequest). nat_lt x.dispatch t) (get_or-map times_of requests j q.0 r here) ∙ sym (ap (λ (x : Entrant). nat_lt x.dispatched t) (are.are j e q.0 c here))) in
-      let moved : count_by (λ (e : Entrant). nat_lt e.dispatched t) entrants ≡ count_by (λ (e : Entrant). nat_lt e.dispatched t) placed = sum_by-IsPermutation (λ (e : Entrant). cond (nat_lt e.dispatched t) 1 0) placed entrants sorted.same in
-      let most : count_by (λ (e : Entrant). nat_lt e.dispatched t) entrants ≤ k = count_at_most (λ (e : Entrant). nat_lt e.dispatched t) entrants k
-      (λ j e low high.
-      let up : (get_or entrants k e).released ≤ (get_or entrants j e).released = rising k j e low high in
-      let at : (get_or entrants k e).released ≡ t = ap (λ (x : Entrant). x.released) (get_or_default entrants k e d lt) in
-      le-ltb (get_or entrants j e).dispatched t (omega (arith, up, at, (each j e high).came))) in
-      omega (arith, same, moved, most)
-
-  arrived_at : (k : ℕ) (d : Arrived) (e : Entrant) → k < length entrants → get_or (map (λ (x : Entrant). x.arrived) entrants) k d ≡ (get_or entrants k e).arrived
-  arrived_at k d e lt = get_or-map (λ (x : Entrant). x.arrived) entrants k e d lt
-
-  pub can_replay : CanReplay (map (λ (e : Entrant). e.arrived) entrants)
-  can_replay =
-      let many = length-map entrants (λ (x : Entrant). x.arrived) in
-      record {
-        few = omega (arith, few, many, long);
-        in_range = λ k d lt.
-            let here : k < length entrants = omega (arith, lt, many) in
-            let e = at_place entrants k here in
-            let is : (get_or (map (λ (x : Entrant). x.arrived) entrants) k d).due ≡ (get_or entrants k e.0).arrived.due = ap (λ (a : Arrived). a.due) (arrived_at k d e.0 here) in
-            omega (arith, is, (each k e.0 here).due);
-        some_round = λ k d lt.
-            let here : k < length entrants = omega (arith, lt, many) in
-            let e = at_place entrants k here in
-            let is : (get_or (map (λ (x : Entrant). x.arrived) entrants) k d).release ≡ (get_or entrants k e.0).arrived.release = ap (λ (a : Arrived). a.release) (arrived_at k d e.0 here) in
-            omega (arith, is, (each k e.0 here).release);
-        in_order = λ k d lt.
-            let here : k < length entrants = omega (arith, lt, many) in
-            let next : k + 1 < length entrants = omega (arith, lt, many) in
-            let e = at_place entrants k here in
-            let is : (get_or (map (λ (x : Entrant). x.arrived) entrants) k d).release ≡ (get_or entrants k e.0).arrived.release = ap (λ (a : Arrived). a.release) (arrived_at k d e.0 here) in
-            let then : (get_or (map (λ (x : Entrant). x.arrived) entrants) (k + 1) d).release ≡ (get_or entrants (k + 1) e.0).arrived.release = ap (λ (a : Arrived). a.release) (arrived_at (k + 1) d e.0 next) in
-            let up = before_more (map times_of requests) (get_or entrants k e.0).released (get_or entrants (k + 1) e.0).released (rising k (k + 1) e.0 (omega arith) next) in
-            omega (arith, is, then, up, (each k e.0 here).release, (each (k + 1) e.0 next).release);
-        in_time = λ k d lt.
-            let here : k < length entrants = omega (arith, lt, many) in
-            let e = at_place entrants k here in
-            let is : (get_or (map (λ (x : Entrant). x.arrived) entrants) k d).release ≡ (get_or entrants k e.0).arrived.release = ap (λ (a : Arrived). a.release) (arrived_at k d e.0 here) in
-            omega (arith, is, few_went k e.0 here, (each k e.0 here).release);
-      }
-
   -- no two have one place
   place_of_placed : (k : ℕ) (d : ℕ) → k < length placed → get_or (map (λ (x : Entrant). x.place) placed) k d ≡ k
   place_of_placed k d lt =
       let here : k < length requests = omega (arith, lt, are.each) in
       let e = at_place placed k lt in
       let q = at_place requests k here in
-      let c : Command = record { id = 0; release = 0; due = 0 } in
-      get_or-map (λ (x : Entrant). x.place) placed k e.0 d lt ∙ ap (λ (x : Entrant). x.place) (are.are k e.0 q.0 c here)
+      get_or-map (λ (x : Entrant). x.place) placed k e.0 d lt ∙ ap (λ (x : Entrant). x.place) (are.are k e.0 q.0 here)
 
   pub apart : AreApart entrants
   apart j k d lj lk same =
@@ -241,68 +175,140 @@ module _ (requests : List CapturedRequest) (commands : List Command) (rounds : L
         ]
       ]
 
-  pub within : All (λ (e : Entrant). e.place < length entrants) entrants
-  within k e lt = omega (arith, (each k e lt).in_list, long)
-
   -- each request is on its way at some place
-  pub somewhere : (p : ℕ) → p < length requests → (k : ℕ) × (k < length entrants) × ((d : Entrant) → (get_or entrants k d) ≡ get_or placed p d)
+  pub somewhere : (p : ℕ) → p < length requests → (k : ℕ) × (k < length entrants) × ((d : Entrant) → (get_or entrants k d).place ≡ p)
   somewhere p lt =
       let here : p < length placed = omega (arith, lt, are.each) in
       let e = at_place placed p here in
+      let q = at_place requests p lt in
       let there = Contains-permutation placed entrants (get_or placed p e.0) sorted.same (Contains-get_or placed p e.0 here) in (
         there.0,
         there.1,
-        λ d. get_or_default entrants there.0 d (get_or placed p e.0) there.1 ∙ there.2 ∙ get_or_default placed p e.0 d here,
+        λ d. ap (λ (x : Entrant). x.place) (get_or_default entrants there.0 d (get_or placed p e.0) there.1 ∙ there.2 ∙ are.are p e.0 q.0 lt),
       )
 
-  pub legal : (own put : List ℕ) → IsLegal (commands_by_arrival (map (λ (e : Entrant). e.arrived) entrants)) own (fixed 1) → HaveOwnRounds own → length own ≡ length entrants → ArePut entrants own put → IsLegal commands put (fixed 1)
+-- ---- as they enter
+
+module _ (requests : List CapturedRequest) (commands : List Command) (rounds : List ℕ) (by : DueBy) (placed entrants : List Entrant) (arrived : List Arrived) (timed : AreTimed requests) (few : length requests ≤ MAX_COMMANDS) (counted : AreInRounds (map times_of requests) commands rounds) (are : ArePlaces requests placed) (sorted : AreByRelease placed entrants) (arriving : AreArriving requests commands by entrants arrived) where
+  many : length arrived ≡ length requests
+  many = arriving.each ∙ long requests placed entrants are sorted
+
+  -- the entrant at a place, its request, and how it enters
+  record IsEntering (k : ℕ) (d : Arrived) : Type 0 where
+    entrant : Entrant
+    request : CapturedRequest
+    here : k < length entrants
+    place_in : (get_or entrants k entrant).place < length requests
+    released : (get_or entrants k entrant).released ≡ (get_or requests (get_or entrants k entrant).place request).released
+    release : (get_or arrived k d).release ≡ dispatched_before (map times_of requests) (get_or entrants k entrant).released + 1
+    due : (get_or arrived k d).due < MAX_ROUNDS
+
+  entering : (k : ℕ) (d : Arrived) → k < length arrived → IsEntering k d
+  entering k d lt =
+      let here : k < length entrants = omega (arith, lt, arriving.each) in
+      let e = at_place entrants k here in
+      let p : ℕ = (get_or entrants k e.0).place in
+      let its = each requests placed entrants are sorted k e.0 here in
+      let q = at_place requests p its.in_list in
+      let c : Command = record { id = 0; release = 0; due = 0 } in
+      let timed_here : p < length (map times_of requests) = omega (arith, its.in_list, length-map requests times_of) in
+      let command = counted.commands_are p (times_of q.0) c timed_here in
+      let times : get_or (map times_of requests) p (times_of q.0) ≡ times_of (get_or requests p q.0) = get_or-map times_of requests p q.0 (times_of q.0) its.in_list in
+      let release : (get_or commands p c).release ≡ dispatched_before (map times_of requests) (get_or requests p q.0).released + 1 =
+      ap (λ (x : Command). x.release) command ∙ ap (λ (t : TimedRequest). dispatched_before (map times_of requests) t.release + 1) times in
+      let due : (get_or commands p c).due ≡ dispatched_by (map times_of requests) (get_or (map times_of requests) p (times_of q.0)).deadline = ap (λ (x : Command). x.due) command in
+      let is = arriving.are k d e.0 q.0 c here in
+      record {
+        entrant = e.0;
+        request = q.0;
+        here = here;
+        place_in = its.in_list;
+        released = its.its q.0;
+        release = ap (λ (a : Arrived). a.release) is ∙ release ∙ ap (λ t. dispatched_before (map times_of requests) t + 1) (sym (its.its q.0));
+        due = subst (λ (a : Arrived). a.due < MAX_ROUNDS) (sym is)
+            (due_in_range requests (get_or requests p q.0) (get_or commands p c).due by few (omega (arith, due, by_few (map times_of requests) (get_or (map times_of requests) p (times_of q.0)).deadline, length-map requests times_of)));
+      }
+
+  -- by the release of the one at place k no more than k have gone out
+  few_went : (k : ℕ) (d : Entrant) → k < length entrants → dispatched_before (map times_of requests) (get_or entrants k d).released ≤ k
+  unfolding dispatched_before
+  few_went k d lt =
+      let t = (get_or entrants k d).released in
+      let some = at_place requests (get_or entrants k d).place (each requests placed entrants are sorted k d lt).in_list in
+      let went : Entrant → Bool = λ (e : Entrant). nat_lt (get_or requests e.place some.0).dispatched t in
+      let same : count_by (λ (r : TimedRequest). nat_lt r.dispatch t) (map times_of requests) ≡ count_by went placed =
+      count_same (λ (r : TimedRequest). nat_lt r.dispatch t) went (map times_of requests) placed (length-map requests times_of ∙ sym are.each)
+      (λ j r e low.
+      let here : j < length requests = omega (arith, low, length-map requests times_of) in
+      ap (λ (x : TimedRequest). nat_lt x.dispatch t) (get_or-map times_of requests j some.0 r here) ∙ sym (ap went (are.are j e some.0 here))) in
+      let moved : count_by went entrants ≡ count_by went placed = sum_by-IsPermutation (λ (e : Entrant). cond (went e) 1 0) placed entrants sorted.same in
+      let most : count_by went entrants ≤ k = count_at_most went entrants k
+      (λ j e low high.
+      let up : (get_or entrants k e).released ≤ (get_or entrants j e).released = rising requests placed entrants are sorted k j e low high in
+      let at : (get_or entrants k e).released ≡ t = ap (λ (x : Entrant). x.released) (get_or_default entrants k e d lt) in
+      let its = each requests placed entrants are sorted j e high in
+      le-ltb (get_or requests (get_or entrants j e).place some.0).dispatched t (omega (arith, up, at, its.its some.0, timed.came_in (get_or entrants j e).place some.0 its.in_list))) in
+      omega (arith, same, moved, most)
+
+  pub can_replay : CanReplay arrived
+  can_replay = record {
+    few = omega (arith, few, many);
+    in_range = λ k d lt. (entering k d lt).due;
+    some_round = λ k d lt. omega (arith, (entering k d lt).release);
+    in_order = λ k d lt.
+        let a = entering k d (omega (arith, lt)) in
+        let b = entering (k + 1) d lt in
+        let up = before_more (map times_of requests) (get_or entrants k b.entrant).released (get_or entrants (k + 1) b.entrant).released (rising requests placed entrants are sorted k (k + 1) b.entrant (omega arith) b.here) in
+        let same : (get_or entrants k a.entrant).released ≡ (get_or entrants k b.entrant).released = ap (λ (x : Entrant). x.released) (get_or_default entrants k a.entrant b.entrant a.here) in
+        let low : (get_or arrived k d).release ≡ dispatched_before (map times_of requests) (get_or entrants k b.entrant).released + 1 = a.release ∙ ap (λ t. dispatched_before (map times_of requests) t + 1) same in
+        omega (arith, low, up, b.release);
+    in_time = λ k d lt.
+        let a = entering k d lt in
+        omega (arith, a.release, few_went k a.entrant a.here);
+  }
+
+  pub legal : (own put : List ℕ) → IsLegal (commands_by_arrival arrived) own (fixed 1) → HaveOwnRounds own → length own ≡ length arrived → ArePut entrants own put → IsLegal commands put (fixed 1)
   unfolding places_at
   legal own put h rounds_own same at =
-      let many : length commands ≡ length requests = counted.a_command ∙ length-map requests times_of in
-      let place : (p : ℕ) (lt : p < length requests) (d : Entrant) → (get_or entrants (somewhere p lt).0 d).place ≡ p = λ p lt d.
-      let q = at_place requests p lt in
-      let c : Command = record { id = 0; release = 0; due = 0 } in
-      ap (λ (x : Entrant). x.place) ((somewhere p lt).2 d ∙ are.are p d q.0 c lt) in
-      let round : (p : ℕ) (lt : p < length requests) → get_or put p 0 ≡ get_or own (somewhere p lt).0 0 = λ p lt.
-      let e = at_place entrants (somewhere p lt).0 (somewhere p lt).1 in
-      ap (λ k. get_or put k 0) (sym (place p lt e.0)) ∙ at.put (somewhere p lt).0 e.0 (somewhere p lt).1 in
+      let each_one : length commands ≡ length requests = counted.a_command ∙ length-map requests times_of in
+      let at_its : (p : ℕ) → p < length requests → (k : ℕ) × (k < length entrants) × ((d : Entrant) → (get_or entrants k d).place ≡ p) = somewhere requests placed entrants are sorted in
+      let round : (p : ℕ) (lt : p < length requests) → get_or put p 0 ≡ get_or own (at_its p lt).0 0 = λ p lt.
+      let s = at_its p lt in
+      let e = at_place entrants s.0 s.1 in
+      ap (λ k. get_or put k 0) (sym (s.2 e.0)) ∙ at.put s.0 e.0 s.1 in
       record {
-        one_each = at.each ∙ long ∙ sym many;
+        one_each = at.each ∙ long requests placed entrants are sorted ∙ sym each_one;
         released = λ p d lt.
-            let here : p < length requests = omega (arith, lt, many) in
-            let s = somewhere p here in
+            let here : p < length requests = omega (arith, lt, each_one) in
+            let s = at_its p here in
             let e = at_place entrants s.0 s.1 in
             let q = at_place requests p here in
-            let arrived = at_place (map (λ (x : Entrant). x.arrived) entrants) s.0 (omega (arith, s.1, length-map entrants (λ (x : Entrant). x.arrived))) in
-            let is : (get_or entrants s.0 e.0).arrived.release ≡ (get_or commands p d).release = ap (λ (x : Entrant). x.arrived.release) (s.2 e.0 ∙ are.are p e.0 q.0 d here) in
-            let own_command : (get_or (commands_by_arrival (map (λ (x : Entrant). x.arrived) entrants)) s.0 d).release ≡ arrived.0.release = command_at 0 (map (λ (x : Entrant). x.arrived) entrants) s.0 arrived.0 d arrived.1 in
-            let this : arrived.0.release ≡ (get_or entrants s.0 e.0).arrived.release = ap (λ (a : Arrived). a.release) (sym (get_or_from_slice_get (map (λ (x : Entrant). x.arrived) entrants) s.0 arrived.0 arrived.0 arrived.1) ∙ arrived_at s.0 arrived.0 e.0 s.1) in
-            let low = h.released s.0 d (omega (arith, s.1, commands_long 0 (map (λ (x : Entrant). x.arrived) entrants), length-map entrants (λ (x : Entrant). x.arrived))) in
-            omega (arith, is, own_command, this, low, round p here);
+            let a = at_place arrived s.0 (omega (arith, s.1, arriving.each)) in
+            let is : a.0.release ≡ (get_or commands p d).release = ap (λ (x : Arrived). x.release) (sym (get_or_from_slice_get arrived s.0 a.0 a.0 a.1) ∙ arriving.are s.0 a.0 e.0 q.0 d s.1) ∙ ap (λ k. (get_or commands k d).release) (s.2 e.0) in
+            let own_command : (get_or (commands_by_arrival arrived) s.0 d).release ≡ a.0.release = command_at 0 arrived s.0 a.0 d a.1 in
+            let low = h.released s.0 d (omega (arith, s.1, commands_long 0 arrived, arriving.each)) in
+            omega (arith, is, own_command, low, round p here);
         within_depth = λ x.
             let once : count_by (λ z. z == x) put ≤ 1 = count_once x put (λ p q lp lq ep eq.
-            let hp : p < length requests = omega (arith, lp, at.each, long) in
-            let hq : q < length requests = omega (arith, lq, at.each, long) in
-            let s = somewhere p hp in
-            let t = somewhere q hq in
+            let hp : p < length requests = omega (arith, lp, at.each, long requests placed entrants are sorted) in
+            let hq : q < length requests = omega (arith, lq, at.each, long requests placed entrants are sorted) in
+            let s = at_its p hp in
+            let t = at_its q hq in
             let e = at_place entrants s.0 s.1 in
-            let one : s.0 ≡ t.0 = rounds_own.own s.0 t.0 (omega (arith, s.1, same)) (omega (arith, t.1, same)) (sym (round p hp) ∙ ep ∙ sym eq ∙ round q hq) in
-            sym (place p hp e.0) ∙ ap (λ k. (get_or entrants k e.0).place) one ∙ place q hq e.0) in
+            let one : s.0 ≡ t.0 = rounds_own.own s.0 t.0 (omega (arith, s.1, same, arriving.each)) (omega (arith, t.1, same, arriving.each)) (sym (round p hp) ∙ ep ∙ sym eq ∙ round q hq) in
+            sym (s.2 e.0) ∙ ap (λ k. (get_or entrants k e.0).place) one ∙ t.2 e.0) in
             omega (arith, once, one_deep x);
       }
 
-  pub in_range : (own put : List ℕ) → HaveOwnRounds own → length own ≡ length entrants → ArePut entrants own put → AreRounds (length requests) put
+  pub in_range : (own put : List ℕ) → HaveOwnRounds own → length own ≡ length arrived → ArePut entrants own put → AreRounds (length requests) put
   in_range own put rounds_own same at p d lt =
-      let here : p < length requests = omega (arith, lt, at.each, long) in
-      let s = somewhere p here in
+      let here : p < length requests = omega (arith, lt, at.each, long requests placed entrants are sorted) in
+      let s = somewhere requests placed entrants are sorted p here in
       let e = at_place entrants s.0 s.1 in
-      let q = at_place requests p here in
-      let c : Command = record { id = 0; release = 0; due = 0 } in
-      let place : (get_or entrants s.0 e.0).place ≡ p = ap (λ (x : Entrant). x.place) (s.2 e.0 ∙ are.are p e.0 q.0 c here) in
-      let round : get_or put p 0 ≡ get_or own s.0 0 = ap (λ k. get_or put k 0) (sym place) ∙ at.put s.0 e.0 s.1 in
+      let round : get_or put p 0 ≡ get_or own s.0 0 = ap (λ k. get_or put k 0) (sym (s.2 e.0)) ∙ at.put s.0 e.0 s.1 in
       let its : get_or put p d ≡ get_or put p 0 = get_or_default put p d 0 lt in
-      let range = rounds_own.in_range s.0 (omega (arith, s.1, same)) in
-      (omega (arith, its, round, range.0), omega (arith, its, round, range.1, same, long))
+      let range = rounds_own.in_range s.0 (omega (arith, s.1, same, arriving.each)) in
+      (omega (arith, its, round, range.0), omega (arith, its, round, range.1, same, many))
 
   pub late : (put : List ℕ) → length put ≡ length requests → AreRounds (length requests) put → AreLateByTheClock requests commands put
   late put each_one range k d e here =

@@ -12,6 +12,7 @@ use Rattle.blk_capture.specs.Requests.{times_of}
 use Rattle.blk_capture.specs.declared.record.TheConstants.{MAX_TIME}
 use Rattle.blk_capture.specs.declared.requests.CapturedRequest.{CapturedRequest}
 use Rattle.blk_sched.specs.Policies.{Policy}
+use Rattle.blk_replay.specs.declared.Arrived.{Arrived}
 use Rattle.blk_replay.specs.declared.requests.DueBy.{DueBy}
 use Rattle.blk_replay.specs.declared.requests.DueBy.TheVariants.{Deadline, Fifo}
 use Rattle.blk_replay.specs.declared.requests.Entrant.{Entrant}
@@ -41,26 +42,27 @@ as_one_bio place q =
     let first = min q.first (MAX_END - 1) in
     record { id = record { submitter = 0; serial = place }; dir = q.dir; first = first; sectors = max (min q.sectors (MAX_END - first)) 1 }
 
--- the request at a place on its way, whose command is c
-abbrev pub entrant_of : List CapturedRequest → DueBy → ℕ → CapturedRequest → Command → Entrant
-entrant_of requests by place q c = record {
-  place = place;
-  released = q.released;
-  dispatched = q.dispatched;
-  arrived = record { release = c.release; due = due_round requests q c.due by; bio = as_one_bio place q };
-}
+-- the request at a place as it enters, whose command is c
+abbrev pub arrived_of : List CapturedRequest → DueBy → ℕ → CapturedRequest → Command → Arrived
+arrived_of requests by place q c = record { release = c.release; due = due_round requests q c.due by; bio = as_one_bio place q }
 
--- all of them by place
-pub record AreOnTheirWay (requests : List CapturedRequest) (commands : List Command) (by : DueBy) (entrants : List Entrant) : Type 0 where
+-- each by its place
+pub record ArePlaces (requests : List CapturedRequest) (entrants : List Entrant) : Type 0 where
   pub each : length entrants ≡ length requests
-  pub are : (k : ℕ) (e : Entrant) (q : CapturedRequest) (c : Command) → k < length requests
-      → slice_index_or entrants k e ≡ entrant_of requests by k (slice_index_or requests k q) (slice_index_or commands k c)
+  pub are : (k : ℕ) (e : Entrant) (q : CapturedRequest) → k < length requests → slice_index_or entrants k e ≡ record { place = k; released = (slice_index_or requests k q).released }
 
 -- the same in the order of their releases, where those of one release stand as before
 pub record AreByRelease (placed entrants : List Entrant) : Type 0 where
   pub same : IsPermutation placed entrants
   pub sorted : IsSortedByKey (λ e. e.released) nat_cmp entrants
   pub stable : IsStableByKey (λ e. e.released) nat_cmp placed entrants
+
+-- as they enter: the request at an entrant's place, by its command
+pub record AreArriving (requests : List CapturedRequest) (commands : List Command) (by : DueBy) (entrants : List Entrant) (arrived : List Arrived) : Type 0 where
+  pub each : length arrived ≡ length entrants
+  pub are : (k : ℕ) (a : Arrived) (e : Entrant) (q : CapturedRequest) (c : Command) → k < length entrants
+      → slice_index_or arrived k a
+      ≡ arrived_of requests by (slice_index_or entrants k e).place (slice_index_or requests (slice_index_or entrants k e).place q) (slice_index_or commands (slice_index_or entrants k e).place c)
 
 -- no two have one place
 abbrev pub AreApart : List Entrant → Type 0
@@ -89,9 +91,11 @@ AreLateByTheClock requests commands rounds =
 -- the requests, in the order in which they came in, are served by a scheduler that follows the policy, each in its round
 pub record IsReplayOf (policy : Policy) (start : Standing) (requests : List CapturedRequest) (commands : List Command) (by : DueBy) (rounds : List ℕ) : Type 0 where
   pub placed : List Entrant
-  pub are_placed : AreOnTheirWay requests commands by placed
+  pub are_placed : ArePlaces requests placed
   pub entrants : List Entrant
   pub by_release : AreByRelease placed entrants
+  pub arrived : List Arrived
+  pub are_arriving : AreArriving requests commands by entrants arrived
   pub own : List ℕ
-  pub replayed : IsReplay policy start (map (λ e. e.arrived) entrants) own
+  pub replayed : IsReplay policy start arrived own
   pub put : ArePut entrants own rounds

@@ -1,13 +1,13 @@
 //! The requests of a capture on their way into a scheduler, and their replay.
 
-ghost use Rattle.std.specs.Prelude.{◌≡◌, ◌≤◌, ◌<◌, IfOk, OnOk, All, length, map};
+ghost use Rattle.std.specs.Prelude.{◌≡◌, ◌≤◌, ◌<◌, IfOk, OnOk, All, length};
 ghost use Rattle.edd_commands.specs.Capacity.{fixed};
 ghost use Rattle.edd_commands.specs.Schedule.{IsLegal};
 ghost use Rattle.edd_commands.specs.declared.TheConstants.{MAX_COMMANDS};
 ghost use Rattle.blk_capture.specs.Requests.{AreTimed};
 ghost use Rattle.blk_sched.specs.Meaning.{at_start};
 ghost use Rattle.blk_replay.specs.Replay.{standing};
-ghost use Rattle.blk_replay.specs.Requests.{went_before, expire_by, due_round, as_one_bio, entrant_of, AreOnTheirWay, ArePut, AreByRelease, AreApart, AreRounds, AreRoundCommands, AreLateByTheClock, IsReplayOf};
+ghost use Rattle.blk_replay.specs.Requests.{went_before, expire_by, due_round, as_one_bio, ArePlaces, AreArriving, ArePut, AreByRelease, AreApart, AreRounds, AreRoundCommands, AreLateByTheClock, IsReplayOf};
 
 use crate::{Arrived, replay};
 use blk_bio::{Bio, BioId, Dir, MAX_END};
@@ -37,10 +37,6 @@ pub struct Entrant {
     pub place: usize,
     /// When it was released, by its last bio.
     pub released: u64,
-    /// When it went out.
-    pub dispatched: u64,
-    /// As it enters.
-    pub arrived: Arrived,
 }
 
 /// How many of the requests went out before a time. It is found by halves.
@@ -97,27 +93,13 @@ fn as_one_bio(place: usize, request: &CapturedRequest) -> Bio
 fn entrants_by_place<A: Allocator>(
     alloc: A,
     requests: &[CapturedRequest],
-    commands: &[Command],
-    by: DueBy,
 ) -> Result<Vec<Entrant, A>, AllocError>
-    requires timed { AreTimed requests.now }
-    requires few { length requests.now ≤ MAX_COMMANDS }
-    requires each { length commands.now ≡ length requests.now }
-    ensures { IfOk result (λ v. AreOnTheirWay requests.now commands.now by v.items) }
+    ensures { IfOk result (λ v. ArePlaces requests.now v.items) }
 {
     let mut entrants = Vec::with_capacity(alloc, requests.len())?;
     for (place, request) in requests.iter().enumerate() {
-        let command = commands[place];
-        entrants.push(Entrant {
-            place,
-            released: request.released,
-            dispatched: request.dispatched,
-            arrived: Arrived {
-                release: command.release,
-                due: due_round(requests, request, command.due, by),
-                bio: as_one_bio(place, request),
-            },
-        })?;
+        let released = request.released;
+        entrants.push(Entrant { place, released })?;
     }
     Ok(entrants)
 }
@@ -131,13 +113,31 @@ fn put_by_release<A: Allocator + Clone>(entrants: &mut Vec<Entrant, A>) -> Resul
 }
 
 /// As they enter.
-fn arrivals<A: Allocator>(alloc: A, entrants: &[Entrant]) -> Result<Vec<Arrived, A>, AllocError>
-    ensures { IfOk result (λ v. v.items ≡ map (λ e. e.arrived) entrants.now) }
+fn arrivals<A: Allocator>(
+    alloc: A,
+    requests: &[CapturedRequest],
+    commands: &[Command],
+    by: DueBy,
+    entrants: &[Entrant],
+) -> Result<Vec<Arrived, A>, AllocError>
+    requires timed { AreTimed requests.now }
+    requires few { length requests.now ≤ MAX_COMMANDS }
+    requires each { length commands.now ≡ length requests.now }
+    requires within { All (λ e. e.place < length requests.now) entrants.now }
+    ensures { IfOk result (λ v. AreArriving requests.now commands.now by entrants.now v.items) }
 {
-    entrants
-        .iter()
-        .map(|entrant| entrant.arrived)
-        .collect(alloc)
+    let mut arrived = Vec::with_capacity(alloc, entrants.len())?;
+    for entrant in entrants {
+        let place = entrant.place;
+        let request = &requests[place];
+        let command = commands[place];
+        arrived.push(Arrived {
+            release: command.release,
+            due: due_round(requests, request, command.due, by),
+            bio: as_one_bio(place, request),
+        })?;
+    }
+    Ok(arrived)
 }
 
 /// The rounds of entrants, each at its request's place.
@@ -176,9 +176,10 @@ pub fn replay_requests<S: Scheduler>(
     ensures in_range { IfOk result (λ v. AreRounds (length requests.now) v.items) }
     ensures late { IfOk result (λ v. AreLateByTheClock requests.now commands.now v.items) }
 {
-    let mut entrants = entrants_by_place(alloc.clone()?, requests, commands, by)?;
-    put_by_release(&mut entrants)?;
-    let arrived = arrivals(alloc.clone()?, entrants.as_slice())?;
+    let mut placed = entrants_by_place(alloc.clone()?, requests)?;
+    put_by_release(&mut placed)?;
+    let entrants = placed.as_slice();
+    let arrived = arrivals(alloc.clone()?, requests, commands, by, entrants)?;
     let own = replay(sched, alloc.clone()?, arrived.as_slice())?;
-    put_in_places(alloc, entrants.as_slice(), own.as_slice())
+    put_in_places(alloc, entrants, own.as_slice())
 }

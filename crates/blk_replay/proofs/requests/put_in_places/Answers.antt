@@ -8,10 +8,10 @@ pub loop-k-preserved : goal.loop-k-preserved
 loop-k-preserved g c =
     let es = c.args.entrants.now in
     let k = c.loop-k.k in
-    let it = c.index-entrants-k.result in
+    let it : Entrant = get_or es k (record { place = 0; released = 0 }) in
     let rounds = c.loop-k.rounds.items in
     let v = get_or c.args.own.now k 0 in
-    let same : (d : Entrant) → (get_or es k d).place ≡ it.place = λ d. ap (λ (x : Entrant). x.place) (get_or_default es k d it c.loop-k-test.true ∙ sym c.index-entrants-k.is) in
+    let same : (d : Entrant) → (get_or es k d).place ≡ it.place = λ d. ap (λ (x : Entrant). x.place) (get_or_default es k d (record { place = 0; released = 0 }) c.loop-k-test.true) in
     let inside : it.place < length rounds = omega (arith, same it, c.requires.within k it c.loop-k-test.true, c.loop-k.invariant.each) in
     record {
       each = length-set rounds it.place v ∙ c.loop-k.invariant.each;
