@@ -119,19 +119,20 @@ pub record IsNoteOf (tags : ℕ) (line : Option (List ℕ)) (records : List Reco
   pub doubts : IsDoubtTold records requests most tags (counts_of fates).unmatched told
   pub is : note ≡ noted told line
 
-abbrev pub IsNoteOn : {A : Type 0} → ℕ → List Record → Matched A → Option (List ℕ) → Type 0
-IsNoteOn tags records m note = IsNoteOf tags (line_on (counts_of m.fates.items)) records m.requests.items m.fates.items note
-
--- this is written of the requests of a capture that are taken, and what is said beside it
-pub record IsMadeOf (writes : List CapturedRequest → List ℕ → Type 0) (i : Import) (records : List Record) (s : Said) : Type 0 where
-  pub requests : List CapturedRequest
+-- the requests of a capture that are taken, and what is said beside what is written of them
+pub record IsTakenOf (i : Import) (records : List Record) (requests : List CapturedRequest) (note : Option (List ℕ)) : Type 0 where
   pub bios : List CapturedBio
   pub fates : List Fate
   pub absorbed : ℕ
   pub left_out : ℕ
   pub is_import : IsImport records (asked_of i) requests bios fates absorbed left_out
+  pub is_note : IsNoteOf (tags_asked i.source.tags) (line_on (counts_of fates)) records requests fates note
+
+-- this is written of them
+pub record IsMadeOf (writes : List CapturedRequest → List ℕ → Type 0) (i : Import) (records : List Record) (s : Said) : Type 0 where
+  pub requests : List CapturedRequest
+  pub taken : IsTakenOf i records requests s.note
   pub is_text : writes requests s.text
-  pub is_note : IsNoteOf (tags_asked i.source.tags) (line_on (counts_of fates)) records requests fates s.note
   pub good : s.good ≡ true
 
 -- too many requests would be taken, or memory ran out
@@ -180,13 +181,6 @@ IsBlameText shown_blame.Picture b i begin requests text = IsBlamePicture begin r
 
 abbrev pub IsBlamingText : Blaming → Import → ℕ → List CapturedRequest → List ℕ → Type 0
 IsBlamingText b i begin requests text = IsBlameText b.shown b i begin requests text
-
--- the requests that are taken, and what is said beside them
-abbrev pub IsTakenOf : {A : Type 0} → Import → List Record → Matched A → Type 0
-IsTakenOf i records m = IsImport records (asked_of i) m.requests.items m.bios.items m.fates.items m.absorbed m.left_out
-
-abbrev pub IsNoteBeside : {A : Type 0} → Import → List Record → Matched A → Option (List ℕ) → Type 0
-IsNoteBeside i records m note = IsNoteOn (tags_asked i.source.tags) records m note
 
 -- a scheduler isn't made of its settings, for a reason like this, or memory ran out; or too many requests would be taken
 abbrev pub IsNotReplayed : (SchedFault → Type 0) → Failure → Type 0

@@ -10,8 +10,8 @@ ghost use Rattle.blk_cli.specs.Importing.{grouped_by, IsWholeBlame, IsEachBlame,
 use crate::Answered;
 use crate::failure::Failure;
 use crate::forms::written;
-use crate::importing::{asked_of, note_on, tags_asked};
 use crate::lists::most_of;
+use crate::taken::take_requests;
 use blk_bio::Dir;
 use blk_blame::{Aim, GroupedBy, blame_answer, blame_picture, each_answer, tightest_answer};
 use blk_capture::{CapturedRequest, CountedSchedule, Record, rounds_of};
@@ -147,22 +147,13 @@ pub fn blamed(
     ensures answers { IfOk result (λ answer. IsMadeOf (IsBlamingText blaming wanted (first_time records.now)) wanted records.now (said_of answer)) }
     ensures fails { IfErr result (IsUnshown wanted records.now) }
 {
-    let asked = asked_of(wanted);
-    let matched = match blk_capture_text::import(alloc, records, &asked) {
-        Ok(matched) => matched,
-        Err(fault) => return Err(Failure::Import(fault)),
+    let taken = match take_requests(alloc, wanted, records) {
+        Ok(taken) => taken,
+        Err(failure) => return Err(failure),
     };
-    let requests = matched.requests.as_slice();
-    let Ok(text) = text_of(alloc, wanted, blaming, first_time(records), requests) else {
-        return Err(Failure::Memory);
-    };
-    let tags = tags_asked(wanted.source.tags);
-    match note_on(alloc, tags, records, &matched) {
-        Ok(note) => Ok(Answered {
-            text,
-            note,
-            good: true,
-        }),
+    let begin = first_time(records);
+    match text_of(alloc, wanted, blaming, begin, taken.requests.as_slice()) {
+        Ok(text) => Ok(taken.beside(text)),
         Err(_) => Err(Failure::Memory),
     }
 }

@@ -1,29 +1,28 @@
 //! The job over a capture: what is written of it, what is said of what that leaves out, and its arrivals as a script.
 
 ghost use Rattle.std.specs.Prelude.{◌≡◌, ◌≤◌, List, [], IfOk, IfErr, length, map, option_map, string_bytes};
-ghost use Rattle.edd_commands.specs.declared.TheConstants.{MAX_COMMANDS};
-ghost use Rattle.blk_capture.specs.Requests.{AreInOrder, AreTimed};
+ghost use Rattle.blk_capture.specs.Requests.{AreInOrder};
 ghost use Rattle.blk_capture.specs.declared.record.Record.{Record};
 ghost use Rattle.blk_capture_text.specs.Shown.{IsShown};
 ghost use Rattle.blk_capture_text.specs.Source.{IsCaptureRead};
 ghost use Rattle.blk_capture_text.specs.Streaming.{HasStreamed};
 ghost use Rattle.blk_capture_text.specs.Streams.{IsSummable};
 ghost use Rattle.blk_cli.specs.Said.{said_of};
-ghost use Rattle.blk_cli.specs.Importing.{entry_asked, most_asked, asked_of, terms_of, line_on, IsMadeOf, IsUnshown, IsScripted, IsUnscripted, IsImported, IsUnimported, noted, tags_asked, IsNoteOn, SaysFrom, IsImportedFrom, IsUnreadFrom, IsWrittenOf, IsUnwrittenOf, SumsUp, IsSummedFrom, IsCaptureWritten};
+ghost use Rattle.blk_cli.specs.Importing.{entry_asked, most_asked, asked_of, terms_of, IsMadeOf, IsUnshown, IsScripted, IsUnscripted, IsImported, IsUnimported, noted, tags_asked, SaysFrom, IsImportedFrom, IsUnreadFrom, IsWrittenOf, IsUnwrittenOf, SumsUp, IsSummedFrom, IsCaptureWritten};
 ghost use Rattle.blk_cli.specs.Ends.{IsFailureOf, IsUntaken, IsUnsummed, IsUnsummedFor, IsCaptureUnwritten};
 
 use crate::blaming::blamed;
 use crate::failure::Failure;
 use crate::notes::{doubt_text, source_text};
 use crate::replaying::{replayed, replayed_grid, replayed_once};
+use crate::taken::take_requests;
 use crate::{Answered, NoText, without};
 use answer::lines;
 use blk_arrivals::{Terms, USUAL_DEPTH, script_of, script_text};
-use blk_capture::{Entry, Matched, Options, Record, summarize};
+use blk_capture::{Entry, Options, Record};
 use blk_capture_text::{
     CaptureRead, ImportAsked, Printed, RecordCounts, ShownImport, StreamedCapture, UnreadCapture,
-    Unstreamed, UnusedCounts, count_fates, notice_text, read_source, shown_text, stream_source,
-    summary_answer,
+    Unstreamed, read_source, shown_text, stream_source, summary_answer,
 };
 use blk_lists::{Records, TextFault};
 use blk_words::{Import, Job, Kept, Written};
@@ -86,21 +85,8 @@ fn terms_of(wanted: Import, round: u64, depth: Option<u64>) -> Terms
     }
 }
 
-/// The line on what was passed over or not matched, where there is any.
-fn line_on(alloc: Global, counts: &UnusedCounts) -> Result<Option<Vec<u8>>, AllocError>
-    ensures { IfOk result (λ note. option_map (λ line. line.items) note ≡ line_on counts.now) }
-{
-    if counts.passed == 0 && counts.unmatched == 0 {
-        return Ok(None);
-    }
-    match notice_text(alloc, counts) {
-        Ok(line) => Ok(Some(line)),
-        Err(refused) => Err(refused),
-    }
-}
-
 /// A note behind what is told before it; without that, as it is.
-fn noted(told: Vec<u8>, note: Option<Vec<u8>>) -> Result<Option<Vec<u8>>, AllocError>
+pub(crate) fn noted(told: Vec<u8>, note: Option<Vec<u8>>) -> Result<Option<Vec<u8>>, AllocError>
     ensures { IfOk result (λ all. option_map (λ n. n.items) all ≡ noted told.items (option_map (λ n. n.items) note)) }
 {
     if told.is_empty() {
@@ -126,35 +112,6 @@ pub(crate) fn tags_asked(tags: Option<u64>) -> u64
     }
 }
 
-/// What is said beside the text, and before it what of the requests is dubious.
-pub(crate) fn note_on(
-    alloc: Global,
-    tags: u64,
-    records: &[Record],
-    matched: &Matched,
-) -> Result<Option<Vec<u8>>, AllocError>
-    requires timed { AreTimed matched.now.requests.items }
-    requires few { length matched.now.requests.items ≤ MAX_COMMANDS }
-    requires fates { length matched.now.fates.items ≡ length records.now }
-    ensures { IfOk result (λ n. IsNoteOn tags records.now matched.now (option_map (λ v. v.items) n)) }
-{
-    let summary = summarize(alloc, records, matched)?;
-    let counts = count_fates(matched.fates.as_slice());
-    let doubts = doubt_text(
-        alloc,
-        &RecordCounts::of(records),
-        matched.requests.as_slice(),
-        summary.in_flight,
-        tags,
-        counts.unmatched,
-    )?;
-    let note = line_on(alloc, &counts)?;
-    match noted(doubts, note) {
-        Ok(all) => Ok(all),
-        Err(refused) => Err(refused),
-    }
-}
-
 /// What is shown of the requests of a capture.
 fn shown_of(
     alloc: Global,
@@ -166,23 +123,14 @@ fn shown_of(
     ensures answers { IfOk result (λ answer. IsMadeOf (IsShown shown records.now) wanted records.now (said_of answer)) }
     ensures fails { IfErr result (IsUnshown wanted records.now) }
 {
-    let asked = asked_of(wanted);
-    let matched = match blk_capture_text::import(alloc, records, &asked) {
-        Ok(matched) => matched,
-        Err(fault) => return Err(Failure::Import(fault)),
+    let taken = match take_requests(alloc, wanted, records) {
+        Ok(taken) => taken,
+        Err(failure) => return Err(failure),
     };
-    let Ok(text) = shown_text(alloc, shown, records, matched.requests.as_slice()) else {
-        return Err(Failure::Memory);
-    };
-    let tags = tags_asked(wanted.source.tags);
-    let Ok(note) = note_on(alloc, tags, records, &matched) else {
-        return Err(Failure::Memory);
-    };
-    Ok(Answered {
-        text,
-        note,
-        good: true,
-    })
+    match shown_text(alloc, shown, records, taken.requests.as_slice()) {
+        Ok(text) => Ok(taken.beside(text)),
+        Err(_) => Err(Failure::Memory),
+    }
 }
 
 /// The arrivals of a capture as a script, on these terms.

@@ -24,6 +24,7 @@ mod notes;
 mod picturing;
 mod replaying;
 mod scripts;
+mod taken;
 mod titles;
 mod traces;
 mod tuning;
