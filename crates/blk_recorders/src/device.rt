@@ -3,7 +3,7 @@
 ghost use Rattle.std.specs.Prelude.{◌≡◌, option_map};
 ghost use Rattle.blk_recorders.specs.Layouts.{device_of, is_device};
 
-use crate::words::{before, behind, number};
+use crate::words::{number, parted};
 
 /// A block device by its major and minor number, as `lsblk` shows them.
 #[derive(Clone, Copy, Debug, PartialEq, Eq)]
@@ -19,7 +19,8 @@ impl Device {
     pub fn of_text(text: &[u8]) -> Option<Device>
         ensures { result ≡ device_of text.now }
     {
-        match (number(before(text, b',')), number(behind(text, b','))) {
+        let (major, minor) = parted(text, b',');
+        match (number(major), number(minor)) {
             (Some(major), Some(minor)) => Some(Device { major, minor }),
             _ => None,
         }

@@ -8,7 +8,7 @@ ghost use Rattle.blk_recorders.specs.Layouts.{laid, spanned, is_remark, span_fro
 
 use crate::device::Device;
 use crate::fault::LineWhy;
-use crate::words::{before, begins_with, behind, nanoseconds, number, word_at};
+use crate::words::{begins_with, nanoseconds, number, parted, word_at};
 use blk_capture::{Action, Op, Record};
 
 /// Whole seconds lie below this number: with nanoseconds they fit 64 bits, some 544 years.
@@ -129,11 +129,11 @@ pub(crate) fn placed<'a>(words: &[&'a [u8]], places: Places) -> Result<Layout<&'
         Ok(span) => span,
         Err(why) => return Err(why),
     };
-    let time = word_at(words, places.time);
+    let (seconds, fraction) = parted(word_at(words, places.time), b'.');
     Ok(Layout {
         device: Some(word_at(words, places.device)),
-        seconds: before(time, b'.'),
-        fraction: behind(time, b'.'),
+        seconds,
+        fraction,
         cpu: word_at(words, places.cpu),
         action,
         pid: word_at(words, places.pid),

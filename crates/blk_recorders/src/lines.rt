@@ -11,7 +11,7 @@ use crate::device::Device;
 use crate::fault::LineWhy;
 use crate::layout::{Layout, Places, Span, is_passed, placed, span_from};
 use crate::recorder::Recorder;
-use crate::words::{before, begins_with, behind, behind_last, cut_fields, number, word_at};
+use crate::words::{before, begins_with, behind_last, cut_fields, number, parted, word_at};
 use blk_capture::Action;
 
 /// What a line is.
@@ -209,11 +209,11 @@ fn task_layout<'a>(
     requires some { 0 < cpu }
     ensures { laid result ≡ task_layout (word_texts words.now) cpu time (spanned span.entry) }
 {
-    let clock = before(word_at(words, time), b':');
+    let (seconds, fraction) = parted(before(word_at(words, time), b':'), b'.');
     Layout {
         device: Some(word_at(words, time + 1)),
-        seconds: before(clock, b'.'),
-        fraction: behind(clock, b'.'),
+        seconds,
+        fraction,
         cpu: inside(word_at(words, cpu)),
         action: Action::of_letters(word_at(words, time + 2)),
         pid: behind_last(word_at(words, cpu - 1), b'-'),
@@ -364,7 +364,7 @@ fn perf_layout<'a>(
         Ok(span) => span,
         Err(why) => return Err(why),
     };
-    let clock = before(word_at(words, event - 1), b':');
+    let (seconds, fraction) = parted(before(word_at(words, event - 1), b':'), b'.');
     let device = word_at(words, event + 1);
     Ok(Layout {
         device: if is_passed(action) {
@@ -372,8 +372,8 @@ fn perf_layout<'a>(
         } else {
             Some(device)
         },
-        seconds: before(clock, b'.'),
-        fraction: behind(clock, b'.'),
+        seconds,
+        fraction,
         cpu: inside(word_at(words, event - 2)),
         action,
         pid: word_at(words, event - 3),

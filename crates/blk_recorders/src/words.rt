@@ -128,13 +128,14 @@ pub(crate) fn before(word: &[u8], byte: u8) -> &[u8]
     }
 }
 
-/// What stands behind the first such byte of a word, or nothing.
-pub(crate) fn behind(word: &[u8], byte: u8) -> &[u8]
-    ensures { result.now ≡ behind_byte byte word.now }
+/// What stands before the first such byte of a word and what behind it: all of it and nothing, where it has none.
+pub(crate) fn parted(word: &[u8], byte: u8) -> (&[u8], &[u8])
+    ensures before { result.0.now ≡ before_byte byte word.now }
+    ensures behind { result.1.now ≡ behind_byte byte word.now }
 {
     match place_of(word, byte) {
-        Some(place) => &word[place + 1..],
-        None => &[],
+        Some(place) => (&word[..place], &word[place + 1..]),
+        None => (word, &[]),
     }
 }
 
