@@ -1,7 +1,8 @@
 -- A part of the requests.
-use Rattle.std.proofs.Common.{ℕ, ◌≡◌, ◌≤◌, ◌<◌, ◌+◌, ◌-◌, ◌∙◌, List, length, get_or, take, drop, min, arith, ap, sym, subst, inl, inr}
+use Rattle.std.proofs.Common.{ℕ, ◌≡◌, ◌≤◌, ◌<◌, ◌+◌, ◌-◌, ◌∙◌, ◌++◌, List, length, get_or, take, drop, min, arith, ap, sym, subst, inl, inr}
 use Rattle.std.specs.Prelude.{IfSome}
 use Rattle.std.proofs.lemmas.Bool.{cases_lt}
+use Rattle.std.proofs.Math.Seq.{take-append_seam}
 use Rattle.std.proofs.lemmas.List.{get_or-drop, get_or-take, length-drop, length-take-le, take_all}
 use Rattle.blk_capture.specs.Parting.{gone_before, part}
 use Rattle.blk_capture.specs.Requests.{AreTimed}
@@ -9,6 +10,10 @@ use Rattle.blk_capture.specs.declared.requests.CapturedRequest.{CapturedRequest}
 
 pub length_part : (requests : List CapturedRequest) (from count : ℕ) → from + count ≤ length requests → length (take count (drop from requests)) ≡ count
 length_part requests from count within = length-take-le count (drop from requests) (let n : length (drop from requests) ≡ length requests - from = length-drop from requests in omega (arith, n, within))
+
+-- a list that was lent whole and came back changed
+pub written : {X : Type 0} (n : ℕ) (new old : List X) → n ≡ length new → take n (new ++ drop (length new) old) ≡ new
+written n new old same = ap (λ k. take k (new ++ drop (length new) old)) same ∙ take-append_seam new (drop (length new) old)
 
 -- no more than there are
 pub taken_first : (requests : List CapturedRequest) (from count first : ℕ) → from ≤ length requests → count ≡ min (length requests - from) first → take count (drop from requests) ≡ take first (drop from requests)

@@ -51,77 +51,80 @@ fn fate_in(from: usize, count: usize, fate: Fate) -> Fate
     }
 }
 
-/// `count` of the requests, from a place on.
+/// `count` of the requests, from a place on. The first ones are not copied.
 fn requests_in<A: Allocator>(
     alloc: A,
-    requests: &[CapturedRequest],
+    requests: Vec<CapturedRequest, A>,
     from: usize,
     count: usize,
 ) -> Result<Vec<CapturedRequest, A>, AllocError>
-    requires { from + count ≤ length requests.now }
-    ensures { IfOk result (λ v. v.items ≡ take count (drop from requests.now)) }
+    requires { from + count ≤ length requests.items }
+    ensures { IfOk result (λ v. v.items ≡ take count (drop from requests.items)) }
 {
-    let rest = &requests[from..];
+    if from == 0 {
+        let mut first = requests;
+        first.truncate(count);
+        return Ok(first);
+    }
+    let rest = &requests.as_slice()[from..];
     rest[..count].iter().copied().collect(alloc)
 }
 
-/// The bios, by whether their requests are taken.
-fn bios_in<A: Allocator>(
-    alloc: A,
-    bios: &[CapturedBio],
-    from: usize,
-    count: usize,
-) -> Result<Vec<CapturedBio, A>, AllocError>
-    ensures { IfOk result (λ v. v.items ≡ map (bio_in from count) bios.now) }
+/// Says of each bio whether its request is taken.
+fn bios_in(bios: &mut [CapturedBio], from: usize, count: usize)
+    ensures { bios.new ≡ map (bio_in from count) bios.old }
 {
-    bios.iter()
-        .map(|bio| bio_in(from, count, bio))
-        .collect(alloc)
+    for bio in bios.iter_mut() {
+        *bio = bio_in(from, count, bio);
+    }
 }
 
-/// The fates, by whether their requests are taken.
-fn fates_in<A: Allocator>(
-    alloc: A,
-    fates: &[Fate],
-    from: usize,
-    count: usize,
-) -> Result<Vec<Fate, A>, AllocError>
-    ensures { IfOk result (λ v. v.items ≡ map (fate_in from count) fates.now) }
+/// Says of each fate whether its request is taken.
+fn fates_in(fates: &mut [Fate], from: usize, count: usize)
+    ensures { fates.new ≡ map (fate_in from count) fates.old }
 {
-    fates
-        .iter()
-        .map(|fate| fate_in(from, count, *fate))
-        .collect(alloc)
+    for fate in fates.iter_mut() {
+        *fate = fate_in(from, count, *fate);
+    }
 }
 
 /// Of the requests those that went out at `begin` or later, and of these at most `first`, those that went out first: what `--skip` and
-/// `--first` leave. The others are left out, with their bios and records. Fails only when out of memory.
+/// `--first` leave. The others are left out, with their bios and records. Fails only when out of memory, of which it needs some only where
+/// requests went out before `begin`.
 pub fn part_of<A: Allocator + Clone>(
     alloc: A,
-    matched: &Matched<A>,
+    matched: Matched<A>,
     begin: u64,
     first: u64,
 ) -> Result<Matched<A>, AllocError>
-    requires timed { AreTimed matched.now.requests.items }
-    requires few { length matched.now.requests.items + matched.now.left_out < 2 ^ 64 }
-    ensures requests { IfOk result (λ m. m.requests.items ≡ part begin first matched.now.requests.items) }
-    ensures bios { IfOk result (λ m. m.bios.items ≡ part_bios begin (length m.requests.items) matched.now) }
-    ensures fates { IfOk result (λ m. m.fates.items ≡ part_fates begin (length m.requests.items) matched.now) }
-    ensures absorbed { IfOk result (λ m. m.absorbed ≡ matched.now.absorbed) }
-    ensures left_out { IfOk result (λ m. all_unmerged m ≡ all_unmerged matched.now) }
+    requires timed { AreTimed matched.requests.items }
+    requires few { length matched.requests.items + matched.left_out < 2 ^ 64 }
+    ensures requests { IfOk result (λ m. m.requests.items ≡ part begin first matched.requests.items) }
+    ensures bios { IfOk result (λ m. m.bios.items ≡ part_bios begin (length m.requests.items) matched) }
+    ensures fates { IfOk result (λ m. m.fates.items ≡ part_fates begin (length m.requests.items) matched) }
+    ensures absorbed { IfOk result (λ m. m.absorbed ≡ matched.absorbed) }
+    ensures left_out { IfOk result (λ m. all_unmerged m ≡ all_unmerged matched) }
     ensures timed { IfOk result (λ m. AreTimed m.requests.items) }
 {
-    let whole = matched.requests.as_slice();
-    let from = count_before(whole, begin);
-    let count = (whole.len() - from).min(first as usize);
-    let requests = requests_in(alloc.clone()?, whole, from, count)?;
-    let bios = bios_in(alloc.clone()?, matched.bios.as_slice(), from, count)?;
-    let fates = fates_in(alloc, matched.fates.as_slice(), from, count)?;
-    Ok(Matched {
+    let Matched {
         requests,
         bios,
         fates,
-        absorbed: matched.absorbed,
-        left_out: matched.left_out + (whole.len() - count) as u64,
+        absorbed,
+        left_out,
+    } = matched;
+    let (mut bios, mut fates) = (bios, fates);
+    let all = requests.len();
+    let from = count_before(requests.as_slice(), begin);
+    let count = (all - from).min(first as usize);
+    bios_in(bios.as_mut_slice(), from, count);
+    fates_in(fates.as_mut_slice(), from, count);
+    let part = requests_in(alloc, requests, from, count)?;
+    Ok(Matched {
+        requests: part,
+        bios,
+        fates,
+        absorbed,
+        left_out: left_out + (all - count) as u64,
     })
 }

@@ -470,53 +470,60 @@ fn first_fall(records: &[Record]) -> Option<usize>
     None
 }
 
-/// The requests of what was matched, with their bios.
+/// The requests of what was matched, with their bios. Each list that was matched is given back before the next is made.
 pub(crate) fn settle<A: Allocator + Clone>(
     alloc: A,
-    matching: &Matching<A>,
-    roles: &[Role],
+    matching: Matching<A>,
+    roles: Vec<Role, A>,
     options: &Options,
 ) -> Result<Matched<A>, AllocError>
-    requires coherent { IsCoherent options.now matching.now.clock.now (all_known matching.now) }
-    requires paired { length matching.now.members.openers.items ≡ length matching.now.requests.items }
+    requires coherent { IsCoherent options.now matching.clock.now (all_known matching) }
+    requires paired { length matching.members.openers.items ≡ length matching.requests.items }
     ensures timed { IfOk result (λ m. AreTimed m.requests.items) }
     ensures due { IfOk result (λ m. All (IsDue options.now) m.requests.items) }
     ensures bios { IfOk result (λ m. HaveBios m.requests.items m.bios.items) }
     ensures tallied { IfOk result (λ m. AreTallied m.requests.items m.bios.items) }
     ensures gone { IfOk result (λ m. AreGone (length m.requests.items) m.bios.items) }
-    ensures matched { IfOk result (λ m. map is_matched m.fates.items ≡ map is_known roles.now) }
-    ensures passed { IfOk result (λ m. map passed_by m.fates.items ≡ map passed_role roles.now) }
+    ensures matched { IfOk result (λ m. map is_matched m.fates.items ≡ map is_known roles.items) }
+    ensures passed { IfOk result (λ m. map passed_by m.fates.items ≡ map passed_role roles.items) }
     ensures below { IfOk result (λ m. AreOfTaken (length m.requests.items) m.fates.items) }
-    // whatever a record is of
-    ensures within { (r : Role) → IfOk result (λ m. IsTakenBelow (length m.requests.items) (fate_by options.now (all_known matching.now) r)) }
-    ensures opened { IfOk result (λ m. all_opened m ≡ length matching.now.requests.items) }
-    ensures made { IfOk result (λ m. length m.bios.items ≡ length matching.now.members.bios.items) }
-    ensures taken { IfOk result (λ m. map uncounted m.requests.items ≡ all_taken options.now (all_known matching.now)) }
-    ensures bios_are { IfOk result (λ m. m.bios.items ≡ all_bios options.now (all_known matching.now)) }
-    ensures fates_are { IfOk result (λ m. m.fates.items ≡ map (fate_by options.now (all_known matching.now)) roles.now) }
-    ensures absorbed { IfOk result (λ m. m.absorbed ≡ count_by (λ q. is_absorbed q.stage) matching.now.requests.items) }
+    ensures within { (r : Role) → IfOk result (λ m. IsTakenBelow (length m.requests.items) (fate_by options.now (all_known matching) r)) }
+    ensures opened { IfOk result (λ m. all_opened m ≡ length matching.requests.items) }
+    ensures made { IfOk result (λ m. length m.bios.items ≡ length matching.members.bios.items) }
+    ensures taken { IfOk result (λ m. map uncounted m.requests.items ≡ all_taken options.now (all_known matching)) }
+    ensures bios_are { IfOk result (λ m. m.bios.items ≡ all_bios options.now (all_known matching)) }
+    ensures fates_are { IfOk result (λ m. m.fates.items ≡ map (fate_by options.now (all_known matching)) roles.items) }
+    ensures absorbed { IfOk result (λ m. m.absorbed ≡ count_by (λ q. is_absorbed q.stage) matching.requests.items) }
 {
     let lives = lives(
         alloc.clone()?,
         matching.requests.len(),
         matching.absorptions.as_slice(),
     )?;
-    let taken = take_requests(alloc.clone()?, matching, lives.as_slice(), options)?;
+    let taken = take_requests(alloc.clone()?, &matching, lives.as_slice(), options)?;
     let Taken { requests, places } = taken;
+    let (absorbed, left_out) = count_others(matching.requests.as_slice(), places.as_slice());
+    let Matching {
+        members,
+        requests: opened,
+        ..
+    } = matching;
+    drop(opened);
     let bios = bios_of(
         alloc.clone()?,
-        matching.members.bios.as_slice(),
+        members.bios.as_slice(),
         lives.as_slice(),
         places.as_slice(),
     )?;
+    drop(members);
     let fates = fates_of(
         alloc,
-        roles,
+        roles.as_slice(),
         bios.as_slice(),
         lives.as_slice(),
         places.as_slice(),
     )?;
-    let (absorbed, left_out) = count_others(matching.requests.as_slice(), places.as_slice());
+    drop(roles);
     Ok(Matched {
         requests: count_bios(requests, bios.as_slice()),
         bios,
@@ -590,7 +597,7 @@ fn match_in_order<A: Allocator + Clone>(
         let role = matching.take(place as u64, record)?;
         roles.push(role)?;
     }
-    settle(alloc, &matching, roles.as_slice(), options)
+    settle(alloc, matching, roles, options)
 }
 
 /// Counts requests in rounds, as [`crate::count_rounds`] does, each released by its last bio: the one at place k ran in round k + 1, and

@@ -89,22 +89,23 @@ impl<A: Allocator + Clone> Running<A> {
         Ok(fate_so_far(role))
     }
 
-    /// What is matched of the records so far, as [`crate::match_records`] has it, but for the fates, of which it has only those of the records of
-    /// a merge, in their order. Fails only when out of memory.
-    pub fn settle(&self, alloc: A) -> Result<Matched<A>, AllocError>
-        requires ready { IsSteady self.now }
+    /// What is matched of the records, as [`crate::match_records`] has it, but for the fates, of which it has only those of the records of a
+    /// merge, in their order. Fails only when out of memory.
+    pub fn settle(self, alloc: A) -> Result<Matched<A>, AllocError>
+        requires ready { IsSteady self }
         ensures timed { IfOk result (λ m. AreTimed m.requests.items) }
-        ensures due { IfOk result (λ m. All (IsDue (run_options self.now)) m.requests.items) }
+        ensures due { IfOk result (λ m. All (IsDue (run_options self)) m.requests.items) }
         ensures bios { IfOk result (λ m. HaveBios m.requests.items m.bios.items) }
         ensures tallied { IfOk result (λ m. AreTallied m.requests.items m.bios.items) }
         ensures gone { IfOk result (λ m. AreGone (length m.requests.items) m.bios.items) }
-        ensures run { SettlesRun self.now result }
+        ensures run { SettlesRun self result }
     {
-        settle(
-            alloc,
-            &self.matching,
-            self.merges.as_slice(),
-            &self.matching.options,
-        )
+        let Running {
+            matching,
+            merges,
+            ..
+        } = self;
+        let options = matching.options;
+        settle(alloc, matching, merges, &options)
     }
 }

@@ -187,7 +187,7 @@ fn skipped_and_first(rt: HostRuntime) {
     assert_eq!(rt; matched.requests.len(), 3);
     assert!(rt; matched.requests.len() <= 3);
     assert!(rt; matched.left_out <= 3);
-    let Ok(part) = part_of(&heap, &matched, 20, 1) else {
+    let Ok(part) = part_of(&heap, matched, 20, 1) else {
         panic!(rt; "memory");
     };
     let row = (8, 8, 1, 10, 110, 20);

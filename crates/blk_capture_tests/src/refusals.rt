@@ -18,13 +18,13 @@ fn all_of_it(rt: &impl Abort, heap: Heap<'_>, records: &[Record]) {
             assert!(rt; is_matched(&matched, "0000000", &[row]));
             assert!(rt; matched.requests.len() <= 1);
             assert!(rt; matched.left_out <= 1);
-            match part_of(heap, &matched, 0, 1) {
-                Err(_) => assert!(rt; armed && !heap.is_armed()),
-                Ok(part) => assert!(rt; is_matched(&part, "0000000", &[row])),
-            }
             match rounds_of(heap, matched.requests.as_slice()) {
                 Err(_) => assert!(rt; armed && !heap.is_armed()),
                 Ok(schedule) => assert_eq!(rt; schedule.rounds.len(), 1),
+            }
+            match part_of(heap, matched, 0, 1) {
+                Err(_) => assert!(rt; armed && !heap.is_armed()),
+                Ok(part) => assert!(rt; is_matched(&part, "0000000", &[row])),
             }
         }
     }

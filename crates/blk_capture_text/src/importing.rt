@@ -77,7 +77,7 @@ pub fn import(
     };
     // brings the prover how many records there can be
     let _ = records.len();
-    match part_of(alloc, &whole, begin_after(asked.skip, records), asked.first) {
+    match part_of(alloc, whole, begin_after(asked.skip, records), asked.first) {
         Ok(part) => {
             let count = part.requests.len() as u64;
             if count > MAX_COMMANDS {

@@ -78,17 +78,17 @@ impl UnusedCounts {
         }
     }
 
-    /// With one record more, of which this is known: of what is of a request, as most are, nothing is counted.
-    pub fn with(self, fate: Fate) -> UnusedCounts
-        ensures { result ≡ counts_with self fate }
+    /// Counts one record more, of which this is known: of what is of a request, as most are, nothing.
+    pub fn count(&mut self, fate: Fate)
+        ensures { self.new ≡ counts_with self.old fate }
     {
         match fate {
-            Fate::Taken(_) | Fate::LeftOut => self,
-            Fate::Unmatched | Fate::PassedOver(_) => self.with_unused(fate),
+            Fate::Taken(_) | Fate::LeftOut => {}
+            Fate::Unmatched | Fate::PassedOver(_) => *self = self.with_unused(fate),
         }
     }
 
-    /// The same, of a record of no known request.
+    /// With one record more, of no known request.
     fn with_unused(self, fate: Fate) -> UnusedCounts
         ensures { result ≡ counts_with self fate }
     {

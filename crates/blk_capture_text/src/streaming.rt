@@ -83,7 +83,7 @@ impl Streamed {
         self.first = first_of(self.counts.records, self.first, next.time);
         self.counts = self.counts.with(next);
         let fate = self.running.take(next)?;
-        self.unused = self.unused.with(fate);
+        self.unused.count(fate);
         Ok(())
     }
 
@@ -118,11 +118,8 @@ impl Streamed {
             first,
         } = self;
         let whole = running.settle(alloc)?;
-        // what was matched takes more than what it comes to
-        drop(running);
         let begin = begin_from(first, asked.skip);
-        let part = part_of(alloc, &whole, begin, asked.first)?;
-        drop(whole);
+        let part = part_of(alloc, whole, begin, asked.first)?;
         let summary = summarize_run(alloc, counts.records, &part)?;
         Ok(StreamedSummary {
             requests: part.requests,

@@ -67,38 +67,36 @@ loop-place-preserved g c =
 
 pub returns-clause-fates : goal.returns-clause-fates
 returns-clause-fates g c =
-    let all : length c.as_slice.result.now ≡ length c.args.records.now = ap length c.as_slice.ensures.value ∙ c.loop-place.invariant.each ∙ omega arith in
-    IfOk-weaker c.settle.result (λ m. map is_matched m.fates.items ≡ map is_known c.as_slice.result.now) (λ m. length m.fates.items ≡ length c.args.records.now)
-    (λ m same. fates_each m.fates.items c.as_slice.result.now same ∙ all)
+    let all : length c.loop-place.roles.items ≡ length c.args.records.now = c.loop-place.invariant.each ∙ omega arith in
+    IfOk-weaker c.settle.result (λ m. map is_matched m.fates.items ≡ map is_known c.loop-place.roles.items) (λ m. length m.fates.items ≡ length c.args.records.now)
+    (λ m same. fates_each m.fates.items c.loop-place.roles.items same ∙ all)
     c.settle.ensures.matched
 
 pub returns-clause-passed : goal.returns-clause-passed
 returns-clause-passed g c =
     let past : length c.args.records.now ≤ c.loop-place.place = omega arith in
-    IfOk-weaker c.settle.result (λ m. map passed_by m.fates.items ≡ map passed_role c.as_slice.result.now) (λ m. ArePassed c.args.records.now m.fates.items)
-    (λ m same. same ∙ ap (map passed_role) c.as_slice.ensures.value ∙ c.loop-place.invariant.passed ∙ ap (map passed_over) (take_all c.loop-place.place c.args.records.now past))
+    IfOk-weaker c.settle.result (λ m. map passed_by m.fates.items ≡ map passed_role c.loop-place.roles.items) (λ m. ArePassed c.args.records.now m.fates.items)
+    (λ m same. same ∙ c.loop-place.invariant.passed ∙ ap (map passed_over) (take_all c.loop-place.place c.args.records.now past))
     c.settle.ensures.passed
 
 pub returns-clause-opened : goal.returns-clause-opened
 returns-clause-opened g c =
-    both_ok c.settle.result (λ m. map is_matched m.fates.items ≡ map is_known c.as_slice.result.now) (λ m. length m.requests.items + m.absorbed + m.left_out ≡ length c.loop-place.matching.requests.items)
+    both_ok c.settle.result (λ m. map is_matched m.fates.items ≡ map is_known c.loop-place.roles.items) (λ m. length m.requests.items + m.absorbed + m.left_out ≡ length c.loop-place.matching.requests.items)
     (λ m. length m.requests.items + m.absorbed + m.left_out ≡ told opens c.args.records.now m.fates.items)
     (λ m same opened.
     opened
     ∙ c.loop-place.invariant.opened
-    ∙ ap (told opens_role c.args.records.now) (sym c.as_slice.ensures.value)
-    ∙ sym (told_alike opened_by c.args.records.now m.fates.items c.as_slice.result.now same))
+    ∙ sym (told_alike opened_by c.args.records.now m.fates.items c.loop-place.roles.items same))
     c.settle.ensures.matched c.settle.ensures.opened
 
 pub returns-clause-made : goal.returns-clause-made
 returns-clause-made g c =
-    both_ok c.settle.result (λ m. map is_matched m.fates.items ≡ map is_known c.as_slice.result.now) (λ m. length m.bios.items ≡ length c.loop-place.matching.members.bios.items)
+    both_ok c.settle.result (λ m. map is_matched m.fates.items ≡ map is_known c.loop-place.roles.items) (λ m. length m.bios.items ≡ length c.loop-place.matching.members.bios.items)
     (λ m. length m.bios.items ≡ told makes c.args.records.now m.fates.items)
     (λ m same made.
     made
     ∙ c.loop-place.invariant.made
-    ∙ ap (told makes_role c.args.records.now) (sym c.as_slice.ensures.value)
-    ∙ sym (told_alike made_by c.args.records.now m.fates.items c.as_slice.result.now same))
+    ∙ sym (told_alike made_by c.args.records.now m.fates.items c.loop-place.roles.items same))
     c.settle.ensures.matched c.settle.ensures.made
 
 pub returns-clause-matching : goal.returns-clause-matching
@@ -108,7 +106,7 @@ returns-clause-matching g c =
     let roles : List Role = c.loop-place.roles.items in
     let all : c.loop-place.place ≡ length c.args.records.now = omega arith in
     let rules : AreTold o c.args.records.now roles (length c.args.records.now) m = subst (λ n. AreTold o c.args.records.now roles n m) all c.loop-place.invariant.told in
-    four_ok c.settle.result (λ t. map uncounted t.requests.items ≡ taken_from o m m.dispatches) (λ t. t.bios.items ≡ map (captured_bio o m) m.bios) (λ t. t.fates.items ≡ map (fate_by o m) c.as_slice.result.now) (λ t. t.absorbed ≡ count_by (λ q. is_absorbed q.stage) m.requests)
+    four_ok c.settle.result (λ t. map uncounted t.requests.items ≡ taken_from o m m.dispatches) (λ t. t.bios.items ≡ map (captured_bio o m) m.bios) (λ t. t.fates.items ≡ map (fate_by o m) c.loop-place.roles.items) (λ t. t.absorbed ≡ count_by (λ q. is_absorbed q.stage) m.requests)
     (λ t. IsMatching o c.args.records.now t.requests.items t.bios.items t.fates.items t.absorbed)
-    (λ t taken bios fates gone. record { known = m; roles = roles; by_rules = rules; requests_are = taken; bios_are = bios; fates_are = fates ∙ ap (map (fate_by o m)) c.as_slice.ensures.value; absorbed_are = gone })
+    (λ t taken bios fates gone. record { known = m; roles = roles; by_rules = rules; requests_are = taken; bios_are = bios; fates_are = fates; absorbed_are = gone })
     c.settle.ensures.taken c.settle.ensures.bios_are c.settle.ensures.fates_are c.settle.ensures.absorbed

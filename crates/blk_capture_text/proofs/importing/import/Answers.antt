@@ -23,8 +23,8 @@ returns-then-count-gt-MAX_COMMANDS-clause-err c =
       many = omega arith;
     }
 
-pub returns-in-Ok-part_of-clause-ok : goal.returns-in-Ok-part_of-clause-ok
-returns-in-Ok-part_of-clause-ok c =
+pub returns-else-count-gt-MAX_COMMANDS-clause-ok : goal.returns-else-count-gt-MAX_COMMANDS-clause-ok
+returns-else-count-gt-MAX_COMMANDS-clause-ok c =
     let all = c.in-Ok.ensures in
     let part = c.in-Ok-part_of.ensures in
     imported c.args.records.now c.args.asked.now _ _ _ _ _ _ _ _ _ _ _ c.begin_after.ensures

@@ -8,5 +8,5 @@ pub returns-clause-run : goal.returns-clause-run
 returns-clause-run g c = λ records fates taken.
     let run = taken.run in
     let all = c.settle.ensures in
-    run_settled (run_options c.args.self.now) (all_known c.args.self.now.matching) records taken.roles c.as_slice.result.now fates c.settle.result
-    run.each run.by_rules run.opened run.made run.passed (c.as_slice.ensures.value ∙ run.merges) taken.so_far_are all.within all.opened all.made all.taken all.bios_are all.fates_are all.absorbed
+    run_settled (run_options c.args.self) (all_known c.args.self.matching) records taken.roles c.args.self.merges.items fates c.settle.result
+    run.each run.by_rules run.opened run.made run.passed run.merges taken.so_far_are all.within all.opened all.made all.taken all.bios_are all.fates_are all.absorbed

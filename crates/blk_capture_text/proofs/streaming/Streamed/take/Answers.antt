@@ -13,7 +13,7 @@ returns-clause-streamed c = λ records had.
     record {
       fates = had.fates ++ c.in_ok-fate.fate ∷ [];
       taken = c.in_ok-fate.ensures.taken records had.fates had.taken;
-      unused = c.with-self-2.ensures ∙ counts_next had.fates c.in_ok-fate.fate c.args.self.now.unused (omega (arith, each, c.requires.few)) had.unused;
+      unused = c.count.ensures ∙ counts_next had.fates c.in_ok-fate.fate c.args.self.now.unused (omega (arith, each, c.requires.few)) had.unused;
       counts = c.with-self.ensures.value ∙ ap (λ k. counted_with k r) had.counts ∙ sym (counted_more no_records records r);
       first = c.first_of-self.ensures ∙ first_next records r _ _ (c.requires.steady.each ∙ had.taken.run.counted) had.first;
       next = follows_last records r _ c.in_ok-fate.ensures.now;
