@@ -62,6 +62,11 @@ more_room setup queues hw depth same v w hands ran as_many room more parts amoun
   counted = is.counted;
 })
 
+-- one whose part of the ledger has what it had
+pub same_part : (setup : Setup) (queues : List ℕ) (hw depth : ℕ) (v : List ℕ) (hands : List (Option Command)) (ran room parts pieces amount sum : ℕ)
+    → IsWorking setup queues hw depth v hands ran room parts amount → pieces ≡ parts → sum ≡ amount → IsWorking setup queues hw depth v hands ran room pieces sum
+same_part setup queues hw depth v hands ran room parts pieces amount sum is p s = rw (p, s) is
+
 pub same_seat : (set same : Set) (hw : ℕ) (v w : List ℕ) (hands : List (Option Command)) (ran all : List Command) → same ≡ set → w ≡ v → all ≡ ran
     → (let new : WorkerSeat = record { tag_set = same; hw = hw; tags = w; hands = hands; ran = all } in new) ≡ record { tag_set = set; hw = hw; tags = v; hands = hands; ran = ran }
 same_seat set same hw v w hands ran all e f g = rw (e, f, g) refl

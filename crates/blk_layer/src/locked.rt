@@ -1,9 +1,9 @@
 //! What lies under the locks: the core, and each software queue.
 
-ghost use Rattle.std.specs.Prelude.{true, false, ◌≡◌, ◌≤◌, ◌+◌, [], IfOk, IfErr, OnOk, OnErr, length, vec_len};
+ghost use Rattle.std.specs.Prelude.{true, false, ◌≡◌, ◌<◌, ◌≤◌, ◌+◌, [], Contains, IfOk, IfErr, OnOk, OnErr, length, vec_len};
 ghost use Rattle.blk_bio.specs.declared.limits.TheConstants.{MAX_SOFT_DEPTH};
 ghost use Rattle.blk_core.specs.Faults.{IsTickFault};
-ghost use Rattle.blk_core.specs.Calls.{Ends, SetsDepth};
+ghost use Rattle.blk_core.specs.Calls.{Issues, Completes, RequeuesTag, Ends, SetsDepth};
 ghost use Rattle.blk_core.specs.Runs.{IsRunFrom};
 ghost use Rattle.blk_layer.specs.Submitting.{AreMapped, AreOfFirst};
 ghost use Rattle.blk_layer.specs.Rounds.{EndsFullRounds};
@@ -14,11 +14,13 @@ ghost use Rattle.blk_layer.specs.declared.layer.TheConstants.{MAX_WORKERS};
 
 use crate::layer::Named;
 use crate::seats::{Worker, audit};
-use blk_bio::Limits;
-use blk_core::{Core, DepthFault, TickFault};
+use crate::serving::{LayerIssueFault, of_core};
+use blk_bio::{Limits, Request};
+use blk_core::{BackFault, Core, DepthFault, NotIssued, TickFault};
 use blk_queues::SoftQueue;
 use blk_sched::Scheduler;
 use blk_trace::Trace;
+use edd_commands::Command;
 use std::alloc::{AllocError, Allocator};
 use std::marker::PhantomData;
 use std::sync::Mutex;
@@ -61,6 +63,44 @@ impl<S: Scheduler, L: Named> LockedCore<S, L> {
             rest,
             next_tag: 0,
         }
+    }
+
+    /// Issues a command under a tag, if there is one for a hardware queue of the layer's workers.
+    pub(crate) fn issue(&mut self, hw: u8, tag: u16) -> Result<Option<Command>, LayerIssueFault>
+        requires queue { hw < L.setup.hw }
+        requires one { Contains L.queues hw }
+        ensures issued { IfOk result (λ found. Issues S.policy.serves S.policy.chooses self.old.core hw tag found self.new.core) }
+        ensures same { OnErr result (self.new.core ≡ self.old.core) }
+    {
+        match self.core.issue(hw, tag) {
+            Ok(found) => Ok(found),
+            Err(why) => Err(of_core(why)),
+        }
+    }
+
+    /// Reports the command under a tag as done, counts it for a worker's part of the ledger, and hands its request out.
+    pub(crate) fn complete(
+        &mut self,
+        share: &mut Share<L>,
+        tag: u16,
+    ) -> Result<Request<S::A>, NotIssued>
+        requires { share.old.parts ≡ 1 }
+        ensures done { OnOk result (Completes S.policy.told_done self.old.core tag self.new.core) }
+        ensures amount { OnOk result (share.new.amount ≡ share.old.amount + 1) }
+        ensures parts { share.new.parts ≡ share.old.parts }
+        ensures same { OnErr result ((self.new.core ≡ self.old.core) × (share.new.amount ≡ share.old.amount)) }
+    {
+        let request = self.core.complete(tag)?;
+        self.book.add(share, 1);
+        Ok(request)
+    }
+
+    /// Requeues the command under a tag, and answers its id.
+    pub(crate) fn back(&mut self, tag: u16) -> Result<u64, BackFault>
+        ensures back { IfOk result (λ id. RequeuesTag self.old.core tag id self.new.core) }
+        ensures same { OnErr result (self.new.core ≡ self.old.core) }
+    {
+        self.core.back(tag)
     }
 
     /// Ends the round, and answers the number of the next one.

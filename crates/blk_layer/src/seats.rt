@@ -8,13 +8,13 @@ ghost use Rattle.blk_layer.specs.Submitting.{CanAccept, IsFlushReason};
 ghost use Rattle.blk_layer.specs.Serving.{TakesInHand, AccountsFor, LetsGo, IsInHand, IsIssueAnswer};
 ghost use Rattle.blk_layer.specs.Closing.{all_ran};
 ghost use Rattle.blk_layer.specs.Inside.Submitting.{IsOfBios};
-ghost use Rattle.blk_layer.specs.Inside.Serving.{IssuesTo, IssuesAsTold};
+ghost use Rattle.blk_layer.specs.Inside.Serving.{IssuesTo};
 ghost use Rattle.blk_layer.specs.Inside.Next.{no_next, IsNoNext, TakesTag, KeepsTags, TriesEach};
 
 use crate::accounts::Account;
 use crate::layer::Named;
 use crate::locked::LockedCore;
-use crate::serving::{Issued, LayerIssueFault, of_core};
+use crate::serving::Issued;
 use crate::submitting::{FlushWhy, first_foreign};
 use blk_bio::{Bio, Request};
 use blk_core::{BackFault, NoneIssued, NotIssued};
@@ -137,13 +137,13 @@ pub(crate) fn seat_submitters<L: Named, A: Allocator + Clone>(
 /// commands that it ran, and its part of the ledger. Where it is dropped its tags stay taken, and no close is Ok any more.
 #[derive(Drop)]
 pub struct Worker<L: Named, A: Allocator = Global> {
-    hw: u8,
-    seat: TagSeat<A>,
+    pub(crate) hw: u8,
+    pub(crate) seat: TagSeat<A>,
     /// The commands in its hands, by tag.
-    hands: Vec<Option<Command>, A>,
+    pub(crate) hands: Vec<Option<Command>, A>,
     /// Its account, which has room for the commands in its hands.
-    ran: Vec<Command, A>,
-    share: Share<L>,
+    pub(crate) ran: Vec<Command, A>,
+    pub(crate) share: Share<L>,
 }
 
 impl<L: Named, A: Allocator> Model for Worker<L, A> {
@@ -216,42 +216,8 @@ impl<L: Named, A: Allocator + Clone> Worker<L, A> {
         self.ran.reserve(self.hands.len())
     }
 
-    /// Issues a command to it out of the core, as `Layer::issue` says. Without a command the tag is given back.
-    pub(crate) fn issue<S: Scheduler<A = A>>(
-        &mut self,
-        core: &mut LockedCore<S, L>,
-        tags: &TagSet<A>,
-    ) -> Result<Option<Issued>, LayerIssueFault>
-        requires { self.old.tag_set ≡ tags.now }
-        ensures issued { IfOk result (λ found. IsIssueAnswer self.old found self.new) }
-        ensures core { IfOk result (λ found. IssuesAsTold S.policy core.old.core self.old.hw found core.new.core) }
-        ensures same { OnErr result (self.new ≡ self.old) }
-    {
-        let Some(tag) = tags.get(&mut self.seat) else {
-            return Err(LayerIssueFault::NoTag);
-        };
-        if self.ran.reserve(self.hands.len()).is_err() {
-            tags.give(&mut self.seat, tag);
-            return Err(LayerIssueFault::Memory);
-        }
-        match core.core.issue(self.hw, tag) {
-            Ok(Some(command)) => {
-                self.hands[usize::from(tag)] = Some(command);
-                Ok(Some(Issued { command, tag }))
-            }
-            Ok(None) => {
-                tags.give(&mut self.seat, tag);
-                Ok(None)
-            }
-            Err(why) => {
-                tags.give(&mut self.seat, tag);
-                Err(of_core(why))
-            }
-        }
-    }
-
     /// The command in its hands under a tag.
-    fn in_hand(&self, tag: u16) -> Option<Command>
+    pub(crate) fn in_hand(&self, tag: u16) -> Option<Command>
         ensures some { IfSome result (λ command. slice_get self.now.hands tag ≡ Some (Some command)) }
         ensures none { IfNone result (¬ Contains self.now.tags tag) }
     {
@@ -263,7 +229,7 @@ impl<L: Named, A: Allocator + Clone> Worker<L, A> {
         self.hands[usize::from(tag)]
     }
 
-    /// Reports to the core as done the command in its hands under a tag, as `Layer::done` says, and hands its request out.
+    /// Reports to the core as done the command in its hands under a tag, and hands its request out. The tag is given back under the core's lock.
     pub(crate) fn done<S: Scheduler<A = A>>(
         &mut self,
         core: &mut LockedCore<S, L>,
@@ -278,8 +244,7 @@ impl<L: Named, A: Allocator + Clone> Worker<L, A> {
         let Some(command) = self.in_hand(tag) else {
             return Err(NotIssued);
         };
-        let request = core.core.complete(tag)?;
-        core.book.add(&mut self.share, 1);
+        let request = core.complete(&mut self.share, tag)?;
         self.hands[usize::from(tag)] = None;
         self.ran.push_reserved(command);
         tags.give(&mut self.seat, tag);
@@ -302,7 +267,7 @@ impl<L: Named, A: Allocator + Clone> Worker<L, A> {
         let Some(command) = self.in_hand(tag) else {
             return Err(BackFault::NotIssued);
         };
-        core.core.back(tag)?;
+        core.back(tag)?;
         self.hands[usize::from(tag)] = None;
         tags.give(&mut self.seat, tag);
         Ok(command.id)

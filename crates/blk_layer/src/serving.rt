@@ -137,8 +137,30 @@ impl<S: Scheduler, L: Named> Layer<S, L> {
         ensures issued { IfOk result (λ found. IsIssueAnswer worker.old found worker.new) }
         ensures same { OnErr result (worker.new ≡ worker.old) }
     {
+        let Some(tag) = self.tags.get(&mut worker.seat) else {
+            return Err(LayerIssueFault::NoTag);
+        };
+        if worker.ran.reserve(worker.hands.len()).is_err() {
+            self.tags.give(&mut worker.seat, tag);
+            return Err(LayerIssueFault::Memory);
+        }
         let mut core = self.core.lock(rt);
-        worker.issue(&mut *core, &self.tags)
+        let found = core.issue(worker.hw, tag);
+        drop(core);
+        match found {
+            Ok(Some(command)) => {
+                worker.hands[usize::from(tag)] = Some(command);
+                Ok(Some(Issued { command, tag }))
+            }
+            Ok(None) => {
+                self.tags.give(&mut worker.seat, tag);
+                Ok(None)
+            }
+            Err(why) => {
+                self.tags.give(&mut worker.seat, tag);
+                Err(why)
+            }
+        }
     }
 
     /// Reports as done the command in the worker's hands under a tag: the one that the worker was last issued with it. It goes
@@ -155,13 +177,17 @@ impl<S: Scheduler, L: Named> Layer<S, L> {
         ensures done { OnOk result (AccountsFor worker.old tag worker.new) }
         ensures same { OnErr result (worker.new ≡ worker.old) }
     {
+        let Some(command) = worker.in_hand(tag) else {
+            return Err(NotIssued);
+        };
         let mut core = self.core.lock(rt);
-        let done = worker.done(&mut *core, &self.tags, tag);
+        let request = core.complete(&mut worker.share, tag)?;
         drop(core);
-        match done {
-            Ok(_) => Ok(()),
-            Err(why) => Err(why),
-        }
+        worker.hands[usize::from(tag)] = None;
+        worker.ran.push_reserved(command);
+        self.tags.give(&mut worker.seat, tag);
+        drop(request);
+        Ok(())
     }
 
     /// Requeues the command in the worker's hands under a tag, since the device was busy, and answers its id: the core will issue
@@ -180,8 +206,15 @@ impl<S: Scheduler, L: Named> Layer<S, L> {
         ensures fault { IfErr result (λ why. why ≡ BackFault.Memory → IsInHand worker.old tag) }
         ensures same { OnErr result (worker.new ≡ worker.old) }
     {
+        let Some(command) = worker.in_hand(tag) else {
+            return Err(BackFault::NotIssued);
+        };
         let mut core = self.core.lock(rt);
-        worker.back(&mut *core, &self.tags, tag)
+        core.back(tag)?;
+        drop(core);
+        worker.hands[usize::from(tag)] = None;
+        self.tags.give(&mut worker.seat, tag);
+        Ok(command.id)
     }
 
     /// Ends the round, full or not, where the layer's name says that this may be done by hand, and answers the number of the next one: how many

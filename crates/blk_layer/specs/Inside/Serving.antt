@@ -17,11 +17,6 @@ use Rattle.blk_core.specs.declared.refusals.CoreFault.TheVariants as core
 abbrev pub IssuesTo : Policy → CoreState → ℕ → Issued → CoreState → Type 0
 IssuesTo policy old hw issued new = Issues policy.serves policy.chooses old hw issued.tag (Some issued.command) new
 
--- what an answer of an issue says of the core
-abbrev pub IssuesAsTold : Policy → CoreState → ℕ → Option Issued → CoreState → Type 0
-IssuesAsTold policy old hw None new = new ≡ old
-IssuesAsTold policy old hw (Some issued) new = IssuesTo policy old hw issued new
-
 -- the command in the hands of a worker under a tag was ended as the device answered: it is done where the device ran it, and requeued
 -- where that was busy
 abbrev pub IsEndedAs : Ran → WorkerSeat → ℕ → WorkerSeat → Type 0

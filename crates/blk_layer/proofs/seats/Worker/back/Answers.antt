@@ -1,13 +1,8 @@
 use Rattle.std.proofs.Common.{◌≡◌, ◌∙◌, ◌≤◌, ◌+◌, Some, length, refl, sym, ap, subst, arith}
-use Rattle.std.proofs.Math.Logic.{∥∥₁_map}
 use Rattle.std.specs.Prelude.{slice_get}
 use Rattle.std.specs.Vec.{vec_capacity}
-use Rattle.blk_core.specs.Calls.{RequeuesTag}
 use Rattle.blk_tags.specs.Tags.{Seat as TagSeat}
 use Rattle.blk_layer.specs.Seats.{WorkerSeat}
-use Rattle.blk_layer.proofs.Moving.{back_stays, stays_either}
-use Rattle.blk_layer.proofs.Ruled.{either, taken_back}
-use Rattle.blk_layer.proofs.Rounds.{either_full, back_full}
 use Rattle.blk_layer.proofs.InHand.{tag_held, one_fewer}
 use Rattle.blk_layer.proofs.seats.Worker.back.Goals as goal
 
@@ -25,18 +20,3 @@ invariant_of-self g c =
     let ran = length own.ran.items in
     let few : ran ≤ ran + 1 = omega arith in
     one_fewer g.L.Named.setup g.L.Named.queues own.hw own.seat.of_set.depth c.give.new.seat.of_set.depth own.seat.tags c.give.new.seat.tags own.hands.items ran ran (vec_capacity own.ran) (vec_capacity own.ran) own.share.parts own.share.parts own.share.amount own.share.amount c.from.result c.args.tag c.in-Some.command c.self.invariant (ap (λ (s : TagSeat). s.of_set.depth) gave) held (ap (λ (s : TagSeat). s.tags) gave) c.from.ensures few refl refl c.self.invariant.counted
-
-pub invariant_of-core : goal.invariant_of-core
-invariant_of-core g c =
-    let locked = c.args.core.now in
-    let new = c.back.new.self in
-    let S = g.S.Scheduler in
-    let stays = stays_either (λ id. RequeuesTag locked.core c.args.tag id new) locked.core new c.back.result (back_stays locked.core c.args.tag new) c.back.ensures.back c.back.ensures.same in
-    record {
-      named = stays.setup ∙ locked.named;
-      counted = locked.counted ∙ sym stays.dones;
-      all_out = locked.all_out;
-      none = locked.none;
-      full = λ off. either_full (λ id. RequeuesTag locked.core c.args.tag id new) locked.core new c.back.result (back_full locked.core c.args.tag new) c.back.ensures.back c.back.ensures.same (locked.full off);
-      ran = ∥∥₁_map locked.ran (either S.policy g.L.Named.map g.L.Named.queues g.L.Named.start (λ id. RequeuesTag locked.core c.args.tag id new) locked.core new c.back.result (taken_back S.policy g.L.Named.map g.L.Named.queues g.L.Named.start locked.core c.args.tag new) c.back.ensures.back c.back.ensures.same);
-    }
