@@ -1,5 +1,5 @@
 -- Requests that are each of one submitter, for which a map has a hardware queue.
-use Rattle.std.proofs.Common.{◌≡◌, ◌∙◌, ◌<◌, ℕ, zero, suc, refl, sym, ap, subst, arith, Bool, List, [], ◌∷◌, ◌++◌, Some, None, length, Result, Ok, Err, IfErr}
+use Rattle.std.proofs.Common.{◌≡◌, ◌<◌, ℕ, zero, suc, refl, sym, ap, subst, arith, Bool, List, [], ◌∷◌, ◌++◌, Some, None, length, Result, Ok, Err, IfErr}
 use Rattle.std.specs.Prelude.{◌≢◌, ◌≤◌, slice_get, slice_index_or}
 use Rattle.std.specs.List.{flat_map}
 use Rattle.blk_bio.specs.Bios.{Bio}

@@ -1,12 +1,11 @@
 -- A core of which each round that ended was full: what each call leads to.
-use Rattle.std.proofs.Common.{◌≡◌, ◌≤◌, ℕ, zero, suc, sym, subst, take, List, [], ◌∷◌, ◌++◌, Result, Ok, Err, Option, Some, None, IfOk, IfErr, OnErr, inl, inr}
+use Rattle.std.proofs.Common.{◌≡◌, ◌≤◌, ℕ, zero, suc, sym, subst, List, [], ◌∷◌, ◌++◌, Result, Ok, Err, Option, Some, None, IfOk, IfErr, OnErr, inl, inr}
 use Rattle.edd_commands.specs.declared.Command.{Command}
 use Rattle.blk_bio.specs.Bios.{Bio}
 use Rattle.blk_queues.specs.Queues.{Queue}
 use Rattle.blk_trace.specs.Happened.{Happened}
 use Rattle.blk_trace.specs.declared.event.Event.TheVariants.{Release, Join, Issue, Done, Back, Tick, Depth}
 use Rattle.blk_trace.specs.Setups.{Setup}
-use Rattle.blk_trace.specs.Events.{At}
 use Rattle.blk_trace.specs.Depths.{depth_now}
 use Rattle.blk_trace.proofs.Places.{split, before, before_last}
 use Rattle.blk_sched.specs.Policies.{Policy}
@@ -15,7 +14,7 @@ use Rattle.blk_core.specs.declared.calls.Placed.TheVariants.{New, Joined as Join
 use Rattle.blk_core.specs.declared.trying.NoneIssued.{NoneIssued}
 use Rattle.blk_core.specs.declared.trying.NoneIssued.TheVariants as none
 use Rattle.blk_core.specs.State.{CoreState}
-use Rattle.blk_core.specs.Calls.{AddsEvent, Places, Issues, Completes, RequeuesTag, Ends, SetsDepth}
+use Rattle.blk_core.specs.Calls.{AddsEvent, Places, Issues, Completes, RequeuesTag, SetsDepth}
 use Rattle.blk_core.specs.Tries.{issued_now, IsFull, IsNoneIssued}
 use Rattle.blk_layer.specs.Rounds.{EndsFullRounds}
 use Rattle.blk_layer.specs.Submitting.{MovesSome, IsMoveAllAnswer, queue_of}

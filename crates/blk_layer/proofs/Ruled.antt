@@ -11,7 +11,7 @@ use Rattle.blk_core.specs.declared.calls.Placed.TheVariants.{New, Joined as Join
 use Rattle.blk_core.specs.State.{CoreState}
 use Rattle.blk_sched.specs.Policies.{Policy}
 use Rattle.blk_core.specs.Calls.{Places, Issues, Completes, RequeuesTag, Ends, SetsDepth}
-use Rattle.blk_core.specs.Runs.{MakesCalls, IsRunFrom}
+use Rattle.blk_core.specs.Runs.{MakesCalls}
 use Rattle.blk_core.specs.declared.refusals.IssueFault.{IssueFault}
 use Rattle.blk_layer.proofs.Moving.{Stays, stays_either, issue_stays}
 use Rattle.blk_layer.proofs.Mapped.{first_mapped, mapped_to, some_mapped}

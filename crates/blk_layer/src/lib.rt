@@ -3,8 +3,8 @@
 //!
 //! After blk-mq of Linux: a software queue for each submitter (`struct blk_mq_ctx`), hardware queues that drain those mapped to
 //! them, and driver tags. The core, a scheduler beside its trace, lies under one lock, each software queue under a lock of
-//! its own. Tags are taken and given back by atomic steps, while the core's lock is held, so that they wait for no lock of their
-//! own, and gain nothing beside one. What each seat had accepted is in its account.
+//! its own. Tags are taken and given back by atomic steps: by single calls outside of the core's lock, by [`Layer::work`] under it,
+//! since that is faster, so that they gain a load nothing. What each seat had accepted is in its account.
 #![tactic(auto)]
 
 mod accounts;
