@@ -18,10 +18,7 @@ use Rattle.blk_index.specs.declared.edges.Edge.{Edge}
 use Rattle.blk_index.specs.Index.{IsJoined}
 use Rattle.blk_index.specs.Inside.Search.{at_of, opposite_of, IsNamed}
 use Rattle.blk_index.proofs.Indexed.{Found, named_then, named_same, becomes_given}
-use Rattle.blk_index.proofs.Join.{fits_it, first_place, end_place, dir_stays, at_joined, apart_at}
-use Rattle.blk_index.specs.Inside.FifoLists.{AreFifoLists}
-use Rattle.blk_index.specs.declared.fifo.FifoLists.{FifoLists}
-use Rattle.blk_index.proofs.FifoIds.{fifo_stayed, fifo_same}
+use Rattle.blk_index.proofs.Join.{fits_it, first_place, end_place, at_joined, apart_at}
 use Rattle.blk_index.proofs.Edged.{edge_moved, edge_more, edge_grown}
 
 -- the sectors of both
@@ -64,10 +61,6 @@ module _ {T E : Type 0} (limits : Limits) (m n : Pending) (id at : ℕ) (side : 
   pub named_joined : (r : Result T E) → IsNamed (map.get m) → OnOk r (IsJoined at newcomer m id side n) → OnErr r (n ≡ m) → IsNamed (map.get n)
   named_joined (Ok x) named join same = named_then (map.get m) (map.get n) id (Some (joined_waiting side at newcomer join.waiting)) named (λ u h. let one : joined_waiting side at newcomer join.waiting ≡ u = cc in ap (λ (x : Waiting). x.id) (sym one) ∙ named id join.waiting join.was) (becomes_so limits m n id at side newcomer join)
   named_joined (Err x) named join same = named_same (map.get m) (map.get n) named (unchanged m n same)
-
-  pub fifo_joined : {A : Type 0} (r : Result T E) (fifo : FifoLists A) → AreFifoLists (map.get m) fifo → OnOk r (IsJoined at newcomer m id side n) → OnErr r (n ≡ m) → AreFifoLists (map.get n) fifo
-  fifo_joined (Ok x) fifo are join same = fifo_stayed (map.get m) (map.get n) id fifo join.waiting (joined_waiting side at newcomer join.waiting) are join.was (dir_stays limits join.waiting.bios newcomer side (fits_so limits m n id at side newcomer fit join)) (becomes_so limits m n id at side newcomer join)
-  fifo_joined (Err x) fifo are join same = fifo_same (map.get m) (map.get n) fifo are (unchanged m n same)
 
 -- ---- the edges of a join
 

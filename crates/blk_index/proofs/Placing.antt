@@ -1,13 +1,16 @@
 -- The keys of ids, in a run and beside it.
-use Rattle.std.proofs.Common.{◌≡◌, ◌<◌, ◌≤◌, ◌+◌, ◌-◌, ◌++◌, ◌∙◌, inl, inr, ℕ, zero, suc, true, false, cond, List, [], ◌∷◌, Option, None, Some, length, get_or, set, sym, ap, refl, arith, get_or-set_same, get_or-set_other}
-use Rattle.std.specs.Prelude.{drop, slice_get, OnOk, OnErr, Result, Ok, Err}
-use Rattle.std.specs.Ordering.{nat_cmp, is_eq}
+use Rattle.std.proofs.Common.{◌≡◌, ◌<◌, ◌≤◌, ◌+◌, ◌-◌, ◌++◌, ◌∙◌, inl, inr, ℕ, zero, suc, Bool, true, false, cond, List, [], ◌∷◌, Option, None, Some, length, get_or, set, sym, ap, refl, arith, get_or-set_same, get_or-set_other}
+use borrow.Author.Tests.{ltb-true, ltb-false}
+use Rattle.std.specs.Prelude.{drop, slice_get, nat_lt, if◌then◌else◌, IsSome, is_some, SomeIff, ◌^◌, OnOk, OnErr, Result, Ok, Err}
+use Rattle.std.specs.Ordering.{nat_cmp, is_eq, is_gt}
 use Rattle.std.specs.Cmp.{nat_cmp_total, tied_itself}
 use Rattle.std.specs.BTreeMap.{is_at}
 use Rattle.std.proofs.lemmas.Bool.{cases_lt}
 use Rattle.std.proofs.lemmas.List.{get_or_push}
 use Rattle.blk_sched.proofs.Maps.{same_number}
-use Rattle.blk_index.specs.Inside.SlabKeys.{run_of, key_in, run_at, GivesKey}
+use Rattle.blk_index.proofs.Order.{greater}
+use Rattle.blk_index.specs.Inside.SlabKeys.{run_of, key_in, run_at, GivesKey, IsLeastId, IsLeastOrNone, AreInRange}
+use Rattle.blk_index.specs.Inside.Search.{lesser_of}
 
 abbrev pub Run : Type 0
 Run = List (Option ℕ)
@@ -117,6 +120,10 @@ gone from next [] now is none rest = cc
 gone from next (None ∷ os) now is none rest = ap (λ (n : ℕ). run_of n now) is ∙ ap (run_of (from + 1)) rest
 gone from next (Some p ∷ os) now is none rest = cc
 
+pub one_gone : (from next : ℕ) (os now : Run) → next ≡ from + 1 → slice_get os 0 ≡ Some None → now ≡ drop 1 os → AreInRange from os → AreInRange next now
+one_gone from next [] now is none rest range = cc
+one_gone from next (o ∷ os) now is none rest range = let e : length now ≡ length os = ap (λ (l : Run). length l) rest in omega (arith, e)
+
 -- an id without a key is passed over
 pub one_passed : (from : ℕ) (os : Run) → run_of from (os ++ None ∷ []) ≡ run_of from os
 unfolding run_of
@@ -159,6 +166,17 @@ first_none : (o x : Option ℕ) → either o x ≡ None → o ≡ None
 first_none None x h = refl
 first_none (Some p) x h = h
 
+second_none : (o x : Option ℕ) → either o x ≡ None → x ≡ None
+second_none None x h = h
+second_none (Some p) x h = absurd (cc)
+
+-- what is in neither of two is in none of them
+pub none_first : (es fs : Entries) (k : ℕ) → key_in (es ++ fs) k ≡ None → key_in es k ≡ None
+none_first es fs k none = first_none (key_in es k) (key_in fs k) (sym (joined es fs k) ∙ none)
+
+pub none_second : (es fs : Entries) (k : ℕ) → key_in (es ++ fs) k ≡ None → key_in fs k ≡ None
+none_second es fs k none = second_none (key_in es k) (key_in fs k) (sym (joined es fs k) ∙ none)
+
 pub first_given : (es gs fs : Entries) (id p : ℕ) → GivesKey (key_in es) id (Some p) (key_in gs) → GivesKey (key_in (es ++ fs)) id (Some p) (key_in (gs ++ fs))
 first_given es gs fs id p gives k =
     joined gs fs k ∙ ap (λ o. either o (key_in fs k)) (gives k)
@@ -171,7 +189,7 @@ pub then_given : (es fs gs : Entries) (id p : ℕ) → key_in (es ++ fs) id ≡ 
 then_given es fs gs id p none gives k =
     joined es gs k ∙ ap (either (key_in es k)) (gives k)
     ∙ elim (is_at (nat_cmp id) k) as (λ b. is_at (nat_cmp id) k ≡ b → either (key_in es k) (cond b (Some p) (key_in fs k)) ≡ cond b (Some p) (key_in (es ++ fs) k)) [
-      | true ↦ λ e. ap (λ o. either o (Some p)) (ap (key_in es) (same_number id k e) ∙ first_none (key_in es id) (key_in fs id) (sym (joined es fs id) ∙ none))
+      | true ↦ λ e. ap (λ o. either o (Some p)) (ap (key_in es) (same_number id k e) ∙ none_first es fs id none)
       | false ↦ λ _. sym (joined es fs k)
     ] refl
 
@@ -197,3 +215,86 @@ on_ok (Err e) f h = tt
 pub on_err : {E P Q : Type 0} (r : Result (Unit {0}) E) → (P → Q) → OnErr r P → OnErr r Q
 on_err (Ok x) f h = tt
 on_err (Err e) f h = f h
+
+-- ---- the least id
+
+no_some : (x : Option ℕ) → is_some x ≡ false → x ≡ None
+no_some None h = refl
+no_some (Some p) h = cc
+
+-- the first id of a run that has a key, where those before it have none
+pub least_in : (from : ℕ) (os : Run) (i id p : ℕ) → ((k : ℕ) → k < i → get_or os k None ≡ None) → get_or os i None ≡ Some p → id ≡ from + i → IsLeastId (run_at from os) id
+least_in from os i id p none own is = record {
+  there = ap is_some (within from os i id is ∙ own);
+  least = λ k low. elim (cases_lt k from) [
+    | inl less ↦ before from os k less
+    | inr more ↦ within from os (k - from) k (omega arith) ∙ none (k - from) (omega arith)
+  ];
+}
+
+pub least_at : (from : ℕ) (os : Run) (i : ℕ) (x r : Option ℕ) → AreInRange from os → i < length os → ((k : ℕ) → k < i → get_or os k None ≡ None) → x ≡ get_or os i None → is_some x ≡ true → SomeIff r (from + i < 2 ^ 64) (from + i) → IsLeastOrNone (run_at from os) r
+least_at from os i None r range short none is there sum = absurd (cc)
+least_at from os i (Some p) None range short none is there sum = absurd (sum (omega (arith, range, short)))
+least_at from os i (Some p) (Some id) range short none is there sum = least_in from os i id p none (sym is) sum.1
+
+-- those before the next place have none, where the one there has none
+pub one_further : (os : Run) (i : ℕ) (x : Option ℕ) → ((k : ℕ) → k < i → get_or os k None ≡ None) → x ≡ get_or os i None → is_some x ≡ false → (k : ℕ) → k < i + 1 → get_or os k None ≡ None
+one_further os i x none is empty k low = elim (cases_lt k i) [
+  | inl less ↦ none k less
+  | inr more ↦ let same : k ≡ i = omega (arith, low, more) in ap (λ n. get_or os n None) same ∙ sym is ∙ no_some x empty
+]
+
+pub none_in : (from : ℕ) (os : Run) → ((k : ℕ) → k < length os → get_or os k None ≡ None) → (k : ℕ) → run_at from os k ≡ None
+none_in from os none k = elim (cases_lt k from) [
+  | inl less ↦ before from os k less
+  | inr more ↦ within from os (k - from) k (omega arith) ∙ elim (cases_lt (k - from) (length os)) [
+    | inl short ↦ none (k - from) short
+    | inr far ↦ beyond os (k - from) far
+  ]
+]
+
+in_neither : (es fs : Entries) (k : ℕ) → key_in es k ≡ None → key_in fs k ≡ None → key_in (es ++ fs) k ≡ None
+in_neither es fs k one other = joined es fs k ∙ ap (λ x. either x (key_in fs k)) one ∙ other
+
+in_first : (es fs : Entries) (k : ℕ) → IsSome (key_in es k) → IsSome (key_in (es ++ fs) k)
+in_first es fs k one = elim (key_in es k) as (λ o. key_in es k ≡ o → IsSome o → IsSome (key_in (es ++ fs) k)) [
+  | None ↦ λ _ h. absurd (cc)
+  | Some p ↦ λ e _. ap is_some (joined es fs k ∙ ap (λ x. either x (key_in fs k)) e)
+] refl one
+
+in_second : (es fs : Entries) (k : ℕ) → key_in es k ≡ None → IsSome (key_in fs k) → IsSome (key_in (es ++ fs) k)
+in_second es fs k none one = ap is_some (joined es fs k ∙ ap (λ x. either x (key_in fs k)) none) ∙ one
+
+least_of_two : (es fs : Entries) (a b : ℕ) (less : Bool) → nat_lt b a ≡ less → IsLeastId (key_in es) a → IsLeastId (key_in fs) b → IsLeastId (key_in (es ++ fs)) (if less then b else a)
+least_of_two es fs a b true e one other =
+    let lt : b < a = ltb-true b a e in
+    record {
+      there = in_second es fs b (one.least b lt) other.there;
+      least = λ k low. in_neither es fs k (one.least k (omega (arith, lt, low))) (other.least k low);
+    }
+least_of_two es fs a b false e one other =
+    let le : a ≤ b = ltb-false b a e in
+    record {
+      there = in_first es fs a one.there;
+      least = λ k low. in_neither es fs k (one.least k low) (other.least k (omega (arith, le, low)));
+    }
+
+-- of a run and others
+pub least_of : (es fs : Entries) (one other : Option ℕ) → IsLeastOrNone (key_in es) one → IsLeastOrNone (key_in fs) other → IsLeastOrNone (key_in (es ++ fs)) (lesser_of one other)
+least_of es fs None None one other = λ k. in_neither es fs k (one k) (other k)
+least_of es fs None (Some b) one other = record { there = in_second es fs b (one b) other.there; least = λ k low. in_neither es fs k (one k) (other.least k low) }
+least_of es fs (Some a) None one other = record { there = in_first es fs a one.there; least = λ k low. in_neither es fs k (one.least k low) (other k) }
+least_of es fs (Some a) (Some b) one other = least_of_two es fs a b (nat_lt b a) refl one other
+
+-- the first of others
+pub first_other : (es : Entries) (id p : ℕ) → key_in es id ≡ Some p → ((k : ℕ) → IsSome (key_in es k) → is_gt (nat_cmp id k) ≡ false) → IsLeastId (key_in es) id
+first_other es id p there least = record {
+  there = ap is_some there;
+  least = λ k low. elim (key_in es k) as (λ o. key_in es k ≡ o → o ≡ None) [
+    | None ↦ λ _. refl
+    | Some q ↦ λ e. absurd (let h : true ≡ false = sym (ap is_gt (greater id k low)) ∙ least k (ap is_some e) in cc)
+  ] refl;
+}
+
+pub no_other : (es : Entries) → es ≡ [] → (k : ℕ) → key_in es k ≡ None
+no_other es empty k = ap (λ l. key_in l k) empty

@@ -1,4 +1,4 @@
--- What invariants and proofs alone need: the spots of requests, the search for a join, FIFO lists and sort lists, and the requests in a slab.
+-- What invariants and proofs alone need: the spots of requests, the search for a join, sort lists, and the requests in a slab.
 pub mod Spots
 pub mod Edges
 pub mod Search
@@ -6,9 +6,8 @@ pub mod Entries
 pub mod Shapes
 pub mod Places
 pub mod RequestSlabs
-pub mod Lists
-pub mod FifoLists
 pub mod SortLists
 pub mod Pairs
 pub mod SlabKeys
+pub mod DirKeys
 pub mod Queues

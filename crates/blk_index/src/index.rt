@@ -13,11 +13,10 @@ ghost use Rattle.std.specs.Bool.{OnTrue, OnFalse};
 ghost use Rattle.blk_index.specs.Inside.Edges.{IsEdge};
 ghost use Rattle.blk_index.specs.Inside.Shapes.{entries_in};
 ghost use Rattle.blk_index.specs.Index.{IsJoined, IsOldest, IsFirst, NoneOf, FindsNothing};
-ghost use Rattle.blk_index.specs.Inside.Search.{IsNewestBy, FitsNoneBy, FitsBy, NoneAfter, StandsAlone, StandsAmong, at_of, touch_of, opposite_of, newer_of, lesser_of};
+ghost use Rattle.blk_index.specs.Inside.Search.{IsNewestBy, FitsNoneBy, FitsBy, NoneAfter, StandsAlone, StandsAmong, at_of, touch_of, opposite_of, newer_of};
 
 use crate::edges::{Edge, Edges, Spot, end_spot, first_spot, is_write};
-use crate::fifo::FifoLists;
-use crate::ids::greater;
+use crate::ids::{greater, lesser};
 use crate::request_slab::RequestSlab;
 use crate::shapes::{Place, Shapes};
 use blk_bio::{Dir, Extent, Limits, Request, Side};
@@ -25,19 +24,17 @@ use blk_sched::Queued;
 use std::alloc::{AllocError, Allocator, Global};
 use std::marker::Model;
 
-/// Requests that wait, found by their ids, by where they begin and by where they end, and the ids of each direction in order.
+/// Requests that wait, found by their ids, by where they begin and by where they end.
 #[derive(Drop)]
 pub struct Index<A: Allocator = Global> {
     waiting: RequestSlab<A>,
     edges: Edges<A>,
-    fifo: FifoLists<A>,
 }
 
 impl<A: Allocator> Model for Index<A> {
     ghost use Rattle.std.specs.Coded.{coded_ℕ};
     ghost use Rattle.std.specs.FinMap.{get, code};
     ghost use Rattle.blk_sched.specs.Meaning.{Pending, waiting_code};
-    ghost use Rattle.blk_index.specs.Inside.FifoLists.{AreFifoLists};
     ghost use Rattle.blk_index.specs.Inside.Edges.{IsEdges};
     ghost use Rattle.blk_index.specs.Inside.Search.{IsNamed};
 
@@ -47,7 +44,7 @@ impl<A: Allocator> Model for Index<A> {
 
     ghost view = { λ s. s.waiting };
 
-    ghost invariant = { λ s. IsNamed (get s.waiting) × IsEdges (get s.waiting) s.edges × AreFifoLists (get s.waiting) s.fifo };
+    ghost invariant = { λ s. IsNamed (get s.waiting) × IsEdges (get s.waiting) s.edges };
 }
 
 impl<A: Allocator + Clone> Index<A> {
@@ -57,8 +54,7 @@ impl<A: Allocator + Clone> Index<A> {
     {
         Ok(Index {
             waiting: RequestSlab::new(alloc.clone()?)?,
-            edges: Edges::new(alloc.clone()?)?,
-            fifo: FifoLists::new(alloc)?,
+            edges: Edges::new(alloc)?,
         })
     }
 
@@ -90,18 +86,13 @@ impl<A: Allocator + Clone> Index<A> {
         let id = id_of(&queued);
         let extent = extent_of(&queued);
         let sectors = sectors_of(&queued);
-        let Ok(()) = self.fifo.add(extent.dir, id) else {
-            return Err(queued);
-        };
         let Ok(()) = self.edges.add(extent, sectors, id) else {
-            self.fifo.del(&self.waiting, extent.dir, id);
             return Err(queued);
         };
         match self.waiting.insert(queued) {
             Ok(()) => Ok(()),
             Err(queued) => {
                 self.edges.del(extent, sectors, id);
-                self.fifo.del(&self.waiting, extent.dir, id);
                 Err(queued)
             }
         }
@@ -119,7 +110,6 @@ impl<A: Allocator + Clone> Index<A> {
         };
         let extent = extent_of(&queued);
         self.edges.del(extent, sectors_of(&queued), id);
-        self.fifo.del(&self.waiting, extent.dir, id);
         Some(queued)
     }
 
@@ -152,7 +142,7 @@ impl<A: Allocator + Clone> Index<A> {
         ensures some { IfSome result (IsOldest dir (map.get self.now)) }
         ensures none { IfNone result (NoneOf dir (map.get self.now)) }
     {
-        self.fifo.first(dir)
+        self.waiting.oldest(dir)
     }
 
     /// The least id of both directions.
@@ -325,18 +315,6 @@ fn newest_ahead<A: Allocator + Clone>(
         return None;
     }
     newest_of(waiting, edge, Side::Front, newcomer, limits)
-}
-
-/// Of two ids the lesser.
-#[inline(always)]
-fn lesser(one: Option<u64>, other: Option<u64>) -> Option<u64>
-    ensures { result ≡ lesser_of one other }
-{
-    match (one, other) {
-        (None, other) => other,
-        (one, None) => one,
-        (Some(one), Some(other)) => Some(if other < one { other } else { one }),
-    }
 }
 
 /// Of a fit at the back and one at the front the newer.

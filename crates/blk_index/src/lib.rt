@@ -1,9 +1,9 @@
 //! What schedulers keep waiting requests in, so that the one that a newcomer joins is found by the sectors that it touches.
 #![tactic(auto)]
 
+mod dir_keys;
 mod edges;
 mod entry;
-mod fifo;
 mod ids;
 mod index;
 mod places;

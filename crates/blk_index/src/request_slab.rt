@@ -1,13 +1,14 @@
 //! The requests that wait, in a slab, found by their ids.
 
-ghost use Rattle.std.specs.Prelude.{◌≡◌, ℕ, None, Some, OnOk, IfErr, OnErr, IfOk, IsSome};
+ghost use Rattle.std.specs.Prelude.{◌≡◌, ℕ, None, Some, OnOk, IfErr, OnErr, IfOk, IfSome, IfNone, IsSome};
 ghost use Rattle.std.specs.Option.{option_copied};
 ghost use Rattle.std.specs.FinMap as map;
 ghost use Rattle.blk_sched.specs.Meaning.{Waiting};
+ghost use Rattle.blk_index.specs.Index.{IsOldest, NoneOf};
 ghost use Rattle.blk_index.specs.Inside.RequestSlabs.{JoinsOne};
 
-use crate::slab_keys::SlabKeys;
-use blk_bio::{Limits, Request, Side};
+use crate::dir_keys::DirKeys;
+use blk_bio::{Dir, Limits, Request, Side};
 use blk_sched::Queued;
 use slab::Slab;
 use std::alloc::{AllocError, Allocator, Global};
@@ -17,7 +18,7 @@ use std::marker::Model;
 #[derive(Drop)]
 pub struct RequestSlab<A: Allocator = Global> {
     requests: Slab<Queued<A>, A>,
-    keys: SlabKeys<A>,
+    keys: DirKeys<A>,
 }
 
 impl<A: Allocator> Model for RequestSlab<A> {
@@ -25,16 +26,16 @@ impl<A: Allocator> Model for RequestSlab<A> {
     ghost use Rattle.std.specs.FinMap.{from_entries, code};
     ghost use Rattle.slab.specs.Slab.{get};
     ghost use Rattle.blk_sched.specs.Meaning.{Pending, waiting_code};
-    ghost use Rattle.blk_index.specs.Inside.RequestSlabs.{held, IsSlab, CountsHeld};
-    ghost use Rattle.blk_index.specs.Inside.SlabKeys.{entries_of};
+    ghost use Rattle.blk_index.specs.Inside.RequestSlabs.{held, IsSlab, CountsHeld, AreByDir};
+    ghost use Rattle.blk_index.specs.Inside.DirKeys.{all_entries};
 
     ghost Value = { Pending };
 
     ghost coded = { code coded_ℕ waiting_code };
 
-    ghost view = { λ s. from_entries (held (get s.requests) (entries_of s.keys)) };
+    ghost view = { λ s. from_entries (held (get s.requests) (all_entries s.keys)) };
 
-    ghost invariant = { λ s. IsSlab (entries_of s.keys) (get s.requests) × CountsHeld (entries_of s.keys) s.requests };
+    ghost invariant = { λ s. IsSlab (all_entries s.keys) (get s.requests) × CountsHeld (all_entries s.keys) s.requests × AreByDir s.keys s.requests };
 }
 
 impl<A: Allocator + Clone> RequestSlab<A> {
@@ -44,7 +45,7 @@ impl<A: Allocator + Clone> RequestSlab<A> {
     {
         Ok(RequestSlab {
             requests: Slab::new(alloc.clone()?),
-            keys: SlabKeys::new(alloc)?,
+            keys: DirKeys::new(alloc)?,
         })
     }
 
@@ -67,6 +68,15 @@ impl<A: Allocator + Clone> RequestSlab<A> {
         self.requests.get(key)
     }
 
+    /// The least id of a direction.
+    #[inline(always)]
+    pub fn oldest(&self, dir: Dir) -> Option<u64>
+        ensures some { IfSome result (IsOldest dir (map.get self.now)) }
+        ensures none { IfNone result (NoneOf dir (map.get self.now)) }
+    {
+        self.keys.first(dir)
+    }
+
     /// Adds a request whose id isn't there. It fails only when out of memory: nothing is changed then, and the request
     /// comes back.
     #[inline(always)]
@@ -80,8 +90,9 @@ impl<A: Allocator + Clone> RequestSlab<A> {
             return Err(queued);
         };
         let id = queued.id;
+        let dir = queued.request.dir();
         let key = self.requests.vacant_key();
-        let Ok(()) = self.keys.insert(id, key) else {
+        let Ok(()) = self.keys.insert(dir, id, key) else {
             return Err(queued);
         };
         self.requests.insert_reserved(queued);

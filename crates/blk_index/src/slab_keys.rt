@@ -1,18 +1,19 @@
 //! The slab keys of ids.
 
-ghost use Rattle.std.specs.Prelude.{◌≡◌, ◌+◌, ◌++◌, ◌∷◌, [], None, Some, length, slice_get, IfOk, OnOk, OnErr, IfSome};
+ghost use Rattle.std.specs.Prelude.{◌≡◌, ◌≤◌, ◌+◌, ◌^◌, ◌++◌, ◌∷◌, [], None, Some, length, slice_get, IfOk, OnOk, OnErr, IfSome};
 ghost use Rattle.std.specs.Bool.{OnTrue};
-ghost use Rattle.blk_index.specs.Inside.SlabKeys.{run_of, run_at, key_in, entries_of, slab_key_of, GivesKey};
+ghost use Rattle.blk_index.specs.Inside.SlabKeys.{run_of, run_at, key_in, entries_of, slab_key_of, GivesKey, IsLeastOrNone, AreInRange, IsRun};
 
+use crate::ids::lesser;
 use std::alloc::{AllocError, Allocator, Global};
 use std::collections::{BTreeMap, VecDeque};
 
 /// How many ids a run may pass over for each of its keys. To pass over these and to drop them again costs less than a place
 /// in the ordered map.
-const MAX_PASSED: usize = 4;
+const MAX_PASSED: usize = 8;
 
 /// The keys of ids: those of a run of rising ids, and in an ordered map those of others. Requests mostly enter by rising ids, of
-/// which each hardware queue gets a few in a row, and then all stand in the run, where a key is found at once.
+/// which each direction of a hardware queue gets one in a few, and then all stand in the run, where a key is found at once.
 #[derive(Drop)]
 pub struct SlabKeys<A: Allocator = Global> {
     /// The first id of the run.
@@ -28,7 +29,8 @@ pub struct SlabKeys<A: Allocator = Global> {
 impl<A: Allocator + Clone> SlabKeys<A> {
     /// No keys. It takes no memory but for the allocators.
     pub fn new(alloc: A) -> Result<SlabKeys<A>, AllocError>
-        ensures { IfOk result (λ p. entries_of p ≡ []) }
+        ensures none { IfOk result (λ p. entries_of p ≡ []) }
+        ensures run { IfOk result IsRun }
     {
         Ok(SlabKeys {
             from: 0,
@@ -49,12 +51,24 @@ impl<A: Allocator + Clone> SlabKeys<A> {
         }
     }
 
+    /// The least id.
+    #[inline(always)]
+    pub fn first(&self) -> Option<u64>
+        ensures { IsRun self.now → IsLeastOrNone (slab_key_of self.now) result }
+    {
+        lesser(
+            first_of_run(&self.run, self.from),
+            first_of_others(&self.others),
+        )
+    }
+
     /// Gives a key to an id that has none. On a refusal nothing is changed.
     #[inline(always)]
     pub fn insert(&mut self, id: u64, key: usize) -> Result<(), AllocError>
         requires { slab_key_of self.old id ≡ None }
         ensures ok { OnOk result (GivesKey (slab_key_of self.old) id (Some key) (slab_key_of self.new)) }
         ensures same { OnErr result (entries_of self.new ≡ entries_of self.old) }
+        ensures run { IsRun self.old → IsRun self.new }
     {
         self.begin_at(id);
         if pass_over(&mut self.run, &mut self.spare, self.from, id) {
@@ -66,7 +80,8 @@ impl<A: Allocator + Clone> SlabKeys<A> {
     /// Lets an empty run begin with this id.
     #[inline(always)]
     fn begin_at(&mut self, id: u64)
-        ensures { entries_of self.new ≡ entries_of self.old }
+        ensures same { entries_of self.new ≡ entries_of self.old }
+        ensures run { IsRun self.old → IsRun self.new }
     {
         if self.run.is_empty() {
             self.from = id;
@@ -78,6 +93,7 @@ impl<A: Allocator + Clone> SlabKeys<A> {
     pub fn remove(&mut self, id: u64) -> Option<usize>
         ensures value { result ≡ slab_key_of self.old id }
         ensures taken { GivesKey (slab_key_of self.old) id None (slab_key_of self.new) }
+        ensures run { IsRun self.old → IsRun self.new }
     {
         let found = take_key(&mut self.run, self.from, id);
         let other = take_other(&mut self.others, id);
@@ -91,7 +107,8 @@ impl<A: Allocator + Clone> SlabKeys<A> {
     /// Lets the run begin with an id that has a key, where it began with this one, which has none.
     #[inline(always)]
     fn drop_gone(&mut self, id: u64)
-        ensures { entries_of self.new ≡ entries_of self.old }
+        ensures same { entries_of self.new ≡ entries_of self.old }
+        ensures run { IsRun self.old → IsRun self.new }
     {
         if id != self.from {
             return;
@@ -148,6 +165,7 @@ fn pass_over<A: Allocator + Clone>(
 ) -> bool
     ensures next { OnTrue result (id ≡ from + length run.new.items) }
     ensures same { run_of from run.new.items ≡ run_of from run.old.items }
+    ensures run { AreInRange from run.old.items → AreInRange from run.new.items }
 {
     if id < from {
         return false;
@@ -189,6 +207,7 @@ fn take_key<A: Allocator + Clone>(
 ) -> Option<usize>
     ensures value { result ≡ run_at from run.old.items id }
     ensures taken { GivesKey (run_at from run.old.items) id None (run_at from run.new.items) }
+    ensures len { length run.new.items ≡ length run.old.items }
 {
     if id < from {
         return None;
@@ -200,6 +219,32 @@ fn take_key<A: Allocator + Clone>(
     let found = run[index];
     run[index] = None;
     found
+}
+
+/// The first id of a run that has a key: mostly the first of all.
+#[inline(always)]
+fn first_of_run<A: Allocator + Clone>(run: &VecDeque<Option<usize>, A>, from: u64) -> Option<u64>
+    ensures { AreInRange from run.now.items → IsLeastOrNone (run_at from run.now.items) result }
+{
+    let mut index = 0;
+    while index < run.len() {
+        if run[index].is_some() {
+            return from.checked_add(index as u64);
+        }
+        index += 1;
+    }
+    None
+}
+
+/// The first id of an ordered map.
+#[inline(always)]
+fn first_of_others<A: Allocator + Clone>(others: &BTreeMap<u64, usize, A>) -> Option<u64>
+    ensures { IsLeastOrNone (key_in others.now.entries) result }
+{
+    match others.first_key_value() {
+        Some((id, _)) => Some(*id),
+        None => None,
+    }
 }
 
 /// The key of an id in an ordered map.

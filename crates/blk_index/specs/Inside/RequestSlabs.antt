@@ -11,6 +11,8 @@ use Rattle.blk_bio.specs.Bios.{Bio}
 use Rattle.blk_bio.specs.Limits.{Limits}
 use Rattle.blk_bio.specs.Requests.{Fits}
 use Rattle.blk_sched.specs.Meaning.{Waiting, Pending, joined_waiting}
+use Rattle.blk_index.specs.declared.dir_keys.DirKeys.{DirKeys}
+use Rattle.blk_index.specs.Inside.DirKeys.{all_entries, AreDirs}
 
 -- a request under an id, if there is one, before others
 abbrev pub entry_before : ℕ → Option Waiting → List (ℕ × Waiting) → List (ℕ × Waiting)
@@ -30,6 +32,11 @@ IsSlab keys at =
 -- and as many lie there as are found
 abbrev pub CountsHeld : List (ℕ × ℕ) → Slab Waiting → Type 0
 CountsHeld keys s = slab_len s ≡ map.len (map.from_entries {R = nat_cmp} (held (slab.get s) keys))
+
+-- and those of each direction by their ids
+module _ {A : Type 0} where
+  abbrev pub AreByDir : DirKeys A → Slab Waiting → Type 0
+  AreByDir keys s = AreDirs (map.get (map.from_entries {R = nat_cmp} (held (slab.get s) (all_entries keys)))) keys
 
 -- the request of an id is joined by a newcomer at the side at which it fits, and the others stay
 pub record JoinsOne (limits : Limits) (now : ℕ) (newcomer : List Bio) (old : Pending) (id : ℕ) (side : Side) (new : Pending) : Type 0 where

@@ -1,5 +1,5 @@
 -- The keys of ids, of which a run stands one after the other.
-use Rattle.std.specs.Prelude.{ℕ, ◌≡◌, ◌+◌, ◌++◌, cond, List, [], ◌∷◌, Option, None, Some}
+use Rattle.std.specs.Prelude.{ℕ, ◌≡◌, ◌<◌, ◌≤◌, ◌+◌, ◌^◌, ◌++◌, IsSome, length, cond, List, [], ◌∷◌, Option, None, Some}
 use Rattle.std.specs.Ordering.{nat_cmp}
 use Rattle.std.specs.BTreeMap.{is_at}
 use Rattle.std.specs.Map.{lookup}
@@ -26,6 +26,19 @@ run_at from os id = key_in (run_of from os) id
 abbrev pub GivesKey : (ℕ → Option ℕ) → ℕ → Option ℕ → (ℕ → Option ℕ) → Type 0
 GivesKey old id key new = (k : ℕ) → new k ≡ cond (is_at (nat_cmp id) k) key (old k)
 
+-- the least id that has a key, or none, where no id has one
+pub record IsLeastId (key : ℕ → Option ℕ) (id : ℕ) : Type 0 where
+  pub there : IsSome (key id)
+  pub least : (k : ℕ) → k < id → key k ≡ None
+
+abbrev pub IsLeastOrNone : (ℕ → Option ℕ) → Option ℕ → Type 0
+IsLeastOrNone key None = (k : ℕ) → key k ≡ None
+IsLeastOrNone key (Some id) = IsLeastId key id
+
+-- the ids of a run have 64 bits
+abbrev pub AreInRange : ℕ → List (Option ℕ) → Type 0
+AreInRange from os = from + length os ≤ 2 ^ 64
+
 module _ {A : Type 0} where
   -- all keys, and that of an id
   abbrev pub entries_of : SlabKeys A → List (ℕ × ℕ)
@@ -33,3 +46,6 @@ module _ {A : Type 0} where
 
   abbrev pub slab_key_of : SlabKeys A → ℕ → Option ℕ
   slab_key_of p = key_in (entries_of p)
+
+  abbrev pub IsRun : SlabKeys A → Type 0
+  IsRun p = AreInRange p.from p.run.items

@@ -1,4 +1,4 @@
-use Rattle.std.proofs.Common.{arith, ◌∙◌, ap}
+use Rattle.std.proofs.Common.{arith, ◌∙◌, ap, List, Option, ℕ, length}
 use Rattle.blk_index.specs.Inside.SlabKeys.{run_of}
 use Rattle.blk_index.proofs.Placing.{one_passed}
 use Rattle.blk_index.proofs.slab_keys.pass_over.Goals as goal
@@ -17,3 +17,11 @@ returns-clause-next g c = omega (arith, c.loop-run.invariant.short, c.loop-run-t
 
 pub returns-clause-same : goal.returns-clause-same
 returns-clause-same g c = c.loop-run.invariant.same
+
+pub returns-in_default-clause-run : goal.returns-in_default-clause-run
+returns-in_default-clause-run g c = λ h.
+    let same = ap (λ (os : List (Option ℕ)). length os) c.in_default.ensures.items in
+    omega (arith, same, c.loop-run.invariant.short, c.if-id-from.false)
+
+pub returns-clause-run : goal.returns-clause-run
+returns-clause-run g c = λ h. omega (arith, c.loop-run.invariant.short, c.if-id-from.false)

@@ -1,6 +1,5 @@
 use Rattle.std.proofs.Common.{◌≡◌, ℕ, ap, sym, ◌∙◌, refl}
 use Rattle.std.specs.FinMap as map
-use Rattle.blk_bio.specs.declared.extent.Extent.{Extent}
 use Rattle.blk_sched.specs.Meaning.{Pending}
 use Rattle.blk_index.proofs.Entering.{without}
 use Rattle.blk_index.proofs.Indexed.{becomes_given, named_one, named_same}
@@ -8,27 +7,16 @@ use Rattle.blk_index.proofs.Edged.{edges_kept, with_one, here, becomes_back}
 use Rattle.blk_index.proofs.index.Index.insert.Goals as goal
 
 pub invariant_of-self : goal.invariant_of-self
-invariant_of-self g c = (c.self.invariant.0, c.self.invariant.1, c.in_default.ensures.same (map.get c.self.inside.waiting) c.self.invariant.2)
-
-pub invariant_of-self-in_default-add : goal.invariant_of-self-in_default-add
-invariant_of-self-in_default-add g c =
-    let found = map.get c.self.inside.waiting in
+invariant_of-self g c =
     let none = without c.self.inside.waiting c.args.self.now c.id_of-id.result c.args.queued.id c.self.view_is c.id_of-id.ensures c.requires in
-    let meanwhile = with_one found c.id_of-id.result c.args.queued in (
-      c.self.invariant.0,
-      c.in_default-add.ensures.same found c.self.invariant.1 none,
-      c.del.ensures meanwhile c.args.queued (ap (λ (e : Extent). e.dir) c.extent_of-extent.ensures)
-          (c.in-Ok.ensures.ok found meanwhile c.args.queued (ap (λ (e : Extent). e.dir) c.extent_of-extent.ensures) c.self.invariant.2 none (λ k. refl))
-          (here found c.id_of-id.result c.args.queued) (becomes_back found c.id_of-id.result c.args.queued none),
-    )
+    (c.self.invariant.0, c.in_default.ensures.same (map.get c.self.inside.waiting) c.self.invariant.1 none)
 
 pub invariant_of-self-in-Ok-insert : goal.invariant_of-self-in-Ok-insert
 invariant_of-self-in-Ok-insert g c =
     let none = without c.self.inside.waiting c.args.self.now c.id_of-id.result c.args.queued.id c.self.view_is c.id_of-id.ensures c.requires in
     let becomes = becomes_given c.self.inside.waiting c.insert.new.self c.id_of-id.result c.args.queued (c.in-Ok-insert.ensures.ok ∙ ap (λ k. map.insert c.self.inside.waiting k c.args.queued) (sym c.id_of-id.ensures)) in (
       named_one (map.get c.self.inside.waiting) (map.get c.insert.new.self) c.id_of-id.result c.args.queued c.self.invariant.0 c.id_of-id.ensures becomes,
-      c.in-Ok-add.ensures.ok (map.get c.self.inside.waiting) (map.get c.insert.new.self) c.args.queued c.extent_of-extent.ensures c.sectors_of-sectors.ensures.value c.self.invariant.1 none becomes,
-      c.in-Ok.ensures.ok (map.get c.self.inside.waiting) (map.get c.insert.new.self) c.args.queued (ap (λ (e : Extent). e.dir) c.extent_of-extent.ensures) c.self.invariant.2 none becomes,
+      c.in-Ok.ensures.ok (map.get c.self.inside.waiting) (map.get c.insert.new.self) c.args.queued c.extent_of-extent.ensures c.sectors_of-sectors.ensures.value c.self.invariant.1 none becomes,
     )
 
 pub returns-in-Ok-insert-clause-ok : goal.returns-in-Ok-insert-clause-ok
@@ -42,12 +30,9 @@ invariant_of-self-in-Err g c =
     let meanwhile = with_one found c.id_of-id.result c.args.queued in
     let back = becomes_back found c.id_of-id.result c.args.queued none in (
       named_same found (map.get c.insert.new.self) c.self.invariant.0 same,
-      edges_kept found (map.get c.insert.new.self) c.del-in-Err.new.self
-          (c.del-in-Err.ensures meanwhile found c.args.queued c.extent_of-extent.ensures
-          (c.in-Ok-add.ensures.ok found meanwhile c.args.queued c.extent_of-extent.ensures c.sectors_of-sectors.ensures.value c.self.invariant.1 none (λ k. refl))
+      edges_kept found (map.get c.insert.new.self) c.del.new.self
+          (c.del.ensures meanwhile found c.args.queued c.extent_of-extent.ensures
+          (c.in-Ok.ensures.ok found meanwhile c.args.queued c.extent_of-extent.ensures c.sectors_of-sectors.ensures.value c.self.invariant.1 none (λ k. refl))
           (here found c.id_of-id.result c.args.queued) back)
           same,
-      c.del-in-Err-2.ensures meanwhile c.args.queued (ap (λ (e : Extent). e.dir) c.extent_of-extent.ensures)
-          (c.in-Ok.ensures.ok found meanwhile c.args.queued (ap (λ (e : Extent). e.dir) c.extent_of-extent.ensures) c.self.invariant.2 none (λ k. refl))
-          (here found c.id_of-id.result c.args.queued) (λ k. same k ∙ back k),
     )

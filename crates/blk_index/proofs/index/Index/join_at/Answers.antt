@@ -5,7 +5,7 @@ use Rattle.blk_sched.specs.Fits.{HasFit}
 use Rattle.blk_bio.specs.declared.request.Side.{Side}
 use Rattle.blk_index.specs.Inside.Edges.{IsEdge}
 use Rattle.blk_index.specs.Inside.Search.{at_of, opposite_of}
-use Rattle.blk_index.proofs.Joining.{named_joined, fifo_joined}
+use Rattle.blk_index.proofs.Joining.{named_joined}
 use Rattle.blk_index.proofs.index.Index.join_at.Goals as goal
 use Rattle.blk_index.proofs.index.Index.join_at.Goals.{in-Back, in-Front}
 
@@ -20,7 +20,6 @@ invariant_of-self g c =
           front = subst (λ (t : Side). IsEdge (at_of (opposite_of t)) (map.get w.join_in.new.waiting) w.join_in.new.other) w.in-Back.is w.join_in.ensures.other;
           back = subst (λ (t : Side). IsEdge (at_of t) (map.get w.join_in.new.waiting) w.join_in.new.edge) w.in-Back.is w.join_in.ensures.edge;
         },
-        fifo_joined c.args.limits.now own w.join_in.new.waiting c.args.id c.args.now c.args.side c.args.newcomer fit w.join_in.result c.self.inside.fifo c.self.invariant.2 w.join_in.ensures.joined w.join_in.ensures.same,
       )
       | in-Front w ↦ rw w.self-inside-is (
         named_joined c.args.limits.now own w.join_in-in-Front.new.waiting c.args.id c.args.now c.args.side c.args.newcomer fit w.join_in-in-Front.result c.self.invariant.0 w.join_in-in-Front.ensures.joined w.join_in-in-Front.ensures.same,
@@ -28,6 +27,5 @@ invariant_of-self g c =
           front = subst (λ (t : Side). IsEdge (at_of t) (map.get w.join_in-in-Front.new.waiting) w.join_in-in-Front.new.edge) w.in-Front.is w.join_in-in-Front.ensures.edge;
           back = subst (λ (t : Side). IsEdge (at_of (opposite_of t)) (map.get w.join_in-in-Front.new.waiting) w.join_in-in-Front.new.other) w.in-Front.is w.join_in-in-Front.ensures.other;
         },
-        fifo_joined c.args.limits.now own w.join_in-in-Front.new.waiting c.args.id c.args.now c.args.side c.args.newcomer fit w.join_in-in-Front.result c.self.inside.fifo c.self.invariant.2 w.join_in-in-Front.ensures.joined w.join_in-in-Front.ensures.same,
       )
     ]

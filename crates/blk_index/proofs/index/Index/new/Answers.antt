@@ -7,5 +7,4 @@ invariant_of-result g c =
     let none = none_found c.in_ok-new.field-0 c.in_ok-new.ensures in (
       none_named c.in_ok-new.field-0 c.in_ok-new.ensures,
       c.in_ok-new-2.ensures (map.get c.in_ok-new.field-0) none,
-      c.in_ok-new-3.ensures (map.get c.in_ok-new.field-0) none,
     )

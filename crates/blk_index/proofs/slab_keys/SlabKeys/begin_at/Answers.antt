@@ -4,7 +4,7 @@ use Rattle.std.proofs.lemmas.Bool.{eqb-true}
 use Rattle.blk_index.proofs.Placing.{empty_run}
 use Rattle.blk_index.proofs.slab_keys.SlabKeys.begin_at.Goals as goal
 
-pub returns-then-is_empty : goal.returns-then-is_empty
-returns-then-is_empty g c =
+pub returns-then-is_empty-clause-same : goal.returns-then-is_empty-clause-same
+returns-then-is_empty-clause-same g c =
     ap (λ (l : List (ℕ × ℕ)). l ++ c.args.self.now.others.entries)
     (empty_run c.args.self.now.from c.args.id c.args.self.now.run.items (omega (arith, eqb-true c.args.self.now.run.len 0 (sym c.if-is_empty.ensures))))

@@ -10,7 +10,7 @@ returns-then-pass_over-clause-ok g c =
     let run = c.pass_over.new.run.items in
     let others = c.begin_at.new.self.others.entries in
     let after = c.put_last.new.run.items in
-    let same = all_passed from c.begin_at.new.self.run.items run others (entries_of c.args.self.now) c.pass_over.ensures.same c.begin_at.ensures in
+    let same = all_passed from c.begin_at.new.self.run.items run others (entries_of c.args.self.now) c.pass_over.ensures.same c.begin_at.ensures.same in
     on_ok c.put_last.result (λ put.
     given_of (run_of from run ++ others) (entries_of c.args.self.now) c.args.id (Some c.args.key) (key_in (run_of from after ++ others)) same
     (first_given (run_of from run) (run_of from after) others c.args.id c.args.key
@@ -22,7 +22,7 @@ returns-then-pass_over-clause-same g c =
     let from = c.begin_at.new.self.from in
     let run = c.pass_over.new.run.items in
     let others = c.begin_at.new.self.others.entries in
-    let same = all_passed from c.begin_at.new.self.run.items run others (entries_of c.args.self.now) c.pass_over.ensures.same c.begin_at.ensures in
+    let same = all_passed from c.begin_at.new.self.run.items run others (entries_of c.args.self.now) c.pass_over.ensures.same c.begin_at.ensures.same in
     on_err c.put_last.result (λ put. ap (λ (os : List (Option ℕ)). run_of from os ++ others) put ∙ same) c.put_last.ensures.same
 
 pub returns-clause-ok : goal.returns-clause-ok
@@ -32,7 +32,7 @@ returns-clause-ok g c =
     let es = run_of from run in
     let others = c.begin_at.new.self.others.entries in
     let after = c.put_other.new.others.entries in
-    let same = all_passed from c.begin_at.new.self.run.items run others (entries_of c.args.self.now) c.pass_over.ensures.same c.begin_at.ensures in
+    let same = all_passed from c.begin_at.new.self.run.items run others (entries_of c.args.self.now) c.pass_over.ensures.same c.begin_at.ensures.same in
     on_ok c.put_other.result (λ put.
     given_of (es ++ others) (entries_of c.args.self.now) c.args.id (Some c.args.key) (key_in (es ++ after)) same
     (then_given es others after c.args.id c.args.key (ap (λ l. key_in l c.args.id) same ∙ c.requires) put))
@@ -43,5 +43,5 @@ returns-clause-same g c =
     let from = c.begin_at.new.self.from in
     let run = c.pass_over.new.run.items in
     let others = c.begin_at.new.self.others.entries in
-    let same = all_passed from c.begin_at.new.self.run.items run others (entries_of c.args.self.now) c.pass_over.ensures.same c.begin_at.ensures in
+    let same = all_passed from c.begin_at.new.self.run.items run others (entries_of c.args.self.now) c.pass_over.ensures.same c.begin_at.ensures.same in
     on_err c.put_other.result (λ put. ap (λ (l : List (ℕ × ℕ)). run_of from run ++ l) put ∙ same) c.put_other.ensures.same

@@ -10,7 +10,7 @@ returns-in-Some-clause-value g c = found_first (run_of c.args.self.now.from c.ar
 pub returns-in-Some-clause-taken : goal.returns-in-Some-clause-taken
 returns-in-Some-clause-taken g c =
     let from = c.args.self.now.from in
-    taken_of (entries_of c.args.self.now) (run_of from c.take_key-found.new.run.items ++ c.take_other-other.new.others.entries) (entries_of c.drop_gone.new.self) c.args.id c.drop_gone.ensures
+    taken_of (entries_of c.args.self.now) (run_of from c.take_key-found.new.run.items ++ c.take_other-other.new.others.entries) (entries_of c.drop_gone.new.self) c.args.id c.drop_gone.ensures.same
     (both_taken (run_of from c.args.self.now.run.items) (run_of from c.take_key-found.new.run.items) c.args.self.now.others.entries c.take_other-other.new.others.entries c.args.id c.take_key-found.ensures.taken c.take_other-other.ensures.taken)
 
 pub returns-in-None-clause-value : goal.returns-in-None-clause-value
@@ -19,5 +19,5 @@ returns-in-None-clause-value g c = found_then (run_of c.args.self.now.from c.arg
 pub returns-in-None-clause-taken : goal.returns-in-None-clause-taken
 returns-in-None-clause-taken g c =
     let from = c.args.self.now.from in
-    taken_of (entries_of c.args.self.now) (run_of from c.take_key-found.new.run.items ++ c.take_other-other.new.others.entries) (entries_of c.drop_gone.new.self) c.args.id c.drop_gone.ensures
+    taken_of (entries_of c.args.self.now) (run_of from c.take_key-found.new.run.items ++ c.take_other-other.new.others.entries) (entries_of c.drop_gone.new.self) c.args.id c.drop_gone.ensures.same
     (both_taken (run_of from c.args.self.now.run.items) (run_of from c.take_key-found.new.run.items) c.args.self.now.others.entries c.take_other-other.new.others.entries c.args.id c.take_key-found.ensures.taken c.take_other-other.ensures.taken)
