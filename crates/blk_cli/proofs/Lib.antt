@@ -8,5 +8,4 @@ mod Schedules
 mod Given
 mod Failed
 mod Counted
-mod Beside
 mod Sums
