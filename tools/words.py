@@ -195,12 +195,15 @@ OWN_NAMES = {"LoadFault::Stalled": "stalled"}
 NAME = re.compile(r"fn name\(self\) -> &'static str.*?\n    }\n", re.S)
 LIST = re.compile(r"variant_name!\(self: (\w+) \{(.*?),?\s*\}\)", re.S)
 VARIANT = re.compile(r"\s*(\w+)(?:\(\w+\))?(?: => (.+))?")
+# A failure of the program itself that has a name: what writes its line is given that.
+TOLD = re.compile(r'(Failure::\w+) => tell_name\(\w+, "(\w+)"\)')
 
 
 def printed_names():
     """The faults of the sources that have a name, each with that name; one that hands on another fault's has none."""
     for it in sorted(TOP.glob("crates/*/src/**/*.rt")):
-        for block in NAME.findall(it.read_text()):
+        text = it.read_text()
+        for block in NAME.findall(text):
             listed = LIST.search(block)
             found = [VARIANT.fullmatch(one) for one in listed[2].split(",")] if listed else [None]
             if None in found:
@@ -208,6 +211,7 @@ def printed_names():
             for variant, name in (one.groups() for one in found):
                 if not name or name.startswith('"'):
                     yield f"{listed[1]}::{variant}", (name or variant).strip('"')
+        yield from TOLD.findall(text)
 
 
 def names_of_faults():

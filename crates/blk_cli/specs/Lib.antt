@@ -15,7 +15,6 @@ pub mod Importing
 pub mod Explaining
 pub mod Tuning
 pub mod Gives
-pub mod Names
 pub mod Lines
 pub mod Ends
 pub mod Inside

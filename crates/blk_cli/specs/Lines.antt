@@ -27,7 +27,8 @@ use Rattle.blk_lists.specs.declared.fault.Why.{Why}
 use Rattle.blk_lists.specs.declared.fault.Why.TheVariants as why
 use Rattle.blk_sim.specs.declared.refusal.SimWhy.{SimWhy}
 use Rattle.blk_sim.specs.declared.refusal.SimWhy.TheVariants as step
-use Rattle.blk_cli.specs.Names.{unlisted_fault_name}
+use Rattle.blk_cli.specs.declared.failure.Told.{Told}
+use Rattle.blk_cli.specs.declared.failure.Told.TheVariants as told
 use Rattle.blk_cli.specs.declared.failure.Failure.{Failure}
 use Rattle.blk_cli.specs.declared.failure.Failure.TheVariants as failure
 
@@ -66,51 +67,91 @@ write_fault = line (codes "write fault")
 abbrev pub want_of_memory : List ℕ
 want_of_memory = line (codes "want of memory")
 
--- the line on a fault of a text, of a step, of the oracle and of the check
-abbrev pub text_line : ℕ → Why → List ℕ
-text_line at why.Read = read_fault
-text_line at why.Memory = want_of_memory
-text_line at w = at_record at (why_name w)
+-- the line of a name and of what is said beside it
+abbrev pub told_line : List ℕ → Told → List ℕ
+told_line name told.Named = line name
+told_line name (told.Numbered n) = numbered name (decimal n)
+told_line name (told.Signed z) = signed_line name z
+told_line name (told.AtRecord at) = at_record at name
+told_line name (told.AtLine at) = at_line at name
+told_line name told.Read = read_fault
+told_line name told.Write = write_fault
+told_line name told.Memory = want_of_memory
 
+-- what is said beside the name of a fault: its record, its id or its number, or that it came from outside
+abbrev pub text_told : ℕ → Why → Told
+text_told at why.Read = told.Read
+text_told at why.Memory = told.Memory
+text_told at w = told.AtRecord at
+
+abbrev pub line_told : ℕ → LineWhy → Told
+line_told at printed.Memory = told.Memory
+line_told at w = told.AtLine at
+
+abbrev pub step_told : ℕ → SimWhy → Told
+step_told at step.Memory = told.Memory
+step_told at w = told.AtRecord at
+
+abbrev pub oracle_told : OracleFault → Told
+oracle_told oracle.TooMany = told.Named
+oracle_told (oracle.RoundRange id) = told.Numbered id
+oracle_told (oracle.RepeatedId id) = told.Numbered id
+oracle_told oracle.Memory = told.Memory
+
+abbrev pub check_told : CheckFault → Told
+check_told check.Length = told.Named
+check_told (check.BeforeRelease id) = told.Numbered id
+check_told check.Memory = told.Memory
+check_told (check.OverDepth round) = told.Numbered round
+check_told (check.WrongLateness own) = told.Signed own
+check_told (check.NotCrowded load) = told.Numbered load
+
+abbrev pub on_time_told : OnTimeFault → Told
+on_time_told on_time_fault.Length = told.Named
+on_time_told (on_time_fault.BeforeRelease id) = told.Numbered id
+on_time_told on_time_fault.Memory = told.Memory
+on_time_told (on_time_fault.OverDepth round) = told.Numbered round
+on_time_told (on_time_fault.WrongMet own) = told.Numbered own
+on_time_told (on_time_fault.Windows place) = told.Numbered place
+on_time_told (on_time_fault.Loose bound) = told.Numbered bound
+
+abbrev pub sched_told : SchedFault → Told
+sched_told setting.Memory = told.Memory
+sched_told f = told.Named
+
+abbrev pub load_told : LoadFault → Told
+load_told load.Memory = told.Memory
+load_told f = told.Named
+
+abbrev pub import_told : ImportFault → Told
+import_told capture.Memory = told.Memory
+import_told (capture.TooMany n) = told.Named
+
+abbrev pub arrivals_told : ArrivalsFault → Told
+arrivals_told arrivals.Memory = told.Memory
+arrivals_told f = told.Named
+
+abbrev pub told_of : Failure → Told
+told_of (failure.Text f) = text_told f.at f.why
+told_of (failure.Line f) = line_told f.at f.why
+told_of (failure.Sched f) = sched_told f
+told_of (failure.Step f) = step_told f.at f.why
+told_of (failure.Solve f) = oracle_told f
+told_of (failure.Check f) = check_told f
+told_of (failure.OnTime f) = on_time_told f
+told_of failure.NotFixed = told.Named
+told_of (failure.Load f) = load_told f
+told_of (failure.Import f) = import_told f
+told_of (failure.Arrivals f) = arrivals_told f
+told_of (failure.Words r) = told.Named
+told_of failure.Write = told.Write
+told_of failure.Memory = told.Memory
+
+-- the line on a line that a recorder printed
 abbrev pub PrintedLine : ℕ → LineWhy → (List ℕ → Type 0) → Type 0
 PrintedLine at printed.Memory P = P want_of_memory
 PrintedLine at printed.TooLong P = OwnLine P
 PrintedLine at w P = P (at_line at (line_why_name w))
-
-abbrev pub step_line : ℕ → SimWhy → List ℕ
-step_line at step.Memory = want_of_memory
-step_line at w = at_record at (step_name w)
-
-abbrev pub oracle_line : OracleFault → List ℕ
-oracle_line oracle.TooMany = line (oracle_fault_name oracle.TooMany)
-oracle_line (oracle.RoundRange id) = numbered (oracle_fault_name (oracle.RoundRange id)) (decimal id)
-oracle_line (oracle.RepeatedId id) = numbered (oracle_fault_name (oracle.RepeatedId id)) (decimal id)
-oracle_line oracle.Memory = want_of_memory
-
-abbrev pub check_line : CheckFault → List ℕ
-check_line check.Length = line (check_fault_name check.Length)
-check_line (check.BeforeRelease id) = numbered (check_fault_name (check.BeforeRelease id)) (decimal id)
-check_line check.Memory = want_of_memory
-check_line (check.OverDepth round) = numbered (check_fault_name (check.OverDepth round)) (decimal round)
-check_line (check.WrongLateness own) = signed_line (check_fault_name (check.WrongLateness own)) own
-check_line (check.NotCrowded load) = numbered (check_fault_name (check.NotCrowded load)) (decimal load)
-
-abbrev pub on_time_check_line : OnTimeFault → List ℕ
-on_time_check_line on_time_fault.Length = line (on_time_fault_name on_time_fault.Length)
-on_time_check_line (on_time_fault.BeforeRelease id) = numbered (on_time_fault_name (on_time_fault.BeforeRelease id)) (decimal id)
-on_time_check_line on_time_fault.Memory = want_of_memory
-on_time_check_line (on_time_fault.OverDepth round) = numbered (on_time_fault_name (on_time_fault.OverDepth round)) (decimal round)
-on_time_check_line (on_time_fault.WrongMet own) = numbered (on_time_fault_name (on_time_fault.WrongMet own)) (decimal own)
-on_time_check_line (on_time_fault.Windows place) = numbered (on_time_fault_name (on_time_fault.Windows place)) (decimal place)
-on_time_check_line (on_time_fault.Loose bound) = numbered (on_time_fault_name (on_time_fault.Loose bound)) (decimal bound)
-
-abbrev pub sched_line : SchedFault → List ℕ
-sched_line setting.Memory = want_of_memory
-sched_line fault = line (sched_fault_name fault)
-
-abbrev pub load_line : LoadFault → List ℕ
-load_line load.Memory = want_of_memory
-load_line fault = line (load_fault_name fault)
 
 -- of what a capture is refused for, and of arrivals that are no script
 abbrev pub ImportLine : ImportFault → (List ℕ → Type 0) → Type 0
@@ -123,15 +164,15 @@ ArrivalsLine fault P = OwnLine P
 
 -- this holds of the line on a failure
 abbrev pub LineOn : Failure → (List ℕ → Type 0) → Type 0
-LineOn (failure.Text f) P = P (text_line f.at f.why)
+LineOn (failure.Text f) P = P (told_line (why_name f.why) (text_told f.at f.why))
 LineOn (failure.Line f) P = PrintedLine f.at f.why P
-LineOn (failure.Sched f) P = P (sched_line f)
-LineOn (failure.Step f) P = P (step_line f.at f.why)
-LineOn (failure.Solve f) P = P (oracle_line f)
-LineOn (failure.Check f) P = P (check_line f)
-LineOn (failure.OnTime f) P = P (on_time_check_line f)
-LineOn (failure.Unlisted f) P = P (line (unlisted_fault_name f))
-LineOn (failure.Load f) P = P (load_line f)
+LineOn (failure.Sched f) P = P (told_line (sched_fault_name f) (sched_told f))
+LineOn (failure.Step f) P = P (told_line (step_name f.why) (step_told f.at f.why))
+LineOn (failure.Solve f) P = P (told_line (oracle_fault_name f) (oracle_told f))
+LineOn (failure.Check f) P = P (told_line (check_fault_name f) (check_told f))
+LineOn (failure.OnTime f) P = P (told_line (on_time_fault_name f) (on_time_told f))
+LineOn failure.NotFixed P = P (line (codes "NotFixed"))
+LineOn (failure.Load f) P = P (told_line (load_fault_name f) (load_told f))
 LineOn (failure.Import f) P = ImportLine f P
 LineOn (failure.Arrivals f) P = ArrivalsLine f P
 LineOn (failure.Words r) P = OwnLine P
@@ -139,62 +180,14 @@ LineOn failure.Write P = P write_fault
 LineOn failure.Memory P = P want_of_memory
 
 -- whether it came from outside: a read or a write that failed, or memory that ran out
-abbrev pub is_text_outside : Why → Bool
-is_text_outside why.Read = true
-is_text_outside why.Memory = true
-is_text_outside w = false
-
-abbrev pub is_line_outside : LineWhy → Bool
-is_line_outside printed.Memory = true
-is_line_outside w = false
-
-abbrev pub is_sched_outside : SchedFault → Bool
-is_sched_outside setting.Memory = true
-is_sched_outside f = false
-
-abbrev pub is_step_outside : SimWhy → Bool
-is_step_outside step.Memory = true
-is_step_outside w = false
-
-abbrev pub is_oracle_outside : OracleFault → Bool
-is_oracle_outside oracle.Memory = true
-is_oracle_outside f = false
-
-abbrev pub is_check_outside : CheckFault → Bool
-is_check_outside check.Memory = true
-is_check_outside f = false
-
-abbrev pub is_on_time_outside : OnTimeFault → Bool
-is_on_time_outside on_time_fault.Memory = true
-is_on_time_outside f = false
-
-abbrev pub is_load_outside : LoadFault → Bool
-is_load_outside load.Memory = true
-is_load_outside f = false
-
-abbrev pub is_import_outside : ImportFault → Bool
-is_import_outside capture.Memory = true
-is_import_outside f = false
-
-abbrev pub is_arrivals_outside : ArrivalsFault → Bool
-is_arrivals_outside arrivals.Memory = true
-is_arrivals_outside f = false
+abbrev pub is_told_outside : Told → Bool
+is_told_outside told.Read = true
+is_told_outside told.Write = true
+is_told_outside told.Memory = true
+is_told_outside t = false
 
 abbrev pub is_outside : Failure → Bool
-is_outside (failure.Text f) = is_text_outside f.why
-is_outside (failure.Line f) = is_line_outside f.why
-is_outside (failure.Sched f) = is_sched_outside f
-is_outside (failure.Step f) = is_step_outside f.why
-is_outside (failure.Solve f) = is_oracle_outside f
-is_outside (failure.Check f) = is_check_outside f
-is_outside (failure.OnTime f) = is_on_time_outside f
-is_outside (failure.Unlisted f) = false
-is_outside (failure.Load f) = is_load_outside f
-is_outside (failure.Import f) = is_import_outside f
-is_outside (failure.Arrivals f) = is_arrivals_outside f
-is_outside (failure.Words r) = false
-is_outside failure.Write = true
-is_outside failure.Memory = true
+is_outside f = is_told_outside (told_of f)
 
 -- whether its words can't be done
 abbrev pub is_of_words : Failure → Bool

@@ -13,7 +13,6 @@ use Rattle.blk_words.specs.declared.inputs.Telling.{Telling}
 use Rattle.blk_words.specs.declared.inputs.Telling.TheVariants as telling
 use Rattle.blk_cli.specs.declared.failure.Failure.{Failure}
 use Rattle.blk_cli.specs.declared.failure.Failure.TheVariants as failure
-use Rattle.blk_cli.specs.declared.traces.UnlistedFault.TheVariants as unlisted
 use Rattle.blk_cli.specs.Inputs.{IsMemory}
 
 -- the text that spells the trace in the latest version
@@ -36,7 +35,7 @@ IsTellingText (telling.Figures asked f) trace text = IsFiguresText asked f trace
 
 -- why a trace has no command list: an event sets a depth
 abbrev pub IsUnlisted : Traced → Failure → Type 0
-IsUnlisted trace (failure.Unlisted unlisted.NotFixed) = IsFixed trace.events → ⊥
+IsUnlisted trace failure.NotFixed = IsFixed trace.events → ⊥
 IsUnlisted trace failure.Memory = ⊤
 IsUnlisted trace f = ⊥
 

@@ -2,11 +2,10 @@
 
 ghost use Rattle.std.specs.Prelude.{◌≡◌, ◌≤◌, decimal};
 ghost use Rattle.drafts.specs.Outputs.{Writes, stream_of};
-ghost use Rattle.blk_cli.specs.Lines.{line, want_of_memory, numbered, signed_line, at_record, more_line, at_line, text_line, sched_line, load_line, step_line, oracle_line, check_line, on_time_check_line, status_of, OwnLine, PrintedLine, ImportLine, ArrivalsLine, LineOn};
+ghost use Rattle.blk_cli.specs.Lines.{line, want_of_memory, numbered, signed_line, at_record, more_line, at_line, told_of, told_line, status_of, OwnLine, PrintedLine, ImportLine, ArrivalsLine, LineOn};
 ghost use Rattle.blk_cli.specs.Ends.{EndsFailing};
 ghost use Rattle.blk_cli.specs.Inside.Scripts.{failure_of_run};
 
-use crate::traces::UnlistedFault;
 use crate::{COMMAND_LINE, Ended, FAILED, REFUSED};
 use blk_arrivals::ArrivalsFault;
 use blk_capture_text::ImportFault;
@@ -33,6 +32,27 @@ const END: &[u8] = b"\n";
 const TOO_LONG: &str =
     "TooLong: a capture has at most 16000000 records, so cut the text before this line";
 
+/// What is said of a failure beside its name.
+#[derive(Clone, Copy, Debug, PartialEq, Eq)]
+pub enum Told {
+    /// Nothing.
+    Named,
+    /// A number.
+    Numbered(u64),
+    /// A number that has a sign.
+    Signed(i64),
+    /// The number of a record of the input, from 1 on.
+    AtRecord(u64),
+    /// The number of a line of the input, from 1 on.
+    AtLine(u64),
+    /// That the reader failed, and no name.
+    Read,
+    /// That the writer failed, and no name.
+    Write,
+    /// That memory ran out, and no name.
+    Memory,
+}
+
 /// Why there is no output, or not all of it.
 #[derive(Clone, Copy, Debug, PartialEq, Eq)]
 pub enum Failure {
@@ -50,8 +70,8 @@ pub enum Failure {
     Check(CheckFault),
     /// The check refuses the certificate of what is on time.
     OnTime(OnTimeFault),
-    /// The trace has no command list.
-    Unlisted(UnlistedFault),
+    /// The trace has no command list: an event sets a depth, and a command list has one.
+    NotFixed,
     /// The load fails.
     Load(LoadFault),
     /// The capture is not imported.
@@ -78,39 +98,62 @@ impl Failure {
         }
     }
 
+    /// What is said of it beside its name.
+    fn told(&self) -> Told
+        ensures { result ≡ told_of self.now }
+    {
+        match *self {
+            Failure::Text(fault) => match fault.why {
+                Why::Read => Told::Read,
+                Why::Memory => Told::Memory,
+                _ => Told::AtRecord(fault.at),
+            },
+            Failure::Line(fault) => match fault.why {
+                LineWhy::Memory => Told::Memory,
+                _ => Told::AtLine(fault.at),
+            },
+            Failure::Step(fault) => match fault.why {
+                SimWhy::Memory => Told::Memory,
+                _ => Told::AtRecord(fault.at),
+            },
+            Failure::Sched(SchedFault::Memory)
+            | Failure::Solve(OracleFault::Memory)
+            | Failure::Check(CheckFault::Memory)
+            | Failure::OnTime(OnTimeFault::Memory)
+            | Failure::Load(LoadFault::Memory)
+            | Failure::Import(ImportFault::Memory)
+            | Failure::Arrivals(ArrivalsFault::Memory)
+            | Failure::Memory => Told::Memory,
+            Failure::Solve(OracleFault::RoundRange(number) | OracleFault::RepeatedId(number))
+            | Failure::Check(
+                CheckFault::BeforeRelease(number)
+                | CheckFault::OverDepth(number)
+                | CheckFault::NotCrowded(number),
+            )
+            | Failure::OnTime(
+                OnTimeFault::BeforeRelease(number)
+                | OnTimeFault::OverDepth(number)
+                | OnTimeFault::WrongMet(number)
+                | OnTimeFault::Loose(number),
+            ) => Told::Numbered(number),
+            Failure::OnTime(OnTimeFault::Windows(place)) => Told::Numbered(place as u64),
+            Failure::Check(CheckFault::WrongLateness(own)) => Told::Signed(own),
+            Failure::Write => Told::Write,
+            _ => Told::Named,
+        }
+    }
+
     /// The exit status: 1 for refused input, 2 for words that can't be done, 3 when out of memory, for a read fault or a write fault.
     fn status(&self) -> u8
         ensures value { result ≡ status_of self.now }
         ensures range { (1 ≤ result) × (result ≤ 3) }
     {
-        match self {
-            Failure::Text(fault) => match fault.why {
-                Why::Read | Why::Memory => FAILED,
+        match self.told() {
+            Told::Read | Told::Write | Told::Memory => FAILED,
+            _ => match self {
+                Failure::Words(_) => COMMAND_LINE,
                 _ => REFUSED,
             },
-            Failure::Line(fault) => match fault.why {
-                LineWhy::Memory => FAILED,
-                _ => REFUSED,
-            },
-            Failure::Step(fault) => match fault.why {
-                SimWhy::Memory => FAILED,
-                _ => REFUSED,
-            },
-            Failure::Sched(SchedFault::Memory) => FAILED,
-            Failure::Sched(_) => REFUSED,
-            Failure::Solve(OracleFault::Memory) => FAILED,
-            Failure::Solve(_) => REFUSED,
-            Failure::Check(CheckFault::Memory) => FAILED,
-            Failure::OnTime(OnTimeFault::Memory) => FAILED,
-            Failure::Check(_) | Failure::OnTime(_) | Failure::Unlisted(_) => REFUSED,
-            Failure::Load(LoadFault::Memory) => FAILED,
-            Failure::Load(_) => REFUSED,
-            Failure::Import(ImportFault::Memory) => FAILED,
-            Failure::Import(ImportFault::TooMany(_)) => REFUSED,
-            Failure::Arrivals(ArrivalsFault::Memory) => FAILED,
-            Failure::Arrivals(_) => REFUSED,
-            Failure::Words(_) => COMMAND_LINE,
-            Failure::Write | Failure::Memory => FAILED,
         }
     }
 
@@ -118,16 +161,17 @@ impl Failure {
     fn tell<F: Write>(&self, faults: &mut Output<F>) -> Result<(), WriteFault>
         ensures { LineOn self.now (λ text. Writes text (stream_of F.contents faults.old) (stream_of F.contents faults.new) result) }
     {
+        let told = self.told();
         match self {
-            Failure::Text(fault) => tell_text(faults, fault.at, fault.why),
+            Failure::Text(fault) => tell_told(faults, fault.why.name(), told),
             Failure::Line(fault) => tell_line(faults, fault.at, fault.why),
-            Failure::Sched(fault) => tell_sched(faults, *fault),
-            Failure::Step(fault) => tell_step(faults, fault.at, fault.why),
-            Failure::Solve(fault) => tell_solve(faults, *fault),
-            Failure::Check(fault) => tell_check(faults, *fault),
-            Failure::OnTime(fault) => tell_on_time(faults, *fault),
-            Failure::Unlisted(fault) => tell_name(faults, fault.name()),
-            Failure::Load(fault) => tell_load(faults, *fault),
+            Failure::Sched(fault) => tell_told(faults, fault.name(), told),
+            Failure::Step(fault) => tell_told(faults, fault.why.name(), told),
+            Failure::Solve(fault) => tell_told(faults, fault.name(), told),
+            Failure::Check(fault) => tell_told(faults, fault.name(), told),
+            Failure::OnTime(fault) => tell_told(faults, fault.name(), told),
+            Failure::NotFixed => tell_name(faults, "NotFixed"),
+            Failure::Load(fault) => tell_told(faults, fault.name(), told),
             Failure::Import(fault) => tell_import(faults, *fault),
             Failure::Arrivals(fault) => tell_arrivals(faults, *fault),
             Failure::Words(refusal) => tell_words(faults, *refusal),
@@ -164,26 +208,6 @@ fn tell_memory<F: Write>(faults: &mut Output<F>) -> Result<(), WriteFault>
     ensures { Writes want_of_memory (stream_of F.contents faults.old) (stream_of F.contents faults.new) result }
 {
     tell_name(faults, "want of memory")
-}
-
-/// Writes the line of a scheduler that isn't made of its settings.
-fn tell_sched<F: Write>(faults: &mut Output<F>, fault: SchedFault) -> Result<(), WriteFault>
-    ensures { Writes (sched_line fault) (stream_of F.contents faults.old) (stream_of F.contents faults.new) result }
-{
-    match fault {
-        SchedFault::Memory => tell_memory(faults),
-        _ => tell_name(faults, fault.name()),
-    }
-}
-
-/// Writes the line of a load that fails.
-fn tell_load<F: Write>(faults: &mut Output<F>, fault: LoadFault) -> Result<(), WriteFault>
-    ensures { Writes (load_line fault) (stream_of F.contents faults.old) (stream_of F.contents faults.new) result }
-{
-    match fault {
-        LoadFault::Memory => tell_memory(faults),
-        _ => tell_name(faults, fault.name()),
-    }
 }
 
 /// Writes the line of what is refused at a record.
@@ -346,66 +370,18 @@ fn tell_signed<F: Write>(faults: &mut Output<F>, name: &str, number: i64) -> Res
     faults.put_all(&[START, name.as_bytes(), minus, &digits[..end], END])
 }
 
-/// Writes the line on a text.
-fn tell_text<F: Write>(faults: &mut Output<F>, at: u64, why: Why) -> Result<(), WriteFault>
-    ensures { Writes (text_line at why) (stream_of F.contents faults.old) (stream_of F.contents faults.new) result }
+/// Writes the line of a name and of what is said beside it.
+fn tell_told<F: Write>(faults: &mut Output<F>, name: &str, told: Told) -> Result<(), WriteFault>
+    ensures { Writes (told_line name.now told) (stream_of F.contents faults.old) (stream_of F.contents faults.new) result }
 {
-    match why {
-        Why::Read => tell_name(faults, "read fault"),
-        Why::Memory => tell_memory(faults),
-        _ => tell_record(faults, at, why.name()),
-    }
-}
-
-/// Writes the line on a step.
-fn tell_step<F: Write>(faults: &mut Output<F>, at: u64, why: SimWhy) -> Result<(), WriteFault>
-    ensures { Writes (step_line at why) (stream_of F.contents faults.old) (stream_of F.contents faults.new) result }
-{
-    match why {
-        SimWhy::Memory => tell_memory(faults),
-        _ => tell_record(faults, at, why.name()),
-    }
-}
-
-/// Writes the line on commands.
-fn tell_solve<F: Write>(faults: &mut Output<F>, fault: OracleFault) -> Result<(), WriteFault>
-    ensures { Writes (oracle_line fault) (stream_of F.contents faults.old) (stream_of F.contents faults.new) result }
-{
-    match fault {
-        OracleFault::TooMany => tell_name(faults, fault.name()),
-        OracleFault::RoundRange(id) | OracleFault::RepeatedId(id) => tell_number(
-            faults,
-            fault.name(),
-            id,
-        ),
-        OracleFault::Memory => tell_memory(faults),
-    }
-}
-
-/// Writes the line on a certificate.
-fn tell_check<F: Write>(faults: &mut Output<F>, fault: CheckFault) -> Result<(), WriteFault>
-    ensures { Writes (check_line fault) (stream_of F.contents faults.old) (stream_of F.contents faults.new) result }
-{
-    match fault {
-        CheckFault::Length => tell_name(faults, fault.name()),
-        CheckFault::BeforeRelease(of) | CheckFault::OverDepth(of) | CheckFault::NotCrowded(of) =>
-            tell_number(faults, fault.name(), of),
-        CheckFault::Memory => tell_memory(faults),
-        CheckFault::WrongLateness(own) => tell_signed(faults, fault.name(), own),
-    }
-}
-
-/// Writes the line on a certificate of what is on time.
-fn tell_on_time<F: Write>(faults: &mut Output<F>, fault: OnTimeFault) -> Result<(), WriteFault>
-    ensures { Writes (on_time_check_line fault) (stream_of F.contents faults.old) (stream_of F.contents faults.new) result }
-{
-    match fault {
-        OnTimeFault::Length => tell_name(faults, fault.name()),
-        OnTimeFault::BeforeRelease(of)
-        | OnTimeFault::OverDepth(of)
-        | OnTimeFault::WrongMet(of)
-        | OnTimeFault::Loose(of) => tell_number(faults, fault.name(), of),
-        OnTimeFault::Memory => tell_memory(faults),
-        OnTimeFault::Windows(place) => tell_number(faults, fault.name(), place as u64),
+    match told {
+        Told::Named => tell_name(faults, name),
+        Told::Numbered(number) => tell_number(faults, name, number),
+        Told::Signed(number) => tell_signed(faults, name, number),
+        Told::AtRecord(at) => tell_record(faults, at, name),
+        Told::AtLine(at) => tell_line_name(faults, at, name),
+        Told::Read => tell_name(faults, "read fault"),
+        Told::Write => tell_name(faults, "write fault"),
+        Told::Memory => tell_memory(faults),
     }
 }

@@ -4,7 +4,6 @@ ghost use Rattle.std.specs.Prelude.{◌≡◌, IfOk, IfErr};
 ghost use Rattle.blk_text.specs.TraceForm.{SpellsTrace, TraceTextFault};
 ghost use Rattle.blk_text.specs.TraceRecords.{IsTrace};
 ghost use Rattle.blk_cli.specs.Inputs.{Of, FailsOver};
-ghost use Rattle.blk_cli.specs.Names.{unlisted_fault_name};
 ghost use Rattle.blk_cli.specs.OfTraces.{IsTellingText, IsUntold};
 
 use crate::failure::Failure;
@@ -14,25 +13,8 @@ use blk_picture::picture;
 use blk_text::{read_trace, trace_text};
 use blk_trace::Trace;
 use blk_words::Telling;
-use edd_commands::variant_name;
 use std::alloc::Global;
 use std::io::Read;
-
-/// Why a trace has no command list.
-#[derive(Clone, Copy, Debug, PartialEq, Eq)]
-pub enum UnlistedFault {
-    /// An event sets a depth, and a command list has one.
-    NotFixed,
-}
-
-impl UnlistedFault {
-    /// Its name, which the program prints.
-    pub fn name(self) -> &'static str
-        ensures { result.now ≡ unlisted_fault_name self }
-    {
-        variant_name!(self: UnlistedFault { NotFixed })
-    }
-}
 
 /// The command list of a trace, which has one where no event sets a depth.
 fn list_of(alloc: Global, trace: &Trace) -> Result<Vec<u8>, Failure>
@@ -41,7 +23,7 @@ fn list_of(alloc: Global, trace: &Trace) -> Result<Vec<u8>, Failure>
     ensures untold { IfErr result (IsUntold Telling.Commands trace.now) }
 {
     if !trace.is_fixed() {
-        return Err(Failure::Unlisted(UnlistedFault::NotFixed));
+        return Err(Failure::NotFixed);
     }
     let Ok(commands) = trace.commands() else {
         return Err(Failure::Memory);
