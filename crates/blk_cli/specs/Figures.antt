@@ -1,18 +1,17 @@
 -- What is written of the figures of a trace: an answer, in lines or as JSON.
 use Rattle.std.specs.Prelude.{◌≡◌, ℕ, List}
 use Rattle.blk_cli.specs.Forms.{written_in}
-use Rattle.blk_report.specs.Answers.{misses_parts, report_parts, late_parts, spread_parts}
-use Rattle.blk_report.specs.Late.{AreAllLate}
-use Rattle.blk_report.specs.Misses.{IsTallied}
+use Rattle.blk_report.specs.Late.{AreAllLate, late_parts}
+use Rattle.blk_report.specs.Misses.{IsTallied, misses_parts}
 use Rattle.blk_report.specs.Services.{services_of}
-use Rattle.blk_report.specs.Shortfall.{IsReport}
-use Rattle.blk_report.specs.Spread.{AreSpreads}
+use Rattle.blk_report.specs.Shortfall.{IsReport, report_parts}
+use Rattle.blk_report.specs.Spread.{AreSpreads, spread_parts}
 use Rattle.blk_report.specs.declared.delays.LateCommand.{LateCommand}
 use Rattle.blk_report.specs.declared.figures.Report.{Report}
 use Rattle.blk_report.specs.declared.missing.Tally.{Tally}
 use Rattle.blk_report.specs.declared.spreading.Spreads.{Spreads}
-use Rattle.blk_settings.specs.declared.figures.FiguresAsked.{FiguresAsked}
-use Rattle.blk_settings.specs.declared.figures.FiguresAsked.TheVariants as figures
+use Rattle.blk_words.specs.declared.table.FiguresAsked.{FiguresAsked}
+use Rattle.blk_words.specs.declared.table.FiguresAsked.TheVariants as figures
 use Rattle.blk_settings.specs.declared.form.Form.{Form}
 use Rattle.blk_trace.specs.Depths.{capacity_of}
 use Rattle.blk_trace.specs.Traces.{Traced}

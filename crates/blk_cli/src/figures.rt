@@ -8,8 +8,8 @@ use blk_report::{
     late, late_answer, misses, misses_answer, report, report_answer, services, spread,
     spread_answer,
 };
-use blk_settings::{FiguresAsked, Form};
 use blk_trace::Trace;
+use blk_words::{FiguresAsked, Form};
 use std::alloc::{AllocError, Global};
 
 /// What is written of the late commands of a trace.

@@ -5,8 +5,7 @@ use blk_explain::{TextForm, called, form_named};
 use blk_lists::Why;
 use blk_lists::fields::field;
 use blk_recorders::{CaptureForm, Recorder, form_of};
-use blk_settings::FiguresAsked;
-use blk_words::{Import, Job, Kept, Running, Telling, TextJob, Written};
+use blk_words::{Import, Job, Kept, Running, Telling, TextJob, Written, figures_name};
 use csv::ByteRecord;
 use drafts::Draft;
 use std::alloc::{AllocError, Global};
@@ -15,9 +14,7 @@ use std::alloc::{AllocError, Global};
 fn teller_of(telling: Telling) -> Option<&'static [u8]> {
     match telling {
         Telling::Picture => Some(b"picture"),
-        Telling::Figures(FiguresAsked::Spread, _) => Some(b"spread"),
-        Telling::Figures(FiguresAsked::Late, _) => Some(b"late"),
-        Telling::Figures(FiguresAsked::Misses, _) => Some(b"misses"),
+        Telling::Figures(asked, _) => Some(figures_name(asked)?.as_bytes()),
         _ => None,
     }
 }

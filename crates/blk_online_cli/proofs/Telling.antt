@@ -25,7 +25,7 @@ use Rattle.blk_online_cli.proofs.Reporting as telling
 use Rattle.blk_cli.specs.Gives.{GivesText}
 use Rattle.blk_cli.specs.Figures.{IsMissesText, IsReportText}
 use Rattle.blk_settings.specs.declared.form.Form.TheVariants as form
-use Rattle.blk_settings.specs.declared.figures.FiguresAsked.TheVariants as figures
+use Rattle.blk_words.specs.declared.table.FiguresAsked.TheVariants as figures
 use Rattle.blk_words.specs.declared.inputs.Running.TheVariants as running
 use Rattle.blk_words.specs.declared.inputs.Telling.TheVariants as tell
 use Rattle.blk_words.specs.declared.inputs.TextJob.TheVariants as text_job

@@ -8,7 +8,7 @@ use Rattle.blk_trace.specs.Traces.{Traced}
 use Rattle.blk_text.specs.Script.{Scripted, SpellsScript}
 use Rattle.blk_text.specs.TraceForm.{SpellsTrace}
 use Rattle.blk_settings.specs.Defaults.{earliest_by}
-use Rattle.blk_settings.specs.declared.figures.FiguresAsked.{FiguresAsked}
+use Rattle.blk_words.specs.declared.table.FiguresAsked.{FiguresAsked}
 use Rattle.blk_words.specs.declared.inputs.Running.TheVariants as running
 use Rattle.blk_words.specs.declared.inputs.Telling.TheVariants as telling
 use Rattle.blk_words.specs.declared.inputs.TextJob.{TextJob}

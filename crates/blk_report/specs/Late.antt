@@ -1,5 +1,5 @@
 -- Commands that were issued after they were due, what the rounds that they waited went to, and why they were late.
-use Rattle.std.specs.Prelude.{ℕ, ◌≡◌, ◌<◌, ◌+◌, ◌-◌, ◌&&◌, Bool, List, All, length, map, filter, count_by, nat_le, nat_lt, slice_index_or}
+use Rattle.std.specs.Prelude.{ℕ, ◌≡◌, ◌<◌, ◌+◌, ◌-◌, ◌&&◌, Bool, List, All, length, map, filter, count_by, nat_le, nat_lt, slice_index_or, [], ◌∷◌, true}
 use Rattle.edd_commands.specs.declared.steps.Step.{Step}
 use Rattle.edd_commands.specs.Capacity.{carried}
 use Rattle.edd_verdict.specs.declared.Verdict.{Verdict}
@@ -10,6 +10,15 @@ use Rattle.blk_trace.specs.Depths.{capacity_of}
 use Rattle.blk_trace.specs.Happened.{Happened}
 use Rattle.blk_trace.specs.Setups.{Setup}
 use Rattle.blk_report.specs.Services.{command_in, services_of}
+use Rattle.answer.specs.declared.names.TheConstants as names
+use Rattle.answer.specs.declared.answer.Part.{Part}
+use Rattle.answer.specs.declared.answer.Part.TheVariants.{Rows}
+use Rattle.answer.specs.declared.value.Value.{Value}
+use Rattle.answer.specs.declared.value.Value.TheVariants.{Count, Text}
+use Rattle.answer.specs.declared.cells.Column.{Column}
+use Rattle.answer.specs.Parts.{record_columns}
+use Rattle.edd_figures.specs.Answers.{verdict_value, from_value, until_value}
+use Rattle.blk_bio.specs.Letters.{direction_text}
 
 -- it was issued after it was due
 abbrev pub is_late_service : Service → Bool
@@ -55,3 +64,18 @@ pub record AreAllLate (services : List Service) (steps : List Step) (late : List
 -- those of the trace of these events, under its own capacity
 abbrev pub AreLateIn : Setup → List Happened → List LateCommand → Type 0
 AreLateIn setup events late = AreAllLate (services_of setup events) (capacity_of setup events) late
+
+-- a late command: its request, its rounds, what it waited for, and why it was late
+unfoldable pub late_row : LateCommand → List Value
+late_row l =
+    Count l.service.id ∷ Text (direction_text l.service.dir) ∷ Count l.service.first ∷ Count l.service.sectors ∷ Count l.service.release ∷ Count l.service.due
+    ∷ Count l.service.issue ∷ Count l.lateness ∷ Count l.sooner ∷ Count l.later ∷ Count l.idle
+    ∷ verdict_value l.verdict ∷ from_value l.verdict ∷ until_value l.verdict ∷ []
+
+abbrev pub late_columns : List Column
+late_columns =
+    record_columns (names.ID.now ∷ names.DIR.now ∷ names.FIRST.now ∷ names.SECTORS.now ∷ names.RELEASE.now ∷ names.DUE.now ∷ names.ISSUE.now ∷ names.LATENESS.now
+    ∷ names.SOONER.now ∷ names.LATER.now ∷ names.IDLE.now ∷ names.VERDICT.now ∷ names.FROM.now ∷ names.UNTIL.now ∷ [])
+
+abbrev pub late_parts : List LateCommand → List Part
+late_parts late = Rows (record { name = names.LATE.now; columns = late_columns; head = true; rows = map late_row late }) ∷ []

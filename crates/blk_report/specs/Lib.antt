@@ -5,7 +5,6 @@ pub mod Misses
 pub mod Late
 pub mod Shortfall
 pub mod Comparison
-pub mod Answers
 pub mod Lines
 pub mod Table
 pub mod Inside

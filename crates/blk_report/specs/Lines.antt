@@ -2,7 +2,7 @@
 use Rattle.std.specs.Prelude.{ℕ, List}
 use Rattle.answer.specs.Lines.{answer_lines}
 use Rattle.blk_report.specs.declared.figures.Report.{Report}
-use Rattle.blk_report.specs.Answers.{report_parts}
+use Rattle.blk_report.specs.Shortfall.{report_parts}
 
 -- its lines
 abbrev pub report_text : Report → List ℕ

@@ -1,5 +1,5 @@
 -- How long commands waited and how late they were, by quantiles.
-use Rattle.std.specs.Prelude.{ℕ, ◌≡◌, ◌+◌, ◌-◌, ◌*◌, ◌/◌, ◌≤◌, ◌<◌, Bool, not, List, [], length, map, filter, count_by, slice_get, Option, None, Some, ℤ, pos, ◌-ℤ◌, IsPermutation}
+use Rattle.std.specs.Prelude.{ℕ, ◌≡◌, ◌+◌, ◌-◌, ◌*◌, ◌/◌, ◌≤◌, ◌<◌, Bool, not, List, [], length, map, filter, count_by, slice_get, Option, None, Some, ℤ, pos, ◌-ℤ◌, IsPermutation, ◌∷◌}
 use Rattle.std.specs.List.Sorted.{IsSorted}
 use Rattle.std.specs.Ordering.{int_cmp, is_lt}
 use Rattle.blk_bio.specs.declared.bio.Dir.TheVariants.{Read, Write}
@@ -8,6 +8,15 @@ use Rattle.blk_report.specs.declared.serving.Service.{Service}
 use Rattle.blk_report.specs.declared.spreading.Quantiles.{Quantiles}
 use Rattle.blk_report.specs.declared.spreading.ByDir.{ByDir}
 use Rattle.blk_report.specs.declared.spreading.Spreads.{Spreads}
+use Rattle.answer.specs.declared.names.TheConstants as names
+use Rattle.answer.specs.declared.answer.Part.{Part}
+use Rattle.answer.specs.declared.answer.Part.TheVariants.{Group}
+use Rattle.answer.specs.declared.answer.Entry.{Entry}
+use Rattle.answer.specs.declared.value.Value.{Value}
+use Rattle.answer.specs.declared.value.Value.TheVariants.{Count}
+use Rattle.answer.specs.declared.cells.Column.{Column}
+use Rattle.answer.specs.declared.cells.Layout.TheVariants as layout
+use Rattle.answer.specs.Parts.{column, record_columns, signed}
 
 -- how many rounds it waited for its Issue, and how many rounds after its due round that came
 abbrev pub wait_of : Service → ℤ
@@ -74,3 +83,27 @@ pub record AreQuantiles (f : Service → ℤ) (services : List Service) (b : ByD
 pub record AreSpreads (services : List Service) (s : Spreads) : Type 0 where
   pub wait : AreQuantiles wait_of services s.wait
   pub lateness : AreQuantiles late_by services s.lateness
+
+-- quantiles of reads, of writes and of both
+abbrev pub quantiles_row : Quantiles → List Value
+quantiles_row q = Count q.count ∷ signed q.p50 ∷ signed q.p90 ∷ signed q.p99 ∷ signed q.p999 ∷ signed q.max ∷ []
+
+abbrev pub quantiles_columns : List Column
+quantiles_columns =
+    column layout.Comma names.COUNT.now ∷ column layout.Comma names.P50.now ∷ column layout.Comma names.P90.now ∷ column layout.Comma names.P99.now
+    ∷ column layout.Comma names.P999.now ∷ column layout.Comma names.MAX.now ∷ []
+
+abbrev pub quantiles_entries : ByDir → List Entry
+quantiles_entries b =
+    record { name = names.READS.now; row = quantiles_row b.reads } ∷ record { name = names.WRITES.now; row = quantiles_row b.writes }
+    ∷ record { name = names.ALL.now; row = quantiles_row b.all } ∷ []
+
+-- how waits and latenesses are spread
+abbrev pub spread_head : List Column
+spread_head =
+    record_columns (names.WHAT.now ∷ names.DIR.now ∷ names.COUNT.now ∷ names.P50.now ∷ names.P90.now ∷ names.P99.now ∷ names.P999.now ∷ names.MAX.now ∷ [])
+
+abbrev pub spread_parts : Spreads → List Part
+spread_parts s =
+    Group (record { name = names.WAIT.now; head = spread_head; columns = quantiles_columns; entries = quantiles_entries s.wait })
+    ∷ Group (record { name = names.LATENESS.now; head = []; columns = quantiles_columns; entries = quantiles_entries s.lateness }) ∷ []

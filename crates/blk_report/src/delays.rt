@@ -8,15 +8,23 @@ ghost use Rattle.edd_verdict.specs.Verdicts.{AreVerdicts};
 ghost use Rattle.blk_trace.specs.declared.trace.TheConstants.{MAX_EVENTS};
 ghost use Rattle.blk_report.specs.Services.{command_in, AreWithinLimits, AreInIssueOrder};
 ghost use Rattle.blk_report.specs.Inside.Services.{issues_in};
-ghost use Rattle.blk_report.specs.Late.{is_late_service, AreAllLate, AreLateIn};
+ghost use Rattle.blk_report.specs.Late.{is_late_service, AreAllLate, AreLateIn, late_row, late_parts};
 ghost use Rattle.blk_report.specs.Inside.Waited.{IsFrom, AskForAll, AreCarried, CanWait, CanAllWait, late_command, AreLateCommands};
+ghost use Rattle.blk_bio.specs.Letters.{direction_text};
 
 use crate::below::{CountAsk, count_below};
 use crate::serving::{Service, services};
+use answer::names::{
+    DIR, DUE, FIRST, FROM, ID, IDLE, ISSUE, LATE, LATENESS, LATER, READS, RELEASE, SECTORS, SOONER,
+    UNTIL, VERDICT, WRITES,
+};
+use answer::{Answer, Part, Row, Rows, Value, Word, record_columns};
+use blk_bio::Dir;
 use blk_trace::Trace;
 use edd_commands::Capacity;
+use edd_figures::answers::{from_value, until_value, verdict_value};
 use edd_verdict::{Verdict, law_of_verdicts, verdicts};
-use std::alloc::{AllocError, Allocator};
+use std::alloc::{AllocError, Allocator, Global};
 
 /// A command that was issued after it was due, and what the rounds that it waited were used for: those from its release up to, but
 /// not including, that of its Issue. Where `later` and `idle` are 0, earliest due first would have let it wait too.
@@ -249,4 +257,69 @@ pub fn late<A: Allocator + Clone>(trace: &Trace<A>) -> Result<Vec<LateCommand, A
         &capacity,
     )?;
     Ok(found)
+}
+
+/// The word of a direction.
+fn dir_word(dir: Dir) -> Word
+    ensures { result ≡ direction_text dir }
+{
+    match dir {
+        Dir::Read => Word::new(READS),
+        Dir::Write => Word::new(WRITES),
+    }
+}
+
+/// The row of a late command.
+#[tactic(auto, unfolding(crate::specs::Late::late_row))]
+fn late_row(alloc: Global, late: &LateCommand) -> Result<Row, AllocError>
+    ensures { IfOk result (λ row. row ≡ late_row late.now) }
+{
+    let service = &late.service;
+    let values = Vec::from_array(
+        alloc,
+        [
+            Value::Count(service.id),
+            Value::Text(dir_word(service.dir)),
+            Value::Count(service.first),
+            Value::Count(service.sectors),
+            Value::Count(service.release),
+            Value::Count(service.due),
+            Value::Count(service.issue),
+            Value::Count(late.lateness),
+            Value::Count(late.sooner),
+            Value::Count(late.later),
+            Value::Count(late.idle),
+            verdict_value(late.verdict),
+            from_value(late.verdict),
+            until_value(late.verdict),
+        ],
+    )?;
+    Ok(Row::new(values))
+}
+
+/// The rows of late commands.
+fn late_rows(alloc: Global, late: &[LateCommand]) -> Result<Vec<Row>, AllocError>
+    ensures { IfOk result (λ rows. rows.items ≡ map (λ l. late_row l) late.now) }
+{
+    let mut rows = Vec::new(alloc);
+    for command in late {
+        rows.push(late_row(alloc, command)?)?;
+    }
+    Ok(rows)
+}
+
+/// What is said of late commands: a row for each, in their order. The direction is `R` or `W`; sectors and rounds are as in the trace. The
+/// verdict is `arrival` or `spare` with no window, or `full` with the first and the last round of its window. Fails only when out of memory.
+pub fn late_answer(alloc: Global, late: &[LateCommand]) -> Result<Answer, AllocError>
+    ensures { IfOk result (λ answer. answer ≡ late_parts late.now) }
+{
+    let names = [
+        ID, DIR, FIRST, SECTORS, RELEASE, DUE, ISSUE, LATENESS, SOONER, LATER, IDLE, VERDICT, FROM,
+        UNTIL,
+    ];
+    let columns = record_columns(alloc, &names)?;
+    let rows = late_rows(alloc, late)?;
+    let mut answer = Answer::new(alloc);
+    answer.add(Part::Rows(Rows::new(LATE, columns, true, rows)))?;
+    Ok(answer)
 }

@@ -1,9 +1,15 @@
 //! What a report says.
 
-ghost use Rattle.std.specs.Prelude.{◌≡◌};
+ghost use Rattle.std.specs.Prelude.{◌≡◌, IfOk};
 ghost use Rattle.edd_figures.specs.Figures.{greatest_in, least_in, shortfall_in};
+ghost use Rattle.blk_report.specs.Lines.{report_text};
+ghost use Rattle.blk_report.specs.Shortfall.{report_parts};
 
+use answer::names::{COMMANDS, DEPTH, WAITING};
+use answer::{Answer, Value, lines, member};
 use edd_figures::Figures;
+use edd_figures::answers::add_figures;
+use std::alloc::{AllocError, Global};
 
 /// What a trace says of its scheduler.
 #[derive(Clone, Copy, Debug, PartialEq, Eq)]
@@ -39,4 +45,25 @@ impl Report {
     {
         Some(self.figures?.shortfall)
     }
+}
+
+/// What a report says: the members `commands`, `waiting` (bios), `depth`, `greatest`, `least`, `shortfall`, `window` (two rounds) and `load`, of
+/// which the last five are `none` without commands. Fails only when out of memory.
+pub fn report_answer(alloc: Global, report: &Report) -> Result<Answer, AllocError>
+    ensures { IfOk result (λ answer. answer ≡ report_parts report.now) }
+{
+    let mut answer = Answer::new(alloc);
+    answer.add(member(COMMANDS, Value::Count(report.commands)))?;
+    answer.add(member(WAITING, Value::Count(report.waiting)))?;
+    answer.add(member(DEPTH, Value::Count(report.depth)))?;
+    add_figures(&mut answer, report.figures)?;
+    Ok(answer)
+}
+
+/// A report in lines. Fails only when out of memory.
+pub fn report_lines(alloc: Global, report: &Report) -> Result<Vec<u8>, AllocError>
+    ensures { IfOk result (λ text. text.items ≡ report_text report.now) }
+{
+    let answer = report_answer(alloc, report)?;
+    lines(alloc, &answer)
 }

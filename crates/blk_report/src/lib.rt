@@ -9,7 +9,6 @@
 ghost use Rattle.std.specs.Prelude.{IfOk};
 ghost use Rattle.blk_report.specs.Shortfall.{IsReport};
 
-mod answers;
 mod below;
 mod comparison;
 mod delays;
@@ -19,15 +18,12 @@ mod outstaying;
 mod serving;
 mod spreading;
 
-pub use crate::answers::{
-    late_answer, misses_answer, report_answer, report_lines, spread_answer, table_answer,
-};
-pub use crate::comparison::compare;
-pub use crate::delays::{LateCommand, late};
-pub use crate::figures::Report;
-pub use crate::missing::{Missed, Tally, misses};
+pub use crate::comparison::{compare, table_answer};
+pub use crate::delays::{LateCommand, late, late_answer};
+pub use crate::figures::{Report, report_answer, report_lines};
+pub use crate::missing::{Missed, Tally, misses, misses_answer};
 pub use crate::serving::{Service, services};
-pub use crate::spreading::{ByDir, Quantiles, Spreads, spread};
+pub use crate::spreading::{ByDir, Quantiles, Spreads, spread, spread_answer};
 use blk_trace::Trace;
 use edd_figures::figures_of;
 use std::alloc::{AllocError, Allocator};

@@ -1,13 +1,16 @@
 //! How many commands of a trace were late, how many of them had to be, and what waits.
 
-ghost use Rattle.std.specs.Prelude.{◌≡◌, ◌≤◌, ◌<◌, ◌↔◌, IfOk, length};
+ghost use Rattle.std.specs.Prelude.{◌≡◌, ◌≤◌, ◌<◌, ◌↔◌, ◌++◌, IfOk, OnOk, length};
 ghost use Rattle.blk_trace.specs.Meaning.{commands_of, waiting_of};
-ghost use Rattle.blk_report.specs.Misses.{IsTallied};
 ghost use Rattle.blk_report.specs.Overdue.{overdue_of};
+ghost use Rattle.blk_report.specs.Misses.{IsTallied, tally_parts, misses_parts};
 
 use crate::outstaying::overdue;
+use answer::names::{AVOIDABLE, COMMANDS, LATE, OVERDUE, SPARE, UNAVOIDABLE, WAITING};
+use answer::{Answer, Value, member};
 use blk_trace::Trace;
 use edd_commands::Command;
+use edd_figures::answers::add_crowds;
 use edd_figures::{Crowd, misses_of};
 use std::alloc::{AllocError, Allocator, Global};
 
@@ -84,4 +87,28 @@ pub fn misses<A: Allocator + Clone>(trace: &Trace<A>) -> Result<Missed<A>, Alloc
         tally,
         windows: missed.windows,
     })
+}
+
+/// Adds the numbers of what was late.
+fn add_tally(answer: &mut Answer, tally: &Tally) -> Result<(), AllocError>
+    ensures { OnOk result (answer.new ≡ answer.old ++ tally_parts tally.now) }
+{
+    answer.add(member(COMMANDS, Value::Count(tally.commands)))?;
+    answer.add(member(LATE, Value::Count(tally.late)))?;
+    answer.add(member(UNAVOIDABLE, Value::Count(tally.unavoidable)))?;
+    answer.add(member(AVOIDABLE, Value::Count(tally.avoidable)))?;
+    answer.add(member(SPARE, Value::Count(tally.spare)))?;
+    answer.add(member(WAITING, Value::Count(tally.waiting)))?;
+    answer.add(member(OVERDUE, Value::Count(tally.overdue)))
+}
+
+/// What is said of misses: the members `commands`, `late`, `unavoidable`, `avoidable`, `spare`, `waiting` and `overdue`, and the windows that
+/// prove how many had to be late. Fails only when out of memory.
+pub fn misses_answer<A: Allocator>(alloc: Global, missed: &Missed<A>) -> Result<Answer, AllocError>
+    ensures { IfOk result (λ answer. answer ≡ misses_parts missed.now.tally missed.now.windows.items) }
+{
+    let mut answer = Answer::new(alloc);
+    add_tally(&mut answer, &missed.tally)?;
+    add_crowds(&mut answer, alloc, missed.windows.as_slice())?;
+    Ok(answer)
 }

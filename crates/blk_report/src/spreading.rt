@@ -4,11 +4,17 @@ ghost use Rattle.std.specs.Prelude.{◌≡◌, ◌≤◌, IfOk, filter, length, 
 ghost use Rattle.edd_commands.specs.declared.TheConstants.{MAX_COMMANDS};
 ghost use Rattle.blk_trace.specs.Setups.{same_dir};
 ghost use Rattle.blk_report.specs.Services.{AreWithinLimits};
-ghost use Rattle.blk_report.specs.Spread.{wait_of, late_by, at_rank, quantiles_of, IsQuantiles, AreSpreads};
+ghost use Rattle.blk_report.specs.Spread.{wait_of, late_by, at_rank, quantiles_of, IsQuantiles, AreSpreads, quantiles_row, quantiles_columns, quantiles_entries, spread_head, spread_parts};
 
 use crate::serving::Service;
+use answer::names::{
+    ALL, COUNT, DIR, LATENESS, MAX, P50, P90, P99, P999, READS, WAIT, WHAT, WRITES,
+};
+use answer::{
+    Answer, Column, Entry, Group, Layout, Part, Row, Value, Word, record_columns, signed_or_none,
+};
 use blk_bio::Dir;
-use std::alloc::{AllocError, Allocator};
+use std::alloc::{AllocError, Allocator, Global};
 
 /// How many numbers there are, and their quantiles by nearest rank, each an element of them: of the n numbers in their order the
 /// one at place p n, counted from 1 and rounded up. Without numbers there are none.
@@ -150,4 +156,94 @@ pub fn spread<A: Allocator + Clone>(alloc: A, services: &[Service]) -> Result<Sp
         all: latenesses(alloc, services)?,
     };
     Ok(Spreads { wait, lateness })
+}
+
+/// The row of some quantiles.
+fn quantiles_row(alloc: Global, quantiles: &Quantiles) -> Result<Row, AllocError>
+    ensures { IfOk result (λ row. row ≡ quantiles_row quantiles.now) }
+{
+    let values = Vec::from_array(
+        alloc,
+        [
+            Value::Count(quantiles.count),
+            signed_or_none(quantiles.p50),
+            signed_or_none(quantiles.p90),
+            signed_or_none(quantiles.p99),
+            signed_or_none(quantiles.p999),
+            signed_or_none(quantiles.max),
+        ],
+    )?;
+    Ok(Row::new(values))
+}
+
+/// The columns of quantiles.
+fn quantiles_columns(alloc: Global) -> Result<Vec<Column>, AllocError>
+    ensures { IfOk result (λ columns. columns.items ≡ quantiles_columns) }
+{
+    let columns = Vec::from_array(
+        alloc,
+        [
+            Column::new(Layout::Comma, COUNT),
+            Column::new(Layout::Comma, P50),
+            Column::new(Layout::Comma, P90),
+            Column::new(Layout::Comma, P99),
+            Column::new(Layout::Comma, P999),
+            Column::new(Layout::Comma, MAX),
+        ],
+    )?;
+    Ok(columns)
+}
+
+/// The rows of the reads, the writes and both.
+fn quantiles_entries(alloc: Global, quantiles: &ByDir) -> Result<Vec<Entry>, AllocError>
+    ensures { IfOk result (λ entries. entries.items ≡ quantiles_entries quantiles.now) }
+{
+    let reads = quantiles_row(alloc, &quantiles.reads)?;
+    let writes = quantiles_row(alloc, &quantiles.writes)?;
+    let all = quantiles_row(alloc, &quantiles.all)?;
+    let entries = Vec::from_array(
+        alloc,
+        [
+            Entry {
+                name: Word::new(READS),
+                row: reads,
+            },
+            Entry {
+                name: Word::new(WRITES),
+                row: writes,
+            },
+            Entry {
+                name: Word::new(ALL),
+                row: all,
+            },
+        ],
+    )?;
+    Ok(entries)
+}
+
+/// The columns of the head line of a spread.
+fn spread_head(alloc: Global) -> Result<Vec<Column>, AllocError>
+    ensures { IfOk result (λ columns. columns.items ≡ spread_head) }
+{
+    record_columns(alloc, &[WHAT, DIR, COUNT, P50, P90, P99, P999, MAX])
+}
+
+/// What is said of a spread: a row for the waits of the reads, of the writes and of both, and the same three for their latenesses. A quantile of
+/// no commands is `none`. Fails only when out of memory.
+pub fn spread_answer(alloc: Global, spread: &Spreads) -> Result<Answer, AllocError>
+    ensures { IfOk result (λ answer. answer ≡ spread_parts spread.now) }
+{
+    let waits = quantiles_entries(alloc, &spread.wait)?;
+    let wait = Group::new(WAIT, spread_head(alloc)?, quantiles_columns(alloc)?, waits);
+    let latenesses = quantiles_entries(alloc, &spread.lateness)?;
+    let lateness = Group::new(
+        LATENESS,
+        Vec::new(alloc),
+        quantiles_columns(alloc)?,
+        latenesses,
+    );
+    let mut answer = Answer::new(alloc);
+    answer.add(Part::Group(wait))?;
+    answer.add(Part::Group(lateness))?;
+    Ok(answer)
 }

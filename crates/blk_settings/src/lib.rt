@@ -12,7 +12,6 @@ ghost use Rattle.blk_settings.specs.Settles.{IsSettled, served_bios};
 ghost use Rattle.blk_trace.specs.Events.{AreOnce};
 
 pub mod fault;
-pub mod figures;
 pub mod form;
 pub mod given;
 pub mod grid;
@@ -29,7 +28,6 @@ mod settling;
 pub mod told;
 
 pub use crate::fault::LoadFault;
-pub use crate::figures::FiguresAsked;
 pub use crate::form::Form;
 pub use crate::given::Given;
 pub use crate::grid::{By, GridFault, TrialAsked};

@@ -7,7 +7,7 @@ use Rattle.clap.specs.Words.{Text, fault_of}
 use Rattle.clap.proofs.OnLiterals.{clap_on_literals}
 use Rattle.blk_settings.specs.declared.lists.ListFault.TheVariants as list
 use Rattle.blk_words.specs.declared.words.Job.{Job}
-use Rattle.blk_settings.specs.declared.figures.FiguresAsked.TheVariants as figures
+use Rattle.blk_words.specs.declared.table.FiguresAsked.TheVariants as figures
 use Rattle.blk_words.specs.declared.inputs.Running.TheVariants as running
 use Rattle.blk_words.specs.declared.inputs.Solving.TheVariants as solving
 use Rattle.blk_words.specs.declared.inputs.Telling.TheVariants as telling

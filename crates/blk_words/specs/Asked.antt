@@ -33,7 +33,7 @@ use Rattle.blk_words.specs.declared.inputs.ShownLoad.{ShownLoad}
 use Rattle.blk_words.specs.declared.inputs.ShownLoad.TheVariants as shown
 use Rattle.blk_words.specs.declared.replaying.ShownReplay.{ShownReplay}
 use Rattle.blk_words.specs.declared.replaying.ShownReplay.TheVariants as shown_as
-use Rattle.blk_settings.specs.declared.figures.FiguresAsked.TheVariants as figures
+use Rattle.blk_words.specs.declared.table.FiguresAsked.TheVariants as figures
 use Rattle.blk_words.specs.declared.inputs.Running.{Running}
 use Rattle.blk_words.specs.declared.inputs.Running.TheVariants as running
 use Rattle.blk_words.specs.declared.inputs.Solving.{Solving}

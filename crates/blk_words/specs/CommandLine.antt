@@ -8,8 +8,8 @@ use Rattle.clap.specs.declared.builder.value_parser.ValueParser.TheVariants as v
 use Rattle.blk_settings.specs.declared.given.TheConstants.{MAX_SHORT}
 use Rattle.blk_settings.specs.Options.{OptionKind, Flag, Name, Short, Number, MaybeNumber, Words, MaybeWords, PositionName, OptionOf, sched_names, position_names, sched_option, flags, tuning, listing}
 use Rattle.blk_settings.specs.Plans.{text_options}
-use Rattle.blk_settings.specs.declared.figures.FiguresAsked.{FiguresAsked}
-use Rattle.blk_settings.specs.declared.figures.FiguresAsked.TheVariants as figures
+use Rattle.blk_words.specs.declared.table.FiguresAsked.{FiguresAsked}
+use Rattle.blk_words.specs.declared.table.FiguresAsked.TheVariants as figures
 use Rattle.blk_words.specs.declared.inputs.Telling.TheVariants as telling
 pub use Rattle.blk_words.specs.declared.command.Names.{Names}
 use Rattle.blk_words.specs.declared.table.Makes.{Makes}

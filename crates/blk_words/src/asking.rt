@@ -7,8 +7,9 @@ ghost use Rattle.blk_words.specs.Asked.{Asks, of_script, of_trace, of_list};
 ghost use Rattle.blk_words.specs.Plain.{AsksFor, AsksForGrid, AsksForNothing, default_trial, five_by_lateness, whole_import, by_perf, default_load, own_grid, both_positions};
 
 use crate::inputs::{Running, ShownLoad, Solving, Telling, TextJob};
+use crate::table::FiguresAsked;
 use crate::words::{Job, Kept, Refusal, Written};
-use blk_settings::{FiguresAsked, Form, ListFault, SchedKind};
+use blk_settings::{Form, ListFault, SchedKind};
 
 /// Each of these lines asks for its job and, all but `--version`, for no other; `oracle --trace --met` asks for none. `tune` asks for the
 /// whole grid, or for that of its lists, and for no other.

@@ -1,6 +1,7 @@
 //! What is asked of an input: of a script, of a trace, of a command list, of a certificate, of a schedule.
 
-use blk_settings::{FiguresAsked, Form, Lineup, Sched};
+use crate::table::FiguresAsked;
+use blk_settings::{Form, Lineup, Sched};
 
 /// A kind of text, as the subcommands take it.
 #[derive(Clone, Copy, Debug, PartialEq, Eq)]

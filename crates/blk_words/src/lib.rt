@@ -21,9 +21,9 @@ pub use crate::blaming::{BlameBy, Blaming, ShownBlame, TightestAsked};
 pub use crate::grids::{NoGrid, grid_asked, plans_asked};
 pub use crate::inputs::{Running, ShownLoad, Solving, Telling, TextJob, TextKind};
 pub use crate::replaying::{GridReplaying, Replaying, ShownReplay};
-pub use crate::table::{MAX_TAGS, MAX_THREADS, MAX_TOP, Makes};
-pub use crate::takers::{takers_text, takes_what_it_reads};
+pub use crate::table::{FiguresAsked, MAX_TAGS, MAX_THREADS, MAX_TOP, Makes};
+pub use crate::takers::{figures_name, takers_text, takes_what_it_reads};
 pub use crate::words::{
     CaptureSource, Import, Job, Kept, NoJob, Refusal, Tuning, Written, choose, version,
 };
-pub use blk_settings::{FiguresAsked, Form};
+pub use blk_settings::Form;

@@ -2,7 +2,6 @@
 
 use crate::inputs::Telling;
 use crate::option_names;
-use blk_settings::FiguresAsked;
 use blk_settings::numbers::{
     MAX_LOAD_BIOS, MAX_LOAD_DEPTH, MAX_LOAD_SERVICE, MAX_LOAD_SUBMITTERS, MAX_LOAD_WORKERS,
 };
@@ -20,6 +19,19 @@ pub const MAX_THREADS: u64 = 256;
 
 /// The greatest number of `--tags`.
 pub const MAX_TAGS: u64 = 1_000_000;
+
+/// Figures of a trace.
+#[derive(Clone, Copy, Debug, PartialEq, Eq)]
+pub enum FiguresAsked {
+    /// Which of its commands were late, and what the rounds that they waited went to.
+    Late,
+    /// How many were late, and how many had to be.
+    Misses,
+    /// How long its commands waited and how late they were, by quantiles.
+    Spread,
+    /// How far it fell short.
+    Report,
+}
 
 /// What job the options of a subcommand make.
 #[derive(Clone, Copy)]

@@ -10,7 +10,7 @@ ghost use Rattle.blk_words.specs.declared.table.Makes.{Makes as Made};
 use crate::command::{other_commands, run_commands};
 use crate::inputs::TextKind;
 use crate::option_names;
-use crate::table::{COMMAND_COUNT, CommandRow, Makes};
+use crate::table::{COMMAND_COUNT, CommandRow, FiguresAsked, Makes};
 use std::alloc::{AllocError, Global};
 
 /// A subcommand, as it takes a text.
@@ -134,6 +134,18 @@ pub fn takers_text(alloc: Global, kind: TextKind, but: &str) -> Result<String, A
         push_others(&mut names, others)?;
     }
     Ok(names)
+}
+
+/// The name of the subcommand that these figures of a trace have by themselves, if there is one.
+pub fn figures_name(asked: FiguresAsked) -> Option<&'static str> {
+    for row in run_commands() {
+        if let Makes::Formed(figures) = row.makes {
+            if figures == asked {
+                return Some(row.name);
+            }
+        }
+    }
+    None
 }
 
 /// Each subcommand is named as taking the texts that its job reads, and no others.

@@ -17,14 +17,12 @@ use crate::lists::numbers_of;
 use crate::option_names;
 use crate::replaying::{GridReplaying, Replaying, ShownReplay, replay_job};
 use crate::source::source_given;
-use crate::table::{CommandRow, Makes};
+use crate::table::{CommandRow, FiguresAsked, Makes};
 use crate::times::time_of;
 use blk_recorders::{CaptureForm, Device};
 use blk_settings::given::{MAX_SHORT, Numbers};
 use blk_settings::options::{position_names, scheduler_names, tried_names};
-use blk_settings::{
-    By, Complaint, FiguresAsked, Form, Given, Lineup, ListFault, Load, Plan, Sched,
-};
+use blk_settings::{By, Complaint, Form, Given, Lineup, ListFault, Load, Plan, Sched};
 use clap::ArgMatches;
 use clap::error::ErrorKind;
 use clap::parser::ValueSource;

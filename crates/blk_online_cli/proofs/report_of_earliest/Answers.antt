@@ -3,7 +3,7 @@ use Rattle.drafts.specs.Outputs.{stream_of}
 use Rattle.blk_cli.specs.Said.{said_of}
 use Rattle.blk_settings.specs.Defaults.{earliest_by}
 use Rattle.blk_settings.specs.declared.form.Form.TheVariants as form
-use Rattle.blk_settings.specs.declared.figures.FiguresAsked.TheVariants as figures
+use Rattle.blk_words.specs.declared.table.FiguresAsked.TheVariants as figures
 use Rattle.blk_words.specs.declared.inputs.Running.TheVariants as running
 use Rattle.blk_words.specs.declared.inputs.Telling.TheVariants as tell
 use Rattle.blk_words.specs.declared.inputs.TextJob.TheVariants as text_job

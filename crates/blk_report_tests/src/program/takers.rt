@@ -14,10 +14,6 @@ fn takers_of_each_kind(rt: HostRuntime) {
     takes_what_it_reads();
     let takers = [
         (TextKind::Script, "sim, compare, picture --script, tune"),
-        (
-            TextKind::Trace,
-            "oracle --trace, spread, late, misses, commands, migrate, picture",
-        ),
         (TextKind::Commands, "oracle"),
         (TextKind::Certificate, "check"),
         (TextKind::Schedule, "picture --schedule, judge"),

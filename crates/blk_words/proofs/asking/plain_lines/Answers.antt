@@ -1,7 +1,7 @@
 use Rattle.std.proofs.Common.{None, Some, true, false}
 use Rattle.blk_settings.specs.declared.lists.ListFault.TheVariants as list
 use Rattle.blk_settings.specs.declared.rows.SchedKind.TheVariants as sched
-use Rattle.blk_settings.specs.declared.figures.FiguresAsked.TheVariants as figures
+use Rattle.blk_words.specs.declared.table.FiguresAsked.TheVariants as figures
 use Rattle.blk_words.specs.declared.inputs.Running.TheVariants as running
 use Rattle.blk_words.specs.declared.inputs.Solving.TheVariants as solving
 use Rattle.blk_words.specs.declared.inputs.Telling.TheVariants as telling

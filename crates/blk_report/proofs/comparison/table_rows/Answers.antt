@@ -1,7 +1,7 @@
 use Rattle.std.proofs.Common.{◌∙◌, ◌++◌, ◌∷◌, [], ap, map, arith}
 use Rattle.blk_report.specs.Table.{table_row}
 use Rattle.blk_report.proofs.Tables.{one_more, all_rows}
-use Rattle.blk_report.proofs.answers.table_rows.Goals as goal
+use Rattle.blk_report.proofs.comparison.table_rows.Goals as goal
 
 pub loop-place-preserved : goal.loop-place-preserved
 loop-place-preserved c =

@@ -1,7 +1,7 @@
 use Rattle.std.proofs.Common.{◌≡◌, map, take}
 use Rattle.std.specs.Prelude.{zip}
 use Rattle.blk_report.specs.Table.{names_of, table_row}
-use Rattle.blk_report.proofs.answers.table_rows.Given as goal
+use Rattle.blk_report.proofs.comparison.table_rows.Given as goal
 
 -- the rows so far
 abbrev pub invariant-loop-place : goal.invariant-loop-place

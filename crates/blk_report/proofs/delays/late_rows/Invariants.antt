@@ -1,6 +1,6 @@
 use Rattle.std.proofs.Common.{◌≡◌, map, take}
-use Rattle.blk_report.specs.Answers.{late_row}
-use Rattle.blk_report.proofs.answers.late_rows.Given as goal
+use Rattle.blk_report.specs.Late.{late_row}
+use Rattle.blk_report.proofs.delays.late_rows.Given as goal
 
 -- the rows so far
 abbrev pub invariant-loop-command : goal.invariant-loop-command
