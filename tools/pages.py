@@ -134,7 +134,7 @@ def unlisted_names(paths):
     for path in paths:
         if re.fullmatch(r"crates/\w+/src/names.rt", path):
             names.update(re.findall(r'(?m)^pub const \w+: &str = "([^"]+)"', (TOP / path).read_text()))
-        if path.startswith("crates/blk_settings/src/"):
+        if path.startswith("crates/blk_schedulers/src/"):
             names.update(re.findall(r'name: "(\w+)"', (TOP / path).read_text()))
     for it in re.finditer(r"(?m)^    {.*}$", text):
         for key in sorted(set(re.findall(r'"([\w-]+)":', it[0])) - names):

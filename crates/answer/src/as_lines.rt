@@ -9,8 +9,8 @@ use crate::answer::{Answer, Entry, Part, Row};
 use crate::cells::{Cell, Column, Layout};
 use crate::value::{Set, Setting, Value};
 use crate::word::Word;
-use drafts::Draft;
 use std::alloc::{AllocError, Global};
+use text_output::Draft;
 
 /// Adds what a setting is set to.
 fn push_set(draft: &mut Draft, set: &Set) -> Result<(), AllocError>

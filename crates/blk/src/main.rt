@@ -3,11 +3,10 @@
 
 mod watching;
 
-use crate::watching::{Counted, Sofar, Watching};
+use crate::watching::{Counted, ReadProgress, Watching};
 use blk_cli::{Ended, Failure};
-use blk_lists::Records;
 use blk_load::OnThreads;
-use drafts::Output;
+use blk_records::Records;
 use std::alloc::Global;
 use std::io::{ErrorKind, Write};
 use std::os::unix::fs::{FileTypeExt, MetadataExt};
@@ -15,6 +14,7 @@ use std::process::ExitCode;
 use std::sync::Wait;
 use std::thread::{Scope, Threads, scope, scope_env};
 use std::{env, fs, io};
+use text_output::Output;
 use turns::{Progress, ProgressLine};
 
 /// Whether standard error is a terminal, by the major number of its device: Linux has 4 for consoles and serial lines, 5 for a process's
@@ -36,7 +36,7 @@ fn run_beside<'s, E, R: Threads + Wait + Sync, F: Write>(
     host: HostRuntime,
     alloc: Global,
     words: &[String],
-    sofar: &'s Sofar,
+    sofar: &'s ReadProgress,
     faults: &mut Output<F>,
 ) -> Ended {
     let runs = ProgressLine::new(alloc, host, host.stderr(), sofar.is_watched());
@@ -72,7 +72,7 @@ fn main(rt: HostRuntime) -> ExitCode {
     let Ok(words) = args.collect::<Vec<String>>(alloc) else {
         return ExitCode::from(Failure::Memory.say(&mut faults).status);
     };
-    let sofar = Sofar::new(says_to_a_terminal(&rt));
+    let sofar = ReadProgress::new(says_to_a_terminal(&rt));
     let (waits, all, sofar, faults) = (&rt, words.as_slice(), &sofar, &mut faults);
     let ended = scope(
         scope_env(),

@@ -23,7 +23,7 @@ const CLEAR: &str = "\r\x1b[K";
 
 /// What the thread that reads and the one that shows share.
 #[derive(Drop)]
-pub(crate) struct Sofar {
+pub(crate) struct ReadProgress {
     /// Whether somebody looks at the line: else no line is counted.
     is_watched: bool,
     /// How many lines were read.
@@ -34,10 +34,10 @@ pub(crate) struct Sofar {
     bell: Parker,
 }
 
-impl Sofar {
+impl ReadProgress {
     /// Nothing read yet.
-    pub(crate) fn new(is_watched: bool) -> Sofar {
-        Sofar {
+    pub(crate) fn new(is_watched: bool) -> ReadProgress {
+        ReadProgress {
             is_watched,
             lines: AtomicU64::new(0),
             over: AtomicU64::new(0),
@@ -69,12 +69,12 @@ impl Sofar {
 #[derive(Drop)]
 pub(crate) struct Counted<'a, R> {
     inner: R,
-    sofar: &'a Sofar,
+    sofar: &'a ReadProgress,
 }
 
 impl<'a, R: Read> Counted<'a, R> {
     /// This reader, its lines counted there.
-    pub(crate) fn new(inner: R, sofar: &'a Sofar) -> Counted<'a, R> {
+    pub(crate) fn new(inner: R, sofar: &'a ReadProgress) -> Counted<'a, R> {
         Counted { inner, sofar }
     }
 }
@@ -97,7 +97,7 @@ impl<'a, R: Read> Read for Counted<'a, R> {
 }
 
 /// Shows how many lines were read, each second once it took two and there are many, until nothing is to be shown any more.
-fn show<R: Wait>(rt: &R, host: HostRuntime, alloc: Global, sofar: &Sofar) {
+fn show<R: Wait>(rt: &R, host: HostRuntime, alloc: Global, sofar: &ReadProgress) {
     let Ok(start) = Instant::now(&host) else {
         return;
     };
@@ -120,7 +120,7 @@ fn show_once<W: Write>(
     host: HostRuntime,
     alloc: Global,
     start: Instant,
-    sofar: &Sofar,
+    sofar: &ReadProgress,
     writer: &mut W,
 ) -> bool {
     let Ok(now) = Instant::now(&host) else {
@@ -141,7 +141,7 @@ fn show_once<W: Write>(
 #[derive(Drop)]
 pub(crate) struct Watching<'a, R, W: Write + Drop> {
     rt: &'a R,
-    sofar: &'a Sofar,
+    sofar: &'a ReadProgress,
     runs: ProgressLine<HostRuntime, W>,
     /// The thread that shows how much was read, if one does.
     shower: Option<JoinHandle<()>>,
@@ -154,7 +154,7 @@ impl<'a, R: Threads + Wait + Sync, W: Write + Drop> Watching<'a, R, W> {
         rt: &'a R,
         host: HostRuntime,
         alloc: Global,
-        sofar: &'a Sofar,
+        sofar: &'a ReadProgress,
         runs: ProgressLine<HostRuntime, W>,
     ) -> Watching<'a, R, W> {
         let shower = if sofar.is_watched {

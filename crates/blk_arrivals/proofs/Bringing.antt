@@ -14,12 +14,12 @@ use Rattle.blk_text.specs.declared.script.Line.{Line}
 use Rattle.blk_text.specs.declared.script.Line.TheVariants as line
 use Rattle.blk_arrivals.specs.Brought.{brought_by, next_number, with_bio, bios_from, arriving_bios}
 use Rattle.blk_arrivals.specs.Coming.{way_of, if_queued, unless_passed, key_of, keys_of, round_of_time, begin_of, told_by, submitters_of}
-use Rattle.blk_arrivals.specs.Deeds.{comes_from, record_deed, deed_by, deed_of, submitter_number}
+use Rattle.blk_arrivals.specs.Effects.{comes_from, record_effect, effect_by, effect_of, submitter_number}
 use Rattle.blk_arrivals.specs.Plugs.{Plugs, no_plugs, flush_of, flushes, out_of, ending_of, plugs_in, is_later, room_for, bio_of, arrival_of, plugs_with, out_if, unplugging_of, plugs_without, steps_by, plugs_by, last_steps, steps_from}
 use Rattle.blk_arrivals.specs.Scripts.{steps_of}
 use Rattle.blk_arrivals.specs.declared.coming.ToldBy.{ToldBy}
-use Rattle.blk_arrivals.specs.declared.deeds.Deed.{Deed}
-use Rattle.blk_arrivals.specs.declared.deeds.Deed.TheVariants as deed
+use Rattle.blk_arrivals.specs.declared.effects.RecordEffect.{RecordEffect}
+use Rattle.blk_arrivals.specs.declared.effects.RecordEffect.TheVariants as effect
 use Rattle.blk_arrivals.specs.declared.terms.Terms.{Terms}
 use Rattle.blk_arrivals.proofs.Keys.{AreAmong, all_among, placed}
 
@@ -70,7 +70,7 @@ arrival_brings p s way r rest =
     ∙ bio_brings p.now (bio_of s p.bios way r) rest
 
 comes_brings : (round s : ℕ) (p : Plugs) (r : Record) (way : Dir) (rest : List Line) → p.now ≤ round
-    → brought_by p.now (steps_by round p r (deed.Comes s way) ++ rest) ≡ (round, bio_of s p.bios way r) ∷ brought_by round rest
+    → brought_by p.now (steps_by round p r (effect.Comes s way) ++ rest) ≡ (round, bio_of s p.bios way r) ∷ brought_by round rest
 comes_brings round s p r way rest h =
     let later = is_later round p in
     let t = plugs_in later round p in
@@ -86,7 +86,7 @@ unplug_brings true p s rest = refl
 unplug_brings false p s rest = out_brings p.now (slice_index p.held s == 0) s rest
 
 -- a record of what is queued by the submitter with its key, or of something else
-abbrev Brings : ℕ → ℕ → Plugs → Record → Option Dir → Deed → Type 0
+abbrev Brings : ℕ → ℕ → Plugs → Record → Option Dir → RecordEffect → Type 0
 Brings round k p r way d =
     (rest : List Line) → brought_by p.now (steps_by round p r d ++ rest) ≡ with_bio round k p.bios r way (brought_by (plugs_by round p d).now rest)
 
@@ -101,14 +101,14 @@ unplugged_now : (later : Bool) (p : Plugs) (s : ℕ) → (plugs_without later p 
 unplugged_now true p s = refl
 unplugged_now false p s = refl
 
-done_brings : (round k : ℕ) (p : Plugs) (r : Record) (a : Action) (way : Option Dir) → p.now ≤ round → Brings round k p r (if_queued a way) (record_deed k a (if_queued a way))
+done_brings : (round k : ℕ) (p : Plugs) (r : Record) (a : Action) (way : Option Dir) → p.now ≤ round → Brings round k p r (if_queued a way) (record_effect k a (if_queued a way))
 done_brings round k p r action.Unplug way h =
     λ rest. unplug_brings (is_later round p) p k rest ∙ ap (λ n. brought_by n rest) (sym (unplugged_now (is_later round p) p k))
 done_brings round k p r action.Queue way h = from_brings round k p r way h
 done_brings round k p r a way h = λ rest. refl
 
 by_brings : (round k : ℕ) (p : Plugs) (r : Record) (number : Option ℕ) (a : Action) (way : Option Dir) → p.now ≤ round → IfSome (if_queued a way) (λ _. number ≡ Some k)
-    → (found : (s : ℕ) → number ≡ Some s → s ≡ k) → Brings round k p r (if_queued a way) (deed_by number a (if_queued a way))
+    → (found : (s : ℕ) → number ≡ Some s → s ≡ k) → Brings round k p r (if_queued a way) (effect_by number a (if_queued a way))
 by_brings round k p r None a way h there found = λ rest. absent (if_queued a way) there rest
   where
     absent : (w : Option Dir) → IfSome w (λ _. None ≡ Some k) → (rest : List Line) → brought_by p.now rest ≡ with_bio round k p.bios r w (brought_by p.now rest)
@@ -142,10 +142,10 @@ round_rises begin span a b some h =
     let below : (a - begin) / span * span ≤ a - begin = div-mul-le_self (a - begin) span in
     le-div ((a - begin) / span) (b - begin) span some (omega (arith, below, h))
 
-after_record : (round : ℕ) (p : Plugs) (d : Deed) → p.now ≤ round → (plugs_by round p d).now ≤ round
-after_record round p (deed.Comes s way) h = (let now : (plugs_in (is_later round p) round p).now ≡ round = turned_now (is_later round p) round p refl h in omega (arith, now))
-after_record round p (deed.Unplugs s) h = (let now : (plugs_without (is_later round p) p s).now ≡ p.now = unplugged_now (is_later round p) p s in omega (arith, now, h))
-after_record round p deed.Nothing h = h
+after_record : (round : ℕ) (p : Plugs) (d : RecordEffect) → p.now ≤ round → (plugs_by round p d).now ≤ round
+after_record round p (effect.Comes s way) h = (let now : (plugs_in (is_later round p) round p).now ≡ round = turned_now (is_later round p) round p refl h in omega (arith, now))
+after_record round p (effect.Unplugs s) h = (let now : (plugs_without (is_later round p) p s).now ≡ p.now = unplugged_now (is_later round p) p s in omega (arith, now, h))
+after_record round p effect.Nothing h = h
 
 -- one bio more where one comes in
 from_counts : (round s : ℕ) (p : Plugs) (way : Option Dir) → (plugs_by round p (comes_from s way)).bios ≡ next_number p.bios way
@@ -156,13 +156,13 @@ unplugged_bios : (later : Bool) (p : Plugs) (s : ℕ) → (plugs_without later p
 unplugged_bios true p s = refl
 unplugged_bios false p s = refl
 
-done_counts : (round s : ℕ) (p : Plugs) (a : Action) (way : Option Dir) → (plugs_by round p (record_deed s a (if_queued a way))).bios ≡ next_number p.bios (if_queued a way)
+done_counts : (round s : ℕ) (p : Plugs) (a : Action) (way : Option Dir) → (plugs_by round p (record_effect s a (if_queued a way))).bios ≡ next_number p.bios (if_queued a way)
 done_counts round s p action.Unplug way = unplugged_bios (is_later round p) p s
 done_counts round s p action.Queue way = from_counts round s p way
 done_counts round s p a way = refl
 
 by_counts : (round k : ℕ) (p : Plugs) (number : Option ℕ) (a : Action) (way : Option Dir) → IfSome (if_queued a way) (λ _. number ≡ Some k)
-    → (plugs_by round p (deed_by number a (if_queued a way))).bios ≡ next_number p.bios (if_queued a way)
+    → (plugs_by round p (effect_by number a (if_queued a way))).bios ≡ next_number p.bios (if_queued a way)
 by_counts round k p None a way there = absent (if_queued a way) there
   where
     absent : (w : Option Dir) → IfSome w (λ _. None ≡ Some k) → p.bios ≡ next_number p.bios w
@@ -200,13 +200,13 @@ brings begin span told keys p time (r ∷ records) some now rise among =
     let k = position_or_len (λ k. k == key) keys in
     let number = submitter_number keys key in
     let way = unless_passed (passed_over r) (dir_of_op r.op) in
-    let q = plugs_by round p (deed_of told keys r) in
+    let q = plugs_by round p (effect_of told keys r) in
     let rises : round_of_time begin span time ≤ round = round_rises begin span time r.time some rise.0 in
     let by : p.now ≤ round = omega (arith, now, rises) in
     let there = if_placed keys key (way_of r) among.0 in
     let first = by_brings round k p r number r.action way by there (position_is (λ k. k == key) keys) (steps_from begin span told keys q records) in
     let counts = by_counts round k p number r.action way there in
-    let others = brings begin span told keys q r.time records some (after_record round p (deed_of told keys r) by) rise.1 among.1 in
+    let others = brings begin span told keys q r.time records some (after_record round p (effect_of told keys r) by) rise.1 among.1 in
     first ∙ ap (with_bio round k p.bios r (way_of r)) (others ∙ ap (λ n. bios_from begin span told keys n records) counts)
 
 -- those of a capture

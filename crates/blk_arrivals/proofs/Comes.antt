@@ -16,10 +16,10 @@ use Rattle.blk_capture.specs.declared.record.PassReason.{PassReason}
 use Rattle.blk_capture.specs.declared.record.PassReason.TheVariants as passed
 use Rattle.blk_capture.specs.declared.record.Record.{Record}
 use Rattle.blk_arrivals.specs.Coming.{way_of, if_queued, unless_passed, key_of, keys_of, AreFewSubmitters, told_by, submitters_of}
-use Rattle.blk_arrivals.specs.Deeds.{submitter_number, record_deed, deed_by, deed_of}
+use Rattle.blk_arrivals.specs.Effects.{submitter_number, record_effect, effect_by, effect_of}
 use Rattle.blk_arrivals.specs.declared.coming.ToldBy.{ToldBy}
 use Rattle.blk_arrivals.specs.declared.coming.ToldBy.TheVariants as by
-use Rattle.blk_arrivals.specs.declared.deeds.Deed.{Deed}
+use Rattle.blk_arrivals.specs.declared.effects.RecordEffect.{RecordEffect}
 
 -- a range of sectors, none of them past the last one
 abbrev pub HasRange : ℕ → ℕ → Type 0

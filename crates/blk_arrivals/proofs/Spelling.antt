@@ -1,13 +1,13 @@
 -- The text of a script is that of its records.
 use Rattle.std.proofs.Common.{◌≡◌, ◌∙◌, ℕ, List, [], ◌∷◌, ◌++◌, get_or, map, refl, sym, ap, append-nil, arith}
 use Rattle.csv.specs.Reading.{default_config, records, strip_bom}
-use Rattle.blk_lists.specs.Sources.{Row}
-use Rattle.blk_lists.specs.Reads.{with_next}
-use Rattle.blk_lists.specs.Texts.{rows_text}
-use Rattle.blk_lists.proofs.DraftLemmas.{rows_text-append, two_first}
-use Rattle.blk_lists.proofs.Each.{rows_map}
-use Rattle.parts.specs.Parts.{all_rows}
-use Rattle.blk_lists.specs.Titles.{title_by}
+use Rattle.blk_records.specs.Sources.{Row}
+use Rattle.blk_records.specs.Reads.{with_next}
+use Rattle.blk_records.specs.Texts.{rows_text}
+use Rattle.blk_records.proofs.DraftLemmas.{rows_text-append, two_first}
+use Rattle.blk_records.proofs.Each.{rows_map}
+use Rattle.text_grammar.specs.Parts.{all_rows}
+use Rattle.blk_records.specs.Titles.{title_by}
 use Rattle.blk_text.specs.Script.{Scripted, IsScript, IsScriptOf, IsLineOf, SpellsVersion, script_rows, step, title_numbers, title_of}
 use Rattle.blk_text.specs.declared.script.TheConstants.{SCRIPT}
 use Rattle.blk_text.specs.SetupRecord.{setup_row}

@@ -11,13 +11,13 @@ use Rattle.blk_capture.specs.declared.record.Record.{Record}
 use Rattle.blk_text.specs.declared.script.Line.{Line}
 use Rattle.blk_text.specs.declared.script.Line.TheVariants as line
 use Rattle.blk_arrivals.specs.Coming.{way_of, key_of, round_of_time, begin_of, told_by, submitters_of}
-use Rattle.blk_arrivals.specs.Deeds.{submitter_number, comes_from, record_deed, deed_by, deed_of}
+use Rattle.blk_arrivals.specs.Effects.{submitter_number, comes_from, record_effect, effect_by, effect_of}
 use Rattle.blk_arrivals.specs.Plugs.{Plugs, no_plugs, flush_of, flushes, out_of, ending_of, plugs_in, is_later, room_for, held_with, bio_of, arrival_of, plugs_with, out_if, unplugging_of, plugs_without, steps_by, plugs_by, last_steps, steps_from}
 use Rattle.blk_arrivals.specs.Scripts.{steps_of}
 use Rattle.blk_arrivals.specs.Staged.{AreEmpty, KeepPlugs, no_bios}
 use Rattle.blk_arrivals.specs.declared.coming.ToldBy.{ToldBy}
-use Rattle.blk_arrivals.specs.declared.deeds.Deed.{Deed}
-use Rattle.blk_arrivals.specs.declared.deeds.Deed.TheVariants as deed
+use Rattle.blk_arrivals.specs.declared.effects.RecordEffect.{RecordEffect}
+use Rattle.blk_arrivals.specs.declared.effects.RecordEffect.TheVariants as effect
 use Rattle.blk_arrivals.specs.declared.terms.Terms.{Terms}
 use Rattle.blk_arrivals.proofs.Comes.{place_below}
 use Rattle.blk_arrivals.proofs.Stepping.{held_stay}
@@ -98,34 +98,34 @@ unplugging_keeps false p s rest h k = out_keeps p.held s (slice_index p.held s =
 
 -- a record
 
-abbrev IsBelow : ℕ → Deed → Type 0
-IsBelow count (deed.Comes s way) = s < count
-IsBelow count (deed.Unplugs s) = s < count
-IsBelow count deed.Nothing = Unit {0}
+abbrev IsBelow : ℕ → RecordEffect → Type 0
+IsBelow count (effect.Comes s way) = s < count
+IsBelow count (effect.Unplugs s) = s < count
+IsBelow count effect.Nothing = Unit {0}
 
 in_held : (later : Bool) (round : ℕ) (p : Plugs) → length (plugs_in later round p).held ≡ length p.held
 in_held false round p = refl
 in_held true round p = length-replicate (length p.held) 0
 
-record_keeps : (round : ℕ) (p : Plugs) (r : Record) (d : Deed) (rest : List Line) → IsBelow (length p.held) d → KeepPlugs (plugs_by round p d).held rest → KeepPlugs p.held (steps_by round p r d ++ rest)
-record_keeps round p r (deed.Comes s way) rest h k =
+record_keeps : (round : ℕ) (p : Plugs) (r : Record) (d : RecordEffect) (rest : List Line) → IsBelow (length p.held) d → KeepPlugs (plugs_by round p d).held rest → KeepPlugs p.held (steps_by round p r d ++ rest)
+record_keeps round p r (effect.Comes s way) rest h k =
     let later = is_later round p in
     let t = plugs_in later round p in
     let long : length t.held ≡ length p.held = in_held later round p in
     subst (λ (ls : List Line). KeepPlugs p.held ls) (sym (append_assoc (ending_of later round p) (arrival_of t s way r) rest))
     (ending_keeps later round p (arrival_of t s way r ++ rest) (arrival_keeps t s way r rest (omega (arith, h, long)) k))
-record_keeps round p r (deed.Unplugs s) rest h k = unplugging_keeps (is_later round p) p s rest h k
-record_keeps round p r deed.Nothing rest h k = k
+record_keeps round p r (effect.Unplugs s) rest h k = unplugging_keeps (is_later round p) p s rest h k
+record_keeps round p r effect.Nothing rest h k = k
 
 from_below : (count s : ℕ) (way : Option Dir) → s < count → IsBelow count (comes_from s way)
 from_below count s None h = tt
 from_below count s (Some way) h = h
 
-done_below : (count s : ℕ) (a : Action) (way : Option Dir) → s < count → IsBelow count (record_deed s a way)
+done_below : (count s : ℕ) (a : Action) (way : Option Dir) → s < count → IsBelow count (record_effect s a way)
 done_below count s action.Unplug way h = h
 done_below count s a way h = from_below count s way h
 
-by_below : (count : ℕ) (number : Option ℕ) (a : Action) (way : Option Dir) → ((s : ℕ) → number ≡ Some s → s < count) → IsBelow count (deed_by number a way)
+by_below : (count : ℕ) (number : Option ℕ) (a : Action) (way : Option Dir) → ((s : ℕ) → number ≡ Some s → s < count) → IsBelow count (effect_by number a way)
 by_below count None a way h = tt
 by_below count (Some s) a way h = done_below count s a way (h s refl)
 
@@ -147,7 +147,7 @@ unfolding steps_from
 keeps begin span told keys p [] h = last_keeps p
 keeps begin span told keys p (r ∷ records) h =
     let round = round_of_time begin span r.time in
-    let d = deed_of told keys r in
+    let d = effect_of told keys r in
     let below : IsBelow (length keys) d = by_below (length keys) (submitter_number keys (key_of told r)) r.action (way_of r) (place_below keys (key_of told r)) in
     record_keeps round p r d (steps_from begin span told keys (plugs_by round p d) records) (subst (λ n. IsBelow n d) (sym h) below) (keeps begin span told keys (plugs_by round p d) records (held_stay round p d ∙ h))
 

@@ -1,5 +1,5 @@
 -- What private functions and proofs alone need.
 pub mod Coming
-pub mod Deeds
+pub mod Effects
 pub mod Plugs
 pub mod Scripts

@@ -1,5 +1,5 @@
 pub mod Coming
-pub mod Deeds
+pub mod Effects
 pub mod Plugs
 pub mod Scripts
 pub mod Brought

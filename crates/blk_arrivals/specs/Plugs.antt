@@ -8,10 +8,10 @@ use Rattle.blk_capture.specs.declared.record.Record.{Record}
 use Rattle.blk_text.specs.declared.script.Line.{Line}
 use Rattle.blk_text.specs.declared.script.Line.TheVariants as line
 use Rattle.blk_arrivals.specs.Coming.{begin_of, round_of_time}
-use Rattle.blk_arrivals.specs.Deeds.{deed_of}
+use Rattle.blk_arrivals.specs.Effects.{effect_of}
 use Rattle.blk_arrivals.specs.declared.coming.ToldBy.{ToldBy}
-use Rattle.blk_arrivals.specs.declared.deeds.Deed.{Deed}
-use Rattle.blk_arrivals.specs.declared.deeds.Deed.TheVariants as deed
+use Rattle.blk_arrivals.specs.declared.effects.RecordEffect.{RecordEffect}
+use Rattle.blk_arrivals.specs.declared.effects.RecordEffect.TheVariants as effect
 
 -- the round that it is, how many bios came in, and how many stand in the plug of each submitter
 pub record Plugs : Type 0 where
@@ -94,15 +94,15 @@ abbrev pub unplugged : ℕ → Plugs → ℕ → Plugs
 unplugged round p s = plugs_without (is_later round p) p s
 
 -- the steps of a record of this round
-abbrev pub steps_by : ℕ → Plugs → Record → Deed → List Line
-steps_by round p r (deed.Comes s way) = turning round p ++ arrival_of (turned round p) s way r
-steps_by round p r (deed.Unplugs s) = unplugging round p s
-steps_by round p r deed.Nothing = []
+abbrev pub steps_by : ℕ → Plugs → Record → RecordEffect → List Line
+steps_by round p r (effect.Comes s way) = turning round p ++ arrival_of (turned round p) s way r
+steps_by round p r (effect.Unplugs s) = unplugging round p s
+steps_by round p r effect.Nothing = []
 
-abbrev pub plugs_by : ℕ → Plugs → Deed → Plugs
-plugs_by round p (deed.Comes s way) = plugs_with (turned round p) s
-plugs_by round p (deed.Unplugs s) = unplugged round p s
-plugs_by round p deed.Nothing = p
+abbrev pub plugs_by : ℕ → Plugs → RecordEffect → Plugs
+plugs_by round p (effect.Comes s way) = plugs_with (turned round p) s
+plugs_by round p (effect.Unplugs s) = unplugged round p s
+plugs_by round p effect.Nothing = p
 
 -- at the end all plugs are flushed, and as many rounds run as bios came in, so that all are served
 abbrev pub last_steps : Plugs → List Line
@@ -112,7 +112,7 @@ last_steps p = flushes 0 p.held ++ cond (p.bios == 0) [] (line.Run p.bios ∷ []
 unfoldable pub steps_from : ℕ → ℕ → ToldBy → List ℕ → Plugs → List Record → List Line
 steps_from begin span told keys p [] = last_steps p
 steps_from begin span told keys p (r ∷ records) =
-    steps_by (round_of_time begin span r.time) p r (deed_of told keys r) ++ steps_from begin span told keys (plugs_by (round_of_time begin span r.time) p (deed_of told keys r)) records
+    steps_by (round_of_time begin span r.time) p r (effect_of told keys r) ++ steps_from begin span told keys (plugs_by (round_of_time begin span r.time) p (effect_of told keys r)) records
 
 -- the steps of all records of a capture, from round 0 on and with empty plugs
 abbrev pub all_steps : ℕ → ToldBy → List ℕ → List Record → List Line

@@ -4,9 +4,9 @@
 //! on a shape of load, and says nothing of misses by the clock: for these there is [`blk_capture::rounds_of`].
 #![tactic(auto)]
 
+mod builder;
 mod coming;
-mod deeds;
-mod going;
+mod effects;
 pub mod laws;
 mod script;
 mod terms;

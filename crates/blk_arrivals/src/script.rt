@@ -9,8 +9,8 @@ ghost use Rattle.blk_arrivals.specs.Coming.{submitters_of};
 ghost use Rattle.blk_arrivals.specs.Scripts.{script_rules, script_of};
 ghost use Rattle.blk_arrivals.specs.Staged.{KeepPlugs, no_bios};
 
+use crate::builder::steps_of;
 use crate::coming::{begin_of, come_in_time, submitters_of};
-use crate::going::steps_of;
 use crate::terms::{ArrivalsFault, Terms, USUAL_SOFT_DEPTH, script_setup};
 use blk_capture::Record;
 use blk_text::Script;

@@ -2,15 +2,15 @@
 
 ghost use Rattle.std.specs.Prelude.{◌≡◌, ◌++◌, IfOk, OnOk, map};
 ghost use Rattle.csv.specs.Reading.{default_config, records, strip_bom};
-ghost use Rattle.drafts.specs.Drafts.{drafted};
-ghost use Rattle.blk_lists.specs.Texts.{rows_text};
+ghost use Rattle.text_output.specs.Drafts.{drafted};
+ghost use Rattle.blk_records.specs.Texts.{rows_text};
 ghost use Rattle.blk_text.specs.Script.{IsScript, SpellsVersion, scripted, script_rows};
 ghost use Rattle.blk_text.specs.StepRecords.{step_row};
 
 use blk_text::script::SCRIPT;
 use blk_text::{LATEST, Line, Script, push_setup, push_step};
-use drafts::Block;
 use std::alloc::{AllocError, Global};
+use text_output::Block;
 
 /// Adds the records of steps.
 fn push_lines(draft: &mut Block, lines: &[Line]) -> Result<(), AllocError>

@@ -6,7 +6,7 @@ use Rattle.std.proofs.lemmas.Bool.Decides.{eqb_tells}
 use Rattle.std.proofs.lemmas.List.Sorted.{sum_by-IsPermutation}
 use Rattle.edd_blame.proofs.Clocks.{count_parts}
 use Rattle.blk_capture.specs.declared.requests.CapturedRequest.{CapturedRequest}
-use Rattle.blk_blame.specs.Hurts.{hurt_keys, number_late_of}
+use Rattle.blk_blame.specs.LateGroups.{late_group_keys, number_late_of}
 use Rattle.blk_blame.specs.declared.grouped.GroupedBy.{GroupedBy}
 
 -- a number that is no greater is less or the same
@@ -25,7 +25,7 @@ one_of p x =
           ]
     ]
 
-pub counted_of : (by : GroupedBy) (requests : List CapturedRequest) (sorted : List ℕ) (key : ℕ) → IsPermutation (hurt_keys by requests) sorted
+pub counted_of : (by : GroupedBy) (requests : List CapturedRequest) (sorted : List ℕ) (key : ℕ) → IsPermutation (late_group_keys by requests) sorted
     → count_by (λ x. nat_lt x key) sorted + number_late_of by requests key ≡ count_by (λ x. nat_le x key) sorted
 counted_of by requests sorted key same =
-    omega (arith, count_parts (λ x. nat_lt x key) (λ x. x == key) (λ x. nat_le x key) (one_of key) sorted, sum_by-IsPermutation (λ x. cond (x == key) 1 0) (hurt_keys by requests) sorted same)
+    omega (arith, count_parts (λ x. nat_lt x key) (λ x. x == key) (λ x. nat_le x key) (one_of key) sorted, sum_by-IsPermutation (λ x. cond (x == key) 1 0) (late_group_keys by requests) sorted same)

@@ -19,9 +19,9 @@ use Rattle.blk_capture.specs.declared.counting.TimedRequest.{TimedRequest}
 use Rattle.blk_capture.specs.declared.record.TheConstants.{MAX_TIME}
 use Rattle.blk_capture.specs.declared.requests.CapturedRequest.{CapturedRequest}
 use Rattle.blk_blame.specs.Tightest.{due_after, timed_after, marks_of, IsFewestOf, IsFewestAfter, allowed_of, IsShort, IsTooSoon}
-use Rattle.blk_blame.specs.declared.tightest.Aim.{Aim}
-use Rattle.blk_blame.specs.declared.tightest.Others.{Others}
-use Rattle.blk_blame.specs.declared.tightest.Others.TheVariants.{Best, Any}
+use Rattle.blk_blame.specs.declared.tightest.OnTimeTarget.{OnTimeTarget}
+use Rattle.blk_blame.specs.declared.tightest.OtherDirection.{OtherDirection}
+use Rattle.blk_blame.specs.declared.tightest.OtherDirection.TheVariants.{Best, Any}
 use Rattle.blk_blame.proofs.Glue.{no_request, nobody}
 
 abbrev no_command : Command
@@ -102,13 +102,13 @@ module _ (commands laxer : List Command) (marks : List Bool) (steps : List Step)
       omega (arith, few.least s (legal_in s more.legal) kept, fewer s (marked_places marks) (marked_are marks (length commands) lax.marked).within, more.reached)
 
 -- dispatches are counted alike
-before_same : (aim : Aim) (a b : ℕ) (qs : List CapturedRequest) (t : ℕ) → dispatched_before (map (timed_after aim a) qs) t ≡ dispatched_before (map (timed_after aim b) qs) t
+before_same : (aim : OnTimeTarget) (a b : ℕ) (qs : List CapturedRequest) (t : ℕ) → dispatched_before (map (timed_after aim a) qs) t ≡ dispatched_before (map (timed_after aim b) qs) t
 unfolding dispatched_before
 before_same aim a b [] t = refl
 before_same aim a b (q ∷ qs) t =
     omega (arith, before_same aim a b qs t, sum_by-cons (λ (r : TimedRequest). cond (nat_lt r.dispatch t) 1 0) (timed_after aim a q) (map (timed_after aim a) qs), sum_by-cons (λ (r : TimedRequest). cond (nat_lt r.dispatch t) 1 0) (timed_after aim b q) (map (timed_after aim b) qs))
 
-by_same : (aim : Aim) (a b : ℕ) (qs : List CapturedRequest) (t : ℕ) → dispatched_by (map (timed_after aim a) qs) t ≡ dispatched_by (map (timed_after aim b) qs) t
+by_same : (aim : OnTimeTarget) (a b : ℕ) (qs : List CapturedRequest) (t : ℕ) → dispatched_by (map (timed_after aim a) qs) t ≡ dispatched_by (map (timed_after aim b) qs) t
 unfolding dispatched_by
 by_same aim a b [] t = refl
 by_same aim a b (q ∷ qs) t =
@@ -127,7 +127,7 @@ by_later rs t u later =
 min_later : (x y m : ℕ) → x ≤ y → min x m ≤ min y m
 min_later x y m later = omega (arith, later)
 
-due_later : (aim : Aim) (a b : ℕ) (q : CapturedRequest) → a ≤ b → due_after aim a q ≤ due_after aim b q
+due_later : (aim : OnTimeTarget) (a b : ℕ) (q : CapturedRequest) → a ≤ b → due_after aim a q ≤ due_after aim b q
 due_later aim a b q later =
     elim (cases_Bool (goes q.dir aim.dir)) [
       | inl own ↦
@@ -142,12 +142,12 @@ due_later aim a b q later =
           omega (arith, cond-false (goes q.dir aim.dir) (min (q.deadline - aim.expire + a) MAX_TIME) q.deadline other, cond-false (goes q.dir aim.dir) (min (q.deadline - aim.expire + b) MAX_TIME) q.deadline other)
     ]
 
-due_same : (aim : Aim) (a b : ℕ) (q : CapturedRequest) → goes q.dir aim.dir ≡ false → due_after aim a q ≡ due_after aim b q
+due_same : (aim : OnTimeTarget) (a b : ℕ) (q : CapturedRequest) → goes q.dir aim.dir ≡ false → due_after aim a q ≡ due_after aim b q
 due_same aim a b q other =
     cond-false (goes q.dir aim.dir) (min (q.deadline - aim.expire + a) MAX_TIME) q.deadline other
     ∙ sym (cond-false (goes q.dir aim.dir) (min (q.deadline - aim.expire + b) MAX_TIME) q.deadline other)
 
-module _ (qs : List CapturedRequest) (aim : Aim) (a b : ℕ) (commands laxer : List Command) (rounds others : List ℕ) (later : a ≤ b) (one : AreInRounds (map (timed_after aim a) qs) commands rounds) (two : AreInRounds (map (timed_after aim b) qs) laxer others) where
+module _ (qs : List CapturedRequest) (aim : OnTimeTarget) (a b : ℕ) (commands laxer : List Command) (rounds others : List ℕ) (later : a ≤ b) (one : AreInRounds (map (timed_after aim a) qs) commands rounds) (two : AreInRounds (map (timed_after aim b) qs) laxer others) where
   long : length commands ≡ length qs
   long = one.a_command ∙ length-map qs (timed_after aim a)
 
@@ -196,14 +196,14 @@ module _ (qs : List CapturedRequest) (aim : Aim) (a b : ℕ) (commands laxer : L
   }
 
 -- no more are late at least
-falls_by : (others : Others) (commands laxer : List Command) (marks : List Bool) (n m : ℕ) → AreLaxer commands laxer marks → IsFewestOf others commands marks n → IsFewestOf others laxer marks m → m ≤ n
+falls_by : (others : OtherDirection) (commands laxer : List Command) (marks : List Bool) (n m : ℕ) → AreLaxer commands laxer marks → IsFewestOf others commands marks n → IsFewestOf others laxer marks m → m ≤ n
 falls_by Best commands laxer marks n m lax more few = best_falls commands laxer marks (fixed 1) lax n m more few
 falls_by Any commands laxer marks n m lax more few = any_falls commands laxer marks (fixed 1) lax n m more few
 
-pub falls : (qs : List CapturedRequest) (aim : Aim) (others : Others) (a b n m : ℕ) → a ≤ b → IsFewestAfter qs aim others a n → IsFewestAfter qs aim others b m → m ≤ n
+pub falls : (qs : List CapturedRequest) (aim : OnTimeTarget) (others : OtherDirection) (a b n m : ℕ) → a ≤ b → IsFewestAfter qs aim others a n → IsFewestAfter qs aim others b m → m ≤ n
 falls qs aim others a b n m later more few =
     falls_by others more.commands few.commands (marks_of aim.dir qs) n m (are_laxer qs aim a b more.commands few.commands more.rounds few.rounds later more.counted few.counted) more.fewest few.fewest
 
 -- where more than may be are late, more are where they are due sooner
-pub sooner_too : (qs : List CapturedRequest) (aim : Aim) (others : Others) (own : ℕ) → IsShort qs aim others own → (sooner : ℕ) → sooner ≤ own → IsTooSoon qs aim others sooner
+pub sooner_too : (qs : List CapturedRequest) (aim : OnTimeTarget) (others : OtherDirection) (own : ℕ) → IsShort qs aim others own → (sooner : ℕ) → sooner ≤ own → IsTooSoon qs aim others sooner
 sooner_too qs aim others own short sooner before n fewest = omega (arith, short.many, falls qs aim others sooner own n short.late before fewest short.fewest)

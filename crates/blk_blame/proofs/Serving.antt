@@ -6,10 +6,10 @@ use Rattle.blk_capture.specs.Requests.{AreTimed}
 use Rattle.blk_capture.specs.declared.counting.TimedRequest.{TimedRequest}
 use Rattle.blk_capture.specs.declared.requests.CapturedRequest.{CapturedRequest}
 use Rattle.blk_blame.specs.Tightest.{timed_after}
-use Rattle.blk_blame.specs.declared.tightest.Aim.{Aim}
+use Rattle.blk_blame.specs.declared.tightest.OnTimeTarget.{OnTimeTarget}
 use Rattle.blk_blame.proofs.Glue.{nobody}
 
-pub served_after : (aim : Aim) (own : ℕ) (requests : List CapturedRequest) → AreTimed requests → AreServed (map (timed_after aim own) requests)
+pub served_after : (aim : OnTimeTarget) (own : ℕ) (requests : List CapturedRequest) → AreTimed requests → AreServed (map (timed_after aim own) requests)
 served_after aim own requests timed =
     let n : length (map (timed_after aim own) requests) ≡ length requests = length-map requests (timed_after aim own) in
     record {

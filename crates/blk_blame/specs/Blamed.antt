@@ -6,10 +6,10 @@ use Rattle.blk_blame.specs.Account.{IsBlameAccount}
 use Rattle.blk_blame.specs.Answers.{with_totals, with_stalls, with_windows}
 use Rattle.blk_blame.specs.Each.{lates_of}
 use Rattle.blk_blame.specs.EachSaid.{each_part}
-use Rattle.blk_blame.specs.Greatest.{AreGreatestFirst, hurt_size, stall_size, window_size}
+use Rattle.blk_blame.specs.Greatest.{AreGreatestFirst, late_group_size, stall_size, window_size}
 use Rattle.blk_blame.specs.Groups.{IsGroup}
 use Rattle.blk_blame.specs.GroupsSaid.{with_groups}
-use Rattle.blk_blame.specs.Hurts.{AreHurt}
+use Rattle.blk_blame.specs.LateGroups.{AreLateGroup}
 use Rattle.blk_blame.specs.Stages.{AreStageRows, all_stages}
 use Rattle.blk_blame.specs.StagesSaid.{with_stages}
 use Rattle.blk_blame.specs.Totals.{AreTotals}
@@ -17,20 +17,20 @@ use Rattle.blk_blame.specs.declared.account.Account.{Account}
 use Rattle.blk_blame.specs.declared.blamed.Findings.{Findings}
 use Rattle.blk_blame.specs.declared.grouped.GroupedBy.{GroupedBy}
 use Rattle.blk_blame.specs.declared.groups.Group.{Group}
-use Rattle.blk_blame.specs.declared.hurts.Hurt.{Hurt}
+use Rattle.blk_blame.specs.declared.late_groups.LateGroup.{LateGroup}
 
 -- of these processes, or processors, what their late requests are blamed on
-pub record AreGroups (by : GroupedBy) (requests : List CapturedRequest) (a : Account) (hurts : List Hurt) (groups : List Group) : Type 0 where
-  pub one_each : length groups ≡ length hurts
-  pub each : (k : ℕ) (d : Hurt) (e : Group) → k < length groups → IsGroup by requests a (slice_index_or hurts k d) (slice_index_or groups k e)
+pub record AreGroups (by : GroupedBy) (requests : List CapturedRequest) (a : Account) (late_groups : List LateGroup) (groups : List Group) : Type 0 where
+  pub one_each : length groups ≡ length late_groups
+  pub each : (k : ℕ) (d : LateGroup) (e : Group) → k < length groups → IsGroup by requests a (slice_index_or late_groups k d) (slice_index_or groups k e)
 
 -- those that have the most late requests, at most so many, where they are asked for
 pub record AreWorstBy (by : GroupedBy) (most : ℕ) (requests : List CapturedRequest) (a : Account) (groups : List Group) : Type 0 where
-  pub in_turn : List Hurt
-  pub are_hurt : AreHurt by requests in_turn
-  pub hurts : List Hurt
-  pub hurts_are : AreGreatestFirst hurt_size in_turn hurts
-  pub groups_are : AreGroups by requests a (take most hurts) groups
+  pub in_turn : List LateGroup
+  pub are_late_group : AreLateGroup by requests in_turn
+  pub late_groups : List LateGroup
+  pub late_groups_are : AreGreatestFirst late_group_size in_turn late_groups
+  pub groups_are : AreGroups by requests a (take most late_groups) groups
 
 abbrev pub AreWorst : Option GroupedBy → ℕ → List CapturedRequest → Account → List Group → Type 0
 AreWorst None most requests a groups = groups ≡ []

@@ -4,12 +4,12 @@ use Rattle.std.specs.List.Sorted.{IsPermutation, IsSorted, IsStable}
 use Rattle.std.specs.Ordering.{nat_cmp}
 use Rattle.std.specs.declared.cmp.Ordering.{Ordering}
 use Rattle.edd_blame.specs.declared.sum.StallTime.{StallTime}
-use Rattle.blk_blame.specs.declared.hurts.Hurt.{Hurt}
+use Rattle.blk_blame.specs.declared.late_groups.LateGroup.{LateGroup}
 use Rattle.edd_figures.specs.declared.missing.Crowd.{Crowd}
 
 -- how many requests of a process were late
-abbrev pub hurt_size : Hurt → ℕ
-hurt_size h = h.late
+abbrev pub late_group_size : LateGroup → ℕ
+late_group_size h = h.late
 
 -- how many requests were due in a stall, and how many a window has more than it carries
 abbrev pub stall_size : StallTime → ℕ

@@ -13,7 +13,7 @@ use Rattle.blk_blame.specs.declared.account.Account.{Account}
 use Rattle.blk_blame.specs.Grouped.{group_key}
 use Rattle.blk_blame.specs.declared.grouped.GroupedBy.{GroupedBy}
 use Rattle.blk_blame.specs.declared.groups.Group.{Group}
-use Rattle.blk_blame.specs.declared.hurts.Hurt.{Hurt}
+use Rattle.blk_blame.specs.declared.late_groups.LateGroup.{LateGroup}
 
 -- the places of its requests
 abbrev pub is_in_group : GroupedBy → List CapturedRequest → ℕ → ℕ → Bool
@@ -46,7 +46,7 @@ overrun_in by key q = if group_key by q == key then overrun_of q else None
 
 -- how many requests it has, how many were late, stalled and came in late, the fewest late ones of it in any order, the most of its late
 -- ones that can be on time beside all that were, how long its requests waited, and by how much its late ones were late
-pub record IsGroup (by : GroupedBy) (requests : List CapturedRequest) (a : Account) (h : Hurt) (p : Group) : Type 0 where
+pub record IsGroup (by : GroupedBy) (requests : List CapturedRequest) (a : Account) (h : LateGroup) (p : Group) : Type 0 where
   pub key_is : p.key ≡ h.key
   pub requests_are : p.requests ≡ length (own_places by requests h.key)
   pub late_are : p.late ≡ h.late

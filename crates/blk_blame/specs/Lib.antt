@@ -8,7 +8,7 @@ pub mod Flying
 pub mod Each
 pub mod EachSaid
 pub mod Grouped
-pub mod Hurts
+pub mod LateGroups
 pub mod Groups
 pub mod GroupsSaid
 pub mod Stages

@@ -11,11 +11,11 @@ use Rattle.blk_blame.specs.Answers.{behind}
 use Rattle.blk_blame.specs.EachSaid.{dir_value}
 use Rattle.blk_blame.specs.Tightest.{allowed_of, IsTightestOrNone}
 use Rattle.blk_blame.specs.declared.names.TheConstants as own
-use Rattle.blk_blame.specs.declared.tightest.Aim.{Aim}
-use Rattle.blk_blame.specs.declared.tightest.Others.TheVariants.{Best, Any}
+use Rattle.blk_blame.specs.declared.tightest.OnTimeTarget.{OnTimeTarget}
+use Rattle.blk_blame.specs.declared.tightest.OtherDirection.TheVariants.{Best, Any}
 
 -- how many requests of the direction there are, and how many of them may be late
-abbrev pub aim_part : List CapturedRequest → Aim → Part
+abbrev pub aim_part : List CapturedRequest → OnTimeTarget → Part
 aim_part requests aim = Line (record {
   cells =
       behind [] names.DIR.now (dir_value aim.dir) ∷ behind (codes " ") own.REQUESTS.now (Count (count_by (λ q. goes q.dir aim.dir) requests))
@@ -27,13 +27,13 @@ aim_part requests aim = Line (record {
 abbrev pub due_part : List ℕ → Option ℕ → List ℕ → Part
 due_part name time where_so = Line (record { cells = behind (codes "due after ") name (counted time) ∷ []; end = where_so })
 
-abbrev pub tightest_parts : List CapturedRequest → Aim → Option ℕ → Option ℕ → List Part
+abbrev pub tightest_parts : List CapturedRequest → OnTimeTarget → Option ℕ → Option ℕ → List Part
 tightest_parts requests aim beside alone =
     aim_part requests aim ∷ due_part own.BESIDE.now beside (codes " ns, with no more of the others late than have to be" ++ 10 ∷ [])
     ∷ due_part own.ALONE.now alone (codes " ns, whatever becomes of the others" ++ 10 ∷ []) ∷ []
 
 -- the least time where as few of the others are late as can be, and the least whatever becomes of these
-pub record IsTightestAnswer (requests : List CapturedRequest) (aim : Aim) (parts : List Part) : Type 0 where
+pub record IsTightestAnswer (requests : List CapturedRequest) (aim : OnTimeTarget) (parts : List Part) : Type 0 where
   pub beside : Option ℕ
   pub beside_is : IsTightestOrNone requests aim Best beside
   pub alone : Option ℕ

@@ -13,10 +13,10 @@ use crate::each_said::add_each;
 use crate::grouped::GroupedBy;
 use crate::groups::{Group, group_of};
 use crate::groups_said::add_groups;
-use crate::hurts::{Hurt, hurts_of};
+use crate::late_groups::{LateGroup, late_groups_of};
 use crate::stages::{StageRow, stages_of};
 use crate::stages_said::add_stages;
-use crate::top::{first_of, sort_hurts, sort_stalls, sort_windows};
+use crate::top::{first_of, sort_late_groups, sort_stalls, sort_windows};
 use crate::totals::{Totals, totals_of};
 use answer::Answer;
 use blk_capture::{CapturedRequest, completions_of};
@@ -47,15 +47,15 @@ fn groups_of(
     by: GroupedBy,
     requests: &[CapturedRequest],
     account: &Account,
-    hurts: &[Hurt],
+    late_groups: &[LateGroup],
 ) -> Result<Vec<Group>, AllocError>
     requires account { IsBlameAccount requests.now account.now }
     requires few { length requests.now ≤ MAX_COMMANDS }
-    ensures { IfOk result (λ v. AreGroups by requests.now account.now hurts.now v.items) }
+    ensures { IfOk result (λ v. AreGroups by requests.now account.now late_groups.now v.items) }
 {
-    let mut groups = Vec::with_capacity(alloc, hurts.len())?;
-    for hurt in hurts {
-        groups.push(group_of(alloc, by, requests, account, *hurt)?)?;
+    let mut groups = Vec::with_capacity(alloc, late_groups.len())?;
+    for late_group in late_groups {
+        groups.push(group_of(alloc, by, requests, account, *late_group)?)?;
     }
     Ok(groups)
 }
@@ -72,14 +72,14 @@ fn worst_by(
     requires few { length requests.now ≤ MAX_COMMANDS }
     ensures { IfOk result (λ v. AreWorstBy by most requests.now account.now v.items) }
 {
-    let mut hurts = hurts_of(alloc, by, requests)?;
-    sort_hurts(&mut hurts)?;
+    let mut late_groups = late_groups_of(alloc, by, requests)?;
+    sort_late_groups(&mut late_groups)?;
     let groups = groups_of(
         alloc,
         by,
         requests,
         account,
-        first_of(hurts.as_slice(), most),
+        first_of(late_groups.as_slice(), most),
     )?;
     Ok(groups)
 }

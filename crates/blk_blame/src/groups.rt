@@ -11,7 +11,7 @@ ghost use Rattle.blk_blame.specs.Groups.{own_places, was_stall, was_arrival, wai
 
 use crate::account::Account;
 use crate::grouped::GroupedBy;
-use crate::hurts::Hurt;
+use crate::late_groups::LateGroup;
 use crate::percentiles::percentiles_of;
 use crate::totals::overrun_of;
 use blk_capture::{CapturedRequest, Percentiles};
@@ -195,26 +195,26 @@ pub fn group_of(
     by: GroupedBy,
     requests: &[CapturedRequest],
     account: &Account,
-    hurt: Hurt,
+    late_group: LateGroup,
 ) -> Result<Group, AllocError>
     requires account { IsBlameAccount requests.now account.now }
     requires few { length requests.now ≤ MAX_COMMANDS }
-    ensures { IfOk result (IsGroup by requests.now account.now hurt) }
+    ensures { IfOk result (IsGroup by requests.now account.now late_group) }
 {
     let commands = account.counted.commands.as_slice();
     let rounds = account.counted.rounds.as_slice();
     let causes = account.causes.as_slice();
     let capacity = Capacity::fixed(alloc, 1)?;
-    let places = own_places(alloc, by, requests, hurt.key)?;
+    let places = own_places(alloc, by, requests, late_group.key)?;
     Ok(Group {
-        key: hurt.key,
+        key: late_group.key,
         requests: places.len() as u64,
-        late: hurt.late,
-        stalled: count_stalls(by, hurt.key, requests, causes),
-        arrivals: count_arrivals(by, hurt.key, requests, causes),
+        late: late_group.late,
+        stalled: count_stalls(by, late_group.key, requests, causes),
+        arrivals: count_arrivals(by, late_group.key, requests, causes),
         least: least_late_at(alloc, commands, &capacity, places.as_slice())?,
         savable: most_saved_at(alloc, commands, rounds, &capacity, places.as_slice())?,
-        wait: waits(alloc, by, requests, hurt.key)?,
-        overrun: overruns(alloc, by, requests, hurt.key)?,
+        wait: waits(alloc, by, requests, late_group.key)?,
+        overrun: overruns(alloc, by, requests, late_group.key)?,
     })
 }

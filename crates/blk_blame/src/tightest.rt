@@ -15,7 +15,7 @@ use std::alloc::{AllocError, Global};
 
 /// What becomes of the requests of the other direction.
 #[derive(Clone, Copy, Debug, PartialEq, Eq)]
-pub enum Others {
+pub enum OtherDirection {
     /// As few of them are late as in any order.
     Best,
     /// Whatever may.
@@ -24,7 +24,7 @@ pub enum Others {
 
 /// How many requests of which direction are to be on time.
 #[derive(Clone, Copy, Debug, PartialEq, Eq)]
-pub struct Aim {
+pub struct OnTimeTarget {
     /// The direction.
     pub dir: Dir,
     /// How long after they came in these were due, in nanoseconds, so that their deadlines are so much later.
@@ -41,7 +41,7 @@ fn goes(request: &CapturedRequest, dir: Dir) -> bool
 }
 
 /// When a request is due where those of the direction are due `own` nanoseconds after they came in.
-fn due_after(aim: Aim, own: u64, request: &CapturedRequest) -> u64
+fn due_after(aim: OnTimeTarget, own: u64, request: &CapturedRequest) -> u64
     ensures { result ≡ due_after aim own request.now }
 {
     if goes(request, aim.dir) {
@@ -55,7 +55,7 @@ fn due_after(aim: Aim, own: u64, request: &CapturedRequest) -> u64
 }
 
 /// The times of a request then.
-fn timed_after(aim: Aim, own: u64, request: &CapturedRequest) -> TimedRequest
+fn timed_after(aim: OnTimeTarget, own: u64, request: &CapturedRequest) -> TimedRequest
     ensures { result ≡ timed_after aim own request.now }
 {
     TimedRequest {
@@ -69,7 +69,7 @@ fn timed_after(aim: Aim, own: u64, request: &CapturedRequest) -> TimedRequest
 fn all_timed(
     alloc: Global,
     requests: &[CapturedRequest],
-    aim: Aim,
+    aim: OnTimeTarget,
     own: u64,
 ) -> Result<Vec<TimedRequest>, AllocError>
     ensures { IfOk result (λ v. v.items ≡ map (timed_after aim own) requests.now) }
@@ -99,7 +99,7 @@ pub(crate) fn count_of(requests: &[CapturedRequest], dir: Dir) -> u64
 }
 
 /// How many of them may be late.
-pub(crate) fn allowed_of(requests: &[CapturedRequest], aim: Aim) -> u64
+pub(crate) fn allowed_of(requests: &[CapturedRequest], aim: OnTimeTarget) -> u64
     requires { length requests.now ≤ MAX_COMMANDS }
     ensures { result ≡ allowed_of requests.now aim }
 {
@@ -112,7 +112,7 @@ fn fewest_of(
     alloc: Global,
     commands: &[Command],
     marks: &[bool],
-    others: Others,
+    others: OtherDirection,
 ) -> Result<u64, AllocError>
     requires taken { IsTaken commands.now }
     requires one_each { length marks.now ≡ length commands.now }
@@ -120,8 +120,8 @@ fn fewest_of(
 {
     let capacity = Capacity::fixed(alloc, 1)?;
     match others {
-        Others::Best => least_late_beside(alloc, commands, &capacity, marks),
-        Others::Any => least_late_marked(alloc, commands, &capacity, marks),
+        OtherDirection::Best => least_late_beside(alloc, commands, &capacity, marks),
+        OtherDirection::Any => least_late_marked(alloc, commands, &capacity, marks),
     }
 }
 
@@ -130,8 +130,8 @@ fn fewest_after(
     alloc: Global,
     requests: &[CapturedRequest],
     marks: &[bool],
-    aim: Aim,
-    others: Others,
+    aim: OnTimeTarget,
+    others: OtherDirection,
     own: u64,
 ) -> Result<u64, AllocError>
     requires timed { AreTimed requests.now }
@@ -150,8 +150,8 @@ fn is_enough(
     alloc: Global,
     requests: &[CapturedRequest],
     marks: &[bool],
-    aim: Aim,
-    others: Others,
+    aim: OnTimeTarget,
+    others: OtherDirection,
     own: u64,
 ) -> Result<bool, AllocError>
     requires timed { AreTimed requests.now }
@@ -172,8 +172,8 @@ fn least_below(
     alloc: Global,
     requests: &[CapturedRequest],
     marks: &[bool],
-    aim: Aim,
-    others: Others,
+    aim: OnTimeTarget,
+    others: OtherDirection,
     long: u64,
 ) -> Result<u64, AllocError>
     requires timed { AreTimed requests.now }
@@ -198,7 +198,7 @@ fn least_below(
 
 /// How long it is from when the first of the direction's requests came in to the last dispatch: where they are due so long after they came in, each
 /// of them can go out at any dispatch. The answer is the same wherever it is looked for first.
-fn longest(requests: &[CapturedRequest], aim: Aim) -> u64 {
+fn longest(requests: &[CapturedRequest], aim: OnTimeTarget) -> u64 {
     let Some(last) = requests.last() else {
         return 0;
     };
@@ -219,8 +219,8 @@ fn longest(requests: &[CapturedRequest], aim: Aim) -> u64 {
 pub fn tightest_of(
     alloc: Global,
     requests: &[CapturedRequest],
-    aim: Aim,
-    others: Others,
+    aim: OnTimeTarget,
+    others: OtherDirection,
 ) -> Result<Option<u64>, AllocError>
     requires timed { AreTimed requests.now }
     requires few { length requests.now ≤ MAX_COMMANDS }

@@ -8,14 +8,18 @@ ghost use Rattle.blk_blame.specs.TightestSaid.{aim_part, due_part, tightest_part
 use crate::answers::{cell, count_behind};
 use crate::each_said::dir_value;
 use crate::names::{ALLOWED, ALONE, BESIDE, REQUESTS};
-use crate::tightest::{Aim, Others, allowed_of, count_of, tightest_of};
+use crate::tightest::{OnTimeTarget, OtherDirection, allowed_of, count_of, tightest_of};
 use answer::names::DIR;
 use answer::{Answer, Layout, Line, Part, Word, count_or_none};
 use blk_capture::CapturedRequest;
 use std::alloc::{AllocError, Global};
 
 /// How many requests of the direction there are, and how many of them may be late.
-fn aim_part(alloc: Global, requests: &[CapturedRequest], aim: Aim) -> Result<Part, AllocError>
+fn aim_part(
+    alloc: Global,
+    requests: &[CapturedRequest],
+    aim: OnTimeTarget,
+) -> Result<Part, AllocError>
     requires { length requests.now ≤ MAX_COMMANDS }
     ensures { IfOk result (λ part. part ≡ aim_part requests.now aim) }
 {
@@ -52,7 +56,7 @@ fn due_part(
 fn told(
     alloc: Global,
     requests: &[CapturedRequest],
-    aim: Aim,
+    aim: OnTimeTarget,
     beside: Option<u64>,
     alone: Option<u64>,
 ) -> Result<Answer, AllocError>
@@ -77,14 +81,14 @@ fn told(
 pub fn tightest_answer(
     alloc: Global,
     requests: &[CapturedRequest],
-    aim: Aim,
+    aim: OnTimeTarget,
 ) -> Result<Answer, AllocError>
     requires timed { AreTimed requests.now }
     requires few { length requests.now ≤ MAX_COMMANDS }
     ensures { IfOk result (IsTightestAnswer requests.now aim) }
 {
-    let beside = tightest_of(alloc, requests, aim, Others::Best)?;
-    let alone = tightest_of(alloc, requests, aim, Others::Any)?;
+    let beside = tightest_of(alloc, requests, aim, OtherDirection::Best)?;
+    let alone = tightest_of(alloc, requests, aim, OtherDirection::Any)?;
     let answer = told(alloc, requests, aim, beside, alone)?;
     Ok(answer)
 }

@@ -1,9 +1,9 @@
 //! The greatest of processes, of stalls and of windows.
 
 ghost use Rattle.std.specs.Prelude.{◌≡◌, OnOk, take};
-ghost use Rattle.blk_blame.specs.Greatest.{AreGreatestFirst, hurt_size, stall_size, window_size};
+ghost use Rattle.blk_blame.specs.Greatest.{AreGreatestFirst, late_group_size, stall_size, window_size};
 
-use crate::hurts::Hurt;
+use crate::late_groups::LateGroup;
 use edd_blame::StallTime;
 use edd_figures::Crowd;
 use std::alloc::AllocError;
@@ -17,10 +17,10 @@ fn excess(window: &Crowd) -> u64
 }
 
 /// Puts processes in order, those first that have the most late requests.
-pub fn sort_hurts(hurts: &mut Vec<Hurt>) -> Result<(), AllocError>
-    ensures { OnOk result (AreGreatestFirst hurt_size hurts.old.items hurts.new.items) }
+pub fn sort_late_groups(late_groups: &mut Vec<LateGroup>) -> Result<(), AllocError>
+    ensures { OnOk result (AreGreatestFirst late_group_size late_groups.old.items late_groups.new.items) }
 {
-    hurts.sort_by_key(|hurt| Reverse(hurt.late))?;
+    late_groups.sort_by_key(|late_group| Reverse(late_group.late))?;
     Ok(())
 }
 

@@ -30,7 +30,7 @@ use Rattle.blk_capture.specs.declared.record.Action.TheVariants as action
 use Rattle.blk_capture.specs.declared.record.Action.TheVariants.{BackMerge, FrontMerge}
 use Rattle.blk_capture.specs.declared.record.Record.{Record}
 use Rattle.blk_capture.specs.declared.requests.CapturedBio.{CapturedBio}
-use Rattle.blk_capture.specs.declared.requests.Life.{Life}
+use Rattle.blk_capture.specs.declared.requests.MergeRoot.{MergeRoot}
 use Rattle.blk_capture.specs.declared.requests.Options.{Options}
 use Rattle.blk_capture.specs.declared.running.Running.{Running}
 use Rattle.blk_capture.proofs.Folding.{told_more}
@@ -216,18 +216,18 @@ bio_within n bios b gone = elim (slice_get_cases bios b).1 [
         let is : get_or bios b x ≡ x = get_or_from_slice_get bios b x x there in
         subst (λ (y : CapturedBio). IfSome y.request (λ k. k < n)) is (gone b x inside)
 
-stage_within : (o : Options) (m : Known) (lives : List Life) (places : List (Option ℕ)) (n k : ℕ) (q : Opened) → AreLaidOut o m lives places → AreWithin n places → slice_get m.requests k ≡ Some q → IfSome (place_by o m q.stage) (λ j. j < n)
+stage_within : (o : Options) (m : Known) (lives : List MergeRoot) (places : List (Option ℕ)) (n k : ℕ) (q : Opened) → AreLaidOut o m lives places → AreWithin n places → slice_get m.requests k ≡ Some q → IfSome (place_by o m q.stage) (λ j. j < n)
 stage_within o m lives places n k q laid within there =
     let inside : k < length places = (let each = laid.each_place in let low = slice_get_within m.requests k q there in omega (arith, each, low)) in
     some_within n (get_or places k None) (place_by o m q.stage) (sym (laid.placed k q there)) (within k None inside)
 
-request_within : (o : Options) (m : Known) (lives : List Life) (places : List (Option ℕ)) (n k : ℕ) → AreLaidOut o m lives places → AreWithin n places → IfSome (place_in_end o m k) (λ j. j < n)
+request_within : (o : Options) (m : Known) (lives : List MergeRoot) (places : List (Option ℕ)) (n k : ℕ) → AreLaidOut o m lives places → AreWithin n places → IfSome (place_in_end o m k) (λ j. j < n)
 request_within o m lives places n k laid within = elim (slice_get_cases m.requests (ends_in m.absorptions k)).1 [
   | inl a ↦ some_within n (place_by o m a.0.stage) (place_in_end o m k) (ap (λ r. option_and_then (λ (q : Opened). place_by o m q.stage) r) a.2) (stage_within o m lives places n (ends_in m.absorptions k) a.0 laid within a.2)
   | inr a ↦ none_within n (place_in_end o m k) (ap (λ r. option_and_then (λ (q : Opened). place_by o m q.stage) r) a.1)
 ]
 
-pub fate_within : (o : Options) (m : Known) (lives : List Life) (places : List (Option ℕ)) (bios : List CapturedBio) (n : ℕ) (p : Role) → AreLaidOut o m lives places → AreWithin n places → bios ≡ map (captured_bio o m) m.bios → AreGone n bios → IsTakenBelow n (fate_by o m p)
+pub fate_within : (o : Options) (m : Known) (lives : List MergeRoot) (places : List (Option ℕ)) (bios : List CapturedBio) (n : ℕ) (p : Role) → AreLaidOut o m lives places → AreWithin n places → bios ≡ map (captured_bio o m) m.bios → AreGone n bios → IsTakenBelow n (fate_by o m p)
 fate_within o m lives places bios n (role.Bio b) laid within is gone =
     below_at n (option_and_then (place_with o m) (slice_get m.bios b)) (some_within n _ _ (sym (bio_place_is o m bios b is)) (bio_within n bios b gone))
 fate_within o m lives places bios n (role.Request k) laid within is gone = below_at n (place_in_end o m k) (request_within o m lives places n k laid within)

@@ -21,7 +21,7 @@ use Rattle.blk_capture.specs.declared.opened.Stage.{Stage}
 use Rattle.blk_capture.specs.declared.opened.Stage.TheVariants as stage
 use Rattle.blk_capture.specs.declared.requests.CapturedBio.{CapturedBio}
 use Rattle.blk_capture.specs.declared.requests.CapturedRequest.{CapturedRequest}
-use Rattle.blk_capture.specs.declared.requests.Life.{Life}
+use Rattle.blk_capture.specs.declared.requests.MergeRoot.{MergeRoot}
 use Rattle.blk_capture.specs.declared.requests.Options.{Options}
 use Rattle.blk_capture.specs.declared.requests.Taken.{Taken}
 use Rattle.blk_capture.proofs.Cohering.{ends_past}
@@ -214,7 +214,7 @@ after_all o t m n k q (stage.InFlight l) c all there e = all_if o t m n k l q c 
 after_all o t m n k q (stage.Completed l) c all there e = all_if o t m n k l q c all there (ap (goes_out_by l) e ∙ eq-eqb l l refl)
 after_all o t m n k q stage.Absorbed c all there e = refl
 
-pub laid_out : (o : Options) (t : ℕ) (m : Known) (lives : List Life) (places : List (Option ℕ)) (requests : List CapturedRequest) (n : ℕ) → IsCoherent o t m → length lives ≡ length m.requests → length places ≡ length lives → AreRoots m.absorptions lives → length m.dispatches ≤ n → IsTakenSo o m places requests n → AreLaidOut o m lives places
+pub laid_out : (o : Options) (t : ℕ) (m : Known) (lives : List MergeRoot) (places : List (Option ℕ)) (requests : List CapturedRequest) (n : ℕ) → IsCoherent o t m → length lives ≡ length m.requests → length places ≡ length lives → AreRoots m.absorptions lives → length m.dispatches ≤ n → IsTakenSo o m places requests n → AreLaidOut o m lives places
 laid_out o t m lives places requests n c each many roots all so = record {
   each_life = each;
   each_place = many ∙ each;
@@ -223,7 +223,7 @@ laid_out o t m lives places requests n c each many roots all so = record {
   placed = λ k q there. so.placed k q there ∙ after_all o t m n k q q.stage c all there refl;
 }
 
-pub is_own : (o : Options) (t : ℕ) (m : Known) (lives : List Life) (n : ℕ) (x : Dispatch) → IsCoherent o t m → length lives ≡ length m.requests → AreRoots m.absorptions lives → IsLast m n x → IsOwn lives x.request
+pub is_own : (o : Options) (t : ℕ) (m : Known) (lives : List MergeRoot) (n : ℕ) (x : Dispatch) → IsCoherent o t m → length lives ≡ length m.requests → AreRoots m.absorptions lives → IsLast m n x → IsOwn lives x.request
 is_own o t m lives n x c each roots last =
     let within : x.request < length lives = (let there = slice_get_within m.requests x.request last.opened last.there in omega (arith, there, each)) in
     record { in_list = within; root = λ d. roots x.request d within ∙ c.own x.request last.opened last.there (out_not n last.opened.stage last.last) }
@@ -235,12 +235,12 @@ pub sent_there : (ds es : List Dispatch) (n : ℕ) (d : Dispatch) → ds ≡ es 
 sent_there ds es n d same here = ap (λ xs. slice_get xs n) (sym same) ∙ slice_get-get_or ds n d here
 
 -- all that holds of what is taken by the first n dispatches
-pub record IsTakenUpto {A : Type 0} (o : Options) (m : Known) (lives : List Life) (sent : List Dispatch) (t : Taken A) (n : ℕ) : Type 0 where
+pub record IsTakenUpto {A : Type 0} (o : Options) (m : Known) (lives : List MergeRoot) (sent : List Dispatch) (t : Taken A) (n : ℕ) : Type 0 where
   pub listed : IsTakenTo (IsDue o) lives m.openers sent t.places.items t.requests.items n
   pub so : IsTakenSo o m t.places.items t.requests.items n
 
 -- ---- where bios and records went
-pub place_is : (o : Options) (m : Known) (lives : List Life) (places : List (Option ℕ)) (k : ℕ) (d : Life) → AreLaidOut o m lives places → k < length lives → get_or places (get_or lives k d).root None ≡ place_in_end o m k
+pub place_is : (o : Options) (m : Known) (lives : List MergeRoot) (places : List (Option ℕ)) (k : ℕ) (d : MergeRoot) → AreLaidOut o m lives places → k < length lives → get_or places (get_or lives k d).root None ≡ place_in_end o m k
 place_is o m lives places k d laid here =
     let e : ℕ = ends_in m.absorptions k in
     ap (λ j. get_or places j None) (laid.roots k d here)
@@ -249,7 +249,7 @@ place_is o m lives places k d laid here =
       | inr a ↦ get_or_past places e None (let each = laid.each_place in omega (arith, a.0, each)) ∙ sym (ap (λ r. option_and_then (λ (q : Opened). place_by o m q.stage) r) a.1)
     ]
 
-pub place_past : (o : Options) (m : Known) (lives : List Life) (places : List (Option ℕ)) (k : ℕ) → AreLaidOut o m lives places → length lives ≤ k → place_in_end o m k ≡ None
+pub place_past : (o : Options) (m : Known) (lives : List MergeRoot) (places : List (Option ℕ)) (k : ℕ) → AreLaidOut o m lives places → length lives ≤ k → place_in_end o m k ≡ None
 place_past o m lives places k laid past =
     let low : length m.requests ≤ k = (let each = laid.each_life in omega (arith, past, each)) in
     ap (λ j. option_and_then (λ (q : Opened). place_by o m q.stage) (slice_get m.requests j)) (ends_past m.absorptions (length m.requests) k laid.merges low)
@@ -273,7 +273,7 @@ bio_place_is o m bios k is =
     ∙ ap (λ r. option_and_then (λ (x : CapturedBio). x.request) r) (slice_get-map (captured_bio o m) m.bios k)
     ∙ with_request o m (slice_get m.bios k)
 
-pub relaid : (o : Options) (m : Known) (lives lives2 : List Life) (places places2 : List (Option ℕ)) → lives2 ≡ lives → places2 ≡ places → AreLaidOut o m lives places → AreLaidOut o m lives2 places2
+pub relaid : (o : Options) (m : Known) (lives lives2 : List MergeRoot) (places places2 : List (Option ℕ)) → lives2 ≡ lives → places2 ≡ places → AreLaidOut o m lives places → AreLaidOut o m lives2 places2
 relaid o m lives lives2 places places2 same same2 laid = subst (λ ls. AreLaidOut o m ls places2) (sym same) (subst (AreLaidOut o m lives) (sym same2) laid)
 
 -- what was merged into another has no place
@@ -284,7 +284,7 @@ no_place o m (stage.InFlight n) e = cc
 no_place o m (stage.Completed n) e = cc
 no_place o m stage.Absorbed e = refl
 
-pub apart_of : (o : Options) (m : Known) (lives : List Life) (places places2 : List (Option ℕ)) (requests : List Opened) → requests ≡ m.requests → places2 ≡ places → AreLaidOut o m lives places
+pub apart_of : (o : Options) (m : Known) (lives : List MergeRoot) (places places2 : List (Option ℕ)) (requests : List Opened) → requests ≡ m.requests → places2 ≡ places → AreLaidOut o m lives places
     → (k : ℕ) (q : Opened) → slice_get requests k ≡ Some q → is_absorbed q.stage ≡ true → get_or places2 k None ≡ None
 apart_of o m lives places places2 requests same same2 laid k q there gone =
     ap (λ ps. get_or ps k None) same2
@@ -302,17 +302,17 @@ ends_step merges p n k a next here is =
     let after : suc p ≡ n = omega (arith, next) in
     ap (λ xs. ends_in xs k) (drop-cons merges p a here ∙ ap (λ b. b ∷ drop (suc p) merges) (sym is) ∙ ap (λ j. a ∷ drop j merges) after)
 
-pub roots_step : (lives : List Life) (merges : List Absorption) (p n : ℕ) (a : Absorption) (y : Life) → p + 1 ≡ n → p < length merges → a ≡ get_or merges p a → a.request < length lives → a.into < length lives
-    → ((k : ℕ) (d : Life) → k < length lives → (get_or lives k d).root ≡ ends_in (drop n merges) k) → y ≡ get_or lives a.into y
-    → (k : ℕ) (d : Life) → k < length (set lives a.request y) → (get_or (set lives a.request y) k d).root ≡ ends_in (drop p merges) k
+pub roots_step : (lives : List MergeRoot) (merges : List Absorption) (p n : ℕ) (a : Absorption) (y : MergeRoot) → p + 1 ≡ n → p < length merges → a ≡ get_or merges p a → a.request < length lives → a.into < length lives
+    → ((k : ℕ) (d : MergeRoot) → k < length lives → (get_or lives k d).root ≡ ends_in (drop n merges) k) → y ≡ get_or lives a.into y
+    → (k : ℕ) (d : MergeRoot) → k < length (set lives a.request y) → (get_or (set lives a.request y) k d).root ≡ ends_in (drop p merges) k
 roots_step lives merges p n a y next here is low low2 roots at k d in_list = elim (eqb_tells k a.request) [
   | inl e ↦
-      ap (λ (l : Life). l.root) (ap (λ j. get_or (set lives a.request y) j d) e.1 ∙ get_or-set_same lives a.request y d low ∙ at)
+      ap (λ (l : MergeRoot). l.root) (ap (λ j. get_or (set lives a.request y) j d) e.1 ∙ get_or-set_same lives a.request y d low ∙ at)
       ∙ roots a.into y low2
       ∙ ap (λ b. ends_in (drop n merges) (cond b a.into k)) (sym (eq-eqb k a.request e.1))
       ∙ sym (ends_step merges p n k a next here is)
   | inr e ↦
-      ap (λ (l : Life). l.root) (get_or-set_other lives a.request k y d e.1)
+      ap (λ (l : MergeRoot). l.root) (get_or-set_other lives a.request k y d e.1)
       ∙ roots k d (let long = length-set lives a.request y in omega (arith, in_list, long))
       ∙ ap (λ b. ends_in (drop n merges) (cond b a.into k)) (sym (ne_eqb k a.request e.1))
       ∙ sym (ends_step merges p n k a next here is)

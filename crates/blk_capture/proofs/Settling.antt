@@ -13,7 +13,7 @@ use Rattle.blk_capture.specs.Inside.Taken.{ArePlaced, ArePlacedBios, IsTalliedFr
 use Rattle.blk_capture.specs.declared.counting.TimedRequest.{TimedRequest}
 use Rattle.blk_capture.specs.declared.members.QueuedBio.{QueuedBio}
 use Rattle.blk_capture.specs.declared.requests.CapturedBio.{CapturedBio}
-use Rattle.blk_capture.specs.declared.requests.Life.{Life}
+use Rattle.blk_capture.specs.declared.requests.MergeRoot.{MergeRoot}
 use Rattle.blk_capture.specs.declared.requests.Options.{Options}
 use Rattle.blk_capture.specs.declared.requests.CapturedRequest.{CapturedRequest}
 use Rattle.blk_capture.specs.Settled.{uncounted}
@@ -37,7 +37,7 @@ there_at places r k is =
     ]
 
 -- the bio that a request was opened for went out with it
-pub have_bios : (lives : List Life) (openers : List ℕ) (places : List (Option ℕ)) (old new : List CapturedRequest) (queued : List QueuedBio) (bios : List CapturedBio)
+pub have_bios : (lives : List MergeRoot) (openers : List ℕ) (places : List (Option ℕ)) (old new : List CapturedRequest) (queued : List QueuedBio) (bios : List CapturedBio)
     → ArePlaced lives openers places old → IsTalliedFrom old new bios → ArePlacedBios lives places queued (length queued) bios → AreOpened queued openers
     → HaveBios new bios
 have_bios lives openers places old new queued bios placed tallied are opened k d e here =
@@ -99,7 +99,7 @@ late_of_served requests commands rounds late k d e here =
     (λ x. let y = at.0 x in omega (arith, y, deadline, dispatch), λ x. at.1 (omega (arith, x, deadline, dispatch)))
 
 -- the same of the lists as the code names them
-pub have_bios_of : (lives lives2 : List Life) (openers : List ℕ) (places places2 : List (Option ℕ)) (old new : List CapturedRequest) (queued queued2 : List QueuedBio) (bios bios2 : List CapturedBio)
+pub have_bios_of : (lives lives2 : List MergeRoot) (openers : List ℕ) (places places2 : List (Option ℕ)) (old new : List CapturedRequest) (queued queued2 : List QueuedBio) (bios bios2 : List CapturedBio)
     → lives2 ≡ lives → places2 ≡ places → queued2 ≡ queued → bios2 ≡ bios
     → ArePlaced lives openers places old → IsTalliedFrom old new bios2 → ArePlacedBios lives2 places2 queued2 (length queued2) bios → AreOpened queued openers
     → HaveBios new bios

@@ -12,13 +12,13 @@ use Rattle.blk_capture.specs.Settled.{captured, completed_after, entry_at}
 use Rattle.blk_capture.specs.declared.opened.Opened.{Opened}
 use Rattle.blk_capture.specs.Inside.Taken.{IsOwn, IsRequestOf, ArePlaced, Puts, AreWithin}
 use Rattle.blk_capture.specs.declared.clock.Dispatch.{Dispatch}
-use Rattle.blk_capture.specs.declared.requests.Life.{Life}
+use Rattle.blk_capture.specs.declared.requests.MergeRoot.{MergeRoot}
 use Rattle.blk_capture.specs.declared.requests.Options.{Options}
 use Rattle.blk_capture.specs.declared.requests.CapturedRequest.{CapturedRequest}
 use Rattle.blk_capture.specs.declared.requests.Taken.{Taken}
 
 -- what is taken of the first n dispatches
-pub record IsTakenTo (P : CapturedRequest → Type 0) (lives : List Life) (openers : List ℕ) (dispatches : List Dispatch) (places : List (Option ℕ)) (requests : List CapturedRequest) (n : ℕ) : Type 0 where
+pub record IsTakenTo (P : CapturedRequest → Type 0) (lives : List MergeRoot) (openers : List ℕ) (dispatches : List Dispatch) (places : List (Option ℕ)) (requests : List CapturedRequest) (n : ℕ) : Type 0 where
   pub placed : ArePlaced lives openers places requests
   pub rising : IsNonDecreasingBy (λ q. q.dispatched) requests
   pub came_in : All (λ q. q.released ≤ q.dispatched) requests
@@ -37,7 +37,7 @@ no_place : (n : ℕ) → count_by is_some (replicate {A = Option ℕ} n None) �
 no_place zero = refl
 no_place (suc n) = sum_by-cons one_if None (replicate n None) ∙ omega (arith, no_place n)
 
-pub taken_none : (P : CapturedRequest → Type 0) (lives : List Life) (openers : List ℕ) (dispatches : List Dispatch) (places : List (Option ℕ)) (requests : List CapturedRequest) → requests ≡ [] → places ≡ replicate (length lives) None → IsTakenTo P lives openers dispatches places requests 0
+pub taken_none : (P : CapturedRequest → Type 0) (lives : List MergeRoot) (openers : List ℕ) (dispatches : List Dispatch) (places : List (Option ℕ)) (requests : List CapturedRequest) → requests ≡ [] → places ≡ replicate (length lives) None → IsTakenTo P lives openers dispatches places requests 0
 taken_none P lives openers dispatches places requests none blank =
     let empty : length requests ≡ 0 = ap length none in
     record {
@@ -53,7 +53,7 @@ taken_none P lives openers dispatches places requests none blank =
       below = λ k j d e h. absurd (omega (arith, h, empty));
     }
 
-pub taken_same : (P : CapturedRequest → Type 0) (lives : List Life) (openers : List ℕ) (dispatches : List Dispatch) (places : List (Option ℕ)) (requests : List CapturedRequest) (n : ℕ) → IsTakenTo P lives openers dispatches places requests n → IsTakenTo P lives openers dispatches places requests (n + 1)
+pub taken_same : (P : CapturedRequest → Type 0) (lives : List MergeRoot) (openers : List ℕ) (dispatches : List Dispatch) (places : List (Option ℕ)) (requests : List CapturedRequest) (n : ℕ) → IsTakenTo P lives openers dispatches places requests n → IsTakenTo P lives openers dispatches places requests (n + 1)
 taken_same P lives openers dispatches places requests n old = record {
   placed = old.placed;
   rising = old.rising;
@@ -87,7 +87,7 @@ within_more n places r old =
 some_is_none : (k : ℕ) → Some k ≡ None → ⊥
 some_is_none k e = cc
 
-placed_more : (lives : List Life) (openers : List ℕ) (places : List (Option ℕ)) (requests : List CapturedRequest) (x : Dispatch) (q : CapturedRequest)
+placed_more : (lives : List MergeRoot) (openers : List ℕ) (places : List (Option ℕ)) (requests : List CapturedRequest) (x : Dispatch) (q : CapturedRequest)
     → ArePlaced lives openers places requests → IsOwn lives x.request → IsRequestOf openers x q → x.request < length places → get_or places x.request None ≡ None
     → ArePlaced lives openers (set places x.request (Some (length requests))) (requests ++ q ∷ [])
 placed_more lives openers places requests x q placed own of there free k h =
@@ -117,7 +117,7 @@ placed_more lives openers places requests x q placed own of there free k h =
     ]
 
 -- one more that is put in
-taken_more : (P : CapturedRequest → Type 0) (lives : List Life) (openers : List ℕ) (dispatches : List Dispatch) (places : List (Option ℕ)) (requests : List CapturedRequest) (n : ℕ) (x : Dispatch) (q : CapturedRequest)
+taken_more : (P : CapturedRequest → Type 0) (lives : List MergeRoot) (openers : List ℕ) (dispatches : List Dispatch) (places : List (Option ℕ)) (requests : List CapturedRequest) (n : ℕ) (x : Dispatch) (q : CapturedRequest)
     → IsTakenTo P lives openers dispatches places requests n → IsOwn lives x.request → IsRequestOf openers x q → P q → x.request < length places → get_or places x.request None ≡ None
     → IsNonDecreasingBy (λ y. y.time) dispatches → n < length dispatches → x.time ≡ (get_or dispatches n x).time
     → IsTakenTo P lives openers dispatches (set places x.request (Some (length requests))) (requests ++ q ∷ []) (n + 1)
@@ -154,7 +154,7 @@ taken_more P lives openers dispatches places requests n x q old own of is_due th
       ];
 }
 
-pub taken_put : {A : Type 0} (P : CapturedRequest → Type 0) (lives : List Life) (openers : List ℕ) (dispatches : List Dispatch) (old new : Taken A) (n : ℕ) (x : Dispatch) (q : CapturedRequest)
+pub taken_put : {A : Type 0} (P : CapturedRequest → Type 0) (lives : List MergeRoot) (openers : List ℕ) (dispatches : List Dispatch) (old new : Taken A) (n : ℕ) (x : Dispatch) (q : CapturedRequest)
     → IsTakenTo P lives openers dispatches old.places.items old.requests.items n → IsOwn lives x.request → IsRequestOf openers x q → P q → Puts x.request q old new → x.request < length old.places.items → get_or old.places.items x.request None ≡ None
     → IsNonDecreasingBy (λ y. y.time) dispatches → n < length dispatches → x ≡ get_or dispatches n x
     → IsTakenTo P lives openers dispatches new.places.items new.requests.items (n + 1)

@@ -115,7 +115,7 @@ pub struct CapturedBio {
 
 /// What merges made of a request.
 #[derive(Clone, Copy, Debug)]
-struct Life {
+struct MergeRoot {
     /// The request that it was merged into in the end, or itself.
     root: usize,
 }
@@ -172,14 +172,14 @@ fn lives<A: Allocator + Clone>(
     alloc: A,
     count: usize,
     absorptions: &[Absorption],
-) -> Result<Vec<Life, A>, AllocError>
+) -> Result<Vec<MergeRoot, A>, AllocError>
     requires { AreMerges count absorptions.now }
     ensures each { IfOk result (λ v. length v.items ≡ count) }
     ensures roots { IfOk result (λ v. AreRoots absorptions.now v.items) }
 {
     let mut lives = Vec::with_capacity(alloc, count)?;
     for root in 0..count {
-        lives.push(Life { root })?;
+        lives.push(MergeRoot { root })?;
     }
     // the last absorption first, so that where the other went is known
     for place in (0..absorptions.len()).rev() {
@@ -268,7 +268,7 @@ impl<A: Allocator + Clone> Taken<A> {
 fn take_requests<A: Allocator + Clone>(
     alloc: A,
     matching: &Matching<A>,
-    lives: &[Life],
+    lives: &[MergeRoot],
     options: &Options,
 ) -> Result<Taken<A>, AllocError>
     requires coherent { IsCoherent options.now matching.now.clock.now (all_known matching.now) }
@@ -319,7 +319,7 @@ fn count_others(requests: &[Opened], places: &[Option<usize>]) -> (u64, u64)
 }
 
 /// The place of the request that a bio went out with, by the request that it first went into.
-fn place_of(lives: &[Life], places: &[Option<usize>], request: Option<usize>) -> Option<usize>
+fn place_of(lives: &[MergeRoot], places: &[Option<usize>], request: Option<usize>) -> Option<usize>
     ensures own { IsPlaceOfOwn lives.now places.now request result }
     ensures within { (n : ℕ) → AreWithin n places.now → IfSome result (λ k. k < n) }
     ensures place { (o : Options) (m : Known) → AreLaidOut o m lives.now places.now → result ≡ option_and_then (place_in_end o m) request }
@@ -339,7 +339,7 @@ fn place_of(lives: &[Life], places: &[Option<usize>], request: Option<usize>) ->
 fn bios_of<A: Allocator + Clone>(
     alloc: A,
     queued: &[QueuedBio],
-    lives: &[Life],
+    lives: &[MergeRoot],
     places: &[Option<usize>],
 ) -> Result<Vec<CapturedBio, A>, AllocError>
     ensures placed { IfOk result (λ v. ArePlacedBios lives.now places.now queued.now (length queued.now) v.items) }
@@ -385,7 +385,7 @@ fn fate_at(place: Option<usize>) -> Fate
 }
 
 /// What became of a record, by whether its bio or its request was taken.
-fn fate_of(role: Role, bios: &[CapturedBio], lives: &[Life], places: &[Option<usize>]) -> Fate
+fn fate_of(role: Role, bios: &[CapturedBio], lives: &[MergeRoot], places: &[Option<usize>]) -> Fate
     ensures matched { is_matched result ≡ is_known role }
     ensures passed { passed_by result ≡ passed_role role }
     ensures below { (n : ℕ) → AreWithin n places.now → AreGone n bios.now → IsTakenBelow n result }
@@ -404,7 +404,7 @@ fn fates_of<A: Allocator + Clone>(
     alloc: A,
     roles: &[Role],
     bios: &[CapturedBio],
-    lives: &[Life],
+    lives: &[MergeRoot],
     places: &[Option<usize>],
 ) -> Result<Vec<Fate, A>, AllocError>
     ensures matched { IfOk result (λ v. map is_matched v.items ≡ map is_known roles.now) }

@@ -6,23 +6,23 @@ use Rattle.csv.specs.Reading.{default_config, records, strip_bom}
 use Rattle.csv.specs.Writing.{read_back}
 use Rattle.blk_capture.specs.Requests.{AreInOrder}
 use Rattle.blk_capture.specs.declared.record.Record.{Record}
-use Rattle.blk_lists.specs.Sources.{Row, TakesRecord}
-use Rattle.blk_lists.specs.Texts.{rows_text}
-use Rattle.blk_lists.specs.Reads.{IsOutside, Reads, Halts, Fails, HandFails, Gathers, AreGathered, IsOne, IsStopped, with_next, size_of, repeated}
-use Rattle.blk_lists.specs.Titles.{IsVersion, title_by, TakesTitle, StopsAtTitle}
-use Rattle.blk_lists.specs.declared.fault.Why.{Why}
-use Rattle.blk_lists.specs.declared.fault.Why.TheVariants as why
-use Rattle.parts.specs.declared.Repeats.{Repeats}
-use Rattle.parts.specs.declared.Repeats.TheVariants as repeats
-use Rattle.parts.specs.Parts.{Begins, Spells, AllFit, all_rows, over}
-use Rattle.parts.specs.Laws.{Tells}
-use Rattle.parts.specs.Inside.Laws.{Decides}
-use Rattle.parts.proofs.Then.{then_tells, then_decides, record_decides}
-use Rattle.parts.proofs.Many.{HasRows, ended_tells, ended_decides}
-use Rattle.blk_lists.proofs.TitleLaws.{IsTitleTable, title_tells, title_decides, title_reads, title_stops}
-use Rattle.blk_lists.proofs.Each.{one_record, one_version}
-use Rattle.blk_lists.proofs.Reading.{outside_fails, many_fails, past_wrong, full_stopped, then_reads, hand_reads, first_halts, second_halts, lines_halt}
-use Rattle.blk_lists.proofs.Texts.{text_back}
+use Rattle.blk_records.specs.Sources.{Row, TakesRecord}
+use Rattle.blk_records.specs.Texts.{rows_text}
+use Rattle.blk_records.specs.Reads.{IsOutside, Reads, Halts, Fails, HandFails, Gathers, AreGathered, IsOne, IsStopped, with_next, size_of, repeated}
+use Rattle.blk_records.specs.Titles.{IsVersion, title_by, TakesTitle, StopsAtTitle}
+use Rattle.blk_records.specs.declared.fault.TextReason.{TextReason}
+use Rattle.blk_records.specs.declared.fault.TextReason.TheVariants as why
+use Rattle.text_grammar.specs.declared.Repeats.{Repeats}
+use Rattle.text_grammar.specs.declared.Repeats.TheVariants as repeats
+use Rattle.text_grammar.specs.Parts.{Begins, Spells, AllFit, all_rows, over}
+use Rattle.text_grammar.specs.Laws.{Tells}
+use Rattle.text_grammar.specs.Inside.Laws.{Decides}
+use Rattle.text_grammar.proofs.Then.{then_tells, then_decides, record_decides}
+use Rattle.text_grammar.proofs.Many.{HasRows, ended_tells, ended_decides}
+use Rattle.blk_records.proofs.TitleLaws.{IsTitleTable, title_tells, title_decides, title_reads, title_stops}
+use Rattle.blk_records.proofs.Each.{one_record, one_version}
+use Rattle.blk_records.proofs.Reading.{outside_fails, many_fails, past_wrong, full_stopped, then_reads, hand_reads, first_halts, second_halts, lines_halt}
+use Rattle.blk_records.proofs.Texts.{text_back}
 use Rattle.blk_capture_text.specs.Recorded.{time_at, record_at, IsRecordAfter, RecordLacks}
 use Rattle.blk_capture_text.specs.Captures.{capture_title_part, last_time, record_after, records_body, capture_form, capture_rows, AreCapture, SpellsCapture, CaptureTextFault}
 use Rattle.blk_capture_text.specs.Inside.Taking.{HasRecords, HaveRows}
@@ -123,16 +123,16 @@ spelled_once rows c d s t =
     let e = (capture_tells.once rows ((CAPTURE.latest, tt), s.0) ((CAPTURE.latest, tt), t.0) [] [] s.2 t.2).0 in
     s.1 ∙ ap (λ (z : List Row). map record_at z) (λ i. (e i).1) ∙ sym t.1
 
-pub spelled_or_wrong : (rows : List Row) → ((c : List Record) × SpellsCapture rows c) ⊎ ((at : ℕ) × (w : Why) × CaptureTextFault rows at w)
+pub spelled_or_wrong : (rows : List Row) → ((c : List Record) × SpellsCapture rows c) ⊎ ((at : ℕ) × (w : TextReason) × CaptureTextFault rows at w)
 spelled_or_wrong rows = elim (capture_decides rows) [
   | inl h ↦ inl (map record_at h.0.1, (h.0.1, refl, spelled rows h.0.1 h.0.0.0 h.2.fits.0.0 (rw h.2.follows.1.1 at h.2)))
   | inr f ↦ inr f
 ]
 
-pub spelled_no_fault : (rows : List Row) (c : List Record) (at : ℕ) (w : Why) → SpellsCapture rows c → CaptureTextFault rows at w → ⊥
+pub spelled_no_fault : (rows : List Row) (c : List Record) (at : ℕ) (w : TextReason) → SpellsCapture rows c → CaptureTextFault rows at w → ⊥
 spelled_no_fault rows c at w s f = capture_tells.apart rows ((CAPTURE.latest, tt), s.0) [] at w s.2 f
 
-pub one_fault : (rows : List Row) (at other : ℕ) (w v : Why) → CaptureTextFault rows at w → CaptureTextFault rows other v → (at ≡ other) × (w ≡ v)
+pub one_fault : (rows : List Row) (at other : ℕ) (w v : TextReason) → CaptureTextFault rows at w → CaptureTextFault rows other v → (at ≡ other) × (w ≡ v)
 one_fault rows at other w v = capture_tells.first rows at other w v
 
 row_back : (last : ℕ) (row : Row) → IsRecordAfter last row → read_back row ≡ row
@@ -173,7 +173,7 @@ row_gathers old now known left row at after items last =
       },
     )
 
-pub row_fails : (failed : Bool) (old : RecordsRead) (known : HaveRows old) (left : Option (List Row)) (row : Row) (start at : ℕ) (w : Why) → at ≡ start → (w ≡ why.Memory) ⊎ RecordLacks old.last row w → HandFails failed (record_after known.0) left row start at w
+pub row_fails : (failed : Bool) (old : RecordsRead) (known : HaveRows old) (left : Option (List Row)) (row : Row) (start at : ℕ) (w : TextReason) → at ≡ start → (w ≡ why.Memory) ⊎ RecordLacks old.last row w → HandFails failed (record_after known.0) left row start at w
 row_fails failed old known None row start at w e h = tt
 row_fails failed old known (Some rows) row start at w e (inl m) = inl (inr m)
 row_fails failed old known (Some rows) row start at w e (inr bad) = inr (1, omega (arith, e), (refl, rw known.1.1 at bad))
@@ -187,20 +187,20 @@ at_most = repeats.AtMost MAX_RECORDS
 abbrev pub AreTaken : RecordsRead → Option (List Row) → Option (List Row) → ℕ → ℕ → Bool → Type 0
 AreTaken s left new start at over = (known : HaveRows s) × AreGathered (repeats.AtMost MAX_RECORDS) record_after left new start at known.0 over
 
-halted : (failed : Bool) (left : Option (List Row)) (start at last : ℕ) (w : Why) → IsStopped (repeats.AtMost MAX_RECORDS) record_after left start 0 at last → Fails failed records_body left start at w → Halts failed records_body left start at w
+halted : (failed : Bool) (left : Option (List Row)) (start at last : ℕ) (w : TextReason) → IsStopped (repeats.AtMost MAX_RECORDS) record_after left start 0 at last → Fails failed records_body left start at w → Halts failed records_body left start at w
 halted failed left start at last w = lines_halt failed record_after at_most left start at last w (λ s. (row_one s).tells) (λ s. (row_one s).plain) some_rows
 
-pub taking_halts : (failed : Bool) (left : Option (List Row)) (start at last : ℕ) (w : Why) → IsStopped (repeats.AtMost MAX_RECORDS) record_after left start 0 at last → Fails failed (repeated (repeats.AtMost MAX_RECORDS) record_after) left start at w
+pub taking_halts : (failed : Bool) (left : Option (List Row)) (start at last : ℕ) (w : TextReason) → IsStopped (repeats.AtMost MAX_RECORDS) record_after left start 0 at last → Fails failed (repeated (repeats.AtMost MAX_RECORDS) record_after) left start at w
     → Halts failed records_body left start at w
 taking_halts failed left start at last w s f = halted failed left start at last w s (many_fails failed record_after record_after at_most left start at w f)
 
 full : (s : RecordsRead) (left mid : Option (List Row)) (start now at : ℕ) → AreTaken s left mid start now false → at ≡ now + 1 → IsStopped (repeats.AtMost MAX_RECORDS) record_after left start 0 at at
 full s left mid start now at g e = let is = g.1.3 in full_stopped record_after at_most left mid g.0.0 start 0 at g.1.0 g.1.2 (omega (arith, is, e))
 
-pub end_outside : (failed : Bool) (s : RecordsRead) (left mid : Option (List Row)) (start now at : ℕ) (w : Why) → AreTaken s left mid start now false → at ≡ now + 1 → IsOutside failed w → Halts failed records_body left start at w
+pub end_outside : (failed : Bool) (s : RecordsRead) (left mid : Option (List Row)) (start now at : ℕ) (w : TextReason) → AreTaken s left mid start now false → at ≡ now + 1 → IsOutside failed w → Halts failed records_body left start at w
 end_outside failed s left mid start now at w g e o = halted failed left start at at w (full s left mid start now at g e) (outside_fails failed records_body left start at w o)
 
-past_halts : (failed : Bool) (s : RecordsRead) (left mid new : Option (List Row)) (start now at : ℕ) (row : Row) (w : Why) (g : AreTaken s left mid start now false) → TakesRecord mid new row true → at ≡ now + 1
+past_halts : (failed : Bool) (s : RecordsRead) (left mid new : Option (List Row)) (start now at : ℕ) (row : Row) (w : TextReason) (g : AreTaken s left mid start now false) → TakesRecord mid new row true → at ≡ now + 1
     → ((rest : List Row) → (over why.TooLong (record_after g.0.0)).Wrong (row ∷ rest) 1 w) → Halts failed records_body left start at w
 past_halts failed s left mid new start now at row w g taken e bad =
     let is = g.1.3 in
@@ -214,7 +214,7 @@ past_long failed s left mid new start now at row g taken e after =
     let fits : IsRecordAfter (last_time g.0.0) row = rw g.0.1.1 at after in
     past_halts failed s left mid new start now at row why.TooLong g taken e (λ rest. ((λ z. (cc z)), inr (refl, refl, (row, rest, record { fits = fits; made = refl; follows = tt }))))
 
-pub past_lacks : (failed : Bool) (s : RecordsRead) (left mid new : Option (List Row)) (start now at : ℕ) (row : Row) (w : Why) → AreTaken s left mid start now false → TakesRecord mid new row true → at ≡ now + 1 → RecordLacks s.last row w
+pub past_lacks : (failed : Bool) (s : RecordsRead) (left mid new : Option (List Row)) (start now at : ℕ) (row : Row) (w : TextReason) → AreTaken s left mid start now false → TakesRecord mid new row true → at ≡ now + 1 → RecordLacks s.last row w
     → Halts failed records_body left start at w
 past_lacks failed s left mid new start now at row w g taken e bad =
     let lacks : RecordLacks (last_time g.0.0) row w = rw g.0.1.1 at bad in
@@ -225,10 +225,10 @@ taken_long s left mid start at over g = ap length g.0.1.0 ∙ length-map g.0.0 r
 
 -- where reading halts
 
-pub title_halts : (failed : Bool) (left : Option (List Row)) (at : ℕ) (w : Why) → at ≡ 1 → StopsAtTitle CAPTURE failed left w → Halts failed capture_form left 0 at w
+pub title_halts : (failed : Bool) (left : Option (List Row)) (at : ℕ) (w : TextReason) → at ≡ 1 → StopsAtTitle CAPTURE failed left w → Halts failed capture_form left 0 at w
 title_halts failed left at w e h =
     first_halts failed capture_title_part (λ _. records_body) left 0 at w (λ t fit. body_tells)
     (title_stops CAPTURE [] (λ _ (v : Unit {0}). Unit {0}) title_table failed left 0 at w (omega (arith, e)) h)
 
-pub body_halts : (failed : Bool) (left mid : Option (List Row)) (t : ℕ × Unit {0}) (middle at : ℕ) (w : Why) → middle ≡ 1 → Reads capture_title_part left mid t → Halts failed records_body mid middle at w → Halts failed capture_form left 0 at w
+pub body_halts : (failed : Bool) (left mid : Option (List Row)) (t : ℕ × Unit {0}) (middle at : ℕ) (w : TextReason) → middle ≡ 1 → Reads capture_title_part left mid t → Halts failed records_body mid middle at w → Halts failed capture_form left 0 at w
 body_halts failed left mid t middle at w e r h = second_halts failed capture_title_part (λ _. records_body) left mid t 0 middle at w capture_title_tells r (omega (arith, e)) h

@@ -17,8 +17,8 @@ use Rattle.blk_capture.specs.declared.record.Action.{Action}
 use Rattle.blk_capture.specs.declared.record.Record.{Record}
 use Rattle.blk_capture.specs.declared.counting.TimedRequest.{TimedRequest}
 use Rattle.blk_capture.specs.declared.requests.CapturedRequest.{CapturedRequest}
-use Rattle.blk_lists.specs.Commands.{IsCommandInRange}
-use Rattle.blk_lists.specs.Schedule.{AreDistinct, IsScheduleView}
+use Rattle.blk_records.specs.Commands.{IsCommandInRange}
+use Rattle.blk_records.specs.Schedule.{AreDistinct, IsScheduleView}
 
 abbrev none_served : TimedRequest
 none_served = record { release = 0; deadline = 0; dispatch = 0 }

@@ -5,10 +5,10 @@ use Rattle.std.proofs.lemmas.List.{take-append-drop}
 use Rattle.blk_capture.specs.declared.record.Record.{Record}
 use Rattle.blk_capture.specs.declared.requests.Options.{Options}
 use Rattle.blk_capture.specs.declared.summary.TheConstants.{MAX_STREAMED}
-use Rattle.blk_recorders.specs.Steps.{Sofar, none_yet, is_unordered, lines_of, read_from, read_upto, EndsLine, HasWholeLines, Rises, AreOrdered, sofar, at_hand, steps_read, line_next, HandsOn, HasCounts, IsCountedOn}
+use Rattle.blk_recorders.specs.Steps.{ReadProgress, none_yet, is_unordered, lines_of, read_from, read_upto, EndsLine, HasWholeLines, Rises, AreOrdered, sofar, at_hand, steps_read, line_next, HandsOn, HasCounts, IsCountedOn}
 use Rattle.blk_recorders.specs.declared.device.Device.{Device}
 use Rattle.blk_recorders.specs.declared.fault.LineFault.{LineFault}
-use Rattle.blk_recorders.specs.declared.fault.LineWhy.TheVariants as why
+use Rattle.blk_recorders.specs.declared.fault.LineReason.TheVariants as why
 use Rattle.blk_recorders.specs.declared.recorder.Recorder.{Recorder}
 use Rattle.blk_recorders.specs.declared.steps.StepReader.{StepReader}
 use Rattle.blk_recorders.specs.declared.steps.Steps.{Steps}
@@ -16,7 +16,7 @@ use Rattle.blk_recorders.proofs.Wholes.{none_behind}
 use Rattle.blk_capture_text.specs.Streaming.{IsAtWork, HasStreamed, stream_count, stream_options}
 use Rattle.blk_capture_text.specs.Source.{printed_of}
 use Rattle.blk_capture_text.specs.Streams.{printed_by, IsFirstBad, IsSummable}
-use Rattle.blk_capture_text.specs.Inside.Along.{AreLinesRead, IsPassedOn, IsAlong, IsUntoldLine, TakesPart, AreStreamed, EndsStreamed, GoBehind, StreamsBehind}
+use Rattle.blk_capture_text.specs.Inside.Along.{AreLinesRead, IsPassedOn, IsAlong, IsLineReadFault, TakesPart, AreStreamed, EndsStreamed, GoBehind, StreamsBehind}
 use Rattle.blk_capture_text.specs.declared.lines.LineStream.{LineStream}
 use Rattle.blk_capture_text.specs.declared.lines.StreamedCapture.{StreamedCapture}
 use Rattle.blk_capture_text.specs.declared.source.UnreadCapture.{UnreadCapture}
@@ -43,10 +43,10 @@ along_none o f d s first none pending streamed work due = record {
       kept = λ u. refl;
       work = work;
       due = due;
-      counted = (let zero : steps_read s.reader ≡ 0 = ap (λ (t : Sofar). t.count) none in let empty : length (at_hand s.reader) ≡ 0 = ap (λ (t : Sofar). length t.records) none in omega (arith, zero, empty));
-      few = (let zero : steps_read s.reader ≡ 0 = ap (λ (t : Sofar). t.count) none in omega (arith, zero));
+      counted = (let zero : steps_read s.reader ≡ 0 = ap (λ (t : ReadProgress). t.count) none in let empty : length (at_hand s.reader) ≡ 0 = ap (λ (t : ReadProgress). length t.records) none in omega (arith, zero, empty));
+      few = (let zero : steps_read s.reader ≡ 0 = ap (λ (t : ReadProgress). t.count) none in omega (arith, zero));
     };
-    none = λ u. ap (λ (t : Sofar). t.records) none;
+    none = λ u. ap (λ (t : ReadProgress). t.records) none;
   };
 }
   where
@@ -59,15 +59,15 @@ pub passed_on : (o : Options) (f : Recorder) (d : Option Device) (past : List �
 passed_on o f d past given old new read u hands none number streamed work due = record {
   given = given ++ at_hand old.reader;
   read = record {
-    reads = λ rest whole. read.reads rest whole ∙ ap (λ (t : Sofar). read_from MAX_STREAMED f d (line_next old.reader) t (lines_of rest)) (sym (hands given))
+    reads = λ rest whole. read.reads rest whole ∙ ap (λ (t : ReadProgress). read_from MAX_STREAMED f d (line_next old.reader) t (lines_of rest)) (sym (hands given))
         ∙ ap (λ n. read_from MAX_STREAMED f d n (sofar (given ++ at_hand old.reader) new.reader) (lines_of rest)) (sym number);
     rises = λ e. subst Rises (sym (hands given)) (read.rises e);
     streamed = streamed;
     kept = λ e. absurd (cc (u, e));
     work = work;
     due = due ∙ read.due;
-    counted = (let same : steps_read new.reader ≡ steps_read old.reader = ap (λ (t : Sofar). t.count) (hands given) in let each = read.counted in let long = length-append given (at_hand old.reader) in let empty : length (at_hand new.reader) ≡ 0 = ap (λ (rs : List Record). length rs) none in omega (arith, same, each, long, empty));
-    few = (let same : steps_read new.reader ≡ steps_read old.reader = ap (λ (t : Sofar). t.count) (hands given) in let most = read.few in omega (arith, same, most));
+    counted = (let same : steps_read new.reader ≡ steps_read old.reader = ap (λ (t : ReadProgress). t.count) (hands given) in let each = read.counted in let long = length-append given (at_hand old.reader) in let empty : length (at_hand new.reader) ≡ 0 = ap (λ (rs : List Record). length rs) none in omega (arith, same, each, long, empty));
+    few = (let same : steps_read new.reader ≡ steps_read old.reader = ap (λ (t : ReadProgress). t.count) (hands given) in let most = read.few in omega (arith, same, most));
   };
   none = λ e. none;
 }
@@ -193,24 +193,24 @@ finished o f d text s steps c h ordered counts printed behind ready = record {
 pub part_added : (o : Options) (f : Recorder) (d : Option Device) (text part : List ℕ) (old new : LineStream) (result : Result (Unit {0}) UnreadCapture) → IsAlong o f d text old → OnOk result (new.pending.items ≡ old.pending.items ++ part)
     → new.reader ≡ old.reader → new.streamed ≡ old.streamed → IfErr result (λ x. x ≡ unread.Memory) → TakesPart o f d (text ++ part) new result
 part_added o f d text part old new (Ok u) h pending same streamed memory = along_more o f d text part old new h pending same streamed
-part_added o f d text part old new (Err x) h pending same streamed memory = λ rest. subst (IsUntoldLine f d ((text ++ part) ++ rest)) (sym memory) tt
+part_added o f d text part old new (Err x) h pending same streamed memory = λ rest. subst (IsLineReadFault f d ((text ++ part) ++ rest)) (sym memory) tt
 
 pub part_again : (o : Options) (f : Recorder) (d : Option Device) (text part : List ℕ) (n : ℕ) (mid new : LineStream) (cleared tail : List ℕ) (result : Result (Unit {0}) UnreadCapture) → IsPassedOn o f d (text ++ take n part) mid
     → EndsLine (take n part) → 0 < length (take n part) → OnOk result (new.pending.items ≡ cleared ++ tail) → cleared ≡ [] → tail ≡ drop n part → new.reader ≡ mid.reader → new.streamed ≡ mid.streamed → IfErr result (λ x. x ≡ unread.Memory) → TakesPart o f d (text ++ part) new result
 part_again o f d text part n mid new cleared tail (Ok u) h ends some pending none is same streamed memory =
     along_again o f d text part n mid new h ends some (pending ∙ ap (λ (t : List ℕ). t ++ tail) none ∙ is) same streamed
-part_again o f d text part n mid new cleared tail (Err x) h ends some pending none is same streamed memory = λ rest. subst (IsUntoldLine f d ((text ++ part) ++ rest)) (sym memory) tt
+part_again o f d text part n mid new cleared tail (Err x) h ends some pending none is same streamed memory = λ rest. subst (IsLineReadFault f d ((text ++ part) ++ rest)) (sym memory) tt
 
 -- the lines of a part are no good, whatever follows
 pub part_refused : (o : Options) (f : Recorder) (d : Option Device) (text part : List ℕ) (n : ℕ) (x : UnreadCapture) → EndsLine (take n part) → 0 < length (take n part)
-    → ((rest : List ℕ) → HasWholeLines (text ++ take n part) rest → IsUntoldLine f d ((text ++ take n part) ++ rest) x) → (rest : List ℕ) → IsUntoldLine f d ((text ++ part) ++ rest) x
+    → ((rest : List ℕ) → HasWholeLines (text ++ take n part) rest → IsLineReadFault f d ((text ++ take n part) ++ rest) x) → (rest : List ℕ) → IsLineReadFault f d ((text ++ part) ++ rest) x
 part_refused o f d text part n x ends some bad rest =
-    subst (λ (t : List ℕ). IsUntoldLine f d t x) (rest_behind text part rest n) (bad (drop n part ++ rest) (inr (ends_behind text (take n part) some ends)))
+    subst (λ (t : List ℕ). IsLineReadFault f d t x) (rest_behind text part rest n) (bad (drop n part ++ rest) (inr (ends_behind text (take n part) some ends)))
 
 pub end_streamed : (o : Options) (f : Recorder) (d : Option Device) (text : List ℕ) (s : LineStream) (steps : Steps) (result : Result StreamedCapture UnreadCapture) → IsPassedOn o f d text s → AreOrdered f (at_hand s.reader) steps.records.items → HasCounts s.reader steps
     → IfOk result (λ c. c.printed ≡ Some (printed_of f steps)) → IfOk result (StreamsBehind steps.records.items s.streamed) → IfOk result (IsSummable (stream_options s.streamed)) → IfErr result (λ x. x ≡ unread.Memory) → EndsStreamed o f d text result
 end_streamed o f d text s steps (Ok c) h ordered counts printed behind ready memory = finished o f d text s steps c h ordered counts printed behind ready
-end_streamed o f d text s steps (Err x) h ordered counts printed behind ready memory = subst (IsUntoldLine f d text) (sym memory) tt
+end_streamed o f d text s steps (Err x) h ordered counts printed behind ready memory = subst (IsLineReadFault f d text) (sym memory) tt
 
-pub all_refused : (f : Recorder) (d : Option Device) (text : List ℕ) (x : UnreadCapture) → ((rest : List ℕ) → HasWholeLines text rest → IsUntoldLine f d (text ++ rest) x) → IsUntoldLine f d text x
-all_refused f d text x bad = subst (λ (t : List ℕ). IsUntoldLine f d t x) (append-nil text) (bad [] (inl refl))
+pub all_refused : (f : Recorder) (d : Option Device) (text : List ℕ) (x : UnreadCapture) → ((rest : List ℕ) → HasWholeLines text rest → IsLineReadFault f d (text ++ rest) x) → IsLineReadFault f d text x
+all_refused f d text x bad = subst (λ (t : List ℕ). IsLineReadFault f d t x) (append-nil text) (bad [] (inl refl))

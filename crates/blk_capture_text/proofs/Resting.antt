@@ -8,8 +8,8 @@ use Rattle.blk_recorders.specs.declared.detect.CaptureForm.TheVariants as form
 use Rattle.blk_recorders.specs.declared.device.Device.{Device}
 use Rattle.blk_recorders.specs.declared.recorder.Recorder.{Recorder}
 use Rattle.blk_capture_text.specs.Source.{form_taken}
-use Rattle.blk_capture_text.specs.Streams.{IsToldAs, IsStreamedFrom, IsUnstreamed}
-use Rattle.blk_capture_text.specs.Inside.Along.{IsFirstPart, IsInputFrom, IsUnstreamedLine, IsRestUntold, AreLinesUnstreamed, AreRecordsStreamed, AreRecordsUnstreamed, EndsUnstreamed, EndsLines}
+use Rattle.blk_capture_text.specs.Streams.{IsToldAs, IsStreamedFrom, IsStreamFault}
+use Rattle.blk_capture_text.specs.Inside.Along.{IsFirstPart, IsInputFrom, IsLineStreamFault, IsRestUntold, AreLinesUnstreamed, AreRecordsStreamed, AreRecordsUnstreamed, EndsUnstreamed, EndsLines}
 use Rattle.blk_capture_text.specs.declared.lines.StreamedCapture.{StreamedCapture}
 use Rattle.blk_capture_text.specs.declared.summing.FirstPart.{FirstPart}
 use Rattle.blk_capture_text.specs.declared.summing.Unstreamed.{Unstreamed}
@@ -39,7 +39,7 @@ pub more_left : (a b c : Option (List ℕ)) (xs ys : List ℕ) → Consumes a b 
 more_left a b c xs ys p q = consumed_and_left a c (xs ++ ys) (consumed_on a b c xs ys p q)
 
 -- why the rest isn't streamed
-pub rest_untold : (f : Recorder) (d : Option Device) (text rest : List ℕ) (left : Option (List ℕ)) (failed : Bool) (y : Unstreamed) → IfSome left (λ known. rest ≡ known) → IsUnstreamedLine f d (text ++ rest) y → IsRestUntold f d text left failed y
+pub rest_untold : (f : Recorder) (d : Option Device) (text rest : List ℕ) (left : Option (List ℕ)) (failed : Bool) (y : Unstreamed) → IfSome left (λ known. rest ≡ known) → IsLineStreamFault f d (text ++ rest) y → IsRestUntold f d text left failed y
 rest_untold f d text rest left failed (why_not.Text x all) given bad = absurd bad
 rest_untold f d text rest left failed (why_not.Line x) given bad = record { rest = rest; given = given; fault = bad }
 rest_untold f d text rest left failed (why_not.Outside w) given bad = absurd bad
@@ -64,14 +64,14 @@ pub input_whole : (input left : Option (List ℕ)) (p : FirstPart) → IsFirstPa
 input_whole input left p h whole = subst (IsInputFrom input p) (append-nil p.bytes.items) (input_from input left p [] h (none_left left (h.whole whole)) (λ e. refl))
 
 -- why lines aren't streamed
-pub lines_untold : (f : Recorder) (d : Option Device) (input : Option (List ℕ)) (p : FirstPart) (bytes : List ℕ) (failed : Bool) (y : Unstreamed) → IsInputFrom input p bytes → IsUnstreamedLine f d bytes y → AreLinesUnstreamed f d input p failed y
+pub lines_untold : (f : Recorder) (d : Option Device) (input : Option (List ℕ)) (p : FirstPart) (bytes : List ℕ) (failed : Bool) (y : Unstreamed) → IsInputFrom input p bytes → IsLineStreamFault f d bytes y → AreLinesUnstreamed f d input p failed y
 lines_untold f d input p bytes failed (why_not.Text x all) on bad = absurd bad
 lines_untold f d input p bytes failed (why_not.Line x) on bad = record { bytes = bytes; on = on; fault = bad }
 lines_untold f d input p bytes failed (why_not.Outside w) on bad = absurd bad
 lines_untold f d input p bytes failed why_not.Memory on bad = tt
 
 -- at once: whatever stands behind the first part
-pub first_untold : (f : Recorder) (d : Option Device) (input left : Option (List ℕ)) (p : FirstPart) (failed : Bool) (y : Unstreamed) → IsFirstPart input left p → ((rest : List ℕ) → IsUnstreamedLine f d (p.bytes.items ++ rest) y) → AreLinesUnstreamed f d input p failed y
+pub first_untold : (f : Recorder) (d : Option Device) (input left : Option (List ℕ)) (p : FirstPart) (failed : Bool) (y : Unstreamed) → IsFirstPart input left p → ((rest : List ℕ) → IsLineStreamFault f d (p.bytes.items ++ rest) y) → AreLinesUnstreamed f d input p failed y
 first_untold f d input left p failed y h bad =
     lines_untold f d input p (p.bytes.items ++ left_of left) failed y (input_from input left p (left_of left) h (left_known left) (λ e. left_at_end left (h.whole e))) (bad (left_of left))
 
@@ -122,7 +122,7 @@ records_from o asked device input left p bytes (Ok c) h on is all = record {
 records_from o asked device input left p bytes (Err x) h on is all = tt
 
 pub records_not_from : (asked : Option CaptureForm) (device : Option Device) (input left : Option (List ℕ)) (p : FirstPart) (bytes : List ℕ) (failed : Bool) (result : Result StreamedCapture Unstreamed) → IsFirstPart input left p → IsInputFrom input p bytes
-    → form_taken asked p.bytes.items ≡ form.Records → IfErr result (AreRecordsUnstreamed bytes) → IfErr result (IsUnstreamed asked device input failed)
+    → form_taken asked p.bytes.items ≡ form.Records → IfErr result (AreRecordsUnstreamed bytes) → IfErr result (IsStreamFault asked device input failed)
 records_not_from asked device input left p bytes failed (Ok c) h on is bad = tt
 records_not_from asked device input left p bytes failed (Err (why_not.Text x all)) h on is bad = record { bytes = bytes; given = on.given; is_records = form_of_input asked input left p bytes h on ∙ is; fault = bad }
 records_not_from asked device input left p bytes failed (Err (why_not.Line x)) h on is bad = absurd bad
@@ -142,7 +142,7 @@ lines_from o asked f device input left p failed (Ok c) h is all = record {
 lines_from o asked f device input left p failed (Err x) h is all = tt
 
 pub lines_not_from : (o : Options) (asked : Option CaptureForm) (f : Recorder) (device : Option Device) (input left : Option (List ℕ)) (p : FirstPart) (failed : Bool) (result : Result StreamedCapture Unstreamed) → IsFirstPart input left p
-    → form_taken asked p.bytes.items ≡ form.Printed f → EndsLines o f device input p failed result → IfErr result (IsUnstreamed asked device input failed)
+    → form_taken asked p.bytes.items ≡ form.Printed f → EndsLines o f device input p failed result → IfErr result (IsStreamFault asked device input failed)
 lines_not_from o asked f device input left p failed (Ok c) h is bad = tt
 lines_not_from o asked f device input left p failed (Err (why_not.Text x all)) h is bad = absurd bad
 lines_not_from o asked f device input left p failed (Err (why_not.Line x)) h is bad = record { bytes = bad.bytes; given = bad.on.given; recorder = f; is_printed = form_of_input asked input left p bad.bytes h bad.on ∙ is; fault = bad.fault }

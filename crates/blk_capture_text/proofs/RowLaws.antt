@@ -6,14 +6,14 @@ use Rattle.std.proofs.lemmas.Fmt.{decimal_injective, digits_value-decimal}
 use Rattle.blk_capture.specs.Passing.{action_by, op_by}
 use Rattle.blk_capture.specs.declared.record.Action.{Action}
 use Rattle.blk_capture.specs.declared.record.Op.{Op}
-use Rattle.blk_lists.specs.Sources.{Row}
-use Rattle.blk_lists.specs.Fields.{EachField, IsBlank, IsDirection, IsNumber, IsInRange, FieldSpells, FieldsSpell, Lacks}
-use Rattle.blk_lists.specs.declared.fault.Why.{Why}
-use Rattle.blk_lists.specs.declared.fault.Why.TheVariants as why
-use Rattle.blk_lists.specs.declared.fields.Slot.TheVariants as slot
-use Rattle.blk_lists.proofs.Decimals.{own}
-use Rattle.blk_lists.proofs.Lacking.{at_most, goods_all, goods_or_lacks, first_once}
-use Rattle.parts.specs.Inside.Laws.{TellsRecord}
+use Rattle.blk_records.specs.Sources.{Row}
+use Rattle.blk_records.specs.Fields.{EachField, IsBlank, IsDirection, IsNumber, IsInRange, FieldSpells, FieldsSpell, Lacks}
+use Rattle.blk_records.specs.declared.fault.TextReason.{TextReason}
+use Rattle.blk_records.specs.declared.fault.TextReason.TheVariants as why
+use Rattle.blk_records.specs.declared.fields.Slot.TheVariants as slot
+use Rattle.blk_records.proofs.Decimals.{own}
+use Rattle.blk_records.proofs.Lacking.{at_most, goods_all, goods_or_lacks, first_once}
+use Rattle.text_grammar.specs.Inside.Laws.{TellsRecord}
 use Rattle.blk_capture_text.specs.Recorded.{number_at, time_at, record_at, IsRecordAfter, capture_rules, RecordLacks}
 use Rattle.blk_capture_text.specs.declared.record.TheConstants.{MAX_SECONDS, RECORD}
 
@@ -43,7 +43,7 @@ each_direction cells (suc (suc (suc (suc (suc (suc (suc (suc k)))))))) l = absur
 
 -- what a record lacks of its slots
 
-pub lack_is : (last : ℕ) (cells : Row) (w : Why) → Lacks RECORD cells w → RecordLacks last cells w
+pub lack_is : (last : ℕ) (cells : Row) (w : TextReason) → Lacks RECORD cells w → RecordLacks last cells w
 lack_is last cells w bad = elim bad [
   | inl f ↦ inl (f.0, λ l. f.1 (l, each_blank cells))
   | inr p ↦ elim p.1 [
@@ -122,7 +122,7 @@ late_row last cells ns s order =
 pub row_tells : (last : ℕ) → TellsRecord {R = Row} (λ cells. cells) (IsRecordAfter last) (RecordLacks last)
 row_tells last = record { once = λ v u f g e. e; apart = apart; first = λ cells. first_once (capture_rules last cells) }
   where
-    apart : (v : Row) (w : Why) → IsRecordAfter last v → RecordLacks last v w → ⊥
+    apart : (v : Row) (w : TextReason) → IsRecordAfter last v → RecordLacks last v w → ⊥
     apart v w s bad = elim bad [
       | inl f ↦ f.1 s.width
       | inr p ↦ elim p.1 [
@@ -137,7 +137,7 @@ row_tells last = record { once = λ v u f g e. e; apart = apart; first = λ cell
       ]
     ]
 
-pub row_decided : (last : ℕ) (cells : Row) → IsRecordAfter last cells ⊎ ((w : Why) × RecordLacks last cells w)
+pub row_decided : (last : ℕ) (cells : Row) → IsRecordAfter last cells ⊎ ((w : TextReason) × RecordLacks last cells w)
 row_decided last cells = elim (goods_or_lacks RECORD cells) [
   | inl g ↦
       let all = goods_all RECORD cells g in

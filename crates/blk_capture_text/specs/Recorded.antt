@@ -4,10 +4,10 @@ use Rattle.std.specs.Str.Parse.{digits_value}
 use Rattle.edd_commands.specs.Order.{IsFirstFault}
 use Rattle.blk_capture.specs.Passing.{action_by, op_by}
 use Rattle.blk_capture.specs.declared.record.Record.{Record}
-use Rattle.blk_lists.specs.Sources.{Row}
-use Rattle.blk_lists.specs.Fields.{EachField, IsNumber, IsInRange}
-use Rattle.blk_lists.specs.declared.fault.Why.{Why}
-use Rattle.blk_lists.specs.declared.fault.Why.TheVariants as why
+use Rattle.blk_records.specs.Sources.{Row}
+use Rattle.blk_records.specs.Fields.{EachField, IsNumber, IsInRange}
+use Rattle.blk_records.specs.declared.fault.TextReason.{TextReason}
+use Rattle.blk_records.specs.declared.fault.TextReason.TheVariants as why
 use Rattle.blk_capture_text.specs.declared.record.TheConstants.{RECORD, WIDTH}
 
 -- the number of a field
@@ -38,7 +38,7 @@ pub record IsRecordAfter (last : ℕ) (cells : Row) : Type 0 where
   pub order : last ≤ time_at cells
 
 -- the rules of a record, in the order in which they are looked at, each with its fault; its nanoseconds are one of its numbers
-abbrev pub capture_rules : ℕ → Row → List (Type 0 × Why)
+abbrev pub capture_rules : ℕ → Row → List (Type 0 × TextReason)
 capture_rules last cells =
     (length cells ≡ WIDTH, why.Fields)
     ∷ (EachField IsNumber RECORD cells, why.Number)
@@ -46,5 +46,5 @@ capture_rules last cells =
     ∷ (last ≤ time_at cells, why.Order) ∷ []
 
 -- the first thing that a record lacks
-abbrev pub RecordLacks : ℕ → Row → Why → Type 0
+abbrev pub RecordLacks : ℕ → Row → TextReason → Type 0
 RecordLacks last cells = IsFirstFault (capture_rules last cells)

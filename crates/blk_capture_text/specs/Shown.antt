@@ -13,8 +13,8 @@ use Rattle.blk_capture.specs.declared.requests.CapturedBio.{CapturedBio}
 use Rattle.blk_capture.specs.declared.requests.CapturedRequest.{CapturedRequest}
 use Rattle.blk_capture.specs.declared.summary.Summary.{Summary}
 use Rattle.blk_capture.specs.declared.table.RequestRow.{RequestRow}
-use Rattle.blk_lists.specs.Schedule.{ScheduleView, IsScheduleView, schedule_rows}
-use Rattle.blk_lists.specs.Texts.{rows_text}
+use Rattle.blk_records.specs.Schedule.{ScheduleView, IsScheduleView, schedule_rows}
+use Rattle.blk_records.specs.Texts.{rows_text}
 use Rattle.blk_capture_text.specs.Imports.{first_time}
 use Rattle.blk_capture_text.specs.TableText.{table_lines}
 use Rattle.blk_capture_text.specs.SummaryText.{counts_of, summary_parts}

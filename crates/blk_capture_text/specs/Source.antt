@@ -2,7 +2,7 @@
 use Rattle.std.specs.Prelude.{ℕ, ◌≡◌, ◌==◌, not, if◌then◌else◌, ⊤, Bool, false, List, length, take, Option, None, Some}
 use Rattle.std.specs.List.{list_any}
 use Rattle.csv.specs.Reading.{default_config, records, strip_bom}
-use Rattle.blk_lists.specs.Sources.{Row}
+use Rattle.blk_records.specs.Sources.{Row}
 use Rattle.blk_recorders.specs.Detected.{form_of_lines}
 use Rattle.blk_recorders.specs.Steps.{AreSteps, IsLineFault}
 use Rattle.blk_recorders.specs.declared.detect.CaptureForm.{CaptureForm}
@@ -65,13 +65,13 @@ abbrev pub ReadsAs : CaptureForm → Option Device → List ℕ → CaptureRead 
 ReadsAs form.Records device bytes r = ReadsRecords bytes r
 ReadsAs (form.Printed f) device bytes r = ReadsLines f device bytes r
 
-abbrev pub IsUnreadAs : CaptureForm → Option Device → List ℕ → UnreadCapture → Type 0
-IsUnreadAs form.Records device bytes x = IsRecordsFault bytes x
-IsUnreadAs (form.Printed f) device bytes x = IsLinesFault f device bytes x
+abbrev pub IsCaptureReadFault : CaptureForm → Option Device → List ℕ → UnreadCapture → Type 0
+IsCaptureReadFault form.Records device bytes x = IsRecordsFault bytes x
+IsCaptureReadFault (form.Printed f) device bytes x = IsLinesFault f device bytes x
 
 abbrev pub IsCaptureRead : Option CaptureForm → Option Device → List ℕ → CaptureRead → Type 0
 IsCaptureRead asked device bytes r = ReadsAs (form_taken asked bytes) device bytes r
 
 -- memory may run out in place of any other fault
 abbrev pub IsCaptureUnread : Option CaptureForm → Option Device → List ℕ → UnreadCapture → Type 0
-IsCaptureUnread asked device bytes x = IsUnreadAs (form_taken asked bytes) device bytes x
+IsCaptureUnread asked device bytes x = IsCaptureReadFault (form_taken asked bytes) device bytes x

@@ -3,14 +3,14 @@ use Rattle.std.specs.Prelude.{ℕ, ◌≡◌, ◌≤◌, ◌⊎◌, ⊤, List, B
 use Rattle.blk_capture.specs.declared.record.Record.{Record}
 use Rattle.blk_capture.specs.declared.requests.Options.{Options}
 use Rattle.blk_capture.specs.declared.summary.TheConstants.{MAX_STREAMED}
-use Rattle.blk_lists.specs.Reads.{IsOutside}
-use Rattle.blk_lists.specs.declared.fault.TextFault.{TextFault}
-use Rattle.blk_recorders.specs.Steps.{Sofar, read_upto, AreOrdered}
+use Rattle.blk_records.specs.Reads.{IsOutside}
+use Rattle.blk_records.specs.declared.fault.TextFault.{TextFault}
+use Rattle.blk_recorders.specs.Steps.{ReadProgress, read_upto, AreOrdered}
 use Rattle.blk_recorders.specs.declared.detect.CaptureForm.{CaptureForm}
 use Rattle.blk_recorders.specs.declared.detect.CaptureForm.TheVariants as form
 use Rattle.blk_recorders.specs.declared.device.Device.{Device}
 use Rattle.blk_recorders.specs.declared.fault.LineFault.{LineFault}
-use Rattle.blk_recorders.specs.declared.fault.LineWhy.TheVariants as why
+use Rattle.blk_recorders.specs.declared.fault.LineReason.TheVariants as why
 use Rattle.blk_recorders.specs.declared.recorder.Recorder.{Recorder}
 use Rattle.blk_capture_text.specs.Captures.{SpellsCapture, CaptureTextFault}
 use Rattle.blk_capture_text.specs.Source.{csv_rows, form_taken}
@@ -21,12 +21,12 @@ use Rattle.blk_capture_text.specs.declared.summing.Unstreamed.{Unstreamed}
 use Rattle.blk_capture_text.specs.declared.summing.Unstreamed.TheVariants as why_not
 
 -- what else the lines of a recorder told
-abbrev pub printed_by : Recorder → Sofar → Printed
+abbrev pub printed_by : Recorder → ReadProgress → Printed
 printed_by f t = record { recorder = f; device = t.device; others = t.others; remarks = t.remarks; losses = t.losses }
 
 -- a recorder printed these records, of which there may be as many as are streamed
 pub record AreLinesTold (f : Recorder) (device : Option Device) (bytes : List ℕ) (records : List Record) (printed : Option Printed) : Type 0 where
-  pub told : Sofar
+  pub told : ReadProgress
   pub read_so : read_upto MAX_STREAMED f device bytes ≡ Ok told
   pub ordered : AreOrdered f told.records records
   pub printed_is : printed ≡ Some (printed_by f told)
@@ -59,13 +59,13 @@ pub record IsStreamedFrom (o : Options) (asked : Option CaptureForm) (device : O
   pub ready : IsSummable o c
 
 -- or it has a first fault: of a record, or of a line
-pub record IsUntoldText (asked : Option CaptureForm) (input : Option (List ℕ)) (x : TextFault) : Type 0 where
+pub record IsTextReadFault (asked : Option CaptureForm) (input : Option (List ℕ)) (x : TextFault) : Type 0 where
   pub bytes : List ℕ
   pub given : IfSome input (λ known. bytes ≡ known)
   pub is_records : form_taken asked bytes ≡ form.Records
   pub fault : CaptureTextFault (csv_rows bytes) x.at x.why
 
-pub record IsUntoldInput (asked : Option CaptureForm) (device : Option Device) (input : Option (List ℕ)) (x : LineFault) : Type 0 where
+pub record IsInputReadFault (asked : Option CaptureForm) (device : Option Device) (input : Option (List ℕ)) (x : LineFault) : Type 0 where
   pub bytes : List ℕ
   pub given : IfSome input (λ known. bytes ≡ known)
   pub recorder : Recorder
@@ -73,8 +73,8 @@ pub record IsUntoldInput (asked : Option CaptureForm) (device : Option Device) (
   pub fault : IsFirstBad recorder device bytes x
 
 -- or its reader failed, or memory ran out
-abbrev pub IsUnstreamed : Option CaptureForm → Option Device → Option (List ℕ) → Bool → Unstreamed → Type 0
-IsUnstreamed asked device input failed (why_not.Text x all) = IsUntoldText asked input x
-IsUnstreamed asked device input failed (why_not.Line x) = IsUntoldInput asked device input x
-IsUnstreamed asked device input failed (why_not.Outside w) = IsOutside failed w
-IsUnstreamed asked device input failed why_not.Memory = ⊤
+abbrev pub IsStreamFault : Option CaptureForm → Option Device → Option (List ℕ) → Bool → Unstreamed → Type 0
+IsStreamFault asked device input failed (why_not.Text x all) = IsTextReadFault asked input x
+IsStreamFault asked device input failed (why_not.Line x) = IsInputReadFault asked device input x
+IsStreamFault asked device input failed (why_not.Outside w) = IsOutside failed w
+IsStreamFault asked device input failed why_not.Memory = ⊤

@@ -3,7 +3,7 @@ use Rattle.std.specs.Prelude.{ℕ, ◌++◌, ◌∷◌, [], List, Option, None, 
 use Rattle.std.specs.List.{flat_map}
 use Rattle.blk_bio.specs.Letters.{direction_text}
 use Rattle.blk_capture.specs.declared.table.RequestRow.{RequestRow}
-use Rattle.drafts.specs.Drafts.{next_field}
+use Rattle.text_output.specs.Drafts.{next_field}
 
 -- a number, or nothing where it is not known
 abbrev pub known_text : Option ℕ → List ℕ

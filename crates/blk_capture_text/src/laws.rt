@@ -2,11 +2,11 @@
 
 ghost use Rattle.std.specs.Prelude.{◌≡◌, ◌^◌, ◌∷◌, [], take, drop, replicate};
 ghost use Rattle.blk_capture.specs.declared.summary.TheConstants.{MAX_STREAMED};
-ghost use Rattle.blk_lists.specs.Laws.{OneValue, ReadsBack, ValueOrFault, NeverBoth, OneFault};
+ghost use Rattle.blk_records.specs.Laws.{OneValue, ReadsBack, ValueOrFault, NeverBoth, OneFault};
 ghost use Rattle.blk_capture_text.specs.Captures.{MakeCapture, TellsRecords, SpellsCapture, CaptureTextFault, capture_rows};
 ghost use Rattle.blk_capture_text.specs.declared.reading.TheConstants.{CAPTURE, MAX_RECORDS};
 ghost use Rattle.blk_capture_text.specs.declared.record.TheConstants.{RECORD, RECORD_ROW};
-ghost use Rattle.blk_lists.specs.declared.names.FieldName.TheVariants as name;
+ghost use Rattle.blk_records.specs.declared.names.FieldName.TheVariants as name;
 
 /// A list of rows spells the records of one capture at most.
 pub fn captures_are_spelled_once()

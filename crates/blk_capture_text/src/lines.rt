@@ -6,12 +6,12 @@ ghost use Rattle.blk_recorders.specs.Steps.{EndsLine};
 ghost use Rattle.blk_capture_text.specs.Source.{printed_of};
 ghost use Rattle.blk_capture_text.specs.Streaming.{IsAtWork, stream_count, stream_options};
 ghost use Rattle.blk_capture_text.specs.Streams.{IsSummable};
-ghost use Rattle.blk_capture_text.specs.Inside.Along.{IsAlong, IsAlongSome, IsReadSome, IsUntoldIf, PassesOn, ReadsPendingOf, TakesPartOf, EndsStreamedOf, GoBehind, StreamsBehind};
+ghost use Rattle.blk_capture_text.specs.Inside.Along.{IsAlong, IsAlongSome, IsReadSome, IsReadFaultIf, PassesOn, ReadsPendingOf, TakesPartOf, EndsStreamedOf, GoBehind, StreamsBehind};
 
 use crate::source::{Printed, UnreadCapture};
 use crate::streaming::Streamed;
 use blk_capture::{MAX_STREAMED, Options};
-use blk_recorders::{Device, LineFault, LineWhy, Recorder, StepReader, Steps};
+use blk_recorders::{Device, LineFault, LineReason, Recorder, StepReader, Steps};
 use std::alloc::{AllocError, Global};
 
 /// A capture that was read, of whose records none is kept.
@@ -48,10 +48,10 @@ fn end_of_lines(part: &[u8]) -> usize
 
 /// Why a line isn't read.
 fn unread_line(fault: LineFault) -> UnreadCapture
-    ensures { IsUntoldIf (UnreadCapture.Line fault) result }
+    ensures { IsReadFaultIf (UnreadCapture.Line fault) result }
 {
     match fault.why {
-        LineWhy::Memory => UnreadCapture::Memory,
+        LineReason::Memory => UnreadCapture::Memory,
         _ => UnreadCapture::Line(fault),
     }
 }

@@ -7,8 +7,8 @@ ghost use Rattle.blk_capture_text.specs.SummaryText.{counts_of, one_counted, cou
 use answer::names::{MAX, P50, P99};
 use answer::{Answer, Cell, Layout, Line, Part, Value, Word, count_or_none, member};
 use blk_capture::{Fate, PassReason, Percentiles, Summary, count_passed};
-use drafts::Draft;
 use std::alloc::{AllocError, Global};
+use text_output::Draft;
 
 /// How many records of a capture were not matched, and how many passed over, by the reason.
 #[derive(Clone, Copy, Debug, PartialEq, Eq)]

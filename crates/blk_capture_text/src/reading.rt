@@ -2,24 +2,24 @@
 
 ghost use Rattle.std.specs.Prelude.{◌≡◌, ◌⊎◌, ◌+◌, ◌++◌, ◌∷◌, ◌≤◌, ◌<◌, ◌-◌, ◌^◌, [], IfOk, IfErr, IfSome, OnOk, OnErr, length, codes};
 ghost use Rattle.csv.specs.Records.{fields_of};
-ghost use Rattle.blk_lists.specs.Reads.{FaultsBy, Halts, Reaches};
+ghost use Rattle.blk_records.specs.Reads.{FaultsBy, Halts, Reaches};
 ghost use Rattle.blk_capture.specs.Requests.{AreInOrder};
 ghost use Rattle.blk_capture_text.specs.Recorded.{IsRecordAfter, RecordLacks, record_at, time_at};
 ghost use Rattle.blk_capture_text.specs.Captures.{capture_form, records_body, SpellsCapture, CaptureTextFault};
 ghost use Rattle.blk_capture_text.specs.Inside.Taking.{TellAll};
-ghost use Rattle.blk_lists.specs.Titles.{IsTitleOf};
+ghost use Rattle.blk_records.specs.Titles.{IsTitleOf};
 
 use crate::record::{WIDTH, read_row};
 use blk_capture::Record;
-use blk_lists::fields::Slot;
-use blk_lists::items::{ItemForm, gather};
-use blk_lists::names::FieldName;
-use blk_lists::titles::{TitleRow, read_title};
-use blk_lists::{Records, TextFault, Why};
+use blk_records::fields::Slot;
+use blk_records::items::{ItemForm, gather};
+use blk_records::names::FieldName;
+use blk_records::titles::{TitleRow, read_title};
+use blk_records::{Records, TextFault, TextReason};
 use csv::ByteRecord;
-use parts::Repeats;
 use std::alloc::Global;
 use std::io::Read;
+use text_grammar::Repeats;
 
 /// The most records of a capture, beside its title.
 pub const MAX_RECORDS: u64 = 16_000_000;
@@ -59,11 +59,11 @@ pub(crate) struct RecordsRead {
 }
 
 /// Adds the record of a row, where its time is not before the last one's.
-fn take_row(read: &mut RecordsRead, row: &ByteRecord) -> Result<(), Why>
+fn take_row(read: &mut RecordsRead, row: &ByteRecord) -> Result<(), TextReason>
     ensures after { OnOk result (IsRecordAfter read.old.last (fields_of row.now)) }
     ensures records { OnOk result (read.new.records.items ≡ read.old.records.items ++ record_at (fields_of row.now) ∷ []) }
     ensures last { OnOk result (read.new.last ≡ time_at (fields_of row.now)) }
-    ensures err { IfErr result (λ w. (w ≡ Why.Memory) ⊎ RecordLacks read.old.last (fields_of row.now) w) }
+    ensures err { IfErr result (λ w. (w ≡ TextReason.Memory) ⊎ RecordLacks read.old.last (fields_of row.now) w) }
 {
     let record = match read_row(row, read.last) {
         Ok(record) => record,
@@ -72,7 +72,7 @@ fn take_row(read: &mut RecordsRead, row: &ByteRecord) -> Result<(), Why>
     read.last = record.time;
     match read.records.push(record) {
         Ok(()) => Ok(()),
-        Err(_) => Err(Why::Memory),
+        Err(_) => Err(TextReason::Memory),
     }
 }
 
@@ -81,7 +81,7 @@ fn take_row(read: &mut RecordsRead, row: &ByteRecord) -> Result<(), Why>
 struct RowForm;
 
 impl ItemForm for RowForm {
-    ghost use Rattle.blk_lists.specs.Sources.{Row};
+    ghost use Rattle.blk_records.specs.Sources.{Row};
     ghost use Rattle.blk_capture_text.specs.Captures.{record_after};
     ghost use Rattle.blk_capture_text.specs.Inside.Taking.{HaveRows};
 
@@ -97,9 +97,9 @@ impl ItemForm for RowForm {
 
     ghost more = { 0 };
 
-    fn gone(&self, items: &RecordsRead) -> Why {
+    fn gone(&self, items: &RecordsRead) -> TextReason {
         let _ = items;
-        Why::Count
+        TextReason::Count
     }
 
     fn read<R: Read + Drop>(
@@ -150,7 +150,7 @@ fn read_body<R: Read + Drop>(
         Err(fault) => return Err(fault),
     }
     match read_row(records.row(), read.last) {
-        Ok(_) => Err(records.fault(Why::TooLong)),
+        Ok(_) => Err(records.fault(TextReason::TooLong)),
         Err(why) => Err(records.fault(why)),
     }
 }
@@ -160,8 +160,8 @@ fn read_body<R: Read + Drop>(
 /// nanoseconds; action and rwbs may be any texts, of which [`blk_capture::Action::of_letters`] and [`blk_capture::Op::of_letters`] tell
 /// what they say.
 ///
-/// The fault is the first one: of the least record, and in it the first in the order of [`Why`], where [`Why::Order`] says that its time is
-/// earlier than that of the record before. [`Why::Read`] and [`Why::Memory`] come at the record that is being read. No record is asked for
+/// The fault is the first one: of the least record, and in it the first in the order of [`TextReason`], where [`TextReason::Order`] says that its time is
+/// earlier than that of the record before. [`TextReason::Read`] and [`TextReason::Memory`] come at the record that is being read. No record is asked for
 /// past that of the fault, and never more than [`MAX_RECORDS`] + 2.
 pub fn read_capture<R: Read + Drop>(
     alloc: Global,

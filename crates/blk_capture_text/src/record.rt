@@ -6,10 +6,10 @@ ghost use Rattle.blk_capture.specs.Passing.{action_by, op_by};
 ghost use Rattle.blk_capture_text.specs.Recorded.{IsRecordAfter, RecordLacks, record_at};
 
 use blk_capture::{Action, Op, Record};
-use blk_lists::Why;
-use blk_lists::fields::{ANY_SLOT, Slot, field, read_fields};
-use blk_lists::kinds::Kind;
-use blk_lists::names::FieldName;
+use blk_records::TextReason;
+use blk_records::fields::{ANY_SLOT, Slot, field, read_fields};
+use blk_records::kinds::Kind;
+use blk_records::names::FieldName;
 use csv::ByteRecord;
 
 /// How many fields a record of a capture has.
@@ -68,7 +68,7 @@ fn op_at(row: &ByteRecord) -> Op
 }
 
 /// The record of a row whose time is not before `last`, or the first thing that is wrong with the row.
-pub(crate) fn read_row(row: &ByteRecord, last: u64) -> Result<Record, Why>
+pub(crate) fn read_row(row: &ByteRecord, last: u64) -> Result<Record, TextReason>
     ensures after { IfOk result (λ r. IsRecordAfter last (fields_of row.now)) }
     ensures value { IfOk result (λ r. r ≡ record_at (fields_of row.now)) }
     ensures err { IfErr result (RecordLacks last (fields_of row.now)) }
@@ -79,7 +79,7 @@ pub(crate) fn read_row(row: &ByteRecord, last: u64) -> Result<Record, Why>
     };
     let time = numbers[0] * 1_000_000_000 + numbers[1];
     if time < last {
-        return Err(Why::Order);
+        return Err(TextReason::Order);
     }
     Ok(Record {
         time,

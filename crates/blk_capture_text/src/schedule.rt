@@ -6,10 +6,10 @@ ghost use Rattle.edd_commands.specs.declared.TheConstants.{MAX_COMMANDS};
 ghost use Rattle.edd_commands.specs.Schedule.{IsLegal};
 ghost use Rattle.blk_capture.specs.Counting.{AreInRounds};
 ghost use Rattle.blk_capture.specs.Requests.{AgreeOnLateness, AreTimed, times_of};
-ghost use Rattle.blk_lists.specs.Schedule.{IsScheduleView, viewed};
+ghost use Rattle.blk_records.specs.Schedule.{IsScheduleView, viewed};
 
 use blk_capture::{CapturedRequest, rounds_of};
-use blk_lists::Schedule;
+use blk_records::Schedule;
 use std::alloc::{AllocError, Global};
 
 /// Requests as a schedule of depth 1, whose rounds are their dispatches, as [`blk_capture::rounds_of`] counts them: legal, with an id

@@ -9,7 +9,7 @@ use crate::importing::first_time;
 use crate::schedule::schedule_of;
 use crate::table::table_text;
 use blk_capture::{CapturedRequest, Record, rows_of};
-use blk_lists::schedule_text;
+use blk_records::schedule_text;
 use std::alloc::{AllocError, Global};
 
 /// What is shown of an import.

@@ -7,8 +7,8 @@ ghost use Rattle.blk_capture_text.specs.Source.{has_nul, is_text, form_taken, Is
 
 use crate::reading::read_capture;
 use blk_capture::Record;
-use blk_lists::{Records, TextFault, Why};
-use blk_recorders::{CaptureForm, Device, LineFault, LineWhy, Recorder, form_of, read_lines};
+use blk_recorders::{CaptureForm, Device, LineFault, LineReason, Recorder, form_of, read_lines};
+use blk_records::{Records, TextFault, TextReason};
 use std::alloc::{AllocError, Global};
 
 /// What else the lines of a recorder told.
@@ -60,7 +60,7 @@ pub(crate) fn read_records(alloc: Global, bytes: &[u8]) -> Result<CaptureRead, U
         }),
         Err(fault) => match fault.why {
             // bytes that are at hand are always read
-            Why::Read | Why::Memory => Err(UnreadCapture::Memory),
+            TextReason::Read | TextReason::Memory => Err(UnreadCapture::Memory),
             _ => Err(UnreadCapture::Text(fault)),
         },
     }
@@ -89,7 +89,7 @@ fn read_printed(
             }),
         }),
         Err(fault) => match fault.why {
-            LineWhy::Memory => Err(UnreadCapture::Memory),
+            LineReason::Memory => Err(UnreadCapture::Memory),
             _ => Err(UnreadCapture::Line(fault)),
         },
     }

@@ -1,17 +1,17 @@
 //! A capture of any form that is put in numbers as its bytes come.
 
 ghost use Rattle.std.specs.Prelude.{◌≡◌, ◌<◌, IfOk, IfErr, length};
-ghost use Rattle.blk_lists.specs.Reads.{IsOutside};
+ghost use Rattle.blk_records.specs.Reads.{IsOutside};
 ghost use Rattle.blk_capture_text.specs.Source.{IsRecordsFault};
-ghost use Rattle.blk_capture_text.specs.Streams.{IsStreamedFrom, IsUnstreamed};
-ghost use Rattle.blk_capture_text.specs.Inside.Along.{count_feeds, IsAlongSome, IsUnstreamedIf, IsFirstPart, EndsRestOf, EndsUnstreamedOf, EndsLinesOf, ReadsRest, AreRecordsStreamed, AreRecordsUnstreamed};
+ghost use Rattle.blk_capture_text.specs.Streams.{IsStreamedFrom, IsStreamFault};
+ghost use Rattle.blk_capture_text.specs.Inside.Along.{count_feeds, IsAlongSome, IsStreamFaultIf, IsFirstPart, EndsRestOf, EndsUnstreamedOf, EndsLinesOf, ReadsRest, AreRecordsStreamed, AreRecordsUnstreamed};
 
 use crate::lines::{LineStream, StreamedCapture};
 use crate::source::{FIRST_BYTES, UnreadCapture, form_taken, read_records};
 use crate::streaming::Streamed;
 use blk_capture::Options;
-use blk_lists::{Records, TextFault, Why};
 use blk_recorders::{CaptureForm, Device, FIRST_LINES, LineFault, Recorder};
+use blk_records::{Records, TextFault, TextReason};
 use std::alloc::Global;
 use std::io::Read;
 
@@ -26,7 +26,7 @@ pub enum Unstreamed {
     /// A line that a recorder printed is wrong.
     Line(LineFault),
     /// The reader failed, or memory ran out as it was read.
-    Outside(Why),
+    Outside(TextReason),
     /// Memory ran out.
     Memory,
 }
@@ -34,7 +34,7 @@ pub enum Unstreamed {
 impl Unstreamed {
     /// Why lines aren't put in numbers.
     fn of_lines(fault: UnreadCapture) -> Unstreamed
-        ensures { IsUnstreamedIf fault result }
+        ensures { IsStreamFaultIf fault result }
     {
         match fault {
             UnreadCapture::Line(fault) => Unstreamed::Line(fault),
@@ -72,7 +72,7 @@ fn read_first<R: Read + Drop>(
     alloc: Global,
     records: &mut Records<R>,
     part: &mut [u8],
-) -> Result<FirstPart, Why>
+) -> Result<FirstPart, TextReason>
     requires room { 0 < length part.old }
     ensures ok { IfOk result (IsFirstPart records.old.bytes records.new.bytes) }
     ensures err { IfErr result (IsOutside records.new.failed) }
@@ -99,10 +99,10 @@ fn read_first<R: Read + Drop>(
         }
         feeds += count_feeds(&part[..count]);
         if bytes.extend_from_slice(&part[..count]).is_err() {
-            return Err(Why::Memory);
+            return Err(TextReason::Memory);
         }
     }
-    Err(Why::Memory)
+    Err(TextReason::Memory)
 }
 
 /// Takes in all that an input has left, part by part.
@@ -184,7 +184,7 @@ fn read_rest<R: Read + Drop>(
     alloc: Global,
     records: &mut Records<R>,
     first: FirstPart,
-) -> Result<Vec<u8>, Why>
+) -> Result<Vec<u8>, TextReason>
     ensures ok { IfOk result (λ v. ReadsRest first records.old.bytes v.items) }
     ensures err { IfErr result (IsOutside records.new.failed) }
 {
@@ -199,7 +199,7 @@ fn read_rest<R: Read + Drop>(
     let mut bytes = bytes;
     match bytes.extend_from_slice(rest.as_slice()) {
         Ok(()) => Ok(bytes),
-        Err(_) => Err(Why::Memory),
+        Err(_) => Err(TextReason::Memory),
     }
 }
 
@@ -241,7 +241,7 @@ pub fn stream_source<R: Read + Drop>(
     records: &mut Records<R>,
 ) -> Result<StreamedCapture, Unstreamed>
     ensures ok { IfOk result (IsStreamedFrom options.now form device records.old.bytes) }
-    ensures err { IfErr result (IsUnstreamed form device records.old.bytes records.new.failed) }
+    ensures err { IfErr result (IsStreamFault form device records.old.bytes records.new.failed) }
 {
     let Ok(mut part) = vec![in alloc; 0; PART] else {
         return Err(Unstreamed::Memory);

@@ -3,11 +3,11 @@
 ghost use Rattle.std.specs.Prelude.{◌≡◌, ◌++◌, IfOk, IfErr, OnOk};
 ghost use Rattle.std.specs.List.{flat_map};
 ghost use Rattle.blk_capture_text.specs.TableText.{known_text, range_fields, time_fields, row_line, table_lines};
-ghost use Rattle.drafts.specs.Drafts.{next_field};
+ghost use Rattle.text_output.specs.Drafts.{next_field};
 
 use blk_capture::RequestRow;
-use drafts::Draft;
 use std::alloc::{AllocError, Global};
+use text_output::Draft;
 
 /// Adds one more field, of a number that may not be known.
 fn push_known(draft: &mut Draft, number: Option<u64>) -> Result<(), AllocError>

@@ -1,17 +1,17 @@
 -- How a run ends that has an answer, and what is answered where words ask for texts alone.
 use Rattle.std.proofs.Common.{◌≡◌, ◌∙◌, ℕ, Bool, true, false, List, Option, ap, sym, inl, inr}
-use Rattle.drafts.specs.Outputs.{Stream}
-use Rattle.blk_lists.specs.Sources.{Row}
+use Rattle.text_output.specs.Outputs.{Stream}
+use Rattle.blk_records.specs.Sources.{Row}
 use Rattle.blk_capture.specs.declared.record.Record.{Record}
-use Rattle.blk_words.specs.declared.inputs.Running.TheVariants as running
-use Rattle.blk_words.specs.declared.inputs.TextJob.TheVariants as text_job
-use Rattle.blk_words.specs.declared.words.Import.{Import}
-use Rattle.blk_words.specs.declared.words.Kept.{Kept}
-use Rattle.blk_words.specs.declared.words.Kept.TheVariants as kept
-use Rattle.blk_words.specs.declared.words.Written.{Written}
-use Rattle.blk_words.specs.declared.words.Written.TheVariants as written
-use Rattle.blk_words.specs.declared.words.Job.{Job}
-use Rattle.blk_words.specs.declared.words.Job.TheVariants as job
+use Rattle.blk_args.specs.declared.inputs.Running.TheVariants as running
+use Rattle.blk_args.specs.declared.inputs.TextJob.TheVariants as text_job
+use Rattle.blk_args.specs.declared.words.Import.{Import}
+use Rattle.blk_args.specs.declared.words.Kept.{Kept}
+use Rattle.blk_args.specs.declared.words.Kept.TheVariants as kept
+use Rattle.blk_args.specs.declared.words.Written.{Written}
+use Rattle.blk_args.specs.declared.words.Written.TheVariants as written
+use Rattle.blk_args.specs.declared.words.Job.{Job}
+use Rattle.blk_args.specs.declared.words.Job.TheVariants as job
 use Rattle.blk_cli.specs.Said.{Said, IsAlone}
 use Rattle.blk_cli.specs.Gives.{GivesAnswer, AnswersGood, AnswersText}
 use Rattle.blk_cli.specs.declared.Ended.{Ended}

@@ -28,8 +28,8 @@ use Rattle.blk_trace.specs.declared.event.Event.TheVariants.{Tick, Issue}
 use Rattle.blk_trace.specs.Meaning.{command_of, commands_of, issued_ids}
 use Rattle.blk_trace.specs.Laws.{AreBounded}
 use Rattle.blk_trace.specs.Setups.{Setup, IsSetup}
-use Rattle.blk_lists.specs.Commands.{IsCommandInRange, AreCommands}
-use Rattle.blk_lists.specs.Certificate.{Claim, IsBound, IsClaim, IsLateness}
+use Rattle.blk_records.specs.Commands.{IsCommandInRange, AreCommands}
+use Rattle.blk_records.specs.Certificate.{Claim, IsBound, IsClaim, IsLateness}
 
 difference_in : (late : ℤ) (r d : ℕ) → pos r -ℤ pos d ≡ late → r < 2 ^ 41 → d < 2 ^ 41 → IsLateness late
 difference_in (pos n) r d e h k = omega (arith, ints, e)

@@ -3,12 +3,12 @@ use Rattle.std.proofs.Common.{ℕ, suc, ◌≡◌, ◌∙◌, ◌∷◌, ◌++�
 use Rattle.std.specs.Prelude.{All}
 use Rattle.std.proofs.Math.Seq.{take-suc}
 use Rattle.std.proofs.lemmas.List.Elements.{All-nil, All-cons}
-use Rattle.blk_settings.specs.declared.sched.Lineup.{Lineup}
-use Rattle.blk_settings.specs.declared.sched.Sched.{Sched}
-use Rattle.blk_settings.specs.Scheds.{name_of, in_turn, policy_of}
+use Rattle.blk_schedulers.specs.declared.sched.ComparedScheds.{ComparedScheds}
+use Rattle.blk_schedulers.specs.declared.sched.Sched.{Sched}
+use Rattle.blk_schedulers.specs.Scheds.{name_of, in_turn, policy_of}
 use Rattle.blk_runs.specs.declared.fault.RunFault.{RunFault}
 use Rattle.blk_runs.specs.declared.fault.RunFault.TheVariants as run
-use Rattle.blk_runs.specs.Runs.{IsTraceOfScript, IsUnrunBy}
+use Rattle.blk_runs.specs.Runs.{IsTraceOfScript, IsRunFaultBy}
 use Rattle.blk_runs.specs.Firsts.{RunsWhole, AreUnrun}
 use Rattle.blk_text.specs.Script.{Scripted}
 use Rattle.answer.specs.declared.answer.Part.{Part}
@@ -16,10 +16,10 @@ use Rattle.blk_report.specs.Table.{IsTable}
 use Rattle.blk_report.specs.declared.figures.Report.{Report}
 use Rattle.blk_cli.specs.Forms.{written_in}
 use Rattle.blk_trace.specs.Traces.{Traced}
-use Rattle.blk_settings.specs.declared.form.Form.{Form}
+use Rattle.blk_schedulers.specs.declared.form.Form.{Form}
 use Rattle.blk_cli.specs.Scripts.{FailsToRun}
 use Rattle.blk_cli.specs.Inside.Scripts.{failure_of_run}
-use Rattle.blk_cli.specs.Comparing.{IsReportUnder, AreUnder, AreReports, AreTraces, IsUncompared, IsComparedText}
+use Rattle.blk_cli.specs.Comparing.{IsReportUnder, AreUnder, AreReports, AreTraces, IsCompareFailure, IsComparedText}
 
 -- nothing yet, one more, and as many as schedulers
 pub none_yet : {X : Type 0} (Comes : Sched → Scripted → X → Type 0) (s : Scripted) → AreUnder Comes [] s []
@@ -70,18 +70,18 @@ pub traces_whole : (ss : List Sched) (s : Scripted) (ts : List Traced) → AreTr
 traces_whole ss s ts are = all_whole IsTraceOfScript trace_whole ss s ts are
 
 -- why a script is not run under one or each of some schedulers, as the program says it
-pub said_of_run : (x : Sched) (s : Scripted) (f : RunFault) → IsUnrunBy (policy_of x) x s f → FailsToRun x s (failure_of_run f)
+pub said_of_run : (x : Sched) (s : Scripted) (f : RunFault) → IsRunFaultBy (policy_of x) x s f → FailsToRun x s (failure_of_run f)
 said_of_run x s (run.Sched f) h = h
 said_of_run x s (run.Step f) h = h
 said_of_run x s run.Memory h = tt
 
-pub said_of_runs : (ss : List Sched) (s : Scripted) (f : RunFault) → AreUnrun ss s f → IsUncompared ss s (failure_of_run f)
+pub said_of_runs : (ss : List Sched) (s : Scripted) (f : RunFault) → AreUnrun ss s f → IsCompareFailure ss s (failure_of_run f)
 said_of_runs ss s (run.Sched f) h = h
 said_of_runs ss s (run.Step f) h = h
 said_of_runs ss s run.Memory h = tt
 
 -- the table of what was compared
-pub table_is : (l : Lineup) (f : Form) (ss : List Sched) (s : Scripted) (rs : List Report) (told : List Part) (text : List ℕ) → ss ≡ in_turn l → AreReports ss s rs → IsTable (map name_of ss) rs told → text ≡ written_in f told → IsComparedText l f s text
+pub table_is : (l : ComparedScheds) (f : Form) (ss : List Sched) (s : Scripted) (rs : List Report) (told : List Part) (text : List ℕ) → ss ≡ in_turn l → AreReports ss s rs → IsTable (map name_of ss) rs told → text ≡ written_in f told → IsComparedText l f s text
 table_is l f ss s rs told text e are is written = record {
   reports = rs;
   are_reports = subst (λ (xs : List Sched). AreReports xs s rs) e are;

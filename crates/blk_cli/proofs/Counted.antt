@@ -5,7 +5,7 @@ use Rattle.edd_commands.specs.declared.Command.{Command}
 use Rattle.edd_commands.specs.declared.TheConstants.{MAX_COMMANDS}
 use Rattle.blk_capture.specs.Counting.{AreInRounds, AreSolvable}
 use Rattle.blk_capture.specs.declared.counting.TimedRequest.{TimedRequest}
-use Rattle.blk_lists.specs.Commands.{AreCommands, IsCommandInRange}
+use Rattle.blk_records.specs.Commands.{AreCommands, IsCommandInRange}
 
 no_request : TimedRequest
 no_request = record { release = 0; deadline = 0; dispatch = 0 }

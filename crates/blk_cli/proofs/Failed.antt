@@ -1,8 +1,8 @@
 -- Why words get no text, by the failure of the job that they ask for.
 use Rattle.std.proofs.Common.{◌≡◌, ℕ, Bool, List, Option, subst, sym, inl, inr}
-use Rattle.blk_lists.specs.Sources.{Row}
-use Rattle.blk_words.specs.declared.words.Job.{Job}
-use Rattle.blk_words.specs.Asked.{Asks}
+use Rattle.blk_records.specs.Sources.{Row}
+use Rattle.blk_args.specs.declared.words.Job.{Job}
+use Rattle.blk_args.specs.Asked.{Asks}
 use Rattle.blk_cli.specs.Gives.{HasNoAnswer}
 use Rattle.blk_cli.specs.Ends.{IsFailureOf, IsWithout, IsWithoutAnswer}
 use Rattle.blk_cli.specs.declared.NoText.{NoText}

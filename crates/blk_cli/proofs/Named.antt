@@ -1,8 +1,8 @@
 -- What stands under names that are a scheduler's each.
 use Rattle.std.proofs.Common.{◌≡◌, ◌∙◌, ℕ, Bor, List, Result, IfOk, ap, sym, subst, length, map}
 use Rattle.std.proofs.lemmas.List.{length-map}
-use Rattle.blk_settings.specs.declared.sched.Sched.{Sched}
-use Rattle.blk_settings.specs.Scheds.{name_of}
+use Rattle.blk_schedulers.specs.declared.sched.Sched.{Sched}
+use Rattle.blk_schedulers.specs.Scheds.{name_of}
 
 -- there are as many as schedulers
 pub as_long : (names : List (Bor (List ℕ))) (scheds : List Sched) → map (λ (name : Bor (List ℕ)). name.now) names ≡ map name_of scheds → length names ≡ length scheds

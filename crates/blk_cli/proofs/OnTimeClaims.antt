@@ -14,8 +14,8 @@ use Rattle.edd_check.specs.CheckOnTime.{IsOnTimeAnswer}
 use Rattle.edd_check.proofs.Covers.{length_pairs}
 use Rattle.edd_commands.proofs.InForce.{carried_fixed}
 use Rattle.edd_oracle.specs.OnTime.{IsMostAnswer}
-use Rattle.blk_lists.specs.Commands.{AreCommands}
-use Rattle.blk_lists.specs.OnTime.{OnTimeClaim, IsOnTimeClaim}
+use Rattle.blk_records.specs.Commands.{AreCommands}
+use Rattle.blk_records.specs.OnTime.{OnTimeClaim, IsOnTimeClaim}
 use Rattle.blk_cli.specs.Certificates.{IsOnTimeProved, IsRefusedOnTime}
 
 number_most : (commands : List Command) (rounds : List ℕ) → length rounds ≡ length commands → number_on_time commands rounds ≤ length commands

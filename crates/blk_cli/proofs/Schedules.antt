@@ -13,7 +13,7 @@ use Rattle.edd_figures.specs.declared.missing.Crowd.{Crowd}
 use Rattle.blk_judge.specs.declared.missing.Miss.{Miss}
 use Rattle.blk_judge.specs.Judged.{IsRefusedSchedule, IsJudgement}
 use Rattle.blk_judge.specs.Late.{AreMissed}
-use Rattle.blk_lists.specs.Schedule.{ScheduleView, IsScheduleView}
+use Rattle.blk_records.specs.Schedule.{ScheduleView, IsScheduleView}
 
 -- the oracle takes its commands, and its rounds are within the limit
 pub taken_of : (s : ScheduleView) → IsScheduleView s → (commands : List Command) → commands ≡ s.commands → IsTaken commands

@@ -11,7 +11,7 @@ use Rattle.blk_capture_text.specs.declared.importing.ImportAsked.{ImportAsked}
 use Rattle.blk_capture_text.specs.declared.numbers.UnusedCounts.{UnusedCounts}
 use Rattle.blk_capture_text.specs.declared.source.Printed.{Printed}
 use Rattle.blk_capture_text.specs.declared.streaming.StreamedSummary.{StreamedSummary}
-use Rattle.blk_words.specs.declared.words.Import.{Import}
+use Rattle.blk_args.specs.declared.words.Import.{Import}
 use Rattle.blk_cli.specs.Importing.{asked_of, tags_asked, noted, SaysFrom, IsSummed}
 use Rattle.blk_cli.specs.Notes.{IsDoubtTold, SaysDoubt}
 use Rattle.blk_cli.specs.Said.{Said}

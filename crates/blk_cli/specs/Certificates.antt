@@ -19,18 +19,18 @@ use Rattle.edd_commands.specs.Schedule.{IsLegal, IsGreatestLateness, IsLeastLate
 use Rattle.edd_check.specs.Window.{IsCrowded, load_of, rounds_between}
 use Rattle.edd_oracle.specs.Input.{IsRefusal}
 use Rattle.edd_oracle.specs.OnTime.{IsMostAnswer}
-use Rattle.blk_lists.specs.Sources.{Row}
-use Rattle.blk_lists.specs.Texts.{rows_text}
-use Rattle.blk_lists.specs.Commands.{SpellsCommands}
-use Rattle.blk_lists.specs.Certificate.{Claim, claim_rows, SpellsClaim}
-use Rattle.blk_lists.specs.OnTime.{OnTimeClaim, on_time_rows, SpellsOnTime}
-use Rattle.blk_lists.specs.Proof.{ProofClaim, OfLateness, OfOnTime}
-use Rattle.blk_settings.specs.declared.form.Form.{Form}
+use Rattle.blk_records.specs.Sources.{Row}
+use Rattle.blk_records.specs.Texts.{rows_text}
+use Rattle.blk_records.specs.Commands.{SpellsCommands}
+use Rattle.blk_records.specs.Certificate.{Claim, claim_rows, SpellsClaim}
+use Rattle.blk_records.specs.OnTime.{OnTimeClaim, on_time_rows, SpellsOnTime}
+use Rattle.blk_records.specs.Proof.{ProofClaim, OfLateness, OfOnTime}
+use Rattle.blk_schedulers.specs.declared.form.Form.{Form}
 use Rattle.blk_cli.specs.Forms.{written_in}
 use Rattle.blk_cli.specs.declared.failure.Failure.{Failure}
 use Rattle.blk_cli.specs.declared.failure.Failure.TheVariants as failure
-use Rattle.blk_words.specs.declared.inputs.Solving.{Solving}
-use Rattle.blk_words.specs.declared.inputs.Solving.TheVariants as solving
+use Rattle.blk_args.specs.declared.inputs.Solving.{Solving}
+use Rattle.blk_args.specs.declared.inputs.Solving.TheVariants as solving
 
 -- the schedule is legal, its greatest lateness is the one stated, the window is crowded at it, and it is least
 pub record IsProof (commands : List Command) (depth : ℕ) (rounds : List ℕ) (late : ℤ) (window : Window) : Type 0 where
@@ -75,10 +75,10 @@ IsSolved solving.Least list text = IsLeastText list text
 IsSolved solving.Most list text = IsMostText list text
 
 -- why a list is not solved
-abbrev pub IsUnsolved : ℕ × List Command → Failure → Type 0
-IsUnsolved list (failure.Solve f) = IsRefusal list.1 f
-IsUnsolved list failure.Memory = ⊤
-IsUnsolved list f = ⊥
+abbrev pub IsOracleFailure : ℕ × List Command → Failure → Type 0
+IsOracleFailure list (failure.Solve f) = IsRefusal list.1 f
+IsOracleFailure list failure.Memory = ⊤
+IsOracleFailure list f = ⊥
 
 -- what is said on one line
 abbrev pub sentence_parts : List Cell → List ℕ → List Part
@@ -120,10 +120,10 @@ IsCheckText f (OfLateness claim) text = IsProved claim × (text ≡ written_in f
 IsCheckText f (OfOnTime claim) text = IsOnTimeProved claim × (text ≡ written_in f (on_time_verdict_parts claim))
 
 -- why a certificate is not proved
-abbrev pub IsUnproved : Claim → Failure → Type 0
-IsUnproved claim (failure.Check f) = IsRefusedBound claim f claim.bound
-IsUnproved claim failure.Memory = ⊤
-IsUnproved claim f = ⊥
+abbrev pub IsClaimFailure : Claim → Failure → Type 0
+IsClaimFailure claim (failure.Check f) = IsRefusedBound claim f claim.bound
+IsClaimFailure claim failure.Memory = ⊤
+IsClaimFailure claim f = ⊥
 
 abbrev pub IsOnTimeUnproved : OnTimeClaim → Failure → Type 0
 IsOnTimeUnproved claim (failure.OnTime f) = IsRefusedOnTime claim f
@@ -131,5 +131,5 @@ IsOnTimeUnproved claim failure.Memory = ⊤
 IsOnTimeUnproved claim f = ⊥
 
 abbrev pub IsBad : ProofClaim → Failure → Type 0
-IsBad (OfLateness claim) f = IsUnproved claim f
+IsBad (OfLateness claim) f = IsClaimFailure claim f
 IsBad (OfOnTime claim) f = IsOnTimeUnproved claim f

@@ -6,14 +6,14 @@ use Rattle.blk_text.specs.Script.{Scripted}
 use Rattle.blk_report.specs.declared.figures.Report.{Report}
 use Rattle.blk_report.specs.Shortfall.{IsReport}
 use Rattle.blk_report.specs.Table.{IsTable}
-use Rattle.blk_words.specs.declared.inputs.Running.{Running}
-use Rattle.blk_words.specs.declared.inputs.Running.TheVariants as running
-use Rattle.blk_settings.specs.declared.form.Form.{Form}
+use Rattle.blk_args.specs.declared.inputs.Running.{Running}
+use Rattle.blk_args.specs.declared.inputs.Running.TheVariants as running
+use Rattle.blk_schedulers.specs.declared.form.Form.{Form}
 use Rattle.blk_runs.specs.Runs.{IsTraceOfScript}
 use Rattle.blk_runs.specs.Firsts.{AreUnmade, IsFirstRefused}
-use Rattle.blk_settings.specs.declared.sched.Lineup.{Lineup}
-use Rattle.blk_settings.specs.declared.sched.Sched.{Sched}
-use Rattle.blk_settings.specs.Scheds.{name_of, in_turn}
+use Rattle.blk_schedulers.specs.declared.sched.ComparedScheds.{ComparedScheds}
+use Rattle.blk_schedulers.specs.declared.sched.Sched.{Sched}
+use Rattle.blk_schedulers.specs.Scheds.{name_of, in_turn}
 use Rattle.blk_cli.specs.declared.failure.Failure.{Failure}
 use Rattle.blk_cli.specs.declared.failure.Failure.TheVariants as failure
 use Rattle.blk_cli.specs.Said.{Said, IsAlone}
@@ -41,7 +41,7 @@ abbrev pub AreTraces : List Sched → Scripted → List Traced → Type 0
 AreTraces ss script ts = AreUnder IsTraceOfScript ss script ts
 
 -- what `compare` writes: the table of these reports, each under its scheduler's name
-pub record IsComparedText (l : Lineup) (f : Form) (script : Scripted) (text : List ℕ) : Type 0 where
+pub record IsComparedText (l : ComparedScheds) (f : Form) (script : Scripted) (text : List ℕ) : Type 0 where
   pub reports : List Report
   pub are_reports : AreReports (in_turn l) script reports
   pub told : List Part
@@ -49,15 +49,15 @@ pub record IsComparedText (l : Lineup) (f : Form) (script : Scripted) (text : Li
   pub is_text : text ≡ written_in f told
 
 -- what `picture --script` draws: these traces
-abbrev pub AreDrawn : Lineup → Scripted → Type 0
+abbrev pub AreDrawn : ComparedScheds → Scripted → Type 0
 AreDrawn l script = (traces : List Traced) × AreTraces (in_turn l) script traces
 
 -- why a script is not compared
-abbrev pub IsUncompared : List Sched → Scripted → Failure → Type 0
-IsUncompared scheds script (failure.Sched f) = AreUnmade scheds f
-IsUncompared scheds script (failure.Step f) = IsFirstRefused scheds script f
-IsUncompared scheds script failure.Memory = ⊤
-IsUncompared scheds script f = ⊥
+abbrev pub IsCompareFailure : List Sched → Scripted → Failure → Type 0
+IsCompareFailure scheds script (failure.Sched f) = AreUnmade scheds f
+IsCompareFailure scheds script (failure.Step f) = IsFirstRefused scheds script f
+IsCompareFailure scheds script failure.Memory = ⊤
+IsCompareFailure scheds script f = ⊥
 
 -- what is written of a script, and why nothing is
 abbrev pub IsRunText : Running → Scripted → List ℕ → Type 0
@@ -72,5 +72,5 @@ TellsRun r script s = IsAlone s
 
 abbrev pub HasNoRunText : Running → Scripted → Failure → Type 0
 HasNoRunText (running.One s) script f = FailsToRun s script f
-HasNoRunText (running.Each l o) script f = IsUncompared (in_turn l) script f
-HasNoRunText (running.Drawn l) script f = IsUncompared (in_turn l) script f
+HasNoRunText (running.Each l o) script f = IsCompareFailure (in_turn l) script f
+HasNoRunText (running.Drawn l) script f = IsCompareFailure (in_turn l) script f

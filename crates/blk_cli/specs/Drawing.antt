@@ -2,7 +2,7 @@
 use Rattle.std.specs.Prelude.{ℕ, List}
 use Rattle.edd_commands.specs.Capacity.{fixed}
 use Rattle.blk_judge.specs.Drawing.{IsSchedulePicture}
-use Rattle.blk_lists.specs.Schedule.{ScheduleView}
+use Rattle.blk_records.specs.Schedule.{ScheduleView}
 
 -- the picture of a schedule under its depth in every round
 abbrev pub IsScheduleDrawn : ScheduleView → List ℕ → Type 0

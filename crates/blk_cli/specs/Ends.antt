@@ -1,19 +1,19 @@
 -- How a run of the program ends: its status, what stands on standard output, and what is said beside it or of why there is nothing.
 use Rattle.std.specs.Prelude.{◌≡◌, ◌⊎◌, ◌++◌, ◌∷◌, [], ⊤, codes, ℕ, Bool, true, false, if◌then◌else◌, List, Option, None, Some, Result, Ok, Err, String, map, string_bytes}
-use Rattle.drafts.specs.declared.output.Output.{Output}
-use Rattle.drafts.specs.Outputs.{Stream, IsWritten, IsCut, stream_of}
-use Rattle.blk_lists.specs.Sources.{Row, Source}
-use Rattle.blk_lists.specs.Names.{why_name}
-use Rattle.blk_lists.specs.declared.fault.TextFault.{TextFault}
-use Rattle.blk_lists.specs.declared.fault.Why.{Why}
-use Rattle.blk_lists.specs.declared.fault.Why.TheVariants as why
-use Rattle.blk_words.specs.declared.words.Job.{Job}
-use Rattle.blk_words.specs.Asked.{Asks, AreFaulty, NameNone}
-use Rattle.blk_settings.specs.declared.Loaded.{Loaded}
-use Rattle.blk_settings.specs.declared.Unsettled.{Unsettled}
-use Rattle.blk_settings.specs.declared.numbers.Load.{Load}
-use Rattle.blk_settings.specs.declared.sched.Sched.{Sched}
-use Rattle.blk_words.specs.declared.words.Job.TheVariants as job
+use Rattle.text_output.specs.declared.output.Output.{Output}
+use Rattle.text_output.specs.Outputs.{Stream, IsWritten, IsCut, stream_of}
+use Rattle.blk_records.specs.Sources.{Row, Source}
+use Rattle.blk_records.specs.Names.{text_reason_name}
+use Rattle.blk_records.specs.declared.fault.TextFault.{TextFault}
+use Rattle.blk_records.specs.declared.fault.TextReason.{TextReason}
+use Rattle.blk_records.specs.declared.fault.TextReason.TheVariants as why
+use Rattle.blk_args.specs.declared.words.Job.{Job}
+use Rattle.blk_args.specs.Asked.{Asks, AreFaulty, NameNone}
+use Rattle.blk_schedulers.specs.declared.Loaded.{Loaded}
+use Rattle.blk_schedulers.specs.declared.Unsettled.{Unsettled}
+use Rattle.blk_schedulers.specs.declared.numbers.Load.{Load}
+use Rattle.blk_schedulers.specs.declared.sched.Sched.{Sched}
+use Rattle.blk_args.specs.declared.words.Job.TheVariants as job
 use Rattle.blk_cli.specs.declared.Answered.{Answered}
 use Rattle.blk_cli.specs.declared.Ended.{Ended}
 use Rattle.blk_cli.specs.declared.NoText.{NoText}
@@ -21,11 +21,11 @@ use Rattle.blk_cli.specs.declared.NoText.TheVariants as none
 use Rattle.blk_cli.specs.declared.failure.Failure.{Failure}
 use Rattle.blk_cli.specs.declared.failure.Failure.TheVariants as failure
 use Rattle.blk_cli.specs.Lines.{more_line, status_of, write_fault, LineOn, OwnLine}
-use Rattle.blk_words.specs.declared.words.Import.{Import}
-use Rattle.blk_words.specs.declared.words.Kept.{Kept}
-use Rattle.blk_capture_text.specs.Streams.{IsUnstreamed}
+use Rattle.blk_args.specs.declared.words.Import.{Import}
+use Rattle.blk_args.specs.declared.words.Kept.{Kept}
+use Rattle.blk_capture_text.specs.Streams.{IsStreamFault}
 use Rattle.blk_capture_text.specs.declared.summing.Unstreamed.{Unstreamed}
-use Rattle.blk_cli.specs.Importing.{IsUnimportedFrom, IsUnsummedFrom, IsCaptureFailure}
+use Rattle.blk_cli.specs.Importing.{IsImportInputFailure, IsSummaryInputFailure, IsCaptureFailure}
 use Rattle.blk_cli.specs.Loading.{IsTextOfRun, IsFailureOfRun}
 use Rattle.blk_cli.specs.Said.{Said, said_of}
 use Rattle.blk_cli.specs.Gives.{GivesAnswer, HasNoAnswer, AnswersText, AnswersGood, ReadsNothing}
@@ -47,7 +47,7 @@ abbrev pub AskForNoInput : List (List ℕ) → Type 0
 AskForNoInput words = (j : Job) → Asks words j → ReadsNothing j
 
 -- of some faults of a text more is said than their name: of a title that is another, and of a text that is too long
-abbrev pub says_more : Why → Bool
+abbrev pub says_more : TextReason → Bool
 says_more why.Title = true
 says_more why.TooLong = true
 says_more w = false
@@ -62,15 +62,15 @@ IsFailureOf f n = ⊥
 abbrev pub IsWithoutAnswer : List (List ℕ) → Job → Option (List Row) → Option (List ℕ) → Bool → NoText → Type 0
 IsWithoutAnswer words j input bytes failed n = (f : Failure) × HasNoAnswer words j input bytes failed f × IsFailureOf f n
 
-abbrev pub IsUntaken : Kept → List (List ℕ) → Import → Option (List ℕ) → Bool → NoText → Type 0
-IsUntaken k words i bytes failed n = (f : Failure) × IsUnimportedFrom k words i bytes failed f × IsFailureOf f n
+abbrev pub IsImportNoText : Kept → List (List ℕ) → Import → Option (List ℕ) → Bool → NoText → Type 0
+IsImportNoText k words i bytes failed n = (f : Failure) × IsImportInputFailure k words i bytes failed f × IsFailureOf f n
 
-abbrev pub IsUnsummed : Import → Option (List ℕ) → Bool → NoText → Type 0
-IsUnsummed i bytes failed n = (f : Failure) × IsUnsummedFrom i bytes failed f × IsFailureOf f n
+abbrev pub IsSummaryNoText : Import → Option (List ℕ) → Bool → NoText → Type 0
+IsSummaryNoText i bytes failed n = (f : Failure) × IsSummaryInputFailure i bytes failed f × IsFailureOf f n
 
 -- for what the input was refused
-abbrev pub IsUnsummedFor : Import → Unstreamed → NoText → Type 0
-IsUnsummedFor i x n = (input : Option (List ℕ)) (failed : Bool) → IsUnstreamed i.source.form i.source.device input failed x → IsUnsummed i input failed n
+abbrev pub IsSummaryFaultNoText : Import → Unstreamed → NoText → Type 0
+IsSummaryFaultNoText i x n = (input : Option (List ℕ)) (failed : Bool) → IsStreamFault i.source.form i.source.device input failed x → IsSummaryNoText i input failed n
 
 abbrev pub IsCaptureUnwritten : List (List ℕ) → Import → Option (List ℕ) → Bool → NoText → Type 0
 IsCaptureUnwritten words i bytes failed n = (f : Failure) × IsCaptureFailure words i bytes failed f × IsFailureOf f n
@@ -92,7 +92,7 @@ status_without none.Excluded = 2
 
 -- the line on a fault of a text of which more is said than its name
 abbrev pub line_told : TextFault → List ℕ → List ℕ
-line_told fault text = more_line fault.at (why_name fault.why) text
+line_told fault text = more_line fault.at (text_reason_name fault.why) text
 
 abbrev pub LineWithout : NoText → (List ℕ → Type 0) → Type 0
 LineWithout (none.Failure f) P = LineOn f P

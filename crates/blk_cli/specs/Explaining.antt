@@ -7,12 +7,12 @@ use Rattle.blk_explain.specs.declared.findings.Finding.{Finding}
 use Rattle.blk_explain.specs.declared.forms.TextForm.{TextForm}
 use Rattle.blk_explain.specs.declared.forms.TextForm.TheVariants as form
 use Rattle.blk_explain.specs.Printed.{AreLinesExplained}
-use Rattle.blk_lists.specs.Reads.{IsOutside}
-use Rattle.blk_lists.specs.Sources.{Row}
+use Rattle.blk_records.specs.Reads.{IsOutside}
+use Rattle.blk_records.specs.Sources.{Row}
 use Rattle.blk_text.specs.Script.{Scripted, SpellsScript}
 use Rattle.blk_trace.specs.Traces.{Traced}
-use Rattle.blk_settings.specs.declared.rows.SchedKind.TheVariants as sched_kind
-use Rattle.blk_settings.specs.declared.sched.Sched.{Sched}
+use Rattle.blk_schedulers.specs.declared.rows.SchedKind.TheVariants as sched_kind
+use Rattle.blk_schedulers.specs.declared.sched.Sched.{Sched}
 use Rattle.blk_sim.specs.declared.refusal.SimFault.{SimFault}
 use Rattle.blk_runs.specs.Runs.{RunsUnder, IsRefusedUnder}
 use Rattle.blk_capture_text.specs.Source.{form_taken}
@@ -69,7 +69,7 @@ pub record IsTextExplained (input : Option (List ℕ)) (s : Said) : Type 0 where
   pub explained : IsExplainedAs (form_taken None bytes) bytes s
 
 -- the reader failed, or memory ran out
-abbrev pub IsUnexplained : Bool → Failure → Type 0
-IsUnexplained failed (failure.Text f) = IsOutside failed f.why
-IsUnexplained failed failure.Memory = ⊤
-IsUnexplained failed f = ⊥
+abbrev pub IsExplainFailure : Bool → Failure → Type 0
+IsExplainFailure failed (failure.Text f) = IsOutside failed f.why
+IsExplainFailure failed failure.Memory = ⊤
+IsExplainFailure failed f = ⊥

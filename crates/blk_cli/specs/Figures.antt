@@ -10,9 +10,9 @@ use Rattle.blk_report.specs.declared.delays.LateCommand.{LateCommand}
 use Rattle.blk_report.specs.declared.figures.Report.{Report}
 use Rattle.blk_report.specs.declared.missing.Tally.{Tally}
 use Rattle.blk_report.specs.declared.spreading.Spreads.{Spreads}
-use Rattle.blk_words.specs.declared.table.FiguresAsked.{FiguresAsked}
-use Rattle.blk_words.specs.declared.table.FiguresAsked.TheVariants as figures
-use Rattle.blk_settings.specs.declared.form.Form.{Form}
+use Rattle.blk_args.specs.declared.table.FiguresAsked.{FiguresAsked}
+use Rattle.blk_args.specs.declared.table.FiguresAsked.TheVariants as figures
+use Rattle.blk_schedulers.specs.declared.form.Form.{Form}
 use Rattle.blk_trace.specs.Depths.{capacity_of}
 use Rattle.blk_trace.specs.Traces.{Traced}
 use Rattle.edd_figures.specs.declared.missing.Crowd.{Crowd}

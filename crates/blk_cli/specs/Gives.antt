@@ -1,30 +1,30 @@
 -- The kinds of jobs, a row for each: what text it gives, and why it fails.
 use Rattle.std.specs.Prelude.{◌≡◌, ◌++◌, ◌∷◌, ⊤, ℕ, Bool, List, [], Option, codes}
-use Rattle.blk_lists.specs.Sources.{Row}
-use Rattle.blk_lists.specs.Commands.{CommandsFault}
-use Rattle.blk_lists.specs.Proof.{SpellsProof, ProofFault}
-use Rattle.blk_lists.specs.Schedule.{SpellsSchedule, ScheduleFault}
+use Rattle.blk_records.specs.Sources.{Row}
+use Rattle.blk_records.specs.Commands.{CommandsFault}
+use Rattle.blk_records.specs.Proof.{SpellsProof, ProofFault}
+use Rattle.blk_records.specs.Schedule.{SpellsSchedule, ScheduleFault}
 use Rattle.blk_text.specs.Script.{SpellsScript, ScriptFault}
 use Rattle.blk_text.specs.TraceForm.{SpellsTrace, TraceTextFault}
-use Rattle.blk_words.specs.CommandLine.{program_version}
-use Rattle.blk_words.specs.declared.inputs.Running.TheVariants as running
-use Rattle.blk_words.specs.declared.inputs.TextJob.{TextJob}
-use Rattle.blk_words.specs.declared.inputs.TextJob.TheVariants as text_job
-use Rattle.blk_words.specs.declared.words.Job.{Job}
-use Rattle.blk_words.specs.declared.words.Job.TheVariants as job
+use Rattle.blk_args.specs.CommandLine.{program_version}
+use Rattle.blk_args.specs.declared.inputs.Running.TheVariants as running
+use Rattle.blk_args.specs.declared.inputs.TextJob.{TextJob}
+use Rattle.blk_args.specs.declared.inputs.TextJob.TheVariants as text_job
+use Rattle.blk_args.specs.declared.words.Job.{Job}
+use Rattle.blk_args.specs.declared.words.Job.TheVariants as job
 use Rattle.blk_cli.specs.declared.failure.Failure.{Failure}
 use Rattle.blk_cli.specs.declared.failure.Failure.TheVariants as failure
 use Rattle.blk_cli.specs.Said.{Said, IsAlone}
 use Rattle.blk_cli.specs.Inputs.{Of, FailsOver}
 use Rattle.blk_cli.specs.Comparing.{IsRunText, HasNoRunText, TellsRun}
-use Rattle.blk_cli.specs.OfTraces.{IsTellingText, IsUntold}
-use Rattle.blk_cli.specs.Certificates.{SpellsList, IsSolved, IsUnsolved, IsCheckText, IsBad}
+use Rattle.blk_cli.specs.OfTraces.{IsTellingText, IsTraceOutputFailure}
+use Rattle.blk_cli.specs.Certificates.{SpellsList, IsSolved, IsOracleFailure, IsCheckText, IsBad}
 use Rattle.blk_cli.specs.Drawing.{IsScheduleDrawn}
-use Rattle.blk_cli.specs.Judging.{IsJudgedText, IsUnjudged, TellsEmpty}
+use Rattle.blk_cli.specs.Judging.{IsJudgedText, IsJudgeFailure, TellsEmpty}
 use Rattle.blk_cli.specs.Importing.{IsCaptureWritten, IsCaptureFailure}
-use Rattle.blk_cli.specs.Explaining.{IsTextExplained, IsUnexplained}
+use Rattle.blk_cli.specs.Explaining.{IsTextExplained, IsExplainFailure}
 use Rattle.blk_cli.specs.Tuning.{IsTrial, FailsToTry}
-use Rattle.blk_cli.specs.Loading.{IsLoadOf, IsUnloaded}
+use Rattle.blk_cli.specs.Loading.{IsLoadOf, IsLoadFailure}
 use Rattle.blk_cli.specs.Unflushed.{TellsPlugs}
 
 -- a job that answers a text alone
@@ -70,11 +70,11 @@ TellsOf j input s = IsAlone s
 
 abbrev pub HasNoText : TextJob → Option (List Row) → Bool → Failure → Type 0
 HasNoText (text_job.OfScript r) input failed f = FailsOver SpellsScript ScriptFault (HasNoRunText r) input failed f
-HasNoText (text_job.OfTrace t) input failed f = FailsOver SpellsTrace TraceTextFault (IsUntold t) input failed f
-HasNoText (text_job.OfList s) input failed f = FailsOver SpellsList CommandsFault IsUnsolved input failed f
+HasNoText (text_job.OfTrace t) input failed f = FailsOver SpellsTrace TraceTextFault (IsTraceOutputFailure t) input failed f
+HasNoText (text_job.OfList s) input failed f = FailsOver SpellsList CommandsFault IsOracleFailure input failed f
 HasNoText (text_job.Check o) input failed f = FailsOver SpellsProof ProofFault IsBad input failed f
-HasNoText (text_job.Judge e) input failed f = FailsOver SpellsSchedule ScheduleFault IsUnjudged input failed f
-HasNoText text_job.Draw input failed f = FailsOver SpellsSchedule ScheduleFault IsUnjudged input failed f
+HasNoText (text_job.Judge e) input failed f = FailsOver SpellsSchedule ScheduleFault IsJudgeFailure input failed f
+HasNoText text_job.Draw input failed f = FailsOver SpellsSchedule ScheduleFault IsJudgeFailure input failed f
 
 -- the answer of a job to its words and its input: the records and the bytes, where they are known; a refusal has none
 abbrev pub GivesAnswer : List (List ℕ) → Job → Option (List Row) → Option (List ℕ) → Said → Type 0
@@ -93,5 +93,5 @@ HasNoAnswer words (job.OfText j) input bytes failed f = HasNoText j input failed
 HasNoAnswer words (job.Tune t) input bytes failed f = FailsToTry words input failed f
 HasNoAnswer words (job.Import i) input bytes failed f = IsCaptureFailure words i bytes failed f
 HasNoAnswer words (job.Refuse r) input bytes failed f = f ≡ failure.Words r
-HasNoAnswer words job.Explain input bytes failed f = IsUnexplained failed f
-HasNoAnswer words (job.Load sched l w) input bytes failed f = IsUnloaded sched l f
+HasNoAnswer words job.Explain input bytes failed f = IsExplainFailure failed f
+HasNoAnswer words (job.Load sched l w) input bytes failed f = IsLoadFailure sched l f

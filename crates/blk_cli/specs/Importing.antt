@@ -10,7 +10,7 @@ use Rattle.answer.specs.Lines.{answer_lines}
 use Rattle.answer.specs.declared.answer.Part.{Part}
 use Rattle.blk_cli.specs.Certificates.{IsMostText}
 use Rattle.blk_cli.specs.Forms.{written_in}
-use Rattle.blk_settings.specs.declared.form.Form.{Form}
+use Rattle.blk_schedulers.specs.declared.form.Form.{Form}
 use Rattle.edd_commands.specs.declared.Command.{Command}
 use Rattle.blk_capture.specs.Counting.{AreInRounds}
 use Rattle.blk_capture.specs.Requests.{times_of}
@@ -20,7 +20,7 @@ use Rattle.blk_blame.specs.Drawing.{IsBlamePicture}
 use Rattle.blk_blame.specs.TightestSaid.{IsTightestAnswer}
 use Rattle.blk_blame.specs.declared.grouped.GroupedBy.{GroupedBy}
 use Rattle.blk_blame.specs.declared.grouped.GroupedBy.TheVariants as grouped
-use Rattle.blk_blame.specs.declared.tightest.Aim.{Aim}
+use Rattle.blk_blame.specs.declared.tightest.OnTimeTarget.{OnTimeTarget}
 use Rattle.blk_capture.specs.Summaries.{IsMostInFlight}
 use Rattle.blk_capture.specs.declared.fates.Fate.{Fate}
 use Rattle.blk_capture.specs.declared.record.Record.{Record}
@@ -33,45 +33,45 @@ use Rattle.blk_capture_text.specs.Imports.{IsImport, IsImportFault, first_time}
 use Rattle.blk_capture_text.specs.declared.counts.RecordCounts.{RecordCounts}
 use Rattle.blk_capture_text.specs.Shown.{IsShown, IsSummaryAnswer}
 use Rattle.blk_capture_text.specs.Streaming.{HasStreamed}
-use Rattle.blk_capture_text.specs.Streams.{IsCaptureTold, IsUntoldText, IsUntoldInput}
+use Rattle.blk_capture_text.specs.Streams.{IsCaptureTold, IsTextReadFault, IsInputReadFault}
 use Rattle.blk_capture_text.specs.declared.lines.StreamedCapture.{StreamedCapture}
 use Rattle.blk_capture_text.specs.SummaryText.{counts_of, notice_line}
 use Rattle.blk_capture_text.specs.declared.importing.ImportAsked.{ImportAsked}
 use Rattle.blk_capture_text.specs.declared.numbers.UnusedCounts.{UnusedCounts}
 use Rattle.blk_capture_text.specs.declared.shown.ShownImport.TheVariants as shown
-use Rattle.blk_lists.specs.Reads.{IsOutside}
-use Rattle.blk_lists.specs.Texts.{rows_text}
+use Rattle.blk_records.specs.Reads.{IsOutside}
+use Rattle.blk_records.specs.Texts.{rows_text}
 use Rattle.blk_replayed.specs.Replays.{AreUnreplayed}
 use Rattle.blk_replayed.specs.Text.{WantedReplays, IsReplaysText}
 use Rattle.blk_replayed.specs.Shown.{IsReplayScheduleText, IsReplayTableText}
-use Rattle.blk_settings.specs.Made.{IsUnmade}
-use Rattle.blk_settings.specs.declared.plans.Plan.{Plan}
-use Rattle.blk_settings.specs.declared.sched.SchedFault.{SchedFault}
+use Rattle.blk_schedulers.specs.Made.{IsSchedFault}
+use Rattle.blk_schedulers.specs.declared.plans.Plan.{Plan}
+use Rattle.blk_schedulers.specs.declared.sched.SchedFault.{SchedFault}
 use Rattle.blk_text.specs.Script.{IsScript, script_rows}
 use Rattle.blk_text.specs.declared.setup.TheConstants.{LATEST}
-use Rattle.blk_words.specs.Asked.{AsksPlans}
-use Rattle.blk_words.specs.Times.{MAX_NUMBER}
-use Rattle.blk_words.specs.declared.blaming.BlameBy.{BlameBy}
-use Rattle.blk_words.specs.declared.blaming.BlameBy.TheVariants as by_whom
-use Rattle.blk_words.specs.declared.blaming.Blaming.{Blaming}
-use Rattle.blk_words.specs.declared.blaming.ShownBlame.{ShownBlame}
-use Rattle.blk_words.specs.declared.blaming.ShownBlame.TheVariants as shown_blame
-use Rattle.blk_words.specs.declared.blaming.TightestAsked.{TightestAsked}
-use Rattle.blk_words.specs.declared.words.Import.{Import}
-use Rattle.blk_words.specs.declared.replaying.GridReplaying.{GridReplaying}
-use Rattle.blk_words.specs.declared.replaying.Replaying.{Replaying}
-use Rattle.blk_words.specs.declared.replaying.ShownReplay.{ShownReplay}
-use Rattle.blk_words.specs.declared.replaying.ShownReplay.TheVariants as shown_as
-use Rattle.blk_words.specs.declared.words.Kept.{Kept}
-use Rattle.blk_words.specs.declared.words.Kept.TheVariants as kept
-use Rattle.blk_words.specs.declared.words.Written.{Written}
-use Rattle.blk_words.specs.declared.words.Written.TheVariants as written
+use Rattle.blk_args.specs.Asked.{AsksPlans}
+use Rattle.blk_args.specs.Times.{MAX_NUMBER}
+use Rattle.blk_args.specs.declared.blaming.BlameBy.{BlameBy}
+use Rattle.blk_args.specs.declared.blaming.BlameBy.TheVariants as by_whom
+use Rattle.blk_args.specs.declared.blaming.Blaming.{Blaming}
+use Rattle.blk_args.specs.declared.blaming.ShownBlame.{ShownBlame}
+use Rattle.blk_args.specs.declared.blaming.ShownBlame.TheVariants as shown_blame
+use Rattle.blk_args.specs.declared.blaming.TightestAsked.{TightestAsked}
+use Rattle.blk_args.specs.declared.words.Import.{Import}
+use Rattle.blk_args.specs.declared.replaying.GridReplaying.{GridReplaying}
+use Rattle.blk_args.specs.declared.replaying.Replaying.{Replaying}
+use Rattle.blk_args.specs.declared.replaying.ShownReplay.{ShownReplay}
+use Rattle.blk_args.specs.declared.replaying.ShownReplay.TheVariants as shown_as
+use Rattle.blk_args.specs.declared.words.Kept.{Kept}
+use Rattle.blk_args.specs.declared.words.Kept.TheVariants as kept
+use Rattle.blk_args.specs.declared.words.Written.{Written}
+use Rattle.blk_args.specs.declared.words.Written.TheVariants as written
 use Rattle.blk_capture_text.specs.Source.{IsCaptureRead, IsCaptureUnread}
 use Rattle.blk_capture_text.specs.declared.source.CaptureRead.{CaptureRead}
 use Rattle.blk_capture_text.specs.declared.source.Printed.{Printed}
 use Rattle.blk_capture_text.specs.declared.source.UnreadCapture.TheVariants as unread
 use Rattle.blk_capture.specs.declared.requests.Matched.{Matched}
-use Rattle.blk_cli.specs.Explaining.{IsUnexplained}
+use Rattle.blk_cli.specs.Explaining.{IsExplainFailure}
 use Rattle.blk_cli.specs.Notes.{IsDoubtTold, IsSourceTold}
 use Rattle.blk_cli.specs.Said.{Said, IsAlone}
 use Rattle.blk_cli.specs.declared.importing.TheConstants.{USUAL_TAGS}
@@ -136,10 +136,10 @@ pub record IsMadeOf (writes : List CapturedRequest → List ℕ → Type 0) (i :
   pub good : s.good ≡ true
 
 -- too many requests would be taken, or memory ran out
-abbrev pub IsUnshown : Import → List Record → Failure → Type 0
-IsUnshown i records (failure.Import f) = IsImportFault records (asked_of i) f
-IsUnshown i records failure.Memory = ⊤
-IsUnshown i records f = ⊥
+abbrev pub IsOutputFailure : Import → List Record → Failure → Type 0
+IsOutputFailure i records (failure.Import f) = IsImportFault records (asked_of i) f
+IsOutputFailure i records failure.Memory = ⊤
+IsOutputFailure i records f = ⊥
 
 -- by what the table of whose requests were late is put together, where there is one
 abbrev pub grouped_by : BlameBy → Option GroupedBy
@@ -161,14 +161,14 @@ pub record IsBlameCertificate (requests : List CapturedRequest) (text : List ℕ
   pub certificate : IsMostText (1, commands) text
 
 -- the least deadline of a direction's requests, which were due by the import
-abbrev pub aim_by : Import → ℕ → Bool → Aim
+abbrev pub aim_by : Import → ℕ → Bool → OnTimeTarget
 aim_by i share true = record { dir = Write; expire = i.write_expire; share = share }
 aim_by i share false = record { dir = Read; expire = i.read_expire; share = share }
 
-abbrev pub aim_of : Import → TightestAsked → Aim
+abbrev pub aim_of : Import → TightestAsked → OnTimeTarget
 aim_of i asked = aim_by i asked.share asked.writes
 
-abbrev pub IsTightestText : Form → Aim → List CapturedRequest → List ℕ → Type 0
+abbrev pub IsTightestText : Form → OnTimeTarget → List CapturedRequest → List ℕ → Type 0
 IsTightestText f aim requests text = (parts : List Part) × IsTightestAnswer requests aim parts × (text ≡ written_in f parts)
 
 -- this of those that are taken, as is asked for, and what is said beside it
@@ -188,9 +188,9 @@ IsNotReplayed why (failure.Sched f) = why f
 IsNotReplayed why failure.Memory = ⊤
 IsNotReplayed why f = ⊥
 
-abbrev pub IsUnreplayedOf : (SchedFault → Type 0) → Import → List Record → Failure → Type 0
-IsUnreplayedOf why i records (failure.Sched f) = why f
-IsUnreplayedOf why i records f = IsUnshown i records f
+abbrev pub IsReplayFailure : (SchedFault → Type 0) → Import → List Record → Failure → Type 0
+IsReplayFailure why i records (failure.Sched f) = why f
+IsReplayFailure why i records f = IsOutputFailure i records f
 
 -- what is asked of replays under each scheduler, and under each setting of a grid, whose settings are shown with their expiries
 abbrev pub each_wanted : Replaying → WantedReplays
@@ -218,10 +218,10 @@ pub record IsScripted (t : Terms) (records : List Record) (s : Said) : Type 0 wh
   pub alone : IsAlone s
 
 -- why they are none
-abbrev pub IsUnscripted : Terms → List Record → Failure → Type 0
-IsUnscripted t records (failure.Arrivals f) = (f ≡ arrivals.Memory) ⊎ IsFirstFault (script_rules t records) f
-IsUnscripted t records failure.Memory = ⊤
-IsUnscripted t records f = ⊥
+abbrev pub IsScriptFailure : Terms → List Record → Failure → Type 0
+IsScriptFailure t records (failure.Arrivals f) = (f ≡ arrivals.Memory) ⊎ IsFirstFault (script_rules t records) f
+IsScriptFailure t records failure.Memory = ⊤
+IsScriptFailure t records f = ⊥
 
 -- what is written of a capture whose records are kept, by what is asked for in words, and why nothing is
 abbrev pub IsImported : Kept → List (List ℕ) → Import → List Record → Said → Type 0
@@ -233,12 +233,12 @@ IsImported (kept.Replay r) words i records s = IsMadeOf (IsReplaysText (each_wan
 IsImported (kept.Grid g) words i records s = IsMadeOf (IsGridText words g) i records s
 IsImported (kept.Replayed p how) words i records s = IsMadeOf (IsOneReplayText p how records) i records s
 
-abbrev pub IsUnimported : Kept → List (List ℕ) → Import → List Record → Failure → Type 0
-IsUnimported (kept.Script round depth) words i records f = IsUnscripted (terms_of i round depth) records f
-IsUnimported (kept.Replay r) words i records f = IsUnreplayedOf (AreUnreplayed r.plans) i records f
-IsUnimported (kept.Grid g) words i records f = IsUnreplayedOf (IsGridUnreplayed words) i records f
-IsUnimported (kept.Replayed p how) words i records f = IsUnreplayedOf (IsUnmade p.sched) i records f
-IsUnimported k words i records f = IsUnshown i records f
+abbrev pub IsImportFailure : Kept → List (List ℕ) → Import → List Record → Failure → Type 0
+IsImportFailure (kept.Script round depth) words i records f = IsScriptFailure (terms_of i round depth) records f
+IsImportFailure (kept.Replay r) words i records f = IsReplayFailure (AreUnreplayed r.plans) i records f
+IsImportFailure (kept.Grid g) words i records f = IsReplayFailure (IsGridUnreplayed words) i records f
+IsImportFailure (kept.Replayed p how) words i records f = IsReplayFailure (IsSchedFault p.sched) i records f
+IsImportFailure k words i records f = IsOutputFailure i records f
 
 -- what is said of where a capture comes from is said before the note
 abbrev pub IsSaidFrom : Option Printed → List Record → Said → Said → Type 0
@@ -254,8 +254,8 @@ pub record IsWrittenOf (k : Kept) (words : List (List ℕ)) (i : Import) (read :
   pub said : IsSaidFrom read.printed read.records.items base s
 
 -- or nothing is, or memory ran out
-abbrev pub IsUnwrittenOf : Kept → List (List ℕ) → Import → CaptureRead → Failure → Type 0
-IsUnwrittenOf k words i read f = IsUnimported k words i read.records.items f ⊎ (f ≡ failure.Memory)
+abbrev pub IsReadCaptureFailure : Kept → List (List ℕ) → Import → CaptureRead → Failure → Type 0
+IsReadCaptureFailure k words i read f = IsImportFailure k words i read.records.items f ⊎ (f ≡ failure.Memory)
 
 -- bytes are a capture of the form that is asked for, or that its first lines tell, and this is written of it
 pub record IsImportedOf (k : Kept) (words : List (List ℕ)) (i : Import) (bytes : List ℕ) (s : Said) : Type 0 where
@@ -264,20 +264,20 @@ pub record IsImportedOf (k : Kept) (words : List (List ℕ)) (i : Import) (bytes
   pub written : IsWrittenOf k words i read s
 
 -- they are refused for their first fault
-abbrev pub IsUnreadFrom : Import → List ℕ → Failure → Type 0
-IsUnreadFrom i bytes (failure.Text f) = IsCaptureUnread i.source.form i.source.device bytes (unread.Text f)
-IsUnreadFrom i bytes (failure.Line f) = IsCaptureUnread i.source.form i.source.device bytes (unread.Line f)
-IsUnreadFrom i bytes failure.Memory = ⊤
-IsUnreadFrom i bytes f = ⊥
+abbrev pub IsCaptureTextFailure : Import → List ℕ → Failure → Type 0
+IsCaptureTextFailure i bytes (failure.Text f) = IsCaptureUnread i.source.form i.source.device bytes (unread.Text f)
+IsCaptureTextFailure i bytes (failure.Line f) = IsCaptureUnread i.source.form i.source.device bytes (unread.Line f)
+IsCaptureTextFailure i bytes failure.Memory = ⊤
+IsCaptureTextFailure i bytes f = ⊥
 
 -- or nothing is written of the capture that was read
 pub record IsRefusedFrom (k : Kept) (words : List (List ℕ)) (i : Import) (bytes : List ℕ) (f : Failure) : Type 0 where
   pub read : CaptureRead
   pub is_read : IsCaptureRead i.source.form i.source.device bytes read
-  pub refused : IsUnimported k words i read.records.items f
+  pub refused : IsImportFailure k words i read.records.items f
 
-abbrev pub IsUnimportedOf : Kept → List (List ℕ) → Import → List ℕ → Failure → Type 0
-IsUnimportedOf k words i bytes f = IsUnreadFrom i bytes f ⊎ IsRefusedFrom k words i bytes f
+abbrev pub IsImportBytesFailure : Kept → List (List ℕ) → Import → List ℕ → Failure → Type 0
+IsImportBytesFailure k words i bytes f = IsCaptureTextFailure i bytes f ⊎ IsRefusedFrom k words i bytes f
 
 -- the same of the bytes of the input, where these are known
 pub record IsImportedFrom (k : Kept) (words : List (List ℕ)) (i : Import) (input : Option (List ℕ)) (s : Said) : Type 0 where
@@ -288,11 +288,11 @@ pub record IsImportedFrom (k : Kept) (words : List (List ℕ)) (i : Import) (inp
 pub record IsRefusedInput (k : Kept) (words : List (List ℕ)) (i : Import) (input : Option (List ℕ)) (f : Failure) : Type 0 where
   pub bytes : List ℕ
   pub given : IfSome input (λ known. bytes ≡ known)
-  pub of : IsUnimportedOf k words i bytes f
+  pub of : IsImportBytesFailure k words i bytes f
 
 -- or the reader failed, or memory ran out
-abbrev pub IsUnimportedFrom : Kept → List (List ℕ) → Import → Option (List ℕ) → Bool → Failure → Type 0
-IsUnimportedFrom k words i input failed f = IsUnexplained failed f ⊎ IsRefusedInput k words i input f
+abbrev pub IsImportInputFailure : Kept → List (List ℕ) → Import → Option (List ℕ) → Bool → Failure → Type 0
+IsImportInputFailure k words i input failed f = IsExplainFailure failed f ⊎ IsRefusedInput k words i input f
 
 -- its numbers are written, which have the line among them, and what is said beside them
 pub record IsSummaryOf (i : Import) (records : List Record) (s : Said) : Type 0 where
@@ -326,23 +326,23 @@ pub record IsSummedFrom (i : Import) (input : Option (List ℕ)) (s : Said) : Ty
   pub summed : IsSummed i records printed s
 
 -- or they have a first fault, the reader failed, or memory ran out
-abbrev pub IsUnsummedFrom : Import → Option (List ℕ) → Bool → Failure → Type 0
-IsUnsummedFrom i input failed (failure.Text x) = IsOutside failed x.why ⊎ IsUntoldText i.source.form input x
-IsUnsummedFrom i input failed (failure.Line x) = IsUntoldInput i.source.form i.source.device input x
-IsUnsummedFrom i input failed failure.Memory = ⊤
-IsUnsummedFrom i input failed f = ⊥
+abbrev pub IsSummaryInputFailure : Import → Option (List ℕ) → Bool → Failure → Type 0
+IsSummaryInputFailure i input failed (failure.Text x) = IsOutside failed x.why ⊎ IsTextReadFault i.source.form input x
+IsSummaryInputFailure i input failed (failure.Line x) = IsInputReadFault i.source.form i.source.device input x
+IsSummaryInputFailure i input failed failure.Memory = ⊤
+IsSummaryInputFailure i input failed f = ⊥
 
 -- what is written of a capture by the bytes of the input, and why nothing is: in numbers or otherwise
 abbrev pub IsWrittenAs : Written → List (List ℕ) → Import → Option (List ℕ) → Said → Type 0
 IsWrittenAs written.Summary words i input s = IsSummedFrom i input s
 IsWrittenAs (written.Kept k) words i input s = IsImportedFrom k words i input s
 
-abbrev pub IsUnwrittenAs : Written → List (List ℕ) → Import → Option (List ℕ) → Bool → Failure → Type 0
-IsUnwrittenAs written.Summary words i input failed f = IsUnsummedFrom i input failed f
-IsUnwrittenAs (written.Kept k) words i input failed f = IsUnimportedFrom k words i input failed f
+abbrev pub IsWrittenInputFailure : Written → List (List ℕ) → Import → Option (List ℕ) → Bool → Failure → Type 0
+IsWrittenInputFailure written.Summary words i input failed f = IsSummaryInputFailure i input failed f
+IsWrittenInputFailure (written.Kept k) words i input failed f = IsImportInputFailure k words i input failed f
 
 abbrev pub IsCaptureWritten : List (List ℕ) → Import → Option (List ℕ) → Said → Type 0
 IsCaptureWritten words i input s = IsWrittenAs i.written words i input s
 
 abbrev pub IsCaptureFailure : List (List ℕ) → Import → Option (List ℕ) → Bool → Failure → Type 0
-IsCaptureFailure words i input failed f = IsUnwrittenAs i.written words i input failed f
+IsCaptureFailure words i input failed f = IsWrittenInputFailure i.written words i input failed f

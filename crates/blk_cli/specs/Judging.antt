@@ -9,7 +9,7 @@ use Rattle.blk_judge.specs.Answers.{judged_parts, missed_parts}
 use Rattle.blk_judge.specs.declared.missing.Miss.{Miss}
 use Rattle.blk_judge.specs.Judged.{IsRefusedSchedule, IsJudgement}
 use Rattle.blk_judge.specs.Late.{AreMissed}
-use Rattle.blk_lists.specs.Schedule.{ScheduleView}
+use Rattle.blk_records.specs.Schedule.{ScheduleView}
 use Rattle.blk_cli.specs.Said.{Said}
 use Rattle.blk_cli.specs.declared.failure.Failure.{Failure}
 use Rattle.blk_cli.specs.declared.failure.Failure.TheVariants as failure
@@ -41,7 +41,7 @@ abbrev pub TellsEmpty : ScheduleView → Said → Type 0
 TellsEmpty s said = (is_some said.note ≡ has_no_commands s) × (said.good ≡ true)
 
 -- the schedule isn't legal, or memory ran out
-abbrev pub IsUnjudged : ScheduleView → Failure → Type 0
-IsUnjudged s (failure.Check fault) = IsRefusedSchedule s.commands s.rounds (fixed s.depth) fault
-IsUnjudged s failure.Memory = ⊤
-IsUnjudged s f = ⊥
+abbrev pub IsJudgeFailure : ScheduleView → Failure → Type 0
+IsJudgeFailure s (failure.Check fault) = IsRefusedSchedule s.commands s.rounds (fixed s.depth) fault
+IsJudgeFailure s failure.Memory = ⊤
+IsJudgeFailure s f = ⊥

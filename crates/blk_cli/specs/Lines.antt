@@ -9,24 +9,24 @@ use Rattle.edd_oracle.specs.declared.OracleFault.{OracleFault}
 use Rattle.edd_oracle.specs.declared.OracleFault.TheVariants as oracle
 use Rattle.edd_check.specs.Names.{check_fault_name, on_time_fault_name}
 use Rattle.edd_oracle.specs.Names.{oracle_fault_name}
-use Rattle.blk_settings.specs.Names.{load_fault_name, sched_fault_name}
-use Rattle.blk_lists.specs.Names.{why_name}
+use Rattle.blk_schedulers.specs.Names.{load_fault_name, sched_fault_name}
+use Rattle.blk_records.specs.Names.{text_reason_name}
 use Rattle.blk_sim.specs.Names.{step_name}
-use Rattle.blk_settings.specs.declared.sched.SchedFault.{SchedFault}
-use Rattle.blk_settings.specs.declared.sched.SchedFault.TheVariants as setting
-use Rattle.blk_settings.specs.declared.fault.LoadFault.{LoadFault}
-use Rattle.blk_settings.specs.declared.fault.LoadFault.TheVariants as load
+use Rattle.blk_schedulers.specs.declared.sched.SchedFault.{SchedFault}
+use Rattle.blk_schedulers.specs.declared.sched.SchedFault.TheVariants as setting
+use Rattle.blk_schedulers.specs.declared.fault.LoadFault.{LoadFault}
+use Rattle.blk_schedulers.specs.declared.fault.LoadFault.TheVariants as load
 use Rattle.blk_capture_text.specs.declared.importing.ImportFault.{ImportFault}
 use Rattle.blk_capture_text.specs.declared.importing.ImportFault.TheVariants as capture
 use Rattle.blk_arrivals.specs.declared.terms.ArrivalsFault.{ArrivalsFault}
 use Rattle.blk_arrivals.specs.declared.terms.ArrivalsFault.TheVariants as arrivals
-use Rattle.blk_recorders.specs.Names.{line_why_name}
-use Rattle.blk_recorders.specs.declared.fault.LineWhy.{LineWhy}
-use Rattle.blk_recorders.specs.declared.fault.LineWhy.TheVariants as printed
-use Rattle.blk_lists.specs.declared.fault.Why.{Why}
-use Rattle.blk_lists.specs.declared.fault.Why.TheVariants as why
-use Rattle.blk_sim.specs.declared.refusal.SimWhy.{SimWhy}
-use Rattle.blk_sim.specs.declared.refusal.SimWhy.TheVariants as step
+use Rattle.blk_recorders.specs.Names.{line_reason_name}
+use Rattle.blk_recorders.specs.declared.fault.LineReason.{LineReason}
+use Rattle.blk_recorders.specs.declared.fault.LineReason.TheVariants as printed
+use Rattle.blk_records.specs.declared.fault.TextReason.{TextReason}
+use Rattle.blk_records.specs.declared.fault.TextReason.TheVariants as why
+use Rattle.blk_sim.specs.declared.refusal.SimReason.{SimReason}
+use Rattle.blk_sim.specs.declared.refusal.SimReason.TheVariants as step
 use Rattle.blk_cli.specs.declared.failure.Told.{Told}
 use Rattle.blk_cli.specs.declared.failure.Told.TheVariants as told
 use Rattle.blk_cli.specs.declared.failure.Failure.{Failure}
@@ -79,16 +79,16 @@ told_line name told.Write = write_fault
 told_line name told.Memory = want_of_memory
 
 -- what is said beside the name of a fault: its record, its id or its number, or that it came from outside
-abbrev pub text_told : ℕ → Why → Told
+abbrev pub text_told : ℕ → TextReason → Told
 text_told at why.Read = told.Read
 text_told at why.Memory = told.Memory
 text_told at w = told.AtRecord at
 
-abbrev pub line_told : ℕ → LineWhy → Told
+abbrev pub line_told : ℕ → LineReason → Told
 line_told at printed.Memory = told.Memory
 line_told at w = told.AtLine at
 
-abbrev pub step_told : ℕ → SimWhy → Told
+abbrev pub step_told : ℕ → SimReason → Told
 step_told at step.Memory = told.Memory
 step_told at w = told.AtRecord at
 
@@ -148,10 +148,10 @@ told_of failure.Write = told.Write
 told_of failure.Memory = told.Memory
 
 -- the line on a line that a recorder printed
-abbrev pub PrintedLine : ℕ → LineWhy → (List ℕ → Type 0) → Type 0
+abbrev pub PrintedLine : ℕ → LineReason → (List ℕ → Type 0) → Type 0
 PrintedLine at printed.Memory P = P want_of_memory
 PrintedLine at printed.TooLong P = OwnLine P
-PrintedLine at w P = P (at_line at (line_why_name w))
+PrintedLine at w P = P (at_line at (line_reason_name w))
 
 -- of what a capture is refused for, and of arrivals that are no script
 abbrev pub ImportLine : ImportFault → (List ℕ → Type 0) → Type 0
@@ -164,7 +164,7 @@ ArrivalsLine fault P = OwnLine P
 
 -- this holds of the line on a failure
 abbrev pub LineOn : Failure → (List ℕ → Type 0) → Type 0
-LineOn (failure.Text f) P = P (told_line (why_name f.why) (text_told f.at f.why))
+LineOn (failure.Text f) P = P (told_line (text_reason_name f.why) (text_told f.at f.why))
 LineOn (failure.Line f) P = PrintedLine f.at f.why P
 LineOn (failure.Sched f) P = P (told_line (sched_fault_name f) (sched_told f))
 LineOn (failure.Step f) P = P (told_line (step_name f.why) (step_told f.at f.why))

@@ -4,22 +4,22 @@ use Rattle.answer.specs.declared.names.TheConstants as names
 use Rattle.answer.specs.declared.value.Value.TheVariants.{Count}
 use Rattle.answer.specs.declared.answer.Part.{Part}
 use Rattle.answer.specs.declared.answer.Part.TheVariants.{Member}
-use Rattle.blk_settings.specs.declared.sched.Sched.{Sched}
+use Rattle.blk_schedulers.specs.declared.sched.Sched.{Sched}
 use Rattle.blk_cli.specs.declared.failure.Failure.{Failure}
 use Rattle.blk_cli.specs.declared.failure.Failure.TheVariants as failure
-use Rattle.blk_settings.specs.Made.{IsUnmade}
-use Rattle.blk_settings.specs.Ran.{IsRunUnder}
-use Rattle.blk_settings.specs.Faults.{IsLoadFault}
-use Rattle.blk_settings.specs.Settles.{IsSettled, served_bios}
-use Rattle.blk_settings.specs.declared.Loaded.{Loaded}
-use Rattle.blk_settings.specs.declared.Settled.{Settled}
-use Rattle.blk_settings.specs.declared.Unsettled.{Unsettled}
-use Rattle.blk_settings.specs.declared.Unsettled.TheVariants as unsettled
-use Rattle.blk_settings.specs.declared.numbers.Load.{Load}
+use Rattle.blk_schedulers.specs.Made.{IsSchedFault}
+use Rattle.blk_schedulers.specs.Ran.{IsRunUnder}
+use Rattle.blk_schedulers.specs.Faults.{IsLoadFault}
+use Rattle.blk_schedulers.specs.Settles.{IsSettled, served_bios}
+use Rattle.blk_schedulers.specs.declared.Loaded.{Loaded}
+use Rattle.blk_schedulers.specs.declared.Settled.{Settled}
+use Rattle.blk_schedulers.specs.declared.Unsettled.{Unsettled}
+use Rattle.blk_schedulers.specs.declared.Unsettled.TheVariants as unsettled
+use Rattle.blk_schedulers.specs.declared.numbers.Load.{Load}
 use Rattle.blk_trace.specs.Events.{AreOnce}
 use Rattle.blk_trace.specs.Traces.{Traced}
-use Rattle.blk_words.specs.declared.inputs.ShownLoad.{ShownLoad}
-use Rattle.blk_words.specs.declared.inputs.ShownLoad.TheVariants as shown
+use Rattle.blk_args.specs.declared.inputs.ShownLoad.{ShownLoad}
+use Rattle.blk_args.specs.declared.inputs.ShownLoad.TheVariants as shown
 use Rattle.blk_cli.specs.Forms.{written_in}
 use Rattle.blk_cli.specs.OfTraces.{IsTraceText}
 
@@ -43,11 +43,11 @@ pub record IsLoadOf (s : Sched) (w : ShownLoad) (l : Load) (text : List ℕ) : T
   pub is_text : IsLoadText w trace settled text
 
 -- why a load comes to nothing: its scheduler isn't made, or the load fails; nothing is read
-abbrev pub IsUnloaded : Sched → Load → Failure → Type 0
-IsUnloaded s l (failure.Sched f) = IsUnmade s f
-IsUnloaded s l (failure.Load f) = IsLoadFault l f
-IsUnloaded s l failure.Memory = ⊤
-IsUnloaded s l f = ⊥
+abbrev pub IsLoadFailure : Sched → Load → Failure → Type 0
+IsLoadFailure s l (failure.Sched f) = IsSchedFault s f
+IsLoadFailure s l (failure.Load f) = IsLoadFault l f
+IsLoadFailure s l failure.Memory = ⊤
+IsLoadFailure s l f = ⊥
 
 -- a text of a load under this scheduler with these numbers: what it ended with, where it ended so
 pub record IsTextOfRun (ends_as : Sched → Load → Result Loaded Unsettled → Type 0) (s : Sched) (l : Load) (w : ShownLoad) (text : List ℕ) : Type 0 where

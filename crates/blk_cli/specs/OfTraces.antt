@@ -4,13 +4,13 @@ use Rattle.edd_commands.specs.Capacity.{fixed}
 use Rattle.blk_trace.specs.Depths.{IsFixed, capacity_of}
 use Rattle.blk_trace.specs.Meaning.{commands_of}
 use Rattle.blk_trace.specs.Traces.{Traced}
-use Rattle.blk_lists.specs.Commands.{SpellsCommands, commands_rows}
-use Rattle.blk_lists.specs.Texts.{rows_text}
+use Rattle.blk_records.specs.Commands.{SpellsCommands, commands_rows}
+use Rattle.blk_records.specs.Texts.{rows_text}
 use Rattle.blk_text.specs.TraceForm.{trace_rows, SpellsTraceIn}
 use Rattle.blk_text.specs.declared.setup.TheConstants.{LATEST}
 use Rattle.blk_cli.specs.Figures.{IsFiguresText}
-use Rattle.blk_words.specs.declared.inputs.Telling.{Telling}
-use Rattle.blk_words.specs.declared.inputs.Telling.TheVariants as telling
+use Rattle.blk_args.specs.declared.inputs.TraceOutput.{TraceOutput}
+use Rattle.blk_args.specs.declared.inputs.TraceOutput.TheVariants as telling
 use Rattle.blk_cli.specs.declared.failure.Failure.{Failure}
 use Rattle.blk_cli.specs.declared.failure.Failure.TheVariants as failure
 use Rattle.blk_cli.specs.Inputs.{IsMemory}
@@ -27,19 +27,19 @@ pub record IsCommandsText (trace : Traced) (text : List ℕ) : Type 0 where
   pub is_text : text ≡ rows_text (commands_rows trace.setup.depth (commands_of trace.setup trace.events))
 
 -- what is said about a trace; what its picture shows, `drawing_of` of blk_picture says
-abbrev pub IsTellingText : Telling → Traced → List ℕ → Type 0
+abbrev pub IsTellingText : TraceOutput → Traced → List ℕ → Type 0
 IsTellingText telling.Whole trace text = IsTraceText trace text
 IsTellingText telling.Commands trace text = IsCommandsText trace text
 IsTellingText telling.Picture trace text = ⊤
 IsTellingText (telling.Figures asked f) trace text = IsFiguresText asked f trace text
 
 -- why a trace has no command list: an event sets a depth
-abbrev pub IsUnlisted : Traced → Failure → Type 0
-IsUnlisted trace failure.NotFixed = IsFixed trace.events → ⊥
-IsUnlisted trace failure.Memory = ⊤
-IsUnlisted trace f = ⊥
+abbrev pub IsTraceCommandsFailure : Traced → Failure → Type 0
+IsTraceCommandsFailure trace failure.NotFixed = IsFixed trace.events → ⊥
+IsTraceCommandsFailure trace failure.Memory = ⊤
+IsTraceCommandsFailure trace f = ⊥
 
 -- why nothing is said about it
-abbrev pub IsUntold : Telling → Traced → Failure → Type 0
-IsUntold telling.Commands trace f = IsUnlisted trace f
-IsUntold t trace f = IsMemory trace f
+abbrev pub IsTraceOutputFailure : TraceOutput → Traced → Failure → Type 0
+IsTraceOutputFailure telling.Commands trace f = IsTraceCommandsFailure trace f
+IsTraceOutputFailure t trace f = IsMemory trace f

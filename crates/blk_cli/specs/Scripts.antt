@@ -3,8 +3,8 @@ use Rattle.std.specs.Prelude.{⊤, ℕ, List}
 use Rattle.blk_trace.specs.Traces.{Traced}
 use Rattle.blk_text.specs.Script.{Scripted}
 use Rattle.blk_runs.specs.Runs.{IsTraceOfScript, IsRefusedUnder}
-use Rattle.blk_settings.specs.Made.{IsUnmade}
-use Rattle.blk_settings.specs.declared.sched.Sched.{Sched}
+use Rattle.blk_schedulers.specs.Made.{IsSchedFault}
+use Rattle.blk_schedulers.specs.declared.sched.Sched.{Sched}
 use Rattle.blk_cli.specs.OfTraces.{IsTraceText}
 use Rattle.blk_cli.specs.declared.failure.Failure.{Failure}
 use Rattle.blk_cli.specs.declared.failure.Failure.TheVariants as failure
@@ -17,7 +17,7 @@ pub record IsSimText (s : Sched) (script : Scripted) (text : List ℕ) : Type 0 
 
 -- its scheduler isn't made of its settings, or a step is refused
 abbrev pub FailsToRun : Sched → Scripted → Failure → Type 0
-FailsToRun s script (failure.Sched f) = IsUnmade s f
+FailsToRun s script (failure.Sched f) = IsSchedFault s f
 FailsToRun s script (failure.Step f) = IsRefusedUnder s script f
 FailsToRun s script failure.Memory = ⊤
 FailsToRun s script f = ⊥

@@ -5,18 +5,20 @@ ghost use Rattle.edd_commands.specs.declared.TheConstants.{MAX_COMMANDS};
 ghost use Rattle.blk_capture.specs.Requests.{AreInOrder, AreTimed};
 ghost use Rattle.blk_capture_text.specs.Imports.{first_time};
 ghost use Rattle.blk_cli.specs.Said.{said_of};
-ghost use Rattle.blk_cli.specs.Importing.{grouped_by, IsWholeBlame, IsEachBlame, IsBlameCertificate, aim_of, IsTightestText, IsBlamingText, IsMadeOf, IsUnshown};
+ghost use Rattle.blk_cli.specs.Importing.{grouped_by, IsWholeBlame, IsEachBlame, IsBlameCertificate, aim_of, IsTightestText, IsBlamingText, IsMadeOf, IsOutputFailure};
 
 use crate::Answered;
 use crate::failure::Failure;
 use crate::forms::written;
 use crate::lists::most_of;
 use crate::taken::take_requests;
+use blk_args::{BlameBy, Blaming, Form, Import, ShownBlame, TightestAsked};
 use blk_bio::Dir;
-use blk_blame::{Aim, GroupedBy, blame_answer, blame_picture, each_answer, tightest_answer};
+use blk_blame::{
+    GroupedBy, OnTimeTarget, blame_answer, blame_picture, each_answer, tightest_answer,
+};
 use blk_capture::{CapturedRequest, CountedSchedule, Record, rounds_of};
 use blk_capture_text::first_time;
-use blk_words::{BlameBy, Blaming, Form, Import, ShownBlame, TightestAsked};
 use std::alloc::{AllocError, Global};
 
 /// By what the table of whose requests were late is put together, where there is one.
@@ -80,17 +82,17 @@ fn certificate_of(alloc: Global, requests: &[CapturedRequest]) -> Result<Vec<u8>
 }
 
 /// Of which direction the tightest is asked for, by what its requests are due, and how many of them are to be on time.
-fn aim_of(wanted: Import, asked: TightestAsked) -> Aim
+fn aim_of(wanted: Import, asked: TightestAsked) -> OnTimeTarget
     ensures { result ≡ aim_of wanted asked }
 {
     if asked.writes {
-        Aim {
+        OnTimeTarget {
             dir: Dir::Write,
             expire: wanted.write_expire,
             share: asked.share,
         }
     } else {
-        Aim {
+        OnTimeTarget {
             dir: Dir::Read,
             expire: wanted.read_expire,
             share: asked.share,
@@ -102,7 +104,7 @@ fn aim_of(wanted: Import, asked: TightestAsked) -> Aim
 fn tightest_text(
     alloc: Global,
     form: Form,
-    aim: Aim,
+    aim: OnTimeTarget,
     requests: &[CapturedRequest],
 ) -> Result<Vec<u8>, AllocError>
     requires timed { AreTimed requests.now }
@@ -145,7 +147,7 @@ pub fn blamed(
 ) -> Result<Answered, Failure>
     requires { AreInOrder records.now (length records.now) }
     ensures answers { IfOk result (λ answer. IsMadeOf (IsBlamingText blaming wanted (first_time records.now)) wanted records.now (said_of answer)) }
-    ensures fails { IfErr result (IsUnshown wanted records.now) }
+    ensures fails { IfErr result (IsOutputFailure wanted records.now) }
 {
     let taken = match take_requests(alloc, wanted, records) {
         Ok(taken) => taken,

@@ -2,19 +2,19 @@
 
 ghost use Rattle.std.specs.Prelude.{◌≡◌, OnOk, IfOk, IfErr};
 ghost use Rattle.edd_commands.specs.Capacity.{fixed};
-ghost use Rattle.blk_lists.specs.Certificate.{IsClaim, claimed};
-ghost use Rattle.blk_lists.specs.OnTime.{on_time_claimed, IsOnTimeClaim};
-ghost use Rattle.blk_lists.specs.Proof.{OfLateness, OfOnTime, SpellsProof, ProofFault, proof_claimed, IsProofClaim};
+ghost use Rattle.blk_records.specs.Certificate.{IsClaim, claimed};
+ghost use Rattle.blk_records.specs.OnTime.{on_time_claimed, IsOnTimeClaim};
+ghost use Rattle.blk_records.specs.Proof.{OfLateness, OfOnTime, SpellsProof, ProofFault, proof_claimed, IsProofClaim};
 ghost use Rattle.blk_cli.specs.Inputs.{Of, FailsOver};
-ghost use Rattle.blk_cli.specs.Certificates.{IsProved, IsOnTimeProved, IsUnproved, IsOnTimeUnproved, IsCheckText, IsBad, sentence_parts, bound_parts, no_commands_parts, verdict_parts, on_time_verdict_parts};
+ghost use Rattle.blk_cli.specs.Certificates.{IsProved, IsOnTimeProved, IsClaimFailure, IsOnTimeUnproved, IsCheckText, IsBad, sentence_parts, bound_parts, no_commands_parts, verdict_parts, on_time_verdict_parts};
 ghost use Rattle.blk_cli.specs.Inside.Certificates.{IsCrowdingOf, IsBoundOf};
 
 use crate::failure::Failure;
 use crate::forms::written;
 use answer::names::{CARRIES, CARRY, LATENESS, LOAD, MET, OF, OUTSIDE, WINDOWS};
 use answer::{Answer, Cell, Layout, Line, Part, Value, Word};
-use blk_lists::{Certificate, OnTimeCertificate, Proof, Records, read_proof};
-use blk_words::Form;
+use blk_args::Form;
+use blk_records::{Certificate, OnTimeCertificate, Proof, Records, read_proof};
 use edd_check::{Bound, Crowding, check, check_on_time};
 use edd_commands::Capacity;
 use std::alloc::{AllocError, Global};
@@ -25,7 +25,7 @@ fn verify(alloc: Global, certificate: &Certificate) -> Result<Option<Crowding>, 
     requires { IsClaim (claimed certificate.now) }
     ensures proved { OnOk result (IsProved (claimed certificate.now)) }
     ensures crowding { IfOk result (IsCrowdingOf (claimed certificate.now) (claimed certificate.now).bound) }
-    ensures unproved { IfErr result (IsUnproved (claimed certificate.now)) }
+    ensures unproved { IfErr result (IsClaimFailure (claimed certificate.now)) }
 {
     let commands = certificate.commands.as_slice();
     let rounds = certificate.rounds.as_slice();
@@ -120,7 +120,7 @@ fn lateness_checked(
 ) -> Result<Vec<u8>, Failure>
     requires { IsClaim (claimed certificate.now) }
     ensures good { IfOk result (λ text. IsCheckText form (OfLateness (claimed certificate.now)) text.items) }
-    ensures unproved { IfErr result (IsUnproved (claimed certificate.now)) }
+    ensures unproved { IfErr result (IsClaimFailure (claimed certificate.now)) }
 {
     let crowding = match verify(alloc, certificate) {
         Ok(crowding) => crowding,

@@ -2,28 +2,28 @@
 
 ghost use Rattle.std.specs.Prelude.{◌≡◌, IfOk, IfErr, All, map, length};
 ghost use Rattle.blk_text.specs.Script.{IsScript, scripted};
-ghost use Rattle.blk_settings.specs.Made.{IsMade};
-ghost use Rattle.blk_settings.specs.Scheds.{name_of, in_turn};
+ghost use Rattle.blk_schedulers.specs.Made.{IsMade};
+ghost use Rattle.blk_schedulers.specs.Scheds.{name_of, in_turn};
 ghost use Rattle.blk_report.specs.Table.{IsTable};
-ghost use Rattle.blk_runs.specs.Runs.{IsUnrun};
+ghost use Rattle.blk_runs.specs.Runs.{IsRunFault};
 ghost use Rattle.blk_runs.specs.Firsts.{AreUnrun};
-ghost use Rattle.blk_cli.specs.Comparing.{IsReportUnder, AreReports, IsUncompared, IsComparedText};
+ghost use Rattle.blk_cli.specs.Comparing.{IsReportUnder, AreReports, IsCompareFailure, IsComparedText};
 
 use crate::failure::Failure;
 use crate::forms::written;
 use answer::Answer;
+use blk_args::Form;
 use blk_report::{Report, report, table_answer};
 use blk_runs::{RunFault, traced, unmade};
-use blk_settings::{Lineup, Sched};
+use blk_schedulers::{ComparedScheds, Sched};
 use blk_text::Script;
-use blk_words::Form;
 use std::alloc::{AllocError, Global};
 
 /// The report of the trace of a script under a scheduler.
 fn report_under(alloc: Global, sched: Sched, script: &Script) -> Result<Report, RunFault>
     requires { IsScript (scripted script.now) }
     ensures report { IfOk result (IsReportUnder sched (scripted script.now)) }
-    ensures unrun { IfErr result (IsUnrun sched (scripted script.now)) }
+    ensures unrun { IfErr result (IsRunFault sched (scripted script.now)) }
 {
     let trace = match traced(alloc, sched, script) {
         Ok(trace) => trace,
@@ -103,13 +103,13 @@ fn table_under(alloc: Global, scheds: &[Sched], reports: &[Report]) -> Result<An
 /// The table of the reports of a script under each scheduler of a lineup.
 pub fn table_of(
     alloc: Global,
-    lineup: Lineup,
+    lineup: ComparedScheds,
     form: Form,
     script: &Script,
 ) -> Result<Vec<u8>, Failure>
     requires { IsScript (scripted script.now) }
     ensures text { IfOk result (λ text. IsComparedText lineup form (scripted script.now) text.items) }
-    ensures uncompared { IfErr result (IsUncompared (in_turn lineup) (scripted script.now)) }
+    ensures uncompared { IfErr result (IsCompareFailure (in_turn lineup) (scripted script.now)) }
 {
     let Ok(scheds) = lineup.in_turn(alloc) else {
         return Err(Failure::Memory);

@@ -2,14 +2,14 @@
 
 ghost use Rattle.std.specs.Prelude.{◌≡◌, IfOk, IfErr};
 ghost use Rattle.edd_commands.specs.Capacity.{fixed};
-ghost use Rattle.blk_lists.specs.Schedule.{IsScheduleView, viewed, SpellsSchedule, ScheduleFault};
+ghost use Rattle.blk_records.specs.Schedule.{IsScheduleView, viewed, SpellsSchedule, ScheduleFault};
 ghost use Rattle.blk_cli.specs.Drawing.{IsScheduleDrawn};
 ghost use Rattle.blk_cli.specs.Inputs.{Of, FailsOver};
-ghost use Rattle.blk_cli.specs.Judging.{IsUnjudged};
+ghost use Rattle.blk_cli.specs.Judging.{IsJudgeFailure};
 
 use crate::failure::Failure;
 use blk_judge::schedule_picture;
-use blk_lists::{Records, Schedule, read_schedule};
+use blk_records::{Records, Schedule, read_schedule};
 use edd_commands::Capacity;
 use std::alloc::Global;
 use std::io::Read;
@@ -18,7 +18,7 @@ use std::io::Read;
 fn drawn(alloc: Global, schedule: &Schedule) -> Result<Vec<u8>, Failure>
     requires { IsScheduleView (viewed schedule.now) }
     ensures text { IfOk result (λ text. IsScheduleDrawn (viewed schedule.now) text.items) }
-    ensures fails { IfErr result (IsUnjudged (viewed schedule.now)) }
+    ensures fails { IfErr result (IsJudgeFailure (viewed schedule.now)) }
 {
     let Ok(capacity) = Capacity::fixed(alloc, schedule.depth) else {
         return Err(Failure::Memory);
@@ -38,7 +38,7 @@ pub fn draw_schedule<R: Read + Drop>(
 ) -> Result<Vec<u8>, Failure>
     requires { records.old.at ≡ 0 }
     ensures text { IfOk result (λ text. Of SpellsSchedule IsScheduleDrawn records.old.left text.items) }
-    ensures fails { IfErr result (FailsOver SpellsSchedule ScheduleFault IsUnjudged records.old.left records.new.failed) }
+    ensures fails { IfErr result (FailsOver SpellsSchedule ScheduleFault IsJudgeFailure records.old.left records.new.failed) }
 {
     let schedule = match read_schedule(alloc, records) {
         Ok(schedule) => schedule,

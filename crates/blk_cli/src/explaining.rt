@@ -4,20 +4,20 @@ ghost use Rattle.std.specs.Prelude.{◌≡◌, false, None, IfOk, IfErr};
 ghost use Rattle.blk_explain.specs.Findings.{rows_of};
 ghost use Rattle.blk_text.specs.Script.{IsScript, SpellsScript, scripted};
 ghost use Rattle.blk_cli.specs.Said.{said_of};
-ghost use Rattle.blk_cli.specs.Explaining.{IsScriptRun, IsStepIn, AreRowsExplained, IsPrintedExplained, IsTextExplained, IsUnexplained};
+ghost use Rattle.blk_cli.specs.Explaining.{IsScriptRun, IsStepIn, AreRowsExplained, IsPrintedExplained, IsTextExplained, IsExplainFailure};
 
 use crate::Answered;
 use crate::failure::Failure;
+use blk_args::{TextKind, takers_text};
 use blk_capture_text::form_taken;
 use blk_explain::{RefusedStep, StepState, TextForm, explain, explain_lines, explain_step};
-use blk_lists::{Records, read_commands};
 use blk_recorders::{CaptureForm, Recorder};
+use blk_records::{Records, read_commands};
 use blk_runs::{RunFault, traced};
-use blk_settings::setting::MAX_SETTINGS;
-use blk_settings::{Sched, SchedKind};
-use blk_sim::{SimFault, SimWhy};
+use blk_schedulers::setting::MAX_SETTINGS;
+use blk_schedulers::{Sched, SchedKind};
+use blk_sim::{SimFault, SimReason};
 use blk_text::{Script, read_script, read_trace};
-use blk_words::{TextKind, takers_text};
 use edd_commands::Capacity;
 use edd_oracle::{OracleFault, solve};
 use std::alloc::{AllocError, Global};
@@ -136,20 +136,20 @@ fn lines_about(alloc: Global, recorder: Recorder, bytes: &[u8]) -> Result<Answer
 }
 
 /// What refuses a step: of most what the step has to be instead.
-fn state_of(why: SimWhy) -> StepState {
+fn state_of(why: SimReason) -> StepState {
     StepState::Other(match why {
-        SimWhy::SoftFull(overflow) => {
+        SimReason::SoftFull(overflow) => {
             return StepState::Full(overflow.holds, overflow.room, overflow.brings);
         }
-        SimWhy::Repeated(id) => return StepState::Entered(id),
-        SimWhy::Full => "a flush of the plug before",
-        SimWhy::TraceFull => "no more events than a trace may have",
-        SimWhy::TagRange => "a tag below the depth of the round",
-        SimWhy::SlotUsed => "a tag that was not issued in this round",
-        SimWhy::NotIssued => "a tag with a command in flight",
-        SimWhy::InFlight => "no command in flight at the end of a round",
-        SimWhy::DepthRange => "a depth of 1 to that of the title",
-        SimWhy::Memory => "more memory",
+        SimReason::Repeated(id) => return StepState::Entered(id),
+        SimReason::Full => "a flush of the plug before",
+        SimReason::TraceFull => "no more events than a trace may have",
+        SimReason::TagRange => "a tag below the depth of the round",
+        SimReason::SlotUsed => "a tag that was not issued in this round",
+        SimReason::NotIssued => "a tag with a command in flight",
+        SimReason::InFlight => "no command in flight at the end of a round",
+        SimReason::DepthRange => "a depth of 1 to that of the title",
+        SimReason::Memory => "more memory",
     })
 }
 
@@ -176,7 +176,7 @@ fn refused_in(alloc: Global, bytes: &[u8]) -> Result<Option<SimFault>, AllocErro
     match traced(alloc, none, &script) {
         Ok(_) => Ok(None),
         Err(RunFault::Step(fault)) => {
-            if fault.why == SimWhy::Memory {
+            if fault.why == SimReason::Memory {
                 return Err(AllocError);
             }
             Ok(Some(fault))
@@ -252,7 +252,7 @@ pub fn over_bytes<R: Read + Drop>(
     records: &mut Records<R>,
 ) -> Result<Answered, Failure>
     ensures answers { IfOk result (λ answer. IsTextExplained records.old.bytes (said_of answer)) }
-    ensures fails { IfErr result (IsUnexplained records.new.failed) }
+    ensures fails { IfErr result (IsExplainFailure records.new.failed) }
 {
     let bytes = match records.bytes(alloc) {
         Ok(bytes) => bytes,

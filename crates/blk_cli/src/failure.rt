@@ -1,26 +1,26 @@
 //! Why the program ends without its output, as a line and an exit status.
 
 ghost use Rattle.std.specs.Prelude.{◌≡◌, ◌≤◌, decimal};
-ghost use Rattle.drafts.specs.Outputs.{Writes, stream_of};
+ghost use Rattle.text_output.specs.Outputs.{Writes, stream_of};
 ghost use Rattle.blk_cli.specs.Lines.{line, want_of_memory, numbered, signed_line, at_record, more_line, at_line, told_of, told_line, status_of, OwnLine, PrintedLine, ImportLine, ArrivalsLine, LineOn};
 ghost use Rattle.blk_cli.specs.Ends.{EndsFailing};
 ghost use Rattle.blk_cli.specs.Inside.Scripts.{failure_of_run};
 
 use crate::{COMMAND_LINE, Ended, FAILED, REFUSED};
+use blk_args::Refusal;
 use blk_arrivals::ArrivalsFault;
 use blk_capture_text::ImportFault;
-use blk_lists::{TextFault, Why};
-use blk_recorders::{LineFault, LineWhy};
+use blk_recorders::{LineFault, LineReason};
+use blk_records::{TextFault, TextReason};
 use blk_runs::RunFault;
-use blk_settings::given::MAX_LISTED;
-use blk_settings::{Complaint, LoadFault, SchedFault};
-use blk_sim::{SimFault, SimWhy};
-use blk_words::Refusal;
-use drafts::pieces::{MAX_DIGITS, put_number};
-use drafts::{Output, WriteFault};
+use blk_schedulers::given::MAX_LISTED;
+use blk_schedulers::{Complaint, LoadFault, SchedFault};
+use blk_sim::{SimFault, SimReason};
 use edd_check::{CheckFault, OnTimeFault};
 use edd_oracle::OracleFault;
 use std::io::Write;
+use text_output::pieces::{MAX_DIGITS, put_number};
+use text_output::{Output, WriteFault};
 
 /// What each line begins with.
 const START: &[u8] = b"blk: ";
@@ -104,16 +104,16 @@ impl Failure {
     {
         match *self {
             Failure::Text(fault) => match fault.why {
-                Why::Read => Told::Read,
-                Why::Memory => Told::Memory,
+                TextReason::Read => Told::Read,
+                TextReason::Memory => Told::Memory,
                 _ => Told::AtRecord(fault.at),
             },
             Failure::Line(fault) => match fault.why {
-                LineWhy::Memory => Told::Memory,
+                LineReason::Memory => Told::Memory,
                 _ => Told::AtLine(fault.at),
             },
             Failure::Step(fault) => match fault.why {
-                SimWhy::Memory => Told::Memory,
+                SimReason::Memory => Told::Memory,
                 _ => Told::AtRecord(fault.at),
             },
             Failure::Sched(SchedFault::Memory)
@@ -246,12 +246,12 @@ pub(crate) fn tell_more<F: Write>(
 }
 
 /// Writes the line on a line that a recorder printed.
-fn tell_line<F: Write>(faults: &mut Output<F>, at: u64, why: LineWhy) -> Result<(), WriteFault>
+fn tell_line<F: Write>(faults: &mut Output<F>, at: u64, why: LineReason) -> Result<(), WriteFault>
     ensures { PrintedLine at why (λ text. Writes text (stream_of F.contents faults.old) (stream_of F.contents faults.new) result) }
 {
     match why {
-        LineWhy::Memory => tell_memory(faults),
-        LineWhy::TooLong => tell_line_name(faults, at, TOO_LONG),
+        LineReason::Memory => tell_memory(faults),
+        LineReason::TooLong => tell_line_name(faults, at, TOO_LONG),
         _ => tell_line_name(faults, at, why.name()),
     }
 }

@@ -4,12 +4,12 @@ ghost use Rattle.std.specs.Prelude.{IfOk};
 ghost use Rattle.blk_cli.specs.Figures.{IsLateText, IsMissesText, IsSpreadText, IsReportText, IsFiguresText};
 
 use crate::forms::written;
+use blk_args::{FiguresAsked, Form};
 use blk_report::{
     late, late_answer, misses, misses_answer, report, report_answer, services, spread,
     spread_answer,
 };
 use blk_trace::Trace;
-use blk_words::{FiguresAsked, Form};
 use std::alloc::{AllocError, Global};
 
 /// What is written of the late commands of a trace.

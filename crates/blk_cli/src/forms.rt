@@ -4,7 +4,7 @@ ghost use Rattle.std.specs.Prelude.{◌≡◌, IfOk};
 ghost use Rattle.blk_cli.specs.Forms.{written_in};
 
 use answer::{Answer, json, lines};
-use blk_words::Form;
+use blk_args::Form;
 use std::alloc::{AllocError, Global};
 
 /// An answer in this form. Fails only when out of memory.

@@ -8,8 +8,8 @@ ghost use Rattle.blk_capture_text.specs.Source.{IsCaptureRead};
 ghost use Rattle.blk_capture_text.specs.Streaming.{HasStreamed};
 ghost use Rattle.blk_capture_text.specs.Streams.{IsSummable};
 ghost use Rattle.blk_cli.specs.Said.{said_of};
-ghost use Rattle.blk_cli.specs.Importing.{entry_asked, most_asked, asked_of, terms_of, IsMadeOf, IsUnshown, IsScripted, IsUnscripted, IsImported, IsUnimported, noted, tags_asked, SaysFrom, IsImportedFrom, IsUnreadFrom, IsWrittenOf, IsUnwrittenOf, SumsUp, IsSummedFrom, IsCaptureWritten};
-ghost use Rattle.blk_cli.specs.Ends.{IsFailureOf, IsUntaken, IsUnsummed, IsUnsummedFor, IsCaptureUnwritten};
+ghost use Rattle.blk_cli.specs.Importing.{entry_asked, most_asked, asked_of, terms_of, IsMadeOf, IsOutputFailure, IsScripted, IsScriptFailure, IsImported, IsImportFailure, noted, tags_asked, SaysFrom, IsImportedFrom, IsCaptureTextFailure, IsWrittenOf, IsReadCaptureFailure, SumsUp, IsSummedFrom, IsCaptureWritten};
+ghost use Rattle.blk_cli.specs.Ends.{IsFailureOf, IsImportNoText, IsSummaryNoText, IsSummaryFaultNoText, IsCaptureUnwritten};
 
 use crate::blaming::blamed;
 use crate::failure::Failure;
@@ -18,14 +18,14 @@ use crate::replaying::{replayed, replayed_grid, replayed_once};
 use crate::taken::take_requests;
 use crate::{Answered, NoText, without};
 use answer::lines;
+use blk_args::{Import, Job, Kept, Written};
 use blk_arrivals::{Terms, USUAL_DEPTH, script_of, script_text};
 use blk_capture::{Entry, Options, Record};
 use blk_capture_text::{
     CaptureRead, ImportAsked, Printed, RecordCounts, ShownImport, StreamedCapture, UnreadCapture,
     Unstreamed, read_source, shown_text, stream_source, summary_answer,
 };
-use blk_lists::{Records, TextFault};
-use blk_words::{Import, Job, Kept, Written};
+use blk_records::{Records, TextFault};
 use std::alloc::{AllocError, Global};
 use std::io::Read;
 use std::thread::Threads;
@@ -121,7 +121,7 @@ fn shown_of(
 ) -> Result<Answered, Failure>
     requires { AreInOrder records.now (length records.now) }
     ensures answers { IfOk result (λ answer. IsMadeOf (IsShown shown records.now) wanted records.now (said_of answer)) }
-    ensures fails { IfErr result (IsUnshown wanted records.now) }
+    ensures fails { IfErr result (IsOutputFailure wanted records.now) }
 {
     let taken = match take_requests(alloc, wanted, records) {
         Ok(taken) => taken,
@@ -137,7 +137,7 @@ fn shown_of(
 fn scripted(alloc: Global, terms: Terms, records: &[Record]) -> Result<Answered, Failure>
     requires { AreInOrder records.now (length records.now) }
     ensures answers { IfOk result (λ answer. IsScripted terms records.now (said_of answer)) }
-    ensures fails { IfErr result (IsUnscripted terms records.now) }
+    ensures fails { IfErr result (IsScriptFailure terms records.now) }
 {
     let script = match script_of(alloc, records, &terms) {
         Ok(script) => script,
@@ -165,7 +165,7 @@ fn imported<T: Threads + Sync, P: Progress>(
 ) -> Result<Answered, Failure>
     requires { AreInOrder records.now (length records.now) }
     ensures answers { IfOk result (λ answer. IsImported kept (map string_bytes words.now) wanted records.now (said_of answer)) }
-    ensures fails { IfErr result (IsUnimported kept (map string_bytes words.now) wanted records.now) }
+    ensures fails { IfErr result (IsImportFailure kept (map string_bytes words.now) wanted records.now) }
 {
     match kept {
         Kept::Schedule => shown_of(alloc, wanted, ShownImport::Schedule, records),
@@ -205,7 +205,7 @@ fn with_source(
 fn capture_of(alloc: Global, wanted: Import, bytes: &[u8]) -> Result<CaptureRead, Failure>
     ensures ok { IfOk result (IsCaptureRead wanted.source.form wanted.source.device bytes.now) }
     ensures in_order { IfOk result (λ r. AreInOrder r.records.items (length r.records.items)) }
-    ensures err { IfErr result (IsUnreadFrom wanted bytes.now) }
+    ensures err { IfErr result (IsCaptureTextFailure wanted bytes.now) }
 {
     match read_source(alloc, wanted.source.form, wanted.source.device, bytes) {
         Ok(read) => Ok(read),
@@ -227,7 +227,7 @@ fn over_read<T: Threads + Sync, P: Progress>(
 ) -> Result<Answered, Failure>
     requires { AreInOrder read.now.records.items (length read.now.records.items) }
     ensures answers { IfOk result (λ answer. IsWrittenOf kept (map string_bytes words.now) wanted read.now (said_of answer)) }
-    ensures fails { IfErr result (IsUnwrittenOf kept (map string_bytes words.now) wanted read.now) }
+    ensures fails { IfErr result (IsReadCaptureFailure kept (map string_bytes words.now) wanted read.now) }
 {
     let answer = match imported(
         rt,
@@ -303,7 +303,7 @@ fn summed(alloc: Global, wanted: Import, capture: StreamedCapture) -> Result<Ans
 
 /// Why there are no numbers of a capture. More is said of the title of a text that is none.
 fn unsummed(alloc: Global, wanted: Import, fault: Unstreamed, at: u64) -> NoText
-    ensures { IsUnsummedFor wanted fault result }
+    ensures { IsSummaryFaultNoText wanted fault result }
 {
     match fault {
         Unstreamed::Text(fault, bytes) => {
@@ -322,7 +322,7 @@ fn over_summary<R: Read + Drop>(
     records: &mut Records<R>,
 ) -> Result<Answered, NoText>
     ensures answers { IfOk result (λ a. IsSummedFrom wanted records.old.bytes (said_of a)) }
-    ensures fails { IfErr result (IsUnsummed wanted records.old.bytes records.new.failed) }
+    ensures fails { IfErr result (IsSummaryNoText wanted records.old.bytes records.new.failed) }
 {
     let options = asked_of(wanted).options;
     let source = wanted.source;
@@ -348,7 +348,7 @@ fn over_whole<T: Threads + Sync, R: Read + Drop, P: Progress>(
     progress: &mut P,
 ) -> Result<Answered, NoText>
     ensures answers { IfOk result (λ answer. IsImportedFrom kept (map string_bytes words.now) wanted records.old.bytes (said_of answer)) }
-    ensures fails { IfErr result (IsUntaken kept (map string_bytes words.now) wanted records.old.bytes records.new.failed) }
+    ensures fails { IfErr result (IsImportNoText kept (map string_bytes words.now) wanted records.old.bytes records.new.failed) }
 {
     let bytes = match records.bytes(alloc) {
         Ok(bytes) => bytes,

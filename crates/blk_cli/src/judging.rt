@@ -2,16 +2,16 @@
 
 ghost use Rattle.std.specs.Prelude.{◌≡◌, IfOk, IfErr, is_some, option_map};
 ghost use Rattle.edd_commands.specs.Capacity.{fixed};
-ghost use Rattle.blk_lists.specs.Schedule.{IsScheduleView, viewed, SpellsSchedule, ScheduleFault};
+ghost use Rattle.blk_records.specs.Schedule.{IsScheduleView, viewed, SpellsSchedule, ScheduleFault};
 ghost use Rattle.blk_cli.specs.Inputs.{Of, FailsOver};
-ghost use Rattle.blk_cli.specs.Judging.{IsWholeText, IsEachText, IsJudgedText, IsUnjudged, has_no_commands, TellsEmpty};
+ghost use Rattle.blk_cli.specs.Judging.{IsWholeText, IsEachText, IsJudgedText, IsJudgeFailure, has_no_commands, TellsEmpty};
 ghost use Rattle.blk_cli.specs.Said.{said_of};
 
 use crate::Answered;
 use crate::failure::Failure;
 use answer::lines;
 use blk_judge::{judge, judged_answer, late_of, missed_answer};
-use blk_lists::{Records, Schedule, read_schedule};
+use blk_records::{Records, Schedule, read_schedule};
 use edd_commands::Capacity;
 use std::alloc::{AllocError, Global};
 use std::io::Read;
@@ -28,7 +28,7 @@ fn whole(
     requires ran { IsScheduleView (viewed schedule.now) }
     requires capacity { capacity.now ≡ fixed schedule.now.depth }
     ensures text { IfOk result (λ text. IsWholeText (viewed schedule.now) text.items) }
-    ensures fails { IfErr result (IsUnjudged (viewed schedule.now)) }
+    ensures fails { IfErr result (IsJudgeFailure (viewed schedule.now)) }
 {
     let commands = schedule.commands.as_slice();
     let rounds = schedule.rounds.as_slice();
@@ -54,7 +54,7 @@ fn each_late(
     requires ran { IsScheduleView (viewed schedule.now) }
     requires capacity { capacity.now ≡ fixed schedule.now.depth }
     ensures text { IfOk result (λ text. IsEachText (viewed schedule.now) text.items) }
-    ensures fails { IfErr result (IsUnjudged (viewed schedule.now)) }
+    ensures fails { IfErr result (IsJudgeFailure (viewed schedule.now)) }
 {
     let commands = schedule.commands.as_slice();
     let rounds = schedule.rounds.as_slice();
@@ -75,7 +75,7 @@ fn each_late(
 fn judged(alloc: Global, each: bool, schedule: &Schedule) -> Result<Vec<u8>, Failure>
     requires { IsScheduleView (viewed schedule.now) }
     ensures text { IfOk result (λ text. IsJudgedText each (viewed schedule.now) text.items) }
-    ensures fails { IfErr result (IsUnjudged (viewed schedule.now)) }
+    ensures fails { IfErr result (IsJudgeFailure (viewed schedule.now)) }
 {
     let Ok(capacity) = Capacity::fixed(alloc, schedule.depth) else {
         return Err(Failure::Memory);
@@ -104,7 +104,7 @@ fn judge_answer(alloc: Global, each: bool, schedule: &Schedule) -> Result<Answer
     requires { IsScheduleView (viewed schedule.now) }
     ensures text { IfOk result (λ a. IsJudgedText each (viewed schedule.now) (said_of a).text) }
     ensures beside { IfOk result (λ a. TellsEmpty (viewed schedule.now) (said_of a)) }
-    ensures fails { IfErr result (IsUnjudged (viewed schedule.now)) }
+    ensures fails { IfErr result (IsJudgeFailure (viewed schedule.now)) }
 {
     let text = match judged(alloc, each, schedule) {
         Ok(text) => text,
@@ -129,7 +129,7 @@ pub fn over_schedule<R: Read + Drop>(
     requires { records.old.at ≡ 0 }
     ensures text { IfOk result (λ a. Of SpellsSchedule (IsJudgedText each) records.old.left (said_of a).text) }
     ensures beside { IfOk result (λ a. Of SpellsSchedule TellsEmpty records.old.left (said_of a)) }
-    ensures fails { IfErr result (FailsOver SpellsSchedule ScheduleFault IsUnjudged records.old.left records.new.failed) }
+    ensures fails { IfErr result (FailsOver SpellsSchedule ScheduleFault IsJudgeFailure records.old.left records.new.failed) }
 {
     let schedule = match read_schedule(alloc, records) {
         Ok(schedule) => schedule,

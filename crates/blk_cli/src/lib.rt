@@ -2,7 +2,7 @@
 #![tactic(auto)]
 
 ghost use Rattle.std.specs.Prelude.{◌≡◌, ◌≤◌, IfOk, IfErr, Result, map, string_bytes};
-ghost use Rattle.drafts.specs.Outputs.{stream_of};
+ghost use Rattle.text_output.specs.Outputs.{stream_of};
 ghost use Rattle.blk_cli.specs.Said.{only, said_of, IsAlone};
 ghost use Rattle.blk_cli.specs.Gives.{GivesText, TellsOf, HasNoText, GivesAnswer, HasNoAnswer, ReadsNothing, version_line};
 ghost use Rattle.blk_cli.specs.Ends.{Answers, AskForGood, AskForNoInput, AskForTexts, IsWithout, IsWithoutAnswer, IsFailureOf, says_more, line_told, status_with, SaysBeside, EndsSaying, EndsWithout, RunEndsOn, EndsAs, HasRun, IsRunOf};
@@ -43,16 +43,16 @@ use crate::scripts::over_script;
 use crate::titles::more_of;
 use crate::traces::over_trace;
 use crate::tuning::over_trial;
-use blk_lists::{Records, TextFault, Why};
-use blk_settings::Loads;
+use blk_args::{Job, NoJob, TextJob, choose, version};
+use blk_records::{Records, TextFault, TextReason};
+use blk_schedulers::Loads;
 pub use blk_sim::laws;
-use blk_words::{Job, NoJob, TextJob, choose, version};
 use csv::ByteRecord;
-use drafts::Output;
 use std::alloc::Global;
 use std::io::{Read, Write};
 use std::sync::Wait;
 use std::thread::Threads;
+use text_output::Output;
 use turns::Progress;
 
 /// The exit status of a run that did what it was asked.
@@ -236,11 +236,11 @@ fn work<R: Read + Drop>(
 }
 
 /// Whether more is said of a fault than its name.
-fn says_more(why: Why) -> bool
+fn says_more(why: TextReason) -> bool
     ensures { result ≡ says_more why }
 {
     match why {
-        Why::Title | Why::TooLong => true,
+        TextReason::Title | TextReason::TooLong => true,
         _ => false,
     }
 }

@@ -1,17 +1,17 @@
 //! The jobs over a command list: certificates of what is least and of what is most.
 
 ghost use Rattle.std.specs.Prelude.{◌≡◌, IfOk, IfErr};
-ghost use Rattle.blk_lists.specs.Commands.{AreCommands, CommandsFault};
-ghost use Rattle.blk_lists.specs.Certificate.{IsClaim, claimed};
-ghost use Rattle.blk_lists.specs.OnTime.{IsOnTimeClaim, on_time_claimed};
+ghost use Rattle.blk_records.specs.Commands.{AreCommands, CommandsFault};
+ghost use Rattle.blk_records.specs.Certificate.{IsClaim, claimed};
+ghost use Rattle.blk_records.specs.OnTime.{IsOnTimeClaim, on_time_claimed};
 ghost use Rattle.blk_cli.specs.Inputs.{Of, FailsOver};
-ghost use Rattle.blk_cli.specs.Certificates.{SpellsList, IsProved, IsOnTimeProved, IsSolved, IsUnsolved};
+ghost use Rattle.blk_cli.specs.Certificates.{SpellsList, IsProved, IsOnTimeProved, IsSolved, IsOracleFailure};
 
 use crate::failure::Failure;
-use blk_lists::{
+use blk_args::Solving;
+use blk_records::{
     Certificate, OnTimeCertificate, Records, certificate_text, on_time_text, read_commands,
 };
-use blk_words::Solving;
 use edd_commands::{Capacity, Command};
 use edd_oracle::{most_on_time, solve};
 use std::alloc::Global;
@@ -24,7 +24,7 @@ fn certify(alloc: Global, depth: u64, commands: Vec<Command>) -> Result<Certific
     ensures commands { IfOk result (λ c. c.commands.items ≡ commands.items) }
     ensures in_range { IfOk result (λ c. IsClaim (claimed c)) }
     ensures proved { IfOk result (λ c. IsProved (claimed c)) }
-    ensures unsolved { IfErr result (IsUnsolved (depth, commands.items)) }
+    ensures unsolved { IfErr result (IsOracleFailure (depth, commands.items)) }
 {
     let Ok(capacity) = Capacity::fixed(alloc, depth) else {
         return Err(Failure::Memory);
@@ -57,7 +57,7 @@ fn certify_on_time(
     ensures commands { IfOk result (λ c. c.commands.items ≡ commands.items) }
     ensures in_range { IfOk result (λ c. IsOnTimeClaim (on_time_claimed c)) }
     ensures proved { IfOk result (λ c. IsOnTimeProved (on_time_claimed c)) }
-    ensures unsolved { IfErr result (IsUnsolved (depth, commands.items)) }
+    ensures unsolved { IfErr result (IsOracleFailure (depth, commands.items)) }
 {
     let Ok(capacity) = Capacity::fixed(alloc, depth) else {
         return Err(Failure::Memory);
@@ -78,7 +78,7 @@ fn certify_on_time(
 fn least_of(alloc: Global, depth: u64, commands: Vec<Command>) -> Result<Vec<u8>, Failure>
     requires { AreCommands depth commands.items }
     ensures text { IfOk result (λ text. IsSolved Solving.Least (depth, commands.items) text.items) }
-    ensures unsolved { IfErr result (IsUnsolved (depth, commands.items)) }
+    ensures unsolved { IfErr result (IsOracleFailure (depth, commands.items)) }
 {
     let certificate = match certify(alloc, depth, commands) {
         Ok(certificate) => certificate,
@@ -94,7 +94,7 @@ fn least_of(alloc: Global, depth: u64, commands: Vec<Command>) -> Result<Vec<u8>
 pub(crate) fn most_of(alloc: Global, depth: u64, commands: Vec<Command>) -> Result<Vec<u8>, Failure>
     requires { AreCommands depth commands.items }
     ensures text { IfOk result (λ text. IsSolved Solving.Most (depth, commands.items) text.items) }
-    ensures unsolved { IfErr result (IsUnsolved (depth, commands.items)) }
+    ensures unsolved { IfErr result (IsOracleFailure (depth, commands.items)) }
 {
     let certificate = match certify_on_time(alloc, depth, commands) {
         Ok(certificate) => certificate,
@@ -115,7 +115,7 @@ fn solved(
 ) -> Result<Vec<u8>, Failure>
     requires { AreCommands depth commands.items }
     ensures text { IfOk result (λ text. IsSolved solving (depth, commands.items) text.items) }
-    ensures unsolved { IfErr result (IsUnsolved (depth, commands.items)) }
+    ensures unsolved { IfErr result (IsOracleFailure (depth, commands.items)) }
 {
     match solving {
         Solving::Least => least_of(alloc, depth, commands),
@@ -131,7 +131,7 @@ pub fn over_list<R: Read + Drop>(
 ) -> Result<Vec<u8>, Failure>
     requires { records.old.at ≡ 0 }
     ensures text { IfOk result (λ text. Of SpellsList (IsSolved solving) records.old.left text.items) }
-    ensures fails { IfErr result (FailsOver SpellsList CommandsFault IsUnsolved records.old.left records.new.failed) }
+    ensures fails { IfErr result (FailsOver SpellsList CommandsFault IsOracleFailure records.old.left records.new.failed) }
 {
     let (depth, commands) = match read_commands(alloc, records) {
         Ok(list) => list,

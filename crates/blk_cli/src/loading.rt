@@ -2,15 +2,15 @@
 
 ghost use Rattle.std.specs.Prelude.{◌≡◌, IfOk, IfErr};
 ghost use Rattle.blk_cli.specs.Forms.{written_in};
-ghost use Rattle.blk_cli.specs.Loading.{IsLoadText, IsLoadOf, IsTextOfRun, IsFailureOfRun, IsUnloaded, load_parts};
+ghost use Rattle.blk_cli.specs.Loading.{IsLoadText, IsLoadOf, IsTextOfRun, IsFailureOfRun, IsLoadFailure, load_parts};
 
 use crate::failure::Failure;
 use crate::forms::written;
 use answer::names::{ACCEPTED, LEFT, SERVED};
 use answer::{Answer, Value, member};
-use blk_settings::{Load, Loaded, Loads, Sched, Settled, Unsettled};
+use blk_args::{Form, ShownLoad};
+use blk_schedulers::{Load, Loaded, Loads, Sched, Settled, Unsettled};
 use blk_text::trace_text;
-use blk_words::{Form, ShownLoad};
 use std::alloc::{AllocError, Global};
 use std::sync::Wait;
 use std::thread::Threads;
@@ -54,7 +54,7 @@ pub fn run_load<L: Loads, R: Threads + Wait + Sync>(
     shown: ShownLoad,
 ) -> Result<Vec<u8>, Failure>
     ensures text { IfOk result (λ text. IsLoadOf sched shown amounts text.items) }
-    ensures unloaded { IfErr result (IsUnloaded sched amounts) }
+    ensures unloaded { IfErr result (IsLoadFailure sched amounts) }
     ensures ran { IfOk result (λ text. IsTextOfRun L.ends_as sched amounts shown text.items) }
     ensures failed { IfErr result (IsFailureOfRun L.ends_as sched amounts) }
 {

@@ -2,16 +2,16 @@
 
 ghost use Rattle.std.specs.Prelude.{IfOk, IfErr, All};
 ghost use Rattle.blk_text.specs.Script.{IsScript, scripted};
-ghost use Rattle.blk_settings.specs.Made.{IsMade};
-ghost use Rattle.blk_settings.specs.Scheds.{in_turn};
+ghost use Rattle.blk_schedulers.specs.Made.{IsMade};
+ghost use Rattle.blk_schedulers.specs.Scheds.{in_turn};
 ghost use Rattle.blk_runs.specs.Firsts.{AreUnrun};
-ghost use Rattle.blk_cli.specs.Comparing.{AreTraces, IsUncompared, AreDrawn};
+ghost use Rattle.blk_cli.specs.Comparing.{AreTraces, IsCompareFailure, AreDrawn};
 
 use crate::comparing::names_of;
 use crate::failure::Failure;
 use blk_picture::pictures;
 use blk_runs::{RunFault, traced, unmade};
-use blk_settings::{Lineup, Sched};
+use blk_schedulers::{ComparedScheds, Sched};
 use blk_text::Script;
 use blk_trace::Trace;
 use std::alloc::Global;
@@ -49,10 +49,14 @@ fn drawn_under(alloc: Global, scheds: &[Sched], script: &Script) -> Result<Vec<T
 }
 
 /// The pictures of a script under each scheduler of a lineup, as one.
-pub fn pictures_of(alloc: Global, lineup: Lineup, script: &Script) -> Result<Vec<u8>, Failure>
+pub fn pictures_of(
+    alloc: Global,
+    lineup: ComparedScheds,
+    script: &Script,
+) -> Result<Vec<u8>, Failure>
     requires { IsScript (scripted script.now) }
     ensures drawn { IfOk result (λ text. AreDrawn lineup (scripted script.now)) }
-    ensures uncompared { IfErr result (IsUncompared (in_turn lineup) (scripted script.now)) }
+    ensures uncompared { IfErr result (IsCompareFailure (in_turn lineup) (scripted script.now)) }
 {
     let Ok(scheds) = lineup.in_turn(alloc) else {
         return Err(Failure::Memory);

@@ -4,19 +4,19 @@ ghost use Rattle.std.specs.Prelude.{◌≤◌, IfOk, IfErr, length, map, string_
 ghost use Rattle.edd_commands.specs.declared.TheConstants.{MAX_COMMANDS};
 ghost use Rattle.blk_capture.specs.Requests.{AreInOrder, AreTimed};
 ghost use Rattle.blk_cli.specs.Said.{said_of};
-ghost use Rattle.blk_settings.specs.Made.{IsUnmade};
+ghost use Rattle.blk_schedulers.specs.Made.{IsSchedFault};
 ghost use Rattle.blk_replayed.specs.Replays.{AreUnreplayed};
 ghost use Rattle.blk_replayed.specs.Text.{IsReplaysText};
-ghost use Rattle.blk_cli.specs.Importing.{IsNotReplayed, IsMadeOf, IsUnreplayedOf, each_wanted, IsGridText, IsGridUnreplayed, IsOneReplayText};
+ghost use Rattle.blk_cli.specs.Importing.{IsNotReplayed, IsMadeOf, IsReplayFailure, each_wanted, IsGridText, IsGridUnreplayed, IsOneReplayText};
 
 use crate::Answered;
 use crate::failure::Failure;
 use crate::taken::take_requests;
+use blk_args::{GridReplaying, Import, Replaying, ShownReplay, plans_asked};
 use blk_capture::{CapturedRequest, Record};
 use blk_capture_text::first_time;
 use blk_replayed::{ReplaysAsked, replay_schedule_text, replay_table_text, replays_text};
-use blk_settings::{Plan, SchedFault};
-use blk_words::{GridReplaying, Import, Replaying, ShownReplay, plans_asked};
+use blk_schedulers::{Plan, SchedFault};
 use std::alloc::Global;
 use std::thread::Threads;
 use turns::Progress;
@@ -91,7 +91,7 @@ fn text_of_one(
     requires timed { AreTimed requests.now }
     requires few { length requests.now ≤ MAX_COMMANDS }
     ensures text { IfOk result (λ text. IsOneReplayText plan shown records.now requests.now text.items) }
-    ensures fails { IfErr result (IsUnmade plan.sched) }
+    ensures fails { IfErr result (IsSchedFault plan.sched) }
 {
     match shown {
         ShownReplay::Schedule => replay_schedule_text(alloc, plan, requests),
@@ -110,7 +110,7 @@ pub fn replayed<T: Threads + Sync, P: Progress>(
 ) -> Result<Answered, Failure>
     requires { AreInOrder records.now (length records.now) }
     ensures answers { IfOk result (λ answer. IsMadeOf (IsReplaysText (each_wanted replaying)) wanted records.now (said_of answer)) }
-    ensures fails { IfErr result (IsUnreplayedOf (AreUnreplayed replaying.plans) wanted records.now) }
+    ensures fails { IfErr result (IsReplayFailure (AreUnreplayed replaying.plans) wanted records.now) }
 {
     let taken = match take_requests(alloc, wanted, records) {
         Ok(taken) => taken,
@@ -134,7 +134,7 @@ pub fn replayed_grid<T: Threads + Sync, P: Progress>(
 ) -> Result<Answered, Failure>
     requires { AreInOrder records.now (length records.now) }
     ensures answers { IfOk result (λ answer. IsMadeOf (IsGridText (map string_bytes words.now) grid) wanted records.now (said_of answer)) }
-    ensures fails { IfErr result (IsUnreplayedOf (IsGridUnreplayed (map string_bytes words.now)) wanted records.now) }
+    ensures fails { IfErr result (IsReplayFailure (IsGridUnreplayed (map string_bytes words.now)) wanted records.now) }
 {
     let taken = match take_requests(alloc, wanted, records) {
         Ok(taken) => taken,
@@ -156,7 +156,7 @@ pub fn replayed_once(
 ) -> Result<Answered, Failure>
     requires { AreInOrder records.now (length records.now) }
     ensures answers { IfOk result (λ answer. IsMadeOf (IsOneReplayText plan shown records.now) wanted records.now (said_of answer)) }
-    ensures fails { IfErr result (IsUnreplayedOf (IsUnmade plan.sched) wanted records.now) }
+    ensures fails { IfErr result (IsReplayFailure (IsSchedFault plan.sched) wanted records.now) }
 {
     let taken = match take_requests(alloc, wanted, records) {
         Ok(taken) => taken,

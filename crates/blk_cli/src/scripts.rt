@@ -12,11 +12,11 @@ use crate::comparing::table_of;
 use crate::failure::Failure;
 use crate::picturing::pictures_of;
 use crate::unflushed::with_plugs;
-use blk_lists::Records;
+use blk_args::Running;
+use blk_records::Records;
 use blk_runs::traced;
-use blk_settings::Sched;
+use blk_schedulers::Sched;
 use blk_text::{Script, read_script, trace_text};
-use blk_words::Running;
 use std::alloc::Global;
 use std::io::Read;
 

@@ -4,28 +4,28 @@ ghost use Rattle.std.specs.Prelude.{◌≡◌, ◌≤◌, true, IfOk, IfErr, len
 ghost use Rattle.edd_commands.specs.declared.TheConstants.{MAX_COMMANDS};
 ghost use Rattle.blk_capture.specs.Requests.{AreInOrder, AreTimed};
 ghost use Rattle.blk_cli.specs.Said.{said_of};
-ghost use Rattle.blk_cli.specs.Importing.{line_on, IsNoteOf, IsTakenOf, IsUnshown};
+ghost use Rattle.blk_cli.specs.Importing.{line_on, IsNoteOf, IsTakenOf, IsOutputFailure};
 ghost use Rattle.blk_capture_text.specs.SummaryText.{counts_of};
 
 use crate::Answered;
 use crate::failure::Failure;
 use crate::importing::{asked_of, noted, tags_asked};
 use crate::notes::doubt_text;
+use blk_args::Import;
 use blk_capture::{CapturedRequest, Matched, Record, summarize};
 use blk_capture_text::{RecordCounts, UnusedCounts, count_fates, import, notice_text};
-use blk_words::Import;
 use std::alloc::{AllocError, Global};
 
 /// The requests of a capture that are taken, and what is said beside what is written of them.
 #[derive(Drop)]
-pub struct Taken {
+pub struct TakenRequests {
     /// The requests, in the order in which they went out.
     pub requests: Vec<CapturedRequest>,
     /// The lines on what is dubious and on what is left out, as of their schedule.
     pub note: Option<Vec<u8>>,
 }
 
-impl Taken {
+impl TakenRequests {
     /// A text that is written of the requests, with what is said beside it.
     pub fn beside(self, text: Vec<u8>) -> Answered
         ensures { said_of result ≡ record { text = text.items; note = option_map (λ line. line.items) self.note; good = true } }
@@ -81,12 +81,16 @@ fn note_on(
 }
 
 /// The requests of a capture that are taken. Their bios, and what became of each record, are let go.
-pub fn take_requests(alloc: Global, wanted: Import, records: &[Record]) -> Result<Taken, Failure>
+pub fn take_requests(
+    alloc: Global,
+    wanted: Import,
+    records: &[Record],
+) -> Result<TakenRequests, Failure>
     requires { AreInOrder records.now (length records.now) }
     ensures taken { IfOk result (λ t. IsTakenOf wanted records.now t.requests.items (option_map (λ line. line.items) t.note)) }
     ensures timed { IfOk result (λ t. AreTimed t.requests.items) }
     ensures few { IfOk result (λ t. length t.requests.items ≤ MAX_COMMANDS) }
-    ensures fails { IfErr result (IsUnshown wanted records.now) }
+    ensures fails { IfErr result (IsOutputFailure wanted records.now) }
 {
     let asked = asked_of(wanted);
     let matched = match import(alloc, records, &asked) {
@@ -95,7 +99,7 @@ pub fn take_requests(alloc: Global, wanted: Import, records: &[Record]) -> Resul
     };
     let tags = tags_asked(wanted.source.tags);
     match note_on(alloc, tags, records, &matched) {
-        Ok(note) => Ok(Taken {
+        Ok(note) => Ok(TakenRequests {
             requests: matched.requests,
             note,
         }),

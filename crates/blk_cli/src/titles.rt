@@ -1,20 +1,20 @@
 //! The line of the project's own subcommands on a text that is none of those they read: what it is, and what was wanted; and that of `import` on
 //! a capture that is too long.
 
+use blk_args::{Import, Job, Kept, Running, TextJob, TraceOutput, Written, figures_name};
 use blk_explain::{TextForm, called, form_named};
-use blk_lists::Why;
-use blk_lists::fields::field;
 use blk_recorders::{CaptureForm, Recorder, form_of};
-use blk_words::{Import, Job, Kept, Running, Telling, TextJob, Written, figures_name};
+use blk_records::TextReason;
+use blk_records::fields::field;
 use csv::ByteRecord;
-use drafts::Draft;
 use std::alloc::{AllocError, Global};
+use text_output::Draft;
 
 /// What a trace is asked by a subcommand of the project's own.
-fn teller_of(telling: Telling) -> Option<&'static [u8]> {
+fn teller_of(telling: TraceOutput) -> Option<&'static [u8]> {
     match telling {
-        Telling::Picture => Some(b"picture"),
-        Telling::Figures(asked, _) => Some(figures_name(asked)?.as_bytes()),
+        TraceOutput::Picture => Some(b"picture"),
+        TraceOutput::Figures(asked, _) => Some(figures_name(asked)?.as_bytes()),
         _ => None,
     }
 }
@@ -150,12 +150,12 @@ fn title_of(alloc: Global, job: Job, row: &ByteRecord) -> Result<Option<Vec<u8>>
 pub fn more_of(
     alloc: Global,
     job: Job,
-    why: Why,
+    why: TextReason,
     row: &ByteRecord,
 ) -> Result<Option<Vec<u8>>, AllocError> {
     match why {
-        Why::Title => title_of(alloc, job, row),
-        Why::TooLong => length_of(alloc, job),
+        TextReason::Title => title_of(alloc, job, row),
+        TextReason::TooLong => length_of(alloc, job),
         _ => Ok(None),
     }
 }

@@ -4,23 +4,23 @@ ghost use Rattle.std.specs.Prelude.{◌≡◌, IfOk, IfErr};
 ghost use Rattle.blk_text.specs.TraceForm.{SpellsTrace, TraceTextFault};
 ghost use Rattle.blk_text.specs.TraceRecords.{IsTrace};
 ghost use Rattle.blk_cli.specs.Inputs.{Of, FailsOver};
-ghost use Rattle.blk_cli.specs.OfTraces.{IsTellingText, IsUntold};
+ghost use Rattle.blk_cli.specs.OfTraces.{IsTellingText, IsTraceOutputFailure};
 
 use crate::failure::Failure;
 use crate::figures::figures_text;
-use blk_lists::{Records, commands_text};
+use blk_args::TraceOutput;
 use blk_picture::picture;
+use blk_records::{Records, commands_text};
 use blk_text::{read_trace, trace_text};
 use blk_trace::Trace;
-use blk_words::Telling;
 use std::alloc::Global;
 use std::io::Read;
 
 /// The command list of a trace, which has one where no event sets a depth.
 fn list_of(alloc: Global, trace: &Trace) -> Result<Vec<u8>, Failure>
     requires { IsTrace trace.now }
-    ensures text { IfOk result (λ text. IsTellingText Telling.Commands trace.now text.items) }
-    ensures untold { IfErr result (IsUntold Telling.Commands trace.now) }
+    ensures text { IfOk result (λ text. IsTellingText TraceOutput.Commands trace.now text.items) }
+    ensures untold { IfErr result (IsTraceOutputFailure TraceOutput.Commands trace.now) }
 {
     if !trace.is_fixed() {
         return Err(Failure::NotFixed);
@@ -38,8 +38,8 @@ fn list_of(alloc: Global, trace: &Trace) -> Result<Vec<u8>, Failure>
 
 /// The trace itself.
 fn whole_of(alloc: Global, trace: &Trace) -> Result<Vec<u8>, Failure>
-    ensures text { IfOk result (λ text. IsTellingText Telling.Whole trace.now text.items) }
-    ensures untold { IfErr result (IsUntold Telling.Whole trace.now) }
+    ensures text { IfOk result (λ text. IsTellingText TraceOutput.Whole trace.now text.items) }
+    ensures untold { IfErr result (IsTraceOutputFailure TraceOutput.Whole trace.now) }
 {
     match trace_text(alloc, trace) {
         Ok(text) => Ok(text),
@@ -49,8 +49,8 @@ fn whole_of(alloc: Global, trace: &Trace) -> Result<Vec<u8>, Failure>
 
 /// The picture of a trace.
 fn picture_of(alloc: Global, trace: &Trace) -> Result<Vec<u8>, Failure>
-    ensures text { IfOk result (λ text. IsTellingText Telling.Picture trace.now text.items) }
-    ensures untold { IfErr result (IsUntold Telling.Picture trace.now) }
+    ensures text { IfOk result (λ text. IsTellingText TraceOutput.Picture trace.now text.items) }
+    ensures untold { IfErr result (IsTraceOutputFailure TraceOutput.Picture trace.now) }
 {
     match picture(alloc, trace) {
         Ok(text) => Ok(text),
@@ -59,16 +59,16 @@ fn picture_of(alloc: Global, trace: &Trace) -> Result<Vec<u8>, Failure>
 }
 
 /// What is said about a trace.
-fn told_of(alloc: Global, telling: Telling, trace: &Trace) -> Result<Vec<u8>, Failure>
+fn told_of(alloc: Global, telling: TraceOutput, trace: &Trace) -> Result<Vec<u8>, Failure>
     requires { IsTrace trace.now }
     ensures text { IfOk result (λ text. IsTellingText telling trace.now text.items) }
-    ensures untold { IfErr result (IsUntold telling trace.now) }
+    ensures untold { IfErr result (IsTraceOutputFailure telling trace.now) }
 {
     match telling {
-        Telling::Whole => whole_of(alloc, trace),
-        Telling::Commands => list_of(alloc, trace),
-        Telling::Picture => picture_of(alloc, trace),
-        Telling::Figures(asked, form) => match figures_text(alloc, asked, form, trace) {
+        TraceOutput::Whole => whole_of(alloc, trace),
+        TraceOutput::Commands => list_of(alloc, trace),
+        TraceOutput::Picture => picture_of(alloc, trace),
+        TraceOutput::Figures(asked, form) => match figures_text(alloc, asked, form, trace) {
             Ok(text) => Ok(text),
             Err(_) => Err(Failure::Memory),
         },
@@ -78,12 +78,12 @@ fn told_of(alloc: Global, telling: Telling, trace: &Trace) -> Result<Vec<u8>, Fa
 /// Reads a trace, and gives what is asked about it.
 pub fn over_trace<R: Read + Drop>(
     alloc: Global,
-    telling: Telling,
+    telling: TraceOutput,
     records: &mut Records<R>,
 ) -> Result<Vec<u8>, Failure>
     requires { records.old.at ≡ 0 }
     ensures text { IfOk result (λ text. Of SpellsTrace (IsTellingText telling) records.old.left text.items) }
-    ensures fails { IfErr result (FailsOver SpellsTrace TraceTextFault (IsUntold telling) records.old.left records.new.failed) }
+    ensures fails { IfErr result (FailsOver SpellsTrace TraceTextFault (IsTraceOutputFailure telling) records.old.left records.new.failed) }
 {
     let trace = match read_trace(alloc, records) {
         Ok(trace) => trace,

@@ -2,23 +2,23 @@
 
 ghost use Rattle.std.specs.Prelude.{◌≡◌, IfOk, IfErr, map, string_bytes};
 ghost use Rattle.blk_text.specs.Script.{IsScript, SpellsScript, scripted};
-ghost use Rattle.blk_settings.specs.Wanted.{as_wanted};
+ghost use Rattle.blk_schedulers.specs.Wanted.{as_wanted};
 ghost use Rattle.blk_runs.specs.Firsts.{AreUnrun};
 ghost use Rattle.blk_cli.specs.Inputs.{Of};
 ghost use Rattle.blk_cli.specs.Said.{said_of};
 ghost use Rattle.blk_cli.specs.Unflushed.{TellsPlugs};
-ghost use Rattle.blk_cli.specs.Tuning.{IsTunedIn, IsTrial, IsUntried, FailsToTry};
+ghost use Rattle.blk_cli.specs.Tuning.{IsTunedIn, IsTrial, IsTuneFailure, FailsToTry};
 
 use crate::Answered;
 use crate::failure::Failure;
 use crate::forms::written;
 use crate::unflushed::with_plugs;
-use blk_lists::Records;
+use blk_args::{Form, Tuning, grid_asked};
+use blk_records::Records;
 use blk_runs::RunFault;
-use blk_settings::TrialAsked;
+use blk_schedulers::TrialAsked;
 use blk_text::{Script, read_script};
 use blk_tune::{rows, trial_answer};
-use blk_words::{Form, Tuning, grid_asked};
 use std::alloc::Global;
 use std::io::Read;
 use std::thread::Threads;
@@ -61,7 +61,7 @@ fn trial_of<T: Threads + Sync, P: Progress>(
 ) -> Result<Vec<u8>, Failure>
     requires { IsScript (scripted script.now) }
     ensures text { IfOk result (λ text. IsTrial (map string_bytes words.now) tuning (scripted script.now) text.items) }
-    ensures untried { IfErr result (IsUntried (map string_bytes words.now) (scripted script.now)) }
+    ensures untried { IfErr result (IsTuneFailure (map string_bytes words.now) (scripted script.now)) }
 {
     // `choose` found a trial in these words, so they ask for a grid, and only memory can run out.
     let Ok(grid) = grid_asked(alloc, words) else {
@@ -91,7 +91,7 @@ fn answer_trial<T: Threads + Sync, P: Progress>(
     requires { IsScript (scripted script.now) }
     ensures text { IfOk result (λ a. IsTrial (map string_bytes words.now) tuning (scripted script.now) (said_of a).text) }
     ensures beside { IfOk result (λ a. TellsPlugs (scripted script.now) (said_of a)) }
-    ensures untried { IfErr result (IsUntried (map string_bytes words.now) (scripted script.now)) }
+    ensures untried { IfErr result (IsTuneFailure (map string_bytes words.now) (scripted script.now)) }
 {
     let text = match trial_of(rt, alloc, words, tuning, script, progress) {
         Ok(text) => text,

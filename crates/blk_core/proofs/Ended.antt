@@ -12,7 +12,7 @@ use Rattle.blk_trace.specs.Setups.{Setup}
 use Rattle.blk_trace.specs.Happened.{Happened}
 use Rattle.blk_trace.specs.declared.event.Event.TheVariants.{Release, Done, Back}
 use Rattle.blk_trace.specs.Kinds.{ends}
-use Rattle.blk_trace.specs.Rules.{IsUnbroken}
+use Rattle.blk_trace.specs.Rules.{BreaksNoRule}
 use Rattle.blk_trace.specs.Inside.Seats.{RoundSeat, seat_at}
 use Rattle.blk_trace.specs.Inside.Allowed.{IsAllowed, places_of}
 use Rattle.blk_trace.specs.Waits.{unissued_at, waiting_count, released_count}
@@ -37,7 +37,7 @@ use Rattle.blk_trace.proofs.TagUses.{by_open}
 use Rattle.blk_trace.proofs.Steps as step
 
 -- an event that ends the Issue of a command in flight breaks no rule
-pub end_unbroken : {A : Type 0} (setup : Setup) (es : List Happened) (e : Happened) (m : Meaning) (fl : List (TagState A)) (requeue_lists : List (List Waiting)) (rel tag hw : ℕ) (w : Waiting) → IsTied setup es m fl requeue_lists rel → tag < length fl → get_or fl tag Free ≡ InFlight hw w → (seat_at es tag ≡ Some (record { dir = dir_of w.bios; in_flight = true }) → IsAllowed setup es e) → places_of e ≡ 0 → IsUnbroken setup es e
+pub end_unbroken : {A : Type 0} (setup : Setup) (es : List Happened) (e : Happened) (m : Meaning) (fl : List (TagState A)) (requeue_lists : List (List Waiting)) (rel tag hw : ℕ) (w : Waiting) → IsTied setup es m fl requeue_lists rel → tag < length fl → get_or fl tag Free ≡ InFlight hw w → (seat_at es tag ≡ Some (record { dir = dir_of w.bios; in_flight = true }) → IsAllowed setup es e) → places_of e ≡ 0 → BreaksNoRule setup es e
 end_unbroken setup es e m fl requeue_lists rel tag hw w t lt at allowed none =
     step.allowed-unbroken setup es e t.legal (allowed (seated setup es m fl requeue_lists rel tag hw w t lt at)) (let l = t.legal.not_too_long in omega arith)
 

@@ -17,7 +17,7 @@ use Rattle.blk_trace.specs.Setups.{Setup}
 use Rattle.blk_trace.specs.Events.{At, is_tick, open_count, request_of}
 use Rattle.blk_trace.specs.Legal.{IsLegalTrace}
 use Rattle.blk_trace.specs.Meaning.{release_of, due_of}
-use Rattle.blk_trace.specs.Rules.{IsUnbroken}
+use Rattle.blk_trace.specs.Rules.{BreaksNoRule}
 use Rattle.blk_trace.specs.Waits.{Entered, waits_at}
 use Rattle.blk_trace.specs.Inside.Seats.{this_round, issued_by, flying_of}
 use Rattle.blk_trace.specs.Kinds.{is_done_of}
@@ -193,7 +193,7 @@ counted_kept p u es e h n d same ih =
     ∙ ap (λ c. unless c (number p u (taken es u))) (sym (ended_kept es e u h d))
     ∙ ap (λ o. unless (ended (es ++ e ∷ []) u) (number p u o)) (sym (taken_kept es e u h n))
 
-counted_ticked : (setup : Setup) (p : Issue → Bool) (u : ℕ) (es : List Happened) → IsLegalTrace setup es → IsUnbroken setup es Tick → IsCounted p u es → IsCounted p u (es ++ Tick ∷ [])
+counted_ticked : (setup : Setup) (p : Issue → Bool) (u : ℕ) (es : List Happened) → IsLegalTrace setup es → BreaksNoRule setup es Tick → IsCounted p u es → IsCounted p u (es ++ Tick ∷ [])
 counted_ticked setup p u es old all ih =
     let was : unless (ended es u) (number p u (taken es u)) ≡ 0 = elim (cases_Bool (ended es u)) [
       | inl b ↦ ap (λ c. unless c (number p u (taken es u))) b
@@ -206,7 +206,7 @@ counted_ticked setup p u es old all ih =
     ap (λ o. unless (ended (es ++ Tick ∷ []) u) (number p u o)) (taken_tick es u) ∙ unless_none (ended (es ++ Tick ∷ []) u) in
     ap (count_by (λ x. p x && (u == x.1))) (opens_ticked es) ∙ ih ∙ was ∙ sym now
 
-counted_issued : (setup : Setup) (p : Issue → Bool) (u : ℕ) (es : List Happened) (i v : ℕ) → IsLegalTrace setup es → IsUnbroken setup es (Issued i v) → IsCounted p u es → IsCounted p u (es ++ Issued i v ∷ [])
+counted_issued : (setup : Setup) (p : Issue → Bool) (u : ℕ) (es : List Happened) (i v : ℕ) → IsLegalTrace setup es → BreaksNoRule setup es (Issued i v) → IsCounted p u es → IsCounted p u (es ++ Issued i v ∷ [])
 counted_issued setup p u es i v old all ih =
     let fs : List Happened = es ++ Issued i v ∷ [] in
     let f : Issue → Bool = λ x. p x && (u == x.1) in
@@ -263,7 +263,7 @@ counted_ended p u es e v end ih =
     or_true true = refl
     or_true false = refl
 
-counted_step : (setup : Setup) (p : Issue → Bool) (u : ℕ) (es : List Happened) (e : Happened) → IsLegalTrace setup es → IsUnbroken setup es e → IsCounted p u es → IsCounted p u (es ++ e ∷ [])
+counted_step : (setup : Setup) (p : Issue → Bool) (u : ℕ) (es : List Happened) (e : Happened) → IsLegalTrace setup es → BreaksNoRule setup es e → IsCounted p u es → IsCounted p u (es ++ e ∷ [])
 counted_step setup p u es Tick old all ih = counted_ticked setup p u es old all ih
 counted_step setup p u es (Release i q) old all ih = counted_kept p u es (Release i q) refl refl refl (opens_released es i q) ih
 counted_step setup p u es (Join i q) old all ih = counted_kept p u es (Join i q) refl refl refl (opens_joined es i q) ih
@@ -299,11 +299,11 @@ abbrev is_of : List Happened → Dir → Issue → Bool
 is_of es d x = same_dir d (dir_of (request_of es x.0))
 
 -- the requests that were issued stay as they are
-still_of : (setup : Setup) (es : List Happened) (e : Happened) (d : Dir) → IsLegalTrace setup es → IsUnbroken setup es e → count_by (is_of (es ++ e ∷ []) d) (open_issues es) ≡ count_by (is_of es d) (open_issues es)
+still_of : (setup : Setup) (es : List Happened) (e : Happened) (d : Dir) → IsLegalTrace setup es → BreaksNoRule setup es e → count_by (is_of (es ++ e ∷ []) d) (open_issues es) ≡ count_by (is_of es d) (open_issues es)
 still_of setup es e d old all = agree (is_of (es ++ e ∷ []) d) (is_of es d) es
     (λ k i t at. ap (λ r. same_dir d (dir_of r)) (same_entered setup es e i (stays_out setup es e i old all (k, (t, at)))).request)
 
-of_issued : (setup : Setup) (d : Dir) (es : List Happened) (i t : ℕ) → IsLegalTrace setup (es ++ Issued i t ∷ []) → IsLegalTrace setup es → IsUnbroken setup es (Issued i t) → flying_of es d ≡ open_issues_of es d → flying_of (es ++ Issued i t ∷ []) d ≡ open_issues_of (es ++ Issued i t ∷ []) d
+of_issued : (setup : Setup) (d : Dir) (es : List Happened) (i t : ℕ) → IsLegalTrace setup (es ++ Issued i t ∷ []) → IsLegalTrace setup es → BreaksNoRule setup es (Issued i t) → flying_of es d ≡ open_issues_of es d → flying_of (es ++ Issued i t ∷ []) d ≡ open_issues_of (es ++ Issued i t ∷ []) d
 of_issued setup d es i t new old all ih =
     let fs : List Happened = es ++ Issued i t ∷ [] in
     let w : Entered = record { release = release_of es i; due = due_of setup es i; bios = request_of es i } in
@@ -318,7 +318,7 @@ flies_on : (b : Bool) → true ≡ not b → b ≡ false
 flies_on true h = absurd (cc)
 flies_on false h = refl
 
-of_ended : (setup : Setup) (d : Dir) (es : List Happened) (e : Happened) (u : ℕ) → ends e ≡ Some u → IsLegalTrace setup (es ++ e ∷ []) → IsLegalTrace setup es → IsUnbroken setup es e → flying_of es d ≡ open_issues_of es d → flying_of (es ++ e ∷ []) d ≡ open_issues_of (es ++ e ∷ []) d
+of_ended : (setup : Setup) (d : Dir) (es : List Happened) (e : Happened) (u : ℕ) → ends e ≡ Some u → IsLegalTrace setup (es ++ e ∷ []) → IsLegalTrace setup es → BreaksNoRule setup es e → flying_of es d ≡ open_issues_of es d → flying_of (es ++ e ∷ []) d ≡ open_issues_of (es ++ e ∷ []) d
 of_ended setup d es e u end new old all ih =
     let only : OnlyEnds e = only_ends e u end in
     let fs : List Happened = es ++ e ∷ [] in
@@ -335,7 +335,7 @@ of_ended setup d es e u end new old all ih =
     ap (λ r. one_if (same_dir d (dir_of r))) (same_entered setup es e was.id (rw (only.no_release, only.no_join) refl)).request ∙ ap (λ x. one_if (same_dir d x)) (sym was.dir_is) in
     omega arith
 
-of_step : (setup : Setup) (d : Dir) (es : List Happened) (e : Happened) → IsLegalTrace setup (es ++ e ∷ []) → IsLegalTrace setup es → IsUnbroken setup es e → flying_of es d ≡ open_issues_of es d → flying_of (es ++ e ∷ []) d ≡ open_issues_of (es ++ e ∷ []) d
+of_step : (setup : Setup) (d : Dir) (es : List Happened) (e : Happened) → IsLegalTrace setup (es ++ e ∷ []) → IsLegalTrace setup es → BreaksNoRule setup es e → flying_of es d ≡ open_issues_of es d → flying_of (es ++ e ∷ []) d ≡ open_issues_of (es ++ e ∷ []) d
 of_step setup d es Tick new old all ih =
     open-ticked setup es new d ∙ sym (open-before_tick setup es new d) ∙ ih ∙ sym (still_of setup es Tick d old all) ∙ ap (count_by (is_of (es ++ Tick ∷ []) d)) (sym (opens_ticked es))
 of_step setup d es (Release i q) new old all ih =

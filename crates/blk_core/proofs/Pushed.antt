@@ -7,7 +7,7 @@ use Rattle.blk_trace.specs.Setups.{Setup}
 use Rattle.blk_trace.specs.Happened.{Happened}
 use Rattle.blk_trace.specs.declared.event.Event.TheVariants.{Tick, Release, Join, Issue, Done, Back, Depth}
 use Rattle.blk_trace.specs.declared.trace.TheConstants.{MAX_EVENTS}
-use Rattle.blk_trace.specs.Rules.{IsUnbroken}
+use Rattle.blk_trace.specs.Rules.{BreaksNoRule}
 use Rattle.blk_trace.specs.Events.{open_count}
 use Rattle.blk_trace.specs.Legal.{IsLegalTrace}
 use Rattle.blk_trace.specs.Meaning.{released_ids}
@@ -38,8 +38,8 @@ pub pushed_at_once : (old new : Traced) (e : Happened) (q : Prepared) → new �
 pushed_at_once old new e q added legal = record { same = ap (λ (t : Traced). t.setup) added; added = ap (λ (t : Traced). t.events) added; legal = legal }
 
 -- an event that is allowed, and for which there is a place, breaks no rule of the trace that was made ready
-pub unbroken : (setup : Setup) (es : List Happened) (ready : Traced) (p : Prepared) (e : Happened) → ready ≡ record { setup = setup; events = es; prepared = p } → IsLegalTrace setup es → IsAllowed setup es e → length es + open_count es + places_of e ≤ MAX_EVENTS → IsUnbroken ready.setup ready.events e
-unbroken setup es ready p e is legal allowed room = subst (λ (t : Traced). IsUnbroken t.setup t.events e) (sym is) (allowed-unbroken setup es e legal allowed room)
+pub unbroken : (setup : Setup) (es : List Happened) (ready : Traced) (p : Prepared) (e : Happened) → ready ≡ record { setup = setup; events = es; prepared = p } → IsLegalTrace setup es → IsAllowed setup es e → length es + open_count es + places_of e ≤ MAX_EVENTS → BreaksNoRule ready.setup ready.events e
+unbroken setup es ready p e is legal allowed room = subst (λ (t : Traced). BreaksNoRule t.setup t.events e) (sym is) (allowed-unbroken setup es e legal allowed room)
 
 -- and room for it was made
 pub ready_for : (setup : Setup) (es : List Happened) (ready : Traced) (p : Prepared) (e : Happened) → ready ≡ record { setup = setup; events = es; prepared = p } → IsPreparedFor p e → IsPreparedFor ready.prepared e

@@ -1,7 +1,7 @@
 -- What a reader finds.
 use Rattle.std.proofs.Common.{◌≡◌, List, Option, Some}
 use Rattle.std.specs.Prelude.{IfSome, IfOk, Result, Ok, Err}
-use Rattle.blk_lists.specs.Sources.{Row}
+use Rattle.blk_records.specs.Sources.{Row}
 use Rattle.blk_explain.specs.Forms.{form_name}
 use Rattle.blk_explain.specs.Findings.{name_in, IsFound}
 use Rattle.blk_explain.specs.Inside.Read.{IsRead}

@@ -2,8 +2,8 @@
 use Rattle.std.proofs.Common.{◌≡◌, ◌<◌, ◌^◌, ◌∙◌, ℕ, List, ◌∷◌, sym, inl, inr}
 use Rattle.std.specs.Prelude.{decimal}
 use Rattle.std.proofs.lemmas.Fmt.{decimal_injective}
-use Rattle.blk_lists.specs.Fields.{IsSized}
-use Rattle.blk_lists.proofs.Decimals.{no_minus}
+use Rattle.blk_records.specs.Fields.{IsSized}
+use Rattle.blk_records.proofs.Decimals.{no_minus}
 
 pub sized_once : (f : List ℕ) (m n : ℕ) → m < 2 ^ 64 → n < 2 ^ 64 → IsSized f m → IsSized f n → m ≡ n
 sized_once f m n h k (inl a) (inl b) = decimal_injective m n h k (sym a ∙ b)

@@ -1,7 +1,7 @@
 -- Records that are read one after the other.
 use Rattle.std.proofs.Common.{◌≡◌, ◌+◌, ◌<◌, ◌≤◌, ◌∷◌, ℕ, zero, suc, true, false, List, [], length, get_or, drop, Option, Some, inl, inr, refl, add-one, arith}
 use Rattle.std.proofs.lemmas.Bool.{cases_eq}
-use Rattle.blk_lists.specs.Sources.{Row, TakesRecord}
+use Rattle.blk_records.specs.Sources.{Row, TakesRecord}
 
 -- one more was read
 pub record Taken (rows : List Row) (k : ℕ) (after : Option (List Row)) (fields : Row) : Type 0 where

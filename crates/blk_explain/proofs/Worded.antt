@@ -1,6 +1,6 @@
 -- The kind of a table that a record's first word names.
 use Rattle.std.proofs.Common.{◌≡◌, ◌⊎◌, ◌<◌, ◌+◌, ◌++◌, ◌∷◌, ◌∙◌, ℕ, zero, suc, List, [], length, take, get_or, refl, sym, subst, inl, inr, arith, add-one}
-use Rattle.blk_lists.specs.Kinds.{KindRow, HasRow}
+use Rattle.blk_records.specs.Kinds.{KindRow, HasRow}
 use Rattle.blk_explain.specs.Forms.{IsWorded}
 
 -- no row has this word

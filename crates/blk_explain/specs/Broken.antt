@@ -1,14 +1,14 @@
 -- Which field of a record has a fault, and what may stand in it.
 use Rattle.std.specs.Prelude.{◌≡◌, ◌⊎◌, ◌-◌, ◌<◌, ◌^◌, ◌==◌, nat_lt, if◌then◌else◌, ℕ, List, [], get_or, codes, decimal}
-use Rattle.blk_lists.specs.Sources.{Row}
-use Rattle.blk_lists.specs.Fields.{IsBlank, IsDirection, IsNumber, IsInRange}
-use Rattle.blk_lists.specs.Kinds.{KindRow}
-use Rattle.blk_lists.specs.Titles.{slot_in}
-use Rattle.blk_lists.specs.declared.any.TheConstants.{MAX_FIELDS}
-use Rattle.blk_lists.specs.declared.fault.Why.{Why}
-use Rattle.blk_lists.specs.declared.fault.Why.TheVariants as why
-use Rattle.blk_lists.specs.declared.fields.Slot.{Slot}
-use Rattle.blk_lists.specs.declared.fields.Slot.TheVariants as slot
+use Rattle.blk_records.specs.Sources.{Row}
+use Rattle.blk_records.specs.Fields.{IsBlank, IsDirection, IsNumber, IsInRange}
+use Rattle.blk_records.specs.Kinds.{KindRow}
+use Rattle.blk_records.specs.Titles.{slot_in}
+use Rattle.blk_records.specs.declared.any.TheConstants.{MAX_FIELDS}
+use Rattle.blk_records.specs.declared.fault.TextReason.{TextReason}
+use Rattle.blk_records.specs.declared.fault.TextReason.TheVariants as why
+use Rattle.blk_records.specs.declared.fields.Slot.{Slot}
+use Rattle.blk_records.specs.declared.fields.Slot.TheVariants as slot
 use Rattle.blk_text.specs.declared.bios.TheConstants.{MAX_SUBMITTERS}
 use Rattle.blk_text.specs.declared.setup.TheConstants.{MORE_TAGS}
 use Rattle.blk_explain.specs.Fields.{slot_at, name_at, want_of}
@@ -18,7 +18,7 @@ use Rattle.blk_explain.specs.declared.fields.Want.{Want}
 use Rattle.blk_explain.specs.declared.fields.Want.TheVariants as want
 
 -- a field does not have the fault, beside its slot
-abbrev pub KeepsSlot : Why → Slot → List ℕ → Type 0
+abbrev pub KeepsSlot : TextReason → Slot → List ℕ → Type 0
 KeepsSlot why.Fields s f = IsBlank s f
 KeepsSlot why.Word s f = IsDirection s f
 KeepsSlot why.Number s f = IsNumber s f
@@ -35,7 +35,7 @@ KeepsSlot why.Read s f = Unit {0}
 KeepsSlot why.Memory s f = Unit {0}
 
 -- and where `none` is wanted, and beside commands a number of this slot would be
-abbrev pub KeepsNone : Why → Slot → List ℕ → Type 0
+abbrev pub KeepsNone : TextReason → Slot → List ℕ → Type 0
 KeepsNone why.Fields s f = Unit {0}
 KeepsNone why.Word s f = Unit {0}
 KeepsNone why.Number s f = IsNumber s f ⊎ (f ≡ codes "none")
@@ -52,7 +52,7 @@ KeepsNone why.Read s f = Unit {0}
 KeepsNone why.Memory s f = Unit {0}
 
 -- a field does not have the fault
-abbrev pub KeepsIn : Why → Allowed → List ℕ → Type 0
+abbrev pub KeepsIn : TextReason → Allowed → List ℕ → Type 0
 KeepsIn w (allowed.Slot s) f = KeepsSlot w s f
 KeepsIn w (allowed.NoNumber s) f = KeepsNone w s f
 
@@ -87,27 +87,27 @@ abbrev pub IsAllowedIn : Row → KindRow → ℕ → Allowed → Type 0
 IsAllowedIn title kind k a = IsAllowedBy title (slot_at kind k) (want_of (name_at kind k)) a
 
 -- the field at a place does not have the fault, and it does
-abbrev pub IsKeptAt : Row → KindRow → Why → Row → ℕ → Type 0
+abbrev pub IsKeptAt : Row → KindRow → TextReason → Row → ℕ → Type 0
 IsKeptAt title kind w row k = (a : Allowed) × IsAllowedIn title kind k a × KeepsIn w a (get_or row k [])
 
-abbrev pub IsBrokenAt : Row → KindRow → Why → Row → ℕ → Allowed → Type 0
+abbrev pub IsBrokenAt : Row → KindRow → TextReason → Row → ℕ → Allowed → Type 0
 IsBrokenAt title kind w row k a = IsAllowedIn title kind k a × ¬ KeepsIn w a (get_or row k [])
 
 -- it is the first one that does
-abbrev pub IsFirstBrokenAt : Row → KindRow → Why → Row → ℕ → Allowed → Type 0
+abbrev pub IsFirstBrokenAt : Row → KindRow → TextReason → Row → ℕ → Allowed → Type 0
 IsFirstBrokenAt title kind w row k a = (k < MAX_FIELDS) × IsBrokenAt title kind w row k a × ((j : ℕ) → j < k → IsKeptAt title kind w row j)
 
 -- none does
-abbrev pub AllKept : Row → KindRow → Why → Row → Type 0
+abbrev pub AllKept : Row → KindRow → TextReason → Row → Type 0
 AllKept title kind w row = (j : ℕ) → j < MAX_FIELDS → IsKeptAt title kind w row j
 
 -- a fault lies in the field at a place, in which this may stand: the first that has it, or, where each field is a number or `none` but they are
 -- mixed, the first that is not what the others have to be
-abbrev pub LiesIn : Row → KindRow → Why → Row → ℕ → Allowed → Type 0
+abbrev pub LiesIn : Row → KindRow → TextReason → Row → ℕ → Allowed → Type 0
 LiesIn title kind w row k a =
     IsFirstBrokenAt title kind w row k a
     ⊎ ((w ≡ why.Number) × AllKept title kind w row × IsFirstBrokenAt title kind why.Range row k a)
 
 -- it lies in none by itself
-abbrev pub LiesInNone : Row → KindRow → Why → Row → Type 0
+abbrev pub LiesInNone : Row → KindRow → TextReason → Row → Type 0
 LiesInNone title kind w row = AllKept title kind w row × (w ≡ why.Number → AllKept title kind why.Range row)

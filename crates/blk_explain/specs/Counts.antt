@@ -1,7 +1,7 @@
 -- How many records a text has, and how many it announces.
 use Rattle.std.specs.Prelude.{◌≡◌, ◌==◌, ◌+◌, ◌-◌, ℕ, Bool, not, if◌then◌else◌, List, [], Option, None, Some, length, count_by, get_or}
 use Rattle.std.specs.Str.{bytes_eq}
-use Rattle.blk_lists.specs.Sources.{Row}
+use Rattle.blk_records.specs.Sources.{Row}
 use Rattle.blk_text.specs.declared.bios.TheConstants.{BIO}
 use Rattle.blk_explain.specs.Findings.{row_at}
 use Rattle.blk_explain.specs.Broken.{IsNumberIn}

@@ -1,11 +1,11 @@
 -- What a text is, or what is wrong with it.
 use Rattle.std.specs.Prelude.{◌≡◌, ◌≢◌, ◌⊎◌, ◌≤◌, ℕ, Option, None, Some, List, [], length, get_or, nat_eq}
 use Rattle.strsim.specs.Edits.{levenshtein_row}
-use Rattle.blk_lists.specs.Kinds.{KindRow}
-use Rattle.blk_lists.specs.Sources.{Row}
-use Rattle.blk_lists.specs.declared.fault.TextFault.{TextFault}
-use Rattle.blk_lists.specs.declared.fault.Why.{Why}
-use Rattle.blk_lists.specs.declared.fault.Why.TheVariants as why
+use Rattle.blk_records.specs.Kinds.{KindRow}
+use Rattle.blk_records.specs.Sources.{Row}
+use Rattle.blk_records.specs.declared.fault.TextFault.{TextFault}
+use Rattle.blk_records.specs.declared.fault.TextReason.{TextReason}
+use Rattle.blk_records.specs.declared.fault.TextReason.TheVariants as why
 use Rattle.blk_explain.specs.Forms.{form_row, form_name, IsRecordKind}
 use Rattle.blk_explain.specs.Lines.{line_at}
 use Rattle.blk_explain.specs.Findings.{rows_of, row_at, name_in, IsFound}
@@ -34,13 +34,13 @@ counted_detail None = detail.Whole
 counted_detail (Some t) = detail.Counted t
 
 -- what is known of a record of this kind with a fault, in a text with this title
-abbrev pub IsDetailBy : Row → KindRow → Why → Row → Detail → Type 0
+abbrev pub IsDetailBy : Row → KindRow → TextReason → Row → Detail → Type 0
 IsDetailBy title kind w cells d =
     ((k : ℕ) × (a : Allowed) × LiesIn title kind w cells k a × (d ≡ detail.Field k a))
     ⊎ (LiesInNone title kind w cells × (d ≡ detail.Whole))
 
 -- and of one of this number
-abbrev pub IsRecordDetail : FormRow → Row → ℕ → Why → Row → Detail → Type 0
+abbrev pub IsRecordDetail : FormRow → Row → ℕ → TextReason → Row → Detail → Type 0
 IsRecordDetail form title at w cells d = (kind : KindRow) × IsRecordKind form at (get_or cells 0 []) kind × IsDetailBy title kind w cells d
 
 -- what is known of a fault: how many records there are and have to be, or in which field of its record it lies

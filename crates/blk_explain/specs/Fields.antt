@@ -1,10 +1,10 @@
 -- The fields of records, by the names in their rows, and what may stand in them.
 use Rattle.std.specs.Prelude.{ℕ, get_or}
-use Rattle.blk_lists.specs.Kinds.{KindRow}
-use Rattle.blk_lists.specs.declared.fields.Slot.{Slot}
-use Rattle.blk_lists.specs.declared.fields.Slot.TheVariants as slot
-use Rattle.blk_lists.specs.declared.names.FieldName.{FieldName}
-use Rattle.blk_lists.specs.declared.names.FieldName.TheVariants as name
+use Rattle.blk_records.specs.Kinds.{KindRow}
+use Rattle.blk_records.specs.declared.fields.Slot.{Slot}
+use Rattle.blk_records.specs.declared.fields.Slot.TheVariants as slot
+use Rattle.blk_records.specs.declared.names.FieldName.{FieldName}
+use Rattle.blk_records.specs.declared.names.FieldName.TheVariants as name
 use Rattle.blk_explain.specs.declared.fields.Want.{Want}
 use Rattle.blk_explain.specs.declared.fields.Want.TheVariants as want
 

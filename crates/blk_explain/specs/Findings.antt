@@ -3,12 +3,12 @@ use Rattle.std.specs.Prelude.{◌≡◌, ◌-◌, ℕ, List, [], get_or}
 use Rattle.csv.specs.Reading.{default_config, records, strip_bom}
 use Rattle.edd_commands.specs.declared.Command.{Command}
 use Rattle.blk_trace.specs.Traces.{Traced}
-use Rattle.blk_lists.specs.Sources.{Row}
-use Rattle.blk_lists.specs.Commands.{SpellsCommands, CommandsFault}
-use Rattle.blk_lists.specs.Certificate.{Claim, SpellsClaim, ClaimFault}
-use Rattle.blk_lists.specs.OnTime.{OnTimeClaim, SpellsOnTime, OnTimeClaimFault}
-use Rattle.blk_lists.specs.Schedule.{ScheduleView, SpellsSchedule, ScheduleFault}
-use Rattle.blk_lists.specs.declared.fault.Why.{Why}
+use Rattle.blk_records.specs.Sources.{Row}
+use Rattle.blk_records.specs.Commands.{SpellsCommands, CommandsFault}
+use Rattle.blk_records.specs.Certificate.{Claim, SpellsClaim, ClaimFault}
+use Rattle.blk_records.specs.OnTime.{OnTimeClaim, SpellsOnTime, OnTimeClaimFault}
+use Rattle.blk_records.specs.Schedule.{ScheduleView, SpellsSchedule, ScheduleFault}
+use Rattle.blk_records.specs.declared.fault.TextReason.{TextReason}
 use Rattle.blk_capture.specs.declared.record.Record.{Record}
 use Rattle.blk_capture_text.specs.Captures.{SpellsCapture, CaptureTextFault}
 use Rattle.blk_text.specs.Script.{Scripted, SpellsScript, ScriptFault}
@@ -42,7 +42,7 @@ IsText form.Script rows = (s : Scripted) × SpellsScript rows s
 IsText form.Trace rows = (t : Traced) × SpellsTrace rows t
 
 -- the first fault of a text of this form
-abbrev pub FaultOf : TextForm → List Row → ℕ → Why → Type 0
+abbrev pub FaultOf : TextForm → List Row → ℕ → TextReason → Type 0
 FaultOf form.Commands = CommandsFault
 FaultOf form.Certificate = ClaimFault
 FaultOf form.OnTime = OnTimeClaimFault

@@ -2,14 +2,14 @@
 use Rattle.std.specs.Prelude.{◌≡◌, ◌⊎◌, ◌++◌, ℕ, List, [], ◌∷◌}
 use Rattle.blk_capture_text.specs.declared.reading.TheConstants.{CAPTURE}
 use Rattle.blk_capture_text.specs.declared.record.TheConstants.{RECORD_ROW}
-use Rattle.blk_lists.specs.Kinds.{KindRow, row, title_kind, HasRow}
-use Rattle.blk_lists.specs.declared.fields.Slot.TheVariants as slot
-use Rattle.blk_lists.specs.declared.names.FieldName.{FieldName}
-use Rattle.blk_lists.specs.declared.names.FieldName.TheVariants as name
-use Rattle.blk_lists.specs.declared.certificate.TheConstants.{BOUND, CERTIFICATE, SERVED_ROW}
-use Rattle.blk_lists.specs.declared.commands.TheConstants.{COMMAND_ROW, COMMANDS}
-use Rattle.blk_lists.specs.declared.on_time.TheConstants.{NUMBERS, ON_TIME, WINDOW}
-use Rattle.blk_lists.specs.declared.schedule.TheConstants.{SCHEDULE}
+use Rattle.blk_records.specs.Kinds.{KindRow, row, title_kind, HasRow}
+use Rattle.blk_records.specs.declared.fields.Slot.TheVariants as slot
+use Rattle.blk_records.specs.declared.names.FieldName.{FieldName}
+use Rattle.blk_records.specs.declared.names.FieldName.TheVariants as name
+use Rattle.blk_records.specs.declared.certificate.TheConstants.{BOUND, CERTIFICATE, SERVED_ROW}
+use Rattle.blk_records.specs.declared.commands.TheConstants.{COMMAND_ROW, COMMANDS}
+use Rattle.blk_records.specs.declared.on_time.TheConstants.{NUMBERS, ON_TIME, WINDOW}
+use Rattle.blk_records.specs.declared.schedule.TheConstants.{SCHEDULE}
 use Rattle.blk_text.specs.EventKinds.{event_table}
 use Rattle.blk_text.specs.StepKinds.{step_kinds}
 use Rattle.blk_text.specs.declared.bios.TheConstants.{BIO}
@@ -21,8 +21,8 @@ use Rattle.blk_explain.specs.declared.counts.Counted.TheVariants as counted
 use Rattle.blk_explain.specs.declared.forms.TextForm.{TextForm}
 use Rattle.blk_explain.specs.declared.forms.TextForm.TheVariants as form
 use Rattle.blk_explain.specs.declared.forms.FormRow.{FormRow}
-use Rattle.blk_explain.specs.declared.forms.Later.{Later}
-use Rattle.blk_explain.specs.declared.forms.Later.TheVariants as later
+use Rattle.blk_explain.specs.declared.forms.LaterRecords.{LaterRecords}
+use Rattle.blk_explain.specs.declared.forms.LaterRecords.TheVariants as later
 
 -- a record with none of the words of its form, of whose fields but the first, of this name, nothing is known
 abbrev pub other_kind : FieldName → KindRow
@@ -40,7 +40,7 @@ form_kinds form.Script = (title_kind SCRIPT, row SETUP, other_kind name.Step)
 form_kinds form.Trace = (title_kind TRACE, row SETUP, other_kind name.Event)
 
 -- which of its later records begin with words
-abbrev pub form_later : TextForm → Later
+abbrev pub form_later : TextForm → LaterRecords
 form_later form.OnTime = later.Windows
 form_later form.Script = later.Steps
 form_later form.Trace = later.Events
@@ -62,13 +62,13 @@ abbrev pub form_name : TextForm → List ℕ
 form_name f = (form_row f).title.word
 
 -- the kinds with whose words an author may begin a later record, and all that begin with words
-abbrev pub offered_kinds : Later → List KindRow
+abbrev pub offered_kinds : LaterRecords → List KindRow
 offered_kinds later.Wordless = []
 offered_kinds later.Windows = row WINDOW ∷ []
 offered_kinds later.Steps = step_kinds
 offered_kinds later.Events = event_table
 
-abbrev pub worded_kinds : Later → List KindRow
+abbrev pub worded_kinds : LaterRecords → List KindRow
 worded_kinds later.Events = event_table ++ row BIO ∷ []
 worded_kinds l = offered_kinds l
 

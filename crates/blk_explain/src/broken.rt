@@ -2,16 +2,16 @@
 
 ghost use Rattle.std.specs.Prelude.{◌≡◌, ◌≤◌, ◌-◌, ◌↔◌, IsTrue};
 ghost use Rattle.csv.specs.Records.{fields_of};
-ghost use Rattle.blk_lists.specs.Fields.{IsNumber, IsInRange};
-ghost use Rattle.blk_lists.specs.declared.fields.Slot.TheVariants as slot;
+ghost use Rattle.blk_records.specs.Fields.{IsNumber, IsInRange};
+ghost use Rattle.blk_records.specs.declared.fields.Slot.TheVariants as slot;
 ghost use Rattle.blk_explain.specs.Broken.{KeepsSlot, KeepsNone, KeepsIn, IsNumberIn, submitter_count, with_least, IsAllowedBy};
 ghost use Rattle.blk_explain.specs.Inside.FirstBroken.{SaysIfBroken, SaysFirstBroken, SaysBroken};
 
 use crate::fields::{Allowed, Want, want_of};
 use blk_bio::Dir;
-use blk_lists::Why;
-use blk_lists::any::{AnyKind, MAX_FIELDS};
-use blk_lists::fields::{Slot, field, parse_nanoseconds, parse_number, parse_sized};
+use blk_records::TextReason;
+use blk_records::any::{AnyKind, MAX_FIELDS};
+use blk_records::fields::{Slot, field, parse_nanoseconds, parse_number, parse_sized};
 use blk_text::{MAX_SUBMITTERS, MORE_TAGS};
 use csv::ByteRecord;
 
@@ -66,11 +66,11 @@ fn is_within(slot: Slot, field: &[u8]) -> bool
 }
 
 /// Whether a field is free of a fault, given its slot.
-fn keeps_slot(why: Why, slot: Slot, field: &[u8]) -> bool
+fn keeps_slot(why: TextReason, slot: Slot, field: &[u8]) -> bool
     ensures { IsTrue result ↔ KeepsSlot why slot field.now }
 {
     match why {
-        Why::Fields => match slot {
+        TextReason::Fields => match slot {
             Slot::Blank => field.is_empty(),
             Slot::Given
             | Slot::Direction
@@ -79,7 +79,7 @@ fn keeps_slot(why: Why, slot: Slot, field: &[u8]) -> bool
             | Slot::Text
             | Slot::Nanoseconds => true,
         },
-        Why::Word => match slot {
+        TextReason::Word => match slot {
             Slot::Direction => Dir::of_letter(field).is_some(),
             Slot::Given
             | Slot::Blank
@@ -88,45 +88,45 @@ fn keeps_slot(why: Why, slot: Slot, field: &[u8]) -> bool
             | Slot::Text
             | Slot::Nanoseconds => true,
         },
-        Why::Number => is_number(slot, field),
-        Why::Range => is_within(slot, field),
-        Why::Title => is_number(slot, field) && is_within(slot, field),
-        Why::Bio(_)
-        | Why::Tile
-        | Why::Rule(_)
-        | Why::RepeatedId
-        | Why::Order
-        | Why::Count
-        | Why::TooLong
-        | Why::Read
-        | Why::Memory => true,
+        TextReason::Number => is_number(slot, field),
+        TextReason::Range => is_within(slot, field),
+        TextReason::Title => is_number(slot, field) && is_within(slot, field),
+        TextReason::Bio(_)
+        | TextReason::Tile
+        | TextReason::Rule(_)
+        | TextReason::RepeatedId
+        | TextReason::Order
+        | TextReason::Count
+        | TextReason::TooLong
+        | TextReason::Read
+        | TextReason::Memory => true,
     }
 }
 
 /// Whether a field does not have a fault where `none` is wanted, and would be a number of this slot beside commands.
-fn keeps_none(why: Why, slot: Slot, field: &[u8]) -> bool
+fn keeps_none(why: TextReason, slot: Slot, field: &[u8]) -> bool
     ensures { IsTrue result ↔ KeepsNone why slot field.now }
 {
     match why {
-        Why::Number => is_number(slot, field) || field == b"none".as_slice(),
-        Why::Range => field == b"none".as_slice(),
-        Why::Title
-        | Why::Fields
-        | Why::Word
-        | Why::Bio(_)
-        | Why::Tile
-        | Why::Rule(_)
-        | Why::RepeatedId
-        | Why::Order
-        | Why::Count
-        | Why::TooLong
-        | Why::Read
-        | Why::Memory => true,
+        TextReason::Number => is_number(slot, field) || field == b"none".as_slice(),
+        TextReason::Range => field == b"none".as_slice(),
+        TextReason::Title
+        | TextReason::Fields
+        | TextReason::Word
+        | TextReason::Bio(_)
+        | TextReason::Tile
+        | TextReason::Rule(_)
+        | TextReason::RepeatedId
+        | TextReason::Order
+        | TextReason::Count
+        | TextReason::TooLong
+        | TextReason::Read
+        | TextReason::Memory => true,
     }
 }
 
 /// Whether a field does not have a fault.
-fn keeps(why: Why, allowed: Allowed, field: &[u8]) -> bool
+fn keeps(why: TextReason, allowed: Allowed, field: &[u8]) -> bool
     ensures { IsTrue result ↔ KeepsIn why allowed field.now }
 {
     match allowed {
@@ -204,7 +204,7 @@ fn allowed_by(title: &ByteRecord, slot: Slot, want: Want) -> Allowed
 fn broken_at(
     title: &ByteRecord,
     kind: AnyKind,
-    why: Why,
+    why: TextReason,
     row: &ByteRecord,
     place: usize,
 ) -> Option<Allowed>
@@ -223,7 +223,7 @@ fn broken_at(
 fn first_broken(
     title: &ByteRecord,
     kind: AnyKind,
-    why: Why,
+    why: TextReason,
     row: &ByteRecord,
 ) -> Option<(usize, Allowed)>
     ensures { SaysFirstBroken (fields_of title.now) kind why (fields_of row.now) result }
@@ -242,7 +242,7 @@ fn first_broken(
 pub fn broken(
     title: &ByteRecord,
     kind: AnyKind,
-    why: Why,
+    why: TextReason,
     row: &ByteRecord,
 ) -> Option<(usize, Allowed)>
     ensures { SaysBroken (fields_of title.now) kind why (fields_of row.now) result }
@@ -250,8 +250,8 @@ pub fn broken(
     match first_broken(title, kind, why, row) {
         Some(found) => Some(found),
         None => {
-            if why == Why::Number {
-                first_broken(title, kind, Why::Range, row)
+            if why == TextReason::Number {
+                first_broken(title, kind, TextReason::Range, row)
             } else {
                 None
             }

@@ -7,8 +7,8 @@ ghost use Rattle.blk_explain.specs.Counts.{is_of_bio, events_in, events_tally, I
 
 use crate::broken::number_in;
 use crate::findings::{count_rows, row_at};
-use blk_lists::Records;
-use blk_lists::fields::field;
+use blk_records::Records;
+use blk_records::fields::field;
 use blk_text::BIO;
 use csv::ByteRecord;
 use std::alloc::{AllocError, Global};

@@ -11,8 +11,8 @@ use crate::fields::Allowed;
 use crate::findings::{Finding, row_at};
 use crate::forms::{FormRow, TextForm, kind_of};
 use crate::titles::is_strange;
-use blk_lists::fields::field;
-use blk_lists::{TextFault, Why};
+use blk_records::fields::field;
+use blk_records::{TextFault, TextReason};
 use csv::ByteRecord;
 use std::alloc::{AllocError, Global};
 use strsim::generic_levenshtein;
@@ -92,7 +92,13 @@ fn counted_detail(tally: Option<Tally>) -> Detail
 }
 
 /// What is known of the record of this number that has a fault, in a text of this form with this title.
-fn record_detail(form: &FormRow, title: &ByteRecord, at: u64, why: Why, row: &ByteRecord) -> Detail
+fn record_detail(
+    form: &FormRow,
+    title: &ByteRecord,
+    at: u64,
+    why: TextReason,
+    row: &ByteRecord,
+) -> Detail
     ensures { IsRecordDetail form.now (fields_of title.now) at why (fields_of row.now) result }
 {
     let kind = kind_of(form, at, field(row, 0));
@@ -113,7 +119,7 @@ fn fault_detail(
     ensures { IfOk result (IsFaultDetail form.now (rows_of bytes.now) fault) }
 {
     let title = row_at(alloc, bytes, 1)?;
-    if fault.why == Why::Count {
+    if fault.why == TextReason::Count {
         let tally = tally_of(alloc, bytes, form.counted, &title)?;
         return Ok(counted_detail(tally));
     }

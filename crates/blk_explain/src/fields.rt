@@ -3,8 +3,8 @@
 ghost use Rattle.std.specs.Prelude.{◌≡◌};
 ghost use Rattle.blk_explain.specs.Fields.{want_of};
 
-use blk_lists::fields::Slot;
-use blk_lists::names::FieldName;
+use blk_records::fields::Slot;
+use blk_records::names::FieldName;
 
 /// What may stand in a field: what the row of its record says, or as the text's title says.
 #[derive(Clone, Copy)]

@@ -4,13 +4,13 @@ ghost use Rattle.std.specs.Prelude.{◌≡◌, ◌<◌, ◌-◌, ◌^◌, IfOk, 
 ghost use Rattle.csv.specs.Records.{fields_of};
 ghost use Rattle.blk_explain.specs.Findings.{rows_of, row_at, IsFound};
 ghost use Rattle.blk_explain.specs.Inside.Read.{IsRead};
-ghost use Rattle.blk_lists.specs.declared.fault.Why.TheVariants as why;
+ghost use Rattle.blk_records.specs.declared.fault.TextReason.TheVariants as why;
 
 use crate::forms::{TextForm, form_named};
 use blk_capture_text::read_capture;
-use blk_lists::fields::field;
-use blk_lists::{
-    Records, TextFault, Why, read_certificate, read_commands, read_on_time, read_schedule,
+use blk_records::fields::field;
+use blk_records::{
+    Records, TextFault, TextReason, read_certificate, read_commands, read_on_time, read_schedule,
 };
 use blk_text::{read_script, read_trace};
 use csv::ByteRecord;
@@ -70,7 +70,7 @@ fn faulty(form: TextForm, fault: TextFault) -> Result<Finding, AllocError>
     ensures found { IfOk result (λ f. f ≡ Finding.Faulty form fault) }
     ensures own { IfOk result (λ _. ¬ (fault.why ≡ why.Read) × ¬ (fault.why ≡ why.Memory)) }
 {
-    if fault.why == Why::Read || fault.why == Why::Memory {
+    if fault.why == TextReason::Read || fault.why == TextReason::Memory {
         return Err(AllocError);
     }
     Ok(Finding::Faulty(form, fault))

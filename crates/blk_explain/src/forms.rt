@@ -7,11 +7,11 @@ ghost use Rattle.blk_explain.specs.declared.forms.TextForm.{TextForm as AForm};
 use crate::counts::Counted;
 use crate::others::{OTHER_EVENT, OTHER_STEP};
 use blk_capture_text::{CAPTURE, RECORD_ROW};
-use blk_lists::any::AnyKind;
-use blk_lists::certificate::{BOUND, CERTIFICATE, SERVED_ROW};
-use blk_lists::commands::{COMMAND_ROW, COMMANDS};
-use blk_lists::on_time::{NUMBERS, ON_TIME, WINDOW};
-use blk_lists::schedule::SCHEDULE;
+use blk_records::any::AnyKind;
+use blk_records::certificate::{BOUND, CERTIFICATE, SERVED_ROW};
+use blk_records::commands::{COMMAND_ROW, COMMANDS};
+use blk_records::on_time::{NUMBERS, ON_TIME, WINDOW};
+use blk_records::schedule::SCHEDULE;
 use blk_text::script::SCRIPT;
 use blk_text::{BIO, SETUP, TRACE, event_kinds, step_kinds};
 
@@ -36,7 +36,7 @@ pub enum TextForm {
 
 /// The records after the second that begin with words.
 #[derive(Clone, Copy)]
-pub enum Later {
+pub enum LaterRecords {
     /// None does.
     Wordless,
     /// Windows.
@@ -55,7 +55,7 @@ pub struct FormRow {
     /// That of its second record.
     pub second: AnyKind,
     /// Those of its later records that begin with words.
-    pub later: Later,
+    pub later: LaterRecords,
     /// That of its other records.
     pub item: AnyKind,
     /// How many records are announced.
@@ -79,15 +79,15 @@ impl TextForm {
     }
 
     /// Its records after the second that begin with words.
-    fn later(self) -> Later
+    fn later(self) -> LaterRecords
         ensures { result ≡ form_later self }
     {
         match self {
-            TextForm::OnTime => Later::Windows,
-            TextForm::Script => Later::Steps,
-            TextForm::Trace => Later::Events,
+            TextForm::OnTime => LaterRecords::Windows,
+            TextForm::Script => LaterRecords::Steps,
+            TextForm::Trace => LaterRecords::Events,
             TextForm::Commands | TextForm::Certificate | TextForm::Schedule | TextForm::Capture =>
-                Later::Wordless,
+                LaterRecords::Wordless,
         }
     }
 
@@ -163,14 +163,14 @@ fn kind_named(kinds: &[AnyKind], other: AnyKind, word: &[u8]) -> AnyKind
 }
 
 /// The kind of a later record that begins with this word, or, where none does, another.
-fn later_kind(later: Later, other: AnyKind, word: &[u8]) -> AnyKind
+fn later_kind(later: LaterRecords, other: AnyKind, word: &[u8]) -> AnyKind
     ensures { IsWorded (worded_kinds later) other word.now result }
 {
     match later {
-        Later::Wordless => other,
-        Later::Windows => kind_named(&[WINDOW.any()], other, word),
-        Later::Steps => kind_named(&step_kinds(), other, word),
-        Later::Events => {
+        LaterRecords::Wordless => other,
+        LaterRecords::Windows => kind_named(&[WINDOW.any()], other, word),
+        LaterRecords::Steps => kind_named(&step_kinds(), other, word),
+        LaterRecords::Events => {
             let otherwise = kind_named(&[BIO.any()], other, word);
             kind_named(&event_kinds(), otherwise, word)
         }

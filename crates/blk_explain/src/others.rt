@@ -1,8 +1,8 @@
 //! The kinds of records with none of the words of their form, of whose fields but the first nothing is known.
 
-use blk_lists::fields::Slot;
-use blk_lists::kinds::Kind;
-use blk_lists::names::FieldName;
+use blk_records::fields::Slot;
+use blk_records::kinds::Kind;
+use blk_records::names::FieldName;
 
 /// A step of a script with another word than a step has.
 pub const OTHER_STEP: Kind<0, 1> = Kind {

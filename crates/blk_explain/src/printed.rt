@@ -4,9 +4,9 @@ ghost use Rattle.std.specs.Prelude.{IfOk};
 ghost use Rattle.blk_explain.specs.Printed.{AreLinesExplained};
 
 use crate::telling::push_byte;
-use blk_recorders::{LineFault, LineWhy, Recorder, Steps, read_lines};
-use drafts::Draft;
+use blk_recorders::{LineFault, LineReason, Recorder, Steps, read_lines};
 use std::alloc::{AllocError, Global};
+use text_output::Draft;
 
 /// What is said about the lines that a recorder printed.
 #[derive(Drop)]
@@ -21,17 +21,17 @@ pub struct LinesExplained {
 const MAX_SHOWN: usize = 80;
 
 /// What is wanted of a line that has this fault.
-fn line_wanted(why: LineWhy) -> &'static [u8] {
+fn line_wanted(why: LineReason) -> &'static [u8] {
     match why {
-        LineWhy::Fields => b"all words of a step, and sectors as FIRST + COUNT",
-        LineWhy::Number =>
+        LineReason::Fields => b"all words of a step, and sectors as FIRST + COUNT",
+        LineReason::Number =>
             b"a time with 9 or 6 digits behind its point, and numbers below 2^64 for processor, process, device and sectors",
-        LineWhy::Range => b"a time below 2^34 seconds",
-        LineWhy::Devices =>
+        LineReason::Range => b"a time below 2^34 seconds",
+        LineReason::Devices =>
             b"the device of the lines before it, or one that import is told by --device",
-        LineWhy::Order => b"a time no earlier than that of the step before it",
-        LineWhy::TooLong => b"at most 16000000 steps",
-        LineWhy::Memory => b"memory",
+        LineReason::Order => b"a time no earlier than that of the step before it",
+        LineReason::TooLong => b"at most 16000000 steps",
+        LineReason::Memory => b"memory",
     }
 }
 
@@ -121,7 +121,7 @@ pub fn explain_lines(
             Ok(LinesExplained { fault: None, text })
         }
         Err(fault) => {
-            if fault.why == LineWhy::Memory {
+            if fault.why == LineReason::Memory {
                 return Err(AllocError);
             }
             let text = line_fault_text(alloc, recorder, bytes, fault)?;

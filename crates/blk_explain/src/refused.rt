@@ -7,10 +7,10 @@ use crate::forms::TextForm;
 use crate::lines::line_at;
 use crate::telling::{push_place, push_rule};
 use blk_bio::BioId;
-use blk_lists::Records;
+use blk_records::Records;
 use csv::ByteRecord;
-use drafts::Draft;
 use std::alloc::{AllocError, Global};
+use text_output::Draft;
 
 /// A step of a script that a run refuses.
 #[derive(Clone, Copy, Debug)]

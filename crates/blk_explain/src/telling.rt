@@ -7,18 +7,18 @@ use crate::details::Detail;
 use crate::fields::Allowed;
 use crate::findings::{Finding, count_rows, row_at};
 use crate::flushing::staged_in;
-use crate::forms::{FormRow, Later, TextForm, kind_of};
+use crate::forms::{FormRow, LaterRecords, TextForm, kind_of};
 use crate::titles::file_of;
 use crate::wanted::{field_name, rule_wanted, why_wanted};
 use blk_bio::{BioFault, MAX_END};
-use blk_lists::any::AnyKind;
-use blk_lists::fields::{Slot, field};
-use blk_lists::on_time::WINDOW;
-use blk_lists::{Records, TextFault, Why};
+use blk_records::any::AnyKind;
+use blk_records::fields::{Slot, field};
+use blk_records::on_time::WINDOW;
+use blk_records::{Records, TextFault, TextReason};
 use blk_text::{event_kinds, read_script, step_kinds};
 use csv::ByteRecord;
-use drafts::Draft;
 use std::alloc::{AllocError, Global};
+use text_output::Draft;
 
 /// A digit of base sixteen.
 fn hex_digit(digit: u8) -> u8
@@ -94,14 +94,14 @@ fn push_range(draft: &mut Draft, slot: Slot) -> Result<(), AllocError> {
 }
 
 /// Adds what may stand in a field that has this fault.
-fn push_allowed(draft: &mut Draft, why: Why, allowed: Allowed) -> Result<(), AllocError> {
+fn push_allowed(draft: &mut Draft, why: TextReason, allowed: Allowed) -> Result<(), AllocError> {
     let Allowed::Slot(slot) = allowed else {
         return draft.text(b"none");
     };
     match why {
-        Why::Fields => draft.text(b"nothing"),
-        Why::Word => draft.text(b"R or W"),
-        Why::Number => match slot {
+        TextReason::Fields => draft.text(b"nothing"),
+        TextReason::Word => draft.text(b"R or W"),
+        TextReason::Number => match slot {
             Slot::Nanoseconds => draft.text(b"nine digits"),
             _ => draft.text(b"a number"),
         },
@@ -146,8 +146,8 @@ fn push_begun(
     row: &ByteRecord,
 ) -> Result<(), AllocError> {
     let later = match form.later {
-        Later::Windows => WINDOW.any(),
-        Later::Wordless | Later::Steps | Later::Events => form.item,
+        LaterRecords::Windows => WINDOW.any(),
+        LaterRecords::Wordless | LaterRecords::Steps | LaterRecords::Events => form.item,
     };
     let kind = if at == 2 { form.second } else { later };
     push_field(draft, 0, field_name(kind.name(0)), row)?;
@@ -155,10 +155,10 @@ fn push_begun(
         return draft.text(form.second.word());
     }
     match form.later {
-        Later::Wordless => Ok(()),
-        Later::Windows => push_words(draft, &[WINDOW.any()]),
-        Later::Steps => push_words(draft, &step_kinds()),
-        Later::Events => push_words(draft, &event_kinds()),
+        LaterRecords::Wordless => Ok(()),
+        LaterRecords::Windows => push_words(draft, &[WINDOW.any()]),
+        LaterRecords::Steps => push_words(draft, &step_kinds()),
+        LaterRecords::Events => push_words(draft, &event_kinds()),
     }
 }
 
@@ -167,18 +167,18 @@ fn push_whole(
     draft: &mut Draft,
     form: &FormRow,
     at: u64,
-    why: Why,
+    why: TextReason,
     row: &ByteRecord,
 ) -> Result<(), AllocError> {
     match why {
-        Why::Fields => {
+        TextReason::Fields => {
             draft.text(b"found ")?;
             draft.number(row.len() as u64)?;
             draft.text(b" fields, wanted ")?;
             draft.number(form.title.width())
         }
-        Why::Word => push_begun(draft, form, at, row),
-        Why::RepeatedId => {
+        TextReason::Word => push_begun(draft, form, at, row),
+        TextReason::RepeatedId => {
             push_field(draft, 0, field_name(form.item.name(0)), row)?;
             draft.text(why_wanted(why))
         }
@@ -186,8 +186,8 @@ fn push_whole(
             draft.text(why.name().as_bytes())?;
             draft.text(b": wanted ")?;
             match why {
-                Why::Rule(rule) => draft.text(rule_wanted(rule)),
-                Why::Bio(BioFault::Range) => {
+                TextReason::Rule(rule) => draft.text(rule_wanted(rule)),
+                TextReason::Bio(BioFault::Range) => {
                     draft.text(b"an end of at most ")?;
                     draft.number(MAX_END)
                 }
@@ -260,7 +260,7 @@ fn push_untitled(
         push_field(draft, 0, b"title", &row)?;
         draft.text(form.title.word())?;
         draft.text(b"\n")?;
-        return push_rule(draft, form.title.word(), 1, Why::Title.name());
+        return push_rule(draft, form.title.word(), 1, TextReason::Title.name());
     }
     draft.text(b"found ")?;
     match file_of(field(&row, 0)) {
@@ -268,7 +268,7 @@ fn push_untitled(
         None => draft.text(b"nothing")?,
     }
     draft.text(b", wanted a title\n")?;
-    push_rule(draft, b"blk", 1, Why::Title.name())
+    push_rule(draft, b"blk", 1, TextReason::Title.name())
 }
 
 /// Adds the lines on a text of this form without a fault: what it is, and of a script whether bios of it never leave their plugs.

@@ -1,8 +1,8 @@
 //! What is wanted, in words: what fields are called, and what a record has to be instead.
 
 use blk_bio::{BioFault, TraceRule};
-use blk_lists::Why;
-use blk_lists::names::FieldName;
+use blk_records::TextReason;
+use blk_records::names::FieldName;
 
 /// What a field is called, as docs/FORMATS.md has it.
 pub fn field_name(name: FieldName) -> &'static [u8] {
@@ -75,23 +75,23 @@ pub fn rule_wanted(rule: TraceRule) -> &'static [u8] {
 }
 
 /// What is wanted where no field by itself has the fault.
-pub fn why_wanted(why: Why) -> &'static [u8] {
+pub fn why_wanted(why: TextReason) -> &'static [u8] {
     match why {
-        Why::Title => b"a title",
-        Why::Fields => b"other fields",
-        Why::Word => b"another word",
-        Why::Number => b"numbers",
-        Why::Range => b"each number within its range",
-        Why::Bio(BioFault::Empty) => b"one sector at least",
-        Why::Bio(BioFault::Range) => b"an end that is not too far",
-        Why::Tile =>
+        TextReason::Title => b"a title",
+        TextReason::Fields => b"other fields",
+        TextReason::Word => b"another word",
+        TextReason::Number => b"numbers",
+        TextReason::Range => b"each number within its range",
+        TextReason::Bio(BioFault::Empty) => b"one sector at least",
+        TextReason::Bio(BioFault::Range) => b"an end that is not too far",
+        TextReason::Tile =>
             b"a bio that begins where the one before it ends, of its direction and within the limits",
-        Why::Rule(rule) => rule_wanted(rule),
-        Why::RepeatedId => b"an id that did not stand before",
-        Why::Order => b"a time that is not before that of the record before",
-        Why::Count => b"as many records as were announced",
-        Why::TooLong => b"no more records than the form may have",
-        Why::Read => b"a reader that does not fail",
-        Why::Memory => b"more memory",
+        TextReason::Rule(rule) => rule_wanted(rule),
+        TextReason::RepeatedId => b"an id that did not stand before",
+        TextReason::Order => b"a time that is not before that of the record before",
+        TextReason::Count => b"as many records as were announced",
+        TextReason::TooLong => b"no more records than the form may have",
+        TextReason::Read => b"a reader that does not fail",
+        TextReason::Memory => b"more memory",
     }
 }

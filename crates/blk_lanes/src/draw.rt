@@ -10,8 +10,8 @@ use crate::shapes::put;
 use crate::words::{
     AFTER_HEAD, ALL, BEFORE_HEAD, BLAME, COMMANDS, HEAD, NONE_LATE, SCHEDULE, SHOWN, WAYS,
 };
-use drafts::Draft;
 use std::alloc::{AllocError, Global};
+use text_output::Draft;
 
 /// How many intervals are drawn at most.
 const MAX_PANELS: usize = 10;

@@ -10,8 +10,8 @@ use crate::lanes::{Lanes, lanes_of};
 use crate::ruler::Ruler;
 use crate::shapes::{Layout, bar_shape, has_room, panel_shape, put, put_time, span_shape};
 use crate::words::{AFTER_BAR, AFTER_TITLE, BAR};
-use drafts::Draft;
 use std::alloc::{AllocError, Global};
+use text_output::Draft;
 
 /// How many requests of an interval are drawn at most, those that went out first.
 const MAX_BARS: usize = 1000;

@@ -3,8 +3,8 @@
 use crate::bars::{Bar, Mark, Span, Unit, Way};
 use crate::ruler::{LEFT, Ruler};
 use crate::words::{BRACKET, DUE, FRAME, LABEL, PANEL, PART, ROW, TICK};
-use drafts::Draft;
 use std::alloc::{AllocError, Global};
+use text_output::Draft;
 
 /// Where the lanes begin, from the top of a panel.
 pub(crate) const TOP: u64 = 24;

@@ -14,7 +14,7 @@ use Rattle.blk_trace.specs.Kinds.{ends, requeues, is_done_of}
 use Rattle.blk_trace.specs.Setups.{Setup}
 use Rattle.blk_trace.specs.Events.{At, EndsAt, IsOpen, IsReleased, ends_requeued}
 use Rattle.blk_trace.specs.Legal.{IsLegalTrace}
-use Rattle.blk_trace.specs.Rules.{IsUnbroken}
+use Rattle.blk_trace.specs.Rules.{BreaksNoRule}
 use Rattle.blk_trace.specs.Meaning.{issued_ids}
 use Rattle.blk_trace.specs.Waits.{has_id}
 use Rattle.blk_trace.specs.Inside.Seats.{issued_by}
@@ -195,7 +195,7 @@ as_many setup es legal = by_legal setup (λ l. length (done_ids l) ≡ done_coun
         let long : length (done_ids (es ++ Done tag ∷ [])) ≡ length (done_ids es ++ id ∷ []) = ap length list in
         omega (arith, long, length-append (done_ids es) (id ∷ []), one_done es tag, h)
 
-    step : (es : List Happened) (e : Happened) → IsLegalTrace setup (es ++ e ∷ []) → IsLegalTrace setup es → IsUnbroken setup es e → length (done_ids es) ≡ done_count es → length (done_ids (es ++ e ∷ [])) ≡ done_count (es ++ e ∷ [])
+    step : (es : List Happened) (e : Happened) → IsLegalTrace setup (es ++ e ∷ []) → IsLegalTrace setup es → BreaksNoRule setup es e → length (done_ids es) ≡ done_count es → length (done_ids (es ++ e ∷ [])) ≡ done_count (es ++ e ∷ [])
     step es Tick new old obeys h = other es Tick refl refl h
     step es (Release id bios) new old obeys h = other es (Release id bios) refl refl h
     step es (Join id bios) new old obeys h = other es (Join id bios) refl refl h
@@ -229,7 +229,7 @@ all_ended setup es legal = by_legal setup (λ l. (id : ℕ) → has_id (done_ids
           ]
         ]
 
-    step : (es : List Happened) (e : Happened) → IsLegalTrace setup (es ++ e ∷ []) → IsLegalTrace setup es → IsUnbroken setup es e → ((id : ℕ) → has_id (done_ids es) id ≡ true → IsEnded es id) → (id : ℕ) → has_id (done_ids (es ++ e ∷ [])) id ≡ true → IsEnded (es ++ e ∷ []) id
+    step : (es : List Happened) (e : Happened) → IsLegalTrace setup (es ++ e ∷ []) → IsLegalTrace setup es → BreaksNoRule setup es e → ((id : ℕ) → has_id (done_ids es) id ≡ true → IsEnded es id) → (id : ℕ) → has_id (done_ids (es ++ e ∷ [])) id ≡ true → IsEnded (es ++ e ∷ []) id
     step es Tick new old obeys h = other es Tick refl h
     step es (Release id bios) new old obeys h = other es (Release id bios) refl h
     step es (Join id bios) new old obeys h = other es (Join id bios) refl h

@@ -7,8 +7,8 @@ use Rattle.blk_bio.specs.Bios.{Bio}
 use Rattle.blk_queues.specs.Plugs.{Plug, bios_plugged}
 use Rattle.blk_queues.specs.Queues.{Queue}
 use Rattle.blk_layer.specs.Seats.{SubmitterSeat}
-use Rattle.blk_layer.specs.declared.submitting.FlushWhy.{FlushWhy}
-use Rattle.blk_layer.specs.declared.submitting.FlushWhy.TheVariants.{Foreign, Repeated, SoftFull, Memory}
+use Rattle.blk_layer.specs.declared.submitting.FlushReason.{FlushReason}
+use Rattle.blk_layer.specs.declared.submitting.FlushReason.TheVariants.{Foreign, Repeated, SoftFull, Memory}
 use Rattle.blk_layer.specs.Submitting.{Flushes, FlushesInto, IsRoomReason}
 use Rattle.blk_layer.specs.Inside.Submitting.{IsOfBios}
 
@@ -86,7 +86,7 @@ pub none_held : (plug : Plug) → length plug.requests ≤ 0 → length (bios_pl
 none_held plug h = ap (λ (l : List (List Bio)). length (flat_map (λ (x : List Bio). x) l)) (none_there plug.requests h)
 
 -- what the bios themselves refuse says nothing of the room
-pub room_of : (queue : Queue) (bios : List Bio) (why : FlushWhy) → IsOfBios why → IsRoomReason queue bios why
+pub room_of : (queue : Queue) (bios : List Bio) (why : FlushReason) → IsOfBios why → IsRoomReason queue bios why
 room_of queue bios (Foreign id) h = tt
 room_of queue bios (Repeated id) h = tt
 room_of queue bios SoftFull h = absurd h

@@ -7,8 +7,8 @@ use Rattle.blk_queues.specs.Plugs.{Plug}
 use Rattle.blk_queues.specs.Queues.{Queue}
 use Rattle.blk_queues.specs.declared.soft.TheConstants.{MAX_BIOS}
 use Rattle.blk_trace.specs.Events.{AreOnce, IsFirstRepeatedBio}
-use Rattle.blk_layer.specs.declared.submitting.FlushWhy.{FlushWhy}
-use Rattle.blk_layer.specs.declared.submitting.FlushWhy.TheVariants.{Foreign, Repeated, SoftFull, Memory}
+use Rattle.blk_layer.specs.declared.submitting.FlushReason.{FlushReason}
+use Rattle.blk_layer.specs.declared.submitting.FlushReason.TheVariants.{Foreign, Repeated, SoftFull, Memory}
 use Rattle.blk_bio.specs.declared.limits.TheConstants.{MAX_QUEUES}
 use Rattle.blk_layer.specs.Seats.{SubmitterSeat, AreOwn}
 use Rattle.edd_commands.specs.Order.{BreaksFirst}
@@ -47,14 +47,14 @@ abbrev pub flush_rules : SubmitterSeat → List Bio → List (Type 0)
 flush_rules seat bios = AreOwn seat.number bios ∷ AreOnce (seat.accepted ++ bios) ∷ []
 
 -- what each reason says of the request. Whether the software queue has room is known under its lock alone
-abbrev pub IsFlushReason : SubmitterSeat → List Bio → FlushWhy → Type 0
+abbrev pub IsFlushReason : SubmitterSeat → List Bio → FlushReason → Type 0
 IsFlushReason seat bios (Foreign id) = BreaksFirst (flush_rules seat bios) 0 (IsFirstForeign seat.number bios id)
 IsFlushReason seat bios (Repeated id) = BreaksFirst (flush_rules seat bios) 1 (IsFirstRepeatedBio seat.accepted bios id)
 IsFlushReason seat bios SoftFull = CanAccept seat bios
 IsFlushReason seat bios Memory = CanAccept seat bios
 
 -- the first request that is left in the plug is refused for this reason
-pub record IsLeft (seat : SubmitterSeat) (plug : Plug) (why : FlushWhy) : Type 0 where
+pub record IsLeft (seat : SubmitterSeat) (plug : Plug) (why : FlushReason) : Type 0 where
   pub first : List Bio
   pub stands : slice_get plug.requests 0 ≡ Some first
   pub reason : IsFlushReason seat first why
@@ -69,14 +69,14 @@ abbrev pub QueueHasRoom : Queue → List Bio → Type 0
 QueueHasRoom queue bios = (length queue.requests < queue.depth) × (queue.bios_in + length bios ≤ MAX_BIOS)
 
 -- what each reason says of the room for the request: it is looked for before memory is
-abbrev pub IsRoomReason : Queue → List Bio → FlushWhy → Type 0
+abbrev pub IsRoomReason : Queue → List Bio → FlushReason → Type 0
 IsRoomReason queue bios (Foreign id) = ⊤
 IsRoomReason queue bios (Repeated id) = ⊤
 IsRoomReason queue bios SoftFull = (queue.depth ≤ length queue.requests) ⊎ (MAX_BIOS < queue.bios_in + length bios)
 IsRoomReason queue bios Memory = QueueHasRoom queue bios
 
 -- the same of the first request of a plug
-abbrev pub IsFirstRoomReason : Queue → Plug → FlushWhy → Type 0
+abbrev pub IsFirstRoomReason : Queue → Plug → FlushReason → Type 0
 IsFirstRoomReason queue plug why = (first : List Bio) → slice_get plug.requests 0 ≡ Some first → IsRoomReason queue first why
 
 -- the submitter of a request, by its first bio

@@ -21,4 +21,4 @@ pub use crate::seats::{Submitter, Worker};
 pub use crate::serving::{
     After, Device, Issued, LayerIssueFault, Passed, Ran, WorkFault, Worked, after_pass,
 };
-pub use crate::submitting::{DrainFault, FlushFault, FlushWhy, Flushed, MAX_MOVES};
+pub use crate::submitting::{DrainFault, FlushFault, FlushReason, Flushed, MAX_MOVES};

@@ -15,7 +15,7 @@ use crate::accounts::Account;
 use crate::layer::Named;
 use crate::locked::LockedCore;
 use crate::serving::Issued;
-use crate::submitting::{FlushWhy, first_foreign};
+use crate::submitting::{FlushReason, first_foreign};
 use blk_bio::{Bio, Request};
 use blk_core::{BackFault, NoneIssued, NotIssued};
 use blk_sched::Scheduler;
@@ -94,16 +94,16 @@ impl<L: Named, A: Allocator + Clone> Submitter<L, A> {
     }
 
     /// The first reason not to accept bios, memory and the software queue aside.
-    pub(crate) fn refusal(&self, bios: &[Bio]) -> Option<FlushWhy>
+    pub(crate) fn refusal(&self, bios: &[Bio]) -> Option<FlushReason>
         ensures some { IfSome result (IsFlushReason self.now bios.now) }
         ensures kind { IfSome result IsOfBios }
         ensures none { IfNone result (CanAccept self.now bios.now) }
     {
         if let Some(id) = first_foreign(self.number, bios) {
-            return Some(FlushWhy::Foreign(id));
+            return Some(FlushReason::Foreign(id));
         }
         match self.account.first_repeated(bios) {
-            Some(id) => Some(FlushWhy::Repeated(id)),
+            Some(id) => Some(FlushReason::Repeated(id)),
             None => None,
         }
     }

@@ -30,7 +30,7 @@ pub struct Flushed {
 
 /// Why a flush ended before the plug was empty, in the order in which the reasons are looked for.
 #[derive(Clone, Copy, Debug, PartialEq, Eq)]
-pub enum FlushWhy {
+pub enum FlushReason {
     /// The first bio, in the order of their sectors, of another submitter.
     Foreign(BioId),
     /// The first bio, in the order of their sectors, whose id was accepted before or stands earlier in the request.
@@ -47,7 +47,7 @@ pub struct FlushFault {
     /// How many requests stay in the plug.
     pub left: u64,
     /// Why the first of them does.
-    pub why: FlushWhy,
+    pub why: FlushReason,
 }
 
 /// A drain that ended at a request that the core refused.
@@ -280,7 +280,7 @@ fn flush_first<L: Named, A: Allocator + Clone>(
     queue: &mut SoftQueue<A>,
     submitter: &mut Submitter<L, A>,
     plug: &mut Plug<A>,
-) -> Result<(), FlushWhy>
+) -> Result<(), FlushReason>
     requires limits { plug.old.limits ≡ queue.old.limits }
     requires some { 0 < length plug.old.requests }
     ensures moved { FlushesInto queue.old submitter.old plug.old queue.new submitter.new plug.new }
@@ -298,10 +298,10 @@ fn flush_first<L: Named, A: Allocator + Clone>(
         return Err(why);
     }
     if !has_room(queue, request) {
-        return Err(FlushWhy::SoftFull);
+        return Err(FlushReason::SoftFull);
     }
     if submitter.accept(request.bios()).is_err() {
-        return Err(FlushWhy::Memory);
+        return Err(FlushReason::Memory);
     }
     take_over(queue, plug);
     Ok(())

@@ -4,7 +4,7 @@ use crate::closed::other_than;
 use crate::given::bio;
 use crate::listed::{LayerCall, flushed};
 use blk_bio::BioId;
-use blk_layer::{FlushFault, FlushWhy, MAX_MOVES};
+use blk_layer::{FlushFault, FlushReason, MAX_MOVES};
 
 // The first of two requests fills the software queue; once it is drained, the second one does. The first bio's id is refused from
 // then on. The bio in the software queue is left first, and then the one that waits in the core.
@@ -12,11 +12,11 @@ use blk_layer::{FlushFault, FlushWhy, MAX_MOVES};
 fn layer_soft_queue_full(rt: HostRuntime) {
     let full = FlushFault {
         left: 1,
-        why: FlushWhy::SoftFull,
+        why: FlushReason::SoftFull,
     };
     let again = FlushFault {
         left: 2,
-        why: FlushWhy::Repeated(BioId {
+        why: FlushReason::Repeated(BioId {
             submitter: 0,
             serial: 0,
         }),
@@ -100,7 +100,7 @@ fn layer_leaves_a_queue_in_order(rt: HostRuntime) {
 fn layer_soft_queue_of_the_greatest_depth(rt: HostRuntime) {
     let full = FlushFault {
         left: 1,
-        why: FlushWhy::SoftFull,
+        why: FlushReason::SoftFull,
     };
     let calls = [
         LayerCall::Fill(0, 0, MAX_MOVES),

@@ -6,7 +6,7 @@ ghost use Rattle.std.specs.Prelude.{true, ◌≡◌, ◌<◌, length};
 use crate::given::bio;
 use blk_core::{BackFault, CoreFault, DepthFault, NotIssued, TickFault};
 use blk_layer::{
-    Device, DrainFault, FlushFault, FlushWhy, Flushed, Layer, LayerIssueFault, Named, Ran,
+    Device, DrainFault, FlushFault, FlushReason, Flushed, Layer, LayerIssueFault, Named, Ran,
     Submitter, WorkFault, Worked, Worker,
 };
 use blk_queues::{Added, MAX_STAGED, Plug, PlugFault};
@@ -143,7 +143,7 @@ fn flush<R: Wait, S: Scheduler, L: Named>(
     match layer.flush(rt, submitter, plug) {
         Err(
             FlushFault {
-                why: FlushWhy::Memory,
+                why: FlushReason::Memory,
                 ..
             },
         ) => layer.flush(rt, submitter, plug),

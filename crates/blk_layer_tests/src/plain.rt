@@ -4,7 +4,7 @@ ghost use Rattle.std.specs.Prelude.{◌≡◌};
 
 use blk_bio::{Bio, BioId, Limits, Request};
 use blk_core::{BackFault, Core, IssueFault, NotIssued};
-use blk_layer::{FlushFault, FlushWhy, Flushed, Issued, LayerIssueFault};
+use blk_layer::{FlushFault, FlushReason, Flushed, Issued, LayerIssueFault};
 use blk_none::NoneSched;
 use blk_queues::{Plug, SoftQueue};
 use blk_tags::{TagSeat, TagSet};
@@ -120,12 +120,12 @@ impl Store {
     }
 
     /// Puts a request into the queue, or says why it doesn't go there.
-    fn put(&mut self, rt: &impl Abort, request: Request) -> Option<FlushWhy> {
+    fn put(&mut self, rt: &impl Abort, request: Request) -> Option<FlushReason> {
         if let Some(id) = first_foreign(self.number, request.bios()) {
-            return Some(FlushWhy::Foreign(id));
+            return Some(FlushReason::Foreign(id));
         }
         if let Some(id) = first_repeated(self.accepted.as_slice(), request.bios()) {
-            return Some(FlushWhy::Repeated(id));
+            return Some(FlushReason::Repeated(id));
         }
         let before = self.accepted.len();
         self.accepted
@@ -134,7 +134,7 @@ impl Store {
         assert!(rt; request.within(&self.queue.limits()));
         if self.queue.put(request).is_err() {
             self.accepted.truncate(before);
-            return Some(FlushWhy::SoftFull);
+            return Some(FlushReason::SoftFull);
         }
         None
     }

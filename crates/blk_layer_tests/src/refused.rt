@@ -4,7 +4,7 @@ use crate::closed::tried;
 use crate::given::{bio, core, limits, setup};
 use crate::listed::{LayerCall, flushed};
 use blk_bio::BioId;
-use blk_layer::{FlushFault, FlushWhy};
+use blk_layer::{FlushFault, FlushReason};
 use blk_queues::Map;
 use refusing::Refusing;
 use std::alloc::Global;
@@ -53,11 +53,11 @@ fn all_of_it<R: Abort + Wait>(rt: &R, heap: Heap<'_>, calls: &[LayerCall], refus
 fn memory_refused(rt: HostRuntime) {
     let full = FlushFault {
         left: 1,
-        why: FlushWhy::SoftFull,
+        why: FlushReason::SoftFull,
     };
     let again = FlushFault {
         left: 2,
-        why: FlushWhy::Repeated(BioId {
+        why: FlushReason::Repeated(BioId {
             submitter: 0,
             serial: 0,
         }),

@@ -1,7 +1,7 @@
 //! What came of drawn calls.
 
 use blk_core::{BackFault, DepthFault, NotIssued, TickFault};
-use blk_layer::{FlushFault, FlushWhy, Flushed, Issued, LayerIssueFault};
+use blk_layer::{FlushFault, FlushReason, Flushed, Issued, LayerIssueFault};
 
 /// What came of a call.
 #[derive(Clone, Copy, Debug, PartialEq, Eq)]
@@ -76,10 +76,10 @@ pub fn of_flush(answer: &Result<Flushed, FlushFault>) -> CallOutcome {
     match answer {
         Ok(_) => CallOutcome::Flushed,
         Err(fault) => match fault.why {
-            FlushWhy::Foreign(_) => CallOutcome::Foreign,
-            FlushWhy::Repeated(_) => CallOutcome::Repeated,
-            FlushWhy::SoftFull => CallOutcome::SoftFull,
-            FlushWhy::Memory => CallOutcome::Other,
+            FlushReason::Foreign(_) => CallOutcome::Foreign,
+            FlushReason::Repeated(_) => CallOutcome::Repeated,
+            FlushReason::SoftFull => CallOutcome::SoftFull,
+            FlushReason::Memory => CallOutcome::Other,
         },
     }
 }

@@ -8,7 +8,7 @@ use Rattle.blk_trace.specs.Happened.{Happened}
 use Rattle.blk_trace.specs.Events.{AreOnce}
 use Rattle.blk_layer.specs.Seats.{SubmitterSeat}
 use Rattle.blk_layer.specs.Closing.{all_accepted, issued_bios}
-use Rattle.blk_settings.specs.Settles.{served_bios}
+use Rattle.blk_schedulers.specs.Settles.{served_bios}
 
 with_one : (seats : List SubmitterSeat) (s : SubmitterSeat) → all_accepted (seats ++ s ∷ []) ≡ all_accepted seats ++ s.accepted
 unfolding all_accepted

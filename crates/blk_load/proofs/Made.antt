@@ -11,12 +11,12 @@ use Rattle.blk_queues.specs.declared.hardware.MapFault.TheVariants.{Empty, TooMa
 use Rattle.blk_layer.specs.Seats.{CanMake, IsLayerFault}
 use Rattle.blk_layer.specs.declared.layer.LayerFault.{LayerFault}
 use Rattle.blk_layer.specs.declared.layer.LayerFault.TheVariants as layer
-use Rattle.blk_settings.specs.Faults.{IsLoadFault}
+use Rattle.blk_schedulers.specs.Faults.{IsLoadFault}
 use Rattle.blk_load.specs.Inside.Outcomes.{IsOutcome}
-use Rattle.blk_settings.specs.Numbers.{IsLoad}
-use Rattle.blk_settings.specs.declared.fault.LoadFault.{LoadFault}
-use Rattle.blk_settings.specs.declared.fault.LoadFault.TheVariants as fault
-use Rattle.blk_settings.specs.declared.numbers.Load.{Load}
+use Rattle.blk_schedulers.specs.Numbers.{IsLoad}
+use Rattle.blk_schedulers.specs.declared.fault.LoadFault.{LoadFault}
+use Rattle.blk_schedulers.specs.declared.fault.LoadFault.TheVariants as fault
+use Rattle.blk_schedulers.specs.declared.numbers.Load.{Load}
 use Rattle.blk_load.specs.Inside.Loads.{AreInTurn}
 
 -- the queues in turn name just the numbers below

@@ -6,9 +6,9 @@ use Rattle.blk_trace.specs.Setups.{Setup}
 use Rattle.blk_trace.specs.Traces.{Traced}
 use Rattle.blk_core.specs.State.{CoreState, new_core}
 use Rattle.blk_core.specs.Runs.{IsRunFrom, IsRunBy}
-use Rattle.blk_settings.specs.declared.numbers.Load.{Load}
-use Rattle.blk_settings.specs.declared.sched.SchedFault.{SchedFault}
-use Rattle.blk_settings.specs.Settles.{load_setup}
+use Rattle.blk_schedulers.specs.declared.numbers.Load.{Load}
+use Rattle.blk_schedulers.specs.declared.sched.SchedFault.{SchedFault}
+use Rattle.blk_schedulers.specs.Settles.{load_setup}
 
 -- the layer's core began as the scheduler did, and the trace has its setup
 pub run_by : (policy : Policy) (start : CoreState) (setup : Setup) (m : Meaning) (k : List ℕ) (l : Load) (trace : Traced)

@@ -6,7 +6,7 @@ use crate::device::Disk;
 use crate::site::Site;
 use blk_layer::{Named, WorkFault, Worker};
 use blk_sched::Scheduler;
-use blk_settings::LoadFault;
+use blk_schedulers::LoadFault;
 use std::alloc::Global;
 use std::sync::Wait;
 use std::thread::{Scope, Threads};

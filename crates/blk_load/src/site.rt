@@ -1,33 +1,33 @@
 //! What the threads of a load share.
 
 ghost use Rattle.std.specs.Prelude.{◌≡◌, ◌≢◌, ◌≤◌, Some};
-ghost use Rattle.blk_settings.specs.declared.fault.LoadFault.TheVariants.{Range};
-ghost use Rattle.blk_settings.specs.declared.numbers.TheConstants.{MAX_LOAD_BIOS, MAX_LOAD_SUBMITTERS};
-ghost use Rattle.blk_settings.specs.Faults.{IsFirstOfTwo};
+ghost use Rattle.blk_schedulers.specs.declared.fault.LoadFault.TheVariants.{Range};
+ghost use Rattle.blk_schedulers.specs.declared.numbers.TheConstants.{MAX_LOAD_BIOS, MAX_LOAD_SUBMITTERS};
+ghost use Rattle.blk_schedulers.specs.Faults.{IsFirstOfTwo};
 
 use blk_bio::Limits;
 use blk_layer::{Layer, Named};
 use blk_sched::Scheduler;
-use blk_settings::fault::first_of;
-use blk_settings::{Load, LoadFault};
+use blk_schedulers::fault::first_of;
+use blk_schedulers::{Load, LoadFault};
 use std::alloc::Global;
 use std::sync::atomic::{AtomicBool, Ordering};
 use std::sync::{Mutex, Wait};
 
 /// The first of some faults, by their order, where there are some. No thread meets a number that is out of its range.
 #[derive(Drop)]
-struct First {
+struct FirstFault {
     fault: Option<LoadFault>,
     ghost met: { fault ≢ Some Range },
 }
 
-impl First {
+impl FirstFault {
     /// Keeps a fault that a thread met, unless one is kept that comes before it.
     fn keep(&mut self, fault: LoadFault)
         requires { fault ≢ LoadFault.Range }
         ensures { IsFirstOfTwo self.old.fault (Some fault) self.new.fault }
     {
-        *self = First {
+        *self = FirstFault {
             fault: first_of(self.fault, Some(fault)),
         };
     }
@@ -35,19 +35,19 @@ impl First {
 
 /// The faults that threads meet, of which the first by their order is kept.
 #[derive(Drop)]
-pub(crate) struct Noted {
+pub(crate) struct SharedFault {
     /// Whether there is one.
     any: AtomicBool,
     /// The first of them.
-    first: Mutex<First>,
+    first: Mutex<FirstFault>,
 }
 
-impl Noted {
+impl SharedFault {
     /// None so far.
-    pub(crate) fn none() -> Noted {
-        Noted {
+    pub(crate) fn none() -> SharedFault {
+        SharedFault {
             any: AtomicBool::new(false),
-            first: Mutex::new(First { fault: None }),
+            first: Mutex::new(FirstFault { fault: None }),
         }
     }
 
@@ -68,7 +68,7 @@ impl Noted {
     pub(crate) fn into_first(self) -> Option<LoadFault>
         ensures { result ≢ Some LoadFault.Range }
     {
-        let Noted { any: _, first } = self;
+        let SharedFault { any: _, first } = self;
         first.into_inner().fault
     }
 }
@@ -79,7 +79,7 @@ pub(crate) struct Site<S: Scheduler<A = Global>, L: Named> {
     /// The layer.
     pub(crate) layer: Layer<S, L>,
     /// The faults that the threads have met.
-    pub(crate) noted: Noted,
+    pub(crate) noted: SharedFault,
     /// What the threads allocate by.
     pub(crate) alloc: Global,
     /// The limits of the layer, within which the bios of a plug join.
@@ -109,7 +109,7 @@ impl<S: Scheduler<A = Global>, L: Named> Site<S, L> {
     {
         Site {
             layer,
-            noted: Noted::none(),
+            noted: SharedFault::none(),
             alloc,
             limits,
             clock,

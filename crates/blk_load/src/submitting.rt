@@ -1,15 +1,15 @@
 //! What submitters do.
 
 ghost use Rattle.std.specs.Prelude.{◌≡◌, ◌≢◌, ◌<◌, ◌≤◌, All, IfErr, length};
-ghost use Rattle.blk_settings.specs.declared.numbers.TheConstants.{MAX_LOAD_BIOS, MAX_LOAD_SUBMITTERS};
+ghost use Rattle.blk_schedulers.specs.declared.numbers.TheConstants.{MAX_LOAD_BIOS, MAX_LOAD_SUBMITTERS};
 ghost use Rattle.blk_load.specs.Inside.Loads.{nth_bio};
 
 use crate::site::Site;
 use blk_bio::{Bio, BioId, Dir};
-use blk_layer::{FlushWhy, Named, Submitter};
+use blk_layer::{FlushReason, Named, Submitter};
 use blk_queues::{MAX_STAGED, Plug, PlugFault};
 use blk_sched::Scheduler;
-use blk_settings::{Load, LoadFault};
+use blk_schedulers::{Load, LoadFault};
 use std::alloc::Global;
 use std::sync::Wait;
 use std::thread::{Scope, Threads, scope, scope_env, yield_now};
@@ -117,12 +117,12 @@ fn flush<R: Wait, S: Scheduler<A = Global>, L: Named>(
     match site.layer.flush(rt, seat, plug) {
         Ok(_) => Ok(()),
         Err(fault) => match fault.why {
-            FlushWhy::SoftFull => {
+            FlushReason::SoftFull => {
                 rest();
                 Ok(())
             }
-            FlushWhy::Memory => Err(LoadFault::Memory),
-            FlushWhy::Foreign(_) | FlushWhy::Repeated(_) => Err(LoadFault::Repeated),
+            FlushReason::Memory => Err(LoadFault::Memory),
+            FlushReason::Foreign(_) | FlushReason::Repeated(_) => Err(LoadFault::Repeated),
         },
     }
 }

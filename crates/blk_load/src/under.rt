@@ -1,15 +1,15 @@
 //! Loads by the name of their scheduler.
 
 ghost use Rattle.std.specs.Prelude.{IfOk, OnOk, IfErr};
-ghost use Rattle.blk_settings.specs.Numbers.{IsLoad};
-ghost use Rattle.blk_settings.specs.Made.{IsUnmade, IsUnsettled, IsStart};
-ghost use Rattle.blk_settings.specs.Settles.{IsSettled, served_bios};
+ghost use Rattle.blk_schedulers.specs.Numbers.{IsLoad};
+ghost use Rattle.blk_schedulers.specs.Made.{IsSchedFault, IsLoadSettingsFault, IsStart};
+ghost use Rattle.blk_schedulers.specs.Settles.{IsSettled, served_bios};
 ghost use Rattle.blk_trace.specs.Events.{AreOnce};
 ghost use Rattle.blk_load.specs.Inside.Ran.{RanBy, RanUnder};
 
 use crate::running::load;
 use blk_sched::Scheduler;
-use blk_settings::{Load, LoadFault, Loaded, Loads, Sched, SchedFault, Unsettled, with_made};
+use blk_schedulers::{Load, LoadFault, Loaded, Loads, Sched, SchedFault, Unsettled, with_made};
 use std::alloc::Global;
 use std::sync::Wait;
 use std::thread::Threads;
@@ -24,11 +24,11 @@ fn load_by<R: Threads + Wait + Sync, S: Scheduler<A = Global> + Send>(
     amounts: Load,
 ) -> Result<Loaded, Unsettled>
     requires start { IfOk made (λ s. IsStart sched amounts.depth (S.meaning s) (S.kept s)) }
-    requires unmade { IfErr made (IsUnmade sched) }
+    requires unmade { IfErr made (IsSchedFault sched) }
     ensures settled { IfOk result (λ l. IsSettled amounts l.trace l.settled) }
     ensures ran { IfOk result (RanBy S.policy sched amounts.depth) }
     ensures once { IfOk result (λ l. AreOnce (served_bios l.trace.events)) }
-    ensures failed { IfErr result (IsUnsettled sched amounts) }
+    ensures failed { IfErr result (IsLoadSettingsFault sched amounts) }
 {
     let scheduler = match made {
         Ok(scheduler) => scheduler,
@@ -52,7 +52,7 @@ fn load_under<R: Threads + Wait + Sync>(
     ensures settled { IfOk result (λ l. IsSettled amounts l.trace l.settled) }
     ensures ran { IfOk result (RanUnder sched amounts.depth) }
     ensures once { IfOk result (λ l. AreOnce (served_bios l.trace.events)) }
-    ensures failed { IfErr result (IsUnsettled sched amounts) }
+    ensures failed { IfErr result (IsLoadSettingsFault sched amounts) }
 {
     if !amounts.is_in_range() {
         return Err(Unsettled::Load(LoadFault::Range));

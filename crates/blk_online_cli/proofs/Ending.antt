@@ -1,10 +1,10 @@
 -- What a run comes to that ended with status 0.
 use Rattle.std.proofs.Common.{◌≡◌, ◌∙◌, ℕ, Bool, true, false, List, Option, Some, ap, sym, subst, inl, inr}
 use Rattle.std.specs.Prelude.{if◌then◌else◌}
-use Rattle.drafts.specs.Outputs.{Stream, IsWritten}
-use Rattle.blk_lists.specs.Sources.{Row}
-use Rattle.blk_words.specs.declared.inputs.TextJob.{TextJob}
-use Rattle.blk_words.specs.declared.words.Job.{Job}
+use Rattle.text_output.specs.Outputs.{Stream, IsWritten}
+use Rattle.blk_records.specs.Sources.{Row}
+use Rattle.blk_args.specs.declared.inputs.TextJob.{TextJob}
+use Rattle.blk_args.specs.declared.words.Job.{Job}
 use Rattle.blk_cli.specs.declared.Ended.{Ended}
 use Rattle.blk_cli.specs.declared.NoText.{NoText}
 use Rattle.blk_cli.specs.declared.NoText.TheVariants as none

@@ -2,8 +2,8 @@
 use Rattle.std.proofs.Common.{◌≡◌, ◌∙◌, ◌++◌, ◌⊎◌, ℕ, List, length, Option, Some, Bool, true, false, pos, All, refl, sym, ap, subst, inl, inr}
 use Rattle.std.proofs.lemmas.List.{append_cancel_left}
 use Rattle.std.specs.Io.KnownBytes.{Appends}
-use Rattle.drafts.specs.Outputs.{Stream, IsWritten}
-use Rattle.blk_lists.specs.Sources.{Row}
+use Rattle.text_output.specs.Outputs.{Stream, IsWritten}
+use Rattle.blk_records.specs.Sources.{Row}
 use Rattle.blk_sched.specs.Meaning.{at_start}
 use Rattle.blk_earliest.specs.Choice.{earliest_kept}
 use Rattle.blk_trace.specs.Happened.{Happened}
@@ -16,19 +16,19 @@ use Rattle.blk_text.specs.TraceRecords.{IsTrace}
 use Rattle.blk_text.specs.declared.setup.TheConstants.{LATEST}
 use Rattle.blk_text.proofs.ScriptLaws as scripts
 use Rattle.blk_text.proofs.TraceLaws as traces
-use Rattle.blk_settings.specs.Defaults.{earliest_by}
-use Rattle.blk_settings.specs.Rows.Earliest.{is_late_last}
+use Rattle.blk_schedulers.specs.Defaults.{earliest_by}
+use Rattle.blk_schedulers.specs.Rows.Earliest.{is_late_last}
 use Rattle.blk_online.specs.Ticks.{AtTicks}
 use Rattle.blk_online_cli.specs.ByRounds.{IsByRounds, HoldsNow}
 use Rattle.blk_online_cli.proofs.Running.{trace_holds, least_late, has_most_on_time}
 use Rattle.blk_online_cli.proofs.Reporting as telling
 use Rattle.blk_cli.specs.Gives.{GivesText}
 use Rattle.blk_cli.specs.Figures.{IsMissesText, IsReportText}
-use Rattle.blk_settings.specs.declared.form.Form.TheVariants as form
-use Rattle.blk_words.specs.declared.table.FiguresAsked.TheVariants as figures
-use Rattle.blk_words.specs.declared.inputs.Running.TheVariants as running
-use Rattle.blk_words.specs.declared.inputs.Telling.TheVariants as tell
-use Rattle.blk_words.specs.declared.inputs.TextJob.TheVariants as text_job
+use Rattle.blk_schedulers.specs.declared.form.Form.TheVariants as form
+use Rattle.blk_args.specs.declared.table.FiguresAsked.TheVariants as figures
+use Rattle.blk_args.specs.declared.inputs.Running.TheVariants as running
+use Rattle.blk_args.specs.declared.inputs.Telling.TheVariants as tell
+use Rattle.blk_args.specs.declared.inputs.TextJob.TheVariants as text_job
 use Rattle.blk_online_cli.specs.Told.{rows_in, SpellByRounds, AskAlone, EndsWell, ReportsNoShortfall, CountsNoneAvoidable}
 use Rattle.blk_online_cli.proofs.Ending.{wrote}
 

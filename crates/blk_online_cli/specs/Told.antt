@@ -1,22 +1,22 @@
 -- From the bytes of a script to what the program tells of its trace.
 use Rattle.std.specs.Prelude.{ℕ, ◌≡◌, ◌↔◌, ◌⊎◌, ◌++◌, List, Bool, Option, Some, Result, IfOk, pos, All}
-use Rattle.drafts.specs.Outputs.{Stream, IsWritten}
+use Rattle.text_output.specs.Outputs.{Stream, IsWritten}
 use Rattle.csv.specs.Reading.{default_config, records, strip_bom}
-use Rattle.blk_lists.specs.Sources.{Row}
+use Rattle.blk_records.specs.Sources.{Row}
 use Rattle.edd_figures.specs.Figures.{shortfall_in}
 use Rattle.blk_trace.specs.Traces.{Traced}
 use Rattle.blk_text.specs.Script.{Scripted, SpellsScript}
 use Rattle.blk_text.specs.TraceForm.{SpellsTrace}
-use Rattle.blk_settings.specs.Defaults.{earliest_by}
-use Rattle.blk_words.specs.declared.table.FiguresAsked.{FiguresAsked}
-use Rattle.blk_words.specs.declared.inputs.Running.TheVariants as running
-use Rattle.blk_words.specs.declared.inputs.Telling.TheVariants as telling
-use Rattle.blk_words.specs.declared.inputs.TextJob.{TextJob}
-use Rattle.blk_words.specs.declared.inputs.TextJob.TheVariants as text_job
-use Rattle.blk_settings.specs.declared.form.Form.TheVariants as form
-use Rattle.blk_words.specs.declared.words.Job.{Job}
-use Rattle.blk_words.specs.declared.words.Job.TheVariants as job
-use Rattle.blk_words.specs.Asked.{Asks}
+use Rattle.blk_schedulers.specs.Defaults.{earliest_by}
+use Rattle.blk_args.specs.declared.table.FiguresAsked.{FiguresAsked}
+use Rattle.blk_args.specs.declared.inputs.Running.TheVariants as running
+use Rattle.blk_args.specs.declared.inputs.TraceOutput.TheVariants as telling
+use Rattle.blk_args.specs.declared.inputs.TextJob.{TextJob}
+use Rattle.blk_args.specs.declared.inputs.TextJob.TheVariants as text_job
+use Rattle.blk_schedulers.specs.declared.form.Form.TheVariants as form
+use Rattle.blk_args.specs.declared.words.Job.{Job}
+use Rattle.blk_args.specs.declared.words.Job.TheVariants as job
+use Rattle.blk_args.specs.Asked.{Asks}
 use Rattle.blk_cli.specs.declared.Ended.{Ended}
 use Rattle.blk_cli.specs.Ends.{RunEnds}
 use Rattle.blk_cli.specs.Figures.{IsMissesText, IsReportText}

@@ -3,7 +3,7 @@
 #![tactic(auto)]
 
 ghost use Rattle.std.specs.Prelude.{◌≡◌, false, true, IfOk, map, string_bytes};
-ghost use Rattle.drafts.specs.Outputs.{stream_of};
+ghost use Rattle.text_output.specs.Outputs.{stream_of};
 ghost use Rattle.blk_online_cli.specs.Told.{ReportsNoShortfall, CountsNoneAvoidable, OfTwoRuns, OfItsTrace, earliest_run, figures_in_lines};
 ghost use Rattle.blk_online_cli.specs.Inside.Words.{sim_words, report_words, misses_words};
 
@@ -12,16 +12,16 @@ mod simulating;
 pub use crate::simulating::{
     law_of_no_shortfall, law_of_none_avoidable, law_of_rounds_under_earliest, simulate_earliest,
 };
+use blk_args::FiguresAsked;
+use blk_args::asking::plain_lines;
 use blk_cli::{Ended, answer, run};
-use blk_lists::Records;
-use blk_settings::Loads;
-use blk_words::FiguresAsked;
-use blk_words::asking::plain_lines;
-use drafts::Output;
+use blk_records::Records;
+use blk_schedulers::Loads;
 use std::alloc::{AllocError, Global};
 use std::io::{Read, Write};
 use std::sync::Wait;
 use std::thread::Threads;
+use text_output::Output;
 use turns::Quiet;
 
 /// Where a script's steps are bios, flushes, drains, depths and runs alone, what `sim --sched earliest` writes is a trace of which

@@ -16,7 +16,7 @@ ghost use Rattle.blk_online_cli.specs.Shortfalls.{HasNoShortfall, HasNoneAvoidab
 ghost use Rattle.blk_online_cli.specs.ByRounds.{IsByRounds, HoldsNow, HoldsByRounds};
 
 use blk_earliest::Earliest;
-use blk_sim::{SETUP_RECORD, SimFault, SimWhy, simulate};
+use blk_sim::{SETUP_RECORD, SimFault, SimReason, simulate};
 use blk_text::Script;
 use blk_trace::Trace;
 use std::alloc::Allocator;
@@ -64,13 +64,13 @@ pub fn simulate_earliest<A: Allocator + Clone>(
     let Ok(spare) = alloc.clone() else {
         return Err(SimFault {
             at: SETUP_RECORD,
-            why: SimWhy::Memory,
+            why: SimReason::Memory,
         });
     };
     let Ok(scheduler) = Earliest::new(spare, late_last) else {
         return Err(SimFault {
             at: SETUP_RECORD,
-            why: SimWhy::Memory,
+            why: SimReason::Memory,
         });
     };
     simulate(alloc, script, scheduler)

@@ -7,9 +7,9 @@ use crate::scale::{LEFT, MAX_AXIS_STEPS, MAX_WIDE, Scale, TOP, place, step_of};
 use crate::template::push_template;
 use crate::words::{AFTER_NAME, BRACKET, BREAK, LABEL, LEGEND, NUMBERS, TICK};
 use blk_report::{Report, Tally, report_lines};
-use drafts::Draft;
 use edd_figures::{Crowd, Figures};
 use std::alloc::{AllocError, Global};
+use text_output::Draft;
 
 /// How many windows of misses are drawn at most.
 const MAX_CROWDS: usize = 400;

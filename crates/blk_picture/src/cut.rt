@@ -10,8 +10,8 @@ use crate::columns::is_late;
 use crate::scale::{MAX_COLUMNS, MAX_SHOWN, STEPS, Scale, per_of};
 use crate::template::push_template;
 use crate::words::CUT;
-use drafts::Draft;
 use std::alloc::{AllocError, Global};
+use text_output::Draft;
 
 /// How many late requests come in and go out in each round, of several traces.
 #[derive(Drop)]

@@ -18,10 +18,10 @@ use crate::template::push_template;
 use crate::words::{HEAD, STYLE};
 use blk_report::{Missed, Report, misses, report};
 use blk_trace::Trace;
-use drafts::Draft;
 use edd_commands::{Capacity, MAX_ROUNDS};
 use edd_figures::Figures;
 use std::alloc::{AllocError, Global};
+use text_output::Draft;
 
 /// How many traces are drawn below one another at most.
 const MAX_TRACES: usize = 1000;

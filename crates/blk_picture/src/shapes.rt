@@ -11,8 +11,8 @@ use crate::words::{
     BOX_BACK, BOX_EARLY, BOX_LATE, BOX_PLACE, FRAME, NO_ROOM, STACK, WAIT_SCALE, WAITING,
 };
 use blk_bio::Dir;
-use drafts::Draft;
 use std::alloc::{AllocError, Global};
+use text_output::Draft;
 
 /// A column in which nothing is.
 const NO_COLUMN: Column = Column {

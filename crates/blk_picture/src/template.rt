@@ -1,7 +1,7 @@
 //! Fixed words with numbers in them.
 
-use drafts::Draft;
 use std::alloc::AllocError;
+use text_output::Draft;
 
 /// Adds a byte, or the digits of the next number in place of a `$`, and says which numbers are left.
 fn push_template_byte<'a>(

@@ -3,10 +3,10 @@ use Rattle.std.proofs.Common.{ℕ, ◌≡◌, ◌+◌, ◌-◌, ◌<◌, ◌≤�
 use Rattle.std.proofs.lemmas.Bool.{cases_eq}
 use Rattle.std.proofs.lemmas.List.{take-append-le, drop-append-le, drop_all, get_or_append_left}
 use Rattle.blk_recorders.specs.Words.{line_between, IsLineEnd}
-use Rattle.blk_recorders.specs.Steps.{Sofar, none_yet, is_unordered, lines_of, read_from, read_printed, HasWholeLines, Rises}
+use Rattle.blk_recorders.specs.Steps.{ReadProgress, none_yet, is_unordered, lines_of, read_from, read_printed, HasWholeLines, Rises}
 use Rattle.blk_recorders.specs.declared.device.Device.{Device}
 use Rattle.blk_recorders.specs.declared.fault.LineFault.{LineFault}
-use Rattle.blk_recorders.specs.declared.fault.LineWhy.{LineWhy}
+use Rattle.blk_recorders.specs.declared.fault.LineReason.{LineReason}
 use Rattle.blk_recorders.specs.declared.recorder.Recorder.{Recorder}
 use Rattle.blk_recorders.specs.declared.steps.TheConstants.{MAX_STEPS}
 use Rattle.blk_recorders.proofs.Cutting.{lines_left, lines_within, no_line}
@@ -43,24 +43,24 @@ end_behind text rest begin end whole h inside =
     }
 
 -- an empty text has one line, which has no words
-pub none_behind : (most : ℕ) (f : Recorder) (asked : Option Device) (n : ℕ) (s : Sofar) → read_from most f asked n s (lines_of []) ≡ Ok s
+pub none_behind : (most : ℕ) (f : Recorder) (asked : Option Device) (n : ℕ) (s : ReadProgress) → read_from most f asked n s (lines_of []) ≡ Ok s
 unfolding read_from
 none_behind most f asked n s = refl
 
-at_end : (most : ℕ) (f : Recorder) (asked : Option Device) (n : ℕ) (s : Sofar) (text rest : List ℕ) (begin : ℕ) → begin ≡ length text → read_from most f asked n s (lines_left (text ++ rest) begin) ≡ read_from most f asked n s (lines_of rest)
+at_end : (most : ℕ) (f : Recorder) (asked : Option Device) (n : ℕ) (s : ReadProgress) (text rest : List ℕ) (begin : ℕ) → begin ≡ length text → read_from most f asked n s (lines_left (text ++ rest) begin) ≡ read_from most f asked n s (lines_of rest)
 at_end most f asked n s text rest begin e =
     let within : begin ≤ length (text ++ rest) = omega (arith, e, length-append text rest) in
     let behind : drop begin (text ++ rest) ≡ rest = drop-append-le begin text rest (omega (arith, e)) ∙ ap (λ ys. ys ++ rest) (drop_all begin text (omega (arith, e))) in
     ap (read_from most f asked n s) (lines_within (text ++ rest) begin within ∙ ap lines_of behind)
 
-past_end : (most : ℕ) (f : Recorder) (asked : Option Device) (n : ℕ) (s : Sofar) (text rest : List ℕ) (begin : ℕ) → length text < begin → rest ≡ [] → read_from most f asked n s (lines_left (text ++ rest) begin) ≡ read_from most f asked n s (lines_of rest)
+past_end : (most : ℕ) (f : Recorder) (asked : Option Device) (n : ℕ) (s : ReadProgress) (text rest : List ℕ) (begin : ℕ) → length text < begin → rest ≡ [] → read_from most f asked n s (lines_left (text ++ rest) begin) ≡ read_from most f asked n s (lines_of rest)
 past_end most f asked n s text rest begin l none =
     let long : length (text ++ rest) ≡ length text = ap (λ ys. length (text ++ ys)) none ∙ ap length (append-nil text) in
     ap (read_from most f asked n s) (no_line (text ++ rest) begin (omega (arith, long, l))) ∙ none_over most f asked n s
     ∙ sym (ap (λ ys. read_from most f asked n s (lines_of ys)) none ∙ none_behind most f asked n s)
 
 -- behind the last line of the text
-pub left_over : (most : ℕ) (f : Recorder) (asked : Option Device) (n : ℕ) (s : Sofar) (text rest : List ℕ) (begin : ℕ) → length text ≤ begin → (begin ≤ length text) ⊎ (rest ≡ [])
+pub left_over : (most : ℕ) (f : Recorder) (asked : Option Device) (n : ℕ) (s : ReadProgress) (text rest : List ℕ) (begin : ℕ) → length text ≤ begin → (begin ≤ length text) ⊎ (rest ≡ [])
     → read_from most f asked n s (lines_left (text ++ rest) begin) ≡ read_from most f asked n s (lines_of rest)
 left_over most f asked n s text rest begin l (inl at) = at_end most f asked n s text rest begin (omega (arith, l, at))
 left_over most f asked n s text rest begin l (inr none) = elim (cases_eq begin (length text)) [
@@ -68,18 +68,18 @@ left_over most f asked n s text rest begin l (inr none) = elim (cases_eq begin (
   | inr other ↦ past_end most f asked n s text rest begin (omega (arith, l, other)) none
 ]
 
-pub left_whole : (most : ℕ) (f : Recorder) (asked : Option Device) (n : ℕ) (s : Sofar) (text : List ℕ) → lines_left text 0 ≡ lines_of text
+pub left_whole : (most : ℕ) (f : Recorder) (asked : Option Device) (n : ℕ) (s : ReadProgress) (text : List ℕ) → lines_left text 0 ≡ lines_of text
 left_whole most f asked n s text = lines_within text 0 (omega arith)
 
 -- all of a text was read
-pub read_all : (most : ℕ) (f : Recorder) (asked : Option Device) (n m : ℕ) (s t : Sofar) (text : List ℕ) → read_from most f asked n s (lines_of (text ++ [])) ≡ read_from most f asked m t (lines_of []) → read_from most f asked n s (lines_of text) ≡ Ok t
+pub read_all : (most : ℕ) (f : Recorder) (asked : Option Device) (n m : ℕ) (s t : ReadProgress) (text : List ℕ) → read_from most f asked n s (lines_of (text ++ [])) ≡ read_from most f asked m t (lines_of []) → read_from most f asked n s (lines_of text) ≡ Ok t
 read_all most f asked n m s t text e = ap (λ ys. read_from most f asked n s (lines_of ys)) (sym (append-nil text)) ∙ e ∙ none_behind most f asked m t
 
-pub rises_on : (most : ℕ) (f : Recorder) (asked : Option Device) (n m : ℕ) (s t : Sofar) (text : List ℕ) → is_unordered f ≡ false → Rises s → read_from most f asked n s (lines_of (text ++ [])) ≡ read_from most f asked m t (lines_of []) → Rises t
+pub rises_on : (most : ℕ) (f : Recorder) (asked : Option Device) (n m : ℕ) (s t : ReadProgress) (text : List ℕ) → is_unordered f ≡ false → Rises s → read_from most f asked n s (lines_of (text ++ [])) ≡ read_from most f asked m t (lines_of []) → Rises t
 rises_on most f asked n m s t text u h e = rises most f asked n s (lines_of text) t u h (read_all most f asked n m s t text e)
 
 -- from the first line on
-pub started : (f : Recorder) (asked : Option Device) (n : ℕ) (s : Sofar) (text : List ℕ) (y : Result Sofar LineFault) → n ≡ 1 → s ≡ none_yet → read_from MAX_STEPS f asked n s (lines_of (text ++ [])) ≡ y → read_printed f asked text ≡ y
+pub started : (f : Recorder) (asked : Option Device) (n : ℕ) (s : ReadProgress) (text : List ℕ) (y : Result ReadProgress LineFault) → n ≡ 1 → s ≡ none_yet → read_from MAX_STEPS f asked n s (lines_of (text ++ [])) ≡ y → read_printed f asked text ≡ y
 started f asked n s text y e g h =
     ap (λ k. read_from MAX_STEPS f asked k none_yet (lines_of text)) (sym e)
     ∙ ap (λ t. read_from MAX_STEPS f asked n t (lines_of text)) (sym g)
@@ -87,5 +87,5 @@ started f asked n s text y e g h =
     ∙ h
 
 -- the number of a line, by another name
-pub told_at : (y : Result Sofar LineFault) (n m : ℕ) (w : LineWhy) → m ≡ n → y ≡ Err (record { at = n; why = w }) → y ≡ Err (record { at = m; why = w })
+pub told_at : (y : Result ReadProgress LineFault) (n m : ℕ) (w : LineReason) → m ≡ n → y ≡ Err (record { at = n; why = w }) → y ≡ Err (record { at = m; why = w })
 told_at y n m w e h = h ∙ ap (λ (k : ℕ). Err (record { at = k; why = w })) (sym e)

@@ -9,7 +9,7 @@ use Rattle.blk_recorders.specs.Steps.{lines_of}
 use Rattle.blk_recorders.specs.declared.detect.CaptureForm.{CaptureForm}
 use Rattle.blk_recorders.specs.declared.detect.CaptureForm.TheVariants.{Records, Printed}
 use Rattle.blk_recorders.specs.declared.detect.TheConstants.{FIRST_LINES}
-use Rattle.blk_recorders.specs.declared.fault.LineWhy.{LineWhy}
+use Rattle.blk_recorders.specs.declared.fault.LineReason.{LineReason}
 use Rattle.blk_recorders.specs.declared.lines.Line.{Line}
 use Rattle.blk_recorders.specs.declared.lines.Line.TheVariants as line
 use Rattle.blk_recorders.specs.declared.recorder.Recorder.{Recorder}
@@ -20,7 +20,7 @@ abbrev pub is_title : Word → Bool
 is_title w = starts_with nat_eq w (codes "blk-") || starts_with nat_eq w (34 ∷ codes "blk-") || starts_with nat_eq w (239 ∷ 187 ∷ 191 ∷ codes "blk-")
 
 -- a line tells a step in the form of a recorder
-abbrev pub is_step : Result (Line Word) LineWhy → Bool
+abbrev pub is_step : Result (Line Word) LineReason → Bool
 is_step (Ok (line.Step l)) = is_ok (step_told l)
 is_step (Ok line.Remark) = false
 is_step (Ok line.Loss) = false

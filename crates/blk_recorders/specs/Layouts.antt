@@ -6,8 +6,8 @@ use Rattle.blk_capture.specs.Passing.{action_by, op_by, passed_action}
 use Rattle.blk_capture.specs.declared.record.Action.{Action}
 use Rattle.blk_recorders.specs.Words.{Word, begins_with, before_byte, behind_byte, number, nanoseconds}
 use Rattle.blk_recorders.specs.declared.device.Device.{Device}
-use Rattle.blk_recorders.specs.declared.fault.LineWhy.{LineWhy}
-use Rattle.blk_recorders.specs.declared.fault.LineWhy.TheVariants as why
+use Rattle.blk_recorders.specs.declared.fault.LineReason.{LineReason}
+use Rattle.blk_recorders.specs.declared.fault.LineReason.TheVariants as why
 use Rattle.blk_recorders.specs.declared.layout.Layout.{Layout}
 use Rattle.blk_recorders.specs.declared.layout.Places.{Places}
 use Rattle.blk_recorders.specs.declared.layout.Span.{Span}
@@ -60,11 +60,11 @@ abbrev pub at : List Word → ℕ → Word
 at ws k = get_or ws k []
 
 -- a range of sectors, `FIRST + COUNT` or `FIRST / END`, if the action has one
-abbrev pub span_by : Word → Word → Word → Result (Span Word) LineWhy
+abbrev pub span_by : Word → Word → Word → Result (Span Word) LineReason
 span_by first sign second =
     if bytes_eq sign (codes "+") then Ok (Sectors first second) else (if bytes_eq sign (codes "/") then Ok (Until first second) else Err why.Fields)
 
-abbrev pub span_of : Bool → Word → Word → Word → Result (Span Word) LineWhy
+abbrev pub span_of : Bool → Word → Word → Word → Result (Span Word) LineReason
 span_of passed first sign second =
     if passed || is_remark first then Ok Nothing
     else (if length first == 0 then Err why.Fields
@@ -72,11 +72,11 @@ span_of passed first sign second =
     else (if length second == 0 then Err why.Fields
     else span_by first sign second)))
 
-abbrev pub span_from : Action → List Word → ℕ → Result (Span Word) LineWhy
+abbrev pub span_from : Action → List Word → ℕ → Result (Span Word) LineReason
 span_from a ws k = span_of (is_some (passed_action a)) (at ws k) (at ws (k + 1)) (at ws (k + 2))
 
 -- a line whose words stand at fixed places
-abbrev pub with_span : (Span Word → Layout Word) → Result (Span Word) LineWhy → Result (Layout Word) LineWhy
+abbrev pub with_span : (Span Word → Layout Word) → Result (Span Word) LineReason → Result (Layout Word) LineReason
 with_span l (Ok s) = Ok (l s)
 with_span l (Err w) = Err w
 
@@ -98,7 +98,7 @@ layout_at ws p s = record {
   span = s;
 }
 
-abbrev pub placed : List Word → Places → Result (Layout Word) LineWhy
+abbrev pub placed : List Word → Places → Result (Layout Word) LineReason
 placed ws p = if nat_lt (length ws) p.span then Err why.Fields else with_span (layout_at ws p) (span_from (action_by (at ws p.action)) ws p.span)
 
 -- the first sector and how many
@@ -108,12 +108,12 @@ span_numbers (Sectors a b) = both (number a) (number b)
 span_numbers (Until a b) = option_map (λ p. (p.0, p.1 - p.0)) (both (number a) (number b))
 
 -- the step of these numbers
-abbrev pub step_by : Layout Word → Option ℕ → Option ℕ → Option ℕ → Option ℕ → Option (Option Device) → Option (ℕ × ℕ) → Result Step LineWhy
+abbrev pub step_by : Layout Word → Option ℕ → Option ℕ → Option ℕ → Option ℕ → Option (Option Device) → Option (ℕ × ℕ) → Result Step LineReason
 step_by l (Some s) (Some n) (Some cpu) (Some pid) (Some d) (Some range) =
     if nat_lt s MAX_SECONDS
     then Ok (record { device = d; told = record { time = s * SECOND + n; cpu = cpu; action = l.action; pid = pid; op = op_by l.rwbs; first = range.0; sectors = range.1 } })
     else Err why.Range
 step_by l _ _ _ _ _ _ = Err why.Number
 
-abbrev pub step_told : Layout Word → Result Step LineWhy
+abbrev pub step_told : Layout Word → Result Step LineReason
 step_told l = step_by l (number l.seconds) (nanoseconds l.fraction) (number l.cpu) (number l.pid) (device_named l.device) (span_numbers l.span)

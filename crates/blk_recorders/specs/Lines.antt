@@ -8,8 +8,8 @@ use Rattle.blk_capture.specs.declared.record.Action.{Action}
 use Rattle.blk_capture.specs.declared.record.Action.TheVariants as action
 use Rattle.blk_recorders.specs.Words.{Word, fields, is_digit, begins_with, before_byte, behind_last, number}
 use Rattle.blk_recorders.specs.Layouts.{at, laid, device_of, placed, seconds_of, fraction_of, span_from, with_span}
-use Rattle.blk_recorders.specs.declared.fault.LineWhy.{LineWhy}
-use Rattle.blk_recorders.specs.declared.fault.LineWhy.TheVariants as why
+use Rattle.blk_recorders.specs.declared.fault.LineReason.{LineReason}
+use Rattle.blk_recorders.specs.declared.fault.LineReason.TheVariants as why
 use Rattle.blk_recorders.specs.declared.layout.Layout.{Layout}
 use Rattle.blk_recorders.specs.declared.layout.Span.{Span}
 use Rattle.blk_recorders.specs.declared.layout.Span.TheVariants as span
@@ -51,18 +51,18 @@ tells_loss ws = if bytes_eq (at ws 0) (codes "Skips:") then is_no_zero (number (
 abbrev pub remark : List Word → Line Word
 remark ws = if tells_loss ws then Loss else Remark
 
-abbrev pub as_step : Result (Layout Word) LineWhy → Result (Line Word) LineWhy
+abbrev pub as_step : Result (Layout Word) LineReason → Result (Line Word) LineReason
 as_step (Ok l) = Ok (Step l)
 as_step (Err w) = Err w
 
 -- a row: seconds, nanoseconds, processor, action, process, rwbs, first sector, sectors
-abbrev pub row_layout : List Word → Result (Layout Word) LineWhy
+abbrev pub row_layout : List Word → Result (Layout Word) LineReason
 row_layout r =
     if length r == ROW_WIDTH
     then Ok (record { device = None; seconds = at r 0; fraction = at r 1; cpu = at r 2; action = action_by (at r 3); pid = at r 4; rwbs = at r 5; span = span.Sectors (at r 6) (at r 7) })
     else Err why.Fields
 
-abbrev pub row_step : Word → Result (Line Word) LineWhy
+abbrev pub row_step : Word → Result (Line Word) LineReason
 row_step row = as_step (row_layout (fields row))
 
 -- what stands between brackets
@@ -73,13 +73,13 @@ abbrev pub is_cpu : Word → Bool
 is_cpu w = is_some (number (inside w))
 
 -- blkparse: a row, or the columns of its default output
-abbrev pub blkparse_line : List Word → Result (Line Word) LineWhy
+abbrev pub blkparse_line : List Word → Result (Line Word) LineReason
 blkparse_line ws =
     if begins_with_digit (at ws 0)
     then (if length ws == 1 then row_step (at ws 0) else as_step (placed ws BLKPARSE))
     else Ok (remark ws)
 
-abbrev pub bpftrace_line : List Word → Result (Line Word) LineWhy
+abbrev pub bpftrace_line : List Word → Result (Line Word) LineReason
 bpftrace_line ws =
     if begins_with_digit (at ws 0)
     then (if length ws == 1 then row_step (at ws 0) else Err why.Fields)
@@ -102,21 +102,21 @@ task_layout ws cpu time s = record {
   span = s;
 }
 
-abbrev pub timed_line : List Word → ℕ → ℕ → Result (Line Word) LineWhy
+abbrev pub timed_line : List Word → ℕ → ℕ → Result (Line Word) LineReason
 timed_line ws cpu time =
     if (cpu == 0) || nat_le (length ws) (time + 1) then Err why.Fields
     else (if is_some (device_of (at ws (time + 1)))
     then as_step (with_span (task_layout ws cpu time) (span_from (action_by (at ws (time + 2))) ws (time + 4)))
     else Ok Remark)
 
-abbrev pub task_line : List Word → ℕ → Result (Line Word) LineWhy
+abbrev pub task_line : List Word → ℕ → Result (Line Word) LineReason
 task_line ws cpu = timed_line ws cpu (if ends_with_byte 58 (at ws (cpu + 1)) then cpu + 1 else cpu + 2)
 
-abbrev pub of_task : List Word → Option ℕ → Result (Line Word) LineWhy
+abbrev pub of_task : List Word → Option ℕ → Result (Line Word) LineReason
 of_task ws (Some cpu) = task_line ws cpu
 of_task ws None = if tells_loss ws then Ok Loss else Err why.Fields
 
-abbrev pub ftrace_line : List Word → Result (Line Word) LineWhy
+abbrev pub ftrace_line : List Word → Result (Line Word) LineReason
 ftrace_line ws =
     if begins_with 35 (at ws 0) then Ok (remark ws)
     else (if is_some (device_of (at ws 0)) then as_step (placed ws CLASSIC)
@@ -164,26 +164,26 @@ perf_parts ws k a s = record {
   span = s;
 }
 
-abbrev pub ranged : List Word → ℕ → Action → Option ℕ → Result (Layout Word) LineWhy
+abbrev pub ranged : List Word → ℕ → Action → Option ℕ → Result (Layout Word) LineReason
 ranged ws k a None = Err why.Fields
 ranged ws k a (Some place) = if nat_lt k 3 then Err why.Fields else with_span (perf_parts ws k a) (span_from a ws place)
 
-abbrev pub perf_layout : List Word → ℕ → Action → Result (Layout Word) LineWhy
+abbrev pub perf_layout : List Word → ℕ → Action → Result (Layout Word) LineReason
 perf_layout ws k a = ranged ws k a (place_of_range ws k)
 
-abbrev pub eventful : List Word → ℕ → Option Action → Result (Line Word) LineWhy
+abbrev pub eventful : List Word → ℕ → Option Action → Result (Line Word) LineReason
 eventful ws k None = Ok (remark ws)
 eventful ws k (Some a) = as_step (perf_layout ws k a)
 
-abbrev pub at_event : List Word → Option ℕ → Result (Line Word) LineWhy
+abbrev pub at_event : List Word → Option ℕ → Result (Line Word) LineReason
 at_event ws None = Ok (remark ws)
 at_event ws (Some k) = eventful ws k (event_of (at ws k))
 
-abbrev pub perf_line : List Word → Result (Line Word) LineWhy
+abbrev pub perf_line : List Word → Result (Line Word) LineReason
 perf_line ws = at_event ws (place_from is_event 0 ws)
 
 -- a line of a recorder, by its words
-abbrev pub printed_line_of : Recorder → List Word → Result (Line Word) LineWhy
+abbrev pub printed_line_of : Recorder → List Word → Result (Line Word) LineReason
 printed_line_of Blkparse ws = blkparse_line ws
 printed_line_of Ftrace ws = ftrace_line ws
 printed_line_of Perf ws = perf_line ws

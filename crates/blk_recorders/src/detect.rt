@@ -4,11 +4,11 @@ ghost use Rattle.std.specs.Prelude.{◌≡◌, IfOk};
 ghost use Rattle.blk_recorders.specs.Words.{word_texts};
 ghost use Rattle.blk_recorders.specs.Detected.{is_title, tells_step, heading, recorder_of_step, form_told, form_of_lines};
 
-use crate::fault::LineWhy;
+use crate::fault::LineReason;
 use crate::layout::step_told;
 use crate::lines::{Line, line_of};
 use crate::recorder::Recorder;
-use crate::words::{Cuts, cut_line, word_at};
+use crate::words::{SplitLine, cut_line, word_at};
 use std::alloc::{AllocError, Global};
 
 /// How many of a text's first lines are looked at.
@@ -43,7 +43,7 @@ fn tells_step<'a>(
     match line_of(recorder, words, fields) {
         Ok(Line::Step(layout)) => Ok(step_told(&layout).is_ok()),
         Ok(Line::Remark) | Ok(Line::Loss) => Ok(false),
-        Err(LineWhy::Memory) => Err(AllocError),
+        Err(LineReason::Memory) => Err(AllocError),
         Err(_) => Ok(false),
     }
 }
@@ -86,7 +86,7 @@ fn recorder_of_step<'a>(
 }
 
 /// The form of which the line that was cut is, if it tells: a title; what a recorder prints before its steps; or a step.
-fn form_by(cuts: &mut Cuts<'_>) -> Result<Option<CaptureForm>, AllocError>
+fn form_by(cuts: &mut SplitLine<'_>) -> Result<Option<CaptureForm>, AllocError>
     ensures { IfOk result (λ f. f ≡ form_told (word_texts cuts.old.words.items)) }
 {
     let words = cuts.words.as_slice();
@@ -109,7 +109,7 @@ fn form_by(cuts: &mut Cuts<'_>) -> Result<Option<CaptureForm>, AllocError>
 pub fn form_of(alloc: Global, text: &[u8]) -> Result<CaptureForm, AllocError>
     ensures { IfOk result (λ f. f ≡ form_of_lines text.now) }
 {
-    let mut cuts = Cuts::new(alloc);
+    let mut cuts = SplitLine::new(alloc);
     let mut begin = 0;
     for _line in 0..FIRST_LINES {
         if begin > text.len() {

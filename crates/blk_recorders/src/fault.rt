@@ -1,13 +1,13 @@
 //! What is wrong with a line that a recorder printed.
 
 ghost use Rattle.std.specs.Prelude.{◌≡◌};
-ghost use Rattle.blk_recorders.specs.Names.{line_why_name};
+ghost use Rattle.blk_recorders.specs.Names.{line_reason_name};
 
 use edd_commands::variant_name;
 
 /// What is wrong with a line, in the order in which it is looked for.
 #[derive(Debug, Clone, Copy, PartialEq, Eq)]
-pub enum LineWhy {
+pub enum LineReason {
     /// It ends too soon, or has something else where its form has a range of sectors.
     Fields,
     /// A number is none, or one that passes 64 bits.
@@ -24,12 +24,12 @@ pub enum LineWhy {
     Memory,
 }
 
-impl LineWhy {
+impl LineReason {
     /// Its name, which the program prints.
     pub fn name(self) -> &'static str
-        ensures { result.now ≡ line_why_name self }
+        ensures { result.now ≡ line_reason_name self }
     {
-        variant_name!(self: LineWhy { Fields, Number, Range, Devices, Order, TooLong, Memory })
+        variant_name!(self: LineReason { Fields, Number, Range, Devices, Order, TooLong, Memory })
     }
 }
 
@@ -39,5 +39,5 @@ pub struct LineFault {
     /// The number of the line, from 1 on; empty lines are counted.
     pub at: u64,
     /// What is wrong with it.
-    pub why: LineWhy,
+    pub why: LineReason,
 }

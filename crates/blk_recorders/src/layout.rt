@@ -7,7 +7,7 @@ ghost use Rattle.blk_recorders.specs.Words.{word_texts};
 ghost use Rattle.blk_recorders.specs.Layouts.{laid, spanned, is_remark, span_from, span_numbers, device_named, step_told, placed};
 
 use crate::device::Device;
-use crate::fault::LineWhy;
+use crate::fault::LineReason;
 use crate::words::{begins_with, nanoseconds, number, parted, word_at};
 use blk_capture::{Action, Op, Record};
 
@@ -92,7 +92,7 @@ pub(crate) fn span_from<'a>(
     action: Action,
     words: &[&'a [u8]],
     place: usize,
-) -> Result<Span<&'a [u8]>, LineWhy>
+) -> Result<Span<&'a [u8]>, LineReason>
     requires { place + 2 < 2 ^ 64 }
     ensures { result_map_both spanned (λ e. e) result ≡ span_from action (word_texts words.now) place }
 {
@@ -102,27 +102,27 @@ pub(crate) fn span_from<'a>(
     if is_passed(action) || is_remark(first) {
         Ok(Span::Nothing)
     } else if first.is_empty() {
-        Err(LineWhy::Fields)
+        Err(LineReason::Fields)
     } else if is_remark(sign) {
         Ok(Span::Nothing)
     } else if second.is_empty() {
-        Err(LineWhy::Fields)
+        Err(LineReason::Fields)
     } else if sign == b"+".as_slice() {
         Ok(Span::Sectors(first, second))
     } else if sign == b"/".as_slice() {
         Ok(Span::Until(first, second))
     } else {
-        Err(LineWhy::Fields)
+        Err(LineReason::Fields)
     }
 }
 
 /// The parts of a line whose words stand at fixed places.
-pub(crate) fn placed<'a>(words: &[&'a [u8]], places: Places) -> Result<Layout<&'a [u8]>, LineWhy>
+pub(crate) fn placed<'a>(words: &[&'a [u8]], places: Places) -> Result<Layout<&'a [u8]>, LineReason>
     requires { places.span + 2 < 2 ^ 64 }
     ensures { result_map_both laid (λ e. e) result ≡ placed (word_texts words.now) places }
 {
     if words.len() < places.span {
-        return Err(LineWhy::Fields);
+        return Err(LineReason::Fields);
     }
     let action = Action::of_letters(word_at(words, places.action));
     let span = match span_from(action, words, places.span) {
@@ -169,31 +169,31 @@ fn device_named(word: Option<&[u8]>) -> Option<Option<Device>>
     }
 }
 
-/// The step that the parts of a line tell: [`LineWhy::Number`] where one that is to be a number isn't, and [`LineWhy::Range`] for a time
+/// The step that the parts of a line tell: [`LineReason::Number`] where one that is to be a number isn't, and [`LineReason::Range`] for a time
 /// of 2^34 seconds or more.
-pub(crate) fn step_told(layout: &Layout<&[u8]>) -> Result<Step, LineWhy>
+pub(crate) fn step_told(layout: &Layout<&[u8]>) -> Result<Step, LineReason>
     ensures { result ≡ step_told (laid layout.now) }
 {
     let Some(seconds) = number(layout.seconds) else {
-        return Err(LineWhy::Number);
+        return Err(LineReason::Number);
     };
     let Some(nanos) = nanoseconds(layout.fraction) else {
-        return Err(LineWhy::Number);
+        return Err(LineReason::Number);
     };
     let Some(cpu) = number(layout.cpu) else {
-        return Err(LineWhy::Number);
+        return Err(LineReason::Number);
     };
     let Some(pid) = number(layout.pid) else {
-        return Err(LineWhy::Number);
+        return Err(LineReason::Number);
     };
     let Some(device) = device_named(layout.device) else {
-        return Err(LineWhy::Number);
+        return Err(LineReason::Number);
     };
     let Some((first, sectors)) = span_numbers(layout.span) else {
-        return Err(LineWhy::Number);
+        return Err(LineReason::Number);
     };
     if seconds >= MAX_SECONDS {
-        return Err(LineWhy::Range);
+        return Err(LineReason::Range);
     }
     Ok(Step {
         device,

@@ -14,6 +14,6 @@ mod words;
 
 pub use crate::detect::{CaptureForm, FIRST_LINES, form_of};
 pub use crate::device::Device;
-pub use crate::fault::{LineFault, LineWhy};
+pub use crate::fault::{LineFault, LineReason};
 pub use crate::recorder::Recorder;
 pub use crate::steps::{MAX_STEPS, StepReader, Steps, read_lines};

@@ -8,7 +8,7 @@ ghost use Rattle.blk_recorders.specs.Layouts.{laid, spanned};
 ghost use Rattle.blk_recorders.specs.Lines.{lined, begins_with_digit, ends_with_byte, is_of_loss, tells_loss, remark, as_step, row_layout, row_step, inside, is_cpu, is_event, place_from, task_line, timed_line, task_layout, ftrace_line, blkparse_line, bpftrace_line, event_of, request_event_of, place_of_range, perf_layout, perf_line, printed_line_of};
 
 use crate::device::Device;
-use crate::fault::LineWhy;
+use crate::fault::LineReason;
 use crate::layout::{Layout, Places, Span, is_passed, placed, span_from};
 use crate::recorder::Recorder;
 use crate::words::{before, begins_with, behind_last, cut_fields, number, parted, word_at};
@@ -106,11 +106,11 @@ fn remark<'a>(words: &[&'a [u8]]) -> Line<&'a [u8]>
 }
 
 /// The parts of a row of eight fields: seconds, nanoseconds, processor, action, process, rwbs, first sector, sectors.
-fn row_layout<'a>(row: &[&'a [u8]]) -> Result<Layout<&'a [u8]>, LineWhy>
+fn row_layout<'a>(row: &[&'a [u8]]) -> Result<Layout<&'a [u8]>, LineReason>
     ensures { result_map_both laid (λ e. e) result ≡ row_layout (word_texts row.now) }
 {
     if row.len() != ROW_WIDTH {
-        return Err(LineWhy::Fields);
+        return Err(LineReason::Fields);
     }
     Ok(Layout {
         device: None,
@@ -166,7 +166,7 @@ fn ends_with(word: &[u8], byte: u8) -> bool
 
 /// The line of a task, `TASK-PID [CPU] FLAGS TIME: ..`, whose processor is the word at a place: a step where a device follows the time, else
 /// an event of another kind.
-fn task_line<'a>(words: &[&'a [u8]], cpu: usize) -> Result<Line<&'a [u8]>, LineWhy>
+fn task_line<'a>(words: &[&'a [u8]], cpu: usize) -> Result<Line<&'a [u8]>, LineReason>
     requires { cpu < length words.now }
     ensures { result_map_both lined (λ e. e) result ≡ task_line (word_texts words.now) cpu }
 {
@@ -178,13 +178,13 @@ fn task_line<'a>(words: &[&'a [u8]], cpu: usize) -> Result<Line<&'a [u8]>, LineW
 }
 
 /// The same by the place of its time too.
-fn timed_line<'a>(words: &[&'a [u8]], cpu: usize, time: usize) -> Result<Line<&'a [u8]>, LineWhy>
+fn timed_line<'a>(words: &[&'a [u8]], cpu: usize, time: usize) -> Result<Line<&'a [u8]>, LineReason>
     requires room { time + 6 < 2 ^ 64 }
     requires cpu { cpu < length words.now }
     ensures { result_map_both lined (λ e. e) result ≡ timed_line (word_texts words.now) cpu time }
 {
     if cpu == 0 || words.len() <= time + 1 {
-        return Err(LineWhy::Fields);
+        return Err(LineReason::Fields);
     }
     let device = word_at(words, time + 1);
     if Device::of_text(device).is_none() {
@@ -223,7 +223,7 @@ fn task_layout<'a>(
 }
 
 /// A step of ftrace's blk tracer, in either layout.
-fn ftrace_line<'a>(words: &[&'a [u8]]) -> Result<Line<&'a [u8]>, LineWhy>
+fn ftrace_line<'a>(words: &[&'a [u8]]) -> Result<Line<&'a [u8]>, LineReason>
     ensures { result_map_both lined (λ e. e) result ≡ ftrace_line (word_texts words.now) }
 {
     let first = word_at(words, 0);
@@ -239,14 +239,14 @@ fn ftrace_line<'a>(words: &[&'a [u8]]) -> Result<Line<&'a [u8]>, LineWhy>
             if tells_loss(words) {
                 Ok(Line::Loss)
             } else {
-                Err(LineWhy::Fields)
+                Err(LineReason::Fields)
             }
         }
     }
 }
 
 /// The line of a step.
-fn as_step<'a>(layout: Result<Layout<&'a [u8]>, LineWhy>) -> Result<Line<&'a [u8]>, LineWhy>
+fn as_step<'a>(layout: Result<Layout<&'a [u8]>, LineReason>) -> Result<Line<&'a [u8]>, LineReason>
     ensures { result_map_both lined (λ e. e) result ≡ as_step (result_map_both laid (λ e. e) layout.entry) }
 {
     match layout {
@@ -350,15 +350,15 @@ fn perf_layout<'a>(
     words: &[&'a [u8]],
     event: usize,
     action: Action,
-) -> Result<Layout<&'a [u8]>, LineWhy>
+) -> Result<Layout<&'a [u8]>, LineReason>
     requires { event < length words.now }
     ensures { result_map_both laid (λ e. e) result ≡ perf_layout (word_texts words.now) event action }
 {
     let Some(place) = place_of_range(words, event) else {
-        return Err(LineWhy::Fields);
+        return Err(LineReason::Fields);
     };
     if event < 3 {
-        return Err(LineWhy::Fields);
+        return Err(LineReason::Fields);
     }
     let span = match span_from(action, words, place) {
         Ok(span) => span,
@@ -383,7 +383,7 @@ fn perf_layout<'a>(
 }
 
 /// A line of perf: a step where it has the name of a tracepoint of `block` of which something is known.
-fn perf_line<'a>(words: &[&'a [u8]]) -> Result<Line<&'a [u8]>, LineWhy>
+fn perf_line<'a>(words: &[&'a [u8]]) -> Result<Line<&'a [u8]>, LineReason>
     ensures { result_map_both lined (λ e. e) result ≡ perf_line (word_texts words.now) }
 {
     match place_of_event(words) {
@@ -399,9 +399,9 @@ fn perf_line<'a>(words: &[&'a [u8]]) -> Result<Line<&'a [u8]>, LineWhy>
 fn blkparse_line<'a>(
     words: &[&'a [u8]],
     fields: &mut Vec<&'a [u8]>,
-) -> Result<Line<&'a [u8]>, LineWhy>
+) -> Result<Line<&'a [u8]>, LineReason>
     ensures ok { IfOk result (λ l. blkparse_line (word_texts words.now) ≡ Ok (lined l)) }
-    ensures err { IfErr result (λ w. (w ≡ LineWhy.Memory) ⊎ (blkparse_line (word_texts words.now) ≡ Err w)) }
+    ensures err { IfErr result (λ w. (w ≡ LineReason.Memory) ⊎ (blkparse_line (word_texts words.now) ≡ Err w)) }
 {
     let first = word_at(words, 0);
     if !begins_with_digit(first) {
@@ -414,13 +414,13 @@ fn blkparse_line<'a>(
 }
 
 /// A row by itself, whose fields are put in a list.
-fn row_line<'a>(row: &'a [u8], fields: &mut Vec<&'a [u8]>) -> Result<Line<&'a [u8]>, LineWhy>
+fn row_line<'a>(row: &'a [u8], fields: &mut Vec<&'a [u8]>) -> Result<Line<&'a [u8]>, LineReason>
     ensures ok { IfOk result (λ l. row_step row.now ≡ Ok (lined l)) }
-    ensures err { IfErr result (λ w. (w ≡ LineWhy.Memory) ⊎ (row_step row.now ≡ Err w)) }
+    ensures err { IfErr result (λ w. (w ≡ LineReason.Memory) ⊎ (row_step row.now ≡ Err w)) }
 {
     match cut_fields(row, fields) {
         Ok(()) => as_step(row_layout(fields.as_slice())),
-        Err(_) => Err(LineWhy::Memory),
+        Err(_) => Err(LineReason::Memory),
     }
 }
 
@@ -428,16 +428,16 @@ fn row_line<'a>(row: &'a [u8], fields: &mut Vec<&'a [u8]>) -> Result<Line<&'a [u
 fn bpftrace_line<'a>(
     words: &[&'a [u8]],
     fields: &mut Vec<&'a [u8]>,
-) -> Result<Line<&'a [u8]>, LineWhy>
+) -> Result<Line<&'a [u8]>, LineReason>
     ensures ok { IfOk result (λ l. bpftrace_line (word_texts words.now) ≡ Ok (lined l)) }
-    ensures err { IfErr result (λ w. (w ≡ LineWhy.Memory) ⊎ (bpftrace_line (word_texts words.now) ≡ Err w)) }
+    ensures err { IfErr result (λ w. (w ≡ LineReason.Memory) ⊎ (bpftrace_line (word_texts words.now) ≡ Err w)) }
 {
     let first = word_at(words, 0);
     if !begins_with_digit(first) {
         return Ok(remark(words));
     }
     if words.len() != 1 {
-        return Err(LineWhy::Fields);
+        return Err(LineReason::Fields);
     }
     row_line(first, fields)
 }
@@ -447,9 +447,9 @@ pub(crate) fn line_of<'a>(
     recorder: Recorder,
     words: &[&'a [u8]],
     fields: &mut Vec<&'a [u8]>,
-) -> Result<Line<&'a [u8]>, LineWhy>
+) -> Result<Line<&'a [u8]>, LineReason>
     ensures ok { IfOk result (λ l. printed_line_of recorder (word_texts words.now) ≡ Ok (lined l)) }
-    ensures err { IfErr result (λ w. (w ≡ LineWhy.Memory) ⊎ (printed_line_of recorder (word_texts words.now) ≡ Err w)) }
+    ensures err { IfErr result (λ w. (w ≡ LineReason.Memory) ⊎ (printed_line_of recorder (word_texts words.now) ≡ Err w)) }
 {
     match recorder {
         Recorder::Blkparse => blkparse_line(words, fields),

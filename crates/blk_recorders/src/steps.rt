@@ -8,11 +8,11 @@ ghost use Rattle.blk_recorders.specs.Steps.{none_yet, more, is_other, settle, is
 ghost use Rattle.blk_recorders.specs.Inside.Reading.{TakesBy, HaveSameCounts};
 
 use crate::device::Device;
-use crate::fault::{LineFault, LineWhy};
+use crate::fault::{LineFault, LineReason};
 use crate::layout::{Step, step_told};
 use crate::lines::{Line, line_of};
 use crate::recorder::Recorder;
-use crate::words::{Cuts, cut_line};
+use crate::words::{SplitLine, cut_line};
 use blk_capture::Record;
 use std::alloc::{AllocError, Global};
 
@@ -116,7 +116,7 @@ impl StepReader {
         asked: Option<Device>,
         most: u64,
         step: Step,
-    ) -> Result<(), LineWhy>
+    ) -> Result<(), LineReason>
         ensures takes { TakesBy self.old self.new result (λ s. take_step most recorder asked s step) }
         ensures counted { IsCountedOn self.old self.new }
         ensures few { steps_read self.old ≤ most → steps_read self.new ≤ most }
@@ -127,16 +127,16 @@ impl StepReader {
             return Ok(());
         }
         let Some(device) = settle(self.steps.device, step.device) else {
-            return Err(LineWhy::Devices);
+            return Err(LineReason::Devices);
         };
         if !recorder.is_unordered() && step.told.time < self.last {
-            return Err(LineWhy::Order);
+            return Err(LineReason::Order);
         }
         if self.count >= most {
-            return Err(LineWhy::TooLong);
+            return Err(LineReason::TooLong);
         }
         if self.steps.records.push(step.told).is_err() {
-            return Err(LineWhy::Memory);
+            return Err(LineReason::Memory);
         }
         self.count += 1;
         self.steps.device = device;
@@ -147,11 +147,11 @@ impl StepReader {
     /// Takes in the line that was cut.
     fn take(
         &mut self,
-        cuts: &mut Cuts<'_>,
+        cuts: &mut SplitLine<'_>,
         recorder: Recorder,
         asked: Option<Device>,
         most: u64,
-    ) -> Result<(), LineWhy>
+    ) -> Result<(), LineReason>
         ensures takes { TakesBy self.old self.new result (λ s. take_words most recorder asked s (word_texts cuts.old.words.items)) }
         ensures counted { IsCountedOn self.old self.new }
         ensures few { steps_read self.old ≤ most → steps_read self.new ≤ most }
@@ -173,7 +173,7 @@ impl StepReader {
         asked: Option<Device>,
         most: u64,
         line: Line<&[u8]>,
-    ) -> Result<(), LineWhy>
+    ) -> Result<(), LineReason>
         ensures takes { TakesBy self.old self.new result (λ s. take_line most recorder asked s (Ok (lined line.entry))) }
         ensures counted { IsCountedOn self.old self.new }
         ensures few { steps_read self.old ≤ most → steps_read self.new ≤ most }
@@ -212,13 +212,13 @@ impl StepReader {
         ensures counted { IsCountedOn self.old self.new }
         ensures few { steps_read self.old ≤ most → steps_read self.new ≤ most }
     {
-        let mut cuts = Cuts::new(alloc);
+        let mut cuts = SplitLine::new(alloc);
         let mut begin = 0;
         while begin < text.len() {
             let Ok(end) = cut_line(text, begin, &mut cuts.words) else {
                 return Err(LineFault {
                     at: self.number,
-                    why: LineWhy::Memory,
+                    why: LineReason::Memory,
                 });
             };
             match self.take(&mut cuts, recorder, asked, most) {
@@ -290,7 +290,7 @@ fn in_order(recorder: Recorder, steps: Steps) -> Result<Steps, AllocError>
 /// whether it is a step; docs/CAPTURES.md has the forms. Where a device is asked for, steps of others are left out, and steps of which the line
 /// names no device are not.
 ///
-/// The fault is that of the first line that has one, and in it the first in the order of [`LineWhy`]. [`LineWhy::Memory`] may come in place of
+/// The fault is that of the first line that has one, and in it the first in the order of [`LineReason`]. [`LineReason::Memory`] may come in place of
 /// any other.
 pub fn read_lines(
     alloc: Global,
@@ -312,7 +312,7 @@ pub fn read_lines(
         Ok(steps) => Ok(steps),
         Err(_) => Err(LineFault {
             at: number,
-            why: LineWhy::Memory,
+            why: LineReason::Memory,
         }),
     }
 }

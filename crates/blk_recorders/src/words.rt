@@ -15,17 +15,17 @@ pub(crate) fn is_blank(byte: u8) -> bool
 
 /// The words of lines, and the fields of rows: two lists that are filled anew for each line, so that few lines ask for memory.
 #[derive(Drop)]
-pub(crate) struct Cuts<'a> {
+pub(crate) struct SplitLine<'a> {
     /// The words of the line that was cut last.
     pub(crate) words: Vec<&'a [u8]>,
     /// The fields of the row that was cut last.
     pub(crate) fields: Vec<&'a [u8]>,
 }
 
-impl<'a> Cuts<'a> {
+impl<'a> SplitLine<'a> {
     /// Empty lists, which take no memory.
-    pub(crate) fn new(alloc: Global) -> Cuts<'a> {
-        Cuts {
+    pub(crate) fn new(alloc: Global) -> SplitLine<'a> {
+        SplitLine {
             words: Vec::new(alloc),
             fields: Vec::new(alloc),
         }

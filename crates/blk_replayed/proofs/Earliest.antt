@@ -16,10 +16,10 @@ use Rattle.blk_earliest.specs.Choice.{earliest_choice, earliest_kept, earliest_p
 use Rattle.blk_earliest.proofs.Chosen.{choice_first, choice_on_time}
 use Rattle.blk_capture.specs.Requests.{AreTimed}
 use Rattle.blk_capture.specs.declared.requests.CapturedRequest.{CapturedRequest}
-use Rattle.blk_settings.specs.Rows.{sched_for}
-use Rattle.blk_settings.specs.Rows.Earliest.{is_late_last}
-use Rattle.blk_settings.specs.declared.plans.Plan.{Plan}
-use Rattle.blk_settings.specs.declared.rows.SchedKind.{SchedKind}
+use Rattle.blk_schedulers.specs.Rows.{sched_for}
+use Rattle.blk_schedulers.specs.Rows.Earliest.{is_late_last}
+use Rattle.blk_schedulers.specs.declared.plans.Plan.{Plan}
+use Rattle.blk_schedulers.specs.declared.rows.SchedKind.{SchedKind}
 use Rattle.blk_replay.specs.Replay.{standing}
 use Rattle.blk_replay.specs.Requests.{AreRoundCommands, IsReplayOf}
 use Rattle.blk_replay.specs.DueFirst.{GoesFirst, GoesByDue, IsBestOrder, ReplaysBest}

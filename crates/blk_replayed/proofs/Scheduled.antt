@@ -6,7 +6,7 @@ use Rattle.edd_commands.specs.Capacity.{fixed}
 use Rattle.edd_commands.specs.Schedule.{IsLegal}
 use Rattle.edd_commands.specs.declared.Command.{Command}
 use Rattle.edd_commands.specs.declared.TheConstants.{MAX_COMMANDS, MAX_ROUNDS}
-use Rattle.blk_lists.specs.Schedule.{ScheduleView, IsScheduleView}
+use Rattle.blk_records.specs.Schedule.{ScheduleView, IsScheduleView}
 use Rattle.blk_replay.specs.Requests.{AreRounds}
 
 -- other rounds of the same commands make a schedule too

@@ -1,19 +1,19 @@
 -- Schedulers before they have any request.
 use Rattle.std.proofs.Common.{ℕ, ◌≡◌, ◌∙◌, List, Result, Ok, Err, IfOk, sym, ap, subst, refl}
 use Rattle.blk_sched.specs.Meaning.{Meaning, at_start}
-use Rattle.blk_settings.specs.Scheds.{first_meaning}
-use Rattle.blk_settings.specs.Rows.{sched_for}
-use Rattle.blk_settings.specs.declared.rows.SchedKind.{SchedKind}
-use Rattle.blk_settings.specs.declared.rows.SchedKind.TheVariants as kind
-use Rattle.blk_settings.specs.declared.sched.Sched.{Sched}
-use Rattle.blk_settings.specs.declared.sched.SchedFault.{SchedFault}
+use Rattle.blk_schedulers.specs.Scheds.{first_meaning}
+use Rattle.blk_schedulers.specs.Rows.{sched_for}
+use Rattle.blk_schedulers.specs.declared.rows.SchedKind.{SchedKind}
+use Rattle.blk_schedulers.specs.declared.rows.SchedKind.TheVariants as kind
+use Rattle.blk_schedulers.specs.declared.sched.Sched.{Sched}
+use Rattle.blk_schedulers.specs.declared.sched.SchedFault.{SchedFault}
 use Rattle.edd_commands.specs.declared.Command.{Command}
 use Rattle.blk_sched.specs.Policies.{Policy}
 use Rattle.blk_capture.specs.declared.requests.CapturedRequest.{CapturedRequest}
 use Rattle.blk_replay.specs.Replay.{standing}
 use Rattle.blk_replay.specs.Requests.{IsReplayOf}
 use Rattle.blk_replay.specs.declared.requests.DueBy.{DueBy}
-use Rattle.blk_settings.specs.Scheds.{numbers_at_first}
+use Rattle.blk_schedulers.specs.Scheds.{numbers_at_first}
 use Rattle.blk_replayed.specs.Rows.{sched_start}
 
 -- what is known of a scheduler that was made

@@ -3,7 +3,7 @@ use Rattle.std.proofs.Common.{ℕ, ◌≡◌, ◌∙◌, ◌∷◌, [], List, ap
 use Rattle.std.proofs.lemmas.List.Elements.{All-cons, All-nil}
 use Rattle.edd_commands.specs.declared.Command.{Command}
 use Rattle.blk_capture.specs.declared.requests.CapturedRequest.{CapturedRequest}
-use Rattle.blk_settings.specs.declared.plans.Plan.{Plan}
+use Rattle.blk_schedulers.specs.declared.plans.Plan.{Plan}
 use Rattle.blk_replayed.specs.declared.row.Chooser.{Chooser}
 use Rattle.blk_replayed.specs.declared.row.Chooser.TheVariants.{Replay}
 use Rattle.blk_replayed.specs.declared.row.ReplayRow.{ReplayRow}

@@ -14,10 +14,10 @@ use Rattle.answer.specs.declared.value.Value.TheVariants.{Count, Text, Nothing, 
 use Rattle.answer.specs.Parts.{column, counted, record_columns}
 use Rattle.blk_capture.specs.declared.summary.Percentiles.{Percentiles}
 use Rattle.blk_replay.specs.declared.figures.ClockFigures.{ClockFigures}
-use Rattle.blk_settings.specs.Plans.{has_fifo_lists}
-use Rattle.blk_settings.specs.Scheds.{name_of, settings_of}
-use Rattle.blk_settings.specs.Told.{told_setting}
-use Rattle.blk_settings.specs.declared.plans.Plan.{Plan}
+use Rattle.blk_schedulers.specs.Plans.{has_fifo_lists}
+use Rattle.blk_schedulers.specs.Scheds.{name_of, settings_of}
+use Rattle.blk_schedulers.specs.Told.{told_setting}
+use Rattle.blk_schedulers.specs.declared.plans.Plan.{Plan}
 use Rattle.blk_replayed.specs.declared.row.Chooser.{Chooser}
 use Rattle.blk_replayed.specs.declared.row.Chooser.TheVariants.{Machine, Replay}
 use Rattle.blk_replayed.specs.declared.row.ReplayRow.{ReplayRow}

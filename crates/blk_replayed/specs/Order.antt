@@ -4,8 +4,8 @@ use Rattle.std.specs.List.Sorted.{IsPermutation, IsSorted, IsStable}
 use Rattle.std.specs.Option.{option_cmp}
 use Rattle.std.specs.Ordering.{ordering_then, nat_cmp}
 use Rattle.std.specs.declared.cmp.Ordering.{Ordering}
-use Rattle.blk_settings.specs.declared.plans.ReplayBy.{ReplayBy}
-use Rattle.blk_settings.specs.declared.plans.ReplayBy.TheVariants as by
+use Rattle.blk_schedulers.specs.declared.plans.ReplayBy.{ReplayBy}
+use Rattle.blk_schedulers.specs.declared.plans.ReplayBy.TheVariants as by
 use Rattle.blk_replayed.specs.declared.row.ReplayRow.{ReplayRow}
 
 abbrev pub late_cmp : ReplayRow → ReplayRow → Ordering

@@ -10,9 +10,9 @@ use Rattle.blk_capture.specs.Counting.{AreInRounds}
 use Rattle.blk_capture.specs.Requests.{AreTimed, times_of}
 use Rattle.blk_capture.specs.declared.requests.CapturedRequest.{CapturedRequest}
 use Rattle.blk_runs.specs.Firsts.{AreUnmade}
-use Rattle.blk_settings.specs.declared.plans.Plan.{Plan}
-use Rattle.blk_settings.specs.declared.plans.ReplayBy.{ReplayBy}
-use Rattle.blk_settings.specs.declared.sched.SchedFault.{SchedFault}
+use Rattle.blk_schedulers.specs.declared.plans.Plan.{Plan}
+use Rattle.blk_schedulers.specs.declared.plans.ReplayBy.{ReplayBy}
+use Rattle.blk_schedulers.specs.declared.sched.SchedFault.{SchedFault}
 use Rattle.blk_replayed.specs.declared.row.Chooser.TheVariants.{Machine, Replay}
 use Rattle.blk_replayed.specs.declared.row.ReplayRow.{ReplayRow}
 use Rattle.blk_replay.specs.Requests.{AreRoundCommands}

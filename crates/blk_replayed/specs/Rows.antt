@@ -8,14 +8,14 @@ use Rattle.blk_sched.specs.Policies.{Policy}
 use Rattle.blk_capture.specs.Counting.{AreInRounds}
 use Rattle.blk_capture.specs.Requests.{times_of}
 use Rattle.blk_capture.specs.declared.requests.CapturedRequest.{CapturedRequest}
-use Rattle.blk_settings.specs.Made.{IsMade}
-use Rattle.blk_settings.specs.Rows.Earliest.{is_late_last}
-use Rattle.blk_settings.specs.Scheds.{policy_of, first_meaning, numbers_at_first}
-use Rattle.blk_settings.specs.declared.plans.FifoExpire.{FifoExpire}
-use Rattle.blk_settings.specs.declared.plans.Plan.{Plan}
-use Rattle.blk_settings.specs.declared.rows.SchedKind.{SchedKind}
-use Rattle.blk_settings.specs.declared.rows.SchedKind.TheVariants as kind
-use Rattle.blk_settings.specs.declared.sched.Sched.{Sched}
+use Rattle.blk_schedulers.specs.Made.{IsMade}
+use Rattle.blk_schedulers.specs.Rows.Earliest.{is_late_last}
+use Rattle.blk_schedulers.specs.Scheds.{policy_of, first_meaning, numbers_at_first}
+use Rattle.blk_schedulers.specs.declared.plans.FifoExpire.{FifoExpire}
+use Rattle.blk_schedulers.specs.declared.plans.Plan.{Plan}
+use Rattle.blk_schedulers.specs.declared.rows.SchedKind.{SchedKind}
+use Rattle.blk_schedulers.specs.declared.rows.SchedKind.TheVariants as kind
+use Rattle.blk_schedulers.specs.declared.sched.Sched.{Sched}
 use Rattle.blk_replay.specs.Replay.{Standing, standing}
 use Rattle.blk_replay.specs.Requests.{AreLateByTheClock, IsReplayOf}
 use Rattle.blk_replay.specs.DueFirst.{IsBestOrder}

@@ -6,9 +6,9 @@ use Rattle.blk_capture.specs.Tables.{AreRequestRows}
 use Rattle.blk_capture.specs.declared.requests.CapturedRequest.{CapturedRequest}
 use Rattle.blk_capture.specs.declared.table.RequestRow.{RequestRow}
 use Rattle.blk_capture_text.specs.TableText.{table_lines}
-use Rattle.blk_lists.specs.Schedule.{ScheduleView, IsScheduleView, schedule_rows}
-use Rattle.blk_lists.specs.Texts.{rows_text}
-use Rattle.blk_settings.specs.declared.plans.Plan.{Plan}
+use Rattle.blk_records.specs.Schedule.{ScheduleView, IsScheduleView, schedule_rows}
+use Rattle.blk_records.specs.Texts.{rows_text}
+use Rattle.blk_schedulers.specs.declared.plans.Plan.{Plan}
 use Rattle.blk_replay.specs.Requests.{AreRoundCommands, AreLateByTheClock, time_of_round}
 use Rattle.blk_replayed.specs.declared.row.Chooser.TheVariants.{Replay}
 use Rattle.blk_replayed.specs.Rows.{IsReplayed, IsBestUnderEarliest}

@@ -4,10 +4,10 @@ use Rattle.answer.specs.declared.answer.Part.{Part}
 use Rattle.answer.specs.Lines.{answer_lines}
 use Rattle.answer.specs.Json.{json_of}
 use Rattle.blk_capture.specs.declared.requests.CapturedRequest.{CapturedRequest}
-use Rattle.blk_settings.specs.declared.form.Form.{Form}
-use Rattle.blk_settings.specs.declared.form.Form.TheVariants as form
-use Rattle.blk_settings.specs.declared.plans.Plan.{Plan}
-use Rattle.blk_settings.specs.declared.plans.ReplayBy.{ReplayBy}
+use Rattle.blk_schedulers.specs.declared.form.Form.{Form}
+use Rattle.blk_schedulers.specs.declared.form.Form.TheVariants as form
+use Rattle.blk_schedulers.specs.declared.plans.Plan.{Plan}
+use Rattle.blk_schedulers.specs.declared.plans.ReplayBy.{ReplayBy}
 use Rattle.blk_replayed.specs.declared.replays.ReplaysAsked.{ReplaysAsked}
 use Rattle.blk_replayed.specs.declared.row.ReplayRow.{ReplayRow}
 use Rattle.blk_replayed.specs.Answers.{replays_parts}

@@ -12,8 +12,8 @@ use answer::{
     Answer, Cell, Column, Layout, Line, Part, Row, Rows, Set, Setting, Settings, Value, Word,
     count_or_none, member, record_columns,
 };
-use blk_settings::Plan;
-use blk_settings::told::told_settings;
+use blk_schedulers::Plan;
+use blk_schedulers::told::told_settings;
 use std::alloc::{AllocError, Global};
 
 /// An expiry of a FIFO list as a setting, in nanoseconds.

@@ -5,7 +5,7 @@ ghost use Rattle.blk_replayed.specs.Order.{AreBetterFirst};
 ghost use Rattle.blk_replayed.specs.Inside.Order.{late_key, greatest_key, read_p99_key};
 
 use crate::row::ReplayRow;
-use blk_settings::ReplayBy;
+use blk_schedulers::ReplayBy;
 use std::alloc::AllocError;
 
 /// How many were late in a row, and then what breaks ties.

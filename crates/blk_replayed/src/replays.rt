@@ -15,7 +15,7 @@ use crate::order::better_first;
 use crate::row::{ReplayRow, captured_row, replayed_row};
 use blk_capture::{CapturedRequest, rounds_of};
 use blk_runs::unmade;
-use blk_settings::{Form, Plan, ReplayBy, Sched, SchedFault};
+use blk_schedulers::{Form, Plan, ReplayBy, Sched, SchedFault};
 use edd_commands::{Capacity, Command};
 use edd_figures::{Misses, misses_of};
 use std::alloc::{AllocError, Global};

@@ -7,14 +7,14 @@ ghost use Rattle.edd_commands.specs.declared.TheConstants.{MAX_COMMANDS};
 ghost use Rattle.edd_figures.specs.Misses.{number_late, IsLeastLate};
 ghost use Rattle.blk_capture.specs.Counting.{AreInRounds};
 ghost use Rattle.blk_capture.specs.Requests.{AgreeOnLateness, AreTimed, times_of};
-ghost use Rattle.blk_settings.specs.Made.{IsUnmade};
+ghost use Rattle.blk_schedulers.specs.Made.{IsSchedFault};
 ghost use Rattle.blk_replay.specs.Requests.{AreRounds, AreRoundCommands, AreLateByTheClock};
 ghost use Rattle.blk_replayed.specs.Rows.{IsReplayRowIn, IsReplayRow};
 
 use crate::serving::rounds_under;
 use blk_capture::CapturedRequest;
 use blk_replay::{ClockFigures, figures_of};
-use blk_settings::{Plan, SchedFault};
+use blk_schedulers::{Plan, SchedFault};
 use edd_commands::Command;
 use std::alloc::{AllocError, Global};
 
@@ -128,7 +128,7 @@ pub fn replayed_row(
     requires least { IsLeastLate commands.now (fixed 1) unavoidable }
     ensures chosen { IfOk result (λ r. r.chooser ≡ Chooser.Replay plan) }
     ensures row { IfOk result (IsReplayRow unavoidable requests.now commands.now) }
-    ensures unmade { IfErr result (IsUnmade plan.sched) }
+    ensures unmade { IfErr result (IsSchedFault plan.sched) }
 {
     let rounds = match rounds_under(alloc, plan, requests, commands) {
         Ok(rounds) => rounds,

@@ -5,8 +5,8 @@ ghost use Rattle.edd_commands.specs.Capacity.{fixed};
 ghost use Rattle.edd_commands.specs.Schedule.{IsLegal};
 ghost use Rattle.edd_commands.specs.declared.TheConstants.{MAX_COMMANDS};
 ghost use Rattle.blk_capture.specs.Requests.{AreTimed};
-ghost use Rattle.blk_settings.specs.Made.{IsUnmade, IsStart};
-ghost use Rattle.blk_settings.specs.Scheds.{policy_of};
+ghost use Rattle.blk_schedulers.specs.Made.{IsSchedFault, IsStart};
+ghost use Rattle.blk_schedulers.specs.Scheds.{policy_of};
 ghost use Rattle.blk_replay.specs.Requests.{AreRounds, AreRoundCommands, AreLateByTheClock};
 ghost use Rattle.blk_replayed.specs.declared.row.Chooser.TheVariants.{Replay};
 ghost use Rattle.blk_replayed.specs.Rows.{due_by, IsReplayedBy, IsReplayed, IsBestUnderEarliest};
@@ -15,7 +15,7 @@ use blk_capture::CapturedRequest;
 use blk_earliest::Earliest;
 use blk_replay::{DueBy, law_of_due_first, replay_requests};
 use blk_sched::Scheduler;
-use blk_settings::{FifoExpire, Plan, Sched, SchedFault, SchedKind, with_made};
+use blk_schedulers::{FifoExpire, Plan, Sched, SchedFault, SchedKind, with_made};
 use edd_commands::Command;
 use std::alloc::Global;
 
@@ -48,12 +48,12 @@ fn rounds_by<S: Scheduler<A = Global>>(
     requires few { length requests.now ≤ MAX_COMMANDS }
     requires counted { AreRoundCommands requests.now commands.now }
     requires start { IfOk made (λ s. IsStart sched DEPTH (S.meaning s) (S.kept s)) }
-    requires unmade { IfErr made (IsUnmade sched) }
+    requires unmade { IfErr made (IsSchedFault sched) }
     ensures replayed { IfOk result (λ v. IsReplayedBy S.policy sched by requests.now commands.now v.items) }
     ensures legal { IfOk result (λ v. IsLegal commands.now v.items (fixed 1)) }
     ensures in_range { IfOk result (λ v. AreRounds (length requests.now) v.items) }
     ensures late { IfOk result (λ v. AreLateByTheClock requests.now commands.now v.items) }
-    ensures unmade { IfErr result (IsUnmade sched) }
+    ensures unmade { IfErr result (IsSchedFault sched) }
 {
     let scheduler = match made {
         Ok(scheduler) => scheduler,
@@ -79,7 +79,7 @@ fn rounds_planned(
     ensures legal { IfOk result (λ v. IsLegal commands.now v.items (fixed 1)) }
     ensures in_range { IfOk result (λ v. AreRounds (length requests.now) v.items) }
     ensures late { IfOk result (λ v. AreLateByTheClock requests.now commands.now v.items) }
-    ensures unmade { IfErr result (IsUnmade plan.sched) }
+    ensures unmade { IfErr result (IsSchedFault plan.sched) }
 {
     let by = due_by(plan.sched.kind, plan.fifo);
     with_made!(plan.sched, alloc, DEPTH, (sched, made) => rounds_by(alloc, sched, made, requests, commands, by))
@@ -102,7 +102,7 @@ pub fn rounds_under(
     ensures in_range { IfOk result (λ v. AreRounds (length requests.now) v.items) }
     ensures late { IfOk result (λ v. AreLateByTheClock requests.now commands.now v.items) }
     ensures best { IfOk result (λ v. IsBestUnderEarliest (Replay plan) commands.now v.items) }
-    ensures unmade { IfErr result (IsUnmade plan.sched) }
+    ensures unmade { IfErr result (IsSchedFault plan.sched) }
 {
     law_of_due_first::<Earliest>();
     rounds_planned(alloc, plan, requests, commands)

@@ -3,16 +3,16 @@
 ghost use Rattle.std.specs.Prelude.{◌≡◌, ◌≤◌, IfOk, IfErr, length};
 ghost use Rattle.edd_commands.specs.declared.TheConstants.{MAX_COMMANDS};
 ghost use Rattle.blk_capture.specs.Requests.{AreTimed};
-ghost use Rattle.blk_lists.specs.Schedule.{IsScheduleView, viewed};
+ghost use Rattle.blk_records.specs.Schedule.{IsScheduleView, viewed};
 ghost use Rattle.blk_replay.specs.Requests.{AreRounds};
-ghost use Rattle.blk_settings.specs.Made.{IsUnmade};
+ghost use Rattle.blk_schedulers.specs.Made.{IsSchedFault};
 ghost use Rattle.blk_replayed.specs.Shown.{IsReplaySchedule, IsReplayScheduleText, moved_to, AreMoved, IsReplayTableIn, IsReplayTableText};
 
 use crate::serving::rounds_under;
 use blk_capture::{CapturedRequest, rows_of};
 use blk_capture_text::{schedule_of, table_text};
-use blk_lists::{Schedule, schedule_text};
-use blk_settings::{Plan, SchedFault};
+use blk_records::{Schedule, schedule_text};
+use blk_schedulers::{Plan, SchedFault};
 use std::alloc::{AllocError, Global};
 
 /// A replay as a schedule: the commands are those that an import has of the same requests, and their rounds those of the replay.
@@ -22,7 +22,7 @@ fn replayed(alloc: Global, plan: Plan, requests: &[CapturedRequest]) -> Result<S
     requires few { length requests.now ≤ MAX_COMMANDS }
     ensures schedule { IfOk result (λ s. IsReplaySchedule plan requests.now (viewed s)) }
     ensures rounds { IfOk result (λ s. AreRounds (length requests.now) s.rounds.items) }
-    ensures unmade { IfErr result (IsUnmade plan.sched) }
+    ensures unmade { IfErr result (IsSchedFault plan.sched) }
 {
     let Ok(captured) = schedule_of(alloc, requests) else {
         return Err(SchedFault::Memory);
@@ -47,7 +47,7 @@ pub fn replay_schedule_text(
     requires timed { AreTimed requests.now }
     requires few { length requests.now ≤ MAX_COMMANDS }
     ensures text { IfOk result (λ text. IsReplayScheduleText plan requests.now text.items) }
-    ensures unmade { IfErr result (IsUnmade plan.sched) }
+    ensures unmade { IfErr result (IsSchedFault plan.sched) }
 {
     let schedule = match replayed(alloc, plan, requests) {
         Ok(schedule) => schedule,
@@ -115,7 +115,7 @@ pub fn replay_table_text(
     requires timed { AreTimed requests.now }
     requires few { length requests.now ≤ MAX_COMMANDS }
     ensures text { IfOk result (λ text. IsReplayTableText plan begin requests.now text.items) }
-    ensures unmade { IfErr result (IsUnmade plan.sched) }
+    ensures unmade { IfErr result (IsSchedFault plan.sched) }
 {
     let schedule = match replayed(alloc, plan, requests) {
         Ok(schedule) => schedule,

@@ -10,7 +10,7 @@ use crate::answers::replays_answer;
 use crate::replays::{Replays, ReplaysAsked, replay_plans};
 use answer::{json, lines};
 use blk_capture::CapturedRequest;
-use blk_settings::{Form, SchedFault};
+use blk_schedulers::{Form, SchedFault};
 use std::alloc::{AllocError, Global};
 use std::thread::Threads;
 use turns::Progress;

@@ -20,7 +20,7 @@ use Rattle.blk_trace.specs.Kinds.{is_tick, issues}
 use Rattle.blk_trace.specs.Setups.{Setup}
 use Rattle.blk_trace.specs.Events.{join_up, request_of, ends_requeued, EntersRequest}
 use Rattle.blk_trace.specs.Legal.{IsLegalTrace}
-use Rattle.blk_trace.specs.Rules.{IsUnbroken}
+use Rattle.blk_trace.specs.Rules.{BreaksNoRule}
 use Rattle.blk_trace.specs.Meaning.{service, served, command_of, issued_ids, released_ids, commands_of, rounds_of}
 use Rattle.blk_trace.specs.Waits.{has_id}
 use Rattle.blk_trace.specs.Laws.{AreBounded}
@@ -38,7 +38,7 @@ use Rattle.blk_report.proofs.Gathering.{range_is}
 abbrev AreRequests : List Happened → Type 0
 AreRequests es = (id : ℕ) → has_id (released_ids es) id ≡ true → IsRequest (request_of es id)
 
-requests_more : (setup : Setup) (es : List Happened) (e : Happened) → IsLegalTrace setup es → IsUnbroken setup es e → EntersRequest e → AreRequests es → AreRequests (es ++ e ∷ [])
+requests_more : (setup : Setup) (es : List Happened) (e : Happened) → IsLegalTrace setup es → BreaksNoRule setup es e → EntersRequest e → AreRequests es → AreRequests (es ++ e ∷ [])
 unfolding released_ids
 requests_more setup es (Release i bios) legal all some old id h =
     elim (cases_Bool (i == id)) [

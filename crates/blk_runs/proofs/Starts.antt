@@ -1,7 +1,7 @@
 -- Runs of a script from starts that are equal.
 use Rattle.std.proofs.Common.{ℕ, ◌≡◌, Result, Ok, Err, IfOk, List, subst}
 use Rattle.blk_sched.specs.Meaning.{Meaning}
-use Rattle.blk_settings.specs.declared.sched.SchedFault.{SchedFault}
+use Rattle.blk_schedulers.specs.declared.sched.SchedFault.{SchedFault}
 use Rattle.blk_sched.specs.Policies.{Policy}
 use Rattle.blk_text.specs.Script.{Scripted}
 use Rattle.blk_trace.specs.Traces.{Traced}

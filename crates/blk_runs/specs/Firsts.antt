@@ -3,10 +3,10 @@ use Rattle.std.specs.Prelude.{◌≡◌, ◌⊎◌, ◌++◌, ◌∷◌, ⊤, Li
 use Rattle.blk_text.specs.Script.{Scripted}
 use Rattle.blk_trace.specs.Traces.{Traced}
 use Rattle.blk_sim.specs.declared.refusal.SimFault.{SimFault}
-use Rattle.blk_settings.specs.declared.sched.Sched.{Sched}
-use Rattle.blk_settings.specs.declared.sched.SchedFault.{SchedFault}
-use Rattle.blk_settings.specs.declared.sched.SchedFault.TheVariants as setting
-use Rattle.blk_settings.specs.Made.{IsMade, HasFault}
+use Rattle.blk_schedulers.specs.declared.sched.Sched.{Sched}
+use Rattle.blk_schedulers.specs.declared.sched.SchedFault.{SchedFault}
+use Rattle.blk_schedulers.specs.declared.sched.SchedFault.TheVariants as setting
+use Rattle.blk_schedulers.specs.Made.{IsMade, HasFault}
 use Rattle.blk_runs.specs.declared.fault.RunFault.{RunFault}
 use Rattle.blk_runs.specs.declared.fault.RunFault.TheVariants as run
 use Rattle.blk_runs.specs.Runs.{IsTraceOfScript, IsRefusedUnder}

@@ -10,9 +10,9 @@ use Rattle.blk_sim.specs.Simulation.{released_bios, ticks_of}
 use Rattle.blk_sim.specs.State.{SimState, start_of}
 use Rattle.blk_sim.specs.Runs.{Runs}
 use Rattle.blk_sim.specs.Refusals.{IsSimFault}
-use Rattle.blk_settings.specs.Made.{IsMade, IsUnmade}
-use Rattle.blk_settings.specs.Scheds.{policy_of, first_meaning, numbers_at_first}
-use Rattle.blk_settings.specs.declared.sched.Sched.{Sched}
+use Rattle.blk_schedulers.specs.Made.{IsMade, IsSchedFault}
+use Rattle.blk_schedulers.specs.Scheds.{policy_of, first_meaning, numbers_at_first}
+use Rattle.blk_schedulers.specs.declared.sched.Sched.{Sched}
 use Rattle.blk_runs.specs.declared.fault.RunFault.{RunFault}
 use Rattle.blk_runs.specs.declared.fault.RunFault.TheVariants as run
 
@@ -44,10 +44,10 @@ pub record IsTraceOfScript (s : Sched) (script : Scripted) (trace : Traced) : Ty
   pub ticks : round_of trace.events ≡ sum_by ticks_of script.lines
 
 -- why a script is not run: its scheduler isn't made of its settings, or a step is refused
-abbrev pub IsUnrunBy : Policy → Sched → Scripted → RunFault → Type 0
-IsUnrunBy policy s script (run.Sched f) = IsUnmade s f
-IsUnrunBy policy s script (run.Step f) = IsRefusedBy policy s script f
-IsUnrunBy policy s script run.Memory = ⊤
+abbrev pub IsRunFaultBy : Policy → Sched → Scripted → RunFault → Type 0
+IsRunFaultBy policy s script (run.Sched f) = IsSchedFault s f
+IsRunFaultBy policy s script (run.Step f) = IsRefusedBy policy s script f
+IsRunFaultBy policy s script run.Memory = ⊤
 
-abbrev pub IsUnrun : Sched → Scripted → RunFault → Type 0
-IsUnrun s script f = IsUnrunBy (policy_of s) s script f
+abbrev pub IsRunFault : Sched → Scripted → RunFault → Type 0
+IsRunFault s script f = IsRunFaultBy (policy_of s) s script f

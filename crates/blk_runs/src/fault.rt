@@ -1,6 +1,6 @@
 //! Why a script has no trace.
 
-use blk_settings::SchedFault;
+use blk_schedulers::SchedFault;
 use blk_sim::SimFault;
 
 /// Why a script is not run.

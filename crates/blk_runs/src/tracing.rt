@@ -3,14 +3,14 @@
 ghost use Rattle.std.specs.Prelude.{◌≡◌, IfOk, IfErr, IfSome, IfNone, All, IsPermutation, sum_by};
 ghost use Rattle.blk_trace.specs.Events.{entered, round_of};
 ghost use Rattle.blk_text.specs.Script.{IsScript, scripted};
-ghost use Rattle.blk_settings.specs.Made.{IsMade, IsUnmade, IsStart};
+ghost use Rattle.blk_schedulers.specs.Made.{IsMade, IsSchedFault, IsStart};
 ghost use Rattle.blk_sim.specs.Simulation.{released_bios, ticks_of};
-ghost use Rattle.blk_runs.specs.Runs.{RunsBy, RunsUnder, IsUnrunBy, IsUnrun};
+ghost use Rattle.blk_runs.specs.Runs.{RunsBy, RunsUnder, IsRunFaultBy, IsRunFault};
 ghost use Rattle.blk_runs.specs.Firsts.{IsFirstUnmade};
 
 use crate::fault::RunFault;
 use blk_sched::Scheduler;
-use blk_settings::{Sched, SchedFault, with_made};
+use blk_schedulers::{Sched, SchedFault, with_made};
 use blk_sim::simulate;
 use blk_text::Script;
 use blk_trace::Trace;
@@ -25,12 +25,12 @@ fn traced_by<S: Scheduler<A = Global>>(
 ) -> Result<Trace, RunFault>
     requires script { IsScript (scripted script.now) }
     requires start { IfOk made (λ s. IsStart sched script.now.setup.depth (S.meaning s) (S.kept s)) }
-    requires unmade { IfErr made (IsUnmade sched) }
+    requires unmade { IfErr made (IsSchedFault sched) }
     ensures ran { IfOk result (RunsBy S.policy sched (scripted script.now)) }
     ensures setup { IfOk result (λ trace. trace.setup ≡ script.now.setup) }
     ensures bios { IfOk result (λ trace. IsPermutation (entered trace.events) (released_bios script.now.setup.hw script.now.lines.items)) }
     ensures ticks { IfOk result (λ trace. round_of trace.events ≡ sum_by ticks_of script.now.lines.items) }
-    ensures unrun { IfErr result (IsUnrunBy S.policy sched (scripted script.now)) }
+    ensures unrun { IfErr result (IsRunFaultBy S.policy sched (scripted script.now)) }
 {
     let scheduler = match made {
         Ok(scheduler) => scheduler,
@@ -50,7 +50,7 @@ pub fn traced(alloc: Global, sched: Sched, script: &Script) -> Result<Trace, Run
     ensures setup { IfOk result (λ trace. trace.setup ≡ script.now.setup) }
     ensures bios { IfOk result (λ trace. IsPermutation (entered trace.events) (released_bios script.now.setup.hw script.now.lines.items)) }
     ensures ticks { IfOk result (λ trace. round_of trace.events ≡ sum_by ticks_of script.now.lines.items) }
-    ensures unrun { IfErr result (IsUnrun sched (scripted script.now)) }
+    ensures unrun { IfErr result (IsRunFault sched (scripted script.now)) }
 {
     let depth = script.setup.depth();
     with_made!(sched, alloc, depth, (sched, made) => traced_by(alloc, sched, made, script))

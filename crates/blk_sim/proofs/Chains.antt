@@ -9,7 +9,7 @@ use Rattle.blk_queues.specs.Queues.{Queue}
 use Rattle.blk_trace.specs.Events.{IsUsed}
 use Rattle.blk_core.specs.State.{CoreState}
 use Rattle.blk_core.specs.Faults.{IsInFlight}
-use Rattle.blk_sim.specs.declared.refusal.SimWhy.{SimWhy}
+use Rattle.blk_sim.specs.declared.refusal.SimReason.{SimReason}
 use Rattle.blk_sim.specs.Moves.{EntersCore, EnterInTurn, drained, flushed_plug, with_requests, bios_in, Drains, DrainInTurn}
 use Rattle.blk_sim.specs.Rounds.{GivesCommand, IssueInTurn, CompleteInTurn, Works}
 use Rattle.blk_core.specs.Calls.{Completes}
@@ -49,7 +49,7 @@ moved_more policy hw requests left r rest a b c first m t = record {
 pub moved_all : (policy : Policy) (hw : ℕ) (requests left : List (List Bio)) (a b : CoreState) → left ≡ [] → IsMoved policy hw requests left a b → EnterInTurn policy hw requests a b
 moved_all policy hw requests left a b none m = subst (λ l. EnterInTurn policy hw l a b) (sym (m.whole ∙ ap (λ l. m.gone ++ l) none ∙ append-nil m.gone)) m.entered
 
-pub moved_refused : (policy : Policy) (hw : ℕ) (requests left : List (List Bio)) (r : List Bio) (rest : List (List Bio)) (a b : CoreState) (w : SimWhy) → left ≡ r ∷ rest → IsMoved policy hw requests left a b → IsReleaseRefused b r hw w → IsMoveRefused policy requests a hw w
+pub moved_refused : (policy : Policy) (hw : ℕ) (requests left : List (List Bio)) (r : List Bio) (rest : List (List Bio)) (a b : CoreState) (w : SimReason) → left ≡ r ∷ rest → IsMoved policy hw requests left a b → IsReleaseRefused b r hw w → IsMoveRefused policy requests a hw w
 moved_refused policy hw requests left r rest a b w first m refused = record {
   before = m.gone;
   bios = r;

@@ -10,8 +10,8 @@ use Rattle.blk_trace.specs.Depths.{depth_now}
 use Rattle.blk_core.specs.State.{CoreState}
 use Rattle.blk_core.specs.Calls.{Completes}
 use Rattle.blk_core.specs.Faults.{IsInFlight}
-use Rattle.blk_sim.specs.declared.refusal.SimWhy.{SimWhy}
-use Rattle.blk_sim.specs.declared.refusal.SimWhy.TheVariants as why
+use Rattle.blk_sim.specs.declared.refusal.SimReason.{SimReason}
+use Rattle.blk_sim.specs.declared.refusal.SimReason.TheVariants as why
 use Rattle.blk_sim.specs.Moves.{EnterInTurn, requests_in, served_requests, drained, DrainInTurn}
 use Rattle.blk_sim.specs.Rounds.{AsksQueue, queue_asked, GiveNothing, IssueInTurn, IssuesAll, CompleteInTurn, Works, Rounds}
 use Rattle.blk_sim.specs.Inside.Given.{IsGiven}
@@ -45,7 +45,7 @@ all_given policy tag a b c given f le chain h =
     }
 
 -- a completion that may be refused
-pub done_step : {X : Type 0} (policy : Policy) (n : ℕ) (a b c : CoreState) (r : Result X SimWhy) → CompleteInTurn policy n a b → OnOk r (Completes policy.told_done b n c) → IfErr r (λ w. (w ≡ why.NotIssued) × (IsInFlight b n → ⊥)) → OnErr r (c ≡ b) → CompleteInTurn policy (n + 1) a c
+pub done_step : {X : Type 0} (policy : Policy) (n : ℕ) (a b c : CoreState) (r : Result X SimReason) → CompleteInTurn policy n a b → OnOk r (Completes policy.told_done b n c) → IfErr r (λ w. (w ≡ why.NotIssued) × (IsInFlight b n → ⊥)) → OnErr r (c ≡ b) → CompleteInTurn policy (n + 1) a c
 done_step policy n a b c (Ok x) h done refused same = complete_done policy n a b c h done
 done_step policy n a b c (Err w) h done refused same = complete_passed policy n a b c h refused.1 same
 
@@ -105,15 +105,15 @@ rounds_of policy zero q q' a b c some le d h = absurd (omega (arith, le))
 rounds_of policy (suc n) q q' a b c some le d h = rounds_suc policy n q q' a b c d (all_empty policy a.setup.hw q q' a b some d) h
 
 -- a run that is refused in its first drains, or in one of its rounds
-pub drains_refused : (policy : Policy) (n : ℕ) (q : List Queue) (a : CoreState) (w : SimWhy) → 1 ≤ n → IsDrainInTurnRefused policy a.setup.hw q a w → IsRunRefused policy n q a w
+pub drains_refused : (policy : Policy) (n : ℕ) (q : List Queue) (a : CoreState) (w : SimReason) → 1 ≤ n → IsDrainInTurnRefused policy a.setup.hw q a w → IsRunRefused policy n q a w
 drains_refused policy n q a w le r = record { rounds = 0; few = omega (arith, le); between = q; middle = a; passed = rounds_none policy q a; refused = inl r }
 
-later_refused : (policy : Policy) (n k : ℕ) (q q' : List Queue) (a b m : CoreState) (w : SimWhy) → 0 < a.setup.hw → DrainInTurn policy a.setup.hw a.setup.hw q a q' b → k < n → WorkInTurn policy k b m → IsWorkRefused policy m w → IsRunRefused policy n q a w
+later_refused : (policy : Policy) (n k : ℕ) (q q' : List Queue) (a b m : CoreState) (w : SimReason) → 0 < a.setup.hw → DrainInTurn policy a.setup.hw a.setup.hw q a q' b → k < n → WorkInTurn policy k b m → IsWorkRefused policy m w → IsRunRefused policy n q a w
 unfolding WorkInTurn
 later_refused policy n zero q q' a b m w some d few h r = record { rounds = 0; few = few; between = q; middle = a; passed = rounds_none policy q a; refused = inr (q', b, d, subst (λ x. IsWorkRefused policy x w) h r) }
 later_refused policy n (suc k) q q' a b m w some d few h r =
     let empty : AreEmpty q' = all_empty policy a.setup.hw q q' a b some d in
     record { rounds = suc k; few = few; between = q'; middle = m; passed = rounds_suc policy k q q' a b m d empty h; refused = inr (q', m, turn_idle policy m.setup.hw m.setup.hw q' m empty, r) }
 
-pub work_refused : (policy : Policy) (n : ℕ) (q q' : List Queue) (a b : CoreState) (w : SimWhy) → 0 < a.setup.hw → DrainInTurn policy a.setup.hw a.setup.hw q a q' b → IsWorkInTurnRefused policy n b w → IsRunRefused policy n q a w
+pub work_refused : (policy : Policy) (n : ℕ) (q q' : List Queue) (a b : CoreState) (w : SimReason) → 0 < a.setup.hw → DrainInTurn policy a.setup.hw a.setup.hw q a q' b → IsWorkInTurnRefused policy n b w → IsRunRefused policy n q a w
 work_refused policy n q q' a b w some d r = later_refused policy n r.rounds q q' a b r.middle w some d r.few r.worked r.refused

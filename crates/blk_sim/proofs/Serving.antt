@@ -10,7 +10,7 @@ use Rattle.std.proofs.Math.Nat.{lt_of_mul-lt-mul_right}
 use Rattle.blk_bio.specs.Bios.{Bio}
 use Rattle.blk_queues.specs.Queues.{Queue}
 use Rattle.blk_core.specs.State.{CoreState}
-use Rattle.blk_sim.specs.declared.refusal.SimWhy.{SimWhy}
+use Rattle.blk_sim.specs.declared.refusal.SimReason.{SimReason}
 use Rattle.blk_sim.specs.Moves.{EnterInTurn, requests_in, served_requests, drained}
 use Rattle.blk_sim.specs.Refusals.{IsMoveRefused}
 use Rattle.blk_sim.proofs.Chains.{enter_both}
@@ -60,7 +60,7 @@ enter_next policy queues hw h n q a b c at e t u =
 pub enter_pass : (policy : Policy) (queues : List Queue) (hw h n : ℕ) (a b : CoreState) → (n % hw) ≢ h → EnterInTurn policy h (served_requests queues hw h n) a b → EnterInTurn policy h (served_requests queues hw h (n + 1)) a b
 enter_pass policy queues hw h n a b ne t = subst (λ l. EnterInTurn policy h l a b) (sym (served_pass queues hw h n ne)) t
 
-pub move_later : (policy : Policy) (queues : List Queue) (hw h s n : ℕ) (q : Queue) (a b : CoreState) (w : SimWhy) → s < n → slice_get queues s ≡ Some q → (s % hw) ≡ h → EnterInTurn policy h (served_requests queues hw h s) a b → IsMoveRefused policy q.requests b h w → IsMoveRefused policy (served_requests queues hw h n) a h w
+pub move_later : (policy : Policy) (queues : List Queue) (hw h s n : ℕ) (q : Queue) (a b : CoreState) (w : SimReason) → s < n → slice_get queues s ≡ Some q → (s % hw) ≡ h → EnterInTurn policy h (served_requests queues hw h s) a b → IsMoveRefused policy q.requests b h w → IsMoveRefused policy (served_requests queues hw h n) a h w
 move_later policy queues hw h s n q a b w lt at e t r =
     let p = part queues hw h s n q lt at e in
     let front : List (List Bio) = served_requests queues hw h s in

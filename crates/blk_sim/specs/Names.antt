@@ -1,9 +1,9 @@
 -- The names of faults, as they are printed.
 use Rattle.std.specs.Prelude.{ℕ, List, codes}
-use Rattle.blk_sim.specs.declared.refusal.SimWhy.{SimWhy}
-use Rattle.blk_sim.specs.declared.refusal.SimWhy.TheVariants as step
+use Rattle.blk_sim.specs.declared.refusal.SimReason.{SimReason}
+use Rattle.blk_sim.specs.declared.refusal.SimReason.TheVariants as step
 
-abbrev pub step_name : SimWhy → List ℕ
+abbrev pub step_name : SimReason → List ℕ
 step_name step.Full = codes "Full"
 step_name (step.SoftFull o) = codes "SoftFull"
 step_name (step.Repeated id) = codes "Repeated"

@@ -25,8 +25,8 @@ use Rattle.blk_text.specs.declared.script.Line.{Line}
 use Rattle.blk_text.specs.declared.script.Line.TheVariants as line
 use Rattle.blk_sim.specs.declared.refusal.Overflow.{Overflow}
 use Rattle.blk_sim.specs.declared.refusal.SimFault.{SimFault}
-use Rattle.blk_sim.specs.declared.refusal.SimWhy.{SimWhy}
-use Rattle.blk_sim.specs.declared.refusal.SimWhy.TheVariants as why
+use Rattle.blk_sim.specs.declared.refusal.SimReason.{SimReason}
+use Rattle.blk_sim.specs.declared.refusal.SimReason.TheVariants as why
 use Rattle.blk_sim.specs.declared.simulation.TheConstants.{FIRST_STEP, SETUP_RECORD}
 use Rattle.blk_sim.specs.State.{SimState, start_of}
 use Rattle.blk_sim.specs.Moves.{EnterInTurn, DrainInTurn, DrainsAll, served_requests}
@@ -35,39 +35,39 @@ use Rattle.blk_sched.specs.Policies.{Policy}
 use Rattle.blk_sim.specs.Runs.{Runs}
 
 -- a step's reason for what a plug, a release, an issue, a Back, a Depth and a tick are refused for; the hardware queues are there
-abbrev pub added_why : PlugFault → SimWhy
+abbrev pub added_why : PlugFault → SimReason
 added_why plug.Full = why.Full
 added_why plug.Memory = why.Memory
 
-abbrev pub released_why : CoreFault → Option SimWhy
+abbrev pub released_why : CoreFault → Option SimReason
 released_why release.NoQueue = None
 released_why (release.Repeated id) = Some (why.Repeated id)
 released_why release.TraceFull = Some why.TraceFull
 released_why release.Memory = Some why.Memory
 
-abbrev pub issued_why : IssueFault → Option SimWhy
+abbrev pub issued_why : IssueFault → Option SimReason
 issued_why issue.NoQueue = None
 issued_why issue.TagRange = Some why.TagRange
 issued_why issue.SlotUsed = Some why.SlotUsed
 issued_why issue.TraceFull = Some why.TraceFull
 issued_why issue.Memory = Some why.Memory
 
-abbrev pub back_why : BackFault → SimWhy
+abbrev pub back_why : BackFault → SimReason
 back_why back.NotIssued = why.NotIssued
 back_why back.Memory = why.Memory
 
-abbrev pub depth_why : DepthFault → SimWhy
+abbrev pub depth_why : DepthFault → SimReason
 depth_why depth.TraceFull = why.TraceFull
 depth_why depth.DepthRange = why.DepthRange
 depth_why depth.Memory = why.Memory
 
-abbrev pub ticked_why : TickFault → SimWhy
+abbrev pub ticked_why : TickFault → SimReason
 ticked_why (tick.InFlight n) = why.InFlight
 ticked_why tick.TraceFull = why.TraceFull
 ticked_why tick.Memory = why.Memory
 
 -- a plug refuses a bio
-abbrev pub IsAddRefused : Plug → Bio → SimWhy → Type 0
+abbrev pub IsAddRefused : Plug → Bio → SimReason → Type 0
 IsAddRefused plug bio w = (fault : PlugFault) × IsPlugFault plug bio fault × (w ≡ added_why fault)
 
 -- a software queue has no room for all requests of a plug
@@ -79,32 +79,32 @@ abbrev pub overflow_of : Queue → Plug → Overflow
 overflow_of queue plug = record { holds = length queue.requests; brings = length plug.requests; room = queue.depth }
 
 -- the core refuses a request, an issue, a Back, a Depth and a tick
-abbrev pub IsReleaseRefused : CoreState → List Bio → ℕ → SimWhy → Type 0
+abbrev pub IsReleaseRefused : CoreState → List Bio → ℕ → SimReason → Type 0
 IsReleaseRefused core bios hw w = (fault : CoreFault) × IsReleaseFault core bios hw fault × (released_why fault ≡ Some w)
 
-abbrev pub IsIssueRefused : CoreState → ℕ → ℕ → SimWhy → Type 0
+abbrev pub IsIssueRefused : CoreState → ℕ → ℕ → SimReason → Type 0
 IsIssueRefused core hw tag w = (fault : IssueFault) × IsIssueFault core hw tag fault × (issued_why fault ≡ Some w)
 
-abbrev pub IsBackRefused : CoreState → ℕ → SimWhy → Type 0
+abbrev pub IsBackRefused : CoreState → ℕ → SimReason → Type 0
 IsBackRefused core tag w = (fault : BackFault) × IsBackFault core tag fault × (w ≡ back_why fault)
 
-abbrev pub IsDepthRefused : CoreState → ℕ → SimWhy → Type 0
+abbrev pub IsDepthRefused : CoreState → ℕ → SimReason → Type 0
 IsDepthRefused core n w = (fault : DepthFault) × IsDepthFault core n fault × (w ≡ depth_why fault)
 
-abbrev pub IsTickRefused : CoreState → SimWhy → Type 0
+abbrev pub IsTickRefused : CoreState → SimReason → Type 0
 IsTickRefused core w = (fault : TickFault) × IsTickFault core fault × (w ≡ ticked_why fault)
 
 -- the plug of the bio's submitter refuses it
-abbrev pub IsBioRefused : List Plug → Bio → SimWhy → Type 0
+abbrev pub IsBioRefused : List Plug → Bio → SimReason → Type 0
 IsBioRefused plugs b w = (own : Plug) × (slice_get plugs b.id.submitter ≡ Some own) × IsAddRefused own b w
 
 -- the software queue of the submitter has no room for its plug
-abbrev pub IsFlushRefused : List Plug → List Queue → ℕ → SimWhy → Type 0
+abbrev pub IsFlushRefused : List Plug → List Queue → ℕ → SimReason → Type 0
 IsFlushRefused plugs queues s w =
     (own : Plug) × (to : Queue) × (slice_get plugs s ≡ Some own) × (slice_get queues s ≡ Some to) × (w ≡ why.SoftFull (overflow_of to own)) × IsOverfull to own
 
 -- of requests that enter one after the other the core refuses one, those before it having entered
-pub record IsMoveRefused (policy : Policy) (requests : List (List Bio)) (core : CoreState) (hw : ℕ) (w : SimWhy) : Type 0 where
+pub record IsMoveRefused (policy : Policy) (requests : List (List Bio)) (core : CoreState) (hw : ℕ) (w : SimReason) : Type 0 where
   pub before : List (List Bio)
   pub bios : List Bio
   pub after : List (List Bio)
@@ -114,11 +114,11 @@ pub record IsMoveRefused (policy : Policy) (requests : List (List Bio)) (core : 
   pub refused : IsReleaseRefused middle bios hw w
 
 -- of the requests of the software queues that a hardware queue of `count` serves the core refuses one
-abbrev pub IsDrainRefused : Policy → ℕ → ℕ → List Queue → CoreState → SimWhy → Type 0
+abbrev pub IsDrainRefused : Policy → ℕ → ℕ → List Queue → CoreState → SimReason → Type 0
 IsDrainRefused policy count hw queues core w = IsMoveRefused policy (served_requests queues count hw (length queues)) core hw w
 
 -- the hardware queues below one of `count` were drained in turn, and its own drain is refused
-pub record IsDrainInTurnRefused (policy : Policy) (count : ℕ) (queues : List Queue) (core : CoreState) (w : SimWhy) : Type 0 where
+pub record IsDrainInTurnRefused (policy : Policy) (count : ℕ) (queues : List Queue) (core : CoreState) (w : SimReason) : Type 0 where
   pub hw : ℕ
   pub below : hw < count
   pub between : List Queue
@@ -128,7 +128,7 @@ pub record IsDrainInTurnRefused (policy : Policy) (count : ℕ) (queues : List Q
 
 -- of the hardware queues that are asked for a tag the first gave nothing, and the issue of the next one is refused, for
 -- another reason than that the tag was issued in the round
-pub record IsAskRefused (policy : Policy) (tag : ℕ) (core : CoreState) (w : SimWhy) : Type 0 where
+pub record IsAskRefused (policy : Policy) (tag : ℕ) (core : CoreState) (w : SimReason) : Type 0 where
   pub place : ℕ
   pub below : place < core.setup.hw
   pub nothing : GiveNothing policy tag place core
@@ -136,7 +136,7 @@ pub record IsAskRefused (policy : Policy) (tag : ℕ) (core : CoreState) (w : Si
   pub refused : IsIssueRefused core (queue_asked core.setup.hw tag place) tag w
 
 -- the tags below one were done with, and its own is refused
-pub record IsIssueInTurnRefused (policy : Policy) (core : CoreState) (w : SimWhy) : Type 0 where
+pub record IsIssueInTurnRefused (policy : Policy) (core : CoreState) (w : SimReason) : Type 0 where
   pub tag : ℕ
   pub below : tag < depth_now core.setup core.events
   pub middle : CoreState
@@ -144,7 +144,7 @@ pub record IsIssueInTurnRefused (policy : Policy) (core : CoreState) (w : SimWhy
   pub refused : IsAskRefused policy tag middle w
 
 -- all was issued and completed, and the tick is refused
-pub record IsEndRefused (policy : Policy) (core : CoreState) (w : SimWhy) : Type 0 where
+pub record IsEndRefused (policy : Policy) (core : CoreState) (w : SimReason) : Type 0 where
   pub busy : CoreState
   pub idle : CoreState
   pub issues : IssuesAll policy core busy
@@ -152,18 +152,18 @@ pub record IsEndRefused (policy : Policy) (core : CoreState) (w : SimWhy) : Type
   pub refused : IsTickRefused idle w
 
 -- what a round does once the hardware queues are drained is refused
-abbrev pub IsWorkRefused : Policy → CoreState → SimWhy → Type 0
+abbrev pub IsWorkRefused : Policy → CoreState → SimReason → Type 0
 IsWorkRefused policy core w = IsIssueInTurnRefused policy core w ⊎ IsEndRefused policy core w
 
 -- a round is refused in its drains, or after them
-abbrev pub IsRoundRefused : Policy → List Queue → CoreState → SimWhy → Type 0
+abbrev pub IsRoundRefused : Policy → List Queue → CoreState → SimReason → Type 0
 IsRoundRefused policy queues core w =
     IsDrainInTurnRefused policy core.setup.hw queues core w
     ⊎ ((between : List Queue) × (middle : CoreState) × DrainsAll policy queues core between middle
     × IsWorkRefused policy middle w)
 
 -- of n rounds some passed, and the next is refused
-pub record IsRunRefused (policy : Policy) (count : ℕ) (queues : List Queue) (core : CoreState) (w : SimWhy) : Type 0 where
+pub record IsRunRefused (policy : Policy) (count : ℕ) (queues : List Queue) (core : CoreState) (w : SimReason) : Type 0 where
   pub rounds : ℕ
   pub few : rounds < count
   pub between : List Queue
@@ -172,7 +172,7 @@ pub record IsRunRefused (policy : Policy) (count : ℕ) (queues : List Queue) (c
   pub refused : IsRoundRefused policy between middle w
 
 -- why a step is refused in a simulation
-abbrev pub IsStepRefused : Policy → SimState → Line → SimWhy → Type 0
+abbrev pub IsStepRefused : Policy → SimState → Line → SimReason → Type 0
 IsStepRefused policy state (line.Bio b) w = IsBioRefused state.plugs b w
 IsStepRefused policy state (line.Flush s) w = IsFlushRefused state.plugs state.queues s w
 IsStepRefused policy state (line.Drain hw) w = IsDrainRefused policy state.core.setup.hw hw state.queues state.core w
@@ -185,7 +185,7 @@ IsStepRefused policy state (line.Run n) w = IsRunRefused policy n state.queues s
 
 -- the steps before a place are accepted, one after the other from the script's start, and the step at the place is refused
 -- in the simulation that they lead to
-pub record IsRefusedAt (policy : Policy) (script : Scripted) (meaning : Meaning) (kept : List ℕ) (place : ℕ) (w : SimWhy) : Type 0 where
+pub record IsRefusedAt (policy : Policy) (script : Scripted) (meaning : Meaning) (kept : List ℕ) (place : ℕ) (w : SimReason) : Type 0 where
   pub state : SimState
   pub step : Line
   pub at : slice_get script.lines place ≡ Some step

@@ -8,5 +8,5 @@ mod rounds;
 mod simulation;
 mod steps;
 
-pub use refusal::{Overflow, SimFault, SimWhy};
+pub use refusal::{Overflow, SimFault, SimReason};
 pub use simulation::{FIRST_STEP, SETUP_RECORD, simulate};

@@ -22,7 +22,7 @@ pub struct Overflow {
 
 /// Why a step of a script is refused.
 #[derive(Clone, Copy, Debug, PartialEq, Eq)]
-pub enum SimWhy {
+pub enum SimReason {
     /// The plug has as many requests as it may, and the bio joins none of them.
     Full,
     /// The software queue has no room for a request of the plug.
@@ -45,12 +45,12 @@ pub enum SimWhy {
     Memory,
 }
 
-impl SimWhy {
+impl SimReason {
     /// Its name, which the program prints.
     pub fn name(self) -> &'static str
         ensures { result.now ≡ step_name self }
     {
-        variant_name!(self: SimWhy {
+        variant_name!(self: SimReason {
             Full,
             SoftFull(_),
             Repeated(_),
@@ -72,74 +72,74 @@ pub struct SimFault {
     /// memory ran out before the first step it is 2.
     pub at: u64,
     /// The reason.
-    pub why: SimWhy,
+    pub why: SimReason,
 }
 
 /// Why the core refuses a release for one of its hardware queues.
-pub(crate) fn why_released(fault: CoreFault) -> SimWhy
+pub(crate) fn why_released(fault: CoreFault) -> SimReason
     requires { fault ≢ CoreFault.NoQueue }
     ensures { released_why fault ≡ Some result }
 {
     match fault {
         CoreFault::NoQueue => unreachable!(),
-        CoreFault::Repeated(id) => SimWhy::Repeated(id),
-        CoreFault::TraceFull => SimWhy::TraceFull,
-        CoreFault::Memory => SimWhy::Memory,
+        CoreFault::Repeated(id) => SimReason::Repeated(id),
+        CoreFault::TraceFull => SimReason::TraceFull,
+        CoreFault::Memory => SimReason::Memory,
     }
 }
 
 /// Why the core refuses an issue to one of its hardware queues.
-pub(crate) fn why_issued(fault: IssueFault) -> SimWhy
+pub(crate) fn why_issued(fault: IssueFault) -> SimReason
     requires { fault ≢ IssueFault.NoQueue }
     ensures { issued_why fault ≡ Some result }
 {
     match fault {
         IssueFault::NoQueue => unreachable!(),
-        IssueFault::TagRange => SimWhy::TagRange,
-        IssueFault::SlotUsed => SimWhy::SlotUsed,
-        IssueFault::TraceFull => SimWhy::TraceFull,
-        IssueFault::Memory => SimWhy::Memory,
+        IssueFault::TagRange => SimReason::TagRange,
+        IssueFault::SlotUsed => SimReason::SlotUsed,
+        IssueFault::TraceFull => SimReason::TraceFull,
+        IssueFault::Memory => SimReason::Memory,
     }
 }
 
 /// Why the core requeues no command.
-pub(crate) fn why_kept(fault: BackFault) -> SimWhy
+pub(crate) fn why_kept(fault: BackFault) -> SimReason
     ensures { result ≡ back_why fault }
 {
     match fault {
-        BackFault::NotIssued => SimWhy::NotIssued,
-        BackFault::Memory => SimWhy::Memory,
+        BackFault::NotIssued => SimReason::NotIssued,
+        BackFault::Memory => SimReason::Memory,
     }
 }
 
 /// Why the core refuses a depth.
-pub(crate) fn why_unset(fault: DepthFault) -> SimWhy
+pub(crate) fn why_unset(fault: DepthFault) -> SimReason
     ensures { result ≡ depth_why fault }
 {
     match fault {
-        DepthFault::TraceFull => SimWhy::TraceFull,
-        DepthFault::DepthRange => SimWhy::DepthRange,
-        DepthFault::Memory => SimWhy::Memory,
+        DepthFault::TraceFull => SimReason::TraceFull,
+        DepthFault::DepthRange => SimReason::DepthRange,
+        DepthFault::Memory => SimReason::Memory,
     }
 }
 
 /// Why the core refuses a tick.
-pub(crate) fn why_ticked(fault: TickFault) -> SimWhy
+pub(crate) fn why_ticked(fault: TickFault) -> SimReason
     ensures { result ≡ ticked_why fault }
 {
     match fault {
-        TickFault::InFlight(_) => SimWhy::InFlight,
-        TickFault::TraceFull => SimWhy::TraceFull,
-        TickFault::Memory => SimWhy::Memory,
+        TickFault::InFlight(_) => SimReason::InFlight,
+        TickFault::TraceFull => SimReason::TraceFull,
+        TickFault::Memory => SimReason::Memory,
     }
 }
 
 /// Why a plug refuses a bio.
-pub(crate) fn why_added(fault: PlugFault) -> SimWhy
+pub(crate) fn why_added(fault: PlugFault) -> SimReason
     ensures { result ≡ added_why fault }
 {
     match fault {
-        PlugFault::Full => SimWhy::Full,
-        PlugFault::Memory => SimWhy::Memory,
+        PlugFault::Full => SimReason::Full,
+        PlugFault::Memory => SimReason::Memory,
     }
 }

@@ -9,7 +9,7 @@ ghost use Rattle.blk_sim.specs.Inside.Given.{IsGiven};
 ghost use Rattle.blk_sim.specs.Refusals.{IsAskRefused, IsIssueInTurnRefused, IsWorkRefused, IsDrainInTurnRefused, IsRunRefused};
 ghost use Rattle.blk_sim.specs.Inside.Working.{WorkInTurn, IsWorkInTurnRefused};
 
-use crate::refusal::SimWhy;
+use crate::refusal::SimReason;
 use crate::steps::{done, drain, issue, tick};
 use blk_core::Core;
 use blk_core::laws::{listed_issues_are_open, open_picks_are_open_issues};
@@ -19,10 +19,10 @@ use edd_commands::MAX_DEPTH;
 
 /// Asks the hardware queues in turn for a command under a tag until one gives one, and says whether one did. The first that is
 /// asked is the tag modulo their number, and behind the last comes queue 0.
-fn issue_tag<S: Scheduler>(core: &mut Core<S>, tag: u16) -> Result<bool, SimWhy>
+fn issue_tag<S: Scheduler>(core: &mut Core<S>, tag: u16) -> Result<bool, SimReason>
     ensures given { IfOk result (λ given. IsGiven S.policy tag core.old given core.new) }
-    ensures used { IfErr result (λ w. w ≡ SimWhy.SlotUsed → IsUsed core.old.events tag) }
-    ensures refused { IfErr result (λ w. w ≢ SimWhy.SlotUsed → IsAskRefused S.policy tag core.old w) }
+    ensures used { IfErr result (λ w. w ≡ SimReason.SlotUsed → IsUsed core.old.events tag) }
+    ensures refused { IfErr result (λ w. w ≢ SimReason.SlotUsed → IsAskRefused S.policy tag core.old w) }
     ensures same { OnErr result (core.new ≡ core.old) }
 {
     let count = core.trace().setup().hw();
@@ -38,17 +38,17 @@ fn issue_tag<S: Scheduler>(core: &mut Core<S>, tag: u16) -> Result<bool, SimWhy>
 }
 
 /// Whether an issue was refused because its tag was used in the round.
-fn is_used(why: SimWhy) -> bool
-    ensures { IsTrue result ↔ (why ≡ SimWhy.SlotUsed) }
+fn is_used(why: SimReason) -> bool
+    ensures { IsTrue result ↔ (why ≡ SimReason.SlotUsed) }
 {
     match why {
-        SimWhy::SlotUsed => true,
+        SimReason::SlotUsed => true,
         _ => false,
     }
 }
 
 /// Issues under each tag below the depth of this round that was not used in it, rising, until nothing more is given.
-fn issue_all<S: Scheduler>(core: &mut Core<S>) -> Result<(), SimWhy>
+fn issue_all<S: Scheduler>(core: &mut Core<S>) -> Result<(), SimReason>
     ensures issued { OnOk result (IssuesAll S.policy core.old core.new) }
     ensures refused { IfErr result (λ w. IsIssueInTurnRefused S.policy core.old w) }
 {
@@ -85,7 +85,7 @@ fn complete_all<S: Scheduler>(core: &mut Core<S>)
 }
 
 /// One round: what can be issued is issued and completed, and the round ends.
-fn work<S: Scheduler>(core: &mut Core<S>) -> Result<(), SimWhy>
+fn work<S: Scheduler>(core: &mut Core<S>) -> Result<(), SimReason>
     ensures worked { OnOk result (Works S.policy core.old core.new) }
     ensures refused { IfErr result (λ w. IsWorkRefused S.policy core.old w) }
 {
@@ -96,7 +96,7 @@ fn work<S: Scheduler>(core: &mut Core<S>) -> Result<(), SimWhy>
 }
 
 /// `count` rounds of the core alone.
-fn work_rounds<S: Scheduler>(core: &mut Core<S>, count: u64) -> Result<(), SimWhy>
+fn work_rounds<S: Scheduler>(core: &mut Core<S>, count: u64) -> Result<(), SimReason>
     ensures worked { OnOk result (WorkInTurn S.policy count core.old core.new) }
     ensures refused { IfErr result (λ w. IsWorkInTurnRefused S.policy count core.old w) }
 {
@@ -110,7 +110,7 @@ fn work_rounds<S: Scheduler>(core: &mut Core<S>, count: u64) -> Result<(), SimWh
 fn drain_all<S: Scheduler>(
     core: &mut Core<S>,
     queues: &mut Vec<SoftQueue<S::A>, S::A>,
-) -> Result<(), SimWhy>
+) -> Result<(), SimReason>
     requires limits { (s : ℕ) (queue : QueueFields) → slice_get queues.old.items s ≡ Some queue → queue.limits ≡ core.old.setup.limits }
     ensures some { 0 < core.old.setup.hw }
     ensures drained { OnOk result (DrainsAll S.policy queues.old.items core.old queues.new.items core.new) }
@@ -129,7 +129,7 @@ pub(crate) fn run<S: Scheduler>(
     core: &mut Core<S>,
     queues: &mut Vec<SoftQueue<S::A>, S::A>,
     count: u64,
-) -> Result<(), SimWhy>
+) -> Result<(), SimReason>
     requires some { 1 ≤ count }
     requires limits { (s : ℕ) (queue : QueueFields) → slice_get queues.old.items s ≡ Some queue → queue.limits ≡ core.old.setup.limits }
     ensures passed { OnOk result (Rounds S.policy count queues.old.items core.old queues.new.items core.new) }

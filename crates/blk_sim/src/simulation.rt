@@ -12,7 +12,7 @@ ghost use Rattle.blk_sim.specs.Runs.{Steps, LeadsTo};
 ghost use Rattle.blk_sim.specs.Refusals.{IsSimFault, IsStepRefused};
 ghost use Rattle.blk_sim.specs.Simulated.{IsReady};
 
-use crate::refusal::{SimFault, SimWhy};
+use crate::refusal::{SimFault, SimReason};
 use crate::rounds::run;
 use crate::steps::{add, back, done, drain, flush, issue, set_depth, tick};
 use blk_bio::Limits;
@@ -123,7 +123,7 @@ impl<S: Scheduler> Simulation<S> {
     }
 
     /// Runs one step.
-    fn step(&mut self, line: Line) -> Result<(), SimWhy>
+    fn step(&mut self, line: Line) -> Result<(), SimReason>
         requires ready { IsReady MAX_BIOS self.old }
         requires fits { LineFits self.old.core.setup.hw (length self.old.plugs) line }
         ensures stepped { OnOk result (Steps S.policy self.old line self.new) }
@@ -191,7 +191,7 @@ pub fn simulate<S: Scheduler>(
     let Ok(mut simulation) = Simulation::new(alloc, script, scheduler) else {
         return Err(SimFault {
             at: SETUP_RECORD,
-            why: SimWhy::Memory,
+            why: SimReason::Memory,
         });
     };
     for (place, line) in script.lines.iter().enumerate() {

@@ -12,7 +12,7 @@ ghost use Rattle.blk_sim.specs.Simulated.{HaveCome};
 ghost use Rattle.blk_sim.specs.Inside.Limits.{ShareLimits};
 
 use crate::refusal::{
-    Overflow, SimWhy, why_added, why_issued, why_kept, why_released, why_ticked, why_unset,
+    Overflow, SimReason, why_added, why_issued, why_kept, why_released, why_ticked, why_unset,
 };
 use blk_bio::{Bio, Request};
 use blk_core::Core;
@@ -23,7 +23,11 @@ use edd_commands::Command;
 use std::alloc::Allocator;
 
 /// Releases a request into the core.
-fn release<S: Scheduler>(core: &mut Core<S>, request: Request<S::A>, hw: u8) -> Result<(), SimWhy>
+fn release<S: Scheduler>(
+    core: &mut Core<S>,
+    request: Request<S::A>,
+    hw: u8,
+) -> Result<(), SimReason>
     requires queue { hw < core.old.setup.hw }
     requires within { IsWithin core.old.setup.limits request }
     ensures entered { OnOk result (EntersCore S.policy hw request core.old core.new) }
@@ -41,7 +45,7 @@ pub(crate) fn issue<S: Scheduler>(
     core: &mut Core<S>,
     hw: u8,
     tag: u16,
-) -> Result<Option<Command>, SimWhy>
+) -> Result<Option<Command>, SimReason>
     requires { hw < core.old.setup.hw }
     ensures asked { IfOk result (λ found. AsksQueue S.policy hw tag core.old found core.new) }
     ensures refused { IfErr result (λ w. IsIssueRefused core.old hw tag w) }
@@ -55,19 +59,19 @@ pub(crate) fn issue<S: Scheduler>(
 }
 
 /// Completes what is in flight under a tag.
-pub(crate) fn done<S: Scheduler>(core: &mut Core<S>, tag: u16) -> Result<(), SimWhy>
+pub(crate) fn done<S: Scheduler>(core: &mut Core<S>, tag: u16) -> Result<(), SimReason>
     ensures completed { OnOk result (Completes S.policy.told_done core.old tag core.new) }
-    ensures refused { IfErr result (λ w. (w ≡ SimWhy.NotIssued) × (IsInFlight core.old tag → ⊥)) }
+    ensures refused { IfErr result (λ w. (w ≡ SimReason.NotIssued) × (IsInFlight core.old tag → ⊥)) }
     ensures same { OnErr result (core.new ≡ core.old) }
 {
     match core.done(tag) {
         Ok(()) => Ok(()),
-        Err(_) => Err(SimWhy::NotIssued),
+        Err(_) => Err(SimReason::NotIssued),
     }
 }
 
 /// Requeues what is in flight under a tag, as a busy device does.
-pub(crate) fn back<S: Scheduler>(core: &mut Core<S>, tag: u16) -> Result<(), SimWhy>
+pub(crate) fn back<S: Scheduler>(core: &mut Core<S>, tag: u16) -> Result<(), SimReason>
     ensures back { OnOk result ((id : ℕ) × RequeuesTag core.old tag id core.new) }
     ensures refused { IfErr result (λ w. IsBackRefused core.old tag w) }
 {
@@ -78,7 +82,7 @@ pub(crate) fn back<S: Scheduler>(core: &mut Core<S>, tag: u16) -> Result<(), Sim
 }
 
 /// Sets how many commands the rounds after this one carry.
-pub(crate) fn set_depth<S: Scheduler>(core: &mut Core<S>, depth: u64) -> Result<(), SimWhy>
+pub(crate) fn set_depth<S: Scheduler>(core: &mut Core<S>, depth: u64) -> Result<(), SimReason>
     ensures set { OnOk result (CanSetDepth core.old depth × SetsDepth core.old depth core.new) }
     ensures refused { IfErr result (λ w. IsDepthRefused core.old depth w) }
 {
@@ -89,7 +93,7 @@ pub(crate) fn set_depth<S: Scheduler>(core: &mut Core<S>, depth: u64) -> Result<
 }
 
 /// Ends the round.
-pub(crate) fn tick<S: Scheduler>(core: &mut Core<S>) -> Result<(), SimWhy>
+pub(crate) fn tick<S: Scheduler>(core: &mut Core<S>) -> Result<(), SimReason>
     ensures ticked { OnOk result (Ticks S.policy core.old core.new) }
     ensures refused { IfErr result (λ w. IsTickRefused core.old w) }
 {
@@ -104,13 +108,13 @@ pub(crate) fn tick<S: Scheduler>(core: &mut Core<S>) -> Result<(), SimWhy>
 fn flush_plug<A: Allocator + Clone>(
     plug: &mut Plug<A>,
     queue: &mut SoftQueue<A>,
-) -> Result<(), SimWhy>
+) -> Result<(), SimReason>
     requires limits { plug.old.limits ≡ queue.old.limits }
     requires few { queue.old.bios_in + length (bios_in plug.old.requests) ≤ MAX_BIOS }
     ensures emptied { OnOk result (plug.new ≡ flushed_plug plug.old) }
     ensures moved { OnOk result (queue.new ≡ with_requests queue.old plug.old.requests) }
     ensures room { OnOk result (HasSoftRoom queue.old plug.old) }
-    ensures refused { IfErr result (λ w. (w ≡ SimWhy.SoftFull (overflow_of queue.old plug.old)) × IsOverfull queue.old plug.old) }
+    ensures refused { IfErr result (λ w. (w ≡ SimReason.SoftFull (overflow_of queue.old plug.old)) × IsOverfull queue.old plug.old) }
 {
     prove!(queue.len() as u64 <= queue.depth());
     let overflow = Overflow {
@@ -120,7 +124,7 @@ fn flush_plug<A: Allocator + Clone>(
     };
     while let Some(request) = plug.take_first() {
         let Ok(()) = queue.put(request) else {
-            return Err(SimWhy::SoftFull(overflow));
+            return Err(SimReason::SoftFull(overflow));
         };
     }
     Ok(())
@@ -131,7 +135,7 @@ fn drain_queue<S: Scheduler>(
     core: &mut Core<S>,
     queue: &mut SoftQueue<S::A>,
     hw: u8,
-) -> Result<(), SimWhy>
+) -> Result<(), SimReason>
     requires queue { hw < core.old.setup.hw }
     requires limits { queue.old.limits ≡ core.old.setup.limits }
     ensures emptied { OnOk result (queue.new ≡ drained queue.old) }
@@ -150,7 +154,7 @@ pub(crate) fn drain<S: Scheduler>(
     core: &mut Core<S>,
     queues: &mut Vec<SoftQueue<S::A>, S::A>,
     hw: u8,
-) -> Result<(), SimWhy>
+) -> Result<(), SimReason>
     requires queue { hw < core.old.setup.hw }
     requires limits { (s : ℕ) (queue : QueueFields) → slice_get queues.old.items s ≡ Some queue → queue.limits ≡ core.old.setup.limits }
     ensures drained { OnOk result (Drains S.policy core.old.setup.hw hw queues.old.items core.old queues.new.items core.new) }
@@ -166,7 +170,10 @@ pub(crate) fn drain<S: Scheduler>(
 }
 
 /// Adds a bio to its submitter's plug.
-pub(crate) fn add<A: Allocator + Clone>(plugs: &mut Vec<Plug<A>, A>, bio: Bio) -> Result<(), SimWhy>
+pub(crate) fn add<A: Allocator + Clone>(
+    plugs: &mut Vec<Plug<A>, A>,
+    bio: Bio,
+) -> Result<(), SimReason>
     requires { bio.id.submitter < length plugs.old.items }
     ensures added { OnOk result (AddsBio plugs.old.items bio plugs.new.items) }
     ensures refused { IfErr result (λ w. IsBioRefused plugs.old.items bio w) }
@@ -183,7 +190,7 @@ pub(crate) fn flush<A: Allocator + Clone>(
     plugs: &mut Vec<Plug<A>, A>,
     queues: &mut Vec<SoftQueue<A>, A>,
     submitter: u8,
-) -> Result<(), SimWhy>
+) -> Result<(), SimReason>
     requires submitter { submitter < length plugs.old.items }
     requires counts { length queues.old.items ≡ length plugs.old.items }
     requires limits { ShareLimits plugs.old.items queues.old.items }

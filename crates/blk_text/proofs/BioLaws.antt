@@ -5,15 +5,15 @@ use Rattle.blk_bio.specs.Bios.{Bio, IsBio, IsBioAnswer}
 use Rattle.blk_bio.specs.declared.bio.BioFault.{BioFault}
 use Rattle.blk_bio.specs.declared.bio.Dir.{Dir}
 use Rattle.blk_bio.specs.Letters.{direction_text}
-use Rattle.blk_lists.specs.Sources.{Row}
-use Rattle.blk_lists.specs.Fields.{Lacks, FieldsSpell}
-use Rattle.blk_lists.specs.Words.{StartsWith}
-use Rattle.blk_lists.specs.Reads.{IsRowOf, IsWrongRecord}
-use Rattle.blk_lists.specs.Tables.{FitsCells, slots_by}
-use Rattle.blk_lists.specs.declared.fault.Why.{Why}
-use Rattle.blk_lists.specs.declared.fault.Why.TheVariants as why
-use Rattle.blk_lists.specs.declared.fields.Slot.TheVariants as slot
-use Rattle.blk_lists.proofs.TableLaws.{word_line}
+use Rattle.blk_records.specs.Sources.{Row}
+use Rattle.blk_records.specs.Fields.{Lacks, FieldsSpell}
+use Rattle.blk_records.specs.Words.{StartsWith}
+use Rattle.blk_records.specs.Reads.{IsRowOf, IsWrongRecord}
+use Rattle.blk_records.specs.Tables.{FitsCells, slots_by}
+use Rattle.blk_records.specs.declared.fault.TextReason.{TextReason}
+use Rattle.blk_records.specs.declared.fault.TextReason.TheVariants as why
+use Rattle.blk_records.specs.declared.fields.Slot.TheVariants as slot
+use Rattle.blk_records.proofs.TableLaws.{word_line}
 use Rattle.blk_text.specs.BioTable.{bio_cells}
 use Rattle.blk_text.specs.Inside.BioTable.{bio_record, bio_row}
 
@@ -44,5 +44,5 @@ no_bio_of_numbers submitters dir row ns f t s d a rest =
     let line = plain_line submitters dir row ns t s d rest in
     inr (bio_with ns dir, rest, record { fits = line.0; made = line.1; follows = tt }, (f, refl, refl, a))
 
-pub bio_lacks : (submitters : ℕ) (row : Row) (w : Why) → StartsWith (codes "bio") row → Lacks (slot.Given ∷ slots_by (bio_cells submitters)) row w → IsWrongRecord (bio_record submitters) row w
+pub bio_lacks : (submitters : ℕ) (row : Row) (w : TextReason) → StartsWith (codes "bio") row → Lacks (slot.Given ∷ slots_by (bio_cells submitters)) row w → IsWrongRecord (bio_record submitters) row w
 bio_lacks submitters row w t l rest = inl (refl, inl (t, l))

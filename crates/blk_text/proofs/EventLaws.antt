@@ -6,34 +6,34 @@ use Rattle.blk_bio.specs.Limits.{Limits}
 use Rattle.blk_trace.specs.Happened.{Happened}
 use Rattle.blk_trace.specs.declared.event.Event.TheVariants.{Tick, Release, Join}
 use Rattle.blk_trace.specs.Kinds.{bare}
-use Rattle.blk_trace.specs.Rules.{IsFirstBroken, IsUnbroken, rank}
+use Rattle.blk_trace.specs.Rules.{IsFirstBroken, BreaksNoRule, rank}
 use Rattle.blk_bio.specs.declared.rule.TraceRule.{TraceRule}
 use Rattle.edd_commands.specs.declared.steps.TheConstants.{MAX_DEPTH}
 use Rattle.blk_trace.specs.Setups.{Setup}
 use Rattle.blk_trace.specs.Traces.{Traced, IsPushAnswer}
 use Rattle.blk_trace.specs.declared.rule.PushFault.{PushFault}
 use Rattle.blk_trace.specs.declared.rule.PushFault.TheVariants as push_fault
-use Rattle.blk_lists.specs.Sources.{Row, TakesRecord}
-use Rattle.blk_lists.specs.Reads.{IsOutside, IsRowOf, IsWrongRecord, Reads, HandReads, HandFails, Fails, AreGathered, IsStopped, repeated, size_of, with_next}
+use Rattle.blk_records.specs.Sources.{Row, TakesRecord}
+use Rattle.blk_records.specs.Reads.{IsOutside, IsRowOf, IsWrongRecord, Reads, HandReads, HandFails, Fails, AreGathered, IsStopped, repeated, size_of, with_next}
 use Rattle.blk_text.specs.SetupRecord.{setup}
-use Rattle.blk_lists.specs.Tables.{FitsCells}
-use Rattle.blk_lists.specs.Titles.{IsVersion, title_cells, TakesTitle}
+use Rattle.blk_records.specs.Tables.{FitsCells}
+use Rattle.blk_records.specs.Titles.{IsVersion, title_cells, TakesTitle}
 use Rattle.blk_text.specs.TraceForm.{first_record, bios_after, group, event_told, plain_event, BreaksRule, event, alone, one_more, events_of, TraceTitle, trace_numbers, IsTraceTitle, trace_title_part, trace_body, trace_form}
 use Rattle.blk_text.specs.Inside.TraceForm.{IsPast, refusal_of, IsRefused}
-use Rattle.blk_lists.specs.declared.fault.Why.{Why}
-use Rattle.blk_lists.specs.declared.fault.Why.TheVariants as why
+use Rattle.blk_records.specs.declared.fault.TextReason.{TextReason}
+use Rattle.blk_records.specs.declared.fault.TextReason.TheVariants as why
 use Rattle.blk_text.specs.TraceForm.{Head}
 use Rattle.blk_trace.specs.declared.event.Event.TheVariants as head
 use Rattle.blk_text.specs.declared.heads.TheConstants.{TRACE}
-use Rattle.parts.specs.declared.Repeats.TheVariants as repeats
-use Rattle.parts.specs.Parts.{Part, Begins}
-use Rattle.parts.specs.Parts.{then as in_turn}
-use Rattle.parts.specs.Laws.{Tells, IsPlain}
-use Rattle.parts.specs.Inside.Laws.{Decides}
-use Rattle.parts.proofs.Then.{seen_tells, seen_decides, then_tells, then_decides, tested_tells, tested_decides, both_begin}
-use Rattle.parts.proofs.Many.{HasRows, ended_tells, ended_decides}
-use Rattle.blk_lists.proofs.Reading.{outside_fails, many_fails, many_ends, full_ends, past_wrong, full_stopped}
-use Rattle.blk_lists.proofs.TitleLaws.{IsTitleTable, title_tells, title_decides, title_reads}
+use Rattle.text_grammar.specs.declared.Repeats.TheVariants as repeats
+use Rattle.text_grammar.specs.Parts.{Part, Begins}
+use Rattle.text_grammar.specs.Parts.{then as in_turn}
+use Rattle.text_grammar.specs.Laws.{Tells, IsPlain}
+use Rattle.text_grammar.specs.Inside.Laws.{Decides}
+use Rattle.text_grammar.proofs.Then.{seen_tells, seen_decides, then_tells, then_decides, tested_tells, tested_decides, both_begin}
+use Rattle.text_grammar.proofs.Many.{HasRows, ended_tells, ended_decides}
+use Rattle.blk_records.proofs.Reading.{outside_fails, many_fails, many_ends, full_ends, past_wrong, full_stopped}
+use Rattle.blk_records.proofs.TitleLaws.{IsTitleTable, title_tells, title_decides, title_reads}
 use Rattle.blk_text.proofs.ScriptLaws.{fewer_tags, tags_are, setup_one, setup_decides}
 use Rattle.blk_text.proofs.HeadLaws.{head_tells, head_decides, head_gone}
 use Rattle.blk_text.proofs.GroupLaws.{group_tells, group_decides, group_size}
@@ -83,19 +83,19 @@ one_rule setup before e r s f g = by_cases (three (rank r) (rank s))
     by_cases (inr (inl same)) = sym (rule_is r) ∙ ap rule_at same ∙ rule_is s
     by_cases (inr (inr l)) = absurd (g.broken (f.first s l))
 
-breaks_once : (setup : Setup) (before : List Happened) (e : Happened) (k j : ℕ) (w x : Why) → BreaksRule setup before e k w → BreaksRule setup before e j x → (k ≡ j) × (w ≡ x)
+breaks_once : (setup : Setup) (before : List Happened) (e : Happened) (k j : ℕ) (w x : TextReason) → BreaksRule setup before e k w → BreaksRule setup before e j x → (k ≡ j) × (w ≡ x)
 breaks_once setup before e k j w x f g = (f.0 ∙ sym g.0, f.1.1 ∙ ap why.Rule (one_rule setup before e f.1.0 g.1.0 f.1.2 g.1.2) ∙ sym g.1.1)
 
 pub event_tells : (version : ℕ) (setup : Setup) (before : List Happened) → Tells (event version setup before)
-event_tells version setup before = tested_tells (plain_event version setup.limits) (IsUnbroken setup before) (BreaksRule setup before) (plain_tells version setup.limits)
+event_tells version setup before = tested_tells (plain_event version setup.limits) (BreaksNoRule setup before) (BreaksRule setup before) (plain_tells version setup.limits)
     (λ e k j w x fit f g. breaks_once setup before e k j w x f g)
     (λ e k w good f. f.1.2.broken (good f.1.0))
     (λ e k w f. (let is = f.0 in (omega (arith, is), omega (arith, is))))
 
 event_decides : (version : ℕ) (setup : Setup) (before : List Happened) → Decides (event version setup before)
-event_decides version setup before = tested_decides (plain_event version setup.limits) (IsUnbroken setup before) (BreaksRule setup before) (plain_decides version setup.limits) (λ e fit. broken_or_not setup before e)
+event_decides version setup before = tested_decides (plain_event version setup.limits) (BreaksNoRule setup before) (BreaksRule setup before) (plain_decides version setup.limits) (λ e fit. broken_or_not setup before e)
   where
-    broken_or_not : (setup : Setup) (before : List Happened) (e : Happened) → IsUnbroken setup before e ⊎ ((k : ℕ) × (w : Why) × BreaksRule setup before e k w)
+    broken_or_not : (setup : Setup) (before : List Happened) (e : Happened) → BreaksNoRule setup before e ⊎ ((k : ℕ) × (w : TextReason) × BreaksRule setup before e k w)
     broken_or_not setup before e = elim (unbroken_or_first setup before e) [
       | inl u ↦ inl u
       | inr b ↦ inr (1, why.Rule b.0, (refl, (b.0, refl, b.1)))
@@ -112,21 +112,21 @@ event_rows version setup s e fit z = cc z
 some_same : (a b : Happened) → Some a ≡ Some b → a ≡ b
 some_same a b e = cc e
 
-alone_good : (setup : Setup) (before : List Happened) (o : Option Happened) (e : Happened) → IfSome o (IsUnbroken setup before) → o ≡ Some e → IsUnbroken setup before e
+alone_good : (setup : Setup) (before : List Happened) (o : Option Happened) (e : Happened) → IfSome o (BreaksNoRule setup before) → o ≡ Some e → BreaksNoRule setup before e
 alone_good setup before o e good is = rw is at good
 
 pub more_tells : (version : ℕ) (setup : Setup) (before : List Happened) → Tells (one_more version setup before)
 more_tells version setup before =
-    tested_tells (first_record version) (λ h. IfSome (alone h) (IsUnbroken setup before)) (λ h k w. (e : Happened) × (alone h ≡ Some e) × BreaksRule setup before e k w) (head_tells version)
+    tested_tells (first_record version) (λ h. IfSome (alone h) (BreaksNoRule setup before)) (λ h k w. (e : Happened) × (alone h ≡ Some e) × BreaksRule setup before e k w) (head_tells version)
     (λ h k j w x fit f g. (let same = some_same f.0 g.0 (sym f.1 ∙ g.1) in breaks_once setup before g.0 k j w x (rw same at f.2) g.2))
     (λ h k w good f. f.2.1.2.broken (alone_good setup before (alone h) f.0 good f.1 f.2.1.0))
     (λ h k w f. (let is = f.2.0 in (omega (arith, is), omega (arith, is))))
 
 more_decides : (version : ℕ) (setup : Setup) (before : List Happened) → Decides (one_more version setup before)
 more_decides version setup before =
-    tested_decides (first_record version) (λ h. IfSome (alone h) (IsUnbroken setup before)) (λ h k w. (e : Happened) × (alone h ≡ Some e) × BreaksRule setup before e k w) (head_decides version) (λ h fit. decided (alone h))
+    tested_decides (first_record version) (λ h. IfSome (alone h) (BreaksNoRule setup before)) (λ h k w. (e : Happened) × (alone h ≡ Some e) × BreaksRule setup before e k w) (head_decides version) (λ h fit. decided (alone h))
   where
-    decided : (o : Option Happened) → IfSome o (IsUnbroken setup before) ⊎ ((k : ℕ) × (w : Why) × ((e : Happened) × (o ≡ Some e) × BreaksRule setup before e k w))
+    decided : (o : Option Happened) → IfSome o (BreaksNoRule setup before) ⊎ ((k : ℕ) × (w : TextReason) × ((e : Happened) × (o ≡ Some e) × BreaksRule setup before e k w))
     decided None = inl tt
     decided (Some e) = elim (unbroken_or_first setup before e) [
       | inl u ↦ inl u
@@ -189,7 +189,7 @@ trace_decides = then_decides trace_title_part trace_body (title_decides TRACE tr
 
 -- what was read of an event
 
-pub head_fails : (version : ℕ) (limits : Limits) (failed : Bool) (left : Option (List Row)) (row : Row) (start at : ℕ) (w : Why) → IsWrongRecord (first_record version) row w → at ≡ start
+pub head_fails : (version : ℕ) (limits : Limits) (failed : Bool) (left : Option (List Row)) (row : Row) (start at : ℕ) (w : TextReason) → IsWrongRecord (first_record version) row w → at ≡ start
     → HandFails failed (plain_event version limits) left row start at w
 head_fails version limits failed None row start at w h e = tt
 head_fails version limits failed (Some rows) row start at w h e = inr (1, omega (arith, e), inl (h rows))
@@ -201,7 +201,7 @@ alone_line version limits (head.Join id bios) e row is l = absurd (cc is)
 alone_line version limits h e row is l = subst (λ z. IsRowOf (plain_event version limits) row z) (some_same _ _ is) (λ rest. record { fits = ((l rest).fits, (tt, refl)); made = (l rest).made; follows = (tt, refl) })
 
 -- of a group: its first record and its bios
-abbrev grouped : ℕ → Limits → Part Row Why (Head × List Bio)
+abbrev grouped : ℕ → Limits → Part Row TextReason (Head × List Bio)
 grouped version limits = in_turn (first_record version) (λ h. group version limits (bios_after h))
 
 group_begins : (version : ℕ) (limits : Limits) (h : Head) (bios : List Bio) (row : Row) (rows rest : List Row) → IsRowOf (first_record version) row h → Begins (group version limits (bios_after h)) rows bios rest
@@ -243,7 +243,7 @@ pub join_size : (version : ℕ) (limits : Limits) (id : ℕ) (bios : List Bio) �
 join_size version limits id bios = let size = group_size version limits (length bios) bios in omega (arith, size)
 
 -- where a group is wrong
-pub group_fails : (version : ℕ) (limits : Limits) (h : Head) (failed : Bool) (left : Option (List Row)) (row : Row) (start middle at : ℕ) (w : Why) → middle ≡ start → IsRowOf (first_record version) row h
+pub group_fails : (version : ℕ) (limits : Limits) (h : Head) (failed : Bool) (left : Option (List Row)) (row : Row) (start middle at : ℕ) (w : TextReason) → middle ≡ start → IsRowOf (first_record version) row h
     → Fails failed (group version limits (bios_after h)) left middle at w → HandFails failed (plain_event version limits) left row start at w
 group_fails version limits h failed None row start middle at w e l f = tt
 group_fails version limits h failed (Some rows) row start middle at w e l f = elim f [
@@ -253,7 +253,7 @@ group_fails version limits h failed (Some rows) row start middle at w e l f = el
 
 -- an event that breaks no rule, and one that breaks one
 
-pub event_fails : (version : ℕ) (setup : Setup) (before : List Happened) (failed : Bool) (left : Option (List Row)) (row : Row) (start at : ℕ) (w : Why) → HandFails failed (plain_event version setup.limits) left row start at w
+pub event_fails : (version : ℕ) (setup : Setup) (before : List Happened) (failed : Bool) (left : Option (List Row)) (row : Row) (start at : ℕ) (w : TextReason) → HandFails failed (plain_event version setup.limits) left row start at w
     → HandFails failed (event version setup before) left row start at w
 event_fails version setup before failed None row start at w f = tt
 event_fails version setup before failed (Some rows) row start at w f = elim f [
@@ -266,19 +266,19 @@ pub rule_fails : (version : ℕ) (setup : Setup) (before : List Happened) (faile
 rule_fails version setup before failed None new row e start at r h b is = tt
 rule_fails version setup before failed (Some rows) new row e start at r h b is = inr (1, omega (arith, is), inr (e, h.0, h.2, (refl, (r, refl, b))))
 
-pub hand_outside : {V : Type 0} (failed : Bool) (p : Part Row Why V) (left : Option (List Row)) (row : Row) (start at : ℕ) (w : Why) → IsOutside failed w → HandFails failed p left row start at w
+pub hand_outside : {V : Type 0} (failed : Bool) (p : Part Row TextReason V) (left : Option (List Row)) (row : Row) (start at : ℕ) (w : TextReason) → IsOutside failed w → HandFails failed p left row start at w
 hand_outside failed p None row start at w o = tt
 hand_outside failed p (Some rows) row start at w o = inl o
 
 -- a record after the last event
 
-pub past_head : (version : ℕ) (setup : Setup) (before : List Happened) (row : Row) (w : Why) → IsWrongRecord (first_record version) row w → IsPast version setup before row w
+pub past_head : (version : ℕ) (setup : Setup) (before : List Happened) (row : Row) (w : TextReason) → IsWrongRecord (first_record version) row w → IsPast version setup before row w
 past_head version setup before row w l = λ rest. ((λ z. (cc z)), inl (inl (l rest)))
 
 pub past_group : (version : ℕ) (setup : Setup) (before : List Happened) (row : Row) (h : Head) → alone h ≡ None → IsRowOf (first_record version) row h → IsPast version setup before row why.Count
 past_group version setup before row h n l = λ rest. ((λ z. (cc z)), inr (refl, refl, (h, rest, record { fits = ((l rest).fits, rw n tt); made = (l rest).made; follows = tt })))
 
-pub past_event : (version : ℕ) (setup : Setup) (before : List Happened) (row : Row) (h : Head) (e : Happened) → alone h ≡ Some e → IsRowOf (first_record version) row h → IsUnbroken setup before e → IsPast version setup before row why.Count
+pub past_event : (version : ℕ) (setup : Setup) (before : List Happened) (row : Row) (h : Head) (e : Happened) → alone h ≡ Some e → IsRowOf (first_record version) row h → BreaksNoRule setup before e → IsPast version setup before row why.Count
 past_event version setup before row h e is l u = λ rest. ((λ z. (cc z)), inr (refl, refl, (h, rest, record { fits = ((l rest).fits, rw is u); made = (l rest).made; follows = tt })))
 
 pub past_rule : (version : ℕ) (setup : Setup) (before : List Happened) (row : Row) (h : Head) (e : Happened) (r : TraceRule) → alone h ≡ Some e → IsRowOf (first_record version) row h → IsFirstBroken setup before e r
@@ -299,12 +299,12 @@ push_refused old new e x (push_fault.Rule r) a = inr (r, refl, a.1)
 push_refused old new e x push_fault.Memory a = inl refl
 
 -- an event that is refused
-pub refused_fails : (version : ℕ) (setup own : Setup) (before : List Happened) (failed : Bool) (left new : Option (List Row)) (row : Row) (e : Happened) (start at : ℕ) (w : Why) → own ≡ setup
+pub refused_fails : (version : ℕ) (setup own : Setup) (before : List Happened) (failed : Bool) (left new : Option (List Row)) (row : Row) (e : Happened) (start at : ℕ) (w : TextReason) → own ≡ setup
     → HandReads (plain_event version setup.limits) left row new e → IsRefused own before e w → at ≡ start → HandFails failed (event version setup before) left row start at w
 refused_fails version setup own before failed left new row e start at w same h (inl m) is = hand_outside failed (event version setup before) left row start at w (inr m)
 refused_fails version setup own before failed left new row e start at w same h (inr b) is = rw b.1 (rule_fails version setup before failed left new row e start at b.0 h (rw same at b.2) is)
 
-pub past_refused : (version : ℕ) (setup own : Setup) (before : List Happened) (row : Row) (h : Head) (e : Happened) (w : Why) → own ≡ setup → alone h ≡ Some e → IsRowOf (first_record version) row h → IsRefused own before e w
+pub past_refused : (version : ℕ) (setup own : Setup) (before : List Happened) (row : Row) (h : Head) (e : Happened) (w : TextReason) → own ≡ setup → alone h ≡ Some e → IsRowOf (first_record version) row h → IsRefused own before e w
     → (w ≡ why.Memory) ⊎ IsPast version setup before row w
 past_refused version setup own before row h e w same is l (inl m) = inl m
 past_refused version setup own before row h e w same is l (inr b) = inr (rw b.1 (past_rule version setup before row h e b.0 is l (rw same at b.2)))
@@ -315,7 +315,7 @@ pub gathered_at : (version count : ℕ) (s own : Setup) (left new : Option (List
     → AreGathered (repeats.Exactly count) (event version s) left new 2 at es false
 gathered_at version count s own left new start at es e is h = rw (e, is) at h
 
-pub events_err : (version count : ℕ) (s own : Setup) (failed : Bool) (left : Option (List Row)) (start at : ℕ) (w : Why) → own ≡ s → start ≡ 2 → Fails failed (repeated (repeats.Exactly count) (event version own)) left start at w
+pub events_err : (version count : ℕ) (s own : Setup) (failed : Bool) (left : Option (List Row)) (start at : ℕ) (w : TextReason) → own ≡ s → start ≡ 2 → Fails failed (repeated (repeats.Exactly count) (event version own)) left start at w
     → Fails failed (events_of version s count) left 2 at w
 events_err version count s own failed left start at w e is h = many_fails failed (event version s) (one_more version s) (repeats.Exactly count) left 2 at w (rw (e, is) at h)
 
@@ -331,7 +331,7 @@ pub events_end : (version count : ℕ) (s : Setup) (left mid new : Option (List 
     → IfSome left (λ rows. Begins (events_of version s count) rows es [])
 events_end version count s left mid new es row h t = many_ends (event version s) (one_more version s) (repeats.Exactly count) left es (full_ends (event version s) (repeats.Exactly count) left mid new es row h t)
 
-pub events_past : (version count : ℕ) (s own : Setup) (failed : Bool) (left mid new : Option (List Row)) (es : List Happened) (row cells : Row) (at : ℕ) (w : Why) → own ≡ s → cells ≡ row → Reads (repeated (repeats.Exactly count) (event version s)) left mid es
+pub events_past : (version count : ℕ) (s own : Setup) (failed : Bool) (left mid new : Option (List Row)) (es : List Happened) (row cells : Row) (at : ℕ) (w : TextReason) → own ≡ s → cells ≡ row → Reads (repeated (repeats.Exactly count) (event version s)) left mid es
     → TakesRecord mid new row true → at ≡ 2 + size_of (event version s) es + 1 → (w ≡ why.Memory) ⊎ IsPast version own es cells w → Fails failed (events_of version s count) left 2 at w
 events_past version count s own failed left mid new es row cells at w e r h t is (inl m) = outside_fails failed (events_of version s count) left 2 at w (inr m)
 events_past version count s own failed left mid new es row cells at w e r h t is (inr p) = past_wrong failed (event version s) (one_more version s) (repeats.Exactly count) left mid new es row (2) at w h t is (rw (e, r) at p)

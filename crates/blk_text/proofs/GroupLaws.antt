@@ -5,27 +5,27 @@ use Rattle.blk_bio.specs.Bios.{Bio, IsBio}
 use Rattle.blk_bio.specs.Limits.{Limits}
 use Rattle.blk_bio.specs.Requests.{Fits}
 use Rattle.blk_bio.specs.declared.request.Side.TheVariants as side
-use Rattle.blk_lists.specs.Sources.{Row}
+use Rattle.blk_records.specs.Sources.{Row}
 use Rattle.blk_text.specs.BioTable.{bio_cells, IsNoSuchBio}
 use Rattle.blk_text.specs.Inside.BioTable.{bio_record}
-use Rattle.blk_lists.specs.Words.{StartsWith, NextStarts, WordLacks}
-use Rattle.blk_lists.specs.Reads.{IsRowOf, IsWrongRecord, HandFails, Gathers, with_next}
-use Rattle.blk_lists.specs.Tables.{FitsCells, row_by, slots_by, word_record}
+use Rattle.blk_records.specs.Words.{StartsWith, NextStarts, WordLacks}
+use Rattle.blk_records.specs.Reads.{IsRowOf, IsWrongRecord, HandFails, Gathers, with_next}
+use Rattle.blk_records.specs.Tables.{FitsCells, row_by, slots_by, word_record}
 use Rattle.blk_text.specs.TraceForm.{Tiles, IsAstray, IsNoBio, first_record, plain_bio, whole_bio, group_bio, group}
 use Rattle.blk_text.specs.Inside.TraceForm.{gathered_bios}
-use Rattle.blk_lists.specs.declared.fault.Why.{Why}
-use Rattle.blk_lists.specs.declared.fault.Why.TheVariants as why
+use Rattle.blk_records.specs.declared.fault.TextReason.{TextReason}
+use Rattle.blk_records.specs.declared.fault.TextReason.TheVariants as why
 use Rattle.blk_text.specs.TraceForm.{Head}
-use Rattle.parts.specs.declared.Repeats.TheVariants as repeats
-use Rattle.parts.specs.Parts.{Part, by_word, all_rows}
-use Rattle.parts.specs.Laws.{Tells}
-use Rattle.parts.specs.Inside.Laws.{Decides}
-use Rattle.parts.proofs.Then.{record_tells, record_decides, by_word_tells, by_word_decides, seen_tells, seen_decides, tested_tells, tested_decides, over_tells}
-use Rattle.parts.proofs.Many.{HasRows, many_tells, many_decides}
-use Rattle.blk_lists.proofs.Lacking.{Dec, word_decided}
-use Rattle.blk_lists.proofs.TableLaws.{IsTable, next_starts, word_tells, word_decides}
+use Rattle.text_grammar.specs.declared.Repeats.TheVariants as repeats
+use Rattle.text_grammar.specs.Parts.{Part, by_word, all_rows}
+use Rattle.text_grammar.specs.Laws.{Tells}
+use Rattle.text_grammar.specs.Inside.Laws.{Decides}
+use Rattle.text_grammar.proofs.Then.{record_tells, record_decides, by_word_tells, by_word_decides, seen_tells, seen_decides, tested_tells, tested_decides, over_tells}
+use Rattle.text_grammar.proofs.Many.{HasRows, many_tells, many_decides}
+use Rattle.blk_records.proofs.Lacking.{Dec, word_decided}
+use Rattle.blk_records.proofs.TableLaws.{IsTable, next_starts, word_tells, word_decides}
 use Rattle.blk_text.proofs.ScriptLaws.{no_bio_is, one_bio_fault, bio_or_none}
-use Rattle.blk_lists.proofs.Reading.{hand_reads}
+use Rattle.blk_records.proofs.Reading.{hand_reads}
 use Rattle.blk_text.proofs.HeadLaws.{head_tells, head_decides}
 use Rattle.blk_text.proofs.RuleLaws.{fits as fits_decided}
 
@@ -39,14 +39,14 @@ bio_table submitters s = record {
   fits = λ x f. f;
 }
 
-no_bio_once : (version : ℕ) (rows : List Row) (w x : Why) → IsNoBio version rows w → IsNoBio version rows x → w ≡ x
+no_bio_once : (version : ℕ) (rows : List Row) (w x : TextReason) → IsNoBio version rows w → IsNoBio version rows x → w ≡ x
 no_bio_once version [] w x a b = a ∙ sym b
 no_bio_once version (row ∷ rows) w x a b = ((over_tells why.Count (first_record version) (head_tells version)).first (row ∷ []) 1 1 w x a b).1
 
-abbrev bio_by_table : Part Row Why Bio
+abbrev bio_by_table : Part Row TextReason Bio
 bio_by_table = word_record why.Count (codes "bio") (bio_cells (2 ^ 8)) (FitsCells (bio_cells (2 ^ 8)))
 
-abbrev only_bios : ℕ → Part Row Why ((i : Unit {0}) × Bio)
+abbrev only_bios : ℕ → Part Row TextReason ((i : Unit {0}) × Bio)
 only_bios version = by_word {K = Unit {0}} (λ _. Bio) (λ _. NextStarts (codes "bio")) (λ _. bio_by_table) (IsNoBio version)
 
 plain_tells : (version : ℕ) → Tells (plain_bio version)
@@ -56,13 +56,13 @@ plain_tells version = seen_tells (λ b. (tt, b)) (only_bios version) (λ u z e. 
     (λ i j rows s t. refl) (λ i rows v a h. next_starts (codes "bio") (row_by (bio_cells (2 ^ 8)) v) rows a h.made) (no_bio_once version))
 
 -- what is wrong with a record that does not begin as a bio's
-no_bio : (version : ℕ) (row : Row) → (w : Why) × IsNoBio version (row ∷ []) w
+no_bio : (version : ℕ) (row : Row) → (w : TextReason) × IsNoBio version (row ∷ []) w
 no_bio version row = elim (head_decides version (row ∷ [])) [
   | inl h ↦ (why.Count, ((λ e. (cc e)), inr (refl, refl, h)))
   | inr f ↦ (f.1, ((λ e. (cc e)), inl (subst (λ k. (first_record version).Wrong (row ∷ []) k f.1) (at_one f.0 f.1 f.2) f.2)))
 ]
   where
-    at_one : (k : ℕ) (w : Why) → (first_record version).Wrong (row ∷ []) k w → k ≡ 1
+    at_one : (k : ℕ) (w : TextReason) → (first_record version).Wrong (row ∷ []) k w → k ≡ 1
     at_one k w (inl f) = f.2.0
     at_one k w (inr f) = f.0
 
@@ -72,7 +72,7 @@ plain_decides version = seen_decides (λ b. (tt, b)) (only_bios version) (λ v f
     (λ _ rows s. record_decides (λ b. codes "bio" ∷ row_by (bio_cells (2 ^ 8)) b) (FitsCells (bio_cells (2 ^ 8))) why.Count (WordLacks (codes "bio") (slots_by (bio_cells (2 ^ 8)))) (word_decides (codes "bio") (bio_cells (2 ^ 8)) (FitsCells (bio_cells (2 ^ 8))) (bio_table 256 (omega arith))) rows)
     find)
   where
-    find : (rows : List Row) → ((i : Unit {0}) × NextStarts (codes "bio") rows) ⊎ (((i : Unit {0}) → ¬ NextStarts (codes "bio") rows) × ((w : Why) × IsNoBio version rows w))
+    find : (rows : List Row) → ((i : Unit {0}) × NextStarts (codes "bio") rows) ⊎ (((i : Unit {0}) → ¬ NextStarts (codes "bio") rows) × ((w : TextReason) × IsNoBio version rows w))
     find [] = inr ((λ i s. s), (why.Count, refl))
     find (row ∷ rows) = elim (word_decided (codes "bio") row) [
       | inl s ↦ inl (tt, s)
@@ -130,18 +130,18 @@ group_size version limits count bios = sizes version limits [] bios
 pub group_line : (version : ℕ) (b : Bio) (row : Row) → IsRowOf (bio_record (2 ^ 8)) row b → IsRowOf (whole_bio version) row b
 group_line version b row h rest = let k = h rest in record { fits = k.fits; made = k.made; follows = tt }
 
-pub group_wrong : (version : ℕ) (row : Row) (w : Why) → StartsWith (codes "bio") row → IsWrongRecord (bio_record (2 ^ 8)) row w → IsWrongRecord (whole_bio version) row w
+pub group_wrong : (version : ℕ) (row : Row) (w : TextReason) → StartsWith (codes "bio") row → IsWrongRecord (bio_record (2 ^ 8)) row w → IsWrongRecord (whole_bio version) row w
 group_wrong version row w t h rest = elim (h rest) [
   | inl f ↦ inl (inl (tt, t, f))
   | inr g ↦ inr (g.0, g.1, record { fits = g.2.fits; made = g.2.made; follows = tt }, g.3)
 ]
 
 -- what is answered of one
-pub group_ok : (version : ℕ) (row : Row) (r : Result Bio Why) → IfOk r (IsRowOf (bio_record (2 ^ 8)) row) → IfOk r (IsRowOf (whole_bio version) row)
+pub group_ok : (version : ℕ) (row : Row) (r : Result Bio TextReason) → IfOk r (IsRowOf (bio_record (2 ^ 8)) row) → IfOk r (IsRowOf (whole_bio version) row)
 group_ok version row (Ok b) h = group_line version b row h
 group_ok version row (Err w) h = tt
 
-pub group_err : (version : ℕ) (row : Row) (r : Result Bio Why) → StartsWith (codes "bio") row → IfErr r (IsWrongRecord (bio_record (2 ^ 8)) row) → IfErr r (IsWrongRecord (whole_bio version) row)
+pub group_err : (version : ℕ) (row : Row) (r : Result Bio TextReason) → StartsWith (codes "bio") row → IfErr r (IsWrongRecord (bio_record (2 ^ 8)) row) → IfErr r (IsWrongRecord (whole_bio version) row)
 group_err version row (Ok b) t h = tt
 group_err version row (Err w) t h = group_wrong version row w t h
 
@@ -149,7 +149,7 @@ group_err version row (Err w) t h = group_wrong version row w t h
 pub event_too_soon : (version : ℕ) (h : Head) (row : Row) → ¬ StartsWith (codes "bio") row → IsRowOf (first_record version) row h → IsWrongRecord (whole_bio version) row why.Count
 event_too_soon version h row n l = λ rest. inl (inr (refl, (λ i s. n s), ((λ z. (cc z)), inr (refl, refl, (h, [], l [])))))
 
-pub no_event_there : (version : ℕ) (row : Row) (w : Why) → ¬ StartsWith (codes "bio") row → IsWrongRecord (first_record version) row w → IsWrongRecord (whole_bio version) row w
+pub no_event_there : (version : ℕ) (row : Row) (w : TextReason) → ¬ StartsWith (codes "bio") row → IsWrongRecord (first_record version) row w → IsWrongRecord (whole_bio version) row w
 no_event_there version row w n l = λ rest. inl (inr (refl, (λ i s. n s), ((λ z. (cc z)), inl (l []))))
 
 -- a bio that tiles, and one that does not
@@ -159,10 +159,10 @@ tiles_line version limits before b row l t = λ rest. record { fits = ((l rest).
 pub astray_line : (version : ℕ) (limits : Limits) (before : List Bio) (b : Bio) (row : Row) → IsRowOf (whole_bio version) row b → ¬ Tiles limits before b → IsWrongRecord (group_bio version limits before) row why.Tile
 astray_line version limits before b row l n = λ rest. inr (b, rest, l rest, (refl, refl, n))
 
-pub wrong_line : (version : ℕ) (limits : Limits) (before : List Bio) (row : Row) (w : Why) → IsWrongRecord (whole_bio version) row w → IsWrongRecord (group_bio version limits before) row w
+pub wrong_line : (version : ℕ) (limits : Limits) (before : List Bio) (row : Row) (w : TextReason) → IsWrongRecord (whole_bio version) row w → IsWrongRecord (group_bio version limits before) row w
 wrong_line version limits before row w l = λ rest. inl (l rest)
 
-pub line_fails : {V : Type 0} (failed : Bool) (p : Part Row Why V) (left : Option (List Row)) (row : Row) (start at : ℕ) (w : Why) → IsWrongRecord p row w → at ≡ start → HandFails failed p left row start at w
+pub line_fails : {V : Type 0} (failed : Bool) (p : Part Row TextReason V) (left : Option (List Row)) (row : Row) (start at : ℕ) (w : TextReason) → IsWrongRecord p row w → at ≡ start → HandFails failed p left row start at w
 line_fails failed p None row start at w h e = tt
 line_fails failed p (Some rows) row start at w h e = inr (1, omega (arith, e), h rows)
 

@@ -1,22 +1,22 @@
 -- The laws of the first record of an event.
 use Rattle.std.proofs.Common.{◌≡◌, ◌==◌, ◌∙◌, ℕ, suc, List, [], refl, sym, ap, inl, inr, arith, get_or, true}
 use Rattle.std.specs.Prelude.{if◌then◌else◌}
-use Rattle.blk_lists.specs.Sources.{Row}
-use Rattle.blk_lists.specs.Words.{HasNoWord}
-use Rattle.blk_lists.specs.Fields.{Lacks, FieldsSpell}
-use Rattle.blk_lists.specs.Kinds.{KindRow, Told, cells_of, RowSaid, HasRow, said_record}
-use Rattle.blk_lists.specs.Reads.{IsRowOf, IsWrongRecord, IsOne}
+use Rattle.blk_records.specs.Sources.{Row}
+use Rattle.blk_records.specs.Words.{HasNoWord}
+use Rattle.blk_records.specs.Fields.{Lacks, FieldsSpell}
+use Rattle.blk_records.specs.Kinds.{KindRow, Told, cells_of, RowSaid, HasRow, said_record}
+use Rattle.blk_records.specs.Reads.{IsRowOf, IsWrongRecord, IsOne}
 use Rattle.blk_text.specs.EventKinds.{event_table}
 use Rattle.blk_text.specs.TraceForm.{Head, said, first_record}
 use Rattle.blk_text.specs.declared.setup.TheConstants.{WIDTH}
-use Rattle.blk_lists.specs.declared.fault.Why.{Why}
-use Rattle.blk_lists.specs.declared.fault.Why.TheVariants as why
+use Rattle.blk_records.specs.declared.fault.TextReason.{TextReason}
+use Rattle.blk_records.specs.declared.fault.TextReason.TheVariants as why
 use Rattle.blk_trace.specs.declared.event.Event.TheVariants as head
-use Rattle.parts.specs.Laws.{Tells}
-use Rattle.parts.specs.Inside.Laws.{Decides}
-use Rattle.parts.proofs.Then.{seen_tells, seen_decides}
-use Rattle.blk_lists.proofs.TableLaws.{IsBy}
-use Rattle.blk_lists.proofs.KindLaws.{EachRow, row_in, IsWordRow, IsKinds, IsWordOf, apart, numbers_said, said_tells, said_decides, said_line, said_lacks, said_nowhere, said_gone}
+use Rattle.text_grammar.specs.Laws.{Tells}
+use Rattle.text_grammar.specs.Inside.Laws.{Decides}
+use Rattle.text_grammar.proofs.Then.{seen_tells, seen_decides}
+use Rattle.blk_records.proofs.TableLaws.{IsBy}
+use Rattle.blk_records.proofs.KindLaws.{EachRow, row_in, IsWordRow, IsKinds, IsWordOf, apart, numbers_said, said_tells, said_decides, said_line, said_lacks, said_nowhere, said_gone}
 
 -- the rows, in the order of the table
 
@@ -100,10 +100,10 @@ head_line version h cells f ns at is s b =
     λ rest. record { fits = (line rest).fits; made = (line rest).made; follows = tt }
 
 -- of the row of such a one
-pub head_lacks : (version : ℕ) (h : Head) (cells : Row) (f : List ℕ) (w : Why) → f ≡ get_or cells 0 [] → (true ≡ true → IsWordOf version f (said h).0) → Lacks (said h).0.slots cells w → IsWrongRecord (first_record version) cells w
+pub head_lacks : (version : ℕ) (h : Head) (cells : Row) (f : List ℕ) (w : TextReason) → f ≡ get_or cells 0 [] → (true ≡ true → IsWordOf version f (said h).0) → Lacks (said h).0.slots cells w → IsWrongRecord (first_record version) cells w
 head_lacks version h cells f w at is l = said_lacks why.Count WIDTH event_table version (said h).0 cells f w words (said_in h) at is l
 
-pub no_head : (version : ℕ) (cells : Row) (f : List ℕ) (w : Why) → f ≡ get_or cells 0 [] → EachRow (λ r. ¬ IsWordOf version f r) event_table → HasNoWord WIDTH cells w → IsWrongRecord (first_record version) cells w
+pub no_head : (version : ℕ) (cells : Row) (f : List ℕ) (w : TextReason) → f ≡ get_or cells 0 [] → EachRow (λ r. ¬ IsWordOf version f r) event_table → HasNoWord WIDTH cells w → IsWrongRecord (first_record version) cells w
 no_head version cells f w at n h = said_nowhere why.Count WIDTH event_table version cells f w at n h
 
 pub head_gone : (version : ℕ) → (first_record version).Wrong [] 1 why.Count

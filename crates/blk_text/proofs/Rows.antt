@@ -6,9 +6,9 @@ use Rattle.blk_bio.specs.declared.bio.Dir.{Dir}
 use Rattle.blk_bio.specs.declared.bio.Dir.TheVariants as dir
 use Rattle.blk_text.specs.Inside.BioTable.{bio_row}
 use Rattle.blk_bio.specs.Letters.{direction_text}
-use Rattle.blk_lists.specs.Inside.Cells.{line_of}
-use Rattle.blk_lists.specs.Texts.{rows_text}
-use Rattle.blk_lists.proofs.PlainRows.{all_plain, decimal_plain, line_is}
+use Rattle.blk_records.specs.Inside.Cells.{line_of}
+use Rattle.blk_records.specs.Texts.{rows_text}
+use Rattle.blk_records.proofs.PlainRows.{all_plain, decimal_plain, line_is}
 
 direction_plain : (d : Dir) → needs_quotes default_writer (direction_text d) ≡ false
 direction_plain dir.Read = refl

@@ -19,10 +19,10 @@ use Rattle.blk_trace.specs.Kinds.{releases, joins, issues, ends, is_tick, sets_d
 use Rattle.blk_trace.specs.Setups.{Setup}
 use Rattle.blk_trace.specs.Events.{entered, request_of, ends_requeued, round_at, round_of, EndsAt, IsReleased, IsIssued, IsRequeued, AreRequeued, IsOpen, IsUsed, open_count, AreOnce}
 use Rattle.blk_trace.specs.Depths.{depth_now}
-use Rattle.blk_trace.specs.Rules.{asks_for, Obeys, rank, IsFirstBroken, IsUnbroken}
+use Rattle.blk_trace.specs.Rules.{asks_for, Obeys, rank, IsFirstBroken, BreaksNoRule}
 use Rattle.blk_bio.specs.declared.rule.TraceRule.{TraceRule}
 use Rattle.blk_bio.specs.declared.rule.TraceRule.TheVariants as rule
-use Rattle.blk_lists.proofs.Lacking.{Dec, both, either, same_as, at_most, same_number}
+use Rattle.blk_records.proofs.Lacking.{Dec, both, either, same_as, at_most, same_number}
 
 -- of decided things
 
@@ -255,7 +255,7 @@ up_to setup before e (suc n) h = elim (up_to setup before e n (omega (arith, h))
     next good (inl o) = inl (λ r l. one_more good o r l (same_number (rank r) (suc n)))
     next good (inr b) = inr (rule_at (suc n), record { broken = b; first = λ r l. (let high = high_rank n (omega (arith, h)) in good r (omega (arith, l, high))) })
 
-pub unbroken_or_first : (setup : Setup) (before : List Happened) (e : Happened) → IsUnbroken setup before e ⊎ ((r : TraceRule) × IsFirstBroken setup before e r)
+pub unbroken_or_first : (setup : Setup) (before : List Happened) (e : Happened) → BreaksNoRule setup before e ⊎ ((r : TraceRule) × IsFirstBroken setup before e r)
 unbroken_or_first setup before e = elim (up_to setup before e 11 (omega arith)) [
   | inl all ↦ inl (λ r. all r (some_rank r).1)
   | inr b ↦ inr b

@@ -10,38 +10,38 @@ use Rattle.blk_bio.specs.declared.bio.BioFault.{BioFault}
 use Rattle.blk_bio.specs.declared.bio.BioFault.TheVariants as bio_fault
 use Rattle.blk_bio.specs.Limits.{Limits, IsLimits}
 use Rattle.blk_trace.specs.Setups.{Setup, IsSetup}
-use Rattle.blk_lists.specs.Sources.{Row}
-use Rattle.blk_lists.specs.Texts.{rows_text}
+use Rattle.blk_records.specs.Sources.{Row}
+use Rattle.blk_records.specs.Texts.{rows_text}
 use Rattle.edd_commands.specs.declared.steps.TheConstants.{MAX_DEPTH}
 use Rattle.blk_text.specs.SetupRecord.{setup_cells, setup, FitsSetup}
-use Rattle.blk_lists.specs.Words.{StartsWith, WordLacks}
-use Rattle.blk_lists.specs.Fields.{Lacks, FieldsSpell}
-use Rattle.blk_lists.specs.Reads.{Reads, Halts, IsRowOf, IsWrongRecord, IsOne, items_of}
-use Rattle.blk_lists.specs.Tables.{FitsCells, row_by, slots_by}
-use Rattle.blk_lists.specs.Titles.{IsVersion, most_in, title_cells, TakesTitle, StopsAtTitle}
-use Rattle.blk_lists.specs.Kinds.{KindRow, row_below, Told, cells_of, RowSaid, HasRow, said_record}
+use Rattle.blk_records.specs.Words.{StartsWith, WordLacks}
+use Rattle.blk_records.specs.Fields.{Lacks, FieldsSpell}
+use Rattle.blk_records.specs.Reads.{Reads, Halts, IsRowOf, IsWrongRecord, IsOne, items_of}
+use Rattle.blk_records.specs.Tables.{FitsCells, row_by, slots_by}
+use Rattle.blk_records.specs.Titles.{IsVersion, most_in, title_cells, TakesTitle, StopsAtTitle}
+use Rattle.blk_records.specs.Kinds.{KindRow, row_below, Told, cells_of, RowSaid, HasRow, said_record}
 use Rattle.blk_text.specs.StepKinds.{step_table}
 use Rattle.blk_text.specs.declared.bios.TheConstants.{BIO}
 use Rattle.blk_text.specs.Script.{step_said, LineFits, IsLineOf, IsRight, HasNoSuchBio, Title, title_numbers, IsTitle, IsEnough, TooFew, plain_title, script_title_part, plain_step, step, script_body, script_form, script_value, Scripted, title_of, script_rows, IsScript, IsScriptOf, SpellsVersion, SpellsScript, ScriptFault}
 use Rattle.blk_text.specs.Inside.BioTable.{bio_record}
 use Rattle.blk_text.specs.Versions.{most_tags}
 use Rattle.blk_text.specs.declared.setup.TheConstants.{LATEST, MAX_DEPTH_1, MORE_TAGS, WIDTH}
-use Rattle.blk_lists.specs.declared.fault.Why.{Why}
-use Rattle.blk_lists.specs.declared.fault.Why.TheVariants as why
-use Rattle.parts.specs.declared.Repeats.TheVariants as repeats
-use Rattle.parts.specs.Parts.{Begins, Spells}
-use Rattle.parts.specs.Laws.{Tells}
-use Rattle.parts.specs.Inside.Laws.{Decides}
-use Rattle.parts.proofs.Then.{at_first, record_decides, then_tells, then_decides, tested_tells, tested_decides, seen_tells, seen_decides}
+use Rattle.blk_records.specs.declared.fault.TextReason.{TextReason}
+use Rattle.blk_records.specs.declared.fault.TextReason.TheVariants as why
+use Rattle.text_grammar.specs.declared.Repeats.TheVariants as repeats
+use Rattle.text_grammar.specs.Parts.{Begins, Spells}
+use Rattle.text_grammar.specs.Laws.{Tells}
+use Rattle.text_grammar.specs.Inside.Laws.{Decides}
+use Rattle.text_grammar.proofs.Then.{at_first, record_decides, then_tells, then_decides, tested_tells, tested_decides, seen_tells, seen_decides}
 use Rattle.blk_text.specs.declared.script.Line.{Line}
 use Rattle.blk_text.specs.declared.script.Line.TheVariants as line
-use Rattle.blk_lists.proofs.Lacking.{at_most}
-use Rattle.blk_lists.proofs.KindLaws.{EachRow, row_in, IsWordRow, IsKinds, IsWordOf, apart, way_of, way_back, numbers_said, said_tells, said_decides, said_line, said_lacks, said_gone}
-use Rattle.blk_lists.proofs.TableLaws.{IsTable, IsBy, word_tells, word_decides}
-use Rattle.blk_lists.proofs.TitleLaws.{IsTitleTable, title_tells, title_decides, title_reads}
-use Rattle.blk_lists.proofs.Each.{all_fit, each_tells, each_decides, one_record}
-use Rattle.blk_lists.proofs.Reading.{then_reads, first_halts, second_halts}
-use Rattle.blk_lists.proofs.Texts.{text_back, parts_back, begins_itself}
+use Rattle.blk_records.proofs.Lacking.{at_most}
+use Rattle.blk_records.proofs.KindLaws.{EachRow, row_in, IsWordRow, IsKinds, IsWordOf, apart, way_of, way_back, numbers_said, said_tells, said_decides, said_line, said_lacks, said_gone}
+use Rattle.blk_records.proofs.TableLaws.{IsTable, IsBy, word_tells, word_decides}
+use Rattle.blk_records.proofs.TitleLaws.{IsTitleTable, title_tells, title_decides, title_reads}
+use Rattle.blk_records.proofs.Each.{all_fit, each_tells, each_decides, one_record}
+use Rattle.blk_records.proofs.Reading.{then_reads, first_halts, second_halts}
+use Rattle.blk_records.proofs.Texts.{text_back, parts_back, begins_itself}
 use Rattle.blk_bio.specs.declared.limits.TheConstants.{MAX_QUEUES, MAX_SOFT_QUEUES}
 use Rattle.blk_text.specs.declared.script.TheConstants.{MAX_STEPS, SCRIPT}
 
@@ -140,7 +140,7 @@ one_bio_fault b bio_fault.Empty bio_fault.Range p q = absurd (omega (arith, p, q
 one_bio_fault b bio_fault.Range bio_fault.Empty p q = absurd (omega (arith, q, p.0))
 one_bio_fault b bio_fault.Range bio_fault.Range p q = refl
 
-no_bio_once : (l : Line) (k j : ℕ) (w x : Why) → HasNoSuchBio l k w → HasNoSuchBio l j x → (k ≡ j) × (w ≡ x)
+no_bio_once : (l : Line) (k j : ℕ) (w x : TextReason) → HasNoSuchBio l k w → HasNoSuchBio l j x → (k ≡ j) × (w ≡ x)
 no_bio_once l k j w x n m =
     let same : n.0 ≡ m.0 = one_bio n.0 m.0 (sym n.2 ∙ m.2) in
     let fault = one_bio_fault m.0 n.1 m.1 (subst (λ (b : Bio). IsBioAnswer b.id b.dir b.first b.sectors (Err n.1)) same n.5) m.5 in
@@ -162,7 +162,7 @@ bio_or_none b = elim (at_most 1 b.sectors) [
     out : (n : ℕ) → ¬ (n ≤ MAX_END) → MAX_END < n
     out n h = grind (arith, h)
 
-right_or_no_bio : (l : Line) → IsRight l ⊎ ((k : ℕ) × (w : Why) × HasNoSuchBio l k w)
+right_or_no_bio : (l : Line) → IsRight l ⊎ ((k : ℕ) × (w : TextReason) × HasNoSuchBio l k w)
 right_or_no_bio (line.Bio b) = elim (bio_or_none b) [
   | inl i ↦ inl (λ c e. subst IsBio (one_bio b c e) i)
   | inr f ↦ inr (1, why.Bio f.0, (b, f.0, refl, refl, refl, f.1))
@@ -221,7 +221,7 @@ pub bio_right : (b : Bio) → IsBio b → IsRight (line.Bio b)
 bio_right b i = λ c e. subst IsBio (one_bio b c e) i
 
 -- of the row of such a step
-pub step_lacks : (version hw submitters : ℕ) (l : Line) (row : Row) (f : List ℕ) (w : Why) → f ≡ get_or row (0) [] → (true ≡ true → IsWordOf version f (step_said hw submitters l).0) → Lacks (step_said hw submitters l).0.slots row w
+pub step_lacks : (version hw submitters : ℕ) (l : Line) (row : Row) (f : List ℕ) (w : TextReason) → f ≡ get_or row (0) [] → (true ≡ true → IsWordOf version f (step_said hw submitters l).0) → Lacks (step_said hw submitters l).0.slots row w
     → IsWrongRecord (step version hw submitters) row w
 step_lacks version hw submitters l row f w at is h rest = inl (said_lacks why.Count WIDTH (step_table hw submitters) version (step_said hw submitters l).0 row f w (words hw submitters) (step_in hw submitters l) at is h rest)
 
@@ -232,7 +232,7 @@ step_gone version hw submitters = inl (said_gone why.Count WIDTH (step_table hw 
 pub step_bio : (version hw submitters : ℕ) (b : Bio) (row : Row) → IsRowOf (bio_record submitters) row b → IsRowOf (step version hw submitters) row (line.Bio b)
 step_bio version hw submitters b row h rest = let k = h rest in record { fits = (((inl refl, tt), k.fits.0), bio_right b k.fits.1); made = k.made; follows = tt }
 
-pub step_no_bio : (version hw submitters : ℕ) (row : Row) (w : Why) → StartsWith (codes "bio") row → IsWrongRecord (bio_record submitters) row w → IsWrongRecord (step version hw submitters) row w
+pub step_no_bio : (version hw submitters : ℕ) (row : Row) (w : TextReason) → StartsWith (codes "bio") row → IsWrongRecord (bio_record submitters) row w → IsWrongRecord (step version hw submitters) row w
 step_no_bio version hw submitters row w t h rest = elim (h rest) [
   | inl f ↦ inl (inl (row_below submitters BIO, ((inl refl, tt), t), f))
   | inr g ↦ inr (line.Bio g.0, g.1, record { fits = ((inl refl, tt), g.2.fits); made = g.2.made; follows = tt }, (g.0, g.3.0, refl, g.3.1, g.3.2, g.3.3))
@@ -375,10 +375,10 @@ spelled_once rows version other s t p q =
     let e = (script_tells.once rows (script_value version s) (script_value other t) [] [] p q).0 in
     ((λ i. (e i).0.0), same_script s t (λ i. (e i).1.0) (λ i. (e i).0.1.soft_depth) (λ i. (e i).0.1.submitters) (λ i. (e i).1.1))
 
-pub spelled_apart : (rows : List Row) (s : Scripted) (at : ℕ) (w : Why) → SpellsScript rows s → ScriptFault rows at w → ⊥
+pub spelled_apart : (rows : List Row) (s : Scripted) (at : ℕ) (w : TextReason) → SpellsScript rows s → ScriptFault rows at w → ⊥
 spelled_apart rows s at w p = script_tells.apart rows (script_value p.0 s) [] at w p.1
 
-pub fault_once : (rows : List Row) (at other : ℕ) (w v : Why) → ScriptFault rows at w → ScriptFault rows other v → (at ≡ other) × (w ≡ v)
+pub fault_once : (rows : List Row) (at other : ℕ) (w v : TextReason) → ScriptFault rows at w → ScriptFault rows other v → (at ≡ other) × (w ≡ v)
 fault_once = script_tells.first
 
 steps_fit : (version hw submitters : ℕ) (lines : List Line) → All (IsLineOf version) lines → All (LineFits hw submitters) lines → All (step version hw submitters).Fits lines
@@ -416,7 +416,7 @@ script_spelled rows t s lines f h =
     let same = title_is t.1 s lines f in
     (t.0, subst (λ v. Spells script_form rows v) (λ i. ((t.0, sym same i), (s, lines))) h)
 
-pub spelled_or_wrong : (rows : List Row) → ((s : Scripted) × SpellsScript rows s) ⊎ ((at : ℕ) × (w : Why) × ScriptFault rows at w)
+pub spelled_or_wrong : (rows : List Row) → ((s : Scripted) × SpellsScript rows s) ⊎ ((at : ℕ) × (w : TextReason) × ScriptFault rows at w)
 spelled_or_wrong rows = elim (script_decides rows) [
   | inl h ↦ (let f = h.2.fits in let t = h.0.0 in
       inl (record { setup = h.0.1.0; soft_depth = t.1.soft_depth; submitters = t.1.submitters; lines = h.0.1.1 }, script_spelled rows t h.0.1.0 h.0.1.1 f.1.0 (rw h.2.follows.1.1.1 at h.2)))
@@ -446,10 +446,10 @@ script_read (Some rows) mid after t s lines h k a f =
 
 -- where reading halts
 
-title_lifts : (failed : Bool) (left : Option (List Row)) (at : ℕ) (w : Why) → Halts failed script_title_part left 0 at w → Halts failed script_form left 0 at w
+title_lifts : (failed : Bool) (left : Option (List Row)) (at : ℕ) (w : TextReason) → Halts failed script_title_part left 0 at w → Halts failed script_form left 0 at w
 title_lifts failed left at w h = first_halts failed script_title_part script_body left 0 at w (λ t fit. body_tells t fit.0.1) h
 
-pub title_halts : (failed : Bool) (left : Option (List Row)) (at : ℕ) (w : Why) → at ≡ 1 → StopsAtTitle SCRIPT failed left w → Halts failed script_form left 0 at w
+pub title_halts : (failed : Bool) (left : Option (List Row)) (at : ℕ) (w : TextReason) → at ≡ 1 → StopsAtTitle SCRIPT failed left w → Halts failed script_form left 0 at w
 title_halts failed None at w e h = tt
 title_halts failed (Some rows) at w e h = title_lifts failed (Some rows) at w (
   1,
@@ -462,18 +462,18 @@ title_halts failed (Some rows) at w e h = title_lifts failed (Some rows) at w (
 )
 
 -- with too few submitters
-pub few_halts : (failed : Bool) (left mid : Option (List Row)) (t : ℕ × List ℕ) (at : ℕ) (w : Why) → at ≡ 1 → w ≡ why.Range → TakesTitle SCRIPT left mid t.0 t.1 → get_or t.1 5 0 < get_or t.1 3 0 → Halts failed script_form left 0 at w
+pub few_halts : (failed : Bool) (left mid : Option (List Row)) (t : ℕ × List ℕ) (at : ℕ) (w : TextReason) → at ≡ 1 → w ≡ why.Range → TakesTitle SCRIPT left mid t.0 t.1 → get_or t.1 5 0 < get_or t.1 3 0 → Halts failed script_form left 0 at w
 few_halts failed None mid t at w e r h l = tt
 few_halts failed (Some rows) mid t at w e r h l =
     let p = (plain_told (Some rows) mid t h).0 in
     title_lifts failed (Some rows) at w (1, e, at_first script_title_part script_title_tells rows, inr (inr ((t.0, title_at t.1), p.0, p.2, (refl, r, l))))
 
-pub setup_halts : (failed : Bool) (left mid : Option (List Row)) (t : ℕ × Title) (middle at : ℕ) (w : Why) → middle ≡ 1 → IsTitle t.0 t.1 → Reads script_title_part left mid t → Halts failed (setup t.1.depth t.1.hw) mid middle at w → Halts failed script_form left 0 at w
+pub setup_halts : (failed : Bool) (left mid : Option (List Row)) (t : ℕ × Title) (middle at : ℕ) (w : TextReason) → middle ≡ 1 → IsTitle t.0 t.1 → Reads script_title_part left mid t → Halts failed (setup t.1.depth t.1.hw) mid middle at w → Halts failed script_form left 0 at w
 setup_halts failed left mid t middle at w e i r h =
     second_halts failed script_title_part script_body left mid t 0 middle at w script_title_tells r (omega (arith, e))
     (first_halts failed (setup t.1.depth t.1.hw) (λ s. items_of (repeats.AtMost MAX_STEPS) (λ _. step t.0 t.1.hw t.1.submitters)) mid middle at w (λ s fit. steps_tell t i) h)
 
-pub steps_halt : (failed : Bool) (left mid after : Option (List Row)) (t : ℕ × Title) (s : Setup) (middle start at : ℕ) (w : Why) → middle ≡ 1 → start ≡ 2 → IsTitle t.0 t.1 → Reads script_title_part left mid t → Reads (setup t.1.depth t.1.hw) mid after s
+pub steps_halt : (failed : Bool) (left mid after : Option (List Row)) (t : ℕ × Title) (s : Setup) (middle start at : ℕ) (w : TextReason) → middle ≡ 1 → start ≡ 2 → IsTitle t.0 t.1 → Reads script_title_part left mid t → Reads (setup t.1.depth t.1.hw) mid after s
     → Halts failed (items_of (repeats.AtMost MAX_STEPS) (λ _. step t.0 t.1.hw t.1.submitters)) after start at w → Halts failed script_form left 0 at w
 steps_halt failed left mid after t s middle start at w e f i r k h =
     second_halts failed script_title_part script_body left mid t 0 middle at w script_title_tells r (omega (arith, e))

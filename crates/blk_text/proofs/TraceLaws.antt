@@ -24,28 +24,28 @@ use Rattle.blk_trace.specs.Events.{At, EntersRequest}
 use Rattle.blk_trace.specs.Legal.{IsLegalTrace}
 use Rattle.blk_trace.proofs.Ids.{by_legal}
 use Rattle.blk_trace.proofs.Pushing.{empty_legal, push_legal}
-use Rattle.blk_lists.specs.Sources.{Row}
-use Rattle.blk_lists.specs.Texts.{rows_text}
+use Rattle.blk_records.specs.Sources.{Row}
+use Rattle.blk_records.specs.Texts.{rows_text}
 use Rattle.blk_text.specs.Inside.BioTable.{bio_row}
 use Rattle.blk_text.specs.SetupRecord.{setup_row, setup, FitsSetup, IsWholeSetup}
-use Rattle.blk_lists.specs.Reads.{IsOutside, Reads, Halts, Fails, AreItems, IsStopped, IsHeldAt, with_next, size_of}
+use Rattle.blk_records.specs.Reads.{IsOutside, Reads, Halts, Fails, AreItems, IsStopped, IsHeldAt, with_next, size_of}
 use Rattle.blk_text.specs.Inside.TraceRecords.{head_row, event_rows, title_row}
 use Rattle.blk_text.specs.TraceRecords.{BioFits, EventFits, IsTrace}
 use Rattle.blk_text.specs.TraceForm.{Tiles, group_bio, plain_event, event, one_more, events_of, IsTraceTitle, trace_title_part, trace_body, trace_form, trace_value, trace_rows, said, event_told, IsEventOf, IsTraceOf, SpellsTraceIn, SpellsTrace, TraceTextFault, TraceTitle}
 use Rattle.blk_text.specs.BioTable.{bio_cells}
 use Rattle.blk_text.specs.EventKinds.{event_table}
-use Rattle.blk_lists.specs.Kinds.{RowStandsIn}
-use Rattle.blk_lists.specs.Tables.{FitsCells}
+use Rattle.blk_records.specs.Kinds.{RowStandsIn}
+use Rattle.blk_records.specs.Tables.{FitsCells}
 use Rattle.blk_text.specs.declared.setup.TheConstants.{LATEST}
-use Rattle.blk_lists.specs.declared.fault.Why.{Why}
-use Rattle.blk_lists.specs.declared.fault.Why.TheVariants as why
-use Rattle.parts.specs.declared.Repeats.TheVariants as repeats
-use Rattle.parts.specs.Parts.{Begins, AllFit, Spells, all_rows}
-use Rattle.parts.proofs.Many.{fit_more, ended_reached}
-use Rattle.parts.proofs.Then.{reached_second, at_first}
-use Rattle.blk_lists.proofs.Lists.{head_of, tail_of, all_cons}
-use Rattle.blk_lists.proofs.Reading.{after_all, first_halts, halts_err, second_fails, second_halts, then_reads}
-use Rattle.blk_lists.proofs.Texts.{text_back, begins_itself}
+use Rattle.blk_records.specs.declared.fault.TextReason.{TextReason}
+use Rattle.blk_records.specs.declared.fault.TextReason.TheVariants as why
+use Rattle.text_grammar.specs.declared.Repeats.TheVariants as repeats
+use Rattle.text_grammar.specs.Parts.{Begins, AllFit, Spells, all_rows}
+use Rattle.text_grammar.proofs.Many.{fit_more, ended_reached}
+use Rattle.text_grammar.proofs.Then.{reached_second, at_first}
+use Rattle.blk_records.proofs.Lists.{head_of, tail_of, all_cons}
+use Rattle.blk_records.proofs.Reading.{after_all, first_halts, halts_err, second_fails, second_halts, then_reads}
+use Rattle.blk_records.proofs.Texts.{text_back, begins_itself}
 use Rattle.blk_text.proofs.ScriptLaws.{setup_one}
 use Rattle.blk_text.proofs.HeadLaws.{said_in}
 use Rattle.blk_text.proofs.EventLaws.{event_tells, event_plain, event_rows as some_rows, more_tells, trace_title_tells, setup_depth, body_tells, trace_tells, trace_decides, events_tell}
@@ -229,10 +229,10 @@ spelled_once rows version other t u p q =
     let e = (trace_tells.once rows (trace_value version t) (trace_value other u) [] [] p q).0 in
     ((λ i. (e i).0.0), (λ i. (e i).1.0), (λ i. (e i).1.1))
 
-pub spelled_apart : (rows : List Row) (t : Traced) (at : ℕ) (w : Why) → SpellsTrace rows t → TraceTextFault rows at w → ⊥
+pub spelled_apart : (rows : List Row) (t : Traced) (at : ℕ) (w : TextReason) → SpellsTrace rows t → TraceTextFault rows at w → ⊥
 spelled_apart rows t at w p = trace_tells.apart rows (trace_value p.0 t) [] at w p.1
 
-pub fault_once : (rows : List Row) (at other : ℕ) (w v : Why) → TraceTextFault rows at w → TraceTextFault rows other v → (at ≡ other) × (w ≡ v)
+pub fault_once : (rows : List Row) (at other : ℕ) (w v : TextReason) → TraceTextFault rows at w → TraceTextFault rows other v → (at ≡ other) × (w ≡ v)
 fault_once = trace_tells.first
 
 -- reading
@@ -309,7 +309,7 @@ trace_in t version depth hw count n s d e f a l = record { setup = subst IsWhole
 value_is : (t : Traced) (v : ℕ × TraceTitle) (s : Setup) → t.setup ≡ s → FitsSetup v.1.depth v.1.hw s → length t.events ≡ v.1.count → (v, (s, t.events)) ≡ trace_value v.0 t
 value_is t v s e f c = λ i. ((v.0, record { depth = (sym f.0 ∙ ap (λ (x : Setup). x.depth) (sym e)) i; hw = (sym f.1 ∙ ap (λ (x : Setup). x.hw) (sym e)) i; count = sym c i }), (sym e i, t.events))
 
-pub spelled_or_wrong : (rows : List Row) → ((t : Traced) × SpellsTrace rows t) ⊎ ((at : ℕ) × (w : Why) × TraceTextFault rows at w)
+pub spelled_or_wrong : (rows : List Row) → ((t : Traced) × SpellsTrace rows t) ⊎ ((at : ℕ) × (w : TextReason) × TraceTextFault rows at w)
 spelled_or_wrong rows = elim (trace_decides rows) [
   | inl h ↦ (let f = h.2.fits.1 in
       let t : Traced = record { setup = h.0.1.0; events = h.0.1.1; prepared = Nothing } in
@@ -330,13 +330,13 @@ trace_read (Some rows) mid next t n s r d e f c h k b =
 
 -- where reading stops
 
-pub events_fail : (failed : Bool) (left mid next : Option (List Row)) (t : ℕ × TraceTitle) (s : Setup) (middle at : ℕ) (w : Why) → middle ≡ 1 → Reads trace_title_part left mid t → Reads (setup t.1.depth t.1.hw) mid next s
+pub events_fail : (failed : Bool) (left mid next : Option (List Row)) (t : ℕ × TraceTitle) (s : Setup) (middle at : ℕ) (w : TextReason) → middle ≡ 1 → Reads trace_title_part left mid t → Reads (setup t.1.depth t.1.hw) mid next s
     → Fails failed (events_of t.0 s t.1.count) next 2 at w → Fails failed trace_form left 0 at w
 events_fail failed left mid next t s middle at w e r k h =
     second_fails failed trace_title_part trace_body left mid t 0 middle at w r (omega (arith, e))
     (second_fails failed (setup t.1.depth t.1.hw) (λ s. events_of t.0 s t.1.count) mid next s middle 2 at w k (omega (arith, e)) h)
 
-pub fails_err : (failed : Bool) (left : Option (List Row)) (at : ℕ) (w : Why) → Fails failed trace_form left 0 at w → IfSome left (λ rows. IsOutside failed w ⊎ TraceTextFault rows at w)
+pub fails_err : (failed : Bool) (left : Option (List Row)) (at : ℕ) (w : TextReason) → Fails failed trace_form left 0 at w → IfSome left (λ rows. IsOutside failed w ⊎ TraceTextFault rows at w)
 fails_err failed None at w f = tt
 fails_err failed (Some rows) at w f = elim f [
   | inl o ↦ inl o
@@ -344,7 +344,7 @@ fails_err failed (Some rows) at w f = elim f [
 ]
 
 -- at the setup
-pub setup_fails : (failed : Bool) (left mid : Option (List Row)) (t : ℕ × TraceTitle) (middle at : ℕ) (w : Why) → middle ≡ 1 → Reads trace_title_part left mid t → Halts failed (setup t.1.depth t.1.hw) mid middle at w
+pub setup_fails : (failed : Bool) (left mid : Option (List Row)) (t : ℕ × TraceTitle) (middle at : ℕ) (w : TextReason) → middle ≡ 1 → Reads trace_title_part left mid t → Halts failed (setup t.1.depth t.1.hw) mid middle at w
     → IfSome left (λ rows. IsOutside failed w ⊎ TraceTextFault rows at w)
 setup_fails failed left mid t middle at w e r h =
     halts_err failed trace_form left at w (second_halts failed trace_title_part trace_body left mid t 0 middle at w trace_title_tells r (omega (arith, e))
@@ -369,7 +369,7 @@ events_held (Some rows) mid next t s at last i r k h =
 
 -- of events that were read into a trace whose setup is this one
 
-pub events_fail_of : (failed : Bool) (left mid next : Option (List Row)) (t : ℕ × TraceTitle) (n s : Setup) (middle at : ℕ) (w : Why) → n ≡ s → middle ≡ 1 → Reads trace_title_part left mid t → Reads (setup t.1.depth t.1.hw) mid next s
+pub events_fail_of : (failed : Bool) (left mid next : Option (List Row)) (t : ℕ × TraceTitle) (n s : Setup) (middle at : ℕ) (w : TextReason) → n ≡ s → middle ≡ 1 → Reads trace_title_part left mid t → Reads (setup t.1.depth t.1.hw) mid next s
     → Fails failed (events_of t.0 n t.1.count) next 2 at w → IfSome left (λ rows. IsOutside failed w ⊎ TraceTextFault rows at w)
 events_fail_of failed left mid next t n s middle at w is e r k h = fails_err failed left at w (events_fail failed left mid next t s middle at w e r k (rw is at h))
 

@@ -17,10 +17,10 @@ use Rattle.blk_trace.specs.Legal.{IsLegalTrace}
 use Rattle.blk_trace.specs.Setups.{Setup}
 use Rattle.blk_trace.specs.Traces.{Traced}
 use Rattle.blk_text.specs.SetupRecord.{setup_row}
-use Rattle.blk_lists.specs.Texts.{rows_text}
+use Rattle.blk_records.specs.Texts.{rows_text}
 use Rattle.blk_text.specs.Inside.TraceRecords.{event_rows, title_row}
 use Rattle.blk_text.specs.TraceRecords.{EventFits}
-use Rattle.blk_lists.proofs.DraftLemmas.{IsSoFar}
+use Rattle.blk_records.proofs.DraftLemmas.{IsSoFar}
 use Rattle.blk_bio.specs.declared.limits.TheConstants.{MAX_SEGMENTS}
 
 pub all_events : (has : List ℕ) (t : Traced) (events : List Happened) (i : ℕ) → length events ≤ i

@@ -6,18 +6,18 @@ use Rattle.blk_bio.specs.declared.bio.BioFault.{BioFault}
 use Rattle.blk_bio.specs.declared.limits.TheConstants.{MAX_QUEUES, MAX_SOFT_QUEUES, MAX_SOFT_DEPTH}
 use Rattle.blk_trace.specs.Setups.{Setup}
 use Rattle.csv.specs.Reading.{default_config, records, strip_bom}
-use Rattle.blk_lists.specs.Sources.{Row}
-use Rattle.blk_lists.specs.Texts.{rows_text}
-use Rattle.blk_lists.specs.Reads.{items_of}
-use Rattle.blk_lists.specs.Kinds.{row, row_below, StandsFrom, RowSaid, said_record}
-use Rattle.blk_lists.specs.Titles.{IsVersion, title_record}
+use Rattle.blk_records.specs.Sources.{Row}
+use Rattle.blk_records.specs.Texts.{rows_text}
+use Rattle.blk_records.specs.Reads.{items_of}
+use Rattle.blk_records.specs.Kinds.{row, row_below, StandsFrom, RowSaid, said_record}
+use Rattle.blk_records.specs.Titles.{IsVersion, title_record}
 use Rattle.blk_text.specs.SetupRecord.{IsWholeSetup, setup}
 use Rattle.blk_text.specs.Versions.{most_tags}
 use Rattle.blk_text.specs.declared.setup.TheConstants.{LATEST, WIDTH}
-use Rattle.blk_lists.specs.declared.fault.Why.{Why}
-use Rattle.blk_lists.specs.declared.fault.Why.TheVariants as why
-use Rattle.parts.specs.declared.Repeats.TheVariants as repeats
-use Rattle.parts.specs.Parts.{Part, then, tested, seen_as, Spells}
+use Rattle.blk_records.specs.declared.fault.TextReason.{TextReason}
+use Rattle.blk_records.specs.declared.fault.TextReason.TheVariants as why
+use Rattle.text_grammar.specs.declared.Repeats.TheVariants as repeats
+use Rattle.text_grammar.specs.Parts.{Part, then, tested, seen_as, Spells}
 use Rattle.blk_trace.specs.declared.event.TheConstants.{MAX_TAGS}
 use Rattle.blk_text.specs.StepKinds.{step_table}
 use Rattle.blk_text.specs.declared.bios.TheConstants.{BIO}
@@ -54,7 +54,7 @@ abbrev pub IsRight : Line → Type 0
 IsRight l = (b : Bio) → l ≡ line.Bio b → IsBio b
 
 -- there is no such bio, for this reason
-abbrev pub HasNoSuchBio : Line → ℕ → Why → Type 0
+abbrev pub HasNoSuchBio : Line → ℕ → TextReason → Type 0
 HasNoSuchBio l k w = (b : Bio) × (f : BioFault) × (l ≡ line.Bio b) × (k ≡ 1) × (w ≡ why.Bio f) × IsBioAnswer b.id b.dir b.first b.sectors (Err f)
 
 -- the numbers of a step lie in their ranges, for these numbers of hardware queues and submitters
@@ -110,7 +110,7 @@ pub record IsScriptOf (version : ℕ) (s : Scripted) : Type 0 where
   pub steps : All (IsLineOf version) s.lines
 
 -- a title whose numbers lie in their own ranges
-abbrev pub plain_title : Part Row Why (ℕ × Title)
+abbrev pub plain_title : Part Row TextReason (ℕ × Title)
 plain_title = title_record SCRIPT title_numbers IsTitle
 
 -- as many submitters as hardware queues at least
@@ -118,26 +118,26 @@ abbrev pub IsEnough : ℕ × Title → Type 0
 IsEnough t = t.1.hw ≤ t.1.submitters
 
 -- fewer submitters are out of range too, once the title's own ranges hold
-abbrev pub TooFew : ℕ × Title → ℕ → Why → Type 0
+abbrev pub TooFew : ℕ × Title → ℕ → TextReason → Type 0
 TooFew t k w = (k ≡ 1) × (w ≡ why.Range) × (t.1.submitters < t.1.hw)
 
-abbrev pub script_title_part : Part Row Why (ℕ × Title)
+abbrev pub script_title_part : Part Row TextReason (ℕ × Title)
 script_title_part = tested plain_title IsEnough TooFew
 
 -- a step by its table
-abbrev pub plain_step : ℕ → ℕ → ℕ → Part Row Why Line
+abbrev pub plain_step : ℕ → ℕ → ℕ → Part Row TextReason Line
 plain_step version hw submitters = seen_as (step_said hw submitters) (said_record why.Count WIDTH (step_table hw submitters) version)
 
 -- a step of a version, for these numbers of hardware queues and submitters
-abbrev pub step : ℕ → ℕ → ℕ → Part Row Why Line
+abbrev pub step : ℕ → ℕ → ℕ → Part Row TextReason Line
 step version hw submitters = tested (plain_step version hw submitters) IsRight HasNoSuchBio
 
 -- a setup and steps, at most `MAX_STEPS`
-abbrev pub script_body : ℕ × Title → Part Row Why (Setup × List Line)
+abbrev pub script_body : ℕ × Title → Part Row TextReason (Setup × List Line)
 script_body t = then (setup t.1.depth t.1.hw) (λ s. items_of (repeats.AtMost MAX_STEPS) (λ _. step t.0 t.1.hw t.1.submitters))
 
 -- a title, a setup and steps
-abbrev pub script_form : Part Row Why ((ℕ × Title) × (Setup × List Line))
+abbrev pub script_form : Part Row TextReason ((ℕ × Title) × (Setup × List Line))
 script_form = then script_title_part script_body
 
 -- what the records of a script of a version tell
@@ -157,7 +157,7 @@ abbrev pub SpellsScript : List Row → Scripted → Type 0
 SpellsScript rows s = (version : ℕ) × SpellsVersion version rows s
 
 -- the first fault of a script
-abbrev pub ScriptFault : List Row → ℕ → Why → Type 0
+abbrev pub ScriptFault : List Row → ℕ → TextReason → Type 0
 ScriptFault = script_form.Wrong
 
 -- the records spell one script at most, in one version

@@ -2,12 +2,12 @@
 use Rattle.std.specs.Prelude.{◌≡◌, ℕ, List, [], ◌∷◌}
 use Rattle.blk_bio.specs.Limits.{IsLimits}
 use Rattle.blk_trace.specs.Setups.{Setup, IsSetup}
-use Rattle.blk_lists.specs.Sources.{Row}
-use Rattle.blk_lists.specs.Tables.{Cell, cells_by, row_by, word_record}
-use Rattle.blk_lists.specs.declared.fault.Why.{Why}
-use Rattle.blk_lists.specs.declared.fault.Why.TheVariants as why
+use Rattle.blk_records.specs.Sources.{Row}
+use Rattle.blk_records.specs.Tables.{Cell, cells_by, row_by, word_record}
+use Rattle.blk_records.specs.declared.fault.TextReason.{TextReason}
+use Rattle.blk_records.specs.declared.fault.TextReason.TheVariants as why
 use Rattle.blk_text.specs.declared.setup.TheConstants.{SETUP}
-use Rattle.parts.specs.Parts.{Part}
+use Rattle.text_grammar.specs.Parts.{Part}
 
 -- setup, read_expire, write_expire, max_sectors, max_segments, empty
 abbrev pub setup_cells : List (Cell Setup)
@@ -27,5 +27,5 @@ abbrev pub FitsSetup : ℕ → ℕ → Setup → Type 0
 FitsSetup depth hw s = (s.depth ≡ depth) × (s.hw ≡ hw) × IsWholeSetup s
 
 -- the setup record, for these numbers of tags and hardware queues
-abbrev pub setup : ℕ → ℕ → Part Row Why Setup
+abbrev pub setup : ℕ → ℕ → Part Row TextReason Setup
 setup depth hw = word_record why.Word SETUP.word setup_cells (FitsSetup depth hw)

@@ -1,8 +1,8 @@
 -- The table of the steps of a script.
 use Rattle.std.specs.Prelude.{ℕ, List, [], ◌∷◌, Option, None, Some, get_or, map}
-use Rattle.blk_lists.specs.Kinds.{KindRow, row, below}
-use Rattle.blk_lists.specs.declared.names.FieldName.{FieldName}
-use Rattle.blk_lists.specs.declared.names.FieldName.TheVariants as name
+use Rattle.blk_records.specs.Kinds.{KindRow, row, below}
+use Rattle.blk_records.specs.declared.names.FieldName.{FieldName}
+use Rattle.blk_records.specs.declared.names.FieldName.TheVariants as name
 use Rattle.blk_text.specs.declared.bios.TheConstants.{BIO}
 use Rattle.blk_text.specs.declared.heads.TheConstants.{TICK, DONE, BACK, DEPTH}
 use Rattle.blk_text.specs.declared.script.TheConstants.{FLUSH, DRAIN, STEP_ISSUE, RUN}

@@ -1,6 +1,6 @@
 -- The records of the steps of a script.
-use Rattle.blk_lists.specs.Sources.{Row}
-use Rattle.blk_lists.specs.Kinds.{said_row}
+use Rattle.blk_records.specs.Sources.{Row}
+use Rattle.blk_records.specs.Kinds.{said_row}
 use Rattle.blk_text.specs.Script.{step_said}
 use Rattle.blk_text.specs.declared.script.Line.{Line}
 

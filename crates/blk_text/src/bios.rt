@@ -4,24 +4,24 @@ ghost use Rattle.std.specs.Prelude.{◌≡◌, ◌++◌, ◌∷◌, ◌≤◌, [
 ghost use Rattle.csv.specs.Records.{fields_of};
 ghost use Rattle.blk_bio.specs.Letters.{direction_text};
 ghost use Rattle.blk_bio.specs.declared.bio.Dir.{Dir as Direction};
-ghost use Rattle.blk_lists.specs.Reads.{IsRowOf, IsWrongRecord};
-ghost use Rattle.blk_lists.specs.Texts.{rows_text};
-ghost use Rattle.blk_lists.specs.Words.{StartsWith};
+ghost use Rattle.blk_records.specs.Reads.{IsRowOf, IsWrongRecord};
+ghost use Rattle.blk_records.specs.Texts.{rows_text};
+ghost use Rattle.blk_records.specs.Words.{StartsWith};
 ghost use Rattle.blk_text.specs.Inside.BioTable.{bio_record, bio_row};
 ghost use Rattle.blk_text.specs.declared.bios.TheConstants.{BIO};
 ghost use Rattle.blk_text.specs.TraceRecords.{BioFits};
-ghost use Rattle.drafts.specs.Drafts.{drafted};
+ghost use Rattle.text_output.specs.Drafts.{drafted};
 
 use crate::setup::WIDTH;
 use blk_bio::{Bio, BioId, Dir};
-use blk_lists::fault::Why;
-use blk_lists::fields::{ANY_SLOT, Slot, read_fields};
-use blk_lists::kinds::Kind;
-use blk_lists::names::FieldName;
+use blk_records::fault::TextReason;
+use blk_records::fields::{ANY_SLOT, Slot, read_fields};
+use blk_records::kinds::Kind;
+use blk_records::names::FieldName;
 use csv::ByteRecord;
-use drafts::Block;
-use drafts::pieces::{put, put_two};
 use std::alloc::AllocError;
+use text_output::Block;
+use text_output::pieces::{put, put_two};
 
 /// The record of a bio: its submitter, below a number of them, its serial, its direction, its first sector and how many.
 pub const BIO: Kind<3, WIDTH> = Kind {
@@ -62,7 +62,7 @@ fn direction_of(letter: u64) -> Dir
 }
 
 /// The bio of a record that begins with its word, of a submitter below this number.
-pub fn read_bio(row: &ByteRecord, submitters: u64) -> Result<Bio, Why>
+pub fn read_bio(row: &ByteRecord, submitters: u64) -> Result<Bio, TextReason>
     requires some { (1 ≤ submitters) × (submitters ≤ MAX_SUBMITTERS) }
     requires starts { StartsWith BIO.word (fields_of row.now) }
     ensures ok { IfOk result (IsRowOf (bio_record submitters) (fields_of row.now)) }
@@ -79,7 +79,7 @@ pub fn read_bio(row: &ByteRecord, submitters: u64) -> Result<Bio, Why>
     };
     match Bio::new(id, direction_of(numbers[3]), numbers[4], numbers[5]) {
         Ok(bio) => Ok(bio),
-        Err(fault) => Err(Why::Bio(fault)),
+        Err(fault) => Err(TextReason::Bio(fault)),
     }
 }
 

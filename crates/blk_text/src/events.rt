@@ -2,11 +2,11 @@
 
 ghost use Rattle.std.specs.Prelude.{◌≡◌, ◌⊎◌, ◌∷◌, ◌++◌, ◌≤◌, ◌<◌, ◌^◌, ◌-◌, ◌+◌, ◌*◌, ℕ, [], length, OnOk, IfOk, IfErr, IfSome, codes};
 ghost use Rattle.csv.specs.Records.{fields_of};
-ghost use Rattle.parts.specs.declared.Repeats.TheVariants as repeats;
-ghost use Rattle.parts.specs.Parts.{Begins};
-ghost use Rattle.blk_lists.specs.Sources.{Row};
-ghost use Rattle.blk_lists.specs.Reads.{FaultsBy, HandReads, HandFailsBy, Fails, AreItems, IsHeldAt, size_of};
-ghost use Rattle.blk_lists.specs.Titles.{IsTitleOf};
+ghost use Rattle.text_grammar.specs.declared.Repeats.TheVariants as repeats;
+ghost use Rattle.text_grammar.specs.Parts.{Begins};
+ghost use Rattle.blk_records.specs.Sources.{Row};
+ghost use Rattle.blk_records.specs.Reads.{FaultsBy, HandReads, HandFailsBy, Fails, AreItems, IsHeldAt, size_of};
+ghost use Rattle.blk_records.specs.Titles.{IsTitleOf};
 ghost use Rattle.blk_text.specs.TraceForm.{plain_event, event as event_part, events_of, trace_form, trace_rows, SpellsTrace, TraceTextFault};
 ghost use Rattle.blk_text.specs.Inside.TraceForm.{refusal_of, IsRefused, IsPushed, IsStoppedIn, IsPast};
 ghost use Rattle.blk_text.specs.TraceRecords.{IsTrace};
@@ -15,15 +15,15 @@ use crate::groups::read_group;
 use crate::heads::{HeadForm, TRACE};
 use crate::setup::{LATEST, SetupForm};
 use blk_bio::{Limits, MAX_SEGMENTS, Request};
-use blk_lists::fault::{TextFault, Why};
-use blk_lists::items::{ItemForm, RecordForm, gather, read_record};
-use blk_lists::source::Records;
-use blk_lists::titles::read_title;
+use blk_records::fault::{TextFault, TextReason};
+use blk_records::items::{ItemForm, RecordForm, gather, read_record};
+use blk_records::source::Records;
+use blk_records::titles::read_title;
 use blk_trace::{Event, MAX_EVENTS, PushFault, Setup, Trace};
 use csv::ByteRecord;
-use parts::Repeats;
 use std::alloc::Global;
 use std::io::Read;
+use text_grammar::Repeats;
 
 /// The event of the record that was read last and those of the bios after it.
 fn read_event<R: Read + Drop>(
@@ -63,17 +63,17 @@ fn read_event<R: Read + Drop>(
 }
 
 /// The fault of an event that a trace refuses.
-fn refusal(fault: PushFault) -> Why
+fn refusal(fault: PushFault) -> TextReason
     ensures { result ≡ refusal_of fault }
 {
     match fault {
-        PushFault::Rule(rule) => Why::Rule(rule),
-        PushFault::Memory => Why::Memory,
+        PushFault::Rule(rule) => TextReason::Rule(rule),
+        PushFault::Memory => TextReason::Memory,
     }
 }
 
 /// Adds an event to a trace where it breaks no rule; else answers the first that it breaks.
-fn add(trace: &mut Trace, event: Event<Request>) -> Result<(), Why>
+fn add(trace: &mut Trace, event: Event<Request>) -> Result<(), TextReason>
     ensures ok { OnOk result (IsPushed trace.old trace.new event) }
     ensures err { IfErr result (IsRefused trace.old.setup trace.old.events event) }
 {
@@ -110,10 +110,10 @@ impl ItemForm for EventForm {
     ghost more = { MAX_SEGMENTS };
 
     #[tactic(auto, using(crate::proofs::EventLaws::event_gone))]
-    fn gone(&self, items: &Trace) -> Why {
+    fn gone(&self, items: &Trace) -> TextReason {
         // brings the prover the trace's invariant
         let _ = items.len();
-        Why::Count
+        TextReason::Count
     }
 
     fn read<R: Read + Drop>(
@@ -129,7 +129,7 @@ impl ItemForm for EventForm {
         };
         match add(items, event) {
             Ok(()) => Ok(()),
-            Err(Why::Memory) => Err(records.fault(Why::Memory)),
+            Err(TextReason::Memory) => Err(records.fault(TextReason::Memory)),
             Err(why) => Err(TextFault { at, why }),
         }
     }
@@ -137,9 +137,9 @@ impl ItemForm for EventForm {
 
 /// What is wrong with a record after all events: its own fault, the rule that it breaks where it is an event by itself,
 /// and else that it is one too many.
-fn past_fault(form: &EventForm, row: &ByteRecord, trace: &mut Trace) -> Why
+fn past_fault(form: &EventForm, row: &ByteRecord, trace: &mut Trace) -> TextReason
     requires { trace.old.setup ≡ form.now.setup }
-    ensures { (result ≡ Why.Memory) ⊎ IsPast form.now.head.version form.now.setup trace.old.events (fields_of row.now) result }
+    ensures { (result ≡ TextReason.Memory) ⊎ IsPast form.now.head.version form.now.setup trace.old.events (fields_of row.now) result }
 {
     let head = match form.head.value(row) {
         Ok(head) => head,
@@ -147,10 +147,10 @@ fn past_fault(form: &EventForm, row: &ByteRecord, trace: &mut Trace) -> Why
     };
     let event = match head.bare() {
         Some(event) => event,
-        None => return Why::Count,
+        None => return TextReason::Count,
     };
     match add(trace, event) {
-        Ok(()) => Why::Count,
+        Ok(()) => TextReason::Count,
         Err(why) => why,
     }
 }
@@ -198,10 +198,10 @@ fn read_events<R: Read + Drop>(
 /// many events, each of which obeys the rules of a trace after those before it; a depth is set in version 2 alone. No record was
 /// read before.
 ///
-/// The fault is the first one: of the least record, and in it the first in the order of [`Why`]. A rule that an event
+/// The fault is the first one: of the least record, and in it the first in the order of [`TextReason`]. A rule that an event
 /// breaks is reported at its first record and looked for once its group is whole, so a fault of a bio in the group comes
 /// before it. Of an event past the announced number its own fault and, where it has one record, its rule come before
-/// [`Why::Count`]. [`Why::Read`] and [`Why::Memory`] come at the record that is being read. No record is asked for past
+/// [`TextReason::Count`]. [`TextReason::Read`] and [`TextReason::Memory`] come at the record that is being read. No record is asked for past
 /// those of the event that is being read, and never more than [`MAX_EVENTS`] * ([`MAX_SEGMENTS`] + 1) + 3.
 pub fn read_trace<R: Read + Drop>(
     alloc: Global,
@@ -233,7 +233,7 @@ pub fn read_trace<R: Read + Drop>(
         Err(fault) => return Err(fault),
     };
     let Ok(none) = Trace::empty(alloc, setup) else {
-        return Err(records.fault(Why::Memory));
+        return Err(records.fault(TextReason::Memory));
     };
     match read_events(alloc, records, version, none, count) {
         Ok(trace) => {

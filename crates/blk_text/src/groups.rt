@@ -3,23 +3,23 @@
 ghost use Rattle.std.specs.Prelude.{◌≡◌, ◌≤◌, ◌<◌, ◌^◌, ◌-◌, ◌+◌, ◌++◌, ◌∷◌, [], length, IsTrue, OnOk, IfOk, IfErr};
 ghost use Rattle.csv.specs.Records.{fields_of};
 ghost use Rattle.blk_bio.specs.Requests.{Fits};
-ghost use Rattle.blk_lists.specs.Reads.{IsRowOf, IsWrongRecord, Reads, Fails};
+ghost use Rattle.blk_records.specs.Reads.{IsRowOf, IsWrongRecord, Reads, Fails};
 ghost use Rattle.blk_text.specs.TraceForm.{whole_bio, group};
 
 use crate::bios::{BIO, MAX_SUBMITTERS, read_bio};
 use crate::heads::HeadForm;
 use blk_bio::{Bio, Limits, MAX_SEGMENTS, Request, Side};
-use blk_lists::fault::{TextFault, Why};
-use blk_lists::fields::field;
-use blk_lists::items::{ItemForm, RecordForm, gather};
-use blk_lists::source::Records;
+use blk_records::fault::{TextFault, TextReason};
+use blk_records::fields::field;
+use blk_records::items::{ItemForm, RecordForm, gather};
+use blk_records::source::Records;
 use csv::ByteRecord;
-use parts::Repeats;
 use std::alloc::{AllocError, Global};
 use std::io::Read;
+use text_grammar::Repeats;
 
 /// The bio of a record of a group. Another event's record comes too soon there.
-fn bio_line(form: &HeadForm, row: &ByteRecord) -> Result<Bio, Why>
+fn bio_line(form: &HeadForm, row: &ByteRecord) -> Result<Bio, TextReason>
     ensures ok { IfOk result (IsRowOf (whole_bio form.now.version) (fields_of row.now)) }
     ensures err { IfErr result (IsWrongRecord (whole_bio form.now.version) (fields_of row.now)) }
 {
@@ -27,7 +27,7 @@ fn bio_line(form: &HeadForm, row: &ByteRecord) -> Result<Bio, Why>
         return read_bio(row, MAX_SUBMITTERS);
     }
     match form.value(row) {
-        Ok(_) => Err(Why::Count),
+        Ok(_) => Err(TextReason::Count),
         Err(why) => Err(why),
     }
 }
@@ -82,9 +82,9 @@ impl ItemForm for GroupForm {
 
     ghost more = { 0 };
 
-    fn gone(&self, items: &Option<Request>) -> Why {
+    fn gone(&self, items: &Option<Request>) -> TextReason {
         let _ = items;
-        Why::Count
+        TextReason::Count
     }
 
     fn read<R: Read + Drop>(
@@ -103,15 +103,15 @@ impl ItemForm for GroupForm {
                     *items = Some(request);
                     Ok(())
                 }
-                Err(_) => Err(records.fault(Why::Memory)),
+                Err(_) => Err(records.fault(TextReason::Memory)),
             },
             Some(request) => {
                 if !tiles(request, &bio, &self.limits) {
-                    return Err(records.fault(Why::Tile));
+                    return Err(records.fault(TextReason::Tile));
                 }
                 match append(request, bio, &self.limits) {
                     Ok(()) => Ok(()),
-                    Err(AllocError) => Err(records.fault(Why::Memory)),
+                    Err(AllocError) => Err(records.fault(TextReason::Memory)),
                 }
             }
         }

@@ -2,25 +2,25 @@
 
 ghost use Rattle.std.specs.Prelude.{◌≡◌, ◌++◌, ◌≤◌, All, OnOk, length};
 ghost use Rattle.blk_trace.specs.Events.{bios_of};
-ghost use Rattle.blk_lists.specs.Cells.{IsPlainWord};
-ghost use Rattle.blk_lists.specs.Texts.{rows_text};
-ghost use Rattle.drafts.specs.Drafts.{drafted};
+ghost use Rattle.blk_records.specs.Cells.{IsPlainWord};
+ghost use Rattle.blk_records.specs.Texts.{rows_text};
+ghost use Rattle.text_output.specs.Drafts.{drafted};
 ghost use Rattle.blk_text.specs.Inside.TraceRecords.{group_rows, event_rows};
 ghost use Rattle.blk_text.specs.TraceRecords.{BioFits, EventFits};
 
 use crate::bios::push_bio;
 use crate::setup::{DEPTHS, LATEST, MORE_TAGS, QUEUES, WIDTH};
 use blk_bio::{Bio, MAX_SEGMENTS, Request};
-use blk_lists::fault::Why;
-use blk_lists::fields::{ANY_SLOT, Slot, field, read_fields, without_word};
-use blk_lists::items::RecordForm;
-use blk_lists::kinds::Kind;
-use blk_lists::names::FieldName;
-use blk_lists::titles::TitleRow;
+use blk_records::fault::TextReason;
+use blk_records::fields::{ANY_SLOT, Slot, field, read_fields, without_word};
+use blk_records::items::RecordForm;
+use blk_records::kinds::Kind;
+use blk_records::names::FieldName;
+use blk_records::titles::TitleRow;
 use blk_trace::{Event, MAX_EVENTS, MAX_TAGS};
 use csv::ByteRecord;
-use drafts::Block;
 use std::alloc::{AllocError, Allocator};
+use text_output::Block;
 
 /// The title record: the version, the tags, the hardware queues, how many events follow, and an empty field.
 pub const TRACE: TitleRow<9, WIDTH> = TitleRow {
@@ -188,12 +188,12 @@ impl RecordForm for HeadForm {
 
     ghost part = { λ f. first_record f.version };
 
-    fn gone(&self) -> Why {
-        Why::Count
+    fn gone(&self) -> TextReason {
+        TextReason::Count
     }
 
     // Each kind lends the slots of its row: copying them took half as long as reading a record by them.
-    fn value(&self, row: &ByteRecord) -> Result<Event<u64>, Why> {
+    fn value(&self, row: &ByteRecord) -> Result<Event<u64>, TextReason> {
         let word = field(row, 0);
         if TICK.is(word, self.version) {
             read_fields(row, &ALONE)?;

@@ -2,10 +2,10 @@
 
 ghost use Rattle.std.specs.Prelude.{◌≡◌, ◌∷◌, ◌-◌, ◌^◌, ℕ, List, [], codes, map};
 ghost use Rattle.csv.specs.Reading.{default_config, records, strip_bom};
-ghost use Rattle.blk_lists.specs.Sources.{Row};
-ghost use Rattle.blk_lists.specs.Texts.{rows_text};
+ghost use Rattle.blk_records.specs.Sources.{Row};
+ghost use Rattle.blk_records.specs.Texts.{rows_text};
 ghost use Rattle.blk_trace.specs.Traces.{Traced};
-ghost use Rattle.blk_lists.specs.Laws.{ValueOrFault, NeverBoth, OneFault};
+ghost use Rattle.blk_records.specs.Laws.{ValueOrFault, NeverBoth, OneFault};
 ghost use Rattle.blk_text.specs.Script.{Scripted, SpellsScript, ScriptFault, OneScript, ScriptReadsBack};
 ghost use Rattle.blk_text.specs.TraceRecords.{IsTrace};
 ghost use Rattle.blk_text.specs.TraceForm.{trace_rows, SpellsTraceIn, SpellsTrace, TraceTextFault, OneTrace, TraceReadsBack};
@@ -22,9 +22,9 @@ ghost use Rattle.blk_bio.specs.declared.limits.TheConstants.{MAX_QUEUES, MAX_SEC
 ghost use Rattle.blk_trace.specs.declared.event.TheConstants.{MAX_TAGS};
 ghost use Rattle.blk_trace.specs.declared.setup.TheConstants.{MAX_EXPIRIES};
 ghost use Rattle.blk_trace.specs.declared.trace.TheConstants.{MAX_EVENTS};
-ghost use Rattle.blk_lists.specs.declared.fields.TheConstants.{ANY_SLOT};
-ghost use Rattle.blk_lists.specs.declared.fields.Slot.TheVariants as slot;
-ghost use Rattle.blk_lists.specs.declared.names.FieldName.TheVariants as name;
+ghost use Rattle.blk_records.specs.declared.fields.TheConstants.{ANY_SLOT};
+ghost use Rattle.blk_records.specs.declared.fields.Slot.TheVariants as slot;
+ghost use Rattle.blk_records.specs.declared.names.FieldName.TheVariants as name;
 
 /// Scripts: records spell one at most, and in one version. The text of one in a version that has its tags and its steps reads
 /// back as its records, which spell it. Records either spell one or have a fault as one, and not both; and they have one first

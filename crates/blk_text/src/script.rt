@@ -2,31 +2,31 @@
 
 ghost use Rattle.std.specs.Prelude.{◌≡◌, ◌+◌, ◌++◌, ◌∷◌, ◌≤◌, [], IfOk, IfErr, IfSome, OnOk, get_or, length, codes};
 ghost use Rattle.csv.specs.Records.{fields_of};
-ghost use Rattle.blk_lists.specs.Reads.{FaultsBy, IsRowOf, IsWrongRecord, Reaches};
-ghost use Rattle.blk_lists.specs.Texts.{rows_text};
+ghost use Rattle.blk_records.specs.Reads.{FaultsBy, IsRowOf, IsWrongRecord, Reaches};
+ghost use Rattle.blk_records.specs.Texts.{rows_text};
 ghost use Rattle.blk_text.specs.Script.{step, IsScript, SpellsScript, ScriptFault, scripted, script_form};
 ghost use Rattle.blk_text.specs.StepRecords.{step_row};
-ghost use Rattle.drafts.specs.Drafts.{drafted};
+ghost use Rattle.text_output.specs.Drafts.{drafted};
 ghost use Rattle.blk_bio.specs.declared.limits.TheConstants.{MAX_QUEUES as MAX_QUEUES, MAX_SOFT_QUEUES as MAX_SOFT_QUEUES};
-ghost use Rattle.blk_lists.specs.Titles.{IsTitleOf};
+ghost use Rattle.blk_records.specs.Titles.{IsTitleOf};
 
 use crate::bios::{BIO, push_bio, read_bio};
 use crate::heads::{BACK, DEPTH, DONE, ISSUE_WORD, ONE, PLACED, TICK, UNNAMED};
 use crate::setup::{DEPTHS, LATEST, MORE_TAGS, QUEUES, SetupForm, WIDTH};
 use blk_bio::{Bio, MAX_SOFT_DEPTH, MAX_SOFT_QUEUES};
-use blk_lists::fault::{TextFault, Why};
-use blk_lists::fields::{Slot, field, read_fields, without_word};
-use blk_lists::items::{RecordForm, read_record, read_records};
-use blk_lists::kinds::Kind;
-use blk_lists::names::FieldName;
-use blk_lists::source::Records;
-use blk_lists::titles::{TitleRow, read_title};
+use blk_records::fault::{TextFault, TextReason};
+use blk_records::fields::{Slot, field, read_fields, without_word};
+use blk_records::items::{RecordForm, read_record, read_records};
+use blk_records::kinds::Kind;
+use blk_records::names::FieldName;
+use blk_records::source::Records;
+use blk_records::titles::{TitleRow, read_title};
 use blk_trace::{MAX_EVENTS, Setup};
 use csv::ByteRecord;
-use drafts::Block;
-use parts::Repeats;
 use std::alloc::{AllocError, Global};
 use std::io::Read;
+use text_grammar::Repeats;
+use text_output::Block;
 
 /// The most steps of a script.
 pub const MAX_STEPS: u64 = 999_998;
@@ -187,7 +187,7 @@ pub(crate) struct StepForm {
 
 /// The step of a record that is not a bio's.
 #[inline(never)]
-fn short_line(form: &StepForm, row: &ByteRecord) -> Result<Line, Why>
+fn short_line(form: &StepForm, row: &ByteRecord) -> Result<Line, TextReason>
     requires other { ¬ (get_or (fields_of row.now) 0 [] ≡ BIO.word) }
     ensures ok { IfOk result (IsRowOf (step form.now.version form.now.hw form.now.submitters) (fields_of row.now)) }
     ensures err { IfErr result (IsWrongRecord (step form.now.version form.now.hw form.now.submitters) (fields_of row.now)) }
@@ -240,11 +240,11 @@ impl RecordForm for StepForm {
 
     ghost part = { λ f. step f.version f.hw f.submitters };
 
-    fn gone(&self) -> Why {
-        Why::Count
+    fn gone(&self) -> TextReason {
+        TextReason::Count
     }
 
-    fn value(&self, row: &ByteRecord) -> Result<Line, Why> {
+    fn value(&self, row: &ByteRecord) -> Result<Line, TextReason> {
         if BIO.is(field(row, 0), self.version) {
             return match read_bio(row, self.submitters) {
                 Ok(bio) => Ok(Line::Bio(bio)),
@@ -276,8 +276,8 @@ pub fn push_step(draft: &mut Block, step: &Line) -> Result<(), AllocError>
 /// version 1, to [`edd_commands::MAX_DEPTH`] in version 2), the hardware queues, the soft depth and the submitters, a setup, and at
 /// most [`MAX_STEPS`] steps, which set a depth in version 2 alone. No record may have been read before.
 ///
-/// The fault is the first one: of the least record, and in it the first in the order of [`Why`].
-/// [`Why::Read`] and [`Why::Memory`] come at the record that is being read. No record is asked for past
+/// The fault is the first one: of the least record, and in it the first in the order of [`TextReason`].
+/// [`TextReason::Read`] and [`TextReason::Memory`] come at the record that is being read. No record is asked for past
 /// that of the fault, and never more than [`MAX_STEPS`] + 3.
 pub fn read_script<R: Read + Drop>(
     alloc: Global,
@@ -305,7 +305,7 @@ pub fn read_script<R: Read + Drop>(
         Err(fault) => return Err(fault),
     };
     if submitters < queues {
-        return Err(records.fault(Why::Range));
+        return Err(records.fault(TextReason::Range));
     }
     let hw = queues as u8;
     let setup_form = SetupForm { depth, hw };

@@ -2,29 +2,29 @@
 
 ghost use Rattle.std.specs.Prelude.{◌≡◌, ◌++◌, ◌≤◌, ◌<◌, ◌∷◌, [], IfOk, IfErr, OnOk};
 ghost use Rattle.csv.specs.Records.{fields_of};
-ghost use Rattle.blk_lists.specs.Fields.{FieldsSpell};
-ghost use Rattle.blk_lists.specs.Reads.{IsRowOf, IsWrongRecord};
-ghost use Rattle.blk_lists.specs.Texts.{rows_text};
-ghost use Rattle.blk_lists.specs.Words.{StartsWith};
+ghost use Rattle.blk_records.specs.Fields.{FieldsSpell};
+ghost use Rattle.blk_records.specs.Reads.{IsRowOf, IsWrongRecord};
+ghost use Rattle.blk_records.specs.Texts.{rows_text};
+ghost use Rattle.blk_records.specs.Words.{StartsWith};
 ghost use Rattle.blk_text.specs.SetupRecord.{setup_cells, setup_row, IsWholeSetup, setup as setup_part};
-ghost use Rattle.drafts.specs.Drafts.{drafted};
+ghost use Rattle.text_output.specs.Drafts.{drafted};
 ghost use Rattle.blk_bio.specs.declared.limits.TheConstants.{MAX_QUEUES as MAX_QUEUES};
 ghost use Rattle.edd_commands.specs.declared.steps.TheConstants.{MAX_DEPTH as MAX_DEPTH};
-ghost use Rattle.blk_lists.specs.Tables.{slots_by};
-ghost use Rattle.blk_lists.specs.declared.fields.Slot.TheVariants as slot;
+ghost use Rattle.blk_records.specs.Tables.{slots_by};
+ghost use Rattle.blk_records.specs.declared.fields.Slot.TheVariants as slot;
 
 use blk_bio::{Limits, MAX_QUEUES, MAX_SECTORS, MAX_SEGMENTS};
-use blk_lists::fault::Why;
-use blk_lists::fields::{Slot, begins_with, read_fields, without_word};
-use blk_lists::items::RecordForm;
-use blk_lists::kinds::Kind;
-use blk_lists::names::FieldName;
-use blk_lists::titles::Wider;
+use blk_records::fault::TextReason;
+use blk_records::fields::{Slot, begins_with, read_fields, without_word};
+use blk_records::items::RecordForm;
+use blk_records::kinds::Kind;
+use blk_records::names::FieldName;
+use blk_records::titles::Wider;
 use blk_trace::{MAX_EXPIRIES, Setup};
 use csv::ByteRecord;
-use drafts::Block;
 use edd_commands::MAX_DEPTH;
 use std::alloc::AllocError;
+use text_output::Block;
 
 /// How many fields a record of a script and of a trace has.
 pub const WIDTH: usize = 6;
@@ -106,7 +106,7 @@ fn setup_with(row: &ByteRecord, depth: u64, hw: u8, numbers: &[u64; WIDTH]) -> S
 }
 
 /// The setup of a record, for these numbers of tags and hardware queues.
-fn setup_at(row: &ByteRecord, depth: u64, hw: u8) -> Result<Setup, Why>
+fn setup_at(row: &ByteRecord, depth: u64, hw: u8) -> Result<Setup, TextReason>
     requires depth { (0 < depth) × (depth ≤ MAX_DEPTH) }
     requires hw { (0 < hw) × (hw ≤ MAX_QUEUES) }
     ensures ok { IfOk result (IsRowOf (setup_part depth hw) (fields_of row.now)) }
@@ -138,11 +138,11 @@ impl RecordForm for SetupForm {
     ghost part = { λ f. setup_part f.depth f.hw };
 
     #[tactic(auto, using(crate::proofs::ScriptLaws::setup_one))]
-    fn gone(&self) -> Why {
-        Why::Word
+    fn gone(&self) -> TextReason {
+        TextReason::Word
     }
 
-    fn value(&self, row: &ByteRecord) -> Result<Setup, Why> {
+    fn value(&self, row: &ByteRecord) -> Result<Setup, TextReason> {
         setup_at(row, self.depth, self.hw)
     }
 }

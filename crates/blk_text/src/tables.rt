@@ -7,7 +7,7 @@ ghost use Rattle.blk_text.specs.StepKinds.{step_kinds};
 use crate::bios::BIO;
 use crate::heads::{BACK, DEPTH, DONE, ISSUE, JOIN, RELEASE, TICK};
 use crate::script::{DRAIN, FLUSH, RUN, STEP_ISSUE};
-use blk_lists::any::AnyKind;
+use blk_records::any::AnyKind;
 
 /// The kinds of events of a trace, each by the row of its first record.
 pub fn event_kinds() -> [AnyKind; 7]

@@ -1,15 +1,15 @@
 //! Traces.
 
 ghost use Rattle.std.specs.Prelude.{◌≡◌, ◌⊎◌, OnOk, IfOk, IfErr};
-ghost use Rattle.blk_lists.specs.Texts.{rows_text};
+ghost use Rattle.blk_records.specs.Texts.{rows_text};
 ghost use Rattle.blk_text.specs.TraceRecords.{IsTrace};
 ghost use Rattle.blk_text.specs.TraceForm.{trace_rows, SpellsTrace, SpellsTraceIn};
 
 use crate::heads::{TRACE, push_event};
 use crate::setup::{LATEST, push_setup};
 use blk_trace::Trace;
-use drafts::Block;
 use std::alloc::{AllocError, Allocator, Global};
+use text_output::Block;
 
 /// The text of a trace, in the latest version: records of six fields, a title, a setup, and the records of each event, those of a group's bios
 /// after its own in the order of their sectors.

@@ -3,25 +3,25 @@
 
 use crate::forms::{TextKind, first_other};
 use blk_bio::{BioFault, TraceRule};
-use blk_lists::Why;
+use blk_records::TextReason;
 
 #[test]
 fn faults_of_a_command_list(rt: HostRuntime) {
     let texts = [
-        ("", 1, Why::Title),
-        ("blk-commands,1\n", 1, Why::Fields),
-        ("blk-commands,1,01\n", 1, Why::Number),
-        ("blk-commands,1,0\n", 1, Why::Range),
-        ("blk-commands,1,1\n1,0\n", 2, Why::Fields),
+        ("", 1, TextReason::Title),
+        ("blk-commands,1\n", 1, TextReason::Fields),
+        ("blk-commands,1,01\n", 1, TextReason::Number),
+        ("blk-commands,1,0\n", 1, TextReason::Range),
+        ("blk-commands,1,1\n1,0\n", 2, TextReason::Fields),
         (
             "blk-commands,1,1\n1,0,0\n01,99999999999999,0\n",
             3,
-            Why::Number,
+            TextReason::Number,
         ),
         (
             "\nblk-commands,1,1\r\n\r\n\n1,0,0\n\n\n1,0,2199023255552",
             3,
-            Why::Range,
+            TextReason::Range,
         ),
     ];
     assert_eq!(rt; first_other(rt.alloc(), TextKind::Commands, &texts), None);
@@ -30,32 +30,40 @@ fn faults_of_a_command_list(rt: HostRuntime) {
 #[test]
 fn faults_of_a_script(rt: HostRuntime) {
     let texts = [
-        ("blk-scripts,1,1,1,4,1\n", 1, Why::Title),
-        ("blk-script,1,1,1,4\n", 1, Why::Fields),
-        ("blk-script,1,1,x,4,1\n", 1, Why::Number),
-        ("blk-script,1,1,2,4,1\n", 1, Why::Range),
-        ("blk-script,1,1,1,4,1\n", 2, Why::Word),
-        ("blk-script,1,1,1,4,1\nsetup,0,9,256,128", 2, Why::Fields),
-        ("blk-script,1,1,1,4,1\nsetup,0,9,256,129,\n", 2, Why::Range),
+        ("blk-scripts,1,1,1,4,1\n", 1, TextReason::Title),
+        ("blk-script,1,1,1,4\n", 1, TextReason::Fields),
+        ("blk-script,1,1,x,4,1\n", 1, TextReason::Number),
+        ("blk-script,1,1,2,4,1\n", 1, TextReason::Range),
+        ("blk-script,1,1,1,4,1\n", 2, TextReason::Word),
+        (
+            "blk-script,1,1,1,4,1\nsetup,0,9,256,128",
+            2,
+            TextReason::Fields,
+        ),
+        (
+            "blk-script,1,1,1,4,1\nsetup,0,9,256,129,\n",
+            2,
+            TextReason::Range,
+        ),
         (
             "blk-script,1,1,1,4,1\nsetup,0,9,256,128,\ntick",
             3,
-            Why::Fields,
+            TextReason::Fields,
         ),
         (
             "blk-script,1,1,1,4,1\nsetup,0,9,256,128,\ntock,,,,,",
             3,
-            Why::Word,
+            TextReason::Word,
         ),
         (
             "blk-script,1,1,1,4,1\nsetup,0,9,256,128,\ndone,+1,,,,",
             3,
-            Why::Number,
+            TextReason::Number,
         ),
         (
             "blk-script,1,1,1,4,1\nsetup,0,9,256,128,\nrun,0,,,,",
             3,
-            Why::Range,
+            TextReason::Range,
         ),
     ];
     assert_eq!(rt; first_other(rt.alloc(), TextKind::Script, &texts), None);
@@ -64,34 +72,34 @@ fn faults_of_a_script(rt: HostRuntime) {
 #[test]
 fn faults_of_versions(rt: HostRuntime) {
     let texts = [
-        ("blk-script,3,1,1,4,1\n", 1, Why::Title),
-        ("blk-script,01,1,1,4,1\n", 1, Why::Title),
-        ("blk-script,1,65,1,4,1\n", 1, Why::Range),
-        ("blk-script,2,257,1,4,1\n", 1, Why::Range),
+        ("blk-script,3,1,1,4,1\n", 1, TextReason::Title),
+        ("blk-script,01,1,1,4,1\n", 1, TextReason::Title),
+        ("blk-script,1,65,1,4,1\n", 1, TextReason::Range),
+        ("blk-script,2,257,1,4,1\n", 1, TextReason::Range),
         (
             "blk-script,1,1,1,4,1\nsetup,0,9,256,128,\ndepth,1,,,,\n",
             3,
-            Why::Word,
+            TextReason::Word,
         ),
         (
             "blk-script,1,1,1,4,1\nsetup,0,9,256,128,\ndepth,1,,,\n",
             3,
-            Why::Fields,
+            TextReason::Fields,
         ),
         (
             "blk-script,2,1,1,4,1\nsetup,0,9,256,128,\ndepth,1,1,,,\n",
             3,
-            Why::Fields,
+            TextReason::Fields,
         ),
         (
             "blk-script,2,1,1,4,1\nsetup,0,9,256,128,\ndepth,01,,,,\n",
             3,
-            Why::Number,
+            TextReason::Number,
         ),
         (
             "blk-script,1,1,1,4,1\nsetup,0,9,256,128,\nback,65536,,,,\n",
             3,
-            Why::Range,
+            TextReason::Range,
         ),
     ];
     assert_eq!(rt; first_other(rt.alloc(), TextKind::Script, &texts), None);
@@ -103,12 +111,12 @@ fn faults_of_a_bio(rt: HostRuntime) {
         (
             "blk-script,1,1,1,4,1\nsetup,0,9,256,128,\nbio,0,0,R,100,0",
             3,
-            Why::Bio(BioFault::Empty),
+            TextReason::Bio(BioFault::Empty),
         ),
         (
             "blk-script,1,1,1,4,1\nsetup,0,9,256,128,\nbio,0,0,R,281474976710656,1",
             3,
-            Why::Bio(BioFault::Range),
+            TextReason::Bio(BioFault::Range),
         ),
     ];
     assert_eq!(rt; first_other(rt.alloc(), TextKind::Script, &texts), None);
@@ -117,22 +125,30 @@ fn faults_of_a_bio(rt: HostRuntime) {
 #[test]
 fn faults_of_a_certificate(rt: HostRuntime) {
     let texts = [
-        ("blk-commands,1,1,0\n", 1, Why::Title),
-        ("blk-certificate,1,1\n", 1, Why::Fields),
-        ("blk-certificate,1,1,-1\n", 1, Why::Number),
-        ("blk-certificate,1,1,1000001\n", 1, Why::Range),
-        ("blk-certificate,1,1,0\nbound,-5,0,0\n", 2, Why::Range),
-        ("blk-certificate,1,1,1\nbond,0,0,0\n", 2, Why::Word),
-        ("blk-certificate,1,1,1\nbound,-0,0,0\n", 2, Why::Number),
+        ("blk-commands,1,1,0\n", 1, TextReason::Title),
+        ("blk-certificate,1,1\n", 1, TextReason::Fields),
+        ("blk-certificate,1,1,-1\n", 1, TextReason::Number),
+        ("blk-certificate,1,1,1000001\n", 1, TextReason::Range),
+        (
+            "blk-certificate,1,1,0\nbound,-5,0,0\n",
+            2,
+            TextReason::Range,
+        ),
+        ("blk-certificate,1,1,1\nbond,0,0,0\n", 2, TextReason::Word),
+        (
+            "blk-certificate,1,1,1\nbound,-0,0,0\n",
+            2,
+            TextReason::Number,
+        ),
         (
             "blk-certificate,1,1,2\nbound,1,0,0\n1,0,0,0\n",
             4,
-            Why::Count,
+            TextReason::Count,
         ),
         (
             "blk-certificate,1,1,1\nbound,1,0,0\n1,0,0,0\n2,0,0,1\n",
             4,
-            Why::Count,
+            TextReason::Count,
         ),
     ];
     assert_eq!(rt;
@@ -143,7 +159,7 @@ fn faults_of_a_certificate(rt: HostRuntime) {
 
 #[test]
 fn faults_have_names(rt: HostRuntime) {
-    assert_eq!(rt; Why::Bio(BioFault::Range).name(), "Range");
-    assert_eq!(rt; Why::Rule(TraceRule::TagUsed).name(), "TagUsed");
-    assert_eq!(rt; Why::TooLong.name(), "TooLong");
+    assert_eq!(rt; TextReason::Bio(BioFault::Range).name(), "Range");
+    assert_eq!(rt; TextReason::Rule(TraceRule::TagUsed).name(), "TagUsed");
+    assert_eq!(rt; TextReason::TooLong.name(), "TooLong");
 }

@@ -1,7 +1,7 @@
 //! What comes of texts, form by form: what is read of them and written again, and their faults, each by its record and name.
 
-use blk_lists::{
-    Proof, Records, TextFault, Why, certificate_text, commands_text, on_time_text,
+use blk_records::{
+    Proof, Records, TextFault, TextReason, certificate_text, commands_text, on_time_text,
     read_certificate, read_commands, read_on_time, read_proof, read_schedule, schedule_text,
 };
 use blk_text::{read_script, read_trace, trace_text};
@@ -42,7 +42,11 @@ pub fn fault_of<R: Read + Drop>(alloc: Global, form: TextKind, reader: R) -> Opt
 }
 
 /// The place of the first text that has another fault in a form than the one beside it, if there is one.
-pub fn first_other(alloc: Global, form: TextKind, texts: &[(&str, u64, Why)]) -> Option<usize> {
+pub fn first_other(
+    alloc: Global,
+    form: TextKind,
+    texts: &[(&str, u64, TextReason)],
+) -> Option<usize> {
     for (place, (text, at, why)) in texts.iter().enumerate() {
         let fault = TextFault { at: *at, why: *why };
         if fault_of(alloc, form, text.as_bytes()) != Some(fault) {

@@ -1,8 +1,8 @@
 //! The rows of the kinds of records, as they are handed out to whoever lists them.
 
-use blk_lists::any::AnyKind;
-use blk_lists::fields::Slot;
-use blk_lists::names::FieldName;
+use blk_records::any::AnyKind;
+use blk_records::fields::Slot;
+use blk_records::names::FieldName;
 use blk_text::{TRACE, event_kinds, step_kinds};
 
 /// Whether a kind begins with this word, came with this version, and has six fields.

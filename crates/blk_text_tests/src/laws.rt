@@ -2,23 +2,23 @@
 
 #[test]
 fn laws_hold() {
-    blk_lists::laws::commands();
-    blk_lists::laws::certificates();
-    blk_lists::laws::on_time_certificates();
-    blk_lists::laws::certificates_of_both_forms();
-    blk_lists::laws::schedules();
+    blk_records::laws::commands();
+    blk_records::laws::certificates();
+    blk_records::laws::on_time_certificates();
+    blk_records::laws::certificates_of_both_forms();
+    blk_records::laws::schedules();
     blk_text::laws::scripts();
     blk_text::laws::traces();
-    blk_lists::laws::words_of_certificates();
-    blk_lists::laws::words_of_on_time_certificates();
+    blk_records::laws::words_of_certificates();
+    blk_records::laws::words_of_on_time_certificates();
     blk_text::laws::words_of_both();
     blk_text::laws::words_of_scripts();
     blk_text::laws::words_of_traces();
     blk_text::laws::versions_of_rows();
     blk_text::laws::fields_of_scripts();
     blk_text::laws::fields_of_traces();
-    blk_lists::laws::names_of_lists();
-    blk_lists::laws::wordless_rows();
+    blk_records::laws::names_of_lists();
+    blk_records::laws::wordless_rows();
     blk_text::laws::names_of_both();
     blk_text::laws::names_of_scripts();
     blk_text::laws::names_of_traces();

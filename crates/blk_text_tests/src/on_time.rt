@@ -1,7 +1,7 @@
 //! Certificates of the greatest number on time, and certificates of either form.
 
 use crate::forms::{TextKind, first_not_itself, first_other};
-use blk_lists::{Records, Why, read_on_time};
+use blk_records::{Records, TextReason, read_on_time};
 use edd_check::Window;
 
 /// Three commands of one round, of which two are due in round 0: one runs in time there, and one later.
@@ -42,32 +42,36 @@ fn either_form_comes_back(rt: HostRuntime) {
 #[test]
 fn faults_of_what_is_on_time(rt: HostRuntime) {
     let texts = [
-        ("", 1, Why::Title),
-        ("blk-certificate,1,1,0\n", 1, Why::Title),
-        ("blk-met,2,1,0\n", 1, Why::Title),
-        ("blk-met,1,1\n", 1, Why::Fields),
-        ("blk-met,1,1,1000001\n", 1, Why::Range),
-        ("blk-met,1,1,1\n", 2, Why::Word),
-        ("blk-met,1,1,0\nwindow,0,0,\n", 2, Why::Word),
-        ("blk-met,1,1,0\nmet,0,0\n", 2, Why::Fields),
-        ("blk-met,1,1,0\nmet,0,0,0\n", 2, Why::Fields),
-        ("blk-met,1,1,0\nmet,0,01,\n", 2, Why::Number),
-        ("blk-met,1,1,0\nmet,1000001,0,\n", 2, Why::Range),
-        ("blk-met,1,1,0\nmet,0,1000001,\n", 2, Why::Range),
-        ("blk-met,1,1,0\nmet,0,1,\n", 3, Why::Count),
-        ("blk-met,1,1,0\nmet,0,1,\nmet,0,0,\n", 3, Why::Word),
+        ("", 1, TextReason::Title),
+        ("blk-certificate,1,1,0\n", 1, TextReason::Title),
+        ("blk-met,2,1,0\n", 1, TextReason::Title),
+        ("blk-met,1,1\n", 1, TextReason::Fields),
+        ("blk-met,1,1,1000001\n", 1, TextReason::Range),
+        ("blk-met,1,1,1\n", 2, TextReason::Word),
+        ("blk-met,1,1,0\nwindow,0,0,\n", 2, TextReason::Word),
+        ("blk-met,1,1,0\nmet,0,0\n", 2, TextReason::Fields),
+        ("blk-met,1,1,0\nmet,0,0,0\n", 2, TextReason::Fields),
+        ("blk-met,1,1,0\nmet,0,01,\n", 2, TextReason::Number),
+        ("blk-met,1,1,0\nmet,1000001,0,\n", 2, TextReason::Range),
+        ("blk-met,1,1,0\nmet,0,1000001,\n", 2, TextReason::Range),
+        ("blk-met,1,1,0\nmet,0,1,\n", 3, TextReason::Count),
+        ("blk-met,1,1,0\nmet,0,1,\nmet,0,0,\n", 3, TextReason::Word),
         (
             "blk-met,1,1,0\nmet,0,1,\nwindow,0,2199023255552,\n",
             3,
-            Why::Range,
+            TextReason::Range,
         ),
         (
             "blk-met,1,1,1\nmet,0,1,\nwindow,0,0,\n1,0,0\n",
             4,
-            Why::Fields,
+            TextReason::Fields,
         ),
-        ("blk-met,1,1,1\nmet,0,1,\nwindow,0,0,\n", 4, Why::Count),
-        ("blk-met,1,1,0\nmet,0,0,\n1,0,0,0\n", 3, Why::Count),
+        (
+            "blk-met,1,1,1\nmet,0,1,\nwindow,0,0,\n",
+            4,
+            TextReason::Count,
+        ),
+        ("blk-met,1,1,0\nmet,0,0,\n1,0,0,0\n", 3, TextReason::Count),
     ];
     assert_eq!(rt; first_other(rt.alloc(), TextKind::OnTime, &texts), None);
 }
@@ -75,14 +79,14 @@ fn faults_of_what_is_on_time(rt: HostRuntime) {
 #[test]
 fn faults_of_either_form(rt: HostRuntime) {
     let texts = [
-        ("", 1, Why::Title),
-        ("blk-commands,1,1,0\n", 1, Why::Title),
-        ("blk-met,2,1,0\n", 1, Why::Title),
-        ("blk-certificate,1,1\n", 1, Why::Fields),
-        ("blk-met,1,1,1\nbound,0,0,0\n1,0,0,0\n", 2, Why::Word),
-        ("blk-certificate,1,1,0\nmet,0,0,\n", 2, Why::Word),
-        ("blk-met,1,1,1\nmet,0,0,\n", 3, Why::Count),
-        ("blk-certificate,1,1,1\nbound,0,0,0\n", 3, Why::Count),
+        ("", 1, TextReason::Title),
+        ("blk-commands,1,1,0\n", 1, TextReason::Title),
+        ("blk-met,2,1,0\n", 1, TextReason::Title),
+        ("blk-certificate,1,1\n", 1, TextReason::Fields),
+        ("blk-met,1,1,1\nbound,0,0,0\n1,0,0,0\n", 2, TextReason::Word),
+        ("blk-certificate,1,1,0\nmet,0,0,\n", 2, TextReason::Word),
+        ("blk-met,1,1,1\nmet,0,0,\n", 3, TextReason::Count),
+        ("blk-certificate,1,1,1\nbound,0,0,0\n", 3, TextReason::Count),
     ];
     assert_eq!(rt; first_other(rt.alloc(), TextKind::Proof, &texts), None);
 }

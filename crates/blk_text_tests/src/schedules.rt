@@ -1,7 +1,7 @@
 //! Schedules, by whatever scheduler.
 
 use crate::forms::{TextKind, first_not_itself, first_other};
-use blk_lists::{Records, Why, read_schedule};
+use blk_records::{Records, TextReason, read_schedule};
 use edd_commands::Command;
 
 /// Two commands of round 0, of which the one due there runs second, and one that runs before it is released.
@@ -39,20 +39,36 @@ fn schedules_come_back(rt: HostRuntime) {
 #[test]
 fn faults_of_a_schedule(rt: HostRuntime) {
     let texts = [
-        ("", 1, Why::Title),
-        ("blk-certificate,1,1,0\n", 1, Why::Title),
-        ("blk-schedule,2,1,0\n", 1, Why::Title),
-        ("blk-schedule,1,1\n", 1, Why::Fields),
-        ("blk-schedule,1,x,0\n", 1, Why::Number),
-        ("blk-schedule,1,257,0\n", 1, Why::Range),
-        ("blk-schedule,1,1,1000001\n", 1, Why::Range),
-        ("blk-schedule,1,1,1\n1,0,0\n", 2, Why::Fields),
-        ("blk-schedule,1,1,1\n1,0,0,-1\n", 2, Why::Number),
-        ("blk-schedule,1,1,1\n1,1099511627776,0,0\n", 2, Why::Range),
-        ("blk-schedule,1,1,1\n1,0,2199023255552,0\n", 2, Why::Range),
-        ("blk-schedule,1,1,1\n1,0,0,2199023255552\n", 2, Why::Range),
-        ("blk-schedule,1,1,2\n1,0,0,0\n", 3, Why::Count),
-        ("blk-schedule,1,1,1\n1,0,0,0\n2,0,0,1\n", 3, Why::Count),
+        ("", 1, TextReason::Title),
+        ("blk-certificate,1,1,0\n", 1, TextReason::Title),
+        ("blk-schedule,2,1,0\n", 1, TextReason::Title),
+        ("blk-schedule,1,1\n", 1, TextReason::Fields),
+        ("blk-schedule,1,x,0\n", 1, TextReason::Number),
+        ("blk-schedule,1,257,0\n", 1, TextReason::Range),
+        ("blk-schedule,1,1,1000001\n", 1, TextReason::Range),
+        ("blk-schedule,1,1,1\n1,0,0\n", 2, TextReason::Fields),
+        ("blk-schedule,1,1,1\n1,0,0,-1\n", 2, TextReason::Number),
+        (
+            "blk-schedule,1,1,1\n1,1099511627776,0,0\n",
+            2,
+            TextReason::Range,
+        ),
+        (
+            "blk-schedule,1,1,1\n1,0,2199023255552,0\n",
+            2,
+            TextReason::Range,
+        ),
+        (
+            "blk-schedule,1,1,1\n1,0,0,2199023255552\n",
+            2,
+            TextReason::Range,
+        ),
+        ("blk-schedule,1,1,2\n1,0,0,0\n", 3, TextReason::Count),
+        (
+            "blk-schedule,1,1,1\n1,0,0,0\n2,0,0,1\n",
+            3,
+            TextReason::Count,
+        ),
     ];
     assert_eq!(rt; first_other(rt.alloc(), TextKind::Schedule, &texts), None);
 }
@@ -63,20 +79,32 @@ fn ids_stand_once(rt: HostRuntime) {
         (
             "blk-schedule,1,1,3\n1,0,0,0\n2,0,0,1\n1,5,5,5\n",
             4,
-            Why::RepeatedId,
+            TextReason::RepeatedId,
         ),
         // fewer than announced, and a number that is none, come later
-        ("blk-schedule,1,1,4\n1,0,0,0\n1,0,0,1\n", 3, Why::RepeatedId),
+        (
+            "blk-schedule,1,1,4\n1,0,0,0\n1,0,0,1\n",
+            3,
+            TextReason::RepeatedId,
+        ),
         (
             "blk-schedule,1,1,3\n1,0,0,0\n1,0,0,1\nx,0,0,2\n",
             3,
-            Why::RepeatedId,
+            TextReason::RepeatedId,
         ),
         // a record's own fault comes before it
-        ("blk-schedule,1,1,2\n1,0,0,0\n1,0,0,x\n", 3, Why::Number),
+        (
+            "blk-schedule,1,1,2\n1,0,0,0\n1,0,0,x\n",
+            3,
+            TextReason::Number,
+        ),
         // and it before one record too many
-        ("blk-schedule,1,1,1\n1,0,0,0\n1,0,0,1\n", 3, Why::RepeatedId),
+        (
+            "blk-schedule,1,1,1\n1,0,0,0\n1,0,0,1\n",
+            3,
+            TextReason::RepeatedId,
+        ),
     ];
     assert_eq!(rt; first_other(rt.alloc(), TextKind::Schedule, &texts), None);
-    assert_eq!(rt; Why::RepeatedId.name(), "RepeatedId");
+    assert_eq!(rt; TextReason::RepeatedId.name(), "RepeatedId");
 }

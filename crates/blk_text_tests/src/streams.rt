@@ -1,7 +1,7 @@
 //! Texts whose reader fails after a number of bytes.
 
 use crate::forms::{TextKind, fault_of};
-use blk_lists::{TextFault, Why};
+use blk_records::{TextFault, TextReason};
 use std::alloc::Global;
 use std::io;
 use std::io::{ErrorKind, Read};
@@ -49,7 +49,10 @@ fn fault_after(text: &str, count: usize) -> Option<TextFault> {
             at = at.saturating_add(1);
         }
     }
-    Some(TextFault { at, why: Why::Read })
+    Some(TextFault {
+        at,
+        why: TextReason::Read,
+    })
 }
 
 /// Whether a text whose reader fails after a number of bytes has the fault of that read in a form, for each number of its bytes, and
@@ -75,7 +78,7 @@ fn a_read_that_fails(rt: HostRuntime) {
 }
 
 /// Whether a text whose reader fails after this number of bytes has this fault of its second record in a form.
-fn is_before(alloc: Global, form: TextKind, text: &str, count: usize, why: Why) -> bool {
+fn is_before(alloc: Global, form: TextKind, text: &str, count: usize, why: TextReason) -> bool {
     fault_of(alloc, form, cut(text, count)) == Some(TextFault { at: 2, why })
 }
 
@@ -83,9 +86,9 @@ fn is_before(alloc: Global, form: TextKind, text: &str, count: usize, why: Why) 
 fn a_fault_before_the_read_that_fails(rt: HostRuntime) {
     let alloc = rt.alloc();
     let text = "blk-commands,1,1\n1,0,x\n2,0,0\n";
-    assert!(rt; is_before(alloc, TextKind::Commands, text, 24, Why::Number));
+    assert!(rt; is_before(alloc, TextKind::Commands, text, 24, TextReason::Number));
     let text = "blk-script,1,1,1,4,1\nsetup,0,9,256,129,\ntick,,,,,\n";
-    assert!(rt; is_before(alloc, TextKind::Script, text, 42, Why::Range));
+    assert!(rt; is_before(alloc, TextKind::Script, text, 42, TextReason::Range));
     let text = "blk-certificate,1,1,1\nbond,1,0,0\n1,0,0,0\n";
-    assert!(rt; is_before(alloc, TextKind::Certificate, text, 35, Why::Word));
+    assert!(rt; is_before(alloc, TextKind::Certificate, text, 35, TextReason::Word));
 }

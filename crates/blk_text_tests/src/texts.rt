@@ -2,7 +2,7 @@
 
 use crate::forms::{TextKind, first_not_itself, first_unlike};
 use blk_bio::{Bio, BioId, Dir, Limits, Request};
-use blk_lists::{Records, read_certificate};
+use blk_records::{Records, read_certificate};
 use blk_text::{Line, read_script, trace_text};
 use blk_trace::{Event, Setup, Trace};
 use edd_check::Window;

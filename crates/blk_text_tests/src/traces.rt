@@ -3,7 +3,7 @@
 use crate::forms::{TextKind, first_other, first_unlike};
 use crate::texts::JOINED;
 use blk_bio::BioFault;
-use blk_lists::Why;
+use blk_records::TextReason;
 use blk_trace::TraceRule;
 
 #[test]
@@ -25,42 +25,42 @@ fn both_versions_come_back(rt: HostRuntime) {
 #[test]
 fn faults_of_a_trace(rt: HostRuntime) {
     let texts = [
-        ("", 1, Why::Title),
-        ("blk-trace,3,1,1,8,\n", 1, Why::Title),
-        ("blk-trace,1,65,1,0,\n", 1, Why::Range),
-        ("blk-trace,2,257,1,0,\n", 1, Why::Range),
-        ("blk-trace,1,1,1,1000001,\n", 1, Why::Range),
-        ("blk-trace,1,1,1,0,x\n", 1, Why::Fields),
-        ("blk-trace,1,1,1,0,\n", 2, Why::Word),
+        ("", 1, TextReason::Title),
+        ("blk-trace,3,1,1,8,\n", 1, TextReason::Title),
+        ("blk-trace,1,65,1,0,\n", 1, TextReason::Range),
+        ("blk-trace,2,257,1,0,\n", 1, TextReason::Range),
+        ("blk-trace,1,1,1,1000001,\n", 1, TextReason::Range),
+        ("blk-trace,1,1,1,0,x\n", 1, TextReason::Fields),
+        ("blk-trace,1,1,1,0,\n", 2, TextReason::Word),
         (
             "blk-trace,1,1,1,2,\nsetup,0,9,256,128,\ntick,,,,,\n",
             4,
-            Why::Count,
+            TextReason::Count,
         ),
         (
             "blk-trace,1,1,1,1,\nsetup,0,9,256,128,\nbio,0,0,W,100,8\n",
             3,
-            Why::Word,
+            TextReason::Word,
         ),
         (
             "blk-trace,1,1,1,1,\nsetup,0,9,256,128,\ndepth,1,,,,\n",
             3,
-            Why::Word,
+            TextReason::Word,
         ),
         (
             "blk-trace,2,1,1,1,\nsetup,0,9,256,128,\ndepth,2,,,,\n",
             3,
-            Why::Rule(TraceRule::DepthRange),
+            TextReason::Rule(TraceRule::DepthRange),
         ),
         (
             "blk-trace,1,1,1,1,\nsetup,0,9,256,128,\nissue,0,00,,,\n",
             3,
-            Why::Number,
+            TextReason::Number,
         ),
         (
             "blk-trace,1,1,1,1,\nsetup,0,9,256,128,\nissue,0,0,,,\n",
             3,
-            Why::Rule(TraceRule::Unknown),
+            TextReason::Rule(TraceRule::Unknown),
         ),
     ];
     assert_eq!(rt; first_other(rt.alloc(), TextKind::Trace, &texts), None);
@@ -72,52 +72,52 @@ fn faults_of_a_group(rt: HostRuntime) {
         (
             "blk-trace,1,1,1,1,\nsetup,0,9,256,128,\nrelease,0,129,,,\n",
             3,
-            Why::Range,
+            TextReason::Range,
         ),
         (
             "blk-trace,1,1,1,1,\nsetup,0,9,256,128,\nrelease,0,2,,,\nbio,0,0,W,100,8\n",
             5,
-            Why::Count,
+            TextReason::Count,
         ),
         (
             "blk-trace,1,1,1,1,\nsetup,0,9,256,128,\nrelease,0,2,,,\nbio,0,0,W,100,8\ntick,,,,,\n",
             5,
-            Why::Count,
+            TextReason::Count,
         ),
         (
             "blk-trace,1,1,1,1,\nsetup,0,9,256,128,\nrelease,0,2,,,\nbio,0,0,W,100,8\ntick,x,,,,\n",
             5,
-            Why::Fields,
+            TextReason::Fields,
         ),
         (
             "blk-trace,1,1,1,1,\nsetup,0,9,256,128,\nrelease,0,2,,,\nbio,0,0,W,100,8\nfoo,,,,,\n",
             5,
-            Why::Word,
+            TextReason::Word,
         ),
         (
             "blk-trace,1,1,1,1,\nsetup,0,9,256,128,\njoin,0,2,,,\nbio,0,0,W,100,8\nbio,0,1,R,108,8\n",
             5,
-            Why::Tile,
+            TextReason::Tile,
         ),
         (
             "blk-trace,1,1,1,1,\nsetup,0,9,256,128,\njoin,0,2,,,\nbio,0,0,W,100,8\nbio,0,1,W,92,8\n",
             5,
-            Why::Tile,
+            TextReason::Tile,
         ),
         (
             "blk-trace,1,1,1,1,\nsetup,0,9,256,1,\njoin,0,2,,,\nbio,0,0,W,100,8\nbio,0,1,W,108,8\n",
             5,
-            Why::Tile,
+            TextReason::Tile,
         ),
         (
             "blk-trace,1,1,1,1,\nsetup,0,9,256,128,\njoin,0,1,,,\nbio,0,0,W,100,0\n",
             4,
-            Why::Bio(BioFault::Empty),
+            TextReason::Bio(BioFault::Empty),
         ),
         (
             "blk-trace,1,1,1,1,\nsetup,0,9,256,128,\njoin,0,1,,,\nbio,0,0,W,100,8\n",
             3,
-            Why::Rule(TraceRule::Unknown),
+            TextReason::Rule(TraceRule::Unknown),
         ),
     ];
     assert_eq!(rt; first_other(rt.alloc(), TextKind::Trace, &texts), None);
@@ -129,27 +129,27 @@ fn events_past_the_announced_number(rt: HostRuntime) {
         (
             "blk-trace,1,1,1,0,\nsetup,0,9,256,128,\ntick,,,,,\n",
             3,
-            Why::Count,
+            TextReason::Count,
         ),
         (
             "blk-trace,1,1,1,0,\nsetup,0,9,256,128,\ndone,0,,,,\n",
             3,
-            Why::Rule(TraceRule::NotIssued),
+            TextReason::Rule(TraceRule::NotIssued),
         ),
         (
             "blk-trace,1,1,1,0,\nsetup,0,9,256,128,\nback,0,,,,\n",
             3,
-            Why::Rule(TraceRule::NotIssued),
+            TextReason::Rule(TraceRule::NotIssued),
         ),
         (
             "blk-trace,1,1,1,0,\nsetup,0,9,256,128,\njoin,0,1,,,\nbio,x\n",
             3,
-            Why::Count,
+            TextReason::Count,
         ),
         (
             "blk-trace,1,1,1,0,\nsetup,0,9,256,128,\njoin,0,0,,,\n",
             3,
-            Why::Range,
+            TextReason::Range,
         ),
     ];
     assert_eq!(rt; first_other(rt.alloc(), TextKind::Trace, &texts), None);

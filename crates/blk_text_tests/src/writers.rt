@@ -1,8 +1,8 @@
 //! Which calls a writer gets, where it is interrupted, where it isn't ready, and of a long text.
 
-use drafts::{Output, WriteFault};
 use std::io;
 use std::io::{ErrorKind, Write};
+use text_output::{Output, WriteFault};
 
 /// A writer that answers its first calls with these faults, one to each, and takes all at each later one.
 #[derive(Drop)]

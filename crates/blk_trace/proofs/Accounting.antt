@@ -14,7 +14,7 @@ use Rattle.blk_trace.specs.Kinds.{issues, requeues}
 use Rattle.blk_trace.specs.Setups.{Setup}
 use Rattle.blk_trace.specs.Events.{join_up, request_of, entered, bios_of, IsReleased, IsOpen, IsOpenBy}
 use Rattle.blk_trace.specs.Legal.{IsLegalTrace}
-use Rattle.blk_trace.specs.Rules.{IsUnbroken}
+use Rattle.blk_trace.specs.Rules.{BreaksNoRule}
 use Rattle.blk_trace.specs.Meaning.{served, issued_ids, released_ids, put_rising, rising, waiting_ids, waiting_of}
 use Rattle.blk_trace.specs.Waits.{has_id}
 use Rattle.blk_trace.specs.Laws.{IsAccounted}
@@ -197,10 +197,10 @@ quiet setup es e a b n c r ih =
     subst (λ l. IsPermutation l (entered fs)) (sym all) (subst (IsPermutation (all_of es)) (sym enters) ih)
 
 -- the parts of ids that were released before a Release
-issued_parts : (setup : Setup) (es : List Happened) (e : Happened) → IsLegalTrace setup es → IsUnbroken setup es e → flat_map (request_of (es ++ e ∷ [])) (issued_ids es) ≡ flat_map (request_of es) (issued_ids es)
+issued_parts : (setup : Setup) (es : List Happened) (e : Happened) → IsLegalTrace setup es → BreaksNoRule setup es e → flat_map (request_of (es ++ e ∷ [])) (issued_ids es) ≡ flat_map (request_of es) (issued_ids es)
 issued_parts setup es e old all = parts_same (request_of (es ++ e ∷ [])) (request_of es) (issued_ids es) (λ x h. (same_entered setup es e x (stays_out setup es e x old all (has_issued es x h))).request)
 
-on_released : (setup : Setup) (es : List Happened) (i : ℕ) (q : List Bio) → IsLegalTrace setup es → IsUnbroken setup es (Release i q) → IsPermutation (all_of es) (entered es) → IsPermutation (all_of (es ++ Release i q ∷ [])) (entered (es ++ Release i q ∷ []))
+on_released : (setup : Setup) (es : List Happened) (i : ℕ) (q : List Bio) → IsLegalTrace setup es → BreaksNoRule setup es (Release i q) → IsPermutation (all_of es) (entered es) → IsPermutation (all_of (es ++ Release i q ∷ [])) (entered (es ++ Release i q ∷ []))
 unfolding waiting released_ids issued_ids
 on_released setup es i q old all ih =
     let e : Happened = Release i q in
@@ -224,7 +224,7 @@ on_released setup es i q old all ih =
     ap (λ l. flat_map f l ++ flat_map f (waiting fs)) issued ∙ ap (λ l. flat_map f (issued_ids es) ++ flat_map f l) waits ∙ ap (λ l. l ++ flat_map f (waiting es ++ i ∷ [])) (issued_parts setup es e old all) ∙ ap (λ l. flat_map g (issued_ids es) ++ l) last ∙ sym (append_assoc (flat_map g (issued_ids es)) (flat_map g (waiting es)) q) in
     subst (λ l. IsPermutation l (entered fs)) (sym is) (subst (IsPermutation (all_of es ++ q)) (sym (entered_more es e)) (IsPermutation-append_left q (all_of es) (entered es) ih))
 
-on_joined : (setup : Setup) (es : List Happened) (i : ℕ) (q : List Bio) → IsLegalTrace setup es → IsUnbroken setup es (Join i q) → IsPermutation (all_of es) (entered es) → IsPermutation (all_of (es ++ Join i q ∷ [])) (entered (es ++ Join i q ∷ []))
+on_joined : (setup : Setup) (es : List Happened) (i : ℕ) (q : List Bio) → IsLegalTrace setup es → BreaksNoRule setup es (Join i q) → IsPermutation (all_of es) (entered es) → IsPermutation (all_of (es ++ Join i q ∷ [])) (entered (es ++ Join i q ∷ []))
 unfolding waiting released_ids issued_ids
 on_joined setup es i q old all ih =
     let e : Happened = Join i q in
@@ -247,7 +247,7 @@ on_joined setup es i q old all ih =
     trans _ (flat_map g (issued_ids es) ++ (flat_map g (waiting es) ++ q)) _ (IsPermutation-append_right (flat_map g (issued_ids es)) (flat_map f (waiting es)) (flat_map g (waiting es) ++ q) more) (same _ _ (sym (append_assoc (flat_map g (issued_ids es)) (flat_map g (waiting es)) q))) in
     subst (λ l. IsPermutation l (entered fs)) (sym is) (subst (IsPermutation (flat_map g (issued_ids es) ++ flat_map f (waiting es))) (sym (entered_more es e)) (trans _ (all_of es ++ q) _ moved (IsPermutation-append_left q (all_of es) (entered es) ih)))
 
-on_issued : (setup : Setup) (es : List Happened) (i t : ℕ) → IsLegalTrace setup es → IsUnbroken setup es (Issue i t) → IsPermutation (all_of es) (entered es) → IsPermutation (all_of (es ++ Issue i t ∷ [])) (entered (es ++ Issue i t ∷ []))
+on_issued : (setup : Setup) (es : List Happened) (i t : ℕ) → IsLegalTrace setup es → BreaksNoRule setup es (Issue i t) → IsPermutation (all_of es) (entered es) → IsPermutation (all_of (es ++ Issue i t ∷ [])) (entered (es ++ Issue i t ∷ []))
 unfolding waiting released_ids issued_ids
 on_issued setup es i t old all ih =
     let e : Happened = Issue i t in
@@ -290,7 +290,7 @@ moved f i xs ys ws vs h =
     (trans _ (flat_map f xs ++ (flat_map f ys ++ (f i ++ flat_map f ws))) _ (same _ _ (append_assoc (flat_map f xs) (flat_map f ys) (f i ++ flat_map f ws)))
     (trans _ (flat_map f xs ++ ((f i ++ flat_map f ys) ++ flat_map f ws)) _ (IsPermutation-append_right (flat_map f xs) (flat_map f ys ++ (f i ++ flat_map f ws)) ((f i ++ flat_map f ys) ++ flat_map f ws) swap) (same _ _ (sym (append_assoc (flat_map f xs) (f i ++ flat_map f ys) (flat_map f ws)))))))
 
-on_requeued : (setup : Setup) (es : List Happened) (t : ℕ) → IsLegalTrace setup es → IsUnbroken setup es (Back t) → IsPermutation (all_of es) (entered es) → IsPermutation (all_of (es ++ Back t ∷ [])) (entered (es ++ Back t ∷ []))
+on_requeued : (setup : Setup) (es : List Happened) (t : ℕ) → IsLegalTrace setup es → BreaksNoRule setup es (Back t) → IsPermutation (all_of es) (entered es) → IsPermutation (all_of (es ++ Back t ∷ [])) (entered (es ++ Back t ∷ []))
 unfolding waiting released_ids
 on_requeued setup es t old all ih =
     let e : Happened = Back t in
@@ -320,7 +320,7 @@ on_requeued setup es t old all ih =
     subst (λ l. IsPermutation l (entered fs)) (sym is) (subst (IsPermutation (flat_map g (back.ids_before ++ back.ids_after) ++ flat_map g (filter p (released_ids es)))) (sym enters)
     (trans _ (all_of es) _ (subst (IsPermutation (flat_map g (back.ids_before ++ back.ids_after) ++ flat_map g (filter p (released_ids es)))) was (moved g o.id back.ids_before back.ids_after (waiting es) (filter p (released_ids es)) more)) ih))
 
-account_step : (setup : Setup) (es : List Happened) (e : Happened) → IsLegalTrace setup es → IsUnbroken setup es e → IsPermutation (all_of es) (entered es) → IsPermutation (all_of (es ++ e ∷ [])) (entered (es ++ e ∷ []))
+account_step : (setup : Setup) (es : List Happened) (e : Happened) → IsLegalTrace setup es → BreaksNoRule setup es e → IsPermutation (all_of es) (entered es) → IsPermutation (all_of (es ++ e ∷ [])) (entered (es ++ e ∷ []))
 unfolding released_ids issued_ids
 account_step setup es (Release i q) old all ih = on_released setup es i q old all ih
 account_step setup es (Join i q) old all ih = on_joined setup es i q old all ih

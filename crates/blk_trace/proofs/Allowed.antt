@@ -9,7 +9,7 @@ use Rattle.blk_trace.specs.Kinds.{issues, ends}
 use Rattle.blk_trace.specs.Setups.{Setup}
 use Rattle.blk_trace.specs.Events.{open_count, IsIssued, IsOpen}
 use Rattle.blk_trace.specs.Legal.{IsLegalTrace}
-use Rattle.blk_trace.specs.Rules.{Obeys, IsUnbroken}
+use Rattle.blk_trace.specs.Rules.{Obeys, BreaksNoRule}
 use Rattle.blk_trace.specs.Waits.{Entered, unissued_at}
 use Rattle.blk_trace.specs.Inside.Allowed.{IsAllowed, MayEnd, places_of}
 use Rattle.blk_trace.proofs.Words.{OnlyEnds, only_ends, if_some}
@@ -46,7 +46,7 @@ enough setup events e (Some tag) end i legal allowed room =
     let may = allowed_end setup events e tag end allowed in
     room_end setup events e tag end legal (seat_open setup events tag may.0 legal may.1)
 
-pub allowed-unbroken : (setup : Setup) (events : List Happened) (e : Happened) → IsLegalTrace setup events → IsAllowed setup events e → length events + open_count events + places_of e ≤ MAX_EVENTS → IsUnbroken setup events e
+pub allowed-unbroken : (setup : Setup) (events : List Happened) (e : Happened) → IsLegalTrace setup events → IsAllowed setup events e → length events + open_count events + places_of e ≤ MAX_EVENTS → BreaksNoRule setup events e
 allowed-unbroken setup events (Release id bios) legal allowed room ReleasedTwice = allowed.0
 allowed-unbroken setup events (Join id bios) legal allowed room Unknown = has_released events id (joinable setup events id allowed.0 allowed.2).released
 allowed-unbroken setup events (Issue id tag) legal allowed room Unknown = has_released events id (waiting_from setup events id allowed.0 allowed.1).released

@@ -11,7 +11,7 @@ use Rattle.blk_trace.specs.Events.{At, round_of, round_at}
 use Rattle.blk_trace.specs.Meaning.{timed}
 use Rattle.blk_trace.specs.Depths.{changes_of, depth_in, depth_now, IsLastBefore, HasNoneBefore}
 use Rattle.blk_trace.specs.Legal.{IsLegalTrace}
-use Rattle.blk_trace.specs.Rules.{IsUnbroken}
+use Rattle.blk_trace.specs.Rules.{BreaksNoRule}
 use Rattle.blk_trace.specs.Inside.Kept.{HasDepths}
 use Rattle.std.proofs.lemmas.Option.{slice_get_within}
 use Rattle.blk_trace.proofs.Places.{split, keep, last, before, before_last}
@@ -34,7 +34,7 @@ depth_all : (setup : Setup) (P : ℕ → Type 0) → P setup.depth → ((d : ℕ
 depth_all setup P first each es legal x =
     by_legal setup (λ l. P (depth_in setup l x)) (subst P (sym (depth_start setup x)) first) (λ l e new old all ih. more l e all ih) es legal
   where
-    by_set : (l : List Happened) (e : Happened) (o : Option ℕ) → sets_depth e ≡ o → IsUnbroken setup l e → P (depth_in setup l x) → P (depth_in setup (l ++ e ∷ []) x)
+    by_set : (l : List Happened) (e : Happened) (o : Option ℕ) → sets_depth e ≡ o → BreaksNoRule setup l e → P (depth_in setup l x) → P (depth_in setup (l ++ e ∷ []) x)
     by_set l e None h all ih = subst P (sym (depth_kept setup l e x h)) ih
     by_set l e (Some d) h all ih =
         let range = some_of (sets_depth e) (λ (n : ℕ). (0 < n) × (n ≤ setup.depth)) d h (all DepthRange) in
@@ -43,7 +43,7 @@ depth_all setup P first each es legal x =
           | inr b ↦ subst P (sym (depth_past setup l e x b)) ih
         ]
 
-    more : (l : List Happened) (e : Happened) → IsUnbroken setup l e → P (depth_in setup l x) → P (depth_in setup (l ++ e ∷ []) x)
+    more : (l : List Happened) (e : Happened) → BreaksNoRule setup l e → P (depth_in setup l x) → P (depth_in setup (l ++ e ∷ []) x)
     more l e all ih = by_set l e (sets_depth e) refl all ih
 
 -- no round carries more than there are tags, and each carries some

@@ -11,7 +11,7 @@ use Rattle.blk_trace.specs.Kinds.{releases, issues, requeues}
 use Rattle.blk_trace.specs.Setups.{Setup}
 use Rattle.blk_trace.specs.Events.{IsReleased}
 use Rattle.blk_trace.specs.Legal.{IsLegalTrace}
-use Rattle.blk_trace.specs.Rules.{IsUnbroken}
+use Rattle.blk_trace.specs.Rules.{BreaksNoRule}
 use Rattle.blk_trace.specs.Meaning.{issued_ids, released_ids, put_rising, rising, waiting_ids}
 use Rattle.blk_trace.specs.Waits.{has_id, waiting_count}
 use Rattle.blk_trace.proofs.Pushing.{shorter_legal, obeys}
@@ -75,7 +75,7 @@ count_once p q u c xs h at n =
     omega (arith, now)
 
 -- an id stands once among the released ones
-once_step : (setup : Setup) (u : ℕ) (es : List Happened) (e : Happened) → IsUnbroken setup es e → count_by (λ t. u == t) (released_ids es) ≡ cond (has_id (released_ids es) u) 1 0 → count_by (λ t. u == t) (released_ids (es ++ e ∷ [])) ≡ cond (has_id (released_ids (es ++ e ∷ [])) u) 1 0
+once_step : (setup : Setup) (u : ℕ) (es : List Happened) (e : Happened) → BreaksNoRule setup es e → count_by (λ t. u == t) (released_ids es) ≡ cond (has_id (released_ids es) u) 1 0 → count_by (λ t. u == t) (released_ids (es ++ e ∷ [])) ≡ cond (has_id (released_ids (es ++ e ∷ [])) u) 1 0
 unfolding released_ids
 once_step setup u es (Release i q) all ih =
     let more : count_by (λ t. u == t) (released_ids (es ++ Release i q ∷ [])) ≡ count_by (λ t. u == t) (released_ids es) + one_if (u == i) = ap (count_by (λ t. u == t)) (released_more es (Release i q ∷ [])) ∙ count_push (λ t. u == t) (released_ids es) i in

@@ -13,7 +13,7 @@ use Rattle.blk_trace.specs.Kinds.{enters, requeues, enters_under}
 use Rattle.blk_trace.specs.Setups.{Setup, expire_of}
 use Rattle.blk_trace.specs.Events.{round_of, join_up, request_of, IsReleased, IsIssued}
 use Rattle.blk_trace.specs.Legal.{IsLegalTrace}
-use Rattle.blk_trace.specs.Rules.{IsUnbroken}
+use Rattle.blk_trace.specs.Rules.{BreaksNoRule}
 use Rattle.blk_trace.specs.Meaning.{timed, release_of, due_of, issued_ids, released_ids, least}
 use Rattle.blk_trace.specs.Waits.{has_id}
 use Rattle.blk_trace.proofs.More.{new_ids, request_more, release_more, dues, dues_more, due_is, round_more}
@@ -54,7 +54,7 @@ pub record HasNothing (setup : Setup) (es : List Happened) (id : ℕ) : Type 0 w
   pub dues_are : dues setup es id ≡ []
 
 -- a request enters under an id that was released, or that is now
-enters_not : (setup : Setup) (es : List Happened) (e : Happened) (id : ℕ) → IsUnbroken setup es e → has_id (released_ids es) id ≡ false → has_id (released_ids (e ∷ [])) id ≡ false → enters_as id e ≡ false
+enters_not : (setup : Setup) (es : List Happened) (e : Happened) (id : ℕ) → BreaksNoRule setup es e → has_id (released_ids es) id ≡ false → has_id (released_ids (e ∷ [])) id ≡ false → enters_as id e ≡ false
 unfolding released_ids
 enters_not setup es (Release i q) id all a b = (or_parts (i == id) false b).0
 enters_not setup es (Join i q) id all a b =
@@ -177,13 +177,13 @@ pub has_issued_same : (es : List Happened) (e : Happened) (id : ℕ) → requeue
 has_issued_same es e id n h = has_issued_more es e id n ∙ or_no _ _ h
 
 -- a Release of an id that was not released
-pub nothing_before : (setup : Setup) (es : List Happened) (i id : ℕ) (q : List Bio) → IsLegalTrace setup es → IsUnbroken setup es (Release i q) → (i == id) ≡ true → HasNothing setup es id
+pub nothing_before : (setup : Setup) (es : List Happened) (i id : ℕ) (q : List Bio) → IsLegalTrace setup es → BreaksNoRule setup es (Release i q) → (i == id) ≡ true → HasNothing setup es id
 nothing_before setup es i id q old all t =
     let same : i ≡ id = eqb-true i id t in
     nothing setup es id old (not_released es id (subst (λ x. IsReleased es x → ⊥) same (all ReleasedTwice)))
 
 -- one more event
-soon_more : (setup : Setup) (es : List Happened) (e : Happened) (id : ℕ) → IsLegalTrace setup es → IsUnbroken setup es e → (has_id (released_ids es) id ≡ true → IsDueSoon setup es id) → has_id (released_ids (es ++ e ∷ [])) id ≡ true → IsDueSoon setup (es ++ e ∷ []) id
+soon_more : (setup : Setup) (es : List Happened) (e : Happened) (id : ℕ) → IsLegalTrace setup es → BreaksNoRule setup es e → (has_id (released_ids es) id ≡ true → IsDueSoon setup es id) → has_id (released_ids (es ++ e ∷ [])) id ≡ true → IsDueSoon setup (es ++ e ∷ []) id
 unfolding released_ids
 soon_more setup es (Release i q) id old all ih h =
     elim (cases_Bool (i == id)) [
@@ -207,7 +207,7 @@ soon setup es id legal h =
     by_legal setup (λ l. has_id (released_ids l) id ≡ true → IsDueSoon setup l id) (λ t. absurd (cc)) (λ es e new old all ih t. soon_more setup es e id old all ih t) es legal h
 
 -- no event that obeys the rules enters a request under an id that was issued
-pub stays_out : (setup : Setup) (es : List Happened) (e : Happened) (id : ℕ) → IsLegalTrace setup es → IsUnbroken setup es e → IsIssued es id → enters_as id e ≡ false
+pub stays_out : (setup : Setup) (es : List Happened) (e : Happened) (id : ℕ) → IsLegalTrace setup es → BreaksNoRule setup es e → IsIssued es id → enters_as id e ≡ false
 stays_out setup es (Release i q) id old all p = ne_eqb i id (λ same. all ReleasedTwice (subst (IsReleased es) (sym same) (released_first setup es id old p)))
 stays_out setup es (Join i q) id old all p = ne_eqb i id (λ same. all AlreadyIssued (subst (IsIssued es) (sym same) p))
 stays_out setup es e id old all p = refl

@@ -8,7 +8,7 @@ use Rattle.blk_bio.specs.declared.rule.TraceRule.TheVariants.{ReleasedTwice, Unk
 use Rattle.blk_trace.specs.Kinds.{ends}
 use Rattle.blk_trace.specs.Events.{IsOpen}
 use Rattle.blk_trace.specs.Setups.{Setup}
-use Rattle.blk_trace.specs.Rules.{Obeys, rank, IsFirstBroken, IsUnbroken}
+use Rattle.blk_trace.specs.Rules.{Obeys, rank, IsFirstBroken, BreaksNoRule}
 
 -- no rule comes after the last one
 abbrev beyond : ℕ
@@ -39,7 +39,7 @@ tick_in_flight setup es fails = record { broken = fails; first = tick_rules setu
 pub tick_too_long : (setup : Setup) (es : List Happened) → Obeys setup es Tick InFlight → (Obeys setup es Tick TooLong → ⊥) → IsFirstBroken setup es Tick TooLong
 tick_too_long setup es a0 fails = record { broken = fails; first = tick_rules setup es (rank TooLong) (λ _. a0) (λ h. absurd (omega (arith, h))) }
 
-pub tick_unbroken : (setup : Setup) (es : List Happened) → Obeys setup es Tick InFlight → Obeys setup es Tick TooLong → IsUnbroken setup es Tick
+pub tick_unbroken : (setup : Setup) (es : List Happened) → Obeys setup es Tick InFlight → Obeys setup es Tick TooLong → BreaksNoRule setup es Tick
 tick_unbroken setup es a0 a1 = λ r. tick_rules setup es beyond (λ _. a0) (λ _. a1) r (all_before r)
 
 -- the rules that concern a Release, each where it comes before the n-th; it obeys all others
@@ -62,7 +62,7 @@ release_fit setup es id q a0 a1 fails = record { broken = fails; first = release
 pub release_too_long : (setup : Setup) (es : List Happened) (id : ℕ) (q : List Bio) → Obeys setup es (Release id q) ReleasedTwice → Obeys setup es (Release id q) BioTwice → Obeys setup es (Release id q) Fit → (Obeys setup es (Release id q) TooLong → ⊥) → IsFirstBroken setup es (Release id q) TooLong
 release_too_long setup es id q a0 a1 a2 fails = record { broken = fails; first = release_rules setup es id q (rank TooLong) (λ _. a0) (λ _. a1) (λ _. a2) (λ h. absurd (omega (arith, h))) }
 
-pub release_unbroken : (setup : Setup) (es : List Happened) (id : ℕ) (q : List Bio) → Obeys setup es (Release id q) ReleasedTwice → Obeys setup es (Release id q) BioTwice → Obeys setup es (Release id q) Fit → Obeys setup es (Release id q) TooLong → IsUnbroken setup es (Release id q)
+pub release_unbroken : (setup : Setup) (es : List Happened) (id : ℕ) (q : List Bio) → Obeys setup es (Release id q) ReleasedTwice → Obeys setup es (Release id q) BioTwice → Obeys setup es (Release id q) Fit → Obeys setup es (Release id q) TooLong → BreaksNoRule setup es (Release id q)
 release_unbroken setup es id q a0 a1 a2 a3 = λ r. release_rules setup es id q beyond (λ _. a0) (λ _. a1) (λ _. a2) (λ _. a3) r (all_before r)
 
 -- the rules that concern a Join, each where it comes before the n-th; it obeys all others
@@ -89,7 +89,7 @@ join_fit setup es id q a0 a1 a2 fails = record { broken = fails; first = join_ru
 pub join_too_long : (setup : Setup) (es : List Happened) (id : ℕ) (q : List Bio) → Obeys setup es (Join id q) Unknown → Obeys setup es (Join id q) AlreadyIssued → Obeys setup es (Join id q) BioTwice → Obeys setup es (Join id q) Fit → (Obeys setup es (Join id q) TooLong → ⊥) → IsFirstBroken setup es (Join id q) TooLong
 join_too_long setup es id q a0 a1 a2 a3 fails = record { broken = fails; first = join_rules setup es id q (rank TooLong) (λ _. a0) (λ _. a1) (λ _. a2) (λ _. a3) (λ h. absurd (omega (arith, h))) }
 
-pub join_unbroken : (setup : Setup) (es : List Happened) (id : ℕ) (q : List Bio) → Obeys setup es (Join id q) Unknown → Obeys setup es (Join id q) AlreadyIssued → Obeys setup es (Join id q) BioTwice → Obeys setup es (Join id q) Fit → Obeys setup es (Join id q) TooLong → IsUnbroken setup es (Join id q)
+pub join_unbroken : (setup : Setup) (es : List Happened) (id : ℕ) (q : List Bio) → Obeys setup es (Join id q) Unknown → Obeys setup es (Join id q) AlreadyIssued → Obeys setup es (Join id q) BioTwice → Obeys setup es (Join id q) Fit → Obeys setup es (Join id q) TooLong → BreaksNoRule setup es (Join id q)
 join_unbroken setup es id q a0 a1 a2 a3 a4 = λ r. join_rules setup es id q beyond (λ _. a0) (λ _. a1) (λ _. a2) (λ _. a3) (λ _. a4) r (all_before r)
 
 -- the rules that concern an Issue, each where it comes before the n-th; it obeys all others
@@ -116,7 +116,7 @@ issue_tag_used setup es id tag a0 a1 a2 fails = record { broken = fails; first =
 pub issue_too_long : (setup : Setup) (es : List Happened) (id tag : ℕ) → Obeys setup es (Issue id tag) Unknown → Obeys setup es (Issue id tag) AlreadyIssued → Obeys setup es (Issue id tag) TagRange → Obeys setup es (Issue id tag) TagUsed → (Obeys setup es (Issue id tag) TooLong → ⊥) → IsFirstBroken setup es (Issue id tag) TooLong
 issue_too_long setup es id tag a0 a1 a2 a3 fails = record { broken = fails; first = issue_rules setup es id tag (rank TooLong) (λ _. a0) (λ _. a1) (λ _. a2) (λ _. a3) (λ h. absurd (omega (arith, h))) }
 
-pub issue_unbroken : (setup : Setup) (es : List Happened) (id tag : ℕ) → Obeys setup es (Issue id tag) Unknown → Obeys setup es (Issue id tag) AlreadyIssued → Obeys setup es (Issue id tag) TagRange → Obeys setup es (Issue id tag) TagUsed → Obeys setup es (Issue id tag) TooLong → IsUnbroken setup es (Issue id tag)
+pub issue_unbroken : (setup : Setup) (es : List Happened) (id tag : ℕ) → Obeys setup es (Issue id tag) Unknown → Obeys setup es (Issue id tag) AlreadyIssued → Obeys setup es (Issue id tag) TagRange → Obeys setup es (Issue id tag) TagUsed → Obeys setup es (Issue id tag) TooLong → BreaksNoRule setup es (Issue id tag)
 issue_unbroken setup es id tag a0 a1 a2 a3 a4 = λ r. issue_rules setup es id tag beyond (λ _. a0) (λ _. a1) (λ _. a2) (λ _. a3) (λ _. a4) r (all_before r)
 
 -- the rules that concern what ends an Issue, each where it comes before the n-th; it obeys all others
@@ -133,7 +133,7 @@ end_not_issued setup es e tag is fails = record {
   first = end_rules setup es e tag (rank NotIssued) is (λ h. absurd (omega (arith, h))) (λ h. absurd (omega (arith, h)));
 }
 
-pub end_unbroken : (setup : Setup) (es : List Happened) (e : Happened) (tag : ℕ) → ends e ≡ Some tag → IsOpen es tag → Obeys setup es e TooLong → IsUnbroken setup es e
+pub end_unbroken : (setup : Setup) (es : List Happened) (e : Happened) (tag : ℕ) → ends e ≡ Some tag → IsOpen es tag → Obeys setup es e TooLong → BreaksNoRule setup es e
 end_unbroken setup es e tag is o room = λ r. end_rules setup es e tag beyond is (λ _. subst (λ x. IfSome x (λ t. IsOpen es t)) (sym is) o) (λ _. room) r (all_before r)
 
 -- the rules that concern a Depth, each where it comes before the n-th; it obeys all others
@@ -148,5 +148,5 @@ depth_too_long setup es depth fails = record { broken = fails; first = depth_rul
 pub depth_range : (setup : Setup) (es : List Happened) (depth : ℕ) → Obeys setup es (Depth depth) TooLong → (Obeys setup es (Depth depth) DepthRange → ⊥) → IsFirstBroken setup es (Depth depth) DepthRange
 depth_range setup es depth a0 fails = record { broken = fails; first = depth_rules setup es depth (rank DepthRange) (λ _. a0) (λ h. absurd (omega (arith, h))) }
 
-pub depth_unbroken : (setup : Setup) (es : List Happened) (depth : ℕ) → Obeys setup es (Depth depth) TooLong → Obeys setup es (Depth depth) DepthRange → IsUnbroken setup es (Depth depth)
+pub depth_unbroken : (setup : Setup) (es : List Happened) (depth : ℕ) → Obeys setup es (Depth depth) TooLong → Obeys setup es (Depth depth) DepthRange → BreaksNoRule setup es (Depth depth)
 depth_unbroken setup es depth a0 a1 = λ r. depth_rules setup es depth beyond (λ _. a0) (λ _. a1) r (all_before r)

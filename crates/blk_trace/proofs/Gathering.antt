@@ -20,7 +20,7 @@ use Rattle.blk_trace.specs.Kinds.{enters}
 use Rattle.blk_trace.specs.Setups.{Setup}
 use Rattle.blk_trace.specs.Events.{join_up, request_of, IsReleased}
 use Rattle.blk_trace.specs.Legal.{IsLegalTrace}
-use Rattle.blk_trace.specs.Rules.{IsUnbroken}
+use Rattle.blk_trace.specs.Rules.{BreaksNoRule}
 use Rattle.blk_trace.specs.Meaning.{issued_ids, released_ids, release_of, due_of}
 use Rattle.blk_trace.specs.Waits.{Entered, has_id, waits_at}
 use Rattle.blk_trace.specs.Inside.Gathered.{waiting_bios, bios_unless, enters_to_stay, with_event, TakesJoin}
@@ -64,7 +64,7 @@ stays_true true h = refl
 stays_true false h = absurd (cc)
 
 -- what is there after one more event whose id isn't gone in the end
-more_released : (setup : Setup) (gone : ℕ → Bool) (es : List Happened) (i : ℕ) (q : List Bio) → IsLegalTrace setup es → IsUnbroken setup es (Release i q) → gone i ≡ false → (id : ℕ) → bios_unless gone (es ++ Release i q ∷ []) id ≡ cond (i == id) (Some q) (bios_unless gone es id)
+more_released : (setup : Setup) (gone : ℕ → Bool) (es : List Happened) (i : ℕ) (q : List Bio) → IsLegalTrace setup es → BreaksNoRule setup es (Release i q) → gone i ≡ false → (id : ℕ) → bios_unless gone (es ++ Release i q ∷ []) id ≡ cond (i == id) (Some q) (bios_unless gone es id)
 unfolding released_ids
 more_released setup gone es i q legal all stays id =
     elim (cases_Bool (i == id)) [
@@ -77,7 +77,7 @@ more_released setup gone es i q legal all stays id =
       | inr b ↦ bios_same gone es (es ++ Release i q ∷ []) id (has_released_same es (Release i q) id (rw b refl)) (same_entered setup es (Release i q) id b).request ∙ sym (rw b refl)
     ]
 
-more_joined : (setup : Setup) (gone : ℕ → Bool) (es : List Happened) (i : ℕ) (q : List Bio) → IsUnbroken setup es (Join i q) → gone i ≡ false → (id : ℕ) → bios_unless gone (es ++ Join i q ∷ []) id ≡ cond (i == id) (option_map (λ old. join_up old q) (bios_unless gone es i)) (bios_unless gone es id)
+more_joined : (setup : Setup) (gone : ℕ → Bool) (es : List Happened) (i : ℕ) (q : List Bio) → BreaksNoRule setup es (Join i q) → gone i ≡ false → (id : ℕ) → bios_unless gone (es ++ Join i q ∷ []) id ≡ cond (i == id) (option_map (λ old. join_up old q) (bios_unless gone es i)) (bios_unless gone es id)
 unfolding released_ids
 more_joined setup gone es i q all stays id =
     let here : IsReleased es i = all Unknown in

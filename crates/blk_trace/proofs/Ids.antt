@@ -11,7 +11,7 @@ use Rattle.blk_trace.specs.Kinds.{releases, issues, requeues, is_tick}
 use Rattle.blk_trace.specs.Setups.{Setup}
 use Rattle.blk_trace.specs.Events.{At, ends_requeued, IsReleased, IsIssued, AreRequeued}
 use Rattle.blk_trace.specs.Legal.{IsLegalTrace}
-use Rattle.blk_trace.specs.Rules.{IsUnbroken}
+use Rattle.blk_trace.specs.Rules.{BreaksNoRule}
 use Rattle.blk_trace.specs.Meaning.{service, served, issued_ids, released_ids}
 use Rattle.blk_trace.specs.Waits.{has_id, was_issued}
 use Rattle.blk_trace.proofs.Places.{of_take}
@@ -40,7 +40,7 @@ pub by_events : (P : List Happened → Type 0) → P [] → ((es : List Happened
 by_events P base step es = from_right P base step (length es) es refl
 
 -- induction over legal lists, one event after the other
-pub by_legal : (setup : Setup) (P : List Happened → Type 0) → P [] → ((es : List Happened) (e : Happened) → IsLegalTrace setup (es ++ e ∷ []) → IsLegalTrace setup es → IsUnbroken setup es e → P es → P (es ++ e ∷ [])) → (es : List Happened) → IsLegalTrace setup es → P es
+pub by_legal : (setup : Setup) (P : List Happened → Type 0) → P [] → ((es : List Happened) (e : Happened) → IsLegalTrace setup (es ++ e ∷ []) → IsLegalTrace setup es → BreaksNoRule setup es e → P es → P (es ++ e ∷ [])) → (es : List Happened) → IsLegalTrace setup es → P es
 by_legal setup P base step es legal =
     by_events (λ l. IsLegalTrace setup l → P l) (λ _. base) (λ l e h new. step l e new (shorter_legal setup l e new) (obeys setup l e new) (h (shorter_legal setup l e new))) es legal
 

@@ -22,7 +22,7 @@ use Rattle.blk_trace.specs.Kinds.{releases, joins}
 use Rattle.blk_trace.specs.Setups.{Setup, IsSetup, expire_of}
 use Rattle.blk_trace.specs.Events.{round_of, open_count, entered, bios_of, join_up, request_of, IsOpenBy}
 use Rattle.blk_trace.specs.Legal.{IsLegalTrace}
-use Rattle.blk_trace.specs.Rules.{IsUnbroken}
+use Rattle.blk_trace.specs.Rules.{BreaksNoRule}
 use Rattle.blk_trace.specs.Meaning.{release_of, due_of, served, commands_of, rounds_of, issued_ids, released_ids}
 use Rattle.blk_trace.specs.Waits.{Entered, has_id, waits_at}
 use Rattle.blk_trace.specs.Traces.{IsPreparedFor}
@@ -71,7 +71,7 @@ requests_kept setup es e r j old id h =
     let was : has_id (released_ids es) id ≡ true = sym (has_released_same es e id (ap (λ o. has_id (cons_option (option_map (λ p. p.0) o) []) id) r)) ∙ h in
     subst IsRequest (sym same.request) (old id was)
 
-requests_released : (setup : Setup) (es : List Happened) (i : ℕ) (bios : List Bio) → IsLegalTrace setup es → IsUnbroken setup es (Release i bios) → IsRequest bios → AreRequests es → AreRequests (es ++ Release i bios ∷ [])
+requests_released : (setup : Setup) (es : List Happened) (i : ℕ) (bios : List Bio) → IsLegalTrace setup es → BreaksNoRule setup es (Release i bios) → IsRequest bios → AreRequests es → AreRequests (es ++ Release i bios ∷ [])
 unfolding released_ids
 requests_released setup es i bios legal all some old id h =
     elim (cases_Bool (i == id)) [
@@ -86,7 +86,7 @@ requests_released setup es i bios legal all some old id h =
           subst IsRequest (sym same.request) (old id was)
     ]
 
-requests_joined : (setup : Setup) (es : List Happened) (i : ℕ) (bios : List Bio) → IsUnbroken setup es (Join i bios) → IsRequest bios → AreRequests es → AreRequests (es ++ Join i bios ∷ [])
+requests_joined : (setup : Setup) (es : List Happened) (i : ℕ) (bios : List Bio) → BreaksNoRule setup es (Join i bios) → IsRequest bios → AreRequests es → AreRequests (es ++ Join i bios ∷ [])
 unfolding released_ids
 requests_joined setup es i bios all request old id h =
     let was : has_id (released_ids es) id ≡ true = sym (has_released_same es (Join i bios) id refl) ∙ h in
@@ -107,7 +107,7 @@ waiting_request setup es id w some h =
     subst IsRequest (sym was.bios_is) (some id was.released)
 
 pub kept_tick : (setup : Setup) (es zs : List Happened) (cs : List Command) (rs : List ℕ) (round opened : ℕ) (known : ℕ → Option Known) (ids : BioId → Bool) (tags tags' : List TagUse)
-    → IsKeptTrace setup es cs rs round opened known ids tags → IsUnbroken setup es Tick → zs ≡ es ++ Tick ∷ [] → tags' ≡ replicate (length tags) Free
+    → IsKeptTrace setup es cs rs round opened known ids tags → BreaksNoRule setup es Tick → zs ≡ es ++ Tick ∷ [] → tags' ≡ replicate (length tags) Free
     → IsKeptTrace setup zs cs rs (round + 1) opened known ids tags'
 kept_tick setup es zs cs rs round opened known ids tags tags' k all hz ht =
     let new = push_legal setup es Tick k.legal all tt in
@@ -128,7 +128,7 @@ kept_tick setup es zs cs rs round opened known ids tags tags' k all hz ht =
     subst (λ t. P zs t) (sym ht) (subst (λ l. P l (replicate (length tags) Free)) (sym hz) here)
 
 pub kept_done : (setup : Setup) (es zs : List Happened) (tag : ℕ) (cs : List Command) (rs : List ℕ) (round opened : ℕ) (known : ℕ → Option Known) (ids : BioId → Bool) (tags : List TagUse)
-    → IsKeptTrace setup es cs rs round opened known ids tags → IsUnbroken setup es (Done tag) → zs ≡ es ++ Done tag ∷ []
+    → IsKeptTrace setup es cs rs round opened known ids tags → BreaksNoRule setup es (Done tag) → zs ≡ es ++ Done tag ∷ []
     → IsKeptTrace setup zs cs rs round (opened - 1) known ids (set tags tag Ended)
 kept_done setup es zs tag cs rs round opened known ids tags k all hz =
     let new = push_legal setup es (Done tag) k.legal all tt in
@@ -177,7 +177,7 @@ kept_out setup es tag id place c d cs rs round opened known ids tags k by at is 
 
 -- after a Back the command is no longer kept, and its request waits again
 pub kept_back : (setup : Setup) (es zs : List Happened) (tag id : ℕ) (cs ds : List Command) (rs ss : List ℕ) (round opened : ℕ) (known known' : ℕ → Option Known) (ids : BioId → Bool) (tags : List TagUse)
-    → IsKeptTrace setup es cs rs round opened known ids tags → IsUnbroken setup es (Back tag) → IsOpenBy es tag id → zs ≡ es ++ Back tag ∷ []
+    → IsKeptTrace setup es cs rs round opened known ids tags → BreaksNoRule setup es (Back tag) → IsOpenBy es tag id → zs ≡ es ++ Back tag ∷ []
     → ds ≡ commands_of setup (es ++ Back tag ∷ []) → ss ≡ rounds_of (es ++ Back tag ∷ [])
     → ((q : ℕ) → known' q ≡ cond (id == q) (Some (Requeued (release_of es id) (due_of setup es id))) (known q))
     → IsKeptTrace setup zs ds ss round (opened - 1) known' ids (set tags tag Ended)
@@ -202,7 +202,7 @@ kept_back setup es zs tag id cs ds rs ss round opened known known' ids tags k al
     subst P (sym hz) here
 
 pub kept_issue : (setup : Setup) (es zs : List Happened) (id tag : ℕ) (w : Entered) (cs ds : List Command) (rs ss : List ℕ) (round opened : ℕ) (known known' : ℕ → Option Known) (ids : BioId → Bool) (tags : List TagUse)
-    → IsKeptTrace setup es cs rs round opened known ids tags → IsUnbroken setup es (Issue id tag) → zs ≡ es ++ Issue id tag ∷ []
+    → IsKeptTrace setup es cs rs round opened known ids tags → BreaksNoRule setup es (Issue id tag) → zs ≡ es ++ Issue id tag ∷ []
     → waits_at setup es id ≡ Some w → ds ≡ cs ++ record { id = id; release = w.release; due = w.due } ∷ [] → ss ≡ rs ++ round ∷ []
     → ((q : ℕ) → known' q ≡ cond (id == q) (Some Gone) (known q))
     → IsKeptTrace setup zs ds ss round (opened + 1) known' ids (set tags tag (Open id))
@@ -225,7 +225,7 @@ kept_issue setup es zs id tag w cs ds rs ss round opened known known' ids tags k
     subst P (sym hz) here
 
 pub kept_release : (setup : Setup) (es zs : List Happened) (id : ℕ) (bios : List Bio) (s : Unissued) (cs : List Command) (rs : List ℕ) (round opened : ℕ) (known known' : ℕ → Option Known) (ids ids' : BioId → Bool) (tags : List TagUse)
-    → IsKeptTrace setup es cs rs round opened known ids tags → IsUnbroken setup es (Release id bios) → zs ≡ es ++ Release id bios ∷ [] → IsRequest bios
+    → IsKeptTrace setup es cs rs round opened known ids tags → BreaksNoRule setup es (Release id bios) → zs ≡ es ++ Release id bios ∷ [] → IsRequest bios
     → s ≡ summary record { release = round; due = round + expire_of setup (dir_of bios); bios = bios }
     → ((q : ℕ) → known' q ≡ cond (id == q) (Some (Waits s)) (known q)) → ((b : BioId) → ids' b ≡ (ids b || has_bio_id bios b))
     → IsKeptTrace setup zs cs rs round opened known' ids' tags
@@ -249,7 +249,7 @@ kept_release setup es zs id bios s cs rs round opened known known' ids ids' tags
     subst P (sym hz) here
 
 pub kept_join : (setup : Setup) (es zs : List Happened) (id : ℕ) (bios : List Bio) (w : Entered) (s : Unissued) (cs : List Command) (rs : List ℕ) (round opened : ℕ) (known known' : ℕ → Option Known) (ids ids' : BioId → Bool) (tags : List TagUse)
-    → IsKeptTrace setup es cs rs round opened known ids tags → IsUnbroken setup es (Join id bios) → zs ≡ es ++ Join id bios ∷ [] → IsRequest bios
+    → IsKeptTrace setup es cs rs round opened known ids tags → BreaksNoRule setup es (Join id bios) → zs ≡ es ++ Join id bios ∷ [] → IsRequest bios
     → waits_at setup es id ≡ Some w → s ≡ summary record { release = round; due = w.due; bios = join_up w.bios bios }
     → ((q : ℕ) → known' q ≡ cond (id == q) (Some (Waits s)) (known q)) → ((b : BioId) → ids' b ≡ (ids b || has_bio_id bios b))
     → IsKeptTrace setup zs cs rs round opened known' ids' tags
@@ -273,7 +273,7 @@ kept_join setup es zs id bios w s cs rs round opened known known' ids ids' tags 
     subst P (sym hz) here
 
 pub kept_depth : (setup : Setup) (es zs : List Happened) (depth : ℕ) (cs : List Command) (rs : List ℕ) (round opened : ℕ) (known : ℕ → Option Known) (ids : BioId → Bool) (tags : List TagUse)
-    → IsKeptTrace setup es cs rs round opened known ids tags → IsUnbroken setup es (Depth depth) → zs ≡ es ++ Depth depth ∷ []
+    → IsKeptTrace setup es cs rs round opened known ids tags → BreaksNoRule setup es (Depth depth) → zs ≡ es ++ Depth depth ∷ []
     → IsKeptTrace setup zs cs rs round opened known ids tags
 kept_depth setup es zs depth cs rs round opened known ids tags k all hz =
     let new = push_legal setup es (Depth depth) k.legal all tt in

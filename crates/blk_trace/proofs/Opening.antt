@@ -17,7 +17,7 @@ use Rattle.blk_trace.specs.Setups.{Setup, same_dir}
 use Rattle.blk_trace.specs.Events.{is_tick, open_count, request_of, IsOpen}
 use Rattle.blk_trace.specs.Meaning.{release_of, due_of}
 use Rattle.blk_trace.specs.Legal.{IsLegalTrace}
-use Rattle.blk_trace.specs.Rules.{IsUnbroken}
+use Rattle.blk_trace.specs.Rules.{BreaksNoRule}
 use Rattle.blk_trace.specs.Waits.{Entered, waits_at}
 use Rattle.blk_trace.specs.Inside.Seats.{RoundSeat, seat_at, this_round, issued_by, issue_tag, is_flying, flying_of}
 use Rattle.blk_trace.proofs.Words.{OnlyEnds, only_ends, no_tag}
@@ -52,7 +52,7 @@ number (Some _) = 1
 once_kept : (u : ℕ) (es : List Happened) (e : Happened) → is_tick e ≡ false → issue_tag e ≡ None → issued_by u e ≡ None → count_by (λ t. u == t) (tags es) ≡ number (taken es u) → count_by (λ t. u == t) (tags (es ++ e ∷ [])) ≡ number (taken (es ++ e ∷ []) u)
 once_kept u es e h n i ih = ap (count_by (λ t. u == t)) (tags_kept es e h n) ∙ ih ∙ ap number (sym (taken_kept es e u h i))
 
-once_step : (setup : Setup) (u : ℕ) (es : List Happened) (e : Happened) → IsUnbroken setup es e → count_by (λ t. u == t) (tags es) ≡ number (taken es u) → count_by (λ t. u == t) (tags (es ++ e ∷ [])) ≡ number (taken (es ++ e ∷ []) u)
+once_step : (setup : Setup) (u : ℕ) (es : List Happened) (e : Happened) → BreaksNoRule setup es e → count_by (λ t. u == t) (tags es) ≡ number (taken es u) → count_by (λ t. u == t) (tags (es ++ e ∷ [])) ≡ number (taken (es ++ e ∷ []) u)
 once_step setup u es Tick all ih = ap (count_by (λ t. u == t)) (tags_tick es) ∙ ap number (sym (taken_tick es u))
 once_step setup u es (Issue i v) all ih =
     let more : count_by (λ t. u == t) (tags (es ++ Issue i v ∷ [])) ≡ count_by (λ t. u == t) (tags es) + one_if (u == v) = ap (count_by (λ t. u == t)) (tags_more es (Issue i v) refl) ∙ count_push (λ t. u == t) (tags es) v in

@@ -14,7 +14,7 @@ use Rattle.blk_trace.specs.Setups.{Setup}
 use Rattle.blk_trace.specs.Events.{At, EntersRequest, round_of, round_at, bios_of, entered, open_count, AreOnce, IsOpen}
 use Rattle.blk_trace.specs.Depths.{depth_in, depth_now}
 use Rattle.blk_trace.specs.Legal.{IsLegalTrace}
-use Rattle.blk_trace.specs.Rules.{Obeys, IsUnbroken}
+use Rattle.blk_trace.specs.Rules.{Obeys, BreaksNoRule}
 use Rattle.blk_trace.proofs.Places.{split, keep, last, before, before_last}
 use Rattle.blk_trace.proofs.Words.{if_some, some_of, keep_end, split_end}
 use Rattle.blk_trace.proofs.More.{more_of, round_within}
@@ -73,7 +73,7 @@ now_below : (setup : Setup) (es : List Happened) (n : ℕ) → n < depth_now set
 now_below setup es n h = omega (arith, h, depth_now_is setup es)
 
 -- a legal list with an event that obeys each rule, and whose bios are a request, is legal
-pub push_legal : (setup : Setup) (es : List Happened) (e : Happened) → IsLegalTrace setup es → IsUnbroken setup es e → EntersRequest e → IsLegalTrace setup (es ++ e ∷ [])
+pub push_legal : (setup : Setup) (es : List Happened) (e : Happened) → IsLegalTrace setup es → BreaksNoRule setup es e → EntersRequest e → IsLegalTrace setup (es ++ e ∷ [])
 push_legal setup es e old all request =
     let told : (x : Happened) (r : TraceRule) → e ≡ x → Obeys setup es x r = λ x r h. subst (λ y. Obeys setup es y r) h (all r) in
     record {
@@ -202,7 +202,7 @@ shorter_legal setup es e new =
     }
 
 -- the last event of a legal list obeys each rule after those before it
-pub obeys : (setup : Setup) (es : List Happened) (e : Happened) → IsLegalTrace setup (es ++ e ∷ []) → IsUnbroken setup es e
+pub obeys : (setup : Setup) (es : List Happened) (e : Happened) → IsLegalTrace setup (es ++ e ∷ []) → BreaksNoRule setup es e
 obeys setup es (Release id q) new ReleasedTwice =
     λ p. absurd (omega (arith, new.released_once p.0 (length es) id p.1.0 q (keep es _ p.0 _ p.1.1) (last es _), slice_get_within es p.0 _ p.1.1))
 obeys setup es (Join id n) new Unknown = rw (before_last es (Join id n) (length es) refl) at (new.join_released (length es) id n (last es _))

@@ -13,7 +13,7 @@ use Rattle.blk_trace.specs.Kinds.{issues, ends, requeues, is_done_of, is_tick}
 use Rattle.blk_trace.specs.Setups.{Setup}
 use Rattle.blk_trace.specs.Events.{At, EndsAt, ends_requeued, IsOpen, IsUsed, IsOpenBy}
 use Rattle.blk_trace.specs.Legal.{IsLegalTrace}
-use Rattle.blk_trace.specs.Rules.{IsUnbroken}
+use Rattle.blk_trace.specs.Rules.{BreaksNoRule}
 use Rattle.blk_trace.specs.Meaning.{service, served, issued_ids, rounds_of}
 use Rattle.blk_trace.specs.Waits.{has_id}
 use Rattle.blk_trace.specs.Inside.Seats.{issued_by}
@@ -208,7 +208,7 @@ ends_none : (t : ℕ) (e : Happened) → is_done_of t e ≡ true → issued_by t
 ends_none t (Issue i u) h = absurd (cc)
 ends_none t e h = refl
 
-few_step : (setup : Setup) (t : ℕ) (es : List Happened) (e : Happened) → IsLegalTrace setup es → IsUnbroken setup es e → AreFew t es → AreFew t (es ++ e ∷ [])
+few_step : (setup : Setup) (t : ℕ) (es : List Happened) (e : Happened) → IsLegalTrace setup es → BreaksNoRule setup es e → AreFew t es → AreFew t (es ++ e ∷ [])
 unfolding AreFew
 few_step setup t es e old all ih =
     elim (cases_Bool (is_done_of t e)) [
@@ -371,7 +371,7 @@ distinct_out : (xs ys : List ℕ) (i : ℕ) → AreDistinct (xs ++ i ∷ ys) →
 unfolding AreDistinct
 distinct_out xs ys i old u = omega (arith, old u, count_append (λ x. u == x) xs (i ∷ ys), count_append (λ x. u == x) xs ys, count-cons (λ x. u == x) i ys)
 
-distinct_step : (setup : Setup) (es : List Happened) (e : Happened) → IsLegalTrace setup es → IsUnbroken setup es e → AreDistinct (issued_ids es) → AreDistinct (issued_ids (es ++ e ∷ []))
+distinct_step : (setup : Setup) (es : List Happened) (e : Happened) → IsLegalTrace setup es → BreaksNoRule setup es e → AreDistinct (issued_ids es) → AreDistinct (issued_ids (es ++ e ∷ []))
 distinct_step setup es (Issue i t) old all ih =
     subst AreDistinct (sym (issued_more es (Issue i t) refl)) (distinct_push (issued_ids es) i (all_back es i (all AlreadyIssued)) ih)
 distinct_step setup es (Back t) old all ih =

@@ -10,7 +10,7 @@ use Rattle.blk_trace.specs.Happened.{Happened, Tick, Issue, Back}
 use Rattle.blk_trace.specs.Setups.{Setup}
 use Rattle.blk_trace.specs.Depths.{depth_in, depth_now}
 use Rattle.blk_trace.specs.Legal.{IsLegalTrace}
-use Rattle.blk_trace.specs.Rules.{IsUnbroken}
+use Rattle.blk_trace.specs.Rules.{BreaksNoRule}
 use Rattle.blk_trace.specs.Events.{is_tick, round_of, round_at, request_of, IsOpen}
 use Rattle.blk_trace.specs.Meaning.{served, issued_ids, release_of, due_of, command_of, commands_of, rounds_of}
 use Rattle.blk_trace.specs.Waits.{Entered, waits_at}
@@ -71,7 +71,7 @@ starts_out (b ∷ cs) ds c (q ∷ rs) ss r even old =
     let rest : StartsWell (cs ++ ds) (rs ++ ss) = starts_out cs ds c rs ss r (omega arith) (record { one_each = omega (arith, old.one_each); released = λ k d l. old.released (suc k) d (omega arith) }) in
     record { one_each = omega (arith, rest.one_each); released = starts_first b cs ds q rs ss (old.released 0 b (omega arith)) rest.released }
 
-starts_step : (setup : Setup) (es : List Happened) (e : Happened) → IsLegalTrace setup (es ++ e ∷ []) → IsUnbroken setup es e → StartsWell (commands_of setup es) (rounds_of es) → StartsWell (commands_of setup (es ++ e ∷ [])) (rounds_of (es ++ e ∷ []))
+starts_step : (setup : Setup) (es : List Happened) (e : Happened) → IsLegalTrace setup (es ++ e ∷ []) → BreaksNoRule setup es e → StartsWell (commands_of setup es) (rounds_of es) → StartsWell (commands_of setup (es ++ e ∷ [])) (rounds_of (es ++ e ∷ []))
 starts_step setup es (Issue i t) new all ih =
     let w : Entered = record { release = release_of es i; due = due_of setup es i; bios = request_of es i } in
     let waits : waits_at setup es i ≡ Some w = waits_for setup es i (all Unknown) (all_back es i (all AlreadyIssued)) in

@@ -11,7 +11,7 @@ use Rattle.blk_trace.specs.Kinds.{issues, ends}
 use Rattle.blk_trace.specs.Setups.{Setup}
 use Rattle.blk_trace.specs.Events.{is_tick, request_of, IsOpen, IsUsed}
 use Rattle.blk_trace.specs.Legal.{IsLegalTrace}
-use Rattle.blk_trace.specs.Rules.{IsUnbroken}
+use Rattle.blk_trace.specs.Rules.{BreaksNoRule}
 use Rattle.blk_trace.specs.Kinds.{is_done_of}
 use Rattle.blk_trace.specs.Waits.{Entered, waits_at}
 use Rattle.blk_trace.specs.Inside.Seats.{RoundSeat, seat_at, this_round, issued_by}
@@ -43,7 +43,7 @@ quiet es e h issues_none ends_none old =
       fresh = λ t s. ended_kept es e t h (d t) ∙ old.fresh t (sym (taken_kept es e t h (n t)) ∙ s);
     }
 
-steady_issued : (setup : Setup) (es : List Happened) (i u : ℕ) → IsUnbroken setup es (Issue i u) → IsSteady es → IsSteady (es ++ Issue i u ∷ [])
+steady_issued : (setup : Setup) (es : List Happened) (i u : ℕ) → BreaksNoRule setup es (Issue i u) → IsSteady es → IsSteady (es ++ Issue i u ∷ [])
 steady_issued setup es i u all old =
     let none : (t : ℕ) → u ≡ t → taken es t ≡ None = λ t same. subst (λ x. taken es x ≡ None) same (not_taken es u (all TagUsed)) in
     let other : (t : ℕ) → (u == t) ≡ false → (id : ℕ) → ◌≡◌ {A = Happened} (Issue i u) (Issue id t) → ⊥ = λ t b id e. eqb-false u t b (cc) in
@@ -64,7 +64,7 @@ steady_issued setup es i u all old =
     }
 
 -- one that ends the Issue of a tag
-steady_ended : (setup : Setup) (es : List Happened) (e : Happened) (u : ℕ) → ends e ≡ Some u → IsUnbroken setup es e → IsSteady es → IsSteady (es ++ e ∷ [])
+steady_ended : (setup : Setup) (es : List Happened) (e : Happened) (u : ℕ) → ends e ≡ Some u → BreaksNoRule setup es e → IsSteady es → IsSteady (es ++ e ∷ [])
 steady_ended setup es e u end all old =
     let only : OnlyEnds e = only_ends e u end in
     let here : IsOpen es u = some_of (ends e) (IsOpen es) u end (all NotIssued) in
@@ -85,11 +85,11 @@ steady_ended setup es e u end all old =
           ended_kept es e t only.no_tick (done_by t e u end ∙ apart) ∙ old.fresh t none;
     }
 
-steady_rest : (setup : Setup) (es : List Happened) (e : Happened) (o : Option ℕ) → ends e ≡ o → is_tick e ≡ false → issues e ≡ None → IsUnbroken setup es e → IsSteady es → IsSteady (es ++ e ∷ [])
+steady_rest : (setup : Setup) (es : List Happened) (e : Happened) (o : Option ℕ) → ends e ≡ o → is_tick e ≡ false → issues e ≡ None → BreaksNoRule setup es e → IsSteady es → IsSteady (es ++ e ∷ [])
 steady_rest setup es e None none h i all old = quiet es e h i none old
 steady_rest setup es e (Some u) end h i all old = steady_ended setup es e u end all old
 
-steady_step : (setup : Setup) (es : List Happened) (e : Happened) → IsUnbroken setup es e → IsSteady es → IsSteady (es ++ e ∷ [])
+steady_step : (setup : Setup) (es : List Happened) (e : Happened) → BreaksNoRule setup es e → IsSteady es → IsSteady (es ++ e ∷ [])
 steady_step setup es Tick all old = record {
   runs = λ t o. ended_tick es t;
   takes = λ t o. absurd (all InFlight t (was_open es Tick t (λ i e. absurd (cc)) o));
@@ -146,7 +146,7 @@ seat_parts es t seat h =
     ]
 
 -- a seat with one more event that does not concern the tag
-pub seat_kept : (setup : Setup) (es : List Happened) (e : Happened) (t : ℕ) → IsLegalTrace setup es → IsUnbroken setup es e → is_tick e ≡ false → issued_by t e ≡ None → is_done_of t e ≡ false → seat_at (es ++ e ∷ []) t ≡ seat_at es t
+pub seat_kept : (setup : Setup) (es : List Happened) (e : Happened) (t : ℕ) → IsLegalTrace setup es → BreaksNoRule setup es e → is_tick e ≡ false → issued_by t e ≡ None → is_done_of t e ≡ false → seat_at (es ++ e ∷ []) t ≡ seat_at es t
 seat_kept setup es e t old all h n d =
     elim (cases_option (taken es t)) [
       | inl p ↦ no_seat (es ++ e ∷ []) t (taken_kept es e t h n ∙ p) ∙ sym (no_seat es t p)
@@ -169,7 +169,7 @@ seat-released setup events id bios legal t = seat_quiet setup events (Release id
 pub seat-joined : (setup : Setup) (events : List Happened) (id : ℕ) (bios : List Bio) → IsLegalTrace setup (events ++ Join id bios ∷ []) → (t : ℕ) → seat_at (events ++ Join id bios ∷ []) t ≡ seat_at events t
 seat-joined setup events id bios legal t = seat_quiet setup events (Join id bios) legal refl refl refl t
 
-seat_new : (setup : Setup) (events : List Happened) (id tag : ℕ) → IsLegalTrace setup events → IsUnbroken setup events (Issue id tag) → (w : Entered) → waits_at setup events id ≡ Some w → (t : ℕ) → (tag == t) ≡ true → seat_at (events ++ Issue id tag ∷ []) t ≡ Some (record { dir = dir_of w.bios; in_flight = true })
+seat_new : (setup : Setup) (events : List Happened) (id tag : ℕ) → IsLegalTrace setup events → BreaksNoRule setup events (Issue id tag) → (w : Entered) → waits_at setup events id ≡ Some w → (t : ℕ) → (tag == t) ≡ true → seat_at (events ++ Issue id tag ∷ []) t ≡ Some (record { dir = dir_of w.bios; in_flight = true })
 seat_new setup events id tag old all w waits t b =
     let none : taken events t ≡ None = subst (λ x. taken events x ≡ None) (eqb-true tag t b) (not_taken events tag (all TagUsed)) in
     let was : IsWaiting setup events id w = waiting_from setup events id w waits in

@@ -12,7 +12,7 @@ use Rattle.blk_trace.specs.Kinds.{releases, joins, issues, requeues}
 use Rattle.blk_trace.specs.Setups.{Setup, expire_of}
 use Rattle.blk_trace.specs.Events.{round_of, join_up, request_of, IsReleased}
 use Rattle.blk_trace.specs.Legal.{IsLegalTrace}
-use Rattle.blk_trace.specs.Rules.{IsUnbroken}
+use Rattle.blk_trace.specs.Rules.{BreaksNoRule}
 use Rattle.blk_trace.specs.Meaning.{release_of, due_of, issued_ids, released_ids, least}
 use Rattle.blk_trace.specs.Waits.{Entered, has_id, waits_at}
 use Rattle.blk_trace.proofs.More.{due_is}
@@ -67,7 +67,7 @@ waits_kept setup events e r j i n q =
     (has_issued_same events e q n (ap (λ o. has_id (cons_option (option_map (λ p. p.0) o) []) q) i))
     (same_entered setup events e q (rw (r, j) refl))
 
-released_now : (setup : Setup) (events : List Happened) (id : ℕ) (bios : List Bio) → IsLegalTrace setup events → IsUnbroken setup events (Release id bios) → (q : ℕ) → (id == q) ≡ true → waits_at setup (events ++ Release id bios ∷ []) q ≡ Some (record { release = round_of events; due = round_of events + expire_of setup (dir_of bios); bios = bios })
+released_now : (setup : Setup) (events : List Happened) (id : ℕ) (bios : List Bio) → IsLegalTrace setup events → BreaksNoRule setup events (Release id bios) → (q : ℕ) → (id == q) ≡ true → waits_at setup (events ++ Release id bios ∷ []) q ≡ Some (record { release = round_of events; due = round_of events + expire_of setup (dir_of bios); bios = bios })
 unfolding released_ids issued_ids
 released_now setup events id bios old all q t =
     let none : HasNothing setup events q = nothing_before setup events id q bios old all t in
@@ -89,7 +89,7 @@ waits-released setup events id bios legal q =
       | inr t ↦ waits_same setup events (events ++ Release id bios ∷ []) q (has_released_same events (Release id bios) q (rw t refl)) (has_issued_same events (Release id bios) q refl refl) (same_entered setup events (Release id bios) q t) ∙ sym (rw t refl)
     ]
 
-joined_now : (setup : Setup) (events : List Happened) (id : ℕ) (bios : List Bio) → IsLegalTrace setup events → IsUnbroken setup events (Join id bios) → (w : Entered) → waits_at setup events id ≡ Some w → (q : ℕ) → id ≡ q → waits_at setup (events ++ Join id bios ∷ []) q ≡ Some (record { release = round_of events; due = w.due; bios = join_up w.bios bios })
+joined_now : (setup : Setup) (events : List Happened) (id : ℕ) (bios : List Bio) → IsLegalTrace setup events → BreaksNoRule setup events (Join id bios) → (w : Entered) → waits_at setup events id ≡ Some w → (q : ℕ) → id ≡ q → waits_at setup (events ++ Join id bios ∷ []) q ≡ Some (record { release = round_of events; due = w.due; bios = join_up w.bios bios })
 unfolding released_ids issued_ids
 joined_now setup events id bios old all w waits q same =
     let t : (id == q) ≡ true = eq-eqb id q same in

@@ -57,5 +57,5 @@ pub record IsFirstBroken (setup : Setup) (events : List Happened) (e : Happened)
   pub first : (r : TraceRule) → rank r < rank rule → Obeys setup events e r
 
 -- it breaks none
-abbrev pub IsUnbroken : Setup → List Happened → Happened → Type 0
-IsUnbroken setup events e = (r : TraceRule) → Obeys setup events e r
+abbrev pub BreaksNoRule : Setup → List Happened → Happened → Type 0
+BreaksNoRule setup events e = (r : TraceRule) → Obeys setup events e r

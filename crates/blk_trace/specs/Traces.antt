@@ -14,7 +14,7 @@ use Rattle.blk_trace.specs.declared.trace.Prepared.TheVariants.{Nothing, AnIssue
 use Rattle.blk_trace.specs.Setups.{Setup}
 use Rattle.blk_trace.specs.Events.{entered, HasId}
 use Rattle.blk_trace.specs.Legal.{IsLegalTrace}
-use Rattle.blk_trace.specs.Rules.{IsFirstBroken, IsUnbroken}
+use Rattle.blk_trace.specs.Rules.{IsFirstBroken, BreaksNoRule}
 
 -- a trace: what it is made for, its events, and what it is prepared for
 pub record Traced : Type 0 where
@@ -61,11 +61,11 @@ LacksOnlyMemory result = IfErr result (λ e. e.1 ≡ push_fault.Memory)
 -- what each answer of `push` says of the trace before and after it, whatever comes back with a fault
 abbrev pub IsPushAnswer : {X : Type 0} → Traced → Happened → Traced → Result (Unit {0}) (X × PushFault) → Type 0
 IsPushAnswer old e new (Ok _) =
-    (new ≡ extended old e) × IsUnbroken old.setup old.events e
+    (new ≡ extended old e) × BreaksNoRule old.setup old.events e
 IsPushAnswer old e new (Err (_, push_fault.Rule rule)) =
     (new ≡ old) × IsFirstBroken old.setup old.events e rule
 IsPushAnswer old e new (Err (_, push_fault.Memory)) =
-    (new ≡ old) × IsUnbroken old.setup old.events e × (IsPreparedFor old.prepared e → ⊥)
+    (new ≡ old) × BreaksNoRule old.setup old.events e × (IsPreparedFor old.prepared e → ⊥)
 
 -- what each answer of `from_events` says of the list
 abbrev pub IsFromEventsAnswer : Setup → List Happened → Result Traced TraceFault → Type 0

@@ -3,7 +3,7 @@
 ghost use Rattle.std.specs.Prelude.{◌≡◌, ◌≢◌, ◌↔◌, ◌++◌, ◌+◌, ◌≤◌, ◌<◌, ◌∷◌, [], IsTrue, IfOk, IfErr, OnOk, OnErr, length};
 ghost use Rattle.std.specs.Option.{option_copied};
 ghost use Rattle.blk_trace.specs.Legal.{IsLegalTrace};
-ghost use Rattle.blk_trace.specs.Rules.{IsUnbroken};
+ghost use Rattle.blk_trace.specs.Rules.{BreaksNoRule};
 ghost use Rattle.blk_trace.specs.Events.{round_of, open_count};
 ghost use Rattle.blk_trace.specs.Depths.{depth_now};
 ghost use Rattle.blk_trace.specs.Traces.{wanted, IsPreparedFor, IsPushAnswer, IsLegallyExtended, LacksOnlyMemory, HasBio, prepared_for};
@@ -122,7 +122,7 @@ impl<A: Allocator + Clone> Trace<A> {
         ensures answer { IsPushAnswer self.old event self.new result }
         ensures ok { OnOk result (IsLegallyExtended self.old event self.new) }
         ensures err { IfErr result (λ e. (e.0 ≡ event) × (self.new ≡ self.old)) }
-        ensures accepts { IsUnbroken self.old.setup self.old.events event → LacksOnlyMemory result }
+        ensures accepts { BreaksNoRule self.old.setup self.old.events event → LacksOnlyMemory result }
         ensures accepts_legal { IsLegalTrace self.old.setup (self.old.events ++ event ∷ []) → LacksOnlyMemory result }
         ensures prepared { IfErr result (λ e. e.1 ≡ PushFault.Memory → IsPreparedFor self.old.prepared event → ⊥) }
     {

@@ -23,7 +23,7 @@ use Rattle.blk_trace.specs.Events.{round_of, request_of, join_up, AreOnce, IsRel
 use Rattle.blk_trace.specs.Meaning.{release_of, due_of, released_ids, least}
 use Rattle.blk_trace.specs.Waits.{has_id}
 use Rattle.blk_trace.specs.Legal.{IsLegalTrace}
-use Rattle.blk_trace.specs.Rules.{IsUnbroken}
+use Rattle.blk_trace.specs.Rules.{BreaksNoRule}
 use Rattle.blk_trace.specs.Inside.Kept.{has_bio_id, is_bio}
 use Rattle.blk_trace.proofs.More.{released_more, due_is}
 use Rattle.blk_trace.proofs.Ids.{not_released}
@@ -61,7 +61,7 @@ entries_kept setup es e h none =
     ap (map (entry_of setup (es ++ e ∷ []))) (ids_kept es e h)
     ∙ map_same (entry_of setup (es ++ e ∷ [])) (entry_of setup es) (released_ids es) (λ id _. entry_same setup es _ id (same_entered setup es e id (none id)))
 
-pub entries_released : (setup : Setup) (es : List Happened) (i : ℕ) (q : List Bio) → IsLegalTrace setup es → IsUnbroken setup es (Release i q) → entries_of setup (es ++ Release i q ∷ []) ≡ entries_of setup es ++ record { id = i; release = round_of es; due = round_of es + expire_of setup (dir_of q); bios = q } ∷ []
+pub entries_released : (setup : Setup) (es : List Happened) (i : ℕ) (q : List Bio) → IsLegalTrace setup es → BreaksNoRule setup es (Release i q) → entries_of setup (es ++ Release i q ∷ []) ≡ entries_of setup es ++ record { id = i; release = round_of es; due = round_of es + expire_of setup (dir_of q); bios = q } ∷ []
 unfolding entries_of released_ids
 entries_released setup es i q old all =
     let fs : List Happened = es ++ Release i q ∷ [] in
@@ -79,7 +79,7 @@ entries_released setup es i q old all =
     ∙ ap (λ l. l ++ entry_of setup fs i ∷ []) (map_same (entry_of setup fs) (entry_of setup es) (released_ids es) (λ id h. entry_same setup es fs id (same_entered setup es (Release i q) id (other id h))))
     ∙ ap (λ x. map (entry_of setup es) (released_ids es) ++ x ∷ []) last
 
-entry_joined : (setup : Setup) (es : List Happened) (i : ℕ) (q : List Bio) → IsLegalTrace setup es → IsUnbroken setup es (Join i q) → (id : ℕ) → has_id (released_ids es) id ≡ true → entry_of setup (es ++ Join i q ∷ []) id ≡ joined_by (round_of es) i q (entry_of setup es id)
+entry_joined : (setup : Setup) (es : List Happened) (i : ℕ) (q : List Bio) → IsLegalTrace setup es → BreaksNoRule setup es (Join i q) → (id : ℕ) → has_id (released_ids es) id ≡ true → entry_of setup (es ++ Join i q ∷ []) id ≡ joined_by (round_of es) i q (entry_of setup es id)
 entry_joined setup es i q old all id h =
     let fs : List Happened = es ++ Join i q ∷ [] in
     elim (cases_Bool (i == id)) [
@@ -99,7 +99,7 @@ entry_joined setup es i q old all id h =
           ∙ ap (λ b. cond b (record { id = id; release = round_of es; due = due_of setup es id; bios = join_up (request_of es id) q }) (entry_of setup es id)) (sym back)
     ]
 
-pub entries_joined : (setup : Setup) (es : List Happened) (i : ℕ) (q : List Bio) → IsLegalTrace setup es → IsUnbroken setup es (Join i q) → entries_of setup (es ++ Join i q ∷ []) ≡ map (joined_by (round_of es) i q) (entries_of setup es)
+pub entries_joined : (setup : Setup) (es : List Happened) (i : ℕ) (q : List Bio) → IsLegalTrace setup es → BreaksNoRule setup es (Join i q) → entries_of setup (es ++ Join i q ∷ []) ≡ map (joined_by (round_of es) i q) (entries_of setup es)
 unfolding entries_of
 entries_joined setup es i q old all =
     ap (map (entry_of setup (es ++ Join i q ∷ []))) (ids_kept es (Join i q) refl)

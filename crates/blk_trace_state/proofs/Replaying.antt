@@ -9,7 +9,7 @@ use Rattle.blk_trace.specs.Happened.{Happened}
 use Rattle.blk_trace.specs.Setups.{Setup}
 use Rattle.blk_trace.specs.Events.{At}
 use Rattle.blk_trace.specs.Legal.{IsLegalTrace}
-use Rattle.blk_trace.specs.Rules.{Obeys, IsUnbroken, IsFirstBroken, rank}
+use Rattle.blk_trace.specs.Rules.{Obeys, BreaksNoRule, IsFirstBroken, rank}
 use Rattle.blk_trace.proofs.Reading.{refused_at, not_legal}
 use Rattle.blk_trace_state.specs.State.{LayerState, start_state, next_state}
 use Rattle.blk_trace_state.specs.Replay.{obeys, rules, first_broken, replay_from, replay}
@@ -118,7 +118,7 @@ run setup pre (e ∷ rest) s st each =
     let P : List Happened → Type 0 = λ l. IsTold setup l (replay_from setup (next_state setup s e) rest) in
     subst P (append_assoc pre (e ∷ []) rest) (run setup (pre ++ e ∷ []) rest (next_state setup s e) (stands_next setup pre s st e all (each 0 e refl)) (λ k x at. each (suc k) x at)))
   where
-    by : (o : Option TraceRule) → IsFirst (Obeys setup pre e) o → (IsUnbroken setup pre e → IsTold setup (pre ++ e ∷ rest) (replay_from setup (next_state setup s e) rest)) → IsTold setup (pre ++ e ∷ rest) (option_map_or (λ r. Err (s.events, r)) o (replay_from setup (next_state setup s e) rest))
+    by : (o : Option TraceRule) → IsFirst (Obeys setup pre e) o → (BreaksNoRule setup pre e → IsTold setup (pre ++ e ∷ rest) (replay_from setup (next_state setup s e) rest)) → IsTold setup (pre ++ e ∷ rest) (option_map_or (λ r. Err (s.events, r)) o (replay_from setup (next_state setup s e) rest))
     by None all go = go all
     by (Some r) broken go = refused_at setup setup (pre ++ e ∷ rest) pre pre rest e s.events r refl refl st.legal refl st.events_are record { broken = broken.0; first = broken.1 }
 
@@ -206,11 +206,11 @@ broken_by setup es e r (Some q) is =
 pub broken_where : (setup : Setup) (es : List Happened) (s : LayerState) → Stands setup es s → (e : Happened) (r : TraceRule) → (first_broken setup s e ≡ Some r) ↔ IsFirstBroken setup es e r
 broken_where setup es s st e r = broken_by setup es e r (first_broken setup s e) (first_told setup es s st e)
 
-unbroken_by : (setup : Setup) (es : List Happened) (e : Happened) (o : Option TraceRule) → IsFirst (Obeys setup es e) o → (o ≡ None) ↔ IsUnbroken setup es e
+unbroken_by : (setup : Setup) (es : List Happened) (e : Happened) (o : Option TraceRule) → IsFirst (Obeys setup es e) o → (o ≡ None) ↔ BreaksNoRule setup es e
 unbroken_by setup es e None is = (λ _. is, λ _. refl)
 unbroken_by setup es e (Some q) is = (λ h. absurd (cc), λ all. absurd (is.0 (all q)))
 
-pub unbroken_where : (setup : Setup) (es : List Happened) (s : LayerState) → Stands setup es s → (e : Happened) → (first_broken setup s e ≡ None) ↔ IsUnbroken setup es e
+pub unbroken_where : (setup : Setup) (es : List Happened) (s : LayerState) → Stands setup es s → (e : Happened) → (first_broken setup s e ≡ None) ↔ BreaksNoRule setup es e
 unbroken_where setup es s st e = unbroken_by setup es e (first_broken setup s e) (first_told setup es s st e)
 
 more_from : (setup : Setup) (start s : LayerState) (es : List Happened) (e : Happened) → replay_from setup start es ≡ Ok s → first_broken setup s e ≡ None → replay_from setup start (es ++ e ∷ []) ≡ Ok (next_state setup s e)

@@ -14,7 +14,7 @@ use Rattle.blk_trace.specs.Kinds.{is_tick}
 use Rattle.blk_trace.specs.Setups.{Setup, expire_of}
 use Rattle.blk_trace.specs.Events.{EntersRequest, bios_of, round_of, entered, open_count}
 use Rattle.blk_trace.specs.Meaning.{released_ids}
-use Rattle.blk_trace.specs.Rules.{IsUnbroken}
+use Rattle.blk_trace.specs.Rules.{BreaksNoRule}
 use Rattle.blk_trace.specs.Inside.Kept.{has_bio_id}
 use Rattle.blk_trace.proofs.More.{round_more}
 use Rattle.blk_trace.proofs.Counting.{one_if}
@@ -127,7 +127,7 @@ issued_once s id tag u early unused h =
 
 -- ---- one event more
 
-next_tick : (setup : Setup) (es : List Happened) (s : LayerState) → Stands setup es s → IsUnbroken setup es Tick → Stands setup (es ++ Tick ∷ []) (next_state setup s Tick)
+next_tick : (setup : Setup) (es : List Happened) (s : LayerState) → Stands setup es s → BreaksNoRule setup es Tick → Stands setup (es ++ Tick ∷ []) (next_state setup s Tick)
 next_tick setup es s st all =
     let quiet : list_any (λ (i : Issued). flies i.stage) s.issued ≡ false = none_flies s ((closed_test setup es s st).1 (all rule.InFlight)) in
     record {
@@ -144,7 +144,7 @@ next_tick setup es s st all =
       done_is = done_more setup es s st Tick tt;
     }
 
-next_release : (setup : Setup) (es : List Happened) (s : LayerState) → Stands setup es s → (id : ℕ) (q : List Bio) → IsUnbroken setup es (Release id q) → EntersRequest (Release id q) → Stands setup (es ++ Release id q ∷ []) (next_state setup s (Release id q))
+next_release : (setup : Setup) (es : List Happened) (s : LayerState) → Stands setup es s → (id : ℕ) (q : List Bio) → BreaksNoRule setup es (Release id q) → EntersRequest (Release id q) → Stands setup (es ++ Release id q ∷ []) (next_state setup s (Release id q))
 next_release setup es s st id q all request =
     let e : Happened = Release id q in
     let new : Entry = record { id = id; release = s.round; due = s.round + expire_of setup (dir_of q); bios = q } in
@@ -169,7 +169,7 @@ next_release setup es s st id q all request =
       done_is = done_more setup es s st e tt;
     }
 
-next_join : (setup : Setup) (es : List Happened) (s : LayerState) → Stands setup es s → (id : ℕ) (q : List Bio) → IsUnbroken setup es (Join id q) → EntersRequest (Join id q) → Stands setup (es ++ Join id q ∷ []) (next_state setup s (Join id q))
+next_join : (setup : Setup) (es : List Happened) (s : LayerState) → Stands setup es s → (id : ℕ) (q : List Bio) → BreaksNoRule setup es (Join id q) → EntersRequest (Join id q) → Stands setup (es ++ Join id q ∷ []) (next_state setup s (Join id q))
 next_join setup es s st id q all request =
     let e : Happened = Join id q in
     let there : list_any (λ (r : Entry). r.id == id) s.entries ≡ true = (released_test setup es s st id).1 (all rule.Unknown) in
@@ -194,7 +194,7 @@ next_join setup es s st id q all request =
       done_is = done_more setup es s st e tt;
     }
 
-next_issue : (setup : Setup) (es : List Happened) (s : LayerState) → Stands setup es s → (id tag : ℕ) → IsUnbroken setup es (Issue id tag) → Stands setup (es ++ Issue id tag ∷ []) (next_state setup s (Issue id tag))
+next_issue : (setup : Setup) (es : List Happened) (s : LayerState) → Stands setup es s → (id tag : ℕ) → BreaksNoRule setup es (Issue id tag) → Stands setup (es ++ Issue id tag ∷ []) (next_state setup s (Issue id tag))
 next_issue setup es s st id tag all =
     let e : Happened = Issue id tag in
     let unused : is_used s tag ≡ false = false_from_ne_true (is_used s tag) (λ t. all rule.TagUsed ((used_test setup es s st tag).0 t)) in
@@ -213,7 +213,7 @@ next_issue setup es s st id tag all =
       done_is = done_more setup es s st e tt;
     }
 
-next_done : (setup : Setup) (es : List Happened) (s : LayerState) → Stands setup es s → (tag : ℕ) → IsUnbroken setup es (Done tag) → Stands setup (es ++ Done tag ∷ []) (next_state setup s (Done tag))
+next_done : (setup : Setup) (es : List Happened) (s : LayerState) → Stands setup es s → (tag : ℕ) → BreaksNoRule setup es (Done tag) → Stands setup (es ++ Done tag ∷ []) (next_state setup s (Done tag))
 next_done setup es s st tag all =
     let e : Happened = Done tag in
     record {
@@ -230,7 +230,7 @@ next_done setup es s st tag all =
       done_is = done_more setup es s st e (all rule.NotIssued);
     }
 
-next_back : (setup : Setup) (es : List Happened) (s : LayerState) → Stands setup es s → (tag : ℕ) → IsUnbroken setup es (Back tag) → Stands setup (es ++ Back tag ∷ []) (next_state setup s (Back tag))
+next_back : (setup : Setup) (es : List Happened) (s : LayerState) → Stands setup es s → (tag : ℕ) → BreaksNoRule setup es (Back tag) → Stands setup (es ++ Back tag ∷ []) (next_state setup s (Back tag))
 next_back setup es s st tag all =
     let e : Happened = Back tag in
     record {
@@ -247,7 +247,7 @@ next_back setup es s st tag all =
       done_is = done_more setup es s st e (all rule.NotIssued);
     }
 
-next_depth : (setup : Setup) (es : List Happened) (s : LayerState) → Stands setup es s → (depth : ℕ) → IsUnbroken setup es (Depth depth) → Stands setup (es ++ Depth depth ∷ []) (next_state setup s (Depth depth))
+next_depth : (setup : Setup) (es : List Happened) (s : LayerState) → Stands setup es s → (depth : ℕ) → BreaksNoRule setup es (Depth depth) → Stands setup (es ++ Depth depth ∷ []) (next_state setup s (Depth depth))
 next_depth setup es s st depth all =
     let e : Happened = Depth depth in
     record {
@@ -264,7 +264,7 @@ next_depth setup es s st depth all =
       done_is = done_more setup es s st e tt;
     }
 
-pub stands_next : (setup : Setup) (es : List Happened) (s : LayerState) → Stands setup es s → (e : Happened) → IsUnbroken setup es e → EntersRequest e → Stands setup (es ++ e ∷ []) (next_state setup s e)
+pub stands_next : (setup : Setup) (es : List Happened) (s : LayerState) → Stands setup es s → (e : Happened) → BreaksNoRule setup es e → EntersRequest e → Stands setup (es ++ e ∷ []) (next_state setup s e)
 stands_next setup es s st Tick all request = next_tick setup es s st all
 stands_next setup es s st (Release id q) all request = next_release setup es s st id q all request
 stands_next setup es s st (Join id q) all request = next_join setup es s st id q all request

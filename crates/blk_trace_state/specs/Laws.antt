@@ -9,7 +9,7 @@ use Rattle.blk_trace.specs.Events.{At, EndsAt, EntersRequest, IsRequeued, round_
 use Rattle.blk_trace.specs.Depths.{depth_in, depth_now}
 use Rattle.blk_trace.specs.Meaning.{release_of, due_of, released_ids}
 use Rattle.blk_trace.specs.Legal.{IsLegalTrace}
-use Rattle.blk_trace.specs.Rules.{IsUnbroken, IsFirstBroken}
+use Rattle.blk_trace.specs.Rules.{BreaksNoRule, IsFirstBroken}
 use Rattle.blk_trace_state.specs.State.{Stage, Issued, Entry, LayerState, next_state}
 use Rattle.blk_trace_state.specs.State.Stage.{flying, done, back}
 use Rattle.blk_trace_state.specs.Replay.{first_broken, replay}
@@ -37,11 +37,11 @@ abbrev pub TellsFirstBroken : Setup → List Happened → LayerState → Type 0
 TellsFirstBroken setup events s = (e : Happened) (rule : TraceRule) → (first_broken setup s e ≡ Some rule) ↔ IsFirstBroken setup events e rule
 
 abbrev pub TellsUnbroken : Setup → List Happened → LayerState → Type 0
-TellsUnbroken setup events s = (e : Happened) → (first_broken setup s e ≡ None) ↔ IsUnbroken setup events e
+TellsUnbroken setup events s = (e : Happened) → (first_broken setup s e ≡ None) ↔ BreaksNoRule setup events e
 
 -- and what the list with an event more leaves
 abbrev pub GivesNext : Setup → List Happened → LayerState → Type 0
-GivesNext setup events s = (e : Happened) → IsUnbroken setup events e → replay setup (events ++ e ∷ []) ≡ Ok (next_state setup s e)
+GivesNext setup events s = (e : Happened) → BreaksNoRule setup events e → replay setup (events ++ e ∷ []) ≡ Ok (next_state setup s e)
 
 -- it holds of the state that each legal list leaves
 abbrev pub Leaves : (Setup → List Happened → LayerState → Type 0) → Type 0

@@ -3,9 +3,9 @@ use Rattle.std.proofs.Common.{ℕ, ◌≡◌, ◌∙◌, ◌∷◌, [], List, Re
 use Rattle.std.specs.Prelude.{All}
 use Rattle.std.proofs.lemmas.List.{get_or-take, length-take-le}
 use Rattle.std.proofs.lemmas.List.Elements.{All-cons, All-nil, All-map, All-weaker, All-same}
-use Rattle.blk_settings.specs.declared.sched.Sched.{Sched}
-use Rattle.blk_settings.specs.Made.{IsMade}
-use Rattle.blk_settings.proofs.Unmade.{no_sched}
+use Rattle.blk_schedulers.specs.declared.sched.Sched.{Sched}
+use Rattle.blk_schedulers.specs.Made.{IsMade}
+use Rattle.blk_schedulers.proofs.Unmade.{no_sched}
 use Rattle.blk_text.specs.Script.{Scripted}
 use Rattle.blk_runs.specs.Firsts.{RunsWhole, AreUnrun}
 use Rattle.blk_runs.specs.declared.fault.RunFault.{RunFault}

@@ -11,11 +11,11 @@ use Rattle.answer.specs.declared.answer.Part.{Part}
 use Rattle.answer.specs.declared.answer.Part.TheVariants.{Member, Line, Object, Rows}
 use Rattle.answer.specs.Parts.{Sentence, cell, record_columns, signed}
 use Rattle.edd_figures.specs.Figures.{greatest_in, least_in, shortfall_in}
-use Rattle.blk_settings.specs.Scheds.{name_of, settings_of}
-use Rattle.blk_settings.specs.Told.{told_setting}
-use Rattle.blk_settings.specs.declared.sched.Sched.{Sched}
-use Rattle.blk_settings.specs.declared.grid.By.{By}
-use Rattle.blk_settings.specs.declared.grid.By.TheVariants as by
+use Rattle.blk_schedulers.specs.Scheds.{name_of, settings_of}
+use Rattle.blk_schedulers.specs.Told.{told_setting}
+use Rattle.blk_schedulers.specs.declared.sched.Sched.{Sched}
+use Rattle.blk_schedulers.specs.declared.grid.RankBy.{RankBy}
+use Rattle.blk_schedulers.specs.declared.grid.RankBy.TheVariants as by
 use Rattle.blk_tune.specs.declared.row.TrialRow.{TrialRow}
 
 -- the settings of a scheduler, by the names that the command line has for them
@@ -40,15 +40,15 @@ is_none None = false
 is_none (Some z) = int_eq z (pos 0)
 
 -- whether no schedule of a row's commands is better, nothing being avoidable, with some commands, or nothing lost; and how that is said
-abbrev pub is_proved : By → TrialRow → Bool
+abbrev pub is_proved : RankBy → TrialRow → Bool
 is_proved by.Misses r = nat_lt 0 r.tally.commands && (r.tally.avoidable == 0)
 is_proved by.Lateness r = is_none (shortfall_in r.report.figures)
 
-abbrev pub proved_words : By → List ℕ
+abbrev pub proved_words : RankBy → List ℕ
 proved_words by.Misses = codes "no schedule misses fewer"
 proved_words by.Lateness = codes "no schedule is less late"
 
-abbrev pub proved_value : By → TrialRow → Value
+abbrev pub proved_value : RankBy → TrialRow → Value
 proved_value b r = if is_proved b r then Remark (proved_words b) else Nothing []
 
 abbrev pub proved_line : Value → List ℕ → Sentence
@@ -58,7 +58,7 @@ proved_line value end = record { cells = cell layout.Plain names.PROVED.now valu
 abbrev pub best_cells : TrialRow → List Cell
 best_cells r = cell (layout.Words (codes "best ")) names.SCHED.now (Text (name_of r.sched)) ∷ cell layout.Space names.SETTINGS.now (settings_value r.sched) ∷ []
 
-abbrev pub best_parts : By → List TrialRow → List Part
+abbrev pub best_parts : RankBy → List TrialRow → List Part
 best_parts b [] = Member names.BEST.now (Nothing names.NONE_SERVED.now) ∷ Line (proved_line (Nothing []) []) ∷ []
 best_parts b (r ∷ rs) = Object names.BEST.now (record { cells = best_cells r; end = [] }) ∷ Line (proved_line (proved_value b r) (10 ∷ [])) ∷ []
 
@@ -67,5 +67,5 @@ abbrev pub shown : Option ℕ → List TrialRow → List TrialRow
 shown None rows = rows
 shown (Some n) rows = take n rows
 
-abbrev pub trial_parts : By → Option ℕ → List TrialRow → List Part
+abbrev pub trial_parts : RankBy → Option ℕ → List TrialRow → List Part
 trial_parts b top rows = Rows (record { name = names.ROWS.now; columns = trial_columns; head = true; rows = map trial_row (shown top rows) }) ∷ best_parts b rows

@@ -4,8 +4,8 @@ use Rattle.std.specs.List.Sorted.{IsPermutation, IsSorted, IsStable}
 use Rattle.std.specs.Option.{option_cmp}
 use Rattle.std.specs.Ordering.{ordering_then, nat_cmp, int_cmp}
 use Rattle.std.specs.declared.cmp.Ordering.{Ordering}
-use Rattle.blk_settings.specs.declared.grid.By.{By}
-use Rattle.blk_settings.specs.declared.grid.By.TheVariants as by
+use Rattle.blk_schedulers.specs.declared.grid.RankBy.{RankBy}
+use Rattle.blk_schedulers.specs.declared.grid.RankBy.TheVariants as by
 use Rattle.edd_figures.specs.Figures.{shortfall_in}
 use Rattle.blk_tune.specs.declared.row.TrialRow.{TrialRow}
 
@@ -24,12 +24,12 @@ writes_cmp x y = option_cmp int_cmp x.wait_write y.wait_write
 
 -- the better one is the less: by what is avoidable and then by the shortfall, or the other way round; then by the reads' waits, then by
 -- the writes'
-abbrev pub best_cmp : By → TrialRow → TrialRow → Ordering
+abbrev pub best_cmp : RankBy → TrialRow → TrialRow → Ordering
 best_cmp by.Misses x y = ordering_then (ordering_then (ordering_then (avoidable_cmp x y) (shortfall_cmp x y)) (reads_cmp x y)) (writes_cmp x y)
 best_cmp by.Lateness x y = ordering_then (ordering_then (ordering_then (shortfall_cmp x y) (avoidable_cmp x y)) (reads_cmp x y)) (writes_cmp x y)
 
 -- the same rows, the best first; those that are as good in the order that they had
-pub record AreBestFirst (b : By) (before after : List TrialRow) : Type 0 where
+pub record AreBestFirst (b : RankBy) (before after : List TrialRow) : Type 0 where
   pub same : IsPermutation before after
   pub sorted : IsSorted (best_cmp b) after
   pub stable : IsStable (best_cmp b) before after

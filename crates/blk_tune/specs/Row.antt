@@ -15,7 +15,7 @@ use Rattle.blk_report.specs.Misses.{IsTallied}
 use Rattle.blk_report.specs.Services.{services_of}
 use Rattle.blk_report.specs.Shortfall.{IsReport}
 use Rattle.blk_report.specs.Spread.{AreSpreads}
-use Rattle.blk_settings.specs.declared.sched.Sched.{Sched}
+use Rattle.blk_schedulers.specs.declared.sched.Sched.{Sched}
 use Rattle.blk_runs.specs.Runs.{IsTraceOfScript}
 use Rattle.blk_tune.specs.declared.row.TrialRow.{TrialRow}
 

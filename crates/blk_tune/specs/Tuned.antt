@@ -1,7 +1,7 @@
 -- The rows of a trial of a script.
 use Rattle.std.specs.Prelude.{List}
 use Rattle.blk_text.specs.Script.{Scripted}
-use Rattle.blk_settings.specs.Wanted.{Wanted}
+use Rattle.blk_schedulers.specs.Wanted.{Wanted}
 use Rattle.blk_tune.specs.declared.row.TrialRow.{TrialRow}
 use Rattle.blk_tune.specs.Row.{AreRowsUnder}
 use Rattle.blk_tune.specs.Order.{AreBestFirst}

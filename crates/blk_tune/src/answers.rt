@@ -1,7 +1,7 @@
 //! What is said of a trial, as an answer.
 
 ghost use Rattle.std.specs.Prelude.{◌≡◌, ◌++◌, IfOk, OnOk, map};
-ghost use Rattle.blk_settings.specs.Scheds.{settings_of};
+ghost use Rattle.blk_schedulers.specs.Scheds.{settings_of};
 ghost use Rattle.blk_tune.specs.Answers.{settings_value, trial_row, is_proved, proved_words, proved_value, proved_line, best_cells, best_parts, shown, trial_parts};
 
 use crate::row::TrialRow;
@@ -13,8 +13,8 @@ use answer::{
     Answer, Cell, Layout, Line, Part, Row, Rows, Settings, Value, Word, member, record_columns,
     signed_or_none,
 };
-use blk_settings::told::told_settings;
-use blk_settings::{By, Sched};
+use blk_schedulers::told::told_settings;
+use blk_schedulers::{RankBy, Sched};
 use std::alloc::{AllocError, Global};
 
 /// The settings of a scheduler, by the names that the command line has for them.
@@ -64,12 +64,12 @@ fn trial_rows(alloc: Global, rows: &[TrialRow]) -> Result<Vec<Row>, AllocError>
 }
 
 /// Whether no schedule of a row's commands is better.
-fn is_proved(by: By, row: &TrialRow) -> bool
+fn is_proved(by: RankBy, row: &TrialRow) -> bool
     ensures { result ≡ is_proved by row.now }
 {
     match by {
-        By::Misses => row.tally.commands > 0 && row.tally.avoidable == 0,
-        By::Lateness => match row.report.shortfall() {
+        RankBy::Misses => row.tally.commands > 0 && row.tally.avoidable == 0,
+        RankBy::Lateness => match row.report.shortfall() {
             Some(lost) => lost == 0,
             None => false,
         },
@@ -77,17 +77,17 @@ fn is_proved(by: By, row: &TrialRow) -> bool
 }
 
 /// How that is said.
-fn proved_words(by: By) -> &'static str
+fn proved_words(by: RankBy) -> &'static str
     ensures { result.now ≡ proved_words by }
 {
     match by {
-        By::Misses => "no schedule misses fewer",
-        By::Lateness => "no schedule is less late",
+        RankBy::Misses => "no schedule misses fewer",
+        RankBy::Lateness => "no schedule is less late",
     }
 }
 
 /// What is proved of a row, or nothing.
-fn proved_value(by: By, row: &TrialRow) -> Value
+fn proved_value(by: RankBy, row: &TrialRow) -> Value
     ensures { result ≡ proved_value by row.now }
 {
     if is_proved(by, row) {
@@ -122,7 +122,12 @@ fn proved_line(alloc: Global, value: Value, end: &'static str) -> Result<Line, A
 }
 
 /// Adds the best row, and what is proved of it.
-fn add_best(answer: &mut Answer, alloc: Global, by: By, rows: &[TrialRow]) -> Result<(), AllocError>
+fn add_best(
+    answer: &mut Answer,
+    alloc: Global,
+    by: RankBy,
+    rows: &[TrialRow],
+) -> Result<(), AllocError>
     ensures { OnOk result (answer.new ≡ answer.old ++ best_parts by rows.now) }
 {
     match rows.first() {
@@ -162,7 +167,7 @@ fn shown(top: Option<u64>, rows: &[TrialRow]) -> &[TrialRow]
 /// no schedule of its commands is better. Fails only when out of memory.
 pub fn trial_answer(
     alloc: Global,
-    by: By,
+    by: RankBy,
     top: Option<u64>,
     rows: &[TrialRow],
 ) -> Result<Answer, AllocError>

@@ -5,7 +5,7 @@
 
 ghost use Rattle.std.specs.Prelude.{IfOk, IfErr};
 ghost use Rattle.blk_text.specs.Script.{IsScript, scripted};
-ghost use Rattle.blk_settings.specs.Wanted.{as_wanted};
+ghost use Rattle.blk_schedulers.specs.Wanted.{as_wanted};
 ghost use Rattle.blk_runs.specs.Firsts.{AreUnrun};
 ghost use Rattle.blk_tune.specs.Tuned.{AreTuned};
 
@@ -19,7 +19,7 @@ use crate::order::best_first;
 pub use crate::row::TrialRow;
 use crate::trial::tried;
 use blk_runs::{RunFault, unmade};
-use blk_settings::TrialAsked;
+use blk_schedulers::TrialAsked;
 use blk_text::Script;
 use std::alloc::Global;
 use std::thread::Threads;

@@ -5,7 +5,7 @@ ghost use Rattle.blk_tune.specs.Order.{AreBestFirst};
 ghost use Rattle.blk_tune.specs.Inside.Order.{misses_key, lateness_key};
 
 use crate::row::TrialRow;
-use blk_settings::By;
+use blk_schedulers::RankBy;
 use std::alloc::AllocError;
 
 /// What is avoidable in a row, and then what breaks ties.
@@ -28,7 +28,7 @@ fn by_lateness(row: &TrialRow) -> (Option<i64>, u64, Option<i64>, Option<i64>)
 
 /// Puts rows in order by what is avoidable.
 fn sort_by_misses(rows: &mut Vec<TrialRow>) -> Result<(), AllocError>
-    ensures { OnOk result (AreBestFirst By.Misses rows.old.items rows.new.items) }
+    ensures { OnOk result (AreBestFirst RankBy.Misses rows.old.items rows.new.items) }
 {
     rows.sort_by_key(|row| by_misses(row))?;
     Ok(())
@@ -36,18 +36,18 @@ fn sort_by_misses(rows: &mut Vec<TrialRow>) -> Result<(), AllocError>
 
 /// Puts rows in order by how much they fall short.
 fn sort_by_lateness(rows: &mut Vec<TrialRow>) -> Result<(), AllocError>
-    ensures { OnOk result (AreBestFirst By.Lateness rows.old.items rows.new.items) }
+    ensures { OnOk result (AreBestFirst RankBy.Lateness rows.old.items rows.new.items) }
 {
     rows.sort_by_key(|row| by_lateness(row))?;
     Ok(())
 }
 
 /// Puts rows in order, the best first; of rows that are as good the one that stands first stays first.
-pub fn best_first(by: By, rows: &mut Vec<TrialRow>) -> Result<(), AllocError>
+pub fn best_first(by: RankBy, rows: &mut Vec<TrialRow>) -> Result<(), AllocError>
     ensures { OnOk result (AreBestFirst by rows.old.items rows.new.items) }
 {
     match by {
-        By::Misses => sort_by_misses(rows),
-        By::Lateness => sort_by_lateness(rows),
+        RankBy::Misses => sort_by_misses(rows),
+        RankBy::Lateness => sort_by_lateness(rows),
     }
 }

@@ -7,7 +7,7 @@ ghost use Rattle.blk_tune.specs.Inside.Row.{IsRunAnswer};
 
 use blk_report::{Report, Tally, misses, report, services, spread};
 use blk_runs::{RunFault, traced};
-use blk_settings::Sched;
+use blk_schedulers::Sched;
 use blk_text::Script;
 use blk_trace::Trace;
 use std::alloc::{AllocError, Global};

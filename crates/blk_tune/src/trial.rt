@@ -1,8 +1,8 @@
 //! The runs of a script under some settings, side by side.
 
 ghost use Rattle.std.specs.Prelude.{◌<◌, IfOk, IfErr, All, length, slice_index_or};
-ghost use Rattle.blk_settings.specs.Made.{IsMade};
-ghost use Rattle.blk_settings.specs.declared.sched.Sched.{Sched};
+ghost use Rattle.blk_schedulers.specs.Made.{IsMade};
+ghost use Rattle.blk_schedulers.specs.declared.sched.Sched.{Sched};
 ghost use Rattle.blk_text.specs.Script.{IsScript, scripted};
 ghost use Rattle.blk_runs.specs.Firsts.{AreUnrun};
 ghost use Rattle.blk_tune.specs.Row.{AreRowsUnder};
@@ -10,7 +10,7 @@ ghost use Rattle.blk_tune.specs.Inside.Row.{IsRunAnswer};
 
 use crate::row::{TrialRow, row_under};
 use blk_runs::RunFault;
-use blk_settings::Sched;
+use blk_schedulers::Sched;
 use blk_text::Script;
 use std::alloc::Global;
 use std::thread::Threads;

@@ -10,7 +10,7 @@ use Rattle.blk_capture.specs.declared.opened.Opened.{Opened}
 use Rattle.blk_capture.specs.declared.fates.Fate.{Fate}
 use Rattle.blk_capture.specs.declared.matching.Role.{Role}
 use Rattle.blk_capture.specs.declared.requests.CapturedBio.{CapturedBio}
-use Rattle.blk_capture.specs.declared.requests.Life.{Life}
+use Rattle.blk_capture.specs.declared.requests.MergeRoot.{MergeRoot}
 use Rattle.blk_capture.specs.declared.requests.Options.{Options}
 
 -- what is known of a request happened by a time
@@ -45,11 +45,11 @@ pub record IsLast (m : Known) (n : ℕ) (x : Dispatch) : Type 0 where
   pub last : goes_out_by n opened.stage ≡ true
 
 -- each request's life goes where its merges lead
-abbrev pub AreRoots : List Absorption → List Life → Type 0
-AreRoots merges lives = (k : ℕ) (d : Life) → k < length lives → (slice_index_or lives k d).root ≡ ends_in merges k
+abbrev pub AreRoots : List Absorption → List MergeRoot → Type 0
+AreRoots merges lives = (k : ℕ) (d : MergeRoot) → k < length lives → (slice_index_or lives k d).root ≡ ends_in merges k
 
 -- lives and places of all requests
-pub record AreLaidOut (o : Options) (m : Known) (lives : List Life) (places : List (Option ℕ)) : Type 0 where
+pub record AreLaidOut (o : Options) (m : Known) (lives : List MergeRoot) (places : List (Option ℕ)) : Type 0 where
   pub each_life : length lives ≡ length m.requests
   pub each_place : length places ≡ length m.requests
   pub roots : AreRoots m.absorptions lives
@@ -61,11 +61,11 @@ abbrev pub HaveNoPlace : List Opened → List (Option ℕ) → Type 0
 HaveNoPlace requests places = (k : ℕ) (q : Opened) → slice_get requests k ≡ Some q → is_absorbed q.stage ≡ true → slice_index_or places k None ≡ None
 
 -- by these lives and places, bios and what became of records are those that the definition has
-abbrev pub AreToldBios : List Life → List (Option ℕ) → List QueuedBio → List CapturedBio → Type 0
+abbrev pub AreToldBios : List MergeRoot → List (Option ℕ) → List QueuedBio → List CapturedBio → Type 0
 AreToldBios lives places queued bios = (o : Options) (m : Known) → AreLaidOut o m lives places → bios ≡ map (captured_bio o m) queued
 
-abbrev pub IsToldFate : List Life → List (Option ℕ) → List CapturedBio → Role → Fate → Type 0
+abbrev pub IsToldFate : List MergeRoot → List (Option ℕ) → List CapturedBio → Role → Fate → Type 0
 IsToldFate lives places bios r f = (o : Options) (m : Known) → AreLaidOut o m lives places → bios ≡ all_bios o m → f ≡ fate_by o m r
 
-abbrev pub AreToldFates : List Life → List (Option ℕ) → List CapturedBio → List Role → List Fate → Type 0
+abbrev pub AreToldFates : List MergeRoot → List (Option ℕ) → List CapturedBio → List Role → List Fate → Type 0
 AreToldFates lives places bios roles fates = (o : Options) (m : Known) → AreLaidOut o m lives places → bios ≡ all_bios o m → fates ≡ map (fate_by o m) roles

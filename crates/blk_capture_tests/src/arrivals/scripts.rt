@@ -7,7 +7,7 @@ use blk_arrivals::laws::law_of_limits;
 use blk_arrivals::{ArrivalsFault, Terms, script_of, script_text};
 use blk_capture::Record;
 use blk_capture_text::read_capture;
-use blk_lists::Records;
+use blk_records::Records;
 use blk_text::read_script;
 use std::alloc::Global;
 use std::process::Abort;

@@ -14,7 +14,7 @@ use blk_capture_text::{
     ImportAsked, ImportFault, ShownImport, count_fates, import, notice_text, read_capture,
     shown_text, summary_answer,
 };
-use blk_lists::{Records, TextFault, Why};
+use blk_records::{Records, TextFault, TextReason};
 use std::alloc::Global;
 use std::io;
 use std::io::{ErrorKind, Read};
@@ -90,7 +90,7 @@ fn a_capture_is_read(rt: HostRuntime) {
 }
 
 /// The place of the first text that has another fault than the one beside it, if there is one.
-fn first_other(alloc: Global, texts: &[(&str, u64, Why)]) -> Option<usize> {
+fn first_other(alloc: Global, texts: &[(&str, u64, TextReason)]) -> Option<usize> {
     for (place, (text, at, why)) in texts.iter().enumerate() {
         let records = &mut Records::new(alloc, text.as_bytes());
         let fault = TextFault { at: *at, why: *why };
@@ -104,52 +104,56 @@ fn first_other(alloc: Global, texts: &[(&str, u64, Why)]) -> Option<usize> {
 #[test]
 fn faults_of_a_capture(rt: HostRuntime) {
     let texts = [
-        ("", 1, Why::Title),
-        ("blk-schedule,1,1,0\n", 1, Why::Title),
-        ("blk-capture,2,,,,,,\n", 1, Why::Title),
-        ("blk-capture,1,,,,,\n", 1, Why::Fields),
-        ("blk-capture,1,,,,,,0\n", 1, Why::Fields),
+        ("", 1, TextReason::Title),
+        ("blk-schedule,1,1,0\n", 1, TextReason::Title),
+        ("blk-capture,2,,,,,,\n", 1, TextReason::Title),
+        ("blk-capture,1,,,,,\n", 1, TextReason::Fields),
+        ("blk-capture,1,,,,,,0\n", 1, TextReason::Fields),
         (
             "blk-capture,1,,,,,,\n0,000000000,0,Q,1,R,0\n",
             2,
-            Why::Fields,
+            TextReason::Fields,
         ),
         (
             "blk-capture,1,,,,,,\n00,000000000,0,Q,1,R,0,8\n",
             2,
-            Why::Number,
+            TextReason::Number,
         ),
-        ("blk-capture,1,,,,,,\n0,0,0,Q,1,R,0,8\n", 2, Why::Number),
+        (
+            "blk-capture,1,,,,,,\n0,0,0,Q,1,R,0,8\n",
+            2,
+            TextReason::Number,
+        ),
         (
             "blk-capture,1,,,,,,\n0,00000000x,0,Q,1,R,0,8\n",
             2,
-            Why::Number,
+            TextReason::Number,
         ),
         (
             "blk-capture,1,,,,,,\n0,0000000000,0,Q,1,R,0,8\n",
             2,
-            Why::Number,
+            TextReason::Number,
         ),
         (
             "blk-capture,1,,,,,,\n0,000000000,0,Q,-1,R,0,8\n",
             2,
-            Why::Number,
+            TextReason::Number,
         ),
         (
             "blk-capture,1,,,,,,\n17179869184,000000000,0,Q,1,R,0,8\n",
             2,
-            Why::Range,
+            TextReason::Range,
         ),
         // a number that is none comes before one outside its range, wherever it stands
         (
             "blk-capture,1,,,,,,\n17179869184,00000000,0,Q,1,R,0,8\n",
             2,
-            Why::Number,
+            TextReason::Number,
         ),
         (
             "blk-capture,1,,,,,,\n17179869184,000000000,0,Q,1,R,0,x\n",
             2,
-            Why::Number,
+            TextReason::Number,
         ),
     ];
     assert_eq!(rt; first_other(rt.alloc(), &texts), None);
@@ -161,17 +165,17 @@ fn time_falls(rt: HostRuntime) {
         (
             "blk-capture,1,,,,,,\n1,000000000,0,m,0,N,0,0\n0,999999999,0,m,0,N,0,0\nx\n",
             3,
-            Why::Order,
+            TextReason::Order,
         ),
         // its own fault comes before it, and it stands still at the same time
         (
             "blk-capture,1,,,,,,\n1,000000005,0,m,0,N,0,0\n1,000000005,0,m,0,N,0,0\n0,00,0,m,0,N,0,0\n",
             4,
-            Why::Number,
+            TextReason::Number,
         ),
     ];
     assert_eq!(rt; first_other(rt.alloc(), &texts), None);
-    assert_eq!(rt; Why::Order.name(), "Order");
+    assert_eq!(rt; TextReason::Order.name(), "Order");
 }
 
 /// A reader that gives a text byte by byte, and then fails.
@@ -204,7 +208,7 @@ fn a_reader_fails(rt: HostRuntime) {
     let records = &mut Records::new(rt.alloc(), reader);
     let fault = TextFault {
         at: 3,
-        why: Why::Read,
+        why: TextReason::Read,
     };
     assert_eq!(rt; read_capture(rt.alloc(), records).err(), Some(fault));
 }

@@ -5,7 +5,7 @@ use Rattle.blk_capture.specs.Requests.{AreInOrder}
 use Rattle.blk_capture.specs.declared.record.Record.{Record}
 use Rattle.blk_capture.specs.declared.requests.Options.{Options}
 use Rattle.blk_capture.specs.declared.summary.TheConstants.{MAX_STREAMED}
-use Rattle.blk_lists.specs.Reads.{IsOutside}
+use Rattle.blk_records.specs.Reads.{IsOutside}
 use Rattle.blk_recorders.specs.Steps.{is_unordered, lines_of, read_from, read_upto, EndsLine, HasWholeLines, Rises, sofar, at_hand, steps_read, line_next}
 use Rattle.blk_recorders.specs.declared.detect.TheConstants.{FIRST_LINES}
 use Rattle.blk_recorders.specs.declared.device.Device.{Device}
@@ -26,10 +26,10 @@ use Rattle.blk_capture_text.specs.Streams.{AreLinesTold, IsFirstBad, IsSummable}
 use Rattle.blk_capture_text.specs.declared.streaming.Streamed.{Streamed}
 
 -- the same of a line, or memory ran out
-abbrev pub IsUntoldLine : Recorder → Option Device → List ℕ → UnreadCapture → Type 0
-IsUntoldLine f device bytes (unread.Text x) = ⊥
-IsUntoldLine f device bytes (unread.Line x) = IsFirstBad f device bytes x
-IsUntoldLine f device bytes unread.Memory = ⊤
+abbrev pub IsLineReadFault : Recorder → Option Device → List ℕ → UnreadCapture → Type 0
+IsLineReadFault f device bytes (unread.Text x) = ⊥
+IsLineReadFault f device bytes (unread.Line x) = IsFirstBad f device bytes x
+IsLineReadFault f device bytes unread.Memory = ⊤
 
 -- the lines of a text were read, whatever stands behind it, and these records were streamed
 pub record AreLinesRead (o : Options) (f : Recorder) (device : Option Device) (past : List ℕ) (given : List Record) (s : LineStream) : Type 0 where
@@ -58,12 +58,12 @@ pub record IsAlong (o : Options) (f : Recorder) (device : Option Device) (text :
 -- the pending line was read as one, as it is where whole lines end with it
 abbrev pub ReadsPending : Options → Recorder → Option Device → List ℕ → LineStream → Result (Unit {0}) UnreadCapture → Type 0
 ReadsPending o f device text new (Ok u) = IsPassedOn o f device text new
-ReadsPending o f device text new (Err x) = (rest : List ℕ) → HasWholeLines text rest → IsUntoldLine f device (text ++ rest) x
+ReadsPending o f device text new (Err x) = (rest : List ℕ) → HasWholeLines text rest → IsLineReadFault f device (text ++ rest) x
 
 -- a part more was taken in, or a line is no good, whatever follows
 abbrev pub TakesPart : Options → Recorder → Option Device → List ℕ → LineStream → Result (Unit {0}) UnreadCapture → Type 0
 TakesPart o f device text new (Ok u) = IsAlong o f device text new
-TakesPart o f device text new (Err x) = (rest : List ℕ) → IsUntoldLine f device (text ++ rest) x
+TakesPart o f device text new (Err x) = (rest : List ℕ) → IsLineReadFault f device (text ++ rest) x
 
 -- all of a text was taken in: its records were streamed
 pub record AreStreamed (o : Options) (f : Recorder) (device : Option Device) (text : List ℕ) (c : StreamedCapture) : Type 0 where
@@ -99,10 +99,10 @@ pub record TakesRest (o : Options) (f : Recorder) (device : Option Device) (text
   pub given : IfSome left (λ known. rest ≡ known)
   pub along : IsAlong o f device (text ++ rest) s
 
-abbrev pub IsUnstreamedLine : Recorder → Option Device → List ℕ → Unstreamed → Type 0
-IsUnstreamedLine f device bytes (why_not.Line x) = IsFirstBad f device bytes x
-IsUnstreamedLine f device bytes why_not.Memory = ⊤
-IsUnstreamedLine f device bytes x = ⊥
+abbrev pub IsLineStreamFault : Recorder → Option Device → List ℕ → Unstreamed → Type 0
+IsLineStreamFault f device bytes (why_not.Line x) = IsFirstBad f device bytes x
+IsLineStreamFault f device bytes why_not.Memory = ⊤
+IsLineStreamFault f device bytes x = ⊥
 
 pub record IsBadBehind (f : Recorder) (device : Option Device) (text : List ℕ) (left : Option (List ℕ)) (x : LineFault) : Type 0 where
   pub rest : List ℕ
@@ -164,7 +164,7 @@ TakesPartOf f device part old new result = (o : Options) (text : List ℕ) → I
 -- all of it ends as it should
 abbrev pub EndsStreamed : Options → Recorder → Option Device → List ℕ → Result StreamedCapture UnreadCapture → Type 0
 EndsStreamed o f device text (Ok c) = AreStreamed o f device text c
-EndsStreamed o f device text (Err x) = IsUntoldLine f device text x
+EndsStreamed o f device text (Err x) = IsLineReadFault f device text x
 
 abbrev pub EndsStreamedOf : Recorder → Option Device → LineStream → Result StreamedCapture UnreadCapture → Type 0
 EndsStreamedOf f device s result = (o : Options) (text : List ℕ) → IsAlong o f device text s → EndsStreamed o f device text result
@@ -176,11 +176,11 @@ GoBehind records s = (past : List Record) × HasStreamed past s × AreInOrder (p
 abbrev pub StreamsBehind : List Record → Streamed → StreamedCapture → Type 0
 StreamsBehind records s c = (past : List Record) → HasStreamed past s → HasStreamed (past ++ records) c.streamed
 
-abbrev pub IsUntoldIf : UnreadCapture → UnreadCapture → Type 0
-IsUntoldIf x y = (f : Recorder) (d : Option Device) (bytes : List ℕ) → IsUntoldLine f d bytes x → IsUntoldLine f d bytes y
+abbrev pub IsReadFaultIf : UnreadCapture → UnreadCapture → Type 0
+IsReadFaultIf x y = (f : Recorder) (d : Option Device) (bytes : List ℕ) → IsLineReadFault f d bytes x → IsLineReadFault f d bytes y
 
-abbrev pub IsUnstreamedIf : UnreadCapture → Unstreamed → Type 0
-IsUnstreamedIf x y = (f : Recorder) (d : Option Device) (bytes : List ℕ) → IsUntoldLine f d bytes x → IsUnstreamedLine f d bytes y
+abbrev pub IsStreamFaultIf : UnreadCapture → Unstreamed → Type 0
+IsStreamFaultIf x y = (f : Recorder) (d : Option Device) (bytes : List ℕ) → IsLineReadFault f d bytes x → IsLineStreamFault f d bytes y
 
 -- the rest of an input was taken in, or not
 abbrev pub EndsRest : Options → Recorder → Option Device → List ℕ → Option (List ℕ) → Bool → LineStream → Result (Unit {0}) Unstreamed → Type 0
@@ -193,7 +193,7 @@ EndsRestOf f device left failed old new result = (o : Options) (text : List ℕ)
 -- lines that were taken in are a capture, or not
 abbrev pub EndsUnstreamed : Options → Recorder → Option Device → List ℕ → Result StreamedCapture Unstreamed → Type 0
 EndsUnstreamed o f device text (Ok c) = AreStreamed o f device text c
-EndsUnstreamed o f device text (Err x) = IsUnstreamedLine f device text x
+EndsUnstreamed o f device text (Err x) = IsLineStreamFault f device text x
 
 abbrev pub EndsUnstreamedOf : Recorder → Option Device → LineStream → Result StreamedCapture Unstreamed → Type 0
 EndsUnstreamedOf f device s result = (o : Options) (text : List ℕ) → IsAlong o f device text s → EndsUnstreamed o f device text result

@@ -1,8 +1,8 @@
 -- The records of a capture while they are read.
 use Rattle.std.specs.Prelude.{◌≡◌, List, map, Option}
 use Rattle.blk_capture.specs.declared.record.Record.{Record}
-use Rattle.blk_lists.specs.Sources.{Row}
-use Rattle.blk_lists.specs.Reads.{ReadsAll}
+use Rattle.blk_records.specs.Sources.{Row}
+use Rattle.blk_records.specs.Reads.{ReadsAll}
 use Rattle.blk_capture_text.specs.Recorded.{record_at}
 use Rattle.blk_capture_text.specs.Captures.{last_time, records_body}
 use Rattle.blk_capture_text.specs.declared.reading.RecordsRead.{RecordsRead}

@@ -6,8 +6,8 @@ use Rattle.edd_check.specs.declared.Window.{Window}
 use Rattle.edd_commands.specs.Capacity.{fixed}
 use Rattle.edd_check.specs.Check.{IsCrowding}
 use Rattle.edd_check.specs.CheckOnTime.{IsCoverBound}
-use Rattle.blk_lists.specs.Certificate.{Claim}
-use Rattle.blk_lists.specs.OnTime.{OnTimeClaim}
+use Rattle.blk_records.specs.Certificate.{Claim}
+use Rattle.blk_records.specs.OnTime.{OnTimeClaim}
 
 -- how crowded the window of a certificate is, if it has one
 abbrev pub IsCrowdingOf : Claim → Option (ℤ × Window) → Option Crowding → Type 0

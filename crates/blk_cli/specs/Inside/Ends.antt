@@ -1,7 +1,7 @@
 -- How the text of an answer is put out.
 use Rattle.std.specs.Prelude.{ℕ, List, Option}
-use Rattle.drafts.specs.declared.output.Output.{Output}
-use Rattle.drafts.specs.Outputs.{stream_of}
+use Rattle.text_output.specs.declared.output.Output.{Output}
+use Rattle.text_output.specs.Outputs.{stream_of}
 use Rattle.blk_cli.specs.declared.Ended.{Ended}
 use Rattle.blk_cli.specs.Said.{Said}
 use Rattle.blk_cli.specs.Ends.{EndsPut}

@@ -1,6 +1,6 @@
 -- What the reader of one form finds.
 use Rattle.std.specs.Prelude.{◌≡◌, List}
-use Rattle.blk_lists.specs.Sources.{Row}
+use Rattle.blk_records.specs.Sources.{Row}
 use Rattle.blk_explain.specs.declared.forms.TextForm.{TextForm}
 use Rattle.blk_explain.specs.declared.findings.Finding.{Finding}
 use Rattle.blk_explain.specs.Findings.{IsText, FaultOf}

@@ -3,11 +3,11 @@ use Rattle.std.specs.Prelude.{ℕ, ◌≡◌, ◌+◌, ⊤, length, List, Some, 
 use Rattle.blk_bio.specs.Bios.{Bio}
 use Rattle.blk_queues.specs.Plugs.{Plug, bios_plugged}
 use Rattle.blk_queues.specs.Queues.{Queue, with_last}
-use Rattle.blk_layer.specs.declared.submitting.FlushWhy.{FlushWhy}
-use Rattle.blk_layer.specs.declared.submitting.FlushWhy.TheVariants.{Foreign, Repeated, SoftFull, Memory}
+use Rattle.blk_layer.specs.declared.submitting.FlushReason.{FlushReason}
+use Rattle.blk_layer.specs.declared.submitting.FlushReason.TheVariants.{Foreign, Repeated, SoftFull, Memory}
 
 -- a reason that the bios themselves give, whatever room there is
-abbrev pub IsOfBios : FlushWhy → Type 0
+abbrev pub IsOfBios : FlushReason → Type 0
 IsOfBios (Foreign id) = ⊤
 IsOfBios (Repeated id) = ⊤
 IsOfBios SoftFull = ⊥

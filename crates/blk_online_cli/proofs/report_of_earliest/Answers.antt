@@ -1,12 +1,12 @@
 use Rattle.std.proofs.Common.{◌∙◌, ap, false, map, string_bytes, codes}
-use Rattle.drafts.specs.Outputs.{stream_of}
+use Rattle.text_output.specs.Outputs.{stream_of}
 use Rattle.blk_cli.specs.Said.{said_of}
-use Rattle.blk_settings.specs.Defaults.{earliest_by}
-use Rattle.blk_settings.specs.declared.form.Form.TheVariants as form
-use Rattle.blk_words.specs.declared.table.FiguresAsked.TheVariants as figures
-use Rattle.blk_words.specs.declared.inputs.Running.TheVariants as running
-use Rattle.blk_words.specs.declared.inputs.Telling.TheVariants as tell
-use Rattle.blk_words.specs.declared.inputs.TextJob.TheVariants as text_job
+use Rattle.blk_schedulers.specs.Defaults.{earliest_by}
+use Rattle.blk_schedulers.specs.declared.form.Form.TheVariants as form
+use Rattle.blk_args.specs.declared.table.FiguresAsked.TheVariants as figures
+use Rattle.blk_args.specs.declared.inputs.Running.TheVariants as running
+use Rattle.blk_args.specs.declared.inputs.Telling.TheVariants as tell
+use Rattle.blk_args.specs.declared.inputs.TextJob.TheVariants as text_job
 use Rattle.blk_online_cli.specs.Told.{ReportsNoShortfall}
 use Rattle.blk_online_cli.specs.Inside.Words.{sim_words, report_words}
 use Rattle.blk_online_cli.proofs.Ending.{piped}

@@ -1,7 +1,7 @@
 //! Scripts: the order of their commands, and how far they fall short.
 
-use blk_lists::Records;
 use blk_online_cli::simulate_earliest;
+use blk_records::Records;
 use blk_report::{misses, report};
 use blk_text::read_script;
 use blk_trace::Trace;

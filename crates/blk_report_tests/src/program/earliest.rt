@@ -1,9 +1,9 @@
 //! What the program tells of its own simulations under `earliest`.
 
 use crate::program::given::NoMemory;
-use blk_lists::Records;
 use blk_online_cli::{misses_of_late_last, report_of_earliest};
-use drafts::Output;
+use blk_records::Records;
+use text_output::Output;
 
 /// At depth 1 two reads, due in the round in which they come, and a write, due one round on.
 const SCRIPT: &str =

@@ -1,9 +1,8 @@
 //! What the tests are given: runs of the program over readers and writers that fail.
 
 use blk_cli::run;
-use blk_lists::Records;
-use blk_settings::{Load, LoadFault, Loaded, Loads, Sched, Unsettled};
-use drafts::Output;
+use blk_records::Records;
+use blk_schedulers::{Load, LoadFault, Loaded, Loads, Sched, Unsettled};
 use std::alloc::Global;
 use std::io;
 use std::io::{ErrorKind, Read, Write};
@@ -11,6 +10,7 @@ use std::process::Abort;
 use std::sync::Wait;
 use std::sync::atomic::{AtomicU64, Ordering};
 use std::thread::Threads;
+use text_output::Output;
 use turns::Quiet;
 
 /// A reader that gives its text byte by byte, and fails in this way after this number of reads.

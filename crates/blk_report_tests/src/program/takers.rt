@@ -1,6 +1,6 @@
 //! Which subcommands take a kind of text.
 
-use blk_words::{TextKind, takers_text, takes_what_it_reads};
+use blk_args::{TextKind, takers_text, takes_what_it_reads};
 use std::alloc::Global;
 use std::process::Abort;
 

@@ -3,9 +3,9 @@ use Rattle.std.specs.Prelude.{ℕ, List, [], ◌∷◌, length, map, decimal}
 use Rattle.blk_bio.specs.Bios.{Bio}
 use Rattle.blk_trace.specs.Happened.{Happened}
 use Rattle.blk_trace.specs.Setups.{Setup}
-use Rattle.blk_lists.specs.Sources.{Row}
-use Rattle.blk_lists.specs.Kinds.{said_row}
-use Rattle.blk_lists.specs.Titles.{title_by}
+use Rattle.blk_records.specs.Sources.{Row}
+use Rattle.blk_records.specs.Kinds.{said_row}
+use Rattle.blk_records.specs.Titles.{title_by}
 use Rattle.blk_text.specs.Inside.BioTable.{bio_row}
 use Rattle.blk_text.specs.TraceForm.{Head, said, event_told, trace_numbers}
 use Rattle.blk_text.specs.declared.heads.TheConstants.{TRACE}

@@ -11,7 +11,7 @@ ghost use Rattle.blk_trace.specs.declared.known.Known.{Known as Kept};
 ghost use Rattle.blk_bio.specs.declared.bio.BioId.{BioId as Name};
 ghost use Rattle.blk_trace.specs.Happened.{Tick, Release, Join, Issue, Done, Back, Depth};
 ghost use Rattle.blk_trace.specs.Legal.{IsLegalTrace};
-ghost use Rattle.blk_trace.specs.Rules.{IsUnbroken};
+ghost use Rattle.blk_trace.specs.Rules.{BreaksNoRule};
 ghost use Rattle.blk_trace.specs.Traces.{IsPreparedFor, extended};
 ghost use Rattle.blk_trace.specs.Events.{IsReleased, IsIssued, IsOpen, IsOpenBy};
 ghost use Rattle.blk_trace.specs.Inside.Kept.{known_of, requeued_known, has_named, has_bio_id, rounds_known};
@@ -30,7 +30,7 @@ impl<A: Allocator + Clone> Trace<A> {
     /// which its Issue did. It looks for no fault and takes no memory.
     #[inline(always)]
     pub fn add(&mut self, event: Event<Request<A>>)
-        requires unbroken { IsUnbroken self.old.setup self.old.events event }
+        requires unbroken { BreaksNoRule self.old.setup self.old.events event }
         requires prepared { IsPreparedFor self.old.prepared event }
         ensures added { self.new ≡ extended self.old event }
         ensures legal { IsLegalTrace self.old.setup (self.old.events ++ event ∷ []) }
@@ -50,7 +50,7 @@ impl<A: Allocator + Clone> Trace<A> {
 
     /// Adds a Tick: every tag is free in the round that begins, and the last depth that was set is in force.
     fn add_tick(&mut self)
-        requires unbroken { IsUnbroken self.old.setup self.old.events Tick }
+        requires unbroken { BreaksNoRule self.old.setup self.old.events Tick }
         requires prepared { IsPreparedFor self.old.prepared Tick }
         ensures added { self.new ≡ extended self.old Tick }
         ensures legal { IsLegalTrace self.old.setup (self.old.events ++ Tick ∷ []) }
@@ -66,7 +66,7 @@ impl<A: Allocator + Clone> Trace<A> {
     /// Adds a Release: the request waits under its id.
     #[inline(always)]
     fn add_release(&mut self, id: u64, request: Request<A>)
-        requires unbroken { IsUnbroken self.old.setup self.old.events (Release id request) }
+        requires unbroken { BreaksNoRule self.old.setup self.old.events (Release id request) }
         requires prepared { IsPreparedFor self.old.prepared (Release id request) }
         ensures added { self.new ≡ extended self.old (Release id request) }
         ensures legal { IsLegalTrace self.old.setup (self.old.events ++ Release id request ∷ []) }
@@ -95,7 +95,7 @@ impl<A: Allocator + Clone> Trace<A> {
 
     /// Adds a Join: the request that waits under the id has these bios too.
     fn add_join(&mut self, id: u64, request: Request<A>)
-        requires unbroken { IsUnbroken self.old.setup self.old.events (Join id request) }
+        requires unbroken { BreaksNoRule self.old.setup self.old.events (Join id request) }
         requires prepared { IsPreparedFor self.old.prepared (Join id request) }
         ensures added { self.new ≡ extended self.old (Join id request) }
         ensures legal { IsLegalTrace self.old.setup (self.old.events ++ Join id request ∷ []) }
@@ -113,7 +113,7 @@ impl<A: Allocator + Clone> Trace<A> {
     /// Adds an Issue: the request waits no more, and its command, of this round, is the last one.
     #[inline(always)]
     fn add_issue(&mut self, id: u64, tag: u16)
-        requires unbroken { IsUnbroken self.old.setup self.old.events (Issue id tag) }
+        requires unbroken { BreaksNoRule self.old.setup self.old.events (Issue id tag) }
         requires prepared { IsPreparedFor self.old.prepared (Issue id tag) }
         ensures added { self.new ≡ extended self.old (Issue id tag) }
         ensures legal { IsLegalTrace self.old.setup (self.old.events ++ Issue id tag ∷ []) }
@@ -130,7 +130,7 @@ impl<A: Allocator + Clone> Trace<A> {
 
     /// Adds a Done: the tag's Issue is no longer open.
     fn add_done(&mut self, tag: u16)
-        requires unbroken { IsUnbroken self.old.setup self.old.events (Done tag) }
+        requires unbroken { BreaksNoRule self.old.setup self.old.events (Done tag) }
         ensures added { self.new ≡ extended self.old (Done tag) }
         ensures legal { IsLegalTrace self.old.setup (self.old.events ++ Done tag ∷ []) }
     {
@@ -156,7 +156,7 @@ impl<A: Allocator + Clone> Trace<A> {
 
     /// Adds a Back: the tag's Issue is no longer open, its request waits again, and it is no command any more.
     fn add_back(&mut self, tag: u16)
-        requires unbroken { IsUnbroken self.old.setup self.old.events (Back tag) }
+        requires unbroken { BreaksNoRule self.old.setup self.old.events (Back tag) }
         ensures added { self.new ≡ extended self.old (Back tag) }
         ensures legal { IsLegalTrace self.old.setup (self.old.events ++ Back tag ∷ []) }
     {
@@ -173,7 +173,7 @@ impl<A: Allocator + Clone> Trace<A> {
 
     /// Adds a Depth: the rounds after the current one carry `depth` commands.
     fn add_depth(&mut self, depth: u64)
-        requires unbroken { IsUnbroken self.old.setup self.old.events (Depth depth) }
+        requires unbroken { BreaksNoRule self.old.setup self.old.events (Depth depth) }
         requires prepared { IsPreparedFor self.old.prepared (Depth depth) }
         ensures added { self.new ≡ extended self.old (Depth depth) }
         ensures legal { IsLegalTrace self.old.setup (self.old.events ++ Depth depth ∷ []) }

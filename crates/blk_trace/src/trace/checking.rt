@@ -5,7 +5,7 @@ ghost use Rattle.blk_bio.specs.Requests.{IsRequest};
 ghost use Rattle.blk_trace.specs.Happened.{Tick, Release, Join, Issue, Depth};
 ghost use Rattle.blk_trace.specs.Kinds.{ends};
 ghost use Rattle.blk_trace.specs.Legal.{IsLegalTrace};
-ghost use Rattle.blk_trace.specs.Rules.{IsFirstBroken, IsUnbroken};
+ghost use Rattle.blk_trace.specs.Rules.{IsFirstBroken, BreaksNoRule};
 ghost use Rattle.blk_trace.specs.Events.{entered, open_count, IsReleased, AreRequeued, IsOpen, IsUsed, AreOnce, IsFirstRepeatedBio};
 ghost use Rattle.blk_trace.specs.Waits.{Entered, waits_at};
 ghost use Rattle.blk_trace.specs.Inside.Kept.{known_of, IsTagUse, has_bio_id};
@@ -22,7 +22,7 @@ impl<A: Allocator + Clone> Trace<A> {
     #[inline(always)]
     pub(crate) fn first_broken(&self, event: &Event<Request<A>>) -> Option<TraceRule>
         ensures some { IfSome result (IsFirstBroken self.now.setup self.now.events event.now) }
-        ensures none { IfNone result (IsUnbroken self.now.setup self.now.events event.now) }
+        ensures none { IfNone result (BreaksNoRule self.now.setup self.now.events event.now) }
         ensures legal { IsLegalTrace self.now.setup self.now.events }
     {
         // brings the prover the trace's invariant
@@ -41,7 +41,7 @@ impl<A: Allocator + Clone> Trace<A> {
     /// The first rule that a Tick would break.
     fn broken_tick(&self) -> Option<TraceRule>
         ensures some { IfSome result (IsFirstBroken self.now.setup self.now.events Tick) }
-        ensures none { IfNone result (IsUnbroken self.now.setup self.now.events Tick) }
+        ensures none { IfNone result (BreaksNoRule self.now.setup self.now.events Tick) }
     {
         if self.has_open() {
             Some(TraceRule::InFlight)
@@ -55,7 +55,7 @@ impl<A: Allocator + Clone> Trace<A> {
     /// The first rule that a Release of the request under the id would break.
     fn broken_release(&self, id: u64, request: &Request<A>) -> Option<TraceRule>
         ensures some { IfSome result (IsFirstBroken self.now.setup self.now.events (Release id request.now)) }
-        ensures none { IfNone result (IsUnbroken self.now.setup self.now.events (Release id request.now)) }
+        ensures none { IfNone result (BreaksNoRule self.now.setup self.now.events (Release id request.now)) }
     {
         if self.known_at(id).is_some() {
             Some(TraceRule::ReleasedTwice)
@@ -73,7 +73,7 @@ impl<A: Allocator + Clone> Trace<A> {
     /// The first rule that a Join of the request under the id would break.
     fn broken_join(&self, id: u64, request: &Request<A>) -> Option<TraceRule>
         ensures some { IfSome result (IsFirstBroken self.now.setup self.now.events (Join id request.now)) }
-        ensures none { IfNone result (IsUnbroken self.now.setup self.now.events (Join id request.now)) }
+        ensures none { IfNone result (BreaksNoRule self.now.setup self.now.events (Join id request.now)) }
     {
         let waiting = match self.known_at(id) {
             None => return Some(TraceRule::Unknown),
@@ -95,7 +95,7 @@ impl<A: Allocator + Clone> Trace<A> {
     /// The first rule that an Issue of the id under the tag would break.
     fn broken_issue(&self, id: u64, tag: u16) -> Option<TraceRule>
         ensures some { IfSome result (IsFirstBroken self.now.setup self.now.events (Issue id tag)) }
-        ensures none { IfNone result (IsUnbroken self.now.setup self.now.events (Issue id tag)) }
+        ensures none { IfNone result (BreaksNoRule self.now.setup self.now.events (Issue id tag)) }
     {
         match self.known_at(id) {
             None => Some(TraceRule::Unknown),
@@ -110,7 +110,7 @@ impl<A: Allocator + Clone> Trace<A> {
         requires released { IsReleased self.now.events id }
         requires waits { AreRequeued self.now.events id }
         ensures some { IfSome result (IsFirstBroken self.now.setup self.now.events (Issue id tag)) }
-        ensures none { IfNone result (IsUnbroken self.now.setup self.now.events (Issue id tag)) }
+        ensures none { IfNone result (BreaksNoRule self.now.setup self.now.events (Issue id tag)) }
     {
         if tag as u64 >= self.depth_now() {
             Some(TraceRule::TagRange)
@@ -128,7 +128,7 @@ impl<A: Allocator + Clone> Trace<A> {
     fn broken_end(&self, event: &Event<Request<A>>, tag: u16) -> Option<TraceRule>
         requires { ends event.now ≡ Some tag }
         ensures some { IfSome result (IsFirstBroken self.now.setup self.now.events event.now) }
-        ensures none { IfNone result (IsUnbroken self.now.setup self.now.events event.now) }
+        ensures none { IfNone result (BreaksNoRule self.now.setup self.now.events event.now) }
     {
         // named in the clauses alone
         let _ = event;
@@ -144,7 +144,7 @@ impl<A: Allocator + Clone> Trace<A> {
     /// The first rule that a Depth would break.
     fn broken_depth(&self, depth: u64) -> Option<TraceRule>
         ensures some { IfSome result (IsFirstBroken self.now.setup self.now.events (Depth depth)) }
-        ensures none { IfNone result (IsUnbroken self.now.setup self.now.events (Depth depth)) }
+        ensures none { IfNone result (BreaksNoRule self.now.setup self.now.events (Depth depth)) }
     {
         let tags = self.depth();
         if !self.has_places(1) {

@@ -1,6 +1,6 @@
 use Rattle.std.proofs.Common.{[], ◌∷◌, arith}
-use Rattle.drafts.specs.Drafts.{drafted}
-use Rattle.blk_lists.proofs.DraftLemmas.{none_first, one_more, whole}
+use Rattle.text_output.specs.Drafts.{drafted}
+use Rattle.blk_records.proofs.DraftLemmas.{none_first, one_more, whole}
 use Rattle.blk_text.specs.StepRecords.{step_row}
 use Rattle.blk_arrivals.proofs.text.push_lines.Goals as goal
 

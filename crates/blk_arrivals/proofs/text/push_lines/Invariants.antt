@@ -1,6 +1,6 @@
 use Rattle.std.proofs.Common.{[], ◌∷◌}
-use Rattle.drafts.specs.Drafts.{drafted}
-use Rattle.blk_lists.proofs.DraftLemmas.{IsSoFar}
+use Rattle.text_output.specs.Drafts.{drafted}
+use Rattle.blk_records.proofs.DraftLemmas.{IsSoFar}
 use Rattle.blk_text.specs.StepRecords.{step_row}
 use Rattle.blk_arrivals.proofs.text.push_lines.Given as goal
 

@@ -1,8 +1,8 @@
 use Rattle.std.proofs.Common.{◌≡◌, ◌∙◌, List, ℕ, IfOk, map, sym, ap}
 use Rattle.std.proofs.lemmas.Result.{IfOk-weaker}
 use Rattle.csv.specs.Reading.{default_config, records, strip_bom}
-use Rattle.drafts.specs.Drafts.{drafted}
-use Rattle.blk_lists.specs.Texts.{rows_text}
+use Rattle.text_output.specs.Drafts.{drafted}
+use Rattle.blk_records.specs.Texts.{rows_text}
 use Rattle.blk_text.specs.Script.{scripted, script_rows, SpellsVersion}
 use Rattle.blk_text.specs.SetupRecord.{setup_row}
 use Rattle.blk_text.specs.declared.setup.TheConstants.{LATEST}

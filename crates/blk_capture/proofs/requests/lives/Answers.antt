@@ -2,7 +2,7 @@ use Rattle.std.proofs.Common.{◌≡◌, ◌<◌, ◌+◌, ◌-◌, ◌∙◌, �
 use Rattle.std.proofs.lemmas.List.{length-set, get_or_default}
 use Rattle.std.proofs.lemmas.Option.{slice_get-get_or}
 use Rattle.blk_capture.specs.declared.opened.Absorption.{Absorption}
-use Rattle.blk_capture.specs.declared.requests.Life.{Life}
+use Rattle.blk_capture.specs.declared.requests.MergeRoot.{MergeRoot}
 use Rattle.blk_capture.proofs.Placing.{ends_done, roots_step}
 use Rattle.blk_capture.proofs.requests.lives.Goals as goal
 
@@ -17,7 +17,7 @@ loop-place-init g c =
 pub loop-place-preserved : goal.loop-place-preserved
 loop-place-preserved g c =
     let merges : List Absorption = c.args.absorptions.now in
-    let lives : List Life = c.loop-place.lives.items in
+    let lives : List MergeRoot = c.loop-place.lives.items in
     let p : ℕ = c.loop-place.place - 1 in
     let next : p + 1 ≡ c.loop-place.place = omega (arith, c.loop-place-test.true) in
     let here : p < length merges = omega (arith, next, c.loop-place.auto.place) in

@@ -6,7 +6,7 @@ use Rattle.blk_capture.specs.Rules.{Known}
 use Rattle.blk_capture.specs.Settled.{taken_from}
 use Rattle.blk_capture.specs.Inside.Matchings.{all_known}
 use Rattle.blk_capture.specs.declared.clock.Dispatch.{Dispatch}
-use Rattle.blk_capture.specs.declared.requests.Life.{Life}
+use Rattle.blk_capture.specs.declared.requests.MergeRoot.{MergeRoot}
 use Rattle.blk_capture.specs.declared.requests.Options.{Options}
 use Rattle.blk_capture.specs.declared.requests.Taken.{Taken}
 use Rattle.blk_capture.proofs.Taking.{taken_none, taken_same, taken_put}
@@ -26,7 +26,7 @@ pub loop-number-preserved : goal.loop-number-preserved
 loop-number-preserved g c =
     let ds : List Dispatch = c.as_slice-dispatches.result.now in
     let n : ℕ = c.loop-number.number in
-    let lives : List Life = c.args.lives.now in
+    let lives : List MergeRoot = c.args.lives.now in
     let openers : List ℕ = c.args.matching.now.members.openers.items in
     let m : Known = all_known c.args.matching.now in
     let o : Options = c.args.options.now in

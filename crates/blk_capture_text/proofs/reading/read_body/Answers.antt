@@ -1,5 +1,5 @@
 use Rattle.std.proofs.Common.{rules, [], refl, true, false, arith}
-use Rattle.blk_lists.specs.Sources.{TakesRecord}
+use Rattle.blk_records.specs.Sources.{TakesRecord}
 use Rattle.blk_capture_text.proofs.CaptureLaws.{AreTaken, fit_in_order, size_rows, taken_long, taking_halts, end_outside, past_long, past_lacks}
 use Rattle.blk_capture_text.proofs.reading.read_body.Goals as goal
 

@@ -1,7 +1,7 @@
 use Rattle.std.proofs.Common.{arith}
 use Rattle.blk_capture_text.specs.Captures.{capture_form}
 use Rattle.blk_capture_text.proofs.CaptureLaws.{capture_read, title_told, title_halts, body_halts}
-use Rattle.blk_lists.proofs.Reading.{halts_err, halts_reached}
+use Rattle.blk_records.proofs.Reading.{halts_err, halts_reached}
 use Rattle.blk_capture_text.proofs.reading.read_capture.Goals as goal
 
 pub returns-in-Ok-read_body-clause-ok : goal.returns-in-Ok-read_body-clause-ok

@@ -1,5 +1,5 @@
 use Rattle.std.proofs.Common.{inl}
-use Rattle.blk_lists.specs.Proof.{SpellsProof, ProofFault, proof_claimed}
+use Rattle.blk_records.specs.Proof.{SpellsProof, ProofFault, proof_claimed}
 use Rattle.blk_cli.specs.Certificates.{IsCheckText, IsBad}
 use Rattle.blk_cli.proofs.OfRead.{told, refused}
 use Rattle.blk_cli.proofs.checking.over_proof.Goals as goal

@@ -1,6 +1,6 @@
 use Rattle.std.proofs.Common.{rules, ◌≡◌, w64, of_z, to_z}
 use Rattle.std.proofs.lemmas.Int.{to_z-of_z}
-use Rattle.blk_lists.specs.Certificate.{claimed}
+use Rattle.blk_records.specs.Certificate.{claimed}
 use Rattle.blk_cli.proofs.Claims.{verdict_is}
 use Rattle.blk_cli.proofs.checking.verdict.Goals as goal
 

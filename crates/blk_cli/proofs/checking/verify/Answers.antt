@@ -1,7 +1,7 @@
 use Rattle.std.proofs.Common.{rules, ◌≡◌, List, ℕ, IfSome, refl, subst, w64, of_z, to_z}
 use Rattle.std.proofs.lemmas.Int.{to_z-of_z}
 use Rattle.edd_commands.specs.declared.Command.{Command}
-use Rattle.blk_lists.specs.Certificate.{claimed}
+use Rattle.blk_records.specs.Certificate.{claimed}
 use Rattle.blk_cli.specs.Certificates.{IsProof}
 use Rattle.blk_cli.proofs.Claims.{bound_beside, proof_of, crowding_of, refused_of}
 use Rattle.blk_cli.proofs.checking.verify.Goals as goal

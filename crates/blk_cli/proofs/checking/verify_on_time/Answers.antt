@@ -1,5 +1,5 @@
 use Rattle.std.proofs.Common.{rules, ◌≡◌}
-use Rattle.blk_lists.specs.OnTime.{on_time_claimed}
+use Rattle.blk_records.specs.OnTime.{on_time_claimed}
 use Rattle.blk_cli.proofs.OnTimeClaims.{on_time_proved, on_time_refused}
 use Rattle.blk_cli.proofs.checking.verify_on_time.Goals as goal
 

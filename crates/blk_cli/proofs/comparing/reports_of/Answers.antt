@@ -1,6 +1,6 @@
 use Rattle.std.proofs.Common.{take}
 use Rattle.blk_text.specs.Script.{scripted}
-use Rattle.blk_settings.proofs.Unmade.{no_sched}
+use Rattle.blk_schedulers.proofs.Unmade.{no_sched}
 use Rattle.blk_runs.proofs.Turns.{unrun_at}
 use Rattle.blk_cli.specs.Comparing.{IsReportUnder}
 use Rattle.blk_cli.proofs.Compared.{none_yet, one_more, reports_whole}

@@ -1,5 +1,5 @@
 use Rattle.std.proofs.Common.{take, map, ◌≡◌}
-use Rattle.blk_settings.specs.Scheds.{name_of}
+use Rattle.blk_schedulers.specs.Scheds.{name_of}
 use Rattle.blk_cli.proofs.comparing.titles_of.Given as goal
 
 abbrev pub invariant-loop-i : goal.invariant-loop-i

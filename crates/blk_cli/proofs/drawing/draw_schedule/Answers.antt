@@ -1,7 +1,7 @@
 use Rattle.std.proofs.Common.{inl}
-use Rattle.blk_lists.specs.Schedule.{ScheduleView, viewed, SpellsSchedule, ScheduleFault}
+use Rattle.blk_records.specs.Schedule.{ScheduleView, viewed, SpellsSchedule, ScheduleFault}
 use Rattle.blk_cli.specs.Drawing.{IsScheduleDrawn}
-use Rattle.blk_cli.specs.Judging.{IsUnjudged}
+use Rattle.blk_cli.specs.Judging.{IsJudgeFailure}
 use Rattle.blk_cli.proofs.OfRead.{told, refused}
 use Rattle.blk_cli.proofs.drawing.draw_schedule.Goals as goal
 
@@ -16,4 +16,4 @@ returns-clause-text g c =
 pub returns-clause-fails : goal.returns-clause-fails
 returns-clause-fails g c =
     let s : ScheduleView = viewed c.in-Ok.schedule in
-    refused SpellsSchedule ScheduleFault IsUnjudged c.args.records.now.left _ s _ c.in-Ok.ensures.ok c.drawn.ensures.fails
+    refused SpellsSchedule ScheduleFault IsJudgeFailure c.args.records.now.left _ s _ c.in-Ok.ensures.ok c.drawn.ensures.fails

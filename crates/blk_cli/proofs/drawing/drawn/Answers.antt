@@ -1,5 +1,5 @@
 use Rattle.std.proofs.Common.{rules, ◌≡◌}
-use Rattle.blk_lists.specs.Schedule.{viewed}
+use Rattle.blk_records.specs.Schedule.{viewed}
 use Rattle.blk_judge.specs.Drawing.{IsSchedulePicture}
 use Rattle.blk_cli.proofs.Schedules.{taken_of, rounds_of, told_of, refused_as}
 use Rattle.blk_cli.proofs.drawing.drawn.Goals as goal

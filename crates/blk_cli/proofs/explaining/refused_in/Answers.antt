@@ -1,8 +1,8 @@
 use Rattle.std.proofs.Common.{refl, subst, [], ◌∷◌}
 use Rattle.blk_text.specs.Script.{scripted}
-use Rattle.blk_settings.specs.declared.rows.SchedKind.TheVariants as sched_kind
-use Rattle.blk_settings.specs.declared.sched.Sched.{Sched}
-use Rattle.blk_runs.specs.Runs.{IsUnrun}
+use Rattle.blk_schedulers.specs.declared.rows.SchedKind.TheVariants as sched_kind
+use Rattle.blk_schedulers.specs.declared.sched.Sched.{Sched}
+use Rattle.blk_runs.specs.Runs.{IsRunFault}
 use Rattle.blk_cli.proofs.explaining.refused_in.Goals as goal
 
 abbrev none : Sched
@@ -17,5 +17,5 @@ returns-in-Err-Step c = (
   none,
   c.in_ok-script.ensures.spells,
   refl,
-  subst (IsUnrun none (scripted c.in_ok-script.script)) c.in-Err-Step.field-0-is c.in-Err-Step.ensures.unrun,
+  subst (IsRunFault none (scripted c.in_ok-script.script)) c.in-Err-Step.field-0-is c.in-Err-Step.ensures.unrun,
 )

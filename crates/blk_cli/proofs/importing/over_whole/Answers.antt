@@ -2,17 +2,17 @@ use Rattle.std.proofs.Common.{rules, refl, inl, inr, ◌≡◌, ◌⊎◌, ℕ, 
 use Rattle.std.specs.Prelude.{IfSome}
 use Rattle.blk_capture_text.specs.Source.{IsCaptureRead}
 use Rattle.blk_capture_text.specs.declared.source.CaptureRead.{CaptureRead}
-use Rattle.blk_words.specs.declared.words.Import.{Import}
-use Rattle.blk_words.specs.declared.words.Kept.{Kept}
-use Rattle.blk_cli.specs.Importing.{IsUnimportedFrom, IsUnwrittenOf}
+use Rattle.blk_args.specs.declared.words.Import.{Import}
+use Rattle.blk_args.specs.declared.words.Kept.{Kept}
+use Rattle.blk_cli.specs.Importing.{IsImportInputFailure, IsReadCaptureFailure}
 use Rattle.blk_cli.specs.declared.failure.Failure.{Failure}
 use Rattle.blk_cli.specs.declared.failure.Failure.TheVariants as failure
 use Rattle.blk_cli.proofs.importing.over_whole.Goals as goal
 
 -- why nothing is written of a capture that was read, of the bytes that it was read of
 unwritten : (k : Kept) (words : List (List ℕ)) (i : Import) (input : Option (List ℕ)) (failed : Bool) (bytes : List ℕ) (read : CaptureRead) (f : Failure)
-    → IfSome input (λ known. bytes ≡ known) → IsCaptureRead i.source.form i.source.device bytes read → IsUnwrittenOf k words i read f
-    → (x : Failure) × IsUnimportedFrom k words i input failed x × ((f ≡ x) ⊎ (f ≡ failure.Memory))
+    → IfSome input (λ known. bytes ≡ known) → IsCaptureRead i.source.form i.source.device bytes read → IsReadCaptureFailure k words i read f
+    → (x : Failure) × IsImportInputFailure k words i input failed x × ((f ≡ x) ⊎ (f ≡ failure.Memory))
 unwritten k words i input failed bytes read f given is_read (inl refused) =
     (f, inr (record { bytes = bytes; given = given; of = inr (record { read = read; is_read = is_read; refused = refused }) }), inl refl)
 unwritten k words i input failed bytes read f given is_read (inr memory) = (failure.Memory, inl tt, inr memory)

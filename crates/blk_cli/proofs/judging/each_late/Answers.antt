@@ -1,7 +1,7 @@
 use Rattle.std.proofs.Common.{rules, ◌≡◌, ◌∙◌, ap}
 use Rattle.answer.specs.Lines.{answer_lines}
 use Rattle.blk_judge.specs.Answers.{missed_parts}
-use Rattle.blk_lists.specs.Schedule.{viewed}
+use Rattle.blk_records.specs.Schedule.{viewed}
 use Rattle.blk_cli.proofs.Schedules.{taken_of, rounds_of, missed_of, refused_as}
 use Rattle.blk_cli.proofs.judging.each_late.Goals as goal
 

@@ -1,6 +1,6 @@
 use Rattle.std.proofs.Common.{inl}
-use Rattle.blk_lists.specs.Schedule.{ScheduleView, viewed, SpellsSchedule, ScheduleFault}
-use Rattle.blk_cli.specs.Judging.{IsJudgedText, IsUnjudged, TellsEmpty}
+use Rattle.blk_records.specs.Schedule.{ScheduleView, viewed, SpellsSchedule, ScheduleFault}
+use Rattle.blk_cli.specs.Judging.{IsJudgedText, IsJudgeFailure, TellsEmpty}
 use Rattle.blk_cli.specs.Said.{said_of}
 use Rattle.blk_cli.proofs.OfRead.{told, refused}
 use Rattle.blk_cli.proofs.judging.over_schedule.Goals as goal
@@ -21,4 +21,4 @@ returns-clause-beside g c =
 pub returns-clause-fails : goal.returns-clause-fails
 returns-clause-fails g c =
     let s : ScheduleView = viewed c.in-Ok.schedule in
-    refused SpellsSchedule ScheduleFault IsUnjudged c.args.records.now.left _ s _ c.in-Ok.ensures.ok c.judge_answer.ensures.fails
+    refused SpellsSchedule ScheduleFault IsJudgeFailure c.args.records.now.left _ s _ c.in-Ok.ensures.ok c.judge_answer.ensures.fails

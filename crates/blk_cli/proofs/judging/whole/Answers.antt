@@ -1,6 +1,6 @@
 use Rattle.std.proofs.Common.{rules, ◌≡◌, ◌∙◌, ap}
 use Rattle.answer.specs.Lines.{answer_lines}
-use Rattle.blk_lists.specs.Schedule.{viewed}
+use Rattle.blk_records.specs.Schedule.{viewed}
 use Rattle.blk_cli.proofs.Schedules.{taken_of, rounds_of, judged_of, refused_as}
 use Rattle.blk_cli.proofs.judging.whole.Goals as goal
 

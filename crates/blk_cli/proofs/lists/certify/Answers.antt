@@ -1,7 +1,7 @@
 use Rattle.std.proofs.Common.{rules, ◌≡◌, sym, subst, Some, w64, of_z, to_z}
 use Rattle.std.specs.Prelude.{ℤ}
 use Rattle.std.proofs.lemmas.Int.{to_z-of_z}
-use Rattle.blk_lists.specs.Certificate.{IsClaim}
+use Rattle.blk_records.specs.Certificate.{IsClaim}
 use Rattle.edd_oracle.specs.Answer.{IsBest}
 use Rattle.blk_cli.proofs.Claims.{claim_in}
 use Rattle.blk_cli.proofs.lists.certify.Goals as goal

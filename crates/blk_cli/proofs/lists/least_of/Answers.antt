@@ -1,5 +1,5 @@
-use Rattle.blk_lists.specs.Certificate.{claimed}
-use Rattle.blk_lists.proofs.ClaimLaws.{rows_spell}
+use Rattle.blk_records.specs.Certificate.{claimed}
+use Rattle.blk_records.proofs.ClaimLaws.{rows_spell}
 use Rattle.blk_cli.proofs.lists.least_of.Goals as goal
 
 pub returns-in-Ok-certificate_text-clause-text : goal.returns-in-Ok-certificate_text-clause-text

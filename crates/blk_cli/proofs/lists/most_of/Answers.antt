@@ -1,5 +1,5 @@
-use Rattle.blk_lists.specs.OnTime.{on_time_claimed}
-use Rattle.blk_lists.proofs.OnTimeLaws.{rows_spell}
+use Rattle.blk_records.specs.OnTime.{on_time_claimed}
+use Rattle.blk_records.proofs.OnTimeLaws.{rows_spell}
 use Rattle.blk_cli.proofs.lists.most_of.Goals as goal
 
 pub returns-in-Ok-on_time_text-clause-text : goal.returns-in-Ok-on_time_text-clause-text

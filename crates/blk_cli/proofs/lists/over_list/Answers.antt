@@ -1,7 +1,7 @@
 use Rattle.std.proofs.Common.{inl, ℕ, List}
 use Rattle.edd_commands.specs.declared.Command.{Command}
-use Rattle.blk_lists.specs.Commands.{CommandsFault}
-use Rattle.blk_cli.specs.Certificates.{SpellsList, IsSolved, IsUnsolved}
+use Rattle.blk_records.specs.Commands.{CommandsFault}
+use Rattle.blk_cli.specs.Certificates.{SpellsList, IsSolved, IsOracleFailure}
 use Rattle.blk_cli.proofs.OfRead.{told, refused}
 use Rattle.blk_cli.proofs.lists.over_list.Goals as goal
 
@@ -16,4 +16,4 @@ returns-clause-text g c =
 pub returns-clause-fails : goal.returns-clause-fails
 returns-clause-fails g c =
     let list : ℕ × List Command = (c.in-Ok.list.0, c.in-Ok.list.1.items) in
-    refused SpellsList CommandsFault IsUnsolved c.args.records.now.left _ list _ c.in-Ok.ensures.ok c.solved.ensures.unsolved
+    refused SpellsList CommandsFault IsOracleFailure c.args.records.now.left _ list _ c.in-Ok.ensures.ok c.solved.ensures.unsolved

@@ -1,5 +1,5 @@
 use Rattle.std.proofs.Common.{◌≡◌, ℕ, List, Result, Ok, Err, IfOk}
-use Rattle.blk_lists.specs.Texts.{rows_text}
+use Rattle.blk_records.specs.Texts.{rows_text}
 use Rattle.blk_text.specs.TraceForm.{trace_rows}
 use Rattle.blk_text.specs.TraceRecords.{IsTrace}
 use Rattle.blk_text.proofs.TraceLaws.{rows_spell}

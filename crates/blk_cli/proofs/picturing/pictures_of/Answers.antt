@@ -1,18 +1,18 @@
 use Rattle.std.proofs.Common.{◌≡◌, ◌∙◌, ℕ, Bor, List, ap, sym, subst, length, map}
 use Rattle.std.proofs.lemmas.List.{length-map}
 use Rattle.blk_text.specs.Script.{scripted}
-use Rattle.blk_settings.specs.declared.sched.Sched.{Sched}
-use Rattle.blk_settings.specs.Scheds.{name_of, in_turn}
+use Rattle.blk_schedulers.specs.declared.sched.Sched.{Sched}
+use Rattle.blk_schedulers.specs.Scheds.{name_of, in_turn}
 use Rattle.blk_runs.specs.Runs.{IsTraceOfScript}
-use Rattle.blk_cli.specs.Comparing.{AreTraces, IsUncompared}
+use Rattle.blk_cli.specs.Comparing.{AreTraces, IsCompareFailure}
 use Rattle.blk_cli.proofs.Compared.{as_many, said_of_runs}
 use Rattle.blk_cli.proofs.picturing.pictures_of.Goals as goal
 
 pub returns-in-Err-clause-uncompared : goal.returns-in-Err-clause-uncompared
 returns-in-Err-clause-uncompared c =
     let turn : c.as_slice-rows.result.now ≡ in_turn c.args.lineup = c.as_slice-rows.ensures.value ∙ c.in-Ok.ensures in
-    let said : IsUncompared c.as_slice-rows.result.now (scripted c.args.script.now) c.of_run.result = rw c.of_run.ensures (said_of_runs c.as_slice-rows.result.now (scripted c.args.script.now) c.in-Err.fault c.in-Err.ensures.uncompared) in
-    subst (λ (ss : List Sched). IsUncompared ss (scripted c.args.script.now) c.of_run.result) turn said
+    let said : IsCompareFailure c.as_slice-rows.result.now (scripted c.args.script.now) c.of_run.result = rw c.of_run.ensures (said_of_runs c.as_slice-rows.result.now (scripted c.args.script.now) c.in-Err.fault c.in-Err.ensures.uncompared) in
+    subst (λ (ss : List Sched). IsCompareFailure ss (scripted c.args.script.now) c.of_run.result) turn said
 
 pub pictures-requires : goal.pictures-requires
 pictures-requires c =

@@ -2,7 +2,7 @@ use Rattle.std.proofs.Common.{rules, List, refl}
 use Rattle.edd_commands.specs.declared.Command.{Command}
 use Rattle.blk_trace.specs.Meaning.{commands_of, rounds_of}
 use Rattle.blk_trace.specs.Setups.{Setup, IsSetup}
-use Rattle.blk_lists.proofs.CommandLaws.{rows_spell}
+use Rattle.blk_records.proofs.CommandLaws.{rows_spell}
 use Rattle.blk_cli.proofs.Claims.{commands_in, ids_fit}
 use Rattle.blk_cli.proofs.traces.list_of.Goals as goal
 

@@ -1,7 +1,7 @@
 use Rattle.std.proofs.Common.{inl, map, string_bytes}
 use Rattle.blk_text.specs.Script.{SpellsScript, ScriptFault, scripted}
 use Rattle.blk_cli.specs.Said.{said_of}
-use Rattle.blk_cli.specs.Tuning.{IsTrial, IsUntried}
+use Rattle.blk_cli.specs.Tuning.{IsTrial, IsTuneFailure}
 use Rattle.blk_cli.specs.Unflushed.{TellsPlugs}
 use Rattle.blk_cli.proofs.OfRead.{told, refused}
 use Rattle.blk_cli.proofs.tuning.over_trial.Goals as goal
@@ -18,4 +18,4 @@ returns-clause-beside g c = told SpellsScript TellsPlugs c.args.records.now.left
 
 pub returns-clause-fails : goal.returns-clause-fails
 returns-clause-fails g c =
-    refused SpellsScript ScriptFault (IsUntried (map string_bytes c.args.words.now)) c.args.records.now.left _ (scripted c.in-Ok.script) _ c.in-Ok.ensures.ok c.answer_trial.ensures.untried
+    refused SpellsScript ScriptFault (IsTuneFailure (map string_bytes c.args.words.now)) c.args.records.now.left _ (scripted c.in-Ok.script) _ c.in-Ok.ensures.ok c.answer_trial.ensures.untried

@@ -2,7 +2,7 @@ use Rattle.std.proofs.Common.{◌≡◌, ◌≤◌, ◌+◌, ◌-◌, ◌∙◌,
 use Rattle.std.proofs.lemmas.List.{take_all}
 use Rattle.std.proofs.lemmas.List.Sums.{sum_by_more}
 use Rattle.csv.specs.Records.{fields_of}
-use Rattle.blk_lists.specs.Sources.{Row, TakesRecord}
+use Rattle.blk_records.specs.Sources.{Row, TakesRecord}
 use Rattle.std.specs.Prelude.{not}
 use Rattle.blk_explain.specs.Counts.{is_of_bio, is_no_bio}
 use Rattle.blk_explain.specs.Findings.{rows_of}

@@ -1,5 +1,5 @@
 use Rattle.std.proofs.Common.{rules, true, false, arith}
-use Rattle.blk_lists.specs.Sources.{TakesRecord}
+use Rattle.blk_records.specs.Sources.{TakesRecord}
 use Rattle.blk_explain.specs.Findings.{rows_of}
 use Rattle.blk_explain.proofs.Taking.{takes_next, takes_row, takes_last}
 use Rattle.blk_explain.proofs.findings.count_rows.Goals as goal

@@ -1,5 +1,5 @@
 use Rattle.std.proofs.Common.{refl}
-use Rattle.blk_lists.specs.OnTime.{SpellsOnTime, on_time_claimed}
+use Rattle.blk_records.specs.OnTime.{SpellsOnTime, on_time_claimed}
 use Rattle.blk_explain.specs.Findings.{rows_of}
 use Rattle.blk_explain.proofs.Found.{known}
 use Rattle.blk_explain.proofs.findings.find_on_time.Goals as goal

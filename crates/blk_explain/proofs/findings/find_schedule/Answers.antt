@@ -1,5 +1,5 @@
 use Rattle.std.proofs.Common.{refl}
-use Rattle.blk_lists.specs.Schedule.{SpellsSchedule, viewed}
+use Rattle.blk_records.specs.Schedule.{SpellsSchedule, viewed}
 use Rattle.blk_explain.specs.Findings.{rows_of}
 use Rattle.blk_explain.proofs.Found.{known}
 use Rattle.blk_explain.proofs.findings.find_schedule.Goals as goal

@@ -1,5 +1,5 @@
 use Rattle.std.proofs.Common.{rules, ◌∙◌, ◌-◌, true, false, sym, arith}
-use Rattle.blk_lists.specs.Sources.{TakesRecord}
+use Rattle.blk_records.specs.Sources.{TakesRecord}
 use Rattle.blk_explain.specs.Findings.{rows_of}
 use Rattle.blk_explain.proofs.Taking.{takes_next, takes_last, past_last}
 use Rattle.blk_explain.proofs.findings.row_at.Goals as goal

@@ -1,5 +1,5 @@
 use Rattle.std.proofs.Common.{[], ◌∷◌}
-use Rattle.blk_lists.specs.Kinds.{row}
+use Rattle.blk_records.specs.Kinds.{row}
 use Rattle.blk_text.specs.EventKinds.{event_table}
 use Rattle.blk_text.specs.declared.bios.TheConstants.{BIO}
 use Rattle.blk_explain.proofs.Worded.{worded_either}

@@ -1,6 +1,6 @@
 use Rattle.std.proofs.Common.{rules, ◌≡◌, ◌∙◌, ap, refl}
 use Rattle.blk_trace.specs.Setups.{Setup}
-use Rattle.blk_settings.specs.Numbers.{IsLoad}
+use Rattle.blk_schedulers.specs.Numbers.{IsLoad}
 use Rattle.blk_load.proofs.Made.{can_make_of}
 use Rattle.blk_load.proofs.Ruled.{run_by}
 use Rattle.blk_load.proofs.running.load.Goals as goal

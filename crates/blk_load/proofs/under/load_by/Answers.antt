@@ -1,4 +1,4 @@
-use Rattle.blk_settings.specs.Made.{IsStart}
+use Rattle.blk_schedulers.specs.Made.{IsStart}
 use Rattle.blk_load.proofs.Ruled.{made_start, run_under}
 use Rattle.blk_load.proofs.under.load_by.Goals as goal
 

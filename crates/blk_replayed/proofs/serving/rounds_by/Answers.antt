@@ -1,4 +1,4 @@
-use Rattle.blk_settings.specs.Made.{IsStart}
+use Rattle.blk_schedulers.specs.Made.{IsStart}
 use Rattle.blk_replayed.proofs.Starts.{from_start, is_at_start, made_start}
 use Rattle.blk_replayed.proofs.serving.rounds_by.Goals as goal
 

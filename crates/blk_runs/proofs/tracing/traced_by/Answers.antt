@@ -1,5 +1,5 @@
 use Rattle.blk_text.specs.Script.{scripted}
-use Rattle.blk_settings.specs.Made.{IsStart}
+use Rattle.blk_schedulers.specs.Made.{IsStart}
 use Rattle.blk_runs.proofs.Starts.{from_start, made_start}
 use Rattle.blk_runs.proofs.tracing.traced_by.Goals as goal
 

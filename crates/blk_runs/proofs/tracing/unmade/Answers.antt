@@ -1,8 +1,8 @@
 use Rattle.std.proofs.Common.{arith, sym}
 use Rattle.std.proofs.lemmas.List.{take_all}
 use Rattle.std.proofs.lemmas.List.Elements.{All-more}
-use Rattle.blk_settings.specs.Made.{IsMade}
-use Rattle.blk_settings.proofs.Unmade.{no_sched}
+use Rattle.blk_schedulers.specs.Made.{IsMade}
+use Rattle.blk_schedulers.proofs.Unmade.{no_sched}
 use Rattle.blk_runs.proofs.Turns.{first_unmade}
 use Rattle.blk_runs.proofs.tracing.unmade.Goals as goal
 

@@ -2,7 +2,7 @@ use Rattle.std.proofs.Common.{rules, arith, ◌≡◌, ◌<◌, ◌≤◌, ◌�
 use Rattle.std.specs.Prelude.{IsTrue, false}
 use Rattle.blk_trace.specs.Depths.{depth_now}
 use Rattle.blk_sim.specs.Inside.Given.{IsGiven}
-use Rattle.blk_sim.specs.declared.refusal.SimWhy.TheVariants as why
+use Rattle.blk_sim.specs.declared.refusal.SimReason.TheVariants as why
 use Rattle.blk_sim.proofs.Chains.{issue_none, issue_given, issue_passed}
 use Rattle.blk_sim.proofs.Rounding.{all_given}
 use Rattle.blk_sim.proofs.rounds.issue_all.Goals as goal

@@ -1,6 +1,6 @@
 use Rattle.std.proofs.Common.{◌∙◌}
 use Rattle.blk_text.proofs.Rows.{bio_is}
-use Rattle.drafts.proofs.Drafts.{added}
+use Rattle.text_output.proofs.Drafts.{added}
 use Rattle.blk_text.proofs.bios.push_bio.Goals as goal
 
 pub returns-clause-text : goal.returns-clause-text

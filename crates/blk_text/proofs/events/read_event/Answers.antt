@@ -1,9 +1,9 @@
 use Rattle.std.proofs.Common.{[], refl, sym, subst, arith}
 use Rattle.csv.specs.Records.{fields_of}
-use Rattle.blk_lists.specs.Reads.{IsRowOf}
+use Rattle.blk_records.specs.Reads.{IsRowOf}
 use Rattle.blk_text.specs.TraceForm.{first_record, plain_event}
 use Rattle.blk_trace.specs.declared.event.Event.TheVariants as head
-use Rattle.blk_lists.proofs.Reading.{hand_reads}
+use Rattle.blk_records.proofs.Reading.{hand_reads}
 use Rattle.blk_text.proofs.EventLaws.{head_fails, alone_line, release_count, join_count, release_reads, join_reads, release_fits, join_fits, release_size, join_size, group_fails}
 use Rattle.blk_text.proofs.events.read_event.Goals as goal
 

@@ -1,7 +1,7 @@
 use Rattle.std.proofs.Common.{rules, ◌≡◌, ◌+◌, true, false, arith}
 use Rattle.csv.specs.Records.{fields_of}
-use Rattle.blk_lists.specs.Sources.{TakesRecord}
-use Rattle.blk_lists.specs.Reads.{size_of}
+use Rattle.blk_records.specs.Sources.{TakesRecord}
+use Rattle.blk_records.specs.Reads.{size_of}
 use Rattle.blk_text.specs.TraceForm.{event}
 use Rattle.blk_text.proofs.EventLaws.{gathered_at, events_err, stopped_at, past_stopped, events_end, events_past}
 use Rattle.blk_text.proofs.events.read_events.Goals as goal

@@ -1,7 +1,7 @@
 use Rattle.std.proofs.Common.{◌≡◌, ◌∙◌, [], refl, sym, ap, codes, arith, get_or}
 use Rattle.csv.specs.Records.{fields_of}
-use Rattle.blk_lists.specs.Words.{StartsWith}
-use Rattle.blk_lists.proofs.TableLaws.{begins}
+use Rattle.blk_records.specs.Words.{StartsWith}
+use Rattle.blk_records.proofs.TableLaws.{begins}
 use Rattle.blk_text.proofs.GroupLaws.{event_too_soon, no_event_there, group_ok, group_err}
 use Rattle.blk_text.proofs.groups.bio_line.Goals as goal
 

@@ -1,9 +1,9 @@
 use Rattle.std.proofs.Common.{◌≡◌, false, ap, subst, length, arith}
-use Rattle.blk_lists.specs.Reads.{AreGathered, Reads}
+use Rattle.blk_records.specs.Reads.{AreGathered, Reads}
 use Rattle.blk_text.specs.TraceForm.{group, group_bio}
 use Rattle.blk_text.specs.Inside.TraceForm.{gathered_bios}
 use Rattle.blk_text.proofs.GroupLaws.{group_size}
-use Rattle.parts.specs.declared.Repeats.TheVariants as repeats
+use Rattle.text_grammar.specs.declared.Repeats.TheVariants as repeats
 use Rattle.blk_text.proofs.groups.read_group.Goals as goal
 
 pub returns-clause-ok : goal.returns-clause-ok

@@ -4,8 +4,8 @@ use Rattle.blk_text.specs.Inside.TraceRecords.{word_row}
 use Rattle.blk_text.specs.TraceRecords.{BioFits}
 use Rattle.std.proofs.lemmas.List.{take_all}
 use Rattle.blk_text.proofs.TraceLemmas.{one_fits}
-use Rattle.blk_lists.proofs.DraftLemmas.{one_more, whole}
-use Rattle.drafts.specs.Drafts.{drafted}
+use Rattle.blk_records.proofs.DraftLemmas.{one_more, whole}
+use Rattle.text_output.specs.Drafts.{drafted}
 use Rattle.blk_text.proofs.heads.push_group.Goals as goal
 
 pub loop-i-preserved : goal.loop-i-preserved

@@ -3,8 +3,8 @@ use Rattle.std.specs.Prelude.{All}
 use Rattle.blk_text.specs.Inside.BioTable.{bio_row}
 use Rattle.blk_text.specs.Inside.TraceRecords.{word_row}
 use Rattle.blk_text.specs.TraceRecords.{BioFits}
-use Rattle.blk_lists.proofs.DraftLemmas.{IsSoFar}
-use Rattle.drafts.specs.Drafts.{drafted}
+use Rattle.blk_records.proofs.DraftLemmas.{IsSoFar}
+use Rattle.text_output.specs.Drafts.{drafted}
 use Rattle.blk_text.proofs.heads.push_group.Given as goal
 
 abbrev pub invariant-loop-i : goal.invariant-loop-i

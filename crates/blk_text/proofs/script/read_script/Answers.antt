@@ -1,7 +1,7 @@
 use Rattle.std.proofs.Common.{arith}
 use Rattle.blk_text.specs.Script.{script_form}
 use Rattle.blk_text.proofs.ScriptLaws.{title_at, title_told, few_halts, setup_depth, script_in, script_read, title_halts, setup_halts, steps_halt}
-use Rattle.blk_lists.proofs.Reading.{halts_err, halts_reached}
+use Rattle.blk_records.proofs.Reading.{halts_err, halts_reached}
 use Rattle.blk_text.proofs.script.read_script.Goals as goal
 
 pub returns-in-Ok-read_records-clause-in_range : goal.returns-in-Ok-read_records-clause-in_range

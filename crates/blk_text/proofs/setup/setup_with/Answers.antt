@@ -1,8 +1,8 @@
 use Rattle.std.proofs.Common.{◌≡◌, refl, codes}
 use Rattle.csv.specs.Records.{fields_of}
 use Rattle.blk_text.specs.SetupRecord.{setup_cells, FitsSetup}
-use Rattle.blk_lists.specs.declared.fault.Why.TheVariants as why
-use Rattle.blk_lists.proofs.TableLaws.{word_line}
+use Rattle.blk_records.specs.declared.fault.TextReason.TheVariants as why
+use Rattle.blk_records.proofs.TableLaws.{word_line}
 use Rattle.blk_text.proofs.ScriptLaws.{setup_with, setup_fits}
 use Rattle.blk_text.proofs.setup.setup_with.Goals as goal
 

@@ -2,12 +2,12 @@ use Rattle.std.proofs.Common.{◌∷◌, ◌∙◌, [], length, arith, ap}
 use Rattle.blk_text.specs.SetupRecord.{setup_row}
 use Rattle.blk_text.specs.Inside.TraceRecords.{event_rows, title_row}
 use Rattle.blk_text.specs.TraceRecords.{EventFits}
-use Rattle.blk_lists.proofs.DraftLemmas.{one_more, two_first}
+use Rattle.blk_records.proofs.DraftLemmas.{one_more, two_first}
 use Rattle.std.proofs.lemmas.List.Elements.{All-nil}
-use Rattle.blk_lists.specs.Texts.{rows_text}
+use Rattle.blk_records.specs.Texts.{rows_text}
 use Rattle.blk_text.proofs.TraceLaws.{rows_are}
 use Rattle.blk_text.proofs.TraceLemmas.{all_events, few_at, one_fits, all_fit, if_ok}
-use Rattle.drafts.specs.Drafts.{drafted}
+use Rattle.text_output.specs.Drafts.{drafted}
 use Rattle.blk_text.proofs.trace.trace_text.Goals as goal
 
 pub loop-i-init : goal.loop-i-init

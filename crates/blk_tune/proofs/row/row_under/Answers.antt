@@ -1,5 +1,5 @@
 use Rattle.std.proofs.Common.{sym, subst}
-use Rattle.blk_settings.specs.declared.sched.Sched.{Sched}
+use Rattle.blk_schedulers.specs.declared.sched.Sched.{Sched}
 use Rattle.blk_text.specs.Script.{scripted}
 use Rattle.blk_runs.specs.Runs.{IsTraceOfScript}
 use Rattle.blk_tune.proofs.row.row_under.Goals as goal

@@ -1,6 +1,6 @@
 use Rattle.std.proofs.Common.{◌≡◌, ◌∙◌, [], refl, sym, codes, arith, get_or}
 use Rattle.csv.specs.Records.{fields_of}
-use Rattle.blk_lists.proofs.TableLaws.{begins}
+use Rattle.blk_records.proofs.TableLaws.{begins}
 use Rattle.blk_text.proofs.ScriptLaws.{step_bio, step_no_bio}
 use Rattle.blk_text.proofs.script.StepFormRecordForm.value.Goals as goal
 

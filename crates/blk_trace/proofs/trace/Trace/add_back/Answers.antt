@@ -7,7 +7,7 @@ use Rattle.blk_bio.specs.declared.rule.TraceRule.TheVariants as rule
 use Rattle.blk_trace.specs.Happened.{Happened, Back}
 use Rattle.blk_trace.specs.Events.{IsOpen, IsOpenBy}
 use Rattle.blk_trace.specs.Legal.{IsLegalTrace}
-use Rattle.blk_trace.specs.Rules.{IsUnbroken}
+use Rattle.blk_trace.specs.Rules.{BreaksNoRule}
 use Rattle.blk_trace.proofs.Pushing.{push_legal}
 use Rattle.blk_trace.specs.Traces.{Traced}
 use Rattle.blk_trace.proofs.TagUses.{free_ended}
@@ -57,7 +57,7 @@ index_mut-requires g c =
     let s = c.self.inside in
     let es : List Happened = c.self.inside.events.items in
     let k = c.self.invariant.0 in
-    let all : IsUnbroken s.setup es (Back c.args.tag) = subst (λ (v : Traced). IsUnbroken v.setup v.events (Back c.args.tag)) (sym c.self.view_is) c.requires.unbroken in
+    let all : BreaksNoRule s.setup es (Back c.args.tag) = subst (λ (v : Traced). BreaksNoRule v.setup v.events (Back c.args.tag)) (sym c.self.view_is) c.requires.unbroken in
     let o : IsOpen es c.args.tag = all rule.NotIssued in
     omega (arith, tag_below s.setup es o.place o.id c.args.tag k.legal o.issued, k.each_tag, s.tags.ok.0)
 
@@ -66,7 +66,7 @@ overflow_sub-self g c =
     let s = c.self.inside in
     let es : List Happened = c.self.inside.events.items in
     let k = c.self.invariant.0 in
-    let all : IsUnbroken s.setup es (Back c.args.tag) = subst (λ (v : Traced). IsUnbroken v.setup v.events (Back c.args.tag)) (sym c.self.view_is) c.requires.unbroken in
+    let all : BreaksNoRule s.setup es (Back c.args.tag) = subst (λ (v : Traced). BreaksNoRule v.setup v.events (Back c.args.tag)) (sym c.self.view_is) c.requires.unbroken in
     let o : IsOpen es c.args.tag = all rule.NotIssued in
     omega (arith, open_positive s.setup es c.args.tag k.legal o, k.open_is)
 
@@ -76,7 +76,7 @@ append-requires g c =
     let es : List Happened = c.self.inside.events.items in
     let k = c.self.invariant.0 in
     let room = c.self.invariant.1 in
-    let all : IsUnbroken s.setup es (Back c.args.tag) = subst (λ (v : Traced). IsUnbroken v.setup v.events (Back c.args.tag)) (sym c.self.view_is) c.requires.unbroken in
+    let all : BreaksNoRule s.setup es (Back c.args.tag) = subst (λ (v : Traced). BreaksNoRule v.setup v.events (Back c.args.tag)) (sym c.self.view_is) c.requires.unbroken in
     let o : IsOpen es c.args.tag = all rule.NotIssued in
     omega (arith, open_positive s.setup es c.args.tag k.legal o, k.open_is, room.for_events)
 
@@ -86,7 +86,7 @@ invariant_of-self g c =
     let es : List Happened = c.self.inside.events.items in
     let k = c.self.invariant.0 in
     let room = c.self.invariant.1 in
-    let all : IsUnbroken s.setup es (Back c.args.tag) = subst (λ (v : Traced). IsUnbroken v.setup v.events (Back c.args.tag)) (sym c.self.view_is) c.requires.unbroken in
+    let all : BreaksNoRule s.setup es (Back c.args.tag) = subst (λ (v : Traced). BreaksNoRule v.setup v.events (Back c.args.tag)) (sym c.self.view_is) c.requires.unbroken in
     let o : IsOpen es c.args.tag = all rule.NotIssued in
     let by : IsOpenBy es c.args.tag c.open_id-id.result = subst (λ (v : Traced). IsOpenBy v.events c.args.tag c.open_id-id.result) (sym c.self.view_is) c.open_id-id.ensures in
     let p = c.place_of-place.ensures in

@@ -3,7 +3,7 @@ use Rattle.blk_bio.specs.declared.rule.TraceRule.TheVariants as rule
 use Rattle.blk_trace.specs.Happened.{Happened, Done}
 use Rattle.blk_trace.specs.Events.{IsOpen}
 use Rattle.blk_trace.specs.Legal.{IsLegalTrace}
-use Rattle.blk_trace.specs.Rules.{IsUnbroken}
+use Rattle.blk_trace.specs.Rules.{BreaksNoRule}
 use Rattle.blk_trace.proofs.Pushing.{push_legal}
 use Rattle.blk_trace.specs.Traces.{Traced}
 use Rattle.blk_trace.proofs.TagUses.{free_ended}
@@ -18,7 +18,7 @@ index_mut-requires g c =
     let es : List Happened = c.self.inside.events.items in
     let k = c.self.invariant.0 in
     let room = c.self.invariant.1 in
-    let all : IsUnbroken s.setup es (Done c.args.tag) = subst (λ (v : Traced). IsUnbroken v.setup v.events (Done c.args.tag)) (sym c.self.view_is) c.requires.unbroken in
+    let all : BreaksNoRule s.setup es (Done c.args.tag) = subst (λ (v : Traced). BreaksNoRule v.setup v.events (Done c.args.tag)) (sym c.self.view_is) c.requires.unbroken in
     let o : IsOpen es c.args.tag = all rule.NotIssued in
     omega (arith, tag_below s.setup es o.place o.id c.args.tag k.legal o.issued, k.each_tag, s.tags.ok.0)
 
@@ -28,7 +28,7 @@ overflow_sub-self g c =
     let es : List Happened = c.self.inside.events.items in
     let k = c.self.invariant.0 in
     let room = c.self.invariant.1 in
-    let all : IsUnbroken s.setup es (Done c.args.tag) = subst (λ (v : Traced). IsUnbroken v.setup v.events (Done c.args.tag)) (sym c.self.view_is) c.requires.unbroken in
+    let all : BreaksNoRule s.setup es (Done c.args.tag) = subst (λ (v : Traced). BreaksNoRule v.setup v.events (Done c.args.tag)) (sym c.self.view_is) c.requires.unbroken in
     let o : IsOpen es c.args.tag = all rule.NotIssued in
     omega (arith, open_positive s.setup es c.args.tag k.legal o, k.open_is)
 
@@ -38,7 +38,7 @@ append-requires g c =
     let es : List Happened = c.self.inside.events.items in
     let k = c.self.invariant.0 in
     let room = c.self.invariant.1 in
-    let all : IsUnbroken s.setup es (Done c.args.tag) = subst (λ (v : Traced). IsUnbroken v.setup v.events (Done c.args.tag)) (sym c.self.view_is) c.requires.unbroken in
+    let all : BreaksNoRule s.setup es (Done c.args.tag) = subst (λ (v : Traced). BreaksNoRule v.setup v.events (Done c.args.tag)) (sym c.self.view_is) c.requires.unbroken in
     let o : IsOpen es c.args.tag = all rule.NotIssued in
     omega (arith, open_positive s.setup es c.args.tag k.legal o, k.open_is, room.for_events)
 
@@ -48,7 +48,7 @@ invariant_of-self g c =
     let es : List Happened = c.self.inside.events.items in
     let k = c.self.invariant.0 in
     let room = c.self.invariant.1 in
-    let all : IsUnbroken s.setup es (Done c.args.tag) = subst (λ (v : Traced). IsUnbroken v.setup v.events (Done c.args.tag)) (sym c.self.view_is) c.requires.unbroken in
+    let all : BreaksNoRule s.setup es (Done c.args.tag) = subst (λ (v : Traced). BreaksNoRule v.setup v.events (Done c.args.tag)) (sym c.self.view_is) c.requires.unbroken in
     let o : IsOpen es c.args.tag = all rule.NotIssued in
     let hz : c.append.new.list.items ≡ es ++ (Done c.args.tag) ∷ [] = c.append.ensures.items in
     let n : length c.append.new.list.items ≡ length s.events.items + 1 = ap length c.append.ensures.items ∙ length-append s.events.items (Done c.args.tag ∷ []) in

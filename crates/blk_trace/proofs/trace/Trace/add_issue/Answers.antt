@@ -6,7 +6,7 @@ use Rattle.blk_trace.specs.Happened.{Happened, Issue}
 use Rattle.blk_trace.specs.Events.{round_of}
 use Rattle.blk_trace.specs.Depths.{depth_now}
 use Rattle.blk_trace.specs.Legal.{IsLegalTrace}
-use Rattle.blk_trace.specs.Rules.{IsUnbroken}
+use Rattle.blk_trace.specs.Rules.{BreaksNoRule}
 use Rattle.blk_trace.proofs.Pushing.{push_legal}
 use Rattle.blk_trace.specs.Traces.{Traced, IsPreparedFor}
 use Rattle.blk_trace.specs.declared.tags.TagUse.TheVariants.{Open}
@@ -21,7 +21,7 @@ pub issued-command-requires : goal.issued-command-requires
 issued-command-requires g c =
     let s = c.self.inside in
     let es : List Happened = c.self.inside.events.items in
-    let all : IsUnbroken s.setup es (Issue c.args.id c.args.tag) = subst (λ (v : Traced). IsUnbroken v.setup v.events (Issue c.args.id c.args.tag)) (sym c.self.view_is) c.requires.unbroken in
+    let all : BreaksNoRule s.setup es (Issue c.args.id c.args.tag) = subst (λ (v : Traced). BreaksNoRule v.setup v.events (Issue c.args.id c.args.tag)) (sym c.self.view_is) c.requires.unbroken in
     let p = known_when s.setup es c.args.id (all rule.Unknown) (all rule.AlreadyIssued) in
     (p.0, (p.1.0, c.self.invariant.0.known_are c.args.id ∙ p.1.1, p.1.2))
 
@@ -31,7 +31,7 @@ index_mut-requires g c =
     let es : List Happened = c.self.inside.events.items in
     let k = c.self.invariant.0 in
     let room = c.self.invariant.1 in
-    let all : IsUnbroken s.setup es (Issue c.args.id c.args.tag) = subst (λ (v : Traced). IsUnbroken v.setup v.events (Issue c.args.id c.args.tag)) (sym c.self.view_is) c.requires.unbroken in
+    let all : BreaksNoRule s.setup es (Issue c.args.id c.args.tag) = subst (λ (v : Traced). BreaksNoRule v.setup v.events (Issue c.args.id c.args.tag)) (sym c.self.view_is) c.requires.unbroken in
     let below : c.args.tag < depth_now s.setup es = all rule.TagRange in
     omega (arith, below, depth_now_is s.setup es, depth_few s.setup es (round_of es) k.legal, k.each_tag, s.tags.ok.0)
 
@@ -41,7 +41,7 @@ invariant_of-self g c =
     let es : List Happened = c.self.inside.events.items in
     let k = c.self.invariant.0 in
     let room = c.self.invariant.1 in
-    let all : IsUnbroken s.setup es (Issue c.args.id c.args.tag) = subst (λ (v : Traced). IsUnbroken v.setup v.events (Issue c.args.id c.args.tag)) (sym c.self.view_is) c.requires.unbroken in
+    let all : BreaksNoRule s.setup es (Issue c.args.id c.args.tag) = subst (λ (v : Traced). BreaksNoRule v.setup v.events (Issue c.args.id c.args.tag)) (sym c.self.view_is) c.requires.unbroken in
     let ready : IsPreparedFor s.prepared (Issue c.args.id c.args.tag) = subst (λ (v : Traced). IsPreparedFor v.prepared (Issue c.args.id c.args.tag)) (sym c.self.view_is) c.requires.prepared in
     let below : c.args.tag < depth_now s.setup es = all rule.TagRange in
     let low : c.args.tag < length s.tags.items = omega (arith, below, depth_now_is s.setup es, depth_few s.setup es (round_of es) k.legal, k.each_tag) in

@@ -10,7 +10,7 @@ use Rattle.blk_bio.specs.declared.rule.TraceRule.TheVariants as rule
 use Rattle.blk_trace.specs.Happened.{Happened, Join}
 use Rattle.blk_trace.specs.Events.{request_of}
 use Rattle.blk_trace.specs.Legal.{IsLegalTrace}
-use Rattle.blk_trace.specs.Rules.{IsUnbroken}
+use Rattle.blk_trace.specs.Rules.{BreaksNoRule}
 use Rattle.blk_trace.proofs.Pushing.{push_legal}
 use Rattle.blk_trace.specs.Traces.{Traced, IsPreparedFor}
 use Rattle.blk_trace.specs.Inside.Kept.{known_of, has_named, has_bio_id}
@@ -34,7 +34,7 @@ unreachable-requires g c =
     let es : List Happened = c.self.inside.events.items in
     let k = c.self.invariant.0 in
     let room = c.self.invariant.1 in
-    let all : IsUnbroken s.setup es (Join c.args.id c.args.request) = subst (λ (v : Traced). IsUnbroken v.setup v.events (Join c.args.id c.args.request)) (sym c.self.view_is) c.requires.unbroken in
+    let all : BreaksNoRule s.setup es (Join c.args.id c.args.request) = subst (λ (v : Traced). BreaksNoRule v.setup v.events (Join c.args.id c.args.request)) (sym c.self.view_is) c.requires.unbroken in
     let e : known_of s.setup es c.args.id ≡ Some (Waits c.waiting_at-old.result) = subst (λ (v : Traced). known_of v.setup v.events c.args.id ≡ Some (Waits c.waiting_at-old.result)) (sym c.self.view_is) c.waiting_at-old.ensures in
     let p = known_waits s.setup es c.args.id c.waiting_at-old.result e in
     let fit : (x : Side) × Fits s.setup.limits (request_of es c.args.id) c.args.request x = all rule.Fit in
@@ -55,7 +55,7 @@ invariant_of-self g c =
     let es : List Happened = c.self.inside.events.items in
     let k = c.self.invariant.0 in
     let room = c.self.invariant.1 in
-    let all : IsUnbroken s.setup es (Join c.args.id c.args.request) = subst (λ (v : Traced). IsUnbroken v.setup v.events (Join c.args.id c.args.request)) (sym c.self.view_is) c.requires.unbroken in
+    let all : BreaksNoRule s.setup es (Join c.args.id c.args.request) = subst (λ (v : Traced). BreaksNoRule v.setup v.events (Join c.args.id c.args.request)) (sym c.self.view_is) c.requires.unbroken in
     let ready : IsPreparedFor s.prepared (Join c.args.id c.args.request) = subst (λ (v : Traced). IsPreparedFor v.prepared (Join c.args.id c.args.request)) (sym c.self.view_is) c.requires.prepared in
     let e : known_of s.setup es c.args.id ≡ Some (Waits c.waiting_at-old.result) = subst (λ (v : Traced). known_of v.setup v.events c.args.id ≡ Some (Waits c.waiting_at-old.result)) (sym c.self.view_is) c.waiting_at-old.ensures in
     let p = known_waits s.setup es c.args.id c.waiting_at-old.result e in

@@ -9,7 +9,7 @@ use Rattle.blk_trace.proofs.Knowing.{known_not}
 use Rattle.blk_trace.specs.Happened.{Happened, Release}
 use Rattle.blk_trace.specs.Setups.{expire_of}
 use Rattle.blk_trace.specs.Legal.{IsLegalTrace}
-use Rattle.blk_trace.specs.Rules.{IsUnbroken}
+use Rattle.blk_trace.specs.Rules.{BreaksNoRule}
 use Rattle.blk_trace.proofs.Pushing.{push_legal}
 use Rattle.blk_trace.specs.Traces.{Traced, IsPreparedFor}
 use Rattle.blk_trace.specs.Inside.Kept.{summary, has_named, has_bio_id}
@@ -25,7 +25,7 @@ entered-waiting-requires g c =
 pub insert-requires-clause-new : goal.insert-requires-clause-new
 insert-requires-clause-new g c =
     let s = c.self.inside in
-    let all : IsUnbroken s.setup s.events.items (Release c.args.id c.args.request) = subst (λ (v : Traced). IsUnbroken v.setup v.events (Release c.args.id c.args.request)) (sym c.self.view_is) c.requires.unbroken in
+    let all : BreaksNoRule s.setup s.events.items (Release c.args.id c.args.request) = subst (λ (v : Traced). BreaksNoRule v.setup v.events (Release c.args.id c.args.request)) (sym c.self.view_is) c.requires.unbroken in
     c.self.invariant.0.known_are c.args.id ∙ known_not s.setup s.events.items c.args.id c.self.invariant.0.legal (all rule.ReleasedTwice)
 
 pub insert-requires-clause-room : goal.insert-requires-clause-room
@@ -40,7 +40,7 @@ invariant_of-self g c =
     let es : List Happened = c.self.inside.events.items in
     let k = c.self.invariant.0 in
     let room = c.self.invariant.1 in
-    let all : IsUnbroken s.setup es (Release c.args.id c.args.request) = subst (λ (v : Traced). IsUnbroken v.setup v.events (Release c.args.id c.args.request)) (sym c.self.view_is) c.requires.unbroken in
+    let all : BreaksNoRule s.setup es (Release c.args.id c.args.request) = subst (λ (v : Traced). BreaksNoRule v.setup v.events (Release c.args.id c.args.request)) (sym c.self.view_is) c.requires.unbroken in
     let ready : IsPreparedFor s.prepared (Release c.args.id c.args.request) = subst (λ (v : Traced). IsPreparedFor v.prepared (Release c.args.id c.args.request)) (sym c.self.view_is) c.requires.prepared in
     let hz : c.append.new.list.items ≡ es ++ (Release c.args.id c.args.request) ∷ [] = c.append.ensures.items in
     let n : length c.append.new.list.items ≡ length s.events.items + 1 = ap length c.append.ensures.items ∙ length-append s.events.items (Release c.args.id c.args.request ∷ []) in

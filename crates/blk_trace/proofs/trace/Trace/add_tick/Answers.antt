@@ -5,7 +5,7 @@ use Rattle.blk_trace.proofs.TagUses.{free_replicate}
 use Rattle.blk_trace.specs.declared.tags.TagUse.TheVariants.{Free}
 use Rattle.blk_trace.specs.Happened.{Happened, Tick}
 use Rattle.blk_trace.specs.Legal.{IsLegalTrace}
-use Rattle.blk_trace.specs.Rules.{IsUnbroken}
+use Rattle.blk_trace.specs.Rules.{BreaksNoRule}
 use Rattle.blk_trace.proofs.Pushing.{push_legal}
 use Rattle.blk_trace.specs.Traces.{Traced, IsPreparedFor}
 use Rattle.blk_trace.proofs.More.{rounds_within}
@@ -23,7 +23,7 @@ invariant_of-self g c =
     let es : List Happened = c.self.inside.events.items in
     let k = c.self.invariant.0 in
     let room = c.self.invariant.1 in
-    let all : IsUnbroken s.setup es Tick = subst (λ (v : Traced). IsUnbroken v.setup v.events Tick) (sym c.self.view_is) c.requires.unbroken in
+    let all : BreaksNoRule s.setup es Tick = subst (λ (v : Traced). BreaksNoRule v.setup v.events Tick) (sym c.self.view_is) c.requires.unbroken in
     let ready : IsPreparedFor s.prepared Tick = subst (λ (v : Traced). IsPreparedFor v.prepared Tick) (sym c.self.view_is) c.requires.prepared in
     let hz : c.append.new.list.items ≡ es ++ Tick ∷ [] = c.append.ensures.items in
     let n : length c.append.new.list.items ≡ length s.events.items + 1 = ap length c.append.ensures.items ∙ length-append s.events.items (Tick ∷ []) in

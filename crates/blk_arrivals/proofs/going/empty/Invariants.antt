@@ -1,5 +1,0 @@
-use Rattle.std.proofs.Common.{◌≡◌, ◌++◌, drop, replicate}
-use Rattle.blk_arrivals.proofs.going.empty.Given as goal
-
-abbrev pub invariant-loop-count : goal.invariant-loop-count
-invariant-loop-count l = l.held ≡ replicate l.count-index 0 ++ drop l.count-index l.initial.held

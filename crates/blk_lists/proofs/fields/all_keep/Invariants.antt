@@ -1,8 +1,0 @@
-use Rattle.std.proofs.Common.{◌<◌, ℕ, [], get_or}
-use Rattle.csv.specs.Records.{fields_of}
-use Rattle.blk_lists.specs.Inside.Fields.{KeepsRule}
-use Rattle.blk_lists.specs.declared.fields.Slot.TheVariants.{Given}
-use Rattle.blk_lists.proofs.fields.all_keep.Given as goal
-
-abbrev pub invariant-loop-i : goal.invariant-loop-i
-invariant-loop-i l = (k : ℕ) → k < l.i → KeepsRule l.rule (get_or l.slots k Given) (get_or (fields_of l.row) k [])

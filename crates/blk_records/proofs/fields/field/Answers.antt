@@ -1,0 +1,9 @@
+use Rattle.csv.specs.Records.{fields_of}
+use Rattle.blk_records.proofs.FieldLemmas.{field_is, no_field}
+use Rattle.blk_records.proofs.fields.field.Goals as goal
+
+pub returns-in-Some : goal.returns-in-Some
+returns-in-Some c = field_is (fields_of c.args.row.now) c.args.place c.in-Some.field.now c.in-Some.ensures.value
+
+pub returns-in-None : goal.returns-in-None
+returns-in-None c = no_field (fields_of c.args.row.now) c.args.place c.in-None.ensures.value

@@ -1,0 +1,17 @@
+use Rattle.std.proofs.Common.{rules, refl, inl, codes}
+use Rattle.csv.specs.Records.{fields_of}
+use Rattle.blk_records.specs.Words.{StartsWith}
+use Rattle.blk_records.specs.OnTime.{on_time_cells, AreFew}
+use Rattle.blk_records.specs.declared.fault.TextReason.TheVariants as why
+use Rattle.blk_records.proofs.TableLaws.{word_line}
+use Rattle.blk_records.proofs.on_time.NumbersFormRecordForm.value.Goals as goal
+
+pub returns-in-Ok-clause-ok : goal.returns-in-Ok-clause-ok
+returns-in-Ok-clause-ok c =
+    let starts : StartsWith (codes "met") (fields_of c.args.row.now) = search rules in
+    word_line why.Word (codes "met") on_time_cells AreFew _ (fields_of c.args.row.now) c.in-Ok.numbers starts c.in-Ok.ensures.ok (refl, (refl, (tt, tt))) (λ f. (f.0.1, f.1.0.1))
+
+pub returns-in-Err-clause-err : goal.returns-in-Err-clause-err
+returns-in-Err-clause-err c =
+    let starts : StartsWith (codes "met") (fields_of c.args.row.now) = search rules in
+    λ rest. (refl, inl (starts, c.in-Err.ensures.err))

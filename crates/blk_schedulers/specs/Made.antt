@@ -1,0 +1,36 @@
+-- Of which settings a scheduler is made, why it isn't, and how one starts.
+use Rattle.std.specs.Prelude.{◌≡◌, ◌⊎◌, ℕ, List, Option, None, Some}
+use Rattle.blk_sched.specs.Meaning.{Meaning}
+use Rattle.blk_schedulers.specs.Faults.{IsLoadFault}
+use Rattle.blk_schedulers.specs.Rows.{sched_for}
+use Rattle.blk_schedulers.specs.Scheds.{first_meaning, numbers_at_first}
+use Rattle.blk_schedulers.specs.declared.Unsettled.{Unsettled}
+use Rattle.blk_schedulers.specs.declared.Unsettled.TheVariants as un
+use Rattle.blk_schedulers.specs.declared.numbers.Load.{Load}
+use Rattle.blk_schedulers.specs.declared.sched.Sched.{Sched}
+use Rattle.blk_schedulers.specs.declared.sched.SchedFault.{SchedFault}
+use Rattle.blk_schedulers.specs.declared.sched.SchedFault.TheVariants as setting
+
+-- what is wrong with its settings
+abbrev pub fault_of : Sched → Option SchedFault
+fault_of s = (sched_for s.kind).fault s.values
+
+-- a scheduler is made of its settings: nothing is wrong with them; what is wrong with them otherwise; and why none is made: that, or out of
+-- memory
+abbrev pub IsMade : Sched → Type 0
+IsMade s = fault_of s ≡ None
+
+abbrev pub HasFault : Sched → SchedFault → Type 0
+HasFault s f = fault_of s ≡ Some f
+
+abbrev pub IsSchedFault : Sched → SchedFault → Type 0
+IsSchedFault s f = (f ≡ setting.Memory) ⊎ HasFault s f
+
+-- one that is made and has no request yet
+abbrev pub IsStart : Sched → ℕ → Meaning → List ℕ → Type 0
+IsStart s depth meaning kept = IsMade s × (meaning ≡ first_meaning s) × (kept ≡ numbers_at_first s depth)
+
+-- why a load under a scheduler came to nothing: it isn't made, or the load failed
+abbrev pub IsLoadSettingsFault : Sched → Load → Unsettled → Type 0
+IsLoadSettingsFault s l (un.Sched f) = IsSchedFault s f
+IsLoadSettingsFault s l (un.Load f) = IsLoadFault l f

@@ -1,0 +1,109 @@
+//! Schedulers with their settings: what these are, and what is wrong with them.
+
+ghost use Rattle.std.specs.Prelude.{◌≡◌, ◌<◌, IfOk};
+ghost use Rattle.blk_schedulers.specs.Row.{setting_row_of, short_at};
+ghost use Rattle.blk_schedulers.specs.Scheds.{name_of, settings_of, as_setting, in_turn};
+ghost use Rattle.blk_schedulers.specs.Names.{sched_fault_name};
+
+use crate::given::MAX_SHORT;
+use crate::positions::positions_of;
+use crate::rows::{SCHED_COUNT, SchedKind, SettingRange, SettingRow};
+use crate::setting::{MAX_SETTINGS, Setting, Settings};
+use edd_commands::variant_name;
+use std::alloc::{AllocError, Global};
+
+/// Why a scheduler is not made, in the order in which the reasons are looked for.
+#[derive(Clone, Copy, Debug, PartialEq, Eq)]
+pub enum SchedFault {
+    /// A batch of no request.
+    ZeroBatch,
+    /// A target of no round.
+    ZeroTarget,
+    /// Memory ran out.
+    Memory,
+}
+
+impl SchedFault {
+    /// Its name, which the program prints.
+    pub fn name(self) -> &'static str
+        ensures { result.now ≡ sched_fault_name self }
+    {
+        variant_name!(self: SchedFault { ZeroBatch, ZeroTarget, Memory })
+    }
+}
+
+/// A scheduler with its settings.
+#[derive(Clone, Copy, Debug, PartialEq, Eq)]
+pub struct Sched {
+    /// Which scheduler it is.
+    pub kind: SchedKind,
+    /// The values of its row's settings, in their places: a number, for a switch 1 where it is on, and for positions 1 where each
+    /// direction has its own. 0 in the places behind them.
+    pub values: [u64; MAX_SETTINGS],
+}
+
+impl SettingRow {
+    /// The setting of this value.
+    fn as_setting(&self, value: u64) -> Setting
+        ensures { result ≡ as_setting (setting_row_of self.now) value }
+    {
+        match self.range {
+            SettingRange::Short(_, _) => Setting::number(self.name, value),
+            SettingRange::UpTo(_, _, _) => Setting::number(self.name, value),
+            SettingRange::Switch(_) => Setting::switch(self.name, value == 1),
+            SettingRange::Positions(_, _) => Setting::positions(self.name, positions_of(value)),
+        }
+    }
+}
+
+impl Sched {
+    /// Its name, on the command line and in tables.
+    pub fn name(&self) -> &'static str
+        ensures { result.now ≡ name_of self.now }
+    {
+        self.kind.row().name
+    }
+
+    /// Its settings, in the order in which they are written.
+    pub fn settings(&self) -> Settings
+        ensures { result.items ≡ settings_of self.now }
+    {
+        let rows = self.kind.row().settings;
+        let mut all = Settings::new();
+        for i in 0..rows.len() {
+            all.push(rows[i].as_setting(self.values[i]));
+        }
+        all
+    }
+
+    /// The value of a setting of 16 bits. The greatest of these stands for any greater value, which no option gives.
+    pub(crate) fn short_at(&self, place: usize) -> u16
+        requires { place < MAX_SETTINGS }
+        ensures { result ≡ short_at place self.now.values }
+    {
+        self.values[place].min(MAX_SHORT) as u16
+    }
+}
+
+/// The schedulers that are compared, each with its settings, in the places of their rows: those that are always compared, and those whose flags
+/// are set.
+#[derive(Clone, Copy, Debug, PartialEq, Eq)]
+pub struct ComparedScheds {
+    /// The scheduler of each row, where it is compared.
+    pub scheds: [Option<Sched>; SCHED_COUNT],
+}
+
+impl ComparedScheds {
+    /// The schedulers in the order in which they run.
+    pub fn in_turn(&self, alloc: Global) -> Result<Vec<Sched>, AllocError>
+        ensures { IfOk result (λ all. all.items ≡ in_turn self.now) }
+    {
+        let mut all = Vec::new(alloc);
+        for sched in &self.scheds {
+            if let Some(sched) = sched {
+                all.push(*sched)?;
+            }
+        }
+        Ok(all)
+    }
+}

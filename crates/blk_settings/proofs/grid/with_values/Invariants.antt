@@ -1,6 +1,0 @@
-use Rattle.std.proofs.Common.{◌≡◌, take}
-use Rattle.blk_settings.specs.Grids.{with_values}
-use Rattle.blk_settings.proofs.grid.with_values.Given as goal
-
-abbrev pub invariant-loop-sched : goal.invariant-loop-sched
-invariant-loop-sched l = l.all.items ≡ with_values l.numbers l.place (take l.sched-index l.scheds)

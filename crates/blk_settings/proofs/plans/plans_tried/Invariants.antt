@@ -1,6 +1,0 @@
-use Rattle.std.proofs.Common.{◌≡◌, take}
-use Rattle.blk_settings.specs.Plans.{plans_tried}
-use Rattle.blk_settings.proofs.plans.plans_tried.Given as goal
-
-abbrev pub invariant-loop-sched : goal.invariant-loop-sched
-invariant-loop-sched l = l.all.items ≡ plans_tried (take l.sched-index l.scheds) l.reads l.writes

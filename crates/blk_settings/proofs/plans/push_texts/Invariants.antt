@@ -1,8 +1,0 @@
-use Rattle.std.proofs.Common.{◌≡◌, ◌++◌, map, take}
-use Rattle.blk_settings.specs.Options.{option_of}
-use Rattle.blk_settings.specs.Plans.{texts_of}
-use Rattle.blk_settings.specs.Row.{setting_row_of}
-use Rattle.blk_settings.proofs.plans.push_texts.Given as goal
-
-abbrev pub invariant-loop-setting : goal.invariant-loop-setting
-invariant-loop-setting l = map option_of l.all.items ≡ map option_of l.fn.all.items ++ texts_of (map setting_row_of (take l.setting-index l.settings))

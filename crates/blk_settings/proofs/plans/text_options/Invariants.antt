@@ -1,9 +1,0 @@
-use Rattle.std.proofs.Common.{◌≡◌, map, take}
-use Rattle.std.specs.List.{flat_map}
-use Rattle.blk_settings.specs.Options.{option_of}
-use Rattle.blk_settings.specs.Plans.{texts_of}
-use Rattle.blk_settings.specs.Row.{sched_row_of}
-use Rattle.blk_settings.proofs.plans.text_options.Given as goal
-
-abbrev pub invariant-loop-row : goal.invariant-loop-row
-invariant-loop-row l = map option_of l.all.items ≡ flat_map (λ r. texts_of r.settings) (map sched_row_of (take l.row-index l.row-items))

@@ -1,7 +1,0 @@
-use Rattle.std.proofs.Common.{List, ap, map}
-use Rattle.blk_words.specs.Inside.Tables.{subcommand_of}
-use Rattle.blk_words.specs.declared.table.CommandRow.{CommandRow}
-use Rattle.blk_words.proofs.command.other_commands.Goals as goal
-
-pub returns : goal.returns
-returns c = ap (λ (rows : List CommandRow). map subcommand_of rows) c.as_slice.ensures

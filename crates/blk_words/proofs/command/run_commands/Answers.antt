@@ -1,5 +1,0 @@
-use Rattle.std.proofs.Common.{rules}
-use Rattle.blk_words.proofs.command.run_commands.Goals as goal
-
-pub returns : goal.returns
-returns c = search rules

@@ -1,5 +1,0 @@
-use Rattle.blk_words.proofs.Listed.{all_up_to}
-use Rattle.blk_words.proofs.lists.numbers_of.Goals as goal
-
-pub returns-clause-range : goal.returns-clause-range
-returns-clause-range c = all_up_to (λ n. n.items) c.listed.result c.args.most c.args.text.now c.listed.ensures
