@@ -1,6 +1,7 @@
 -- A capture in numbers.
 use Rattle.std.specs.Prelude.{ℕ, ◌+◌, ◌-◌, ◌^◌, min, Bool, true, false, ◌++◌, ◌∷◌, [], List, count_by, decimal, codes}
 use Rattle.answer.specs.declared.names.TheConstants as names
+use Rattle.blk_capture_text.specs.declared.names.TheConstants as members
 use Rattle.answer.specs.declared.answer.Part.{Part}
 use Rattle.answer.specs.declared.answer.Part.TheVariants.{Member, Object}
 use Rattle.answer.specs.declared.cells.Layout.TheVariants.{Words, Space}
@@ -59,13 +60,13 @@ phase_part name lead p = Object name (record {
 -- how much there is, how long the phases took, and what isn't counted there
 abbrev pub summary_parts : Summary → ℕ → UnusedCounts → List Part
 summary_parts s left_out c =
-    Member (codes "records") (Count s.records) ∷ Member (codes "bios") (Count s.bios) ∷ Member (codes "requests") (Count s.requests)
-    ∷ Member (codes "merges") (Count s.merges) ∷ Member (codes "late-reads") (Count s.late_reads) ∷ Member (codes "late-writes") (Count s.late_writes)
-    ∷ phase_part (codes "q-to-g") (codes "q-to-g ") s.tag ∷ phase_part (codes "i-to-d") (codes "i-to-d ") s.scheduler ∷ phase_part (codes "d-to-c") (codes "d-to-c ") s.device
-    ∷ Member (codes "in-flight") (Count s.in_flight) ∷ Member (codes "left-out") (Count left_out) ∷ Member (codes "unmatched") (Count c.unmatched)
-    ∷ Member (codes "plugs") (Count c.plugs) ∷ Member (codes "unplugs") (Count c.unplugs) ∷ Member (codes "actions") (Count c.actions)
-    ∷ Member (codes "discards") (Count c.discards) ∷ Member (codes "erases") (Count c.erases) ∷ Member (codes "flushes") (Count c.flushes)
-    ∷ Member (codes "others") (Count c.others) ∷ Member (codes "empty") (Count c.empty) ∷ Member (codes "past-end") (Count c.past_end) ∷ []
+    Member members.RECORDS.now (Count s.records) ∷ Member members.BIOS.now (Count s.bios) ∷ Member members.REQUESTS.now (Count s.requests)
+    ∷ Member members.MERGES.now (Count s.merges) ∷ Member members.LATE_READS.now (Count s.late_reads) ∷ Member members.LATE_WRITES.now (Count s.late_writes)
+    ∷ phase_part members.Q_TO_G.now members.Q_TO_G_LEAD.now s.tag ∷ phase_part members.I_TO_D.now members.I_TO_D_LEAD.now s.scheduler ∷ phase_part members.D_TO_C.now members.D_TO_C_LEAD.now s.device
+    ∷ Member members.IN_FLIGHT.now (Count s.in_flight) ∷ Member members.LEFT_OUT.now (Count left_out) ∷ Member members.UNMATCHED.now (Count c.unmatched)
+    ∷ Member members.PLUGS.now (Count c.plugs) ∷ Member members.UNPLUGS.now (Count c.unplugs) ∷ Member members.ACTIONS.now (Count c.actions)
+    ∷ Member members.DISCARDS.now (Count c.discards) ∷ Member members.ERASES.now (Count c.erases) ∷ Member members.FLUSHES.now (Count c.flushes)
+    ∷ Member members.OTHERS.now (Count c.others) ∷ Member members.EMPTY.now (Count c.empty) ∷ Member members.PAST_END.now (Count c.past_end) ∷ []
 
 -- the line of what was passed over or not matched
 abbrev pub notice_line : UnusedCounts → List ℕ

@@ -4,6 +4,11 @@ ghost use Rattle.std.specs.Prelude.{◌≡◌, [], IfOk, count_by};
 ghost use Rattle.blk_capture.specs.Fates.{is_unmatched, is_passed, is_of_kind};
 ghost use Rattle.blk_capture_text.specs.SummaryText.{counts_of, one_counted, counts_with, phase_part, summary_parts, notice_line};
 
+use crate::names::{
+    ACTIONS, BIOS, D_TO_C, D_TO_C_LEAD, DISCARDS, EMPTY, ERASES, FLUSHES, I_TO_D, I_TO_D_LEAD,
+    IN_FLIGHT, LATE_READS, LATE_WRITES, LEFT_OUT, MERGES, OTHERS, PAST_END, PLUGS, Q_TO_G,
+    Q_TO_G_LEAD, RECORDS, REQUESTS, UNMATCHED, UNPLUGS,
+};
 use answer::names::{MAX, P50, P99};
 use answer::{Answer, Cell, Layout, Line, Part, Value, Word, count_or_none, member};
 use blk_capture::{Fate, PassReason, Percentiles, Summary, count_passed};
@@ -208,27 +213,27 @@ pub fn summary_answer(
     ensures { IfOk result (λ answer. answer ≡ summary_parts summary.now left_out counts.now) }
 {
     let mut answer = Answer::new(alloc);
-    answer.add(member("records", Value::Count(summary.records)))?;
-    answer.add(member("bios", Value::Count(summary.bios)))?;
-    answer.add(member("requests", Value::Count(summary.requests)))?;
-    answer.add(member("merges", Value::Count(summary.merges)))?;
-    answer.add(member("late-reads", Value::Count(summary.late_reads)))?;
-    answer.add(member("late-writes", Value::Count(summary.late_writes)))?;
-    answer.add(phase_part(alloc, "q-to-g", "q-to-g ", &summary.tag)?)?;
-    answer.add(phase_part(alloc, "i-to-d", "i-to-d ", &summary.scheduler)?)?;
-    answer.add(phase_part(alloc, "d-to-c", "d-to-c ", &summary.device)?)?;
-    answer.add(member("in-flight", Value::Count(summary.in_flight)))?;
-    answer.add(member("left-out", Value::Count(left_out)))?;
-    answer.add(member("unmatched", Value::Count(counts.unmatched)))?;
-    answer.add(member("plugs", Value::Count(counts.plugs)))?;
-    answer.add(member("unplugs", Value::Count(counts.unplugs)))?;
-    answer.add(member("actions", Value::Count(counts.actions)))?;
-    answer.add(member("discards", Value::Count(counts.discards)))?;
-    answer.add(member("erases", Value::Count(counts.erases)))?;
-    answer.add(member("flushes", Value::Count(counts.flushes)))?;
-    answer.add(member("others", Value::Count(counts.others)))?;
-    answer.add(member("empty", Value::Count(counts.empty)))?;
-    answer.add(member("past-end", Value::Count(counts.past_end)))?;
+    answer.add(member(RECORDS, Value::Count(summary.records)))?;
+    answer.add(member(BIOS, Value::Count(summary.bios)))?;
+    answer.add(member(REQUESTS, Value::Count(summary.requests)))?;
+    answer.add(member(MERGES, Value::Count(summary.merges)))?;
+    answer.add(member(LATE_READS, Value::Count(summary.late_reads)))?;
+    answer.add(member(LATE_WRITES, Value::Count(summary.late_writes)))?;
+    answer.add(phase_part(alloc, Q_TO_G, Q_TO_G_LEAD, &summary.tag)?)?;
+    answer.add(phase_part(alloc, I_TO_D, I_TO_D_LEAD, &summary.scheduler)?)?;
+    answer.add(phase_part(alloc, D_TO_C, D_TO_C_LEAD, &summary.device)?)?;
+    answer.add(member(IN_FLIGHT, Value::Count(summary.in_flight)))?;
+    answer.add(member(LEFT_OUT, Value::Count(left_out)))?;
+    answer.add(member(UNMATCHED, Value::Count(counts.unmatched)))?;
+    answer.add(member(PLUGS, Value::Count(counts.plugs)))?;
+    answer.add(member(UNPLUGS, Value::Count(counts.unplugs)))?;
+    answer.add(member(ACTIONS, Value::Count(counts.actions)))?;
+    answer.add(member(DISCARDS, Value::Count(counts.discards)))?;
+    answer.add(member(ERASES, Value::Count(counts.erases)))?;
+    answer.add(member(FLUSHES, Value::Count(counts.flushes)))?;
+    answer.add(member(OTHERS, Value::Count(counts.others)))?;
+    answer.add(member(EMPTY, Value::Count(counts.empty)))?;
+    answer.add(member(PAST_END, Value::Count(counts.past_end)))?;
     Ok(answer)
 }
 
