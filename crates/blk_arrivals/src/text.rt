@@ -2,7 +2,7 @@
 
 ghost use Rattle.std.specs.Prelude.{◌≡◌, ◌++◌, IfOk, OnOk, map};
 ghost use Rattle.csv.specs.Reading.{default_config, records, strip_bom};
-ghost use Rattle.text_output.specs.Drafts.{drafted};
+ghost use Rattle.text_output.specs.Drafts.{draft_text};
 ghost use Rattle.blk_records.specs.Texts.{rows_text};
 ghost use Rattle.blk_text.specs.Script.{IsScript, SpellsVersion, scripted, script_rows};
 ghost use Rattle.blk_text.specs.StepRecords.{step_row};
@@ -14,7 +14,7 @@ use text_output::Block;
 
 /// Adds the records of steps.
 fn push_lines(draft: &mut Block, lines: &[Line]) -> Result<(), AllocError>
-    ensures { OnOk result (drafted draft.new ≡ drafted draft.old ++ rows_text (map step_row lines.now)) }
+    ensures { OnOk result (draft_text draft.new ≡ draft_text draft.old ++ rows_text (map step_row lines.now)) }
 {
     for line in lines {
         push_step(draft, line)?;

@@ -134,7 +134,7 @@ pub fn findings_of(
 }
 
 /// What is said of that: of at most so many stalls and windows.
-fn told(
+fn findings_answer(
     alloc: Global,
     by: Option<GroupedBy>,
     most: u64,
@@ -187,7 +187,7 @@ pub fn blame_answer(
     ensures { IfOk result (IsBlameAnswer by most begin requests.now) }
 {
     let found = findings_of(alloc, by, most, requests)?;
-    let answer = told(alloc, by, most, begin, requests, &found)?;
+    let answer = findings_answer(alloc, by, most, begin, requests, &found)?;
     Ok(answer)
 }
 

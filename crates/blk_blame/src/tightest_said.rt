@@ -53,7 +53,7 @@ fn due_part(
 }
 
 /// What is said of these times.
-fn told(
+fn aim_answer(
     alloc: Global,
     requests: &[CapturedRequest],
     aim: OnTimeTarget,
@@ -89,6 +89,6 @@ pub fn tightest_answer(
 {
     let beside = tightest_of(alloc, requests, aim, OtherDirection::Best)?;
     let alone = tightest_of(alloc, requests, aim, OtherDirection::Any)?;
-    let answer = told(alloc, requests, aim, beside, alone)?;
+    let answer = aim_answer(alloc, requests, aim, beside, alone)?;
     Ok(answer)
 }

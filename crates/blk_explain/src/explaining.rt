@@ -7,7 +7,7 @@ use crate::details::{Detail, detail_of};
 use crate::findings::{Finding, find};
 use crate::forms::TextForm;
 use crate::lines::line_at;
-use crate::telling::told;
+use crate::telling::explanation_text;
 use std::alloc::{AllocError, Global};
 
 /// What is said about a text.
@@ -57,7 +57,7 @@ pub fn explain(alloc: Global, bytes: &[u8]) -> Result<Explained, AllocError>
     let finding = find(alloc, bytes)?;
     let detail = detail_of(alloc, bytes, finding)?;
     let line = line_at(bytes, finding.record());
-    let text = told(alloc, bytes, finding, line, detail)?;
+    let text = explanation_text(alloc, bytes, finding, line, detail)?;
     Ok(Explained {
         finding,
         line,

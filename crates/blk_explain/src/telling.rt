@@ -328,7 +328,7 @@ pub(crate) fn push_rule(
 }
 
 /// What is told of a finding, whose record begins on this line, and of which this is known.
-pub fn told(
+pub fn explanation_text(
     alloc: Global,
     bytes: &[u8],
     finding: Finding,

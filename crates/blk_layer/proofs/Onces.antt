@@ -38,18 +38,18 @@ few_cover (suc n) xs all =
 one_at : (x m : ℕ) → x ≡ m → one_if (x == m) ≡ 1
 one_at x m e = rw (eq-eqb x m e) refl
 
--- a number that stands at a place is counted, and one that stands at two is counted twice
+-- a number that stands at a place is counted, and one that stands at two is counted counted_twice
 there : (xs : List ℕ) (k m : ℕ) → slice_get xs k ≡ Some m → 0 < count_of m xs
 there [] k m h = absurd (cc)
 there (x ∷ xs) zero m h = let e : x ≡ m = (let s : Some x ≡ Some m = h in cc) in omega (arith, one_at x m e)
 there (x ∷ xs) (suc k) m h = omega (arith, there xs k m h)
 
-twice : (xs : List ℕ) (j k m : ℕ) → slice_get xs j ≡ Some m → slice_get xs k ≡ Some m → j ≢ k → 2 ≤ count_of m xs
-twice [] j k m h l d = absurd (cc)
-twice (x ∷ xs) zero zero m h l d = absurd (d refl)
-twice (x ∷ xs) zero (suc k) m h l d = let e : x ≡ m = (let s : Some x ≡ Some m = h in cc) in omega (arith, one_at x m e, there xs k m l)
-twice (x ∷ xs) (suc j) zero m h l d = let e : x ≡ m = (let s : Some x ≡ Some m = l in cc) in omega (arith, one_at x m e, there xs j m h)
-twice (x ∷ xs) (suc j) (suc k) m h l d = omega (arith, twice xs j k m h l (λ e. d (ap suc e)))
+counted_twice : (xs : List ℕ) (j k m : ℕ) → slice_get xs j ≡ Some m → slice_get xs k ≡ Some m → j ≢ k → 2 ≤ count_of m xs
+counted_twice [] j k m h l d = absurd (cc)
+counted_twice (x ∷ xs) zero zero m h l d = absurd (d refl)
+counted_twice (x ∷ xs) zero (suc k) m h l d = let e : x ≡ m = (let s : Some x ≡ Some m = h in cc) in omega (arith, one_at x m e, there xs k m l)
+counted_twice (x ∷ xs) (suc j) zero m h l d = let e : x ≡ m = (let s : Some x ≡ Some m = l in cc) in omega (arith, one_at x m e, there xs j m h)
+counted_twice (x ∷ xs) (suc j) (suc k) m h l d = omega (arith, counted_twice xs j k m h l (λ e. d (ap suc e)))
 
 number_at : (seats : List SubmitterSeat) (k : ℕ) (s : SubmitterSeat) → slice_get seats k ≡ Some s → slice_get (map (λ (x : SubmitterSeat). x.number) seats) k ≡ Some s.number
 number_at seats k s h = slice_get-map (λ (x : SubmitterSeat). x.number) seats k ∙ ap (option_map (λ (x : SubmitterSeat). x.number)) h
@@ -63,7 +63,7 @@ are_distinct n seats count all j k a b p q same = elim (cases_Bool (j == k)) [
       let m : ℕ = a.number in
       let here : slice_get xs j ≡ Some m = number_at seats j a p in
       let again : slice_get xs k ≡ Some m = number_at seats k b q ∙ ap Some (sym same) in
-      let two : 2 ≤ count_of m xs = twice xs j k m here again (λ e. cc (eq-eqb j k e)) in
+      let two : 2 ≤ count_of m xs = counted_twice xs j k m here again (λ e. cc (eq-eqb j k e)) in
       let covers : (i : ℕ) → i < n → 0 < count_of i (m ∷ without m xs) = λ i low. elim (cases_Bool (m == i)) [
         | inl y ↦ let one : one_if (m == i) ≡ 1 = rw y refl in omega (arith, one)
         | inr other ↦

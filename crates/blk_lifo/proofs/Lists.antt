@@ -22,9 +22,9 @@ exchanged true false x y z h = refl
 exchanged false true x y z h = refl
 exchanged false false x y z h = refl
 
-twice : (t : Bool) (x y z : Option Waiting) → cond t x z ≡ cond t x (cond t y z)
-twice true x y z = refl
-twice false x y z = refl
+cond_again : (t : Bool) (x y z : Option Waiting) → cond t x z ≡ cond t x (cond t y z)
+cond_again true x y z = refl
+cond_again false x y z = refl
 
 -- what isn't found is neither at the front nor behind
 not_here : (t : Bool) (w : Waiting) (z : Option Waiting) → cond t (Some w) z ≡ None → t ≡ false
@@ -101,7 +101,7 @@ found_changed [] p w new k d at name = cc
 found_changed (v ∷ ws) zero w new k d at name =
     let same : v ≡ w = cc in
     ap (λ j. cond (is_at (nat_cmp k) j) (Some new) (found ws k)) name
-    ∙ twice (is_at (nat_cmp k) w.id) (Some new) (Some v) (found ws k)
+    ∙ cond_again (is_at (nat_cmp k) w.id) (Some new) (Some v) (found ws k)
     ∙ ap (λ j. cond (is_at (nat_cmp k) w.id) (Some new) (cond (is_at (nat_cmp k) j) (Some v) (found ws k))) (ap (λ (u : Waiting). u.id) (sym same))
     ∙ ap (λ b. cond b (Some new) (found (v ∷ ws) k)) (turned k w.id)
 found_changed (v ∷ ws) (suc p) w new k d at name =

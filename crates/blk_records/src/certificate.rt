@@ -10,7 +10,7 @@ ghost use Rattle.blk_records.specs.Fields.{IsSized, FieldsSpell};
 ghost use Rattle.blk_records.specs.declared.fields.Slot.TheVariants as slot;
 ghost use Rattle.blk_records.specs.Words.{StartsWith};
 ghost use Rattle.blk_records.specs.Texts.{rows_text, AddsRows};
-ghost use Rattle.text_output.specs.Drafts.{drafted};
+ghost use Rattle.text_output.specs.Drafts.{draft_text};
 ghost use Rattle.blk_records.specs.Titles.{IsCounted, IsTitleOf};
 ghost use Rattle.blk_records.specs.Certificate.{claimed, claim_form, IsClaim, SpellsClaim, ClaimFault, claim_rows, claim_body, claim_told, bound as bound_part, bound_cells, no_bound_row, served_cells};
 ghost use Rattle.blk_records.specs.Inside.Certificate.{bound_row};
@@ -321,7 +321,7 @@ fn push_some_bound(
     lateness: i64,
     window: Window,
 ) -> Result<(), AllocError>
-    ensures text { OnOk result (drafted draft.new ≡ drafted draft.old ++ rows_text (bound_row (Some (lateness, window)) ∷ [])) }
+    ensures text { OnOk result (draft_text draft.new ≡ draft_text draft.old ++ rows_text (bound_row (Some (lateness, window)) ∷ [])) }
 {
     let late = lateness.to_string(alloc)?;
     let start = draft.room()?;
@@ -340,7 +340,7 @@ fn push_bound(
     draft: &mut Block,
     bound: Option<(i64, Window)>,
 ) -> Result<(), AllocError>
-    ensures text { OnOk result (drafted draft.new ≡ drafted draft.old ++ rows_text (bound_row bound ∷ [])) }
+    ensures text { OnOk result (draft_text draft.new ≡ draft_text draft.old ++ rows_text (bound_row bound ∷ [])) }
 {
     match bound {
         None => draft.push(b"bound,none,none,none\n"),

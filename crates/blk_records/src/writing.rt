@@ -1,7 +1,7 @@
 //! Records that are written.
 
 ghost use Rattle.std.specs.Prelude.{◌≡◌, ◌+◌, ◌*◌, ◌++◌, ◌≤◌, ◌<◌, ◌∷◌, [], OnOk, length, take, decimal};
-ghost use Rattle.text_output.specs.Drafts.{drafted};
+ghost use Rattle.text_output.specs.Drafts.{draft_text};
 ghost use Rattle.text_output.specs.declared.block.TheConstants.{MAX_ROW_FIELDS};
 ghost use Rattle.text_output.specs.declared.pieces.TheConstants.{MAX_DIGITS};
 ghost use Rattle.blk_records.specs.Cells.{IsPlainWord, number_cells};
@@ -41,7 +41,7 @@ pub fn push_row(
     requires word { IsPlainWord word.now }
     requires some { 1 ≤ length numbers.now + blanks }
     requires few { length numbers.now + blanks < MAX_ROW_FIELDS }
-    ensures text { OnOk result (drafted draft.new ≡ drafted draft.old ++ rows_text ((word.now ∷ number_cells numbers.now blanks) ∷ [])) }
+    ensures text { OnOk result (draft_text draft.new ≡ draft_text draft.old ++ rows_text ((word.now ∷ number_cells numbers.now blanks) ∷ [])) }
 {
     let start = draft.room()?;
     let buf = &mut draft.block;
@@ -55,7 +55,7 @@ pub fn push_row(
 pub fn push_numbers(draft: &mut Block, first: u64, others: &[u64]) -> Result<(), AllocError>
     requires some { 1 ≤ length others.now }
     requires few { length others.now < MAX_ROW_FIELDS }
-    ensures text { OnOk result (drafted draft.new ≡ drafted draft.old ++ rows_text ((decimal first ∷ number_cells others.now 0) ∷ [])) }
+    ensures text { OnOk result (draft_text draft.new ≡ draft_text draft.old ++ rows_text ((decimal first ∷ number_cells others.now 0) ∷ [])) }
 {
     let start = draft.room()?;
     let buf = &mut draft.block;

@@ -64,7 +64,10 @@ fn late_ones<A: Allocator>(alloc: A, services: &[Service]) -> Result<Vec<Service
 }
 
 /// The verdicts of those commands that have one, in their order.
-fn told<A: Allocator>(alloc: A, verdicts: &[Option<Verdict>]) -> Result<Vec<Verdict, A>, AllocError>
+fn known_verdicts<A: Allocator>(
+    alloc: A,
+    verdicts: &[Option<Verdict>],
+) -> Result<Vec<Verdict, A>, AllocError>
     ensures { IfOk result (λ v. v.items ≡ filter_map (λ o. o) verdicts.now) }
 {
     verdicts
@@ -216,7 +219,7 @@ fn delays<A: Allocator + Clone, B: Allocator>(
     let last = last_issue(services);
     let sums = sums_upto(alloc.clone()?, capacity, last)?;
     let late = late_ones(alloc.clone()?, services)?;
-    let told = told(alloc.clone()?, verdicts)?;
+    let told = known_verdicts(alloc.clone()?, verdicts)?;
     let asks = asks(alloc.clone()?, services, late.as_slice())?;
     let dues = dues(alloc.clone()?, services)?;
     let limit = after_all(dues.as_slice());

@@ -10,7 +10,7 @@ ghost use Rattle.blk_records.specs.Words.{StartsWith};
 ghost use Rattle.blk_text.specs.Inside.BioTable.{bio_record, bio_row};
 ghost use Rattle.blk_text.specs.declared.bios.TheConstants.{BIO};
 ghost use Rattle.blk_text.specs.TraceRecords.{BioFits};
-ghost use Rattle.text_output.specs.Drafts.{drafted};
+ghost use Rattle.text_output.specs.Drafts.{draft_text};
 
 use crate::setup::WIDTH;
 use blk_bio::{Bio, BioId, Dir};
@@ -86,7 +86,7 @@ pub fn read_bio(row: &ByteRecord, submitters: u64) -> Result<Bio, TextReason>
 /// Adds the record of a bio.
 #[inline]
 pub fn push_bio(draft: &mut Block, bio: &Bio) -> Result<(), AllocError>
-    ensures text { OnOk result (drafted draft.new ≡ drafted draft.old ++ rows_text (bio_row bio.now ∷ [])) }
+    ensures text { OnOk result (draft_text draft.new ≡ draft_text draft.old ++ rows_text (bio_row bio.now ∷ [])) }
     ensures fits { OnOk result (BioFits bio.now) }
 {
     let start = draft.room()?;

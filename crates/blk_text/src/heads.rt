@@ -4,7 +4,7 @@ ghost use Rattle.std.specs.Prelude.{◌≡◌, ◌++◌, ◌≤◌, All, OnOk, l
 ghost use Rattle.blk_trace.specs.Events.{bios_of};
 ghost use Rattle.blk_records.specs.Cells.{IsPlainWord};
 ghost use Rattle.blk_records.specs.Texts.{rows_text};
-ghost use Rattle.text_output.specs.Drafts.{drafted};
+ghost use Rattle.text_output.specs.Drafts.{draft_text};
 ghost use Rattle.blk_text.specs.Inside.TraceRecords.{group_rows, event_rows};
 ghost use Rattle.blk_text.specs.TraceRecords.{BioFits, EventFits};
 
@@ -249,7 +249,7 @@ fn push_group<const L: usize>(
     bios: &[Bio],
 ) -> Result<(), AllocError>
     requires { IsPlainWord kind.now.word }
-    ensures text { OnOk result (drafted draft.new ≡ drafted draft.old ++ rows_text (group_rows kind.now.word id bios.now)) }
+    ensures text { OnOk result (draft_text draft.new ≡ draft_text draft.old ++ rows_text (group_rows kind.now.word id bios.now)) }
     ensures fits { OnOk result (All BioFits bios.now) }
 {
     kind.push(draft, &[id, bios.len() as u64])?;
@@ -265,7 +265,7 @@ pub(crate) fn push_event<A: Allocator + Clone>(
     event: &Event<Request<A>>,
 ) -> Result<(), AllocError>
     requires { length (bios_of event.now) ≤ MAX_SEGMENTS }
-    ensures text { OnOk result (drafted draft.new ≡ drafted draft.old ++ rows_text (event_rows event.now)) }
+    ensures text { OnOk result (draft_text draft.new ≡ draft_text draft.old ++ rows_text (event_rows event.now)) }
     ensures fits { OnOk result (EventFits event.now) }
 {
     match event {

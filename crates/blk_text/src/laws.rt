@@ -54,7 +54,7 @@ pub fn traces()
 
 /// The word of each row that scripts and traces have alike, and of the rows of an issue, of which each has its own; and how many fields a
 /// record of theirs has.
-pub fn words_of_both()
+pub fn words_of_scripts_and_traces()
     ensures width { WIDTH ≡ 6 }
     ensures setup { SETUP.word ≡ codes "setup" }
     ensures bio { BIO.word ≡ codes "bio" }

@@ -6,7 +6,7 @@ ghost use Rattle.blk_records.specs.Reads.{FaultsBy, IsRowOf, IsWrongRecord, Reac
 ghost use Rattle.blk_records.specs.Texts.{rows_text};
 ghost use Rattle.blk_text.specs.Script.{step, IsScript, SpellsScript, ScriptFault, scripted, script_form};
 ghost use Rattle.blk_text.specs.StepRecords.{step_row};
-ghost use Rattle.text_output.specs.Drafts.{drafted};
+ghost use Rattle.text_output.specs.Drafts.{draft_text};
 ghost use Rattle.blk_bio.specs.declared.limits.TheConstants.{MAX_QUEUES as MAX_QUEUES, MAX_SOFT_QUEUES as MAX_SOFT_QUEUES};
 ghost use Rattle.blk_records.specs.Titles.{IsTitleOf};
 
@@ -257,7 +257,7 @@ impl RecordForm for StepForm {
 
 /// Adds the record of a step.
 pub fn push_step(draft: &mut Block, step: &Line) -> Result<(), AllocError>
-    ensures { OnOk result (drafted draft.new ≡ drafted draft.old ++ rows_text (step_row step.now ∷ [])) }
+    ensures { OnOk result (draft_text draft.new ≡ draft_text draft.old ++ rows_text (step_row step.now ∷ [])) }
 {
     match step {
         Line::Bio(bio) => push_bio(draft, bio),

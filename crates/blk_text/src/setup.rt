@@ -7,7 +7,7 @@ ghost use Rattle.blk_records.specs.Reads.{IsRowOf, IsWrongRecord};
 ghost use Rattle.blk_records.specs.Texts.{rows_text};
 ghost use Rattle.blk_records.specs.Words.{StartsWith};
 ghost use Rattle.blk_text.specs.SetupRecord.{setup_cells, setup_row, IsWholeSetup, setup as setup_part};
-ghost use Rattle.text_output.specs.Drafts.{drafted};
+ghost use Rattle.text_output.specs.Drafts.{draft_text};
 ghost use Rattle.blk_bio.specs.declared.limits.TheConstants.{MAX_QUEUES as MAX_QUEUES};
 ghost use Rattle.edd_commands.specs.declared.steps.TheConstants.{MAX_DEPTH as MAX_DEPTH};
 ghost use Rattle.blk_records.specs.Tables.{slots_by};
@@ -149,7 +149,7 @@ impl RecordForm for SetupForm {
 
 /// Adds the setup record.
 pub fn push_setup(draft: &mut Block, setup: &Setup) -> Result<(), AllocError>
-    ensures text { OnOk result (drafted draft.new ≡ drafted draft.old ++ rows_text (setup_row setup.now ∷ [])) }
+    ensures text { OnOk result (draft_text draft.new ≡ draft_text draft.old ++ rows_text (setup_row setup.now ∷ [])) }
     ensures whole { OnOk result (IsWholeSetup setup.now) }
 {
     let limits = setup.limits();

@@ -11,7 +11,7 @@ fn laws_hold() {
     blk_text::laws::traces();
     blk_records::laws::words_of_certificates();
     blk_records::laws::words_of_on_time_certificates();
-    blk_text::laws::words_of_both();
+    blk_text::laws::words_of_scripts_and_traces();
     blk_text::laws::words_of_scripts();
     blk_text::laws::words_of_traces();
     blk_text::laws::versions_of_rows();

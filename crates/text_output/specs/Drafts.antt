@@ -3,8 +3,8 @@ use Rattle.std.specs.Prelude.{ℕ, List, ◌∷◌, ◌++◌, take}
 use Rattle.text_output.specs.declared.block.Block.{Block}
 
 -- those that have joined the text, and those of the block up to its place
-abbrev pub drafted : Block → List ℕ
-drafted d = d.text.items ++ take d.at d.block
+abbrev pub draft_text : Block → List ℕ
+draft_text d = d.text.items ++ take d.at d.block
 
 -- one more field of a record, behind a comma
 abbrev pub next_field : List ℕ → List ℕ

@@ -27,11 +27,11 @@ pub struct Block {
 
 impl Block {
     ghost use Rattle.std.specs.Prelude.{[]};
-    ghost use Rattle.text_output.specs.Drafts.{drafted};
+    ghost use Rattle.text_output.specs.Drafts.{draft_text};
 
     /// An empty text.
     pub fn new(alloc: Global) -> Block
-        ensures { drafted result ≡ [] }
+        ensures { draft_text result ≡ [] }
     {
         Block {
             text: Vec::new(alloc),
@@ -45,8 +45,8 @@ impl Block {
     #[inline(never)]
     fn flush(&mut self) -> Result<(), AllocError>
         ensures at { self.new.at ≡ 0 }
-        ensures text { OnOk result (drafted self.new ≡ drafted self.old) }
-        ensures whole { OnOk result (self.new.text.items ≡ drafted self.old) }
+        ensures text { OnOk result (draft_text self.new ≡ draft_text self.old) }
+        ensures whole { OnOk result (self.new.text.items ≡ draft_text self.old) }
     {
         let end = self.at;
         self.at = 0;
@@ -57,7 +57,7 @@ impl Block {
     #[inline]
     pub fn room(&mut self) -> Result<usize, AllocError>
         ensures at { IfOk result (λ at. (at ≡ self.new.at) × (at + RECORD_BYTES ≤ BLOCK_BYTES)) }
-        ensures text { OnOk result (drafted self.new ≡ drafted self.old) }
+        ensures text { OnOk result (draft_text self.new ≡ draft_text self.old) }
     {
         if self.at > BLOCK_BYTES - RECORD_BYTES {
             self.flush()?;
@@ -67,7 +67,7 @@ impl Block {
 
     /// Adds bytes, of any number.
     pub fn push(&mut self, bytes: &[u8]) -> Result<(), AllocError>
-        ensures { OnOk result (drafted self.new ≡ drafted self.old ++ bytes.now) }
+        ensures { OnOk result (draft_text self.new ≡ draft_text self.old ++ bytes.now) }
     {
         if bytes.len() > RECORD_BYTES {
             self.flush()?;
@@ -80,7 +80,7 @@ impl Block {
 
     /// Adds a number in decimal digits.
     pub fn push_number(&mut self, number: u64) -> Result<(), AllocError>
-        ensures { OnOk result (drafted self.new ≡ drafted self.old ++ decimal number) }
+        ensures { OnOk result (draft_text self.new ≡ draft_text self.old ++ decimal number) }
     {
         let start = self.room()?;
         self.at = put_number(number, &mut self.block, start);
@@ -89,7 +89,7 @@ impl Block {
 
     /// The text.
     pub fn finish(mut self) -> Result<Vec<u8>, AllocError>
-        ensures { IfOk result (λ v. v.items ≡ drafted self) }
+        ensures { IfOk result (λ v. v.items ≡ draft_text self) }
     {
         self.flush()?;
         Ok(self.text)

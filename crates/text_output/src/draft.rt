@@ -18,11 +18,11 @@ pub struct Draft {
 
 impl Model for Draft {
     ghost use Rattle.std.specs.Prelude.{List, ℕ};
-    ghost use Rattle.text_output.specs.Drafts.{drafted};
+    ghost use Rattle.text_output.specs.Drafts.{draft_text};
 
     ghost Value = { List ℕ };
 
-    ghost view = { λ d. drafted d.block };
+    ghost view = { λ d. draft_text d.block };
 }
 
 impl Draft {

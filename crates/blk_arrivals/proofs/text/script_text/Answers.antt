@@ -1,7 +1,7 @@
 use Rattle.std.proofs.Common.{◌≡◌, ◌∙◌, List, ℕ, IfOk, map, sym, ap}
 use Rattle.std.proofs.lemmas.Result.{IfOk-weaker}
 use Rattle.csv.specs.Reading.{default_config, records, strip_bom}
-use Rattle.text_output.specs.Drafts.{drafted}
+use Rattle.text_output.specs.Drafts.{draft_text}
 use Rattle.blk_records.specs.Texts.{rows_text}
 use Rattle.blk_text.specs.Script.{scripted, script_rows, SpellsVersion}
 use Rattle.blk_text.specs.SetupRecord.{setup_row}
@@ -14,8 +14,8 @@ use Rattle.blk_arrivals.proofs.text.script_text.Goals.{After-finish}
 written : (c : After-finish) → IfOk c.finish.result (λ v. v.items ≡ rows_text (script_rows LATEST (scripted c.args.script.now)))
 written c =
     let s = scripted c.args.script.now in
-    let all : drafted c.push_lines.new.draft ≡ rows_text (script_rows LATEST s) =
-    three_first (script_title s) (setup_row s.setup) (map step_row s.lines) (drafted c.new-draft.result) (drafted c.push.new.draft) (drafted c.push_setup.new.draft) (drafted c.push_lines.new.draft) c.new-draft.ensures
+    let all : draft_text c.push_lines.new.draft ≡ rows_text (script_rows LATEST s) =
+    three_first (script_title s) (setup_row s.setup) (map step_row s.lines) (draft_text c.new-draft.result) (draft_text c.push.new.draft) (draft_text c.push_setup.new.draft) (draft_text c.push_lines.new.draft) c.new-draft.ensures
     (rw (c.depth.ensures.value, c.hw.ensures.value) at c.in_ok-push.ensures.text) c.in_ok-push_setup.ensures.text (rw c.as_slice.ensures.value at c.in_ok-push_lines.ensures)
     ∙ ap rows_text (sym (rows_are s)) in
     rw all at c.finish.ensures

@@ -1,7 +1,7 @@
 use Rattle.std.proofs.Common.{◌≡◌, ◌∙◌, ◌∷◌, ◌++◌, [], List, ℕ, length, map, ap, sym}
 use Rattle.std.specs.List.{zip}
 use Rattle.blk_records.specs.Certificate.{served_cells}
-use Rattle.text_output.specs.Drafts.{drafted}
+use Rattle.text_output.specs.Drafts.{draft_text}
 use Rattle.blk_records.specs.OnTime.{on_time_claimed}
 use Rattle.blk_records.specs.Tables.{row_by}
 use Rattle.blk_records.specs.Texts.{rows_text}
@@ -21,9 +21,9 @@ returns c =
     let numbers = numbers_row (certificate.on_time, length certificate.cover.items) in
     let windows = map window_row certificate.cover.items in
     let lines = map (row_by served_cells) (zip certificate.commands.items certificate.rounds.items) in
-    let first = two_first title (numbers ∷ []) (drafted c.new-draft.result) (drafted c.push.new.draft) (drafted c.push-2.new.draft) c.new-draft.ensures (rw commands at c.in_ok-push.ensures.text) (rw cover at c.in_ok-push-2.ensures.text) in
-    let second : drafted c.push_cover.new.draft ≡ rows_text ((title ∷ numbers ∷ []) ++ windows) =
+    let first = two_first title (numbers ∷ []) (draft_text c.new-draft.result) (draft_text c.push.new.draft) (draft_text c.push-2.new.draft) c.new-draft.ensures (rw commands at c.in_ok-push.ensures.text) (rw cover at c.in_ok-push-2.ensures.text) in
+    let second : draft_text c.push_cover.new.draft ≡ rows_text ((title ∷ numbers ∷ []) ++ windows) =
     rw cover at c.in_ok-push_cover.ensures.text ∙ ap (λ (k : List ℕ). k ++ rows_text windows) first ∙ sym (rows_text-append (title ∷ numbers ∷ []) windows) in
-    let third : drafted c.push_schedule.new.draft ≡ rows_text (((title ∷ numbers ∷ []) ++ windows) ++ lines) =
+    let third : draft_text c.push_schedule.new.draft ≡ rows_text (((title ∷ numbers ∷ []) ++ windows) ++ lines) =
     rw (commands, rounds) at c.in_ok-push_schedule.ensures.text ∙ ap (λ (k : List ℕ). k ++ rows_text lines) second ∙ sym (rows_text-append ((title ∷ numbers ∷ []) ++ windows) lines) in
     rw (third ∙ ap rows_text (sym (rows_are (on_time_claimed certificate)))) at c.finish.ensures
