@@ -8,13 +8,13 @@ use Rattle.blk_recorders.specs.declared.steps.StepReader.{StepReader}
 use Rattle.blk_recorders.specs.declared.steps.Steps.{Steps}
 
 -- a call ends as the definition says, or memory ran out
-abbrev pub OptionValue : ReadProgress → Result (Unit {0}) LineReason → Result ReadProgress LineReason → Type 0
-OptionValue new (Ok u) should = should ≡ Ok new
-OptionValue new (Err w) should = (w ≡ why.Memory) ⊎ (should ≡ Err w)
+abbrev pub Takes : ReadProgress → Result (Unit {0}) LineReason → Result ReadProgress LineReason → Type 0
+Takes new (Ok u) should = should ≡ Ok new
+Takes new (Err w) should = (w ≡ why.Memory) ⊎ (should ≡ Err w)
 
 -- the same of a reader, whatever its records were before those at hand
 abbrev pub TakesBy : StepReader → StepReader → Result (Unit {0}) LineReason → (ReadProgress → Result ReadProgress LineReason) → Type 0
-TakesBy old new result should = (past : List Record) → OptionValue (sofar past new) result (should (sofar past old))
+TakesBy old new result should = (past : List Record) → Takes (sofar past new) result (should (sofar past old))
 
 -- all but the records is the same
 pub record HaveSameCounts (old new : Steps) : Type 0 where
