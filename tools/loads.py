@@ -11,7 +11,7 @@ of a submitter in their order; no round has more commands than the depth or ends
 are workers, and under `none` and `kyber` no more of a hardware queue than it has workers; submitters' requests come in by whole plugs; each
 command that went out is what a model of the scheduler chooses then, which is the rule of its own page said once more, without the program; devices
 were busy just at each so many-th run of their own; each command was done once, and nothing waits. Other subcommands then read the trace, and
-the three lines of the same load without `--trace` say that all was served. With `--service` the load takes the time that its devices need at
+the three lines of the same load without `--trace` say that all was served, and its line of `--times` lies within the time of its run. With `--service` the load takes the time that its devices need at
 least.
 
 Of the loads of a list of their own, besides: submitters came in by turns, and not one after the other; more commands were in flight than there
@@ -23,6 +23,7 @@ load, and 3 where the program isn't there.
 import argparse
 import itertools
 import random
+import re
 import subprocess
 import sys
 import time
@@ -69,6 +70,7 @@ BY_TURNS, ALL_WORKERS, PACED = {"none_by_turns"}, {"none_all_workers"}, {"none_p
 # A plug has so many bios, and a software queue has room for those of two plugs; either is emptied at once.
 PLUG = 32
 LONGER, RUNS = 1.6, 3
+TIMES = re.compile(r"blk: served (\d+) in (\d+\.\d) ms, settled in (\d+\.\d) ms\n")
 
 # How many bios all submitters of a drawn load have together at most, since the models look at all that waits for each command.
 DRAWN_BIOS = 2000
@@ -458,6 +460,19 @@ def look_at_load(program, words, readers=True, name=""):
         count = asked.submitters * asked.bios
         lines = answer(program, ["load", *words.split()]).decode()
         wants(lines == f"accepted {count}\nserved {count}\nleft 0\n", "it says", repr(lines))
+        look_at_times(program, words, lines, count, 1000 * served)
+
+
+def look_at_times(program, words, lines, count, needed):
+    """What a load says of its times: its threads take what its devices need at least, in milliseconds, and both times lie in the whole run."""
+    begun = time.monotonic()
+    ran = subprocess.run([program, "load", "--times", *words.split()], stdin=subprocess.DEVNULL, capture_output=True, timeout=SECONDS, check=False)
+    took = 1000 * (time.monotonic() - begun)
+    wants(ran.returncode == 0 and ran.stdout.decode() == lines, "with --times it says", ran.stdout[:200])
+    told = TIMES.fullmatch(ran.stderr.decode())
+    wants(told is not None and int(told[1]) == count, "of its times it says", ran.stderr[:200])
+    serving, settling = float(told[2]), float(told[3])
+    wants(needed - 0.1 <= serving and serving + settling <= took, "it says", serving, "and", settling, "ms of", took, "and needs", needed)
 
 
 def main(words):

@@ -183,12 +183,12 @@ pub not_second : (a b : Bool) → b ≡ false → (a && b) ≡ false
 not_second true b e = e
 not_second false b e = refl
 
-pub loads_by : (trace json a b : Bool) (w : ShownLoad) (s : Option Sched) (l : Option Load) (r : Option Job) → (trace && json) ≡ false → trace ≡ a → json ≡ b → w ≡ shown_of trace json → r ≡ loaded w s l
-    → r ≡ load_job a b s l
-loads_by trace json a b w s l r not e f g h =
-    h ∙ ap (λ (x : ShownLoad). loaded x s l) g
-    ∙ sym (ap (λ (both : Bool). if both then Some (job.Refuse refusal.TraceAndJson) else loaded (shown_of trace json) s l) not)
-    ∙ ap (λ (t : Bool). load_job t json s l) e ∙ ap (λ (j : Bool). load_job a j s l) f
+pub loads_by : (times trace json a b : Bool) (w : ShownLoad) (s : Option Sched) (l : Option Load) (r : Option Job) → (trace && json) ≡ false → trace ≡ a → json ≡ b → w ≡ shown_of trace json → r ≡ loaded times w s l
+    → r ≡ load_job times a b s l
+loads_by times trace json a b w s l r not e f g h =
+    h ∙ ap (λ (x : ShownLoad). loaded times x s l) g
+    ∙ sym (ap (λ (both : Bool). if both then Some (job.Refuse refusal.TraceAndJson) else loaded times (shown_of trace json) s l) not)
+    ∙ ap (λ (t : Bool). load_job times t json s l) e ∙ ap (λ (j : Bool). load_job times a j s l) f
 
 -- what is written of an import without a script
 pub a_table : (round : Option ℕ) (r : Result (Option ℕ) Refusal) (script a table b summary c : Bool) (depth d : Option ℕ) → Ok round ≡ r → script ≡ a → script ≡ false → table ≡ b → table ≡ true → summary ≡ c → summary ≡ false → depth ≡ d

@@ -343,21 +343,25 @@ pub explain_line : IsReadSo "explain" job.Explain
 unfolding clap_on_literals
 explain_line name p f = (refl, refl)
 
-pub load_line : IsReadSo "load" (job.Load default_sched default_load (shown.Account form.Lines))
+pub load_line : IsReadSo "load" (job.Load default_sched default_load (shown.Account form.Lines) false)
 unfolding clap_on_literals
 load_line name p f = (refl, refl)
 
-pub load_json_line : IsReadSo "load --json" (job.Load default_sched default_load (shown.Account form.Json))
+pub load_json_line : IsReadSo "load --json" (job.Load default_sched default_load (shown.Account form.Json) false)
 unfolding clap_on_literals
 load_json_line name p f = (refl, refl)
 
-pub busy_line : IsReadSo "load --busy 3" (job.Load default_sched (record default_load { busy = Some 3 }) (shown.Account form.Lines))
+pub busy_line : IsReadSo "load --busy 3" (job.Load default_sched (record default_load { busy = Some 3 }) (shown.Account form.Lines) false)
 unfolding clap_on_literals
 busy_line name p f = (refl, refl)
 
-pub traced_line : IsReadSo "load --trace --service 100" (job.Load default_sched (record default_load { service = 100 }) shown.Trace)
+pub traced_line : IsReadSo "load --trace --service 100" (job.Load default_sched (record default_load { service = 100 }) shown.Trace false)
 unfolding clap_on_literals
 traced_line name p f = (refl, refl)
+
+pub timed_line : IsReadSo "load --times" (job.Load default_sched default_load (shown.Account form.Lines) true)
+unfolding clap_on_literals
+timed_line name p f = (refl, refl)
 
 pub traced_json_line : IsReadSo "load --trace --json" (job.Refuse refusal.TraceAndJson)
 unfolding clap_on_literals

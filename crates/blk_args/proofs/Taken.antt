@@ -23,7 +23,7 @@ use Rattle.blk_args.specs.declared.words.Written.{Written}
 use Rattle.blk_args.specs.declared.words.Kept.TheVariants as kept
 use Rattle.blk_args.specs.declared.words.Written.TheVariants as written
 use Rattle.blk_args.specs.Asked.{job_made, is_flagged, is_other_given, lineup_asked, pictured, time_given, number_given, from_given, source_given, written_of, sched_asked, amounts_of, oracle_job, tune_by, import_by, import_as, takes_all, load_job, loaded, blame_asked, replaying_of}
-use Rattle.blk_args.specs.Options.{json_option, met_option, schedule_option, script_option, trace_option, by_option, read_expire_option, write_expire_option, from_option, skip_option, first_option, fifo_read_expire_option, fifo_write_expire_option}
+use Rattle.blk_args.specs.Options.{json_option, met_option, schedule_option, script_option, trace_option, times_option, by_option, read_expire_option, write_expire_option, from_option, skip_option, first_option, fifo_read_expire_option, fifo_write_expire_option}
 use Rattle.blk_args.specs.Takers.{takes_as, kind_read, CanRead}
 
 -- a job reads no other texts than a subcommand takes
@@ -74,15 +74,15 @@ import_fits m name taken (Some r) (Some d) (Some q) (Ok c) None first w = reads_
 import_fits m name taken (Some r) (Some d) (Some q) (Ok c) (Some s) first (Err f) = reads_none m name _ refl
 import_fits m name taken (Some r) (Some d) (Some q) (Ok c) (Some s) first (Ok w) = import_as_fits m name taken _ _ refl w
 
-loaded_fits : (name : Text) (w : ShownLoad) (s : Option Sched) (l : Option Load) → IfSome (loaded w s l) (Fits makes.Load name)
-loaded_fits name w None l = tt
-loaded_fits name w (Some s) None = tt
-loaded_fits name w (Some s) (Some l) = reads_none makes.Load name _ refl
+loaded_fits : (name : Text) (times : Bool) (w : ShownLoad) (s : Option Sched) (l : Option Load) → IfSome (loaded times w s l) (Fits makes.Load name)
+loaded_fits name times w None l = tt
+loaded_fits name times w (Some s) None = tt
+loaded_fits name times w (Some s) (Some l) = reads_none makes.Load name _ refl
 
-load_fits : (name : Text) (trace json : Bool) (s : Option Sched) (l : Option Load) → IfSome (load_job trace json s l) (Fits makes.Load name)
-load_fits name true true s l = reads_none makes.Load name _ refl
-load_fits name true false s l = loaded_fits name _ s l
-load_fits name false json s l = loaded_fits name _ s l
+load_fits : (name : Text) (times trace json : Bool) (s : Option Sched) (l : Option Load) → IfSome (load_job times trace json s l) (Fits makes.Load name)
+load_fits name times true true s l = reads_none makes.Load name _ refl
+load_fits name times true false s l = loaded_fits name times _ s l
+load_fits name times false json s l = loaded_fits name times _ s l
 
 fits : (m : JobKind) (rows : List Row) (name : Text) → IfSome (job_made m rows) (Fits m name)
 fits (makes.Told t) rows name = reads_one (makes.Told t) name kind.Trace (λ e. cc e) _ refl
@@ -104,7 +104,7 @@ fits makes.Replay rows name =
     import_fits makes.Replay name (λ e. cc e) (time_given read_expire_option.name rows) (time_given write_expire_option.name rows) (from_given rows) (source_given rows) (time_given skip_option.name rows)
     (number_given first_option.name rows) (replaying_of rows)
 fits makes.Judge rows name = reads_one makes.Judge name kind.Schedule (λ e. cc e) _ refl
-fits makes.Load rows name = load_fits name (is_flagged trace_option.name rows) (is_flagged json_option.name rows) (sched_asked rows) (amounts_of rows)
+fits makes.Load rows name = load_fits name (is_flagged times_option.name rows) (is_flagged trace_option.name rows) (is_flagged json_option.name rows) (sched_asked rows) (amounts_of rows)
 
 made : (o : Option Job) (j : Job) (P : Job → Type 0) → o ≡ Some j → IfSome o P → P j
 made o j P e h = rw e at h

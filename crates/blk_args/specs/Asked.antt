@@ -62,7 +62,7 @@ use Rattle.blk_args.specs.declared.blaming.TightestAsked.{TightestAsked}
 use Rattle.blk_args.specs.declared.table.JobKind.{JobKind}
 use Rattle.blk_args.specs.declared.table.JobKind.TheVariants as makes
 use Rattle.blk_args.specs.CommandLine.{Names, AreNames, command_table, blk_app}
-use Rattle.blk_args.specs.Options.{json_option, picture_option, schedule_option, script_option, trace_option, by_option, top_option, threads_option, met_option, each_option, read_expire_option, write_expire_option, from_option, as_option, device_option, tags_option, skip_option, first_option, all_option, certificate_option, tightest_option, for_option, blame_by_option, table_option, summary_option, round_option, depth_option, submitters_option, workers_option, bios_option, load_depth_option, busy_option, service_option, replay_sched_option, fifo_read_expire_option, fifo_write_expire_option, replay_by_option, grid_option}
+use Rattle.blk_args.specs.Options.{json_option, picture_option, schedule_option, script_option, trace_option, times_option, by_option, top_option, threads_option, met_option, each_option, read_expire_option, write_expire_option, from_option, as_option, device_option, tags_option, skip_option, first_option, all_option, certificate_option, tightest_option, for_option, blame_by_option, table_option, summary_option, round_option, depth_option, submitters_option, workers_option, bios_option, load_depth_option, busy_option, service_option, replay_sched_option, fifo_read_expire_option, fifo_write_expire_option, replay_by_option, grid_option}
 use Rattle.blk_args.specs.Lists.{list_of, times_listed}
 use Rattle.blk_args.specs.Times.{MAX_NUMBER, number_in, in_unit, time_of}
 
@@ -151,15 +151,15 @@ amounts_of rows = amounts (number_given submitters_option.name rows) (number_giv
 abbrev pub shown_of : Bool → Bool → ShownLoad
 shown_of trace json = if trace then shown.Trace else shown.Account (form_by json)
 
-abbrev pub loaded : ShownLoad → Option Sched → Option Load → Option Job
-loaded w s l = option_and_then (λ s. option_map (λ l. job.Load s l w) l) s
+abbrev pub loaded : Bool → ShownLoad → Option Sched → Option Load → Option Job
+loaded times w s l = option_and_then (λ s. option_map (λ l. job.Load s l w times) l) s
 
 -- the job of `load` by whether its trace and JSON are asked for, which exclude one another
-abbrev pub load_job : Bool → Bool → Option Sched → Option Load → Option Job
-load_job trace json s l = if trace && json then Some (job.Refuse refusal.TraceAndJson) else loaded (shown_of trace json) s l
+abbrev pub load_job : Bool → Bool → Bool → Option Sched → Option Load → Option Job
+load_job times trace json s l = if trace && json then Some (job.Refuse refusal.TraceAndJson) else loaded times (shown_of trace json) s l
 
 abbrev pub load_given : List Row → Option Job
-load_given rows = load_job (is_flagged trace_option.name rows) (is_flagged json_option.name rows) (sched_asked rows) (amounts_of rows)
+load_given rows = load_job (is_flagged times_option.name rows) (is_flagged trace_option.name rows) (is_flagged json_option.name rows) (sched_asked rows) (amounts_of rows)
 
 -- whether a request came in when its first bio was queued, by the text of `--from`
 abbrev pub entry_named : Text → Option Bool

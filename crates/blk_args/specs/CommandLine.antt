@@ -14,7 +14,7 @@ use Rattle.blk_args.specs.declared.inputs.TraceOutput.TheVariants as telling
 pub use Rattle.blk_args.specs.declared.command.Names.{Names}
 use Rattle.blk_args.specs.declared.table.JobKind.{JobKind}
 use Rattle.blk_args.specs.declared.table.JobKind.TheVariants as makes
-use Rattle.blk_args.specs.Options.{json_option, picture_option, schedule_option, script_option, trace_option, by_option, top_option, threads_option, met_option, each_option, read_expire_option, write_expire_option, from_option, as_option, device_option, tags_option, skip_option, first_option, all_option, certificate_option, tightest_option, for_option, blame_by_option, table_option, summary_option, round_option, depth_option, submitters_option, workers_option, bios_option, load_depth_option, busy_option, service_option, replay_sched_option, fifo_read_expire_option, fifo_write_expire_option, replay_by_option, grid_option}
+use Rattle.blk_args.specs.Options.{json_option, picture_option, schedule_option, script_option, trace_option, times_option, by_option, top_option, threads_option, met_option, each_option, read_expire_option, write_expire_option, from_option, as_option, device_option, tags_option, skip_option, first_option, all_option, certificate_option, tightest_option, for_option, blame_by_option, table_option, summary_option, round_option, depth_option, submitters_option, workers_option, bios_option, load_depth_option, busy_option, service_option, replay_sched_option, fifo_read_expire_option, fifo_write_expire_option, replay_by_option, grid_option}
 
 -- texts behind references
 abbrev pub Texts : Type 0
@@ -129,7 +129,7 @@ other_table =
     ∷ taking (codes "import") importing makes.Import 12
     ∷ taking (codes "judge") (each_option ∷ []) makes.Judge 11
     ∷ plain (codes "explain") makes.Explain 13
-    ∷ taking (codes "load") (sched_option ∷ trace_option ∷ json_option ∷ (amount_options ++ tuning)) makes.Load 14
+    ∷ taking (codes "load") (sched_option ∷ trace_option ∷ json_option ∷ times_option ∷ (amount_options ++ tuning)) makes.Load 14
     ∷ taking (codes "blame") blaming makes.Blame 15
     ∷ taking (codes "replay") replaying makes.Replay 16
     ∷ []

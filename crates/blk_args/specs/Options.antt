@@ -19,6 +19,9 @@ schedule_option = record { name = codes "schedule"; kind = Flag }
 abbrev pub trace_option : OptionOf
 trace_option = record { name = codes "trace"; kind = Flag }
 
+abbrev pub times_option : OptionOf
+times_option = record { name = codes "times"; kind = Flag }
+
 -- of `tune`
 abbrev pub by_option : OptionOf
 by_option = record { name = codes "by"; kind = Words (codes "misses") }

@@ -70,10 +70,11 @@ pub fn plain_lines()
     ensures judge { AsksFor "judge" (Job.OfText (TextJob.Judge false)) }
     ensures judge_each { AsksFor "judge --each" (Job.OfText (TextJob.Judge true)) }
     ensures explain { AsksFor "explain" Job.Explain }
-    ensures load { AsksFor "load" (Job.Load default_sched default_load (ShownLoad.Account Form.Lines)) }
-    ensures load_json { AsksFor "load --json" (Job.Load default_sched default_load (ShownLoad.Account Form.Json)) }
-    ensures busy { AsksFor "load --busy 3" (Job.Load default_sched (record default_load { busy = Some 3 }) (ShownLoad.Account Form.Lines)) }
-    ensures traced { AsksFor "load --trace --service 100" (Job.Load default_sched (record default_load { service = 100 }) ShownLoad.Trace) }
+    ensures load { AsksFor "load" (Job.Load default_sched default_load (ShownLoad.Account Form.Lines) false) }
+    ensures load_json { AsksFor "load --json" (Job.Load default_sched default_load (ShownLoad.Account Form.Json) false) }
+    ensures busy { AsksFor "load --busy 3" (Job.Load default_sched (record default_load { busy = Some 3 }) (ShownLoad.Account Form.Lines) false) }
+    ensures traced { AsksFor "load --trace --service 100" (Job.Load default_sched (record default_load { service = 100 }) ShownLoad.Trace false) }
+    ensures timed { AsksFor "load --times" (Job.Load default_sched default_load (ShownLoad.Account Form.Lines) true) }
     ensures traced_json { AsksFor "load --trace --json" (Job.Refuse Refusal.TraceAndJson) }
     ensures version { (name : Text) → Asks (name ∷ codes "--version" ∷ []) Job.Version }
 {}

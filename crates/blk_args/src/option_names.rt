@@ -28,6 +28,9 @@ pub const PICTURE: &str = "picture";
 /// Whether a trace is read, or written.
 pub const TRACE: &str = "trace";
 
+/// Whether it is said how long a load took.
+pub const TIMES: &str = "times";
+
 /// Whether as many commands as can be are to be on time.
 pub const MET: &str = "met";
 

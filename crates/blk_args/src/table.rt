@@ -373,6 +373,11 @@ pub static OTHER_COMMANDS: [CommandRow; OTHER_COUNT] = [
             }),
             OptionGroup::Own(JSON),
             OptionGroup::Own(OptionRow {
+                name: option_names::TIMES,
+                takes: OptionValue::Nothing,
+                help: "Says on standard error how long serving took, and settling",
+            }),
+            OptionGroup::Own(OptionRow {
                 name: option_names::SUBMITTERS,
                 takes: OptionValue::Number(1, MAX_LOAD_SUBMITTERS, "2"),
                 help: "How many threads submit",

@@ -7,7 +7,7 @@ ghost use Rattle.clap.specs.Words.{subcommand_rows_of};
 ghost use Rattle.blk_args.specs.CommandLine.{command_table, program_version};
 ghost use Rattle.blk_args.specs.Inside.Tables.{subcommand_of, makes_among};
 ghost use Rattle.blk_args.specs.Asked.{Asks, IsNoJob, list_given, by_named, by_given, tune_job, short_given, number_given, is_flagged, source_of, is_other_given, given_options, sched_asked, lineup_asked, compared, picture_given, amounts_of, shown_of, loaded, load_given, form_by, form_asked, time_given, entry_named, from_given, source_given, round_by, round_given, script_asked, unscripted, written_of, takes_all, import_of, import_job, oracle_given, job_made, job_of, import_with};
-ghost use Rattle.blk_args.specs.Options.{script_option};
+ghost use Rattle.blk_args.specs.Options.{script_option, times_option};
 ghost use Rattle.blk_args.specs.Inside.Options.{given};
 
 use crate::blaming::{Blaming, blame_job};
@@ -52,8 +52,8 @@ pub enum Job {
     Refuse(Refusal),
     /// Tell what a text is, or what is wrong with it.
     Explain,
-    /// Run a load on a layer under a scheduler, and write what is asked of it.
-    Load(Sched, Load, ShownLoad),
+    /// Run a load on a layer under a scheduler, write what is asked of it, and say how long it took where that is asked.
+    Load(Sched, Load, ShownLoad, bool),
 }
 
 /// How a trial of settings is written.
@@ -435,11 +435,12 @@ fn shown_of(trace: bool, json: bool) -> ShownLoad
 
 /// The load that the options of `load` ask for, and what is to be written of it.
 fn load_of(options: &ArgMatches<'_>, shown: ShownLoad) -> Option<Job>
-    ensures { result ≡ loaded shown (sched_asked (given options.now)) (amounts_of (given options.now)) }
+    ensures { result ≡ loaded (is_flagged times_option.name (given options.now)) shown (sched_asked (given options.now)) (amounts_of (given options.now)) }
 {
     let sched = Sched::given(&MatchedOptions { matches: options })?;
     let load = amounts_of(options)?;
-    Some(Job::Load(sched, load, shown))
+    let times = is_flagged(options, option_names::TIMES);
+    Some(Job::Load(sched, load, shown, times))
 }
 
 /// The job of `load`, whose trace is no JSON.

@@ -48,7 +48,8 @@ good words (job.Tune x) input bytes s answers g = g.1.2.1
 good words (job.Import x) input bytes s answers g = import_good x.written words x bytes s g
 good words (job.Refuse x) input bytes s answers g = absurd g
 good words job.Explain input bytes s answers g = absurd answers
-good words (job.Load x y z) input bytes s answers g = g.1.1
+good words (job.Load x y z true) input bytes s answers g = g.1
+good words (job.Load x y z false) input bytes s answers g = g.1.1
 
 pub good_by : (words : List (List ℕ)) (input : Option (List Row)) (bytes : Option (List ℕ)) (s : Said) → AskForGood words → Answers words input bytes s → s.good ≡ true
 good_by words input bytes s ask a = good words a.0 input bytes s (ask a.0 a.1) a.2
@@ -68,7 +69,8 @@ alone words (job.Tune x) input bytes s answers g = absurd answers
 alone words (job.Import x) input bytes s answers g = absurd answers
 alone words (job.Refuse x) input bytes s answers g = absurd g
 alone words job.Explain input bytes s answers g = absurd answers
-alone words (job.Load x y z) input bytes s answers g = g.1
+alone words (job.Load x y z true) input bytes s answers g = absurd answers
+alone words (job.Load x y z false) input bytes s answers g = g.1
 
 pub alone_by : (words : List (List ℕ)) (input : Option (List Row)) (bytes : Option (List ℕ)) (s : Said) → AskForTexts words → Answers words input bytes s → IsAlone s
 alone_by words input bytes s ask a = alone words a.0 input bytes s (ask a.0 a.1) a.2

@@ -144,9 +144,9 @@ RunEndsOn held said words unread read old new faults_old faults_new ended =
 
 -- what a job comes to where loads may end so: a load's text and its failure are those of the load that it asks for
 abbrev pub HasRun : (Sched → Load → Result Loaded Unsettled → Type 0) → Job → Result Answered NoText → Type 0
-HasRun ends_as (job.Load s l w) (Ok a) = IsTextOfRun ends_as s l w a.text.items
-HasRun ends_as (job.Load s l w) (Err (none.Failure f)) = IsFailureOfRun ends_as s l f
-HasRun ends_as (job.Load s l w) (Err n) = ⊥
+HasRun ends_as (job.Load s l w t) (Ok a) = IsTextOfRun ends_as s l w a.text.items
+HasRun ends_as (job.Load s l w t) (Err (none.Failure f)) = IsFailureOfRun ends_as s l f
+HasRun ends_as (job.Load s l w t) (Err n) = ⊥
 HasRun ends_as j r = ⊤
 
 -- there is no job

@@ -1,5 +1,5 @@
 -- The kinds of jobs, a row for each: what text it gives, and why it fails.
-use Rattle.std.specs.Prelude.{◌≡◌, ◌++◌, ◌∷◌, ⊤, ℕ, Bool, List, [], Option, codes}
+use Rattle.std.specs.Prelude.{◌≡◌, ◌++◌, ◌∷◌, ⊤, ℕ, Bool, true, List, [], Option, codes}
 use Rattle.blk_records.specs.Sources.{Row}
 use Rattle.blk_records.specs.Commands.{CommandsFault}
 use Rattle.blk_records.specs.Proof.{SpellsProof, ProofFault}
@@ -24,7 +24,7 @@ use Rattle.blk_cli.specs.Judging.{IsJudgedText, IsJudgeFailure, TellsEmpty}
 use Rattle.blk_cli.specs.Importing.{IsCaptureWritten, IsCaptureFailure}
 use Rattle.blk_cli.specs.Explaining.{IsTextExplained, IsExplainFailure}
 use Rattle.blk_cli.specs.Tuning.{IsTrial, FailsToTry}
-use Rattle.blk_cli.specs.Loading.{IsLoadOf, IsLoadFailure}
+use Rattle.blk_cli.specs.Loading.{IsLoadOf, IsLoadFailure, SaysTimes}
 use Rattle.blk_cli.specs.Unflushed.{TellsPlugs}
 
 -- a job that answers a text alone
@@ -34,6 +34,7 @@ AnswersText (job.OfText (text_job.Judge e)) = ⊥
 AnswersText (job.Tune t) = ⊥
 AnswersText (job.Import i) = ⊥
 AnswersText job.Explain = ⊥
+AnswersText (job.Load sched l w true) = ⊥
 AnswersText j = ⊤
 
 -- a job whose answer is good, if it has one
@@ -45,7 +46,7 @@ AnswersGood j = ⊤
 abbrev pub ReadsNothing : Job → Type 0
 ReadsNothing job.Version = ⊤
 ReadsNothing (job.Refuse r) = ⊤
-ReadsNothing (job.Load sched l w) = ⊤
+ReadsNothing (job.Load sched l w t) = ⊤
 ReadsNothing j = ⊥
 
 -- the line with the program's name and version
@@ -84,7 +85,7 @@ GivesAnswer words (job.Tune t) input bytes s = Of SpellsScript (IsTrial words t)
 GivesAnswer words (job.Import i) input bytes s = IsCaptureWritten words i bytes s
 GivesAnswer words (job.Refuse r) input bytes s = ⊥
 GivesAnswer words job.Explain input bytes s = IsTextExplained bytes s
-GivesAnswer words (job.Load sched l w) input bytes s = IsLoadOf sched w l s.text × IsAlone s
+GivesAnswer words (job.Load sched l w t) input bytes s = IsLoadOf sched w l s.text × SaysTimes t s
 
 -- and why it has none
 abbrev pub HasNoAnswer : List (List ℕ) → Job → Option (List Row) → Option (List ℕ) → Bool → Failure → Type 0
@@ -94,4 +95,4 @@ HasNoAnswer words (job.Tune t) input bytes failed f = FailsToTry words input fai
 HasNoAnswer words (job.Import i) input bytes failed f = IsCaptureFailure words i bytes failed f
 HasNoAnswer words (job.Refuse r) input bytes failed f = f ≡ failure.Words r
 HasNoAnswer words job.Explain input bytes failed f = IsExplainFailure failed f
-HasNoAnswer words (job.Load sched l w) input bytes failed f = IsLoadFailure sched l f
+HasNoAnswer words (job.Load sched l w t) input bytes failed f = IsLoadFailure sched l f

@@ -1,5 +1,5 @@
 -- What a load comes to.
-use Rattle.std.specs.Prelude.{◌≡◌, ◌∷◌, ⊤, ℕ, List, [], Result, Ok, Err}
+use Rattle.std.specs.Prelude.{◌≡◌, ◌∷◌, ⊤, ℕ, Bool, true, false, List, [], Result, Ok, Err}
 use Rattle.answer.specs.declared.names.TheConstants as names
 use Rattle.answer.specs.declared.value.Value.TheVariants.{Count}
 use Rattle.answer.specs.declared.answer.Part.{Part}
@@ -21,6 +21,7 @@ use Rattle.blk_trace.specs.Traces.{Traced}
 use Rattle.blk_args.specs.declared.inputs.ShownLoad.{ShownLoad}
 use Rattle.blk_args.specs.declared.inputs.ShownLoad.TheVariants as shown
 use Rattle.blk_cli.specs.Forms.{written_in}
+use Rattle.blk_cli.specs.Said.{Said, IsAlone}
 use Rattle.blk_cli.specs.OfTraces.{IsTraceText}
 
 -- what came of a load: how many bios were accepted, served and left
@@ -41,6 +42,11 @@ pub record IsLoadOf (s : Sched) (w : ShownLoad) (l : Load) (text : List ℕ) : T
   pub is_settled : IsSettled l trace settled
   pub once : AreOnce (served_bios trace.events)
   pub is_text : IsLoadText w trace settled text
+
+-- what is said beside it: nothing, or, where it is asked for, how long it took
+abbrev pub SaysTimes : Bool → Said → Type 0
+SaysTimes true s = s.good ≡ true
+SaysTimes false s = IsAlone s
 
 -- why a load comes to nothing: its scheduler isn't made, or the load fails; nothing is read
 abbrev pub IsLoadFailure : Sched → Load → Failure → Type 0

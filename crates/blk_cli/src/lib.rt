@@ -299,9 +299,9 @@ fn answer_of<L: Loads, T: Threads + Wait + Sync, R: Read + Drop, P: Progress>(
             Ok(answer) => Ok(answer),
             Err(failure) => Err(NoText::Failure(failure)),
         },
-        Job::Load(sched, amounts, shown) => {
-            match run_load(loads, rt, alloc, sched, amounts, shown) {
-                Ok(text) => Ok(Answered::alone(text)),
+        Job::Load(sched, amounts, shown, times) => {
+            match run_load(loads, rt, alloc, sched, amounts, shown, times) {
+                Ok(answer) => Ok(answer),
                 Err(failure) => Err(NoText::Failure(failure)),
             }
         }

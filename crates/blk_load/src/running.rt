@@ -26,12 +26,13 @@ use blk_queues::Map;
 use blk_sched::Scheduler;
 use blk_schedulers::fault::first_of;
 use blk_schedulers::numbers::MAX_LOAD_WORKERS;
-use blk_schedulers::{Load, LoadFault, Loaded};
+use blk_schedulers::{Load, LoadFault, LoadTimes, Loaded};
 use std::alloc::{AllocError, Global};
 use std::marker::Brand;
 use std::sync::Wait;
 use std::sync::ledger::Blank;
 use std::thread::{Scope, Threads, scope, scope_env};
+use std::time::Instant;
 
 /// How many requests a software queue of a load has room for.
 const LOAD_SOFT_DEPTH: u64 = 64;
@@ -149,13 +150,19 @@ fn on_layer<R: Threads + Wait + Sync, S: Scheduler<A = Global> + Send, L: Named 
         submitters,
         workers,
     };
+    let start = Instant::now(&clock).ok();
     run_beside(rt, &site, &mut seats);
+    let watch = Stopwatch {
+        clock,
+        start,
+        served: Instant::now(&clock).ok(),
+    };
     let Seats {
         submitters,
         workers,
     } = seats;
     let Site { layer, noted, .. } = site;
-    let settled = settle(alloc, load, layer, submitters, workers);
+    let settled = settle(alloc, load, layer, submitters, workers, watch);
     outcome(noted.into_first(), settled)
 }
 
@@ -221,6 +228,34 @@ fn start_and_submit<
     submit_all(rt, site, seats.submitters.as_mut_slice());
 }
 
+/// A clock, and what it said when the threads started and when they had ended, where it could be read.
+#[derive(Clone, Copy)]
+struct Stopwatch {
+    clock: HostRuntime,
+    start: Option<Instant>,
+    served: Option<Instant>,
+}
+
+/// The microseconds from one reading of the clock to a later one.
+fn micros_between(begin: Instant, end: Instant) -> u64 {
+    match u64::try_from(end.duration_since(begin).as_micros()) {
+        Ok(micros) => micros,
+        Err(_) => u64::MAX,
+    }
+}
+
+impl Stopwatch {
+    /// How long serving took, and settling, which ends now.
+    fn times(&self) -> Option<LoadTimes> {
+        let (start, served) = (self.start?, self.served?);
+        let end = Instant::now(&self.clock).ok()?;
+        Some(LoadTimes {
+            serving: micros_between(start, served),
+            settling: micros_between(served, end),
+        })
+    }
+}
+
 /// Closes a layer, and settles what came of it.
 #[tactic(auto, using(crate::proofs::Counted::served_once, crate::proofs::Counted::served_all))]
 fn settle<S: Scheduler<A = Global>, L: Named>(
@@ -229,6 +264,7 @@ fn settle<S: Scheduler<A = Global>, L: Named>(
     layer: Layer<S, L>,
     submitters: Vec<Submitter<L>>,
     workers: Vec<Worker<L>>,
+    watch: Stopwatch,
 ) -> Result<Loaded, LoadFault>
     requires parts { L.parts ≡ MAX_WORKERS }
     requires range { IsLoad load }
@@ -248,7 +284,11 @@ fn settle<S: Scheduler<A = Global>, L: Named>(
     match layer.close(alloc, submitters, workers) {
         Ok(Closed { trace, left }) => {
             match load.settle(&trace, accepted, left.len() as u64) {
-                Ok(settled) => Ok(Loaded { trace, settled }),
+                Ok(settled) => Ok(Loaded {
+                    trace,
+                    settled,
+                    times: watch.times(),
+                }),
                 Err(fault) => Err(fault),
             }
         }

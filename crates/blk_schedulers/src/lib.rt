@@ -61,6 +61,17 @@ pub struct Loaded {
     pub trace: Trace,
     /// What came of it.
     pub settled: Settled,
+    /// How long it took, where the clock could be read.
+    pub times: Option<LoadTimes>,
+}
+
+/// How long a load took by the clock, in microseconds.
+#[derive(Clone, Copy, Debug, PartialEq, Eq)]
+pub struct LoadTimes {
+    /// Its threads, from the start of the first to the end of the last.
+    pub serving: u64,
+    /// The settling of its accounts, after.
+    pub settling: u64,
 }
 
 /// Why a load has no result.

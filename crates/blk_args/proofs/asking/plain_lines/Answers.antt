@@ -15,7 +15,7 @@ use Rattle.blk_args.specs.declared.words.Written.TheVariants as written
 use Rattle.blk_schedulers.specs.Defaults.{default_sched, default_deadline, default_kyber, default_earliest, deadline_in, deadline_each, kyber_within, earliest_by, default_lineup, with_earliest, in_batches, whole}
 use Rattle.blk_args.specs.Asked.{of_script, of_trace, of_list}
 use Rattle.blk_args.specs.Plain.{default_trial, five_by_lateness, whole_import, by_perf, default_load, own_grid, both_positions}
-use Rattle.blk_args.proofs.Plain.{asks_for, asks_for_grid, asks_for_nothing, sim_line, none_line, deadline_line, kyber_line, earliest_line, late_last_line, batch_line, each_line, both_positions_line, target_line, compare_line, compare_earliest_line, compare_late_last_line, compare_json_line, tune_line, tune_so_line, tune_json_line, tune_unknown_line, tune_no_list_line, tune_twice_line, tune_by_what_line, whole_grid_line, own_grid_line, migrate_line, commands_line, late_line, late_json_line, misses_line, misses_json_line, spread_line, spread_json_line, picture_line, drawn_line, scheduled_line, oracle_line, report_line, report_json_line, on_time_line, report_and_on_time_line, certificate_json_line, check_line, check_json_line, import_line, import_so_line, summary_line, no_time_line, no_entry_line, no_recorder_line, no_device_line, table_and_summary_line, script_line, script_alone_line, depth_alone_line, judge_line, judge_each_line, explain_line, load_line, load_json_line, busy_line, traced_line, traced_json_line, version_line}
+use Rattle.blk_args.proofs.Plain.{asks_for, asks_for_grid, asks_for_nothing, sim_line, none_line, deadline_line, kyber_line, earliest_line, late_last_line, batch_line, each_line, both_positions_line, target_line, compare_line, compare_earliest_line, compare_late_last_line, compare_json_line, tune_line, tune_so_line, tune_json_line, tune_unknown_line, tune_no_list_line, tune_twice_line, tune_by_what_line, whole_grid_line, own_grid_line, migrate_line, commands_line, late_line, late_json_line, misses_line, misses_json_line, spread_line, spread_json_line, picture_line, drawn_line, scheduled_line, oracle_line, report_line, report_json_line, on_time_line, report_and_on_time_line, certificate_json_line, check_line, check_json_line, import_line, import_so_line, summary_line, no_time_line, no_entry_line, no_recorder_line, no_device_line, table_and_summary_line, script_line, script_alone_line, depth_alone_line, judge_line, judge_each_line, explain_line, load_line, load_json_line, busy_line, traced_line, timed_line, traced_json_line, version_line}
 use Rattle.blk_args.proofs.asking.plain_lines.Goals as goal
 
 pub returns : goal.returns
@@ -76,10 +76,11 @@ returns c = record {
   judge = asks_for "judge" (job.OfText (text_job.Judge false)) judge_line;
   judge_each = asks_for "judge --each" (job.OfText (text_job.Judge true)) judge_each_line;
   explain = asks_for "explain" job.Explain explain_line;
-  load = asks_for "load" (job.Load default_sched default_load (shown.Account form.Lines)) load_line;
-  load_json = asks_for "load --json" (job.Load default_sched default_load (shown.Account form.Json)) load_json_line;
-  busy = asks_for "load --busy 3" (job.Load default_sched (record default_load { busy = Some 3 }) (shown.Account form.Lines)) busy_line;
-  traced = asks_for "load --trace --service 100" (job.Load default_sched (record default_load { service = 100 }) shown.Trace) traced_line;
+  load = asks_for "load" (job.Load default_sched default_load (shown.Account form.Lines) false) load_line;
+  load_json = asks_for "load --json" (job.Load default_sched default_load (shown.Account form.Json) false) load_json_line;
+  busy = asks_for "load --busy 3" (job.Load default_sched (record default_load { busy = Some 3 }) (shown.Account form.Lines) false) busy_line;
+  traced = asks_for "load --trace --service 100" (job.Load default_sched (record default_load { service = 100 }) shown.Trace false) traced_line;
+  timed = asks_for "load --times" (job.Load default_sched default_load (shown.Account form.Lines) true) timed_line;
   traced_json = asks_for "load --trace --json" (job.Refuse refusal.TraceAndJson) traced_json_line;
   version = version_line;
 }
