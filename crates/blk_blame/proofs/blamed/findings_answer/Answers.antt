@@ -1,4 +1,4 @@
 use Rattle.blk_blame.proofs.blamed.findings_answer.Goals as goal
 
-pub returns : goal.returns
-returns c = record { found = c.in_ok-found.found; are_findings = c.in_ok-found.ensures; is = c.in_ok-answer.ensures }
+pub add_stalls-requires-clause-counted : goal.add_stalls-requires-clause-counted
+add_stalls-requires-clause-counted c t = rw c.as_slice-5.ensures.value (c.in_ok-completions.ensures.counted t)
