@@ -438,9 +438,8 @@ fn load_of(options: &ArgMatches<'_>, shown: ShownLoad) -> Option<Job>
     ensures { result ≡ loaded (is_flagged times_option.name (given options.now)) shown (sched_asked (given options.now)) (amounts_of (given options.now)) }
 {
     let sched = Sched::given(&MatchedOptions { matches: options })?;
-    let load = amounts_of(options)?;
     let times = is_flagged(options, option_names::TIMES);
-    Some(Job::Load(sched, load, shown, times))
+    Some(Job::Load(sched, amounts_of(options)?, shown, times))
 }
 
 /// The job of `load`, whose trace is no JSON.
