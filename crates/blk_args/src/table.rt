@@ -135,7 +135,7 @@ const AS: OptionRow<'static> = OptionRow {
 const DEVICE: OptionRow<'static> = OptionRow {
     name: option_names::DEVICE,
     takes: OptionValue::MaybeText,
-    help: "OptionValue only requests of this device, MAJOR,MINOR",
+    help: "Takes only requests of this device, MAJOR,MINOR",
 };
 
 /// The option that says how many requests the device takes at once.
@@ -156,7 +156,7 @@ const SKIP: OptionRow<'static> = OptionRow {
 const FIRST: OptionRow<'static> = OptionRow {
     name: option_names::FIRST,
     takes: OptionValue::Maybe(1, MAX_COMMANDS),
-    help: "OptionValue only so many requests, those that went out first; without it, all",
+    help: "Takes only so many requests, those that went out first; without it, all",
 };
 
 /// How many subcommands there are over scripts and over traces.
