@@ -9,6 +9,8 @@ page, or in a file's path. The words of Linux and of other projects, and those o
 
 Pages and comments say 'out of memory': 'want of memory' is the program's own line, and stands there only as `blk: want of memory`.
 
+`Type::name` of a type of the sources is a variant, a method or another word of a file that declares it or adds to it.
+
 A key of a JSON example in docs/FORMATS.md is a name of crates/answer, or a setting's.
 
 Prints what is wrong, and as the last line 'N passed, M failed'. Ends with 0, or with 1 where something failed.
@@ -24,7 +26,7 @@ TOP = Path(__file__).resolve().parent.parent
 LINUX = """bio_merge blk_add_rq_to_plug blk_flush_plug blk_mq_map_queue blk_mq_requeue_request blk_mq_sched_dispatch_requests blk_rq_pos blk_rq_sectors
     dispatch_request elv_merge fifo_time has_work lsblk nr_hw_queues nr_requests queue_depth request_merge sbitmap submit_bio"""
 # Crates and answers of the toolchain that the sources don't name, and words of the guides' own examples.
-OTHERS = "Display document serde_json smallvec unsupported static holes blk_mine Mine MineScheduler mine_policy burst"
+OTHERS = "Display document serde_json smallvec unsupported static holes blk_mine Mine MineScheduler mine_policy Depths burst"
 KNOWN = {*LINUX.split(), *OTHERS.split()}
 WORD = re.compile(r"[A-Za-z_]\w*")
 # A word of fewer letters is a variable.
@@ -90,6 +92,24 @@ def lost_words(line, words):
                 yield f"no file has {word}"
 
 
+def members_of(paths):
+    """By each type and trait of the sources all words of the files that declare it or add methods to it."""
+    members = {}
+    for path in paths:
+        if path.endswith(".rt"):
+            text = (TOP / path).read_text()
+            for name in set(re.findall(r"\b(?:enum|struct|trait|for|impl(?:<[^>]*>)?) (\w+)", text)):
+                members.setdefault(name, set()).update(re.findall(r"\w+", text))
+    return members
+
+
+def lost_members(line, members):
+    for code in re.findall(r"`([^`]+)`", line):
+        for name, member in re.findall(r"\b([A-Z]\w+)::(\w+)", code):
+            if name in members and member not in members[name] | KNOWN:
+                yield f"{name} has no {member}"
+
+
 def uses(text):
     """The lines of a page that use something in a block of Rattle, each with its number."""
     is_block = False
@@ -99,11 +119,11 @@ def uses(text):
             yield number, f"`{line}`"
 
 
-def lost(path, words):
+def lost(path, words, members):
     """What a page tells of that isn't there."""
     text = (TOP / path).read_text()
     for number, line in prose(text):
-        yield from (f"{path}:{number}: {it}" for it in [*lost_links(path, line), *lost_words(line, words)])
+        yield from (f"{path}:{number}: {it}" for it in [*lost_links(path, line), *lost_words(line, words), *lost_members(line, members)])
     for number, line in uses(text):
         yield from (f"{path}:{number}: {it}" for it in lost_words(line, words))
 
@@ -145,7 +165,8 @@ def main():
     """Prints what is wrong; the exit status."""
     paths = tracked()
     words = words_of(paths) | KNOWN
-    told = [list(lost(path, words)) for path in paths if is_page(path)]
+    members = members_of(paths)
+    told = [list(lost(path, words, members)) for path in paths if is_page(path)]
     told += [list(rule(paths)) for rule in (other_memory, unlisted_names)]
     for line in (line for it in told for line in it):
         print(f"pages: {line}")
