@@ -1,4 +1,4 @@
-//! The program `blk`: the standard streams and the words of the command line, handed to `blk_cli::run`, and loads run on its threads.
+//! The program `blk`: the standard streams and the arguments of the command line, handed to `blk_cli::run`, and loads run on its threads.
 #![tactic(auto)]
 
 mod watching;
@@ -29,7 +29,7 @@ fn says_to_a_terminal(rt: &HostRuntime) -> bool {
     }
 }
 
-/// Runs the program on its words, beside a thread that shows how much of a long input was read where somebody looks.
+/// Runs the program on its arguments, beside a thread that shows how much of a long input was read where somebody looks.
 fn run_beside<'s, E, R: Threads + Wait + Sync, F: Write>(
     threads: &'s Scope<'s, E>,
     rt: &'s R,

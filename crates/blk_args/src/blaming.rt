@@ -1,4 +1,4 @@
-//! The words of `blame`.
+//! The arguments of `blame`.
 
 ghost use Rattle.std.specs.Prelude.{◌≡◌};
 ghost use Rattle.blk_args.specs.Asked.{most_shown, up_to_all, share_of, share_by, share_given, writes_named, writes_given, tightest_with, tightest_given, shown_blame, shown_in, blame_by_named, blame_by_given, blaming_in, blaming_with, blaming_of, asks_lines, drawn_blame, drawn_unless, blame_asked, blame_job};

@@ -1,4 +1,4 @@
-//! The grids that words ask for, which are read once more.
+//! The grids that arguments ask for, which are read once more.
 
 ghost use Rattle.std.specs.Prelude.{◌≡◌, IfOk, IfErr, Some, None, map, string_bytes};
 ghost use Rattle.blk_schedulers.specs.Grids.{grid_given};
@@ -22,7 +22,7 @@ use std::alloc::Global;
 pub enum NoGrid {
     /// Memory ran out.
     Memory,
-    /// The words ask for none: they are no command line of the program, or an option that lists what is tried is given no list.
+    /// The arguments ask for none: they are no command line of the program, or an option that lists what is tried is given no list.
     Nothing,
 }
 
@@ -38,7 +38,7 @@ fn grid_of(alloc: Global, options: &ArgMatches<'_>) -> Result<Vec<Sched>, NoGrid
     }
 }
 
-/// The grid that the words of a trial ask for, which are read once more.
+/// The grid that the arguments of a trial ask for, which are read once more.
 pub fn grid_asked(alloc: Global, words: &[String]) -> Result<Vec<Sched>, NoGrid>
     ensures asked { IfOk result (λ g. AsksGrid (map string_bytes words.now) g.items) }
     ensures none { IfErr result (λ n. n ≡ NoGrid.Nothing → AsksNoGrid (map string_bytes words.now)) }
@@ -98,7 +98,7 @@ fn plans_of(alloc: Global, options: &ArgMatches<'_>) -> Result<Vec<Plan>, NoGrid
     }
 }
 
-/// The replays of the grid that the words of `replay --grid` ask for, which are read once more.
+/// The replays of the grid that the arguments of `replay --grid` ask for, which are read once more.
 pub fn plans_asked(alloc: Global, words: &[String]) -> Result<Vec<Plan>, NoGrid>
     ensures asked { IfOk result (λ p. AsksPlans (map string_bytes words.now) p.items) }
     ensures none { IfErr result (λ n. n ≡ NoGrid.Nothing → AsksNoPlans (map string_bytes words.now)) }

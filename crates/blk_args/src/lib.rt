@@ -1,5 +1,5 @@
-//! The words of the command line, and what they ask for. It stands on clap and on plain settings alone, so that what the program does
-//! and what its words are can be proved side by side.
+//! The arguments of the command line, and what they ask for. It stands on clap and on plain settings alone, so that what the program does
+//! and what its arguments are can be proved side by side.
 #![tactic(auto)]
 
 pub mod asking;

@@ -1,4 +1,4 @@
-//! The words of `replay`.
+//! The arguments of `replay`.
 
 ghost use Rattle.std.specs.Prelude.{ℕ, ◌≡◌, ◌≤◌, All, IfSome, option_map};
 ghost use Rattle.blk_args.specs.Asked.{is_flagged, replay_by_named, replay_by_given, replay_text, replay_list, only_one, replay_number, replay_options, times_given, one_fifo, is_given, asks_rows, grid_replays, replays_of, shown_replay, one_replay_of, single_replays, replaying_in, replaying_of, replay_job};
@@ -35,7 +35,7 @@ pub struct Replaying {
     pub form: Form,
 }
 
-/// How replays under each setting of a grid are written, which the words ask for ([`crate::plans_asked`]).
+/// How replays under each setting of a grid are written, which the arguments ask for ([`crate::plans_asked`]).
 #[derive(Clone, Copy, Debug, PartialEq, Eq)]
 pub struct GridReplaying {
     /// What their rows are ordered by first.

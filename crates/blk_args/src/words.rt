@@ -1,4 +1,4 @@
-//! The words of the command line, as a job.
+//! The arguments of the command line, as a job.
 
 ghost use Rattle.std.specs.Prelude.{ℕ, ◌≡◌, ◌≤◌, not, map, All, IfOk, IfErr, IfSome, Some, None, option_map, option_and_then, string_bytes};
 ghost use Rattle.std.specs.Option.{option_or};
@@ -44,11 +44,11 @@ pub enum Job {
     Version,
     /// Write what is asked of a text.
     OfText(TextJob),
-    /// Run a script under each setting of the grid that the words ask for ([`crate::grid_asked`]), and write the table of how well each did.
+    /// Run a script under each setting of the grid that the arguments ask for ([`crate::grid_asked`]), and write the table of how well each did.
     Tune(Tuning),
     /// Import a capture.
     Import(Import),
-    /// Refuse the words, which are taken and can't be done.
+    /// Refuse the arguments, which are taken and can't be done.
     Refuse(Refusal),
     /// Tell what a text is, or what is wrong with it.
     Explain,
@@ -126,14 +126,14 @@ pub enum Kept {
     Blame(Blaming),
     /// What comes of replays of its requests.
     Replay(Replaying),
-    /// What comes of replays under each setting of the grid that the words ask for ([`crate::plans_asked`]).
+    /// What comes of replays under each setting of the grid that the arguments ask for ([`crate::plans_asked`]).
     Grid(GridReplaying),
     /// A replay of its requests.
     Replayed(Plan, ShownReplay),
 }
 
-/// Why words that clap accepts are refused, in the order of the checks: a bad value of an option of `import`, `tune` or `replay`, or flags that exclude
-/// one another.
+/// Why arguments that clap accepts are refused, in the order of the checks: a bad value of an option of `import`, `tune` or `replay`, or flags that
+/// exclude one another.
 #[derive(Clone, Copy, Debug, PartialEq, Eq)]
 pub enum Refusal {
     /// `--read-expire` is no time.
@@ -264,7 +264,7 @@ impl Refusal {
 pub enum NoJob {
     /// Memory ran out.
     Memory,
-    /// The words are no command line of the program, or ask for its help: what clap says of them.
+    /// The arguments are no command line of the program, or ask for its help: what clap says of them.
     Usage(String),
     /// They are taken and name no job: flags exclude one another, those of `oracle --trace --met`.
     Nothing,
@@ -369,7 +369,7 @@ fn is_default(options: &ArgMatches<'_>, id: &str) -> bool
     }
 }
 
-/// Whether the words give another option than this one: a default doesn't count.
+/// Whether the arguments give another option than this one: a default doesn't count.
 fn is_other_given(options: &ArgMatches<'_>, but: &str) -> bool
     ensures { result ≡ is_other_given but.now (given options.now) }
 {
@@ -762,7 +762,7 @@ fn job_of(matches: &ArgMatches<'_>) -> Option<Job>
     job_made(makes, options)
 }
 
-/// What the words ask for; the first of them is the program's name.
+/// What the arguments ask for; the first of them is the program's name.
 pub fn choose(alloc: Global, words: &[String]) -> Result<Job, NoJob>
     ensures asked { IfOk result (Asks (map string_bytes words.now)) }
     ensures refused { IfErr result (IsNoJob (map string_bytes words.now)) }

@@ -78,7 +78,7 @@ pub enum Failure {
     Import(ImportFault),
     /// The arrivals of the capture are no script.
     Arrivals(ArrivalsFault),
-    /// The words can't be done.
+    /// The arguments can't be done.
     Words(Refusal),
     /// The writer failed. No job fails so: its text is written by the run.
     Write,
@@ -143,7 +143,7 @@ impl Failure {
         }
     }
 
-    /// The exit status: 1 for refused input, 2 for words that can't be done, 3 when out of memory, for a read fault or a write fault.
+    /// The exit status: 1 for refused input, 2 for arguments that can't be done, 3 when out of memory, for a read fault or a write fault.
     fn status(&self) -> u8
         ensures value { result ≡ status_of self.now }
         ensures range { (1 ≤ result) × (result ≤ 3) }
@@ -347,7 +347,7 @@ fn tell_arrivals<F: Write>(faults: &mut Output<F>, fault: ArrivalsFault) -> Resu
     }
 }
 
-/// Writes the line on words that can't be done.
+/// Writes the line on arguments that can't be done.
 fn tell_words<F: Write>(faults: &mut Output<F>, refusal: Refusal) -> Result<(), WriteFault>
     ensures { OwnLine (λ text. Writes text (stream_of F.contents faults.old) (stream_of F.contents faults.new) result) }
 {

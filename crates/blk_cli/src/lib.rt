@@ -61,13 +61,13 @@ const GOOD: u8 = 0;
 /// The exit status of refused input.
 const REFUSED: u8 = 1;
 
-/// The exit status of words that are no command line of the program.
+/// The exit status of arguments that are no command line of the program.
 pub const COMMAND_LINE: u8 = 2;
 
 /// The exit status of a read fault, of a write fault, and when out of memory.
 const FAILED: u8 = 3;
 
-/// The line for words that clap takes and that name no job: only these two flags do.
+/// The line for arguments that clap takes and that name no job: only these two flags do.
 const NO_JOB: &[u8] = b"blk: --trace and --met exclude one another\n";
 
 /// How a run ended.
@@ -129,7 +129,7 @@ impl Answered {
     }
 }
 
-/// Why words get no text.
+/// Why arguments get no text.
 #[derive(Drop)]
 pub enum NoText {
     /// The job that they ask for fails, or memory ran out before they were read.
@@ -158,7 +158,7 @@ impl NoText {
     }
 }
 
-/// Writes the line on words that ask for nothing and ends with their status, even where the line can't be written.
+/// Writes the line on arguments that ask for nothing and ends with their status, even where the line can't be written.
 fn refuse<F: Write>(line: &[u8], faults: &mut Output<F>) -> Ended
     ensures { EndsSaying 2 line.now (stream_of F.contents faults.old) (stream_of F.contents faults.new) result }
 {
@@ -264,7 +264,7 @@ fn without(alloc: Global, job: Job, failure: Failure, row: &ByteRecord) -> NoTex
 }
 
 /// What a job answers, or why there is none. Each kind is a row here: what it needs. Loads are run by `loads`, on the threads of `rt`, and so are
-/// trials and replays of the grid that the words ask for, which tell `progress` how far they have come.
+/// trials and replays of the grid that the arguments ask for, which tell `progress` how far they have come.
 fn answer_of<L: Loads, T: Threads + Wait + Sync, R: Read + Drop, P: Progress>(
     loads: &L,
     rt: &T,
@@ -308,7 +308,7 @@ fn answer_of<L: Loads, T: Threads + Wait + Sync, R: Read + Drop, P: Progress>(
     }
 }
 
-/// What the program answers to the words of its command line, the first of which is its name, or why there is nothing.
+/// What the program answers to the arguments of its command line, the first of which is its name, or why there is nothing.
 /// Nothing is written to the outputs. Loads are run by `loads`, on the threads of `rt`, and so are trials, which tell `progress` how far they
 /// have come.
 pub fn answer<L: Loads, T: Threads + Wait + Sync, R: Read + Drop, P: Progress>(
@@ -323,7 +323,7 @@ pub fn answer<L: Loads, T: Threads + Wait + Sync, R: Read + Drop, P: Progress>(
     ensures answers { IfOk result (λ answer. Answers (map string_bytes words.now) records.old.left records.old.bytes (said_of answer)) }
     ensures without { IfErr result (IsWithout (map string_bytes words.now) records.old.left records.old.bytes records.new.failed) }
     ensures unread { AskForNoInput (map string_bytes words.now) → records.new ≡ records.old }
-    // of a load that the words ask for, just it is run, and what it ends with is answered
+    // of a load that the arguments ask for, just it is run, and what it ends with is answered
     ensures run { IsRunOf L.ends_as (map string_bytes words.now) result }
 {
     match choose(alloc, words) {
@@ -353,7 +353,7 @@ fn put_out<W: Write, F: Write>(
     }
 }
 
-/// Runs the program on the words of its command line, the first of which is its name: reads the input from `records` and writes the
+/// Runs the program on the arguments of its command line, the first of which is its name: reads the input from `records` and writes the
 /// output to `out`. On failure, or where the output leaves something out, it writes one line to `faults`. Loads are run by `loads`, on
 /// the threads of `rt`, and so are trials, which tell `progress` how far they have come. Answers how it ended.
 pub fn run<L: Loads, T: Threads + Wait + Sync, R: Read + Drop, W: Write, F: Write, P: Progress>(
@@ -368,15 +368,15 @@ pub fn run<L: Loads, T: Threads + Wait + Sync, R: Read + Drop, W: Write, F: Writ
 ) -> Ended
     requires { records.old.at ≡ 0 }
     ensures ended { RunEndsOn W.contents F.contents words.now records.old records.new out.old out.new faults.old faults.new result }
-    // nothing is read where the words ask for nothing of the input: for the version or a load, for what is refused, or for no job
+    // nothing is read where the arguments ask for nothing of the input: for the version or a load, for what is refused, or for no job
     ensures unread { AskForNoInput (map string_bytes words.now) → records.new ≡ records.old }
     // nothing is written at status 2
     ensures unwritten { result.status ≡ 2 → out.new ≡ out.old }
-    // nor at status 1, where the words ask for what is good if it is answered; where they ask for a text alone, nothing is said at status 0
+    // nor at status 1, where the arguments ask for what is good if it is answered; where they ask for a text alone, nothing is said at status 0
     ensures kept { AskForGood (map string_bytes words.now) → result.status ≡ 1 → out.new ≡ out.old }
     ensures quiet { AskForTexts (map string_bytes words.now) → result.status ≡ 0 → faults.new ≡ faults.old }
     ensures range { result.status ≤ 3 }
-    // a load's text and its fault are those of just the load that the words ask for
+    // a load's text and its fault are those of just the load that the arguments ask for
     ensures run { (r : Result Answered NoText) × IsRunOf L.ends_as (map string_bytes words.now) r × EndsAs W.contents F.contents r out.old out.new faults.old faults.new result }
 {
     let answered = answer(loads, rt, alloc, words, records, progress);

@@ -48,7 +48,7 @@ fn each_text<T: Threads + Sync, P: Progress>(
     }
 }
 
-/// What is written of replays under each setting of the grid that the words ask for.
+/// What is written of replays under each setting of the grid that the arguments ask for.
 fn grid_text<T: Threads + Sync, P: Progress>(
     rt: &T,
     alloc: Global,
@@ -62,7 +62,7 @@ fn grid_text<T: Threads + Sync, P: Progress>(
     ensures text { IfOk result (λ text. IsGridText (map string_bytes words.now) grid requests.now text.items) }
     ensures fails { IfErr result (IsNotReplayed (IsGridUnreplayed (map string_bytes words.now))) }
 {
-    // `choose` found a grid in these words, so only memory can run out.
+    // `choose` found a grid in these arguments, so only memory can run out.
     let Ok(plans) = plans_asked(alloc, words) else {
         return Err(Failure::Memory);
     };
@@ -122,7 +122,7 @@ pub fn replayed<T: Threads + Sync, P: Progress>(
     }
 }
 
-/// What is written of them in replays under each setting of the grid that the words ask for, and what is said beside it.
+/// What is written of them in replays under each setting of the grid that the arguments ask for, and what is said beside it.
 pub fn replayed_grid<T: Threads + Sync, P: Progress>(
     rt: &T,
     alloc: Global,

@@ -50,7 +50,7 @@ fn tuned_in<T: Threads + Sync, P: Progress>(
     }
 }
 
-/// The rows of a script under each setting of the grid that the words ask for.
+/// The rows of a script under each setting of the grid that the arguments ask for.
 fn trial_of<T: Threads + Sync, P: Progress>(
     rt: &T,
     alloc: Global,
@@ -63,7 +63,7 @@ fn trial_of<T: Threads + Sync, P: Progress>(
     ensures text { IfOk result (λ text. IsTrial (map string_bytes words.now) tuning (scripted script.now) text.items) }
     ensures untried { IfErr result (IsTuneFailure (map string_bytes words.now) (scripted script.now)) }
 {
-    // `choose` found a trial in these words, so they ask for a grid, and only memory can run out.
+    // `choose` found a trial in these arguments, so they ask for a grid, and only memory can run out.
     let Ok(grid) = grid_asked(alloc, words) else {
         return Err(Failure::Memory);
     };
@@ -103,7 +103,7 @@ fn answer_trial<T: Threads + Sync, P: Progress>(
     }
 }
 
-/// Reads a script, and tries it under each setting of the grid that the words ask for, on the threads of `rt`. `progress` hears
+/// Reads a script, and tries it under each setting of the grid that the arguments ask for, on the threads of `rt`. `progress` hears
 /// how far it has come.
 pub fn over_trial<T: Threads + Sync, R: Read + Drop, P: Progress>(
     rt: &T,
