@@ -5,7 +5,7 @@ use Rattle.blk_schedulers.specs.Defaults.{earliest_by}
 use Rattle.blk_schedulers.specs.declared.form.Form.TheVariants as form
 use Rattle.blk_args.specs.declared.table.FiguresAsked.TheVariants as figures
 use Rattle.blk_args.specs.declared.inputs.Running.TheVariants as running
-use Rattle.blk_args.specs.declared.inputs.Telling.TheVariants as tell
+use Rattle.blk_args.specs.declared.inputs.TraceOutput.TheVariants as tell
 use Rattle.blk_args.specs.declared.inputs.TextJob.TheVariants as text_job
 use Rattle.blk_online_cli.specs.Told.{ReportsNoShortfall}
 use Rattle.blk_online_cli.specs.Inside.Words.{sim_words, report_words}
