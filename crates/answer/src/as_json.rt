@@ -218,7 +218,7 @@ pub fn json(alloc: Global, answer: &Answer) -> Result<Vec<u8>, AllocError>
 
 /// The lines of an answer and its JSON tell the same members and rows.
 ///
-/// A law: it does nothing when it runs, and a caller has its clause.
+/// A theorem: it does nothing at run time, and a caller has its clause.
 pub fn law_of_answers()
     ensures { (parts : List APart) → TellsSame parts }
 {}

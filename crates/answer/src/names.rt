@@ -125,7 +125,7 @@ pub const NONE_SERVED: &str = "none-served";
 
 /// The names are those of the pages.
 ///
-/// A law: it does nothing when it runs, and a caller has its clause.
+/// A theorem: it does nothing at run time, and a caller has its clause.
 pub fn law_of_names()
     ensures { AreDocumentedNames }
 {}

@@ -1,4 +1,4 @@
-//! A law of the command line, the contract of a function that does nothing.
+//! A theorem on the command line, as the contract of a function that does nothing.
 
 ghost use Rattle.std.specs.Prelude.{◌≡◌};
 ghost use Rattle.blk_args.specs.declared.table.TheConstants.{MAX_BUSY, MAX_TAGS, MAX_THREADS, MAX_TOP};

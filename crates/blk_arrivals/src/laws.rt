@@ -1,4 +1,4 @@
-//! A law of the scripts of captures, the contract of a function that does nothing.
+//! A theorem on the scripts of captures, as the contract of a function that does nothing.
 
 ghost use Rattle.std.specs.Prelude.{◌≡◌};
 ghost use Rattle.blk_arrivals.specs.declared.terms.TheConstants.{USUAL_DEPTH, USUAL_SECTORS, USUAL_SEGMENTS, USUAL_SOFT_DEPTH};

@@ -53,7 +53,7 @@ pub const PAST_END: &str = "past-end";
 
 /// The names are those of the pages.
 ///
-/// A law: it does nothing when it runs, and a caller has its clause.
+/// A theorem: it does nothing at run time, and a caller has its clause.
 pub fn law_of_names()
     ensures { AreNamesOfSummary }
 {}

@@ -81,7 +81,7 @@ impl<A: Allocator + Clone> Earliest<A> {
 /// that are due in the round or later, and where there is none of these the first of all. There is none only where nothing
 /// waits.
 ///
-/// A law: it does nothing when it runs, and a caller has its clauses.
+/// A theorem: it does nothing at run time, and a caller has its clauses.
 pub fn law_of_choices()
     ensures first { (now : ℕ) → (ws : List Waiting) → (w : Waiting) → earliest_choice false now ws ≡ Some w → IsEarliest ws w }
     ensures first_on_time { (now : ℕ) → (ws : List Waiting) → (w : Waiting) → earliest_choice true now ws ≡ Some w → IsFirstOnTime now ws w }

@@ -19,14 +19,14 @@ ghost use Rattle.blk_online.specs.Issues.{IsEarliestAtIssues, ServesOnTimeAtIssu
 
 /// A legal schedule by earliest due date first is least late.
 ///
-/// A law: it does nothing when it runs, and a caller has its clause.
+/// A theorem: it does nothing at run time, and a caller has its clause.
 pub fn law_of_earliest_due_first()
     ensures { (commands : List Command) → (steps : List Step) → EarliestDueFirstIsLeastLate commands steps }
 {}
 
 /// A legal schedule that first serves what can still be on time has the most on time, in whatever order it serves the rest.
 ///
-/// A law: it does nothing when it runs, and a caller has its clause.
+/// A theorem: it does nothing at run time, and a caller has its clause.
 pub fn law_of_on_time_first()
     ensures { (commands : List Command) → (steps : List Step) → OnTimeFirstHasMostOnTime commands steps }
 {}
@@ -34,7 +34,7 @@ pub fn law_of_on_time_first()
 /// Ties may be broken in any way: where, of what waits, what is due first goes first, of two that are due in one round either, a legal schedule
 /// is least late; and where what can still be on time goes so before the rest, it has the most on time.
 ///
-/// A law: it does nothing when it runs, and a caller has its clauses.
+/// A theorem: it does nothing at run time, and a caller has its clauses.
 pub fn law_of_ties()
     ensures least { (commands : List Command) → (steps : List Step) → DueFirstIsLeastLate commands steps }
     ensures most { (commands : List Command) → (steps : List Step) → OnTimeDueFirstHasMost commands steps }
@@ -45,7 +45,7 @@ pub fn law_of_ties()
 /// least late. What waits is read as the round ends: what came in after an Issue of the round counts too. The last round, which
 /// no Tick ends, is free.
 ///
-/// A law: it does nothing when it runs, and a caller has its clauses.
+/// A theorem: it does nothing at run time, and a caller has its clauses.
 pub fn law_of_earliest_traces()
     ensures first { (setup : Setup) → (events : List Happened)
         → IsEarliestTrace setup events → RunsEarliestFirst setup events }
@@ -59,7 +59,7 @@ pub fn law_of_earliest_traces()
 /// Where that holds of what waits and is due in the round or later, with what went out due then too, the trace has as many
 /// commands on time as any legal schedule of them.
 ///
-/// A law: it does nothing when it runs, and a caller has its clauses.
+/// A theorem: it does nothing at run time, and a caller has its clauses.
 pub fn law_of_late_last_traces()
     ensures first { (setup : Setup) → (events : List Happened)
         → IsOnTimeFirstTrace setup events → RunsOnTimeFirst setup events }
@@ -71,7 +71,7 @@ pub fn law_of_late_last_traces()
 /// write goes out while nothing else waits, and then a read comes in that is due sooner. Each command came first of what waited as it
 /// went out, and the round was full as it ended; but the read is a round late, and it need not have been.
 ///
-/// A law: it does nothing when it runs, and a caller has its clauses.
+/// A theorem: it does nothing at run time, and a caller has its clauses.
 pub fn law_of_issues()
     ensures legal { IsSetup one_tag × IsLegalTrace one_tag read_too_late }
     ensures earliest { IsEarliestAtIssues one_tag read_too_late }

@@ -28,14 +28,14 @@ use turns::Quiet;
 /// `oracle --trace` reports the shortfall 0, or no commands. It says nothing of joins, hardware queues, limits, depths, or of what
 /// waits at the end: these are free.
 ///
-/// A law of [`run`]: it does nothing when it runs, and a caller has its clause.
+/// A theorem of [`run`]: it does nothing at run time, and a caller has its clause.
 pub fn law_of_reports()
     ensures { OfTwoRuns (earliest_run false) (figures_in_lines FiguresAsked.Report) ReportsNoShortfall }
 {}
 
 /// What `sim --sched earliest --late-last` writes of such a script is a trace of which `misses` says that none is avoidable.
 ///
-/// A law of [`run`]: it does nothing when it runs, and a caller has its clause.
+/// A theorem of [`run`]: it does nothing at run time, and a caller has its clause.
 pub fn law_of_misses()
     ensures { OfTwoRuns (earliest_run true) (figures_in_lines FiguresAsked.Misses) CountsNoneAvoidable }
 {}

@@ -24,21 +24,21 @@ use std::alloc::Allocator;
 /// Where a script runs its rounds as a whole, with no issue, done, back or tick by hand, what goes out in a round comes before all
 /// that waits as it ends, and the round is full if anything waits; with `late_last` so of what is due in the round or later.
 ///
-/// A law: it does nothing when it runs, and a caller has its clause.
+/// A theorem: it does nothing at run time, and a caller has its clause.
 pub fn law_of_rounds_under_earliest()
     ensures { (late_last : Bool) (script : Scripted) (steps : List Line) (end : SimState) → HoldsByRounds late_last script steps end }
 {}
 
 /// The report of a trace that is least late has the shortfall 0, or there are no commands.
 ///
-/// A law: it does nothing when it runs, and a caller has its clause.
+/// A theorem: it does nothing at run time, and a caller has its clause.
 pub fn law_of_no_shortfall()
     ensures { (s : Setup) (es : List Happened) (r : Report) → HasLeastLateness s es → IsReport s es r → HasNoShortfall s es r }
 {}
 
 /// None of the misses of a legal trace that has the most on time is avoidable.
 ///
-/// A law: it does nothing when it runs, and a caller has its clause.
+/// A theorem: it does nothing at run time, and a caller has its clause.
 pub fn law_of_none_avoidable()
     ensures { (s : Setup) (es : List Happened) → IsLegalTrace s es → HasMostOnTime s es → HasNoneAvoidable s es }
 {}

@@ -1,4 +1,4 @@
-//! A law of pictures, the contract of a function that does nothing.
+//! A theorem on pictures, as the contract of a function that does nothing.
 
 ghost use Rattle.std.specs.Prelude.{◌≡◌, ◌∷◌, [], take, drop};
 ghost use Rattle.blk_picture.specs.declared.around.TheConstants.{MAX_CROWDS, MAX_LABELLED};

@@ -20,7 +20,7 @@ ghost use Rattle.blk_picture_laws.specs.Sums.{HoldsScaled, ShowsAll, ShowsAllOfE
 /// are the trace's commands in their rounds, in the order of their Issues. In a legal trace they are its services, each with
 /// its sectors.
 ///
-/// A law: it does nothing when it runs, and a caller has its clauses.
+/// A theorem: it does nothing at run time, and a caller has its clauses.
 pub fn law_of_boxes()
     ensures each { (setup : Setup) → (events : List Happened)
         → map issue_of (boxes_in_order setup events) ≡ timed_issues events }
@@ -35,7 +35,7 @@ pub fn law_of_boxes()
 /// The columns of the scale of a number of rounds stand for all that was issued before the last of them, however many rounds a column stands
 /// for, also where that does not divide their number, and whichever are drawn. So do those of the one scale of several traces for each of them.
 ///
-/// A law: it does nothing when it runs, and a caller has its clauses.
+/// A theorem: it does nothing at run time, and a caller has its clauses.
 pub fn law_of_scales()
     ensures rounds { (events : List Happened) → (rounds : ℕ) → round_of events < rounds → HoldsScaled rounds (ShowsAll events) }
     ensures own { (t : Traced) → HoldsScaled (rounds_shown t) (ShowsAll t.events) }
@@ -46,7 +46,7 @@ pub fn law_of_scales()
 /// what the rounds that are shown carry. In a legal trace no column has more boxes than room, and the idle places add up to what the
 /// rounds carry less the boxes.
 ///
-/// A law: it does nothing when it runs, and a caller has its clauses.
+/// A theorem: it does nothing at run time, and a caller has its clauses.
 pub fn law_of_columns()
     ensures reads { (setup : Setup) → (events : List Happened) → WhereAllIsShown ReadsAddUp setup events }
     ensures writes { (setup : Setup) → (events : List Happened) → WhereAllIsShown WritesAddUp setup events }
@@ -63,7 +63,7 @@ pub fn law_of_columns()
 
 /// Boxes, services and what is overdue are read off the state that a legal list leaves (`blk_trace_state`).
 ///
-/// A law: it does nothing when it runs, and a caller has its clauses.
+/// A theorem: it does nothing at run time, and a caller has its clauses.
 pub fn law_of_states()
     ensures boxes { Leaves (λ setup events s. boxes_in s ≡ boxes_in_order setup events) }
     ensures services { Leaves (λ setup events s. services_in s ≡ services_of setup events) }

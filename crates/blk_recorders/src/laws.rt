@@ -1,4 +1,4 @@
-//! A law of what recorders print, the contract of a function that does nothing.
+//! A theorem on what recorders print, as the contract of a function that does nothing.
 
 ghost use Rattle.std.specs.Prelude.{◌≡◌};
 ghost use Rattle.blk_recorders.specs.declared.detect.TheConstants.{FIRST_LINES};

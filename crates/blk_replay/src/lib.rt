@@ -140,7 +140,7 @@ pub fn replay<S: Scheduler>(
 
 /// Where a scheduler's policy leaves nothing open, requests have one replay under it.
 ///
-/// A law: it does nothing when it runs, and a caller has its clause.
+/// A theorem: it does nothing at run time, and a caller has its clause.
 pub fn law_of_one_replay<S: Scheduler>()
     ensures { HasOneReplay S.policy }
 {}
@@ -149,7 +149,7 @@ pub fn law_of_one_replay<S: Scheduler>()
 /// less late than its replay of requests that are due by their deadlines; and where it takes so what can still be on time before the rest, none has
 /// more on time.
 ///
-/// A law: it does nothing when it runs, and a caller has its clause.
+/// A theorem: it does nothing at run time, and a caller has its clause.
 pub fn law_of_due_first<S: Scheduler>()
     ensures { ReplaysBest S.policy }
 {

@@ -16,7 +16,7 @@ ghost use Rattle.blk_trace_state.specs.Rows.{small, long, RowsHold, LateRowsHold
 /// Replay answers a state exactly where the list is legal. Where it isn't, it answers the place of the first event that
 /// breaks a rule, and the first rule that it breaks.
 ///
-/// A law: it does nothing when it runs, and a caller has its clauses.
+/// A theorem: it does nothing at run time, and a caller has its clauses.
 pub fn law_of_replay()
     ensures legal { (setup : Setup) → (events : List Happened) → AnswersWhereLegal setup events }
     ensures refused { (setup : Setup) → (events : List Happened) → AnswersFirstIllegal setup events }
@@ -24,7 +24,7 @@ pub fn law_of_replay()
 
 /// The state alone tells what one more event breaks, and what it leaves.
 ///
-/// A law: it does nothing when it runs, and a caller has its clauses.
+/// A theorem: it does nothing at run time, and a caller has its clauses.
 pub fn law_of_steps()
     ensures broken { Leaves TellsFirstBroken }
     ensures unbroken { Leaves TellsUnbroken }
@@ -33,14 +33,14 @@ pub fn law_of_steps()
 
 /// The state of a legal list, field by field, in terms of the list's places.
 ///
-/// A law: it does nothing when it runs, and a caller has its clauses.
+/// A theorem: it does nothing at run time, and a caller has its clauses.
 pub fn law_of_states()
     ensures { Leaves IsStateOf }
 {}
 
 /// What is read off the state of a legal list is what the list says.
 ///
-/// A law: it does nothing when it runs, and a caller has its clauses.
+/// A theorem: it does nothing at run time, and a caller has its clauses.
 pub fn law_of_projections()
     ensures commands { Leaves (λ setup events s. commands_now s ≡ commands_of setup events) }
     ensures rounds { Leaves (λ setup events s. rounds_now s ≡ rounds_of events) }
@@ -60,7 +60,7 @@ pub fn law_of_projections()
 /// Worked rows, which the checker computes: legal lists, lists that break each rule in each way, and what a long one
 /// leaves.
 ///
-/// A law: it does nothing when it runs, and a caller has its clauses.
+/// A theorem: it does nothing at run time, and a caller has its clauses.
 pub fn worked_rows()
     ensures rows { RowsHold }
     ensures late { LateRowsHold }

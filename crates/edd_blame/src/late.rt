@@ -96,7 +96,7 @@ pub fn causes<A: Allocator + Clone, B: Allocator>(
 
 /// Each late request of a legal schedule has one cause.
 ///
-/// A law: it does nothing when it runs, and a caller has its clause.
+/// A theorem: it does nothing at run time, and a caller has its clause.
 pub fn law_of_causes<A: Allocator>(
     commands: &[Command],
     rounds: &[u64],

@@ -304,7 +304,7 @@ pub fn check<A: Allocator, B: Allocator>(
 
 /// A window that is crowded at a lateness bounds the greatest lateness of every legal schedule of the commands.
 ///
-/// A law: it does nothing when it runs, and a caller has its clause.
+/// A theorem: it does nothing at run time, and a caller has its clause.
 pub fn law_of_crowded_windows<A: Allocator>(
     commands: &[Command],
     capacity: &Capacity<A>,

@@ -216,7 +216,7 @@ pub fn check_on_time<A: Allocator, B: Allocator>(
 /// What windows carry, with the number of the commands that are released by their due round and lie in none of them, bounds
 /// how many commands any legal schedule has on time; windows that overlap only bound it worse.
 ///
-/// A law: it does nothing when it runs, and a caller has its clause.
+/// A theorem: it does nothing at run time, and a caller has its clause.
 pub fn law_of_covers<A: Allocator>(commands: &[Command], capacity: &Capacity<A>, cover: &[Window])
     ensures { IsOnTimeBound commands.now capacity.now (bound_of commands.now capacity.now cover.now) }
 {

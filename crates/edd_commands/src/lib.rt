@@ -36,7 +36,7 @@ pub struct Command {
 
 /// Under one depth each round carries that depth, and n rounds carry n times as much.
 ///
-/// A law: it does nothing when it runs, and a caller has its clauses.
+/// A theorem: it does nothing at run time, and a caller has its clauses.
 pub fn law_of_one_depth()
     ensures each { (depth x : ℕ) → depth_at (fixed depth) x ≡ depth }
     ensures sum { (depth start n : ℕ) → carried (fixed depth) start n ≡ depth * n }

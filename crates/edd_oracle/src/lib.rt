@@ -138,7 +138,7 @@ pub fn solve_taken<A: Allocator + Clone, B: Allocator>(
 /// The separate check may be asked about an answer of [`solve`], and passes it: whatever [`check`](edd_check::check) says of it is Ok,
 /// unless memory ran out.
 ///
-/// A law: it does nothing when it runs, and a caller has its clauses.
+/// A theorem: it does nothing at run time, and a caller has its clauses.
 pub fn law_of_checks<A: Allocator, B: Allocator>(
     commands: &[Command],
     capacity: &Capacity<A>,
@@ -237,7 +237,7 @@ pub fn most_on_time_taken<A: Allocator + Clone, B: Allocator>(
 /// The separate check may be asked about an answer of [`most_on_time`], and passes it: whatever [`check_on_time`](edd_check::check_on_time) says
 /// of it is Ok, unless memory ran out.
 ///
-/// A law: it does nothing when it runs, and a caller has its clauses.
+/// A theorem: it does nothing at run time, and a caller has its clauses.
 pub fn law_of_on_time_checks<A: Allocator, B: Allocator>(
     commands: &[Command],
     capacity: &Capacity<A>,
@@ -253,7 +253,7 @@ pub fn law_of_on_time_checks<A: Allocator, B: Allocator>(
 
 /// There is one legal schedule by earliest due date first with ties by id, where no id stands twice.
 ///
-/// A law: it does nothing when it runs, and a caller has its clause.
+/// A theorem: it does nothing at run time, and a caller has its clause.
 pub fn law_of_one_schedule<A: Allocator>(
     commands: &[Command],
     capacity: &Capacity<A>,

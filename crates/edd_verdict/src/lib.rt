@@ -40,7 +40,7 @@ pub enum Verdict {
 
 /// Each late command of a legal schedule has one verdict.
 ///
-/// A law: it does nothing when it runs, and a caller has its clauses.
+/// A theorem: it does nothing at run time, and a caller has its clauses.
 pub fn law_of_verdicts()
     ensures one { (commands : List Command) → (rounds : List ℕ) → (steps : List Step)
         → OfEachLate HasOneVerdict commands rounds steps }
@@ -52,7 +52,7 @@ pub fn law_of_verdicts()
 /// What the verdicts say of how many commands a schedule has late, beside how many any schedule has on time: `most - on_time` is
 /// how many more could have been on time.
 ///
-/// A law: it does nothing when it runs, and a caller has its clauses.
+/// A theorem: it does nothing at run time, and a caller has its clauses.
 pub fn law_of_spares()
     // the late ones are late on arrival, full or spare
     ensures kinds { (commands : List Command) → (rounds : List ℕ) → (steps : List Step)
@@ -67,7 +67,7 @@ pub fn law_of_spares()
 
 /// A capacity carries some commands in each round.
 ///
-/// A law: it does nothing when it runs, and a caller has its clause.
+/// A theorem: it does nothing at run time, and a caller has its clause.
 fn law_of_capacities<A: Allocator>(capacity: &Capacity<A>)
     ensures { IsCapacity capacity.now }
 {

@@ -6,7 +6,7 @@ ghost use Rattle.blk_kyber.specs.State.{kyber_policy};
 ghost use Rattle.blk_none.specs.Choice.{none_policy};
 ghost use Rattle.blk_replay.specs.Replay.{IsDetermined};
 
-/// A law: it does nothing when it runs, and a caller has its clauses. Deadline's is whatever its settings, with either rule for positions.
+/// A theorem: it does nothing at run time, and a caller has its clauses. Deadline's is whatever its settings, with either rule for positions.
 pub fn law_of_determined()
     ensures none { IsDetermined none_policy }
     ensures deadline { IsDetermined deadline_policy }
