@@ -191,12 +191,13 @@ def held_by_cases():
 
 # The names that are no variant's, by the fault that has each: `Stalled` says what became of a load, where the others name a broken rule.
 OWN_NAMES = {"LoadFault::Stalled": "stalled"}
-# A method that answers a fault's name; in it the list of the fault's variants; and one of these, with what gives its name where that isn't its own.
-NAME = re.compile(r"fn name\(self\) -> &'static str.*?\n    }\n", re.S)
-LIST = re.compile(r"variant_name!\(self: (\w+) \{(.*?),?\s*\}\)", re.S)
-VARIANT = re.compile(r"\s*(\w+)(?:\(\w+\))?(?: => (.+))?")
-# A failure of the program itself that has a name: what writes its line is given that.
-TOLD = re.compile(r'(Failure::\w+) => tell_name\(\w+, "(\w+)"\)')
+# A method that answers a fault's name, or what is told of it; in it the list of the fault's variants; and one of these, with a name of its own
+# and with what else stands there: in a list of names what gives the name of the fault that is handed on.
+NAME = re.compile(r"fn (?:name\(self\)|told\(&self\)) .*?\n    }\n", re.S)
+LIST = re.compile(r"(variant_name|told)!\(self: (\w+) \{(.*?),?\s*\}\)", re.S)
+VARIANT = re.compile(r'\s*(\w+)(?:\(\w+\))?(?: as "(\w+)")?(?: => (.+))?')
+# A failure of the program itself, with its name.
+TOLD = re.compile(r'(Failure::\w+)(?:\(_\))? => Told \{\s*name: "(\w+)"')
 
 
 def printed_names():
@@ -205,12 +206,12 @@ def printed_names():
         text = it.read_text()
         for block in NAME.findall(text):
             listed = LIST.search(block)
-            found = [VARIANT.fullmatch(one) for one in listed[2].split(",")] if listed else [None]
+            found = [VARIANT.fullmatch(one) for one in listed[3].split(",")] if listed else [None] * block.startswith("fn name")
             if None in found:
                 raise Fault(f"{it.relative_to(TOP)}: these names of faults aren't understood: {block}")
-            for variant, name in (one.groups() for one in found):
-                if not name or name.startswith('"'):
-                    yield f"{listed[1]}::{variant}", (name or variant).strip('"')
+            for variant, name, more in (one.groups() for one in found):
+                if listed[1] == "told" or not more:
+                    yield f"{listed[2]}::{variant}", name or variant
         yield from TOLD.findall(text)
 
 
@@ -224,7 +225,7 @@ def names_of_faults():
     printed, listed = {name for _, name in named}, set()
     for row in FORMATS.read_text().split("\n## Names of faults\n")[-1].splitlines():
         listed.update(re.findall(r"`(\w+)`", row.split("|")[1] if row.startswith("|") else ""))
-    apart = printed - {"Memory", "Read"}
+    apart = printed - {"Memory", "Read", "Write", "Words"}
     yield from (f"docs/FORMATS.md names no fault {it}" for it in sorted(apart - listed))
     yield from (f"no fault has the name {it}, which docs/FORMATS.md lists" for it in sorted(listed - apart))
 

@@ -132,8 +132,7 @@ pub enum Kept {
     Replayed(Plan, ShownReplay),
 }
 
-/// Why arguments that clap accepts are refused, in the order of the checks: a bad value of an option of `import`, `tune` or `replay`, or flags that
-/// exclude one another.
+/// Why arguments that clap accepts are refused, in the order of the checks: a bad value of an option, or flags that exclude one another.
 #[derive(Clone, Copy, Debug, PartialEq, Eq)]
 pub enum Refusal {
     /// `--read-expire` is no time.
@@ -214,9 +213,7 @@ impl Refusal {
             Refusal::WriteExpire => "--write-expire takes a number with ns, us, ms or s",
             Refusal::From => "--from takes insert or queue",
             Refusal::As => "--as takes capture, blkparse, ftrace, perf or bpftrace",
-            Refusal::Device => {
-                "--device takes two numbers with a comma, as lsblk shows them: 8,0"
-            }
+            Refusal::Device => "--device takes two numbers with a comma, as lsblk shows them: 8,0",
             Refusal::Skip => "--skip takes a number with ns, us, ms or s",
             Refusal::Round => "--round takes a number with ns, us, ms or s",
             Refusal::TableAndSummary => "--table and --summary exclude one another",
@@ -381,8 +378,7 @@ fn is_other_given(options: &ArgMatches<'_>, but: &str) -> bool
     false
 }
 
-/// The picture of a trace, for which there are no options; with the flag `--schedule` that of a schedule, for which there are none either; or with
-/// the flag `--script` those of a script under the schedulers that run it in turn.
+/// The picture of a trace or, with the flag `--schedule`, of a schedule, without options; with `--script` those of a script under schedulers in turn.
 fn picture_of(options: &ArgMatches<'_>) -> Option<Job>
     ensures { result ≡ picture_given (given options.now) }
 {

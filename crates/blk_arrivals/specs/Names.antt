@@ -1,13 +1,15 @@
--- The names that the program prints.
+-- The names of faults, and what is told beside them.
 use Rattle.std.specs.Prelude.{ℕ, List, codes}
+use Rattle.edd_commands.specs.declared.faults.Beside.{Beside}
+use Rattle.edd_commands.specs.declared.faults.Beside.TheVariants as beside
 use Rattle.blk_arrivals.specs.declared.terms.ArrivalsFault.{ArrivalsFault}
 use Rattle.blk_arrivals.specs.declared.terms.ArrivalsFault.TheVariants as fault
 
-abbrev pub fault_name : ArrivalsFault → List ℕ
-fault_name fault.Round = codes "Round"
-fault_name fault.Depth = codes "Depth"
-fault_name fault.Expire = codes "Expire"
-fault_name fault.TooMany = codes "TooMany"
-fault_name fault.TraceFull = codes "TraceFull"
-fault_name fault.TooLong = codes "TooLong"
-fault_name fault.Memory = codes "Memory"
+abbrev pub arrivals_told : ArrivalsFault → List ℕ × Beside
+arrivals_told fault.Round = (codes "Round", beside.Nothing)
+arrivals_told fault.Depth = (codes "Depth", beside.Nothing)
+arrivals_told fault.Expire = (codes "Expire", beside.Nothing)
+arrivals_told fault.TooMany = (codes "TooMany", beside.Nothing)
+arrivals_told fault.TraceFull = (codes "TraceFull", beside.Nothing)
+arrivals_told fault.TooLong = (codes "TooLong", beside.Nothing)
+arrivals_told fault.Memory = (codes "Memory", beside.Memory)

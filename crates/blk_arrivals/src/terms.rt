@@ -3,7 +3,7 @@
 ghost use Rattle.std.specs.Prelude.{◌≡◌, ◌<◌, IfOk, IfErr};
 ghost use Rattle.edd_commands.specs.Order.{IsFirstFault};
 ghost use Rattle.blk_trace.specs.Setups.{IsSetup};
-ghost use Rattle.blk_arrivals.specs.Names.{fault_name};
+ghost use Rattle.blk_arrivals.specs.Names.{arrivals_told};
 ghost use Rattle.blk_arrivals.specs.Scripts.{usual_limits, expiry_rounds, script_setup};
 ghost use Rattle.blk_arrivals.specs.Inside.Scripts.{term_rules};
 
@@ -11,7 +11,7 @@ use blk_bio::{Limits, MAX_SEGMENTS};
 use blk_queues::MAX_STAGED;
 use blk_text::MAX_DEPTH_1;
 use blk_trace::{Setup, SetupFault};
-use edd_commands::variant_name;
+use edd_commands::{Fault, Told, told};
 
 /// The depth where none is asked for: the most tags of a version 1 script.
 pub const USUAL_DEPTH: u64 = MAX_DEPTH_1;
@@ -57,19 +57,18 @@ pub enum ArrivalsFault {
     Memory,
 }
 
-impl ArrivalsFault {
-    /// Its name, which the program prints.
-    pub fn name(self) -> &'static str
-        ensures { result.now ≡ fault_name self }
-    {
-        variant_name!(self: ArrivalsFault {
+impl Fault for ArrivalsFault {
+    ghost told = { arrivals_told };
+
+    fn told(&self) -> Told {
+        told!(self: ArrivalsFault {
             Round,
             Depth,
             Expire,
             TooMany,
             TraceFull,
             TooLong,
-            Memory,
+            Memory => Memory,
         })
     }
 }

@@ -3,10 +3,10 @@
 ghost use Rattle.std.specs.Prelude.{◌≡◌, ◌≤◌, IfOk, IfErr, length};
 ghost use Rattle.blk_capture.specs.Requests.{AreInOrder, AreTimed};
 ghost use Rattle.blk_capture_text.specs.Imports.{IsImport, IsImportFault, first_time, begin_after};
-ghost use Rattle.blk_capture_text.specs.Names.{import_fault_name};
+ghost use Rattle.blk_capture_text.specs.Names.{import_told};
 
 use blk_capture::{Matched, Options, Record, match_records, part_of};
-use edd_commands::{MAX_COMMANDS, variant_name};
+use edd_commands::{Fault, MAX_COMMANDS, Told, told};
 use std::alloc::Global;
 
 /// How a capture is imported.
@@ -29,12 +29,14 @@ pub enum ImportFault {
     Memory,
 }
 
-impl ImportFault {
-    /// Its name, which the program prints.
-    pub fn name(self) -> &'static str
-        ensures { result.now ≡ import_fault_name self }
-    {
-        variant_name!(self: ImportFault { TooMany(_), Memory })
+impl Fault for ImportFault {
+    ghost told = { import_told };
+
+    fn told(&self) -> Told {
+        told!(self: ImportFault {
+            TooMany(_),
+            Memory => Memory,
+        })
     }
 }
 

@@ -2,21 +2,22 @@
 
 ghost use Rattle.std.specs.Prelude.{◌≡◌, ◌≤◌, decimal};
 ghost use Rattle.text_output.specs.Outputs.{Writes, stream_of};
-ghost use Rattle.blk_cli.specs.Lines.{line, want_of_memory, numbered, signed_line, at_record, more_line, at_line, told_of, told_line, status_of, OwnLine, PrintedLine, ImportLine, ArrivalsLine, LineOn};
+ghost use Rattle.blk_cli.specs.Lines.{line, numbered, signed_line, at_record, more_line, at_line, told_of, told_line, status_of, OwnLine, PrintedLine, ImportLine, ArrivalsLine, LineOn};
 ghost use Rattle.blk_cli.specs.Ends.{EndsFailing};
 ghost use Rattle.blk_cli.specs.Inside.Scripts.{failure_of_run};
 
-use crate::{COMMAND_LINE, Ended, FAILED, REFUSED};
+use crate::Ended;
 use blk_args::Refusal;
 use blk_arrivals::ArrivalsFault;
 use blk_capture_text::ImportFault;
 use blk_recorders::{LineFault, LineReason};
-use blk_records::{TextFault, TextReason};
+use blk_records::TextFault;
 use blk_runs::RunFault;
 use blk_schedulers::given::MAX_LISTED;
 use blk_schedulers::{Complaint, LoadFault, SchedFault};
-use blk_sim::{SimFault, SimReason};
+use blk_sim::SimFault;
 use edd_check::{CheckFault, OnTimeFault};
+use edd_commands::{Beside, Fault, Told};
 use edd_oracle::OracleFault;
 use std::io::Write;
 use text_output::pieces::{MAX_DIGITS, put_number};
@@ -31,27 +32,6 @@ const END: &[u8] = b"\n";
 /// What is said of one record too many.
 const TOO_LONG: &str =
     "TooLong: a capture has at most 16000000 records, so cut the text before this line";
-
-/// What is said of a failure beside its name.
-#[derive(Clone, Copy, Debug, PartialEq, Eq)]
-pub enum Told {
-    /// Nothing.
-    Named,
-    /// A number.
-    Numbered(u64),
-    /// A number that has a sign.
-    Signed(i64),
-    /// The number of a record of the input, from 1 on.
-    AtRecord(u64),
-    /// The number of a line of the input, from 1 on.
-    AtLine(u64),
-    /// That the reader failed, and no name.
-    Read,
-    /// That the writer failed, and no name.
-    Write,
-    /// That memory ran out, and no name.
-    Memory,
-}
 
 /// Why there is no output, or not all of it.
 #[derive(Clone, Copy, Debug, PartialEq, Eq)]
@@ -98,85 +78,16 @@ impl Failure {
         }
     }
 
-    /// What is said of it beside its name.
-    fn told(&self) -> Told
-        ensures { result ≡ told_of self.now }
-    {
-        match *self {
-            Failure::Text(fault) => match fault.why {
-                TextReason::Read => Told::Read,
-                TextReason::Memory => Told::Memory,
-                _ => Told::AtRecord(fault.at),
-            },
-            Failure::Line(fault) => match fault.why {
-                LineReason::Memory => Told::Memory,
-                _ => Told::AtLine(fault.at),
-            },
-            Failure::Step(fault) => match fault.why {
-                SimReason::Memory => Told::Memory,
-                _ => Told::AtRecord(fault.at),
-            },
-            Failure::Sched(SchedFault::Memory)
-            | Failure::Solve(OracleFault::Memory)
-            | Failure::Check(CheckFault::Memory)
-            | Failure::OnTime(OnTimeFault::Memory)
-            | Failure::Load(LoadFault::Memory)
-            | Failure::Import(ImportFault::Memory)
-            | Failure::Arrivals(ArrivalsFault::Memory)
-            | Failure::Memory => Told::Memory,
-            Failure::Solve(OracleFault::RoundRange(number) | OracleFault::RepeatedId(number))
-            | Failure::Check(
-                CheckFault::BeforeRelease(number)
-                | CheckFault::OverDepth(number)
-                | CheckFault::NotCrowded(number),
-            )
-            | Failure::OnTime(
-                OnTimeFault::BeforeRelease(number)
-                | OnTimeFault::OverDepth(number)
-                | OnTimeFault::WrongMet(number)
-                | OnTimeFault::Loose(number),
-            ) => Told::Numbered(number),
-            Failure::OnTime(OnTimeFault::Windows(place)) => Told::Numbered(place as u64),
-            Failure::Check(CheckFault::WrongLateness(own)) => Told::Signed(own),
-            Failure::Write => Told::Write,
-            _ => Told::Named,
-        }
-    }
-
-    /// The exit status: 1 for refused input, 2 for arguments that can't be done, 3 when out of memory, for a read fault or a write fault.
-    fn status(&self) -> u8
-        ensures value { result ≡ status_of self.now }
-        ensures range { (1 ≤ result) × (result ≤ 3) }
-    {
-        match self.told() {
-            Told::Read | Told::Write | Told::Memory => FAILED,
-            _ => match self {
-                Failure::Words(_) => COMMAND_LINE,
-                _ => REFUSED,
-            },
-        }
-    }
-
     /// Writes the failure's line: `blk: ` and what was refused, where it stands or which id or number it has.
     fn tell<F: Write>(&self, faults: &mut Output<F>) -> Result<(), WriteFault>
         ensures { LineOn self.now (λ text. Writes text (stream_of F.contents faults.old) (stream_of F.contents faults.new) result) }
     {
-        let told = self.told();
         match self {
-            Failure::Text(fault) => tell_told(faults, fault.why.name(), told),
-            Failure::Line(fault) => tell_line(faults, fault.at, fault.why),
-            Failure::Sched(fault) => tell_told(faults, fault.name(), told),
-            Failure::Step(fault) => tell_told(faults, fault.why.name(), told),
-            Failure::Solve(fault) => tell_told(faults, fault.name(), told),
-            Failure::Check(fault) => tell_told(faults, fault.name(), told),
-            Failure::OnTime(fault) => tell_told(faults, fault.name(), told),
-            Failure::NotFixed => tell_name(faults, "NotFixed"),
-            Failure::Load(fault) => tell_told(faults, fault.name(), told),
+            Failure::Line(fault) => tell_line(faults, *fault),
             Failure::Import(fault) => tell_import(faults, *fault),
             Failure::Arrivals(fault) => tell_arrivals(faults, *fault),
             Failure::Words(refusal) => tell_words(faults, *refusal),
-            Failure::Write => tell_name(faults, "write fault"),
-            Failure::Memory => tell_memory(faults),
+            _ => tell_told(faults, self.told()),
         }
     }
 
@@ -185,7 +96,7 @@ impl Failure {
         ensures ends { EndsFailing self.now (stream_of F.contents faults.old) (stream_of F.contents faults.new) result }
         ensures range { (1 ≤ result.status) × (result.status ≤ 3) }
     {
-        let status = self.status();
+        let status = self.told().beside.status();
         match self.tell(faults) {
             Ok(()) => Ended { status, said: true },
             Err(_) => Ended {
@@ -196,18 +107,46 @@ impl Failure {
     }
 }
 
+impl Fault for Failure {
+    ghost told = { told_of };
+
+    fn told(&self) -> Told {
+        match self {
+            Failure::Text(fault) => fault.told(),
+            Failure::Line(fault) => fault.told(),
+            Failure::Sched(fault) => fault.told(),
+            Failure::Step(fault) => fault.told(),
+            Failure::Solve(fault) => fault.told(),
+            Failure::Check(fault) => fault.told(),
+            Failure::OnTime(fault) => fault.told(),
+            Failure::Load(fault) => fault.told(),
+            Failure::Import(fault) => fault.told(),
+            Failure::Arrivals(fault) => fault.told(),
+            Failure::NotFixed => Told {
+                name: "NotFixed",
+                beside: Beside::Nothing,
+            },
+            Failure::Words(_) => Told {
+                name: "Words",
+                beside: Beside::Words,
+            },
+            Failure::Write => Told {
+                name: "Write",
+                beside: Beside::Write,
+            },
+            Failure::Memory => Told {
+                name: "Memory",
+                beside: Beside::Memory,
+            },
+        }
+    }
+}
+
 /// Writes the line of a name.
 fn tell_name<F: Write>(faults: &mut Output<F>, name: &str) -> Result<(), WriteFault>
     ensures { Writes (line name.now) (stream_of F.contents faults.old) (stream_of F.contents faults.new) result }
 {
     faults.put_all(&[START, name.as_bytes(), END])
-}
-
-/// Writes the line where memory ran out.
-fn tell_memory<F: Write>(faults: &mut Output<F>) -> Result<(), WriteFault>
-    ensures { Writes want_of_memory (stream_of F.contents faults.old) (stream_of F.contents faults.new) result }
-{
-    tell_name(faults, "want of memory")
 }
 
 /// Writes the line of what is refused at a record.
@@ -246,13 +185,12 @@ pub(crate) fn tell_more<F: Write>(
 }
 
 /// Writes the line on a line that a recorder printed.
-fn tell_line<F: Write>(faults: &mut Output<F>, at: u64, why: LineReason) -> Result<(), WriteFault>
-    ensures { PrintedLine at why (λ text. Writes text (stream_of F.contents faults.old) (stream_of F.contents faults.new) result) }
+fn tell_line<F: Write>(faults: &mut Output<F>, fault: LineFault) -> Result<(), WriteFault>
+    ensures { PrintedLine fault (λ text. Writes text (stream_of F.contents faults.old) (stream_of F.contents faults.new) result) }
 {
-    match why {
-        LineReason::Memory => tell_memory(faults),
-        LineReason::TooLong => tell_line_name(faults, at, TOO_LONG),
-        _ => tell_line_name(faults, at, why.name()),
+    match fault.why {
+        LineReason::TooLong => tell_line_name(faults, fault.at, TOO_LONG),
+        _ => tell_told(faults, fault.told()),
     }
 }
 
@@ -308,7 +246,7 @@ fn tell_import<F: Write>(faults: &mut Output<F>, fault: ImportFault) -> Result<(
 {
     match fault {
         ImportFault::TooMany(count) => tell_too_many(faults, fault.name(), count),
-        ImportFault::Memory => tell_memory(faults),
+        ImportFault::Memory => tell_told(faults, fault.told()),
     }
 }
 
@@ -342,7 +280,7 @@ fn tell_arrivals<F: Write>(faults: &mut Output<F>, fault: ArrivalsFault) -> Resu
     ensures { ArrivalsLine fault (λ text. Writes text (stream_of F.contents faults.old) (stream_of F.contents faults.new) result) }
 {
     match fault {
-        ArrivalsFault::Memory => tell_memory(faults),
+        ArrivalsFault::Memory => tell_told(faults, fault.told()),
         _ => tell_name(faults, arrivals_text(fault)),
     }
 }
@@ -370,18 +308,18 @@ fn tell_signed<F: Write>(faults: &mut Output<F>, name: &str, number: i64) -> Res
     faults.put_all(&[START, name.as_bytes(), minus, &digits[..end], END])
 }
 
-/// Writes the line of a name and of what is said beside it.
-fn tell_told<F: Write>(faults: &mut Output<F>, name: &str, told: Told) -> Result<(), WriteFault>
-    ensures { Writes (told_line name.now told) (stream_of F.contents faults.old) (stream_of F.contents faults.new) result }
+/// Writes the line of what is told of a fault.
+fn tell_told<F: Write>(faults: &mut Output<F>, told: Told) -> Result<(), WriteFault>
+    ensures { Writes (told_line told.name.now told.beside) (stream_of F.contents faults.old) (stream_of F.contents faults.new) result }
 {
-    match told {
-        Told::Named => tell_name(faults, name),
-        Told::Numbered(number) => tell_number(faults, name, number),
-        Told::Signed(number) => tell_signed(faults, name, number),
-        Told::AtRecord(at) => tell_record(faults, at, name),
-        Told::AtLine(at) => tell_line_name(faults, at, name),
-        Told::Read => tell_name(faults, "read fault"),
-        Told::Write => tell_name(faults, "write fault"),
-        Told::Memory => tell_memory(faults),
+    match told.beside {
+        Beside::Nothing | Beside::Words => tell_name(faults, told.name),
+        Beside::Number(number) => tell_number(faults, told.name, number),
+        Beside::Signed(number) => tell_signed(faults, told.name, number),
+        Beside::Record(at) => tell_record(faults, at, told.name),
+        Beside::Line(at) => tell_line_name(faults, at, told.name),
+        Beside::Read => tell_name(faults, "read fault"),
+        Beside::Write => tell_name(faults, "write fault"),
+        Beside::Memory => tell_name(faults, "want of memory"),
     }
 }

@@ -64,9 +64,6 @@ const REFUSED: u8 = 1;
 /// The exit status of arguments that are no command line of the program.
 pub const COMMAND_LINE: u8 = 2;
 
-/// The exit status of a read fault, of a write fault, and when out of memory.
-const FAILED: u8 = 3;
-
 /// The line for arguments that clap takes and that name no job: only these two flags do.
 const NO_JOB: &[u8] = b"blk: --trace and --met exclude one another\n";
 

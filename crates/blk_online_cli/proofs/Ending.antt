@@ -1,6 +1,8 @@
 -- What a run comes to that ended with status 0.
 use Rattle.std.proofs.Common.{◌≡◌, ◌∙◌, ℕ, Bool, true, false, List, Option, Some, ap, sym, subst, inl, inr}
-use Rattle.std.specs.Prelude.{if◌then◌else◌}
+use Rattle.edd_commands.specs.declared.faults.Beside.{Beside}
+use Rattle.edd_commands.specs.declared.faults.Beside.TheVariants as beside
+use Rattle.edd_commands.specs.Faults.{status_beside}
 use Rattle.text_output.specs.Outputs.{Stream, IsWritten}
 use Rattle.blk_records.specs.Sources.{Row}
 use Rattle.blk_args.specs.declared.inputs.TextJob.{TextJob}
@@ -10,21 +12,24 @@ use Rattle.blk_cli.specs.declared.NoText.{NoText}
 use Rattle.blk_cli.specs.declared.NoText.TheVariants as none
 use Rattle.blk_cli.specs.Said.{Said}
 use Rattle.blk_cli.specs.Gives.{GivesAnswer, GivesText}
-use Rattle.blk_cli.specs.Lines.{is_outside, is_of_words}
+use Rattle.blk_cli.specs.Lines.{told_of}
 use Rattle.blk_cli.specs.Ends.{Answers, RunEnds, status_without}
 use Rattle.blk_online_cli.specs.Told.{rows_in, AskAlone, EndsWell}
 
 -- where there is no text the status is another than 0
-abbrev status : Bool → Bool → ℕ
-status outside words = if outside then 3 else (if words then 2 else 1)
-
-failed : (outside words : Bool) → status outside words ≡ 0 → ⊥
-failed true words e = cc e
-failed false true e = cc e
-failed false false e = cc e
+failed : (b : Beside) → status_beside b ≡ 0 → ⊥
+failed beside.Nothing e = cc e
+failed (beside.Number n) e = cc e
+failed (beside.Signed z) e = cc e
+failed (beside.Record at) e = cc e
+failed (beside.Line at) e = cc e
+failed beside.Words e = cc e
+failed beside.Read e = cc e
+failed beside.Write e = cc e
+failed beside.Memory e = cc e
 
 without : (n : NoText) → status_without n ≡ 0 → ⊥
-without (none.Failure f) e = failed (is_outside f) (is_of_words f) e
+without (none.Failure f) e = failed (told_of f).1 e
 without (none.Told fault text) e = cc e
 without (none.Usage text) e = cc e
 without none.Excluded e = cc e

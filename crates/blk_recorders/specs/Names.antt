@@ -1,7 +1,10 @@
--- The names of faults and of recorders, as they are printed.
+-- The names of faults and of recorders, and what is told beside those of faults.
 use Rattle.std.specs.Prelude.{ℕ, List, codes}
+use Rattle.edd_commands.specs.declared.faults.Beside.{Beside}
+use Rattle.edd_commands.specs.declared.faults.Beside.TheVariants as beside
 use Rattle.blk_recorders.specs.declared.fault.LineReason.{LineReason}
 use Rattle.blk_recorders.specs.declared.fault.LineReason.TheVariants as why
+use Rattle.blk_recorders.specs.declared.fault.LineFault.{LineFault}
 use Rattle.blk_recorders.specs.declared.recorder.Recorder.{Recorder}
 use Rattle.blk_recorders.specs.declared.recorder.Recorder.TheVariants.{Blkparse, Ftrace, Perf, Bpftrace}
 
@@ -19,3 +22,10 @@ recorder_name Blkparse = codes "blkparse"
 recorder_name Ftrace = codes "ftrace"
 recorder_name Perf = codes "perf"
 recorder_name Bpftrace = codes "bpftrace"
+
+abbrev pub line_beside : ℕ → LineReason → Beside
+line_beside at why.Memory = beside.Memory
+line_beside at w = beside.Line at
+
+abbrev pub line_told : LineFault → List ℕ × Beside
+line_told f = (line_reason_name f.why, line_beside f.at f.why)

@@ -1,9 +1,9 @@
 //! What is wrong with a line that a recorder printed.
 
 ghost use Rattle.std.specs.Prelude.{◌≡◌};
-ghost use Rattle.blk_recorders.specs.Names.{line_reason_name};
+ghost use Rattle.blk_recorders.specs.Names.{line_reason_name, line_told};
 
-use edd_commands::variant_name;
+use edd_commands::{Beside, Fault, Told, variant_name};
 
 /// What is wrong with a line, in the order in which it is looked for.
 #[derive(Debug, Clone, Copy, PartialEq, Eq)]
@@ -40,4 +40,19 @@ pub struct LineFault {
     pub at: u64,
     /// What is wrong with it.
     pub why: LineReason,
+}
+
+impl Fault for LineFault {
+    ghost told = { line_told };
+
+    fn told(&self) -> Told {
+        let beside = match self.why {
+            LineReason::Memory => Beside::Memory,
+            _ => Beside::Line(self.at),
+        };
+        Told {
+            name: self.why.name(),
+            beside,
+        }
+    }
 }

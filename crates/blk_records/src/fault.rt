@@ -1,10 +1,10 @@
 //! What is wrong with a text, and why one was not written.
 
 ghost use Rattle.std.specs.Prelude.{◌≡◌};
-ghost use Rattle.blk_records.specs.Names.{text_reason_name};
+ghost use Rattle.blk_records.specs.Names.{text_reason_name, text_told};
 
 use blk_bio::{BioFault, TraceRule};
-use edd_commands::variant_name;
+use edd_commands::{Beside, Fault, Told, variant_name};
 
 /// What is wrong with a record, in the order in which it is looked for.
 #[derive(Debug, Clone, Copy, PartialEq, Eq)]
@@ -71,4 +71,20 @@ pub struct TextFault {
     pub at: u64,
     /// What is wrong with it.
     pub why: TextReason,
+}
+
+impl Fault for TextFault {
+    ghost told = { text_told };
+
+    fn told(&self) -> Told {
+        let beside = match self.why {
+            TextReason::Read => Beside::Read,
+            TextReason::Memory => Beside::Memory,
+            _ => Beside::Record(self.at),
+        };
+        Told {
+            name: self.why.name(),
+            beside,
+        }
+    }
 }

@@ -1,21 +1,23 @@
--- The names of faults, as they are printed.
+-- The names of faults, and what is told beside them.
 use Rattle.std.specs.Prelude.{ℕ, List, codes}
+use Rattle.edd_commands.specs.declared.faults.Beside.{Beside}
+use Rattle.edd_commands.specs.declared.faults.Beside.TheVariants as beside
 use Rattle.blk_schedulers.specs.declared.sched.SchedFault.{SchedFault}
 use Rattle.blk_schedulers.specs.declared.sched.SchedFault.TheVariants as setting
 use Rattle.blk_schedulers.specs.declared.fault.LoadFault.{LoadFault}
 use Rattle.blk_schedulers.specs.declared.fault.LoadFault.TheVariants as load
 
-abbrev pub load_fault_name : LoadFault → List ℕ
-load_fault_name load.Range = codes "Range"
-load_fault_name load.Memory = codes "Memory"
-load_fault_name load.TraceFull = codes "TraceFull"
-load_fault_name load.Repeated = codes "Repeated"
-load_fault_name load.Stalled = codes "stalled"
-load_fault_name load.SeatMissing = codes "SeatMissing"
-load_fault_name load.Differs = codes "Differs"
-load_fault_name load.Unserved = codes "Unserved"
+abbrev pub load_told : LoadFault → List ℕ × Beside
+load_told load.Range = (codes "Range", beside.Nothing)
+load_told load.Memory = (codes "Memory", beside.Memory)
+load_told load.TraceFull = (codes "TraceFull", beside.Nothing)
+load_told load.Repeated = (codes "Repeated", beside.Nothing)
+load_told load.Stalled = (codes "stalled", beside.Nothing)
+load_told load.SeatMissing = (codes "SeatMissing", beside.Nothing)
+load_told load.Differs = (codes "Differs", beside.Nothing)
+load_told load.Unserved = (codes "Unserved", beside.Nothing)
 
-abbrev pub sched_fault_name : SchedFault → List ℕ
-sched_fault_name setting.ZeroBatch = codes "ZeroBatch"
-sched_fault_name setting.ZeroTarget = codes "ZeroTarget"
-sched_fault_name setting.Memory = codes "Memory"
+abbrev pub sched_told : SchedFault → List ℕ × Beside
+sched_told setting.ZeroBatch = (codes "ZeroBatch", beside.Nothing)
+sched_told setting.ZeroTarget = (codes "ZeroTarget", beside.Nothing)
+sched_told setting.Memory = (codes "Memory", beside.Memory)

@@ -1,10 +1,10 @@
 //! Why a load fails.
 
 ghost use Rattle.std.specs.Prelude.{◌≡◌};
-ghost use Rattle.blk_schedulers.specs.Names.{load_fault_name};
+ghost use Rattle.blk_schedulers.specs.Names.{load_told};
 ghost use Rattle.blk_schedulers.specs.Faults.{fault_rank, IsFirstOfTwo};
 
-use edd_commands::variant_name;
+use edd_commands::{Fault, Told, told};
 
 /// Why a load fails. Of several reasons the first is reported.
 #[derive(Clone, Copy, Debug, PartialEq, Eq)]
@@ -27,17 +27,16 @@ pub enum LoadFault {
     Unserved,
 }
 
-impl LoadFault {
-    /// Its name, which the program prints.
-    pub fn name(self) -> &'static str
-        ensures { result.now ≡ load_fault_name self }
-    {
-        variant_name!(self: LoadFault {
+impl Fault for LoadFault {
+    ghost told = { load_told };
+
+    fn told(&self) -> Told {
+        told!(self: LoadFault {
             Range,
-            Memory,
+            Memory => Memory,
             TraceFull,
             Repeated,
-            Stalled => "stalled",
+            Stalled as "stalled",
             SeatMissing,
             Differs,
             Unserved,

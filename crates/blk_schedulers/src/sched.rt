@@ -3,13 +3,13 @@
 ghost use Rattle.std.specs.Prelude.{◌≡◌, ◌<◌, IfOk};
 ghost use Rattle.blk_schedulers.specs.Row.{setting_row_of, short_at};
 ghost use Rattle.blk_schedulers.specs.Scheds.{name_of, settings_of, as_setting, in_turn};
-ghost use Rattle.blk_schedulers.specs.Names.{sched_fault_name};
+ghost use Rattle.blk_schedulers.specs.Names.{sched_told};
 
 use crate::given::MAX_SHORT;
 use crate::positions::positions_of;
 use crate::rows::{SCHED_COUNT, SchedKind, SettingRange, SettingRow};
 use crate::setting::{MAX_SETTINGS, Setting, Settings};
-use edd_commands::variant_name;
+use edd_commands::{Fault, Told, told};
 use std::alloc::{AllocError, Global};
 
 /// Why a scheduler is not made, in the order in which the reasons are looked for.
@@ -23,12 +23,15 @@ pub enum SchedFault {
     Memory,
 }
 
-impl SchedFault {
-    /// Its name, which the program prints.
-    pub fn name(self) -> &'static str
-        ensures { result.now ≡ sched_fault_name self }
-    {
-        variant_name!(self: SchedFault { ZeroBatch, ZeroTarget, Memory })
+impl Fault for SchedFault {
+    ghost told = { sched_told };
+
+    fn told(&self) -> Told {
+        told!(self: SchedFault {
+            ZeroBatch,
+            ZeroTarget,
+            Memory => Memory,
+        })
     }
 }
 

@@ -1,13 +1,13 @@
 //! Why a step of a script is refused.
 
 ghost use Rattle.std.specs.Prelude.{◌≡◌, ◌≢◌, Some};
-ghost use Rattle.blk_sim.specs.Names.{step_name};
+ghost use Rattle.blk_sim.specs.Names.{step_name, step_told};
 ghost use Rattle.blk_sim.specs.Refusals.{added_why, released_why, issued_why, back_why, depth_why, ticked_why};
 
 use blk_bio::BioId;
 use blk_core::{BackFault, CoreFault, DepthFault, IssueFault, TickFault};
 use blk_queues::PlugFault;
-use edd_commands::variant_name;
+use edd_commands::{Beside, Fault, Told, variant_name};
 
 /// A flush for which a software queue has no room, in requests.
 #[derive(Clone, Copy, Debug, PartialEq, Eq)]
@@ -73,6 +73,21 @@ pub struct SimFault {
     pub at: u64,
     /// The reason.
     pub why: SimReason,
+}
+
+impl Fault for SimFault {
+    ghost told = { step_told };
+
+    fn told(&self) -> Told {
+        let beside = match self.why {
+            SimReason::Memory => Beside::Memory,
+            _ => Beside::Record(self.at),
+        };
+        Told {
+            name: self.why.name(),
+            beside,
+        }
+    }
 }
 
 /// Why the core refuses a release for one of its hardware queues.

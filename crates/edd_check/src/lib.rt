@@ -5,7 +5,7 @@
 #![tactic(auto)]
 
 ghost use Rattle.std.specs.Prelude.{◌+◌, ◌*◌, ℕ, ℤ, pos, negsuc, ◌+ℤ◌, ◌≤ℤ◌, ◌<ℤ◌, ◌-◌, IfNone, IfOk, OnOk, ◌≡◌, ◌<◌, ◌↔◌, [], length, IsTrue, IsNone, IfSome, ◌≤◌, All};
-ghost use Rattle.edd_check.specs.Names.{check_fault_name};
+ghost use Rattle.edd_check.specs.Names.{check_told};
 ghost use Rattle.edd_commands.specs.Capacity.{depth_at};
 ghost use Rattle.edd_commands.specs.Schedule.{IsLegal, IsGreatestLateness, StartsReleased, IsLeastLateness, IsLowerBound, places_at, CommandsInRange, RoundsInRange};
 ghost use Rattle.edd_check.specs.Rules.{IsFirstEarly, IsLeastOverDeep};
@@ -15,7 +15,7 @@ ghost use Rattle.edd_check.specs.Check.{IsAnswer, AcceptsClaim};
 
 mod on_time;
 
-use edd_commands::{Capacity, Command, MAX_ROUNDS, variant_name};
+use edd_commands::{Capacity, Command, Fault, MAX_ROUNDS, Told, told};
 pub use on_time::{
     Bound, OnTimeFault, carried_by, carried_in, check_on_time, cover_in_range, inside,
     law_of_covers, number_on_time, outside,
@@ -60,18 +60,17 @@ pub enum CheckFault {
     NotCrowded(u64),
 }
 
-impl CheckFault {
-    /// Its name, which the program prints.
-    pub fn name(self) -> &'static str
-        ensures { result.now ≡ check_fault_name self }
-    {
-        variant_name!(self: CheckFault {
+impl Fault for CheckFault {
+    ghost told = { check_told };
+
+    fn told(&self) -> Told {
+        told!(self: CheckFault {
             Length,
-            BeforeRelease(_),
-            Memory,
-            OverDepth(_),
-            WrongLateness(_),
-            NotCrowded(_),
+            BeforeRelease(id) => Number(id),
+            Memory => Memory,
+            OverDepth(round) => Number(round),
+            WrongLateness(own) => Signed(own),
+            NotCrowded(load) => Number(load),
         })
     }
 }

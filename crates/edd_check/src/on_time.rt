@@ -6,13 +6,13 @@
 //! bipartite graph of commands and rounds).
 
 ghost use Rattle.std.specs.Prelude.{◌≡◌, ◌≤◌, ◌<◌, ◌+◌, ◌-◌, ◌*◌, ◌&&◌, ◌↔◌, not, length, IsTrue, IfNone, IfSome, OnOk};
-ghost use Rattle.edd_check.specs.Names.{on_time_fault_name};
+ghost use Rattle.edd_check.specs.Names.{on_time_told};
 ghost use Rattle.std.specs.List.{list_any};
 ghost use Rattle.edd_check.specs.OnTime.{number_on_time, IsOnTimeBound, IsMostOnTime, holds, lies_in, can_be_on_time, inside_of, outside_of, carried_in, carried_by, bound_of, IsCover, IsFirstAstray, CoverInRange};
 ghost use Rattle.edd_check.specs.CheckOnTime.{IsOnTimeAnswer, AcceptsOnTimeClaim};
 
 use crate::{Window, first_early, least_over_deep};
-use edd_commands::{Capacity, Command, MAX_DEPTH, MAX_ROUNDS, variant_name};
+use edd_commands::{Capacity, Command, Fault, MAX_DEPTH, MAX_ROUNDS, Told, told};
 use std::alloc::Allocator;
 
 /// The bound of a good claim's cover: together the number of commands that the claim says are on time.
@@ -43,19 +43,18 @@ pub enum OnTimeFault {
     Loose(u64),
 }
 
-impl OnTimeFault {
-    /// Its name, which the program prints.
-    pub fn name(self) -> &'static str
-        ensures { result.now ≡ on_time_fault_name self }
-    {
-        variant_name!(self: OnTimeFault {
+impl Fault for OnTimeFault {
+    ghost told = { on_time_told };
+
+    fn told(&self) -> Told {
+        told!(self: OnTimeFault {
             Length,
-            BeforeRelease(_),
-            Memory,
-            OverDepth(_),
-            WrongMet(_),
-            Windows(_),
-            Loose(_),
+            BeforeRelease(id) => Number(id),
+            Memory => Memory,
+            OverDepth(round) => Number(round),
+            WrongMet(own) => Number(own),
+            Windows(place) => Number(place as u64),
+            Loose(bound) => Number(bound),
         })
     }
 }

@@ -2,3 +2,4 @@ pub mod Capacity
 pub mod Schedule
 pub mod Inside
 pub mod Order
+pub mod Faults

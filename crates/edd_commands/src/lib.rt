@@ -8,8 +8,10 @@
 ghost use Rattle.std.specs.Prelude.{◌≡◌, ◌*◌, ℕ};
 ghost use Rattle.edd_commands.specs.Capacity.{depth_at, carried, fixed};
 
+mod faults;
 mod steps;
 
+pub use faults::{Beside, Fault, Told};
 pub use steps::{Capacity, CapacityFault, MAX_DEPTH, Step};
 
 /// Every due, scheduled and window round lies below this.

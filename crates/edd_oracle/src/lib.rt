@@ -10,7 +10,7 @@ ghost use Rattle.std.specs.Prelude.{◌≡◌, ◌<◌, ◌↔◌, [], length, I
 ghost use Rattle.edd_commands.specs.Schedule.{IsLegal, CommandsInRange, RoundsInRange};
 ghost use Rattle.edd_check.specs.Window.{WindowInRange};
 ghost use Rattle.edd_check.specs.OnTime.{CoverInRange};
-ghost use Rattle.edd_oracle.specs.Names.{oracle_fault_name};
+ghost use Rattle.edd_oracle.specs.Names.{oracle_told};
 ghost use Rattle.edd_oracle.specs.Input.{IsTaken, IsRefusal, HasDistinctIds};
 ghost use Rattle.edd_oracle.specs.Priority.{IsEarliestDueFirst};
 ghost use Rattle.edd_oracle.specs.OnTime.{IsOnTimeFirst, IsMostOf, HasPassedCover, IsCheckedOnTime};
@@ -23,7 +23,7 @@ mod window;
 
 pub use cover::Served;
 use edd_check::{Window, law_of_covers, law_of_crowded_windows, number_on_time};
-use edd_commands::{Capacity, Command, variant_name};
+use edd_commands::{Capacity, Command, Fault, Told, told};
 use std::alloc::{AllocError, Allocator, Global};
 
 /// Why a list is refused, in the order in which the reasons are looked for.
@@ -40,16 +40,15 @@ pub enum OracleFault {
     Memory,
 }
 
-impl OracleFault {
-    /// Its name, which the program prints.
-    pub fn name(self) -> &'static str
-        ensures { result.now ≡ oracle_fault_name self }
-    {
-        variant_name!(self: OracleFault {
+impl Fault for OracleFault {
+    ghost told = { oracle_told };
+
+    fn told(&self) -> Told {
+        told!(self: OracleFault {
             TooMany,
-            RoundRange(_),
-            RepeatedId(_),
-            Memory,
+            RoundRange(id) => Number(id),
+            RepeatedId(id) => Number(id),
+            Memory => Memory,
         })
     }
 }

@@ -12,3 +12,6 @@ returns-in-Read g c = rw c.in-Read.is c.tell_name-in-Read.ensures
 
 pub returns-in-Write : goal.returns-in-Write
 returns-in-Write g c = rw c.in-Write.is c.tell_name-in-Write.ensures
+
+pub returns-in-Memory : goal.returns-in-Memory
+returns-in-Memory g c = rw c.in-Memory.is c.tell_name-in-Memory.ensures
