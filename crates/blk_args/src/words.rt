@@ -29,6 +29,7 @@ use clap::ArgMatches;
 use clap::error::ErrorKind;
 use clap::parser::ValueSource;
 use std::alloc::Global;
+use thiserror::Error;
 
 /// The version of the program.
 pub fn version() -> &'static str
@@ -133,7 +134,8 @@ pub enum Kept {
 }
 
 /// Why arguments that clap accepts are refused, in the order of the checks: a bad value of an option, or flags that exclude one another.
-#[derive(Clone, Copy, Debug, PartialEq, Eq)]
+#[derive(Clone, Copy, Debug, PartialEq, Eq, Error)]
+#[error("{:?}", self)]
 pub enum Refusal {
     /// `--read-expire` is no time.
     ReadExpire,
@@ -168,6 +170,7 @@ pub enum Refusal {
     /// `picture` is asked for a script, and for a schedule.
     ScriptAndSchedule,
     /// An option of `tune` is given no list.
+    #[error(transparent)]
     Lists(ListFault),
     /// `--by` of a trial is neither `misses` nor `lateness`.
     By,

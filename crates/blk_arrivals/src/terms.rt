@@ -12,6 +12,7 @@ use blk_queues::MAX_STAGED;
 use blk_text::MAX_DEPTH_1;
 use blk_trace::{Setup, SetupFault};
 use edd_commands::{Fault, Told, told};
+use thiserror::Error;
 
 /// The depth where none is asked for: the most tags of a version 1 script.
 pub const USUAL_DEPTH: u64 = MAX_DEPTH_1;
@@ -39,7 +40,8 @@ pub struct Terms {
 }
 
 /// Why a capture can't become a script, in the order in which the reasons are looked for.
-#[derive(Clone, Copy, Debug, PartialEq, Eq)]
+#[derive(Clone, Copy, Debug, PartialEq, Eq, Error)]
+#[error("{}", self.name())]
 pub enum ArrivalsFault {
     /// A round has no length.
     Round,

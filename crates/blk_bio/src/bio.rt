@@ -11,6 +11,7 @@ ghost use Rattle.blk_bio.specs.declared.bio.Dir.{Dir as Direction};
 use crate::extent::Extent;
 use edd_commands::variant_name;
 use std::marker::Model;
+use thiserror::Error;
 
 /// No bio reaches past this sector, counted from the device's beginning.
 pub const MAX_END: u64 = 1 << 48;
@@ -61,7 +62,8 @@ pub struct BioId {
 }
 
 /// Why a bio is not made, in the order in which the reasons are looked for.
-#[derive(Clone, Copy, Debug, PartialEq, Eq)]
+#[derive(Clone, Copy, Debug, PartialEq, Eq, Error)]
+#[error("{}", self.name())]
 pub enum BioFault {
     /// It has 0 sectors.
     Empty,

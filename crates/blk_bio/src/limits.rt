@@ -5,6 +5,7 @@ ghost use Rattle.std.specs.Prelude.{◌≡◌};
 ghost use Rattle.blk_bio.specs.Limits.{IsLimits, IsLimitsAnswer};
 
 use std::marker::Model;
+use thiserror::Error;
 
 /// The greatest number of sectors that may be set as a limit.
 pub const MAX_SECTORS: u64 = 65_535;
@@ -22,7 +23,8 @@ pub const MAX_SOFT_QUEUES: u64 = 64;
 pub const MAX_SOFT_DEPTH: u64 = 1024;
 
 /// Why limits are not made, in the order in which the reasons are looked for.
-#[derive(Clone, Copy, Debug, PartialEq, Eq)]
+#[derive(Clone, Copy, Debug, PartialEq, Eq, Error)]
+#[error("{:?}", self)]
 pub enum LimitsFault {
     /// The number of sectors is 0 or above [`MAX_SECTORS`].
     Sectors,

@@ -15,6 +15,7 @@ use crate::list::BioList;
 use std::alloc::{AllocError, Allocator, Global};
 use std::marker::Model;
 use std::slice;
+use thiserror::Error;
 
 /// The end of a request at which another joins it: `ELEVATOR_BACK_MERGE` and `ELEVATOR_FRONT_MERGE` of Linux.
 #[derive(Clone, Copy, Debug, PartialEq, Eq)]
@@ -26,7 +27,8 @@ pub enum Side {
 }
 
 /// Why two requests are not joined, in the order in which the reasons are looked for.
-#[derive(Clone, Copy, Debug, PartialEq, Eq)]
+#[derive(Clone, Copy, Debug, PartialEq, Eq, Error)]
+#[error("{:?}", self)]
 pub enum JoinFault {
     /// One reads and the other writes.
     Direction,

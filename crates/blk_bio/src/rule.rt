@@ -4,9 +4,11 @@ ghost use Rattle.std.specs.Prelude.{◌≡◌};
 ghost use Rattle.blk_bio.specs.Names.{rule_name};
 
 use edd_commands::variant_name;
+use thiserror::Error;
 
 /// The rule that an event would break, in the order in which the rules are looked for.
-#[derive(Clone, Copy, Debug, PartialEq, Eq)]
+#[derive(Clone, Copy, Debug, PartialEq, Eq, Error)]
+#[error("{}", self.name())]
 pub enum TraceRule {
     /// A Release of an id that was released before.
     ReleasedTwice,

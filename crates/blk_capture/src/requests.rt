@@ -26,6 +26,7 @@ use crate::opened::{Absorption, Opened};
 use crate::record::Record;
 use blk_bio::Dir;
 use std::alloc::{AllocError, Allocator, Global};
+use thiserror::Error;
 
 /// From when a request counts as having come in.
 #[derive(Clone, Copy, Debug, PartialEq, Eq)]
@@ -48,9 +49,11 @@ pub struct Options {
 }
 
 /// Why a capture is refused.
-#[derive(Clone, Copy, Debug, PartialEq, Eq)]
+#[derive(Clone, Copy, Debug, PartialEq, Eq, Error)]
+#[error("{:?}", self)]
 pub enum CaptureFault {
     /// The record at this place, from 0 on, has an earlier time than the one before it.
+    #[error("Order")]
     Order(usize),
     /// Memory ran out.
     Memory,

@@ -8,6 +8,7 @@ ghost use Rattle.blk_capture_text.specs.Names.{import_told};
 use blk_capture::{Matched, Options, Record, match_records, part_of};
 use edd_commands::{Fault, MAX_COMMANDS, Told, told};
 use std::alloc::Global;
+use thiserror::Error;
 
 /// How a capture is imported.
 #[derive(Clone, Copy, Debug, PartialEq, Eq)]
@@ -21,7 +22,8 @@ pub struct ImportAsked {
 }
 
 /// Why a capture is not imported.
-#[derive(Clone, Copy, Debug, PartialEq, Eq)]
+#[derive(Clone, Copy, Debug, PartialEq, Eq, Error)]
+#[error("{}", self.name())]
 pub enum ImportFault {
     /// So many requests would be taken, which are more than a schedule may have.
     TooMany(u64),

@@ -22,6 +22,7 @@ use edd_oracle::OracleFault;
 use std::io::Write;
 use text_output::pieces::{MAX_DIGITS, put_number};
 use text_output::{Output, WriteFault};
+use thiserror::Error;
 
 /// What each line begins with.
 const START: &[u8] = b"blk: ";
@@ -34,7 +35,8 @@ const TOO_LONG: &str =
     "TooLong: a capture has at most 16000000 records, so cut the text before this line";
 
 /// Why there is no output, or not all of it.
-#[derive(Clone, Copy, Debug, PartialEq, Eq)]
+#[derive(Clone, Copy, Debug, PartialEq, Eq, Error)]
+#[error("{}", self.name())]
 pub enum Failure {
     /// The text that was read is wrong, or its reader failed.
     Text(TextFault),

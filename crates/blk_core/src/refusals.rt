@@ -1,13 +1,16 @@
 //! Why a core refuses a call.
 
 use blk_bio::BioId;
+use thiserror::Error;
 
 /// Why a request is not released, in the order in which the reasons are looked for.
-#[derive(Clone, Copy, Debug, PartialEq, Eq)]
+#[derive(Clone, Copy, Debug, PartialEq, Eq, Error)]
+#[error("{:?}", self)]
 pub enum CoreFault {
     /// There is no such hardware queue.
     NoQueue,
     /// The first bio, in the order of their sectors, whose id stands in the trace or earlier in the request.
+    #[error("Repeated")]
     Repeated(BioId),
     /// The trace has no place for the event.
     TraceFull,
@@ -16,7 +19,8 @@ pub enum CoreFault {
 }
 
 /// Why nothing is issued, in the order in which the reasons are looked for.
-#[derive(Clone, Copy, Debug, PartialEq, Eq)]
+#[derive(Clone, Copy, Debug, PartialEq, Eq, Error)]
+#[error("{:?}", self)]
 pub enum IssueFault {
     /// There is no such hardware queue.
     NoQueue,
@@ -35,7 +39,8 @@ pub enum IssueFault {
 pub struct NotIssued;
 
 /// Why a command is not requeued, in the order in which the reasons are looked for.
-#[derive(Clone, Copy, Debug, PartialEq, Eq)]
+#[derive(Clone, Copy, Debug, PartialEq, Eq, Error)]
+#[error("{:?}", self)]
 pub enum BackFault {
     /// No command is in flight under the tag.
     NotIssued,
@@ -44,9 +49,11 @@ pub enum BackFault {
 }
 
 /// Why a round does not end, in the order in which the reasons are looked for.
-#[derive(Clone, Copy, Debug, PartialEq, Eq)]
+#[derive(Clone, Copy, Debug, PartialEq, Eq, Error)]
+#[error("{:?}", self)]
 pub enum TickFault {
     /// This many commands are in flight.
+    #[error("InFlight")]
     InFlight(u64),
     /// The trace has no place for the event.
     TraceFull,
@@ -55,7 +62,8 @@ pub enum TickFault {
 }
 
 /// Why no depth is set, in the order in which the reasons are looked for.
-#[derive(Clone, Copy, Debug, PartialEq, Eq)]
+#[derive(Clone, Copy, Debug, PartialEq, Eq, Error)]
+#[error("{:?}", self)]
 pub enum DepthFault {
     /// The trace has no place for the event.
     TraceFull,

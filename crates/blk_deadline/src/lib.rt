@@ -16,6 +16,7 @@ use blk_bio::{Dir, Limits, MAX_QUEUES, Request, Side};
 use blk_index::Sorted;
 use blk_sched::{MAX_OPEN, MAX_REQUEUED, OpenPicks, Queued, Scheduler};
 use std::alloc::{AllocError, Allocator, Global};
+use thiserror::Error;
 
 /// How many positions there are from which requests go on by sectors.
 #[derive(Clone, Copy, Debug, PartialEq, Eq)]
@@ -50,7 +51,8 @@ impl Tunables {
 }
 
 /// Why a scheduler is not made, in the order in which the reasons are looked for.
-#[derive(Clone, Copy, Debug, PartialEq, Eq)]
+#[derive(Clone, Copy, Debug, PartialEq, Eq, Error)]
+#[error("{:?}", self)]
 pub enum DeadlineFault {
     /// A batch of no request.
     ZeroBatch,

@@ -24,6 +24,7 @@ use blk_bio::{Dir, Limits, MAX_QUEUES, Request, Side};
 use blk_index::Queues;
 use blk_sched::{MAX_OPEN, MAX_REQUEUED, OpenPicks, Queued, Scheduler};
 use std::alloc::{AllocError, Allocator, Global};
+use thiserror::Error;
 
 /// How many rounds a request may wait from its release to its issue, 1 at least.
 #[derive(Clone, Copy, Debug, PartialEq, Eq)]
@@ -55,7 +56,8 @@ impl Targets {
 }
 
 /// Why a scheduler is not made, in the order in which the reasons are looked for.
-#[derive(Clone, Copy, Debug, PartialEq, Eq)]
+#[derive(Clone, Copy, Debug, PartialEq, Eq, Error)]
+#[error("{:?}", self)]
 pub enum KyberFault {
     /// A target of no round.
     ZeroTarget,

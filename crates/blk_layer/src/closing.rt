@@ -28,9 +28,11 @@ use std::alloc::{AllocError, Allocator, Global};
 use std::collections::HashMap;
 use std::hash::Hash;
 use std::sync::Mutex;
+use thiserror::Error;
 
 /// Why a layer is not closed, in the order in which the reasons are looked for.
-#[derive(Clone, Copy, Debug, PartialEq, Eq)]
+#[derive(Clone, Copy, Debug, PartialEq, Eq, Error)]
+#[error("{:?}", self)]
 pub enum CloseFault {
     /// A submitter or a worker of the layer isn't there.
     SeatMissing,

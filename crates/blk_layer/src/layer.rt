@@ -20,6 +20,7 @@ use std::sync::atomic::AtomicBool;
 use std::sync::ledger::{Blank, Ledger};
 use std::sync::{Mutex, MutexGuard, Wait};
 use std::thread::yield_now;
+use thiserror::Error;
 
 /// The most workers of a layer, and the parts of its ledger.
 pub const MAX_WORKERS: u64 = 64;
@@ -59,7 +60,8 @@ impl Named for Brand {
 }
 
 /// Why a layer is not made, in the order in which the reasons are looked for.
-#[derive(Clone, Copy, Debug, PartialEq, Eq)]
+#[derive(Clone, Copy, Debug, PartialEq, Eq, Error)]
+#[error("{:?}", self)]
 pub enum LayerFault {
     /// The map has another number of hardware queues than the core.
     Queues,
@@ -68,6 +70,7 @@ pub enum LayerFault {
     /// There is no worker, or there are more than [`MAX_WORKERS`].
     Workers,
     /// The first worker, counted from 0, whose hardware queue the core doesn't have.
+    #[error("WorkerQueue")]
     WorkerQueue(usize),
     /// Memory ran out.
     Memory,

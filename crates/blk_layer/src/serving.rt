@@ -15,6 +15,7 @@ use edd_commands::Command;
 use std::sync::Wait;
 use std::sync::atomic::Ordering;
 use std::thread::yield_now;
+use thiserror::Error;
 
 /// What became of a command that a device was given.
 #[derive(Clone, Copy, Debug, PartialEq, Eq)]
@@ -43,7 +44,8 @@ pub struct Issued {
 
 /// Why nothing is issued to a worker, in the order in which the reasons are looked for; but `Memory` for the worker's account
 /// comes right after `NoTag`.
-#[derive(Clone, Copy, Debug, PartialEq, Eq)]
+#[derive(Clone, Copy, Debug, PartialEq, Eq, Error)]
+#[error("{:?}", self)]
 pub enum LayerIssueFault {
     /// Each tag that was tried is taken.
     NoTag,
@@ -69,13 +71,15 @@ pub struct Worked {
 }
 
 /// Why a worker's work ended early: the core's first refusal.
-#[derive(Clone, Copy, Debug, PartialEq, Eq)]
+#[derive(Clone, Copy, Debug, PartialEq, Eq, Error)]
+#[error("{:?}", self)]
 pub enum WorkFault {
     /// The trace has no places for an event.
     TraceFull,
     /// Memory ran out.
     Memory,
     /// A request in a software queue has a bio whose id stands in the trace, or twice in it: the first such, by sector.
+    #[error("Repeated")]
     Repeated(BioId),
 }
 

@@ -15,6 +15,7 @@ use blk_queues::{MAX_BIOS, Map, Plug, SoftQueue};
 use blk_sched::Scheduler;
 use std::alloc::Allocator;
 use std::sync::Wait;
+use thiserror::Error;
 
 /// The most requests that a drain moves from one software queue: as many as one can hold.
 pub const MAX_MOVES: u64 = MAX_SOFT_DEPTH;
@@ -29,11 +30,14 @@ pub struct Flushed {
 }
 
 /// Why a flush ended before the plug was empty, in the order in which the reasons are looked for.
-#[derive(Clone, Copy, Debug, PartialEq, Eq)]
+#[derive(Clone, Copy, Debug, PartialEq, Eq, Error)]
+#[error("{:?}", self)]
 pub enum FlushReason {
     /// The first bio, in the order of their sectors, of another submitter.
+    #[error("Foreign")]
     Foreign(BioId),
     /// The first bio, in the order of their sectors, whose id was accepted before or stands earlier in the request.
+    #[error("Repeated")]
     Repeated(BioId),
     /// The software queue has no room for the request.
     SoftFull,

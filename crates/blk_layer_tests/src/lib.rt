@@ -28,6 +28,8 @@ mod many;
 #[cfg(test)]
 mod moved;
 #[cfg(test)]
+mod names;
+#[cfg(test)]
 mod passed;
 #[cfg(test)]
 mod plain;

@@ -14,15 +14,18 @@ use blk_sched::Queued;
 use std::alloc::{AllocError, Allocator, Global};
 use std::collections::VecDeque;
 use std::marker::Model;
+use thiserror::Error;
 
 /// Why a map is not made, in the order in which the reasons are looked for.
-#[derive(Clone, Copy, Debug, PartialEq, Eq)]
+#[derive(Clone, Copy, Debug, PartialEq, Eq, Error)]
+#[error("{:?}", self)]
 pub enum MapFault {
     /// It has no entry.
     Empty,
     /// It has more than [`MAX_SOFT_QUEUES`] entries, or one that is not below [`MAX_QUEUES`].
     TooMany,
     /// No entry names this hardware queue, the least such one below the greatest that an entry names.
+    #[error("Unserved")]
     Unserved(u8),
 }
 

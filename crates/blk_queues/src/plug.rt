@@ -17,6 +17,7 @@ use blk_bio::{Bio, Limits, Request, Side};
 use std::alloc::{AllocError, Allocator, Global};
 use std::collections::VecDeque;
 use std::marker::Model;
+use thiserror::Error;
 
 /// The most requests that a plug holds: `BLK_MAX_REQUEST_COUNT` of Linux.
 pub const MAX_STAGED: usize = 32;
@@ -31,7 +32,8 @@ pub enum Added {
 }
 
 /// Why a bio is not added, in the order in which the reasons are looked for.
-#[derive(Clone, Copy, Debug, PartialEq, Eq)]
+#[derive(Clone, Copy, Debug, PartialEq, Eq, Error)]
+#[error("{:?}", self)]
 pub enum PlugFault {
     /// The plug has [`MAX_STAGED`] requests, and the bio fits none of them.
     Full,

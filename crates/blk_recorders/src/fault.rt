@@ -4,9 +4,11 @@ ghost use Rattle.std.specs.Prelude.{◌≡◌};
 ghost use Rattle.blk_recorders.specs.Names.{line_reason_name, line_told};
 
 use edd_commands::{Beside, Fault, Told, variant_name};
+use thiserror::Error;
 
 /// What is wrong with a line, in the order in which it is looked for.
-#[derive(Debug, Clone, Copy, PartialEq, Eq)]
+#[derive(Debug, Clone, Copy, PartialEq, Eq, Error)]
+#[error("{}", self.name())]
 pub enum LineReason {
     /// It ends too soon, or has something else where its form has a range of sectors.
     Fields,

@@ -5,9 +5,11 @@ ghost use Rattle.blk_records.specs.Names.{text_reason_name, text_told};
 
 use blk_bio::{BioFault, TraceRule};
 use edd_commands::{Beside, Fault, Told, variant_name};
+use thiserror::Error;
 
 /// What is wrong with a record, in the order in which it is looked for.
-#[derive(Debug, Clone, Copy, PartialEq, Eq)]
+#[derive(Debug, Clone, Copy, PartialEq, Eq, Error)]
+#[error("{}", self.name())]
 pub enum TextReason {
     /// The first record is missing, or its name or version is another.
     Title,

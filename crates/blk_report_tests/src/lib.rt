@@ -10,6 +10,8 @@ mod given;
 #[cfg(test)]
 mod missing;
 #[cfg(test)]
+mod names;
+#[cfg(test)]
 mod online;
 #[cfg(test)]
 mod pictures;

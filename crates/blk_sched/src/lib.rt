@@ -18,6 +18,7 @@ pub use crate::picks::{MAX_OPEN, MAX_REQUEUED, OpenPicks};
 use blk_bio::{Dir, JoinFault, Limits, MAX_QUEUES, Request, Side};
 use std::alloc::{AllocError, Allocator, Global};
 use std::marker::Model;
+use thiserror::Error;
 
 /// A request as it enters a scheduler and leaves it: its id, the hardware queue (below `MAX_QUEUES`) that it entered at, the
 /// round of its release, the round in which it is due, and its bios.
@@ -69,7 +70,8 @@ impl<A: Allocator + Clone> Queued<A> {
 }
 
 /// Why a newcomer joined no request, in the order in which the reasons are looked for.
-#[derive(Clone, Copy, Debug, PartialEq, Eq)]
+#[derive(Clone, Copy, Debug, PartialEq, Eq, Error)]
+#[error("{:?}", self)]
 pub enum JoinRefusal {
     /// It fits none of the requests that may be tried.
     NoFit,

@@ -5,9 +5,11 @@ ghost use Rattle.blk_schedulers.specs.Names.{load_told};
 ghost use Rattle.blk_schedulers.specs.Faults.{fault_rank, IsFirstOfTwo};
 
 use edd_commands::{Fault, Told, told};
+use thiserror::Error;
 
 /// Why a load fails. Of several reasons the first is reported.
-#[derive(Clone, Copy, Debug, PartialEq, Eq)]
+#[derive(Clone, Copy, Debug, PartialEq, Eq, Error)]
+#[error("{}", self.name())]
 pub enum LoadFault {
     /// A number is out of its range.
     Range,

@@ -9,6 +9,7 @@ use crate::rows::{SchedKind, tried_kinds};
 use crate::sched::Sched;
 use crate::setting::MAX_SETTINGS;
 use std::alloc::{AllocError, Global};
+use thiserror::Error;
 
 /// What the rows are ordered by first.
 #[derive(Clone, Copy, Debug, PartialEq, Eq)]
@@ -20,9 +21,11 @@ pub enum RankBy {
 }
 
 /// Why there is no grid, in the order in which the reasons are looked for.
-#[derive(Clone, Copy, Debug, PartialEq, Eq)]
+#[derive(Clone, Copy, Debug, PartialEq, Eq, Error)]
+#[error("{:?}", self)]
 pub enum GridFault {
     /// The first option that is given no list.
+    #[error(transparent)]
     List(ListFault),
     /// Memory ran out.
     Memory,

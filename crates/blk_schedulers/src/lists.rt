@@ -9,14 +9,17 @@ use crate::given::{Given, MAX_SHORT, Numbers, row_named};
 use crate::options::SCHED_NAME;
 use crate::positions::positions_listed;
 use crate::rows::{SCHED_COUNT, SchedKind, SchedRow, SettingRange, SettingRow, rows};
+use thiserror::Error;
 
 /// Which option of a trial has a value that is no list.
-#[derive(Clone, Copy, Debug, PartialEq, Eq)]
+#[derive(Clone, Copy, Debug, PartialEq, Eq, Error)]
+#[error("{:?}", self)]
 pub enum ListFault {
     /// `--sched` is no list of schedulers' names, each once.
     Scheds,
     /// The option of the setting in this place of a scheduler's row is no list of its values, each once: 1 to
     /// [`MAX_LISTED`](crate::given::MAX_LISTED) numbers in its range, or names of positions.
+    #[error("Numbers")]
     Numbers(SchedKind, usize),
 }
 

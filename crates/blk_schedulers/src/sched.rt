@@ -11,9 +11,11 @@ use crate::rows::{SCHED_COUNT, SchedKind, SettingRange, SettingRow};
 use crate::setting::{MAX_SETTINGS, Setting, Settings};
 use edd_commands::{Fault, Told, told};
 use std::alloc::{AllocError, Global};
+use thiserror::Error;
 
 /// Why a scheduler is not made, in the order in which the reasons are looked for.
-#[derive(Clone, Copy, Debug, PartialEq, Eq)]
+#[derive(Clone, Copy, Debug, PartialEq, Eq, Error)]
+#[error("{}", self.name())]
 pub enum SchedFault {
     /// A batch of no request.
     ZeroBatch,

@@ -8,6 +8,7 @@ use blk_bio::BioId;
 use blk_core::{BackFault, CoreFault, DepthFault, IssueFault, TickFault};
 use blk_queues::PlugFault;
 use edd_commands::{Beside, Fault, Told, variant_name};
+use thiserror::Error;
 
 /// A flush for which a software queue has no room, in requests.
 #[derive(Clone, Copy, Debug, PartialEq, Eq)]
@@ -21,7 +22,8 @@ pub struct Overflow {
 }
 
 /// Why a step of a script is refused.
-#[derive(Clone, Copy, Debug, PartialEq, Eq)]
+#[derive(Clone, Copy, Debug, PartialEq, Eq, Error)]
+#[error("{}", self.name())]
 pub enum SimReason {
     /// The plug has as many requests as it may, and the bio joins none of them.
     Full,

@@ -20,12 +20,14 @@ use atomic_table::{Join, Play, Seat, Split, Table, TableRule};
 use edd_commands::MAX_DEPTH;
 use std::alloc::{AllocError, Allocator, Global};
 use std::marker::Model;
+use thiserror::Error;
 
 /// The most tags of a set: as many as a round carries commands at most. The four words have no room for more.
 pub const MAX_TAG_DEPTH: u64 = MAX_DEPTH;
 
 /// Why a set is not made, in the order in which the reasons are looked for.
-#[derive(Clone, Copy, Debug, PartialEq, Eq)]
+#[derive(Clone, Copy, Debug, PartialEq, Eq, Error)]
+#[error("{:?}", self)]
 pub enum TagFault {
     /// The depth is 0 or above [`MAX_TAG_DEPTH`].
     Depth,

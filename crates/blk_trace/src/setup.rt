@@ -6,12 +6,14 @@ ghost use Rattle.blk_trace.specs.Setups.{IsSetup, IsSetupAnswer, expire_of};
 use blk_bio::{Dir, Limits, MAX_QUEUES};
 use edd_commands::MAX_DEPTH;
 use std::marker::Model;
+use thiserror::Error;
 
 /// Every expiry lies below this number of rounds.
 pub const MAX_EXPIRIES: u64 = 1 << 40;
 
 /// Why a setup is not made, in the order in which the reasons are looked for.
-#[derive(Clone, Copy, Debug, PartialEq, Eq)]
+#[derive(Clone, Copy, Debug, PartialEq, Eq, Error)]
+#[error("{:?}", self)]
 pub enum SetupFault {
     /// The depth is 0 or above `MAX_DEPTH`.
     Depth,

@@ -21,6 +21,7 @@ pub use on_time::{
     law_of_covers, number_on_time, outside,
 };
 use std::alloc::{AllocError, Allocator};
+use thiserror::Error;
 
 /// How many rounds one pass of [`is_legal`] counts.
 const BLOCK: u64 = 4096;
@@ -44,7 +45,8 @@ pub struct Crowding {
 }
 
 /// Why a claim is refused, in the order in which the reasons are looked for.
-#[derive(Clone, Copy, Debug, PartialEq, Eq)]
+#[derive(Clone, Copy, Debug, PartialEq, Eq, Error)]
+#[error("{}", self.name())]
 pub enum CheckFault {
     /// There are more rounds than commands, or fewer.
     Length,

@@ -14,6 +14,7 @@ ghost use Rattle.edd_check.specs.CheckOnTime.{IsOnTimeAnswer, AcceptsOnTimeClaim
 use crate::{Window, first_early, least_over_deep};
 use edd_commands::{Capacity, Command, Fault, MAX_DEPTH, MAX_ROUNDS, Told, told};
 use std::alloc::Allocator;
+use thiserror::Error;
 
 /// The bound of a good claim's cover: together the number of commands that the claim says are on time.
 #[derive(Clone, Copy, Debug, PartialEq, Eq)]
@@ -25,7 +26,8 @@ pub struct Bound {
 }
 
 /// Why a claim of a greatest number is refused, in the order in which the reasons are looked for.
-#[derive(Clone, Copy, Debug, PartialEq, Eq)]
+#[derive(Clone, Copy, Debug, PartialEq, Eq, Error)]
+#[error("{}", self.name())]
 pub enum OnTimeFault {
     /// There are more rounds than commands, or fewer.
     Length,

@@ -7,6 +7,7 @@ ghost use Rattle.edd_commands.specs.Inside.InForce.{IsInForce};
 use crate::MAX_ROUNDS;
 use std::alloc::{AllocError, Allocator, Global};
 use std::marker::Model;
+use thiserror::Error;
 
 /// The most commands that a round carries, and the most tags of a device.
 pub const MAX_DEPTH: u64 = 256;
@@ -21,15 +22,19 @@ pub struct Step {
 }
 
 /// Why steps are no capacity: the first reason by place, and at a place in this order.
-#[derive(Clone, Copy, Debug, PartialEq, Eq)]
+#[derive(Clone, Copy, Debug, PartialEq, Eq, Error)]
+#[error("{:?}", self)]
 pub enum CapacityFault {
     /// There is no step, or the first doesn't begin in round 0.
     Start,
     /// The step at this place doesn't begin after the one before it.
+    #[error("Rising")]
     Rising(usize),
     /// The depth at this place is 0 or above [`MAX_DEPTH`].
+    #[error("Depth")]
     Depth(usize),
     /// The step at this place begins at [`MAX_ROUNDS`] or later.
+    #[error("Round")]
     Round(usize),
 }
 

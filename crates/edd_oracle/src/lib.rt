@@ -25,9 +25,11 @@ pub use cover::Served;
 use edd_check::{Window, law_of_covers, law_of_crowded_windows, number_on_time};
 use edd_commands::{Capacity, Command, Fault, Told, told};
 use std::alloc::{AllocError, Allocator, Global};
+use thiserror::Error;
 
 /// Why a list is refused, in the order in which the reasons are looked for.
-#[derive(Clone, Copy, Debug, PartialEq, Eq)]
+#[derive(Clone, Copy, Debug, PartialEq, Eq, Error)]
+#[error("{}", self.name())]
 pub enum OracleFault {
     /// There are more than [`MAX_COMMANDS`](edd_commands::MAX_COMMANDS) commands.
     TooMany,
