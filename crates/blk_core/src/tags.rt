@@ -85,6 +85,16 @@ pub(crate) fn clear<A: Allocator>(tags: &mut [TagState<A>])
     ensures { tags.new ≡ replicate (length tags.old) TagState.Free }
 {
     for tag in tags.iter_mut() {
-        *tag = TagState::Free;
+        free(tag);
+    }
+}
+
+/// Frees a tag. Most tags of a round are free already: these are read alone, and not written.
+fn free<A: Allocator>(tag: &mut TagState<A>)
+    ensures { tag.new ≡ TagState.Free }
+{
+    match tag {
+        TagState::Free => {}
+        _ => *tag = TagState::Free,
     }
 }
