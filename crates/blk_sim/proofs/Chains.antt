@@ -85,6 +85,12 @@ queue_drained q q' d l r i o =
 pub drained_already : (q : Queue) → q.requests ≡ [] → drained q ≡ q
 drained_already q none = sym (queue_drained q q refl refl none refl refl)
 
+-- where there are none, the core stays as it is
+pub none_enters : (policy : Policy) (hw : ℕ) (requests : List (List Bio)) (a : CoreState) → length requests ≡ 0 → EnterInTurn policy hw requests a a
+unfolding EnterInTurn
+none_enters policy hw [] a e = refl
+none_enters policy hw (r ∷ rest) a e = absurd (omega (arith, e))
+
 -- a plug and a software queue after a flush
 pub plug_flushed : (p p' : Plug) → p'.limits ≡ p.limits → p'.requests ≡ [] → p' ≡ flushed_plug p
 plug_flushed p p' l r = ap (λ x. record { limits = x; requests = p'.requests }) l ∙ ap (λ x. record { limits = p.limits; requests = x }) r

@@ -142,6 +142,9 @@ fn drain_queue<S: Scheduler>(
     ensures entered { OnOk result (EnterInTurn S.policy hw queue.old.requests core.old core.new) }
     ensures refused { IfErr result (λ w. IsMoveRefused S.policy queue.old.requests core.old hw w) }
 {
+    if queue.len() == 0 {
+        return Ok(());
+    }
     while let Some(request) = queue.take_first() {
         release(core, request, hw)?;
     }

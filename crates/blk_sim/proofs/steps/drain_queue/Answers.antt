@@ -1,8 +1,11 @@
-use Rattle.std.proofs.Common.{◌∙◌, refl}
+use Rattle.std.proofs.Common.{arith, ◌∙◌, refl}
 use Rattle.std.proofs.lemmas.Result.{err_from_is_err_and}
 use Rattle.blk_sim.proofs.Events.{enters_took}
-use Rattle.blk_sim.proofs.Chains.{moved_none, moved_more, moved_all, moved_refused, counted_out, queue_drained}
+use Rattle.blk_sim.proofs.Chains.{moved_none, moved_more, moved_all, moved_refused, counted_out, queue_drained, none_enters}
 use Rattle.blk_sim.proofs.steps.drain_queue.Goals as goal
+
+pub returns-then-len-eq0-clause-entered : goal.returns-then-len-eq0-clause-entered
+returns-then-len-eq0-clause-entered g c = none_enters g.S.Scheduler.policy c.args.hw c.args.queue.now.requests c.args.core.now (omega (arith, c.len.ensures.value, c.if-len-eq0.true))
 
 pub loop-request-init : goal.loop-request-init
 loop-request-init g c = record { moved = moved_none _ _ _ _; setup = refl; limits = refl; depth = refl; came = refl; counted = refl }
