@@ -1,3 +1,4 @@
+mod Begun
 mod Pushed
 mod Waits
 mod Flights

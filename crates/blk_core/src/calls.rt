@@ -1,6 +1,8 @@
 //! The core and its calls: a scheduler beside the trace of what was done with it, where one call is one event.
 
-ghost use Rattle.std.specs.Prelude.{◌≡◌, ◌<◌, ◌+◌, [], None, OnOk, OnErr, IfSome, IfNone, length};
+ghost use Rattle.std.specs.Prelude.{◌≡◌, ◌<◌, ◌+◌, ◌++◌, ◌∷◌, [], List, true, None, OnOk, OnErr, IfSome, IfNone, length};
+ghost use Rattle.blk_trace.specs.Happened.{Happened};
+ghost use Rattle.blk_trace.specs.declared.event.Event.TheVariants.{Tick as Ticked};
 ghost use Rattle.blk_trace.specs.declared.trace.Prepared.{Prepared};
 ghost use Rattle.blk_bio.specs.declared.bio.Dir.{Dir as Way};
 ghost use Rattle.blk_sched.specs.Meaning.{requeued_of};
@@ -414,11 +416,12 @@ impl<S: Scheduler> Core<S> {
         if self.trace.len() >= MAX_EVENTS {
             return Err(TickFault::TraceFull);
         }
+        let eventless = has_just_begun(self.trace.events());
         let Ok(()) = prepare(&mut self.trace) else {
             return Err(TickFault::Memory);
         };
         self.trace.add(Event::Tick);
-        clear(&mut self.tags);
+        clear(&mut self.tags, eventless);
         let now = self.trace.round();
         self.scheduler.on_tick(now);
         Ok(now)
@@ -484,6 +487,16 @@ impl<S: Scheduler> Core<S> {
     {
         let Core { trace, .. } = self;
         trace.unprepared()
+    }
+}
+
+/// Whether the round that is on has begun by a Tick and has no event yet.
+fn has_just_begun<A: Allocator + Clone>(events: &[Event<Request<A>>]) -> bool
+    ensures { result ≡ true → (before : List Happened) × (events.now ≡ before ++ Ticked ∷ []) }
+{
+    match events.last() {
+        Some(event) => event.is_tick(),
+        None => false,
     }
 }
 

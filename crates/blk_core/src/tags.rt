@@ -1,6 +1,6 @@
 //! How the tags of a core stand in the current round.
 
-ghost use Rattle.std.specs.Prelude.{◌≡◌, ◌<◌, ⊤, IfOk, OnOk, OnErr, length, replicate};
+ghost use Rattle.std.specs.Prelude.{ℕ, ◌≡◌, ◌<◌, ⊤, true, IfOk, OnOk, OnErr, length, replicate, slice_index_or};
 ghost use Rattle.blk_bio.specs.Requests.{dir_of};
 ghost use Rattle.blk_core.specs.Inside.Ties.{IfInFlight, Requeues};
 
@@ -80,10 +80,14 @@ pub(crate) fn requeue<A: Allocator + Clone>(
     }
 }
 
-/// Frees all tags, as a new round begins.
-pub(crate) fn clear<A: Allocator>(tags: &mut [TagState<A>])
+/// Frees all tags, as a new round begins. Where the one before had no event, all are free.
+pub(crate) fn clear<A: Allocator>(tags: &mut [TagState<A>], eventless: bool)
+    requires { eventless ≡ true → (tag : ℕ) → tag < length tags.old → slice_index_or tags.old tag TagState.Free ≡ TagState.Free }
     ensures { tags.new ≡ replicate (length tags.old) TagState.Free }
 {
+    if eventless {
+        return;
+    }
     for tag in tags.iter_mut() {
         free(tag);
     }

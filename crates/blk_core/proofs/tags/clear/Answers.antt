@@ -1,8 +1,11 @@
-use Rattle.std.proofs.Common.{rules, ℕ, ◌≡◌, ◌+◌, ◌<◌, length, sym, subst, arith, get_or, set}
+use Rattle.std.proofs.Common.{rules, refl, ℕ, ◌≡◌, ◌+◌, ◌<◌, length, sym, subst, arith, get_or, set}
 use Rattle.blk_core.specs.declared.tags.TagState.{TagState}
 use Rattle.blk_core.specs.declared.tags.TagState.TheVariants.{Free}
 use Rattle.blk_core.proofs.Flights.{freed, one_freed}
 use Rattle.blk_core.proofs.tags.clear.Goals as goal
+
+pub returns-then-eventless : goal.returns-then-eventless
+returns-then-eventless g c = freed c.args.tags.now (length c.args.tags.now) refl (c.requires c.if-eventless.true)
 
 pub loop-tag-preserved : goal.loop-tag-preserved
 loop-tag-preserved g c =

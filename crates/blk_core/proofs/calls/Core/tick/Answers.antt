@@ -1,10 +1,11 @@
-use Rattle.std.proofs.Common.{refl, ℕ, ◌≡◌, ◌∙◌, sym, ap, subst, arith, List, length, map}
+use Rattle.std.proofs.Common.{refl, ℕ, ◌≡◌, ◌∙◌, ◌<◌, sym, ap, subst, arith, List, length, map, get_or}
 use Rattle.std.proofs.Math.ListN.{replicate}
 use Rattle.blk_trace.specs.declared.event.Event.TheVariants.{Tick}
 use Rattle.blk_trace.specs.Events.{open_count, round_of}
 use Rattle.blk_core.specs.Inside.Ties.{flight_of}
 use Rattle.blk_sched.specs.Policies.{OfTick}
 use Rattle.blk_core.specs.declared.tags.TagState.TheVariants.{Free}
+use Rattle.blk_core.proofs.Begun.{free_yet}
 use Rattle.blk_core.proofs.Pushed.{IsPushed, pushed, unbroken, ready_for}
 use Rattle.blk_core.proofs.Ties.{tied_tick, tick_allowed, none_in_flight}
 use Rattle.blk_core.proofs.Flights.{put_back, free_flights}
@@ -23,6 +24,12 @@ add-requires-clause-unbroken g c =
 
 pub add-requires-clause-prepared : goal.add-requires-clause-prepared
 add-requires-clause-prepared g c = ready_for c.self.inside.trace.setup c.self.inside.trace.events c.prepare.new.trace _ Tick c.in-Ok.ensures.ok tt
+
+pub clear-requires : goal.clear-requires
+clear-requires g c = λ one.
+    let ticked = c.has_just_begun-eventless.ensures one in
+    subst (λ l. (tag : ℕ) → tag < length l → get_or l tag Free ≡ Free) (sym c.deref_mut.ensures.value)
+    (free_yet c.self.inside.trace.setup c.self.inside.trace.events ticked.0 c.self.inside.tags.items c.self.invariant.legal (sym c.events.ensures.events ∙ ticked.1) c.self.invariant.seats)
 
 pub invariant_of-self-2 : goal.invariant_of-self-2
 invariant_of-self-2 g c =
