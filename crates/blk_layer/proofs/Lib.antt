@@ -4,6 +4,7 @@ mod Ids
 mod Held
 mod Each
 mod Plugged
+mod Checked
 mod Copied
 mod Moving
 mod Mapped

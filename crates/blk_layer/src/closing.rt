@@ -12,9 +12,10 @@ ghost use Rattle.blk_layer.specs.Runs.{IsLayerRun};
 ghost use Rattle.blk_layer.specs.Seats.{SubmitterSeat};
 ghost use Rattle.blk_layer.specs.Closing.{AreAllThere, HasNumber, all_accepted, all_ran, issued_bios, done_by, done_ids, done_commands, done_count, AreSettled, AreCounted, IsBioOf, DiffersAsCommand, Disagrees, IsCloseRefusal};
 ghost use Rattle.blk_layer.specs.Inside.Closing.{IsAccountOf};
-ghost use Rattle.blk_layer.specs.Inside.Closing.{AllDiffer, IsExact, IsExtra, CountsEach, HasEach, DiffersIn, DiffersInCommand, KnowsIssued, NotesLast};
+ghost use Rattle.blk_layer.specs.Inside.Closing.{AllDiffer, all_left, entry_at, IsExact, IsExtra, CountsEach, HasEach, DiffersIn, DiffersInCommand, KnowsIssued, NotesLast};
 
 use crate::accounts::LayerHashing;
+use crate::checking::{Unchecked, entry_at, is_checked_off, put_at};
 use crate::layer::{Layer, MAX_WORKERS, Named};
 use crate::locked::LockedQueue;
 use crate::seats::{Submitter, Worker};
@@ -243,8 +244,7 @@ fn settle<S: Scheduler, L: Named>(
     stored.extend_from_slice(left.as_slice())?;
     let waiting = trace.waiting()?;
     left.extend_from_slice(waiting.as_slice())?;
-    let accepted = accepted(alloc.clone()?, submitters)?;
-    if let Some(bio) = differing_bio(alloc, accepted.as_slice(), stored.as_slice())? {
+    if let Some(bio) = unaccounted_bio(alloc, submitters, stored.as_slice())? {
         return Ok(Settlement {
             left,
             differs: Some(bio),
@@ -267,11 +267,79 @@ fn command_bio<L: Named, A: Allocator + Clone>(
 {
     let events = trace.events();
     let done = done(alloc, trace)?;
-    let ran = ran(alloc.clone()?, workers)?;
-    match differing_command(alloc, done.as_slice(), ran.as_slice())? {
+    match unaccounted_command(alloc, done.as_slice(), workers)? {
         Some(command) => Ok(Some(bio_of(events, command.id))),
         None => Ok(None),
     }
+}
+
+/// A bio that stands in the submitters' accounts more or less often than in the list. Where the list has the bios of each in the order of
+/// its account, as a layer's has, it is gone over once. Fails only when memory runs out.
+fn unaccounted_bio<L: Named, A: Allocator + Clone>(
+    alloc: &A,
+    submitters: &[Submitter<L, A>],
+    stored: &[Bio],
+) -> Result<Option<BioId>, AllocError>
+    ensures some { IfOk result (λ found. IfSome found (DiffersIn (all_accepted submitters.now) stored.now)) }
+    ensures none { IfOk result (λ found. IfNone found (IsPermutation (all_accepted submitters.now) stored.now)) }
+    ensures each { OnOk result ((k : ℕ) (s : SubmitterSeat) → slice_get submitters.now k ≡ Some s → IsAccountOf s) }
+{
+    if is_checked_off(bios_by_seat(alloc, submitters)?, stored) {
+        return Ok(None);
+    }
+    let accepted = accepted(alloc.clone()?, submitters)?;
+    differing_bio(alloc, accepted.as_slice(), stored)
+}
+
+/// A command that stands among those that are done more or less often than in the workers' accounts, which have as many. Where each worker
+/// has its own in the order of the list, that is gone over once. Fails only when memory runs out.
+fn unaccounted_command<L: Named, A: Allocator + Clone>(
+    alloc: &A,
+    done: &[Command],
+    workers: &[Worker<L, A>],
+) -> Result<Option<Command>, AllocError>
+    requires { length (all_ran workers.now) ≡ length done.now }
+    ensures some { IfOk result (λ found. IfSome found (DiffersInCommand done.now (all_ran workers.now))) }
+    ensures none { IfOk result (λ found. IfNone found (IsPermutation (all_ran workers.now) done.now)) }
+{
+    if is_checked_off(commands_by_seat(alloc, workers)?, done) {
+        return Ok(None);
+    }
+    let ran = ran(alloc.clone()?, workers)?;
+    differing_command(alloc, done, ran.as_slice())
+}
+
+/// The bios that each submitter has in its account.
+fn bios_by_seat<L: Named, A: Allocator + Clone>(
+    alloc: &A,
+    submitters: &[Submitter<L, A>],
+) -> Result<Vec<Unchecked<Bio, A>, A>, AllocError>
+    ensures list { IfOk result (λ v. all_left v.items ≡ all_accepted submitters.now) }
+    ensures each { OnOk result ((k : ℕ) (s : SubmitterSeat) → slice_get submitters.now k ≡ Some s → IsAccountOf s) }
+{
+    let mut accounts = Vec::new(alloc.clone()?);
+    for submitter in submitters {
+        let mut bios = Vec::new(alloc.clone()?);
+        bios.extend_from_slice(submitter.accepted())?;
+        accounts.push(Unchecked::of(bios))?;
+    }
+    Ok(accounts)
+}
+
+/// The commands that each worker has in its account.
+fn commands_by_seat<L: Named, A: Allocator + Clone>(
+    alloc: &A,
+    workers: &[Worker<L, A>],
+) -> Result<Vec<Unchecked<Command, A>, A>, AllocError>
+    ensures { IfOk result (λ v. all_left v.items ≡ all_ran workers.now) }
+{
+    let mut accounts = Vec::new(alloc.clone()?);
+    for worker in workers {
+        let mut commands = Vec::new(alloc.clone()?);
+        commands.extend_from_slice(worker.ran())?;
+        accounts.push(Unchecked::of(commands))?;
+    }
+    Ok(accounts)
 }
 
 /// The bios that the submitters have in their accounts.
@@ -280,8 +348,7 @@ fn accepted<L: Named, A: Allocator + Clone>(
     alloc: A,
     submitters: &[Submitter<L, A>],
 ) -> Result<Vec<Bio, A>, AllocError>
-    ensures list { IfOk result (λ v. v.items ≡ all_accepted submitters.now) }
-    ensures each { OnOk result ((k : ℕ) (s : SubmitterSeat) → slice_get submitters.now k ≡ Some s → IsAccountOf s) }
+    ensures { IfOk result (λ v. v.items ≡ all_accepted submitters.now) }
 {
     let mut bios = Vec::new(alloc);
     for submitter in submitters {
@@ -338,27 +405,25 @@ fn done<A: Allocator + Clone>(alloc: &A, trace: &Trace<A>) -> Result<Vec<Command
     let known = by_id(alloc.clone()?, trace)?;
     let mut commands = Vec::with_capacity(alloc.clone()?, ids.len())?;
     for id in &ids {
-        let Some(command) = known.get(id) else {
+        let Some(command) = entry_at(known.as_slice(), *id) else {
             unreachable!()
         };
-        commands.push(*command)?;
+        commands.push(command)?;
     }
     Ok(commands)
 }
 
-/// The commands of a trace, by their ids.
+/// The commands of a trace, each at the place of its id.
 fn by_id<A: Allocator + Clone>(
     alloc: A,
     trace: &Trace<A>,
-) -> Result<HashMap<u64, Command, LayerHashing, A>, AllocError>
-    ensures { IfOk result (λ m. KnowsIssued trace.now.setup trace.now.events (hash.get nat_eq m)) }
+) -> Result<Vec<Option<Command>, A>, AllocError>
+    ensures { IfOk result (λ v. KnowsIssued trace.now.setup trace.now.events (entry_at v.items)) }
 {
     let commands = trace.commands()?;
-    let mut known = HashMap::new(alloc);
+    let mut known = Vec::new(alloc);
     for command in &commands {
-        let Ok(_) = known.insert(command.id, *command) else {
-            return Err(AllocError);
-        };
+        put_at(&mut known, command.id, *command)?;
     }
     Ok(known)
 }
@@ -372,33 +437,30 @@ fn done_ids<A: Allocator + Clone>(
     ensures { IfOk result (λ v. v.items ≡ done_ids events.now) }
 {
     let mut ids = Vec::new(alloc.clone()?);
-    let mut last = HashMap::new(alloc.clone()?);
+    let mut last = Vec::new(alloc.clone()?);
     for event in events {
         note(&mut ids, &mut last, event)?;
     }
     Ok(ids)
 }
 
-/// Notes one more event: the last id under each tag, and the ids that are done.
+/// Notes one more event: the last id under each tag, at its place, and the ids that are done.
 fn note<A: Allocator + Clone>(
     ids: &mut Vec<u64, A>,
-    last: &mut HashMap<u16, u64, LayerHashing, A>,
+    last: &mut Vec<Option<u64>, A>,
     event: &Event<Request<A>>,
 ) -> Result<(), AllocError>
-    ensures ids { OnOk result (ids.new.items ≡ ids.old.items ++ cons_option (done_by (hash.get nat_eq last.old) event.now) []) }
-    ensures last { OnOk result (NotesLast (hash.get nat_eq last.old) event.now (hash.get nat_eq last.new)) }
+    ensures ids { OnOk result (ids.new.items ≡ ids.old.items ++ cons_option (done_by (entry_at last.old.items) event.now) []) }
+    ensures last { OnOk result (NotesLast (entry_at last.old.items) event.now (entry_at last.new.items)) }
 {
     if let Some(tag) = event.completes() {
-        if let Some(id) = last.get(&tag) {
-            ids.push(*id)?;
+        if let Some(id) = entry_at(last.as_slice(), u64::from(tag)) {
+            ids.push(id)?;
         }
     }
-    let Some((id, tag)) = event.issues() else {
-        return Ok(());
-    };
-    match last.insert(tag, id) {
-        Ok(_) => Ok(()),
-        Err(_) => Err(AllocError),
+    match event.issues() {
+        Some((id, tag)) => put_at(last, u64::from(tag), id),
+        None => Ok(()),
     }
 }
 

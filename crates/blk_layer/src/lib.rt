@@ -8,6 +8,7 @@
 #![tactic(auto)]
 
 mod accounts;
+mod checking;
 mod closing;
 mod layer;
 mod locked;

@@ -1,10 +1,6 @@
-use Rattle.std.proofs.Common.{◌≡◌, ◌<◌, ℕ, take, Some}
-use Rattle.std.specs.Prelude.{slice_get}
-use Rattle.blk_layer.specs.Seats.{SubmitterSeat}
+use Rattle.std.proofs.Common.{◌≡◌, take}
 use Rattle.blk_layer.specs.Closing.{all_accepted}
-use Rattle.blk_layer.specs.Inside.Closing.{IsAccountOf}
 use Rattle.blk_layer.proofs.closing.accepted.Given as goal
 
 abbrev pub invariant-loop-submitter : goal.invariant-loop-submitter
-invariant-loop-submitter g l = (l.bios.items ≡ all_accepted (take l.submitter-index l.submitters))
-    × ((k : ℕ) (s : SubmitterSeat) → k < l.submitter-index → slice_get l.submitters k ≡ Some s → IsAccountOf s)
+invariant-loop-submitter g l = l.bios.items ≡ all_accepted (take l.submitter-index l.submitters)

@@ -1,25 +1,25 @@
-use Rattle.std.proofs.Common.{◌∙◌, ◌≢◌, sym, ap, subst, arith, length, count_by, Contains, List}
+use Rattle.std.proofs.Common.{◌∙◌, ◌≢◌, refl, sym, ap, subst, arith, length, count_by, Contains, List}
 use Rattle.edd_commands.specs.declared.Command.{Command}
 use Rattle.blk_trace.specs.Happened.{Happened}
 use Rattle.blk_trace.specs.Events.{IsReleased}
 use Rattle.blk_trace.proofs.Words.{some_of}
-use Rattle.blk_layer.specs.Closing.{is_command, done_commands, IsBioOf}
+use Rattle.blk_layer.specs.Closing.{is_command, all_ran, done_commands, IsBioOf}
 use Rattle.blk_layer.proofs.Dones.{done_released}
 use Rattle.blk_layer.proofs.Gathered.{done_length}
 use Rattle.blk_layer.proofs.Agreed.{done_has, differs_as}
 use Rattle.blk_layer.proofs.closing.command_bio.Goals as goal
 
-pub differing_command-requires : goal.differing_command-requires
-differing_command-requires g c =
+pub unaccounted_command-requires : goal.unaccounted_command-requires
+unaccounted_command-requires g c =
     let events : List Happened = c.args.trace.now.events in
     let all = done_length c.args.trace.now.setup events c.events-events.ensures.legal in
-    omega (arith, ap length (c.as_slice-2.ensures.value ∙ c.in_ok-ran.ensures), c.requires, ap length (c.as_slice.ensures.value ∙ c.in_ok-done.ensures), all)
+    omega (arith, c.requires, ap length (c.as_slice.ensures.value ∙ c.in_ok-done.ensures), all)
 
 pub bio_of-requires : goal.bio_of-requires
 bio_of-requires g c =
     let events : List Happened = c.args.trace.now.events in
     let setup = c.args.trace.now.setup in
-    let found = some_of c.in_ok-command.field-0 (λ (x : Command). Contains c.as_slice.result.now x × (count_by (is_command x) c.as_slice-2.result.now ≢ count_by (is_command x) c.as_slice.result.now)) c.in-Some.command c.in-Some.is c.in_ok-command.ensures.some in
+    let found = some_of c.in_ok-command.field-0 (λ (x : Command). Contains c.as_slice.result.now x × (count_by (is_command x) (all_ran c.args.workers.now) ≢ count_by (is_command x) c.as_slice.result.now)) c.in-Some.command c.in-Some.is c.in_ok-command.ensures.some in
     let has : Contains (done_commands setup events) c.in-Some.command = subst (λ (l : List Command). Contains l c.in-Some.command) (c.as_slice.ensures.value ∙ c.in_ok-done.ensures) found.0 in
     let released : IsReleased events c.in-Some.command.id = done_released setup events c.events-events.ensures.legal c.in-Some.command.id (done_has setup events c.in-Some.command has) in
     subst (λ (l : List Happened). IsReleased l c.in-Some.command.id) (sym c.events-events.ensures.events) released
@@ -28,7 +28,7 @@ pub returns-in-Some-clause-some : goal.returns-in-Some-clause-some
 returns-in-Some-clause-some g c =
     let events : List Happened = c.args.trace.now.events in
     let setup = c.args.trace.now.setup in
-    let found = some_of c.in_ok-command.field-0 (λ (x : Command). Contains c.as_slice.result.now x × (count_by (is_command x) c.as_slice-2.result.now ≢ count_by (is_command x) c.as_slice.result.now)) c.in-Some.command c.in-Some.is c.in_ok-command.ensures.some in
-    differs_as setup events c.args.workers.now c.in-Some.command c.as_slice.result.now c.as_slice-2.result.now c.bio_of.result
-    (c.as_slice.ensures.value ∙ c.in_ok-done.ensures) (c.as_slice-2.ensures.value ∙ c.in_ok-ran.ensures) found
+    let found = some_of c.in_ok-command.field-0 (λ (x : Command). Contains c.as_slice.result.now x × (count_by (is_command x) (all_ran c.args.workers.now) ≢ count_by (is_command x) c.as_slice.result.now)) c.in-Some.command c.in-Some.is c.in_ok-command.ensures.some in
+    differs_as setup events c.args.workers.now c.in-Some.command c.as_slice.result.now (all_ran c.args.workers.now) c.bio_of.result
+    (c.as_slice.ensures.value ∙ c.in_ok-done.ensures) refl found
     (subst (λ (l : List Happened). IsBioOf l c.in-Some.command.id c.bio_of.result) c.events-events.ensures.events c.bio_of.ensures)
