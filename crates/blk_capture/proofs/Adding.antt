@@ -2,23 +2,21 @@
 use Rattle.std.proofs.Common.{◌≡◌, ◌≢◌, ◌<◌, ◌≤◌, ◌+◌, ◌++◌, ◌∙◌, ◌==◌, ◌&&◌, ℕ, zero, suc, Bool, true, false, cond, List, [], ◌∷◌, length, map, get_or, count_by, Option, None, Some, inl, inr, refl, sym, ap, subst, arith}
 use Rattle.std.specs.List.{slice_get}
 use Rattle.std.specs.Option.{option_and_then}
-use Rattle.std.specs.Prelude.{IfSome, IfOk, Result, Ok, Err}
+use Rattle.std.specs.Prelude.{IfSome}
 use Rattle.std.proofs.lemmas.List.{length_push, length-map, map_push, get_or-map}
 use Rattle.std.proofs.lemmas.List.Sums.{sum_by-cons}
 use Rattle.std.proofs.lemmas.Option.{slice_get_within, get_or_from_slice_get, slice_get_cases}
-use Rattle.blk_capture.specs.Fates.{told, is_taken, is_of_action, is_matched, passed_by, opened_by, made_by, IsTakenBelow, AreOfTaken}
+use Rattle.blk_capture.specs.Fates.{told, is_taken, is_of_action, is_matched, passed_by, IsTakenBelow, AreOfTaken}
 use Rattle.blk_capture.specs.Parting.{fate_at}
-use Rattle.blk_capture.specs.Passing.{place_of, passed_over}
+use Rattle.blk_capture.specs.Passing.{place_of}
 use Rattle.blk_capture.specs.Requests.{AreGone}
 use Rattle.blk_capture.specs.Rules.{Known, nothing_known, IsTold, AreTold}
-use Rattle.blk_capture.specs.Settled.{ends_in, place_by, place_in_end, place_with, captured_bio, fate_by, uncounted, all_taken, all_bios, is_absorbed}
-use Rattle.blk_capture.specs.Matched.{all_opened}
-use Rattle.blk_capture.specs.declared.requests.Matched.{Matched}
+use Rattle.blk_capture.specs.Settled.{ends_in, place_by, place_in_end, place_with, captured_bio, fate_by}
 use Rattle.blk_capture.specs.Summaries.{all_merges}
-use Rattle.blk_capture.specs.Running.{is_merge, of_merges, fate_so_far, so_far, run_count, HasTaken, IsRunOf}
+use Rattle.blk_capture.specs.Running.{is_merge, of_merges, fate_so_far, so_far, run_count, HasTaken}
 use Rattle.blk_capture.specs.Inside.Coherent.{AreLaidOut}
 use Rattle.blk_capture.specs.Inside.Matchings.{all_known}
-use Rattle.blk_capture.specs.Inside.Roles.{is_known, opens_role, makes_role, passed_role}
+use Rattle.blk_capture.specs.Inside.Roles.{adds, is_known, passed_role}
 use Rattle.blk_capture.specs.Inside.Taken.{AreWithin}
 use Rattle.blk_capture.specs.declared.fates.Fate.{Fate}
 use Rattle.blk_capture.specs.declared.fates.Fate.TheVariants as fate
@@ -36,7 +34,6 @@ use Rattle.blk_capture.specs.declared.running.Running.{Running}
 use Rattle.blk_capture.proofs.Folding.{told_more}
 use Rattle.blk_capture.proofs.Indexed.{get_pushed, get_but_last}
 use Rattle.blk_capture.proofs.Placing.{bio_place_is}
-use Rattle.blk_capture.proofs.Telling.{told_alike}
 
 -- ---- one record more
 told_longer : (o : Options) (records : List Record) (r : Record) (roles : List Role) (n : ℕ) (m : Known) → n ≤ length records → AreTold o records roles n m → AreTold o (records ++ r ∷ []) roles n m
@@ -72,6 +69,10 @@ step false n m e = omega (arith, e)
 more : (b c : Bool) (n m : ℕ) → m ≡ n + cond c 1 0 → cond b (suc m) m ≡ cond b (suc n) n + cond c 1 0
 more true c n m e = omega (arith, e)
 more false c n m e = e
+
+pub at_most_one : (b : Bool) (before n after : ℕ) → before ≤ n → after ≡ before + adds b → after ≤ n + 1
+at_most_one true before n after few more = omega (arith, few, more)
+at_most_one false before n after few more = omega (arith, few, more)
 
 -- one more of both lists
 told_both : {F : Type 0} (p : Action → F → Bool) (rs : List Record) (fs : List F) (r : Record) (f : F) → length fs ≡ length rs → told p (rs ++ r ∷ []) (fs ++ f ∷ []) ≡ told p rs fs + cond (p r.action f) 1 0
@@ -221,7 +222,7 @@ stage_within o m lives places n k q laid within there =
     let inside : k < length places = (let each = laid.each_place in let low = slice_get_within m.requests k q there in omega (arith, each, low)) in
     some_within n (get_or places k None) (place_by o m q.stage) (sym (laid.placed k q there)) (within k None inside)
 
-request_within : (o : Options) (m : Known) (lives : List MergeRoot) (places : List (Option ℕ)) (n k : ℕ) → AreLaidOut o m lives places → AreWithin n places → IfSome (place_in_end o m k) (λ j. j < n)
+pub request_within : (o : Options) (m : Known) (lives : List MergeRoot) (places : List (Option ℕ)) (n k : ℕ) → AreLaidOut o m lives places → AreWithin n places → IfSome (place_in_end o m k) (λ j. j < n)
 request_within o m lives places n k laid within = elim (slice_get_cases m.requests (ends_in m.absorptions k)).1 [
   | inl a ↦ some_within n (place_by o m a.0.stage) (place_in_end o m k) (ap (λ r. option_and_then (λ (q : Opened). place_by o m q.stage) r) a.2) (stage_within o m lives places n (ends_in m.absorptions k) a.0 laid within a.2)
   | inr a ↦ none_within n (place_in_end o m k) (ap (λ r. option_and_then (λ (q : Opened). place_by o m q.stage) r) a.1)
@@ -238,28 +239,6 @@ pub all_within : (o : Options) (m : Known) (n : ℕ) (roles : List Role) → ((p
 all_within o m n roles each k d l =
     let inside : k < length roles = omega (arith, l, length-map roles (fate_by o m)) in
     subst (IsTakenBelow n) (sym (get_or-map (fate_by o m) roles k role.Unmatched d inside)) (each (get_or roles k role.Unmatched))
-
--- ---- what is settled of records that were taken in one by one
-pub run_settled : {A E : Type 0} (o : Options) (m : Known) (records : List Record) (roles merges : List Role) (before : List Fate) (r : Result (Matched A) E)
-    → length roles ≡ length records → AreTold o records roles (length records) m → length m.requests ≡ told opens_role records roles → length m.bios ≡ told makes_role records roles → map passed_role roles ≡ map passed_over records
-    → merges ≡ of_merges records roles → before ≡ map fate_so_far roles
-    → ((p : Role) → IfOk r (λ t. IsTakenBelow (length t.requests.items) (fate_by o m p))) → IfOk r (λ t. all_opened t ≡ length m.requests) → IfOk r (λ t. length t.bios.items ≡ length m.bios)
-    → IfOk r (λ t. map uncounted t.requests.items ≡ all_taken o m) → IfOk r (λ t. t.bios.items ≡ all_bios o m) → IfOk r (λ t. t.fates.items ≡ map (fate_by o m) merges) → IfOk r (λ t. t.absorbed ≡ count_by (λ q. is_absorbed q.stage) m.requests)
-    → IfOk r (IsRunOf o records before)
-run_settled o m records roles merges before (Err e) each rules opens_are makes_are passed merges_are known within opened_are made_are taken bios fates absorbed = tt
-run_settled o m records roles merges before (Ok t) each rules opens_are makes_are passed merges_are known within opened_are made_are taken bios fates absorbed =
-    let all : List Fate = map (fate_by o m) roles in
-    record {
-      fates = all;
-      each = length-map roles (fate_by o m) ∙ each;
-      passed = all_passed o m roles ∙ passed;
-      below = all_within o m (length t.requests.items) roles within;
-      opened = opened_are ∙ opens_are ∙ sym (told_alike opened_by records all roles (all_matched o m roles));
-      made = made_are ∙ makes_are ∙ sym (told_alike made_by records all roles (all_matched o m roles));
-      matching = record { known = m; roles = roles; by_rules = rules; requests_are = taken; bios_are = bios; fates_are = refl; absorbed_are = absorbed };
-      merges = fates ∙ ap (map (fate_by o m)) merges_are ∙ sym (merges_mapped (fate_by o m) records roles);
-      known = all_so_far o m roles ∙ sym known;
-    }
 
 -- ---- no record
 pub none_taken : {A : Type 0} (r : Running A) → all_known r.matching ≡ nothing_known → r.merges.items ≡ [] → run_count r ≡ 0 → HasTaken [] [] r

@@ -18,3 +18,7 @@ pub mod Folding
 pub mod Cohering
 pub mod Placing
 pub mod Adding
+pub mod Figured
+pub mod Partly
+pub mod Placed
+pub mod Whole

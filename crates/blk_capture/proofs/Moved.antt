@@ -8,7 +8,7 @@ use Rattle.std.proofs.lemmas.Bool.{ne_eqb}
 use Rattle.std.proofs.lemmas.Bool.Decides.{eqb_tells}
 use Rattle.blk_capture.specs.Rules.{is_opened, is_inserted, is_in_flight}
 use Rattle.blk_capture.specs.Inside.LookupKeys.{Seats, has, seat, is_seat, lookup_cmp, whole_key, edge_key, MovesTo}
-use Rattle.blk_capture.specs.Inside.Indexes.{sits, IsIndexOf, AreIndexed, OpenedWhole, OpenedFirst, OpenedEnd, OpenedStart, InsertedWhole, InsertedFirst, InsertedEnd, AtDevice, part_of, stands_in, part_key, first_key, keep_first}
+use Rattle.blk_capture.specs.Inside.Indexes.{sits, IsIndexOf, AreIndexed, OpenedWhole, OpenedFirst, OpenedEnd, OpenedStart, InsertedWhole, InsertedFirst, InsertedEnd, AtDevice, stands_in, part_key, first_key, keep_first}
 use Rattle.blk_capture.specs.declared.index.MergeIndex.{MergeIndex}
 use Rattle.blk_capture.specs.declared.index.RequestIndex.{RequestIndex}
 use Rattle.blk_capture.specs.declared.lookup.KeyIndex.{KeyIndex}

@@ -27,13 +27,13 @@ use Rattle.blk_capture.specs.declared.requests.Taken.{Taken}
 use Rattle.blk_capture.proofs.Cohering.{ends_past}
 use Rattle.blk_capture.proofs.Taking.{IsTakenTo}
 
-some_is : {X : Type 0} (x y : X) → Some x ≡ Some y → x ≡ y
+pub some_is : {X : Type 0} (x y : X) → Some x ≡ Some y → x ≡ y
 some_is x y e = cc
 
-some_not : {X : Type 0} (x : X) → Some x ≡ None → ⊥
+pub some_not : {X : Type 0} (x : X) → Some x ≡ None → ⊥
 some_not x e = cc
 
-by_bool : {T : Type 0} (b : Bool) → (b ≡ true → T) → (b ≡ false → T) → T
+pub by_bool : {T : Type 0} (b : Bool) → (b ≡ true → T) → (b ≡ false → T) → T
 by_bool true so not_so = so refl
 by_bool false so not_so = not_so refl
 
@@ -42,17 +42,17 @@ enumerate_push : {X : Type 0} (a : ℕ) (xs : List X) (y : X) → enumerate_from
 enumerate_push a [] y = ap (λ n. (n, y) ∷ []) (let e : a ≡ a + 0 = omega arith in e)
 enumerate_push a (x ∷ xs) y = ap (λ ps. (a, x) ∷ ps) (enumerate_push (a + 1) xs y ∙ ap (λ n. enumerate_from (a + 1) xs ++ (n, y) ∷ []) (let e : a + 1 + length xs ≡ a + length (x ∷ xs) = omega arith in e))
 
-one_of : {X Y : Type 0} (h : X → Option Y) (x : X) (y : Y) → h x ≡ Some y → filter_map h (x ∷ []) ≡ y ∷ []
+pub one_of : {X Y : Type 0} (h : X → Option Y) (x : X) (y : Y) → h x ≡ Some y → filter_map h (x ∷ []) ≡ y ∷ []
 one_of h x y e = rw e refl
 
-none_of : {X Y : Type 0} (h : X → Option Y) (x : X) → h x ≡ None → filter_map h (x ∷ []) ≡ []
+pub none_of : {X Y : Type 0} (h : X → Option Y) (x : X) → h x ≡ None → filter_map h (x ∷ []) ≡ []
 none_of h x e = rw e refl
 
-append_none : {X : Type 0} (xs : List X) → xs ++ [] ≡ xs
+pub append_none : {X : Type 0} (xs : List X) → xs ++ [] ≡ xs
 append_none [] = refl
 append_none (x ∷ xs) = ap (λ ys. x ∷ ys) (append_none xs)
 
-taken_next : (o : Options) (m : Known) (sent : List Dispatch) (n : ℕ) (x : Dispatch) → slice_get sent n ≡ Some x → taken_from o m (take (n + 1) sent) ≡ taken_from o m (take n sent) ++ filter_map (taken_last o m) ((n, x) ∷ [])
+pub taken_next : (o : Options) (m : Known) (sent : List Dispatch) (n : ℕ) (x : Dispatch) → slice_get sent n ≡ Some x → taken_from o m (take (n + 1) sent) ≡ taken_from o m (take n sent) ++ filter_map (taken_last o m) ((n, x) ∷ [])
 taken_next o m sent n x at =
     let within : n < length sent = slice_get_within sent n x at in
     let is : get_or sent n x ≡ x = get_or_from_slice_get sent n x x at in
@@ -181,24 +181,29 @@ taken_so_same o t m places requests n x c at none so = record {
         some_not (captured o (get_or m.openers x.request 0) x.time q) (sym some ∙ none)
 
 -- one that is
-pub taken_so_put : {A : Type 0} (o : Options) (t : ℕ) (m : Known) (old new : Taken A) (n : ℕ) (x : Dispatch) (q : CapturedRequest) → IsCoherent o t m → slice_get m.dispatches n ≡ Some x → taken_last o m (n, x) ≡ Some q → IsLast m n x → Puts x.request q old new → x.request < length old.places.items
-    → IsTakenSo o m old.places.items old.requests.items n → IsTakenSo o m new.places.items new.requests.items (n + 1)
-taken_so_put o t m old new n x q c at some last put there so = record {
-  taken = put.requests ∙ ap (λ qs. qs ++ q ∷ []) so.taken ∙ ap (λ qs. taken_from o m (take n m.dispatches) ++ qs) (sym (one_of (taken_last o m) (n, x) q some)) ∙ sym (taken_next o m m.dispatches n x at);
-  placed = λ k r is. ap (λ ps. get_or ps k None) put.places ∙ elim (eqb_tells k x.request) [
+pub taken_so_more : (o : Options) (t : ℕ) (m : Known) (old new : List (Option ℕ)) (requests more : List CapturedRequest) (n : ℕ) (x : Dispatch) (q : CapturedRequest) → IsCoherent o t m → slice_get m.dispatches n ≡ Some x → taken_last o m (n, x) ≡ Some q → IsLast m n x
+    → new ≡ set old x.request (Some (length requests)) → more ≡ requests ++ q ∷ [] → x.request < length old → IsTakenSo o m old requests n → IsTakenSo o m new more (n + 1)
+taken_so_more o t m old new requests more n x q c at some last put_place put_request there so = record {
+  taken = put_request ∙ ap (λ qs. qs ++ q ∷ []) so.taken ∙ ap (λ qs. taken_from o m (take n m.dispatches) ++ qs) (sym (one_of (taken_last o m) (n, x) q some)) ∙ sym (taken_next o m m.dispatches n x at);
+  placed = λ k r is. ap (λ ps. get_or ps k None) put_place ∙ elim (eqb_tells k x.request) [
     | inl a ↦
         let same : r ≡ last.opened = some_is r last.opened (sym is ∙ ap (λ j. slice_get m.requests j) a.1 ∙ last.there) in
         let out : goes_out_by n r.stage ≡ true = ap (λ (w : Opened). goes_out_by n w.stage) same ∙ last.last in
-        ap (λ j. get_or (set old.places.items x.request (Some (length old.requests.items))) j None) a.1
-        ∙ get_or-set_same old.places.items x.request (Some (length old.requests.items)) None there
+        ap (λ j. get_or (set old x.request (Some (length requests))) j None) a.1
+        ∙ get_or-set_same old x.request (Some (length requests)) None there
         ∙ ap (λ (qs : List CapturedRequest). Some (length qs)) so.taken
         ∙ sym (here_before o m n r.stage out)
     | inr a ↦
-        get_or-set_other old.places.items x.request k (Some (length old.requests.items)) None a.1
+        get_or-set_other old x.request k (Some (length requests)) None a.1
         ∙ so.placed k r is
         ∙ by_bool (goes_out_by n r.stage) (λ out. absurd (a.1 (sym (sent_of o t m n k x r c at is out)))) (λ out. other_before o m n r.stage out)
   ];
 }
+
+pub taken_so_put : {A : Type 0} (o : Options) (t : ℕ) (m : Known) (old new : Taken A) (n : ℕ) (x : Dispatch) (q : CapturedRequest) → IsCoherent o t m → slice_get m.dispatches n ≡ Some x → taken_last o m (n, x) ≡ Some q → IsLast m n x → Puts x.request q old new → x.request < length old.places.items
+    → IsTakenSo o m old.places.items old.requests.items n → IsTakenSo o m new.places.items new.requests.items (n + 1)
+taken_so_put o t m old new n x q c at some last put there so =
+    taken_so_more o t m old.places.items new.places.items old.requests.items new.requests.items n x q c at some last put.places put.requests there so
 
 -- after the last one
 all_if : (o : Options) (t : ℕ) (m : Known) (n k l : ℕ) (q : Opened) → IsCoherent o t m → length m.dispatches ≤ n → slice_get m.requests k ≡ Some q → goes_out_by l q.stage ≡ true → if_before o m n l ≡ Some (length (taken_from o m (take l m.dispatches)))

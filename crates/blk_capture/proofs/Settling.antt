@@ -22,7 +22,7 @@ use Rattle.blk_capture.proofs.Openers.{opener_there}
 abbrev no_bio : QueuedBio
 no_bio = record { range = record { dir = Read; first = 0; end = 1 }; pid = 0; time = 0; age = 0; stage = Waiting }
 
-abbrev no_request : CapturedRequest
+abbrev pub no_request : CapturedRequest
 no_request = record { dir = Read; first = 0; sectors = 0; bios = 0; bio = 0; pid = 0; cpu = 0; queued = 0; got = 0; inserted = None; merged = None; entry = 0; released = 0; earlier = None; deadline = 0; dispatched = 0; completed = None }
 
 none_is_some : (r : ℕ) → None ≡ Some r → ⊥

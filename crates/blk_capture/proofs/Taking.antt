@@ -1,7 +1,7 @@
-use Rattle.std.proofs.Common.{ℕ, ◌≡◌, ◌≢◌, ◌<◌, ◌≤◌, ◌+◌, ◌-◌, ◌++◌, ◌∙◌, List, [], ◌∷◌, length, get_or, set, replicate, count_by, is_some, cond, zero, suc, refl, Option, None, Some, inl, inr, arith, ap, sym, subst}
+use Rattle.std.proofs.Common.{ℕ, ◌≡◌, ◌≢◌, ◌<◌, ◌≤◌, ◌+◌, ◌-◌, ◌++◌, ◌∙◌, List, [], ◌∷◌, length, get_or, set, replicate, count_by, is_some, nat_le, Bool, true, false, cond, zero, suc, refl, Option, None, Some, inl, inr, arith, ap, sym, subst}
 use Rattle.std.specs.List.{All}
 use Rattle.std.specs.List.Sorted.{IsNonDecreasingBy}
-use Rattle.std.proofs.lemmas.Bool.{cases_lt}
+use Rattle.std.proofs.lemmas.Bool.{cases_lt, leb-true}
 use Rattle.std.proofs.lemmas.List.{get_or_append_left, get_or_push, get_or-set_same, get_or-set_other, get_or_default, length_push, length-replicate, length-set}
 use Rattle.std.proofs.lemmas.List.Sums.{sum_by-set, sum_by-cons}
 use Rattle.std.proofs.lemmas.List.Sorted.{IsNonDecreasingBy-push}
@@ -117,7 +117,7 @@ placed_more lives openers places requests x q placed own of there free k h =
     ]
 
 -- one more that is put in
-taken_more : (P : CapturedRequest → Type 0) (lives : List MergeRoot) (openers : List ℕ) (dispatches : List Dispatch) (places : List (Option ℕ)) (requests : List CapturedRequest) (n : ℕ) (x : Dispatch) (q : CapturedRequest)
+pub taken_more : (P : CapturedRequest → Type 0) (lives : List MergeRoot) (openers : List ℕ) (dispatches : List Dispatch) (places : List (Option ℕ)) (requests : List CapturedRequest) (n : ℕ) (x : Dispatch) (q : CapturedRequest)
     → IsTakenTo P lives openers dispatches places requests n → IsOwn lives x.request → IsRequestOf openers x q → P q → x.request < length places → get_or places x.request None ≡ None
     → IsNonDecreasingBy (λ y. y.time) dispatches → n < length dispatches → x.time ≡ (get_or dispatches n x).time
     → IsTakenTo P lives openers dispatches (set places x.request (Some (length requests))) (requests ++ q ∷ []) (n + 1)
@@ -167,3 +167,12 @@ taken_put P lives openers dispatches old new n x q is own of is_due put there fr
 pub request_is : (o : Options) (q : Opened) (time sectors bio opener entry released deadline : ℕ) (completed : Option ℕ) → sectors ≡ q.range.end - q.range.first → bio ≡ opener → entry ≡ entry_at o q → released ≡ released_by entry q.merged → deadline ≡ deadline_of o q.range.dir entry q.earlier → completed ≡ completed_after time q.completed
     → (let r : CapturedRequest = record { dir = q.range.dir; first = q.range.first; sectors = sectors; bios = 0; bio = bio; pid = q.pid; cpu = q.cpu; queued = q.queued; got = q.got; inserted = q.inserted; merged = q.merged; entry = entry; released = released; earlier = q.earlier; deadline = deadline; dispatched = time; completed = completed } in r) ≡ captured o opener time q
 request_is o q time sectors bio opener entry released deadline completed a b c d e f = cc
+
+-- a completion that is told is no sooner
+later_if : (time t : ℕ) (b : Bool) → b ≡ nat_le time t → IfSome (cond b (Some t) None) (λ k. time ≤ k)
+later_if time t true e = leb-true time t (sym e)
+later_if time t false e = tt
+
+pub back_later : (time : ℕ) (c : Option ℕ) → IfSome (completed_after time c) (λ k. time ≤ k)
+back_later time None = tt
+back_later time (Some t) = later_if time t (nat_le time t) refl

@@ -7,3 +7,5 @@ pub mod Coherent
 pub mod Matchings
 pub mod Taken
 pub mod Tallies
+pub mod Figures
+pub mod Partly

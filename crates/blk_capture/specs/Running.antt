@@ -1,11 +1,12 @@
 -- Records that are matched one by one, of which none is kept.
-use Rattle.std.specs.Prelude.{ℕ, ◌≡◌, ◌||◌, ◌==◌, cond, Bool, List, [], ◌∷◌, ◌++◌, length, map, Result, IfOk}
+use Rattle.std.specs.Prelude.{ℕ, ◌≡◌, ◌≤◌, ◌+◌, ◌||◌, ◌==◌, cond, Bool, List, [], ◌∷◌, ◌++◌, length, map, All, Result, IfOk}
 use Rattle.blk_capture.specs.Fates.{opens, makes, told, ArePassed, AreOfTaken}
-use Rattle.blk_capture.specs.Matched.{all_opened}
+use Rattle.blk_capture.specs.Parting.{gone_before, part, bio_in, fate_in}
 use Rattle.blk_capture.specs.Passing.{place_of, passed_over}
+use Rattle.blk_capture.specs.Requests.{AreTimed, HaveBios, AreTallied, AreGone, IsDue}
 use Rattle.blk_capture.specs.Rules.{AreTold}
 use Rattle.blk_capture.specs.Settled.{IsMatching}
-use Rattle.blk_capture.specs.Summaries.{IsSummary, all_merges}
+use Rattle.blk_capture.specs.Summaries.{IsSummary}
 use Rattle.blk_capture.specs.Inside.Coherent.{IsCoherent}
 use Rattle.blk_capture.specs.Inside.Matchings.{all_known, IsSound}
 use Rattle.blk_capture.specs.Inside.Roles.{opens_role, makes_role, passed_role}
@@ -15,10 +16,11 @@ use Rattle.blk_capture.specs.declared.matching.Role.{Role}
 use Rattle.blk_capture.specs.declared.matching.Role.TheVariants as role
 use Rattle.blk_capture.specs.declared.record.Action.{Action}
 use Rattle.blk_capture.specs.declared.record.Record.{Record}
-use Rattle.blk_capture.specs.declared.requests.Matched.{Matched}
+use Rattle.blk_capture.specs.declared.requests.CapturedBio.{CapturedBio}
+use Rattle.blk_capture.specs.declared.requests.CapturedRequest.{CapturedRequest}
 use Rattle.blk_capture.specs.declared.requests.Options.{Options}
 use Rattle.blk_capture.specs.declared.running.Running.{Running}
-use Rattle.blk_capture.specs.declared.summary.Summary.{Summary}
+use Rattle.blk_capture.specs.declared.running.RunSummary.{RunSummary}
 
 -- a record of a merge, M or F; and what is said of these among all
 abbrev pub is_merge : Action → Bool
@@ -52,10 +54,12 @@ run_count r = r.count
 abbrev pub run_options : {A : Type 0} → Running A → Options
 run_options r = r.matching.options
 
--- whatever the records were: the indexes are those of the lists, and what is known agrees with itself
+-- whatever the records were: the indexes are those of the lists, what is known agrees with itself, and no more requests are known than there
+-- were records
 pub record IsSteady {A : Type 0} (r : Running A) : Type 0 where
   pub sound : IsSound r.matching
   pub coherent : IsCoherent (run_options r) (run_time r) (all_known r.matching)
+  pub few : length r.matching.requests.items ≤ run_count r
 
 -- these records were taken in, each of what its role says
 pub record HasRun {A : Type 0} (records : List Record) (roles : List Role) (r : Running A) : Type 0 where
@@ -73,31 +77,32 @@ pub record HasTaken {A : Type 0} (records : List Record) (fates : List Fate) (r 
   pub run : HasRun records roles r
   pub so_far_are : fates ≡ map fate_so_far roles
 
--- what is matched of them, beside what is said of the requests by themselves; of the fates those of the merges are kept
-pub record IsRunOf {A : Type 0} (o : Options) (records : List Record) (before : List Fate) (m : Matched A) : Type 0 where
+-- the figures of a part of them: of all that is matched, beside what is known of it, the requests from a time on, and of these the first
+pub record IsRunSummary (o : Options) (records : List Record) (before : List Fate) (begin first : ℕ) (s : RunSummary) : Type 0 where
+  pub requests : List CapturedRequest
+  pub bios : List CapturedBio
   pub fates : List Fate
+  pub absorbed : ℕ
+  pub left : ℕ
+  pub timed : AreTimed requests
+  pub due : All (IsDue o) requests
+  pub have_bios : HaveBios requests bios
+  pub tallied : AreTallied requests bios
+  pub gone : AreGone (length requests) bios
   pub each : length fates ≡ length records
   pub passed : ArePassed records fates
-  pub below : AreOfTaken (length m.requests.items) fates
-  pub opened : all_opened m ≡ told opens records fates
-  pub made : length m.bios.items ≡ told makes records fates
-  pub matching : IsMatching o records m.requests.items m.bios.items fates m.absorbed
-  pub merges : m.fates.items ≡ of_merges records fates
+  pub below : AreOfTaken (length requests) fates
+  pub opened : length requests + absorbed + left ≡ told opens records fates
+  pub made : length bios ≡ told makes records fates
+  pub matching : IsMatching o records requests bios fates absorbed
   pub known : map so_far fates ≡ before
+  pub left_are : s.left_out + length (part begin first requests) ≡ left + length requests
+  pub is_summary : IsSummary records (part begin first requests) (map (bio_in (gone_before begin requests) (length (part begin first requests))) bios) (map (fate_in (gone_before begin requests) (length (part begin first requests))) fates) s.summary
 
 -- a record more was taken in, and this is known of it at once
 abbrev pub TakesNext : {A E : Type 0} → Running A → Running A → Record → Result Fate E → Type 0
 TakesNext {A} {E} old new r known =
     (records : List Record) (before : List Fate) → HasTaken records before old → IfOk known (λ f. HasTaken (records ++ r ∷ []) (before ++ f ∷ []) new)
 
-abbrev pub SettlesRun : {A E : Type 0} → Running A → Result (Matched A) E → Type 0
-SettlesRun {A} {E} r settled = (records : List Record) (before : List Fate) → HasTaken records before r → IfOk settled (IsRunOf (run_options r) records before)
-
--- the figures of records of which so many are of merges and of requests that are taken; and of those whose fates were kept for the merges alone
-abbrev pub FiguresRun : {A E : Type 0} → ℕ → ℕ → Matched A → Result Summary E → Type 0
-FiguresRun {A} {E} count merges m s =
-    (records : List Record) (fates : List Fate) → count ≡ length records → merges ≡ all_merges records fates → IfOk s (IsSummary records m.requests.items m.bios.items fates)
-
-abbrev pub SummarizesRun : {A E : Type 0} → ℕ → Matched A → Result Summary E → Type 0
-SummarizesRun {A} {E} count m s =
-    (records : List Record) (fates : List Fate) → count ≡ length records → m.fates.items ≡ of_merges records fates → IfOk s (IsSummary records m.requests.items m.bios.items fates)
+abbrev pub SumsUpRun : {A E : Type 0} → ℕ → ℕ → Running A → Result RunSummary E → Type 0
+SumsUpRun {A} {E} begin first r summed = (records : List Record) (before : List Fate) → HasTaken records before r → IfOk summed (IsRunSummary (run_options r) records before begin first)

@@ -8,6 +8,7 @@
 mod clock;
 mod counting;
 mod fates;
+mod figures;
 mod index;
 mod lookup;
 mod matching;
@@ -19,6 +20,7 @@ mod requests;
 mod running;
 mod summary;
 mod table;
+mod taken;
 
 pub use counting::{CountedSchedule, TimedRequest, are_served, count_rounds};
 pub use fates::{ActionTally, Fate, count_passed, tally_of};
@@ -27,9 +29,8 @@ pub use record::{Action, MAX_TIME, Op, PassReason, Record};
 pub use requests::{
     CaptureFault, CapturedBio, CapturedRequest, Entry, Matched, Options, match_records, rounds_of,
 };
-pub use running::Running;
+pub use running::{RunSummary, Running};
 pub use summary::{
     MAX_STREAMED, Percentiles, Phase, Summary, completions_of, in_flight_at, summarize,
-    summarize_run,
 };
 pub use table::{RequestRow, rows_of};

@@ -19,7 +19,7 @@ fn count_before(requests: &[CapturedRequest], begin: u64) -> usize
 }
 
 /// The place among the taken ones, which are `count` from place `from` on.
-fn place_in(from: usize, count: usize, place: Option<usize>) -> Option<usize>
+pub(crate) fn place_in(from: usize, count: usize, place: Option<usize>) -> Option<usize>
     ensures { result ≡ place_in from count place }
 {
     match place {

@@ -14,7 +14,7 @@ ghost use Rattle.blk_capture.specs.declared.members.QueuedBio.{QueuedBio};
 ghost use Rattle.blk_capture.specs.Matched.{all_opened};
 ghost use Rattle.blk_capture.specs.Parting.{fate_at};
 ghost use Rattle.blk_capture.specs.Rules.{Known};
-ghost use Rattle.blk_capture.specs.Settled.{completed_after, uncounted, taken_last, all_taken, all_bios, place_in_end, fate_by, is_absorbed, IsMatching};
+ghost use Rattle.blk_capture.specs.Settled.{captured, completed_after, uncounted, taken_last, all_taken, all_bios, place_in_end, fate_by, is_absorbed, IsMatching};
 ghost use Rattle.blk_capture.specs.Inside.Matchings.{all_known};
 
 use crate::clock::Dispatch;
@@ -118,9 +118,9 @@ pub struct CapturedBio {
 
 /// What merges made of a request.
 #[derive(Clone, Copy, Debug)]
-struct MergeRoot {
+pub(crate) struct MergeRoot {
     /// The request that it was merged into in the end, or itself.
-    root: usize,
+    pub(crate) root: usize,
 }
 
 /// When a request came in.
@@ -171,7 +171,7 @@ pub(crate) fn deadline_of(options: &Options, dir: Dir, entry: u64, earlier: Opti
 }
 
 /// The request that each of `count` went into in the end.
-fn lives<A: Allocator + Clone>(
+pub(crate) fn lives<A: Allocator + Clone>(
     alloc: A,
     count: usize,
     absorptions: &[Absorption],
@@ -203,8 +203,39 @@ fn not_before(time: Option<u64>, other: u64) -> Option<u64>
     }
 }
 
+/// A request that went out for the last time at `time`, opened for the bio of a number; none of its bios is counted yet.
+pub(crate) fn captured(
+    opened: &Opened,
+    opener: usize,
+    options: &Options,
+    time: u64,
+) -> CapturedRequest
+    ensures { result ≡ captured options.now opener time opened.now }
+{
+    let entry = entry_of(opened, options);
+    CapturedRequest {
+        dir: opened.range.dir,
+        first: opened.range.first,
+        sectors: opened.range.sectors(),
+        bios: 0,
+        bio: opener,
+        pid: opened.pid,
+        cpu: opened.cpu,
+        queued: opened.queued,
+        got: opened.got,
+        inserted: opened.inserted,
+        merged: opened.merged,
+        entry,
+        released: released_by(entry, opened.merged),
+        earlier: opened.earlier,
+        deadline: deadline_of(options, opened.range.dir, entry, opened.earlier),
+        dispatched: time,
+        completed: not_before(opened.completed, time),
+    }
+}
+
 /// The request of the dispatch of a number, where that is its last one.
-fn request_of<A: Allocator + Clone>(
+pub(crate) fn request_of<A: Allocator + Clone>(
     matching: &Matching<A>,
     options: &Options,
     number: usize,
@@ -226,26 +257,12 @@ fn request_of<A: Allocator + Clone>(
     if !opened.goes_out_by(number) {
         return None;
     }
-    let entry = entry_of(&opened, options);
-    Some(CapturedRequest {
-        dir: opened.range.dir,
-        first: opened.range.first,
-        sectors: opened.range.sectors(),
-        bios: 0,
-        bio: matching.members.openers[place],
-        pid: opened.pid,
-        cpu: opened.cpu,
-        queued: opened.queued,
-        got: opened.got,
-        inserted: opened.inserted,
-        merged: opened.merged,
-        entry,
-        released: released_by(entry, opened.merged),
-        earlier: opened.earlier,
-        deadline: deadline_of(options, opened.range.dir, entry, opened.earlier),
-        dispatched: dispatch.time,
-        completed: not_before(opened.completed, dispatch.time),
-    })
+    Some(captured(
+        &opened,
+        matching.members.openers[place],
+        options,
+        dispatch.time,
+    ))
 }
 
 /// The requests that are taken, in the order of their dispatches, and for each request its place among them, if it is taken.
@@ -303,7 +320,7 @@ fn take_requests<A: Allocator + Clone>(
 }
 
 /// Of the requests that are not taken, how many were merged into others, and how many were not.
-fn count_others(requests: &[Opened], places: &[Option<usize>]) -> (u64, u64)
+pub(crate) fn count_others(requests: &[Opened], places: &[Option<usize>]) -> (u64, u64)
     requires each { length places.now ≡ length requests.now }
     requires apart { HaveNoPlace requests.now places.now }
     ensures sum { count_by is_some places.now + result.0 + result.1 ≡ length requests.now }
@@ -322,7 +339,11 @@ fn count_others(requests: &[Opened], places: &[Option<usize>]) -> (u64, u64)
 }
 
 /// The place of the request that a bio went out with, by the request that it first went into.
-fn place_of(lives: &[MergeRoot], places: &[Option<usize>], request: Option<usize>) -> Option<usize>
+pub(crate) fn place_of(
+    lives: &[MergeRoot],
+    places: &[Option<usize>],
+    request: Option<usize>,
+) -> Option<usize>
     ensures own { IsPlaceOfOwn lives.now places.now request result }
     ensures within { (n : ℕ) → AreWithin n places.now → IfSome result (λ k. k < n) }
     ensures place { (o : Options) (m : Known) → AreLaidOut o m lives.now places.now → result ≡ option_and_then (place_in_end o m) request }

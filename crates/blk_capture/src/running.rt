@@ -1,14 +1,14 @@
 //! Records that are matched one by one, of which none is kept.
 
-ghost use Rattle.std.specs.Prelude.{◌≡◌, ◌+◌, ◌++◌, ◌∷◌, ◌≤◌, ◌<◌, ◌^◌, [], cond, IfOk, OnOk, length};
-ghost use Rattle.blk_capture.specs.Requests.{AreTimed, HaveBios, AreTallied, AreGone, IsDue};
-ghost use Rattle.blk_capture.specs.Running.{is_merge, fate_so_far, run_time, run_count, run_options, IsSteady, HasTaken, TakesNext, SettlesRun};
-ghost use Rattle.std.specs.List.{All};
+ghost use Rattle.std.specs.Prelude.{◌≡◌, ◌+◌, ◌++◌, ◌∷◌, ◌≤◌, ◌<◌, ◌^◌, [], cond, IfOk, OnOk};
+ghost use Rattle.blk_capture.specs.Running.{is_merge, fate_so_far, run_time, run_count, run_options, IsSteady, HasTaken, TakesNext, SumsUpRun};
 
 use crate::fates::Fate;
 use crate::matching::{Matching, Role};
 use crate::record::{Action, Record};
-use crate::requests::{Matched, Options, settle};
+use crate::requests::Options;
+use crate::summary::{MAX_STREAMED, Summary};
+use crate::taken::{count_taken, figures_in_part};
 use std::alloc::{AllocError, Allocator, Global};
 
 /// Records of a capture that are matched as they come. Their bios and requests are kept, and of the records themselves only what those of a
@@ -20,6 +20,15 @@ pub struct Running<A: Allocator = Global> {
     merges: Vec<Role, A>,
     /// How many records there were.
     count: u64,
+}
+
+/// Records that were matched one by one, in numbers.
+#[derive(Clone, Copy, Debug, PartialEq, Eq)]
+pub struct RunSummary {
+    /// The figures of the requests that are taken, and how many records there are.
+    pub summary: Summary,
+    /// How many of the other requests weren't merged into others.
+    pub left_out: u64,
 }
 
 /// Whether an action is that of a merge.
@@ -89,23 +98,40 @@ impl<A: Allocator + Clone> Running<A> {
         Ok(fate_so_far(role))
     }
 
-    /// What is matched of the records, as [`crate::match_records`] has it, but for the fates, of which it has only those of the records of a
-    /// merge, in their order. Fails only when out of memory.
-    pub fn settle(self, alloc: A) -> Result<Matched<A>, AllocError>
+    /// The figures of the records, of the requests that went out at `begin` or later, and of these of at most `first`, those that went out
+    /// first. What was matched of bios is given back before the figures are made. At most [`crate::MAX_STREAMED`] records. Fails only when out
+    /// of memory. The time grows as n log n.
+    pub fn summary(self, alloc: A, begin: u64, first: u64) -> Result<RunSummary, AllocError>
         requires ready { IsSteady self }
-        ensures timed { IfOk result (λ m. AreTimed m.requests.items) }
-        ensures due { IfOk result (λ m. All (IsDue (run_options self)) m.requests.items) }
-        ensures bios { IfOk result (λ m. HaveBios m.requests.items m.bios.items) }
-        ensures tallied { IfOk result (λ m. AreTallied m.requests.items m.bios.items) }
-        ensures gone { IfOk result (λ m. AreGone (length m.requests.items) m.bios.items) }
-        ensures run { SettlesRun self result }
+        requires few { run_count self ≤ MAX_STREAMED }
+        ensures { SumsUpRun begin first self result }
     {
         let Running {
             matching,
             merges,
-            ..
+            count,
         } = self;
+        let taken = count_taken(alloc.clone()?, &matching, merges.as_slice(), begin, first)?;
+        drop(merges);
         let options = matching.options;
-        settle(alloc, matching, merges, &options)
+        let Matching {
+            members,
+            clock,
+            requests,
+            ..
+        } = matching;
+        drop(members);
+        let figures = figures_in_part(
+            alloc,
+            requests.as_slice(),
+            clock.dispatches.as_slice(),
+            &options,
+            begin,
+            first,
+        )?;
+        Ok(RunSummary {
+            summary: figures.summary(count, taken.bios, taken.merges),
+            left_out: taken.left_out,
+        })
     }
 }

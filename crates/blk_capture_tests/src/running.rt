@@ -1,7 +1,7 @@
 //! Records that are taken in one by one, worked by hand.
 
 use crate::given::{RecordLine, records_of, usual};
-use blk_capture::{Fate, Percentiles, Running, Summary, summarize_run};
+use blk_capture::{Fate, Percentiles, Running, Summary};
 
 /// A read that another is merged into at its back, and a completion of something else.
 const LINES: [RecordLine; 7] = [
@@ -31,9 +31,7 @@ fn one_by_one(rt: HostRuntime) {
     assert_eq!(rt; running.take(e).expect(&rt, "memory"), Fate::LeftOut);
     assert_eq!(rt; running.take(f).expect(&rt, "memory"), Fate::LeftOut);
     assert_eq!(rt; running.take(g).expect(&rt, "memory"), Fate::Unmatched);
-    let matched = running.settle(rt.alloc()).expect(&rt, "memory");
-    assert!(rt; matched.requests.len() == 1 && matched.fates.len() == 1);
-    let summary = summarize_run(rt.alloc(), 7, &matched).expect(&rt, "memory");
+    let summed = running.summary(rt.alloc(), 0, 1).expect(&rt, "memory");
     let one = |number: u64| Percentiles {
         count: 1,
         p50: Some(number),
@@ -57,5 +55,6 @@ fn one_by_one(rt: HostRuntime) {
         device: one(10),
         in_flight: 1,
     };
-    assert_eq!(rt; summary, wanted);
+    assert!(rt; summed.left_out == 0);
+    assert_eq!(rt; summed.summary, wanted);
 }

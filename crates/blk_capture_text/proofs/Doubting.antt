@@ -1,12 +1,16 @@
 -- What is known of records of which none is kept.
 use Rattle.std.proofs.Common.{◌≡◌, ◌+◌, ◌<◌, ◌∙◌, ◌++◌, ◌∷◌, ◌==◌, not, ℕ, Bool, true, false, List, [], length, drop, get_or, Option, None, Some, refl, sym, ap, arith}
-use Rattle.std.specs.List.{list_any}
+use Rattle.std.specs.List.{list_any, filter_map, cons_option}
 use Rattle.std.proofs.lemmas.List.{drop_more}
-use Rattle.std.specs.Prelude.{◌||◌, if◌then◌else◌}
+use Rattle.std.proofs.lemmas.List.Sorted.{length_permutation}
+use Rattle.std.specs.Prelude.{◌||◌, if◌then◌else◌, is_some}
+use Rattle.blk_capture.specs.Summaries.{time_in, until_known, ArePercentiles}
 use Rattle.blk_capture.specs.declared.record.Action.{Action}
 use Rattle.blk_capture.specs.declared.record.Action.TheVariants as action
 use Rattle.blk_capture.specs.declared.requests.CapturedRequest.{CapturedRequest}
 use Rattle.blk_capture.specs.declared.record.Record.{Record}
+use Rattle.blk_capture.specs.declared.summary.Percentiles.{Percentiles}
+use Rattle.blk_capture.specs.declared.summary.Phase.TheVariants.{Device}
 use Rattle.blk_capture_text.specs.Counts.{no_records, counted_with, counted_from, records_counted}
 use Rattle.blk_capture_text.specs.Doubts.{still_from, count_still, tells_action, has_action, lacked_action, is_completed, has_nothing_whole}
 use Rattle.blk_capture_text.specs.declared.counts.RecordCounts.{RecordCounts}
@@ -135,3 +139,21 @@ lacks_none true true true true a b e f = refl
 -- records, and none of the requests was completed
 pub nothing_whole : (c : RecordCounts) (rs : List Record) (qs : List CapturedRequest) → c ≡ records_counted rs → has_nothing_whole rs qs ≡ (if c.records == 0 then false else not (list_any is_completed qs))
 nothing_whole c rs qs e = ap (λ (n : ℕ). if n == 0 then false else not (list_any is_completed qs)) (sym (records_known c rs e))
+
+-- some request was completed just where some was at the device for a time that is known
+any_more : (c : Option ℕ) (d : ℕ) (b : Bool) (xs : List ℕ) → b ≡ not (length xs == 0) → (is_some c || b) ≡ not (length (cons_option (until_known d c) xs) == 0)
+any_more None d b xs e = e
+any_more (Some t) d b xs e = refl
+
+any_completed : (qs : List CapturedRequest) → list_any is_completed qs ≡ not (length (filter_map (time_in Device) qs) == 0)
+any_completed [] = refl
+any_completed (q ∷ qs) = any_more q.completed q.dispatched (list_any is_completed qs) (filter_map (time_in Device) qs) (any_completed qs)
+
+not_twice : (b : Bool) → not (not b) ≡ b
+not_twice true = refl
+not_twice false = refl
+
+pub none_completed : (qs : List CapturedRequest) (p : Percentiles) → ArePercentiles (filter_map (time_in Device) qs) p → (p.count == 0) ≡ not (list_any is_completed qs)
+none_completed qs p are =
+    ap (λ (n : ℕ). n == 0) (ap (λ (s : Percentiles). s.count) are.are ∙ length_permutation (filter_map (time_in Device) qs) are.sorted are.same)
+    ∙ sym (ap not (any_completed qs) ∙ not_twice (length (filter_map (time_in Device) qs) == 0))

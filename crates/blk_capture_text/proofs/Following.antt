@@ -3,12 +3,11 @@ use Rattle.std.proofs.Common.{◌≡◌, ◌≢◌, ◌+◌, ◌∙◌, ◌++◌
 use Rattle.std.proofs.lemmas.Bool.{ne_eqb}
 use Rattle.std.proofs.lemmas.List.{length-map, length_push}
 use Rattle.blk_capture.specs.Parting.{fate_in, fate_at, place_in}
-use Rattle.blk_capture.specs.Running.{fate_so_far, so_far, of_merges, HasTaken, run_count}
+use Rattle.blk_capture.specs.Running.{fate_so_far, so_far, HasTaken, run_count}
 use Rattle.blk_capture.specs.declared.fates.Fate.{Fate}
 use Rattle.blk_capture.specs.declared.fates.Fate.TheVariants as fate
 use Rattle.blk_capture.specs.declared.record.Record.{Record}
 use Rattle.blk_capture.specs.declared.running.Running.{Running}
-use Rattle.blk_capture.proofs.Adding.{merges_mapped}
 use Rattle.blk_capture_text.specs.Imports.{first_time}
 use Rattle.blk_capture_text.specs.Streaming.{MayFollow}
 use Rattle.blk_capture_text.specs.SummaryText.{counts_of}
@@ -57,6 +56,3 @@ all_known_in from n (f ∷ fates) = ap (λ (g : Fate). g ∷ map so_far (map (fa
 -- what was counted at once is what is counted of the part in the end
 pub counted_in : (from n : ℕ) (fates before : List Fate) (u : UnusedCounts) → map so_far fates ≡ before → u ≡ counts_of before → u ≡ counts_of (map (fate_in from n) fates)
 counted_in from n fates before u known e = e ∙ ap counts_of (sym known) ∙ ap counts_of (sym (all_known_in from n fates)) ∙ counts_so_far (map (fate_in from n) fates)
-
-pub merges_in : (from n : ℕ) (records : List Record) (fates kept part : List Fate) → kept ≡ of_merges records fates → part ≡ map (fate_in from n) kept → part ≡ of_merges records (map (fate_in from n) fates)
-merges_in from n records fates kept part is parted = parted ∙ ap (map (fate_in from n)) is ∙ sym (merges_mapped (fate_in from n) records fates)

@@ -7,6 +7,7 @@ use Rattle.blk_capture.specs.Summaries.{IsSummary}
 use Rattle.blk_capture.specs.declared.fates.Fate.{Fate}
 use Rattle.blk_capture.specs.declared.record.Record.{Record}
 use Rattle.blk_capture.specs.declared.requests.CapturedBio.{CapturedBio}
+use Rattle.blk_capture.specs.declared.requests.CapturedRequest.{CapturedRequest}
 use Rattle.blk_capture.specs.declared.requests.Options.{Options}
 use Rattle.blk_capture_text.specs.Counts.{records_counted}
 use Rattle.blk_capture_text.specs.Imports.{IsImport, first_time}
@@ -46,10 +47,11 @@ pub record HasStreamed (records : List Record) (s : Streamed) : Type 0 where
 
 -- the capture in numbers, of those that are asked for
 pub record IsStreamed (records : List Record) (asked : ImportAsked) (s : StreamedSummary) : Type 0 where
+  pub requests : List CapturedRequest
   pub bios : List CapturedBio
   pub fates : List Fate
   pub absorbed : ℕ
-  pub is_import : IsImport records asked s.requests.items bios fates absorbed s.left_out
-  pub is_summary : IsSummary records s.requests.items bios fates s.summary
+  pub is_import : IsImport records asked requests bios fates absorbed s.left_out
+  pub is_summary : IsSummary records requests bios fates s.summary
   pub unused : s.unused ≡ counts_of fates
   pub counts : s.counts ≡ records_counted records

@@ -1,11 +1,15 @@
 //! What is asked of the records of a capture of which none is kept.
 
 ghost use Rattle.std.specs.Prelude.{◌≡◌, ◌+◌, ◌<◌, ◌≤◌, ◌^◌, List, length};
+ghost use Rattle.std.specs.List.{filter_map};
+ghost use Rattle.blk_capture.specs.Summaries.{time_in, ArePercentiles};
+ghost use Rattle.blk_capture.specs.declared.requests.CapturedRequest.{CapturedRequest};
+ghost use Rattle.blk_capture.specs.declared.summary.Phase.TheVariants.{Device};
 ghost use Rattle.blk_capture_text.specs.Counts.{no_records, counted_with, records_counted};
 ghost use Rattle.blk_capture_text.specs.Doubts.{is_still, lacked_action, has_nothing_whole};
 
-use crate::doubts::{has_completed, one_if_at, tells_action};
-use blk_capture::{Action, CapturedRequest, Record};
+use crate::doubts::{one_if_at, tells_action};
+use blk_capture::{Action, Percentiles, Record};
 
 /// What is asked of the records of a capture where something of it may be dubious. It is known of each record after those before it, so that
 /// none need be kept.
@@ -106,12 +110,13 @@ impl RecordCounts {
     }
 
     /// Whether there are records, and no request of which it is known when it came in, went out and was completed.
-    pub fn has_nothing_whole(&self, requests: &[CapturedRequest]) -> bool
-        ensures { (rs : List Record) → self.now ≡ records_counted rs → result ≡ has_nothing_whole rs requests.now }
+    /// `device` tells how long the requests that are taken were at the device.
+    pub fn has_nothing_whole(&self, device: &Percentiles) -> bool
+        ensures { (rs : List Record) (qs : List CapturedRequest) → self.now ≡ records_counted rs → ArePercentiles (filter_map (time_in Device) qs) device.now → result ≡ has_nothing_whole rs qs }
     {
         if self.records == 0 {
             return false;
         }
-        !has_completed(requests)
+        device.count == 0
     }
 }

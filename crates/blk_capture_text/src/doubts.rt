@@ -1,10 +1,9 @@
 //! What of a capture is dubious.
 
 ghost use Rattle.std.specs.Prelude.{◌≡◌, ◌+◌, ◌<◌, ◌≤◌, ◌^◌};
-ghost use Rattle.std.specs.List.{list_any};
-ghost use Rattle.blk_capture_text.specs.Doubts.{is_at, one_if_at, tells_action, is_completed};
+ghost use Rattle.blk_capture_text.specs.Doubts.{is_at, one_if_at, tells_action};
 
-use blk_capture::{Action, CapturedRequest, Record};
+use blk_capture::{Action, Record};
 
 /// Whether a time is the last one, if there is one.
 fn is_at(last: Option<u64>, time: u64) -> bool
@@ -30,18 +29,4 @@ pub(crate) fn tells_action(record: &Record, action: Action) -> bool
     ensures { result ≡ tells_action action record.now }
 {
     record.action.place() == action.place()
-}
-
-/// Whether a request was completed: when it came in and went out is known of each.
-fn is_completed(request: &CapturedRequest) -> bool
-    ensures { result ≡ is_completed request.now }
-{
-    request.completed.is_some()
-}
-
-/// Whether some request was completed.
-pub(crate) fn has_completed(requests: &[CapturedRequest]) -> bool
-    ensures { result ≡ list_any is_completed requests.now }
-{
-    requests.iter().any(|request| is_completed(request))
 }

@@ -8,9 +8,7 @@ ghost use Rattle.blk_capture_text.specs.Inside.Along.{GoBehind};
 use crate::counts::RecordCounts;
 use crate::importing::ImportAsked;
 use crate::numbers::UnusedCounts;
-use blk_capture::{
-    CapturedRequest, MAX_STREAMED, Options, Record, Running, Summary, part_of, summarize_run,
-};
+use blk_capture::{MAX_STREAMED, Options, Record, RunSummary, Running, Summary};
 use std::alloc::{AllocError, Global};
 
 /// What is known of the records of a capture, one after another: how they are matched, and how many they are.
@@ -26,12 +24,10 @@ pub struct Streamed {
 /// A capture in numbers, as it was read.
 #[derive(Drop)]
 pub struct StreamedSummary {
-    /// The requests that are taken.
-    pub requests: Vec<CapturedRequest>,
-    /// How many of the others weren't merged into others.
-    pub left_out: u64,
-    /// Their figures, and how many records there are.
+    /// The figures of the requests that are taken, and how many records there are.
     pub summary: Summary,
+    /// How many of the other requests weren't merged into others.
+    pub left_out: u64,
     /// What became of the records of no known request.
     pub unused: UnusedCounts,
     /// What is asked of the records where something is dubious.
@@ -117,14 +113,11 @@ impl Streamed {
             unused,
             first,
         } = self;
-        let whole = running.settle(alloc)?;
         let begin = begin_from(first, asked.skip);
-        let part = part_of(alloc, whole, begin, asked.first)?;
-        let summary = summarize_run(alloc, counts.records, &part)?;
+        let RunSummary { summary, left_out } = running.summary(alloc, begin, asked.first)?;
         Ok(StreamedSummary {
-            requests: part.requests,
-            left_out: part.left_out,
             summary,
+            left_out,
             unused,
             counts,
         })

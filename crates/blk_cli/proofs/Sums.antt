@@ -3,7 +3,6 @@ use Rattle.std.proofs.Common.{◌≡◌, ◌∙◌, true, ℕ, List, Option, Non
 use Rattle.answer.specs.Lines.{answer_lines}
 use Rattle.answer.specs.declared.answer.Part.{Part}
 use Rattle.blk_capture.specs.declared.record.Record.{Record}
-use Rattle.blk_capture.specs.declared.requests.CapturedRequest.{CapturedRequest}
 use Rattle.blk_capture_text.specs.Imports.{IsImport}
 use Rattle.blk_capture_text.specs.Streaming.{IsStreamed}
 use Rattle.blk_capture_text.specs.SummaryText.{summary_parts, counts_of}
@@ -16,25 +15,23 @@ use Rattle.blk_cli.specs.Importing.{asked_of, tags_asked, noted, SaysFrom, IsSum
 use Rattle.blk_cli.specs.Notes.{IsDoubtTold, SaysDoubt}
 use Rattle.blk_cli.specs.Said.{Said}
 
-pub sums_up : (i : Import) (records : List Record) (printed : Option Printed) (asked : ImportAsked) (sum : StreamedSummary) (seen : List CapturedRequest) (tags : ℕ) (parts : List Part) (text told : List ℕ) (note : Option (List ℕ)) (s : Said)
-    → asked ≡ asked_of i → IsStreamed records asked sum → seen ≡ sum.requests.items → tags ≡ tags_asked i.source.tags
-    → parts ≡ summary_parts sum.summary sum.left_out sum.unused → text ≡ answer_lines parts → SaysDoubt sum.counts seen sum.summary.in_flight tags sum.unused.unmatched told
+pub sums_up : (i : Import) (records : List Record) (printed : Option Printed) (asked : ImportAsked) (sum : StreamedSummary) (tags : ℕ) (parts : List Part) (text told : List ℕ) (note : Option (List ℕ)) (s : Said)
+    → asked ≡ asked_of i → IsStreamed records asked sum → tags ≡ tags_asked i.source.tags
+    → parts ≡ summary_parts sum.summary sum.left_out sum.unused → text ≡ answer_lines parts → SaysDoubt sum.counts sum.summary tags sum.unused.unmatched told
     → note ≡ noted told None → SaysFrom printed sum.counts (record { text = text; note = note; good = true }) s → IsSummed i records printed s
-sums_up i records printed asked sum seen tags parts text told note s same st view by are_parts is_text doubts is_note said =
-    let told_of : IsDoubtTold records seen sum.summary.in_flight tags sum.unused.unmatched told = doubts records st.counts in
-    let of_taken : IsDoubtTold records sum.requests.items sum.summary.in_flight tags sum.unused.unmatched told =
-    subst (λ l. IsDoubtTold records l sum.summary.in_flight tags sum.unused.unmatched told) view told_of in
-    let of_tags : IsDoubtTold records sum.requests.items sum.summary.in_flight (tags_asked i.source.tags) sum.unused.unmatched told =
-    subst (λ n. IsDoubtTold records sum.requests.items sum.summary.in_flight n sum.unused.unmatched told) by of_taken in
+sums_up i records printed asked sum tags parts text told note s same st by are_parts is_text doubts is_note said =
+    let of_taken : IsDoubtTold records st.requests sum.summary.in_flight tags sum.unused.unmatched told = doubts records st.requests st.counts st.is_summary.device_is in
+    let of_tags : IsDoubtTold records st.requests sum.summary.in_flight (tags_asked i.source.tags) sum.unused.unmatched told =
+    subst (λ n. IsDoubtTold records st.requests sum.summary.in_flight n sum.unused.unmatched told) by of_taken in
     record {
       base = record { text = text; note = note; good = true };
       summary_of = record {
-        requests = sum.requests.items;
+        requests = st.requests;
         bios = st.bios;
         fates = st.fates;
         absorbed = st.absorbed;
         left_out = sum.left_out;
-        is_import = subst (λ a. IsImport records a sum.requests.items st.bios st.fates st.absorbed sum.left_out) same st.is_import;
+        is_import = subst (λ a. IsImport records a st.requests st.bios st.fates st.absorbed sum.left_out) same st.is_import;
         parts = parts;
         is_answer = (sum.summary, st.is_summary, are_parts ∙ ap (summary_parts sum.summary sum.left_out) st.unused);
         is_text = is_text;
@@ -42,7 +39,7 @@ sums_up i records printed asked sum seen tags parts text told note s same st vie
           most = sum.summary.in_flight;
           is_most = st.is_summary.in_flight_is;
           told = told;
-          doubts = subst (λ (u : UnusedCounts). IsDoubtTold records sum.requests.items sum.summary.in_flight (tags_asked i.source.tags) u.unmatched told) st.unused of_tags;
+          doubts = subst (λ (u : UnusedCounts). IsDoubtTold records st.requests sum.summary.in_flight (tags_asked i.source.tags) u.unmatched told) st.unused of_tags;
           is = is_note;
         };
         good = refl;

@@ -1,7 +1,11 @@
 -- What is said beside what is written of a capture. Which words, the cases say: here stands when a line is said.
 use Rattle.std.specs.Prelude.{ℕ, ◌≡◌, ◌≢◌, ◌/◌, ◌++◌, Bool, true, false, nat_lt, List, [], length, Option, None, Some, is_some}
+use Rattle.std.specs.List.{filter_map}
+use Rattle.blk_capture.specs.Summaries.{time_in, ArePercentiles}
 use Rattle.blk_capture.specs.declared.record.Record.{Record}
 use Rattle.blk_capture.specs.declared.requests.CapturedRequest.{CapturedRequest}
+use Rattle.blk_capture.specs.declared.summary.Phase.TheVariants.{Device}
+use Rattle.blk_capture.specs.declared.summary.Summary.{Summary}
 use Rattle.blk_capture_text.specs.Counts.{records_counted}
 use Rattle.blk_capture_text.specs.Doubts.{is_still, has_nothing_whole}
 use Rattle.blk_capture_text.specs.declared.counts.RecordCounts.{RecordCounts}
@@ -45,5 +49,6 @@ pub record IsDoubtTold (records : List Record) (requests : List CapturedRequest)
 abbrev pub SaysSource : Option Printed → RecordCounts → List ℕ → Type 0
 SaysSource p counts told = (rs : List Record) → counts ≡ records_counted rs → IsSourceTold p rs told
 
-abbrev pub SaysDoubt : RecordCounts → List CapturedRequest → ℕ → ℕ → ℕ → List ℕ → Type 0
-SaysDoubt counts requests most tags unmatched told = (rs : List Record) → counts ≡ records_counted rs → IsDoubtTold rs requests most tags unmatched told
+abbrev pub SaysDoubt : RecordCounts → Summary → ℕ → ℕ → List ℕ → Type 0
+SaysDoubt counts s tags unmatched told =
+    (rs : List Record) (qs : List CapturedRequest) → counts ≡ records_counted rs → ArePercentiles (filter_map (time_in Device) qs) s.device → IsDoubtTold rs qs s.in_flight tags unmatched told

@@ -280,8 +280,7 @@ fn summed(alloc: Global, wanted: Import, capture: StreamedCapture) -> Result<Ans
     let Ok(doubts) = doubt_text(
         alloc,
         &sum.counts,
-        sum.requests.as_slice(),
-        sum.summary.in_flight,
+        &sum.summary,
         tags_asked(wanted.source.tags),
         sum.unused.unmatched,
     ) else {

@@ -3,7 +3,7 @@
 ghost use Rattle.std.specs.Prelude.{◌≡◌, ◌/◌, IfOk, is_some, nat_lt};
 ghost use Rattle.blk_cli.specs.Notes.{IsToldIf, has_losses, SaysSource, SaysDoubt, is_much};
 
-use blk_capture::{Action, CapturedRequest};
+use blk_capture::{Action, Summary};
 use blk_capture_text::{Printed, RecordCounts};
 use std::alloc::{AllocError, Global};
 
@@ -153,17 +153,16 @@ fn nothing_text(
 pub fn doubt_text(
     alloc: Global,
     counts: &RecordCounts,
-    requests: &[CapturedRequest],
-    most: u64,
+    summary: &Summary,
     tags: u64,
     unmatched: u64,
 ) -> Result<Vec<u8>, AllocError>
-    ensures { IfOk result (λ told. SaysDoubt counts.now requests.now most tags unmatched told.items) }
+    ensures { IfOk result (λ told. SaysDoubt counts.now summary.now tags unmatched told.items) }
 {
-    let mut told = crowd_text(alloc, most, tags)?;
+    let mut told = crowd_text(alloc, summary.in_flight, tags)?;
     let much = unmatched_text(alloc, unmatched, counts.count())?;
     told.extend_from_slice(much.as_slice())?;
-    let has_nothing = counts.has_nothing_whole(requests);
+    let has_nothing = counts.has_nothing_whole(&summary.device);
     let nothing = nothing_text(alloc, has_nothing, counts.lacked_action())?;
     told.extend_from_slice(nothing.as_slice())?;
     Ok(told)

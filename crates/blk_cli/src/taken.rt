@@ -68,8 +68,7 @@ fn note_on(
     let doubts = doubt_text(
         alloc,
         &RecordCounts::of(records),
-        matched.requests.as_slice(),
-        summary.in_flight,
+        &summary,
         tags,
         counts.unmatched,
     )?;

@@ -1,6 +1,6 @@
-use Rattle.std.proofs.Common.{◌≡◌, ◌∙◌, ℕ, List, length, map, sym, ap, subst, arith}
+use Rattle.std.proofs.Common.{◌≡◌, ◌∙◌, List, length, map, sym, ap, subst, arith}
 use Rattle.std.proofs.lemmas.List.{length-map}
-use Rattle.blk_capture.specs.Parting.{gone_before, part, bio_in, fate_in}
+use Rattle.blk_capture.specs.Parting.{gone_before, bio_in, fate_in}
 use Rattle.blk_capture.specs.Requests.{AreTimed}
 use Rattle.blk_capture.specs.declared.requests.CapturedRequest.{CapturedRequest}
 use Rattle.blk_capture.proofs.Parted.{length_part, part_is, part_timed, written}

@@ -10,8 +10,8 @@ returns-in-Ok c =
     let counted : c.count_fates-counts.result ≡ counts_of c.args.matched.now.fates.items = c.count_fates-counts.ensures ∙ ap counts_of c.as_slice.ensures.value in
     let most = c.in_ok-summary.summary.in_flight in
     let told = c.in_ok-doubts.doubts.items in
-    let of_seen = c.in_ok-doubts.ensures c.args.records.now c.of.ensures in
-    let of_requests = subst (λ l. IsDoubtTold c.args.records.now l most c.args.tags c.count_fates-counts.result.unmatched told) c.as_slice-2.ensures.value of_seen in
+    let of_requests : IsDoubtTold c.args.records.now c.args.matched.now.requests.items most c.args.tags c.count_fates-counts.result.unmatched told =
+    c.in_ok-doubts.ensures c.args.records.now c.args.matched.now.requests.items c.of.ensures c.in_ok-summary.ensures.device_is in
     record {
       most = most;
       is_most = c.in_ok-summary.ensures.in_flight_is;

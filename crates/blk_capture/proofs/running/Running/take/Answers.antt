@@ -13,7 +13,7 @@ use Rattle.blk_capture.specs.declared.requests.Options.{Options}
 use Rattle.blk_capture.proofs.Cohering.{coherent_told}
 use Rattle.blk_capture.proofs.Folding.{rule_of}
 use Rattle.blk_capture.proofs.Growing.{told_grows}
-use Rattle.blk_capture.proofs.Adding.{told_on, told_next_of, mapped_both, merge_kept}
+use Rattle.blk_capture.proofs.Adding.{at_most_one, told_on, told_next_of, mapped_both, merge_kept}
 use Rattle.blk_capture.proofs.running.Running.take.Goals as goal
 
 pub returns-clause-ready : goal.returns-clause-ready
@@ -31,6 +31,7 @@ returns-clause-ready g c =
           subst (λ p. IsCoherent p c.take.new.self.clock.now after) (sym (c.in_ok-role.ensures.rest.options ∙ c.set_time.ensures.options))
           (subst (λ t. IsCoherent o t after) (sym (c.in_ok-role.ensures.rest.now ∙ c.set_time.ensures.now))
           (coherent_told o n c.args.self.now.matching.clock.now r before (after, role) c.requires.time c.requires.ready.coherent rule));
+      few = let few = c.requires.ready.few in at_most_one _ (length before.requests) n (length after.requests) few (told_grows (passed_over r) o n r before (after, role) rule).0;
     }
 
 pub returns-clause-taken : goal.returns-clause-taken
