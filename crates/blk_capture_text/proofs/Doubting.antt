@@ -1,6 +1,7 @@
 -- What is known of records of which none is kept.
-use Rattle.std.proofs.Common.{◌≡◌, ◌+◌, ◌<◌, ◌∙◌, ◌++◌, ◌∷◌, ◌==◌, not, ℕ, Bool, true, false, List, [], length, drop, get_or, Option, None, Some, refl, sym, ap, arith}
+use Rattle.std.proofs.Common.{◌≡◌, ◌+◌, ◌-◌, ◌<◌, ◌∙◌, ◌++◌, ◌∷◌, ◌==◌, not, ℕ, Bool, true, false, List, [], length, drop, get_or, Option, None, Some, refl, sym, ap, arith}
 use Rattle.std.specs.List.{list_any, filter_map, cons_option}
+use Rattle.std.proofs.lemmas.Bool.{ne_eqb}
 use Rattle.std.proofs.lemmas.List.{drop_more}
 use Rattle.std.proofs.lemmas.List.Sorted.{length_permutation}
 use Rattle.std.specs.Prelude.{◌||◌, if◌then◌else◌, is_some}
@@ -143,7 +144,7 @@ nothing_whole c rs qs e = ap (λ (n : ℕ). if n == 0 then false else not (list_
 -- some request was completed just where some was at the device for a time that is known
 any_more : (c : Option ℕ) (d : ℕ) (b : Bool) (xs : List ℕ) → b ≡ not (length xs == 0) → (is_some c || b) ≡ not (length (cons_option (until_known d c) xs) == 0)
 any_more None d b xs e = e
-any_more (Some t) d b xs e = refl
+any_more (Some t) d b xs e = sym (ap not (ne_eqb (length (cons_option (until_known d (Some t)) xs)) 0 (λ none. let is : length ((t - d) ∷ xs) ≡ 0 = none in omega (arith, is))))
 
 any_completed : (qs : List CapturedRequest) → list_any is_completed qs ≡ not (length (filter_map (time_in Device) qs) == 0)
 any_completed [] = refl
