@@ -9,6 +9,7 @@ use blk_capture::Record;
 use blk_capture_text::read_capture;
 use blk_records::Records;
 use blk_text::read_script;
+use edd_commands::Fault;
 use std::alloc::Global;
 use std::process::Abort;
 
