@@ -14,18 +14,23 @@ use blk_recorders::{CaptureForm, Device, FIRST_LINES, LineFault, Recorder};
 use blk_records::{Records, TextFault, TextReason};
 use std::alloc::Global;
 use std::io::Read;
+use thiserror::Error;
 
 /// How many bytes are asked for at once.
 const PART: usize = 1 << 20;
 
 /// Why a capture isn't put in numbers.
-#[derive(Debug, Drop)]
+#[derive(Debug, Drop, Error)]
+#[error("{:?}", self)]
 pub enum Unstreamed {
     /// A record of the form `blk-capture` is wrong; with all bytes.
+    #[error("{0}")]
     Text(TextFault, Vec<u8>),
     /// A line that a recorder printed is wrong.
+    #[error(transparent)]
     Line(LineFault),
     /// The reader failed, or memory ran out as it was read.
+    #[error(transparent)]
     Outside(TextReason),
     /// Memory ran out.
     Memory,
@@ -87,7 +92,7 @@ fn read_first<R: Read + Drop>(
                 is_whole: false,
             });
         }
-        let count = match records.read_bytes(alloc, part) {
+        let count = match records.read_bytes(part) {
             Ok(count) => count,
             Err(why) => return Err(why),
         };
@@ -119,7 +124,7 @@ fn take_rest<R: Read + Drop>(
     ensures { EndsRestOf recorder device records.old.bytes records.new.failed stream.old stream.new result }
 {
     for _ in 0..u64::MAX {
-        let count = match records.read_bytes(alloc, part) {
+        let count = match records.read_bytes(part) {
             Ok(count) => count,
             Err(why) => return Err(Unstreamed::Outside(why)),
         };

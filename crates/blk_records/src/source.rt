@@ -5,8 +5,8 @@ ghost use Rattle.std.specs.Io.KnownBytes.{Consumes, IsAtEnd};
 ghost use Rattle.csv.specs.Reading.{reader_source};
 ghost use Rattle.csv.specs.Records.{fields_of};
 ghost use Rattle.blk_records.specs.Sources.{Source, TakesRecord, input_of, left_of};
-ghost use Rattle.blk_records.specs.Inside.Sources.{IsPlainReader};
-ghost use Rattle.blk_records.specs.Watching.{left_in, failed_in};
+ghost use Rattle.blk_records.specs.Inside.Sources.{IsPlainReader, IsPlainInput, IsOpen};
+ghost use Rattle.blk_records.specs.Watching.{left_in, failed_in, input_left, input_bytes, input_failed};
 ghost use Rattle.blk_records.specs.Reads.{IsOutside};
 
 use crate::fault::{TextFault, TextReason};
@@ -22,22 +22,32 @@ use std::mem::replace;
 /// from 1. A read that a signal interrupts is made again.
 #[derive(Drop)]
 pub struct Records<R: Read> {
-    rdr: Reader<Holder<R>>,
+    input: Input<R>,
     row: ByteRecord,
     at: u64,
+    alloc: Global,
+}
+
+/// Where records come from.
+#[derive(Drop)]
+enum Input<R: Read> {
+    /// A reader of bytes, of which no record was asked for yet.
+    Bytes(Holder<R>),
+    /// The CSV reader over it.
+    Rows(Reader<Holder<R>>),
 }
 
 impl<R: Read> Model for Records<R> {
     ghost use Rattle.blk_records.specs.Sources.{Source};
-    ghost use Rattle.blk_records.specs.Inside.Sources.{IsPlainReader};
+    ghost use Rattle.blk_records.specs.Inside.Sources.{IsPlainInput};
     ghost use Rattle.blk_records.specs.Watching.{source_in};
     ghost use Rattle.csv.specs.Records.{fields_of};
 
     ghost Value = { Source };
 
-    ghost view = { λ a. source_in R.remaining a.rdr (fields_of a.row) a.at };
+    ghost view = { λ a. source_in R.remaining a.input (fields_of a.row) a.at };
 
-    ghost invariant = { λ a. IsPlainReader a.rdr };
+    ghost invariant = { λ a. IsPlainInput a.input };
 }
 
 /// The CSV reader over this, of which nothing is read yet.
@@ -52,6 +62,35 @@ fn plain_over<R: Read>(alloc: Global, holder: Holder<R>) -> Reader<Holder<R>>
         .from_reader(alloc, holder)
 }
 
+/// The reader of bytes that an input has.
+fn holder_of<R: Read>(input: Input<R>) -> Holder<R>
+    ensures left { left_in R.remaining result ≡ input_bytes R.remaining input }
+    ensures failed { failed_in result ≡ input_failed input }
+{
+    match input {
+        Input::Bytes(holder) => holder,
+        Input::Rows(rdr) => rdr.into_inner(),
+    }
+}
+
+/// Makes the CSV reader where there is none: it is large, and who asks for bytes alone, or for nothing, needs none.
+#[inline(always)]
+fn open<R: Read>(alloc: Global, input: &mut Input<R>)
+    requires { IsPlainInput input.old }
+    ensures open { IsOpen input.new }
+    ensures left { input_left R.remaining input.new ≡ input_left R.remaining input.old }
+    ensures bytes { input_bytes R.remaining input.new ≡ input_bytes R.remaining input.old }
+    ensures failed { input_failed input.new ≡ input_failed input.old }
+{
+    if let Input::Bytes(holder) = input {
+        let held = replace(holder, Holder::empty());
+        match replace(input, Input::Rows(plain_over(alloc, held))) {
+            Input::Bytes(holder) => holder.over(),
+            Input::Rows(_) => unreachable!(),
+        }
+    }
+}
+
 impl<R: Read> Records<R> {
     /// The records of a reader, none of which is read yet. This takes no memory and asks the reader for nothing.
     pub fn new(alloc: Global, reader: R) -> Records<R>
@@ -61,9 +100,10 @@ impl<R: Read> Records<R> {
         ensures fresh { result.failed ≡ false }
     {
         Records {
-            rdr: plain_over(alloc, Holder::of(Watched::new(reader))),
+            input: Input::Bytes(Holder::of(Watched::new(reader))),
             row: ByteRecord::new(alloc),
             at: 0,
+            alloc,
         }
     }
 
@@ -94,7 +134,11 @@ impl<R: Read> Records<R> {
         ensures read { self.now.failed ≡ true → result ≡ TextReason.Read }
         ensures memory { self.now.failed ≡ false → result ≡ TextReason.Memory }
     {
-        if self.rdr.get_ref().has_failed() {
+        let failed = match &self.input {
+            Input::Bytes(holder) => holder.has_failed(),
+            Input::Rows(rdr) => rdr.get_ref().has_failed(),
+        };
+        if failed {
             TextReason::Read
         } else {
             TextReason::Memory
@@ -111,7 +155,11 @@ impl<R: Read> Records<R> {
         ensures told { IfErr result (λ f. self.new.failed ≡ true → f.why ≡ TextReason.Read) }
     {
         self.at += 1;
-        match self.rdr.read_byte_record(&mut self.row) {
+        open(self.alloc, &mut self.input);
+        let Input::Rows(rdr) = &mut self.input else {
+            unreachable!()
+        };
+        match rdr.read_byte_record(&mut self.row) {
             Ok(found) => Ok(found),
             Err(e) => match e.kind() {
                 ErrorKind::Io(_) | ErrorKind::OutOfMemory => Err(self.fault(self.outside())),
@@ -130,11 +178,10 @@ impl<R: Read + Drop> Records<R> {
         // a read that failed is reported as nothing else
         ensures told { IfErr result (λ why. self.new.failed ≡ true → why ≡ TextReason.Read) }
     {
-        let out = replace(&mut self.rdr, plain_over(alloc, Holder::empty()));
-        let mut holder = out.into_inner();
+        let mut holder = holder_of(replace(&mut self.input, Input::Bytes(Holder::empty())));
         let mut bytes = Vec::new(alloc);
         let read = holder.read_to_end(&mut bytes);
-        self.rdr = plain_over(alloc, holder);
+        self.input = Input::Bytes(holder);
         match read {
             Ok(_) => Ok(bytes),
             Err(_) => Err(self.outside()),
@@ -143,7 +190,7 @@ impl<R: Read + Drop> Records<R> {
 
     /// Reads some of the bytes that the reader has yet to give into a buffer, before any record was asked for, and answers how many: none only
     /// at their end, or where the buffer has no room. The records that are left are those of the other bytes.
-    pub fn read_bytes(&mut self, alloc: Global, buf: &mut [u8]) -> Result<usize, TextReason>
+    pub fn read_bytes(&mut self, buf: &mut [u8]) -> Result<usize, TextReason>
         ensures bound { IfOk result (λ n. n ≤ length buf.new) }
         ensures room { length buf.new ≡ length buf.old }
         ensures bytes { IfOk result (λ n. Consumes self.old.bytes self.new.bytes (take n buf.new)) }
@@ -152,10 +199,9 @@ impl<R: Read + Drop> Records<R> {
         // a read that failed is reported as nothing else
         ensures told { IfErr result (λ why. self.new.failed ≡ true → why ≡ TextReason.Read) }
     {
-        let out = replace(&mut self.rdr, plain_over(alloc, Holder::empty()));
-        let mut holder = out.into_inner();
+        let mut holder = holder_of(replace(&mut self.input, Input::Bytes(Holder::empty())));
         let read = holder.read(buf);
-        self.rdr = plain_over(alloc, holder);
+        self.input = Input::Bytes(holder);
         let Ok(count) = read else {
             return Err(self.outside());
         };

@@ -3,7 +3,7 @@
 ghost use Rattle.std.specs.Prelude.{◌≡◌, true, false, OnOk, OnErr};
 ghost use Rattle.std.specs.Io.{ReadsAtMost};
 ghost use Rattle.std.specs.Io.KnownBytes.{ReadConsumes};
-ghost use Rattle.blk_records.specs.Watching.{remaining_of, read_failed, left_in, failed_in};
+ghost use Rattle.blk_records.specs.Watching.{remaining_of, read_failed, left_in, failed_in, is_out};
 
 use std::io;
 use std::io::{ErrorKind, Read};
@@ -78,8 +78,21 @@ impl<R: Read> Holder<R> {
     }
 
     /// One whose reader is out.
-    pub fn empty() -> Holder<R> {
+    pub fn empty() -> Holder<R>
+        ensures { is_out result }
+    {
         Holder { held: None }
+    }
+
+    /// Lets one go whose reader is out.
+    pub fn over(self)
+        requires { is_out self }
+    {
+        let Holder { held } = self;
+        match held {
+            None => {}
+            Some(_reader) => unreachable!(),
+        }
     }
 
     /// Whether a read of the reader has failed.
