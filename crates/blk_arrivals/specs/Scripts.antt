@@ -8,6 +8,7 @@ use Rattle.blk_text.specs.declared.script.TheConstants.{MAX_STEPS}
 use Rattle.blk_trace.specs.Setups.{Setup}
 use Rattle.edd_commands.specs.declared.steps.TheConstants.{MAX_DEPTH}
 use Rattle.blk_trace.specs.declared.setup.TheConstants.{MAX_EXPIRIES}
+use Rattle.blk_trace.specs.declared.setup.SetupFault.TheVariants as setup
 use Rattle.blk_arrivals.specs.Coming.{begin_of, told_by, submitters_of, AreFewSubmitters, ComeInTime}
 use Rattle.blk_arrivals.specs.Plugs.{all_steps}
 use Rattle.blk_arrivals.specs.declared.terms.TheConstants.{USUAL_SECTORS, USUAL_SEGMENTS, USUAL_SOFT_DEPTH}
@@ -38,8 +39,8 @@ script_of t records = record { setup = script_setup t; soft_depth = USUAL_SOFT_D
 abbrev pub script_rules : Terms → List Record → List (Type 0 × ArrivalsFault)
 script_rules t records =
     (0 < t.round, fault.Round)
-    ∷ ((0 < t.depth) × (t.depth ≤ MAX_DEPTH), fault.Depth)
-    ∷ ((expiry_rounds t.read_expire t.round < MAX_EXPIRIES) × (expiry_rounds t.write_expire t.round < MAX_EXPIRIES), fault.Expire)
+    ∷ ((0 < t.depth) × (t.depth ≤ MAX_DEPTH), fault.Setup setup.Depth)
+    ∷ ((expiry_rounds t.read_expire t.round < MAX_EXPIRIES) × (expiry_rounds t.write_expire t.round < MAX_EXPIRIES), fault.Setup setup.Expire)
     ∷ (AreFewSubmitters (submitters_of records), fault.TooMany)
     ∷ (ComeInTime (begin_of records) t.round records, fault.TraceFull)
     ∷ (length (steps_of t records) ≤ MAX_STEPS, fault.TooLong) ∷ []

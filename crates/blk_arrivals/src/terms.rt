@@ -45,10 +45,8 @@ pub struct Terms {
 pub enum ArrivalsFault {
     /// A round has no length.
     Round,
-    /// The depth is 0 or above [`edd_commands::MAX_DEPTH`].
-    Depth,
-    /// An expiry is [`blk_trace::MAX_EXPIRIES`] rounds or more.
-    Expire,
+    /// No setup has this depth or, in rounds, these expiries. It is never for the hardware queues, since there is one.
+    Setup(SetupFault),
     /// There are more than [`blk_bio::MAX_SOFT_QUEUES`] submitters, by their processes and by the processors too.
     TooMany,
     /// A bio comes in after round [`blk_text::MAX_RUN`]: a trace has no room for that many ticks.
@@ -65,8 +63,7 @@ impl Fault for ArrivalsFault {
     fn told(&self) -> Told {
         told!(self: ArrivalsFault {
             Round,
-            Depth,
-            Expire,
+            Setup(fault) by fault,
             TooMany,
             TraceFull,
             TooLong,
@@ -106,8 +103,6 @@ pub(crate) fn script_setup(terms: &Terms) -> Result<Setup, ArrivalsFault>
     let write = expiry_rounds(terms.write_expire, terms.round);
     match Setup::new(terms.depth, 1, read, write, usual_limits()) {
         Ok(setup) => Ok(setup),
-        Err(SetupFault::Depth) => Err(ArrivalsFault::Depth),
-        Err(SetupFault::Queues) => unreachable!(),
-        Err(SetupFault::Expire) => Err(ArrivalsFault::Expire),
+        Err(fault) => Err(ArrivalsFault::Setup(fault)),
     }
 }

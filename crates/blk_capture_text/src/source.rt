@@ -10,6 +10,7 @@ use blk_capture::Record;
 use blk_recorders::{CaptureForm, Device, LineFault, LineReason, Recorder, form_of, read_lines};
 use blk_records::{Records, TextFault, TextReason};
 use std::alloc::{AllocError, Global};
+use thiserror::Error;
 
 /// What else the lines of a recorder told.
 #[derive(Clone, Copy, Debug, PartialEq, Eq)]
@@ -36,11 +37,14 @@ pub struct CaptureRead {
 }
 
 /// Why a capture isn't read.
-#[derive(Clone, Copy, Debug, PartialEq, Eq)]
+#[derive(Clone, Copy, Debug, PartialEq, Eq, Error)]
+#[error("{:?}", self)]
 pub enum UnreadCapture {
     /// A record of the form `blk-capture` is wrong.
+    #[error(transparent)]
     Text(TextFault),
     /// A line that a recorder printed is wrong.
+    #[error(transparent)]
     Line(LineFault),
     /// Memory ran out.
     Memory,

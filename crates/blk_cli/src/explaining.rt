@@ -10,7 +10,9 @@ use crate::Answered;
 use crate::failure::Failure;
 use blk_args::{TextKind, takers_text};
 use blk_capture_text::form_taken;
+use blk_core::{BackFault, CoreFault, DepthFault, IssueFault, TickFault};
 use blk_explain::{RefusedStep, StepState, TextForm, explain, explain_lines, explain_step};
+use blk_queues::PlugFault;
 use blk_recorders::{CaptureForm, Recorder};
 use blk_records::{Records, read_commands};
 use blk_runs::{RunFault, traced};
@@ -18,7 +20,7 @@ use blk_schedulers::setting::MAX_SETTINGS;
 use blk_schedulers::{Sched, SchedKind};
 use blk_sim::{SimFault, SimReason};
 use blk_text::{Script, read_script, read_trace};
-use edd_commands::Capacity;
+use edd_commands::{Beside, Capacity, Fault};
 use edd_oracle::{OracleFault, solve};
 use std::alloc::{AllocError, Global};
 use std::io::Read;
@@ -141,16 +143,23 @@ fn state_of(why: SimReason) -> StepState {
         SimReason::SoftFull(overflow) => {
             return StepState::Full(overflow.holds, overflow.room, overflow.brings);
         }
-        SimReason::Repeated(id) => return StepState::Entered(id),
-        SimReason::Full => "a flush of the plug before",
-        SimReason::TraceFull => "no more events than a trace may have",
-        SimReason::TagRange => "a tag below the depth of the round",
-        SimReason::SlotUsed => "a tag that was not issued in this round",
-        SimReason::NotIssued => "a tag with a command in flight",
-        SimReason::InFlight => "no command in flight at the end of a round",
-        SimReason::DepthRange => "a depth of 1 to that of the title",
-        SimReason::Memory => "more memory",
+        SimReason::Release(CoreFault::Repeated(id)) => return StepState::Entered(id),
+        SimReason::Plug(PlugFault::Full) => "a flush of the plug before",
+        SimReason::Issue(IssueFault::TagRange) => "a tag below the depth of the round",
+        SimReason::Issue(IssueFault::SlotUsed) => "a tag that was not issued in this round",
+        SimReason::NotIssued | SimReason::Back(BackFault::NotIssued) => {
+            "a tag with a command in flight"
+        }
+        SimReason::Tick(TickFault::InFlight(_)) => "no command in flight at the end of a round",
+        SimReason::Depth(DepthFault::DepthRange) => "a depth of 1 to that of the title",
+        // a script's hardware queues are its title's, and where memory ran out nothing is said of a step
+        _ => "no more events than a trace may have",
     })
+}
+
+/// Whether memory ran out at a step.
+fn is_memory(fault: SimFault) -> bool {
+    matches!(fault.told().beside, Beside::Memory)
 }
 
 /// The script that these bytes spell.
@@ -176,7 +185,7 @@ fn refused_in(alloc: Global, bytes: &[u8]) -> Result<Option<SimFault>, AllocErro
     match traced(alloc, none, &script) {
         Ok(_) => Ok(None),
         Err(RunFault::Step(fault)) => {
-            if fault.why == SimReason::Memory {
+            if is_memory(fault) {
                 return Err(AllocError);
             }
             Ok(Some(fault))

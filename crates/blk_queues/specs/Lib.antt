@@ -1,4 +1,5 @@
 pub mod Plugs
+pub mod Names
 pub mod Answers
 pub mod Queues
 pub mod Maps

@@ -138,7 +138,7 @@ fn least_unnamed(entries: &[u8]) -> u8
 /// blk-mq, which is served before the scheduler is asked. It keeps its allocator.
 #[derive(Drop)]
 pub struct RequeueList<A: Allocator = Global> {
-    requests: VecDeque<Queued<A>, A>,
+    requests: VecDeque<Queued, A>,
 }
 
 impl<A: Allocator> Model for RequeueList<A> {
@@ -163,21 +163,19 @@ impl<A: Allocator + Clone> RequeueList<A> {
         }
     }
 
-    /// Adds a request at the back. Fails only when memory runs out: the list is then as it was, and the request is handed
-    /// back.
-    pub fn push(&mut self, queued: Queued<A>) -> Result<(), (Queued<A>, AllocError)>
+    /// Adds a request at the back. Fails only when memory runs out: the list is then as it was.
+    pub fn push(&mut self, queued: Queued) -> Result<(), AllocError>
         ensures ok { OnOk result (self.new ≡ self.old ++ queued ∷ []) }
-        ensures err { IfErr result (λ e. e.0 ≡ queued) }
         ensures same { OnErr result (self.new ≡ self.old) }
     {
         match self.requests.push_back(queued) {
             Ok(()) => Ok(()),
-            Err(refused) => Err((refused.value, AllocError)),
+            Err(_) => Err(AllocError),
         }
     }
 
     /// Takes out the request that came first. There is none exactly where the list is empty.
-    pub fn take_first(&mut self) -> Option<Queued<A>>
+    pub fn take_first(&mut self) -> Option<Queued>
         ensures some { IfSome result (λ first. self.old ≡ first ∷ self.new) }
         ensures none { IfNone result (self.old ≡ []) }
         ensures same { IfNone result (self.new ≡ self.old) }
@@ -224,11 +222,10 @@ impl<A: Allocator + Clone> RequeueLists<A> {
     }
 
     /// Adds a request at the back of the list of a hardware queue, which is one of these. Fails only when memory runs out:
-    /// the lists are then as they were, and the request is handed back.
-    pub fn push(&mut self, hw: u8, queued: Queued<A>) -> Result<(), (Queued<A>, AllocError)>
+    /// the lists are then as they were.
+    pub fn push(&mut self, hw: u8, queued: Queued) -> Result<(), AllocError>
         requires { hw < length self.old }
         ensures ok { OnOk result (self.new ≡ slice_set self.old hw (requeued_in self.old hw ++ queued ∷ [])) }
-        ensures err { IfErr result (λ e. e.0 ≡ queued) }
         ensures same { OnErr result (self.new ≡ self.old) }
     {
         self.lists[hw as usize].push(queued)
@@ -236,7 +233,7 @@ impl<A: Allocator + Clone> RequeueLists<A> {
 
     /// Takes out the request that was requeued first from a hardware queue, which is one of these. There is none exactly
     /// where its list is empty.
-    pub fn take_first(&mut self, hw: u8) -> Option<Queued<A>>
+    pub fn take_first(&mut self, hw: u8) -> Option<Queued>
         requires { hw < length self.old }
         ensures some { IfSome result (λ first. TakesFirst self.old hw first self.new) }
         ensures none { IfNone result (requeued_in self.old hw ≡ []) }

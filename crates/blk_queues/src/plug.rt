@@ -11,9 +11,11 @@ ghost use Rattle.blk_bio.specs.Requests.{IsWithin, IsJoinCandidate};
 ghost use Rattle.blk_bio.specs.Answers.{IsJoinAnswer};
 ghost use Rattle.blk_queues.specs.Plugs.{Plug as PlugFields, IsPlug, bios_plugged, IsJoinedAt};
 ghost use Rattle.blk_queues.specs.Answers.{IsAddAnswer};
+ghost use Rattle.blk_queues.specs.Names.{plug_told};
 
 use crate::candidate::candidate;
 use blk_bio::{Bio, Limits, Request, Side};
+use edd_commands::{Fault, Told, told};
 use std::alloc::{AllocError, Allocator, Global};
 use std::collections::VecDeque;
 use std::marker::Model;
@@ -33,12 +35,20 @@ pub enum Added {
 
 /// Why a bio is not added, in the order in which the reasons are looked for.
 #[derive(Clone, Copy, Debug, PartialEq, Eq, Error)]
-#[error("{:?}", self)]
+#[error("{}", self.name())]
 pub enum PlugFault {
     /// The plug has [`MAX_STAGED`] requests, and the bio fits none of them.
     Full,
     /// Memory ran out.
     Memory,
+}
+
+impl Fault for PlugFault {
+    ghost told = { plug_told };
+
+    fn told(&self) -> Told {
+        told!(self: PlugFault { Full, Memory => Memory })
+    }
 }
 
 /// At most [`MAX_STAGED`] requests, in the order in which they were begun, and the limits within which bios join

@@ -36,7 +36,8 @@ impl LineReason {
 }
 
 /// The first thing that is wrong with what a recorder printed.
-#[derive(Debug, Clone, Copy, PartialEq, Eq)]
+#[derive(Debug, Clone, Copy, PartialEq, Eq, Error)]
+#[error("{}", self.name())]
 pub struct LineFault {
     /// The number of the line, from 1 on; empty lines are counted.
     pub at: u64,

@@ -67,7 +67,8 @@ impl TextReason {
 }
 
 /// The first thing that is wrong with a text, and the number of its record, the first being 1.
-#[derive(Debug, Clone, Copy, PartialEq, Eq)]
+#[derive(Debug, Clone, Copy, PartialEq, Eq, Error)]
+#[error("{}", self.name())]
 pub struct TextFault {
     /// The number of the record, from 1 on; empty lines are not counted.
     pub at: u64,

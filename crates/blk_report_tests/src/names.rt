@@ -4,7 +4,7 @@ use blk_args::Refusal;
 use blk_arrivals::ArrivalsFault;
 use blk_bio::{BioFault, BioId, JoinFault, LimitsFault, TraceRule};
 use blk_capture::CaptureFault;
-use blk_capture_text::ImportFault;
+use blk_capture_text::{ImportFault, UnreadCapture, Unstreamed};
 use blk_cli::Failure;
 use blk_core::{BackFault, CoreFault, DepthFault, IssueFault, TickFault};
 use blk_deadline::DeadlineFault;
@@ -120,14 +120,12 @@ fn of_records(rt: HostRuntime) {
         TextReason::Memory,
     ];
     for why in &records {
+        let fault = TextFault { at: 1, why: *why };
         assert!(rt; prints(heap, why, why.name()));
-        assert!(rt;
-            prints(
-                heap,
-                &Failure::Text(TextFault { at: 1, why: *why }),
-                why.name()
-            )
-        );
+        assert!(rt; prints(heap, &fault, why.name()));
+        assert!(rt; prints(heap, &Failure::Text(fault), why.name()));
+        assert!(rt; prints(heap, &UnreadCapture::Text(fault), why.name()));
+        assert!(rt; prints(heap, &Unstreamed::Outside(*why), why.name()));
         match why {
             TextReason::Bio(fault) => assert!(rt; prints(heap, fault, fault.name())),
             TextReason::Rule(rule) => {
@@ -153,20 +151,25 @@ fn of_captures(rt: HostRuntime) {
         LineReason::Memory,
     ];
     for why in &lines {
+        let fault = LineFault { at: 1, why: *why };
         assert!(rt; prints(heap, why, why.name()));
-        assert!(rt;
-            prints(
-                heap,
-                &Failure::Line(LineFault { at: 1, why: *why }),
-                why.name()
-            )
-        );
+        assert!(rt; prints(heap, &fault, why.name()));
+        assert!(rt; prints(heap, &Failure::Line(fault), why.name()));
+        assert!(rt; prints(heap, &UnreadCapture::Line(fault), why.name()));
+        assert!(rt; prints(heap, &Unstreamed::Line(fault), why.name()));
     }
+    let title = TextFault {
+        at: 1,
+        why: TextReason::Title,
+    };
+    assert!(rt; prints(heap, &Unstreamed::Text(title, Vec::new(heap)), "Title"));
+    assert!(rt; print_variants(heap, &[UnreadCapture::Memory]));
+    assert!(rt; prints(heap, &Unstreamed::Memory, "Memory"));
     assert!(rt; print_names(heap, &[ImportFault::TooMany(1), ImportFault::Memory]));
     let arrivals = [
         ArrivalsFault::Round,
-        ArrivalsFault::Depth,
-        ArrivalsFault::Expire,
+        ArrivalsFault::Setup(SetupFault::Depth),
+        ArrivalsFault::Setup(SetupFault::Expire),
         ArrivalsFault::TooMany,
         ArrivalsFault::TraceFull,
         ArrivalsFault::TooLong,
@@ -186,22 +189,23 @@ fn of_runs(rt: HostRuntime) {
         room: 3,
     };
     let steps = [
-        SimReason::Full,
-        SimReason::SoftFull(overflow),
-        SimReason::Repeated(bio()),
-        SimReason::TraceFull,
-        SimReason::TagRange,
-        SimReason::SlotUsed,
-        SimReason::NotIssued,
-        SimReason::InFlight,
-        SimReason::DepthRange,
-        SimReason::Memory,
+        (SimReason::Plug(PlugFault::Full), "Full"),
+        (SimReason::SoftFull(overflow), "SoftFull"),
+        (SimReason::Release(CoreFault::Repeated(bio())), "Repeated"),
+        (SimReason::Release(CoreFault::TraceFull), "TraceFull"),
+        (SimReason::Issue(IssueFault::TagRange), "TagRange"),
+        (SimReason::Issue(IssueFault::SlotUsed), "SlotUsed"),
+        (SimReason::NotIssued, "NotIssued"),
+        (SimReason::Back(BackFault::NotIssued), "NotIssued"),
+        (SimReason::Tick(TickFault::InFlight(1)), "InFlight"),
+        (SimReason::Depth(DepthFault::DepthRange), "DepthRange"),
+        (SimReason::Memory, "Memory"),
     ];
-    for why in &steps {
+    for (why, name) in &steps {
         let fault = SimFault { at: 1, why: *why };
-        assert!(rt; prints(heap, why, why.name()));
-        assert!(rt; prints(heap, &RunFault::Step(fault), why.name()));
-        assert!(rt; prints(heap, &Failure::Step(fault), why.name()));
+        assert!(rt; prints(heap, why, name));
+        assert!(rt; prints(heap, &RunFault::Step(fault), name));
+        assert!(rt; prints(heap, &Failure::Step(fault), name));
     }
     let made = [
         SchedFault::ZeroBatch,
@@ -212,7 +216,7 @@ fn of_runs(rt: HostRuntime) {
     for fault in &made {
         assert!(rt; prints(heap, &RunFault::Sched(*fault), fault.name()));
     }
-    assert!(rt; print_variants(heap, &[RunFault::Memory]));
+    assert!(rt; print_names(heap, &[RunFault::Memory]));
 }
 
 #[test]
@@ -231,6 +235,10 @@ fn of_the_program(rt: HostRuntime) {
     assert!(rt; print_names(heap, &loads));
     let failures = [
         Failure::Sched(SchedFault::Memory),
+        Failure::Step(SimFault {
+            at: 1,
+            why: SimReason::Memory,
+        }),
         Failure::Solve(OracleFault::TooMany),
         Failure::Check(CheckFault::Length),
         Failure::OnTime(OnTimeFault::Loose(1)),
@@ -257,12 +265,9 @@ fn of_calls(rt: HostRuntime) {
         JoinFault::Memory,
     ];
     assert!(rt; print_variants(heap, &joins));
-    assert!(rt;
-        print_variants(
-            heap,
-            &[SetupFault::Depth, SetupFault::Queues, SetupFault::Expire]
-        )
-    );
+    let setups = [SetupFault::Depth, SetupFault::Queues, SetupFault::Expire];
+    assert!(rt; print_names(heap, &setups));
+    assert!(rt; print_variants(heap, &setups));
     assert!(rt; print_variants(heap, &[PushFault::Memory]));
     assert!(rt; print_variants(heap, &[TraceFault::Memory]));
     assert!(rt; print_variants(heap, &[JoinRefusal::NoFit, JoinRefusal::Memory]));

@@ -4,22 +4,17 @@ use Rattle.blk_bio.specs.Bios.{Bio}
 use Rattle.blk_queues.specs.Plugs.{Plug}
 use Rattle.blk_queues.specs.Answers.{IsPlugFault}
 use Rattle.blk_queues.specs.declared.plug.PlugFault.{PlugFault}
-use Rattle.blk_queues.specs.declared.plug.PlugFault.TheVariants as plug
 use Rattle.blk_queues.specs.Queues.{Queue}
 use Rattle.blk_sched.specs.Meaning.{Meaning}
 use Rattle.blk_trace.specs.Depths.{depth_now}
 use Rattle.blk_core.specs.State.{CoreState}
 use Rattle.blk_core.specs.Faults.{IsReleaseFault, IsIssueFault, IsBackFault, IsTickFault, IsDepthFault, IsInFlight}
 use Rattle.blk_core.specs.declared.refusals.CoreFault.{CoreFault}
-use Rattle.blk_core.specs.declared.refusals.CoreFault.TheVariants as release
 use Rattle.blk_core.specs.declared.refusals.IssueFault.{IssueFault}
 use Rattle.blk_core.specs.declared.refusals.IssueFault.TheVariants as issue
 use Rattle.blk_core.specs.declared.refusals.BackFault.{BackFault}
-use Rattle.blk_core.specs.declared.refusals.BackFault.TheVariants as back
 use Rattle.blk_core.specs.declared.refusals.DepthFault.{DepthFault}
-use Rattle.blk_core.specs.declared.refusals.DepthFault.TheVariants as depth
 use Rattle.blk_core.specs.declared.refusals.TickFault.{TickFault}
-use Rattle.blk_core.specs.declared.refusals.TickFault.TheVariants as tick
 use Rattle.blk_text.specs.Script.{Scripted}
 use Rattle.blk_text.specs.declared.script.Line.{Line}
 use Rattle.blk_text.specs.declared.script.Line.TheVariants as line
@@ -34,41 +29,9 @@ use Rattle.blk_sim.specs.Rounds.{queue_asked, GiveNothing, IssueInTurn, IssuesAl
 use Rattle.blk_sched.specs.Policies.{Policy}
 use Rattle.blk_sim.specs.Runs.{Runs}
 
--- a step's reason for what a plug, a release, an issue, a Back, a Depth and a tick are refused for; the hardware queues are there
-abbrev pub added_why : PlugFault → SimReason
-added_why plug.Full = why.Full
-added_why plug.Memory = why.Memory
-
-abbrev pub released_why : CoreFault → Option SimReason
-released_why release.NoQueue = None
-released_why (release.Repeated id) = Some (why.Repeated id)
-released_why release.TraceFull = Some why.TraceFull
-released_why release.Memory = Some why.Memory
-
-abbrev pub issued_why : IssueFault → Option SimReason
-issued_why issue.NoQueue = None
-issued_why issue.TagRange = Some why.TagRange
-issued_why issue.SlotUsed = Some why.SlotUsed
-issued_why issue.TraceFull = Some why.TraceFull
-issued_why issue.Memory = Some why.Memory
-
-abbrev pub back_why : BackFault → SimReason
-back_why back.NotIssued = why.NotIssued
-back_why back.Memory = why.Memory
-
-abbrev pub depth_why : DepthFault → SimReason
-depth_why depth.TraceFull = why.TraceFull
-depth_why depth.DepthRange = why.DepthRange
-depth_why depth.Memory = why.Memory
-
-abbrev pub ticked_why : TickFault → SimReason
-ticked_why (tick.InFlight n) = why.InFlight
-ticked_why tick.TraceFull = why.TraceFull
-ticked_why tick.Memory = why.Memory
-
 -- a plug refuses a bio
 abbrev pub IsAddRefused : Plug → Bio → SimReason → Type 0
-IsAddRefused plug bio w = (fault : PlugFault) × IsPlugFault plug bio fault × (w ≡ added_why fault)
+IsAddRefused plug bio w = (fault : PlugFault) × IsPlugFault plug bio fault × (w ≡ why.Plug fault)
 
 -- a software queue has no room for all requests of a plug
 abbrev pub IsOverfull : Queue → Plug → Type 0
@@ -80,19 +43,19 @@ overflow_of queue plug = record { holds = length queue.requests; brings = length
 
 -- the core refuses a request, an issue, a Back, a Depth and a tick
 abbrev pub IsReleaseRefused : CoreState → List Bio → ℕ → SimReason → Type 0
-IsReleaseRefused core bios hw w = (fault : CoreFault) × IsReleaseFault core bios hw fault × (released_why fault ≡ Some w)
+IsReleaseRefused core bios hw w = (fault : CoreFault) × IsReleaseFault core bios hw fault × (w ≡ why.Release fault)
 
 abbrev pub IsIssueRefused : CoreState → ℕ → ℕ → SimReason → Type 0
-IsIssueRefused core hw tag w = (fault : IssueFault) × IsIssueFault core hw tag fault × (issued_why fault ≡ Some w)
+IsIssueRefused core hw tag w = (fault : IssueFault) × IsIssueFault core hw tag fault × (w ≡ why.Issue fault)
 
 abbrev pub IsBackRefused : CoreState → ℕ → SimReason → Type 0
-IsBackRefused core tag w = (fault : BackFault) × IsBackFault core tag fault × (w ≡ back_why fault)
+IsBackRefused core tag w = (fault : BackFault) × IsBackFault core tag fault × (w ≡ why.Back fault)
 
 abbrev pub IsDepthRefused : CoreState → ℕ → SimReason → Type 0
-IsDepthRefused core n w = (fault : DepthFault) × IsDepthFault core n fault × (w ≡ depth_why fault)
+IsDepthRefused core n w = (fault : DepthFault) × IsDepthFault core n fault × (w ≡ why.Depth fault)
 
 abbrev pub IsTickRefused : CoreState → SimReason → Type 0
-IsTickRefused core w = (fault : TickFault) × IsTickFault core fault × (w ≡ ticked_why fault)
+IsTickRefused core w = (fault : TickFault) × IsTickFault core fault × (w ≡ why.Tick fault)
 
 -- the plug of the bio's submitter refuses it
 abbrev pub IsBioRefused : List Plug → Bio → SimReason → Type 0
@@ -132,7 +95,7 @@ pub record IsAskRefused (policy : Policy) (tag : ℕ) (core : CoreState) (w : Si
   pub place : ℕ
   pub below : place < core.setup.hw
   pub nothing : GiveNothing policy tag place core
-  pub another : w ≢ why.SlotUsed
+  pub another : w ≢ why.Issue issue.SlotUsed
   pub refused : IsIssueRefused core (queue_asked core.setup.hw tag place) tag w
 
 -- the tags below one were done with, and its own is refused

@@ -11,8 +11,8 @@ ghost use Rattle.blk_sim.specs.Inside.Working.{WorkInTurn, IsWorkInTurnRefused};
 
 use crate::refusal::SimReason;
 use crate::steps::{done, drain, issue, tick};
-use blk_core::Core;
 use blk_core::laws::{listed_issues_are_open, open_picks_are_open_issues};
+use blk_core::{Core, IssueFault};
 use blk_queues::SoftQueue;
 use blk_sched::Scheduler;
 use edd_commands::MAX_DEPTH;
@@ -21,8 +21,8 @@ use edd_commands::MAX_DEPTH;
 /// asked is the tag modulo their number, and behind the last comes queue 0.
 fn issue_tag<S: Scheduler>(core: &mut Core<S>, tag: u16) -> Result<bool, SimReason>
     ensures given { IfOk result (λ given. IsGiven S.policy tag core.old given core.new) }
-    ensures used { IfErr result (λ w. w ≡ SimReason.SlotUsed → IsUsed core.old.events tag) }
-    ensures refused { IfErr result (λ w. w ≢ SimReason.SlotUsed → IsAskRefused S.policy tag core.old w) }
+    ensures used { IfErr result (λ w. w ≡ SimReason.Issue IssueFault.SlotUsed → IsUsed core.old.events tag) }
+    ensures refused { IfErr result (λ w. w ≢ SimReason.Issue IssueFault.SlotUsed → IsAskRefused S.policy tag core.old w) }
     ensures same { OnErr result (core.new ≡ core.old) }
 {
     let count = core.trace().setup().hw();
@@ -39,10 +39,10 @@ fn issue_tag<S: Scheduler>(core: &mut Core<S>, tag: u16) -> Result<bool, SimReas
 
 /// Whether an issue was refused because its tag was used in the round.
 fn is_used(why: SimReason) -> bool
-    ensures { IsTrue result ↔ (why ≡ SimReason.SlotUsed) }
+    ensures { IsTrue result ↔ (why ≡ SimReason.Issue IssueFault.SlotUsed) }
 {
     match why {
-        SimReason::SlotUsed => true,
+        SimReason::Issue(IssueFault::SlotUsed) => true,
         _ => false,
     }
 }

@@ -11,9 +11,7 @@ ghost use Rattle.blk_sim.specs.Refusals.{IsBioRefused, IsFlushRefused, IsOverful
 ghost use Rattle.blk_sim.specs.Simulated.{HaveCome};
 ghost use Rattle.blk_sim.specs.Inside.Limits.{ShareLimits};
 
-use crate::refusal::{
-    Overflow, SimReason, why_added, why_issued, why_kept, why_released, why_ticked, why_unset,
-};
+use crate::refusal::{Overflow, SimReason};
 use blk_bio::{Bio, Request};
 use blk_core::Core;
 use blk_queues::{MAX_BIOS, Plug, SoftQueue};
@@ -28,15 +26,13 @@ fn release<S: Scheduler>(
     request: Request<S::A>,
     hw: u8,
 ) -> Result<(), SimReason>
-    requires queue { hw < core.old.setup.hw }
-    requires within { IsWithin core.old.setup.limits request }
+    requires { IsWithin core.old.setup.limits request }
     ensures entered { OnOk result (EntersCore S.policy hw request core.old core.new) }
     ensures refused { IfErr result (λ w. IsReleaseRefused core.old request hw w) }
 {
-    prove!(hw < core.trace().setup().hw());
     match core.release(request, hw) {
         Ok(_) => Ok(()),
-        Err((_request, fault)) => Err(why_released(fault)),
+        Err((_request, fault)) => Err(SimReason::Release(fault)),
     }
 }
 
@@ -46,15 +42,13 @@ pub(crate) fn issue<S: Scheduler>(
     hw: u8,
     tag: u16,
 ) -> Result<Option<Command>, SimReason>
-    requires { hw < core.old.setup.hw }
     ensures asked { IfOk result (λ found. AsksQueue S.policy hw tag core.old found core.new) }
     ensures refused { IfErr result (λ w. IsIssueRefused core.old hw tag w) }
     ensures same { OnErr result (core.new ≡ core.old) }
 {
-    prove!(hw < core.trace().setup().hw());
     match core.issue(hw, tag) {
         Ok(found) => Ok(found),
-        Err(fault) => Err(why_issued(fault)),
+        Err(fault) => Err(SimReason::Issue(fault)),
     }
 }
 
@@ -77,7 +71,7 @@ pub(crate) fn back<S: Scheduler>(core: &mut Core<S>, tag: u16) -> Result<(), Sim
 {
     match core.back(tag) {
         Ok(_) => Ok(()),
-        Err(fault) => Err(why_kept(fault)),
+        Err(fault) => Err(SimReason::Back(fault)),
     }
 }
 
@@ -88,7 +82,7 @@ pub(crate) fn set_depth<S: Scheduler>(core: &mut Core<S>, depth: u64) -> Result<
 {
     match core.set_depth(depth) {
         Ok(()) => Ok(()),
-        Err(fault) => Err(why_unset(fault)),
+        Err(fault) => Err(SimReason::Depth(fault)),
     }
 }
 
@@ -100,7 +94,7 @@ pub(crate) fn tick<S: Scheduler>(core: &mut Core<S>) -> Result<(), SimReason>
     prove!(core.trace().len() <= MAX_EVENTS);
     match core.tick() {
         Ok(_) => Ok(()),
-        Err(fault) => Err(why_ticked(fault)),
+        Err(fault) => Err(SimReason::Tick(fault)),
     }
 }
 
@@ -184,7 +178,7 @@ pub(crate) fn add<A: Allocator + Clone>(
     let plug = &mut plugs[bio.id().submitter as usize];
     match plug.add(bio) {
         Ok(_) => Ok(()),
-        Err((_, fault)) => Err(why_added(fault)),
+        Err((_, fault)) => Err(SimReason::Plug(fault)),
     }
 }
 

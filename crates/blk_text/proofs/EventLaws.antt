@@ -1,6 +1,6 @@
 -- The laws of the events of a trace, and of whole traces.
 use Rattle.std.proofs.Common.{◌≡◌, ◌+◌, ◌<◌, ◌≤◌, ◌∙◌, ℕ, List, [], ◌∷◌, length, refl, sym, ap, subst, inl, inr, arith, get_or, Bool, true, false, Option, Some, None}
-use Rattle.std.specs.Prelude.{◌⊎◌, IfSome, Err, unwrap_or}
+use Rattle.std.specs.Prelude.{◌⊎◌, IfSome, unwrap_or}
 use Rattle.blk_bio.specs.Bios.{Bio}
 use Rattle.blk_bio.specs.Limits.{Limits}
 use Rattle.blk_trace.specs.Happened.{Happened}
@@ -10,16 +10,14 @@ use Rattle.blk_trace.specs.Rules.{IsFirstBroken, BreaksNoRule, rank}
 use Rattle.blk_bio.specs.declared.rule.TraceRule.{TraceRule}
 use Rattle.edd_commands.specs.declared.steps.TheConstants.{MAX_DEPTH}
 use Rattle.blk_trace.specs.Setups.{Setup}
-use Rattle.blk_trace.specs.Traces.{Traced, IsPushAnswer}
-use Rattle.blk_trace.specs.declared.rule.PushFault.{PushFault}
-use Rattle.blk_trace.specs.declared.rule.PushFault.TheVariants as push_fault
+use Rattle.blk_trace.specs.Traces.{Traced, extended}
 use Rattle.blk_records.specs.Sources.{Row, TakesRecord}
-use Rattle.blk_records.specs.Reads.{IsOutside, IsRowOf, IsWrongRecord, Reads, HandReads, HandFails, Fails, AreGathered, IsStopped, repeated, size_of, with_next}
+use Rattle.blk_records.specs.Reads.{Gathers, IsRowOf, IsWrongRecord, Reads, HandReads, HandFails, Fails, AreGathered, IsStopped, repeated, size_of, with_next}
 use Rattle.blk_text.specs.SetupRecord.{setup}
 use Rattle.blk_records.specs.Tables.{FitsCells}
 use Rattle.blk_records.specs.Titles.{IsVersion, title_cells, TakesTitle}
 use Rattle.blk_text.specs.TraceForm.{first_record, bios_after, group, event_told, plain_event, BreaksRule, event, alone, one_more, events_of, TraceTitle, trace_numbers, IsTraceTitle, trace_title_part, trace_body, trace_form}
-use Rattle.blk_text.specs.Inside.TraceForm.{IsPast, refusal_of, IsRefused}
+use Rattle.blk_text.specs.Inside.TraceForm.{IsPast}
 use Rattle.blk_records.specs.declared.fault.TextReason.{TextReason}
 use Rattle.blk_records.specs.declared.fault.TextReason.TheVariants as why
 use Rattle.blk_text.specs.TraceForm.{Head}
@@ -32,7 +30,7 @@ use Rattle.text_grammar.specs.Laws.{Tells, IsPlain}
 use Rattle.text_grammar.specs.Inside.Laws.{Decides}
 use Rattle.text_grammar.proofs.Then.{seen_tells, seen_decides, then_tells, then_decides, tested_tells, tested_decides, both_begin}
 use Rattle.text_grammar.proofs.Many.{HasRows, ended_tells, ended_decides}
-use Rattle.blk_records.proofs.Reading.{outside_fails, many_fails, many_ends, full_ends, past_wrong, full_stopped}
+use Rattle.blk_records.proofs.Reading.{many_fails, many_ends, full_ends, past_wrong, full_stopped}
 use Rattle.blk_records.proofs.TitleLaws.{IsTitleTable, title_tells, title_decides, title_reads}
 use Rattle.blk_text.proofs.ScriptLaws.{fewer_tags, tags_are, setup_one, setup_decides}
 use Rattle.blk_text.proofs.HeadLaws.{head_tells, head_decides, head_gone}
@@ -261,14 +259,28 @@ event_fails version setup before failed (Some rows) row start at w f = elim f [
   | inr k ↦ inr (k.0, k.1, inl k.2)
 ]
 
+pub event_gathers : (version : ℕ) (setup : Setup) (old new : Traced) (left after : Option (List Row)) (row : Row) (e : Happened) (start at : ℕ) → old.setup ≡ setup → (new ≡ extended old e) × BreaksNoRule old.setup old.events e → (plain_event version setup.limits).Fits e
+    → HandReads (plain_event version setup.limits) left row after e → at + 1 ≡ start + length ((plain_event version setup.limits).rows_of e)
+    → (new.setup ≡ setup) × Gathers (event version setup) old.events new.events left row after start at
+event_gathers version setup old new left after row e start at same pushed fits h end = let good : BreaksNoRule setup old.events e = rw same at pushed.1 in (
+  ap (λ (t : Traced). t.setup) pushed.0 ∙ same,
+  record {
+    item = e;
+    gathered = ap (λ (t : Traced). t.events) pushed.0;
+    fits = (fits, good);
+    read = reads left h good;
+    end = end;
+  },
+)
+  where
+    reads : (left : Option (List Row)) → HandReads (plain_event version setup.limits) left row after e → BreaksNoRule setup old.events e → HandReads (event version setup old.events) left row after e
+    reads None h good = tt
+    reads (Some rows) h good = (h.0, h.1, record { fits = (h.2.fits, good); made = h.2.made; follows = h.2.follows })
+
 pub rule_fails : (version : ℕ) (setup : Setup) (before : List Happened) (failed : Bool) (left new : Option (List Row)) (row : Row) (e : Happened) (start at : ℕ) (r : TraceRule) → HandReads (plain_event version setup.limits) left row new e
     → IsFirstBroken setup before e r → at ≡ start → HandFails failed (event version setup before) left row start at (why.Rule r)
 rule_fails version setup before failed None new row e start at r h b is = tt
 rule_fails version setup before failed (Some rows) new row e start at r h b is = inr (1, omega (arith, is), inr (e, h.0, h.2, (refl, (r, refl, b))))
-
-pub hand_outside : {V : Type 0} (failed : Bool) (p : Part Row TextReason V) (left : Option (List Row)) (row : Row) (start at : ℕ) (w : TextReason) → IsOutside failed w → HandFails failed p left row start at w
-hand_outside failed p None row start at w o = tt
-hand_outside failed p (Some rows) row start at w o = inl o
 
 -- a record after the last event
 
@@ -291,23 +303,6 @@ release_count version id n row h e l = let line : IsRowOf (first_record version)
 
 pub join_count : (version id n : ℕ) (row : Row) (h : Head) → h ≡ head.Join id n → IsRowOf (first_record version) row h → (1 ≤ n) × (n ≤ MAX_SEGMENTS)
 join_count version id n row h e l = let line : IsRowOf (first_record version) row (head.Join id n) = subst (λ z. IsRowOf (first_record version) row z) e l in (line []).fits.1.1.0
-
--- what a trace answers to an event
-
-pub push_refused : {X : Type 0} (old new : Traced) (e : Happened) (x : X) (fault : PushFault) → IsPushAnswer old e new (Err (x, fault)) → (refusal_of fault ≡ why.Memory) ⊎ ((r : TraceRule) × (refusal_of fault ≡ why.Rule r) × IsFirstBroken old.setup old.events e r)
-push_refused old new e x (push_fault.Rule r) a = inr (r, refl, a.1)
-push_refused old new e x push_fault.Memory a = inl refl
-
--- an event that is refused
-pub refused_fails : (version : ℕ) (setup own : Setup) (before : List Happened) (failed : Bool) (left new : Option (List Row)) (row : Row) (e : Happened) (start at : ℕ) (w : TextReason) → own ≡ setup
-    → HandReads (plain_event version setup.limits) left row new e → IsRefused own before e w → at ≡ start → HandFails failed (event version setup before) left row start at w
-refused_fails version setup own before failed left new row e start at w same h (inl m) is = hand_outside failed (event version setup before) left row start at w (inr m)
-refused_fails version setup own before failed left new row e start at w same h (inr b) is = rw b.1 (rule_fails version setup before failed left new row e start at b.0 h (rw same at b.2) is)
-
-pub past_refused : (version : ℕ) (setup own : Setup) (before : List Happened) (row : Row) (h : Head) (e : Happened) (w : TextReason) → own ≡ setup → alone h ≡ Some e → IsRowOf (first_record version) row h → IsRefused own before e w
-    → (w ≡ why.Memory) ⊎ IsPast version setup before row w
-past_refused version setup own before row h e w same is l (inl m) = inl m
-past_refused version setup own before row h e w same is l (inr b) = inr (rw b.1 (past_rule version setup before row h e b.0 is l (rw same at b.2)))
 
 -- of all events, under a setup that is this one, from the third record on
 
@@ -332,6 +327,5 @@ pub events_end : (version count : ℕ) (s : Setup) (left mid new : Option (List 
 events_end version count s left mid new es row h t = many_ends (event version s) (one_more version s) (repeats.Exactly count) left es (full_ends (event version s) (repeats.Exactly count) left mid new es row h t)
 
 pub events_past : (version count : ℕ) (s own : Setup) (failed : Bool) (left mid new : Option (List Row)) (es : List Happened) (row cells : Row) (at : ℕ) (w : TextReason) → own ≡ s → cells ≡ row → Reads (repeated (repeats.Exactly count) (event version s)) left mid es
-    → TakesRecord mid new row true → at ≡ 2 + size_of (event version s) es + 1 → (w ≡ why.Memory) ⊎ IsPast version own es cells w → Fails failed (events_of version s count) left 2 at w
-events_past version count s own failed left mid new es row cells at w e r h t is (inl m) = outside_fails failed (events_of version s count) left 2 at w (inr m)
-events_past version count s own failed left mid new es row cells at w e r h t is (inr p) = past_wrong failed (event version s) (one_more version s) (repeats.Exactly count) left mid new es row (2) at w h t is (rw (e, r) at p)
+    → TakesRecord mid new row true → at ≡ 2 + size_of (event version s) es + 1 → IsPast version own es cells w → Fails failed (events_of version s count) left 2 at w
+events_past version count s own failed left mid new es row cells at w e r h t is p = past_wrong failed (event version s) (one_more version s) (repeats.Exactly count) left mid new es row (2) at w h t is (rw (e, r) at p)

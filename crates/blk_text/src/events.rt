@@ -1,6 +1,6 @@
 //! The events of a trace, each looked at after those before it.
 
-ghost use Rattle.std.specs.Prelude.{◌≡◌, ◌⊎◌, ◌∷◌, ◌++◌, ◌≤◌, ◌<◌, ◌^◌, ◌-◌, ◌+◌, ◌*◌, ℕ, [], length, OnOk, IfOk, IfErr, IfSome, codes};
+ghost use Rattle.std.specs.Prelude.{◌≡◌, ◌∷◌, ◌++◌, ◌≤◌, ◌<◌, ◌^◌, ◌-◌, ◌+◌, ◌*◌, ℕ, [], length, IfOk, IfErr, IfSome, codes};
 ghost use Rattle.csv.specs.Records.{fields_of};
 ghost use Rattle.text_grammar.specs.declared.Repeats.TheVariants as repeats;
 ghost use Rattle.text_grammar.specs.Parts.{Begins};
@@ -8,7 +8,7 @@ ghost use Rattle.blk_records.specs.Sources.{Row};
 ghost use Rattle.blk_records.specs.Reads.{FaultsBy, HandReads, HandFailsBy, Fails, AreItems, IsHeldAt, size_of};
 ghost use Rattle.blk_records.specs.Titles.{IsTitleOf};
 ghost use Rattle.blk_text.specs.TraceForm.{plain_event, event as event_part, events_of, trace_form, trace_rows, SpellsTrace, TraceTextFault};
-ghost use Rattle.blk_text.specs.Inside.TraceForm.{refusal_of, IsRefused, IsPushed, IsStoppedIn, IsPast};
+ghost use Rattle.blk_text.specs.Inside.TraceForm.{IsStoppedIn, IsPast};
 ghost use Rattle.blk_text.specs.TraceRecords.{IsTrace};
 
 use crate::groups::read_group;
@@ -62,28 +62,6 @@ fn read_event<R: Read + Drop>(
     }
 }
 
-/// The fault of an event that a trace refuses.
-fn refusal(fault: PushFault) -> TextReason
-    ensures { result ≡ refusal_of fault }
-{
-    match fault {
-        PushFault::Rule(rule) => TextReason::Rule(rule),
-        PushFault::Memory => TextReason::Memory,
-    }
-}
-
-/// Adds an event to a trace where it breaks no rule; else answers the first that it breaks.
-fn add(trace: &mut Trace, event: Event<Request>) -> Result<(), TextReason>
-    ensures ok { OnOk result (IsPushed trace.old trace.new event) }
-    ensures err { IfErr result (IsRefused trace.old.setup trace.old.events event) }
-{
-    let Err((refused, fault)) = trace.push(event) else {
-        return Ok(());
-    };
-    let _ = refused;
-    Err(refusal(fault))
-}
-
 /// The events of a version under a setup, gathered in a trace.
 #[derive(Clone, Copy, Drop)]
 struct EventForm {
@@ -127,19 +105,26 @@ impl ItemForm for EventForm {
             Ok(event) => event,
             Err(fault) => return Err(fault),
         };
-        match add(items, event) {
-            Ok(()) => Ok(()),
-            Err(TextReason::Memory) => Err(records.fault(TextReason::Memory)),
-            Err(why) => Err(TextFault { at, why }),
+        let Err((_, fault)) = items.push(event) else {
+            return Ok(());
+        };
+        match fault {
+            // a rule is broken by the event, which begins here
+            PushFault::Rule(rule) => Err(TextFault {
+                at,
+                why: TextReason::Rule(rule),
+            }),
+            // memory ran out where reading stands
+            PushFault::Memory => Err(records.fault(TextReason::Memory)),
         }
     }
 }
 
 /// What is wrong with a record after all events: its own fault, the rule that it breaks where it is an event by itself,
 /// and else that it is one too many.
-fn past_fault(form: &EventForm, row: &ByteRecord, trace: &mut Trace) -> TextReason
-    requires { trace.old.setup ≡ form.now.setup }
-    ensures { (result ≡ TextReason.Memory) ⊎ IsPast form.now.head.version form.now.setup trace.old.events (fields_of row.now) result }
+fn past_fault(form: &EventForm, row: &ByteRecord, trace: &Trace) -> TextReason
+    requires { trace.now.setup ≡ form.now.setup }
+    ensures { IsPast form.now.head.version form.now.setup trace.now.events (fields_of row.now) result }
 {
     let head = match form.head.value(row) {
         Ok(head) => head,
@@ -149,9 +134,9 @@ fn past_fault(form: &EventForm, row: &ByteRecord, trace: &mut Trace) -> TextReas
         Some(event) => event,
         None => return TextReason::Count,
     };
-    match add(trace, event) {
-        Ok(()) => TextReason::Count,
-        Err(why) => why,
+    match trace.first_broken(&event) {
+        Some(rule) => TextReason::Rule(rule),
+        None => TextReason::Count,
     }
 }
 
@@ -189,7 +174,7 @@ fn read_events<R: Read + Drop>(
         Ok(false) => return Ok(trace),
         Err(fault) => return Err(fault),
     }
-    let why = past_fault(&form, records.row(), &mut trace);
+    let why = past_fault(&form, records.row(), &trace);
     Err(records.fault(why))
 }
 

@@ -1,5 +1,6 @@
 pub mod Happened
 pub mod Kinds
+pub mod Names
 pub mod Setups
 pub mod Events
 pub mod Depths

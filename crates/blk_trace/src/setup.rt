@@ -1,10 +1,11 @@
 //! What a trace is made for.
 
 ghost use Rattle.std.specs.Prelude.{◌≡◌, ◌<◌};
+ghost use Rattle.blk_trace.specs.Names.{setup_told};
 ghost use Rattle.blk_trace.specs.Setups.{IsSetup, IsSetupAnswer, expire_of};
 
 use blk_bio::{Dir, Limits, MAX_QUEUES};
-use edd_commands::MAX_DEPTH;
+use edd_commands::{Fault, MAX_DEPTH, Told, told};
 use std::marker::Model;
 use thiserror::Error;
 
@@ -13,7 +14,7 @@ pub const MAX_EXPIRIES: u64 = 1 << 40;
 
 /// Why a setup is not made, in the order in which the reasons are looked for.
 #[derive(Clone, Copy, Debug, PartialEq, Eq, Error)]
-#[error("{:?}", self)]
+#[error("{}", self.name())]
 pub enum SetupFault {
     /// The depth is 0 or above `MAX_DEPTH`.
     Depth,
@@ -21,6 +22,14 @@ pub enum SetupFault {
     Queues,
     /// An expiry is not below `MAX_EXPIRIES`.
     Expire,
+}
+
+impl Fault for SetupFault {
+    ghost told = { setup_told };
+
+    fn told(&self) -> Told {
+        told!(self: SetupFault { Depth, Queues, Expire })
+    }
 }
 
 /// How many tags and hardware queues there are, after how many rounds a read and a write are due,

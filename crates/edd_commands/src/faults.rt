@@ -71,21 +71,23 @@ pub trait Fault {
 }
 
 /// What is told of a fault, by a list that has every variant with its payload, in any order. The name is the variant's or the text
-/// behind `as`, and an arrow gives what is told beside it:
+/// behind `as`, and an arrow gives what is told beside it. Of a variant that holds a fault, `by` that fault tells both:
 ///
 /// ```text
-/// told!(self: Why { Title, RepeatedId(id) => Number(id), Stalled as "stalled", Memory => Memory })
+/// told!(self: Why { Title, RepeatedId(id) => Number(id), Stalled as "stalled", Setup(fault) by fault, Memory => Memory })
 /// ```
 #[macro_export]
 macro_rules! told {
     (@beside) => { $crate::Beside::Nothing };
     (@beside $beside:ident $($value:expr)?) => { $crate::Beside::$beside $(($value))? };
-    ($fault:ident: $kind:ident { $($variant:ident $(($payload:pat))? $(as $name:literal)? $(=> $beside:ident $(($value:expr))?)?),* $(,)? }) => {
+    (@by [] $told:expr) => { $told };
+    (@by [$held:ident] $told:expr) => { $crate::Fault::told(&$held) };
+    ($fault:ident: $kind:ident { $($variant:ident $(($payload:pat))? $(as $name:literal)? $(by $held:ident)? $(=> $beside:ident $(($value:expr))?)?),* $(,)? }) => {
         match *$fault {
-            $($kind::$variant $(($payload))? => $crate::Told {
+            $($kind::$variant $(($payload))? => $crate::told!(@by [$($held)?] $crate::Told {
                 name: $crate::variant_name!(@ $variant $($name)?),
                 beside: $crate::told!(@beside $($beside $($value)?)?),
-            },)*
+            }),)*
         }
     };
 }

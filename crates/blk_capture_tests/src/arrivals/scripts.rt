@@ -9,6 +9,7 @@ use blk_capture::Record;
 use blk_capture_text::read_capture;
 use blk_records::Records;
 use blk_text::read_script;
+use blk_trace::SetupFault;
 use edd_commands::Fault;
 use std::alloc::Global;
 use std::process::Abort;
@@ -96,7 +97,7 @@ fn faults_of_the_terms(rt: HostRuntime) {
     };
     assert_eq!(rt;
         fault_of(&rt, alloc, TEXT, &deep),
-        Some(ArrivalsFault::Depth)
+        Some(ArrivalsFault::Setup(SetupFault::Depth))
     );
     let late = Terms {
         read_expire: 1 << 40,
@@ -104,7 +105,7 @@ fn faults_of_the_terms(rt: HostRuntime) {
     };
     assert_eq!(rt;
         fault_of(&rt, alloc, TEXT, &late),
-        Some(ArrivalsFault::Expire)
+        Some(ArrivalsFault::Setup(SetupFault::Expire))
     );
     assert_eq!(rt;
         fault_of(&rt, alloc, TEXT, &terms(2)),
@@ -116,8 +117,8 @@ fn faults_of_the_terms(rt: HostRuntime) {
 #[test]
 fn names_of_the_faults(rt: HostRuntime) {
     assert_eq!(rt; ArrivalsFault::Round.name(), "Round");
-    assert_eq!(rt; ArrivalsFault::Depth.name(), "Depth");
-    assert_eq!(rt; ArrivalsFault::Expire.name(), "Expire");
+    assert_eq!(rt; ArrivalsFault::Setup(SetupFault::Depth).name(), "Depth");
+    assert_eq!(rt; ArrivalsFault::Setup(SetupFault::Expire).name(), "Expire");
     assert_eq!(rt; ArrivalsFault::TooMany.name(), "TooMany");
     assert_eq!(rt; ArrivalsFault::TraceFull.name(), "TraceFull");
     assert_eq!(rt; ArrivalsFault::TooLong.name(), "TooLong");

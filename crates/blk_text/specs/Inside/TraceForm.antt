@@ -1,14 +1,9 @@
 -- The events of a trace while they are read.
-use Rattle.std.specs.Prelude.{◌≡◌, ◌⊎◌, ℕ, List, [], ◌∷◌, ◌++◌, Option, Some, None}
+use Rattle.std.specs.Prelude.{ℕ, List, [], ◌∷◌, Option, Some, None}
 use Rattle.blk_bio.specs.Bios.{Bio}
 use Rattle.blk_bio.specs.declared.limits.TheConstants.{MAX_SEGMENTS}
-use Rattle.blk_bio.specs.declared.rule.TraceRule.{TraceRule}
-use Rattle.blk_trace.specs.declared.rule.PushFault.{PushFault}
-use Rattle.blk_trace.specs.declared.rule.PushFault.TheVariants as push_fault
 use Rattle.blk_trace.specs.Happened.{Happened}
-use Rattle.blk_trace.specs.Rules.{IsFirstBroken, BreaksNoRule}
 use Rattle.blk_trace.specs.Setups.{Setup}
-use Rattle.blk_trace.specs.Traces.{Traced}
 use Rattle.blk_records.specs.Sources.{Row}
 use Rattle.blk_records.specs.Reads.{IsStopped}
 use Rattle.blk_records.specs.declared.fault.TextReason.{TextReason}
@@ -22,22 +17,9 @@ abbrev pub gathered_bios : Option (List Bio) → List Bio
 gathered_bios None = []
 gathered_bios (Some bios) = bios
 
--- the fault of an event that a trace refuses
-abbrev pub refusal_of : PushFault → TextReason
-refusal_of (push_fault.Rule rule) = why.Rule rule
-refusal_of push_fault.Memory = why.Memory
-
--- an event is refused after these: because memory ran out, or for the first rule that it breaks
-abbrev pub IsRefused : Setup → List Happened → Happened → TextReason → Type 0
-IsRefused setup before e w = (w ≡ why.Memory) ⊎ ((rule : TraceRule) × (w ≡ why.Rule rule) × IsFirstBroken setup before e rule)
-
 -- what is wrong with a record after the last event
 abbrev pub IsPast : ℕ → Setup → List Happened → Row → TextReason → Type 0
 IsPast version setup before row w = (rest : List Row) → (over why.Count (one_more version setup before)).Wrong (row ∷ rest) 1 w
-
--- an event was added to a trace, none of whose rules it breaks
-abbrev pub IsPushed : Traced → Traced → Happened → Type 0
-IsPushed old new e = (new.setup ≡ old.setup) × (new.events ≡ old.events ++ e ∷ []) × BreaksNoRule old.setup old.events e
 
 -- reading a number of events stopped at the record `at`, and `last` was asked for last: all events before the one that was being read are
 -- good, and no record past those that it may have was asked for

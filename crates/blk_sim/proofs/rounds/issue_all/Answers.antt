@@ -3,6 +3,7 @@ use Rattle.std.specs.Prelude.{IsTrue, false}
 use Rattle.blk_trace.specs.Depths.{depth_now}
 use Rattle.blk_sim.specs.Inside.Given.{IsGiven}
 use Rattle.blk_sim.specs.declared.refusal.SimReason.TheVariants as why
+use Rattle.blk_core.specs.declared.refusals.IssueFault.TheVariants as issue
 use Rattle.blk_sim.proofs.Chains.{issue_none, issue_given, issue_passed}
 use Rattle.blk_sim.proofs.Rounding.{all_given}
 use Rattle.blk_sim.proofs.rounds.issue_all.Goals as goal
@@ -34,6 +35,6 @@ loop-tag-preserved g c = elim c.match-issue_tag.branch [
   | in-Ok-true w ↦ issue_given g.S.Scheduler.policy c.loop-tag.tag c.args.core.now c.loop-tag.core c.issue_tag.new.core c.loop-tag.invariant
       (subst (λ v. IsGiven g.S.Scheduler.policy c.loop-tag.tag c.loop-tag.core v c.issue_tag.new.core) w.in-Ok-true.field-0-test w.in-Ok-true.ensures.given)
   | in-Err+else-not-is_used w ↦
-      let used : w.in-Err.why ≡ why.SlotUsed = search rules in
+      let used : w.in-Err.why ≡ why.Issue issue.SlotUsed = search rules in
       issue_passed g.S.Scheduler.policy c.loop-tag.tag c.args.core.now c.loop-tag.core c.issue_tag.new.core c.loop-tag.invariant (w.in-Err.ensures.used used) w.in-Err.ensures.same
 ]
