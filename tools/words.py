@@ -191,11 +191,14 @@ def held_by_cases():
 
 # The names that are no variant's, by the fault that has each: `Stalled` says what became of a load, where the others name a broken rule.
 OWN_NAMES = {"LoadFault::Stalled": "stalled"}
-# A method that answers a fault's name, or what is told of it; in it the list of the fault's variants; and one of these, with a name of its own
-# and with what else stands there: in a list of names what gives the name of the fault that is handed on.
+# The names that no command shows as a fault's: each of the first four is told in other words, and the program's own setups have all hardware queues
+# that its steps name.
+UNSEEN = {"Memory", "Read", "Write", "Words", "NoQueue", "Queues"}
+# A method that answers a fault's name, or what is told of it; in it the list of the fault's variants; and one of these, with a name of its own,
+# the fault that it is told by, and what else stands there: in a list of names what gives the name of the fault that is handed on.
 NAME = re.compile(r"fn (?:name\(self\)|told\(&self\)) .*?\n    }\n", re.S)
 LIST = re.compile(r"(variant_name|told)!\(self: (\w+) \{(.*?),?\s*\}\)", re.S)
-VARIANT = re.compile(r'\s*(\w+)(?:\(\w+\))?(?: as "(\w+)")?(?: => (.+))?')
+VARIANT = re.compile(r'\s*(\w+)(?:\(\w+\))?(?: as "(\w+)")?(?: by (\w+))?(?: => (.+))?')
 # A failure of the program itself, with its name.
 TOLD = re.compile(r'(Failure::\w+)(?:\(_\))? => Told \{\s*name: "(\w+)"')
 
@@ -209,8 +212,8 @@ def printed_names():
             found = [VARIANT.fullmatch(one) for one in listed[3].split(",")] if listed else [None] * block.startswith("fn name")
             if None in found:
                 raise Fault(f"{it.relative_to(TOP)}: these names of faults aren't understood: {block}")
-            for variant, name, more in (one.groups() for one in found):
-                if listed[1] == "told" or not more:
+            for variant, name, holds, more in (one.groups() for one in found):
+                if not holds and (listed[1] == "told" or not more):
                     yield f"{listed[2]}::{variant}", name or variant
         yield from TOLD.findall(text)
 
@@ -225,7 +228,7 @@ def names_of_faults():
     printed, listed = {name for _, name in named}, set()
     for row in FORMATS.read_text().split("\n## Names of faults\n")[-1].splitlines():
         listed.update(re.findall(r"`(\w+)`", row.split("|")[1] if row.startswith("|") else ""))
-    apart = printed - {"Memory", "Read", "Write", "Words"}
+    apart = printed - UNSEEN
     yield from (f"docs/FORMATS.md names no fault {it}" for it in sorted(apart - listed))
     yield from (f"no fault has the name {it}, which docs/FORMATS.md lists" for it in sorted(listed - apart))
 

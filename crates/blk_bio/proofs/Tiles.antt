@@ -27,6 +27,18 @@ fills (b ∷ c ∷ bs) r =
     let s : sectors_of (b ∷ c ∷ bs) ≡ b.sectors + sectors_of (c ∷ bs) = sum_by-cons (λ x. x.sectors) b (c ∷ bs) in
     omega (arith, next, ih, s)
 
+-- and each of its bios has a sector at least
+pub counted : (bs : List Bio) → IsRequest bs → length bs ≤ sectors_of bs
+counted [] r = absurd (omega (arith, r.not_empty))
+counted (b ∷ []) r =
+    let one : IsBio b = r.each_bio 0 b (omega arith) in
+    omega (arith, one.not_empty)
+counted (b ∷ c ∷ bs) r =
+    let one : IsBio b = r.each_bio 0 b (omega arith) in
+    let ih : length (c ∷ bs) ≤ sectors_of (c ∷ bs) = counted (c ∷ bs) (rest_request b c bs r) in
+    let s : sectors_of (b ∷ c ∷ bs) ≡ b.sectors + sectors_of (c ∷ bs) = sum_by-cons (λ x. x.sectors) b (c ∷ bs) in
+    omega (arith, one.not_empty, ih, s)
+
 -- the end of a list of bios is its last one's
 pub last_at : (bs : List Bio) (n : ℕ) (d : Bio) → length bs ≡ suc n → end_of (get_or bs n d) ≡ last_of bs
 unfolding last_of

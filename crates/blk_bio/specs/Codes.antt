@@ -1,4 +1,4 @@
--- Codes of bios and of limits, for records that hold them beside a map.
+-- Codes of bios, limits and extents, for records that hold them beside a map.
 use Rattle.std.specs.Prelude.{ℕ, ◌≡◌, Bool, true, false, refl}
 use Rattle.std.specs.Coded.{Coded, code_by, coded×, coded_ℕ, coded_bool}
 use Rattle.blk_bio.specs.declared.bio.BioId.{BioId}
@@ -6,6 +6,7 @@ use Rattle.blk_bio.specs.declared.bio.Dir.{Dir}
 use Rattle.blk_bio.specs.declared.bio.Dir.TheVariants.{Read, Write}
 use Rattle.blk_bio.specs.Bios.{Bio}
 use Rattle.blk_bio.specs.Limits.{Limits}
+use Rattle.blk_bio.specs.Extents.{Extent}
 
 -- whether a direction is that of reads
 abbrev pub is_read : Dir → Bool
@@ -37,3 +38,7 @@ bio_code = code_by (BioId × (Dir × (ℕ × ℕ))) (coded× bio_id_code (coded�
 -- the code of limits
 abbrev pub limits_code : Coded Limits
 limits_code = code_by (ℕ × ℕ) (coded× coded_ℕ coded_ℕ) (λ l. (l.max_sectors, l.max_segments)) (λ p. record { max_sectors = p.0; max_segments = p.1 }) (λ _. refl)
+
+-- the code of an extent
+abbrev pub extent_code : Coded Extent
+extent_code = code_by (Dir × (ℕ × (ℕ × ℕ))) (coded× dir_code (coded× coded_ℕ (coded× coded_ℕ coded_ℕ))) (λ e. (e.dir, (e.first, (e.end, e.bios)))) (λ p. record { dir = p.0; first = p.1.0; end = p.1.1.0; bios = p.1.1.1 }) (λ _. refl)

@@ -1,11 +1,25 @@
 -- What of a request decides what may join it.
-use Rattle.std.specs.Prelude.{◌≡◌, ◌≤◌, ◌+◌, ◌-◌, List, length}
-use Rattle.blk_bio.specs.declared.extent.Extent.{Extent}
+use Rattle.std.specs.Prelude.{ℕ, ◌≡◌, ◌<◌, ◌≤◌, ◌+◌, ◌-◌, List, length}
+use Rattle.blk_bio.specs.declared.bio.Dir.{Dir}
+use Rattle.blk_bio.specs.declared.bio.TheConstants.{MAX_END}
 use Rattle.blk_bio.specs.declared.request.Side.{Side}
 use Rattle.blk_bio.specs.declared.request.Side.TheVariants.{Back, Front}
 use Rattle.blk_bio.specs.Bios.{Bio}
 use Rattle.blk_bio.specs.Limits.{Limits}
-use Rattle.blk_bio.specs.Requests.{IsRequest, Fits, dir_of, first_of, last_of}
+use Rattle.blk_bio.specs.Requests.{dir_of, first_of, last_of}
+
+-- a direction, the sectors from the first one up to the end, and how many bios fill them
+pub record Extent : Type 0 where
+  pub dir : Dir
+  pub first : ℕ
+  pub end : ℕ
+  pub bios : ℕ
+
+-- there is a bio, each has a sector at least, and it ends at most at the limit
+pub record IsExtent (e : Extent) : Type 0 where
+  pub some : 0 < e.bios
+  pub filled : e.first + e.bios ≤ e.end
+  pub in_range : e.end ≤ MAX_END
 
 -- the direction and the range of a list of bios, and how many they are
 abbrev pub extent_of : List Bio → Extent
@@ -26,23 +40,16 @@ abbrev pub extent_joined : Extent → Extent → Side → Extent
 extent_joined e newcomer Back = record { dir = e.dir; first = e.first; end = newcomer.end; bios = e.bios + newcomer.bios }
 extent_joined e newcomer Front = record { dir = e.dir; first = newcomer.first; end = e.end; bios = e.bios + newcomer.bios }
 
--- these are requests of these extents
-pub record AreOf (e newcomer : Extent) (bios more : List Bio) : Type 0 where
-  pub request : IsRequest bios
-  pub newcomer_too : IsRequest more
-  pub extent : e ≡ extent_of bios
-  pub newcomer_extent : newcomer ≡ extent_of more
-
--- a newcomer of the extent fits a request of the extent at this side
-abbrev pub FitAt : Limits → Extent → Extent → Side → Type 0
-FitAt limits e newcomer side = (bios more : List Bio) → AreOf e newcomer bios more → Fits limits bios more side
+-- a newcomer fits at the side: it has the same direction, touches there, and both are within the limits
+pub record FitAt (limits : Limits) (e newcomer : Extent) (side : Side) : Type 0 where
+  pub same_direction : newcomer.dir ≡ e.dir
+  pub touches : TouchesAt e newcomer side
+  pub within : WithinTogether limits e newcomer
 
 -- and at no other side
 abbrev pub FitOnlyAt : Limits → Extent → Extent → Side → Type 0
-FitOnlyAt limits e newcomer found =
-    (bios more : List Bio) → AreOf e newcomer bios more → (side : Side) → Fits limits bios more side → side ≡ found
+FitOnlyAt limits e newcomer found = (side : Side) → FitAt limits e newcomer side → side ≡ found
 
--- a newcomer of the extent fits no request of the extent, at neither side
+-- a newcomer fits at neither side
 abbrev pub FitNowhere : Limits → Extent → Extent → Type 0
-FitNowhere limits e newcomer =
-    (bios more : List Bio) → AreOf e newcomer bios more → (side : Side) → Fits limits bios more side → ⊥
+FitNowhere limits e newcomer = (side : Side) → FitAt limits e newcomer side → ⊥

@@ -156,13 +156,7 @@ impl Bio {
     pub fn extent(&self) -> Extent
         ensures value { result ≡ extent_of (self.now ∷ []) }
         ensures is_request { IsRequest (self.now ∷ []) }
-        ensures range { result.first < result.end }
     {
-        Extent {
-            dir: self.dir,
-            first: self.first,
-            end: self.first + self.sectors,
-            bios: 1,
-        }
+        Extent::of(self.dir, self.first, self.first + self.sectors, 1)
     }
 }

@@ -150,14 +150,9 @@ impl<A: Allocator + Clone> Request<A> {
     pub fn extent(&self) -> Extent
         ensures value { result ≡ extent_of self.now }
         ensures is_request { IsRequest self.now }
-        ensures range { result.first < result.end }
     {
-        Extent {
-            dir: self.dir(),
-            first: self.first(),
-            end: self.end(),
-            bios: self.bios().len() as u64,
-        }
+        let bios = self.bios().len() as u64;
+        Extent::of(self.dir(), self.first(), self.end(), bios)
     }
 
     /// The side at which the newcomer would join this request: it has the same direction, abuts, and is within the

@@ -1,5 +1,5 @@
-mod Begun
 mod Pushed
+mod Seen
 mod Waits
 mod Flights
 mod RequeueLists

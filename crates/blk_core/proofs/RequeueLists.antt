@@ -8,12 +8,11 @@ use Rattle.std.proofs.lemmas.List.Sums.{sum_by-set, sum_by-cons, sum_by_push}
 use Rattle.std.proofs.Math.ListN.{replicate}
 use Rattle.blk_bio.specs.declared.bio.Dir.{Dir}
 use Rattle.blk_bio.specs.declared.bio.Dir.TheVariants.{Read, Write}
-use Rattle.blk_bio.specs.Requests.{dir_of}
-use Rattle.blk_trace.specs.Waits.{Entered}
 use Rattle.blk_trace.specs.Setups.{same_dir}
 use Rattle.blk_sched.specs.Meaning.{Waiting}
 use Rattle.blk_queues.specs.Requeued.{requeued_total, requeued_count}
-use Rattle.blk_core.specs.State.{entered_of, is_of, is_named}
+use Rattle.blk_core.specs.State.{facts_of, is_of, is_named}
+use Rattle.blk_core.proofs.Seen.{Facts}
 use Rattle.blk_core.proofs.Pushed.{get_more}
 
 -- 1 where it is so
@@ -75,7 +74,7 @@ by_dir Write = refl
 list_by_dirs : (xs : List Waiting) → count_by (is_of Read) xs + count_by (is_of Write) xs ≡ length xs
 list_by_dirs [] = refl
 list_by_dirs (x ∷ xs) =
-    omega (arith, by_dir (dir_of x.bios), list_by_dirs xs, sum_by-cons (λ (y : Waiting). one_if (is_of Read y)) x xs, sum_by-cons (λ (y : Waiting). one_if (is_of Write y)) x xs)
+    omega (arith, by_dir x.extent.dir, list_by_dirs xs, sum_by-cons (λ (y : Waiting). one_if (is_of Read y)) x xs, sum_by-cons (λ (y : Waiting). one_if (is_of Write y)) x xs)
 
 pub by_dirs : (requeue_lists : List (List Waiting)) → requeued_count (is_of Read) requeue_lists + requeued_count (is_of Write) requeue_lists ≡ requeued_total requeue_lists
 by_dirs [] = refl
@@ -83,20 +82,20 @@ by_dirs (l ∷ requeue_lists) =
     omega (arith, list_by_dirs l, by_dirs requeue_lists, sum_by-cons (count_by (is_of Read)) l requeue_lists, sum_by-cons (count_by (is_of Write)) l requeue_lists, sum_by-cons length l requeue_lists)
 
 -- each requeued request is what a word of the trace says of its id, and stands once
-abbrev pub AreAs : (ℕ → Option Entered) → List (List Waiting) → Type 0
-AreAs R requeue_lists = (hw k : ℕ) (w : Waiting) → slice_get (get_or requeue_lists hw []) k ≡ Some w → R w.id ≡ Some (entered_of w)
+abbrev pub AreAs : (ℕ → Option Facts) → List (List Waiting) → Type 0
+AreAs R requeue_lists = (hw k : ℕ) (w : Waiting) → slice_get (get_or requeue_lists hw []) k ≡ Some w → R w.id ≡ Some (facts_of w)
 
-abbrev pub AreOnce : (ℕ → Option Entered) → List (List Waiting) → Type 0
+abbrev pub AreOnce : {X : Type 0} → (ℕ → Option X) → List (List Waiting) → Type 0
 AreOnce R requeue_lists = (id : ℕ) → requeued_count (is_named id) requeue_lists ≡ cond (is_some (R id)) 1 0
 
-pub as_same : (R V : ℕ → Option Entered) (requeue_lists : List (List Waiting)) → ((q : ℕ) → V q ≡ R q) → AreAs R requeue_lists → AreAs V requeue_lists
+pub as_same : (R V : ℕ → Option Facts) (requeue_lists : List (List Waiting)) → ((q : ℕ) → V q ≡ R q) → AreAs R requeue_lists → AreAs V requeue_lists
 as_same R V requeue_lists same h hw k w at = same w.id ∙ h hw k w at
 
-pub once_same : (R V : ℕ → Option Entered) (requeue_lists : List (List Waiting)) → ((q : ℕ) → V q ≡ R q) → AreOnce R requeue_lists → AreOnce V requeue_lists
+pub once_same : {X : Type 0} (R V : ℕ → Option X) (requeue_lists : List (List Waiting)) → ((q : ℕ) → V q ≡ R q) → AreOnce R requeue_lists → AreOnce V requeue_lists
 once_same R V requeue_lists same h id = h id ∙ ap (λ o. one_if (is_some o)) (sym (same id))
 
 -- an id that nothing is said of is taken out in vain
-pub none_gone : (R V : ℕ → Option Entered) (id : ℕ) → R id ≡ None → ((q : ℕ) → V q ≡ cond (id == q) None (R q)) → (q : ℕ) → V q ≡ R q
+pub none_gone : {X : Type 0} (R V : ℕ → Option X) (id : ℕ) → R id ≡ None → ((q : ℕ) → V q ≡ cond (id == q) None (R q)) → (q : ℕ) → V q ≡ R q
 none_gone R V id none step q = elim (eqb_tells id q) [
   | inl y ↦ step q ∙ ap (λ b. cond b None (R q)) y.0 ∙ sym (subst (λ x. R x ≡ None) y.1 none)
   | inr n ↦ step q ∙ ap (λ b. cond b None (R q)) n.0
@@ -109,17 +108,17 @@ at_place xss hw q k ys x lt at = elim (eqb_tells q hw) [
   | inr n ↦ inr (n.1, sym (ap (λ l. slice_get l k) (get_or-set_other xss hw q ys [] n.1)) ∙ at)
 ]
 
-kept_id : (R V : ℕ → Option Entered) (w : Waiting) (o : Option Entered) (v : Waiting) → R w.id ≡ None → ((q : ℕ) → V q ≡ cond (w.id == q) o (R q)) → R v.id ≡ Some (entered_of v) → V v.id ≡ Some (entered_of v)
+kept_id : (R V : ℕ → Option Facts) (w : Waiting) (o : Option Facts) (v : Waiting) → R w.id ≡ None → ((q : ℕ) → V q ≡ cond (w.id == q) o (R q)) → R v.id ≡ Some (facts_of v) → V v.id ≡ Some (facts_of v)
 kept_id R V w o v none step h =
     step v.id ∙ ap (λ b. cond b o (R v.id)) (ne_eqb w.id v.id (λ e. absurd (let n : R v.id ≡ None = subst (λ x. R x ≡ None) e none in cc))) ∙ h
 
-pub as_with : (R V : ℕ → Option Entered) (requeue_lists : List (List Waiting)) (hw : ℕ) (w : Waiting) → hw < length requeue_lists → R w.id ≡ None → ((q : ℕ) → V q ≡ cond (w.id == q) (Some (entered_of w)) (R q)) → AreAs R requeue_lists → AreAs V (with_one requeue_lists hw w)
+pub as_with : (R V : ℕ → Option Facts) (requeue_lists : List (List Waiting)) (hw : ℕ) (w : Waiting) → hw < length requeue_lists → R w.id ≡ None → ((q : ℕ) → V q ≡ cond (w.id == q) (Some (facts_of w)) (R q)) → AreAs R requeue_lists → AreAs V (with_one requeue_lists hw w)
 as_with R V requeue_lists hw w lt none step h q k v at = elim (at_place requeue_lists hw q k (get_or requeue_lists hw [] ++ w ∷ []) v lt at) [
   | inl here ↦ elim (get_more (get_or requeue_lists hw []) w k v here.1) [
-    | inl old ↦ kept_id R V w (Some (entered_of w)) v none step (h hw k v old)
-    | inr new ↦ subst (λ x. V x.id ≡ Some (entered_of x)) new.1 (step w.id ∙ ap (λ b. cond b (Some (entered_of w)) (R w.id)) (eq-eqb w.id w.id refl))
+    | inl old ↦ kept_id R V w (Some (facts_of w)) v none step (h hw k v old)
+    | inr new ↦ subst (λ x. V x.id ≡ Some (facts_of x)) new.1 (step w.id ∙ ap (λ b. cond b (Some (facts_of w)) (R w.id)) (eq-eqb w.id w.id refl))
   ]
-  | inr other ↦ kept_id R V w (Some (entered_of w)) v none step (h q k v other.1)
+  | inr other ↦ kept_id R V w (Some (facts_of w)) v none step (h q k v other.1)
 ]
 
 named : (id : ℕ) (w : Waiting) → ((id == w.id) ≡ true) × (id ≡ w.id) ⊎ ((id == w.id) ≡ false) × ((w.id == id) ≡ false)
@@ -128,24 +127,24 @@ named id w = elim (eqb_tells id w.id) [
   | inr n ↦ inr (n.0, ne_eqb w.id id (λ e. n.1 (sym e)))
 ]
 
-pub once_with : (R V : ℕ → Option Entered) (requeue_lists : List (List Waiting)) (hw : ℕ) (w : Waiting) → hw < length requeue_lists → R w.id ≡ None → ((q : ℕ) → V q ≡ cond (w.id == q) (Some (entered_of w)) (R q)) → AreOnce R requeue_lists → AreOnce V (with_one requeue_lists hw w)
+pub once_with : (R V : ℕ → Option Facts) (requeue_lists : List (List Waiting)) (hw : ℕ) (w : Waiting) → hw < length requeue_lists → R w.id ≡ None → ((q : ℕ) → V q ≡ cond (w.id == q) (Some (facts_of w)) (R q)) → AreOnce R requeue_lists → AreOnce V (with_one requeue_lists hw w)
 once_with R V requeue_lists hw w lt none step h id =
     let more = count_with (is_named id) requeue_lists hw w lt in
     let had = h id in
     elim (named id w) [
       | inl y ↦
           let r : one_if (is_some (R id)) ≡ 0 = ap (λ o. one_if (is_some o)) (subst (λ x. R x ≡ None) (sym y.1) none) in
-          let v : one_if (is_some (V id)) ≡ 1 = ap (λ o. one_if (is_some o)) (step id ∙ ap (λ b. cond b (Some (entered_of w)) (R id)) (eq-eqb w.id id (sym y.1))) in
+          let v : one_if (is_some (V id)) ≡ 1 = ap (λ o. one_if (is_some o)) (step id ∙ ap (λ b. cond b (Some (facts_of w)) (R id)) (eq-eqb w.id id (sym y.1))) in
           let one : one_if (is_named id w) ≡ 1 = ap one_if y.0 in
           omega arith
       | inr n ↦
-          let v : one_if (is_some (V id)) ≡ one_if (is_some (R id)) = ap (λ o. one_if (is_some o)) (step id ∙ ap (λ b. cond b (Some (entered_of w)) (R id)) n.1) in
+          let v : one_if (is_some (V id)) ≡ one_if (is_some (R id)) = ap (λ o. one_if (is_some o)) (step id ∙ ap (λ b. cond b (Some (facts_of w)) (R id)) n.1) in
           let one : one_if (is_named id w) ≡ 0 = ap one_if n.0 in
           omega arith
     ]
 
 -- one fewer
-pub once_without : (R V : ℕ → Option Entered) (requeue_lists : List (List Waiting)) (hw : ℕ) (w : Waiting) (rest : List Waiting) → hw < length requeue_lists → get_or requeue_lists hw [] ≡ w ∷ rest → ((q : ℕ) → V q ≡ cond (w.id == q) None (R q)) → AreAs R requeue_lists → AreOnce R requeue_lists → AreOnce V (set requeue_lists hw rest)
+pub once_without : (R V : ℕ → Option Facts) (requeue_lists : List (List Waiting)) (hw : ℕ) (w : Waiting) (rest : List Waiting) → hw < length requeue_lists → get_or requeue_lists hw [] ≡ w ∷ rest → ((q : ℕ) → V q ≡ cond (w.id == q) None (R q)) → AreAs R requeue_lists → AreOnce R requeue_lists → AreOnce V (set requeue_lists hw rest)
 once_without R V requeue_lists hw w rest lt is step are h id =
     let less = count_without (is_named id) requeue_lists hw w rest lt is in
     let had = h id in
@@ -161,11 +160,11 @@ once_without R V requeue_lists hw w rest lt is step are h id =
           omega arith
     ]
 
-pub as_without : (R V : ℕ → Option Entered) (requeue_lists : List (List Waiting)) (hw : ℕ) (w : Waiting) (rest : List Waiting) → hw < length requeue_lists → get_or requeue_lists hw [] ≡ w ∷ rest → ((q : ℕ) → V q ≡ cond (w.id == q) None (R q)) → AreAs R requeue_lists → AreOnce R requeue_lists → AreAs V (set requeue_lists hw rest)
+pub as_without : (R V : ℕ → Option Facts) (requeue_lists : List (List Waiting)) (hw : ℕ) (w : Waiting) (rest : List Waiting) → hw < length requeue_lists → get_or requeue_lists hw [] ≡ w ∷ rest → ((q : ℕ) → V q ≡ cond (w.id == q) None (R q)) → AreAs R requeue_lists → AreOnce R requeue_lists → AreAs V (set requeue_lists hw rest)
 as_without R V requeue_lists hw w rest lt is step are once q k v at =
     let some : 0 < requeued_count (is_named v.id) (set requeue_lists hw rest) = counted (is_named v.id) (set requeue_lists hw rest) q k v at (eq-eqb v.id v.id refl) in
     let number = once_without R V requeue_lists hw w rest lt is step are once v.id in
-    let stands : R v.id ≡ Some (entered_of v) = elim (at_place requeue_lists hw q k rest v lt at) [
+    let stands : R v.id ≡ Some (facts_of v) = elim (at_place requeue_lists hw q k rest v lt at) [
       | inl here ↦ are hw (suc k) v (ap (λ l. slice_get l (suc k)) is ∙ here.1)
       | inr other ↦ are q k v other.1
     ] in

@@ -1,22 +1,15 @@
 -- What waits, as releases, joins and issues change it: in the scheduler and in the trace.
-use Rattle.std.proofs.Common.{◌≡◌, ◌≢◌, ◌∙◌, sym, ap, refl, inl, inr, ℕ, ◌+◌, arith, Bool, true, false, cond, List, [], ◌∷◌, ◌++◌, length-append, append-nil, Option, Some, None, is_some, ◌==◌}
+use Rattle.std.proofs.Common.{◌≡◌, ◌≢◌, ◌∙◌, sym, ap, refl, inl, inr, ℕ, ◌+◌, Bool, true, false, cond, Option, Some, None, is_some, ◌==◌}
 use Rattle.std.proofs.lemmas.Bool.{eq-eqb, ne_eqb}
 use Rattle.std.proofs.lemmas.Bool.Decides.{eqb_tells}
-use Rattle.std.proofs.lemmas.List.Sums.{sum_by-append}
 use Rattle.std.specs.Option.{option_map}
 use Rattle.std.specs.FinMap as map
 use Rattle.std.specs.Ordering.{nat_cmp, eq_by_cmp}
 use Rattle.std.specs.Cmp.{nat_cmp_total, unsigned_tied}
-use Rattle.blk_bio.specs.declared.request.Side.{Side}
-use Rattle.blk_bio.specs.declared.request.Side.TheVariants.{Back, Front}
-use Rattle.blk_bio.specs.Bios.{Bio}
-use Rattle.blk_bio.specs.Limits.{Limits}
-use Rattle.blk_bio.specs.Requests.{first_of, last_of, joined, IsWithin, Fits}
-use Rattle.blk_trace.specs.Events.{join_up}
-use Rattle.blk_trace.specs.Waits.{Entered}
 use Rattle.blk_sched.specs.Meaning.{Waiting, Pending}
 use Rattle.blk_sched.proofs.Maps.{put_back}
-use Rattle.blk_core.specs.State.{entered_of}
+use Rattle.blk_core.specs.State.{facts_of}
+use Rattle.blk_core.proofs.Seen.{Facts}
 
 flip : (q id : ℕ) → (q == id) ≡ (id == q)
 flip q id = elim (eqb_tells q id) [
@@ -35,18 +28,18 @@ pub get_taken : (P : Pending) (id q : ℕ) → map.get (map.remove P id) q ≡ c
 get_taken P id q = map.get-remove nat_cmp_total P id q ∙ ap (λ b. cond b None (map.get P q)) (by_key q id)
 
 -- the scheduler and the trace agree where both are given a request
-pub agree_given : (P : Pending) (W V : ℕ → Option Entered) (id : ℕ) (w : Waiting) → ((q : ℕ) → option_map entered_of (map.get P q) ≡ W q) → ((q : ℕ) → V q ≡ cond (id == q) (Some (entered_of w)) (W q)) → (q : ℕ) → option_map entered_of (map.get (map.insert P id w) q) ≡ V q
-agree_given P W V id w h step q = ap (option_map entered_of) (get_given P id w q) ∙ at_key (id == q) ∙ sym (step q)
+pub agree_given : (P : Pending) (W V : ℕ → Option Facts) (id : ℕ) (w : Waiting) → ((q : ℕ) → option_map facts_of (map.get P q) ≡ W q) → ((q : ℕ) → V q ≡ cond (id == q) (Some (facts_of w)) (W q)) → (q : ℕ) → option_map facts_of (map.get (map.insert P id w) q) ≡ V q
+agree_given P W V id w h step q = ap (option_map facts_of) (get_given P id w q) ∙ at_key (id == q) ∙ sym (step q)
   where
-    at_key : (b : Bool) → option_map entered_of (cond b (Some w) (map.get P q)) ≡ cond b (Some (entered_of w)) (W q)
+    at_key : (b : Bool) → option_map facts_of (cond b (Some w) (map.get P q)) ≡ cond b (Some (facts_of w)) (W q)
     at_key true = refl
     at_key false = h q
 
 -- and where one is taken out of both
-pub agree_taken : (P : Pending) (W V : ℕ → Option Entered) (id : ℕ) → ((q : ℕ) → option_map entered_of (map.get P q) ≡ W q) → ((q : ℕ) → V q ≡ cond (id == q) None (W q)) → (q : ℕ) → option_map entered_of (map.get (map.remove P id) q) ≡ V q
-agree_taken P W V id h step q = ap (option_map entered_of) (get_taken P id q) ∙ at_key (id == q) ∙ sym (step q)
+pub agree_taken : (P : Pending) (W V : ℕ → Option Facts) (id : ℕ) → ((q : ℕ) → option_map facts_of (map.get P q) ≡ W q) → ((q : ℕ) → V q ≡ cond (id == q) None (W q)) → (q : ℕ) → option_map facts_of (map.get (map.remove P id) q) ≡ V q
+agree_taken P W V id h step q = ap (option_map facts_of) (get_taken P id q) ∙ at_key (id == q) ∙ sym (step q)
   where
-    at_key : (b : Bool) → option_map entered_of (cond b None (map.get P q)) ≡ cond b None (W q)
+    at_key : (b : Bool) → option_map facts_of (cond b None (map.get P q)) ≡ cond b None (W q)
     at_key true = refl
     at_key false = h q
 
@@ -72,20 +65,3 @@ still_none P id q h = get_taken P id q ∙ at_key (id == q)
     at_key : (b : Bool) → cond b None (map.get P q) ≡ None
     at_key true = refl
     at_key false = h
-
--- two lists are within the limits in either order
-within_turned : (limits : Limits) (xs ys : List Bio) → IsWithin limits (xs ++ ys) → IsWithin limits (ys ++ xs)
-within_turned limits xs ys within =
-    let a = length-append xs ys in let b = length-append ys xs in
-    let c = sum_by-append (λ (b : Bio). b.sectors) xs ys in let d = sum_by-append (λ (b : Bio). b.sectors) ys xs in
-    elim within [ inl one ↦ inl (omega arith) | inr both ↦ inr ((let e = both.0 in omega arith), (let e = both.1 in omega arith)) ]
-
--- a candidate is joined as the trace joins it
-pub joined_up : (limits : Limits) (bios newcomer : List Bio) (side : Side) → Fits limits bios newcomer side → (side ≡ Front → Fits limits bios newcomer Back → ⊥) → join_up bios newcomer ≡ joined bios newcomer side
-joined_up limits [] newcomer Back fits back_first = refl
-joined_up limits [] newcomer Front fits back_first = sym (append-nil newcomer)
-joined_up limits (b ∷ bs) newcomer Back fits back_first =
-    ap (λ t. cond t ((b ∷ bs) ++ newcomer) (newcomer ++ (b ∷ bs))) (eq-eqb (first_of newcomer) (last_of (b ∷ bs)) fits.abuts)
-joined_up limits (b ∷ bs) newcomer Front fits back_first =
-    ap (λ t. cond t ((b ∷ bs) ++ newcomer) (newcomer ++ (b ∷ bs))) (ne_eqb (first_of newcomer) (last_of (b ∷ bs)) (λ e.
-    back_first refl (record { same_direction = fits.same_direction; abuts = e; within = within_turned limits newcomer (b ∷ bs) fits.within })))

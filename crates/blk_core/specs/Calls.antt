@@ -3,6 +3,7 @@ use Rattle.std.specs.Prelude.{ℕ, ◌+◌, ◌-◌, ◌≡◌, ◌<◌, ◌⊎�
 use Rattle.std.specs.FinMap as map
 use Rattle.blk_bio.specs.Bios.{Bio}
 use Rattle.blk_bio.specs.Requests.{dir_of}
+use Rattle.blk_bio.specs.Extents.{extent_of}
 use Rattle.edd_commands.specs.declared.Command.{Command}
 use Rattle.blk_trace.specs.Setups.{expire_of}
 use Rattle.blk_trace.specs.Happened.{Happened}
@@ -28,13 +29,13 @@ newcomer c bios hw = record {
   hw = hw;
   release = round_of c.events;
   due = round_of c.events + expire_of c.setup (dir_of bios);
-  bios = bios;
+  extent = extent_of bios;
 }
 
 -- what a release does: a Join of the candidate where there is one, and else a Release
 abbrev pub Places : (ℕ → Waiting → Bool) → CoreState → List Bio → ℕ → Placed → CoreState → Type 0
 Places serves old bios hw (New id) new =
-    HasNoCandidate serves hw old.setup.limits bios old.meaning
+    HasNoCandidate serves hw old.setup.limits (extent_of bios) old.meaning
     × (id ≡ released_count old.events)
     × AddsEvent old (Release id bios) new
     × (new.meaning ≡ record old.meaning { pending = map.insert old.meaning.pending id (newcomer old bios hw) })
@@ -42,7 +43,7 @@ Places serves old bios hw (New id) new =
     × (new.flights ≡ old.flights)
     × (new.requeued ≡ old.requeued)
 Places serves old bios hw (JoinedTo id side) new =
-    Joins serves hw (round_of old.events) old.setup.limits bios old.meaning id side new.meaning
+    Joins serves hw (round_of old.events) old.setup.limits (extent_of bios) old.meaning id side new.meaning
     × AddsEvent old (Join id bios) new
     × (new.kept ≡ old.kept)
     × (new.flights ≡ old.flights)
@@ -54,7 +55,7 @@ abbrev pub SendsFrom : (ℕ → Waiting → Bool) → Choice → ℕ → ℕ →
 SendsFrom serves chooses hw round [] m kept requeue_lists w new_m new_kept new_lists =
     Picks serves hw m w new_m × chooses kept m hw round (Some w) new_kept × (new_lists ≡ requeue_lists)
 SendsFrom serves chooses hw round (first ∷ rest) m kept requeue_lists w new_m new_kept new_lists =
-    (first ≡ w) × RequeuesPick (dir_of w.bios) new_m m × (new_kept ≡ kept) × (new_lists ≡ slice_set requeue_lists hw rest)
+    (first ≡ w) × RequeuesPick w.extent.dir new_m m × (new_kept ≡ kept) × (new_lists ≡ slice_set requeue_lists hw rest)
 
 -- the same of a core, before and after
 abbrev pub Sends : (ℕ → Waiting → Bool) → Choice → CoreState → ℕ → Waiting → CoreState → Type 0
@@ -83,14 +84,10 @@ Completes told old tag new =
     (f : Flight) × (slice_get old.flights tag ≡ Some (Some f))
     × InFlightAs old.setup old.events tag f.request
     × AddsEvent old (Done tag) new
-    × (old.meaning ≡ record new.meaning { open_picks = opened (dir_of f.request.bios) new.meaning.open_picks })
-    × told f.hw (dir_of f.request.bios) (round_of old.events - f.request.release) old.kept new.kept
+    × (old.meaning ≡ record new.meaning { open_picks = opened f.request.extent.dir new.meaning.open_picks })
+    × told f.hw f.request.extent.dir (round_of old.events - f.request.release) old.kept new.kept
     × (new.flights ≡ slice_set old.flights tag None)
     × (new.requeued ≡ old.requeued)
-
--- the request in flight under a tag, which is handed out at its completion, has these bios
-abbrev pub HandsOut : CoreState → ℕ → List Bio → Type 0
-HandsOut c tag bios = (f : Flight) × (slice_get c.flights tag ≡ Some (Some f)) × (f.request.bios ≡ bios)
 
 -- what a Back does: the command in flight under the tag is requeued, and so is its pick; its request is as it was
 -- picked, behind those requeued before from the hardware queue that it was issued for
@@ -100,7 +97,7 @@ RequeuesTag old tag id new =
     × InFlightAs old.setup old.events tag f.request
     × (id ≡ f.request.id)
     × AddsEvent old (Back tag) new
-    × RequeuesPick (dir_of f.request.bios) old.meaning new.meaning
+    × RequeuesPick f.request.extent.dir old.meaning new.meaning
     × (new.kept ≡ old.kept)
     × (new.flights ≡ slice_set old.flights tag None)
     × (new.requeued ≡ slice_set old.requeued f.hw (requeued_in old.requeued f.hw ++ f.request ∷ []))

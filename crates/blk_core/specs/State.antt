@@ -7,7 +7,7 @@ use Rattle.blk_bio.specs.declared.bio.Dir.{Dir}
 use Rattle.blk_bio.specs.declared.bio.Dir.TheVariants.{Read, Write}
 use Rattle.blk_bio.specs.Limits.{Limits}
 use Rattle.blk_bio.specs.Codes.{limits_code}
-use Rattle.blk_bio.specs.Requests.{dir_of}
+use Rattle.blk_bio.specs.Extents.{Extent, extent_of}
 use Rattle.blk_trace.specs.Setups.{Setup}
 use Rattle.blk_trace.specs.Traces.{Traced}
 use Rattle.blk_trace.specs.Happened.{Happened, happened_code}
@@ -56,14 +56,18 @@ flight_code = code_by (ℕ × Waiting) (coded× coded_ℕ waiting_code) (λ f. (
 abbrev pub core_code : Coded CoreState
 core_code = code_by (Setup × (List Happened × (Meaning × (List ℕ × (List (Option Flight) × List (List Waiting)))))) (coded× setup_code (coded× (coded_list happened_code) (coded× meaning_code (coded× (coded_list coded_ℕ) (coded× (coded_list (coded_option flight_code)) (coded_list (coded_list waiting_code))))))) (λ c. (c.setup, (c.events, (c.meaning, (c.kept, (c.flights, c.requeued)))))) (λ p. record { setup = p.0; events = p.1.0; meaning = p.1.1.0; kept = p.1.1.1.0; flights = p.1.1.1.1.0; requeued = p.1.1.1.1.1 }) (λ _. refl)
 
--- a waiting request as the trace knows it
-abbrev pub entered_of : Waiting → Entered
-entered_of w = record { release = w.release; due = w.due; bios = w.bios }
+-- what a scheduler knows of a request as of its bios: its release, its due round and its extent
+abbrev pub facts_of : Waiting → ℕ × (ℕ × Extent)
+facts_of w = (w.release, (w.due, w.extent))
 
--- a request is in flight under the tag: the tag's Issue of its id is open, and it is as it was joined
+-- the same of a request in the trace
+abbrev pub facts_in_trace : Entered → ℕ × (ℕ × Extent)
+facts_in_trace e = (e.release, (e.due, extent_of e.bios))
+
+-- a request is in flight under the tag: the tag's Issue of its id is open, and it is known as it was joined
 pub record InFlightAs (setup : Setup) (events : List Happened) (tag : ℕ) (w : Waiting) : Type 0 where
   pub by : IsOpenBy events tag w.id
-  pub known : entered_of w ≡ record { release = release_of events w.id; due = due_of setup events w.id; bios = request_of events w.id }
+  pub known : facts_of w ≡ facts_in_trace record { release = release_of events w.id; due = due_of setup events w.id; bios = request_of events w.id }
 
 -- the requeued request that waits under the id: it was issued before
 unfoldable pub requeued_at : Setup → List Happened → ℕ → Option Entered
@@ -71,17 +75,17 @@ requeued_at setup events id = cond (was_issued events id) (waits_at setup events
 
 -- whether a request is of a direction, and whether it has an id
 abbrev pub is_of : Dir → Waiting → Bool
-is_of dir w = same_dir dir (dir_of w.bios)
+is_of dir w = same_dir dir w.extent.dir
 
 abbrev pub is_named : ℕ → Waiting → Bool
 is_named id w = id == w.id
 
--- the scheduler and the requeue lists together hold exactly what waits in the trace, as it was joined
+-- the scheduler and the requeue lists together hold exactly what waits in the trace, known as it was joined
 pub record HoldsWhatWaits (setup : Setup) (events : List Happened) (m : Meaning) (requeue_lists : List (List Waiting)) : Type 0 where
   -- the scheduler has what was never issued
-  pub pending : (id : ℕ) → option_map entered_of (map.get m.pending id) ≡ unissued_at setup events id
+  pub pending : (id : ℕ) → option_map facts_of (map.get m.pending id) ≡ option_map facts_in_trace (unissued_at setup events id)
   -- the requeue lists have what was requeued, and each such request once
-  pub requeued : (hw place : ℕ) (w : Waiting) → slice_get (requeued_in requeue_lists hw) place ≡ Some w → requeued_at setup events w.id ≡ Some (entered_of w)
+  pub requeued : (hw place : ℕ) (w : Waiting) → slice_get (requeued_in requeue_lists hw) place ≡ Some w → option_map facts_in_trace (requeued_at setup events w.id) ≡ Some (facts_of w)
   pub requeued_once : (id : ℕ) → requeued_count (is_named id) requeue_lists ≡ cond (is_some (requeued_at setup events id)) 1 0
   pub count : map.len m.pending + requeued_total requeue_lists ≡ waiting_count events
   -- the scheduler's open picks are the open Issues, and its requeued picks are the requests of the requeue lists

@@ -12,7 +12,7 @@ ghost use Rattle.blk_core.specs.Inside.Calls.{Dispatches};
 ghost use Rattle.blk_core.specs.Inside.Ties.{MayPickNone};
 
 use crate::refusals::{BackFault, CoreFault, DepthFault, IssueFault, NotIssued, TickFault};
-use crate::tags::{TagState, clear, completed, free_tags, requeue};
+use crate::tags::{TagState, clear, free_tags, requeue};
 use blk_bio::{Dir, MAX_QUEUES, Request, Side};
 use blk_queues::RequeueLists;
 use blk_sched::{MAX_OPEN, Queued, Scheduler};
@@ -38,7 +38,7 @@ pub struct Core<S: Scheduler> {
     /// What was done with it.
     trace: Trace<S::A>,
     /// How each tag stands.
-    tags: Vec<TagState<S::A>, S::A>,
+    tags: Vec<TagState, S::A>,
     /// The requests that were requeued, by the hardware queue that they were issued for.
     requeued: RequeueLists<S::A>,
     /// How many requests were released: the next id.
@@ -62,13 +62,14 @@ impl<S: Scheduler> Model for Core<S> {
 impl<S: Scheduler> Core<S> {
     ghost use Rattle.std.specs.Prelude.{◌≡◌, ◌<◌, ◌+◌, ◌↔◌, [], IfOk, OnOk, IfErr, OnErr, IsOk, IfSome, IfNone, IsTrue};
     ghost use Rattle.blk_bio.specs.Requests.{IsWithin};
+    ghost use Rattle.blk_bio.specs.Extents.{extent_of};
     ghost use Rattle.blk_trace.specs.Events.{round_of, IsUsed};
     ghost use Rattle.blk_trace.specs.Legal.{IsLegalTrace};
     ghost use Rattle.blk_trace.specs.Laws.{IsScheduled, IsAccounted};
     ghost use Rattle.blk_trace.specs.Waits.{waiting_count};
     ghost use Rattle.blk_core.specs.State.{HoldsWhatWaits, new_core};
     ghost use Rattle.blk_core.specs.Faults.{IsReleaseFault, CanRelease, IsIssueFault, CanIssue, IsBackFault, IsTickFault, CanTick, IsDepthFault, CanSetDepth, IsInFlight};
-    ghost use Rattle.blk_core.specs.Calls.{Places, Issues, Completes, HandsOut, RequeuesTag, Ends, SetsDepth};
+    ghost use Rattle.blk_core.specs.Calls.{Places, Issues, Completes, RequeuesTag, Ends, SetsDepth};
     ghost use Rattle.blk_sched.specs.Meaning.{HasCandidate, HasNoCandidate, at_start};
 
     /// A core without events, over a scheduler in which nothing waits and no pick is open or requeued. Fails only when
@@ -125,121 +126,70 @@ impl<S: Scheduler> Core<S> {
         if let Some(why) = self.release_fault(&request, hw) {
             return Err((request, why));
         }
-        let Ok(copy) = request.copy() else {
-            return Err((request, CoreFault::Memory));
-        };
-        match self.place(request, copy, hw) {
-            Ok(placed) => Ok(placed),
-            Err((request, _, why)) => Err((request, why)),
-        }
-    }
-
-    /// Releases a request as [`Core::release`] does, with a copy of it for the trace that was made before: whoever keeps a
-    /// core under a lock makes the copy, by [`Request::copy`], before the lock is taken.
-    ///
-    /// Refused as [`Core::release`] is. The request and its copy come back then, and nothing is changed.
-    pub fn release_copied(
-        &mut self,
-        request: Request<S::A>,
-        copy: Request<S::A>,
-        hw: u8,
-    ) -> Result<Placed, (Request<S::A>, Request<S::A>, CoreFault)>
-        requires within { IsWithin self.old.setup.limits request }
-        requires copied { copy ≡ request }
-        ensures placed { IfOk result (λ placed. Places S.policy.serves self.old request hw placed self.new) }
-        ensures no_fault { OnOk result (CanRelease self.old request hw) }
-        ensures fault { IfErr result (λ e. IsReleaseFault self.old request hw e.2) }
-        ensures err { IfErr result (λ e. (e.0 ≡ request) × (e.1 ≡ copy)) }
-        ensures same { OnErr result (self.new ≡ self.old) }
-    {
-        if let Some(why) = self.release_fault(&request, hw) {
-            return Err((request, copy, why));
-        }
-        self.place(request, copy, hw)
-    }
-
-    /// Releases a request that may be released, with its copy for the trace. Fails only when memory runs out.
-    fn place(
-        &mut self,
-        request: Request<S::A>,
-        copy: Request<S::A>,
-        hw: u8,
-    ) -> Result<Placed, (Request<S::A>, Request<S::A>, CoreFault)>
-        requires can { CanRelease self.old request hw }
-        requires within { IsWithin self.old.setup.limits request }
-        requires copied { copy ≡ request }
-        ensures placed { IfOk result (λ placed. Places S.policy.serves self.old request hw placed self.new) }
-        ensures err { IfErr result (λ e. e ≡ (request, copy, CoreFault.Memory)) }
-        ensures same { OnErr result (self.new ≡ self.old) }
-    {
         let limits = self.trace.setup().limits();
-        match self.scheduler.candidate(hw, &limits, &request) {
-            Some((id, side)) => self.join(request, copy, hw, id, side),
-            None => self.insert(request, copy, hw),
+        match self.scheduler.candidate(hw, &limits, &request.extent()) {
+            Some((id, side)) => self.join(request, hw, id, side),
+            None => self.insert(request, hw),
         }
     }
 
-    /// Joins a request that may be released to its candidate, with its copy for the trace. Fails only when memory runs out.
+    /// Joins a request that may be released to its candidate. Fails only when memory runs out.
     fn join(
         &mut self,
         request: Request<S::A>,
-        copy: Request<S::A>,
         hw: u8,
         id: u64,
         side: Side,
-    ) -> Result<Placed, (Request<S::A>, Request<S::A>, CoreFault)>
+    ) -> Result<Placed, (Request<S::A>, CoreFault)>
         requires can { CanRelease self.old request hw }
-        requires stands { HasCandidate S.policy.serves hw self.old.setup.limits request self.old.meaning id side }
-        requires copied { copy ≡ request }
+        requires stands { HasCandidate S.policy.serves hw self.old.setup.limits (extent_of request) self.old.meaning id side }
         ensures placed { IfOk result (λ placed. Places S.policy.serves self.old request hw placed self.new) }
-        ensures err { IfErr result (λ e. e ≡ (request, copy, CoreFault.Memory)) }
+        ensures err { IfErr result (λ e. e ≡ (request, CoreFault.Memory)) }
         ensures same { OnErr result (self.new ≡ self.old) }
     {
-        let Ok(()) = prepare_bios(&mut self.trace, &copy) else {
-            return Err((request, copy, CoreFault::Memory));
+        let Ok(()) = prepare_bios(&mut self.trace, &request) else {
+            return Err((request, CoreFault::Memory));
         };
-        let limits = self.trace.setup().limits();
         let now = self.trace.round();
-        if let Err((request, _)) = self.scheduler.join(hw, id, side, now, &limits, request) {
-            return Err((request, copy, CoreFault::Memory));
-        }
-        self.trace.add(Event::Join { id, request: copy });
+        let newcomer = request.extent();
+        let Ok(()) = self.scheduler.join(hw, id, side, now, &newcomer) else {
+            return Err((request, CoreFault::Memory));
+        };
+        self.trace.add(Event::Join { id, request });
         Ok(Placed::Joined(id, side))
     }
 
-    /// Inserts a request that may be released and has no candidate, under the next id, with its copy for the trace. Fails only
-    /// when memory runs out.
+    /// Inserts a request that may be released and has no candidate, under the next id. Fails only when memory runs out.
     fn insert(
         &mut self,
         request: Request<S::A>,
-        copy: Request<S::A>,
         hw: u8,
-    ) -> Result<Placed, (Request<S::A>, Request<S::A>, CoreFault)>
+    ) -> Result<Placed, (Request<S::A>, CoreFault)>
         requires can { CanRelease self.old request hw }
         requires within { IsWithin self.old.setup.limits request }
-        requires alone { HasNoCandidate S.policy.serves hw self.old.setup.limits request self.old.meaning }
-        requires copied { copy ≡ request }
+        requires alone { HasNoCandidate S.policy.serves hw self.old.setup.limits (extent_of request) self.old.meaning }
         ensures placed { IfOk result (λ placed. Places S.policy.serves self.old request hw placed self.new) }
-        ensures err { IfErr result (λ e. e ≡ (request, copy, CoreFault.Memory)) }
+        ensures err { IfErr result (λ e. e ≡ (request, CoreFault.Memory)) }
         ensures same { OnErr result (self.new ≡ self.old) }
     {
-        let Ok(()) = prepare_bios(&mut self.trace, &copy) else {
-            return Err((request, copy, CoreFault::Memory));
+        let Ok(()) = prepare_bios(&mut self.trace, &request) else {
+            return Err((request, CoreFault::Memory));
         };
         let id = self.released;
         let release = self.trace.round();
-        let expire = self.trace.setup().expire(request.dir());
+        let extent = request.extent();
+        let due = release + self.trace.setup().expire(extent.dir());
         let queued = Queued {
             id,
             hw,
             release,
-            due: release + expire,
-            request,
+            due,
+            extent,
         };
-        if let Err((queued, _)) = self.scheduler.insert(queued) {
-            return Err((queued.request, copy, CoreFault::Memory));
-        }
-        self.trace.add(Event::Release { id, request: copy });
+        let Ok(()) = self.scheduler.insert(queued) else {
+            return Err((request, CoreFault::Memory));
+        };
+        self.trace.add(Event::Release { id, request });
         self.released += 1;
         Ok(Placed::New(id))
     }
@@ -334,23 +284,9 @@ impl<S: Scheduler> Core<S> {
         }
     }
 
-    /// Completes the command in flight under a tag. Refused exactly where there is none; takes no memory.
+    /// Completes the command in flight under a tag. Refused exactly where there is none; takes and frees no memory.
     pub fn done(&mut self, tag: u16) -> Result<(), NotIssued>
         ensures done { OnOk result (Completes S.policy.told_done self.old tag self.new) }
-        ensures accepted { IsOk result ↔ IsInFlight self.old tag }
-        ensures same { OnErr result (self.new ≡ self.old) }
-    {
-        match self.complete(tag) {
-            Ok(_) => Ok(()),
-            Err(why) => Err(why),
-        }
-    }
-
-    /// Completes the command in flight under a tag as [`Core::done`] does, and hands its request out: whoever keeps a core
-    /// under a lock frees the request once the lock is released. Refused exactly where there is none; takes and frees no memory.
-    pub fn complete(&mut self, tag: u16) -> Result<Request<S::A>, NotIssued>
-        ensures done { OnOk result (Completes S.policy.told_done self.old tag self.new) }
-        ensures request { IfOk result (HandsOut self.old tag) }
         ensures accepted { IsOk result ↔ IsInFlight self.old tag }
         ensures same { OnErr result (self.new ≡ self.old) }
     {
@@ -358,16 +294,15 @@ impl<S: Scheduler> Core<S> {
         if slot >= self.tags.len() {
             return Err(NotIssued);
         }
-        let TagState::InFlight { hw, queued } = &self.tags[slot] else {
+        let TagState::InFlight { hw, queued } = self.tags[slot] else {
             return Err(NotIssued);
         };
-        let hw = *hw;
-        let dir = queued.request.dir();
+        let dir = queued.extent.dir();
         let wait = self.trace.round().saturating_sub(queued.release);
         self.trace.add(Event::Done { tag });
-        let request = completed(&mut self.tags[slot]);
+        self.tags[slot] = TagState::Spent(dir);
         self.scheduler.on_done(hw, dir, wait);
-        Ok(request)
+        Ok(())
     }
 
     /// Requeues the command in flight under a tag, since the device was busy, and answers its id. Its request waits in the requeue list of the
@@ -386,10 +321,10 @@ impl<S: Scheduler> Core<S> {
         if slot >= self.tags.len() {
             return Err(BackFault::NotIssued);
         }
-        let TagState::InFlight { queued, .. } = &self.tags[slot] else {
+        let TagState::InFlight { queued, .. } = self.tags[slot] else {
             return Err(BackFault::NotIssued);
         };
-        let (id, dir) = (queued.id, queued.request.dir());
+        let (id, dir) = (queued.id, queued.extent.dir());
         let Ok(()) = requeue(&mut self.tags[slot], &mut self.requeued) else {
             return Err(BackFault::Memory);
         };
@@ -416,12 +351,12 @@ impl<S: Scheduler> Core<S> {
         if self.trace.len() >= MAX_EVENTS {
             return Err(TickFault::TraceFull);
         }
-        let eventless = has_just_begun(self.trace.events());
+        let bound = self.trace.unused_from() as usize;
         let Ok(()) = prepare(&mut self.trace) else {
             return Err(TickFault::Memory);
         };
         self.trace.add(Event::Tick);
-        clear(&mut self.tags, eventless);
+        clear(&mut self.tags, bound);
         let now = self.trace.round();
         self.scheduler.on_tick(now);
         Ok(now)
@@ -490,16 +425,6 @@ impl<S: Scheduler> Core<S> {
     }
 }
 
-/// Whether the round that is on has begun by a Tick and has no event yet.
-fn has_just_begun<A: Allocator + Clone>(events: &[Event<Request<A>>]) -> bool
-    ensures { result ≡ true → (before : List Happened) × (events.now ≡ before ++ Ticked ∷ []) }
-{
-    match events.last() {
-        Some(event) => event.is_tick(),
-        None => false,
-    }
-}
-
 /// Takes the request that is dispatched next for a hardware queue: the first that is requeued for it, whose pick is then open
 /// again, or else the scheduler's pick.
 fn dispatch<S: Scheduler>(
@@ -507,7 +432,7 @@ fn dispatch<S: Scheduler>(
     lists: &mut RequeueLists<S::A>,
     hw: u8,
     now: u64,
-) -> Option<Queued<S::A>>
+) -> Option<Queued>
     requires queue { hw < MAX_QUEUES }
     requires list { hw < length lists.old }
     requires few { (S.meaning scheduler.old).open_picks.reads + (S.meaning scheduler.old).open_picks.writes < MAX_OPEN }
@@ -521,7 +446,7 @@ fn dispatch<S: Scheduler>(
 {
     match lists.take_first(hw) {
         Some(queued) => {
-            scheduler.on_reissue(queued.request.dir());
+            scheduler.on_reissue(queued.extent.dir());
             Some(queued)
         }
         None => scheduler.pick(hw, now),

@@ -11,7 +11,6 @@ use Rattle.std.specs.List.{filter}
 use Rattle.std.specs.List.Sorted.{IsStrictlySortedBy}
 use Rattle.std.proofs.lemmas.Map.Keys.{sorted_head, sorted_tail}
 use Rattle.blk_bio.specs.declared.bio.Dir.{Dir}
-use Rattle.blk_bio.specs.Requests.{dir_of, first_of}
 use Rattle.blk_sched.specs.Meaning.{Waiting, Pending}
 use Rattle.blk_sched.proofs.Maps.{behind, at_front, in_order, looked_up}
 use Rattle.blk_index.specs.Index.{IsNext, NoNext, IsBefore}
@@ -78,7 +77,7 @@ abbrev Entries : Type 0
 Entries = List (ℕ × Waiting)
 
 abbrev before : Waiting → Waiting → Bool
-before v w = sorts_before (first_of v.bios) v.id (first_of w.bios) w.id
+before v w = sorts_before v.extent.first v.id w.extent.first w.id
 
 -- what comes first is there, and passes the test
 came_from : (p : Waiting → Bool) (es : Entries) → IsStrictlySortedBy nat_cmp (keys_of es) → (u : Waiting) → first_by (filter p (values_of es)) ≡ Some u → (k : ℕ) × (lookup (is_at (nat_cmp k)) es ≡ Some u) × (p u ≡ true)
@@ -123,7 +122,7 @@ first_at p (e ∷ es) s named id w f pw least =
                 let w_own : w.id ≡ id = named id w (behind e es id w above g) in
                 let differ : (e.1.id ≡ w.id → ⊥) = λ same. apart id e.0 other (sym w_own ∙ sym same ∙ own) in
                 ap (first_by_sector e.1) rest
-                ∙ ap (λ b. if b then Some w else Some e.1) (one_first (first_of e.1.bios) e.1.id (first_of w.bios) w.id differ (least e.0 e.1 (at_front e es) passes))
+                ∙ ap (λ b. if b then Some w else Some e.1) (one_first e.1.extent.first e.1.id w.extent.first w.id differ (least e.0 e.1 (at_front e es) passes))
             | false ↦ λ _. rest
           ] refl
     ] refl f
@@ -131,7 +130,7 @@ first_at p (e ∷ es) s named id w f pw least =
 -- ---- the next one
 
 abbrev test_of : Dir → Last → Waiting → Bool
-test_of dir l w = has_dir dir w && sorts_before l.first l.id (first_of w.bios) w.id
+test_of dir l w = has_dir dir w && sorts_before l.first l.id w.extent.first w.id
 
 pub next_is : (m : Pending) (dir : Dir) (last : Option Last) (l : Last) (id : ℕ) (o : Option Waiting) → ((k : ℕ) (v : Waiting) → get m k ≡ Some v → v.id ≡ k) → last ≡ Some l → l.dir ≡ dir → o ≡ get m id → IsNext dir l.first l.id (get m) id → o ≡ after_last dir last (values m)
 next_is m dir last l id o named is same read best =
@@ -139,13 +138,13 @@ next_is m dir last l id o named is same read best =
     let own : w.id ≡ id = named id w best.is_found in
     read ∙ best.is_found
     ∙ sym (first_at (test_of dir l) (entries m) (in_order (entries m) (entries_sorted m)) (λ k v h. named k v (looked_up m k ∙ h)) id w (sym (looked_up m id) ∙ best.is_found)
-    (ap (λ b. b && sorts_before l.first l.id (first_of w.bios) w.id) (same_is (dir_of w.bios) dir best.same_dir) ∙ is_before l.first l.id (first_of w.bios) w.id (subst (λ (n : ℕ). IsBefore l.first l.id (first_of w.bios) n) (sym own) best.after))
+    (ap (λ b. b && sorts_before l.first l.id w.extent.first w.id) (same_is w.extent.dir dir best.same_dir) ∙ is_before l.first l.id w.extent.first w.id (subst (λ (n : ℕ). IsBefore l.first l.id w.extent.first n) (sym own) best.after))
     (λ k v h pv less.
     let there : get m k ≡ Some v = looked_up m k ∙ h in
     let v_own : v.id ≡ k = named k v there in
-    best.least k v there (is_same_dir (dir_of v.bios) dir (left (has_dir dir v) (sorts_before l.first l.id (first_of v.bios) v.id) pv))
-    (subst (λ (n : ℕ). IsBefore l.first l.id (first_of v.bios) n) v_own (from_before l.first l.id (first_of v.bios) v.id (right (has_dir dir v) (sorts_before l.first l.id (first_of v.bios) v.id) pv)))
-    (subst (λ (n : ℕ). IsBefore (first_of v.bios) n (first_of w.bios) id) v_own (subst (λ (n : ℕ). IsBefore (first_of v.bios) v.id (first_of w.bios) n) own (from_before (first_of v.bios) v.id (first_of w.bios) w.id less)))))
+    best.least k v there (is_same_dir v.extent.dir dir (left (has_dir dir v) (sorts_before l.first l.id v.extent.first v.id) pv))
+    (subst (λ (n : ℕ). IsBefore l.first l.id v.extent.first n) v_own (from_before l.first l.id v.extent.first v.id (right (has_dir dir v) (sorts_before l.first l.id v.extent.first v.id) pv)))
+    (subst (λ (n : ℕ). IsBefore v.extent.first n w.extent.first id) v_own (subst (λ (n : ℕ). IsBefore v.extent.first v.id w.extent.first n) own (from_before v.extent.first v.id w.extent.first w.id less)))))
     ∙ sym (ap (λ (x : Option Last). after_last dir x (values m)) is ∙ ap (λ b. if b then first_by (filter (test_of dir l) (values m)) else None) (same_is l.dir dir same))
 
 pub none_next : (m : Pending) (dir : Dir) (last : Option Last) (l : Last) → ((k : ℕ) (v : Waiting) → get m k ≡ Some v → v.id ≡ k) → last ≡ Some l → l.dir ≡ dir → NoNext dir l.first l.id (get m) → None ≡ after_last dir last (values m)
@@ -155,15 +154,15 @@ none_next m dir last l named is same none =
       | Some u ↦ λ e. absurd (
           let c = came_from (test_of dir l) (entries m) (in_order (entries m) (entries_sorted m)) u e in
           let there : get m c.0 ≡ Some u = looked_up m c.0 ∙ c.1 in
-          none c.0 u there (is_same_dir (dir_of u.bios) dir (left (has_dir dir u) (sorts_before l.first l.id (first_of u.bios) u.id) c.2))
-          (subst (λ (n : ℕ). IsBefore l.first l.id (first_of u.bios) n) (named c.0 u there) (from_before l.first l.id (first_of u.bios) u.id (right (has_dir dir u) (sorts_before l.first l.id (first_of u.bios) u.id) c.2))))
+          none c.0 u there (is_same_dir u.extent.dir dir (left (has_dir dir u) (sorts_before l.first l.id u.extent.first u.id) c.2))
+          (subst (λ (n : ℕ). IsBefore l.first l.id u.extent.first n) (named c.0 u there) (from_before l.first l.id u.extent.first u.id (right (has_dir dir u) (sorts_before l.first l.id u.extent.first u.id) c.2))))
     ] refl
     ∙ sym (ap (λ (x : Option Last). after_last dir x (values m)) is ∙ ap (λ b. if b then first_by (filter (test_of dir l) (values m)) else None) (same_is l.dir dir same))
 
 -- ---- the next one from a sector on
 
 abbrev from_test : Dir → ℕ → Waiting → Bool
-from_test dir sector w = has_dir dir w && nat_le sector (first_of w.bios)
+from_test dir sector w = has_dir dir w && nat_le sector w.extent.first
 
 le_holds : (a b : ℕ) → a ≤ b → nat_le a b ≡ true
 le_holds a b h = le-leb a b h
@@ -173,27 +172,27 @@ pub lowest_is : (m : Pending) (dir : Dir) (sector : ℕ) → ((k : ℕ) (v : Wai
 lowest_is m dir sector named h = elim (get m 0) as (λ o. get m 0 ≡ o → lies_at dir sector o ≡ true → IsIdOf (get m) (from_sector dir sector (values m)) 0) [
   | None ↦ λ _ never. cc
   | Some w ↦ λ there yes.
-      let at : first_of w.bios ≡ sector = eqb-true _ _ (right (has_dir dir w) (first_of w.bios == sector) yes) in
+      let at : w.extent.first ≡ sector = eqb-true _ _ (right (has_dir dir w) (w.extent.first == sector) yes) in
       let own : w.id ≡ 0 = named 0 w there in (
         w,
         there,
         first_at (from_test dir sector) (entries m) (in_order (entries m) (entries_sorted m)) (λ k v f. named k v (looked_up m k ∙ f)) 0 w (sym (looked_up m 0) ∙ there)
-            (ap (λ b. b && nat_le sector (first_of w.bios)) (left (has_dir dir w) (first_of w.bios == sector) yes) ∙ le_holds sector (first_of w.bios) (omega (arith, at)))
+            (ap (λ b. b && nat_le sector w.extent.first) (left (has_dir dir w) (w.extent.first == sector) yes) ∙ le_holds sector w.extent.first (omega (arith, at)))
             (λ k v f pv less.
-            let above : sector ≤ first_of v.bios = leb-true _ _ (right (has_dir dir v) (nat_le sector (first_of v.bios)) pv) in
-            elim (from_before (first_of v.bios) v.id (first_of w.bios) w.id less) [ inl lt ↦ omega (arith, lt, above, at) | inr both ↦ let lt : v.id < w.id = both.1 in omega (arith, lt, own) ]),
+            let above : sector ≤ v.extent.first = leb-true _ _ (right (has_dir dir v) (nat_le sector v.extent.first) pv) in
+            elim (from_before v.extent.first v.id w.extent.first w.id less) [ inl lt ↦ omega (arith, lt, above, at) | inr both ↦ let lt : v.id < w.id = both.1 in omega (arith, lt, own) ]),
       )
 ] refl h
 
 -- what comes from a sector on and isn't that one comes after the sector and the id 0
-after_lowest : (m : Pending) (dir : Dir) (sector k : ℕ) (v : Waiting) → lies_at dir sector (get m 0) ≡ false → get m k ≡ Some v → has_dir dir v ≡ true → sector ≤ first_of v.bios → IsBefore sector 0 (first_of v.bios) k
-after_lowest m dir sector k v none there same above = elim (cases_eq sector (first_of v.bios)) [
-  | inr other ↦ inl (below_other sector (first_of v.bios) above other)
+after_lowest : (m : Pending) (dir : Dir) (sector k : ℕ) (v : Waiting) → lies_at dir sector (get m 0) ≡ false → get m k ≡ Some v → has_dir dir v ≡ true → sector ≤ v.extent.first → IsBefore sector 0 v.extent.first k
+after_lowest m dir sector k v none there same above = elim (cases_eq sector v.extent.first) [
+  | inr other ↦ inl (below_other sector v.extent.first above other)
   | inl is ↦ elim (cases_eq k 0) [
     | inr more ↦ inr (is, below_other 0 k (omega arith) (λ e. more (sym e)))
     | inl first ↦ absurd (
         let here : get m 0 ≡ Some v = sym (ap (get m) first) ∙ there in
-        let yes : lies_at dir sector (Some v) ≡ true = ap (λ b. b && (first_of v.bios == sector)) same ∙ eq-eqb _ _ (sym is) in
+        let yes : lies_at dir sector (Some v) ≡ true = ap (λ b. b && (v.extent.first == sector)) same ∙ eq-eqb _ _ (sym is) in
         let no : lies_at dir sector (Some v) ≡ false = sym (ap (lies_at dir sector) here) ∙ none in
         let both : true ≡ false = sym yes ∙ no in
         cc)
@@ -204,18 +203,18 @@ pub from_is : (m : Pending) (dir : Dir) (sector id : ℕ) → ((k : ℕ) (v : Wa
 from_is m dir sector id named none best =
     let w = best.waiting in
     let own : w.id ≡ id = named id w best.is_found in
-    let above : sector ≤ first_of w.bios = elim best.after [ inl lt ↦ omega (arith, lt) | inr both ↦ omega (arith, both.0) ] in (
+    let above : sector ≤ w.extent.first = elim best.after [ inl lt ↦ omega (arith, lt) | inr both ↦ omega (arith, both.0) ] in (
       w,
       best.is_found,
       first_at (from_test dir sector) (entries m) (in_order (entries m) (entries_sorted m)) (λ k v f. named k v (looked_up m k ∙ f)) id w (sym (looked_up m id) ∙ best.is_found)
-          (ap (λ b. b && nat_le sector (first_of w.bios)) (same_is (dir_of w.bios) dir best.same_dir) ∙ le_holds sector (first_of w.bios) above)
+          (ap (λ b. b && nat_le sector w.extent.first) (same_is w.extent.dir dir best.same_dir) ∙ le_holds sector w.extent.first above)
           (λ k v f pv less.
           let there : get m k ≡ Some v = looked_up m k ∙ f in
           let v_own : v.id ≡ k = named k v there in
-          let same : has_dir dir v ≡ true = left (has_dir dir v) (nat_le sector (first_of v.bios)) pv in
-          let higher : sector ≤ first_of v.bios = leb-true _ _ (right (has_dir dir v) (nat_le sector (first_of v.bios)) pv) in
-          best.least k v there (is_same_dir (dir_of v.bios) dir same) (after_lowest m dir sector k v none there same higher)
-          (subst (λ (n : ℕ). IsBefore (first_of v.bios) n (first_of w.bios) id) v_own (subst (λ (n : ℕ). IsBefore (first_of v.bios) v.id (first_of w.bios) n) own (from_before (first_of v.bios) v.id (first_of w.bios) w.id less)))),
+          let same : has_dir dir v ≡ true = left (has_dir dir v) (nat_le sector v.extent.first) pv in
+          let higher : sector ≤ v.extent.first = leb-true _ _ (right (has_dir dir v) (nat_le sector v.extent.first) pv) in
+          best.least k v there (is_same_dir v.extent.dir dir same) (after_lowest m dir sector k v none there same higher)
+          (subst (λ (n : ℕ). IsBefore v.extent.first n w.extent.first id) v_own (subst (λ (n : ℕ). IsBefore v.extent.first v.id w.extent.first n) own (from_before v.extent.first v.id w.extent.first w.id less)))),
     )
 
 pub none_from : (m : Pending) (dir : Dir) (sector : ℕ) → lies_at dir sector (get m 0) ≡ false → NoNext dir sector 0 (get m) → from_sector dir sector (values m) ≡ None
@@ -225,7 +224,7 @@ none_from m dir sector none above =
       | Some u ↦ λ e. absurd (
           let c = came_from (from_test dir sector) (entries m) (in_order (entries m) (entries_sorted m)) u e in
           let there : get m c.0 ≡ Some u = looked_up m c.0 ∙ c.1 in
-          let same : has_dir dir u ≡ true = left (has_dir dir u) (nat_le sector (first_of u.bios)) c.2 in
-          let higher : sector ≤ first_of u.bios = leb-true _ _ (right (has_dir dir u) (nat_le sector (first_of u.bios)) c.2) in
-          above c.0 u there (is_same_dir (dir_of u.bios) dir same) (after_lowest m dir sector c.0 u none there same higher))
+          let same : has_dir dir u ≡ true = left (has_dir dir u) (nat_le sector u.extent.first) c.2 in
+          let higher : sector ≤ u.extent.first = leb-true _ _ (right (has_dir dir u) (nat_le sector u.extent.first) c.2) in
+          above c.0 u there (is_same_dir u.extent.dir dir same) (after_lowest m dir sector c.0 u none there same higher))
     ] refl

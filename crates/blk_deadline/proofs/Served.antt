@@ -4,7 +4,6 @@ use Rattle.std.specs.Prelude.{IfNone}
 use Rattle.std.specs.FinMap as map
 use Rattle.blk_bio.specs.declared.bio.Dir.{Dir}
 use Rattle.blk_bio.specs.declared.bio.Dir.TheVariants.{Read, Write}
-use Rattle.blk_bio.specs.Requests.{dir_of}
 use Rattle.blk_sched.specs.Meaning.{Waiting, Pending}
 use Rattle.blk_sched.proofs.Maps.{first_found, none_found}
 use Rattle.blk_index.specs.Index.{IsOldest, NoneOf}
@@ -30,14 +29,14 @@ differ_is Write Write h = absurd (h refl)
 
 pub oldest_is : (m : Pending) (dir : Dir) (id : ℕ) (o : Option Waiting) → o ≡ map.get m id → IsOldest dir (map.get m) id → o ≡ oldest_of dir (map.values m)
 oldest_is m dir id o read best =
-    read ∙ best.is_found ∙ sym (first_found (has_dir dir) m id best.waiting best.is_found (same_is (dir_of best.waiting.bios) dir best.same_dir)
-    (λ k v lt there. differ_is (dir_of v.bios) dir (λ same. best.least k v lt there same)))
+    read ∙ best.is_found ∙ sym (first_found (has_dir dir) m id best.waiting best.is_found (same_is best.waiting.extent.dir dir best.same_dir)
+    (λ k v lt there. differ_is v.extent.dir dir (λ same. best.least k v lt there same)))
 
 pub none_oldest : (m : Pending) (dir : Dir) → NoneOf dir (map.get m) → None ≡ oldest_of dir (map.values m)
-none_oldest m dir none = sym (none_found (has_dir dir) m (λ k v there. differ_is (dir_of v.bios) dir (λ same. none k v there same)))
+none_oldest m dir none = sym (none_found (has_dir dir) m (λ k v there. differ_is v.extent.dir dir (λ same. none k v there same)))
 
 pub none_waits : (found : ℕ → Option Waiting) → NoneOf Read found → NoneOf Write found → (k : ℕ) (w : Waiting) → found k ≡ Some w → ⊥
-none_waits found reads writes k w there = elim (dir_of w.bios) as (λ d. dir_of w.bios ≡ d → ⊥) [
+none_waits found reads writes k w there = elim w.extent.dir as (λ d. w.extent.dir ≡ d → ⊥) [
   | Read ↦ λ e. reads k w there e
   | Write ↦ λ e. writes k w there e
 ] refl

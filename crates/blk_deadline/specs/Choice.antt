@@ -5,7 +5,6 @@ use Rattle.std.specs.List.{find, filter}
 use Rattle.std.specs.FinMap as map
 use Rattle.blk_bio.specs.declared.bio.Dir.{Dir}
 use Rattle.blk_bio.specs.declared.bio.Dir.TheVariants.{Read, Write}
-use Rattle.blk_bio.specs.Requests.{dir_of, first_of}
 use Rattle.blk_sched.specs.Meaning.{Waiting, Meaning}
 use Rattle.blk_sched.specs.Policies.{Policy, choosing, serves_all, switch_number}
 use Rattle.blk_deadline.specs.declared.Last.{Last}
@@ -15,7 +14,7 @@ use Rattle.blk_deadline.specs.declared.Positions.TheVariants.{One, Each}
 use Rattle.blk_deadline.specs.declared.Tunables.{Tunables}
 
 abbrev pub has_dir : Dir → Waiting → Bool
-has_dir dir w = is_same (dir_of w.bios) dir
+has_dir dir w = is_same w.extent.dir dir
 
 -- by the first sector, and then by the id
 abbrev pub sorts_before : ℕ → ℕ → ℕ → ℕ → Bool
@@ -24,7 +23,7 @@ sorts_before first id other k = nat_lt first other || (first == other && nat_lt 
 -- the first of two by their first sectors and ids, and the first of a list
 abbrev pub first_by_sector : Waiting → Option Waiting → Option Waiting
 first_by_sector w None = Some w
-first_by_sector w (Some v) = if sorts_before (first_of v.bios) v.id (first_of w.bios) w.id then Some v else Some w
+first_by_sector w (Some v) = if sorts_before v.extent.first v.id w.extent.first w.id then Some v else Some w
 
 abbrev pub first_by : List Waiting → Option Waiting
 first_by [] = None
@@ -38,11 +37,11 @@ oldest_of dir ws = find (has_dir dir) ws
 abbrev pub after_last : Dir → Option Last → List Waiting → Option Waiting
 after_last dir None ws = None
 after_last dir (Some l) ws =
-    if is_same l.dir dir then first_by (filter (λ w. has_dir dir w && sorts_before l.first l.id (first_of w.bios) w.id) ws) else None
+    if is_same l.dir dir then first_by (filter (λ w. has_dir dir w && sorts_before l.first l.id w.extent.first w.id) ws) else None
 
 -- with one for each direction: from a sector on
 abbrev pub from_sector : Dir → ℕ → List Waiting → Option Waiting
-from_sector dir sector ws = first_by (filter (λ w. has_dir dir w && nat_le sector (first_of w.bios)) ws)
+from_sector dir sector ws = first_by (filter (λ w. has_dir dir w && nat_le sector w.extent.first) ws)
 
 -- where a direction stands, and the next one of it
 abbrev pub position_in : BatchState → Dir → ℕ
@@ -60,13 +59,13 @@ last_dir (Some l) = l.dir
 
 -- every pick sets the position of its direction
 abbrev pub position_after : BatchState → Dir → Waiting → ℕ
-position_after batch dir w = if has_dir dir w then first_of w.bios else position_in batch dir
+position_after batch dir w = if has_dir dir w then w.extent.first else position_in batch dir
 
 abbrev pub taken : BatchState → Waiting → ℕ → ℕ → Waiting × BatchState
 taken batch w batching starved = (
   w,
   record {
-    last = Some (record { dir = dir_of w.bios; first = first_of w.bios; id = w.id });
+    last = Some (record { dir = w.extent.dir; first = w.extent.first; id = w.id });
     read_position = position_after batch Read w;
     write_position = position_after batch Write w;
     batching = batching;

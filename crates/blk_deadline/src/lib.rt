@@ -1,10 +1,10 @@
 //! The scheduler that goes by sectors within a batch and by due rounds between batches, after Linux's deadline-iosched.
 #![tactic(auto)]
 
-ghost use Rattle.std.specs.Prelude.{◌≡◌, ◌≤◌, ◌<◌, ◌+◌, ◌↔◌, ℕ, Bool, true, Option, None, Some, Err, IfOk, OnOk, IfErr, OnErr, IfSome, IfNone, IsSome, IsTrue};
+ghost use Rattle.std.specs.Prelude.{◌≡◌, ◌<◌, ◌+◌, ◌↔◌, ℕ, Option, None, Some, Err, IfOk, IfErr, IfSome, IfNone, IsTrue};
 ghost use Rattle.std.specs.Option.{OnSome, option_copied};
 ghost use Rattle.std.specs.FinMap as map;
-ghost use Rattle.blk_sched.specs.Meaning.{Waiting, Meaning, HasCandidate, HasNoCandidate, Joins, ServesNothing, Picks, RequeuesPick, opened, open_of, requeued_of, at_start};
+ghost use Rattle.blk_sched.specs.Meaning.{Waiting, ServesNothing, Picks, RequeuesPick, opened, open_of, requeued_of, at_start};
 ghost use Rattle.blk_index.specs.Index.{NoneOf};
 ghost use Rattle.blk_index.specs.Inside.Search.{IsIdOf};
 ghost use Rattle.blk_deadline.specs.Choice.{oldest_of, position_in, last_dir, due_or_next, taken, handed_out, batch_after, batch_at_first, deadline_kept, AreKnown, deadline_chooses, deadline_policy};
@@ -12,7 +12,7 @@ ghost use Rattle.blk_sched.specs.Policies.{serves_all};
 ghost use Rattle.blk_deadline.specs.Shown.{batch_of, tunables_of, kept_in, choice_at, meaning_of};
 ghost use Rattle.blk_deadline.specs.Inside.Parts.{IsBatchChoice, lies_at, after_last_in, from_in, next_in, batch_next};
 
-use blk_bio::{Dir, Limits, MAX_QUEUES, Request, Side};
+use blk_bio::{Dir, Extent, Limits, MAX_QUEUES, Side};
 use blk_index::Sorted;
 use blk_sched::{MAX_OPEN, MAX_REQUEUED, OpenPicks, Queued, Scheduler};
 use std::alloc::{AllocError, Allocator, Global};
@@ -128,7 +128,7 @@ impl<A: Allocator + Clone> Deadline<A> {
     }
 
     /// The oldest request of a direction.
-    fn oldest(&self, dir: Dir) -> Option<&Queued<A>>
+    fn oldest(&self, dir: Dir) -> Option<&Queued>
         ensures value { option_copied result ≡ oldest_of dir (map.values self.now.index) }
         ensures there { IfSome result (λ q. map.get self.now.index q.now.id ≡ Some q.now) }
         ensures none { IfNone result (NoneOf dir (map.get self.now.index)) }
@@ -160,7 +160,7 @@ impl<A: Allocator + Clone> Deadline<A> {
         ensures named { (k : ℕ) (w : Waiting) → map.get self.now.index k ≡ Some w → w.id ≡ k }
     {
         match self.index.get(0) {
-            Some(queued) => queued.request.dir() == dir && queued.request.first() == sector,
+            Some(queued) => queued.extent.dir() == dir && queued.extent.first() == sector,
             None => false,
         }
     }
@@ -203,7 +203,7 @@ impl<A: Allocator + Clone> Deadline<A> {
     }
 
     /// The id of the oldest of a direction where it is due or there is no next one, and otherwise of the next one.
-    fn due_or_next(&self, now: u64, oldest: &Queued<A>, dir: Dir) -> u64
+    fn due_or_next(&self, now: u64, oldest: &Queued, dir: Dir) -> u64
         requires { map.get self.now.index oldest.now.id ≡ Some oldest.now }
         ensures { map.get self.now.index result ≡ Some (due_or_next now oldest.now (next_in self.now dir)) }
     {
@@ -268,16 +268,11 @@ impl BatchState {
     }
 
     /// Where the scheduler stands after a pick.
-    fn after<A: Allocator + Clone>(
-        &self,
-        queued: &Queued<A>,
-        batching: u16,
-        starved: u16,
-    ) -> BatchState
+    fn after(&self, queued: &Queued, batching: u16, starved: u16) -> BatchState
         ensures { result ≡ (taken self.now queued.now batching starved).1 }
     {
-        let dir = queued.request.dir();
-        let first = queued.request.first();
+        let dir = queued.extent.dir();
+        let first = queued.extent.first();
         let last = Last {
             dir,
             first,
@@ -307,51 +302,32 @@ impl<A: Allocator + Clone> Scheduler for Deadline<A> {
     ghost kept = { λ s. deadline_kept s.batch s.tunables };
 
     #[inline(always)]
-    fn insert_from(&mut self, slot: &mut Option<Queued<A>>) -> Result<(), AllocError> {
-        let Some(queued) = slot.take() else {
-            unreachable!()
-        };
-        match self.index.insert(queued) {
-            Ok(()) => Ok(()),
-            Err(queued) => {
-                *slot = Some(queued);
-                Err(AllocError)
-            }
-        }
+    fn insert(&mut self, queued: Queued) -> Result<(), AllocError> {
+        self.index.insert(queued)
     }
 
     #[inline(always)]
-    fn candidate(&self, hw: u8, limits: &Limits, newcomer: &Request<A>) -> Option<(u64, Side)> {
+    fn candidate(&self, hw: u8, limits: &Limits, newcomer: &Extent) -> Option<(u64, Side)> {
         let _ = hw;
         self.index
             .candidate(newcomer, limits, self.tunables.front_merges)
     }
 
-    fn join_at(
+    fn join(
         &mut self,
         hw: u8,
         id: u64,
         side: Side,
         now: u64,
-        limits: &Limits,
-        slot: &mut Option<Request<A>>,
+        newcomer: &Extent,
     ) -> Result<(), AllocError> {
         let _ = hw;
-        let Some(newcomer) = slot.take() else {
-            unreachable!()
-        };
-        match self.index.join_at(id, side, now, limits, newcomer) {
-            Ok(()) => Ok(()),
-            Err(newcomer) => {
-                *slot = Some(newcomer);
-                Err(AllocError)
-            }
-        }
+        self.index.join_at(id, side, now, newcomer)
     }
 
     /// Hands out the request that the three rules choose, and stands then as they say.
     #[inline(always)]
-    fn pick(&mut self, hw: u8, now: u64) -> Option<Queued<A>>
+    fn pick(&mut self, hw: u8, now: u64) -> Option<Queued>
         requires hw { hw < MAX_QUEUES }
         requires few { (meaning_of self.old).open_picks.reads + (meaning_of self.old).open_picks.writes < MAX_OPEN }
         ensures chosen { deadline_chooses (kept_in self.old) (meaning_of self.old) hw now result (kept_in self.new) }
@@ -370,7 +346,7 @@ impl<A: Allocator + Clone> Scheduler for Deadline<A> {
         let Some(queued) = self.index.remove(id) else {
             unreachable!()
         };
-        self.open_picks.open(queued.request.dir());
+        self.open_picks.open(queued.extent.dir());
         self.batch = self.batch.after(&queued, batching, starved);
         Some(queued)
     }

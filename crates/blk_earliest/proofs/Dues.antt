@@ -1,5 +1,5 @@
 -- The due rounds of requests, as these come, go and are joined.
-use Rattle.std.proofs.Common.{◌≡◌, ◌<◌, ◌≤◌, ◌==◌, ◌&&◌, ℕ, Bool, true, false, cond, sym, ap, ◌∙◌, refl, arith, inl, inr, Some, None, Option, List}
+use Rattle.std.proofs.Common.{◌≡◌, ◌<◌, ◌≤◌, ◌==◌, ◌&&◌, ℕ, Bool, true, false, cond, sym, ap, ◌∙◌, refl, arith, inl, inr, Some, None, Option}
 use Rattle.std.specs.Prelude.{IfSome, IfNone, OnOk, OnErr, Result, Ok, Err}
 use Rattle.std.specs.Ordering.{nat_cmp, ordering_then, eq_by_cmp, is_eq, is_gt}
 use Rattle.std.specs.Cmp.{ranked}
@@ -8,15 +8,14 @@ use Rattle.std.specs.declared.cmp.Ordering.{Ordering}
 use Rattle.std.specs.declared.cmp.Ordering.TheVariants.{Less, Equal, Greater}
 use Rattle.std.proofs.lemmas.Bool.{eqb-true, eq-eqb}
 use Rattle.blk_bio.specs.declared.request.Side.{Side}
-use Rattle.blk_bio.specs.Bios.{Bio}
+use Rattle.blk_bio.specs.Extents.{Extent}
 use Rattle.blk_sched.specs.Meaning.{Waiting, Pending, joined_waiting}
 use Rattle.blk_sched.proofs.Maps.{one_test}
 use Rattle.blk_index.specs.Index.{IsBefore, IsJoined}
-use Rattle.blk_index.specs.Inside.Pairs.{pair_cmp}
-use Rattle.blk_index.specs.Inside.SortLists.{PairAdded, PairTaken, PairsKept}
+use Rattle.blk_index.specs.Ordered.{pair_cmp, PairAdded, PairTaken, PairsKept, IsFirstPair, NoPairFrom}
 use Rattle.blk_index.specs.Inside.Spots.{Becomes}
 use Rattle.blk_index.proofs.Indexed.{Found, becomes_given, becomes_taken, same_without}
-use Rattle.blk_earliest.specs.Inside.Dues.{is_due, AreDues, IsFirstFrom, NoneFrom, IsFirstPair, NoPairFrom}
+use Rattle.blk_earliest.specs.Inside.Dues.{is_due, AreDues, IsFirstFrom, NoneFrom}
 
 abbrev pub Pairs : Type 0
 Pairs = ℕ × ℕ → Bool
@@ -97,23 +96,15 @@ kept old new has now are same keeps due k = keeps (due, k) ∙ are due k ∙ ap 
 pub no_dues : (m : Pending) (has : Pairs) → m ≡ map.empty → ((q : ℕ × ℕ) → has q ≡ false) → AreDues (map.get m) has
 no_dues m has none empty due k = empty (due, k) ∙ ap (is_due due) (sym (ap (λ (x : Pending). map.get x k) none ∙ map.get-empty nat_cmp k))
 
-pub entered_due : (m n : Pending) (w : Waiting) (has now : Pairs) (p : ℕ × ℕ) → AreDues (map.get m) has → map.get m w.id ≡ None → p ≡ (w.due, w.id) → PairAdded has p now → n ≡ map.insert m w.id w → AreDues (map.get n) now
-entered_due m n w has now p are none is adds given =
-    entered (map.get m) (map.get n) w.id has now w are none (λ q. adds q ∙ ap (λ (x : ℕ × ℕ). cond (eq_by_cmp pair_cmp x q) true (has q)) is) (becomes_given m n w.id w given)
+pub entered_due : (m n : Pending) (w : Waiting) (has now : Pairs) → AreDues (map.get m) has → map.get m w.id ≡ None → PairAdded has (w.due, w.id) now → n ≡ map.insert m w.id w → AreDues (map.get n) now
+entered_due m n w has now are none adds given = entered (map.get m) (map.get n) w.id has now w are none adds (becomes_given m n w.id w given)
 
-pub undone_due : (m n : Pending) (w : Waiting) (has mid now : Pairs) (p : ℕ × ℕ) → AreDues (map.get m) has → map.get m w.id ≡ None → p ≡ (w.due, w.id) → PairAdded has p mid → PairTaken mid p now → n ≡ m → AreDues (map.get n) now
-undone_due m n w has mid now p are none is adds takes same =
-    kept (map.get m) (map.get n) now now
-    (undone (map.get m) w.id w.due has mid now are none
-    (λ q. adds q ∙ ap (λ (x : ℕ × ℕ). cond (eq_by_cmp pair_cmp x q) true (has q)) is)
-    (λ q. takes q ∙ ap (λ (x : ℕ × ℕ). cond (eq_by_cmp pair_cmp x q) false (mid q)) is))
-    (λ k. ap (λ (x : Pending). map.get x k) same) (λ q. refl)
+pub undone_due : (m n : Pending) (w : Waiting) (has mid now : Pairs) → AreDues (map.get m) has → map.get m w.id ≡ None → PairAdded has (w.due, w.id) mid → PairTaken mid (w.due, w.id) now → n ≡ m → AreDues (map.get n) now
+undone_due m n w has mid now are none adds takes same =
+    kept (map.get m) (map.get n) now now (undone (map.get m) w.id w.due has mid now are none adds takes) (λ k. ap (λ (x : Pending). map.get x k) same) (λ q. refl)
 
-pub left_due : (m n : Pending) (id : ℕ) (w : Waiting) (has now : Pairs) (p : ℕ × ℕ) → AreDues (map.get m) has → map.get m id ≡ Some w → w.id ≡ id → p ≡ (w.due, w.id) → PairTaken has p now → n ≡ map.remove m id → AreDues (map.get n) now
-left_due m n id w has now p are there own is takes out =
-    left (map.get m) (map.get n) id has now w are there
-    (λ q. takes q ∙ ap (λ (x : ℕ × ℕ). cond (eq_by_cmp pair_cmp x q) false (has q)) is ∙ ap (λ (i : ℕ). cond (eq_by_cmp pair_cmp (w.due, i) q) false (has q)) own)
-    (becomes_taken m n id out)
+pub left_due : (m n : Pending) (id : ℕ) (w : Waiting) (has now : Pairs) → AreDues (map.get m) has → map.get m id ≡ Some w → PairTaken has (w.due, id) now → n ≡ map.remove m id → AreDues (map.get n) now
+left_due m n id w has now are there takes out = left (map.get m) (map.get n) id has now w are there takes (becomes_taken m n id out)
 
 pub absent_due : (m n : Pending) (id : ℕ) (has : Pairs) → AreDues (map.get m) has → map.get m id ≡ None → n ≡ map.remove m id → AreDues (map.get n) has
 absent_due m n id has are none out = kept (map.get m) (map.get n) has has are (same_without m n id none out) (λ q. refl)
@@ -165,17 +156,17 @@ stands found has k v are there = are v.due k ∙ ap (is_due v.due) there ∙ eq-
 module _ (found : Found) (has : Pairs) (start : ℕ) (are : AreDues found has) where
   first_due_at : (id : ℕ) → IsFirstPair has start id → IsFirstFrom start found id
   first_due_at id p =
-      let at = due_then p.due (found id) (sym (are p.due id) ∙ p.there) in
+      let at = due_then p.key (found id) (sym (are p.key id) ∙ p.there) in
       let w : Waiting = at.0 in
-      let low : start ≤ p.due = is_from start p.due id p.high in
+      let low : start ≤ p.key = is_from start p.key id p.high in
       record {
         waiting = w;
         is_found = at.1;
         from_start = omega (arith, at.2);
         least = λ k v there late before.
-            let not_greater : is_gt (pair_cmp (p.due, id) (v.due, k)) ≡ false = p.least (v.due, k) (from_here start v.due k late) (stands found has k v are there) in
+            let not_greater : is_gt (pair_cmp (p.key, id) (v.due, k)) ≡ false = p.least (v.due, k) (from_here start v.due k late) (stands found has k v are there) in
             let greater : is_gt (pair_cmp (w.due, id) (v.due, k)) ≡ true = above w.due id v.due k before in
-            let moved : is_gt (pair_cmp (p.due, id) (v.due, k)) ≡ true = ap (λ n. is_gt (pair_cmp (n, id) (v.due, k))) at.2 ∙ greater in
+            let moved : is_gt (pair_cmp (p.key, id) (v.due, k)) ≡ true = ap (λ n. is_gt (pair_cmp (n, id) (v.due, k))) at.2 ∙ greater in
             let clash : true ≡ false = sym moved ∙ not_greater in cc;
       }
 
@@ -191,7 +182,7 @@ module _ (found : Found) (has : Pairs) (start : ℕ) (are : AreDues found has) w
   none_first None p = none_due p
 
 -- a join leaves the due rounds
-pub joined_due : {T E : Type 0} (r : Result T E) (m n : Pending) (id now : ℕ) (side : Side) (newcomer : List Bio) (has : Pairs) → AreDues (map.get m) has → OnOk r (IsJoined now newcomer m id side n) → OnErr r (n ≡ m) → AreDues (map.get n) has
+pub joined_due : {T E : Type 0} (r : Result T E) (m n : Pending) (id now : ℕ) (side : Side) (newcomer : Extent) (has : Pairs) → AreDues (map.get m) has → OnOk r (IsJoined now newcomer m id side n) → OnErr r (n ≡ m) → AreDues (map.get n) has
 joined_due {T} {E} r m n id now side newcomer has are join same =
     elim r as (λ (x : Result T E). OnOk x (IsJoined now newcomer m id side n) → OnErr x (n ≡ m) → AreDues (map.get n) has) [
       | Ok x ↦ λ j _. stayed (map.get m) (map.get n) id has j.waiting (joined_waiting side now newcomer j.waiting) are j.was refl (becomes_given m n id (joined_waiting side now newcomer j.waiting) j.is)

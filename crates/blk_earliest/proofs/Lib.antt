@@ -1,4 +1,3 @@
 pub mod Listing
 pub mod Chosen
 mod Dues
-mod Fifos

@@ -1,4 +1,3 @@
--- What invariants, private methods and proofs alone need: due rounds and ids, in FIFO lists and in a set, and what a scheduler of this kind shows.
+-- What invariants, private methods and proofs alone need: due rounds with ids, and what a scheduler of this kind shows.
 pub mod Dues
-pub mod Fifos
 pub mod Shown

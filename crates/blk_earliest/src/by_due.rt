@@ -1,33 +1,31 @@
 //! Requests that wait, in the order of their due rounds.
 
-ghost use Rattle.std.specs.Prelude.{◌≡◌, ◌≤◌, ℕ, None, Some, true, IfOk, OnOk, IfErr, OnErr, IfSome, IfNone};
+ghost use Rattle.std.specs.Prelude.{◌≡◌, ◌≤◌, ℕ, None, Some, true, IfOk, OnOk, OnErr, IfSome, IfNone};
 ghost use Rattle.std.specs.FinMap as map;
 ghost use Rattle.blk_sched.specs.Meaning.{Waiting};
-ghost use Rattle.blk_sched.specs.Fits.{IsNewestFit, FitsNone, HasFit};
+ghost use Rattle.blk_sched.specs.Fits.{IsNewestFit, FitsNone, HasTouch};
 ghost use Rattle.blk_index.specs.Index.{IsJoined};
 ghost use Rattle.blk_earliest.specs.Inside.Dues.{IsFirstFrom, NoneFrom};
 
-use crate::due::Due;
-use crate::order::Dues;
-use blk_bio::{Limits, Request, Side};
-use blk_index::Index;
+use blk_bio::{Extent, Limits, Side};
+use blk_index::{Index, Ordered};
 use blk_sched::Queued;
 use std::alloc::{AllocError, Allocator, Global};
 use std::marker::Model;
 
-/// Requests that wait, in an index, and in the order of their due rounds and ids. Seen as the map from ids to requests.
+/// Requests that wait, in an index, and their ids in the order of their due rounds. Seen as the map from ids to requests.
 #[derive(Drop)]
 pub struct ByDue<A: Allocator = Global> {
     index: Index<A>,
-    dues: Dues<A>,
+    dues: Ordered<A>,
 }
 
 impl<A: Allocator> Model for ByDue<A> {
     ghost use Rattle.std.specs.Coded.{coded_ℕ};
     ghost use Rattle.std.specs.FinMap.{get, code};
     ghost use Rattle.blk_sched.specs.Meaning.{Pending, waiting_code};
+    ghost use Rattle.blk_index.specs.Ordered.{listed};
     ghost use Rattle.blk_earliest.specs.Inside.Dues.{AreDues};
-    ghost use Rattle.blk_earliest.specs.Inside.Fifos.{dues_in, AreFifos};
 
     ghost Value = { Pending };
 
@@ -35,7 +33,7 @@ impl<A: Allocator> Model for ByDue<A> {
 
     ghost view = { λ s. s.index };
 
-    ghost invariant = { λ s. AreDues (get s.index) (dues_in s.dues) × AreFifos s.dues };
+    ghost invariant = { λ s. AreDues (get s.index) (listed s.dues) };
 }
 
 impl<A: Allocator + Clone> ByDue<A> {
@@ -45,7 +43,7 @@ impl<A: Allocator + Clone> ByDue<A> {
     {
         Ok(ByDue {
             index: Index::new(alloc.clone()?)?,
-            dues: Dues::new(alloc)?,
+            dues: Ordered::new(alloc),
         })
     }
 
@@ -56,32 +54,27 @@ impl<A: Allocator + Clone> ByDue<A> {
         self.index.len()
     }
 
-    /// Adds a request whose id isn't there. It fails only when out of memory: nothing is changed then, and the request
-    /// comes back.
+    /// Adds a request whose id isn't there. It fails only when out of memory: nothing is changed then.
     #[inline(always)]
-    pub fn insert(&mut self, queued: Queued<A>) -> Result<(), Queued<A>>
+    pub fn insert(&mut self, queued: Queued) -> Result<(), AllocError>
         requires { map.get self.old queued.id ≡ None }
         ensures ok { OnOk result (self.new ≡ map.insert self.old queued.id queued) }
-        ensures err { IfErr result (λ q. q ≡ queued) }
         ensures same { OnErr result (self.new ≡ self.old) }
     {
-        let due = due_of(&queued);
-        let dir = queued.request.dir();
-        let Ok(()) = self.dues.put(dir, due) else {
-            return Err(queued);
-        };
+        let Queued { id, due, .. } = queued;
+        self.dues.put(due, id)?;
         match self.index.insert(queued) {
             Ok(()) => Ok(()),
-            Err(queued) => {
-                self.dues.take(due);
-                Err(queued)
+            Err(why) => {
+                self.dues.take(due, id);
+                Err(why)
             }
         }
     }
 
     /// Takes out the request of an id. It takes no memory.
     #[inline(always)]
-    pub fn remove(&mut self, id: u64) -> Option<Queued<A>>
+    pub fn remove(&mut self, id: u64) -> Option<Queued>
         ensures value { result ≡ map.get self.old id }
         ensures named { (k : ℕ) (w : Waiting) → map.get self.old k ≡ Some w → w.id ≡ k }
         ensures removed { self.new ≡ map.remove self.old id }
@@ -89,14 +82,14 @@ impl<A: Allocator + Clone> ByDue<A> {
         let Some(queued) = self.index.remove(id) else {
             return None;
         };
-        self.dues.take(due_of(&queued));
+        self.dues.take(queued.due, id);
         Some(queued)
     }
 
     /// The newest request that a newcomer fits, by its id, and the side. Only requests that the newcomer touches are looked
     /// at.
     #[inline(always)]
-    pub fn candidate(&self, newcomer: &Request<A>, limits: &Limits) -> Option<(u64, Side)>
+    pub fn candidate(&self, newcomer: &Extent, limits: &Limits) -> Option<(u64, Side)>
         ensures some { IfSome result (λ r. IsNewestFit limits.now true (map.get self.now) newcomer.now r.0 r.1) }
         ensures none { IfNone result (FitsNone limits.now true (map.get self.now) newcomer.now) }
     {
@@ -112,34 +105,22 @@ impl<A: Allocator + Clone> ByDue<A> {
     {
         // for the proof alone: each request has its id
         let _ = self.index.len();
-        self.dues.first_id(due)
+        self.dues.first_from(due)
     }
 
-    /// Joins a newcomer to the request of an id, which it fits at the side, in the round `now`; the due round stays. It
-    /// fails only when out of memory: nothing is changed then, and the newcomer comes back.
+    /// Joins a newcomer to the request of an id, which it touches at the side, in the round `now`; the due round stays. It
+    /// fails only when out of memory: nothing is changed then.
     pub fn join_at(
         &mut self,
         id: u64,
         side: Side,
         now: u64,
-        limits: &Limits,
-        newcomer: Request<A>,
-    ) -> Result<(), Request<A>>
-        requires { HasFit limits.now (map.get self.old) newcomer id side }
-        ensures joined { OnOk result (IsJoined now newcomer self.old id side self.new) }
-        ensures err { IfErr result (λ e. e ≡ newcomer) }
+        newcomer: &Extent,
+    ) -> Result<(), AllocError>
+        requires { HasTouch (map.get self.old) newcomer.now id side }
+        ensures joined { OnOk result (IsJoined now newcomer.now self.old id side self.new) }
         ensures same { OnErr result (self.new ≡ self.old) }
     {
-        self.index.join_at(id, side, now, limits, newcomer)
-    }
-}
-
-/// When a request is due, and its id.
-fn due_of<A: Allocator + Clone>(queued: &Queued<A>) -> Due
-    ensures { result ≡ (queued.now.due, queued.now.id) }
-{
-    Due {
-        due: queued.due,
-        id: queued.id,
+        self.index.join_at(id, side, now, newcomer)
     }
 }

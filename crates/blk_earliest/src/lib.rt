@@ -11,11 +11,9 @@ ghost use Rattle.blk_earliest.specs.Shown.{late_last_of, meaning_of};
 ghost use Rattle.blk_earliest.specs.Inside.Shown.{pending_of, setting_of};
 
 mod by_due;
-mod due;
-mod order;
 
 use crate::by_due::ByDue;
-use blk_bio::{Dir, Limits, MAX_QUEUES, Request, Side};
+use blk_bio::{Dir, Extent, Limits, MAX_QUEUES, Side};
 use blk_sched::{MAX_OPEN, OpenPicks, Queued, Scheduler};
 use std::alloc::{AllocError, Allocator, Global};
 
@@ -98,51 +96,32 @@ impl<A: Allocator + Clone> Scheduler for Earliest<A> {
     ghost kept = { λ s. earliest_kept s.late_last };
 
     #[inline(always)]
-    fn insert_from(&mut self, slot: &mut Option<Queued<A>>) -> Result<(), AllocError> {
-        let Some(queued) = slot.take() else {
-            unreachable!()
-        };
-        match self.waiting.insert(queued) {
-            Ok(()) => Ok(()),
-            Err(queued) => {
-                *slot = Some(queued);
-                Err(AllocError)
-            }
-        }
+    fn insert(&mut self, queued: Queued) -> Result<(), AllocError> {
+        self.waiting.insert(queued)
     }
 
     #[inline(always)]
-    fn candidate(&self, hw: u8, limits: &Limits, newcomer: &Request<A>) -> Option<(u64, Side)> {
+    fn candidate(&self, hw: u8, limits: &Limits, newcomer: &Extent) -> Option<(u64, Side)> {
         let _ = hw;
         self.waiting.candidate(newcomer, limits)
     }
 
-    fn join_at(
+    fn join(
         &mut self,
         hw: u8,
         id: u64,
         side: Side,
         now: u64,
-        limits: &Limits,
-        slot: &mut Option<Request<A>>,
+        newcomer: &Extent,
     ) -> Result<(), AllocError> {
         let _ = hw;
-        let Some(newcomer) = slot.take() else {
-            unreachable!()
-        };
-        match self.waiting.join_at(id, side, now, limits, newcomer) {
-            Ok(()) => Ok(()),
-            Err(newcomer) => {
-                *slot = Some(newcomer);
-                Err(AllocError)
-            }
-        }
+        self.waiting.join_at(id, side, now, newcomer)
     }
 
     /// Picks the request with the least due round, and of several the one with the least id. With `late_last` it looks among
     /// those that can still be on time first.
     #[inline(always)]
-    fn pick(&mut self, hw: u8, now: u64) -> Option<Queued<A>>
+    fn pick(&mut self, hw: u8, now: u64) -> Option<Queued>
         requires hw { hw < MAX_QUEUES }
         requires few { (meaning_of self.old).open_picks.reads + (meaning_of self.old).open_picks.writes < MAX_OPEN }
         ensures chosen { earliest_chooses (setting_of self.old) (meaning_of self.old) hw now result (setting_of self.new) }
@@ -160,7 +139,7 @@ impl<A: Allocator + Clone> Scheduler for Earliest<A> {
         let Some(queued) = self.waiting.remove(id) else {
             unreachable!()
         };
-        self.open_picks.open(queued.request.dir());
+        self.open_picks.open(queued.extent.dir());
         Some(queued)
     }
 

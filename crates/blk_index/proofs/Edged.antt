@@ -1,20 +1,17 @@
 -- The edges of requests, as these come, go and are joined.
-use Rattle.std.proofs.Common.{◌≡◌, ◌≤◌, ◌⊎◌, ◌/◌, inl, inr, ℕ, Bool, true, false, cond, sym, ap, subst, ◌∙◌, refl, arith, Some, None, Option}
-use Rattle.std.specs.Prelude.{length}
+use Rattle.std.proofs.Common.{◌≡◌, ◌≤◌, ◌-◌, ◌⊎◌, ◌/◌, inl, inr, ℕ, Bool, true, false, cond, sym, ap, subst, ◌∙◌, refl, arith, Some, None, Option}
 use Rattle.std.specs.Ordering.{nat_cmp, is_eq}
 use Rattle.std.specs.Cmp.{nat_cmp_total, tied_itself}
 use Rattle.std.specs.BTreeMap.{is_at}
-use Rattle.blk_bio.specs.declared.extent.Extent.{Extent}
-use Rattle.blk_bio.specs.Requests.{sectors_of}
-use Rattle.blk_bio.specs.Extents.{extent_of}
+use Rattle.blk_bio.specs.Extents.{Extent}
 use Rattle.blk_sched.specs.Meaning.{Waiting}
 use Rattle.blk_sched.proofs.Maps.{same_number}
 use Rattle.blk_index.specs.declared.edges.Edge.{Edge}
 use Rattle.blk_index.specs.declared.edges.Edges.{Edges}
-use Rattle.blk_index.specs.Inside.Spots.{DirSector, Spot, Becomes}
+use Rattle.blk_index.specs.Inside.Spots.{DirSector, Becomes}
 use Rattle.blk_index.specs.Inside.Entries.{Class, Key}
 use Rattle.blk_index.specs.Inside.Shapes.{IsInClass, ShapeListed}
-use Rattle.blk_index.specs.Inside.Edges.{IsListedAt, KeepsBut, KeepsOwn, IsEdge, IsEdges}
+use Rattle.blk_index.specs.Inside.Edges.{IsListedAt, IsListedAs, KeepsBut, KeepsOwn, IsEdge, IsEdges}
 use Rattle.blk_index.proofs.Indexed.{Found}
 
 -- ---- what one edge lists
@@ -71,9 +68,6 @@ module _ {A : Type 0} where
     there = is.there;
   })
 
-  pub lists_at : (e : Edge A) (p q : DirSector) (k s b : ℕ) → p ≡ q → IsListedAt e p k s b → IsListedAt e q k s b
-  lists_at e p q k s b same = subst (λ (x : DirSector). IsListedAt e x k s b) same
-
 -- ---- the requests
 
 -- one of the id, or one that was there before
@@ -85,83 +79,53 @@ at_id old new id x k w becomes there =
     ] refl (sym (becomes k) ∙ there)
 
 module _ {A : Type 0} (at : Extent → DirSector) (old new : Found) (id : ℕ) where
+  -- a request that is listed, by other names of its place, its id and its extent
+  listed_by : (x : Extent) (p : DirSector) (k : ℕ) (u : Waiting) (e : Edge A) → p ≡ at x → k ≡ id → x ≡ u.extent → IsListedAs e (p, id) x → IsListedAs e (at u.extent, k) u.extent
+  listed_by x p k u e is same it own =
+      subst (λ (y : Extent). IsListedAs e (at y, k) y) it
+      (subst (λ (n : ℕ). IsListedAs e (at x, n) x) (sym same) (subst (λ (q : DirSector). IsListedAs e (q, id) x) is own))
+
   -- a request more
-  pub edge_entered : (w : Waiting) (spot : Spot) (sectors bios : ℕ) (e f : Edge A) → IsEdge at old e → spot ≡ (at (extent_of w.bios), id) → sectors ≡ sectors_of w.bios → bios ≤ length w.bios → IsListedAt f spot.0 spot.1 sectors bios → KeepsBut spot e f → Becomes old id (Some w) new → IsEdge at new f
-  edge_entered w spot sectors bios e f edge is has few own keeps becomes k u there = elim (at_id old new id (Some w) k u becomes there) [
-    | inl (same, one) ↦
-        let it : w ≡ u = cc in
-        let place : spot.0 ≡ at (extent_of u.bios) = ap (λ (q : Spot). q.0) is ∙ ap (λ (x : Waiting). at (extent_of x.bios)) it in
-        let number : spot.1 ≡ k = ap (λ (q : Spot). q.1) is ∙ sym same in
-        let size : sectors_of w.bios ≡ sectors_of u.bios = ap (λ (x : Waiting). sectors_of x.bios) it in
-        let long : length w.bios ≡ length u.bios = ap (λ (x : Waiting). length x.bios) it in
-        lists_at f spot.0 (at (extent_of u.bios)) k (sectors_of u.bios) (length u.bios) place
-        (subst (λ (n : ℕ). IsListedAt f spot.0 n (sectors_of u.bios) (length u.bios)) number (lists_more f spot.0 spot.1 sectors bios (sectors_of u.bios) (length u.bios) (omega (arith, has, size)) (omega (arith, few, long)) own))
-    | inr (other, was) ↦ keeps (at (extent_of u.bios)) k (sectors_of u.bios) (length u.bios) (λ p same. other (same ∙ ap (λ (q : Spot). q.1) is)) (edge k u was)
+  pub edge_entered : (w : Waiting) (x : Extent) (p : DirSector) (e f : Edge A) → IsEdge at old e → p ≡ at x → x ≡ w.extent → IsListedAs f (p, id) x → KeepsBut (p, id) e f → Becomes old id (Some w) new → IsEdge at new f
+  edge_entered w x p e f edge is it own keeps becomes k u there = elim (at_id old new id (Some w) k u becomes there) [
+    | inl (same, one) ↦ let met : w ≡ u = cc in listed_by x p k u f is same (it ∙ ap (λ (y : Waiting). y.extent) met) own
+    | inr (other, was) ↦ keeps (at u.extent) k (u.extent.end - u.extent.first) u.extent.bios (λ _ same. other same) (edge k u was)
   ]
 
   -- a request less
-  pub edge_taken : (spot : Spot) (e f : Edge A) → IsEdge at old e → spot.1 ≡ id → KeepsBut spot e f → Becomes old id None new → IsEdge at new f
-  edge_taken spot e f edge is keeps becomes k u there = elim (at_id old new id None k u becomes there) [
+  pub edge_taken : (p : DirSector) (e f : Edge A) → IsEdge at old e → KeepsBut (p, id) e f → Becomes old id None new → IsEdge at new f
+  edge_taken p e f edge keeps becomes k u there = elim (at_id old new id None k u becomes there) [
     | inl (same, one) ↦ absurd (cc)
-    | inr (other, was) ↦ keeps (at (extent_of u.bios)) k (sectors_of u.bios) (length u.bios) (λ p same. other (same ∙ is)) (edge k u was)
+    | inr (other, was) ↦ keeps (at u.extent) k (u.extent.end - u.extent.first) u.extent.bios (λ _ same. other same) (edge k u was)
   ]
 
   -- a request that is not there may go
-  pub edge_without : (spot : Spot) (e f : Edge A) → IsEdge at old e → spot.1 ≡ id → old id ≡ None → KeepsBut spot e f → IsEdge at old f
-  edge_without spot e f edge is none keeps k u there =
-      keeps (at (extent_of u.bios)) k (sectors_of u.bios) (length u.bios) (λ p same. let no : None ≡ Some u = sym none ∙ ap old (sym (same ∙ is)) ∙ there in absurd (cc)) (edge k u there)
+  pub edge_without : (p : DirSector) (e f : Edge A) → IsEdge at old e → old id ≡ None → KeepsBut (p, id) e f → IsEdge at old f
+  edge_without p e f edge none keeps k u there =
+      keeps (at u.extent) k (u.extent.end - u.extent.first) u.extent.bios (λ _ same. let no : None ≡ Some u = sym none ∙ ap old (sym same) ∙ there in absurd (cc)) (edge k u there)
 
-  pub edge_kept : (e : Edge A) → IsEdge at old e → ((k : ℕ) → new k ≡ old k) → IsEdge at new e
-  edge_kept e edge same k u there = edge k u (sym (same k) ∙ there)
-
-  -- a request comes to a spot and leaves another
-  pub edge_moved : (v w : Waiting) (spot last : Spot) (sectors bios : ℕ) (e f h : Edge A) → IsEdge at old e → spot ≡ (at (extent_of w.bios), id) → last ≡ (at (extent_of v.bios), id) → (at (extent_of v.bios) ≡ at (extent_of w.bios) → ⊥) → sectors ≤ sectors_of w.bios → bios ≤ length w.bios → IsListedAt f spot.0 spot.1 sectors bios → KeepsBut spot e f → KeepsBut last f h → Becomes old id (Some w) new → IsEdge at new h
-  edge_moved v w spot last sectors bios e f h edge is was apart has few own keeps keeps_then becomes k u there = elim (at_id old new id (Some w) k u becomes there) [
+  -- a request comes to a place and leaves another
+  pub edge_moved : (v w : Waiting) (x : Extent) (p q : DirSector) (e f h : Edge A) → IsEdge at old e → p ≡ at x → x ≡ w.extent → q ≡ at v.extent → (at v.extent ≡ at x → ⊥) → IsListedAs f (p, id) x → KeepsBut (p, id) e f → KeepsBut (q, id) f h → Becomes old id (Some w) new → IsEdge at new h
+  edge_moved v w x p q e f h edge is it was apart own keeps keeps_then becomes k u there = elim (at_id old new id (Some w) k u becomes there) [
     | inl (same, one) ↦
-        let it : w ≡ u = cc in
-        let place : spot.0 ≡ at (extent_of u.bios) = ap (λ (q : Spot). q.0) is ∙ ap (λ (x : Waiting). at (extent_of x.bios)) it in
-        let number : spot.1 ≡ k = ap (λ (q : Spot). q.1) is ∙ sym same in
-        let size : sectors_of w.bios ≡ sectors_of u.bios = ap (λ (x : Waiting). sectors_of x.bios) it in
-        let long : length w.bios ≡ length u.bios = ap (λ (x : Waiting). length x.bios) it in
-        lists_at h spot.0 (at (extent_of u.bios)) k (sectors_of u.bios) (length u.bios) place
-        (subst (λ (n : ℕ). IsListedAt h spot.0 n (sectors_of u.bios) (length u.bios)) number
-        (keeps_then spot.0 spot.1 (sectors_of u.bios) (length u.bios) (λ p number_same. apart (sym (sym (ap (λ (q : Spot). q.0) is) ∙ p ∙ ap (λ (q : Spot). q.0) was)))
-        (lists_more f spot.0 spot.1 sectors bios (sectors_of u.bios) (length u.bios) (omega (arith, has, size)) (omega (arith, few, long)) own)))
+        let met : w ≡ u = cc in
+        listed_by x p k u h is same (it ∙ ap (λ (y : Waiting). y.extent) met) (keeps_then p id (x.end - x.first) x.bios (λ place _. apart (sym was ∙ sym place ∙ is)) own)
     | inr (other, before) ↦
-        keeps_then (at (extent_of u.bios)) k (sectors_of u.bios) (length u.bios) (λ p same. other (same ∙ ap (λ (q : Spot). q.1) was))
-        (keeps (at (extent_of u.bios)) k (sectors_of u.bios) (length u.bios) (λ p same. other (same ∙ ap (λ (q : Spot). q.1) is)) (edge k u before))
+        keeps_then (at u.extent) k (u.extent.end - u.extent.first) u.extent.bios (λ _ same. other same)
+        (keeps (at u.extent) k (u.extent.end - u.extent.first) u.extent.bios (λ _ same. other same) (edge k u before))
   ]
-
-  -- a request comes to a spot, where it stays at another
-  pub edge_more : (v : Waiting) (spot : Spot) (place : DirSector) (e f : Edge A) → IsEdge at old e → old id ≡ Some v → spot ≡ (place, id) → (at (extent_of v.bios) ≡ place → ⊥) → KeepsBut spot e f → IsEdge at old f
-  edge_more v spot place e f edge found is apart keeps k u there =
-      keeps (at (extent_of u.bios)) k (sectors_of u.bios) (length u.bios)
-      (λ p same.
-      let one : Some v ≡ Some u = sym found ∙ ap old (sym (same ∙ ap (λ (q : Spot). q.1) is)) ∙ there in
-      let it : v ≡ u = cc in
-      apart (ap (λ (x : Waiting). at (extent_of x.bios)) it ∙ p ∙ ap (λ (q : Spot). q.0) is))
-      (edge k u there)
 
   -- a request grows where it lies
-  pub edge_grown : (v w : Waiting) (spot : Spot) (more longer : ℕ) (e f : Edge A) → IsEdge at old e → old id ≡ Some v → spot ≡ (at (extent_of v.bios), id) → at (extent_of v.bios) ≡ at (extent_of w.bios) → sectors_of v.bios ≤ sectors_of w.bios → length v.bios ≤ length w.bios → more ≤ sectors_of w.bios → longer ≤ length w.bios → KeepsBut spot e f → KeepsOwn spot more longer e f → Becomes old id (Some w) new → IsEdge at new f
-  edge_grown v w spot more longer e f edge found is stays grows lengthens has few keeps own becomes k u there = elim (at_id old new id (Some w) k u becomes there) [
+  pub edge_grown : (v w : Waiting) (x : Extent) (p : DirSector) (e f : Edge A) → IsEdge at old e → old id ≡ Some v → p ≡ at v.extent → at v.extent ≡ at x → x ≡ w.extent → v.extent.end - v.extent.first ≤ x.end - x.first → v.extent.bios ≤ x.bios → KeepsBut (p, id) e f → KeepsOwn (p, id) x e f → Becomes old id (Some w) new → IsEdge at new f
+  edge_grown v w x p e f edge found is stays it grows lengthens keeps own becomes k u there = elim (at_id old new id (Some w) k u becomes there) [
     | inl (same, one) ↦
-        let it : w ≡ u = cc in
-        let place : spot.0 ≡ at (extent_of u.bios) = ap (λ (q : Spot). q.0) is ∙ stays ∙ ap (λ (x : Waiting). at (extent_of x.bios)) it in
-        let number : spot.1 ≡ k = ap (λ (q : Spot). q.1) is ∙ sym same in
-        let size : sectors_of w.bios ≡ sectors_of u.bios = ap (λ (x : Waiting). sectors_of x.bios) it in
-        let long : length w.bios ≡ length u.bios = ap (λ (x : Waiting). length x.bios) it in
-        let before : IsListedAt e spot.0 spot.1 (sectors_of v.bios) (length v.bios) = subst (λ (q : Spot). IsListedAt e q.0 q.1 (sectors_of v.bios) (length v.bios)) (sym is) (edge id v found) in
-        lists_at f spot.0 (at (extent_of u.bios)) k (sectors_of u.bios) (length u.bios) place
-        (subst (λ (n : ℕ). IsListedAt f spot.0 n (sectors_of u.bios) (length u.bios)) number
-        (own (sectors_of u.bios) (length u.bios) (omega (arith, has, size)) (omega (arith, few, long))
-        (lists_more e spot.0 spot.1 (sectors_of v.bios) (length v.bios) (sectors_of u.bios) (length u.bios) (omega (arith, grows, size)) (omega (arith, lengthens, long)) before)))
-    | inr (other, was) ↦ keeps (at (extent_of u.bios)) k (sectors_of u.bios) (length u.bios) (λ p same. other (same ∙ ap (λ (q : Spot). q.1) is)) (edge k u was)
+        let met : w ≡ u = cc in
+        let before : IsListedAs e (p, id) v.extent = subst (λ (q : DirSector). IsListedAs e (q, id) v.extent) (sym is) (edge id v found) in
+        listed_by x p k u f (is ∙ stays) same (it ∙ ap (λ (y : Waiting). y.extent) met)
+        (own (x.end - x.first) x.bios (omega arith) (omega arith)
+        (lists_more e p id (v.extent.end - v.extent.first) v.extent.bios (x.end - x.first) x.bios grows lengthens before))
+    | inr (other, was) ↦ keeps (at u.extent) k (u.extent.end - u.extent.first) u.extent.bios (λ _ same. other same) (edge k u was)
   ]
-
--- the number of bios that an extent has
-pub few_of : (e : Extent) (w : Waiting) → e ≡ extent_of w.bios → e.bios ≤ length w.bios
-few_of e w is = let same : e.bios ≡ length w.bios = ap (λ (x : Extent). x.bios) is in omega (arith, same)
 
 pub edges_kept : {A : Type 0} (old new : Found) (e : Edges A) → IsEdges old e → ((k : ℕ) → new k ≡ old k) → IsEdges new e
 edges_kept old new e edges same = record {

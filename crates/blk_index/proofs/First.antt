@@ -3,15 +3,14 @@ use Rattle.std.proofs.Common.{◌≡◌, ◌<◌, ◌≤◌, ℕ, Bool, true, fa
 use Rattle.std.specs.Prelude.{IfSome, IfNone, if◌then◌else◌, nat_lt}
 use borrow.Author.Tests.{ltb-true, ltb-false}
 use Rattle.blk_bio.specs.declared.bio.Dir.TheVariants.{Read, Write}
-use Rattle.blk_bio.specs.Requests.{dir_of}
 use Rattle.blk_sched.specs.Meaning.{Waiting}
 use Rattle.blk_index.specs.Index.{IsOldest, IsFirst, NoneOf, FindsNothing}
 use Rattle.blk_index.specs.Inside.Search.{lesser_of}
 use Rattle.blk_index.proofs.Indexed.{Found}
 
 -- a request that is of neither direction
-either : (v : Waiting) → (dir_of v.bios ≡ Read → ⊥) → (dir_of v.bios ≡ Write → ⊥) → ⊥
-either v read write = elim (dir_of v.bios) as (λ d. dir_of v.bios ≡ d → ⊥) [ Read ↦ read | Write ↦ write ] refl
+either : (v : Waiting) → (v.extent.dir ≡ Read → ⊥) → (v.extent.dir ≡ Write → ⊥) → ⊥
+either v read write = elim v.extent.dir as (λ d. v.extent.dir ≡ d → ⊥) [ Read ↦ read | Write ↦ write ] refl
 
 module _ (found : Found) where
   the_lesser : (a b : ℕ) (less : Bool) → nat_lt b a ≡ less → IsOldest Read found a → IsOldest Write found b → IsFirst found (if less then b else a)

@@ -8,9 +8,8 @@ use Rattle.std.specs.Cmp.{nat_cmp_total, eq_by_cmp_equiv}
 use Rattle.std.specs.FinMap as map
 use Rattle.std.specs.declared.cmp.Ordering.{Ordering}
 use Rattle.std.specs.declared.cmp.Ordering.TheVariants.{Less, Equal, Greater}
-use Rattle.blk_bio.specs.declared.extent.Extent.{Extent}
+use Rattle.blk_bio.specs.Extents.{Extent}
 use Rattle.blk_sched.specs.Meaning.{Waiting, Pending}
-use Rattle.blk_bio.specs.Extents.{extent_of}
 use Rattle.blk_sched.proofs.Maps.{same_number}
 use Rattle.blk_index.specs.Inside.Spots.{DirSector, Spot, place_cmp, spot_cmp, Adds, TakesSpot, Keeps, is_placed, AreSpots}
 use Rattle.blk_index.specs.Inside.Spots.{Becomes}
@@ -79,32 +78,32 @@ module _ (at : Extent → DirSector) (old new : Found) (id : ℕ) where
   was : (has : Has) (x : Option Waiting) → AreSpots at old has → old id ≡ x → (p : DirSector) (k : ℕ) → is_at (nat_cmp id) k ≡ true → has (p, k) ≡ is_placed at p x
   was has x spots is p k e = spots p k ∙ ap (λ j. is_placed at p (old j)) (same_number id k e) ∙ ap (is_placed at p) is
 
-  pub entered : (has now : Has) (w : Waiting) → AreSpots at old has → old id ≡ None → Adds has (at (extent_of w.bios), id) now → Becomes old id (Some w) new → AreSpots at new now
+  pub entered : (has now : Has) (w : Waiting) → AreSpots at old has → old id ≡ None → Adds has (at w.extent, id) now → Becomes old id (Some w) new → AreSpots at new now
   entered has now w spots none adds becomes = by_id (Some w) now becomes
-      (λ p k e. adds (p, k) ∙ ap (λ b. cond b true (has (p, k))) (here (at (extent_of w.bios)) p id k e) ∙ ap (cond (eq_by_cmp place_cmp (at (extent_of w.bios)) p) true) (was has None spots none p k e)
-      ∙ elim (eq_by_cmp place_cmp (at (extent_of w.bios)) p) as (λ b. cond b true false ≡ b) [ true ↦ refl | false ↦ refl ])
-      (λ p k e. adds (p, k) ∙ ap (λ b. cond b true (has (p, k))) (there (at (extent_of w.bios)) p id k e) ∙ spots p k)
+      (λ p k e. adds (p, k) ∙ ap (λ b. cond b true (has (p, k))) (here (at w.extent) p id k e) ∙ ap (cond (eq_by_cmp place_cmp (at w.extent) p) true) (was has None spots none p k e)
+      ∙ elim (eq_by_cmp place_cmp (at w.extent) p) as (λ b. cond b true false ≡ b) [ true ↦ refl | false ↦ refl ])
+      (λ p k e. adds (p, k) ∙ ap (λ b. cond b true (has (p, k))) (there (at w.extent) p id k e) ∙ spots p k)
 
-  pub taken : (has now : Has) (w : Waiting) → AreSpots at old has → old id ≡ Some w → TakesSpot has (at (extent_of w.bios), id) now → Becomes old id None new → AreSpots at new now
+  pub taken : (has now : Has) (w : Waiting) → AreSpots at old has → old id ≡ Some w → TakesSpot has (at w.extent, id) now → Becomes old id None new → AreSpots at new now
   taken has now w spots is takes becomes = by_id None now becomes
-      (λ p k e. takes (p, k) ∙ ap (λ b. cond b false (has (p, k))) (here (at (extent_of w.bios)) p id k e) ∙ ap (cond (eq_by_cmp place_cmp (at (extent_of w.bios)) p) false) (was has (Some w) spots is p k e)
-      ∙ elim (eq_by_cmp place_cmp (at (extent_of w.bios)) p) as (λ b. cond b false b ≡ false) [ true ↦ refl | false ↦ refl ])
-      (λ p k e. takes (p, k) ∙ ap (λ b. cond b false (has (p, k))) (there (at (extent_of w.bios)) p id k e) ∙ spots p k)
+      (λ p k e. takes (p, k) ∙ ap (λ b. cond b false (has (p, k))) (here (at w.extent) p id k e) ∙ ap (cond (eq_by_cmp place_cmp (at w.extent) p) false) (was has (Some w) spots is p k e)
+      ∙ elim (eq_by_cmp place_cmp (at w.extent) p) as (λ b. cond b false b ≡ false) [ true ↦ refl | false ↦ refl ])
+      (λ p k e. takes (p, k) ∙ ap (λ b. cond b false (has (p, k))) (there (at w.extent) p id k e) ∙ spots p k)
 
   -- a request moves to another place
-  pub moved : (has mid now : Has) (v w : Waiting) → AreSpots at old has → old id ≡ Some v → Adds has (at (extent_of w.bios), id) mid → TakesSpot mid (at (extent_of v.bios), id) now → (at (extent_of v.bios) ≡ at (extent_of w.bios) → ⊥) → Becomes old id (Some w) new → AreSpots at new now
+  pub moved : (has mid now : Has) (v w : Waiting) → AreSpots at old has → old id ≡ Some v → Adds has (at w.extent, id) mid → TakesSpot mid (at v.extent, id) now → (at v.extent ≡ at w.extent → ⊥) → Becomes old id (Some w) new → AreSpots at new now
   moved has mid now v w spots is adds takes apart becomes = by_id (Some w) now becomes
       (λ p k e.
-      takes (p, k) ∙ ap (λ b. cond b false (mid (p, k))) (here (at (extent_of v.bios)) p id k e)
-      ∙ ap (cond (eq_by_cmp place_cmp (at (extent_of v.bios)) p) false)
-      (adds (p, k) ∙ ap (λ b. cond b true (has (p, k))) (here (at (extent_of w.bios)) p id k e) ∙ ap (cond (eq_by_cmp place_cmp (at (extent_of w.bios)) p) true) (was has (Some v) spots is p k e))
-      ∙ apart_places (at (extent_of v.bios)) (at (extent_of w.bios)) p apart)
+      takes (p, k) ∙ ap (λ b. cond b false (mid (p, k))) (here (at v.extent) p id k e)
+      ∙ ap (cond (eq_by_cmp place_cmp (at v.extent) p) false)
+      (adds (p, k) ∙ ap (λ b. cond b true (has (p, k))) (here (at w.extent) p id k e) ∙ ap (cond (eq_by_cmp place_cmp (at w.extent) p) true) (was has (Some v) spots is p k e))
+      ∙ apart_places (at v.extent) (at w.extent) p apart)
       (λ p k e.
-      takes (p, k) ∙ ap (λ b. cond b false (mid (p, k))) (there (at (extent_of v.bios)) p id k e)
-      ∙ adds (p, k) ∙ ap (λ b. cond b true (has (p, k))) (there (at (extent_of w.bios)) p id k e) ∙ spots p k)
+      takes (p, k) ∙ ap (λ b. cond b false (mid (p, k))) (there (at v.extent) p id k e)
+      ∙ adds (p, k) ∙ ap (λ b. cond b true (has (p, k))) (there (at w.extent) p id k e) ∙ spots p k)
 
   -- a request stays at its place
-  pub stayed : (has : Has) (v w : Waiting) → AreSpots at old has → old id ≡ Some v → at (extent_of v.bios) ≡ at (extent_of w.bios) → Becomes old id (Some w) new → AreSpots at new has
+  pub stayed : (has : Has) (v w : Waiting) → AreSpots at old has → old id ≡ Some v → at v.extent ≡ at w.extent → Becomes old id (Some w) new → AreSpots at new has
   stayed has v w spots is same becomes = by_id (Some w) has becomes
       (λ p k e. was has (Some v) spots is p k e ∙ ap (λ a. eq_by_cmp place_cmp a p) same)
       (λ p k e. spots p k)

@@ -5,10 +5,8 @@ use Rattle.std.specs.Cmp.{nat_cmp_total, ranked, tied_itself}
 use Rattle.std.specs.declared.cmp.Ordering.TheVariants.{Less, Equal, Greater}
 use Rattle.blk_bio.specs.declared.bio.Dir.{Dir}
 use Rattle.blk_bio.specs.declared.bio.Dir.TheVariants.{Read, Write}
-use Rattle.blk_bio.specs.Requests.{dir_of, first_of}
-use Rattle.blk_bio.specs.declared.extent.Extent.{Extent}
+use Rattle.blk_bio.specs.Extents.{Extent}
 use Rattle.blk_sched.specs.Meaning.{Waiting}
-use Rattle.blk_bio.specs.Extents.{extent_of}
 use Rattle.blk_index.specs.Inside.Spots.{DirSector, Spot, place_cmp, spot_cmp, is_write, is_placed, AreSpots, first_at}
 use Rattle.blk_index.specs.Index.{IsNext, IsBefore}
 use Rattle.blk_index.proofs.Listed.{same_place, is_equal, place_itself, nat_less, lt_of}
@@ -20,12 +18,12 @@ same_dir Read Write h = cc
 same_dir Write Read h = cc
 same_dir Write Write h = refl
 
-placed : (at : Extent → DirSector) (p : DirSector) (o : Option Waiting) → is_placed at p o ≡ true → (w : Waiting) × (o ≡ Some w) × (at (extent_of w.bios) ≡ p)
+placed : (at : Extent → DirSector) (p : DirSector) (o : Option Waiting) → is_placed at p o ≡ true → (w : Waiting) × (o ≡ Some w) × (at w.extent ≡ p)
 placed at p None h = absurd (cc)
-placed at p (Some w) h = (w, refl, same_place (at (extent_of w.bios)) p (is_equal (place_cmp (at (extent_of w.bios)) p) h))
+placed at p (Some w) h = (w, refl, same_place (at w.extent) p (is_equal (place_cmp (at w.extent) p) h))
 
-pub standing : (at : Extent → DirSector) (found : Found) (has : Has) (k : ℕ) (v : Waiting) → AreSpots at found has → found k ≡ Some v → has (at (extent_of v.bios), k) ≡ true
-standing at found has k v spots is = spots (at (extent_of v.bios)) k ∙ ap (is_placed at (at (extent_of v.bios))) is ∙ ap is_eq (place_itself (at (extent_of v.bios)))
+pub standing : (at : Extent → DirSector) (found : Found) (has : Has) (k : ℕ) (v : Waiting) → AreSpots at found has → found k ≡ Some v → has (at v.extent, k) ≡ true
+standing at found has k v spots is = spots (at v.extent) k ∙ ap (is_placed at (at v.extent)) is ∙ ap is_eq (place_itself (at v.extent))
 
 pub greater : (a b : ℕ) → b < a → nat_cmp a b ≡ Greater
 greater a b lt = elim (nat_cmp a b) as (λ o. nat_cmp a b ≡ o → o ≡ Greater) [
@@ -57,22 +55,22 @@ less_before b f g i j h = elim (nat_cmp f g) as (λ o. nat_cmp f g ≡ o → ord
   | Greater ↦ λ _ r. absurd (cc)
 ] refl (sym (at_one b f g i j) ∙ h)
 
-pub at_first : (found : Found) (has : Has) (dir : Dir) (k : ℕ) (v : Waiting) → AreSpots first_at found has → found k ≡ Some v → dir_of v.bios ≡ dir → has ((is_write dir, first_of v.bios), k) ≡ true
-at_first found has dir k v spots is same = ap (λ (d : Dir). has ((is_write d, first_of v.bios), k)) (sym same) ∙ standing first_at found has k v spots is
+pub at_first : (found : Found) (has : Has) (dir : Dir) (k : ℕ) (v : Waiting) → AreSpots first_at found has → found k ≡ Some v → v.extent.dir ≡ dir → has ((is_write dir, v.extent.first), k) ≡ true
+at_first found has dir k v spots is same = ap (λ (d : Dir). has ((is_write d, v.extent.first), k)) (sym same) ∙ standing first_at found has k v spots is
 
 module _ (found : Found) (has : Has) (dir : Dir) (first last : ℕ) (write : Bool) (own : write ≡ is_write dir) (spots : AreSpots first_at found has) where
   pub the_next : (other : Bool) (sector id : ℕ) → has ((other, sector), id) ≡ true → spot_cmp ((write, first), last) ((other, sector), id) ≡ Less → ((q : Spot) → spot_cmp ((write, first), last) q ≡ Less → has q ≡ true → is_gt (spot_cmp ((other, sector), id) q) ≡ false) → other ≡ write → IsNext dir first last found id
   the_next other sector id there high least same_way =
       let at = placed first_at (other, sector) (found id) (sym (spots (other, sector) id) ∙ there) in
-      let way : is_write (dir_of at.0.bios) ≡ other = ap (λ (p : DirSector). p.0) at.2 in
-      let start : first_of at.0.bios ≡ sector = ap (λ (p : DirSector). p.1) at.2 in
+      let way : is_write at.0.extent.dir ≡ other = ap (λ (p : DirSector). p.0) at.2 in
+      let start : at.0.extent.first ≡ sector = ap (λ (p : DirSector). p.1) at.2 in
       record {
         waiting = at.0;
         is_found = at.1;
-        same_dir = same_dir (dir_of at.0.bios) dir (way ∙ same_way ∙ own);
+        same_dir = same_dir at.0.extent.dir dir (way ∙ same_way ∙ own);
         after = subst (λ (n : ℕ). IsBefore first last n id) (sym start) (less_before write first sector last id (ap (λ b. spot_cmp ((write, first), last) ((b, sector), id)) (sym same_way) ∙ high));
         least = λ k v is same after before.
-            let not_greater = least ((write, first_of v.bios), k) (before_less write first (first_of v.bios) last k after) (ap (λ b. has ((b, first_of v.bios), k)) own ∙ at_first found has dir k v spots is same) in
-            let more : spot_cmp ((write, sector), id) ((write, first_of v.bios), k) ≡ Greater = before_greater write (first_of v.bios) sector k id (subst (λ (n : ℕ). IsBefore (first_of v.bios) k n id) start before) in
-            let a : true ≡ false = ap is_gt (sym more) ∙ ap (λ b. is_gt (spot_cmp ((b, sector), id) ((write, first_of v.bios), k))) (sym same_way) ∙ not_greater in cc;
+            let not_greater = least ((write, v.extent.first), k) (before_less write first v.extent.first last k after) (ap (λ b. has ((b, v.extent.first), k)) own ∙ at_first found has dir k v spots is same) in
+            let more : spot_cmp ((write, sector), id) ((write, v.extent.first), k) ≡ Greater = before_greater write v.extent.first sector k id (subst (λ (n : ℕ). IsBefore v.extent.first k n id) start before) in
+            let a : true ≡ false = ap is_gt (sym more) ∙ ap (λ b. is_gt (spot_cmp ((b, sector), id) ((write, v.extent.first), k))) (sym same_way) ∙ not_greater in cc;
       }

@@ -1,11 +1,11 @@
 -- What a hardware queue serves, and a scheduler whose picks take that alone.
-use Rattle.std.proofs.Common.{◌≡◌, ◌==◌, ℕ, true, false, sym, ap, ◌∙◌, refl, Some, None, Option, List}
+use Rattle.std.proofs.Common.{◌≡◌, ◌==◌, ℕ, true, false, sym, ap, ◌∙◌, refl, Some, None, Option}
 use Rattle.std.specs.Prelude.{if◌then◌else◌, IfNone}
 use Rattle.std.proofs.lemmas.Bool.{eqb-true, eq-eqb}
 use Rattle.std.specs.FinMap as map
 use Rattle.blk_bio.specs.declared.request.Side.{Side}
 use Rattle.blk_bio.specs.declared.request.Side.TheVariants.{Back}
-use Rattle.blk_bio.specs.Bios.{Bio}
+use Rattle.blk_bio.specs.Extents.{Extent}
 use Rattle.blk_bio.specs.Limits.{Limits}
 use Rattle.blk_sched.specs.Meaning.{Waiting, Pending, Meaning, OpenPicks, HasCandidate, HasNoCandidate}
 use Rattle.blk_sched.specs.Fits.{IsNewestFit, FitsNone}
@@ -35,7 +35,7 @@ none_then (Some x) P Q h f = tt
 abbrev pub meaning_with : Pending → OpenPicks → Meaning
 meaning_with pending picks = record { pending = pending; open_picks = picks; front = true }
 
-module _ (m : Pending) (picks : OpenPicks) (hw : ℕ) (limits : Limits) (newcomer : List Bio) where
+module _ (m : Pending) (picks : OpenPicks) (hw : ℕ) (limits : Limits) (newcomer : Extent) where
   pub candidate_of : (id : ℕ) (side : Side) → IsNewestFit limits true (served_of hw m) newcomer id side → HasCandidate serves_own hw limits newcomer (meaning_with m picks) id side
   candidate_of id side best =
       let f = serves_it hw (map.get m id) best.waiting best.is_found in (

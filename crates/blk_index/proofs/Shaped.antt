@@ -25,7 +25,7 @@ both Less r h = cc
 both Equal r h = (refl, h)
 both Greater r h = cc
 
-pub not_lt : (a b : ℕ) → (a < b → ⊥) → b ≤ a
+not_lt : (a b : ℕ) → (a < b → ⊥) → b ≤ a
 not_lt a b not_less = elim (cases_lt a b) [ inl less ↦ absurd (not_less less) | inr more ↦ more ]
 
 same_pair : {K : Type 0} (x y : K × ℕ) → x.0 ≡ y.0 → x.1 ≡ y.1 → x ≡ y

@@ -1,37 +1,29 @@
 -- The first sectors of requests, as these come, go and are joined.
-use Rattle.std.proofs.Common.{◌≡◌, ◌<◌, ◌+◌, ℕ, ap, sym, subst, ◌∙◌, refl, None, Some, List}
+use Rattle.std.proofs.Common.{◌≡◌, ℕ, true, false, ap, sym, subst, ◌∙◌, refl, None, Some}
+use Rattle.std.specs.Ordering.{eq_by_cmp}
 use Rattle.std.specs.FinMap as map
-use Rattle.blk_bio.specs.declared.extent.Extent.{Extent}
 use Rattle.blk_bio.specs.declared.request.Side.TheVariants.{Front}
-use Rattle.blk_bio.specs.Bios.{Bio}
-use Rattle.blk_bio.specs.Limits.{Limits}
-use Rattle.blk_bio.specs.Requests.{first_of, last_of}
-use Rattle.blk_bio.specs.Extents.{extent_of}
+use Rattle.blk_bio.specs.Extents.{Extent, IsExtent, extent_joined}
 use Rattle.blk_sched.specs.Meaning.{Waiting, Pending, joined_waiting}
-use Rattle.blk_sched.specs.Fits.{HasFit}
-use Rattle.blk_index.specs.Inside.Spots.{Spot, AreSpots, Adds, TakesSpot, first_at}
+use Rattle.blk_sched.specs.Fits.{HasTouch}
+use Rattle.blk_index.specs.Inside.Spots.{DirSector, place_cmp, is_placed, AreSpots, Adds, TakesSpot, first_at}
 use Rattle.blk_index.specs.Index.{IsJoined}
-use Rattle.blk_index.proofs.Listed.{undone}
-use Rattle.blk_index.proofs.Indexed.{Has, absent, entered, taken, kept, becomes_given, becomes_taken, same_without}
-use Rattle.blk_index.proofs.Join.{spots_moved, new_spot}
+use Rattle.blk_index.proofs.Listed.{undone, place_true}
+use Rattle.blk_index.proofs.Indexed.{Has, absent, entered, taken, moved, kept, becomes_given, becomes_taken, same_without}
+use Rattle.blk_index.proofs.Join.{touches_it, apart_at}
 
--- a spot as it is made
-pub spot_of : (extent : Extent) (id : ℕ) (spot : Spot) (w : Waiting) → extent ≡ extent_of w.bios → id ≡ w.id → spot ≡ (first_at extent, id) → spot ≡ (first_at (extent_of w.bios), w.id)
-spot_of extent id spot w is_extent is_id is = is ∙ ap (λ (e : Extent). let q : Spot = (first_at e, id) in q) is_extent ∙ ap (λ (k : ℕ). let q : Spot = (first_at (extent_of w.bios), k) in q) is_id
+pub entered_first : (m n : Pending) (w : Waiting) (has now : Has) (p : DirSector) → AreSpots first_at (map.get m) has → map.get m w.id ≡ None → p ≡ first_at w.extent → Adds has (p, w.id) now → n ≡ map.insert m w.id w → AreSpots first_at (map.get n) now
+entered_first m n w has now p spots none is adds given =
+    entered first_at (map.get m) (map.get n) w.id has now w spots none (subst (λ (q : DirSector). Adds has (q, w.id) now) is adds) (becomes_given m n w.id w given)
 
-pub entered_first : (m n : Pending) (w : Waiting) (has now : Has) (spot : Spot) → AreSpots first_at (map.get m) has → map.get m w.id ≡ None → spot ≡ (first_at (extent_of w.bios), w.id) → Adds has spot now → n ≡ map.insert m w.id w → AreSpots first_at (map.get n) now
-entered_first m n w has now spot spots none is adds given =
-    entered first_at (map.get m) (map.get n) w.id has now w spots none (subst (λ (q : Spot). Adds has q now) is adds) (becomes_given m n w.id w given)
-
-pub left_first : (m n : Pending) (w : Waiting) (has mid now : Has) (spot : Spot) → AreSpots first_at (map.get m) has → map.get m w.id ≡ None → spot ≡ (first_at (extent_of w.bios), w.id) → Adds has spot mid → TakesSpot mid spot now → n ≡ m → AreSpots first_at (map.get n) now
-left_first m n w has mid now spot spots none is adds takes same =
+pub left_first : (m n : Pending) (w : Waiting) (has mid now : Has) (p : DirSector) → AreSpots first_at (map.get m) has → map.get m w.id ≡ None → Adds has (p, w.id) mid → TakesSpot mid (p, w.id) now → n ≡ m → AreSpots first_at (map.get n) now
+left_first m n w has mid now p spots none adds takes same =
     kept first_at (map.get m) (map.get n) has now spots (λ k. ap (λ (x : Pending). map.get x k) same)
-    (undone has mid now spot adds takes (ap has is ∙ absent first_at (map.get m) w.id has spots none (first_at (extent_of w.bios))))
+    (undone has mid now (p, w.id) adds takes (absent first_at (map.get m) w.id has spots none p))
 
-pub taken_first : (m n : Pending) (id : ℕ) (w : Waiting) (extent : Extent) (spot : Spot) (has now : Has) → AreSpots first_at (map.get m) has → map.get m id ≡ Some w → extent ≡ extent_of w.bios → spot ≡ (first_at extent, id) → TakesSpot has spot now → n ≡ map.remove m id → AreSpots first_at (map.get n) now
-taken_first m n id w extent spot has now spots found is_extent is takes out =
-    taken first_at (map.get m) (map.get n) id has now w spots found
-    (subst (λ (q : Spot). TakesSpot has q now) (is ∙ ap (λ (e : Extent). let q : Spot = (first_at e, id) in q) is_extent) takes) (becomes_taken m n id out)
+pub taken_first : (m n : Pending) (id : ℕ) (w : Waiting) (p : DirSector) (has now : Has) → AreSpots first_at (map.get m) has → map.get m id ≡ Some w → p ≡ first_at w.extent → TakesSpot has (p, id) now → n ≡ map.remove m id → AreSpots first_at (map.get n) now
+taken_first m n id w p has now spots found is takes out =
+    taken first_at (map.get m) (map.get n) id has now w spots found (subst (λ (q : DirSector). TakesSpot has (q, id) now) is takes) (becomes_taken m n id out)
 
 -- an id that isn't there is taken out
 pub absent_first : (m n : Pending) (id : ℕ) (has : Has) → AreSpots first_at (map.get m) has → map.get m id ≡ None → n ≡ map.remove m id → AreSpots first_at (map.get n) has
@@ -39,20 +31,32 @@ absent_first m n id has spots none out = kept first_at (map.get m) (map.get n) h
 
 -- ---- a join at the front
 
-module _ (limits : Limits) (m n : Pending) (id s at : ℕ) (newcomer : List Bio) (v : Waiting) (before added : Extent) (spot last : Spot) (has mid now : Has) (spots : AreSpots first_at (map.get m) has) (found : Some v ≡ map.get m id) (fit : HasFit limits (map.get m) newcomer id Front)
-    (some : 0 < s) (range : first_of newcomer + s ≡ last_of newcomer) (before_is : before ≡ extent_of v.bios) (added_is : added ≡ extent_of newcomer) (spot_is : spot ≡ (first_at added, id)) (adds : Adds has spot mid) where
-  spot_then : spot ≡ (first_at (extent_of newcomer), id)
-  spot_then = spot_is ∙ ap (λ (e : Extent). let q : Spot = (first_at e, id) in q) added_is
+module _ (m n : Pending) (id at : ℕ) (newcomer : Extent) (v : Waiting) (x : Extent) (p : DirSector) (has mid now : Has) (spots : AreSpots first_at (map.get m) has) (found : Some v ≡ map.get m id) (filled : IsExtent newcomer) (touch : HasTouch (map.get m) newcomer id Front)
+    (after : x ≡ extent_joined v.extent newcomer Front) (is : p ≡ first_at x) (adds : Adds has (p, id) mid) where
+  place_then : p ≡ first_at (extent_joined v.extent newcomer Front)
+  place_then = is ∙ ap first_at after
 
-  pub joined_ahead : IsJoined at newcomer m id Front n → last ≡ (first_at before, id) → TakesSpot mid last now → AreSpots first_at (map.get n) now
-  joined_ahead join last_is takes =
+  apart : first_at v.extent ≡ first_at (extent_joined v.extent newcomer Front) → ⊥
+  apart same = apart_at v.extent newcomer Front filled (touches_it (map.get m) id Front newcomer v (sym found) touch) same
+
+  pub joined_ahead : (last : DirSector) → IsJoined at newcomer m id Front n → last ≡ first_at v.extent → TakesSpot mid (last, id) now → AreSpots first_at (map.get n) now
+  joined_ahead last join was takes =
       let one : Some join.waiting ≡ Some v = sym join.was ∙ sym found in
       let same : join.waiting ≡ v = cc in
-      spots_moved limits (map.get m) (map.get n) has mid now id s at Front newcomer v (joined_waiting Front at newcomer v) spot last
-      spots (sym found) fit some range spot_then (last_is ∙ ap (λ (e : Extent). let q : Spot = (first_at e, id) in q) before_is) refl adds takes
+      moved first_at (map.get m) (map.get n) id has mid now v (joined_waiting Front at newcomer v) spots (sym found)
+      (subst (λ (q : DirSector). Adds has (q, id) mid) place_then adds) (subst (λ (q : DirSector). TakesSpot mid (q, id) now) was takes) apart
       (becomes_given m n id (joined_waiting Front at newcomer v) (join.is ∙ ap (λ (w : Waiting). map.insert m id (joined_waiting Front at newcomer w)) same))
 
-  pub refused_ahead : n ≡ m → TakesSpot mid spot now → AreSpots first_at (map.get n) now
+  -- no request is at the new place under this id
+  new_place : has (p, id) ≡ false
+  new_place =
+      spots p id ∙ ap (is_placed first_at p) (sym found)
+      ∙ elim (eq_by_cmp place_cmp (first_at v.extent) p) as (λ b. eq_by_cmp place_cmp (first_at v.extent) p ≡ b → b ≡ false) [
+        | true ↦ λ e. absurd (apart (place_true (first_at v.extent) p e ∙ place_then))
+        | false ↦ λ _. refl
+      ] refl
+
+  pub refused_ahead : n ≡ m → TakesSpot mid (p, id) now → AreSpots first_at (map.get n) now
   refused_ahead same takes =
-      kept first_at (map.get m) (map.get n) has now spots (λ k. ap (λ (x : Pending). map.get x k) same)
-      (undone has mid now spot adds takes (new_spot limits (map.get m) has id s Front newcomer v spot spots (sym found) fit some range spot_then))
+      kept first_at (map.get m) (map.get n) has now spots (λ k. ap (λ (y : Pending). map.get y k) same)
+      (undone has mid now (p, id) adds takes new_place)

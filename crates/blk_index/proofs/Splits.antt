@@ -1,5 +1,5 @@
 -- What the calls do to the requests of each hardware queue, and to what waits.
-use Rattle.std.proofs.Common.{◌≡◌, ◌<◌, ◌+◌, ◌-◌, ◌==◌, ◌&&◌, ◌∷◌, ◌++◌, ◌∙◌, sym, ap, subst, refl, arith, zero, suc, true, false, Bool, cond, ℕ, Some, None, Option, List, [], length, get_or, set, get_or-set_same, get_or-set_other}
+use Rattle.std.proofs.Common.{◌≡◌, ◌<◌, ◌+◌, ◌-◌, ◌==◌, ◌&&◌, ◌∷◌, ◌++◌, ◌∙◌, sym, ap, subst, refl, arith, zero, suc, true, false, Bool, cond, ℕ, Some, None, Option, [], length, get_or, set, get_or-set_same, get_or-set_other}
 use Rattle.std.specs.Prelude.{if◌then◌else◌}
 use Rattle.std.specs.Ordering.{nat_cmp}
 use Rattle.std.specs.Cmp.{nat_cmp_total}
@@ -10,10 +10,10 @@ use Rattle.std.proofs.lemmas.List.{get_or_default, set-get_or, length-set}
 use Rattle.blk_bio.specs.declared.bio.Dir.{Dir}
 use Rattle.blk_bio.specs.declared.limits.TheConstants.{MAX_QUEUES}
 use Rattle.blk_bio.specs.declared.request.Side.{Side}
-use Rattle.blk_bio.specs.Bios.{Bio}
+use Rattle.blk_bio.specs.Extents.{Extent}
 use Rattle.blk_bio.specs.Limits.{Limits}
 use Rattle.blk_sched.specs.Meaning.{Waiting, Pending, joined_waiting}
-use Rattle.blk_sched.specs.Fits.{IsNewestFit, FitsNone, HasFit}
+use Rattle.blk_sched.specs.Fits.{IsNewestFit, FitsNone, HasTouch}
 use Rattle.blk_index.specs.Index.{IsJoined, IsOldest, IsFirst, NoneOf, FindsNothing}
 use Rattle.blk_index.specs.Inside.Queues.{AreSplit, all_pending, queue_at}
 use Rattle.blk_index.specs.Queues.{if_served, served_of}
@@ -147,7 +147,7 @@ not_there queues waiting hw self m id v split is none = here queues waiting hw s
 
 -- ---- joining
 
-module _ (queues : Queues) (waiting hw now : ℕ) (self m after : Pending) (id : ℕ) (newcomer : List Bio) (side : Side) (v : all_pending queues ≡ self) (split : AreSplit queues waiting) (low : hw < MAX_QUEUES) (is : m ≡ queue_at queues hw) (came : IsJoined now newcomer m id side after) where
+module _ (queues : Queues) (waiting hw now : ℕ) (self m after : Pending) (id : ℕ) (newcomer : Extent) (side : Side) (v : all_pending queues ≡ self) (split : AreSplit queues waiting) (low : hw < MAX_QUEUES) (is : m ≡ queue_at queues hw) (came : IsJoined now newcomer m id side after) where
   one : Waiting
   one = came.waiting
 
@@ -181,13 +181,13 @@ module _ (queues : Queues) (waiting hw now : ℕ) (self m after : Pending) (id :
   joined_split = split_then queues waiting hw id after (Some (joined_waiting side now newcomer came.waiting)) joining waiting (
       split.counted ∙ sym (count_changed (all_pending queues) id (joined_waiting side now newcomer came.waiting) came.waiting was_there.0) ∙ ap map.len (sym changed_in))
 
-pub fit_here : (queues : Queues) (waiting hw : ℕ) (self m : Pending) (limits : Limits) (newcomer : List Bio) (id : ℕ) (side : Side) → all_pending queues ≡ self → AreSplit queues waiting → m ≡ queue_at queues hw → HasFit limits (served_of hw self) newcomer id side → HasFit limits (map.get m) newcomer id side
-fit_here queues waiting hw self m limits newcomer id side v split is fit = (fit.0, here queues waiting hw self m split v is id ∙ fit.1, fit.2)
+pub touch_here : (queues : Queues) (waiting hw : ℕ) (self m : Pending) (newcomer : Extent) (id : ℕ) (side : Side) → all_pending queues ≡ self → AreSplit queues waiting → m ≡ queue_at queues hw → HasTouch (served_of hw self) newcomer id side → HasTouch (map.get m) newcomer id side
+touch_here queues waiting hw self m newcomer id side v split is touch = (touch.0, here queues waiting hw self m split v is id ∙ touch.1, touch.2)
 
 -- ---- looking
 
 module _ (queues : Queues) (waiting hw : ℕ) (self m : Pending) (v : all_pending queues ≡ self) (split : AreSplit queues waiting) (is : m ≡ queue_at queues hw) where
-  pub newest_here : (limits : Limits) (newcomer : List Bio) (id : ℕ) (side : Side) → IsNewestFit limits true (map.get m) newcomer id side → IsNewestFit limits true (served_of hw self) newcomer id side
+  pub newest_here : (limits : Limits) (newcomer : Extent) (id : ℕ) (side : Side) → IsNewestFit limits true (map.get m) newcomer id side → IsNewestFit limits true (served_of hw self) newcomer id side
   newest_here limits newcomer id side best = record {
     waiting = best.waiting;
     is_found = sym (here queues waiting hw self m split v is id) ∙ best.is_found;
@@ -195,7 +195,7 @@ module _ (queues : Queues) (waiting hw : ℕ) (self m : Pending) (v : all_pendin
     newest = λ other w later there. best.newest other w later (here queues waiting hw self m split v is other ∙ there);
   }
 
-  pub none_fits_here : (limits : Limits) (newcomer : List Bio) → FitsNone limits true (map.get m) newcomer → FitsNone limits true (served_of hw self) newcomer
+  pub none_fits_here : (limits : Limits) (newcomer : Extent) → FitsNone limits true (map.get m) newcomer → FitsNone limits true (served_of hw self) newcomer
   none_fits_here limits newcomer none id w there = none id w (here queues waiting hw self m split v is id ∙ there)
 
   pub oldest_here : (dir : Dir) (id : ℕ) → IsOldest dir (map.get m) id → IsOldest dir (served_of hw self) id

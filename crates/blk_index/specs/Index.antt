@@ -1,14 +1,13 @@
 -- What waits, with the places of its requests.
-use Rattle.std.specs.Prelude.{ℕ, ◌≡◌, ◌<◌, ◌⊎◌, List, Option, Some}
+use Rattle.std.specs.Prelude.{ℕ, ◌≡◌, ◌<◌, ◌⊎◌, Option, Some}
 use Rattle.std.specs.FinMap as map
 use Rattle.blk_bio.specs.declared.bio.Dir.{Dir}
 use Rattle.blk_bio.specs.declared.request.Side.{Side}
-use Rattle.blk_bio.specs.Bios.{Bio}
-use Rattle.blk_bio.specs.Requests.{dir_of, first_of}
+use Rattle.blk_bio.specs.Extents.{Extent}
 use Rattle.blk_sched.specs.Meaning.{Waiting, Pending, joined_waiting}
 
 -- the request of an id is joined by a newcomer at a side, and the others stay
-pub record IsJoined (now : ℕ) (newcomer : List Bio) (old : Pending) (id : ℕ) (side : Side) (new : Pending) : Type 0 where
+pub record IsJoined (now : ℕ) (newcomer : Extent) (old : Pending) (id : ℕ) (side : Side) (new : Pending) : Type 0 where
   pub waiting : Waiting
   pub was : map.get old id ≡ Some waiting
   pub is : new ≡ map.insert old id (joined_waiting side now newcomer waiting)
@@ -17,8 +16,8 @@ pub record IsJoined (now : ℕ) (newcomer : List Bio) (old : Pending) (id : ℕ)
 pub record IsOldest (dir : Dir) (found : ℕ → Option Waiting) (id : ℕ) : Type 0 where
   pub waiting : Waiting
   pub is_found : found id ≡ Some waiting
-  pub same_dir : dir_of waiting.bios ≡ dir
-  pub least : (k : ℕ) (v : Waiting) → k < id → found k ≡ Some v → dir_of v.bios ≡ dir → ⊥
+  pub same_dir : waiting.extent.dir ≡ dir
+  pub least : (k : ℕ) (v : Waiting) → k < id → found k ≡ Some v → v.extent.dir ≡ dir → ⊥
 
 -- the least id of all
 pub record IsFirst (found : ℕ → Option Waiting) (id : ℕ) : Type 0 where
@@ -37,12 +36,12 @@ IsBefore first id other k = (first < other) ⊎ ((first ≡ other) × (id < k))
 pub record IsNext (dir : Dir) (first last : ℕ) (found : ℕ → Option Waiting) (id : ℕ) : Type 0 where
   pub waiting : Waiting
   pub is_found : found id ≡ Some waiting
-  pub same_dir : dir_of waiting.bios ≡ dir
-  pub after : IsBefore first last (first_of waiting.bios) id
-  pub least : (k : ℕ) (v : Waiting) → found k ≡ Some v → dir_of v.bios ≡ dir → IsBefore first last (first_of v.bios) k → IsBefore (first_of v.bios) k (first_of waiting.bios) id → ⊥
+  pub same_dir : waiting.extent.dir ≡ dir
+  pub after : IsBefore first last waiting.extent.first id
+  pub least : (k : ℕ) (v : Waiting) → found k ≡ Some v → v.extent.dir ≡ dir → IsBefore first last v.extent.first k → IsBefore v.extent.first k waiting.extent.first id → ⊥
 
 abbrev pub NoneOf : Dir → (ℕ → Option Waiting) → Type 0
-NoneOf dir found = (k : ℕ) (v : Waiting) → found k ≡ Some v → dir_of v.bios ≡ dir → ⊥
+NoneOf dir found = (k : ℕ) (v : Waiting) → found k ≡ Some v → v.extent.dir ≡ dir → ⊥
 
 abbrev pub NoNext : Dir → ℕ → ℕ → (ℕ → Option Waiting) → Type 0
-NoNext dir first last found = (k : ℕ) (v : Waiting) → found k ≡ Some v → dir_of v.bios ≡ dir → IsBefore first last (first_of v.bios) k → ⊥
+NoNext dir first last found = (k : ℕ) (v : Waiting) → found k ≡ Some v → v.extent.dir ≡ dir → IsBefore first last v.extent.first k → ⊥

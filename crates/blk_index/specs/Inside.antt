@@ -5,9 +5,6 @@ pub mod Search
 pub mod Entries
 pub mod Shapes
 pub mod Places
-pub mod RequestSlabs
+pub mod Requests
 pub mod SortLists
-pub mod Pairs
-pub mod SlabKeys
-pub mod DirKeys
 pub mod Queues

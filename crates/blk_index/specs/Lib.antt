@@ -1,3 +1,4 @@
 pub mod Index
 pub mod Queues
+pub mod Ordered
 pub mod Inside

@@ -1,15 +1,14 @@
 //! Where requests begin and end.
 
-ghost use Rattle.std.specs.Prelude.{◌≡◌, ◌<◌, ◌≤◌, ◌^◌, ℕ, Option, None, Some, OnOk, OnErr, IfOk, IfSome};
-ghost use Rattle.blk_index.specs.Inside.Spots.{is_write, first_at, end_at, IsBelow};
-ghost use Rattle.blk_index.specs.Inside.Places.{one_of_place};
-ghost use Rattle.blk_index.specs.Inside.Shapes.{entries_in, ShapeListed, StandsBetween};
-ghost use Rattle.blk_index.specs.Inside.Edges.{IsListedAt, KeepsBut, KeepsOwn, IsEdges, AddsEdges, DropsEdges};
+ghost use Rattle.std.specs.Prelude.{◌≡◌, ◌<◌, ℕ, Option, None, OnOk, OnErr, IfOk};
+ghost use Rattle.blk_bio.specs.Extents.{IsExtent};
+ghost use Rattle.blk_index.specs.Inside.Spots.{is_write, at_of, opposite_of};
+ghost use Rattle.blk_index.specs.Inside.Edges.{IsListedAs, KeepsBut, KeepsOwn, IsEdges, AddsEdges, DropsEdges};
 ghost use Rattle.blk_sched.specs.Meaning.{Waiting};
 
 use crate::places::Places;
 use crate::shapes::{Place, Shapes};
-use blk_bio::{Dir, Extent};
+use blk_bio::{Dir, Extent, Side};
 use std::alloc::{AllocError, Allocator, Global};
 
 /// A direction, as whether it writes, and a sector; and the id of a request.
@@ -25,18 +24,26 @@ pub fn is_write(dir: Dir) -> bool
     }
 }
 
-/// Where a request begins.
-pub fn first_spot(extent: Extent, id: u64) -> Spot
-    ensures { result ≡ (first_at extent, id) }
+/// Where a request lies at a side: its first sector at the front, its end at the back.
+pub fn place_at(side: Side, extent: &Extent) -> Place
+    ensures value { result ≡ at_of side extent.now }
+    ensures is_extent { IsExtent extent.now }
 {
-    ((is_write(extent.dir), extent.first), id)
+    let sector = match side {
+        Side::Back => extent.end(),
+        Side::Front => extent.first(),
+    };
+    (is_write(extent.dir()), sector)
 }
 
-/// Where a request ends.
-pub fn end_spot(extent: Extent, id: u64) -> Spot
-    ensures { result ≡ (end_at extent, id) }
+/// The other side.
+pub fn opposite_of(side: Side) -> Side
+    ensures { result ≡ opposite_of side }
 {
-    ((is_write(extent.dir), extent.end), id)
+    match side {
+        Side::Back => Side::Front,
+        Side::Front => Side::Back,
+    }
 }
 
 /// Requests found by where they begin, or by where they end: the one that came first to each place by itself, and others there by how many bios and
@@ -58,59 +65,56 @@ impl<A: Allocator + Clone> Edge<A> {
         })
     }
 
-    /// Lists a request, of so many sectors and bios. It fails only when out of memory: no other request is lost then.
+    /// Lists a request. It fails only when out of memory: no other request is lost then.
     #[inline(always)]
-    pub fn put(&mut self, spot: Spot, sectors: u64, bios: u64) -> Result<(), AllocError>
-        ensures ok { OnOk result (IsListedAt self.new spot.0 spot.1 sectors bios) }
+    pub fn put(&mut self, spot: Spot, extent: &Extent) -> Result<(), AllocError>
+        ensures ok { OnOk result (IsListedAs self.new spot extent.now) }
         ensures kept { KeepsBut spot self.old self.new }
     {
         let (place, id) = spot;
         if self.ones.put(place, id)? {
             return Ok(());
         }
-        self.put_among(place, id, sectors, bios)
+        self.put_among(spot, extent)
     }
 
     /// The same where the place has one.
     #[cold]
     #[inline(never)]
-    fn put_among(
-        &mut self,
-        place: Place,
-        id: u64,
-        sectors: u64,
-        bios: u64,
-    ) -> Result<(), AllocError>
-        ensures ok { OnOk result (IsListedAt self.new place id sectors bios) }
-        ensures kept { KeepsBut (place, id) self.old self.new }
+    fn put_among(&mut self, spot: Spot, extent: &Extent) -> Result<(), AllocError>
+        ensures ok { OnOk result (IsListedAs self.new spot extent.now) }
+        ensures kept { KeepsBut spot self.old self.new }
     {
-        let class = (place, bios);
-        match self.others.put(class, sectors, id) {
+        let (place, id) = spot;
+        let class = (place, extent.bios());
+        match self.others.put(class, extent.sectors(), id) {
             Ok(()) => Ok(()),
-            Err(_) => {
-                self.others.take(class, sectors, id);
-                Err(AllocError)
+            Err(why) => {
+                self.others.take(class, extent.sectors(), id);
+                Err(why)
             }
         }
     }
 
-    /// Takes out a request that was listed with so many sectors and bios. It takes no memory.
+    /// Takes out a request. It takes no memory.
     #[inline(always)]
-    pub fn take(&mut self, spot: Spot, sectors: u64, bios: u64)
+    pub fn take(&mut self, spot: Spot, extent: &Extent)
         ensures { KeepsBut spot self.old self.new }
     {
         let (place, id) = spot;
         if self.ones.take(place, id) {
             return;
         }
-        self.others.take((place, bios), sectors, id);
+        self.others
+            .take((place, extent.bios()), extent.sectors(), id);
     }
 
-    /// Lists a request with more sectors and bios than before. Where memory is refused, it stays as it was listed.
+    /// Lists a request with more bios than before. Where memory is refused, it stays as it was listed.
     #[inline(always)]
-    pub fn relist(&mut self, spot: Spot, before: (u64, u64), after: (u64, u64))
+    pub fn relist(&mut self, spot: Spot, before: &Extent, after: &Extent)
+        requires { before.now.bios < after.now.bios }
         ensures kept { KeepsBut spot self.old self.new }
-        ensures own { KeepsOwn spot after.0 after.1 self.old self.new }
+        ensures own { KeepsOwn spot after.now self.old self.new }
     {
         if self.others.is_empty() {
             return;
@@ -121,20 +125,20 @@ impl<A: Allocator + Clone> Edge<A> {
     /// The same where a place may have several.
     #[cold]
     #[inline(never)]
-    fn relist_among(&mut self, spot: Spot, before: (u64, u64), after: (u64, u64))
+    fn relist_among(&mut self, spot: Spot, before: &Extent, after: &Extent)
+        requires { before.now.bios < after.now.bios }
         ensures kept { KeepsBut spot self.old self.new }
-        ensures own { KeepsOwn spot after.0 after.1 self.old self.new }
+        ensures own { KeepsOwn spot after.now self.old self.new }
     {
-        let (place, id) = spot;
-        let (sectors, bios) = before;
-        let (more, longer) = after;
-        if bios >= longer || self.stands_alone(spot) {
+        if self.stands_alone(spot) {
             return;
         }
-        let Ok(()) = self.others.put((place, longer), more, id) else {
+        let (place, id) = spot;
+        let Ok(()) = self.others.put((place, after.bios()), after.sectors(), id) else {
             return;
         };
-        self.others.take((place, bios), sectors, id);
+        self.others
+            .take((place, before.bios()), before.sectors(), id);
     }
 
     /// Whether it is the one of a place that stands by itself.
@@ -166,29 +170,30 @@ impl<A: Allocator + Clone> Edges<A> {
         })
     }
 
-    /// Lists a request that isn't there, of so many sectors, at both sides. It fails only when out of memory: no other request is lost
-    /// then.
+    /// Lists a request that isn't there at both sides. It fails only when out of memory: no other request is lost then.
     #[inline(always)]
-    pub fn add(&mut self, extent: Extent, sectors: u64, id: u64) -> Result<(), AllocError>
-        ensures ok { OnOk result (AddsEdges extent sectors id self.old self.new) }
+    pub fn add(&mut self, extent: &Extent, id: u64) -> Result<(), AllocError>
+        ensures ok { OnOk result (AddsEdges extent.now id self.old self.new) }
         ensures same { OnErr result ((old : ℕ → Option Waiting) → IsEdges old self.old → old id ≡ None → IsEdges old self.new) }
     {
-        let first = first_spot(extent, id);
-        self.front.put(first, sectors, extent.bios)?;
-        let Ok(()) = self.back.put(end_spot(extent, id), sectors, extent.bios) else {
-            self.front.take(first, sectors, extent.bios);
-            return Err(AllocError);
-        };
-        Ok(())
+        let first = (place_at(Side::Front, extent), id);
+        self.front.put(first, extent)?;
+        let end = (place_at(Side::Back, extent), id);
+        match self.back.put(end, extent) {
+            Ok(()) => Ok(()),
+            Err(why) => {
+                self.front.take(first, extent);
+                Err(why)
+            }
+        }
     }
 
-    /// Takes a request of so many sectors out at both sides. It takes no memory.
+    /// Takes a request out at both sides. It takes no memory.
     #[inline(always)]
-    pub fn del(&mut self, extent: Extent, sectors: u64, id: u64)
-        ensures { DropsEdges extent id self.old self.new }
+    pub fn del(&mut self, extent: &Extent, id: u64)
+        ensures { DropsEdges extent.now id self.old self.new }
     {
-        self.front
-            .take(first_spot(extent, id), sectors, extent.bios);
-        self.back.take(end_spot(extent, id), sectors, extent.bios);
+        self.front.take((place_at(Side::Front, extent), id), extent);
+        self.back.take((place_at(Side::Back, extent), id), extent);
     }
 }

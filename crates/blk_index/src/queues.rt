@@ -1,13 +1,13 @@
 //! The requests that wait, those of each hardware queue in an index of their own.
 
-ghost use Rattle.std.specs.Prelude.{◌≡◌, ◌<◌, ◌+◌, ℕ, None, Some, true, length, slice_index_or, IfOk, OnOk, IfErr, OnErr, IfSome, IfNone};
+ghost use Rattle.std.specs.Prelude.{◌≡◌, ◌<◌, ◌+◌, ℕ, None, Some, true, length, slice_index_or, IfOk, OnOk, OnErr, IfSome, IfNone};
 ghost use Rattle.std.specs.FinMap as map;
-ghost use Rattle.blk_sched.specs.Fits.{IsNewestFit, FitsNone, HasFit};
+ghost use Rattle.blk_sched.specs.Fits.{IsNewestFit, FitsNone, HasTouch};
 ghost use Rattle.blk_index.specs.Index.{IsJoined, IsOldest, IsFirst, NoneOf, FindsNothing};
 ghost use Rattle.blk_index.specs.Queues.{served_of};
 
 use crate::index::Index;
-use blk_bio::{Dir, Limits, MAX_QUEUES, Request, Side};
+use blk_bio::{Dir, Extent, Limits, MAX_QUEUES, Side};
 use blk_sched::Queued;
 use std::alloc::{AllocError, Allocator, Global};
 use std::marker::Model;
@@ -52,19 +52,17 @@ impl<A: Allocator + Clone> Queues<A> {
         self.waiting
     }
 
-    /// Adds a request whose id isn't there. It fails only when out of memory: nothing is changed then, and the request
-    /// comes back.
+    /// Adds a request whose id isn't there. It fails only when out of memory: nothing is changed then.
     #[inline(always)]
-    pub fn insert(&mut self, queued: Queued<A>) -> Result<(), Queued<A>>
+    pub fn insert(&mut self, queued: Queued) -> Result<(), AllocError>
         requires new { map.get self.old queued.id ≡ None }
         requires hw { queued.hw < MAX_QUEUES }
         ensures ok { OnOk result (self.new ≡ map.insert self.old queued.id queued) }
-        ensures err { IfErr result (λ q. q ≡ queued) }
         ensures same { OnErr result (self.new ≡ self.old) }
     {
         // refused as out of memory is: no memory holds 2^64 requests
         let Some(waiting) = self.waiting.checked_add(1) else {
-            return Err(queued);
+            return Err(AllocError);
         };
         self.queues[queued.hw as usize].insert(queued)?;
         self.waiting = waiting;
@@ -74,7 +72,7 @@ impl<A: Allocator + Clone> Queues<A> {
     /// The newest request of a hardware queue that a newcomer fits, and the side. Only requests that the newcomer touches
     /// are looked at.
     #[inline(always)]
-    pub fn candidate(&self, hw: u8, newcomer: &Request<A>, limits: &Limits) -> Option<(u64, Side)>
+    pub fn candidate(&self, hw: u8, newcomer: &Extent, limits: &Limits) -> Option<(u64, Side)>
         requires { hw < MAX_QUEUES }
         ensures some { IfSome result (λ r. IsNewestFit limits.now true (served_of hw self.now) newcomer.now r.0 r.1) }
         ensures none { IfNone result (FitsNone limits.now true (served_of hw self.now) newcomer.now) }
@@ -82,24 +80,22 @@ impl<A: Allocator + Clone> Queues<A> {
         self.queues[hw as usize].candidate(newcomer, limits, true)
     }
 
-    /// Joins a newcomer to the request of an id at a hardware queue, which it fits at the side, in the round `now`. It
-    /// fails only when out of memory: nothing is changed then, and the newcomer comes back.
+    /// Joins a newcomer to the request of an id at a hardware queue, which it touches at the side, in the round `now`. It
+    /// fails only when out of memory: nothing is changed then.
     pub fn join_at(
         &mut self,
         hw: u8,
         id: u64,
         side: Side,
         now: u64,
-        limits: &Limits,
-        newcomer: Request<A>,
-    ) -> Result<(), Request<A>>
+        newcomer: &Extent,
+    ) -> Result<(), AllocError>
         requires hw { hw < MAX_QUEUES }
-        requires fit { HasFit limits.now (served_of hw self.old) newcomer id side }
-        ensures joined { OnOk result (IsJoined now newcomer self.old id side self.new) }
-        ensures err { IfErr result (λ e. e ≡ newcomer) }
+        requires touch { HasTouch (served_of hw self.old) newcomer.now id side }
+        ensures joined { OnOk result (IsJoined now newcomer.now self.old id side self.new) }
         ensures same { OnErr result (self.new ≡ self.old) }
     {
-        self.queues[hw as usize].join_at(id, side, now, limits, newcomer)?;
+        self.queues[hw as usize].join_at(id, side, now, newcomer)?;
         Ok(())
     }
 
@@ -124,7 +120,7 @@ impl<A: Allocator + Clone> Queues<A> {
 
     /// Takes out the request of an id at a hardware queue. It takes no memory.
     #[inline(always)]
-    pub fn remove(&mut self, hw: u8, id: u64) -> Option<Queued<A>>
+    pub fn remove(&mut self, hw: u8, id: u64) -> Option<Queued>
         requires { hw < MAX_QUEUES }
         ensures value { result ≡ served_of hw self.old id }
         ensures named { IfSome result (λ w. w.id ≡ id) }

@@ -1,25 +1,21 @@
 //! The sort lists: the requests of each direction by their first sectors.
 
-ghost use Rattle.std.specs.Prelude.{◌≡◌, ◌<◌, Option, Some, true, false, IfOk, OnOk, OnErr, IfSome, IfNone};
-ghost use Rattle.std.specs.BTreeSet.{contains};
-ghost use Rattle.std.specs.declared.cmp.Ordering.TheVariants.{Less};
+ghost use Rattle.std.specs.Prelude.{◌≡◌, false, IfOk, OnOk, OnErr, IfSome, IfNone};
 ghost use Rattle.blk_index.specs.Inside.Spots.{Spot, Adds, TakesSpot, Keeps};
-ghost use Rattle.blk_index.specs.Inside.SortLists.{pair_cmp, PairAdded, PairTaken, PairsKept, IsLeastAbove, IsNextPair, NoPair, IsNextIn, NoNextIn, sorted_in};
+ghost use Rattle.blk_index.specs.Inside.SortLists.{IsNextIn, NoNextIn, sorted_in};
 
 use crate::edges::Spot;
-use crate::sort_key::SortKey;
+use crate::ordered::Ordered;
 use blk_bio::Dir;
 use std::alloc::{AllocError, Allocator, Global};
-use std::collections::BTreeSet;
-use std::ops::Bound;
 
 /// The sort list of each direction: the first sectors of its requests, with their ids, in order.
 #[derive(Drop)]
 pub struct SortLists<A: Allocator = Global> {
-    /// Those of reads.
-    pub reads: BTreeSet<SortKey, A>,
-    /// Those of writes.
-    pub writes: BTreeSet<SortKey, A>,
+    /// That of reads.
+    pub reads: Ordered<A>,
+    /// That of writes.
+    pub writes: Ordered<A>,
 }
 
 impl<A: Allocator + Clone> SortLists<A> {
@@ -28,8 +24,8 @@ impl<A: Allocator + Clone> SortLists<A> {
         ensures { IfOk result (λ order. (q : Spot) → sorted_in order q ≡ false) }
     {
         Ok(SortLists {
-            reads: BTreeSet::new(alloc.clone()?),
-            writes: BTreeSet::new(alloc),
+            reads: Ordered::new(alloc.clone()?),
+            writes: Ordered::new(alloc),
         })
     }
 
@@ -41,9 +37,9 @@ impl<A: Allocator + Clone> SortLists<A> {
     {
         let ((write, first), id) = spot;
         if write {
-            put_pair(&mut self.writes, (first, id))
+            self.writes.put(first, id)
         } else {
-            put_pair(&mut self.reads, (first, id))
+            self.reads.put(first, id)
         }
     }
 
@@ -54,9 +50,9 @@ impl<A: Allocator + Clone> SortLists<A> {
     {
         let ((write, first), id) = spot;
         if write {
-            take_pair(&mut self.writes, (first, id));
+            self.writes.take(first, id);
         } else {
-            take_pair(&mut self.reads, (first, id));
+            self.reads.take(first, id);
         }
     }
 
@@ -67,57 +63,8 @@ impl<A: Allocator + Clone> SortLists<A> {
         ensures none { IfNone result (NoNextIn self.now dir first last) }
     {
         match dir {
-            Dir::Read => next_id(&self.reads, first, last),
-            Dir::Write => next_id(&self.writes, first, last),
+            Dir::Read => self.reads.next(first, last),
+            Dir::Write => self.writes.next(first, last),
         }
     }
-}
-
-/// Puts a pair in. On a refusal nothing is changed.
-#[inline(always)]
-fn put_pair<A: Allocator + Clone>(
-    pairs: &mut BTreeSet<SortKey, A>,
-    pair: (u64, u64),
-) -> Result<(), AllocError>
-    ensures ok { OnOk result (PairAdded (contains pair_cmp pairs.old) pair (contains pair_cmp pairs.new)) }
-    ensures same { OnErr result (PairsKept (contains pair_cmp pairs.old) (contains pair_cmp pairs.new)) }
-{
-    let (first, id) = pair;
-    pairs.insert(SortKey { first, id })?;
-    Ok(())
-}
-
-/// Takes a pair out.
-#[inline(always)]
-fn take_pair<A: Allocator + Clone>(pairs: &mut BTreeSet<SortKey, A>, pair: (u64, u64))
-    ensures { PairTaken (contains pair_cmp pairs.old) pair (contains pair_cmp pairs.new) }
-{
-    let (first, id) = pair;
-    let _ = pairs.remove(&SortKey { first, id });
-}
-
-/// The id of the least pair above another.
-fn next_id<A: Allocator + Clone>(pairs: &BTreeSet<SortKey, A>, first: u64, last: u64) -> Option<u64>
-    ensures some { IfSome result (IsNextPair (contains pair_cmp pairs.now) (first, last)) }
-    ensures none { IfNone result (NoPair (contains pair_cmp pairs.now) (first, last)) }
-{
-    let (_, id) = next_pair(pairs, (first, last))?;
-    Some(id)
-}
-
-/// The least pair above another.
-fn next_pair<A: Allocator + Clone>(
-    pairs: &BTreeSet<SortKey, A>,
-    lower: (u64, u64),
-) -> Option<(u64, u64)>
-    ensures there { IfSome result (λ p. contains pair_cmp pairs.now p ≡ true) }
-    ensures high { IfSome result (λ p. pair_cmp lower p ≡ Less) }
-    ensures least { IfSome result (IsLeastAbove (contains pair_cmp pairs.now) lower) }
-    ensures none { IfNone result (NoPair (contains pair_cmp pairs.now) lower) }
-{
-    let (first, id) = lower;
-    let found = pairs
-        .range((Bound::Excluded(SortKey { first, id }), Bound::Unbounded))
-        .next()?;
-    Some((found.first, found.id))
 }

@@ -1,18 +1,18 @@
 //! The requests that wait, in an index and in sort lists.
 
-ghost use Rattle.std.specs.Prelude.{◌≡◌, ◌<◌, ℕ, Option, None, Some, IfOk, OnOk, IfErr, OnErr, IfSome, IfNone};
+ghost use Rattle.std.specs.Prelude.{◌≡◌, ◌<◌, ℕ, Option, None, Some, IfOk, OnOk, OnErr, IfSome, IfNone};
 ghost use Rattle.std.specs.Option.{option_copied};
 ghost use Rattle.std.specs.FinMap as map;
 ghost use Rattle.blk_sched.specs.Meaning.{Waiting};
-ghost use Rattle.blk_sched.specs.Fits.{IsNewestFit, FitsNone, HasFit};
+ghost use Rattle.blk_sched.specs.Fits.{IsNewestFit, FitsNone, HasTouch};
 ghost use Rattle.blk_index.specs.Inside.Spots.{AreSpots, first_at};
 ghost use Rattle.blk_index.specs.Inside.SortLists.{sorted_in};
 ghost use Rattle.blk_index.specs.Index.{IsJoined, IsOldest, IsNext, NoneOf, NoNext};
 
-use crate::edges::first_spot;
-use crate::index::{Index, extent_of, id_of};
+use crate::edges::place_at;
+use crate::index::Index;
 use crate::sort::SortLists;
-use blk_bio::{Dir, Limits, Request, Side};
+use blk_bio::{Dir, Extent, Limits, Side};
 use blk_sched::Queued;
 use std::alloc::{AllocError, Allocator, Global};
 use std::marker::Model;
@@ -59,38 +59,34 @@ impl<A: Allocator + Clone> Sorted<A> {
     }
 
     /// The request of an id.
-    pub fn get(&self, id: u64) -> Option<&Queued<A>>
+    pub fn get(&self, id: u64) -> Option<&Queued>
         ensures value { option_copied result ≡ map.get self.now id }
         ensures named { (k : ℕ) (w : Waiting) → map.get self.now k ≡ Some w → w.id ≡ k }
     {
         self.index.get(id)
     }
 
-    /// Adds a request whose id isn't there. It fails only when out of memory: nothing is changed then, and the request
-    /// comes back.
+    /// Adds a request whose id isn't there. It fails only when out of memory: nothing is changed then.
     #[inline(always)]
-    pub fn insert(&mut self, queued: Queued<A>) -> Result<(), Queued<A>>
+    pub fn insert(&mut self, queued: Queued) -> Result<(), AllocError>
         requires { map.get self.old queued.id ≡ None }
         ensures ok { OnOk result (self.new ≡ map.insert self.old queued.id queued) }
-        ensures err { IfErr result (λ q. q ≡ queued) }
         ensures same { OnErr result (self.new ≡ self.old) }
     {
-        let spot = first_spot(extent_of(&queued), id_of(&queued));
-        let Ok(()) = self.sort.put(spot) else {
-            return Err(queued);
-        };
+        let spot = (place_at(Side::Front, &queued.extent), queued.id);
+        self.sort.put(spot)?;
         match self.index.insert(queued) {
             Ok(()) => Ok(()),
-            Err(queued) => {
+            Err(why) => {
                 self.sort.take(spot);
-                Err(queued)
+                Err(why)
             }
         }
     }
 
     /// Takes out the request of an id. It takes no memory.
     #[inline(always)]
-    pub fn remove(&mut self, id: u64) -> Option<Queued<A>>
+    pub fn remove(&mut self, id: u64) -> Option<Queued>
         ensures value { result ≡ map.get self.old id }
         ensures named { (k : ℕ) (w : Waiting) → map.get self.old k ≡ Some w → w.id ≡ k }
         ensures removed { self.new ≡ map.remove self.old id }
@@ -98,19 +94,14 @@ impl<A: Allocator + Clone> Sorted<A> {
         let Some(queued) = self.index.remove(id) else {
             return None;
         };
-        self.sort.take(first_spot(extent_of(&queued), id));
+        self.sort.take((place_at(Side::Front, &queued.extent), id));
         Some(queued)
     }
 
     /// The newest request that a newcomer fits, by its id, and the side. The front is tried only where `front` allows
     /// it. Only requests that the newcomer touches are looked at.
     #[inline(always)]
-    pub fn candidate(
-        &self,
-        newcomer: &Request<A>,
-        limits: &Limits,
-        front: bool,
-    ) -> Option<(u64, Side)>
+    pub fn candidate(&self, newcomer: &Extent, limits: &Limits, front: bool) -> Option<(u64, Side)>
         ensures some { IfSome result (λ r. IsNewestFit limits.now front (map.get self.now) newcomer.now r.0 r.1) }
         ensures none { IfNone result (FitsNone limits.now front (map.get self.now) newcomer.now) }
     {
@@ -137,24 +128,22 @@ impl<A: Allocator + Clone> Sorted<A> {
         self.sort.next(dir, first, last)
     }
 
-    /// Joins a newcomer to the request of an id, which it fits at the side, in the round `now`. It fails only when out of
-    /// memory: nothing is changed then, and the newcomer comes back.
+    /// Joins a newcomer to the request of an id, which it touches at the side, in the round `now`. It fails only when out
+    /// of memory: nothing is changed then.
     pub fn join_at(
         &mut self,
         id: u64,
         side: Side,
         now: u64,
-        limits: &Limits,
-        newcomer: Request<A>,
-    ) -> Result<(), Request<A>>
-        requires { HasFit limits.now (map.get self.old) newcomer id side }
-        ensures joined { OnOk result (IsJoined now newcomer self.old id side self.new) }
-        ensures err { IfErr result (λ e. e ≡ newcomer) }
+        newcomer: &Extent,
+    ) -> Result<(), AllocError>
+        requires { HasTouch (map.get self.old) newcomer.now id side }
+        ensures joined { OnOk result (IsJoined now newcomer.now self.old id side self.new) }
         ensures same { OnErr result (self.new ≡ self.old) }
     {
         match side {
-            Side::Back => self.index.join_at(id, side, now, limits, newcomer),
-            Side::Front => join_ahead(&mut self.index, &mut self.sort, id, now, limits, newcomer),
+            Side::Back => self.index.join_at(id, side, now, newcomer),
+            Side::Front => join_ahead(&mut self.index, &mut self.sort, id, now, newcomer),
         }
     }
 }
@@ -165,35 +154,31 @@ fn join_ahead<A: Allocator + Clone>(
     sort: &mut SortLists<A>,
     id: u64,
     now: u64,
-    limits: &Limits,
-    newcomer: Request<A>,
-) -> Result<(), Request<A>>
-    requires fit { HasFit limits.now (map.get index.old) newcomer id Side.Front }
+    newcomer: &Extent,
+) -> Result<(), AllocError>
+    requires touch { HasTouch (map.get index.old) newcomer.now id Side.Front }
     requires spots { AreSpots first_at (map.get index.old) (sorted_in sort.old) }
     ensures spots { AreSpots first_at (map.get index.new) (sorted_in sort.new) }
-    ensures joined { OnOk result (IsJoined now newcomer index.old id Side.Front index.new) }
-    ensures err { IfErr result (λ e. e ≡ newcomer) }
+    ensures joined { OnOk result (IsJoined now newcomer.now index.old id Side.Front index.new) }
     ensures same { OnErr result (index.new ≡ index.old) }
 {
     // for the proof alone: the newcomer has sectors
     let _ = newcomer.sectors();
-    let added = newcomer.extent();
     let Some(queued) = index.get(id) else {
         unreachable!()
     };
-    let before = extent_of(queued);
-    let spot = first_spot(added, id);
-    let Ok(()) = sort.put(spot) else {
-        return Err(newcomer);
-    };
-    match index.join_at(id, Side::Front, now, limits, newcomer) {
+    let before = queued.extent;
+    let after = before.joined(newcomer, Side::Front);
+    let spot = (place_at(Side::Front, &after), id);
+    sort.put(spot)?;
+    match index.join_at(id, Side::Front, now, newcomer) {
         Ok(()) => {
-            sort.take(first_spot(before, id));
+            sort.take((place_at(Side::Front, &before), id));
             Ok(())
         }
-        Err(newcomer) => {
+        Err(why) => {
             sort.take(spot);
-            Err(newcomer)
+            Err(why)
         }
     }
 }

@@ -1,5 +1,5 @@
 -- What is kept is known by its numbers.
-use Rattle.std.proofs.Common.{◌≡◌, ℕ, Bool, true, false, refl, arith, List, [], ◌∷◌}
+use Rattle.std.proofs.Common.{◌≡◌, refl, arith, List, [], ◌∷◌}
 use Rattle.std.specs.List.{flat_map}
 use Rattle.blk_bio.specs.declared.bio.Dir.{Dir}
 use Rattle.blk_bio.specs.declared.bio.Dir.TheVariants.{Read, Write}

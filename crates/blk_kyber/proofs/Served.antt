@@ -1,11 +1,10 @@
 -- What the lines and the limits say is said of the scheduler.
-use Rattle.std.proofs.Common.{◌≡◌, ◌<◌, ◌&&◌, inl, inr, ℕ, Bool, true, false, ap, ◌∙◌, refl, arith, Some, None, Option, List}
+use Rattle.std.proofs.Common.{◌≡◌, ◌<◌, ◌&&◌, inl, inr, ℕ, Bool, true, false, ap, ◌∙◌, refl, arith, Some, None, Option}
 use Rattle.std.specs.Prelude.{◌⊎◌, nat_lt, if◌then◌else◌}
 use Rattle.std.proofs.lemmas.Bool.{ltb-false, eq-eqb}
 use Rattle.std.specs.FinMap as map
 use Rattle.blk_bio.specs.declared.bio.Dir.{Dir}
 use Rattle.blk_bio.specs.declared.bio.Dir.TheVariants.{Read, Write}
-use Rattle.blk_bio.specs.Requests.{dir_of}
 use Rattle.blk_sched.specs.Meaning.{Waiting, Pending, Meaning, OpenPicks, ServesNothing, unfinished}
 use Rattle.blk_sched.proofs.Maps.{first_found, none_found}
 use Rattle.blk_index.specs.Index.{IsOldest, NoneOf}
@@ -36,13 +35,13 @@ is_same_dir Write Read h = cc
 is_same_dir Write Write h = refl
 
 abbrev test_of : ℕ → Dir → Waiting → Bool
-test_of hw dir w = serves_own hw w && is_same (dir_of w.bios) dir
+test_of hw dir w = serves_own hw w && is_same w.extent.dir dir
 
 -- one that passes the test is served, and of the direction
-fails : (hw : ℕ) (dir : Dir) (w : Waiting) → (serves_own hw w ≡ true → dir_of w.bios ≡ dir → ⊥) → test_of hw dir w ≡ false
-fails hw dir w none = elim (serves_own hw w) as (λ b. serves_own hw w ≡ b → (b && is_same (dir_of w.bios) dir) ≡ false) [
-  | true ↦ λ own. elim (is_same (dir_of w.bios) dir) as (λ b. is_same (dir_of w.bios) dir ≡ b → b ≡ false) [
-    | true ↦ λ e. absurd (none own (is_same_dir (dir_of w.bios) dir e))
+fails : (hw : ℕ) (dir : Dir) (w : Waiting) → (serves_own hw w ≡ true → w.extent.dir ≡ dir → ⊥) → test_of hw dir w ≡ false
+fails hw dir w none = elim (serves_own hw w) as (λ b. serves_own hw w ≡ b → (b && is_same w.extent.dir dir) ≡ false) [
+  | true ↦ λ own. elim (is_same w.extent.dir dir) as (λ b. is_same w.extent.dir dir ≡ b → b ≡ false) [
+    | true ↦ λ e. absurd (none own (is_same_dir w.extent.dir dir e))
     | false ↦ λ _. refl
   ] refl
   | false ↦ λ _. refl
@@ -59,7 +58,7 @@ module _ (m : Pending) (hw : ℕ) (limits : DirLimits) (picks : OpenPicks) (dir 
         w,
         best.is_found,
         room (Some w) (first_found (test_of hw dir) m id w f.0
-            (ap (λ b. b && is_same (dir_of w.bios) dir) (eq-eqb w.hw hw f.1) ∙ same_is (dir_of w.bios) dir best.same_dir)
+            (ap (λ b. b && is_same w.extent.dir dir) (eq-eqb w.hw hw f.1) ∙ same_is w.extent.dir dir best.same_dir)
             (λ k v before there. fails hw dir v (λ own same. best.least k v before (served_there hw (map.get m k) v there own) same))),
       )
 
@@ -82,7 +81,7 @@ both_idle m picks hw (inr reads) (inr writes) = inr (λ id w there.
     elim (serves_own hw w) as (λ b. serves_own hw w ≡ b → b ≡ false) [
       | true ↦ λ own.
           let waits = served_there hw (map.get m id) w there own in
-          elim (dir_of w.bios) as (λ d. dir_of w.bios ≡ d → true ≡ false) [
+          elim w.extent.dir as (λ d. w.extent.dir ≡ d → true ≡ false) [
             | Read ↦ λ e. absurd (reads id w waits e)
             | Write ↦ λ e. absurd (writes id w waits e)
           ] refl

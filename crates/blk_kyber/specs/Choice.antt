@@ -4,7 +4,6 @@ use Rattle.std.specs.Prelude.{ℕ, ◌+◌, ◌&&◌, nat_lt, Bool, true, false,
 use Rattle.std.specs.List.{find}
 use Rattle.blk_bio.specs.declared.bio.Dir.{Dir}
 use Rattle.blk_bio.specs.declared.bio.Dir.TheVariants.{Read, Write}
-use Rattle.blk_bio.specs.Requests.{dir_of}
 use Rattle.blk_sched.specs.Meaning.{Waiting, OpenPicks, open_of, requeued_of}
 use Rattle.blk_kyber.specs.declared.turn.Turn.{Turn}
 use Rattle.blk_kyber.specs.declared.turn.TheConstants.{READ_BATCH, WRITE_BATCH}
@@ -34,7 +33,7 @@ turn_by turn false false = None
 
 -- the oldest request of a direction at a hardware queue
 abbrev pub oldest_for : ℕ → Dir → List Waiting → Option Waiting
-oldest_for hw dir ws = find (λ w. serves_own hw w && is_same (dir_of w.bios) dir) ws
+oldest_for hw dir ws = find (λ w. serves_own hw w && is_same w.extent.dir dir) ws
 
 -- how many requests of a direction are in flight: picked and not done, the requeued ones among them
 abbrev pub in_flight : Dir → OpenPicks → ℕ

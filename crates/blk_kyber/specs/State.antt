@@ -1,6 +1,6 @@
 -- What kyber keeps beside what waits, and how each call changes it.
 use Rattle.blk_bio.specs.declared.limits.TheConstants.{MAX_QUEUES}
-use Rattle.std.specs.Prelude.{ℕ, ◌≡◌, Bool, true, false, List, [], ◌∷◌, Option, None, Some, slice_index_or, slice_set, replicate}
+use Rattle.std.specs.Prelude.{ℕ, ◌≡◌, List, [], ◌∷◌, Option, None, Some, slice_index_or, slice_set, replicate}
 use Rattle.std.specs.List.{flat_map}
 use Rattle.std.specs.FinMap as map
 use Rattle.blk_bio.specs.declared.bio.Dir.{Dir}

@@ -1,15 +1,14 @@
 //! The scheduler that limits how many requests of each direction are in flight, after Linux's kyber-iosched.
 #![tactic(auto)]
 
-ghost use Rattle.std.specs.Prelude.{◌≡◌, ◌≤◌, ◌<◌, ◌+◌, ◌↔◌, ◌⊎◌, ◌∷◌, ℕ, Bool, true, List, Option, None, Some, Err, IfOk, OnOk, IfErr, OnErr, IfSome, IfNone, IsSome, IsTrue, slice_index_or, is_some};
+ghost use Rattle.std.specs.Prelude.{◌≡◌, ◌≤◌, ◌<◌, ◌+◌, ◌↔◌, ◌⊎◌, true, Option, None, Some, Err, IfOk, IfErr, IfSome, IfNone, IsTrue};
 ghost use Rattle.std.specs.FinMap as map;
 ghost use Rattle.blk_bio.specs.declared.bio.Dir.{Dir};
-ghost use Rattle.blk_bio.specs.Requests.{dir_of};
-ghost use Rattle.blk_sched.specs.Meaning.{Waiting, Meaning, HasCandidate, HasNoCandidate, Joins, ServesNothing, Picks, RequeuesPick, at_start, opened, open_of, requeued_of, unfinished};
+ghost use Rattle.blk_sched.specs.Meaning.{Waiting, ServesNothing, Picks, RequeuesPick, at_start, opened, open_of, requeued_of, unfinished};
 ghost use Rattle.blk_index.specs.Index.{NoneOf};
 ghost use Rattle.blk_index.specs.Inside.Search.{IsIdOf};
-ghost use Rattle.blk_kyber.specs.Limits.{Completed, RoundBegan, limit_of, target_of, after_report};
-ghost use Rattle.blk_kyber.specs.Choice.{serves_own, first_turn, in_flight, chosen};
+ghost use Rattle.blk_kyber.specs.Limits.{Completed, RoundBegan, limit_of, target_of};
+ghost use Rattle.blk_kyber.specs.Choice.{serves_own, in_flight, chosen};
 ghost use Rattle.blk_kyber.specs.State.{KyberState, state_at_first, choice_for, after_pick, kept_told, Follows, numbers_of, Chooses, IsReported, kyber_policy};
 ghost use Rattle.blk_kyber.specs.Shown.{meaning_of, state_of};
 ghost use Rattle.blk_kyber.specs.Inside.Parts.{IsTurnChoice, head_in};
@@ -20,7 +19,7 @@ mod turn;
 
 use crate::limits::{DomainLimits, ROUNDS_BETWEEN};
 use crate::turn::{Turn, cap, other};
-use blk_bio::{Dir, Limits, MAX_QUEUES, Request, Side};
+use blk_bio::{Dir, Extent, Limits, MAX_QUEUES, Side};
 use blk_index::Queues;
 use blk_sched::{MAX_OPEN, MAX_REQUEUED, OpenPicks, Queued, Scheduler};
 use std::alloc::{AllocError, Allocator, Global};
@@ -160,46 +159,27 @@ impl<A: Allocator + Clone> Scheduler for Kyber<A> {
 
     ghost kept = { λ s. numbers_of (state_of s) };
 
-    fn insert_from(&mut self, slot: &mut Option<Queued<A>>) -> Result<(), AllocError> {
-        let Some(queued) = slot.take() else {
-            unreachable!()
-        };
-        match self.queues.insert(queued) {
-            Ok(()) => Ok(()),
-            Err(queued) => {
-                *slot = Some(queued);
-                Err(AllocError)
-            }
-        }
+    fn insert(&mut self, queued: Queued) -> Result<(), AllocError> {
+        self.queues.insert(queued)
     }
 
-    fn candidate(&self, hw: u8, limits: &Limits, newcomer: &Request<A>) -> Option<(u64, Side)> {
+    fn candidate(&self, hw: u8, limits: &Limits, newcomer: &Extent) -> Option<(u64, Side)> {
         self.queues.candidate(hw, newcomer, limits)
     }
 
-    fn join_at(
+    fn join(
         &mut self,
         hw: u8,
         id: u64,
         side: Side,
         now: u64,
-        limits: &Limits,
-        slot: &mut Option<Request<A>>,
+        newcomer: &Extent,
     ) -> Result<(), AllocError> {
-        let Some(newcomer) = slot.take() else {
-            unreachable!()
-        };
-        match self.queues.join_at(hw, id, side, now, limits, newcomer) {
-            Ok(()) => Ok(()),
-            Err(newcomer) => {
-                *slot = Some(newcomer);
-                Err(AllocError)
-            }
-        }
+        self.queues.join_at(hw, id, side, now, newcomer)
     }
 
     /// Hands out the request that the turn and the limits choose; then the turn is as they say.
-    fn pick(&mut self, hw: u8, now: u64) -> Option<Queued<A>>
+    fn pick(&mut self, hw: u8, now: u64) -> Option<Queued>
         requires hw { hw < MAX_QUEUES }
         requires few { (meaning_of self.old).open_picks.reads + (meaning_of self.old).open_picks.writes < MAX_OPEN }
         ensures choice { result ≡ chosen (choice_for hw (state_of self.old) (meaning_of self.old)) }
@@ -218,7 +198,7 @@ impl<A: Allocator + Clone> Scheduler for Kyber<A> {
         let Some(queued) = self.queues.remove(hw, id) else {
             unreachable!()
         };
-        self.open_picks.open(queued.request.dir());
+        self.open_picks.open(queued.extent.dir());
         self.turns[hw as usize] = turn;
         Some(queued)
     }

@@ -5,7 +5,6 @@ mod Held
 mod Each
 mod Plugged
 mod Checked
-mod Copied
 mod Moving
 mod Mapped
 mod InHand

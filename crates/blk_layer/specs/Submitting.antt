@@ -1,5 +1,5 @@
 -- What flushes and drains do, and why they end.
-use Rattle.std.specs.Prelude.{ℕ, ◌≡◌, ◌≢◌, ◌<◌, ◌≤◌, ◌+◌, ◌⊎◌, ◌++◌, ⊤, List, Some, length, slice_get, slice_index_or, [], ◌∷◌, zero, suc, Bool, true, false, take, Result, Ok, Err}
+use Rattle.std.specs.Prelude.{ℕ, ◌≡◌, ◌≢◌, ◌<◌, ◌≤◌, ◌+◌, ◌⊎◌, ◌++◌, ⊤, List, Some, length, slice_get, slice_index_or, [], ◌∷◌, zero, suc, Bool, true, false, Result, Ok, Err}
 use Rattle.std.specs.List.{flat_map}
 use Rattle.blk_bio.specs.declared.bio.BioId.{BioId}
 use Rattle.blk_bio.specs.Bios.{Bio}
@@ -127,7 +127,3 @@ IsMoveAllAnswer serves queue core map new_queue new_core (Ok moved) =
     MovesSome serves queue core map moved new_queue new_core × (moved ≡ length queue.requests) × (new_queue.requests ≡ [])
 IsMoveAllAnswer serves queue core map new_queue new_core (Err fault) =
     MovesSome serves queue core map fault.moved new_queue new_core × (fault.moved + length new_queue.requests ≡ length queue.requests) × IsMoveFault new_queue new_core map fault.why
-
--- copies of the first requests of a queue, in their order
-abbrev pub AreOfFirst : List (List Bio) → List (List Bio) → Type 0
-AreOfFirst copies requests = take (length copies) requests ≡ copies

@@ -1,39 +1,36 @@
 //! The account of a submitter.
 
 ghost use Rattle.std.specs.Prelude.{◌≡◌, ◌≤◌, ◌+◌, ◌++◌, ◌↔◌, [], IsTrue, IfOk, OnOk, OnErr, IfSome, IfNone, length};
-ghost use Rattle.std.specs.HashSet as hash_set;
+ghost use Rattle.blk_ids.specs.IdSet.{set_has};
+ghost use Rattle.blk_ids.specs.IdSet as id_set;
 ghost use Rattle.blk_trace.specs.Events.{AreOnce, HasId, IsFirstRepeatedBio};
-ghost use Rattle.blk_trace.specs.Inside.Kept.{is_bio};
+ghost use Rattle.blk_trace.specs.Inside.Kept.{has_named};
 ghost use Rattle.blk_layer.specs.Inside.Seats.{AddsIds};
 
 use blk_bio::{Bio, BioId};
+use blk_ids::IdSet;
 use std::alloc::{AllocError, Allocator, Global};
-use std::collections::HashSet;
-use std::hash::{BuildHasherDefault, FoldHasher};
 use std::marker::Model;
-
-/// How a layer hashes: by numbers alone, so that it needs no source of randomness.
-pub(crate) type LayerHashing = BuildHasherDefault<FoldHasher>;
 
 /// Bios with distinct ids, in the order in which they came, beside their ids.
 #[derive(Drop)]
 pub(crate) struct Account<A: Allocator = Global> {
     bios: Vec<Bio, A>,
-    ids: HashSet<BioId, LayerHashing, A>,
+    ids: IdSet<A>,
 }
 
 impl<A: Allocator> Model for Account<A> {
     ghost use Rattle.std.specs.Prelude.{List};
-    ghost use Rattle.std.specs.HashSet as hash_set;
+    ghost use Rattle.blk_ids.specs.IdSet.{set_has};
     ghost use Rattle.blk_bio.specs.Bios.{Bio as BioFields};
-    ghost use Rattle.blk_trace.specs.Inside.Kept.{is_bio};
+    ghost use Rattle.blk_trace.specs.Inside.Kept.{has_named};
     ghost use Rattle.blk_layer.specs.Inside.Seats.{IsAccount};
 
     ghost Value = { List BioFields };
 
     ghost view = { λ a. a.bios.items };
 
-    ghost invariant = { λ a. IsAccount a.bios.items (hash_set.contains is_bio a.ids) };
+    ghost invariant = { λ a. IsAccount a.bios.items (has_named (set_has a.ids)) };
 }
 
 impl<A: Allocator + Clone> Account<A> {
@@ -41,7 +38,7 @@ impl<A: Allocator + Clone> Account<A> {
     pub(crate) fn new(alloc: A) -> Result<Account<A>, AllocError>
         ensures { IfOk result (λ a. a ≡ []) }
     {
-        let ids = HashSet::new(alloc.clone()?);
+        let ids = IdSet::new(alloc.clone()?)?;
         Ok(Account {
             bios: Vec::new(alloc),
             ids,
@@ -63,7 +60,7 @@ impl<A: Allocator + Clone> Account<A> {
     {
         // Reads nothing: the prover gets the invariant, which ties the ids to the bios.
         let _ = &self.bios;
-        self.ids.contains(&id)
+        self.ids.contains(id.submitter, id.serial)
     }
 
     /// The id of the first of the bios that is in the account or earlier among the bios.
@@ -89,7 +86,7 @@ impl<A: Allocator + Clone> Account<A> {
         ensures ok { OnOk result (self.new ≡ self.old ++ bios.now) }
         ensures err { OnErr result (self.new ≡ self.old) }
     {
-        self.ids.reserve(bios.len())?;
+        self.ids.make_room(bios.len())?;
         self.bios.extend_from_slice(bios)?;
         insert_ids(&mut self.ids, bios);
         Ok(())
@@ -104,13 +101,12 @@ fn stands_in(bios: &[Bio], id: BioId) -> bool
 }
 
 /// Adds the ids of the bios, for which there is room.
-fn insert_ids<A: Allocator + Clone>(ids: &mut HashSet<BioId, LayerHashing, A>, bios: &[Bio])
-    requires { length bios.now ≤ hash_set.spare ids.old }
-    ensures { AddsIds (hash_set.contains is_bio ids.old) bios.now (hash_set.contains is_bio ids.new) }
+fn insert_ids<A: Allocator + Clone>(ids: &mut IdSet<A>, bios: &[Bio])
+    requires { length bios.now ≤ id_set.spare ids.old }
+    ensures { AddsIds (has_named (set_has ids.old)) bios.now (has_named (set_has ids.new)) }
 {
     for bio in bios {
-        if ids.insert(bio.id()).is_err() {
-            unreachable!();
-        }
+        let id = bio.id();
+        ids.insert(id.submitter, id.serial);
     }
 }

@@ -14,7 +14,6 @@ ghost use Rattle.blk_layer.specs.Closing.{AreAllThere, HasNumber, all_accepted, 
 ghost use Rattle.blk_layer.specs.Inside.Closing.{IsAccountOf};
 ghost use Rattle.blk_layer.specs.Inside.Closing.{AllDiffer, all_left, entry_at, IsExact, IsExtra, CountsEach, HasEach, DiffersIn, DiffersInCommand, KnowsIssued, NotesLast};
 
-use crate::accounts::LayerHashing;
 use crate::checking::{Unchecked, entry_at, is_checked_off, put_at};
 use crate::layer::{Layer, MAX_WORKERS, Named};
 use crate::locked::LockedQueue;
@@ -27,9 +26,13 @@ use blk_trace::{Event, Trace};
 use edd_commands::Command;
 use std::alloc::{AllocError, Allocator, Global};
 use std::collections::HashMap;
-use std::hash::Hash;
+use std::hash::{BuildHasherDefault, FoldHasher, Hash};
 use std::sync::Mutex;
 use thiserror::Error;
+
+/// How tallies are hashed: by numbers alone, so that they need no source of randomness. Nothing that a submitter chooses
+/// reaches them but where accounts differ.
+type LayerHashing = BuildHasherDefault<FoldHasher>;
 
 /// Why a layer is not closed, in the order in which the reasons are looked for.
 #[derive(Clone, Copy, Debug, PartialEq, Eq, Error)]

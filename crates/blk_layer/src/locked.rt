@@ -5,7 +5,7 @@ ghost use Rattle.blk_bio.specs.declared.limits.TheConstants.{MAX_SOFT_DEPTH};
 ghost use Rattle.blk_core.specs.Faults.{IsTickFault};
 ghost use Rattle.blk_core.specs.Calls.{Issues, Completes, RequeuesTag, Ends, SetsDepth};
 ghost use Rattle.blk_core.specs.Runs.{IsRunFrom};
-ghost use Rattle.blk_layer.specs.Submitting.{AreMapped, AreOfFirst};
+ghost use Rattle.blk_layer.specs.Submitting.{AreMapped};
 ghost use Rattle.blk_layer.specs.Rounds.{EndsFullRounds};
 ghost use Rattle.blk_layer.specs.Runs.{MakesLayerCalls, IsLayerRun};
 ghost use Rattle.blk_layer.specs.Serving.{IsTickAnswer, IsDepthAnswer};
@@ -15,7 +15,7 @@ ghost use Rattle.blk_layer.specs.declared.layer.TheConstants.{MAX_WORKERS};
 use crate::layer::Named;
 use crate::seats::{Worker, audit};
 use crate::serving::{LayerIssueFault, of_core};
-use blk_bio::{Limits, Request};
+use blk_bio::Limits;
 use blk_core::{BackFault, Core, DepthFault, NotIssued, TickFault};
 use blk_queues::SoftQueue;
 use blk_sched::Scheduler;
@@ -78,21 +78,17 @@ impl<S: Scheduler, L: Named> LockedCore<S, L> {
         }
     }
 
-    /// Reports the command under a tag as done, counts it for a worker's part of the ledger, and hands its request out.
-    pub(crate) fn complete(
-        &mut self,
-        share: &mut Share<L>,
-        tag: u16,
-    ) -> Result<Request<S::A>, NotIssued>
+    /// Reports the command under a tag as done, and counts it for a worker's part of the ledger.
+    pub(crate) fn done(&mut self, share: &mut Share<L>, tag: u16) -> Result<(), NotIssued>
         requires { share.old.parts ≡ 1 }
         ensures done { OnOk result (Completes S.policy.told_done self.old.core tag self.new.core) }
         ensures amount { OnOk result (share.new.amount ≡ share.old.amount + 1) }
         ensures parts { share.new.parts ≡ share.old.parts }
         ensures same { OnErr result ((self.new.core ≡ self.old.core) × (share.new.amount ≡ share.old.amount)) }
     {
-        let request = self.core.complete(tag)?;
+        self.core.done(tag)?;
         self.book.add(share, 1);
-        Ok(request)
+        Ok(())
     }
 
     /// Requeues the command under a tag, and answers its id.
@@ -147,30 +143,25 @@ impl<S: Scheduler, L: Named> LockedCore<S, L> {
     }
 }
 
-/// A software queue of a layer, with copies of its first requests for the trace, made ahead.
+/// A software queue of a layer.
 #[derive(Drop)]
 pub(crate) struct LockedQueue<L: Named, A: Allocator> {
     /// The queue.
     pub(crate) queue: SoftQueue<A>,
-    /// The copies.
-    pub(crate) copies: SoftQueue<A>,
     of: PhantomData<L>,
     ghost limits: { queue.limits ≡ L.setup.limits },
-    ghost same_limits: { copies.limits ≡ L.setup.limits },
-    ghost first: { AreOfFirst copies.requests queue.requests },
     ghost mapped: { AreMapped L.map queue.requests },
 }
 
 impl<L: Named, A: Allocator> LockedQueue<L, A> {
-    /// A queue of the layer's limits, and another one for copies, of which there are none yet.
-    fn new(queue: SoftQueue<A>, copies: SoftQueue<A>) -> LockedQueue<L, A>
-        requires limits { (queue.limits ≡ L.setup.limits) × (copies.limits ≡ L.setup.limits) }
-        requires none { (queue.requests ≡ []) × (copies.requests ≡ []) }
+    /// An empty queue of the layer's limits.
+    fn new(queue: SoftQueue<A>) -> LockedQueue<L, A>
+        requires limits { queue.limits ≡ L.setup.limits }
+        requires none { queue.requests ≡ [] }
         ensures { result.queue ≡ queue }
     {
         LockedQueue {
             queue,
-            copies,
             of: PhantomData,
         }
     }
@@ -190,8 +181,7 @@ pub(crate) fn empty_queues<L: Named, A: Allocator + Clone>(
     let mut queues = Vec::with_capacity(alloc.clone()?, count)?;
     for _i in 0..count {
         let queue = SoftQueue::new(alloc.clone()?, depth, limits)?;
-        let copies = SoftQueue::new(alloc.clone()?, depth, limits)?;
-        queues.push(Mutex::new(LockedQueue::new(queue, copies)))?;
+        queues.push(Mutex::new(LockedQueue::new(queue)))?;
     }
     Ok(queues)
 }

@@ -16,7 +16,7 @@ use crate::layer::Named;
 use crate::locked::LockedCore;
 use crate::serving::Issued;
 use crate::submitting::{FlushReason, first_foreign};
-use blk_bio::{Bio, Request};
+use blk_bio::Bio;
 use blk_core::{BackFault, NoneIssued, NotIssued};
 use blk_sched::Scheduler;
 use blk_tags::{TagSeat, TagSet};
@@ -229,13 +229,13 @@ impl<L: Named, A: Allocator + Clone> Worker<L, A> {
         self.hands[usize::from(tag)]
     }
 
-    /// Reports to the core as done the command in its hands under a tag, and hands its request out. The tag is given back under the core's lock.
+    /// Reports to the core as done the command in its hands under a tag. The tag is given back under the core's lock.
     pub(crate) fn done<S: Scheduler<A = A>>(
         &mut self,
         core: &mut LockedCore<S, L>,
         tags: &TagSet<A>,
         tag: u16,
-    ) -> Result<Request<A>, NotIssued>
+    ) -> Result<(), NotIssued>
         requires { self.old.tag_set ≡ tags.now }
         ensures done { OnOk result (AccountsFor self.old tag self.new) }
         ensures core { OnOk result (Completes S.policy.told_done core.old.core tag core.new.core) }
@@ -244,11 +244,11 @@ impl<L: Named, A: Allocator + Clone> Worker<L, A> {
         let Some(command) = self.in_hand(tag) else {
             return Err(NotIssued);
         };
-        let request = core.complete(&mut self.share, tag)?;
+        core.done(&mut self.share, tag)?;
         self.hands[usize::from(tag)] = None;
         self.ran.push_reserved(command);
         tags.give(&mut self.seat, tag);
-        Ok(request)
+        Ok(())
     }
 
     /// Requeues the command in its hands under a tag, as `Layer::back` says.

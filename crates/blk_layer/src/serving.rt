@@ -185,12 +185,11 @@ impl<S: Scheduler, L: Named> Layer<S, L> {
             return Err(NotIssued);
         };
         let mut core = self.core.lock(rt);
-        let request = core.complete(&mut worker.share, tag)?;
+        core.done(&mut worker.share, tag)?;
         drop(core);
         worker.hands[usize::from(tag)] = None;
         worker.ran.push_reserved(command);
         self.tags.give(&mut worker.seat, tag);
-        drop(request);
         Ok(())
     }
 
@@ -351,7 +350,7 @@ impl<S: Scheduler, L: Named> Layer<S, L> {
     }
 
     /// Reports what became of the command in the worker's hands under a tag, and answers the next one, both under one hold of the core's
-    /// lock. Room in the account is made before the lock is taken, and the request of a command that is done is freed after it is released.
+    /// lock. Room in the account is made before the lock is taken.
     #[tactic(auto, using(crate::proofs::Ending::not_ended))]
     fn end_and_next<R: Wait>(
         &self,
@@ -366,23 +365,24 @@ impl<S: Scheduler, L: Named> Layer<S, L> {
     {
         let has_room = worker.make_room().is_ok();
         let mut core = self.lock_core(rt);
-        let freed = match ran {
-            Ran::Done => match worker.done(&mut *core, &self.tags, tag) {
-                Ok(request) => Some(request),
-                Err(_) => return Err(WorkFault::Memory),
-            },
-            Ran::Busy => match worker.back(&mut *core, &self.tags, tag) {
-                Ok(_) => None,
-                Err(_) => return Err(WorkFault::Memory),
-            },
-        };
+        match ran {
+            Ran::Done => {
+                let Ok(()) = worker.done(&mut *core, &self.tags, tag) else {
+                    return Err(WorkFault::Memory);
+                };
+            }
+            Ran::Busy => {
+                let Ok(_) = worker.back(&mut *core, &self.tags, tag) else {
+                    return Err(WorkFault::Memory);
+                };
+            }
+        }
         let next = if has_room {
             worker.next(&mut *core, &self.tags)
         } else {
             Err(NoNext::Memory)
         };
         drop(core);
-        drop(freed);
         found_next(next)
     }
 }

@@ -4,7 +4,7 @@ ghost use Rattle.std.specs.Prelude.{◌≡◌, ◌≢◌, ◌<◌, ◌≤◌, �
 ghost use Rattle.blk_bio.specs.Bios.{Bio as Transfer};
 ghost use Rattle.blk_queues.specs.Plugs.{bios_plugged};
 ghost use Rattle.blk_layer.specs.Seats.{AreOwn};
-ghost use Rattle.blk_layer.specs.Submitting.{Flushes, FlushesInto, QueueHasRoom, IsFirstForeign, IsLeft, IsFirstRoomReason, AreOfFirst, queue_of, IsMoveAnswer, IsMoveAllAnswer};
+ghost use Rattle.blk_layer.specs.Submitting.{Flushes, FlushesInto, QueueHasRoom, IsFirstForeign, IsLeft, IsFirstRoomReason, queue_of, IsMoveAnswer, IsMoveAllAnswer};
 ghost use Rattle.blk_layer.specs.Inside.Submitting.{LosesFirst, GetsFirst, bios_of_both};
 
 use crate::layer::{Layer, Named};
@@ -135,7 +135,7 @@ impl<S: Scheduler, L: Named> Layer<S, L> {
 
     /// Moves the requests of the software queues of the worker's hardware queue, by rising number, into the core, and answers
     /// how many. Those of a software queue, [`MAX_MOVES`] at most, are moved under its lock and one hold of the core's; the
-    /// core's is not taken where the queue has none, and their copies for the trace are made before it is.
+    /// core's is not taken where the queue has none.
     ///
     /// Where the core refuses one it is first in its queue again, and the drain ends: with how many were moved before, and as
     /// `Repeated`, `TraceFull` or `Memory` as [`Layer::move_first`] is, never as `NoQueue`. The worker's seat stays as it was.
@@ -172,103 +172,61 @@ impl<S: Scheduler, L: Named> Layer<S, L> {
     {
         let mut guard = self.queues[soft].lock(rt);
         let staged = &mut *guard;
-        Self::copy_ahead(&staged.queue, &mut staged.copies);
         if staged.queue.len() == 0 {
             return Ok(0);
         }
         let mut core = self.lock_core(rt);
         let locked = &mut *core;
-        let map = &self.map;
-        Self::move_all(&mut staged.queue, &mut staged.copies, &mut locked.core, map)
-    }
-
-    /// Copies the requests of a software queue that have no copy yet, in their order, as long as there is memory, and room
-    /// among the copies. These are of the queue's first requests, and have its limits; those that were there stay. It waits for
-    /// nobody: a drain calls it for each of its software queues, with the lock of that queue held, before it takes the core's.
-    pub fn copy_ahead(queue: &SoftQueue<S::A>, copies: &mut SoftQueue<S::A>)
-        requires limits { copies.old.limits ≡ queue.now.limits }
-        requires first { AreOfFirst copies.old.requests queue.now.requests }
-        ensures limits { copies.new.limits ≡ copies.old.limits }
-        ensures kept { length copies.old.requests ≤ length copies.new.requests }
-        ensures first { AreOfFirst copies.new.requests queue.now.requests }
-    {
-        for place in copies.len()..queue.len() {
-            let Some(request) = queue.get(place) else {
-                return;
-            };
-            let Ok(copy) = request.copy() else {
-                return;
-            };
-            let Ok(()) = copies.put(copy) else {
-                return;
-            };
-        }
+        Self::move_all(&mut staged.queue, &mut locked.core, &self.map)
     }
 
     /// Moves the first request of a software queue into the core: it is released for the hardware queue that the map has for its
-    /// submitter, that of its first bio, with its copy for the trace, and leaves the queue. False exactly where the queue is empty. The
-    /// queue's limits are the core's, and the copies are those of its first requests. It waits for nobody: a drain calls it for each
-    /// request, through [`Layer::move_all`].
+    /// submitter, that of its first bio, and leaves the queue. False exactly where the queue is empty. The queue's limits are the
+    /// core's. It waits for nobody: a drain calls it for each request, through [`Layer::move_all`].
     ///
     /// Refused as the core's release is: as `NoQueue` where the map has no such submitter or the core no such hardware queue, as `Repeated` with the first bio
-    /// whose id stands in the trace or twice in the request, as `TraceFull` and as `Memory`; and as `Memory` too where the core would
-    /// take it and it has no copy. The request is first in the queue again then, as its copy is, and all are as they were.
-    #[tactic(auto, using(crate::proofs::Copied::one_less, crate::proofs::Copied::one_back, crate::proofs::Copied::has_first))]
+    /// whose id stands in the trace or twice in the request, as `TraceFull` and as `Memory`. The request is first in the queue again
+    /// then, and queue and core are as they were.
     pub fn move_first(
         queue: &mut SoftQueue<S::A>,
-        copies: &mut SoftQueue<S::A>,
         core: &mut Core<S>,
         map: &Map<S::A>,
     ) -> Result<bool, CoreFault>
-        requires limits { queue.old.limits ≡ core.old.setup.limits }
-        requires first { AreOfFirst copies.old.requests queue.old.requests }
-        ensures answer { IsMoveAnswer S.policy.serves queue.old core.old map.now queue.new core.new result }
-        ensures first { AreOfFirst copies.new.requests queue.new.requests }
-        ensures limits { copies.new.limits ≡ copies.old.limits }
+        requires { queue.old.limits ≡ core.old.setup.limits }
+        ensures { IsMoveAnswer S.policy.serves queue.old core.old map.now queue.new core.new result }
     {
-        if copies.len() == 0 || queue.len() == 0 {
-            return without_copy(queue, core, map);
-        }
-        let Some(copy) = copies.take_first() else {
-            unreachable!()
-        };
+        // brings the prover what every queue keeps
+        let _ = queue.len();
         let Some(request) = queue.take_first() else {
-            unreachable!()
+            return Ok(false);
         };
         let hw = queue_of(map, &request);
-        match core.release_copied(request, copy, hw) {
+        match core.release(request, hw) {
             Ok(_) => Ok(true),
-            Err((request, copy, why)) => {
+            Err((request, why)) => {
                 queue.put_first(request);
-                copies.put_first(copy);
                 Err(why)
             }
         }
     }
 
     /// Moves all requests of a software queue into the core in their order, each as [`Layer::move_first`] does, up to the first
-    /// that is refused, and answers how many. The copies for the trace, which are those of its first requests, were made before, so
-    /// that none is made now. It waits for nobody: a drain calls it for each of its software queues, with the lock of that queue and
-    /// the core's held.
+    /// that is refused, and answers how many. It waits for nobody: a drain calls it for each of its software queues, with the lock of
+    /// that queue and the core's held.
     ///
-    /// Refused with how many were moved before, and why the first of those that are left was refused: as `Memory` too where the core
-    /// would take it and it has no copy. The copies that are left are again those of the first requests that are left.
+    /// Refused with how many were moved before, and why the first of those that are left was refused.
     #[tactic(auto, using(crate::proofs::Moved::moved_on, crate::proofs::Moved::all_moved, crate::proofs::Moved::ended))]
     pub fn move_all(
         queue: &mut SoftQueue<S::A>,
-        copies: &mut SoftQueue<S::A>,
         core: &mut Core<S>,
         map: &Map<S::A>,
     ) -> Result<u64, DrainFault>
-        requires limits { queue.old.limits ≡ core.old.setup.limits }
-        requires first { AreOfFirst copies.old.requests queue.old.requests }
-        ensures answer { IsMoveAllAnswer S.policy.serves queue.old core.old map.now queue.new core.new result }
-        ensures first { AreOfFirst copies.new.requests queue.new.requests }
-        ensures limits { copies.new.limits ≡ copies.old.limits }
+        requires { queue.old.limits ≡ core.old.setup.limits }
+        ensures { IsMoveAllAnswer S.policy.serves queue.old core.old map.now queue.new core.new result }
     {
         let most = queue.len() as u64;
         for moved in 0..most {
-            match Self::move_first(queue, copies, core, map) {
+            match Self::move_first(queue, core, map) {
                 Ok(true) => {}
                 Ok(false) => unreachable!(),
                 Err(why) => return Err(DrainFault { moved, why }),
@@ -350,24 +308,6 @@ pub(crate) fn first_foreign(number: u8, bios: &[Bio]) -> Option<BioId>
         }
     }
     None
-}
-
-/// What a move answers where the first request, if there is one, has no copy: the core's reason to refuse it, or else that memory
-/// ran out.
-fn without_copy<S: Scheduler>(
-    queue: &SoftQueue<S::A>,
-    core: &Core<S>,
-    map: &Map<S::A>,
-) -> Result<bool, CoreFault>
-    ensures { IsMoveAnswer S.policy.serves queue.now core.now map.now queue.now core.now result }
-{
-    let Some(request) = queue.get(0) else {
-        return Ok(false);
-    };
-    match core.release_fault(request, queue_of(map, request)) {
-        Some(why) => Err(why),
-        None => Err(CoreFault::Memory),
-    }
 }
 
 /// The hardware queue that a map has for the submitter of a request, that of its first bio; [`MAX_QUEUES`], which is no hardware

@@ -1,7 +1,5 @@
 //! Moves from a software queue into the core.
 
-ghost use Rattle.blk_layer.specs.Submitting.{AreOfFirst};
-
 use crate::given::{alone, bio, core, limits, setup};
 use blk_bio::BioId;
 use blk_core::CoreFault;
@@ -20,32 +18,30 @@ fn move_first_then_none(rt: HostRuntime) {
     let mut core = core(&rt, alloc, setup(&rt, 1, 1, limits(&rt)));
     let map = map_of(&rt, alloc, &[0]);
     let mut queue = queue_of(&rt, alloc, &[7]);
-    let mut copies = copies_of(&rt, alloc, &queue);
     assert!(rt; queue.limits() == core.trace().setup().limits());
-    assert!(rt; Plain::move_first(&mut queue, &mut copies, &mut core, &map) == Ok(true));
-    assert!(rt; (queue.len(), copies.len(), core.pending()) == (0, 0, 1));
+    assert!(rt; Plain::move_first(&mut queue, &mut core, &map) == Ok(true));
+    assert!(rt; (queue.len(), core.pending()) == (0, 1));
     assert!(rt; queue.limits() == core.trace().setup().limits());
-    assert!(rt; Plain::move_first(&mut queue, &mut copies, &mut core, &map) == Ok(false));
+    assert!(rt; Plain::move_first(&mut queue, &mut core, &map) == Ok(false));
     assert!(rt; core.trace().len() == 1);
 }
 
-// A request whose bio's id stands in the trace is refused, and stays first, as its copy does.
+// A request whose bio's id stands in the trace is refused, and stays first.
 #[test]
 fn move_first_refused(rt: HostRuntime) {
     let alloc = rt.alloc();
     let mut core = core(&rt, alloc, setup(&rt, 1, 1, limits(&rt)));
     let map = map_of(&rt, alloc, &[0]);
     let mut queue = queue_of(&rt, alloc, &[7, 7]);
-    let mut copies = copies_of(&rt, alloc, &queue);
     assert!(rt; queue.limits() == core.trace().setup().limits());
-    assert!(rt; Plain::move_first(&mut queue, &mut copies, &mut core, &map) == Ok(true));
+    assert!(rt; Plain::move_first(&mut queue, &mut core, &map) == Ok(true));
     assert!(rt; queue.limits() == core.trace().setup().limits());
     let again = CoreFault::Repeated(BioId {
         submitter: 0,
         serial: 7,
     });
-    assert!(rt; Plain::move_first(&mut queue, &mut copies, &mut core, &map) == Err(again));
-    assert!(rt; (queue.len(), copies.len(), core.pending()) == (1, 1, 1));
+    assert!(rt; Plain::move_first(&mut queue, &mut core, &map) == Err(again));
+    assert!(rt; (queue.len(), core.pending()) == (1, 1));
 }
 
 /// What the move of a request of submitter 1 answers under a map, over a core of two hardware queues, and whether each of them is then
@@ -62,9 +58,8 @@ fn moved_by(
     let request = alone(rt, alloc, bio(rt, 1, 7, 0));
     assert!(rt; request.within(&queue.limits()));
     assert!(rt; queue.put(request).is_ok());
-    let mut copies = copies_of(rt, alloc, &queue);
     assert!(rt; queue.limits() == core.trace().setup().limits());
-    let moved = Plain::move_first(&mut queue, &mut copies, &mut core, &map);
+    let moved = Plain::move_first(&mut queue, &mut core, &map);
     let first = core.issue(0, 0).expect(rt, "an issue");
     let second = core.issue(1, 1).expect(rt, "an issue");
     (moved, first.is_some(), second.is_some())
@@ -99,17 +94,6 @@ fn map_of(rt: &impl Abort, alloc: Global, entries: &[u8]) -> Map {
     Map::new(entries).expect(rt, "a map")
 }
 
-/// Copies of all requests of a queue.
-fn copies_of(rt: &impl Abort, alloc: Global, queue: &SoftQueue) -> SoftQueue
-    ensures { AreOfFirst result.requests queue.now.requests }
-{
-    let mut copies = SoftQueue::new(alloc, 4, limits(rt)).expect(rt, "memory");
-    assert!(rt; copies.limits() == queue.limits());
-    Plain::copy_ahead(queue, &mut copies);
-    assert!(rt; copies.len() == queue.len());
-    copies
-}
-
 /// Two requests moved, and the third refused since its bio's id stands in the trace.
 fn again_at_the_third() -> DrainFault {
     DrainFault {
@@ -121,40 +105,27 @@ fn again_at_the_third() -> DrainFault {
     }
 }
 
-/// What a move of all answers, with copies where they are made, how many requests stay in the queue and wait in the core, and how
-/// many copies stay.
+/// What a move of all answers, and how many requests stay in the queue and wait in the core.
 fn all_of(
     rt: &impl Abort,
     alloc: Global,
     serials: &[u64],
-    are_made: bool,
-) -> (Result<u64, DrainFault>, usize, u64, usize) {
+) -> (Result<u64, DrainFault>, usize, u64) {
     let limits = limits(rt);
     let mut core = core(rt, alloc, setup(rt, 1, 1, limits));
     let map = map_of(rt, alloc, &[0]);
     let mut queue = queue_of(rt, alloc, serials);
-    let mut copies = SoftQueue::new(alloc, 4, limits).expect(rt, "memory");
     assert!(rt; queue.limits() == core.trace().setup().limits());
-    assert!(rt; copies.limits() == queue.limits());
-    if are_made {
-        Plain::copy_ahead(&queue, &mut copies);
-        assert!(rt; copies.len() == queue.len());
-    }
-    let answer = Plain::move_all(&mut queue, &mut copies, &mut core, &map);
-    (answer, queue.len(), core.pending(), copies.len())
+    let answer = Plain::move_all(&mut queue, &mut core, &map);
+    (answer, queue.len(), core.pending())
 }
 
-// All of them, or those before the first one that is refused; the copies of what is left stay. What has none is refused as out of memory.
+// All of them, or those before the first one that is refused.
 #[test]
 fn move_all_or_to_the_first_refused(rt: HostRuntime) {
     let alloc = rt.alloc();
     let again = again_at_the_third();
-    let uncopied = DrainFault {
-        moved: 0,
-        why: CoreFault::Memory,
-    };
-    assert!(rt; all_of(&rt, alloc, &[], true) == (Ok(0), 0, 0, 0));
-    assert!(rt; all_of(&rt, alloc, &[1, 2, 3], true) == (Ok(3), 0, 3, 0));
-    assert!(rt; all_of(&rt, alloc, &[1, 2, 1, 3], true) == (Err(again), 2, 2, 2));
-    assert!(rt; all_of(&rt, alloc, &[1, 2], false) == (Err(uncopied), 2, 0, 0));
+    assert!(rt; all_of(&rt, alloc, &[]) == (Ok(0), 0, 0));
+    assert!(rt; all_of(&rt, alloc, &[1, 2, 3]) == (Ok(3), 0, 3));
+    assert!(rt; all_of(&rt, alloc, &[1, 2, 1, 3]) == (Err(again), 2, 2));
 }

@@ -1,5 +1,5 @@
 -- A list of requests, read as what waits.
-use Rattle.std.specs.Prelude.{ℕ, ◌≡◌, List, map as each, Option, None, IfNone}
+use Rattle.std.specs.Prelude.{ℕ, ◌≡◌, List, map as each, Option, IfNone}
 use Rattle.std.specs.FinMap as map
 use Rattle.blk_sched.specs.Meaning.{Waiting, Pending, Meaning, ServesNothing}
 use Rattle.blk_sched.specs.Policies.{Policy, choosing, serves_all}

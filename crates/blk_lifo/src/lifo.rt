@@ -3,14 +3,13 @@
 //! It keeps one plain list and serves every request for every hardware queue. What it must do is said by the clauses of
 //! `Scheduler`; here stand only its own list, and how that list is read as what waits.
 
-ghost use Rattle.std.specs.Prelude.{◌≡◌, ◌<◌, ◌+◌, OnOk, IfErr, OnErr, IfSome, IfNone, IsSome, None, length};
-ghost use Rattle.std.specs.FinMap as map;
-ghost use Rattle.blk_sched.specs.Meaning.{HasCandidate, HasNoCandidate, Joins, at_start};
+ghost use Rattle.std.specs.Prelude.{◌≡◌, ◌==◌, ◌<◌, ◌+◌, length};
+ghost use Rattle.std.specs.List.{position};
+ghost use Rattle.blk_sched.specs.Meaning.{at_start};
 ghost use Rattle.blk_lifo.specs.Stacks.{lifo_policy};
-ghost use Rattle.blk_lifo.specs.Inside.Stacks.{found, IsNewest, IsNewestOf, IsFitAt, HasIdAt, JoinsPlace};
-ghost use Rattle.blk_sched.specs.Policies.{serves_all};
+ghost use Rattle.blk_lifo.specs.Inside.Stacks.{IsNewestOf};
 
-use blk_bio::{Dir, Limits, Request, Side};
+use blk_bio::{Dir, Extent, Limits, Side};
 use blk_sched::{OpenPicks, Queued, Scheduler};
 use std::alloc::{AllocError, Allocator, Global};
 use std::marker::Model;
@@ -18,7 +17,7 @@ use std::marker::Model;
 /// Requests in the order in which they entered, and how many picks of each direction are open.
 #[derive(Drop)]
 pub struct Lifo<A: Allocator = Global> {
-    requests: Vec<Queued<A>, A>,
+    requests: Vec<Queued, A>,
     open_picks: OpenPicks,
 }
 
@@ -53,52 +52,6 @@ impl<A: Allocator + Clone> Lifo<A> {
             open_picks: OpenPicks::none(),
         }
     }
-
-    /// Adds a request, and hands it back where memory runs out.
-    fn add(&mut self, queued: Queued<A>) -> Result<(), Queued<A>>
-        requires { map.get self.old.pending queued.id ≡ None }
-        ensures ok { OnOk result (self.new ≡ record self.old { pending = map.insert self.old.pending queued.id queued }) }
-        ensures err { IfErr result (λ q. q ≡ queued) }
-        ensures same { OnErr result (self.new ≡ self.old) }
-    {
-        match self.requests.push(queued) {
-            Ok(()) => Ok(()),
-            Err(refused) => Err(refused.value),
-        }
-    }
-
-    /// The request of the greatest id that a newcomer fits, with the side.
-    fn find(&self, hw: u8, limits: &Limits, newcomer: &Request<A>) -> Option<(u64, Side)>
-        ensures some { IfSome result (λ r. HasCandidate serves_all hw limits.now newcomer.now self.now r.0 r.1) }
-        ensures none { IfNone result (HasNoCandidate serves_all hw limits.now newcomer.now self.now) }
-    {
-        let _ = hw;
-        let requests = self.requests.as_slice();
-        let Some(place) = newest_fit(requests, newcomer, limits) else {
-            return None;
-        };
-        Some(fit_at(requests, place, newcomer, limits))
-    }
-
-    /// Joins a newcomer to its candidate, and hands it back where memory runs out.
-    fn join(
-        &mut self,
-        hw: u8,
-        id: u64,
-        side: Side,
-        now: u64,
-        limits: &Limits,
-        newcomer: Request<A>,
-    ) -> Result<(), Request<A>>
-        requires { HasCandidate serves_all hw limits.now newcomer self.old id side }
-        ensures joined { OnOk result (Joins serves_all hw now limits.now newcomer self.old id side self.new) }
-        ensures err { IfErr result (λ e. e ≡ newcomer) }
-        ensures same { OnErr result (self.new ≡ self.old) }
-    {
-        let _ = (hw, side);
-        let place = place_of(self.requests.as_slice(), id);
-        join_place(&mut self.requests, place, newcomer, now, limits)
-    }
 }
 
 impl<A: Allocator + Clone> Scheduler for Lifo<A> {
@@ -108,50 +61,37 @@ impl<A: Allocator + Clone> Scheduler for Lifo<A> {
 
     ghost policy = { lifo_policy };
 
-    fn insert_from(&mut self, slot: &mut Option<Queued<A>>) -> Result<(), AllocError> {
-        let Some(queued) = slot.take() else {
-            unreachable!()
-        };
-        match self.add(queued) {
-            Ok(()) => Ok(()),
-            Err(queued) => {
-                *slot = Some(queued);
-                Err(AllocError)
-            }
-        }
+    fn insert(&mut self, queued: Queued) -> Result<(), AllocError> {
+        self.requests.push(queued)?;
+        Ok(())
     }
 
-    fn candidate(&self, hw: u8, limits: &Limits, newcomer: &Request<A>) -> Option<(u64, Side)> {
-        self.find(hw, limits, newcomer)
+    fn candidate(&self, hw: u8, limits: &Limits, newcomer: &Extent) -> Option<(u64, Side)> {
+        let _ = hw;
+        newest_fit(self.requests.as_slice(), newcomer, limits)
     }
 
-    fn join_at(
+    fn join(
         &mut self,
         hw: u8,
         id: u64,
         side: Side,
         now: u64,
-        limits: &Limits,
-        slot: &mut Option<Request<A>>,
+        newcomer: &Extent,
     ) -> Result<(), AllocError> {
-        let Some(newcomer) = slot.take() else {
+        let _ = hw;
+        let Some(place) = place_of(self.requests.as_slice(), id) else {
             unreachable!()
         };
-        match self.join(hw, id, side, now, limits, newcomer) {
-            Ok(()) => Ok(()),
-            Err(newcomer) => {
-                *slot = Some(newcomer);
-                Err(AllocError)
-            }
-        }
+        let queued = &mut self.requests[place];
+        *queued = queued.joined(newcomer, side, now);
+        Ok(())
     }
 
-    fn pick(&mut self, hw: u8, now: u64) -> Option<Queued<A>> {
+    fn pick(&mut self, hw: u8, now: u64) -> Option<Queued> {
         let _ = (hw, now);
-        let Some(queued) = self.requests.pop() else {
-            return None;
-        };
-        self.open_picks.open(queued.request.dir());
+        let queued = self.requests.pop()?;
+        self.open_picks.open(queued.extent.dir());
         Some(queued)
     }
 
@@ -185,66 +125,18 @@ impl<A: Allocator + Clone> Scheduler for Lifo<A> {
     }
 }
 
-/// The place of the request of an id, which is there.
-fn place_of<A: Allocator + Clone>(requests: &[Queued<A>], id: u64) -> usize
-    requires { IsSome (found requests.now id) }
-    ensures { HasIdAt requests.now id result }
+/// The place of the request of an id, if there is one.
+fn place_of(requests: &[Queued], id: u64) -> Option<usize>
+    ensures { result ≡ position (λ w. w.id == id) requests.now }
 {
-    for place in 0..requests.len() {
-        let queued = &requests[place];
-        if queued.id == id {
-            return place;
-        }
-    }
-    unreachable!()
+    requests.iter().position(|queued| queued.id == id)
 }
 
-/// The id of the request at a place, which a newcomer fits, and the side.
-fn fit_at<A: Allocator + Clone>(
-    requests: &[Queued<A>],
-    place: usize,
-    newcomer: &Request<A>,
-    limits: &Limits,
-) -> (u64, Side)
-    requires { IsNewest limits.now newcomer.now requests.now (length requests.now) place }
-    ensures { IsFitAt limits.now newcomer.now requests.now place result.0 result.1 }
-{
-    let queued = &requests[place];
-    match queued.request.fits(newcomer, limits) {
-        Some(side) => (queued.id, side),
-        None => unreachable!(),
-    }
-}
-
-/// Joins a newcomer to the request at a place, and hands it back where that is refused.
-fn join_place<A: Allocator + Clone>(
-    requests: &mut Vec<Queued<A>, A>,
-    place: usize,
-    newcomer: Request<A>,
-    now: u64,
-    limits: &Limits,
-) -> Result<(), Request<A>>
-    requires { place < length requests.old.items }
-    ensures ok { OnOk result (JoinsPlace limits.now now newcomer requests.old.items place requests.new.items) }
-    ensures err { IfErr result (λ e. e ≡ newcomer) }
-    ensures same { OnErr result (requests.new.items ≡ requests.old.items) }
-{
-    let queued = &mut requests[place];
-    match queued.join(newcomer, now, limits) {
-        Ok(_) => Ok(()),
-        Err((newcomer, _)) => Err(newcomer),
-    }
-}
-
-/// The place of the request that the newcomer fits, of the greatest id.
-fn newest_fit<A: Allocator + Clone>(
-    requests: &[Queued<A>],
-    newcomer: &Request<A>,
-    limits: &Limits,
-) -> Option<usize>
+/// The greatest id of the requests that a newcomer fits, and the side.
+fn newest_fit(requests: &[Queued], newcomer: &Extent, limits: &Limits) -> Option<(u64, Side)>
     ensures { IsNewestOf limits.now newcomer.now requests.now (length requests.now) result }
 {
-    let mut newest: Option<usize> = None;
+    let mut newest: Option<(u64, Side)> = None;
     for place in 0..requests.len() {
         newest = newer(requests, newest, place, newcomer, limits);
     }
@@ -252,28 +144,27 @@ fn newest_fit<A: Allocator + Clone>(
 }
 
 /// Of the newest before a place and the request at that place the newer that the newcomer fits.
-fn newer<A: Allocator + Clone>(
-    requests: &[Queued<A>],
-    newest: Option<usize>,
+fn newer(
+    requests: &[Queued],
+    newest: Option<(u64, Side)>,
     place: usize,
-    newcomer: &Request<A>,
+    newcomer: &Extent,
     limits: &Limits,
-) -> Option<usize>
+) -> Option<(u64, Side)>
     requires place { place < length requests.now }
     requires newest { IsNewestOf limits.now newcomer.now requests.now place newest }
     ensures { IsNewestOf limits.now newcomer.now requests.now (place + 1) result }
 {
     let queued = &requests[place];
-    let Some(_) = queued.request.fits(newcomer, limits) else {
+    let Some(side) = queued.extent.fits(newcomer, limits) else {
         return newest;
     };
-    let Some(before) = newest else {
-        return Some(place);
+    let Some((id, _)) = newest else {
+        return Some((queued.id, side));
     };
-    let other = &requests[before];
-    if other.id > queued.id {
+    if id > queued.id {
         newest
     } else {
-        Some(place)
+        Some((queued.id, side))
     }
 }

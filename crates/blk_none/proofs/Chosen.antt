@@ -1,8 +1,7 @@
 -- What the first of a hardware queue is, is said of the scheduler.
-use Rattle.std.proofs.Common.{◌≡◌, ◌<◌, ℕ, true, false, sym, ap, subst, ◌∙◌, refl, Some, None, Option}
+use Rattle.std.proofs.Common.{◌≡◌, ℕ, true, false, sym, ap, subst, ◌∙◌, refl, Some, None}
 use Rattle.std.proofs.lemmas.Bool.{eq-eqb}
 use Rattle.std.specs.FinMap as map
-use Rattle.blk_bio.specs.Requests.{dir_of}
 use Rattle.blk_sched.specs.Meaning.{Waiting, Pending, Meaning, OpenPicks, ServesNothing, Picks, opened}
 use Rattle.blk_sched.proofs.Maps.{first_found, none_found}
 use Rattle.blk_index.specs.Index.{IsFirst, FindsNothing}
@@ -37,12 +36,12 @@ module _ (queues : Pending) (picks : OpenPicks) (hw : ℕ) (self : Meaning) (v :
       (subst (λ (m : Meaning). IsFirst (served_of hw m.pending) id) v best)
       (sym (there ∙ ap (λ (m : Meaning). served_of hw m.pending id) v)))
 
-  pub picked : (left : Pending) (then : OpenPicks) (id : ℕ) (w : Waiting) → Some w ≡ served_of hw queues id → w.id ≡ id → left ≡ map.remove queues id → then ≡ opened (dir_of w.bios) picks → Picks serves_own hw self w (meaning_with left then)
+  pub picked : (left : Pending) (then : OpenPicks) (id : ℕ) (w : Waiting) → Some w ≡ served_of hw queues id → w.id ≡ id → left ≡ map.remove queues id → then ≡ opened w.extent.dir picks → Picks serves_own hw self w (meaning_with left then)
   picked left then id w there named removed opens =
       let f = serves_it hw (map.get queues id) w (sym there) in (
         ap (λ (m : Meaning). map.get m.pending w.id) (sym v) ∙ ap (map.get queues) named ∙ f.0,
         eq-eqb w.hw hw f.1,
         ap (λ (x : Pending). meaning_with x then) (removed ∙ ap (map.remove queues) (sym named))
             ∙ ap (λ (p : OpenPicks). meaning_with (map.remove queues w.id) p) opens
-            ∙ ap (λ (m : Meaning). let n : Meaning = record { pending = map.remove m.pending w.id; open_picks = opened (dir_of w.bios) m.open_picks; front = m.front } in n) v,
+            ∙ ap (λ (m : Meaning). let n : Meaning = record { pending = map.remove m.pending w.id; open_picks = opened w.extent.dir m.open_picks; front = m.front } in n) v,
       )

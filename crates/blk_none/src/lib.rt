@@ -1,12 +1,12 @@
 //! The scheduler that keeps the order of entry.
 #![tactic(auto)]
 
-ghost use Rattle.std.specs.Prelude.{◌≡◌, ◌≤◌, ◌<◌, ◌+◌, ◌^◌, ◌↔◌, ℕ, Bool, ◌⊎◌, IfOk, OnOk, IfErr, OnErr, IfSome, IfNone, IsTrue, None, true, [], length, slice_index_or};
+ghost use Rattle.std.specs.Prelude.{◌≡◌, ◌<◌, ◌+◌, IfOk, IfSome, IfNone, IsTrue, None, true, []};
 ghost use Rattle.std.specs.FinMap as map;
-ghost use Rattle.blk_sched.specs.Meaning.{Waiting, Meaning, HasCandidate, HasNoCandidate, Joins, ServesNothing, Picks, RequeuesPick, opened, open_of, requeued_of, at_start};
+ghost use Rattle.blk_sched.specs.Meaning.{Waiting, Meaning, ServesNothing, Picks, at_start};
 ghost use Rattle.blk_none.specs.Choice.{serves_own, none_choice, none_chooses, none_policy};
 
-use blk_bio::{Dir, Limits, MAX_QUEUES, Request, Side};
+use blk_bio::{Dir, Extent, Limits, MAX_QUEUES, Side};
 use blk_index::Queues;
 use blk_sched::{MAX_OPEN, OpenPicks, Queued, Scheduler};
 use std::alloc::{AllocError, Allocator, Global};
@@ -55,48 +55,29 @@ impl<A: Allocator + Clone> Scheduler for NoneSched<A> {
     ghost policy = { none_policy };
 
     #[inline(always)]
-    fn insert_from(&mut self, slot: &mut Option<Queued<A>>) -> Result<(), AllocError> {
-        let Some(queued) = slot.take() else {
-            unreachable!()
-        };
-        match self.queues.insert(queued) {
-            Ok(()) => Ok(()),
-            Err(queued) => {
-                *slot = Some(queued);
-                Err(AllocError)
-            }
-        }
+    fn insert(&mut self, queued: Queued) -> Result<(), AllocError> {
+        self.queues.insert(queued)
     }
 
     #[inline(always)]
-    fn candidate(&self, hw: u8, limits: &Limits, newcomer: &Request<A>) -> Option<(u64, Side)> {
+    fn candidate(&self, hw: u8, limits: &Limits, newcomer: &Extent) -> Option<(u64, Side)> {
         self.queues.candidate(hw, newcomer, limits)
     }
 
-    fn join_at(
+    fn join(
         &mut self,
         hw: u8,
         id: u64,
         side: Side,
         now: u64,
-        limits: &Limits,
-        slot: &mut Option<Request<A>>,
+        newcomer: &Extent,
     ) -> Result<(), AllocError> {
-        let Some(newcomer) = slot.take() else {
-            unreachable!()
-        };
-        match self.queues.join_at(hw, id, side, now, limits, newcomer) {
-            Ok(()) => Ok(()),
-            Err(newcomer) => {
-                *slot = Some(newcomer);
-                Err(AllocError)
-            }
-        }
+        self.queues.join_at(hw, id, side, now, newcomer)
     }
 
     /// Hands out the request of the hardware queue that has waited longest: the one with the least id.
     #[inline(always)]
-    fn pick(&mut self, hw: u8, now: u64) -> Option<Queued<A>>
+    fn pick(&mut self, hw: u8, now: u64) -> Option<Queued>
         requires hw { hw < MAX_QUEUES }
         requires few { self.old.open_picks.reads + self.old.open_picks.writes < MAX_OPEN }
         ensures chosen { none_chooses [] self.old hw now result [] }
@@ -113,7 +94,7 @@ impl<A: Allocator + Clone> Scheduler for NoneSched<A> {
         let Some(queued) = self.queues.remove(hw, id) else {
             unreachable!()
         };
-        self.open_picks.open(queued.request.dir());
+        self.open_picks.open(queued.extent.dir());
         Some(queued)
     }
 

@@ -5,6 +5,7 @@ use Rattle.std.specs.FinMap as map
 use Rattle.std.proofs.lemmas.Bool.{cases_Bool}
 use Rattle.blk_bio.specs.Bios.{Bio}
 use Rattle.blk_bio.specs.Requests.{dir_of}
+use Rattle.blk_bio.specs.Extents.{extent_of}
 use Rattle.blk_sched.specs.Meaning.{Waiting, Pending, Meaning, Picks, joined_waiting}
 use Rattle.blk_sched.proofs.Maps.{one_test}
 use Rattle.blk_index.proofs.Indexed.{becomes_given, becomes_taken}
@@ -128,11 +129,11 @@ module _ (setup : Setup) (kept : List ℕ) (old new : CoreState) (booked : IsBoo
   pub placed_booked : (bios : List Bio) (hw : ℕ) (placed : Placed) → IsLegalTrace setup new.events → Places serves_all old bios hw placed new → IsBooked setup kept new
   placed_booked bios hw (New id) legal p =
       let legal' : IsLegalTrace setup (old.events ++ Release id bios ∷ []) = subst (λ l. IsLegalTrace setup l) p.2.1 legal in
-      let w : Waiting = record { id = id; hw = hw; release = round_of old.events; due = round_of old.events + expire_of setup (dir_of bios); bios = bios } in
+      let w : Waiting = record { id = id; hw = hw; release = round_of old.events; due = round_of old.events + expire_of setup (dir_of bios); extent = extent_of bios } in
       let is : new.meaning.pending ≡ map.insert old.meaning.pending id w =
       ap (λ (m : Meaning). m.pending) p.3
-      ∙ ap (λ (n : ℕ). map.insert old.meaning.pending id (record { id = n; hw = hw; release = round_of old.events; due = round_of old.events + expire_of old.setup (dir_of bios); bios = bios })) (sym p.1)
-      ∙ ap (λ (s : Setup). map.insert old.meaning.pending id (record { id = id; hw = hw; release = round_of old.events; due = round_of old.events + expire_of s (dir_of bios); bios = bios })) booked.setup_is in
+      ∙ ap (λ (n : ℕ). map.insert old.meaning.pending id (record { id = n; hw = hw; release = round_of old.events; due = round_of old.events + expire_of old.setup (dir_of bios); extent = extent_of bios })) (sym p.1)
+      ∙ ap (λ (s : Setup). map.insert old.meaning.pending id (record { id = id; hw = hw; release = round_of old.events; due = round_of old.events + expire_of s (dir_of bios); extent = extent_of bios })) booked.setup_is in
       after (Release id bios) p.2.0 p.4 p.6 p.2.1
       (subst AreNamed (sym is) (named_given old.meaning.pending id w refl booked.named))
       (λ q. ap (λ P. due_in P q) is ∙ agree_given old.meaning.pending (waits_at setup old.events) (waits_at setup (old.events ++ Release id bios ∷ [])) id w _ refl booked.dues (waits-released setup old.events id bios legal') q)
@@ -141,7 +142,7 @@ module _ (setup : Setup) (kept : List ℕ) (old new : CoreState) (booked : IsBoo
       let w : Waiting = p.0.0 in
       let there : map.get old.meaning.pending id ≡ Some w = p.0.1.pending in
       let waits = waits_then setup kept old id w booked there in
-      let joined : Waiting = joined_waiting side (round_of old.events) bios w in
+      let joined : Waiting = joined_waiting side (round_of old.events) (extent_of bios) w in
       let is : new.meaning.pending ≡ map.insert old.meaning.pending id joined = ap (λ (m : Meaning). m.pending) p.0.2 in
       after (Join id bios) p.1.0 p.2 p.4 p.1.1
       (subst AreNamed (sym is) (named_given old.meaning.pending id joined (booked.named id w there) booked.named))

@@ -37,11 +37,11 @@ impl Facts {
     {
         let extent = request.extent();
         Facts {
-            dir: extent.dir,
-            first: extent.first,
-            end: extent.end,
+            dir: extent.dir(),
+            first: extent.first(),
+            end: extent.end(),
             release: round,
-            due: round + setup.expire(extent.dir),
+            due: round + setup.expire(extent.dir()),
         }
     }
 

@@ -4,7 +4,6 @@ use Rattle.std.proofs.lemmas.Bool.{cases_eq, cases_lt}
 use Rattle.std.proofs.lemmas.Grind.{same_number_lists}
 use Rattle.std.proofs.lemmas.List.{get_or_past}
 use Rattle.std.specs.FinMap.{remove}
-use Rattle.blk_bio.specs.Requests.{dir_of}
 use Rattle.blk_sched.specs.Meaning.{Waiting}
 use Rattle.blk_sched.specs.Policies.{Policy}
 use Rattle.blk_replay.specs.declared.Arrived.{Arrived}
@@ -16,9 +15,9 @@ one_served policy round old w v a b det s t =
     let one = det.one_choice old.kept old.meaning 0 round (Some w) (Some v) s.picked t.picked s.chosen t.chosen in
     let both : Some w ≡ Some v = one.0 in
     let same : w ≡ v = cc in
-    let done : s.done ≡ t.done = det.one_done 0 (dir_of v.bios) (round - v.release) t.picked s.done t.done
-    (subst (λ (k : List ℕ). policy.told_done 0 (dir_of v.bios) (round - v.release) k s.done) one.1
-    (subst (λ (x : Waiting). policy.told_done 0 (dir_of x.bios) (round - x.release) s.picked s.done) same s.told_done)) t.told_done in
+    let done : s.done ≡ t.done = det.one_done 0 v.extent.dir (round - v.release) t.picked s.done t.done
+    (subst (λ (k : List ℕ). policy.told_done 0 v.extent.dir (round - v.release) k s.done) one.1
+    (subst (λ (x : Waiting). policy.told_done 0 x.extent.dir (round - x.release) s.picked s.done) same s.told_done)) t.told_done in
     let kept : a.kept ≡ b.kept = det.one_tick (round + 1) t.done a.kept b.kept
     (subst (λ (k : List ℕ). policy.told_tick (round + 1) k a.kept) done s.told_tick) t.told_tick in
     let meaning : a.meaning ≡ b.meaning = s.left ∙ ap (λ (x : Waiting). record old.meaning { pending = remove old.meaning.pending x.id }) same ∙ sym t.left in

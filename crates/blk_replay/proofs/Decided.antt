@@ -6,7 +6,6 @@ use Rattle.std.proofs.lemmas.Bool.{cases_eq, cases_lt, eq-eqb, ne_eqb}
 use Rattle.std.proofs.lemmas.List.{get_or_past, length-map}
 use Rattle.std.proofs.lemmas.List.Sorted.{length_permutation}
 use Rattle.std.proofs.lemmas.Option.{get_or_from_slice_get}
-use Rattle.blk_bio.specs.Requests.{dir_of}
 use Rattle.edd_commands.specs.declared.Command.{Command}
 use Rattle.edd_commands.specs.declared.steps.Step.{Step}
 use Rattle.edd_commands.specs.declared.TheConstants.{MAX_COMMANDS}
@@ -116,7 +115,7 @@ module _ (policy : Policy) (requests : List Arrived) (own : List ℕ) (start : S
       let before = kept_so late_last kept n h.0 by first h.1 in
       let s = h.2.serves in
       let picked = by.picked (with_entered requests (suc n) h.0).meaning 0 (suc n) (Some h.2.served) s.picked (subst (λ l. policy.chooses l (with_entered requests (suc n) h.0).meaning 0 (suc n) (Some h.2.served) s.picked) before s.chosen) in
-      let done = by.done 0 (dir_of h.2.served.bios) (suc n - h.2.served.release) s.done (subst (λ l. policy.told_done 0 (dir_of h.2.served.bios) (suc n - h.2.served.release) l s.done) picked s.told_done) in
+      let done = by.done 0 h.2.served.extent.dir (suc n - h.2.served.release) s.done (subst (λ l. policy.told_done 0 h.2.served.extent.dir (suc n - h.2.served.release) l s.done) picked s.told_done) in
       by.ticked (suc n + 1) now.kept (subst (λ l. policy.told_tick (suc n + 1) l now.kept) done s.told_tick)
 
   -- what is served in a round goes first of what waits then

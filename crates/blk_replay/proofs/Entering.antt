@@ -4,7 +4,6 @@ use Rattle.std.specs.Prelude.{slice_get}
 use Rattle.std.proofs.lemmas.Bool.{eq-eqb, ne_eqb, cases_eq}
 use Rattle.std.proofs.lemmas.Option.{slice_get_within}
 use Rattle.std.specs.FinMap.{get, insert, len}
-use Rattle.blk_bio.specs.Bios.{Bio}
 use Rattle.blk_sched.specs.Meaning.{Pending, Meaning}
 use Rattle.blk_replay.specs.declared.Arrived.{Arrived}
 use Rattle.blk_replay.specs.Replay.{waiting, once_entered}
@@ -79,8 +78,3 @@ enter_one requests round first next old mid new r h is at free now = record {
 pub entered_rest : (old mid new : Meaning) (P : Pending) → mid ≡ record old { pending = mid.pending } → new ≡ record mid { pending = P } → new ≡ record old { pending = new.pending }
 entered_rest old mid new P e f =
     f ∙ ap (λ (m : Meaning). record m { pending = P }) e ∙ ap (λ p. record old { pending = p }) (sym (ap (λ (m : Meaning). m.pending) f))
-
--- a request has entered as it waits
-pub entered_now : (old new : Meaning) (id : ℕ) (r : Arrived) (bios : List Bio) → new ≡ record old { pending = insert old.pending id (record { id = id; hw = 0; release = r.release; due = r.due; bios = bios }) } → bios ≡ r.bio ∷ [] → new ≡ record old { pending = insert old.pending id (waiting id r) }
-entered_now old new id r bios e made =
-    e ∙ ap (λ (b : List Bio). record old { pending = insert old.pending id (record { id = id; hw = 0; release = r.release; due = r.due; bios = b }) }) made

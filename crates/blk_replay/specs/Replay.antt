@@ -4,14 +4,14 @@ use Rattle.std.specs.FinMap.{insert, remove, get}
 use Rattle.edd_commands.specs.declared.Command.{Command}
 use Rattle.edd_commands.specs.declared.TheConstants.{MAX_COMMANDS, MAX_ROUNDS}
 use Rattle.blk_bio.specs.declared.bio.Dir.{Dir}
-use Rattle.blk_bio.specs.Requests.{dir_of}
+use Rattle.blk_bio.specs.Extents.{extent_of}
 use Rattle.blk_sched.specs.Meaning.{Waiting, Pending, Meaning}
 use Rattle.blk_sched.specs.Policies.{Policy}
 use Rattle.blk_replay.specs.declared.Arrived.{Arrived}
 
--- a captured request as it waits: under its place, at hardware queue 0, with its one bio
+-- a captured request as it waits: under its place, at hardware queue 0, of its one bio
 abbrev pub waiting : ℕ → Arrived → Waiting
-waiting id r = record { id = id; hw = 0; release = r.release; due = r.due; bios = r.bio ∷ [] }
+waiting id r = record { id = id; hw = 0; release = r.release; due = r.due; extent = extent_of (r.bio ∷ []) }
 
 -- the commands of requests, whose ids rise from this one on
 unfoldable pub commands_from : ℕ → List Arrived → List Command
@@ -54,7 +54,7 @@ pub record ServesNext (policy : Policy) (round : ℕ) (old : Standing) (w : Wait
   pub done : List ℕ
   pub waits : get old.meaning.pending w.id ≡ Some w
   pub chosen : policy.chooses old.kept old.meaning 0 round (Some w) picked
-  pub told_done : policy.told_done 0 (dir_of w.bios) (round - w.release) picked done
+  pub told_done : policy.told_done 0 (w.extent.dir) (round - w.release) picked done
   pub told_tick : policy.told_tick (round + 1) done new.kept
   pub left : new.meaning ≡ record old.meaning { pending = remove old.meaning.pending w.id }
 

@@ -13,7 +13,7 @@ ghost use Rattle.blk_replay.specs.Replay.{CanReplay, HasOneReplay, IsReplay, com
 mod figures;
 mod requests;
 
-use blk_bio::{Bio, Request};
+use blk_bio::Bio;
 use blk_online::law_of_ties;
 use blk_sched::{Queued, Scheduler};
 use edd_commands::{MAX_COMMANDS, MAX_ROUNDS};
@@ -35,7 +35,6 @@ pub struct Arrived {
 /// The requests from `first` on that are released in the round enter, and the place after them is answered.
 fn enter<S: Scheduler>(
     scheduler: &mut S,
-    alloc: &S::A,
     requests: &[Arrived],
     first: usize,
     round: u64,
@@ -54,19 +53,14 @@ fn enter<S: Scheduler>(
         if request.release != round {
             return Ok(place);
         }
-        let Ok(made) = Request::of(alloc.clone()?, request.bio) else {
-            return Err(AllocError);
-        };
         let queued = Queued {
             id: place as u64,
             hw: 0,
             release: request.release,
             due: request.due,
-            request: made,
+            extent: request.bio.extent(),
         };
-        if let Err((_, why)) = scheduler.insert(queued) {
-            return Err(why);
-        }
+        scheduler.insert(queued)?;
     }
     Ok(requests.len())
 }
@@ -83,7 +77,7 @@ fn serve<S: Scheduler>(sched: &mut S, round: u64) -> u64
     let Some(queued) = sched.pick(0, round) else {
         unreachable!()
     };
-    sched.on_done(0, queued.request.dir(), round - queued.release);
+    sched.on_done(0, queued.extent.dir(), round - queued.release);
     sched.on_tick(round + 1);
     queued.id
 }
@@ -127,11 +121,11 @@ pub fn replay<S: Scheduler>(
     let mut scheduler = scheduler;
     scheduler.on_tick(1);
     let count = requests.len();
-    let mut rounds = vec![in alloc.clone()?; 0; count]?;
+    let mut rounds = vec![in alloc; 0; count]?;
     let mut entered = 0;
     for served in 0..count as u64 {
         let round = served + 1;
-        entered = enter(&mut scheduler, &alloc, requests, entered, round)?;
+        entered = enter(&mut scheduler, requests, entered, round)?;
         let id = serve(&mut scheduler, round);
         rounds[id as usize] = round;
     }

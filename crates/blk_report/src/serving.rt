@@ -53,9 +53,9 @@ impl SectorRange {
     {
         let extent = request.extent();
         SectorRange {
-            dir: extent.dir,
-            first: extent.first,
-            end: extent.end,
+            dir: extent.dir(),
+            first: extent.first(),
+            end: extent.end(),
         }
     }
 

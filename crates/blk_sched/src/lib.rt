@@ -1,29 +1,25 @@
 //! What a scheduler is: a trait with its laws.
 #![tactic(auto)]
 
-ghost use Rattle.std.specs.Prelude.{◌≡◌, ◌<◌, ◌+◌, ◌↔◌, ℕ, Bool, List, [], ◌⊎◌, IfOk, OnOk, IfErr, OnErr, IfSome, IfNone, IsSome, IsTrue, Option, None};
+ghost use Rattle.std.specs.Prelude.{◌≡◌, ◌<◌, ◌+◌, ◌↔◌, ℕ, List, [], ◌⊎◌, IfOk, OnOk, IfErr, OnErr, IfSome, IfNone, IsTrue, None};
 ghost use Rattle.std.specs.FinMap as map;
-ghost use Rattle.blk_bio.specs.Requests.{Fits};
-ghost use Rattle.blk_bio.specs.Answers.{IsJoinAnswer};
-ghost use Rattle.blk_bio.specs.declared.bio.Dir.{Dir};
-ghost use Rattle.blk_bio.specs.declared.request.Side.{Side};
+ghost use Rattle.blk_bio.specs.Extents.{TouchesAt};
 ghost use Rattle.blk_sched.specs.Policies.{Policy};
-ghost use Rattle.blk_sched.specs.Meaning.{Waiting, Meaning, HasCandidate, HasNoCandidate, Enters, Joins, JoinsBy, ServesNothing, Picks, RequeuesPick, joined_waiting, opened, open_of, requeued_of, unfinished};
+ghost use Rattle.blk_sched.specs.Meaning.{Waiting, Meaning, HasCandidate, HasNoCandidate, Enters, Joins, StandsAt, JoinsAt, ServesNothing, Picks, RequeuesPick, joined_waiting, opened, open_of, requeued_of, unfinished};
 
 mod fits;
 mod picks;
 
 pub use crate::fits::side_of_fit;
 pub use crate::picks::{MAX_OPEN, MAX_REQUEUED, OpenPicks};
-use blk_bio::{Dir, JoinFault, Limits, MAX_QUEUES, Request, Side};
-use std::alloc::{AllocError, Allocator, Global};
-use std::marker::Model;
+use blk_bio::{Dir, Extent, Limits, MAX_QUEUES, Side};
+use std::alloc::{AllocError, Allocator};
 use thiserror::Error;
 
-/// A request as it enters a scheduler and leaves it: its id, the hardware queue (below `MAX_QUEUES`) that it entered at, the
-/// round of its release, the round in which it is due, and its bios.
-#[derive(Debug, Drop)]
-pub struct Queued<A: Allocator = Global> {
+/// A request as it enters a scheduler and leaves it: what a scheduler has to know of it. Its bios stay in the trace, which
+/// has to name them for ever.
+#[derive(Clone, Copy, Debug, PartialEq, Eq)]
+pub struct Queued {
     /// Its id among the requests of a scheduler.
     pub id: u64,
     /// The hardware queue that it entered at, below `MAX_QUEUES`.
@@ -32,40 +28,22 @@ pub struct Queued<A: Allocator = Global> {
     pub release: u64,
     /// The round in which it is due.
     pub due: u64,
-    /// Its bios.
-    pub request: Request<A>,
+    /// Its direction, its sectors, and how many bios it has.
+    pub extent: Extent,
 }
 
-impl<A: Allocator> Model for Queued<A> {
-    ghost use Rattle.blk_sched.specs.Meaning.{Waiting};
-
-    ghost Value = { Waiting };
-
-    ghost view = { λ q. record { id = q.id; hw = q.hw; release = q.release; due = q.due; bios = q.request } };
-}
-
-impl<A: Allocator + Clone> Queued<A> {
-    /// Joins a newcomer in the round `now`, which becomes its release, as `Request::join` does. Where that is refused,
-    /// nothing is changed and the newcomer comes back.
-    pub fn join(
-        &mut self,
-        newcomer: Request<A>,
-        now: u64,
-        limits: &Limits,
-    ) -> Result<Side, (Request<A>, JoinFault)>
-        // the side or the fault, and the bios as they stand then
-        ensures answer { IsJoinAnswer limits.now self.old.bios newcomer self.new.bios result }
-        // what fits is refused only when out of memory
-        ensures accepts { (side : Side) → Fits limits.now self.old.bios newcomer side → IfErr result (λ e. e.1 ≡ JoinFault.Memory) }
-        ensures fits { IfOk result (Fits limits.now self.old.bios newcomer) }
-        ensures only { IfOk result (λ found. (side : Side) → Fits limits.now self.old.bios newcomer side → side ≡ found) }
-        ensures ok { IfOk result (λ side. self.new ≡ joined_waiting side now newcomer self.old) }
-        ensures err { IfErr result (λ e. e.0 ≡ newcomer) }
-        ensures same { OnErr result (self.new ≡ self.old) }
+impl Queued {
+    /// This request once a newcomer that touches it at the side has joined in the round `now`, which becomes its release.
+    #[inline]
+    pub fn joined(&self, newcomer: &Extent, side: Side, now: u64) -> Queued
+        requires { TouchesAt self.now.extent newcomer.now side }
+        ensures { result ≡ joined_waiting side now newcomer.now self.now }
     {
-        let side = self.request.join(newcomer, limits)?;
-        self.release = now;
-        Ok(side)
+        Queued {
+            release: now,
+            extent: self.extent.joined(newcomer, side),
+            ..*self
+        }
     }
 }
 
@@ -83,7 +61,7 @@ pub enum JoinRefusal {
 /// Its laws are the clauses of its methods. Every hardware queue is below `MAX_QUEUES`, and times are in rounds: as `now` a
 /// core passes its round, which rises from tick to tick.
 pub trait Scheduler: Drop {
-    /// What its requests are allocated by.
+    /// What it, and a core over it, takes memory from.
     type A: Allocator + Clone;
 
     /// What waits, how many picks of each direction are open or requeued, and whether a newcomer may join at the front.
@@ -97,110 +75,63 @@ pub trait Scheduler: Drop {
     /// picks of nothing leave it. A scheduler that keeps no more has nothing in the list.
     ghost kept: { Self → List ℕ } = { λ _. [] };
 
-    /// What an implementation writes for `insert`: takes the request out of the slot, and on a refusal leaves it there.
-    fn insert_from(&mut self, slot: &mut Option<Queued<Self::A>>) -> Result<(), AllocError>
-        requires some { IsSome slot.old }
-        requires new { IfSome slot.old (λ w. map.get (meaning self.old).pending w.id ≡ None) }
-        requires hw { IfSome slot.old (λ w. w.hw < MAX_QUEUES) }
-        ensures ok { OnOk result (IfSome slot.old (Enters (meaning self.old) (meaning self.new))) }
-        ensures kept { OnOk result (Self.kept self.new ≡ Self.kept self.old) }
-        ensures err { OnErr result (slot.new ≡ slot.old) }
-        ensures same { OnErr result (self.new ≡ self.old) };
-
-    /// Adds a request, whose id must not be waiting already. It fails only when out of memory: nothing is changed then,
-    /// and the request comes back.
-    final fn insert(&mut self, queued: Queued<Self::A>) -> Result<(), (Queued<Self::A>, AllocError)>
+    /// Adds a request, whose id must not be waiting already. It fails only when out of memory: nothing is changed then.
+    fn insert(&mut self, queued: Queued) -> Result<(), AllocError>
         requires new { map.get (meaning self.old).pending queued.id ≡ None }
         requires hw { queued.hw < MAX_QUEUES }
         ensures ok { OnOk result (Enters (meaning self.old) (meaning self.new) queued) }
         ensures kept { OnOk result (Self.kept self.new ≡ Self.kept self.old) }
-        ensures err { IfErr result (λ e. e.0 ≡ queued) }
-        ensures same { OnErr result (self.new ≡ self.old) }
-    {
-        let mut slot = Some(queued);
-        match self.insert_from(&mut slot) {
-            Ok(()) => Ok(()),
-            Err(why) => Err((slot.unwrap(), why)),
-        }
-    }
+        ensures same { OnErr result (self.new ≡ self.old) };
 
     /// The request that a newcomer joins, and at which side: the newest that is served for the hardware queue and that it fits.
     /// None exactly where it fits none of them.
-    fn candidate(&self, hw: u8, limits: &Limits, newcomer: &Request<Self::A>) -> Option<(u64, Side)>
+    fn candidate(&self, hw: u8, limits: &Limits, newcomer: &Extent) -> Option<(u64, Side)>
         requires { hw < MAX_QUEUES }
         ensures some { IfSome result (λ r. HasCandidate policy.serves hw limits.now newcomer.now (meaning self.now) r.0 r.1) }
         ensures none { IfNone result (HasNoCandidate policy.serves hw limits.now newcomer.now (meaning self.now)) };
 
-    /// What an implementation writes for `join`: takes the newcomer out of the slot, and on a refusal leaves it there.
-    fn join_at(
+    /// Joins a newcomer to the request of an id at a side, which is served for the hardware queue and which it touches
+    /// there: `now`, the core's round, becomes that request's release; its id, hardware queue and due round stay. It fails
+    /// only when out of memory: nothing is changed then.
+    fn join(
         &mut self,
         hw: u8,
         id: u64,
         side: Side,
         now: u64,
-        limits: &Limits,
-        slot: &mut Option<Request<Self::A>>,
+        newcomer: &Extent,
     ) -> Result<(), AllocError>
         requires hw { hw < MAX_QUEUES }
-        requires some { IsSome slot.old }
-        requires stands { IfSome slot.old (λ newcomer. HasCandidate policy.serves hw limits.now newcomer (meaning self.old) id side) }
-        ensures joined { OnOk result (IfSome slot.old (JoinsBy policy.serves hw now limits.now (meaning self.old) id side (meaning self.new))) }
+        requires stands { StandsAt policy.serves hw newcomer.now (meaning self.old) id side }
+        ensures joined { OnOk result (JoinsAt now newcomer.now (meaning self.old) id side (meaning self.new)) }
         ensures kept { OnOk result (Self.kept self.new ≡ Self.kept self.old) }
-        ensures err { OnErr result (slot.new ≡ slot.old) }
         ensures same { OnErr result (self.new ≡ self.old) };
-
-    /// Joins a newcomer to the request of an id at a side, which must be its candidate: `now`, the core's round,
-    /// becomes that request's release; its id, hardware queue and due round stay. It fails only when out of memory:
-    /// nothing is changed then, and the newcomer comes back.
-    final fn join(
-        &mut self,
-        hw: u8,
-        id: u64,
-        side: Side,
-        now: u64,
-        limits: &Limits,
-        newcomer: Request<Self::A>,
-    ) -> Result<(), (Request<Self::A>, AllocError)>
-        requires hw { hw < MAX_QUEUES }
-        requires stands { HasCandidate policy.serves hw limits.now newcomer (meaning self.old) id side }
-        ensures joined { OnOk result (Joins policy.serves hw now limits.now newcomer (meaning self.old) id side (meaning self.new)) }
-        ensures kept { OnOk result (Self.kept self.new ≡ Self.kept self.old) }
-        ensures err { IfErr result (λ e. e.0 ≡ newcomer) }
-        ensures same { OnErr result (self.new ≡ self.old) }
-    {
-        let mut slot = Some(newcomer);
-        match self.join_at(hw, id, side, now, limits, &mut slot) {
-            Ok(()) => Ok(()),
-            Err(why) => Err((slot.unwrap(), why)),
-        }
-    }
 
     /// Joins a newcomer to the newest request served for the hardware queue that it fits: `now`, the core's round,
     /// becomes that request's release; its id, hardware queue and due round stay. Answers the request's id and the side.
     ///
     /// Refused as `NoFit` exactly where it fits none of them, at the back or, where the scheduler allows it, at the
-    /// front; and as `Memory` where it fits one and memory ran out. A refusal changes nothing and hands the newcomer
-    /// back. `hw` must be below [`MAX_QUEUES`].
+    /// front; and as `Memory` where it fits one and memory ran out. A refusal changes nothing. `hw` must be below
+    /// [`MAX_QUEUES`].
     final fn try_join(
         &mut self,
         hw: u8,
         now: u64,
         limits: &Limits,
-        newcomer: Request<Self::A>,
-    ) -> Result<(u64, Side), (Request<Self::A>, JoinRefusal)>
+        newcomer: &Extent,
+    ) -> Result<(u64, Side), JoinRefusal>
         requires hw { hw < MAX_QUEUES }
-        ensures joined { IfOk result (λ r. Joins policy.serves hw now limits.now newcomer (meaning self.old) r.0 r.1 (meaning self.new)) }
+        ensures joined { IfOk result (λ r. Joins policy.serves hw now limits.now newcomer.now (meaning self.old) r.0 r.1 (meaning self.new)) }
         ensures kept { OnOk result (Self.kept self.new ≡ Self.kept self.old) }
-        ensures no_fit { IfErr result (λ e. (e.1 ≡ JoinRefusal.NoFit) ↔ HasNoCandidate policy.serves hw limits.now newcomer (meaning self.old)) }
-        ensures err { IfErr result (λ e. e.0 ≡ newcomer) }
+        ensures no_fit { IfErr result (λ why. (why ≡ JoinRefusal.NoFit) ↔ HasNoCandidate policy.serves hw limits.now newcomer.now (meaning self.old)) }
         ensures same { OnErr result (self.new ≡ self.old) }
     {
-        let Some((id, side)) = self.candidate(hw, limits, &newcomer) else {
-            return Err((newcomer, JoinRefusal::NoFit));
+        let Some((id, side)) = self.candidate(hw, limits, newcomer) else {
+            return Err(JoinRefusal::NoFit);
         };
-        match self.join(hw, id, side, now, limits, newcomer) {
+        match self.join(hw, id, side, now, newcomer) {
             Ok(()) => Ok((id, side)),
-            Err((newcomer, _)) => Err((newcomer, JoinRefusal::Memory)),
+            Err(_) => Err(JoinRefusal::Memory),
         }
     }
 
@@ -208,7 +139,7 @@ pub trait Scheduler: Drop {
     /// scheduler chooses. None only where a pick is open or requeued, of either direction, or no served request waits.
     /// Each request is served at least for the hardware queue that it entered at. `now` is the core's round, and fewer
     /// than [`MAX_OPEN`] picks may be open.
-    fn pick(&mut self, hw: u8, now: u64) -> Option<Queued<Self::A>>
+    fn pick(&mut self, hw: u8, now: u64) -> Option<Queued>
         requires hw { hw < MAX_QUEUES }
         requires few { (meaning self.old).open_picks.reads + (meaning self.old).open_picks.writes < MAX_OPEN }
         ensures chosen { policy.chooses (Self.kept self.old) (meaning self.old) hw now result (Self.kept self.new) }

@@ -6,8 +6,7 @@ use Rattle.blk_bio.specs.declared.request.Side.TheVariants.{Back, Front}
 use Rattle.blk_bio.specs.Bios.{Bio}
 use Rattle.blk_bio.specs.Limits.{Limits}
 use Rattle.blk_bio.specs.Requests.{IsRequest, IsWithin, dir_of, first_of, last_of, Fits}
-use Rattle.blk_bio.specs.declared.extent.Extent.{Extent}
-use Rattle.blk_bio.specs.Extents.{extent_of, extent_joined}
+use Rattle.blk_bio.specs.Extents.{Extent, extent_of, extent_joined}
 use Rattle.blk_bio.proofs.Tiles.{last-append, joins, range_of}
 use Rattle.blk_trace.specs.declared.known.Unissued.{Unissued}
 use Rattle.blk_trace.specs.Events.{join_up}
@@ -38,11 +37,6 @@ joins_front : (a n : List Bio) → 0 < length a → (first_of n ≡ last_of a �
 joins_front [] n h other = absurd (omega arith)
 joins_front (x ∷ a) n h other = let t : (first_of n == last_of (x ∷ a)) ≡ false = ne_eqb _ _ other in ap (λ b. cond b ((x ∷ a) ++ n) (n ++ (x ∷ a))) t
 
--- of more than one bio, within limits
-few_of : (limits : Limits) (bios : List Bio) (n : ℕ) → n ≡ length bios → 1 < n → IsWithin limits bios → n ≤ limits.max_segments
-few_of limits bios n h more (inl one) = absurd (omega (arith, one))
-few_of limits bios n h more (inr within) = omega (arith, within.1)
-
 -- the side at which a newcomer stands that fits
 stands_front : (limits : Limits) (a n : List Bio) → IsRequest a → IsRequest n → Fits limits a n Front → join_up a n ≡ n ++ a
 stands_front limits a n ra rn f = joins_front a n ra.not_empty (λ e. absurd (omega (arith, e, f.abuts, (range_of a ra).0, (range_of n rn).0)))
@@ -61,11 +55,6 @@ together_is limits a n Front ra rn f =
     let fs = first_of_first n a rn.not_empty in
     let count : length a + length n ≡ length (n ++ a) = omega (arith, length-append n a) in
     same_extent _ _ _ _ _ _ _ _ (sym f.same_direction ∙ sym fs.1) (sym fs.0) (sym (last_of_second n a ra.not_empty)) count ∙ ap extent_of (sym (stands_front limits a n ra rn f))
-
--- both together have few bios
-pub few_together : (limits : Limits) (a n : List Bio) (side : Side) → IsRequest a → IsRequest n → Fits limits a n side → length a + length n ≤ limits.max_segments
-few_together limits a n Back ra rn f = few_of limits (a ++ n) (length a + length n) (sym (length-append a n)) (omega (arith, ra.not_empty, rn.not_empty)) f.within
-few_together limits a n Front ra rn f = few_of limits (n ++ a) (length a + length n) (omega (arith, length-append n a)) (omega (arith, ra.not_empty, rn.not_empty)) f.within
 
 -- what is kept once another has joined
 pub joined_is : (limits : Limits) (old : Unissued) (w : Entered) (n : List Bio) (round : ℕ) (side : Side) (extent newcomer : Extent) → old ≡ summary w → IsRequest w.bios → IsRequest n → Fits limits w.bios n side

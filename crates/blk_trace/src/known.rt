@@ -63,8 +63,6 @@ impl Unissued {
         ensures some { IfSome result (JoinsKept limits.now round self.now request.now) }
         ensures none { IfNone result (FitsNoKept limits.now self.now request.now) }
     {
-        // brings the prover the limits' invariant
-        let _ = limits.max_segments();
         let newcomer = request.extent();
         let Some(side) = self.extent.fits(&newcomer, limits) else {
             return None;

@@ -1,10 +1,10 @@
 //! A list of events that is legal, with a setup.
 
-ghost use Rattle.std.specs.Prelude.{◌≡◌, ◌≢◌, ◌↔◌, ◌++◌, ◌+◌, ◌≤◌, ◌<◌, ◌∷◌, [], IsTrue, IfOk, IfErr, OnOk, OnErr, length};
+ghost use Rattle.std.specs.Prelude.{ℕ, ◌≡◌, ◌≢◌, ◌↔◌, ◌++◌, ◌+◌, ◌≤◌, ◌<◌, ◌∷◌, [], IsTrue, IfOk, IfErr, OnOk, OnErr, length};
 ghost use Rattle.std.specs.Option.{option_copied};
 ghost use Rattle.blk_trace.specs.Legal.{IsLegalTrace};
 ghost use Rattle.blk_trace.specs.Rules.{BreaksNoRule};
-ghost use Rattle.blk_trace.specs.Events.{round_of, open_count};
+ghost use Rattle.blk_trace.specs.Events.{round_of, open_count, IsUsed};
 ghost use Rattle.blk_trace.specs.Depths.{depth_now};
 ghost use Rattle.blk_trace.specs.Traces.{wanted, IsPreparedFor, IsPushAnswer, IsLegallyExtended, LacksOnlyMemory, HasBio, prepared_for};
 ghost use Rattle.blk_trace.specs.Inside.Kept.{IsReadyFor};
@@ -265,6 +265,14 @@ impl<A: Allocator + Clone> Trace<A> {
         ensures legal { IsLegalTrace self.now.setup self.now.events }
     {
         self.depth
+    }
+
+    /// A tag, at most the setup's depth, from which on no tag was issued in the current round.
+    pub fn unused_from(&self) -> u64
+        ensures few { result ≤ self.now.setup.depth }
+        ensures unused { (tag : ℕ) → result ≤ tag → tag < self.now.setup.depth → IsUsed self.now.events tag → ⊥ }
+    {
+        self.unused_from as u64
     }
 
     /// How many Issues have no Done and no Back yet.

@@ -2,8 +2,7 @@
 use Rattle.std.specs.Prelude.{ℕ, ◌≡◌, ◌==◌, ◌&&◌, Bool, false, Option, None, Some}
 use Rattle.std.specs.FinMap as map
 use Rattle.blk_bio.specs.declared.bio.Dir.{Dir}
-use Rattle.blk_bio.specs.Requests.{first_of}
-use Rattle.blk_sched.specs.Meaning.{Waiting, Pending, OpenPicks, Meaning}
+use Rattle.blk_sched.specs.Meaning.{Waiting}
 use Rattle.blk_deadline.specs.declared.BatchState.{BatchState}
 use Rattle.blk_deadline.specs.declared.Deadline.{Deadline}
 use Rattle.blk_deadline.specs.Choice.{has_dir, after_last, from_sector, next_of, in_batch, taken}
@@ -15,7 +14,7 @@ IsBatchChoice found batch choice r = (w : Waiting) × (found r.0 ≡ Some w) × 
 -- a request is of a direction and begins at a sector
 abbrev pub lies_at : Dir → ℕ → Option Waiting → Bool
 lies_at dir sector None = false
-lies_at dir sector (Some w) = has_dir dir w && (first_of w.bios == sector)
+lies_at dir sector (Some w) = has_dir dir w && (w.extent.first == sector)
 
 module _ {A : Type 0} where
   -- the next request of a direction after the last pick, the one from its own position on, the one by the rule, and the one of the batch

@@ -1,9 +1,7 @@
 -- Requests listed by their due rounds and ids.
-use Rattle.std.specs.Prelude.{ℕ, ◌≡◌, ◌≤◌, ◌==◌, Bool, true, false, Option, Some, None}
+use Rattle.std.specs.Prelude.{ℕ, ◌≡◌, ◌≤◌, ◌==◌, Bool, false, Option, Some, None}
 use Rattle.blk_sched.specs.Meaning.{Waiting}
-use Rattle.std.specs.Ordering.{is_gt}
 use Rattle.blk_index.specs.Index.{IsBefore}
-use Rattle.blk_index.specs.Inside.Pairs.{pair_cmp}
 
 -- whether a request, if there is one, is due in the round
 abbrev pub is_due : ℕ → Option Waiting → Bool
@@ -24,13 +22,3 @@ pub record IsFirstFrom (start : ℕ) (found : ℕ → Option Waiting) (id : ℕ)
 -- none is due from `start` on
 abbrev pub NoneFrom : ℕ → (ℕ → Option Waiting) → Type 0
 NoneFrom start found = (k : ℕ) (v : Waiting) → found k ≡ Some v → start ≤ v.due → ⊥
-
--- an id of the first pair from a due round on, and none from there on
-pub record IsFirstPair (has : ℕ × ℕ → Bool) (start id : ℕ) : Type 0 where
-  pub due : ℕ
-  pub there : has (due, id) ≡ true
-  pub high : is_gt (pair_cmp (start, 0) (due, id)) ≡ false
-  pub least : (q : ℕ × ℕ) → is_gt (pair_cmp (start, 0) q) ≡ false → has q ≡ true → is_gt (pair_cmp (due, id) q) ≡ false
-
-abbrev pub NoPairFrom : (ℕ × ℕ → Bool) → ℕ → Type 0
-NoPairFrom has start = (q : ℕ × ℕ) → is_gt (pair_cmp (start, 0) q) ≡ false → has q ≡ false

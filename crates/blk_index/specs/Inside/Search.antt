@@ -1,13 +1,11 @@
 -- The search for a join at one side, and ids that are compared.
-use Rattle.std.specs.Prelude.{ℕ, ◌≡◌, ◌<◌, ◌≤◌, ◌^◌, Bool, List, length, Option, Some, None, if◌then◌else◌, nat_lt}
+use Rattle.std.specs.Prelude.{ℕ, ◌≡◌, ◌<◌, ◌≤◌, ◌^◌, ◌-◌, Bool, Option, Some, None, if◌then◌else◌, nat_lt}
 use Rattle.blk_bio.specs.declared.request.Side.{Side}
 use Rattle.blk_bio.specs.declared.request.Side.TheVariants.{Back, Front}
-use Rattle.blk_bio.specs.declared.extent.Extent.{Extent}
-use Rattle.blk_bio.specs.Bios.{Bio}
+use Rattle.blk_bio.specs.Extents.{Extent, FitAt}
 use Rattle.blk_bio.specs.Limits.{Limits}
-use Rattle.blk_bio.specs.Requests.{Fits, sectors_of}
 use Rattle.blk_sched.specs.Meaning.{Waiting}
-use Rattle.blk_index.specs.Inside.Spots.{DirSector, first_at, end_at, IsNewer}
+use Rattle.blk_index.specs.Inside.Spots.{DirSector, IsNewer}
 use Rattle.blk_index.specs.Inside.Entries.{Key}
 use Rattle.blk_index.specs.Inside.Shapes.{ShapeListed}
 
@@ -16,37 +14,28 @@ abbrev pub IsNamed : (ℕ → Option Waiting) → Type 0
 IsNamed found = (id : ℕ) (w : Waiting) → found id ≡ Some w → w.id ≡ id
 
 -- the newest request that fits at one side
-pub record IsNewestBy (limits : Limits) (found : ℕ → Option Waiting) (newcomer : List Bio) (side : Side) (id : ℕ) : Type 0 where
+pub record IsNewestBy (limits : Limits) (found : ℕ → Option Waiting) (newcomer : Extent) (side : Side) (id : ℕ) : Type 0 where
   pub waiting : Waiting
   pub is_found : found id ≡ Some waiting
-  pub fits : Fits limits waiting.bios newcomer side
-  pub only : (other : Side) → Fits limits waiting.bios newcomer other → other ≡ side
-  pub newest : (other : ℕ) (w : Waiting) → id < other → found other ≡ Some w → Fits limits w.bios newcomer side → ⊥
+  pub fits : FitAt limits waiting.extent newcomer side
+  pub only : (other : Side) → FitAt limits waiting.extent newcomer other → other ≡ side
+  pub newest : (other : ℕ) (w : Waiting) → id < other → found other ≡ Some w → FitAt limits w.extent newcomer side → ⊥
 
 -- none fits at one side
-abbrev pub FitsNoneBy : Limits → (ℕ → Option Waiting) → List Bio → Side → Type 0
-FitsNoneBy limits found newcomer side = (id : ℕ) (w : Waiting) → found id ≡ Some w → Fits limits w.bios newcomer side → ⊥
-
--- where a request lies at a side, and where a newcomer that joins it there touches it
-abbrev pub at_of : Side → Extent → DirSector
-at_of Back e = end_at e
-at_of Front e = first_at e
-
-abbrev pub touch_of : Side → Extent → DirSector
-touch_of Back e = first_at e
-touch_of Front e = end_at e
+abbrev pub FitsNoneBy : Limits → (ℕ → Option Waiting) → Extent → Side → Type 0
+FitsNoneBy limits found newcomer side = (id : ℕ) (w : Waiting) → found id ≡ Some w → FitAt limits w.extent newcomer side → ⊥
 
 -- one request fits at a side, and at no other
-pub record FitsBy (limits : Limits) (found : Option Waiting) (newcomer : List Bio) (side : Side) : Type 0 where
+pub record FitsBy (limits : Limits) (found : Option Waiting) (newcomer : Extent) (side : Side) : Type 0 where
   pub waiting : Waiting
   pub is_found : found ≡ Some waiting
-  pub fits : Fits limits waiting.bios newcomer side
-  pub only : (other : Side) → Fits limits waiting.bios newcomer other → other ≡ side
+  pub fits : FitAt limits waiting.extent newcomer side
+  pub only : (other : Side) → FitAt limits waiting.extent newcomer other → other ≡ side
 
 -- after the one that was found, if one was, none of some requests fits
-abbrev pub NoneAfter : Limits → (ℕ → Option Waiting) → List Bio → Side → Option ℕ → (ℕ → Waiting → Type 0) → Type 0
+abbrev pub NoneAfter : Limits → (ℕ → Option Waiting) → Extent → Side → Option ℕ → (ℕ → Waiting → Type 0) → Type 0
 NoneAfter limits found newcomer side result OneOf =
-    (k : ℕ) (w : Waiting) → IsNewer result k → found k ≡ Some w → OneOf k w → Fits limits w.bios newcomer side → ⊥
+    (k : ℕ) (w : Waiting) → IsNewer result k → found k ≡ Some w → OneOf k w → FitAt limits w.extent newcomer side → ⊥
 
 -- the request of an id stands by itself
 abbrev pub StandsAlone : Option ℕ → ℕ → Waiting → Type 0
@@ -54,12 +43,7 @@ StandsAlone one k w = one ≡ Some k
 
 -- a request is listed among others of a place
 abbrev pub StandsAmong : (Key → Bool) → DirSector → ℕ → Waiting → Type 0
-StandsAmong has p k w = ShapeListed has p k (sectors_of w.bios) (length w.bios)
-
--- the other side
-abbrev pub opposite_of : Side → Side
-opposite_of Back = Front
-opposite_of Front = Back
+StandsAmong has p k w = ShapeListed has p k (w.extent.end - w.extent.first) w.extent.bios
 
 -- ids that were passed, and how many there may be below
 abbrev pub IsPassed : Option ℕ → ℕ → Type 0

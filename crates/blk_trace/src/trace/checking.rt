@@ -18,9 +18,9 @@ use blk_bio::{Bio, BioId, Request, TraceRule};
 use std::alloc::Allocator;
 
 impl<A: Allocator + Clone> Trace<A> {
-    /// The first rule that the event would break.
+    /// The first rule that the event would break, if it would break any.
     #[inline(always)]
-    pub(crate) fn first_broken(&self, event: &Event<Request<A>>) -> Option<TraceRule>
+    pub fn first_broken(&self, event: &Event<Request<A>>) -> Option<TraceRule>
         ensures some { IfSome result (IsFirstBroken self.now.setup self.now.events event.now) }
         ensures none { IfNone result (BreaksNoRule self.now.setup self.now.events event.now) }
         ensures legal { IsLegalTrace self.now.setup self.now.events }

@@ -1,7 +1,5 @@
 //! Calls of a core as plain values, each with the answer that it has to give: these tests are lists of them. A call that is refused
-//! because memory ran out is made once more. Reads are copied by the release, writes before it.
-
-ghost use Rattle.std.specs.Prelude.{◌≡◌, IfSome};
+//! because memory ran out is made once more.
 
 use blk_bio::{Bio, BioId, Dir, Request};
 use blk_core::{BackFault, Core, CoreFault, DepthFault, IssueFault, NotIssued, Placed, TickFault};
@@ -118,41 +116,6 @@ pub fn release<S: Scheduler>(
     }
 }
 
-/// A copy of a request. There is none where memory was refused twice.
-fn copied<A: Allocator + Clone>(request: &Request<A>) -> Option<Request<A>>
-    ensures { IfSome result (λ copy. copy ≡ request.now) }
-{
-    match request.copy() {
-        Ok(copy) => Some(copy),
-        Err(_) => match request.copy() {
-            Ok(copy) => Some(copy),
-            Err(_) => None,
-        },
-    }
-}
-
-/// Releases a request that is within the limits, with a copy of it that is made before. There is no answer where it isn't, or where
-/// memory for the copy was refused twice.
-fn release_copied<S: Scheduler>(
-    core: &mut Core<S>,
-    request: Request<S::A>,
-    hw: u8,
-) -> Option<Result<Placed, CoreFault>> {
-    let limits = core.trace().setup().limits();
-    if !request.within(&limits) {
-        return None;
-    }
-    let copy = copied(&request)?;
-    match core.release_copied(request, copy, hw) {
-        Ok(placed) => Some(Ok(placed)),
-        Err((request, copy, CoreFault::Memory)) => match core.release_copied(request, copy, hw) {
-            Ok(placed) => Some(Ok(placed)),
-            Err((_, _, why)) => Some(Err(why)),
-        },
-        Err((_, _, why)) => Some(Err(why)),
-    }
-}
-
 /// Releases a request of one bio.
 fn enter<S: Scheduler>(
     alloc: &S::A,
@@ -169,10 +132,7 @@ fn enter<S: Scheduler>(
     };
     let bio = Bio::new(id, dir, first, sectors).ok()?;
     let request = alone(alloc, bio)?;
-    match dir {
-        Dir::Read => release(core, request, hw),
-        Dir::Write => release_copied(core, request, hw),
-    }
+    release(core, request, hw)
 }
 
 /// Releases requests of ids from this one on.
@@ -221,10 +181,10 @@ fn send_all<S: Scheduler>(core: &mut Core<S>, hw: u8, tag: u16, ids: &[u64]) -> 
     true
 }
 
-/// Completes what is in flight under the tags below this one, and drops the requests that are handed out.
+/// Completes what is in flight under the tags below this one.
 fn are_done<S: Scheduler>(core: &mut Core<S>, tags: u16) -> bool {
     for tag in 0..tags {
-        if core.complete(tag).is_err() {
+        if core.done(tag).is_err() {
             return false;
         }
     }

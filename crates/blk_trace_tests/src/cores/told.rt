@@ -2,7 +2,7 @@
 
 use crate::cores::given::{command, follow, setup};
 use crate::cores::listed::CoreCall;
-use blk_bio::{Dir, Limits, Request, Side};
+use blk_bio::{Dir, Extent, Limits, Side};
 use blk_core::{Core, Placed};
 use blk_lifo::Lifo;
 use blk_sched::{Queued, Scheduler};
@@ -50,27 +50,26 @@ impl<'a, S: Scheduler> Scheduler for Noting<'a, S> {
 
     ghost kept = { λ n. S.kept n.scheduler };
 
-    fn insert_from(&mut self, slot: &mut Option<Queued<S::A>>) -> Result<(), AllocError> {
-        self.scheduler.insert_from(slot)
+    fn insert(&mut self, queued: Queued) -> Result<(), AllocError> {
+        self.scheduler.insert(queued)
     }
 
-    fn candidate(&self, hw: u8, limits: &Limits, newcomer: &Request<S::A>) -> Option<(u64, Side)> {
+    fn candidate(&self, hw: u8, limits: &Limits, newcomer: &Extent) -> Option<(u64, Side)> {
         self.scheduler.candidate(hw, limits, newcomer)
     }
 
-    fn join_at(
+    fn join(
         &mut self,
         hw: u8,
         id: u64,
         side: Side,
         now: u64,
-        limits: &Limits,
-        slot: &mut Option<Request<S::A>>,
+        newcomer: &Extent,
     ) -> Result<(), AllocError> {
-        self.scheduler.join_at(hw, id, side, now, limits, slot)
+        self.scheduler.join(hw, id, side, now, newcomer)
     }
 
-    fn pick(&mut self, hw: u8, now: u64) -> Option<Queued<S::A>> {
+    fn pick(&mut self, hw: u8, now: u64) -> Option<Queued> {
         self.told.pick.set(Some((hw, now)));
         self.scheduler.pick(hw, now)
     }

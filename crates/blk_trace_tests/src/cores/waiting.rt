@@ -2,21 +2,20 @@
 
 ghost use Rattle.std.specs.Prelude.{◌≡◌};
 
-use crate::cores::given::{alone, bio, limits};
-use blk_bio::{Dir, Request, Side};
+use crate::cores::given::{bio, limits};
+use blk_bio::{Dir, Extent, Side};
 use blk_index::Index;
 use blk_none::NoneSched;
 use blk_sched::{Queued, Scheduler, side_of_fit};
-use std::alloc::Global;
 use std::process::Abort;
 
-/// A request of four sectors, whose bio has its first sector as its serial number.
-fn four(rt: &impl Abort, alloc: Global, dir: Dir, first: u64) -> Request {
-    alone(rt, alloc, bio(rt, first, dir, first, 4))
+/// The extent of a request of four sectors.
+fn four(rt: &impl Abort, dir: Dir, first: u64) -> Extent {
+    bio(rt, first, dir, first, 4).extent()
 }
 
 /// A request of an id at hardware queue 0, of four sectors, released in round 0 and due in round 6.
-fn queued(rt: &impl Abort, alloc: Global, id: u64, dir: Dir, first: u64) -> Queued
+fn queued(rt: &impl Abort, id: u64, dir: Dir, first: u64) -> Queued
     ensures id { result.id ≡ id }
     ensures hw { result.hw ≡ 0 }
 {
@@ -25,15 +24,14 @@ fn queued(rt: &impl Abort, alloc: Global, id: u64, dir: Dir, first: u64) -> Queu
         hw: 0,
         release: 0,
         due: 6,
-        request: four(rt, alloc, dir, first),
+        extent: four(rt, dir, first),
     }
 }
 
 #[test]
 fn front_only_where_it_is_allowed(rt: HostRuntime) {
-    let alloc = rt.alloc();
     let (wide, narrow) = (limits(&rt, 8), limits(&rt, 7));
-    let own = four(&rt, alloc, Dir::Read, 8);
+    let own = four(&rt, Dir::Read, 8);
     for (dir, first, side, behind) in [
         (Dir::Read, 12, Some(Side::Back), Some(Side::Back)),
         (Dir::Read, 4, Some(Side::Front), None),
@@ -41,7 +39,7 @@ fn front_only_where_it_is_allowed(rt: HostRuntime) {
         (Dir::Read, 8, None, None),
         (Dir::Write, 12, None, None),
     ] {
-        let newcomer = four(&rt, alloc, dir, first);
+        let newcomer = four(&rt, dir, first);
         assert_eq!(rt; side_of_fit(&own, &newcomer, &wide, true), side);
         assert_eq!(rt; side_of_fit(&own, &newcomer, &wide, false), behind);
         assert_eq!(rt; side_of_fit(&own, &newcomer, &narrow, true), None);
@@ -49,20 +47,19 @@ fn front_only_where_it_is_allowed(rt: HostRuntime) {
 }
 
 /// Puts a request of an id that isn't there into an index.
-fn put(rt: &impl Abort, alloc: Global, index: &mut Index, id: u64, dir: Dir) {
+fn put(rt: &impl Abort, index: &mut Index, id: u64, dir: Dir) {
     assert!(rt; index.get(id).is_none());
-    let newcomer = queued(rt, alloc, id, dir, id.saturating_mul(10));
+    let newcomer = queued(rt, id, dir, id.saturating_mul(10));
     assert!(rt; index.insert(newcomer).is_ok());
 }
 
 /// Whatever the order in which they came, and whatever their directions, the request of the least id is the first.
 #[test]
 fn least_id_is_first(rt: HostRuntime) {
-    let alloc = rt.alloc();
-    let mut index = Index::new(alloc).expect(&rt, "memory");
-    put(&rt, alloc, &mut index, 7, Dir::Read);
-    put(&rt, alloc, &mut index, 3, Dir::Write);
-    put(&rt, alloc, &mut index, 5, Dir::Read);
+    let mut index = Index::new(rt.alloc()).expect(&rt, "memory");
+    put(&rt, &mut index, 7, Dir::Read);
+    put(&rt, &mut index, 3, Dir::Write);
+    put(&rt, &mut index, 5, Dir::Read);
     assert_eq!(rt; index.len(), 3);
     for id in [3, 5, 7] {
         assert_eq!(rt; index.first(), Some(id));
@@ -75,15 +72,10 @@ fn least_id_is_first(rt: HostRuntime) {
 /// One read waits, is picked in round 1, requeued, issued again and done.
 #[test]
 fn picks_are_counted(rt: HostRuntime) {
-    let alloc = rt.alloc();
-    let Ok(mut scheduler) = NoneSched::new(alloc) else {
+    let Ok(mut scheduler) = NoneSched::new(rt.alloc()) else {
         panic!(rt; "out of memory");
     };
-    assert!(rt;
-        scheduler
-            .insert(queued(&rt, alloc, 0, Dir::Read, 8))
-            .is_ok()
-    );
+    assert!(rt; scheduler.insert(queued(&rt, 0, Dir::Read, 8)).is_ok());
     scheduler.on_tick(1);
     assert!(rt; scheduler.pending() == 1 && scheduler.picked(Dir::Read) == 0);
     assert!(rt; scheduler.pick(0, 1).is_some());

@@ -1,6 +1,6 @@
 //! Maps from software queues to hardware queues, and requeue lists.
 
-use crate::queues::given::{Heap, bio, request};
+use crate::queues::given::{Heap, bio};
 use blk_bio::Dir;
 use blk_queues::{Map, MapFault, RequeueList, RequeueLists};
 use blk_sched::Queued;
@@ -45,13 +45,13 @@ fn constructors_refuse(rt: HostRuntime) {
 }
 
 /// A read with an id, released in round 1 and due in round 5.
-fn queued<'a>(rt: &impl Abort, heap: Heap<'a>, id: u64) -> Queued<Heap<'a>> {
+fn queued(rt: &impl Abort, id: u64) -> Queued {
     Queued {
         id,
         hw: 0,
         release: 1,
         due: 5,
-        request: request(rt, heap, bio(rt, Dir::Read, 0, 1)),
+        extent: bio(rt, Dir::Read, 0, 1).extent(),
     }
 }
 
@@ -61,12 +61,11 @@ fn holds(rt: &impl Abort, heap: Heap<'_>) {
     assert_eq!(rt; requeued.len(), 0);
     for id in 0..20u64 {
         let id = 19 - id;
-        let queued = queued(rt, heap, id);
+        let queued = queued(rt, id);
         let armed = heap.is_armed();
-        if let Err((back, _)) = requeued.push(queued) {
+        if requeued.push(queued).is_err() {
             assert!(rt; armed && !heap.is_armed());
-            assert_eq!(rt; back.id, id);
-            assert!(rt; requeued.push(back).is_ok());
+            assert!(rt; requeued.push(queued).is_ok());
         }
     }
     assert_eq!(rt; requeued.len(), 20);
@@ -85,9 +84,9 @@ fn holds(rt: &impl Abort, heap: Heap<'_>) {
 fn requeued_by_hardware_queue(rt: HostRuntime) {
     let heap = Refusing::new(rt.alloc());
     let mut requeued = RequeueLists::new(&heap, 3).expect(&rt, "memory");
-    assert!(rt; requeued.push(2, queued(&rt, &heap, 7)).is_ok());
-    assert!(rt; requeued.push(0, queued(&rt, &heap, 4)).is_ok());
-    assert!(rt; requeued.push(2, queued(&rt, &heap, 5)).is_ok());
+    assert!(rt; requeued.push(2, queued(&rt, 7)).is_ok());
+    assert!(rt; requeued.push(0, queued(&rt, 4)).is_ok());
+    assert!(rt; requeued.push(2, queued(&rt, 5)).is_ok());
     assert!(rt; requeued.take_first(1).is_none());
     assert_eq!(rt;
         requeued.take_first(2).expect(&rt, "the first of two").id,

@@ -1,6 +1,5 @@
 use Rattle.std.proofs.Common.{true, ap, sym, ◌∙◌}
-use Rattle.blk_bio.specs.Requests.{dir_of}
-use Rattle.blk_sched.specs.Meaning.{Waiting, opened}
+use Rattle.blk_sched.specs.Meaning.{opened}
 use Rattle.blk_index.proofs.ServesAll.{picks}
 use Rattle.blk_earliest.proofs.EarliestScheduler.pick.Goals as goal
 
@@ -8,4 +7,4 @@ pub returns-clause-picked : goal.returns-clause-picked
 returns-clause-picked g c =
     picks c.args.self.now.waiting c.remove.new.self true c.args.hw c.in-Some.id c.args.self.now.open_picks c.open.new.self c.in-Some-remove.queued
     c.remove.ensures.named (sym c.remove.ensures.value ∙ c.in-Some-remove.is) c.remove.ensures.removed
-    (c.open.ensures ∙ ap (λ d. opened d c.args.self.now.open_picks) (c.dir.ensures ∙ ap (λ (x : Waiting). dir_of x.bios) c.queued.view_is))
+    (c.open.ensures ∙ ap (λ d. opened d c.args.self.now.open_picks) c.dir.ensures)

@@ -1,6 +1,5 @@
 use Rattle.std.proofs.Common.{ap, refl, ◌∙◌}
-use Rattle.blk_bio.specs.Requests.{dir_of}
-use Rattle.blk_sched.specs.Meaning.{Waiting, opened}
+use Rattle.blk_sched.specs.Meaning.{opened}
 use Rattle.blk_none.proofs.Chosen.{none_served, none_chosen, one_chosen, picked}
 use Rattle.blk_none.proofs.NoneSchedScheduler.pick.Goals as goal
 
@@ -26,4 +25,4 @@ pub returns-clause-picked : goal.returns-clause-picked
 returns-clause-picked g c =
     picked c.self.inside.queues c.self.inside.open_picks c.args.hw c.args.self.now c.self.view_is c.remove.new.self c.open.new.self c.in-Some.id c.in-Some-remove.queued
     c.in-Some-remove.ensures.value c.in-Some-remove.ensures.named c.in-Some-remove.ensures.removed
-    (c.open.ensures ∙ ap (λ d. opened d c.self.inside.open_picks) (c.dir.ensures ∙ ap (λ (x : Waiting). dir_of x.bios) c.queued.view_is))
+    (c.open.ensures ∙ ap (λ d. opened d c.self.inside.open_picks) c.dir.ensures)

@@ -1,7 +1,6 @@
 use Rattle.std.proofs.Common.{rules, refl, ℕ, ◌≡◌, ◌∙◌, sym, ap, subst, ◌<◌, ◌≤◌, ◌++◌, ◌∷◌, [], length, map, set, get_or, slice_set}
 use Rattle.std.proofs.lemmas.List.{map-set}
 use Rattle.blk_bio.specs.declared.bio.Dir.{Dir}
-use Rattle.blk_bio.specs.Requests.{dir_of}
 use Rattle.blk_sched.specs.Meaning.{Waiting, Meaning, RequeuesPick, open_of}
 use Rattle.blk_queues.specs.Requeued.{requeued_in}
 use Rattle.blk_core.specs.declared.tags.TagState.{TagState}
@@ -27,12 +26,12 @@ pub add-requires-clause-unbroken : goal.add-requires-clause-unbroken
 add-requires-clause-unbroken g c =
     let lt : c.args.tag < length c.self.inside.tags.items = search rules in
     end_unbroken c.self.inside.trace.setup c.self.inside.trace.events (Back c.args.tag) _ c.self.inside.tags.items c.self.inside.requeued c.self.inside.released c.args.tag c.in-InFlight.hw c.in-InFlight.queued c.self.invariant lt
-    (read_at c.self.inside.tags.items c.args.tag c.in-InFlight.hw c.index.result.now c.in-InFlight.queued lt c.index.ensures c.in-InFlight.is) (λ seat. (dir_of c.in-InFlight.queued.bios, seat)) refl
+    (read_at c.self.inside.tags.items c.args.tag c.in-InFlight.hw c.index.result.now c.in-InFlight.queued lt c.index.ensures c.in-InFlight.is) (λ seat. (c.in-InFlight.queued.extent.dir, seat)) refl
 
 pub on_requeue-requires-clause-is_open : goal.on_requeue-requires-clause-is_open
 on_requeue-requires-clause-is_open g c =
     let lt : c.args.tag < length c.self.inside.tags.items = search rules in
-    let dir_is : c.dir-dir.result ≡ dir_of c.in-InFlight.queued.bios = c.dir-dir.ensures ∙ ap (λ (x : Waiting). dir_of x.bios) c.queued.view_is in
+    let dir_is : c.dir-dir.result ≡ c.in-InFlight.queued.extent.dir = c.dir-dir.ensures in
     subst (λ d. 0 < open_of d (g.S.Scheduler.meaning c.self.inside.scheduler).open_picks) (sym dir_is)
     (open_flight c.self.inside.trace.setup c.self.inside.trace.events _ c.self.inside.tags.items c.self.inside.requeued c.self.inside.released c.args.tag c.in-InFlight.hw c.in-InFlight.queued c.self.invariant lt
     (read_at c.self.inside.tags.items c.args.tag c.in-InFlight.hw c.index.result.now c.in-InFlight.queued lt c.index.ensures c.in-InFlight.is))
@@ -43,16 +42,16 @@ on_requeue-requires-clause-few g c =
     few_requeued c.self.inside.trace.setup c.self.inside.trace.events _ c.self.inside.tags.items c.self.inside.requeued c.self.inside.released c.args.tag c.in-InFlight.hw c.in-InFlight.queued c.self.invariant
     (read_at c.self.inside.tags.items c.args.tag c.in-InFlight.hw c.index.result.now c.in-InFlight.queued lt c.index.ensures c.in-InFlight.is)
 
-queue_below : {A : Type 0} (count hw : ℕ) (s : TagState A) (w : Waiting) → s ≡ InFlight hw w → queue_of s < count → hw < count
-queue_below {A} count hw s w is h = subst (λ (x : TagState A). queue_of x < count) is h
+queue_below : (count hw : ℕ) (s : TagState) (w : Waiting) → s ≡ InFlight hw w → queue_of s < count → hw < count
+queue_below count hw s w is h = subst (λ (x : TagState). queue_of x < count) is h
 
 pub invariant_of-self-2 : goal.invariant_of-self-2
 invariant_of-self-2 g c =
     let w = c.in-InFlight.queued in
     let lt : c.args.tag < length c.self.inside.tags.items = search rules in
     let at : get_or c.self.inside.tags.items c.args.tag Free ≡ InFlight c.in-InFlight.hw w = read_at c.self.inside.tags.items c.args.tag c.in-InFlight.hw c.index.result.now w lt c.index.ensures c.in-InFlight.is in
-    let dir_is : c.dir-dir.result ≡ dir_of w.bios = c.dir-dir.ensures ∙ ap (λ (x : Waiting). dir_of x.bios) c.queued.view_is in
-    let requeue_lists = of_flying (λ hw w. (c.requeue.new.tag ≡ Spent (dir_of w.bios)) × (c.requeue.new.requeue_lists ≡ slice_set c.self.inside.requeued hw (requeued_in c.self.inside.requeued hw ++ w ∷ []))) c.self.inside.tags.items c.args.tag c.in-InFlight.hw c.index_mut.result.now w lt c.index_mut.ensures.value at c.in-Ok.ensures.ok in
+    let dir_is : c.dir-dir.result ≡ w.extent.dir = c.dir-dir.ensures in
+    let requeue_lists = of_flying (λ hw w. (c.requeue.new.tag ≡ Spent w.extent.dir) × (c.requeue.new.requeue_lists ≡ slice_set c.self.inside.requeued hw (requeued_in c.self.inside.requeued hw ++ w ∷ []))) c.self.inside.tags.items c.args.tag c.in-InFlight.hw c.index_mut.result.now w lt c.index_mut.ensures.value at c.in-Ok.ensures.ok in
     subst (λ s. IsTied c.add.new.self.setup c.add.new.self.events (g.S.Scheduler.meaning c.on_requeue.new.self) (set c.self.inside.tags.items c.args.tag s) c.requeue.new.requeue_lists c.self.inside.released) (sym requeue_lists.0)
     (tied_back c.self.inside.trace.setup c.add.new.self.setup c.self.inside.trace.events c.add.new.self.events (g.S.Scheduler.meaning c.self.inside.scheduler) (g.S.Scheduler.meaning c.on_requeue.new.self) c.self.inside.tags.items c.self.inside.requeued c.requeue.new.requeue_lists c.self.inside.released c.args.tag c.in-InFlight.hw w c.dir-dir.result
     (pushed_at_once c.self.inside.trace c.add.new.self (Back c.args.tag) _ c.add.ensures.added c.add.ensures.legal) c.self.invariant lt at dir_is c.on_requeue.ensures.back requeue_lists.1
@@ -63,16 +62,16 @@ returns-clause-back g c =
     let w = c.in-InFlight.queued in
     let lt : c.args.tag < length c.self.inside.tags.items = search rules in
     let at : get_or c.self.inside.tags.items c.args.tag Free ≡ InFlight c.in-InFlight.hw w = read_at c.self.inside.tags.items c.args.tag c.in-InFlight.hw c.index.result.now w lt c.index.ensures c.in-InFlight.is in
-    let dir_is : c.dir-dir.result ≡ dir_of w.bios = c.dir-dir.ensures ∙ ap (λ (x : Waiting). dir_of x.bios) c.queued.view_is in
-    let requeue_lists = of_flying (λ hw w. (c.requeue.new.tag ≡ Spent (dir_of w.bios)) × (c.requeue.new.requeue_lists ≡ slice_set c.self.inside.requeued hw (requeued_in c.self.inside.requeued hw ++ w ∷ []))) c.self.inside.tags.items c.args.tag c.in-InFlight.hw c.index_mut.result.now w lt c.index_mut.ensures.value at c.in-Ok.ensures.ok in
+    let dir_is : c.dir-dir.result ≡ w.extent.dir = c.dir-dir.ensures in
+    let requeue_lists = of_flying (λ hw w. (c.requeue.new.tag ≡ Spent w.extent.dir) × (c.requeue.new.requeue_lists ≡ slice_set c.self.inside.requeued hw (requeued_in c.self.inside.requeued hw ++ w ∷ []))) c.self.inside.tags.items c.args.tag c.in-InFlight.hw c.index_mut.result.now w lt c.index_mut.ensures.value at c.in-Ok.ensures.ok in
     let p = pushed_at_once c.self.inside.trace c.add.new.self (Back c.args.tag) _ c.add.ensures.added c.add.ensures.legal in
     rw (← c.self.view_is) (
       record { hw = c.in-InFlight.hw; request = w },
       flight_at c.self.inside.tags.items c.args.tag c.in-InFlight.hw w lt at,
       c.self.invariant.flown c.args.tag c.in-InFlight.hw w at,
-      ap (λ (x : Waiting). x.id) c.queued.view_is,
+      refl,
       (p.same, p.added),
-      back_by (g.S.Scheduler.meaning c.self.inside.scheduler) (g.S.Scheduler.meaning c.on_requeue.new.self) c.dir-dir.result (dir_of w.bios) dir_is c.on_requeue.ensures.back,
+      back_by (g.S.Scheduler.meaning c.self.inside.scheduler) (g.S.Scheduler.meaning c.on_requeue.new.self) c.dir-dir.result w.extent.dir dir_is c.on_requeue.ensures.back,
       c.on_requeue.ensures.kept,
       map-set flight_of c.self.inside.tags.items c.args.tag c.requeue.new.tag ∙ ap (λ s. set (map flight_of c.self.inside.tags.items) c.args.tag (flight_of s)) requeue_lists.0,
       requeue_lists.1,

@@ -1,19 +1,18 @@
-use Rattle.std.proofs.Common.{ℕ, ◌≡◌, ◌∙◌, ap, List, [], Option, Some, None, sym, subst, refl, ◌<◌, arith, length, map, set, get_or}
+use Rattle.std.proofs.Common.{ℕ, ◌≡◌, ◌∙◌, ap, List, [], Option, None, sym, subst, refl, ◌<◌, arith, length, map, get_or}
 use Rattle.std.proofs.lemmas.List.{map-set}
 use Rattle.blk_trace.specs.Setups.{Setup}
 use Rattle.blk_trace.specs.Happened.{Happened}
 use Rattle.blk_trace.specs.declared.event.Event.TheVariants.{Issue}
 use Rattle.blk_trace.specs.Events.{round_of}
-use Rattle.blk_trace.specs.Waits.{waits_at}
 use Rattle.blk_trace.specs.Traces.{Traced}
 use Rattle.blk_sched.specs.Meaning.{Waiting, Meaning, ServesNothing}
 use Rattle.blk_core.proofs.Pushed.{IsPushed, pushed, unbroken, ready_for}
 use Rattle.blk_core.proofs.Ties.{free_slot, few_open, open_issue, tag_there}
 use Rattle.blk_core.proofs.Sent.{sent_waits, issue_allowed, tied_issue, last_command, sends_at}
 use Rattle.blk_sched.specs.Policies.{Choice}
-use Rattle.blk_core.specs.State.{Flight, CoreState, entered_of}
+use Rattle.blk_core.specs.State.{Flight, CoreState}
 use Rattle.blk_core.specs.declared.tags.TagState.TheVariants.{InFlight}
-use Rattle.blk_core.specs.Inside.Ties.{IsTied, flight_of}
+use Rattle.blk_core.specs.Inside.Ties.{flight_of}
 use Rattle.blk_core.specs.Faults.{CanIssue}
 use Rattle.blk_core.proofs.calls.Core.issue.Goals as goal
 
@@ -48,46 +47,45 @@ pub add-requires-clause-unbroken : goal.add-requires-clause-unbroken
 add-requires-clause-unbroken g c =
     let can : CanIssue (record { setup = c.self.inside.trace.setup; events = c.self.inside.trace.events; meaning = g.S.Scheduler.meaning c.self.inside.scheduler; kept = g.S.Scheduler.kept c.self.inside.scheduler; flights = map flight_of c.self.inside.tags.items; requeued = c.self.inside.requeued }) c.args.hw c.args.tag = subst (λ (v : CoreState). CanIssue v c.args.hw c.args.tag) (sym c.self.view_is) c.in_default.ensures.none in
     let lt : c.args.tag < length c.self.inside.tags.items = tag_there c.self.inside.trace.setup c.self.inside.trace.events _ c.self.inside.tags.items c.self.inside.requeued c.self.inside.released c.args.tag c.self.invariant can.range in
-    let w : Waiting = record { id = c.queued.inside.id; hw = c.queued.inside.hw; release = c.queued.inside.release; due = c.queued.inside.due; bios = c.queued.inside.request } in
-    let sends = sends_at g.S.Scheduler.policy.serves g.S.Scheduler.policy.chooses c.args.hw c.round-now.result (round_of c.self.inside.trace.events) (get_or c.self.inside.requeued c.args.hw []) (g.S.Scheduler.meaning c.self.inside.scheduler) (g.S.Scheduler.meaning c.dispatch.new.scheduler) (g.S.Scheduler.kept c.self.inside.scheduler) (g.S.Scheduler.kept c.dispatch.new.scheduler) c.self.inside.requeued c.dispatch.new.lists c.in-Some-dispatch.queued w
-    (c.round-now.ensures.value ∙ ap (λ (t : Traced). round_of t.events) c.in-Ok.ensures.ok) (sym c.queued.view_is) c.in-Some-dispatch.ensures.some in
-    let waits : waits_at c.self.inside.trace.setup c.self.inside.trace.events w.id ≡ Some (entered_of w) = sent_waits c.self.inside.trace.setup c.self.inside.trace.events _ _ c.self.inside.tags.items c.self.inside.requeued c.dispatch.new.lists c.self.inside.released g.S.Scheduler.policy.serves g.S.Scheduler.policy.chooses _ _ c.args.hw (round_of c.self.inside.trace.events) w (get_or c.self.inside.requeued c.args.hw []) c.self.invariant refl sends in
-    unbroken c.self.inside.trace.setup c.self.inside.trace.events c.prepare.new.trace _ (Issue c.queued.inside.id c.args.tag) c.in-Ok.ensures.ok c.self.invariant.legal
-    (issue_allowed c.self.inside.trace.setup c.self.inside.trace.events _ c.self.inside.tags.items c.self.inside.requeued c.self.inside.released c.args.tag w c.self.invariant waits can.range lt
+    let w = c.in-Some-dispatch.queued in
+    let sends = sends_at g.S.Scheduler.policy.serves g.S.Scheduler.policy.chooses c.args.hw c.round-now.result (round_of c.self.inside.trace.events) (get_or c.self.inside.requeued c.args.hw []) (g.S.Scheduler.meaning c.self.inside.scheduler) (g.S.Scheduler.meaning c.dispatch.new.scheduler) (g.S.Scheduler.kept c.self.inside.scheduler) (g.S.Scheduler.kept c.dispatch.new.scheduler) c.self.inside.requeued c.dispatch.new.lists w
+    (c.round-now.ensures.value ∙ ap (λ (t : Traced). round_of t.events) c.in-Ok.ensures.ok) c.in-Some-dispatch.ensures.some in
+    let waits = sent_waits c.self.inside.trace.setup c.self.inside.trace.events _ _ c.self.inside.tags.items c.self.inside.requeued c.dispatch.new.lists c.self.inside.released g.S.Scheduler.policy.serves g.S.Scheduler.policy.chooses _ _ c.args.hw (round_of c.self.inside.trace.events) w (get_or c.self.inside.requeued c.args.hw []) c.self.invariant refl sends in
+    unbroken c.self.inside.trace.setup c.self.inside.trace.events c.prepare.new.trace _ (Issue w.id c.args.tag) c.in-Ok.ensures.ok c.self.invariant.legal
+    (issue_allowed c.self.inside.trace.setup c.self.inside.trace.events _ c.self.inside.tags.items c.self.inside.requeued c.self.inside.released c.args.tag w.id waits.0 c.self.invariant waits.1 can.range lt
     (free_slot c.self.inside.trace.setup c.self.inside.trace.events _ c.self.inside.tags.items c.self.inside.requeued c.self.inside.released c.args.tag c.self.invariant lt can.free))
     (let room = can.room in omega arith)
 
 pub add-requires-clause-prepared : goal.add-requires-clause-prepared
-add-requires-clause-prepared g c = ready_for c.self.inside.trace.setup c.self.inside.trace.events c.prepare.new.trace _ (Issue c.queued.inside.id c.args.tag) c.in-Ok.ensures.ok tt
+add-requires-clause-prepared g c = ready_for c.self.inside.trace.setup c.self.inside.trace.events c.prepare.new.trace _ (Issue c.in-Some-dispatch.queued.id c.args.tag) c.in-Ok.ensures.ok tt
 
 pub invariant_of-self-2 : goal.invariant_of-self-2
 invariant_of-self-2 g c =
     let can : CanIssue (record { setup = c.self.inside.trace.setup; events = c.self.inside.trace.events; meaning = g.S.Scheduler.meaning c.self.inside.scheduler; kept = g.S.Scheduler.kept c.self.inside.scheduler; flights = map flight_of c.self.inside.tags.items; requeued = c.self.inside.requeued }) c.args.hw c.args.tag = subst (λ (v : CoreState). CanIssue v c.args.hw c.args.tag) (sym c.self.view_is) c.in_default.ensures.none in
     let lt : c.args.tag < length c.self.inside.tags.items = tag_there c.self.inside.trace.setup c.self.inside.trace.events _ c.self.inside.tags.items c.self.inside.requeued c.self.inside.released c.args.tag c.self.invariant can.range in
-    let w : Waiting = record { id = c.queued.inside.id; hw = c.queued.inside.hw; release = c.queued.inside.release; due = c.queued.inside.due; bios = c.queued.inside.request } in
-    let sends = sends_at g.S.Scheduler.policy.serves g.S.Scheduler.policy.chooses c.args.hw c.round-now.result (round_of c.self.inside.trace.events) (get_or c.self.inside.requeued c.args.hw []) (g.S.Scheduler.meaning c.self.inside.scheduler) (g.S.Scheduler.meaning c.dispatch.new.scheduler) (g.S.Scheduler.kept c.self.inside.scheduler) (g.S.Scheduler.kept c.dispatch.new.scheduler) c.self.inside.requeued c.dispatch.new.lists c.in-Some-dispatch.queued w
-    (c.round-now.ensures.value ∙ ap (λ (t : Traced). round_of t.events) c.in-Ok.ensures.ok) (sym c.queued.view_is) c.in-Some-dispatch.ensures.some in
-    subst (λ x. IsTied c.add.new.self.setup c.add.new.self.events (g.S.Scheduler.meaning c.dispatch.new.scheduler) (set c.self.inside.tags.items c.args.tag (InFlight c.args.hw x)) c.dispatch.new.lists c.self.inside.released) c.queued.view_is
-    (tied_issue c.self.inside.trace.setup c.add.new.self.setup c.self.inside.trace.events c.add.new.self.events (g.S.Scheduler.meaning c.self.inside.scheduler) (g.S.Scheduler.meaning c.dispatch.new.scheduler) c.self.inside.tags.items c.self.inside.requeued c.dispatch.new.lists c.self.inside.released g.S.Scheduler.policy.serves g.S.Scheduler.policy.chooses _ _ c.args.hw (round_of c.self.inside.trace.events) c.args.tag w (get_or c.self.inside.requeued c.args.hw [])
-    (pushed c.self.inside.trace.setup c.self.inside.trace.events c.prepare.new.trace c.add.new.self (Issue c.queued.inside.id c.args.tag) _ _ c.in-Ok.ensures.ok c.add.ensures.added c.add.ensures.legal)
+    let w = c.in-Some-dispatch.queued in
+    let sends = sends_at g.S.Scheduler.policy.serves g.S.Scheduler.policy.chooses c.args.hw c.round-now.result (round_of c.self.inside.trace.events) (get_or c.self.inside.requeued c.args.hw []) (g.S.Scheduler.meaning c.self.inside.scheduler) (g.S.Scheduler.meaning c.dispatch.new.scheduler) (g.S.Scheduler.kept c.self.inside.scheduler) (g.S.Scheduler.kept c.dispatch.new.scheduler) c.self.inside.requeued c.dispatch.new.lists w
+    (c.round-now.ensures.value ∙ ap (λ (t : Traced). round_of t.events) c.in-Ok.ensures.ok) c.in-Some-dispatch.ensures.some in
+    tied_issue c.self.inside.trace.setup c.add.new.self.setup c.self.inside.trace.events c.add.new.self.events (g.S.Scheduler.meaning c.self.inside.scheduler) (g.S.Scheduler.meaning c.dispatch.new.scheduler) c.self.inside.tags.items c.self.inside.requeued c.dispatch.new.lists c.self.inside.released g.S.Scheduler.policy.serves g.S.Scheduler.policy.chooses _ _ c.args.hw (round_of c.self.inside.trace.events) c.args.tag w (get_or c.self.inside.requeued c.args.hw [])
+    (pushed c.self.inside.trace.setup c.self.inside.trace.events c.prepare.new.trace c.add.new.self (Issue w.id c.args.tag) _ _ c.in-Ok.ensures.ok c.add.ensures.added c.add.ensures.legal)
     c.self.invariant refl sends lt
     (free_slot c.self.inside.trace.setup c.self.inside.trace.events _ c.self.inside.tags.items c.self.inside.requeued c.self.inside.released c.args.tag c.self.invariant lt can.free)
-    can.queue)
+    can.queue
 
 pub returns-clause-issued : goal.returns-clause-issued
 returns-clause-issued g c =
-    let w : Waiting = record { id = c.queued.inside.id; hw = c.queued.inside.hw; release = c.queued.inside.release; due = c.queued.inside.due; bios = c.queued.inside.request } in
-    let sends = sends_at g.S.Scheduler.policy.serves g.S.Scheduler.policy.chooses c.args.hw c.round-now.result (round_of c.self.inside.trace.events) (get_or c.self.inside.requeued c.args.hw []) (g.S.Scheduler.meaning c.self.inside.scheduler) (g.S.Scheduler.meaning c.dispatch.new.scheduler) (g.S.Scheduler.kept c.self.inside.scheduler) (g.S.Scheduler.kept c.dispatch.new.scheduler) c.self.inside.requeued c.dispatch.new.lists c.in-Some-dispatch.queued w
-    (c.round-now.ensures.value ∙ ap (λ (t : Traced). round_of t.events) c.in-Ok.ensures.ok) (sym c.queued.view_is) c.in-Some-dispatch.ensures.some in
-    let waits : waits_at c.self.inside.trace.setup c.self.inside.trace.events w.id ≡ Some (entered_of w) = sent_waits c.self.inside.trace.setup c.self.inside.trace.events _ _ c.self.inside.tags.items c.self.inside.requeued c.dispatch.new.lists c.self.inside.released g.S.Scheduler.policy.serves g.S.Scheduler.policy.chooses _ _ c.args.hw (round_of c.self.inside.trace.events) w (get_or c.self.inside.requeued c.args.hw []) c.self.invariant refl sends in
-    let p : IsPushed c.self.inside.trace.setup c.self.inside.trace.events (Issue c.queued.inside.id c.args.tag) c.add.new.self.setup c.add.new.self.events = pushed c.self.inside.trace.setup c.self.inside.trace.events c.prepare.new.trace c.add.new.self (Issue c.queued.inside.id c.args.tag) _ _ c.in-Ok.ensures.ok c.add.ensures.added c.add.ensures.legal in
+    let w = c.in-Some-dispatch.queued in
+    let sends = sends_at g.S.Scheduler.policy.serves g.S.Scheduler.policy.chooses c.args.hw c.round-now.result (round_of c.self.inside.trace.events) (get_or c.self.inside.requeued c.args.hw []) (g.S.Scheduler.meaning c.self.inside.scheduler) (g.S.Scheduler.meaning c.dispatch.new.scheduler) (g.S.Scheduler.kept c.self.inside.scheduler) (g.S.Scheduler.kept c.dispatch.new.scheduler) c.self.inside.requeued c.dispatch.new.lists w
+    (c.round-now.ensures.value ∙ ap (λ (t : Traced). round_of t.events) c.in-Ok.ensures.ok) c.in-Some-dispatch.ensures.some in
+    let waits = sent_waits c.self.inside.trace.setup c.self.inside.trace.events _ _ c.self.inside.tags.items c.self.inside.requeued c.dispatch.new.lists c.self.inside.released g.S.Scheduler.policy.serves g.S.Scheduler.policy.chooses _ _ c.args.hw (round_of c.self.inside.trace.events) w (get_or c.self.inside.requeued c.args.hw []) c.self.invariant refl sends in
+    let p : IsPushed c.self.inside.trace.setup c.self.inside.trace.events (Issue w.id c.args.tag) c.add.new.self.setup c.add.new.self.events = pushed c.self.inside.trace.setup c.self.inside.trace.events c.prepare.new.trace c.add.new.self (Issue w.id c.args.tag) _ _ c.in-Ok.ensures.ok c.add.ensures.added c.add.ensures.legal in
     rw (← c.self.view_is) (
       w,
       sends,
       (p.same, p.added),
       refl,
-      last_command c.self.inside.trace.setup c.add.new.self.setup c.self.inside.trace.events c.add.new.self.events c.args.tag w p waits,
-      map-set flight_of c.self.inside.tags.items c.args.tag (InFlight c.args.hw c.in-Some-dispatch.queued) ∙ ap (λ (x : Waiting). set (map flight_of c.self.inside.tags.items) c.args.tag (Some (record { hw = c.args.hw; request = x }))) (sym c.queued.view_is),
+      last_command c.self.inside.trace.setup c.add.new.self.setup c.self.inside.trace.events c.add.new.self.events c.args.tag w waits.0 p waits.1 waits.2,
+      map-set flight_of c.self.inside.tags.items c.args.tag (InFlight c.args.hw w),
     )
 
 pub index_mut-requires : goal.index_mut-requires

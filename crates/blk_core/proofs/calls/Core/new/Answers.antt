@@ -16,5 +16,5 @@ invariant_of-result g c =
 pub returns-in-Ok-empty-clause-ok : goal.returns-in-Ok-empty-clause-ok
 returns-in-Ok-empty-clause-ok g c =
     at_start_of c.args.setup c.in-Ok-empty.trace.setup c.in-Ok-empty.trace.events (g.S.Scheduler.meaning c.args.scheduler) (g.S.Scheduler.kept c.args.scheduler) (map flight_of c.in-Ok-free_tags.tags.items) _ _ _
-    (ap (λ (t : Traced). t.setup) c.in-Ok-empty.ensures) (ap (λ (t : Traced). t.events) c.in-Ok-empty.ensures) (ap (map flight_of) (c.in-Ok-free_tags.ensures ∙ ap (λ n. replicate n Free) c.depth.ensures.value) ∙ free_flights _ c.args.setup.depth)
+    (ap (λ (t : Traced). t.setup) c.in-Ok-empty.ensures) (ap (λ (t : Traced). t.events) c.in-Ok-empty.ensures) (ap (map flight_of) (c.in-Ok-free_tags.ensures ∙ ap (λ n. replicate n Free) c.depth.ensures.value) ∙ free_flights c.args.setup.depth)
     (c.in-Ok-new.ensures ∙ ap (λ n. replicate n []) c.hw.ensures.value)

@@ -1,13 +1,12 @@
-use Rattle.std.proofs.Common.{refl, ℕ, ◌≡◌, ◌∙◌, ◌<◌, sym, ap, subst, arith, List, length, map, get_or}
+use Rattle.std.proofs.Common.{refl, ℕ, ◌≡◌, ◌∙◌, ◌≤◌, ◌<◌, sym, ap, subst, arith, List, length, map, get_or}
 use Rattle.std.proofs.Math.ListN.{replicate}
 use Rattle.blk_trace.specs.declared.event.Event.TheVariants.{Tick}
 use Rattle.blk_trace.specs.Events.{open_count, round_of}
 use Rattle.blk_core.specs.Inside.Ties.{flight_of}
 use Rattle.blk_sched.specs.Policies.{OfTick}
 use Rattle.blk_core.specs.declared.tags.TagState.TheVariants.{Free}
-use Rattle.blk_core.proofs.Begun.{free_yet}
 use Rattle.blk_core.proofs.Pushed.{IsPushed, pushed, unbroken, ready_for}
-use Rattle.blk_core.proofs.Ties.{tied_tick, tick_allowed, none_in_flight}
+use Rattle.blk_core.proofs.Ties.{free_slot, tied_tick, tick_allowed, none_in_flight}
 use Rattle.blk_core.proofs.Flights.{put_back, free_flights}
 use Rattle.blk_core.proofs.calls.Core.tick.Goals as goal
 
@@ -25,11 +24,13 @@ add-requires-clause-unbroken g c =
 pub add-requires-clause-prepared : goal.add-requires-clause-prepared
 add-requires-clause-prepared g c = ready_for c.self.inside.trace.setup c.self.inside.trace.events c.prepare.new.trace _ Tick c.in-Ok.ensures.ok tt
 
-pub clear-requires : goal.clear-requires
-clear-requires g c = λ one.
-    let ticked = c.has_just_begun-eventless.ensures one in
-    subst (λ l. (tag : ℕ) → tag < length l → get_or l tag Free ≡ Free) (sym c.deref_mut.ensures.value)
-    (free_yet c.self.inside.trace.setup c.self.inside.trace.events ticked.0 c.self.inside.tags.items c.self.invariant.legal (sym c.events.ensures.events ∙ ticked.1) c.self.invariant.seats)
+pub clear-requires-clause-few : goal.clear-requires-clause-few
+clear-requires-clause-few g c = omega (arith, c.unused_from-bound.ensures.few, c.self.invariant.room, ap length c.deref_mut.ensures.value)
+
+pub clear-requires-clause-free : goal.clear-requires-clause-free
+clear-requires-clause-free g c =
+    subst (λ l. (tag : ℕ) → c.unused_from-bound.result ≤ tag → tag < length l → get_or l tag Free ≡ Free) (sym c.deref_mut.ensures.value)
+    (λ tag past low. free_slot c.self.inside.trace.setup c.self.inside.trace.events _ c.self.inside.tags.items c.self.inside.requeued c.self.inside.released tag c.self.invariant low (c.unused_from-bound.ensures.unused tag past (omega (arith, c.self.invariant.room))))
 
 pub invariant_of-self-2 : goal.invariant_of-self-2
 invariant_of-self-2 g c =
@@ -47,7 +48,7 @@ returns-clause-ended g c =
       c.on_tick.ensures.same,
       told_at g.S.Scheduler.policy.told_tick c.round-now.result (round_of c.add.new.self.events) (g.S.Scheduler.kept c.self.inside.scheduler) (g.S.Scheduler.kept c.on_tick.new.self) c.round-now.ensures.value c.on_tick.ensures.told,
       ap (map flight_of) (put_back Free c.clear.new.tags c.self.inside.tags.items c.self.inside.tags.len (length c.self.inside.tags.items) (c.clear.ensures ∙ ap (λ x. replicate (length x) Free) c.deref_mut.ensures.value) (sym c.deref_mut.ensures.len ∙ ap length c.deref_mut.ensures.value))
-          ∙ free_flights _ (length c.self.inside.tags.items)
+          ∙ free_flights (length c.self.inside.tags.items)
           ∙ sym (none_in_flight c.self.inside.trace.setup c.self.inside.trace.events _ c.self.inside.tags.items c.self.inside.requeued c.self.inside.released c.self.invariant none),
       refl,
     )

@@ -6,5 +6,5 @@ use Rattle.blk_index.proofs.edges.Edge.take.Goals as goal
 pub returns : goal.returns
 returns g c = λ p k s b other there. elim there [
   | inl one ↦ inl (c.take.ensures p k other one)
-  | inr listed ↦ inr (listed_but (entries_in c.args.self.now.others) (entries_in c.take-2.new.self) (c.args.spot.0, c.args.bios) c.args.spot.1 p k s b c.take-2.ensures other listed)
+  | inr listed ↦ inr (listed_but (entries_in c.args.self.now.others) (entries_in c.take-2.new.self) (c.args.spot.0, c.bios.result) c.args.spot.1 p k s b c.take-2.ensures other listed)
 ]

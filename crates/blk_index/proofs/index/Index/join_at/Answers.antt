@@ -1,28 +1,25 @@
-use Rattle.std.proofs.Common.{sym, subst}
+use Rattle.std.proofs.Common.{subst}
 use Rattle.std.specs.FinMap as map
-use Rattle.blk_sched.specs.Meaning.{Pending}
-use Rattle.blk_sched.specs.Fits.{HasFit}
 use Rattle.blk_bio.specs.declared.request.Side.{Side}
 use Rattle.blk_index.specs.Inside.Edges.{IsEdge}
-use Rattle.blk_index.specs.Inside.Search.{at_of, opposite_of}
+use Rattle.blk_index.specs.Inside.Spots.{at_of, opposite_of}
 use Rattle.blk_index.proofs.Joining.{named_joined}
 use Rattle.blk_index.proofs.index.Index.join_at.Goals as goal
 use Rattle.blk_index.proofs.index.Index.join_at.Goals.{in-Back, in-Front}
 
 pub invariant_of-self : goal.invariant_of-self
 invariant_of-self g c =
-    let fit = subst (λ (m : Pending). HasFit c.args.limits.now (map.get m) c.args.newcomer c.args.id c.args.side) (sym c.self.view_is) c.requires in
     let own = c.self.inside.waiting in
     elim c.match-side.branch [
       | in-Back w ↦ rw w.self-inside-is (
-        named_joined c.args.limits.now own w.join_in.new.waiting c.args.id c.args.now c.args.side c.args.newcomer fit w.join_in.result c.self.invariant.0 w.join_in.ensures.joined w.join_in.ensures.same,
+        named_joined own w.join_in.new.waiting c.args.id c.args.now c.args.side c.args.newcomer.now w.join_in.result c.self.invariant.0 w.join_in.ensures.joined w.join_in.ensures.same,
         record {
           front = subst (λ (t : Side). IsEdge (at_of (opposite_of t)) (map.get w.join_in.new.waiting) w.join_in.new.other) w.in-Back.is w.join_in.ensures.other;
           back = subst (λ (t : Side). IsEdge (at_of t) (map.get w.join_in.new.waiting) w.join_in.new.edge) w.in-Back.is w.join_in.ensures.edge;
         },
       )
       | in-Front w ↦ rw w.self-inside-is (
-        named_joined c.args.limits.now own w.join_in-in-Front.new.waiting c.args.id c.args.now c.args.side c.args.newcomer fit w.join_in-in-Front.result c.self.invariant.0 w.join_in-in-Front.ensures.joined w.join_in-in-Front.ensures.same,
+        named_joined own w.join_in-in-Front.new.waiting c.args.id c.args.now c.args.side c.args.newcomer.now w.join_in-in-Front.result c.self.invariant.0 w.join_in-in-Front.ensures.joined w.join_in-in-Front.ensures.same,
         record {
           front = subst (λ (t : Side). IsEdge (at_of t) (map.get w.join_in-in-Front.new.waiting) w.join_in-in-Front.new.edge) w.in-Front.is w.join_in-in-Front.ensures.edge;
           back = subst (λ (t : Side). IsEdge (at_of (opposite_of t)) (map.get w.join_in-in-Front.new.waiting) w.join_in-in-Front.new.other) w.in-Front.is w.join_in-in-Front.ensures.other;

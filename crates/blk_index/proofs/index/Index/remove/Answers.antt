@@ -1,4 +1,4 @@
-use Rattle.std.proofs.Common.{sym, ◌∙◌}
+use Rattle.std.proofs.Common.{refl, sym, ◌∙◌}
 use Rattle.std.specs.FinMap as map
 use Rattle.blk_index.proofs.Indexed.{named_same, named_less, same_without, becomes_taken}
 use Rattle.blk_index.proofs.Edged.{edges_kept}
@@ -16,5 +16,5 @@ invariant_of-self-2 g c =
     let found = sym c.remove.ensures.value ∙ c.in-Some.is in
     let becomes = becomes_taken c.self.inside.waiting c.remove.new.self c.args.id c.remove.ensures.removed in (
       named_less (map.get c.self.inside.waiting) (map.get c.remove.new.self) c.args.id c.self.invariant.0 becomes,
-      c.del.ensures (map.get c.self.inside.waiting) (map.get c.remove.new.self) c.in-Some.queued c.extent_of-extent.ensures c.self.invariant.1 found becomes,
+      c.del.ensures (map.get c.self.inside.waiting) (map.get c.remove.new.self) c.in-Some.queued refl c.self.invariant.1 found becomes,
     )

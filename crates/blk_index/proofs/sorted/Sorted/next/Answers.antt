@@ -6,7 +6,7 @@ use Rattle.blk_index.specs.Index.{IsNext, NoNext}
 use Rattle.blk_index.specs.Inside.SortLists.{sorted_in}
 use Rattle.blk_index.specs.Inside.Spots.{AreSpots, first_at}
 use Rattle.blk_index.proofs.Indexed.{Found}
-use Rattle.blk_index.proofs.Ordered.{next_here, none_here}
+use Rattle.blk_index.proofs.Sides.{next_here, none_here}
 use Rattle.blk_index.proofs.sorted.Sorted.next.Goals as goal
 
 pub returns-clause-some : goal.returns-clause-some

@@ -8,5 +8,5 @@ invariant_of-self g c = absent_first c.self.inside.index c.remove.new.self c.arg
 
 pub invariant_of-self-2 : goal.invariant_of-self-2
 invariant_of-self-2 g c =
-    taken_first c.self.inside.index c.remove.new.self c.args.id c.in-Some.queued c.extent_of.result c.first_spot.result (sorted_in c.self.inside.sort) (sorted_in c.take.new.self)
-    c.self.invariant (sym c.remove.ensures.value ∙ c.in-Some.is) c.extent_of.ensures c.first_spot.ensures c.take.ensures c.remove.ensures.removed
+    taken_first c.self.inside.index c.remove.new.self c.args.id c.in-Some.queued c.place_at.result (sorted_in c.self.inside.sort) (sorted_in c.take.new.self)
+    c.self.invariant (sym c.remove.ensures.value ∙ c.in-Some.is) c.place_at.ensures.value c.take.ensures c.remove.ensures.removed

@@ -9,17 +9,15 @@ use Rattle.blk_layer.proofs.Ruled.{all_moved}
 use Rattle.blk_layer.proofs.Rounds.{all_moved_full}
 use Rattle.blk_layer.proofs.layer.Layer.drain_one.Goals as goal
 
-pub invariant_of-staged-2 : goal.invariant_of-staged-2
-invariant_of-staged-2 g c =
+pub invariant_of-staged : goal.invariant_of-staged
+invariant_of-staged g c =
     let staged = c.deref_mut-staged.result.now in
     let core = c.deref_mut-locked.result.now.core in
     let serves = g.S.Scheduler.policy.serves in
     let answer : IsMoveAllAnswer serves staged.queue core g.L.Named.map c.move_all.new.queue c.move_all.new.core c.move_all.result =
-    subst (λ (map : List ℕ). IsMoveAllAnswer serves staged.queue core map c.move_all.new.queue c.move_all.new.core c.move_all.result) c.self.invariant.4 c.move_all.ensures.answer in
+    subst (λ (map : List ℕ). IsMoveAllAnswer serves staged.queue core map c.move_all.new.queue c.move_all.new.core c.move_all.result) c.self.invariant.4 c.move_all.ensures in
     record {
       limits = all_limits serves staged.queue core g.L.Named.map c.move_all.new.queue c.move_all.new.core c.move_all.result answer ∙ staged.limits;
-      same_limits = c.move_all.ensures.limits ∙ c.copy_ahead.ensures.limits ∙ staged.same_limits;
-      first = c.move_all.ensures.first;
       mapped = all_mapped serves g.L.Named.map staged.queue core c.move_all.new.queue c.move_all.new.core c.move_all.result answer staged.mapped;
     }
 
@@ -30,7 +28,7 @@ invariant_of-locked g c =
     let locked = c.deref_mut-locked.result.now in
     let S = g.S.Scheduler in
     let answer : IsMoveAllAnswer S.policy.serves queue locked.core g.L.Named.map c.move_all.new.queue c.move_all.new.core c.move_all.result =
-    subst (λ (map : List ℕ). IsMoveAllAnswer S.policy.serves queue locked.core map c.move_all.new.queue c.move_all.new.core c.move_all.result) c.self.invariant.4 c.move_all.ensures.answer in
+    subst (λ (map : List ℕ). IsMoveAllAnswer S.policy.serves queue locked.core map c.move_all.new.queue c.move_all.new.core c.move_all.result) c.self.invariant.4 c.move_all.ensures in
     let stays = all_stay S.policy.serves queue locked.core g.L.Named.map c.move_all.new.queue c.move_all.new.core c.move_all.result answer in
     record {
       named = stays.setup ∙ locked.named;
@@ -47,7 +45,7 @@ returns-clause-there g c =
     let locked = c.deref_mut-locked.result.now in
     let serves = g.S.Scheduler.policy.serves in
     let answer : IsMoveAllAnswer serves staged.queue locked.core g.L.Named.map c.move_all.new.queue c.move_all.new.core c.move_all.result =
-    subst (λ (map : List ℕ). IsMoveAllAnswer serves staged.queue locked.core map c.move_all.new.queue c.move_all.new.core c.move_all.result) c.self.invariant.4 c.move_all.ensures.answer in
+    subst (λ (map : List ℕ). IsMoveAllAnswer serves staged.queue locked.core map c.move_all.new.queue c.move_all.new.core c.move_all.result) c.self.invariant.4 c.move_all.ensures in
     let stays = all_stay serves staged.queue locked.core g.L.Named.map c.move_all.new.queue c.move_all.new.core c.move_all.result answer in
     all_there serves g.L.Named.map g.L.Named.setup.hw staged.queue locked.core c.move_all.new.queue c.move_all.new.core c.move_all.result answer staged.mapped
     (subst (λ (map : List ℕ). IsHwCount map g.L.Named.setup.hw) c.self.invariant.4 c.self.invariant.1)

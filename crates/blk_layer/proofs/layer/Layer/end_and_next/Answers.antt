@@ -9,8 +9,8 @@ use Rattle.blk_layer.proofs.Ending.{done_as, back_as, ended_set, IsOnNext, found
 use Rattle.blk_layer.proofs.layer.Layer.end_and_next.Goals as goal
 use Rattle.blk_layer.proofs.layer.Layer.end_and_next.Goals.{in-Done+in-Ok, in-Busy+in-Ok-back, then-has_room, else-has_room}
 
-pub returns-in-Err-back-clause-fault : goal.returns-in-Err-back-clause-fault
-returns-in-Err-back-clause-fault g c = inl (refl, c.in-Err-back.ensures.same ∙ c.make_room.ensures)
+pub returns-in_default-back-clause-fault : goal.returns-in_default-back-clause-fault
+returns-in_default-back-clause-fault g c = inl (refl, c.in_default-back.ensures.same ∙ c.make_room.ensures)
 
 pub next-next-requires : goal.next-next-requires
 next-next-requires g c =

@@ -1,6 +1,5 @@
 use Rattle.std.proofs.Common.{◌∙◌, ◌<◌, ap, arith, length}
 use Rattle.blk_layer.specs.Seats.{LayerShape}
-use Rattle.blk_layer.proofs.Copied.{flushed_behind}
 use Rattle.blk_layer.proofs.Mapped.{flushed_mapped}
 use Rattle.blk_layer.proofs.layer.Layer.flush.Goals as goal
 
@@ -14,7 +13,5 @@ invariant_of-staged g c =
     let low : seat.number < length g.L.Named.map = omega (arith, c.requires.seat, moved.flushes.number, ap (λ (l : LayerShape). length l.map) c.self.view_is, ap length c.self.invariant.4) in
     record {
       limits = c.flush_into.ensures.limits ∙ staged.limits;
-      same_limits = staged.same_limits;
-      first = flushed_behind staged.copies.requests staged.queue c.args.submitter.now c.args.plug.now queue seat plug moved staged.first;
       mapped = flushed_mapped g.L.Named.map staged.queue c.args.submitter.now c.args.plug.now queue seat plug moved c.flush_into.ensures.own low staged.mapped;
     }

@@ -1,11 +1,5 @@
-use Rattle.std.proofs.Common.{◌≡◌}
-use Rattle.blk_layer.specs.Submitting.{AreOfFirst}
 use Rattle.blk_layer.proofs.Moved.{IsMoving}
 use Rattle.blk_layer.proofs.layer.Layer.move_all.Given as goal
 
 abbrev pub invariant-loop-moved : goal.invariant-loop-moved
-invariant-loop-moved g l = record {
-  moving : IsMoving g.S.Scheduler.policy.serves l.initial.queue l.initial.core l.map l.moved l.queue l.core;
-  first : AreOfFirst l.copies.requests l.queue.requests;
-  limits : l.copies.limits ≡ l.initial.copies.limits;
-}
+invariant-loop-moved g l = IsMoving g.S.Scheduler.policy.serves l.initial.queue l.initial.core l.map l.moved l.queue l.core

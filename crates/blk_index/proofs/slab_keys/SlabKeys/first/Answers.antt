@@ -1,9 +1,0 @@
-use Rattle.std.proofs.Common.{ℕ, Option, sym, subst}
-use Rattle.blk_index.specs.Inside.SlabKeys.{run_of, slab_key_of, IsLeastOrNone}
-use Rattle.blk_index.proofs.Placing.{least_of}
-use Rattle.blk_index.proofs.slab_keys.SlabKeys.first.Goals as goal
-
-pub returns : goal.returns
-returns g c = λ run.
-    subst (λ (r : Option ℕ). IsLeastOrNone (slab_key_of c.args.self.now) r) (sym c.lesser.ensures)
-    (least_of (run_of c.args.self.now.from c.args.self.now.run.items) c.args.self.now.others.entries c.first_of_run.result c.first_of_others.result (c.first_of_run.ensures run) c.first_of_others.ensures)

@@ -1,5 +1,0 @@
-use Rattle.blk_index.proofs.Placing.{no_run}
-use Rattle.blk_index.proofs.slab_keys.SlabKeys.new.Goals as goal
-
-pub returns-clause-none : goal.returns-clause-none
-returns-clause-none g c = no_run c.new.result.items c.new-2.result.entries c.new.ensures.items c.new-2.ensures.empty
