@@ -147,17 +147,30 @@ tags_empty n tag u h = subst (IsTagUse [] tag) (replicate_at n Free tag u h) (λ
 
 -- a bound from which on tags are free: none is below it in a new round, and each other one is at an Issue
 pub free_replicate : (n : ℕ) → LeavesFree 0 (replicate n Free)
-free_replicate n = record { within = omega arith; free = λ tag u from at. sym (replicate_at n Free tag u at) }
+free_replicate n = record { within = omega arith; free = λ tag u from at. sym (replicate_at n Free tag u at); used = λ tag e at. absurd (omega (arith, e)) }
 
-pub free_set : (bound above tag : ℕ) (x : TagUse) (tags : List TagUse) → bound ≤ above → tag < above → above ≤ length tags → LeavesFree bound tags → LeavesFree above (set tags tag x)
-free_set bound above tag x tags le low within f = record {
+pub free_set : (bound above tag : ℕ) (x : TagUse) (tags : List TagUse) → bound ≤ above → tag < above → ((n : ℕ) → bound ≤ n → tag < n → above ≤ n) → (x ≡ Free → ⊥)
+    → above ≤ length tags → LeavesFree bound tags → LeavesFree above (set tags tag x)
+free_set bound above tag x tags le low least taken within f = record {
   within = subst (λ (n : ℕ). above ≤ n) (sym (length-set tags tag x)) within;
   free = λ t u from at.
       elim (written tags tag x t u at) [
         | inl here ↦ absurd (omega (arith, here.0, from, low))
         | inr other ↦ f.free t u (omega (arith, le, from)) other.1
       ];
+  used = λ t e at.
+      elim (written tags tag x t Free at) [
+        | inl here ↦ taken here.1
+        | inr other ↦
+            elim (cases_lt t bound) [
+              | inl below ↦ f.used t (omega (arith, below, le, e)) other.1
+              | inr past ↦ absurd (let less : tag < t = before_other t other.0 (omega (arith, low, e)) in omega (arith, least t past less, e))
+            ]
+      ];
 }
+  where
+    before_other : (t : ℕ) → t ≢ tag → tag < t + 1 → tag < t
+    before_other t apart near = elim (cases_lt tag t) [ inl less ↦ less | inr ge ↦ absurd (apart (omega (arith, ge, near))) ]
 
 -- an open tag is below it
 pub open_below : (setup : Setup) (es : List Happened) (tags : List TagUse) (bound : ℕ) → IsLegalTrace setup es → length tags ≡ setup.depth → TagsAre es tags → LeavesFree bound tags → (tag : ℕ) → IsOpen es tag → tag < bound
@@ -169,7 +182,13 @@ open_below setup es tags bound legal each h f tag o =
     ]
 
 pub free_ended : (setup : Setup) (es : List Happened) (tags : List TagUse) (bound : ℕ) → IsLegalTrace setup es → length tags ≡ setup.depth → TagsAre es tags → LeavesFree bound tags → (tag : ℕ) → IsOpen es tag → LeavesFree bound (set tags tag Ended)
-free_ended setup es tags bound legal each h f tag o = free_set bound bound tag Ended tags (omega arith) (open_below setup es tags bound legal each h f tag o) f.within f
+free_ended setup es tags bound legal each h f tag o = free_set bound bound tag Ended tags (omega arith) (open_below setup es tags bound legal each h f tag o) (λ n up past. up) (λ (e : Ended ≡ Free). cc e) f.within f
+
+-- a tag that isn't free was used
+pub used_of : (es : List Happened) (tag : ℕ) (u : TagUse) → IsTagUse es tag u → (u ≡ Free → ⊥) → IsUsed es tag
+used_of es tag Free is taken = absurd (taken refl)
+used_of es tag (Open id) is taken = is.0
+used_of es tag Ended is taken = is.0
 
 -- tags that were freed up to a place
 pub record AreFreedTo (place bound : ℕ) (old tags : List TagUse) : Type 0 where

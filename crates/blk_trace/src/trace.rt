@@ -267,10 +267,11 @@ impl<A: Allocator + Clone> Trace<A> {
         self.depth
     }
 
-    /// A tag, at most the setup's depth, from which on no tag was issued in the current round.
+    /// The tag after the greatest one that was issued in the current round, or 0 where none was.
     pub fn unused_from(&self) -> u64
         ensures few { result ≤ self.now.setup.depth }
         ensures unused { (tag : ℕ) → result ≤ tag → tag < self.now.setup.depth → IsUsed self.now.events tag → ⊥ }
+        ensures used { (tag : ℕ) → result ≡ tag + 1 → IsUsed self.now.events tag }
     {
         self.unused_from as u64
     }

@@ -77,10 +77,11 @@ IsTagUse events tag Free = (IsUsed events tag → ⊥) × (IsOpen events tag →
 IsTagUse events tag (Open id) = IsUsed events tag × IsOpenBy events tag id
 IsTagUse events tag Ended = IsUsed events tag × (IsOpen events tag → ⊥)
 
--- the tags from the bound on are free
+-- the tags from the bound on are free, and the one below it isn't
 pub record LeavesFree (bound : ℕ) (tags : List TagUse) : Type 0 where
   pub within : bound ≤ length tags
   pub free : (tag : ℕ) (u : TagUse) → bound ≤ tag → slice_get tags tag ≡ Some u → u ≡ Free
+  pub used : (tag : ℕ) → bound ≡ tag + 1 → slice_get tags tag ≡ Some Free → ⊥
 
 -- what is kept is what the events say
 pub record IsKeptTrace (setup : Setup) (events : List Happened) (commands : List Command) (rounds : List ℕ) (round opened : ℕ) (known : ℕ → Option Known) (ids : BioId → Bool) (tags : List TagUse) : Type 0 where

@@ -9,7 +9,7 @@ use Rattle.blk_trace.specs.Legal.{IsLegalTrace}
 use Rattle.blk_trace.specs.Rules.{BreaksNoRule}
 use Rattle.blk_trace.proofs.Pushing.{push_legal}
 use Rattle.blk_trace.specs.Traces.{Traced, IsPreparedFor}
-use Rattle.blk_trace.specs.declared.tags.TagUse.TheVariants.{Open}
+use Rattle.blk_trace.specs.declared.tags.TagUse.TheVariants.{Free, Open}
 use Rattle.blk_trace.proofs.TagUses.{free_set}
 use Rattle.blk_trace.proofs.Knowing.{known_when, known_rounds}
 use Rattle.blk_trace.proofs.Depths.{depth_now_is}
@@ -56,7 +56,7 @@ invariant_of-self g c =
     let hd : c.append.new.list.items ≡ s.commands.items ++ (let y : Command = record { id = c.args.id; release = p.0.release; due = p.0.due } in y) ∷ [] = c.append.ensures.items ∙ ap (λ (y : Command). s.commands.items ++ y ∷ []) same in
     let hc : length c.append.new.list.items ≡ length s.commands.items + 1 = ap length c.append.ensures.items ∙ length-append s.commands.items _ in
     let hr : length c.append-2.new.list.items ≡ length s.rounds.items + 1 = ap length c.append-2.ensures.items ∙ length-append s.rounds.items _ in
-    (kept_issue _ es _ c.args.id c.args.tag p.0 _ _ _ _ _ _ (by_id.kept_at s.known) _ _ s.tags.items k all hz p.1 hd c.append-2.ensures.items c.issued-command.ensures.gone, room_after_issue s.prepared c.args.id c.args.tag _ _ _ _ _ _ _ _ _ _ _ _ _ _ _ _ ready room n hc hr c.append-3.ensures.room c.append.ensures.room c.append-2.ensures.room, depths_kept s.setup es _ (Issue c.args.id c.args.tag) s.depth s.next_depth c.self.invariant.2 refl refl hz, free_set s.unused_from c.past-self-inside.result c.args.tag (Open c.args.id) s.tags.items c.past-self-inside.ensures.higher c.past-self-inside.ensures.past (c.past-self-inside.ensures.least (length s.tags.items) c.self.invariant.3.within low) c.self.invariant.3)
+    (kept_issue _ es _ c.args.id c.args.tag p.0 _ _ _ _ _ _ (by_id.kept_at s.known) _ _ s.tags.items k all hz p.1 hd c.append-2.ensures.items c.issued-command.ensures.gone, room_after_issue s.prepared c.args.id c.args.tag _ _ _ _ _ _ _ _ _ _ _ _ _ _ _ _ ready room n hc hr c.append-3.ensures.room c.append.ensures.room c.append-2.ensures.room, depths_kept s.setup es _ (Issue c.args.id c.args.tag) s.depth s.next_depth c.self.invariant.2 refl refl hz, free_set s.unused_from c.past-self-inside.result c.args.tag (Open c.args.id) s.tags.items c.past-self-inside.ensures.higher c.past-self-inside.ensures.past c.past-self-inside.ensures.least (λ (e : Open c.args.id ≡ Free). cc e) (c.past-self-inside.ensures.least (length s.tags.items) c.self.invariant.3.within low) c.self.invariant.3)
 
 pub returns-clause-legal : goal.returns-clause-legal
 returns-clause-legal g c = push_legal _ _ _ (subst (λ (v : Traced). IsLegalTrace v.setup v.events) c.self.view_is c.self.invariant.0.legal) c.requires.unbroken tt
