@@ -65,20 +65,28 @@ def failed_tests(folder):
 
 
 def failed_loads(top, names):
-    """The loads of these names whose traces aren't what they have to be, and those that are."""
+    """The loads of these names whose traces, or whose times, aren't what they have to be, and those that are."""
     good = set()
     for name in names:
         if name not in loads.LOADS:
             continue
-        words = ["rt", "try", "--seconds", str(SECONDS - 10), "--", "load", "--trace", *loads.LOADS[name].split()]
+        # what only the time shows is asked for the time
+        asked, timed = loads.Asked(loads.LOADS[name]), name in loads.ALL_WORKERS
+        words = ["rt", "try", "--seconds", str(SECONDS - 10), "--", "load", "--times" if timed else "--trace", *loads.LOADS[name].split()]
         ran = subprocess.run(words, cwd=top / "crates" / "blk", stdin=subprocess.DEVNULL, capture_output=True, check=False)
         tool = TOOL.search(ran.stderr)
         if not tool:
             raise Fault(f"the program could not be compiled: {ran.stderr.decode(errors='replace').strip().splitlines()[-1:]}")
         if tool[1] != b"ended" or tool[2] != b"0":
             continue
+        if timed:
+            # many workers take less than as many as there are submitters would need
+            took = loads.TIMES.search(ran.stderr.decode(errors="replace"))
+            if took and float(took[2]) <= asked.bios * asked.service / 1000:
+                good.add(name)
+            continue
         try:
-            loads.look_at(loads.Asked(loads.LOADS[name]), ran.stdout, name)
+            loads.look_at(asked, ran.stdout, name)
             good.add(name)
         except (loads.Fault, ValueError, KeyError, IndexError):
             pass

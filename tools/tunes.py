@@ -148,8 +148,8 @@ def wrong_threads():
     script = f"blk-script,1,1,1,1,1\nsetup,0,9,256,128,\n{bios}".encode()
     told = ""
     for threads in (1, 2, 4):
-        # they come and go, and a look may miss one
-        most = max(threads_of(threads, script) for _ in range(3))
+        # they come and go: a run's looks may miss one, or still see one that is over
+        most = sorted(threads_of(threads, script) for _ in range(5))[2]
         if most != threads:
             told += f"    with --threads {threads} there were {most}\n"
     return told

@@ -53,22 +53,6 @@ impl<A: Allocator + Clone> BioList<A> {
         }
     }
 
-    /// The same bios once more, from the same allocator. Fails only when out of memory.
-    pub(crate) fn copy(&self) -> Result<BioList<A>, AllocError>
-        ensures { IfOk result (λ r. r ≡ self.now) }
-    {
-        match &self.bios {
-            Bios::One(alloc, bio) => Ok(BioList::of(alloc.clone()?, *bio)),
-            Bios::Many(bios) => {
-                let alloc = bios.allocator().clone()?;
-                let bios = Vec::from_slice(alloc, bios.as_slice())?;
-                Ok(BioList {
-                    bios: Bios::Many(bios),
-                })
-            }
-        }
-    }
-
     /// Adds bios after these. Fails only when out of memory: nothing is changed then.
     pub(crate) fn append(&mut self, others: &[Bio]) -> Result<(), AllocError>
         ensures ok { OnOk result (self.new ≡ self.old ++ others.now) }

@@ -72,15 +72,6 @@ impl<A: Allocator + Clone> Request<A> {
         })
     }
 
-    /// Another request of the same bios, from the same allocator. Fails only when out of memory.
-    pub fn copy(&self) -> Result<Request<A>, AllocError>
-        ensures { IfOk result (λ r. r ≡ self.now) }
-    {
-        Ok(Request {
-            bios: self.bios.copy()?,
-        })
-    }
-
     /// The direction of all its bios.
     pub fn dir(&self) -> Dir
         ensures { result ≡ dir_of self.now }

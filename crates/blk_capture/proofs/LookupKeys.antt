@@ -6,9 +6,10 @@ use Rattle.std.specs.Cmp.{IsTotalOrder, nat_cmp_total, bool_cmp_total, tied_itse
 use Rattle.std.specs.declared.cmp.Ordering.{Ordering}
 use Rattle.std.specs.declared.cmp.Ordering.TheVariants.{Less, Equal, Greater}
 use Rattle.std.proofs.lemmas.Cmp.{then_total, on_total}
+use Rattle.ordered.specs.Ordered.{IsLeastFrom, IsGreatestUpTo}
 use Rattle.blk_capture.specs.Ranges.{writes}
 use Rattle.blk_capture.specs.Rules.{IsOlderThan}
-use Rattle.blk_capture.specs.Inside.LookupKeys.{lookup_cmp, seat_cmp, seat, is_seat, whole_key, ending_at, EndsFirst, Seats, IsOldestUnder, IsNewestUnder, IsEmptyAt, IsUnusedAt, IsShortestOver, IsEmptyOver, IsLeastSeatFrom, IsGreatestUpTo}
+use Rattle.blk_capture.specs.Inside.LookupKeys.{lookup_cmp, seat_cmp, seat, is_seat, whole_key, ending_at, EndsFirst, Seats, IsOldestUnder, IsNewestUnder, IsEmptyAt, IsUnusedAt, IsShortestOver, IsEmptyOver}
 use Rattle.blk_capture.specs.declared.lookup.LookupKey.{LookupKey}
 use Rattle.blk_capture.specs.declared.lookup.Seat.{Seat}
 use Rattle.blk_capture.specs.declared.record.Range.{Range}
@@ -177,49 +178,49 @@ is_false : (b : Bool) → (b ≡ true → ⊥) → b ≡ false
 is_false true h = absurd (h refl)
 is_false false h = refl
 
-oldest_is : (seats : Seats) (s : LookupKey) (age place : ℕ) → seats (seat s age place) ≡ true → IsLeastSeatFrom seats (seat s 0 0) (seat s age place) → IsOldestUnder seats s place
-oldest_is seats s age place there least = record {
+oldest_is : (seats : Seats) (s : LookupKey) (age place : ℕ) → IsLeastFrom seat_cmp seats (seat s 0 0) (seat s age place) → IsOldestUnder seats s place
+oldest_is seats s age place first = record {
   age = age;
-  there = there;
-  oldest = λ a k some. comes_before age place a k (ap is_gt (sym (at_key s age place a k)) ∙ least (seat s a k) (from_first s a k) some);
+  there = first.there;
+  oldest = λ a k some. comes_before age place a k (ap is_gt (sym (at_key s age place a k)) ∙ first.least (seat s a k) (from_first s a k) some);
 }
 
 -- the first seat from the beginning of a key on is the oldest one there
-pub oldest_at : (seats : Seats) (s : LookupKey) (f : Seat) → is_eq (lookup_cmp f.key s) ≡ true → seats f ≡ true → IsLeastSeatFrom seats (seat s 0 0) f → IsOldestUnder seats s f.place
-oldest_at seats s f same there least =
+pub oldest_at : (seats : Seats) (s : LookupKey) (f : Seat) → is_eq (lookup_cmp f.key s) ≡ true → IsLeastFrom seat_cmp seats (seat s 0 0) f → IsOldestUnder seats s f.place
+oldest_at seats s f same first =
     let e : f.key ≡ s = one_key f.key s same in
-    oldest_is seats s f.age f.place (subst (λ (u : LookupKey). seats (seat u f.age f.place) ≡ true) e there) (subst (λ (u : LookupKey). IsLeastSeatFrom seats (seat s 0 0) (seat u f.age f.place)) e least)
+    oldest_is seats s f.age f.place (subst (λ (u : LookupKey). IsLeastFrom seat_cmp seats (seat s 0 0) (seat u f.age f.place)) e first)
 
 -- and where it is of another key, there is none
-pub none_oldest : (seats : Seats) (s : LookupKey) (f : Seat) → is_eq (lookup_cmp f.key s) ≡ false → is_gt (seat_cmp (seat s 0 0) f) ≡ false → IsLeastSeatFrom seats (seat s 0 0) f → IsEmptyAt seats s
-none_oldest seats s f other high least a k =
+pub none_oldest : (seats : Seats) (s : LookupKey) (f : Seat) → is_eq (lookup_cmp f.key s) ≡ false → IsLeastFrom seat_cmp seats (seat s 0 0) f → IsEmptyAt seats s
+none_oldest seats s f other first a k =
     is_false (seats (seat s a k)) (λ some.
-    let up : is_gt (lookup_cmp s f.key) ≡ false = first_part (lookup_cmp s f.key) (ordering_then (nat_cmp 0 f.age) (nat_cmp 0 f.place)) high in
-    let down : is_gt (lookup_cmp f.key s) ≡ false = first_part (lookup_cmp f.key s) (ordering_then (nat_cmp f.age a) (nat_cmp f.place k)) (least (seat s a k) (from_first s a k) some) in
+    let up : is_gt (lookup_cmp s f.key) ≡ false = first_part (lookup_cmp s f.key) (ordering_then (nat_cmp 0 f.age) (nat_cmp 0 f.place)) first.high in
+    let down : is_gt (lookup_cmp f.key s) ≡ false = first_part (lookup_cmp f.key s) (ordering_then (nat_cmp f.age a) (nat_cmp f.place k)) (first.least (seat s a k) (from_first s a k) some) in
     let bad : true ≡ false = sym (alike s f.key up down) ∙ other in
     cc)
 
 pub none_at : (seats : Seats) (s : LookupKey) → ((q : Seat) → is_gt (seat_cmp (seat s 0 0) q) ≡ false → seats q ≡ false) → IsEmptyAt seats s
 none_at seats s none a k = none (seat s a k) (from_first s a k)
 
-newest_is : (seats : Seats) (s : LookupKey) (age place m : ℕ) → seats (seat s age place) ≡ true → IsGreatestUpTo seats (seat s (2 ^ 64 - 1) m) (seat s age place) → IsNewestUnder seats s place
-newest_is seats s age place m there greatest = record {
+newest_is : (seats : Seats) (s : LookupKey) (age place m : ℕ) → IsGreatestUpTo seat_cmp seats (seat s (2 ^ 64 - 1) m) (seat s age place) → IsNewestUnder seats s place
+newest_is seats s age place m last = record {
   age = age;
-  there = there;
-  newest = λ a k in_range some. comes_after age place a k (ap is_lt (sym (at_key s age place a k)) ∙ greatest (seat s a k) (upto_last s a k m in_range) some);
+  there = last.there;
+  newest = λ a k in_range some. comes_after age place a k (ap is_lt (sym (at_key s age place a k)) ∙ last.greatest (seat s a k) (upto_last s a k m in_range) some);
 }
 
 -- the last seat up to the end of a key is the newest one there
-pub newest_at : (seats : Seats) (s : LookupKey) (f : Seat) (m : ℕ) → is_eq (lookup_cmp f.key s) ≡ true → seats f ≡ true → IsGreatestUpTo seats (seat s (2 ^ 64 - 1) m) f → IsNewestUnder seats s f.place
-newest_at seats s f m same there greatest =
+pub newest_at : (seats : Seats) (s : LookupKey) (f : Seat) (m : ℕ) → is_eq (lookup_cmp f.key s) ≡ true → IsGreatestUpTo seat_cmp seats (seat s (2 ^ 64 - 1) m) f → IsNewestUnder seats s f.place
+newest_at seats s f m same last =
     let e : f.key ≡ s = one_key f.key s same in
-    newest_is seats s f.age f.place m (subst (λ (u : LookupKey). seats (seat u f.age f.place) ≡ true) e there) (subst (λ (u : LookupKey). IsGreatestUpTo seats (seat s (2 ^ 64 - 1) m) (seat u f.age f.place)) e greatest)
+    newest_is seats s f.age f.place m (subst (λ (u : LookupKey). IsGreatestUpTo seat_cmp seats (seat s (2 ^ 64 - 1) m) (seat u f.age f.place)) e last)
 
-pub none_newest : (seats : Seats) (s : LookupKey) (f : Seat) (m : ℕ) → is_eq (lookup_cmp f.key s) ≡ false → is_gt (seat_cmp f (seat s (2 ^ 64 - 1) m)) ≡ false → IsGreatestUpTo seats (seat s (2 ^ 64 - 1) m) f → IsUnusedAt seats s
-none_newest seats s f m other low greatest a k in_range =
+pub none_newest : (seats : Seats) (s : LookupKey) (f : Seat) (m : ℕ) → is_eq (lookup_cmp f.key s) ≡ false → IsGreatestUpTo seat_cmp seats (seat s (2 ^ 64 - 1) m) f → IsUnusedAt seats s
+none_newest seats s f m other last a k in_range =
     is_false (seats (seat s a k)) (λ some.
-    let down : is_gt (lookup_cmp f.key s) ≡ false = first_part (lookup_cmp f.key s) (ordering_then (nat_cmp f.age (2 ^ 64 - 1)) (nat_cmp f.place m)) low in
-    let up : is_gt (lookup_cmp s f.key) ≡ false = turned s f.key (first_not_less (lookup_cmp f.key s) (ordering_then (nat_cmp f.age a) (nat_cmp f.place k)) (greatest (seat s a k) (upto_last s a k m in_range) some)) in
+    let down : is_gt (lookup_cmp f.key s) ≡ false = first_part (lookup_cmp f.key s) (ordering_then (nat_cmp f.age (2 ^ 64 - 1)) (nat_cmp f.place m)) last.low in
+    let up : is_gt (lookup_cmp s f.key) ≡ false = turned s f.key (first_not_less (lookup_cmp f.key s) (ordering_then (nat_cmp f.age a) (nat_cmp f.place k)) (last.greatest (seat s a k) (upto_last s a k m in_range) some)) in
     let bad : true ≡ false = sym (alike s f.key up down) ∙ other in
     cc)
 
@@ -248,20 +249,20 @@ comes_first end age place e a k h = elim (nat_cmp end e) as (λ o. nat_cmp end e
   | Greater ↦ λ q g. absurd (cc)
 ] refl h
 
-shortest_is : (seats : Seats) (r : Range) (end age place : ℕ) → seats (seat (ending_at r end) age place) ≡ true → is_gt (seat_cmp (over r) (seat (ending_at r end) age place)) ≡ false → IsLeastSeatFrom seats (over r) (seat (ending_at r end) age place) → IsShortestOver seats r place
-shortest_is seats r end age place there high least = record {
+shortest_is : (seats : Seats) (r : Range) (end age place : ℕ) → IsLeastFrom seat_cmp seats (over r) (seat (ending_at r end) age place) → IsShortestOver seats r place
+shortest_is seats r end age place first = record {
   end = end;
   age = age;
-  there = there;
-  longer = let low : r.end + 1 ≤ end = later (r.end + 1) end (first_part (nat_cmp (r.end + 1) end) (ordering_then (nat_cmp 0 age) (nat_cmp 0 place)) (ap is_gt (sym (seat_ends r (r.end + 1) 0 0 end age place)) ∙ high)) in omega arith;
-  shortest = λ e a k lt some. comes_first end age place e a k (ap is_gt (sym (seat_ends r end age place e a k)) ∙ least (seat (ending_at r e) a k) (from_over r e a k lt) some);
+  there = first.there;
+  longer = let low : r.end + 1 ≤ end = later (r.end + 1) end (first_part (nat_cmp (r.end + 1) end) (ordering_then (nat_cmp 0 age) (nat_cmp 0 place)) (ap is_gt (sym (seat_ends r (r.end + 1) 0 0 end age place)) ∙ first.high)) in omega arith;
+  shortest = λ e a k lt some. comes_first end age place e a k (ap is_gt (sym (seat_ends r end age place e a k)) ∙ first.least (seat (ending_at r e) a k) (from_over r e a k lt) some);
 }
 
 -- the first seat after a range whose key begins alike is that of the shortest
-pub shortest_at : (seats : Seats) (r : Range) (f : Seat) → is_eq (lookup_cmp f.key (ending_at r f.key.end)) ≡ true → seats f ≡ true → is_gt (seat_cmp (over r) f) ≡ false → IsLeastSeatFrom seats (over r) f → IsShortestOver seats r f.place
-shortest_at seats r f same there high least =
+pub shortest_at : (seats : Seats) (r : Range) (f : Seat) → is_eq (lookup_cmp f.key (ending_at r f.key.end)) ≡ true → IsLeastFrom seat_cmp seats (over r) f → IsShortestOver seats r f.place
+shortest_at seats r f same first =
     let e : f.key ≡ ending_at r f.key.end = one_key f.key (ending_at r f.key.end) same in
-    shortest_is seats r f.key.end f.age f.place (subst (λ (u : LookupKey). seats (seat u f.age f.place) ≡ true) e there) (subst (λ (u : LookupKey). is_gt (seat_cmp (over r) (seat u f.age f.place)) ≡ false) e high) (subst (λ (u : LookupKey). IsLeastSeatFrom seats (over r) (seat u f.age f.place)) e least)
+    shortest_is seats r f.key.end f.age f.place (subst (λ (u : LookupKey). IsLeastFrom seat_cmp seats (over r) (seat u f.age f.place)) e first)
 
 -- what stands between two keys that begin alike begins so too
 both_ways : (a b : ℕ) → is_gt (nat_cmp a b) ≡ false → is_gt (nat_cmp b a) ≡ false → b ≡ a
@@ -291,11 +292,11 @@ begins_alike r k a b up down =
     let h : k.pid ≡ 0 = both_ways 0 k.pid (first_part (nat_cmp 0 k.pid) _ up2) (first_part (nat_cmp k.pid 0) _ down2) in
     same_fields k (ending_at r k.end) f g h refl
 
-pub none_over : (seats : Seats) (r : Range) (f : Seat) → is_eq (lookup_cmp f.key (ending_at r f.key.end)) ≡ false → is_gt (seat_cmp (over r) f) ≡ false → IsLeastSeatFrom seats (over r) f → IsEmptyOver seats r
-none_over seats r f other high least e a k lt =
+pub none_over : (seats : Seats) (r : Range) (f : Seat) → is_eq (lookup_cmp f.key (ending_at r f.key.end)) ≡ false → IsLeastFrom seat_cmp seats (over r) f → IsEmptyOver seats r
+none_over seats r f other first e a k lt =
     is_false (seats (seat (ending_at r e) a k)) (λ some.
-    let up : is_gt (lookup_cmp (ending_at r (r.end + 1)) f.key) ≡ false = first_part (lookup_cmp (ending_at r (r.end + 1)) f.key) _ high in
-    let down : is_gt (lookup_cmp f.key (ending_at r e)) ≡ false = first_part (lookup_cmp f.key (ending_at r e)) _ (least (seat (ending_at r e) a k) (from_over r e a k lt) some) in
+    let up : is_gt (lookup_cmp (ending_at r (r.end + 1)) f.key) ≡ false = first_part (lookup_cmp (ending_at r (r.end + 1)) f.key) _ first.high in
+    let down : is_gt (lookup_cmp f.key (ending_at r e)) ≡ false = first_part (lookup_cmp f.key (ending_at r e)) _ (first.least (seat (ending_at r e) a k) (from_over r e a k lt) some) in
     let alike : f.key ≡ ending_at r f.key.end = begins_alike r f.key (r.end + 1) e up down in
     let same : is_eq (lookup_cmp f.key (ending_at r f.key.end)) ≡ true = subst (λ (u : LookupKey). is_eq (lookup_cmp f.key u) ≡ true) alike (ap is_eq (tied_itself keys_total f.key)) in
     let bad : true ≡ false = sym same ∙ other in
@@ -305,14 +306,12 @@ pub none_from_over : (seats : Seats) (r : Range) → ((q : Seat) → is_gt (seat
 none_from_over seats r none e a k lt = none (seat (ending_at r e) a k) (from_over r e a k lt)
 
 -- the same where the key is known to be that of the whole range
-pub shortest_by : (seats : Seats) (r : Range) (key : LookupKey) (f : Seat) → key ≡ whole_key r → is_eq (lookup_cmp f.key (record key { end = f.key.end })) ≡ true → seats f ≡ true → is_gt (seat_cmp (seat (record key { end = r.end + 1 }) 0 0) f) ≡ false → IsLeastSeatFrom seats (seat (record key { end = r.end + 1 }) 0 0) f → IsShortestOver seats r f.place
-shortest_by seats r key f e same there high least =
-    shortest_at seats r f (subst (λ (k : LookupKey). is_eq (lookup_cmp f.key (record k { end = f.key.end })) ≡ true) e same) there
-    (subst (λ (k : LookupKey). is_gt (seat_cmp (seat (record k { end = r.end + 1 }) 0 0) f) ≡ false) e high)
-    (subst (λ (k : LookupKey). IsLeastSeatFrom seats (seat (record k { end = r.end + 1 }) 0 0) f) e least)
+pub shortest_by : (seats : Seats) (r : Range) (key : LookupKey) (f : Seat) → key ≡ whole_key r → is_eq (lookup_cmp f.key (record key { end = f.key.end })) ≡ true → IsLeastFrom seat_cmp seats (seat (record key { end = r.end + 1 }) 0 0) f → IsShortestOver seats r f.place
+shortest_by seats r key f e same first =
+    shortest_at seats r f (subst (λ (k : LookupKey). is_eq (lookup_cmp f.key (record k { end = f.key.end })) ≡ true) e same)
+    (subst (λ (k : LookupKey). IsLeastFrom seat_cmp seats (seat (record k { end = r.end + 1 }) 0 0) f) e first)
 
-pub none_by : (seats : Seats) (r : Range) (key : LookupKey) (f : Seat) → key ≡ whole_key r → is_eq (lookup_cmp f.key (record key { end = f.key.end })) ≡ false → is_gt (seat_cmp (seat (record key { end = r.end + 1 }) 0 0) f) ≡ false → IsLeastSeatFrom seats (seat (record key { end = r.end + 1 }) 0 0) f → IsEmptyOver seats r
-none_by seats r key f e other high least =
+pub none_by : (seats : Seats) (r : Range) (key : LookupKey) (f : Seat) → key ≡ whole_key r → is_eq (lookup_cmp f.key (record key { end = f.key.end })) ≡ false → IsLeastFrom seat_cmp seats (seat (record key { end = r.end + 1 }) 0 0) f → IsEmptyOver seats r
+none_by seats r key f e other first =
     none_over seats r f (subst (λ (k : LookupKey). is_eq (lookup_cmp f.key (record k { end = f.key.end })) ≡ false) e other)
-    (subst (λ (k : LookupKey). is_gt (seat_cmp (seat (record k { end = r.end + 1 }) 0 0) f) ≡ false) e high)
-    (subst (λ (k : LookupKey). IsLeastSeatFrom seats (seat (record k { end = r.end + 1 }) 0 0) f) e least)
+    (subst (λ (k : LookupKey). IsLeastFrom seat_cmp seats (seat (record k { end = r.end + 1 }) 0 0) f) e first)

@@ -1,14 +1,13 @@
 //! What waits, found by where it stands on the device, the oldest or the newest there.
 
-ghost use Rattle.std.specs.Prelude.{◌≡◌, ◌+◌, ◌<◌, ◌≤◌, ◌^◌, true, false, IfSome, IfNone, OnOk, IfOk};
-ghost use Rattle.std.specs.Ordering.{is_eq, is_gt};
-ghost use Rattle.std.specs.BTreeSet.{contains};
-ghost use Rattle.blk_capture.specs.Inside.LookupKeys.{lookup_cmp, seat_cmp, seat, has, whole_key, edge_key, PutsIf, TakesIf, MovesTo, IsOldestUnder, IsNewestUnder, IsEmptyAt, IsUnusedAt, IsShortestOver, IsEmptyOver, IsLeastSeatFrom, IsGreatestUpTo};
+ghost use Rattle.std.specs.Prelude.{◌≡◌, ◌<◌, ◌^◌, true, false, IfSome, IfNone, OnOk};
+ghost use Rattle.std.specs.Ordering.{is_eq};
+ghost use Rattle.blk_capture.specs.Inside.LookupKeys.{lookup_cmp, seat, has, whole_key, edge_key, PutsIf, TakesIf, MovesTo, IsOldestUnder, IsNewestUnder, IsEmptyAt, IsUnusedAt, IsShortestOver, IsEmptyOver};
 ghost use Rattle.blk_capture.specs.declared.lookup.Seat.{Seat};
 
 use crate::record::Range;
+use ordered::Ordered;
 use std::alloc::{AllocError, Allocator, Global};
-use std::collections::BTreeSet;
 
 /// The key of a search; a part that isn't searched by is 0.
 #[derive(Clone, Copy, Debug, PartialEq, Eq, PartialOrd, Ord)]
@@ -64,33 +63,11 @@ pub(crate) fn is_same(a: LookupKey, b: LookupKey) -> bool
     a.cmp(&b).is_eq()
 }
 
-/// The first that stands at a seat or after it.
-fn first_from<A: Allocator + Clone>(seats: &BTreeSet<Seat, A>, lower: Seat) -> Option<Seat>
-    ensures there { IfSome result (λ s. contains seat_cmp seats.now s ≡ true) }
-    ensures high { IfSome result (λ s. is_gt (seat_cmp lower s) ≡ false) }
-    ensures least { IfSome result (λ s. IsLeastSeatFrom (contains seat_cmp seats.now) lower s) }
-    ensures none { IfNone result ((q : Seat) → is_gt (seat_cmp lower q) ≡ false → contains seat_cmp seats.now q ≡ false) }
-{
-    let found = seats.range(lower..).next()?;
-    Some(*found)
-}
-
-/// The last that stands at a seat or before it.
-fn last_upto<A: Allocator + Clone>(seats: &BTreeSet<Seat, A>, upper: Seat) -> Option<Seat>
-    ensures there { IfSome result (λ s. contains seat_cmp seats.now s ≡ true) }
-    ensures low { IfSome result (λ s. is_gt (seat_cmp s upper) ≡ false) }
-    ensures greatest { IfSome result (λ s. IsGreatestUpTo (contains seat_cmp seats.now) upper s) }
-    ensures none { IfNone result ((q : Seat) → is_gt (seat_cmp q upper) ≡ false → contains seat_cmp seats.now q ≡ false) }
-{
-    let found = seats.range(..=upper).next_back()?;
-    Some(*found)
-}
-
 /// Bios or requests by keys, and of one key by age: the number of a record.
 #[derive(Drop)]
 pub(crate) struct KeyIndex<A: Allocator = Global> {
     /// By keys, ages and places.
-    pub(crate) seats: BTreeSet<Seat, A>,
+    pub(crate) seats: Ordered<Seat, A>,
 }
 
 impl<A: Allocator + Clone> KeyIndex<A> {
@@ -99,7 +76,7 @@ impl<A: Allocator + Clone> KeyIndex<A> {
         ensures { (q : Seat) → has result q ≡ false }
     {
         KeyIndex {
-            seats: BTreeSet::new(alloc),
+            seats: Ordered::new(alloc),
         }
     }
 
@@ -107,15 +84,14 @@ impl<A: Allocator + Clone> KeyIndex<A> {
     pub(crate) fn put(&mut self, key: LookupKey, age: u64, place: usize) -> Result<(), AllocError>
         ensures { OnOk result (PutsIf true (seat key age place) (has self.old) (has self.new)) }
     {
-        self.seats.insert(Seat { key, age, place })?;
-        Ok(())
+        self.seats.put(Seat { key, age, place })
     }
 
     /// Takes one out, if it is there.
     pub(crate) fn take(&mut self, key: LookupKey, age: u64, place: usize)
         ensures { TakesIf true (seat key age place) (has self.old) (has self.new) }
     {
-        let _ = self.seats.remove(&Seat { key, age, place });
+        self.seats.take(Seat { key, age, place });
     }
 
     /// Takes one out, if it is there, and puts it under another key.
@@ -142,7 +118,7 @@ impl<A: Allocator + Clone> KeyIndex<A> {
             age: 0,
             place: 0,
         };
-        let found = first_from(&self.seats, lower)?;
+        let found = self.seats.from(lower)?;
         let same = is_same(found.key, key);
         if same { Some(found.place) } else { None }
     }
@@ -157,7 +133,7 @@ impl<A: Allocator + Clone> KeyIndex<A> {
             age: u64::MAX,
             place: usize::MAX,
         };
-        let found = last_upto(&self.seats, upper)?;
+        let found = self.seats.upto(upper)?;
         let same = is_same(found.key, key);
         if same { Some(found.place) } else { None }
     }
@@ -177,7 +153,7 @@ impl<A: Allocator + Clone> KeyIndex<A> {
             age: 0,
             place: 0,
         };
-        let found = first_from(&self.seats, lower)?;
+        let found = self.seats.from(lower)?;
         let end = found.key.end;
         let same = is_same(found.key, LookupKey { end, ..key });
         if same { Some(found.place) } else { None }

@@ -1,5 +1,5 @@
 -- An input of which a first part was read, and the rest part by part.
-use Rattle.std.proofs.Common.{ℕ, ◌≡◌, ◌∙◌, ◌++◌, Bool, true, false, List, [], refl, sym, ap, subst, append_assoc, append-nil, Option, None, Some, Result, Ok, Err}
+use Rattle.std.proofs.Common.{ℕ, ◌≡◌, ◌∙◌, ◌++◌, Bool, true, false, List, [], refl, sym, ap, subst, append_assoc, append-nil, inl, inr, Option, None, Some, Result, Ok, Err}
 use Rattle.std.specs.Prelude.{IfSome, IfOk, IfErr}
 use Rattle.std.specs.Io.KnownBytes.{Consumes, IsAtEnd}
 use Rattle.blk_capture.specs.declared.requests.Options.{Options}
@@ -7,13 +7,13 @@ use Rattle.blk_recorders.specs.declared.detect.CaptureForm.{CaptureForm}
 use Rattle.blk_recorders.specs.declared.detect.CaptureForm.TheVariants as form
 use Rattle.blk_recorders.specs.declared.device.Device.{Device}
 use Rattle.blk_recorders.specs.declared.recorder.Recorder.{Recorder}
-use Rattle.blk_capture_text.specs.Source.{form_taken}
+use Rattle.blk_capture_text.specs.Source.{form_taken, IsRecordsFault}
 use Rattle.blk_capture_text.specs.Streams.{IsToldAs, IsStreamedFrom, IsStreamFault}
-use Rattle.blk_capture_text.specs.Inside.Along.{IsFirstPart, IsInputFrom, IsLineStreamFault, IsRestUntold, AreLinesUnstreamed, AreRecordsStreamed, AreRecordsUnstreamed, EndsUnstreamed, EndsLines}
+use Rattle.blk_capture_text.specs.Inside.Along.{IsFirstPart, IsInputFrom, IsLineReadFault, IsRestUntold, AreLinesUnstreamed, AreRecordsStreamed, EndsStreamed, EndsLines}
 use Rattle.blk_capture_text.specs.declared.lines.StreamedCapture.{StreamedCapture}
 use Rattle.blk_capture_text.specs.declared.summing.FirstPart.{FirstPart}
-use Rattle.blk_capture_text.specs.declared.summing.Unstreamed.{Unstreamed}
-use Rattle.blk_capture_text.specs.declared.summing.Unstreamed.TheVariants as why_not
+use Rattle.blk_capture_text.specs.declared.source.UnreadCapture.{UnreadCapture}
+use Rattle.blk_capture_text.specs.declared.source.UnreadCapture.TheVariants as unread
 use Rattle.blk_capture_text.proofs.Lining.{consumed_on, consumed_all, consumed_and_left, left_of, form_told_first}
 
 -- nothing more was given, and nothing is left
@@ -39,11 +39,10 @@ pub more_left : (a b c : Option (List ℕ)) (xs ys : List ℕ) → Consumes a b 
 more_left a b c xs ys p q = consumed_and_left a c (xs ++ ys) (consumed_on a b c xs ys p q)
 
 -- why the rest isn't streamed
-pub rest_untold : (f : Recorder) (d : Option Device) (text rest : List ℕ) (left : Option (List ℕ)) (failed : Bool) (y : Unstreamed) → IfSome left (λ known. rest ≡ known) → IsLineStreamFault f d (text ++ rest) y → IsRestUntold f d text left failed y
-rest_untold f d text rest left failed (why_not.Text x all) given bad = absurd bad
-rest_untold f d text rest left failed (why_not.Line x) given bad = record { rest = rest; given = given; fault = bad }
-rest_untold f d text rest left failed (why_not.Outside w) given bad = absurd bad
-rest_untold f d text rest left failed why_not.Memory given bad = tt
+pub rest_untold : (f : Recorder) (d : Option Device) (text rest : List ℕ) (left : Option (List ℕ)) (failed : Bool) (y : UnreadCapture) → IfSome left (λ known. rest ≡ known) → IsLineReadFault f d (text ++ rest) y → IsRestUntold f d text left failed y
+rest_untold f d text rest left failed (unread.Text x) given bad = absurd bad
+rest_untold f d text rest left failed (unread.Line x) given bad = record { rest = rest; given = given; fault = bad }
+rest_untold f d text rest left failed unread.Memory given bad = tt
 
 -- bytes behind the first part
 behind_first : (input left : Option (List ℕ)) (first rest : List ℕ) → Consumes input left first → IfSome left (λ known. rest ≡ known) → IfSome input (λ known. first ++ rest ≡ known)
@@ -64,27 +63,25 @@ pub input_whole : (input left : Option (List ℕ)) (p : FirstPart) → IsFirstPa
 input_whole input left p h whole = subst (IsInputFrom input p) (append-nil p.bytes.items) (input_from input left p [] h (none_left left (h.whole whole)) (λ e. refl))
 
 -- why lines aren't streamed
-pub lines_untold : (f : Recorder) (d : Option Device) (input : Option (List ℕ)) (p : FirstPart) (bytes : List ℕ) (failed : Bool) (y : Unstreamed) → IsInputFrom input p bytes → IsLineStreamFault f d bytes y → AreLinesUnstreamed f d input p failed y
-lines_untold f d input p bytes failed (why_not.Text x all) on bad = absurd bad
-lines_untold f d input p bytes failed (why_not.Line x) on bad = record { bytes = bytes; on = on; fault = bad }
-lines_untold f d input p bytes failed (why_not.Outside w) on bad = absurd bad
-lines_untold f d input p bytes failed why_not.Memory on bad = tt
+pub lines_untold : (f : Recorder) (d : Option Device) (input : Option (List ℕ)) (p : FirstPart) (bytes : List ℕ) (failed : Bool) (y : UnreadCapture) → IsInputFrom input p bytes → IsLineReadFault f d bytes y → AreLinesUnstreamed f d input p failed y
+lines_untold f d input p bytes failed (unread.Text x) on bad = absurd bad
+lines_untold f d input p bytes failed (unread.Line x) on bad = record { bytes = bytes; on = on; fault = bad }
+lines_untold f d input p bytes failed unread.Memory on bad = tt
 
 -- at once: whatever stands behind the first part
-pub first_untold : (f : Recorder) (d : Option Device) (input left : Option (List ℕ)) (p : FirstPart) (failed : Bool) (y : Unstreamed) → IsFirstPart input left p → ((rest : List ℕ) → IsLineStreamFault f d (p.bytes.items ++ rest) y) → AreLinesUnstreamed f d input p failed y
+pub first_untold : (f : Recorder) (d : Option Device) (input left : Option (List ℕ)) (p : FirstPart) (failed : Bool) (y : UnreadCapture) → IsFirstPart input left p → ((rest : List ℕ) → IsLineReadFault f d (p.bytes.items ++ rest) y) → AreLinesUnstreamed f d input p failed y
 first_untold f d input left p failed y h bad =
     lines_untold f d input p (p.bytes.items ++ left_of left) failed y (input_from input left p (left_of left) h (left_known left) (λ e. left_at_end left (h.whole e))) (bad (left_of left))
 
 -- in the rest
-pub rest_of_lines : (f : Recorder) (d : Option Device) (input left : Option (List ℕ)) (p : FirstPart) (failed : Bool) (y : Unstreamed) → IsFirstPart input left p → p.is_whole ≡ false → IsRestUntold f d p.bytes.items left failed y → AreLinesUnstreamed f d input p failed y
-rest_of_lines f d input left p failed (why_not.Text x all) h part bad = absurd bad
-rest_of_lines f d input left p failed (why_not.Line x) h part bad = record {
+pub rest_of_lines : (f : Recorder) (d : Option Device) (input left : Option (List ℕ)) (p : FirstPart) (failed : Bool) (y : UnreadCapture) → IsFirstPart input left p → p.is_whole ≡ false → IsRestUntold f d p.bytes.items left failed y → AreLinesUnstreamed f d input p failed y
+rest_of_lines f d input left p failed (unread.Text x) h part bad = bad
+rest_of_lines f d input left p failed (unread.Line x) h part bad = record {
   bytes = p.bytes.items ++ bad.rest;
   on = input_from input left p bad.rest h bad.given (λ e. absurd (cc (part, e)));
   fault = bad.fault;
 }
-rest_of_lines f d input left p failed (why_not.Outside w) h part bad = bad
-rest_of_lines f d input left p failed why_not.Memory h part bad = tt
+rest_of_lines f d input left p failed unread.Memory h part bad = tt
 
 -- the form of all is that of the first part
 by_whole : {T : Type 0} (b : Bool) → (b ≡ true → T) → (b ≡ false → T) → T
@@ -104,12 +101,12 @@ pub four_parts : (a b c d : List ℕ) → ((a ++ b) ++ c) ++ d ≡ a ++ ((b ++ c
 four_parts a b c d = ap (λ (t : List ℕ). t ++ d) (append_assoc a b c) ∙ append_assoc a (b ++ c) d
 
 -- how lines of an input end
-pub lines_end : (o : Options) (f : Recorder) (d : Option Device) (input : Option (List ℕ)) (p : FirstPart) (bytes : List ℕ) (failed : Bool) (result : Result StreamedCapture Unstreamed) → IsInputFrom input p bytes → EndsUnstreamed o f d bytes result → EndsLines o f d input p failed result
+pub lines_end : (o : Options) (f : Recorder) (d : Option Device) (input : Option (List ℕ)) (p : FirstPart) (bytes : List ℕ) (failed : Bool) (result : Result StreamedCapture UnreadCapture) → IsInputFrom input p bytes → EndsStreamed o f d bytes result → EndsLines o f d input p failed result
 lines_end o f d input p bytes failed (Ok c) on ends = record { bytes = bytes; on = on; streamed = ends }
 lines_end o f d input p bytes failed (Err y) on ends = lines_untold f d input p bytes failed y on ends
 
 -- a capture of either form
-pub records_from : (o : Options) (asked : Option CaptureForm) (device : Option Device) (input left : Option (List ℕ)) (p : FirstPart) (bytes : List ℕ) (result : Result StreamedCapture Unstreamed) → IsFirstPart input left p → IsInputFrom input p bytes
+pub records_from : (o : Options) (asked : Option CaptureForm) (device : Option Device) (input left : Option (List ℕ)) (p : FirstPart) (bytes : List ℕ) (result : Result StreamedCapture UnreadCapture) → IsFirstPart input left p → IsInputFrom input p bytes
     → form_taken asked p.bytes.items ≡ form.Records → IfOk result (AreRecordsStreamed o bytes) → IfOk result (IsStreamedFrom o asked device input)
 records_from o asked device input left p bytes (Ok c) h on is all = record {
   bytes = bytes;
@@ -121,15 +118,14 @@ records_from o asked device input left p bytes (Ok c) h on is all = record {
 }
 records_from o asked device input left p bytes (Err x) h on is all = tt
 
-pub records_not_from : (asked : Option CaptureForm) (device : Option Device) (input left : Option (List ℕ)) (p : FirstPart) (bytes : List ℕ) (failed : Bool) (result : Result StreamedCapture Unstreamed) → IsFirstPart input left p → IsInputFrom input p bytes
-    → form_taken asked p.bytes.items ≡ form.Records → IfErr result (AreRecordsUnstreamed bytes) → IfErr result (IsStreamFault asked device input failed)
+pub records_not_from : (asked : Option CaptureForm) (device : Option Device) (input left : Option (List ℕ)) (p : FirstPart) (bytes : List ℕ) (failed : Bool) (result : Result StreamedCapture UnreadCapture) → IsFirstPart input left p → IsInputFrom input p bytes
+    → form_taken asked p.bytes.items ≡ form.Records → IfErr result (IsRecordsFault bytes) → IfErr result (IsStreamFault asked device input failed)
 records_not_from asked device input left p bytes failed (Ok c) h on is bad = tt
-records_not_from asked device input left p bytes failed (Err (why_not.Text x all)) h on is bad = record { bytes = bytes; given = on.given; is_records = form_of_input asked input left p bytes h on ∙ is; fault = bad }
-records_not_from asked device input left p bytes failed (Err (why_not.Line x)) h on is bad = absurd bad
-records_not_from asked device input left p bytes failed (Err (why_not.Outside w)) h on is bad = absurd bad
-records_not_from asked device input left p bytes failed (Err why_not.Memory) h on is bad = tt
+records_not_from asked device input left p bytes failed (Err (unread.Text x)) h on is bad = inr (record { bytes = bytes; given = on.given; is_records = form_of_input asked input left p bytes h on ∙ is; fault = bad })
+records_not_from asked device input left p bytes failed (Err (unread.Line x)) h on is bad = absurd bad
+records_not_from asked device input left p bytes failed (Err unread.Memory) h on is bad = tt
 
-pub lines_from : (o : Options) (asked : Option CaptureForm) (f : Recorder) (device : Option Device) (input left : Option (List ℕ)) (p : FirstPart) (failed : Bool) (result : Result StreamedCapture Unstreamed) → IsFirstPart input left p
+pub lines_from : (o : Options) (asked : Option CaptureForm) (f : Recorder) (device : Option Device) (input left : Option (List ℕ)) (p : FirstPart) (failed : Bool) (result : Result StreamedCapture UnreadCapture) → IsFirstPart input left p
     → form_taken asked p.bytes.items ≡ form.Printed f → EndsLines o f device input p failed result → IfOk result (IsStreamedFrom o asked device input)
 lines_from o asked f device input left p failed (Ok c) h is all = record {
   bytes = all.bytes;
@@ -141,10 +137,9 @@ lines_from o asked f device input left p failed (Ok c) h is all = record {
 }
 lines_from o asked f device input left p failed (Err x) h is all = tt
 
-pub lines_not_from : (o : Options) (asked : Option CaptureForm) (f : Recorder) (device : Option Device) (input left : Option (List ℕ)) (p : FirstPart) (failed : Bool) (result : Result StreamedCapture Unstreamed) → IsFirstPart input left p
+pub lines_not_from : (o : Options) (asked : Option CaptureForm) (f : Recorder) (device : Option Device) (input left : Option (List ℕ)) (p : FirstPart) (failed : Bool) (result : Result StreamedCapture UnreadCapture) → IsFirstPart input left p
     → form_taken asked p.bytes.items ≡ form.Printed f → EndsLines o f device input p failed result → IfErr result (IsStreamFault asked device input failed)
 lines_not_from o asked f device input left p failed (Ok c) h is bad = tt
-lines_not_from o asked f device input left p failed (Err (why_not.Text x all)) h is bad = absurd bad
-lines_not_from o asked f device input left p failed (Err (why_not.Line x)) h is bad = record { bytes = bad.bytes; given = bad.on.given; recorder = f; is_printed = form_of_input asked input left p bad.bytes h bad.on ∙ is; fault = bad.fault }
-lines_not_from o asked f device input left p failed (Err (why_not.Outside w)) h is bad = bad
-lines_not_from o asked f device input left p failed (Err why_not.Memory) h is bad = tt
+lines_not_from o asked f device input left p failed (Err (unread.Text x)) h is bad = inl bad
+lines_not_from o asked f device input left p failed (Err (unread.Line x)) h is bad = record { bytes = bad.bytes; given = bad.on.given; recorder = f; is_printed = form_of_input asked input left p bad.bytes h bad.on ∙ is; fault = bad.fault }
+lines_not_from o asked f device input left p failed (Err unread.Memory) h is bad = tt

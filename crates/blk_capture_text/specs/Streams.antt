@@ -17,8 +17,8 @@ use Rattle.blk_capture_text.specs.Source.{csv_rows, form_taken}
 use Rattle.blk_capture_text.specs.Streaming.{IsAtWork, HasStreamed, stream_count, stream_options}
 use Rattle.blk_capture_text.specs.declared.lines.StreamedCapture.{StreamedCapture}
 use Rattle.blk_capture_text.specs.declared.source.Printed.{Printed}
-use Rattle.blk_capture_text.specs.declared.summing.Unstreamed.{Unstreamed}
-use Rattle.blk_capture_text.specs.declared.summing.Unstreamed.TheVariants as why_not
+use Rattle.blk_capture_text.specs.declared.source.UnreadCapture.{UnreadCapture}
+use Rattle.blk_capture_text.specs.declared.source.UnreadCapture.TheVariants as unread
 
 -- what else the lines of a recorder told
 abbrev pub printed_by : Recorder → ReadProgress → Printed
@@ -73,8 +73,7 @@ pub record IsInputReadFault (asked : Option CaptureForm) (device : Option Device
   pub fault : IsFirstBad recorder device bytes x
 
 -- or its reader failed, or memory ran out
-abbrev pub IsStreamFault : Option CaptureForm → Option Device → Option (List ℕ) → Bool → Unstreamed → Type 0
-IsStreamFault asked device input failed (why_not.Text x all) = IsTextReadFault asked input x
-IsStreamFault asked device input failed (why_not.Line x) = IsInputReadFault asked device input x
-IsStreamFault asked device input failed (why_not.Outside w) = IsOutside failed w
-IsStreamFault asked device input failed why_not.Memory = ⊤
+abbrev pub IsStreamFault : Option CaptureForm → Option Device → Option (List ℕ) → Bool → UnreadCapture → Type 0
+IsStreamFault asked device input failed (unread.Text x) = IsOutside failed x.why ⊎ IsTextReadFault asked input x
+IsStreamFault asked device input failed (unread.Line x) = IsInputReadFault asked device input x
+IsStreamFault asked device input failed unread.Memory = ⊤

@@ -3,12 +3,14 @@
 ghost use Rattle.std.specs.Prelude.{◌≡◌, ◌≤◌, IfOk, IfErr, length};
 ghost use Rattle.blk_capture.specs.Requests.{AreInOrder};
 ghost use Rattle.blk_capture_text.specs.declared.reading.TheConstants.{MAX_RECORDS};
+ghost use Rattle.blk_capture_text.specs.Names.{unread_told};
 ghost use Rattle.blk_capture_text.specs.Source.{has_nul, is_text, form_taken, IsCaptureRead, IsCaptureUnread, ReadsRecords, ReadsLines, IsRecordsFault, IsLinesFault};
 
 use crate::reading::read_capture;
 use blk_capture::Record;
 use blk_recorders::{CaptureForm, Device, LineFault, LineReason, Recorder, form_of, read_lines};
 use blk_records::{Records, TextFault, TextReason};
+use edd_commands::{Fault, Told, told};
 use std::alloc::{AllocError, Global};
 use thiserror::Error;
 
@@ -38,16 +40,26 @@ pub struct CaptureRead {
 
 /// Why a capture isn't read.
 #[derive(Clone, Copy, Debug, PartialEq, Eq, Error)]
-#[error("{:?}", self)]
+#[error("{}", self.name())]
 pub enum UnreadCapture {
-    /// A record of the form `blk-capture` is wrong.
-    #[error(transparent)]
+    /// A record of the form `blk-capture` is wrong, or the reader of the bytes failed.
     Text(TextFault),
     /// A line that a recorder printed is wrong.
-    #[error(transparent)]
     Line(LineFault),
     /// Memory ran out.
     Memory,
+}
+
+impl Fault for UnreadCapture {
+    ghost told = { unread_told };
+
+    fn told(&self) -> Told {
+        told!(self: UnreadCapture {
+            Text(fault) by fault,
+            Line(fault) by fault,
+            Memory => Memory,
+        })
+    }
 }
 
 /// The records of a text of the form `blk-capture`.

@@ -4,14 +4,14 @@ ghost use Rattle.std.specs.Prelude.{◌≡◌, ◌<◌, IfOk, IfErr, length};
 ghost use Rattle.blk_records.specs.Reads.{IsOutside};
 ghost use Rattle.blk_capture_text.specs.Source.{IsRecordsFault};
 ghost use Rattle.blk_capture_text.specs.Streams.{IsStreamedFrom, IsStreamFault};
-ghost use Rattle.blk_capture_text.specs.Inside.Along.{count_feeds, IsAlongSome, IsStreamFaultIf, IsFirstPart, EndsRestOf, EndsUnstreamedOf, EndsLinesOf, ReadsRest, AreRecordsStreamed, AreRecordsUnstreamed};
+ghost use Rattle.blk_capture_text.specs.Inside.Along.{count_feeds, IsAlongSome, IsFirstPart, EndsRestOf, EndsLinesOf, ReadsRest, AreRecordsStreamed};
 
 use crate::lines::{LineStream, StreamedCapture};
 use crate::source::{FIRST_BYTES, UnreadCapture, form_taken, read_records};
 use crate::streaming::Streamed;
 use blk_capture::Options;
-use blk_recorders::{CaptureForm, Device, FIRST_LINES, LineFault, Recorder};
-use blk_records::{Records, TextFault, TextReason};
+use blk_recorders::{CaptureForm, Device, FIRST_LINES, Recorder};
+use blk_records::{Records, TextReason};
 use std::alloc::Global;
 use std::io::Read;
 use thiserror::Error;
@@ -21,41 +21,12 @@ const PART: usize = 1 << 20;
 
 /// Why a capture isn't put in numbers.
 #[derive(Debug, Drop, Error)]
-#[error("{:?}", self)]
-pub enum Unstreamed {
-    /// A record of the form `blk-capture` is wrong; with all bytes.
-    #[error("{0}")]
-    Text(TextFault, Vec<u8>),
-    /// A line that a recorder printed is wrong.
-    #[error(transparent)]
-    Line(LineFault),
-    /// The reader failed, or memory ran out as it was read.
-    #[error(transparent)]
-    Outside(TextReason),
-    /// Memory ran out.
-    Memory,
-}
-
-impl Unstreamed {
-    /// Why lines aren't put in numbers.
-    fn of_lines(fault: UnreadCapture) -> Unstreamed
-        ensures { IsStreamFaultIf fault result }
-    {
-        match fault {
-            UnreadCapture::Line(fault) => Unstreamed::Line(fault),
-            UnreadCapture::Text(_) | UnreadCapture::Memory => Unstreamed::Memory,
-        }
-    }
-
-    /// Why records of the form `blk-capture` aren't.
-    fn of_records(fault: UnreadCapture, bytes: Vec<u8>) -> Unstreamed
-        ensures { IsRecordsFault bytes.items fault → AreRecordsUnstreamed bytes.items result }
-    {
-        match fault {
-            UnreadCapture::Text(fault) => Unstreamed::Text(fault, bytes),
-            UnreadCapture::Line(_) | UnreadCapture::Memory => Unstreamed::Memory,
-        }
-    }
+#[error("{}", self.fault)]
+pub struct Unstreamed {
+    /// Why it isn't read.
+    pub fault: UnreadCapture,
+    /// Its bytes, where they were all read as one of the form `blk-capture`; else none.
+    pub bytes: Vec<u8>,
 }
 
 /// The first bytes of an input: so many that they tell the form of the whole, or all.
@@ -118,7 +89,7 @@ fn take_rest<R: Read + Drop>(
     records: &mut Records<R>,
     part: &mut [u8],
     stream: &mut LineStream,
-) -> Result<(), Unstreamed>
+) -> Result<(), UnreadCapture>
     requires room { 0 < length part.old }
     requires along { IsAlongSome recorder device stream.old }
     ensures { EndsRestOf recorder device records.old.bytes records.new.failed stream.old stream.new result }
@@ -126,33 +97,17 @@ fn take_rest<R: Read + Drop>(
     for _ in 0..u64::MAX {
         let count = match records.read_bytes(part) {
             Ok(count) => count,
-            Err(why) => return Err(Unstreamed::Outside(why)),
+            Err(why) => return Err(UnreadCapture::Text(records.fault(why))),
         };
         if count == 0 {
             return Ok(());
         }
         match stream.take(alloc, recorder, device, &part[..count]) {
             Ok(()) => {}
-            Err(fault) => return Err(Unstreamed::of_lines(fault)),
+            Err(fault) => return Err(fault),
         }
     }
-    Err(Unstreamed::Memory)
-}
-
-/// The capture of lines that were taken in.
-fn finish_lines(
-    alloc: Global,
-    recorder: Recorder,
-    device: Option<Device>,
-    stream: LineStream,
-) -> Result<StreamedCapture, Unstreamed>
-    requires { IsAlongSome recorder device stream }
-    ensures { EndsUnstreamedOf recorder device stream result }
-{
-    match stream.finish(alloc, recorder, device) {
-        Ok(capture) => Ok(capture),
-        Err(fault) => Err(Unstreamed::of_lines(fault)),
-    }
+    Err(UnreadCapture::Memory)
 }
 
 /// A capture that a recorder printed, of which the first bytes were read.
@@ -164,22 +119,22 @@ fn stream_lines<R: Read + Drop>(
     records: &mut Records<R>,
     first: &FirstPart,
     part: &mut [u8],
-) -> Result<StreamedCapture, Unstreamed>
+) -> Result<StreamedCapture, UnreadCapture>
     requires room { 0 < length part.old }
     ensures { EndsLinesOf options.now recorder device first.now records.old.bytes records.new.failed result }
 {
     let Ok(mut stream) = LineStream::new(alloc, options) else {
-        return Err(Unstreamed::Memory);
+        return Err(UnreadCapture::Memory);
     };
     match stream.take(alloc, recorder, device, first.bytes.as_slice()) {
         Ok(()) => {}
-        Err(fault) => return Err(Unstreamed::of_lines(fault)),
+        Err(fault) => return Err(fault),
     }
     if first.is_whole {
-        return finish_lines(alloc, recorder, device, stream);
+        return stream.finish(alloc, recorder, device);
     }
     match take_rest(alloc, recorder, device, records, part, &mut stream) {
-        Ok(()) => finish_lines(alloc, recorder, device, stream),
+        Ok(()) => stream.finish(alloc, recorder, device),
         Err(fault) => Err(fault),
     }
 }
@@ -212,24 +167,67 @@ fn read_rest<R: Read + Drop>(
 fn stream_records(
     alloc: Global,
     options: &Options,
-    bytes: Vec<u8>,
-) -> Result<StreamedCapture, Unstreamed>
-    ensures ok { IfOk result (AreRecordsStreamed options.now bytes.items) }
-    ensures err { IfErr result (AreRecordsUnstreamed bytes.items) }
+    bytes: &[u8],
+) -> Result<StreamedCapture, UnreadCapture>
+    ensures ok { IfOk result (AreRecordsStreamed options.now bytes.now) }
+    ensures err { IfErr result (IsRecordsFault bytes.now) }
 {
-    let read = match read_records(alloc, bytes.as_slice()) {
+    let read = match read_records(alloc, bytes) {
         Ok(read) => read,
-        Err(fault) => return Err(Unstreamed::of_records(fault, bytes)),
+        Err(fault) => return Err(fault),
     };
     let Ok(mut streamed) = Streamed::new(alloc, options) else {
-        return Err(Unstreamed::Memory);
+        return Err(UnreadCapture::Memory);
     };
     match streamed.take_all(read.records.as_slice()) {
         Ok(()) => Ok(StreamedCapture {
             streamed,
             printed: None,
         }),
-        Err(_) => Err(Unstreamed::Memory),
+        Err(_) => Err(UnreadCapture::Memory),
+    }
+}
+
+/// A capture of the form that is asked for, or else of that which its first lines tell. All bytes of one of the form `blk-capture` are left in
+/// `kept`.
+fn stream_input<R: Read + Drop>(
+    alloc: Global,
+    form: Option<CaptureForm>,
+    device: Option<Device>,
+    options: &Options,
+    records: &mut Records<R>,
+    kept: &mut Vec<u8>,
+) -> Result<StreamedCapture, UnreadCapture>
+    ensures ok { IfOk result (IsStreamedFrom options.now form device records.old.bytes) }
+    ensures err { IfErr result (IsStreamFault form device records.old.bytes records.new.failed) }
+{
+    let Ok(mut part) = vec![in alloc; 0; PART] else {
+        return Err(UnreadCapture::Memory);
+    };
+    let first = match read_first(alloc, records, part.as_mut_slice()) {
+        Ok(first) => first,
+        Err(why) => return Err(UnreadCapture::Text(records.fault(why))),
+    };
+    let Ok(found) = form_taken(alloc, form, first.bytes.as_slice()) else {
+        return Err(UnreadCapture::Memory);
+    };
+    match found {
+        CaptureForm::Records => match read_rest(alloc, records, first) {
+            Ok(bytes) => {
+                *kept = bytes;
+                stream_records(alloc, options, kept.as_slice())
+            }
+            Err(why) => Err(UnreadCapture::Text(records.fault(why))),
+        },
+        CaptureForm::Printed(recorder) => stream_lines(
+            alloc,
+            recorder,
+            device,
+            options,
+            records,
+            &first,
+            part.as_mut_slice(),
+        ),
     }
 }
 
@@ -246,31 +244,11 @@ pub fn stream_source<R: Read + Drop>(
     records: &mut Records<R>,
 ) -> Result<StreamedCapture, Unstreamed>
     ensures ok { IfOk result (IsStreamedFrom options.now form device records.old.bytes) }
-    ensures err { IfErr result (IsStreamFault form device records.old.bytes records.new.failed) }
+    ensures err { IfErr result (λ x. IsStreamFault form device records.old.bytes records.new.failed x.fault) }
 {
-    let Ok(mut part) = vec![in alloc; 0; PART] else {
-        return Err(Unstreamed::Memory);
-    };
-    let first = match read_first(alloc, records, part.as_mut_slice()) {
-        Ok(first) => first,
-        Err(why) => return Err(Unstreamed::Outside(why)),
-    };
-    let Ok(found) = form_taken(alloc, form, first.bytes.as_slice()) else {
-        return Err(Unstreamed::Memory);
-    };
-    match found {
-        CaptureForm::Records => match read_rest(alloc, records, first) {
-            Ok(bytes) => stream_records(alloc, options, bytes),
-            Err(why) => Err(Unstreamed::Outside(why)),
-        },
-        CaptureForm::Printed(recorder) => stream_lines(
-            alloc,
-            recorder,
-            device,
-            options,
-            records,
-            &first,
-            part.as_mut_slice(),
-        ),
+    let mut bytes = Vec::new(alloc);
+    match stream_input(alloc, form, device, options, records, &mut bytes) {
+        Ok(capture) => Ok(capture),
+        Err(fault) => Err(Unstreamed { fault, bytes }),
     }
 }

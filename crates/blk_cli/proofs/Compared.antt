@@ -5,11 +5,9 @@ use Rattle.std.proofs.Math.Seq.{take-suc}
 use Rattle.std.proofs.lemmas.List.Elements.{All-nil, All-cons}
 use Rattle.blk_schedulers.specs.declared.sched.ComparedScheds.{ComparedScheds}
 use Rattle.blk_schedulers.specs.declared.sched.Sched.{Sched}
-use Rattle.blk_schedulers.specs.Scheds.{name_of, in_turn, policy_of}
-use Rattle.blk_runs.specs.declared.fault.RunFault.{RunFault}
-use Rattle.blk_runs.specs.declared.fault.RunFault.TheVariants as run
-use Rattle.blk_runs.specs.Runs.{IsTraceOfScript, IsRunFaultBy}
-use Rattle.blk_runs.specs.Firsts.{RunsWhole, AreUnrun}
+use Rattle.blk_schedulers.specs.Scheds.{name_of, in_turn}
+use Rattle.blk_runs.specs.Runs.{IsTraceOfScript}
+use Rattle.blk_runs.specs.Firsts.{RunsWhole}
 use Rattle.blk_text.specs.Script.{Scripted}
 use Rattle.answer.specs.declared.answer.Part.{Part}
 use Rattle.blk_report.specs.Table.{IsTable}
@@ -17,9 +15,7 @@ use Rattle.blk_report.specs.declared.figures.Report.{Report}
 use Rattle.blk_cli.specs.Forms.{written_in}
 use Rattle.blk_trace.specs.Traces.{Traced}
 use Rattle.blk_schedulers.specs.declared.form.Form.{Form}
-use Rattle.blk_cli.specs.Scripts.{FailsToRun}
-use Rattle.blk_cli.specs.Inside.Scripts.{failure_of_run}
-use Rattle.blk_cli.specs.Comparing.{IsReportUnder, AreUnder, AreReports, AreTraces, IsCompareFailure, IsComparedText}
+use Rattle.blk_cli.specs.Comparing.{IsReportUnder, AreUnder, AreReports, AreTraces, IsComparedText}
 
 -- nothing yet, one more, and as many as schedulers
 pub none_yet : {X : Type 0} (Comes : Sched → Scripted → X → Type 0) (s : Scripted) → AreUnder Comes [] s []
@@ -68,17 +64,6 @@ reports_whole ss s rs are = all_whole IsReportUnder report_whole ss s rs are
 
 pub traces_whole : (ss : List Sched) (s : Scripted) (ts : List Traced) → AreTraces ss s ts → All (RunsWhole s) ss
 traces_whole ss s ts are = all_whole IsTraceOfScript trace_whole ss s ts are
-
--- why a script is not run under one or each of some schedulers, as the program says it
-pub said_of_run : (x : Sched) (s : Scripted) (f : RunFault) → IsRunFaultBy (policy_of x) x s f → FailsToRun x s (failure_of_run f)
-said_of_run x s (run.Sched f) h = h
-said_of_run x s (run.Step f) h = h
-said_of_run x s run.Memory h = tt
-
-pub said_of_runs : (ss : List Sched) (s : Scripted) (f : RunFault) → AreUnrun ss s f → IsCompareFailure ss s (failure_of_run f)
-said_of_runs ss s (run.Sched f) h = h
-said_of_runs ss s (run.Step f) h = h
-said_of_runs ss s run.Memory h = tt
 
 -- the table of what was compared
 pub table_is : (l : ComparedScheds) (f : Form) (ss : List Sched) (s : Scripted) (rs : List Report) (told : List Part) (text : List ℕ) → ss ≡ in_turn l → AreReports ss s rs → IsTable (map name_of ss) rs told → text ≡ written_in f told → IsComparedText l f s text

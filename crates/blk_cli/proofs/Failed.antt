@@ -14,7 +14,7 @@ without_by words input bytes failed j f (none.Failure g) asks fails is = elim is
   | inl same ↦ inl (j, asks, subst (HasNoAnswer words j input bytes failed) (sym same) fails)
   | inr memory ↦ inr memory
 ]
-without_by words input bytes failed j f (none.Told fault text) asks fails is = (j, asks, subst (HasNoAnswer words j input bytes failed) is.0 fails, is.1)
+without_by words input bytes failed j f (none.Told fault text) asks fails is = (j, asks, f, fails, is.0, is.1)
 without_by words input bytes failed j f (none.Usage text) asks fails is = absurd is
 without_by words input bytes failed j f none.Excluded asks fails is = absurd is
 

@@ -10,7 +10,7 @@ use Rattle.blk_args.specs.declared.inputs.Running.{Running}
 use Rattle.blk_args.specs.declared.inputs.Running.TheVariants as running
 use Rattle.blk_schedulers.specs.declared.form.Form.{Form}
 use Rattle.blk_runs.specs.Runs.{IsTraceOfScript}
-use Rattle.blk_runs.specs.Firsts.{AreUnmade, IsFirstRefused}
+use Rattle.blk_runs.specs.Firsts.{AreUnrun}
 use Rattle.blk_schedulers.specs.declared.sched.ComparedScheds.{ComparedScheds}
 use Rattle.blk_schedulers.specs.declared.sched.Sched.{Sched}
 use Rattle.blk_schedulers.specs.Scheds.{name_of, in_turn}
@@ -54,8 +54,7 @@ AreDrawn l script = (traces : List Traced) × AreTraces (in_turn l) script trace
 
 -- why a script is not compared
 abbrev pub IsCompareFailure : List Sched → Scripted → Failure → Type 0
-IsCompareFailure scheds script (failure.Sched f) = AreUnmade scheds f
-IsCompareFailure scheds script (failure.Step f) = IsFirstRefused scheds script f
+IsCompareFailure scheds script (failure.Run f) = AreUnrun scheds script f
 IsCompareFailure scheds script failure.Memory = ⊤
 IsCompareFailure scheds script f = ⊥
 

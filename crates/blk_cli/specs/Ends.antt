@@ -23,8 +23,7 @@ use Rattle.blk_cli.specs.declared.failure.Failure.TheVariants as failure
 use Rattle.blk_cli.specs.Lines.{more_line, status_of, write_fault, LineOn, OwnLine}
 use Rattle.blk_args.specs.declared.words.Import.{Import}
 use Rattle.blk_args.specs.declared.words.Kept.{Kept}
-use Rattle.blk_capture_text.specs.Streams.{IsStreamFault}
-use Rattle.blk_capture_text.specs.declared.summing.Unstreamed.{Unstreamed}
+use Rattle.blk_capture_text.specs.declared.source.UnreadCapture.TheVariants as unread
 use Rattle.blk_cli.specs.Importing.{IsImportInputFailure, IsSummaryInputFailure, IsCaptureFailure}
 use Rattle.blk_cli.specs.Loading.{IsTextOfRun, IsFailureOfRun}
 use Rattle.blk_cli.specs.Said.{Said, said_of}
@@ -52,10 +51,14 @@ says_more why.Title = true
 says_more why.TooLong = true
 says_more w = false
 
+-- a failure that is the fault of a text
+abbrev pub IsOfText : Failure → TextFault → Type 0
+IsOfText f fault = (f ≡ failure.Text fault) ⊎ (f ≡ failure.Unread (unread.Text fault))
+
 -- what is said of a failure: itself, or that memory ran out; or, of such a fault, more than that
 abbrev pub IsFailureOf : Failure → NoText → Type 0
 IsFailureOf f (none.Failure g) = (g ≡ f) ⊎ (g ≡ failure.Memory)
-IsFailureOf f (none.Told fault text) = (f ≡ failure.Text fault) × (says_more fault.why ≡ true)
+IsFailureOf f (none.Told fault text) = IsOfText f fault × (says_more fault.why ≡ true)
 IsFailureOf f n = ⊥
 
 -- why a job has no answer
@@ -68,10 +71,6 @@ IsImportNoText k words i bytes failed n = (f : Failure) × IsImportInputFailure 
 abbrev pub IsSummaryNoText : Import → Option (List ℕ) → Bool → NoText → Type 0
 IsSummaryNoText i bytes failed n = (f : Failure) × IsSummaryInputFailure i bytes failed f × IsFailureOf f n
 
--- for what the input was refused
-abbrev pub IsSummaryFaultNoText : Import → Unstreamed → NoText → Type 0
-IsSummaryFaultNoText i x n = (input : Option (List ℕ)) (failed : Bool) → IsStreamFault i.source.form i.source.device input failed x → IsSummaryNoText i input failed n
-
 abbrev pub IsCaptureUnwritten : List (List ℕ) → Import → Option (List ℕ) → Bool → NoText → Type 0
 IsCaptureUnwritten words i bytes failed n = (f : Failure) × IsCaptureFailure words i bytes failed f × IsFailureOf f n
 
@@ -79,7 +78,7 @@ IsCaptureUnwritten words i bytes failed n = (f : Failure) × IsCaptureFailure wo
 abbrev pub IsWithout : List (List ℕ) → Option (List Row) → Option (List ℕ) → Bool → NoText → Type 0
 IsWithout words input bytes failed (none.Failure f) = ((j : Job) × Asks words j × HasNoAnswer words j input bytes failed f) ⊎ (f ≡ failure.Memory)
 IsWithout words input bytes failed (none.Told fault text) =
-    (j : Job) × Asks words j × HasNoAnswer words j input bytes failed (failure.Text fault) × (says_more fault.why ≡ true)
+    (j : Job) × Asks words j × (f : Failure) × HasNoAnswer words j input bytes failed f × IsOfText f fault × (says_more fault.why ≡ true)
 IsWithout words input bytes failed (none.Usage text) = AreFaulty words
 IsWithout words input bytes failed none.Excluded = NameNone words
 

@@ -33,7 +33,7 @@ use Rattle.blk_capture_text.specs.Imports.{IsImport, IsImportFault, first_time}
 use Rattle.blk_capture_text.specs.declared.counts.RecordCounts.{RecordCounts}
 use Rattle.blk_capture_text.specs.Shown.{IsShown, IsSummaryAnswer}
 use Rattle.blk_capture_text.specs.Streaming.{HasStreamed}
-use Rattle.blk_capture_text.specs.Streams.{IsCaptureTold, IsTextReadFault, IsInputReadFault}
+use Rattle.blk_capture_text.specs.Streams.{IsCaptureTold, IsStreamFault}
 use Rattle.blk_capture_text.specs.declared.lines.StreamedCapture.{StreamedCapture}
 use Rattle.blk_capture_text.specs.SummaryText.{counts_of, notice_line}
 use Rattle.blk_capture_text.specs.declared.importing.ImportAsked.{ImportAsked}
@@ -69,7 +69,6 @@ use Rattle.blk_args.specs.declared.words.Written.TheVariants as written
 use Rattle.blk_capture_text.specs.Source.{IsCaptureRead, IsCaptureUnread}
 use Rattle.blk_capture_text.specs.declared.source.CaptureRead.{CaptureRead}
 use Rattle.blk_capture_text.specs.declared.source.Printed.{Printed}
-use Rattle.blk_capture_text.specs.declared.source.UnreadCapture.TheVariants as unread
 use Rattle.blk_capture.specs.declared.requests.Matched.{Matched}
 use Rattle.blk_cli.specs.Explaining.{IsExplainFailure}
 use Rattle.blk_cli.specs.Notes.{IsDoubtTold, IsSourceTold}
@@ -265,9 +264,7 @@ pub record IsImportedOf (k : Kept) (words : List (List ℕ)) (i : Import) (bytes
 
 -- they are refused for their first fault
 abbrev pub IsCaptureTextFailure : Import → List ℕ → Failure → Type 0
-IsCaptureTextFailure i bytes (failure.Text f) = IsCaptureUnread i.source.form i.source.device bytes (unread.Text f)
-IsCaptureTextFailure i bytes (failure.Line f) = IsCaptureUnread i.source.form i.source.device bytes (unread.Line f)
-IsCaptureTextFailure i bytes failure.Memory = ⊤
+IsCaptureTextFailure i bytes (failure.Unread x) = IsCaptureUnread i.source.form i.source.device bytes x
 IsCaptureTextFailure i bytes f = ⊥
 
 -- or nothing is written of the capture that was read
@@ -327,8 +324,7 @@ pub record IsSummedFrom (i : Import) (input : Option (List ℕ)) (s : Said) : Ty
 
 -- or they have a first fault, the reader failed, or memory ran out
 abbrev pub IsSummaryInputFailure : Import → Option (List ℕ) → Bool → Failure → Type 0
-IsSummaryInputFailure i input failed (failure.Text x) = IsOutside failed x.why ⊎ IsTextReadFault i.source.form input x
-IsSummaryInputFailure i input failed (failure.Line x) = IsInputReadFault i.source.form i.source.device input x
+IsSummaryInputFailure i input failed (failure.Unread x) = IsStreamFault i.source.form i.source.device input failed x
 IsSummaryInputFailure i input failed failure.Memory = ⊤
 IsSummaryInputFailure i input failed f = ⊥
 

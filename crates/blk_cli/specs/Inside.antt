@@ -1,4 +1,3 @@
 -- What private functions and proofs alone need.
 pub mod Certificates
 pub mod Ends
-pub mod Scripts

@@ -6,16 +6,17 @@ use Rattle.edd_commands.specs.declared.faults.Beside.TheVariants as beside
 use Rattle.edd_commands.specs.Faults.{status_beside}
 use Rattle.edd_check.specs.Names.{check_told, on_time_told}
 use Rattle.edd_oracle.specs.Names.{oracle_told}
-use Rattle.blk_schedulers.specs.Names.{load_told, sched_told}
+use Rattle.blk_schedulers.specs.Names.{sched_told, unsettled_told}
 use Rattle.blk_records.specs.Names.{text_told}
-use Rattle.blk_sim.specs.Names.{step_told}
-use Rattle.blk_capture_text.specs.Names.{import_told}
+use Rattle.blk_runs.specs.Names.{run_told}
+use Rattle.blk_capture_text.specs.Names.{import_told, unread_told}
+use Rattle.blk_capture_text.specs.declared.source.UnreadCapture.TheVariants as unread
 use Rattle.blk_capture_text.specs.declared.importing.ImportFault.{ImportFault}
 use Rattle.blk_capture_text.specs.declared.importing.ImportFault.TheVariants as capture
 use Rattle.blk_arrivals.specs.Names.{arrivals_told}
 use Rattle.blk_arrivals.specs.declared.terms.ArrivalsFault.{ArrivalsFault}
 use Rattle.blk_arrivals.specs.declared.terms.ArrivalsFault.TheVariants as arrivals
-use Rattle.blk_recorders.specs.Names.{line_reason_name, line_told}
+use Rattle.blk_recorders.specs.Names.{line_reason_name}
 use Rattle.blk_recorders.specs.declared.fault.LineFault.{LineFault}
 use Rattle.blk_recorders.specs.declared.fault.LineReason.{LineReason}
 use Rattle.blk_recorders.specs.declared.fault.LineReason.TheVariants as printed
@@ -72,14 +73,14 @@ told_line name beside.Memory = want_of_memory
 -- the name of a failure, and what is told beside it: those of the fault behind it
 abbrev pub told_of : Failure → List ℕ × Beside
 told_of (failure.Text f) = text_told f
-told_of (failure.Line f) = line_told f
+told_of (failure.Unread f) = unread_told f
 told_of (failure.Sched f) = sched_told f
-told_of (failure.Step f) = step_told f
+told_of (failure.Run f) = run_told f
 told_of (failure.Solve f) = oracle_told f
 told_of (failure.Check f) = check_told f
 told_of (failure.OnTime f) = on_time_told f
 told_of failure.NotFixed = (codes "NotFixed", beside.Nothing)
-told_of (failure.Load f) = load_told f
+told_of (failure.Load f) = unsettled_told f
 told_of (failure.Import f) = import_told f
 told_of (failure.Arrivals f) = arrivals_told f
 told_of (failure.Words r) = (codes "Words", beside.Words)
@@ -106,7 +107,7 @@ ArrivalsLine fault P = OwnLine P
 
 -- this holds of the line on a failure
 abbrev pub LineOn : Failure → (List ℕ → Type 0) → Type 0
-LineOn (failure.Line f) P = PrintedLine f P
+LineOn (failure.Unread (unread.Line f)) P = PrintedLine f P
 LineOn (failure.Import f) P = ImportLine f P
 LineOn (failure.Arrivals f) P = ArrivalsLine f P
 LineOn (failure.Words r) P = OwnLine P

@@ -7,14 +7,12 @@ use Rattle.answer.specs.declared.answer.Part.TheVariants.{Member}
 use Rattle.blk_schedulers.specs.declared.sched.Sched.{Sched}
 use Rattle.blk_cli.specs.declared.failure.Failure.{Failure}
 use Rattle.blk_cli.specs.declared.failure.Failure.TheVariants as failure
-use Rattle.blk_schedulers.specs.Made.{IsSchedFault}
+use Rattle.blk_schedulers.specs.Made.{IsLoadSettingsFault}
 use Rattle.blk_schedulers.specs.Ran.{IsRunUnder}
-use Rattle.blk_schedulers.specs.Faults.{IsLoadFault}
 use Rattle.blk_schedulers.specs.Settles.{IsSettled, served_bios}
 use Rattle.blk_schedulers.specs.declared.Loaded.{Loaded}
 use Rattle.blk_schedulers.specs.declared.Settled.{Settled}
 use Rattle.blk_schedulers.specs.declared.Unsettled.{Unsettled}
-use Rattle.blk_schedulers.specs.declared.Unsettled.TheVariants as unsettled
 use Rattle.blk_schedulers.specs.declared.numbers.Load.{Load}
 use Rattle.blk_trace.specs.Events.{AreOnce}
 use Rattle.blk_trace.specs.Traces.{Traced}
@@ -50,8 +48,7 @@ SaysTimes false s = IsAlone s
 
 -- why a load comes to nothing: its scheduler isn't made, or the load fails; nothing is read
 abbrev pub IsLoadFailure : Sched → Load → Failure → Type 0
-IsLoadFailure s l (failure.Sched f) = IsSchedFault s f
-IsLoadFailure s l (failure.Load f) = IsLoadFault l f
+IsLoadFailure s l (failure.Load f) = IsLoadSettingsFault s l f
 IsLoadFailure s l failure.Memory = ⊤
 IsLoadFailure s l f = ⊥
 
@@ -63,6 +60,5 @@ pub record IsTextOfRun (ends_as : Sched → Load → Result Loaded Unsettled →
 
 -- and what is told of one: what it failed with, or that memory ran out
 abbrev pub IsFailureOfRun : (Sched → Load → Result Loaded Unsettled → Type 0) → Sched → Load → Failure → Type 0
-IsFailureOfRun ends_as s l (failure.Sched f) = ends_as s l (Err (unsettled.Sched f))
-IsFailureOfRun ends_as s l (failure.Load f) = ends_as s l (Err (unsettled.Load f))
+IsFailureOfRun ends_as s l (failure.Load f) = ends_as s l (Err f)
 IsFailureOfRun ends_as s l f = f ≡ failure.Memory

@@ -2,8 +2,7 @@
 use Rattle.std.specs.Prelude.{⊤, ℕ, List}
 use Rattle.blk_trace.specs.Traces.{Traced}
 use Rattle.blk_text.specs.Script.{Scripted}
-use Rattle.blk_runs.specs.Runs.{IsTraceOfScript, IsRefusedUnder}
-use Rattle.blk_schedulers.specs.Made.{IsSchedFault}
+use Rattle.blk_runs.specs.Runs.{IsTraceOfScript, IsRunFault}
 use Rattle.blk_schedulers.specs.declared.sched.Sched.{Sched}
 use Rattle.blk_cli.specs.OfTraces.{IsTraceText}
 use Rattle.blk_cli.specs.declared.failure.Failure.{Failure}
@@ -15,9 +14,8 @@ pub record IsSimText (s : Sched) (script : Scripted) (text : List ℕ) : Type 0 
   pub is_trace : IsTraceOfScript s script trace
   pub is_text : IsTraceText trace text
 
--- its scheduler isn't made of its settings, or a step is refused
+-- the script isn't run, or memory ran out
 abbrev pub FailsToRun : Sched → Scripted → Failure → Type 0
-FailsToRun s script (failure.Sched f) = IsSchedFault s f
-FailsToRun s script (failure.Step f) = IsRefusedUnder s script f
+FailsToRun s script (failure.Run f) = IsRunFault s script f
 FailsToRun s script failure.Memory = ⊤
 FailsToRun s script f = ⊥

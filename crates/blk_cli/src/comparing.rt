@@ -117,7 +117,7 @@ pub fn table_of(
     let rows = scheds.as_slice();
     let reports = match compared(alloc, rows, script) {
         Ok(reports) => reports,
-        Err(fault) => return Err(Failure::of_run(fault)),
+        Err(fault) => return Err(Failure::Run(fault)),
     };
     let Ok(answer) = table_under(alloc, rows, reports.as_slice()) else {
         return Err(Failure::Memory);

@@ -4,18 +4,16 @@ ghost use Rattle.std.specs.Prelude.{◌≡◌, ◌≤◌, decimal};
 ghost use Rattle.text_output.specs.Outputs.{Writes, stream_of};
 ghost use Rattle.blk_cli.specs.Lines.{line, numbered, signed_line, at_record, more_line, at_line, told_of, told_line, status_of, OwnLine, PrintedLine, ImportLine, ArrivalsLine, LineOn};
 ghost use Rattle.blk_cli.specs.Ends.{EndsFailing};
-ghost use Rattle.blk_cli.specs.Inside.Scripts.{failure_of_run};
 
 use crate::Ended;
 use blk_args::Refusal;
 use blk_arrivals::ArrivalsFault;
-use blk_capture_text::ImportFault;
+use blk_capture_text::{ImportFault, UnreadCapture};
 use blk_recorders::{LineFault, LineReason};
 use blk_records::TextFault;
 use blk_runs::RunFault;
 use blk_schedulers::given::MAX_LISTED;
-use blk_schedulers::{Complaint, LoadFault, SchedFault};
-use blk_sim::SimFault;
+use blk_schedulers::{Complaint, SchedFault, Unsettled};
 use edd_check::{CheckFault, OnTimeFault};
 use edd_commands::{Beside, Fault, Told};
 use edd_oracle::OracleFault;
@@ -40,12 +38,12 @@ const TOO_LONG: &str =
 pub enum Failure {
     /// The text that was read is wrong, or its reader failed.
     Text(TextFault),
-    /// A line that a recorder printed is wrong.
-    Line(LineFault),
+    /// The capture is not read.
+    Unread(UnreadCapture),
     /// The scheduler is not made of its settings.
     Sched(SchedFault),
-    /// A step of the script is refused.
-    Step(SimFault),
+    /// The script is not run.
+    Run(RunFault),
     /// The oracle refuses the commands.
     Solve(OracleFault),
     /// The check refuses the certificate.
@@ -54,8 +52,8 @@ pub enum Failure {
     OnTime(OnTimeFault),
     /// The trace has no command list: an event sets a depth, and a command list has one.
     NotFixed,
-    /// The load fails.
-    Load(LoadFault),
+    /// The load has no result.
+    Load(Unsettled),
     /// The capture is not imported.
     Import(ImportFault),
     /// The arrivals of the capture are no script.
@@ -69,23 +67,12 @@ pub enum Failure {
 }
 
 impl Failure {
-    /// The failure of a script that is not run.
-    pub(crate) fn of_run(fault: RunFault) -> Failure
-        ensures { result ≡ failure_of_run fault }
-    {
-        match fault {
-            RunFault::Sched(fault) => Failure::Sched(fault),
-            RunFault::Step(fault) => Failure::Step(fault),
-            RunFault::Memory => Failure::Memory,
-        }
-    }
-
     /// Writes the failure's line: `blk: ` and what was refused, where it stands or which id or number it has.
     fn tell<F: Write>(&self, faults: &mut Output<F>) -> Result<(), WriteFault>
         ensures { LineOn self.now (λ text. Writes text (stream_of F.contents faults.old) (stream_of F.contents faults.new) result) }
     {
         match self {
-            Failure::Line(fault) => tell_line(faults, *fault),
+            Failure::Unread(UnreadCapture::Line(fault)) => tell_line(faults, *fault),
             Failure::Import(fault) => tell_import(faults, *fault),
             Failure::Arrivals(fault) => tell_arrivals(faults, *fault),
             Failure::Words(refusal) => tell_words(faults, *refusal),
@@ -115,9 +102,9 @@ impl Fault for Failure {
     fn told(&self) -> Told {
         match self {
             Failure::Text(fault) => fault.told(),
-            Failure::Line(fault) => fault.told(),
+            Failure::Unread(fault) => fault.told(),
             Failure::Sched(fault) => fault.told(),
-            Failure::Step(fault) => fault.told(),
+            Failure::Run(fault) => fault.told(),
             Failure::Solve(fault) => fault.told(),
             Failure::Check(fault) => fault.told(),
             Failure::OnTime(fault) => fault.told(),

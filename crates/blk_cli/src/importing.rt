@@ -4,12 +4,11 @@ ghost use Rattle.std.specs.Prelude.{◌≡◌, ◌≤◌, List, [], IfOk, IfErr,
 ghost use Rattle.blk_capture.specs.Requests.{AreInOrder};
 ghost use Rattle.blk_capture.specs.declared.record.Record.{Record};
 ghost use Rattle.blk_capture_text.specs.Shown.{IsShown};
-ghost use Rattle.blk_capture_text.specs.Source.{IsCaptureRead};
 ghost use Rattle.blk_capture_text.specs.Streaming.{HasStreamed};
 ghost use Rattle.blk_capture_text.specs.Streams.{IsSummable};
 ghost use Rattle.blk_cli.specs.Said.{said_of};
-ghost use Rattle.blk_cli.specs.Importing.{entry_asked, most_asked, asked_of, terms_of, IsMadeOf, IsOutputFailure, IsScripted, IsScriptFailure, IsImported, IsImportFailure, noted, tags_asked, SaysFrom, IsImportedFrom, IsCaptureTextFailure, IsWrittenOf, IsReadCaptureFailure, SumsUp, IsSummedFrom, IsCaptureWritten};
-ghost use Rattle.blk_cli.specs.Ends.{IsFailureOf, IsImportNoText, IsSummaryNoText, IsSummaryFaultNoText, IsCaptureUnwritten};
+ghost use Rattle.blk_cli.specs.Importing.{entry_asked, most_asked, asked_of, terms_of, IsMadeOf, IsOutputFailure, IsScripted, IsScriptFailure, IsImported, IsImportFailure, noted, tags_asked, SaysFrom, IsImportedFrom, IsWrittenOf, IsReadCaptureFailure, SumsUp, IsSummedFrom, IsCaptureWritten};
+ghost use Rattle.blk_cli.specs.Ends.{IsFailureOf, IsImportNoText, IsSummaryNoText, IsCaptureUnwritten};
 
 use crate::blaming::blamed;
 use crate::failure::Failure;
@@ -25,7 +24,7 @@ use blk_capture_text::{
     CaptureRead, ImportAsked, Printed, RecordCounts, ShownImport, StreamedCapture, UnreadCapture,
     Unstreamed, read_source, shown_text, stream_source, summary_answer,
 };
-use blk_records::{Records, TextFault};
+use blk_records::Records;
 use std::alloc::{AllocError, Global};
 use std::io::Read;
 use std::thread::Threads;
@@ -201,20 +200,6 @@ fn with_source(
     }
 }
 
-/// The capture that bytes are, by what is wanted of it.
-fn capture_of(alloc: Global, wanted: Import, bytes: &[u8]) -> Result<CaptureRead, Failure>
-    ensures ok { IfOk result (IsCaptureRead wanted.source.form wanted.source.device bytes.now) }
-    ensures in_order { IfOk result (λ r. AreInOrder r.records.items (length r.records.items)) }
-    ensures err { IfErr result (IsCaptureTextFailure wanted bytes.now) }
-{
-    match read_source(alloc, wanted.source.form, wanted.source.device, bytes) {
-        Ok(read) => Ok(read),
-        Err(UnreadCapture::Text(fault)) => Err(Failure::Text(fault)),
-        Err(UnreadCapture::Line(fault)) => Err(Failure::Line(fault)),
-        Err(UnreadCapture::Memory) => Err(Failure::Memory),
-    }
-}
-
 /// What is written of a capture that was read.
 fn over_read<T: Threads + Sync, P: Progress>(
     rt: &T,
@@ -248,13 +233,16 @@ fn over_read<T: Threads + Sync, P: Progress>(
     }
 }
 
-/// Why nothing is written of bytes, given the failure: of what is no capture, what they are.
-fn untaken(alloc: Global, wanted: Import, bytes: &[u8], failure: Failure) -> NoText
-    ensures { IsFailureOf failure result }
+/// Why nothing is written of bytes that aren't read: of what is no capture, what they are.
+fn untaken(alloc: Global, wanted: Import, bytes: &[u8], fault: UnreadCapture) -> NoText
+    ensures { IsFailureOf (Failure.Unread fault) result }
 {
     let mut records = Records::new(alloc, bytes);
     match records.advance() {
-        Ok(_) => without(alloc, Job::Import(wanted), failure, records.row()),
+        Ok(_) => {
+            let failure = Failure::Unread(fault);
+            without(alloc, Job::Import(wanted), failure, records.row())
+        }
         Err(_) => NoText::Failure(Failure::Memory),
     }
 }
@@ -300,20 +288,6 @@ fn summed(alloc: Global, wanted: Import, capture: StreamedCapture) -> Result<Ans
     }
 }
 
-/// Why there are no numbers of a capture. More is said of the title of a text that is none.
-fn unsummed(alloc: Global, wanted: Import, fault: Unstreamed, at: u64) -> NoText
-    ensures { IsSummaryFaultNoText wanted fault result }
-{
-    match fault {
-        Unstreamed::Text(fault, bytes) => {
-            untaken(alloc, wanted, bytes.as_slice(), Failure::Text(fault))
-        }
-        Unstreamed::Line(fault) => NoText::Failure(Failure::Line(fault)),
-        Unstreamed::Outside(why) => NoText::Failure(Failure::Text(TextFault { at, why })),
-        Unstreamed::Memory => NoText::Failure(Failure::Memory),
-    }
-}
-
 /// Puts the input, a capture, in numbers as its bytes come. Of these none is kept that is not needed.
 fn over_summary<R: Read + Drop>(
     alloc: Global,
@@ -327,7 +301,10 @@ fn over_summary<R: Read + Drop>(
     let source = wanted.source;
     let capture = match stream_source(alloc, source.form, source.device, &options, records) {
         Ok(capture) => capture,
-        Err(fault) => return Err(unsummed(alloc, wanted, fault, records.at())),
+        Err(unstreamed) => {
+            let Unstreamed { fault, bytes } = unstreamed;
+            return Err(untaken(alloc, wanted, bytes.as_slice(), fault));
+        }
     };
     match summed(alloc, wanted, capture) {
         Ok(answer) => Ok(answer),
@@ -353,9 +330,10 @@ fn over_whole<T: Threads + Sync, R: Read + Drop, P: Progress>(
         Ok(bytes) => bytes,
         Err(why) => return Err(NoText::Failure(Failure::Text(records.fault(why)))),
     };
-    let read = match capture_of(alloc, wanted, bytes.as_slice()) {
+    let source = wanted.source;
+    let read = match read_source(alloc, source.form, source.device, bytes.as_slice()) {
         Ok(read) => read,
-        Err(failure) => return Err(untaken(alloc, wanted, bytes.as_slice(), failure)),
+        Err(fault) => return Err(untaken(alloc, wanted, bytes.as_slice(), fault)),
     };
     drop(bytes);
     match over_read(rt, alloc, words, wanted, kept, &read, progress) {

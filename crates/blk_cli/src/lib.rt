@@ -44,6 +44,7 @@ use crate::titles::more_of;
 use crate::traces::over_trace;
 use crate::tuning::over_trial;
 use blk_args::{Job, NoJob, TextJob, choose, version};
+use blk_capture_text::UnreadCapture;
 use blk_records::{Records, TextFault, TextReason};
 use blk_schedulers::Loads;
 pub use blk_sim::laws;
@@ -247,8 +248,10 @@ fn says_more(why: TextReason) -> bool
 fn without(alloc: Global, job: Job, failure: Failure, row: &ByteRecord) -> NoText
     ensures { IsFailureOf failure result }
 {
-    let Failure::Text(fault) = failure else {
-        return NoText::Failure(failure);
+    let fault = match failure {
+        Failure::Text(fault) => fault,
+        Failure::Unread(UnreadCapture::Text(fault)) => fault,
+        _ => return NoText::Failure(failure),
     };
     if !says_more(fault.why) {
         return NoText::Failure(failure);

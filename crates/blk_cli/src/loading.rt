@@ -11,7 +11,7 @@ use crate::forms::written;
 use answer::names::{ACCEPTED, LEFT, SERVED};
 use answer::{Answer, Value, member};
 use blk_args::{Form, ShownLoad};
-use blk_schedulers::{Load, Loaded, Loads, Sched, Settled, Unsettled};
+use blk_schedulers::{Load, Loaded, Loads, Sched, Settled};
 use blk_text::trace_text;
 use std::alloc::{AllocError, Global};
 use std::sync::Wait;
@@ -114,7 +114,6 @@ pub fn run_load<L: Loads, R: Threads + Wait + Sync>(
             Ok(answer) => Ok(answer),
             Err(_) => Err(Failure::Memory),
         },
-        Err(Unsettled::Sched(fault)) => Err(Failure::Sched(fault)),
-        Err(Unsettled::Load(fault)) => Err(Failure::Load(fault)),
+        Err(fault) => Err(Failure::Load(fault)),
     }
 }

@@ -64,7 +64,7 @@ pub fn pictures_of(
     let rows = scheds.as_slice();
     let traces = match drawn_under(alloc, rows, script) {
         Ok(traces) => traces,
-        Err(fault) => return Err(Failure::of_run(fault)),
+        Err(fault) => return Err(Failure::Run(fault)),
     };
     let Ok(names) = names_of(alloc, rows) else {
         return Err(Failure::Memory);

@@ -28,7 +28,7 @@ fn simulated(alloc: Global, sched: Sched, script: &Script) -> Result<Vec<u8>, Fa
 {
     let trace = match traced(alloc, sched, script) {
         Ok(trace) => trace,
-        Err(fault) => return Err(Failure::of_run(fault)),
+        Err(fault) => return Err(Failure::Run(fault)),
     };
     match trace_text(alloc, &trace) {
         Ok(text) => Ok(text),

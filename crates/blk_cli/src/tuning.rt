@@ -75,7 +75,7 @@ fn trial_of<T: Threads + Sync, P: Progress>(
     };
     match tuned_in(rt, alloc, tuning.form, &asked, script, progress) {
         Ok(text) => Ok(text),
-        Err(fault) => Err(Failure::of_run(fault)),
+        Err(fault) => Err(Failure::Run(fault)),
     }
 }
 

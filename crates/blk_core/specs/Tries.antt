@@ -2,7 +2,6 @@
 use Rattle.std.specs.Prelude.{ℕ, ◌≡◌, ◌<◌, ◌≤◌, ◌⊎◌, ◌+◌, Bool, List, None, fold, if◌then◌else◌}
 use Rattle.blk_trace.specs.Happened.{Happened}
 use Rattle.blk_trace.specs.Kinds.{is_tick, is_issue}
-use Rattle.blk_trace.specs.Events.{open_count}
 use Rattle.blk_trace.specs.Depths.{depth_now}
 use Rattle.blk_sched.specs.Meaning.{Waiting}
 use Rattle.blk_sched.specs.Policies.{OfTick, Choice}
@@ -11,12 +10,15 @@ use Rattle.blk_core.specs.Faults.{IsIssueFault, IsTickFault}
 use Rattle.blk_core.specs.Calls.{Ends, Issues}
 use Rattle.blk_core.specs.declared.trying.NoneIssued.{NoneIssued}
 use Rattle.blk_core.specs.declared.trying.NoneIssued.TheVariants as none
+use Rattle.blk_core.specs.declared.refusals.IssueFault.{IssueFault}
 use Rattle.blk_core.specs.declared.refusals.IssueFault.TheVariants as issue
-use Rattle.blk_core.specs.declared.refusals.TickFault.TheVariants as tick
 
--- the tag is used up in the current round: it was issued in it, or isn't below its depth
+-- an issue is refused so where its tag is used up in the current round: it was issued in it, or isn't below its depth
+abbrev pub IsOfUsedUp : IssueFault → Type 0
+IsOfUsedUp why = (why ≡ issue.TagRange) ⊎ (why ≡ issue.SlotUsed)
+
 abbrev pub IsUsedUp : CoreState → ℕ → ℕ → Type 0
-IsUsedUp c hw tag = IsIssueFault c hw tag issue.SlotUsed ⊎ IsIssueFault c hw tag issue.TagRange
+IsUsedUp c hw tag = (why : IssueFault) × IsOfUsedUp why × IsIssueFault c hw tag why
 
 -- how many commands were issued in the current round after an event, by how many were before it
 abbrev pub issued_after : ℕ → Happened → ℕ
@@ -36,11 +38,6 @@ CarriesMore c = issued_now c.events < depth_now c.setup c.events
 -- why a try issues nothing, and what it does: a round ends only where it is full, the tag is used up in it, and no command is in flight
 abbrev pub IsNoneIssued : (ℕ → Waiting → Bool) → Choice → OfTick → CoreState → ℕ → ℕ → NoneIssued → CoreState → Type 0
 IsNoneIssued serves chooses told old hw tag none.Nothing new = Issues serves chooses old hw tag None new
-IsNoneIssued serves chooses told old hw tag none.TagRange new = IsIssueFault old hw tag issue.TagRange × CarriesMore old × (new ≡ old)
-IsNoneIssued serves chooses told old hw tag none.SlotUsed new = IsIssueFault old hw tag issue.SlotUsed × CarriesMore old × (new ≡ old)
-IsNoneIssued serves chooses told old hw tag none.Full new = IsUsedUp old hw tag × IsFull old × (0 < open_count old.events) × (new ≡ old)
+IsNoneIssued serves chooses told old hw tag (none.Issue why) new = IsIssueFault old hw tag why × (IsOfUsedUp why → CarriesMore old) × (new ≡ old)
+IsNoneIssued serves chooses told old hw tag (none.Tick why) new = IsUsedUp old hw tag × IsFull old × IsTickFault old why × (new ≡ old)
 IsNoneIssued serves chooses told old hw tag none.Ended new = IsUsedUp old hw tag × IsFull old × Ends told old new
-IsNoneIssued serves chooses told old hw tag none.TraceFull new =
-    (IsIssueFault old hw tag issue.TraceFull ⊎ (IsUsedUp old hw tag × IsFull old × IsTickFault old tick.TraceFull)) × (new ≡ old)
-IsNoneIssued serves chooses told old hw tag none.Memory new =
-    (IsIssueFault old hw tag issue.Memory ⊎ (IsUsedUp old hw tag × IsFull old × IsTickFault old tick.Memory)) × (new ≡ old)

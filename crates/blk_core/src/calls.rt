@@ -196,7 +196,7 @@ impl<S: Scheduler> Core<S> {
 
     /// The first reason not to release a request for a hardware queue, memory aside, in the order of [`Core::release`]. There
     /// is none exactly where the request may be released.
-    pub fn release_fault(&self, request: &Request<S::A>, hw: u8) -> Option<CoreFault>
+    fn release_fault(&self, request: &Request<S::A>, hw: u8) -> Option<CoreFault>
         ensures some { IfSome result (IsReleaseFault self.now request.now hw) }
         ensures none { IfNone result (CanRelease self.now request.now hw) }
     {

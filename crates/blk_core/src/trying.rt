@@ -17,18 +17,12 @@ use std::alloc::Allocator;
 pub enum NoneIssued {
     /// There is none for the hardware queue.
     Nothing,
-    /// The tag is not below the depth of this round, which carries more commands under others.
-    TagRange,
-    /// The tag was issued in this round, which carries more commands under others.
-    SlotUsed,
-    /// The round is full, and a command is in flight in it.
-    Full,
+    /// [`Core::issue`] is refused so; where the tag is used up in the round, that carries more commands under others.
+    Issue(IssueFault),
+    /// The round is full, and its end is refused so.
+    Tick(TickFault),
     /// The round was full, and has ended.
     Ended,
-    /// The trace has no places for an Issue and its end, or for the end of the round.
-    TraceFull,
-    /// Memory ran out.
-    Memory,
 }
 
 impl<S: Scheduler> Core<S> {
@@ -36,34 +30,27 @@ impl<S: Scheduler> Core<S> {
     /// ends the round unless a command is in flight in it. A round is full where as many commands were issued in it as it carries.
     /// The hardware queue and the tag are the setup's.
     ///
-    /// Nothing is issued, by the first of these that applies: as `TagRange` or `SlotUsed` where the tag is used up in the round, which
-    /// carries more commands; as `Full` or `Ended` where it is used up and the round is full; as `TraceFull` and `Memory` where
-    /// [`Core::issue`] is refused so, or where the trace has no place for the end of the round, or no memory; and as `Nothing` where
-    /// that gives no command.
+    /// Nothing is issued, by the first of these that applies: as `Issue` where [`Core::issue`] is refused, but for a tag that is used up
+    /// in a full round; as `Ended` or `Tick` there; and as `Nothing` where [`Core::issue`] gives no command.
     pub fn try_issue(&mut self, hw: u8, tag: u16) -> Result<Command, NoneIssued>
         requires queue { hw < self.old.setup.hw }
         requires range { tag < self.old.setup.depth }
         ensures issued { IfOk result (λ command. Issues S.policy.serves S.policy.chooses self.old hw tag (Some command) self.new) }
         ensures fault { IfErr result (λ why. IsNoneIssued S.policy.serves S.policy.chooses S.policy.told_tick self.old hw tag why self.new) }
     {
-        let used_up = match self.issue(hw, tag) {
+        let why = match self.issue(hw, tag) {
             Ok(Some(command)) => return Ok(command),
             Ok(None) => return Err(NoneIssued::Nothing),
-            Err(IssueFault::NoQueue) => unreachable!(),
-            Err(IssueFault::TagRange) => NoneIssued::TagRange,
-            Err(IssueFault::SlotUsed) => NoneIssued::SlotUsed,
-            Err(IssueFault::TraceFull) => return Err(NoneIssued::TraceFull),
-            Err(IssueFault::Memory) => return Err(NoneIssued::Memory),
+            Err(why) => why,
         };
+        let is_used_up = matches!(why, IssueFault::TagRange | IssueFault::SlotUsed);
         let trace = self.trace();
-        if issued_now(trace.events()) < trace.depth_now() {
-            return Err(used_up);
+        if !is_used_up || issued_now(trace.events()) < trace.depth_now() {
+            return Err(NoneIssued::Issue(why));
         }
         match self.tick() {
             Ok(_) => Err(NoneIssued::Ended),
-            Err(TickFault::InFlight(_)) => Err(NoneIssued::Full),
-            Err(TickFault::TraceFull) => Err(NoneIssued::TraceFull),
-            Err(TickFault::Memory) => Err(NoneIssued::Memory),
+            Err(why) => Err(NoneIssued::Tick(why)),
         }
     }
 }

@@ -9,12 +9,14 @@ ghost use Rattle.blk_index.specs.Index.{NoneOf};
 ghost use Rattle.blk_index.specs.Inside.Search.{IsIdOf};
 ghost use Rattle.blk_deadline.specs.Choice.{oldest_of, position_in, last_dir, due_or_next, taken, handed_out, batch_after, batch_at_first, deadline_kept, AreKnown, deadline_chooses, deadline_policy};
 ghost use Rattle.blk_sched.specs.Policies.{serves_all};
+ghost use Rattle.blk_deadline.specs.Names.{deadline_told};
 ghost use Rattle.blk_deadline.specs.Shown.{batch_of, tunables_of, kept_in, choice_at, meaning_of};
 ghost use Rattle.blk_deadline.specs.Inside.Parts.{IsBatchChoice, lies_at, after_last_in, from_in, next_in, batch_next};
 
 use blk_bio::{Dir, Extent, Limits, MAX_QUEUES, Side};
-use blk_index::Sorted;
+use blk_index::{Place, Sorted};
 use blk_sched::{MAX_OPEN, MAX_REQUEUED, OpenPicks, Queued, Scheduler};
+use edd_commands::{Fault, Told, told};
 use std::alloc::{AllocError, Allocator, Global};
 use thiserror::Error;
 
@@ -52,12 +54,23 @@ impl Tunables {
 
 /// Why a scheduler is not made, in the order in which the reasons are looked for.
 #[derive(Clone, Copy, Debug, PartialEq, Eq, Error)]
-#[error("{:?}", self)]
+#[error("{}", self.name())]
 pub enum DeadlineFault {
     /// A batch of no request.
     ZeroBatch,
     /// Memory ran out.
     Memory,
+}
+
+impl Fault for DeadlineFault {
+    ghost told = { deadline_told };
+
+    fn told(&self) -> Told {
+        told!(self: DeadlineFault {
+            ZeroBatch,
+            Memory => Memory,
+        })
+    }
 }
 
 /// What was picked last.
@@ -89,7 +102,7 @@ pub struct BatchState {
 /// Requests by sectors within a batch, and by due rounds between them.
 #[derive(Drop)]
 pub struct Deadline<A: Allocator = Global> {
-    index: Sorted<A>,
+    index: Sorted<Place, A>,
     tunables: Tunables,
     batch: BatchState,
     open_picks: OpenPicks,

@@ -12,9 +12,8 @@ use Rattle.std.specs.List.Sorted.{IsStrictlySortedBy}
 use Rattle.std.proofs.lemmas.Map.Keys.{sorted_head, sorted_tail}
 use Rattle.blk_sched.specs.Meaning.{Waiting, Pending}
 use Rattle.blk_sched.proofs.Maps.{behind, at_front, in_order, looked_up}
-use Rattle.blk_index.specs.Index.{IsBefore}
+use Rattle.blk_index.specs.Index.{IsBefore, IsFirstFrom, NoneFrom}
 use Rattle.blk_earliest.specs.Choice.{comes_before, first_of_two, first_due, on_time}
-use Rattle.blk_earliest.specs.Inside.Dues.{IsFirstFrom, NoneFrom}
 
 -- ---- tests
 

@@ -1,3 +1,2 @@
--- What invariants, private methods and proofs alone need: due rounds with ids, and what a scheduler of this kind shows.
-pub mod Dues
+-- What private methods and proofs alone need: what a scheduler of this kind shows.
 pub mod Shown

@@ -10,17 +10,15 @@ ghost use Rattle.blk_sched.specs.Policies.{serves_all};
 ghost use Rattle.blk_earliest.specs.Shown.{late_last_of, meaning_of};
 ghost use Rattle.blk_earliest.specs.Inside.Shown.{pending_of, setting_of};
 
-mod by_due;
-
-use crate::by_due::ByDue;
 use blk_bio::{Dir, Extent, Limits, MAX_QUEUES, Side};
+use blk_index::{Due, Sorted};
 use blk_sched::{MAX_OPEN, OpenPicks, Queued, Scheduler};
 use std::alloc::{AllocError, Allocator, Global};
 
 /// Requests by their due rounds, and of one due round by their ids. All hardware queues share them.
 #[derive(Drop)]
 pub struct Earliest<A: Allocator = Global> {
-    waiting: ByDue<A>,
+    waiting: Sorted<Due, A>,
     late_last: bool,
     open_picks: OpenPicks,
 }
@@ -33,7 +31,7 @@ impl<A: Allocator + Clone> Earliest<A> {
         ensures setting { IfOk result (λ s. late_last_of s ≡ late_last) }
     {
         Ok(Earliest {
-            waiting: ByDue::new(alloc)?,
+            waiting: Sorted::new(alloc)?,
             late_last,
             open_picks: OpenPicks::none(),
         })
@@ -103,7 +101,7 @@ impl<A: Allocator + Clone> Scheduler for Earliest<A> {
     #[inline(always)]
     fn candidate(&self, hw: u8, limits: &Limits, newcomer: &Extent) -> Option<(u64, Side)> {
         let _ = hw;
-        self.waiting.candidate(newcomer, limits)
+        self.waiting.candidate(newcomer, limits, true)
     }
 
     fn join(

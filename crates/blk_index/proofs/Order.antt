@@ -1,29 +1,41 @@
--- The oldest request of a direction, and the next one by its first sector.
+-- The next request of a direction by its first sector.
 use Rattle.std.proofs.Common.{◌≡◌, ◌<◌, inl, inr, ℕ, Bool, true, false, sym, ap, subst, ◌∙◌, refl, arith, Some, None, Option}
+use mathlib.Core.Bool.{beq}
 use Rattle.std.specs.Ordering.{nat_cmp, ordering_then, is_eq, is_gt}
 use Rattle.std.specs.Cmp.{nat_cmp_total, ranked, tied_itself}
+use Rattle.std.specs.declared.cmp.Ordering.{Ordering}
 use Rattle.std.specs.declared.cmp.Ordering.TheVariants.{Less, Equal, Greater}
 use Rattle.blk_bio.specs.declared.bio.Dir.{Dir}
 use Rattle.blk_bio.specs.declared.bio.Dir.TheVariants.{Read, Write}
-use Rattle.blk_bio.specs.Extents.{Extent}
+use Rattle.ordered.specs.Ordered.{IsLeastAbove, NoneAbove}
 use Rattle.blk_sched.specs.Meaning.{Waiting}
-use Rattle.blk_index.specs.Inside.Spots.{DirSector, Spot, place_cmp, spot_cmp, is_write, is_placed, AreSpots, first_at}
-use Rattle.blk_index.specs.Index.{IsNext, IsBefore}
+use Rattle.blk_index.specs.Inside.Spots.{DirSector, Spot, place_cmp, is_write, begin_of}
+use Rattle.blk_index.specs.Keys.{keyed_cmp, has_key, IsIndexOf}
+use Rattle.blk_index.specs.Index.{IsNext, NoNext, IsBefore}
 use Rattle.blk_index.proofs.Listed.{same_place, is_equal, place_itself, nat_less, lt_of}
-use Rattle.blk_index.proofs.Indexed.{Found, Has}
+use Rattle.blk_index.proofs.Indexed.{Found}
 
-pub same_dir : (d e : Dir) → is_write d ≡ is_write e → d ≡ e
+same_dir : (d e : Dir) → is_write d ≡ is_write e → d ≡ e
 same_dir Read Read h = refl
 same_dir Read Write h = cc
 same_dir Write Read h = cc
 same_dir Write Write h = refl
 
-placed : (at : Extent → DirSector) (p : DirSector) (o : Option Waiting) → is_placed at p o ≡ true → (w : Waiting) × (o ≡ Some w) × (at w.extent ≡ p)
-placed at p None h = absurd (cc)
-placed at p (Some w) h = (w, refl, same_place (at w.extent) p (is_equal (place_cmp (at w.extent) p) h))
+abbrev Has : Type 0
+Has = Spot → Bool
 
-pub standing : (at : Extent → DirSector) (found : Found) (has : Has) (k : ℕ) (v : Waiting) → AreSpots at found has → found k ≡ Some v → has (at v.extent, k) ≡ true
-standing at found has k v spots is = spots (at v.extent) k ∙ ap (is_placed at (at v.extent)) is ∙ ap is_eq (place_itself (at v.extent))
+abbrev spot_cmp : Spot → Spot → Ordering
+spot_cmp = keyed_cmp place_cmp
+
+abbrev Starts : Found → Has → Type 0
+Starts = IsIndexOf place_cmp begin_of
+
+placed : (p : DirSector) (o : Option Waiting) → has_key place_cmp begin_of p o ≡ true → (w : Waiting) × (o ≡ Some w) × (begin_of w ≡ p)
+placed p None h = absurd (cc)
+placed p (Some w) h = (w, refl, same_place (begin_of w) p (is_equal (place_cmp (begin_of w) p) h))
+
+standing : (found : Found) (has : Has) (k : ℕ) (v : Waiting) → Starts found has → found k ≡ Some v → has (begin_of v, k) ≡ true
+standing found has k v starts is = starts (begin_of v) k ∙ ap (has_key place_cmp begin_of (begin_of v)) is ∙ ap is_eq (place_itself (begin_of v))
 
 pub greater : (a b : ℕ) → b < a → nat_cmp a b ≡ Greater
 greater a b lt = elim (nat_cmp a b) as (λ o. nat_cmp a b ≡ o → o ≡ Greater) [
@@ -40,7 +52,7 @@ at_one : (b : Bool) (f g i j : ℕ) → spot_cmp ((b, f), i) ((b, g), j) ≡ ord
 at_one false f g i j = refl
 at_one true f g i j = refl
 
-pub before_less : (b : Bool) (f g i j : ℕ) → IsBefore f i g j → spot_cmp ((b, f), i) ((b, g), j) ≡ Less
+before_less : (b : Bool) (f g i j : ℕ) → IsBefore f i g j → spot_cmp ((b, f), i) ((b, g), j) ≡ Less
 before_less b f g i j (inl lt) = at_one b f g i j ∙ ap (λ o. ordering_then o (nat_cmp i j)) (nat_less f g lt)
 before_less b f g i j (inr (e, lt)) = at_one b f g i j ∙ ap (λ o. ordering_then o (nat_cmp i j)) (equal f g e) ∙ nat_less i j lt
 
@@ -55,22 +67,53 @@ less_before b f g i j h = elim (nat_cmp f g) as (λ o. nat_cmp f g ≡ o → ord
   | Greater ↦ λ _ r. absurd (cc)
 ] refl (sym (at_one b f g i j) ∙ h)
 
-pub at_first : (found : Found) (has : Has) (dir : Dir) (k : ℕ) (v : Waiting) → AreSpots first_at found has → found k ≡ Some v → v.extent.dir ≡ dir → has ((is_write dir, v.extent.first), k) ≡ true
-at_first found has dir k v spots is same = ap (λ (d : Dir). has ((is_write d, v.extent.first), k)) (sym same) ∙ standing first_at found has k v spots is
+at_first : (found : Found) (has : Has) (dir : Dir) (k : ℕ) (v : Waiting) → Starts found has → found k ≡ Some v → v.extent.dir ≡ dir → has ((is_write dir, v.extent.first), k) ≡ true
+at_first found has dir k v starts is same = ap (λ (d : Dir). has ((is_write d, v.extent.first), k)) (sym same) ∙ standing found has k v starts is
 
-module _ (found : Found) (has : Has) (dir : Dir) (first last : ℕ) (write : Bool) (own : write ≡ is_write dir) (spots : AreSpots first_at found has) where
-  pub the_next : (other : Bool) (sector id : ℕ) → has ((other, sector), id) ≡ true → spot_cmp ((write, first), last) ((other, sector), id) ≡ Less → ((q : Spot) → spot_cmp ((write, first), last) q ≡ Less → has q ≡ true → is_gt (spot_cmp ((other, sector), id) q) ≡ false) → other ≡ write → IsNext dir first last found id
-  the_next other sector id there high least same_way =
-      let at = placed first_at (other, sector) (found id) (sym (spots (other, sector) id) ∙ there) in
-      let way : is_write at.0.extent.dir ≡ other = ap (λ (p : DirSector). p.0) at.2 in
-      let start : at.0.extent.first ≡ sector = ap (λ (p : DirSector). p.1) at.2 in
+-- whether two are one
+one_way : (x y : Bool) → beq x y ≡ true → x ≡ y
+one_way true true h = refl
+one_way true false h = cc
+one_way false true h = cc
+one_way false false h = refl
+
+two_ways : (x y : Bool) → beq x y ≡ false → x ≡ y → ⊥
+two_ways true true h same = cc
+two_ways true false h same = cc
+two_ways false true h same = cc
+two_ways false false h same = cc
+
+-- after an entry of another direction none is of this one
+past : (write other : Bool) (first last sector id f k : ℕ) → (other ≡ write → ⊥) → spot_cmp ((write, first), last) ((other, sector), id) ≡ Less → is_gt (spot_cmp ((other, sector), id) ((write, f), k)) ≡ true
+past false true first last sector id f k apart high = refl
+past false false first last sector id f k apart high = absurd (apart refl)
+past true true first last sector id f k apart high = absurd (apart refl)
+past true false first last sector id f k apart high = cc
+
+module _ (found : Found) (has : Has) (dir : Dir) (first last : ℕ) (write : Bool) (own : write ≡ is_write dir) (starts : Starts found has) where
+  there : (k : ℕ) (v : Waiting) → found k ≡ Some v → v.extent.dir ≡ dir → has ((write, v.extent.first), k) ≡ true
+  there k v is same = ap (λ b. has ((b, v.extent.first), k)) own ∙ at_first found has dir k v starts is same
+
+  pub the_next : (p : Spot) → IsLeastAbove spot_cmp has ((write, first), last) p → beq p.0.0 write ≡ true → IsNext dir first last found p.1
+  the_next ((other, sector), id) p is_way =
+      let same_way : other ≡ write = one_way other write is_way in
+      let at = placed (other, sector) (found id) (sym (starts (other, sector) id) ∙ p.there) in
+      let way : is_write at.0.extent.dir ≡ other = ap (λ (q : DirSector). q.0) at.2 in
+      let start : at.0.extent.first ≡ sector = ap (λ (q : DirSector). q.1) at.2 in
       record {
         waiting = at.0;
         is_found = at.1;
         same_dir = same_dir at.0.extent.dir dir (way ∙ same_way ∙ own);
-        after = subst (λ (n : ℕ). IsBefore first last n id) (sym start) (less_before write first sector last id (ap (λ b. spot_cmp ((write, first), last) ((b, sector), id)) (sym same_way) ∙ high));
+        after = subst (λ (n : ℕ). IsBefore first last n id) (sym start) (less_before write first sector last id (ap (λ b. spot_cmp ((write, first), last) ((b, sector), id)) (sym same_way) ∙ p.high));
         least = λ k v is same after before.
-            let not_greater = least ((write, v.extent.first), k) (before_less write first v.extent.first last k after) (ap (λ b. has ((b, v.extent.first), k)) own ∙ at_first found has dir k v spots is same) in
+            let not_greater = p.least ((write, v.extent.first), k) (before_less write first v.extent.first last k after) (there k v is same) in
             let more : spot_cmp ((write, sector), id) ((write, v.extent.first), k) ≡ Greater = before_greater write v.extent.first sector k id (subst (λ (n : ℕ). IsBefore v.extent.first k n id) start before) in
             let a : true ≡ false = ap is_gt (sym more) ∙ ap (λ b. is_gt (spot_cmp ((b, sector), id) ((write, v.extent.first), k))) (sym same_way) ∙ not_greater in cc;
       }
+
+  pub none_next : NoneAbove spot_cmp has ((write, first), last) → NoNext dir first last found
+  none_next none k v is same after = let a : true ≡ false = sym (there k v is same) ∙ none ((write, v.extent.first), k) (before_less write first v.extent.first last k after) in cc
+
+  pub other_next : (p : Spot) → IsLeastAbove spot_cmp has ((write, first), last) p → beq p.0.0 write ≡ false → NoNext dir first last found
+  other_next ((other, sector), id) p apart k v is same after =
+      let a : true ≡ false = sym (past write other first last sector id v.extent.first k (two_ways other write apart) p.high) ∙ p.least ((write, v.extent.first), k) (before_less write first v.extent.first last k after) (there k v is same) in cc

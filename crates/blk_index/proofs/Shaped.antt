@@ -1,6 +1,6 @@
 -- The order of entries, and which requests of shared places are looked at.
-use Rattle.std.proofs.Common.{◌≡◌, ◌<◌, ◌≤◌, ◌+◌, ◌-◌, ◌*◌, ◌/◌, ◌%◌, inl, inr, ℕ, Bool, true, false, sym, ap, subst, ◌∙◌, refl, arith, Some, None, Option}
-use Rattle.std.specs.Prelude.{IfSome, nat_lt}
+use Rattle.std.proofs.Common.{◌≡◌, ◌<◌, ◌≤◌, ◌+◌, ◌-◌, ◌*◌, ◌/◌, ◌%◌, inl, inr, ℕ, Bool, true, false, cond, sym, ap, subst, ◌∙◌, refl, arith, Some, None, Option}
+use Rattle.std.specs.Prelude.{IfSome, OnOk, OnErr, Result, Ok, Err, nat_lt}
 use Rattle.std.specs.Ordering.{nat_cmp, ordering_then, eq_by_cmp, is_eq, is_lt}
 use Rattle.std.specs.Cmp.{nat_cmp_total, tied_itself}
 use Rattle.std.specs.declared.cmp.Ordering.{Ordering}
@@ -8,7 +8,9 @@ use Rattle.std.specs.declared.cmp.Ordering.TheVariants.{Less, Equal, Greater}
 use Rattle.std.proofs.lemmas.Bool.{cases_eq, cases_lt}
 use borrow.Author.Tests.{ltb-true, ltb-false}
 use Rattle.blk_index.specs.Inside.Spots.{DirSector, place_cmp, IsBelow, IsNewer, greater_of}
-use Rattle.blk_index.specs.Inside.Entries.{Class, Block, Key, with_number, class_cmp, sized_cmp, block_cmp, entry_cmp}
+use Rattle.ordered.specs.Ordered.{Adds, Takes, Keeps, IsGreatestBelow, NoneBelow}
+use Rattle.blk_index.specs.Keys.{keyed_cmp}
+use Rattle.blk_index.specs.Inside.Entries.{Class, Block, Key, class_cmp, sized_cmp, block_cmp, entry_cmp}
 use Rattle.blk_index.specs.Inside.Shapes.{IsUnit, IsInClass, StandsBetween, upper_of}
 use Rattle.blk_index.proofs.Listed.{lt_of, nat_less, eq_of, same_place, place_itself, is_equal, first_less, below_zero}
 
@@ -36,24 +38,24 @@ place_exact = record { tied = same_place; itself = place_itself }
 
 module _ {K : Type 0} (cmp : K → K → Ordering) where
   -- nothing is below a number of 0
-  before : (e : K × ℕ) (x : K) → with_number cmp e (x, 0) ≡ Less → cmp e.0 x ≡ Less
+  before : (e : K × ℕ) (x : K) → keyed_cmp cmp e (x, 0) ≡ Less → cmp e.0 x ≡ Less
   before e x low = first_less (cmp e.0 x) (nat_cmp e.1 0) low (below_zero e.1)
 
-  sooner : (e q : K × ℕ) → cmp e.0 q.0 ≡ Less → with_number cmp e q ≡ Less
+  sooner : (e q : K × ℕ) → cmp e.0 q.0 ≡ Less → keyed_cmp cmp e q ≡ Less
   sooner e q h = ap (λ o. ordering_then o (nat_cmp e.1 q.1)) h
 
 module _ {K : Type 0} (cmp : K → K → Ordering) (exact : IsExact cmp) where
-  number_exact : IsExact (with_number cmp)
+  number_exact : IsExact (keyed_cmp cmp)
   number_exact = record {
     tied = λ x y h. let two = both (cmp x.0 y.0) (nat_cmp x.1 y.1) h in same_pair x y (exact.tied x.0 y.0 two.0) (eq_of x.1 y.1 two.1);
     itself = λ x. ap (λ o. ordering_then o (nat_cmp x.1 x.1)) (exact.itself x.0) ∙ number_itself x.1;
   }
 
-  same_then : (e : K × ℕ) (p : K) (k : ℕ) → e.0 ≡ p → e.1 < k → with_number cmp e (p, k) ≡ Less
+  same_then : (e : K × ℕ) (p : K) (k : ℕ) → e.0 ≡ p → e.1 < k → keyed_cmp cmp e (p, k) ≡ Less
   same_then e p k same less = ap (λ o. ordering_then o (nat_cmp e.1 k)) (ap (λ x. cmp x p) same ∙ exact.itself p) ∙ nat_less e.1 k less
 
   -- what is below one number of a key, and not below another, is of the key
-  between : (e : K × ℕ) (p : K) (b k : ℕ) → with_number cmp e (p, b) ≡ Less → (with_number cmp e (p, k) ≡ Less → ⊥) → (e.0 ≡ p) × (e.1 < b) × (k ≤ e.1)
+  between : (e : K × ℕ) (p : K) (b k : ℕ) → keyed_cmp cmp e (p, b) ≡ Less → (keyed_cmp cmp e (p, k) ≡ Less → ⊥) → (e.0 ≡ p) × (e.1 < b) × (k ≤ e.1)
   between e p b k low not_less = elim (cmp e.0 p) as (λ o. cmp e.0 p ≡ o → (e.0 ≡ p) × (e.1 < b) × (k ≤ e.1)) [
     | Less ↦ λ h. absurd (not_less (ap (λ o. ordering_then o (nat_cmp e.1 k)) h))
     | Equal ↦ λ h. (
@@ -80,7 +82,7 @@ is_not_less Greater h e = cc
 
 -- ---- the classes of a place
 
-abbrev pub first_of_class : Class → Key
+abbrev first_of_class : Class → Key
 first_of_class class = (((class, 0), 0), 0)
 
 in_class : (e q : Key) → class_cmp e.0.0.0 q.0.0.0 ≡ Less → entry_cmp e q ≡ Less
@@ -93,48 +95,88 @@ class_less : (p : DirSector) (b bound : ℕ) → b < bound → class_cmp (p, b) 
 class_less p b bound less = same_then place_cmp place_exact (p, b) p bound refl less
 
 module _ (has : Key → Bool) (p : DirSector) (bound : ℕ) where
-  pub low_entry : (s k b : ℕ) → b < bound → entry_cmp (((((p, b), 1), s / 1), k)) (first_of_class (p, bound)) ≡ Less
+  low_entry : (s k b : ℕ) → b < bound → entry_cmp (((((p, b), 1), s / 1), k)) (first_of_class (p, bound)) ≡ Less
   low_entry s k b less = in_class ((((p, b), 1), s / 1), k) (first_of_class (p, bound)) (class_less p b bound less)
 
-  pub no_class : ((q : Key) → entry_cmp q (first_of_class (p, bound)) ≡ Less → has q ≡ true → ⊥) → (s k b : ℕ) → IsInClass has (p, b) s k → b < bound → ⊥
-  no_class none s k b there less = none ((((p, b), 1), s / 1), k) (low_entry s k b less) (there 1 (inl refl))
+  pub no_class : NoneBelow entry_cmp has (first_of_class (p, bound)) → (s k b : ℕ) → IsInClass has (p, b) s k → b < bound → ⊥
+  no_class none s k b there less = let x : true ≡ false = sym (there 1 (inl refl)) ∙ none ((((p, b), 1), s / 1), k) (low_entry s k b less) in cc
 
-  pub of_class : (e : Key) → entry_cmp e (first_of_class (p, bound)) ≡ Less → ((q : Key) → entry_cmp q (first_of_class (p, bound)) ≡ Less → has q ≡ true → is_lt (entry_cmp e q) ≡ false) → (s k b : ℕ) → IsInClass has (p, b) s k → b < bound → (e.0.0.0.0 ≡ p) × (e.0.0.0.1 < bound) × (b ≤ e.0.0.0.1)
-  of_class e low greatest s k b there less =
-      between place_cmp place_exact e.0.0.0 p bound b (before_class e (p, bound) low)
-      (λ h. is_not_less (entry_cmp e ((((p, b), 1), s / 1), k)) (greatest ((((p, b), 1), s / 1), k) (low_entry s k b less) (there 1 (inl refl))) (in_class e ((((p, b), 1), s / 1), k) h))
+  pub of_class : (e : Key) → IsGreatestBelow entry_cmp has (first_of_class (p, bound)) e → (s k b : ℕ) → IsInClass has (p, b) s k → b < bound → (e.0.0.0.0 ≡ p) × (e.0.0.0.1 < bound) × (b ≤ e.0.0.0.1)
+  of_class e found s k b there less =
+      between place_cmp place_exact e.0.0.0 p bound b (before_class e (p, bound) found.low)
+      (λ h. is_not_less (entry_cmp e ((((p, b), 1), s / 1), k)) (found.greatest ((((p, b), 1), s / 1), k) (low_entry s k b less) (there 1 (inl refl))) (in_class e ((((p, b), 1), s / 1), k) h))
+
+  pub class_low : (e : Key) → IsGreatestBelow entry_cmp has (first_of_class (p, bound)) e → e.0.0.0.0 ≡ p → e.0.0.0.1 < bound
+  class_low e found same =
+      let low : class_cmp e.0.0.0 (p, bound) ≡ Less = before_class e (p, bound) found.low in
+      lt_of e.0.0.0.1 bound (sym (ap (λ o. ordering_then o (nat_cmp e.0.0.0.1 bound)) (ap (λ x. place_cmp x p) same ∙ place_itself p)) ∙ low)
 
 -- ---- the entries of a block
 
-pub same_block : (a b : Block) → eq_by_cmp block_cmp a b ≡ true → a ≡ b
+same_block : (a b : Block) → eq_by_cmp block_cmp a b ≡ true → a ≡ b
 same_block a b h = block_exact.tied a b (is_equal (block_cmp a b) h)
 
-pub other_block : (a b : Block) → eq_by_cmp block_cmp a b ≡ false → a ≡ b → ⊥
+other_block : (a b : Block) → eq_by_cmp block_cmp a b ≡ false → a ≡ b → ⊥
 other_block a b h same = let e : true ≡ false = sym (ap is_eq (ap (λ x. block_cmp a x) (sym same) ∙ block_exact.itself a)) ∙ h in cc
 
-pub below_upper : (block : Block) (below : Option ℕ) (k : ℕ) → IsBelow below k → entry_cmp (block, k) (upper_of block below) ≡ Less
+below_upper : (block : Block) (below : Option ℕ) (k : ℕ) → IsBelow below k → entry_cmp (block, k) (upper_of block below) ≡ Less
 below_upper block None k low = sooner block_cmp (block, k) ((block.0, block.1 + 1), 0) (same_then sized_cmp sized_exact block block.0 (block.1 + 1) refl (omega arith))
 below_upper block (Some b) k low = same_then block_cmp block_exact (block, k) block b refl low
 
-pub of_block : (e : Key) (block : Block) (below : Option ℕ) (k : ℕ) → entry_cmp e (upper_of block below) ≡ Less → (entry_cmp e (block, k) ≡ Less → ⊥) → e.0 ≡ block
+of_block : (e : Key) (block : Block) (below : Option ℕ) (k : ℕ) → entry_cmp e (upper_of block below) ≡ Less → (entry_cmp e (block, k) ≡ Less → ⊥) → e.0 ≡ block
 of_block e block None k low not_less =
     let w = between sized_cmp sized_exact e.0 block.0 (block.1 + 1) block.1 (before block_cmp e (block.0, block.1 + 1) low) (λ h. not_less (sooner block_cmp e (block, k) h)) in
     same_pair e.0 block w.0 (omega (arith, w.1, w.2))
 of_block e block (Some b) k low not_less = (between block_cmp block_exact e block b k low not_less).0
 
-pub low_in : (e : Key) (block : Block) (below : Option ℕ) → e.0 ≡ block → entry_cmp e (upper_of block below) ≡ Less → IsBelow below e.1
+low_in : (e : Key) (block : Block) (below : Option ℕ) → e.0 ≡ block → entry_cmp e (upper_of block below) ≡ Less → IsBelow below e.1
 low_in e block None same low = tt
 low_in e block (Some b) same low = lt_of e.1 b (sym (ap (λ o. ordering_then o (nat_cmp e.1 b)) (ap (λ x. block_cmp x block) same ∙ block_exact.itself block)) ∙ low)
 
-module _ (has : Key → Bool) (block : Block) (below : Option ℕ) (e : Key) (low : entry_cmp e (upper_of block below) ≡ Less) (greatest : (q : Key) → entry_cmp q (upper_of block below) ≡ Less → has q ≡ true → is_lt (entry_cmp e q) ≡ false) where
-  stays : (k : ℕ) → IsBelow below k → has (block, k) ≡ true → entry_cmp e (block, k) ≡ Less → ⊥
-  stays k under there h = is_not_less (entry_cmp e (block, k)) (greatest (block, k) (below_upper block below k under) there) h
+module _ (has : Key → Bool) (block : Block) (below : Option ℕ) where
+  pub none_below : NoneBelow entry_cmp has (upper_of block below) → (k : ℕ) → IsBelow below k → has (block, k) ≡ true → ⊥
+  none_below none k under there = let x : true ≡ false = sym there ∙ none (block, k) (below_upper block below k under) in cc
 
-  pub none_in : eq_by_cmp block_cmp e.0 block ≡ false → (k : ℕ) → IsBelow below k → has (block, k) ≡ true → ⊥
-  none_in other k under there = other_block e.0 block other (of_block e block below k low (stays k under there))
+  module _ (e : Key) (found : IsGreatestBelow entry_cmp has (upper_of block below) e) where
+    stays : (k : ℕ) → IsBelow below k → has (block, k) ≡ true → entry_cmp e (block, k) ≡ Less → ⊥
+    stays k under there h = is_not_less (entry_cmp e (block, k)) (found.greatest (block, k) (below_upper block below k under) there) h
 
-  pub newest_here : eq_by_cmp block_cmp e.0 block ≡ true → (k : ℕ) → StandsBetween below (Some e.1) k → has (block, k) ≡ true → ⊥
-  newest_here same k follows there = stays k follows.low there (same_then block_cmp block_exact e block k (same_block e.0 block same) follows.past)
+    pub none_in : eq_by_cmp block_cmp e.0 block ≡ false → (k : ℕ) → IsBelow below k → has (block, k) ≡ true → ⊥
+    none_in other k under there = other_block e.0 block other (of_block e block below k found.low (stays k under there))
+
+    pub newest_here : eq_by_cmp block_cmp e.0 block ≡ true → (k : ℕ) → StandsBetween below (Some e.1) k → has (block, k) ≡ true → ⊥
+    newest_here same k follows there = stays k follows.low there (same_then block_cmp block_exact e block k (same_block e.0 block same) follows.past)
+
+    pub low_here : eq_by_cmp block_cmp e.0 block ≡ true → IsBelow below e.1
+    low_here same = low_in e block below (same_block e.0 block same) found.low
+
+-- ---- an entry put in, and one taken out
+
+entry_exact : IsExact entry_cmp
+entry_exact = number_exact block_cmp block_exact
+
+pub put_keeps : {T E : Type 0} (r : Result T E) (has now : Key → Bool) (e q : Key) → OnOk r (Adds entry_cmp has e now) → OnErr r (Keeps has now) → has q ≡ true → now q ≡ true
+put_keeps (Ok x) has now e q adds same there = adds q ∙ ap (cond (eq_by_cmp entry_cmp e q) true) there ∙ elim (eq_by_cmp entry_cmp e q) as (λ b. cond b true true ≡ true) [ true ↦ refl | false ↦ refl ]
+put_keeps (Err x) has now e q adds same there = same q ∙ there
+
+pub taken_but : (has now : Key → Bool) (e q : Key) → Takes entry_cmp has e now → (q ≡ e → ⊥) → has q ≡ true → now q ≡ true
+taken_but has now e q takes other there = takes q ∙ elim (eq_by_cmp entry_cmp e q) as (λ b. eq_by_cmp entry_cmp e q ≡ b → cond b false (has q) ≡ true) [
+  | true ↦ λ h. absurd (other (sym (entry_exact.tied e q (is_equal (entry_cmp e q) h))))
+  | false ↦ λ _. there
+] refl
+
+-- a request that was put into its block of each size in turn
+pub all_sizes : (class : Class) (sectors id : ℕ) (a b c d : Block) (one two three four : Key → Bool) → a ≡ ((class, 1), sectors / 1) → b ≡ ((class, 16), sectors / 16) → c ≡ ((class, 256), sectors / 256) → d ≡ ((class, 4096), sectors / 4096)
+    → one (a, id) ≡ true → two (b, id) ≡ true → three (c, id) ≡ true → four (d, id) ≡ true
+    → ((q : Key) → one q ≡ true → two q ≡ true) → ((q : Key) → two q ≡ true → three q ≡ true) → ((q : Key) → three q ≡ true → four q ≡ true) → IsInClass four class sectors id
+all_sizes class sectors id a b c d one two three four at_a at_b at_c at_d in_a in_b in_c in_d to_two to_three to_four unit (inl is) =
+    subst (λ (u : ℕ). four (((class, u), sectors / u), id) ≡ true) (sym is) (to_four (((class, 1), sectors / 1), id) (to_three (((class, 1), sectors / 1), id) (to_two (((class, 1), sectors / 1), id) (subst (λ (x : Block). one (x, id) ≡ true) at_a in_a))))
+all_sizes class sectors id a b c d one two three four at_a at_b at_c at_d in_a in_b in_c in_d to_two to_three to_four unit (inr (inl is)) =
+    subst (λ (u : ℕ). four (((class, u), sectors / u), id) ≡ true) (sym is) (to_four (((class, 16), sectors / 16), id) (to_three (((class, 16), sectors / 16), id) (subst (λ (x : Block). two (x, id) ≡ true) at_b in_b)))
+all_sizes class sectors id a b c d one two three four at_a at_b at_c at_d in_a in_b in_c in_d to_two to_three to_four unit (inr (inr (inl is))) =
+    subst (λ (u : ℕ). four (((class, u), sectors / u), id) ≡ true) (sym is) (to_four (((class, 256), sectors / 256), id) (subst (λ (x : Block). three (x, id) ≡ true) at_c in_c))
+all_sizes class sectors id a b c d one two three four at_a at_b at_c at_d in_a in_b in_c in_d to_two to_three to_four unit (inr (inr (inr is))) =
+    subst (λ (u : ℕ). four (((class, u), sectors / u), id) ≡ true) (sym is) (subst (λ (x : Block). four (x, id) ≡ true) at_d in_d)
 
 -- ---- of two ids the greater
 

@@ -13,10 +13,9 @@ use Rattle.blk_sched.specs.Meaning.{Waiting}
 use Rattle.blk_bio.specs.Extents.{Extent, FitAt}
 use Rattle.blk_sched.specs.Fits.{FitsNowhere, IsNewestFit, FitsNone}
 use Rattle.blk_index.specs.Inside.Spots.{DirSector, is_write, at_of, opposite_of, IsBelow, IsNewer, greater_of}
-use Rattle.blk_index.specs.Inside.Places.{one_of_place}
 use Rattle.blk_index.specs.Inside.Entries.{Key}
 use Rattle.blk_index.specs.Inside.Shapes.{IsInClass, ShapeListed, StandsBetween, entries_in}
-use Rattle.blk_index.specs.Inside.Edges.{IsListedAt, IsEdge}
+use Rattle.blk_index.specs.Inside.Edges.{one_of_place, IsListedAt, IsEdge}
 use Rattle.blk_index.specs.Inside.Search.{IsPassed, FitsBy, IsNewestBy, FitsNoneBy, NoneAfter, newer_of}
 use Rattle.blk_index.specs.declared.edges.Edge.{Edge}
 use Rattle.blk_index.proofs.Shaped.{past_both}
@@ -70,7 +69,7 @@ some_greater P (Some a) (Some b) h k = elim (nat_lt a b) as (λ less. P (if less
 
 module _ {A : Type 0} (limits : Limits) (found : Found) (newcomer : Extent) (side : Side) (edge : Edge A) (p : DirSector) (edges : IsEdge (at_of side) found edge) (is : p ≡ at_of (opposite_of side) newcomer) where
   abbrev Alone : ℕ → Waiting → Type 0
-  Alone k w = one_of_place edge.ones p ≡ Some k
+  Alone k w = one_of_place edge p ≡ Some k
 
   abbrev Among : ℕ → Waiting → Type 0
   Among k w = ShapeListed (entries_in edge.others) p k (w.extent.end - w.extent.first) w.extent.bios

@@ -1,5 +1,5 @@
 -- What waits, with the places of its requests.
-use Rattle.std.specs.Prelude.{ℕ, ◌≡◌, ◌<◌, ◌⊎◌, Option, Some}
+use Rattle.std.specs.Prelude.{ℕ, ◌≡◌, ◌<◌, ◌≤◌, ◌⊎◌, Option, Some}
 use Rattle.std.specs.FinMap as map
 use Rattle.blk_bio.specs.declared.bio.Dir.{Dir}
 use Rattle.blk_bio.specs.declared.request.Side.{Side}
@@ -28,7 +28,7 @@ pub record IsFirst (found : ℕ → Option Waiting) (id : ℕ) : Type 0 where
 abbrev pub FindsNothing : (ℕ → Option Waiting) → Type 0
 FindsNothing found = (k : ℕ) (v : Waiting) → found k ≡ Some v → ⊥
 
--- one first sector and id come before another
+-- one number with an id comes before another
 abbrev pub IsBefore : ℕ → ℕ → ℕ → ℕ → Type 0
 IsBefore first id other k = (first < other) ⊎ ((first ≡ other) × (id < k))
 
@@ -45,3 +45,14 @@ NoneOf dir found = (k : ℕ) (v : Waiting) → found k ≡ Some v → v.extent.d
 
 abbrev pub NoNext : Dir → ℕ → ℕ → (ℕ → Option Waiting) → Type 0
 NoNext dir first last found = (k : ℕ) (v : Waiting) → found k ≡ Some v → v.extent.dir ≡ dir → IsBefore first last v.extent.first k → ⊥
+
+-- of the requests that are due from `start` on the one that is due first, of several the one of the least id
+pub record IsFirstFrom (start : ℕ) (found : ℕ → Option Waiting) (id : ℕ) : Type 0 where
+  pub waiting : Waiting
+  pub is_found : found id ≡ Some waiting
+  pub from_start : start ≤ waiting.due
+  pub least : (k : ℕ) (v : Waiting) → found k ≡ Some v → start ≤ v.due → IsBefore v.due k waiting.due id → ⊥
+
+-- none is due from `start` on
+abbrev pub NoneFrom : ℕ → (ℕ → Option Waiting) → Type 0
+NoneFrom start found = (k : ℕ) (v : Waiting) → found k ≡ Some v → start ≤ v.due → ⊥

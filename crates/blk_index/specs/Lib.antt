@@ -1,4 +1,4 @@
 pub mod Index
 pub mod Queues
-pub mod Ordered
+pub mod Keys
 pub mod Inside

@@ -1,15 +1,19 @@
 //! Where requests begin and end.
 
-ghost use Rattle.std.specs.Prelude.{◌≡◌, ◌<◌, ℕ, Option, None, OnOk, OnErr, IfOk};
+ghost use Rattle.std.specs.Prelude.{◌≡◌, ◌<◌, ℕ, Option, None, Some, cond, OnOk, OnErr, IfOk};
+ghost use Rattle.std.specs.Option.{IsSome};
+ghost use Rattle.std.specs.BTreeMap as map;
+ghost use Rattle.std.specs.BTreeMap.{is_at};
+ghost use Rattle.std.specs.Bool.{OnTrue};
 ghost use Rattle.blk_bio.specs.Extents.{IsExtent};
-ghost use Rattle.blk_index.specs.Inside.Spots.{is_write, at_of, opposite_of};
-ghost use Rattle.blk_index.specs.Inside.Edges.{IsListedAs, KeepsBut, KeepsOwn, IsEdges, AddsEdges, DropsEdges};
+ghost use Rattle.blk_index.specs.Inside.Spots.{DirSector, place_cmp, is_write, at_of, opposite_of, first_at, end_at};
+ghost use Rattle.blk_index.specs.Inside.Edges.{one_of_place, IsListedAs, KeepsBut, KeepsOwn, IsEdges, AddsEdges, DropsEdges};
 ghost use Rattle.blk_sched.specs.Meaning.{Waiting};
 
-use crate::places::Places;
 use crate::shapes::{Place, Shapes};
 use blk_bio::{Dir, Extent, Side};
 use std::alloc::{AllocError, Allocator, Global};
+use std::collections::BTreeMap;
 
 /// A direction, as whether it writes, and a sector; and the id of a request.
 pub type Spot = (Place, u64);
@@ -51,7 +55,7 @@ pub fn opposite_of(side: Side) -> Side
 #[derive(Drop)]
 pub struct Edge<A: Allocator = Global> {
     /// One of each place.
-    pub ones: Places<A>,
+    pub ones: BTreeMap<Place, u64, A>,
     /// The others.
     pub others: Shapes<A>,
 }
@@ -60,9 +64,17 @@ impl<A: Allocator + Clone> Edge<A> {
     /// No requests. It takes no memory but for the allocators.
     pub fn new(alloc: A) -> Result<Edge<A>, AllocError> {
         Ok(Edge {
-            ones: Places::new(alloc.clone()?),
+            ones: BTreeMap::new(alloc.clone()?),
             others: Shapes::new(alloc),
         })
+    }
+
+    /// The request that stands by itself at a place.
+    #[inline(always)]
+    pub fn one_at(&self, place: Place) -> Option<u64>
+        ensures { result ≡ one_of_place self.now place }
+    {
+        self.ones.get(&place).copied()
     }
 
     /// Lists a request. It fails only when out of memory: no other request is lost then.
@@ -72,9 +84,13 @@ impl<A: Allocator + Clone> Edge<A> {
         ensures kept { KeepsBut spot self.old self.new }
     {
         let (place, id) = spot;
-        if self.ones.put(place, id)? {
+        let Ok(found) = self.ones.insert(place, id) else {
+            return Err(AllocError);
+        };
+        let Some(older) = found else {
             return Ok(());
-        }
+        };
+        set_one(&mut self.ones, place, older);
         self.put_among(spot, extent)
     }
 
@@ -99,10 +115,12 @@ impl<A: Allocator + Clone> Edge<A> {
     /// Takes out a request. It takes no memory.
     #[inline(always)]
     pub fn take(&mut self, spot: Spot, extent: &Extent)
+        requires { IsListedAs self.old spot extent.now }
         ensures { KeepsBut spot self.old self.new }
     {
         let (place, id) = spot;
-        if self.ones.take(place, id) {
+        if self.others.is_empty() || self.stands_alone(spot) {
+            let _ = self.ones.remove(&place);
             return;
         }
         self.others
@@ -142,12 +160,27 @@ impl<A: Allocator + Clone> Edge<A> {
     }
 
     /// Whether it is the one of a place that stands by itself.
-    fn stands_alone(&self, spot: Spot) -> bool {
-        match self.ones.get(spot.0) {
+    fn stands_alone(&self, spot: Spot) -> bool
+        ensures { OnTrue result (one_of_place self.now spot.0 ≡ Some spot.1) }
+    {
+        match self.one_at(spot.0) {
             Some(id) => id == spot.1,
             None => false,
         }
     }
+}
+
+/// Puts a request in the place of the one that a place has. It takes no memory.
+#[cold]
+#[inline(never)]
+fn set_one<A: Allocator + Clone>(ones: &mut BTreeMap<Place, u64, A>, place: Place, id: u64)
+    requires { IsSome (map.get place_cmp ones.old place) }
+    ensures { (q : DirSector) → map.get place_cmp ones.new q ≡ cond (is_at (place_cmp place) q) (Some id) (map.get place_cmp ones.old q) }
+{
+    let Some(one) = ones.get_mut(&place) else {
+        unreachable!()
+    };
+    *one = id;
 }
 
 /// The requests by both sides: where they begin, for front merges, and where they end, for back merges.
@@ -191,6 +224,8 @@ impl<A: Allocator + Clone> Edges<A> {
     /// Takes a request out at both sides. It takes no memory.
     #[inline(always)]
     pub fn del(&mut self, extent: &Extent, id: u64)
+        requires front { IsListedAs self.old.front (first_at extent.now, id) extent.now }
+        requires back { IsListedAs self.old.back (end_at extent.now, id) extent.now }
         ensures { DropsEdges extent.now id self.old self.new }
     {
         self.front.take((place_at(Side::Front, extent), id), extent);

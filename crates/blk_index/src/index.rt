@@ -257,7 +257,7 @@ fn newest_of<A: Allocator + Clone>(
     ensures none { IfNone result (FitsNoneBy limits.now (map.get waiting.now) newcomer.now side) }
 {
     let place = place_at(opposite_of(side), newcomer);
-    let one = fit_of(waiting, edge.ones.get(place), side, newcomer, limits);
+    let one = fit_of(waiting, edge.one_at(place), side, newcomer, limits);
     if edge.others.is_empty() {
         return one;
     }

@@ -1,43 +1,43 @@
 //! The requests that wait, by their ids.
 
-ghost use Rattle.std.specs.Prelude.{◌≡◌, ℕ, [], None, Some, OnOk, OnErr, IfOk, IfSome, IfNone};
+ghost use Rattle.std.specs.Prelude.{◌≡◌, ℕ, None, Some, OnOk, OnErr, IfOk, IfSome, IfNone};
 ghost use Rattle.std.specs.Option.{option_copied};
-ghost use Rattle.std.specs.Ordering.{nat_cmp};
-ghost use Rattle.std.specs.BTreeMap.{get};
 ghost use Rattle.std.specs.FinMap as map;
 ghost use Rattle.blk_sched.specs.Meaning.{Waiting};
 ghost use Rattle.blk_sched.specs.Fits.{HasTouch};
-ghost use Rattle.blk_bio.specs.Extents.{TouchesAt};
 ghost use Rattle.blk_index.specs.Index.{IsJoined, IsOldest, NoneOf};
-ghost use Rattle.blk_index.specs.Inside.Requests.{IsLeastId, JoinsIn};
+ghost use Rattle.blk_index.specs.Inside.Requests.{both, AreApart};
 
+use crate::lane::Lane;
 use blk_bio::{Dir, Extent, Side};
 use blk_sched::Queued;
 use std::alloc::{AllocError, Allocator, Global};
-use std::collections::BTreeMap;
 use std::marker::Model;
+
+/// How many places a run may have for each request that waits, so that old requests that stay keep no memory for those that went.
+const PLACES_EACH: usize = 16;
 
 /// The requests that wait, those of each direction by their ids. Seen as the map from ids to requests.
 #[derive(Drop)]
 pub struct Requests<A: Allocator = Global> {
-    reads: BTreeMap<u64, Queued, A>,
-    writes: BTreeMap<u64, Queued, A>,
+    reads: Lane<A>,
+    writes: Lane<A>,
+    count: usize,
 }
 
 impl<A: Allocator> Model for Requests<A> {
     ghost use Rattle.std.specs.Coded.{coded_ℕ};
     ghost use Rattle.std.specs.FinMap.{code};
     ghost use Rattle.blk_sched.specs.Meaning.{Pending, waiting_code};
-    ghost use Rattle.blk_bio.specs.declared.bio.Dir.TheVariants.{Read, Write};
-    ghost use Rattle.blk_index.specs.Inside.Requests.{both, AreApart};
+    ghost use Rattle.blk_index.specs.Inside.Requests.{both, AreRequests};
 
     ghost Value = { Pending };
 
     ghost coded = { code coded_ℕ waiting_code };
 
-    ghost view = { λ s. both s.reads.entries s.writes.entries };
+    ghost view = { λ s. both s.reads s.writes };
 
-    ghost invariant = { λ s. AreApart Read Write s.reads.entries s.writes.entries };
+    ghost invariant = { λ s. AreRequests s.reads s.writes s.count };
 }
 
 impl<A: Allocator + Clone> Requests<A> {
@@ -46,8 +46,9 @@ impl<A: Allocator + Clone> Requests<A> {
         ensures { IfOk result (λ s. s ≡ map.empty) }
     {
         Ok(Requests {
-            reads: BTreeMap::new(alloc.clone()?),
-            writes: BTreeMap::new(alloc),
+            reads: Lane::new(alloc.clone()?)?,
+            writes: Lane::new(alloc)?,
+            count: 0,
         })
     }
 
@@ -55,7 +56,7 @@ impl<A: Allocator + Clone> Requests<A> {
     pub fn len(&self) -> usize
         ensures { result ≡ map.len self.now }
     {
-        self.reads.len() + self.writes.len()
+        self.count
     }
 
     /// The request of an id.
@@ -64,9 +65,9 @@ impl<A: Allocator + Clone> Requests<A> {
         ensures value { option_copied result ≡ map.get self.now id }
         ensures named { (k : ℕ) (w : Waiting) → map.get self.now k ≡ Some w → w.id ≡ k }
     {
-        match self.reads.get(&id) {
+        match self.reads.get(id) {
             Some(queued) => Some(queued),
-            None => self.writes.get(&id),
+            None => self.writes.get(id),
         }
     }
 
@@ -77,8 +78,8 @@ impl<A: Allocator + Clone> Requests<A> {
         ensures none { IfNone result (NoneOf dir (map.get self.now)) }
     {
         match dir {
-            Dir::Read => first_id(&self.reads),
-            Dir::Write => first_id(&self.writes),
+            Dir::Read => self.reads.first(),
+            Dir::Write => self.writes.first(),
         }
     }
 
@@ -89,14 +90,14 @@ impl<A: Allocator + Clone> Requests<A> {
         ensures ok { OnOk result (self.new ≡ map.insert self.old queued.id queued) }
         ensures same { OnErr result (self.new ≡ self.old) }
     {
-        let added = match queued.extent.dir() {
-            Dir::Read => self.reads.insert(queued.id, queued),
-            Dir::Write => self.writes.insert(queued.id, queued),
+        // refused as out of memory is: no memory holds 2^64 requests
+        let Some(count) = self.count.checked_add(1) else {
+            return Err(AllocError);
         };
-        match added {
-            Ok(_) => Ok(()),
-            Err(_) => Err(AllocError),
-        }
+        let most = count.saturating_mul(PLACES_EACH);
+        insert_in(&mut self.reads, &mut self.writes, queued, most)?;
+        self.count = count;
+        Ok(())
     }
 
     /// Takes out the request of an id. It takes no memory.
@@ -106,10 +107,13 @@ impl<A: Allocator + Clone> Requests<A> {
         ensures named { (k : ℕ) (w : Waiting) → map.get self.old k ≡ Some w → w.id ≡ k }
         ensures removed { self.new ≡ map.remove self.old id }
     {
-        match self.reads.remove(&id) {
-            Some(queued) => Some(queued),
-            None => self.writes.remove(&id),
+        if let Some(queued) = self.reads.remove(id) {
+            self.count -= 1;
+            return Some(queued);
         }
+        let found = self.writes.remove(id);
+        self.count -= found.is_some() as usize;
+        found
     }
 
     /// Joins a newcomer to the request of an id, which it touches at the side, in the round `now`.
@@ -117,38 +121,32 @@ impl<A: Allocator + Clone> Requests<A> {
         requires { HasTouch (map.get self.old) newcomer.now id side }
         ensures { IsJoined now newcomer.now self.old id side self.new }
     {
-        if !join_in(&mut self.reads, id, side, now, newcomer) {
-            join_in(&mut self.writes, id, side, now, newcomer);
+        let Some(queued) = self.get(id) else {
+            unreachable!()
+        };
+        let after = queued.joined(newcomer, side, now);
+        match after.extent.dir() {
+            Dir::Read => self.reads.set(&after),
+            Dir::Write => self.writes.set(&after),
         }
     }
 }
 
-/// The least id.
+/// Adds a request, whose id isn't there, to those of its direction. A run gets no more places than `most`.
 #[inline(always)]
-fn first_id<A: Allocator + Clone>(requests: &BTreeMap<u64, Queued, A>) -> Option<u64>
-    ensures some { IfSome result (IsLeastId requests.now.entries) }
-    ensures none { IfNone result (requests.now.entries ≡ []) }
+fn insert_in<A: Allocator + Clone>(
+    reads: &mut Lane<A>,
+    writes: &mut Lane<A>,
+    queued: Queued,
+    most: usize,
+) -> Result<(), AllocError>
+    requires { map.get (both reads.old writes.old) queued.id ≡ None }
+    ensures ok { OnOk result (both reads.new writes.new ≡ map.insert (both reads.old writes.old) queued.id queued) }
+    ensures same { OnErr result (both reads.new writes.new ≡ both reads.old writes.old) }
+    ensures apart { AreApart Dir.Read Dir.Write reads.old writes.old → AreApart Dir.Read Dir.Write reads.new writes.new }
 {
-    let Some((id, _)) = requests.first_key_value() else {
-        return None;
-    };
-    Some(*id)
-}
-
-/// Joins a newcomer to the request of an id, which it touches at the side, where there is one, and answers whether there is.
-fn join_in<A: Allocator + Clone>(
-    requests: &mut BTreeMap<u64, Queued, A>,
-    id: u64,
-    side: Side,
-    now: u64,
-    newcomer: &Extent,
-) -> bool
-    requires { IfSome (get nat_cmp requests.old id) (λ w. TouchesAt w.extent newcomer.now side) }
-    ensures { JoinsIn now newcomer.now requests.old id side result requests.new }
-{
-    let Some(queued) = requests.get_mut(&id) else {
-        return false;
-    };
-    *queued = queued.joined(newcomer, side, now);
-    true
+    match queued.extent.dir() {
+        Dir::Read => reads.insert(queued, most),
+        Dir::Write => writes.insert(queued, most),
+    }
 }

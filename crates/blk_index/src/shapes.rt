@@ -3,16 +3,15 @@
 ghost use Rattle.std.specs.Prelude.{◌≡◌, ◌<◌, ◌≤◌, ◌^◌, ◌/◌, ℕ, true, false, OnOk, IfSome, IfNone};
 ghost use Rattle.std.specs.Bool.{OnTrue};
 ghost use Rattle.std.specs.Ordering.{eq_by_cmp};
-ghost use Rattle.std.specs.declared.cmp.Ordering.TheVariants.{Less};
-ghost use Rattle.std.specs.BTreeSet.{contains};
+ghost use Rattle.ordered.specs.Ordered.{listed};
 ghost use Rattle.blk_index.specs.Inside.Spots.{IsBelow, place_cmp};
 ghost use Rattle.blk_index.specs.Inside.Entries.{Key, block_cmp, entry_cmp};
-ghost use Rattle.blk_index.specs.Inside.Shapes.{entries_in, IsInClass, IsGreatestBelow, IsUnit, upper_of, StandsBetween};
+ghost use Rattle.blk_index.specs.Inside.Shapes.{entries_in, IsInClass, IsUnit, upper_of, StandsBetween};
 
 use crate::entry::Entry;
 use crate::ids::greater;
+use ordered::Ordered;
 use std::alloc::{AllocError, Allocator, Global};
-use std::collections::BTreeSet;
 
 /// A direction, as whether it writes, and a sector.
 pub type Place = (bool, u64);
@@ -30,7 +29,7 @@ const STEP: u64 = 16;
 /// in that of 4,096. So those that have no more than so many sectors are the ones of 60 blocks at most.
 #[derive(Drop)]
 pub struct Shapes<A: Allocator = Global> {
-    entries: BTreeSet<Entry, A>,
+    entries: Ordered<Entry, A>,
 }
 
 impl<A: Allocator + Clone> Shapes<A> {
@@ -39,7 +38,7 @@ impl<A: Allocator + Clone> Shapes<A> {
         ensures { (e : Key) → entries_in result e ≡ false }
     {
         Shapes {
-            entries: BTreeSet::new(alloc),
+            entries: Ordered::new(alloc),
         }
     }
 
@@ -126,49 +125,40 @@ fn block_at(entry: Entry) -> Block
 
 /// Puts an entry in. On a refusal nothing is changed.
 fn put_entry<A: Allocator + Clone>(
-    entries: &mut BTreeSet<Entry, A>,
+    entries: &mut Ordered<Entry, A>,
     block: Block,
     id: u64,
 ) -> Result<(), AllocError>
-    ensures ok { OnOk result (contains entry_cmp entries.new (block, id) ≡ true) }
-    ensures kept { (e : Key) → contains entry_cmp entries.old e ≡ true → contains entry_cmp entries.new e ≡ true }
+    ensures ok { OnOk result (listed entry_cmp entries.new (block, id) ≡ true) }
+    ensures kept { (e : Key) → listed entry_cmp entries.old e ≡ true → listed entry_cmp entries.new e ≡ true }
 {
-    entries.insert(entry_of(block, id))?;
-    Ok(())
+    entries.put(entry_of(block, id))
 }
 
 /// Takes an entry out.
-fn take_entry<A: Allocator + Clone>(entries: &mut BTreeSet<Entry, A>, block: Block, id: u64)
-    ensures { (e : Key) → (e ≡ (block, id) → ⊥) → contains entry_cmp entries.old e ≡ true → contains entry_cmp entries.new e ≡ true }
+fn take_entry<A: Allocator + Clone>(entries: &mut Ordered<Entry, A>, block: Block, id: u64)
+    ensures { (e : Key) → (e ≡ (block, id) → ⊥) → listed entry_cmp entries.old e ≡ true → listed entry_cmp entries.new e ≡ true }
 {
-    let _ = entries.remove(&entry_of(block, id));
-}
-
-/// The greatest entry below another.
-fn entry_below<A: Allocator + Clone>(entries: &BTreeSet<Entry, A>, upper: Entry) -> Option<Entry>
-    ensures low { IfSome result (λ e. entry_cmp e upper ≡ Less) }
-    ensures greatest { IfSome result (IsGreatestBelow (contains entry_cmp entries.now) upper) }
-    ensures none { IfNone result ((q : Key) → entry_cmp q upper ≡ Less → contains entry_cmp entries.now q ≡ true → ⊥) }
-{
-    let found = entries.range(..upper).next_back()?;
-    Some(*found)
+    entries.take(entry_of(block, id));
 }
 
 /// Of the numbers of bios that requests at a place have, the greatest below a bound.
 fn class_below<A: Allocator + Clone>(
-    entries: &BTreeSet<Entry, A>,
+    entries: &Ordered<Entry, A>,
     place: Place,
     bound: u64,
 ) -> Option<u64>
     ensures low { IfSome result (λ bios. bios < bound) }
-    ensures greatest { IfSome result (λ bios. (s k b : ℕ) → IsInClass (contains entry_cmp entries.now) (place, b) s k → b < bound → b ≤ bios) }
-    ensures none { IfNone result ((s k b : ℕ) → IsInClass (contains entry_cmp entries.now) (place, b) s k → b < bound → ⊥) }
+    ensures greatest { IfSome result (λ bios. (s k b : ℕ) → IsInClass (listed entry_cmp entries.now) (place, b) s k → b < bound → b ≤ bios) }
+    ensures none { IfNone result ((s k b : ℕ) → IsInClass (listed entry_cmp entries.now) (place, b) s k → b < bound → ⊥) }
 {
-    let found = entry_below(entries, entry_of((((place, bound), 0), 0), 0))?;
-    if !is_place((found.write, found.sector), place) {
-        return None;
+    let found = entries.below(entry_of((((place, bound), 0), 0), 0))?;
+    let ((class, _), _) = block_at(found);
+    if is_place(class.0, place) {
+        Some(class.1)
+    } else {
+        None
     }
-    Some(found.bios)
 }
 
 /// Whether two places are equal.
@@ -190,19 +180,20 @@ fn is_block(one: Block, other: Block) -> bool
 
 /// The newest request of a block, by its id, below a bound if there is one.
 fn newest_in<A: Allocator + Clone>(
-    entries: &BTreeSet<Entry, A>,
+    entries: &Ordered<Entry, A>,
     block: Block,
     below: Option<u64>,
 ) -> Option<u64>
     requires { block.1 < 2 ^ 63 }
     ensures low { IfSome result (IsBelow below) }
-    ensures newest { (k : ℕ) → StandsBetween below result k → contains entry_cmp entries.now (block, k) ≡ true → ⊥ }
+    ensures newest { (k : ℕ) → StandsBetween below result k → listed entry_cmp entries.now (block, k) ≡ true → ⊥ }
 {
-    let found = entry_below(entries, upper_of(block, below))?;
-    if !is_block(block_at(found), block) {
-        return None;
+    let found = entries.below(upper_of(block, below))?;
+    if is_block(block_at(found), block) {
+        Some(found.id)
+    } else {
+        None
     }
-    Some(found.id)
 }
 
 /// The entry above those of a block whose ids are below a bound, if there is one.
@@ -219,14 +210,14 @@ fn upper_of(block: Block, below: Option<u64>) -> Entry
 /// The newest request of a class that has no more sectors than these, by its id, below a bound if there is one. It looks at the blocks that
 /// these sectors fill: at those of one sector after the last of 16, at those of 16 after the last of 256, and so on.
 fn newest_of_class<A: Allocator + Clone>(
-    entries: &BTreeSet<Entry, A>,
+    entries: &Ordered<Entry, A>,
     class: Class,
     sectors: u64,
     below: Option<u64>,
 ) -> Option<u64>
     requires { sectors < 65535 }
     ensures low { IfSome result (IsBelow below) }
-    ensures newest { (k s : ℕ) → StandsBetween below result k → IsInClass (contains entry_cmp entries.now) class s k → s ≤ sectors → ⊥ }
+    ensures newest { (k s : ℕ) → StandsBetween below result k → IsInClass (listed entry_cmp entries.now) class s k → s ≤ sectors → ⊥ }
 {
     let mut best = None;
     let mut unit = 1;

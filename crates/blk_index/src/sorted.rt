@@ -1,35 +1,70 @@
-//! The requests that wait, in an index and in sort lists.
+//! The requests that wait, in an index and in the order of a key of each.
 
 ghost use Rattle.std.specs.Prelude.{◌≡◌, ◌<◌, ℕ, Option, None, Some, IfOk, OnOk, OnErr, IfSome, IfNone};
+ghost use Rattle.std.specs.Ordering.{nat_cmp};
 ghost use Rattle.std.specs.Option.{option_copied};
 ghost use Rattle.std.specs.FinMap as map;
+ghost use Rattle.ordered.specs.Ordered.{listed, IsLeastFrom, NoneFrom as NoneListed};
 ghost use Rattle.blk_sched.specs.Meaning.{Waiting};
 ghost use Rattle.blk_sched.specs.Fits.{IsNewestFit, FitsNone, HasTouch};
-ghost use Rattle.blk_index.specs.Inside.Spots.{AreSpots, first_at};
-ghost use Rattle.blk_index.specs.Inside.SortLists.{sorted_in};
-ghost use Rattle.blk_index.specs.Index.{IsJoined, IsOldest, IsNext, NoneOf, NoNext};
+ghost use Rattle.blk_index.specs.Index.{IsJoined, IsOldest, IsNext, NoneOf, NoNext, IsFirstFrom, NoneFrom};
+ghost use Rattle.blk_index.specs.Keys.{keyed_cmp, IsIndexOf};
+ghost use Rattle.blk_index.specs.Inside.Spots.{begin_of, due_of};
 
-use crate::edges::place_at;
+use crate::edges::{is_write, place_at};
 use crate::index::Index;
-use crate::sort::SortLists;
+use crate::shapes::Place;
 use blk_bio::{Dir, Extent, Limits, Side};
 use blk_sched::Queued;
+use ordered::Ordered;
 use std::alloc::{AllocError, Allocator, Global};
 use std::marker::Model;
 
-/// The requests that wait, in an index and in sort lists. Seen as the map from ids to requests.
-#[derive(Drop)]
-pub struct Sorted<A: Allocator = Global> {
-    index: Index<A>,
-    sort: SortLists<A>,
+/// What requests are in the order of; those of one key are by their ids.
+pub trait Key: Ord + Copy {
+    /// The key of a request that waits.
+    ghost key_of: { Waiting → Self };
+
+    /// The key of a request.
+    fn of(queued: &Queued) -> Self
+        ensures { result ≡ key_of queued.now };
 }
 
-impl<A: Allocator> Model for Sorted<A> {
+/// The direction of a request and where it begins.
+impl Key for Place {
+    ghost key_of = { begin_of };
+
+    #[inline(always)]
+    fn of(queued: &Queued) -> Place {
+        place_at(Side::Front, &queued.extent)
+    }
+}
+
+/// The round in which a request is due.
+pub type Due = u64;
+
+impl Key for Due {
+    ghost key_of = { due_of };
+
+    #[inline(always)]
+    fn of(queued: &Queued) -> Due {
+        queued.due
+    }
+}
+
+/// The requests that wait, in an index and in the order of a key of each. Seen as the map from ids to requests.
+#[derive(Drop)]
+pub struct Sorted<K: Key, A: Allocator = Global> {
+    index: Index<A>,
+    order: Ordered<(K, u64), A>,
+}
+
+impl<K: Key, A: Allocator> Model for Sorted<K, A> {
     ghost use Rattle.std.specs.Coded.{coded_ℕ};
     ghost use Rattle.std.specs.FinMap.{get, code};
+    ghost use Rattle.ordered.specs.Ordered.{listed};
     ghost use Rattle.blk_sched.specs.Meaning.{Pending, waiting_code};
-    ghost use Rattle.blk_index.specs.Inside.SortLists.{sorted_in};
-    ghost use Rattle.blk_index.specs.Inside.Spots.{AreSpots, first_at};
+    ghost use Rattle.blk_index.specs.Keys.{keyed_cmp, IsIndexOf};
 
     ghost Value = { Pending };
 
@@ -37,17 +72,17 @@ impl<A: Allocator> Model for Sorted<A> {
 
     ghost view = { λ s. s.index };
 
-    ghost invariant = { λ s. AreSpots first_at (get s.index) (sorted_in s.sort) };
+    ghost invariant = { λ s. IsIndexOf K.cmp K.key_of (get s.index) (listed (keyed_cmp K.cmp) s.order) };
 }
 
-impl<A: Allocator + Clone> Sorted<A> {
+impl<K: Key, A: Allocator + Clone> Sorted<K, A> {
     /// No requests.
-    pub fn new(alloc: A) -> Result<Sorted<A>, AllocError>
+    pub fn new(alloc: A) -> Result<Sorted<K, A>, AllocError>
         ensures { IfOk result (λ s. s ≡ map.empty) }
     {
         Ok(Sorted {
             index: Index::new(alloc.clone()?)?,
-            sort: SortLists::new(alloc)?,
+            order: Ordered::new(alloc),
         })
     }
 
@@ -66,6 +101,14 @@ impl<A: Allocator + Clone> Sorted<A> {
         self.index.get(id)
     }
 
+    /// The keys of the requests with their ids.
+    #[inline(always)]
+    pub fn order(&self) -> &Ordered<(K, u64), A>
+        ensures { IsIndexOf K.cmp K.key_of (map.get self.now) (listed (keyed_cmp K.cmp) result.now) }
+    {
+        &self.order
+    }
+
     /// Adds a request whose id isn't there. It fails only when out of memory: nothing is changed then.
     #[inline(always)]
     pub fn insert(&mut self, queued: Queued) -> Result<(), AllocError>
@@ -73,12 +116,12 @@ impl<A: Allocator + Clone> Sorted<A> {
         ensures ok { OnOk result (self.new ≡ map.insert self.old queued.id queued) }
         ensures same { OnErr result (self.new ≡ self.old) }
     {
-        let spot = (place_at(Side::Front, &queued.extent), queued.id);
-        self.sort.put(spot)?;
+        let entry = (K::of(&queued), queued.id);
+        self.order.put(entry)?;
         match self.index.insert(queued) {
             Ok(()) => Ok(()),
             Err(why) => {
-                self.sort.take(spot);
+                self.order.take(entry);
                 Err(why)
             }
         }
@@ -94,7 +137,7 @@ impl<A: Allocator + Clone> Sorted<A> {
         let Some(queued) = self.index.remove(id) else {
             return None;
         };
-        self.sort.take((place_at(Side::Front, &queued.extent), id));
+        self.order.take((K::of(&queued), id));
         Some(queued)
     }
 
@@ -116,18 +159,6 @@ impl<A: Allocator + Clone> Sorted<A> {
         self.index.oldest(dir)
     }
 
-    /// Of a direction's requests with their first sectors and ids the least that is above `first` and `last`.
-    #[inline(always)]
-    pub fn next(&self, dir: Dir, first: u64, last: u64) -> Option<u64>
-        ensures some { IfSome result (IsNext dir first last (map.get self.now)) }
-        ensures none { IfNone result (NoNext dir first last (map.get self.now)) }
-        ensures named { (k : ℕ) (w : Waiting) → map.get self.now k ≡ Some w → w.id ≡ k }
-    {
-        // for the proof alone: each request has its id
-        let _ = self.index.len();
-        self.sort.next(dir, first, last)
-    }
-
     /// Joins a newcomer to the request of an id, which it touches at the side, in the round `now`. It fails only when out
     /// of memory: nothing is changed then.
     pub fn join_at(
@@ -141,44 +172,67 @@ impl<A: Allocator + Clone> Sorted<A> {
         ensures joined { OnOk result (IsJoined now newcomer.now self.old id side self.new) }
         ensures same { OnErr result (self.new ≡ self.old) }
     {
-        match side {
-            Side::Back => self.index.join_at(id, side, now, newcomer),
-            Side::Front => join_ahead(&mut self.index, &mut self.sort, id, now, newcomer),
+        let Some(queued) = self.index.get(id) else {
+            unreachable!()
+        };
+        let before = K::of(queued);
+        let after = K::of(&queued.joined(newcomer, side, now));
+        if before.cmp(&after).is_eq() {
+            return self.index.join_at(id, side, now, newcomer);
+        }
+        self.order.put((after, id))?;
+        match self.index.join_at(id, side, now, newcomer) {
+            Ok(()) => {
+                self.order.take((before, id));
+                Ok(())
+            }
+            Err(why) => {
+                self.order.take((after, id));
+                Err(why)
+            }
         }
     }
 }
 
-/// Joins a newcomer at the front of the request of an id, where `sort` are where the requests begin.
-fn join_ahead<A: Allocator + Clone>(
-    index: &mut Index<A>,
-    sort: &mut SortLists<A>,
-    id: u64,
-    now: u64,
-    newcomer: &Extent,
-) -> Result<(), AllocError>
-    requires touch { HasTouch (map.get index.old) newcomer.now id Side.Front }
-    requires spots { AreSpots first_at (map.get index.old) (sorted_in sort.old) }
-    ensures spots { AreSpots first_at (map.get index.new) (sorted_in sort.new) }
-    ensures joined { OnOk result (IsJoined now newcomer.now index.old id Side.Front index.new) }
-    ensures same { OnErr result (index.new ≡ index.old) }
-{
-    // for the proof alone: the newcomer has sectors
-    let _ = newcomer.sectors();
-    let Some(queued) = index.get(id) else {
-        unreachable!()
-    };
-    let before = queued.extent;
-    let after = before.joined(newcomer, Side::Front);
-    let spot = (place_at(Side::Front, &after), id);
-    sort.put(spot)?;
-    match index.join_at(id, Side::Front, now, newcomer) {
-        Ok(()) => {
-            sort.take((place_at(Side::Front, &before), id));
-            Ok(())
-        }
-        Err(why) => {
-            sort.take(spot);
-            Err(why)
-        }
+impl<A: Allocator + Clone> Sorted<Place, A> {
+    /// Of a direction's requests with their first sectors and ids the least that is above `first` and `last`.
+    #[inline(always)]
+    pub fn next(&self, dir: Dir, first: u64, last: u64) -> Option<u64>
+        ensures some { IfSome result (IsNext dir first last (map.get self.now)) }
+        ensures none { IfNone result (NoNext dir first last (map.get self.now)) }
+        ensures named { (k : ℕ) (w : Waiting) → map.get self.now k ≡ Some w → w.id ≡ k }
+    {
+        // for the proof alone: each request has its id
+        let _ = self.index.len();
+        let write = is_write(dir);
+        let ((found, _), id) = self.order().above(((write, first), last))?;
+        if found == write { Some(id) } else { None }
     }
+}
+
+impl<A: Allocator + Clone> Sorted<Due, A> {
+    /// The id of the request with the least due round from `due` on, of several the least id.
+    #[inline(always)]
+    pub fn first_from(&self, due: u64) -> Option<u64>
+        ensures some { IfSome result (IsFirstFrom due (map.get self.now)) }
+        ensures none { IfNone result (NoneFrom due (map.get self.now)) }
+        ensures named { (k : ℕ) (w : Waiting) → map.get self.now k ≡ Some w → w.id ≡ k }
+    {
+        // for the proof alone: each request has its id
+        let _ = self.index.len();
+        let (_, id) = least_from(self.order(), due)?;
+        Some(id)
+    }
+}
+
+/// The least due round and id of those of this round and later ones.
+#[inline(always)]
+fn least_from<A: Allocator + Clone>(order: &Ordered<(u64, u64), A>, due: u64) -> Option<(u64, u64)>
+    ensures some { IfSome result (IsLeastFrom (keyed_cmp nat_cmp) (listed (keyed_cmp nat_cmp) order.now) (due, 0)) }
+    ensures none { IfNone result (NoneListed (keyed_cmp nat_cmp) (listed (keyed_cmp nat_cmp) order.now) (due, 0)) }
+{
+    if due == 0 {
+        return order.first();
+    }
+    order.from((due, 0))
 }

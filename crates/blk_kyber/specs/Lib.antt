@@ -3,3 +3,4 @@ pub mod Choice
 pub mod State
 pub mod Shown
 pub mod Inside
+pub mod Names

@@ -10,6 +10,7 @@ ghost use Rattle.blk_index.specs.Inside.Search.{IsIdOf};
 ghost use Rattle.blk_kyber.specs.Limits.{Completed, RoundBegan, limit_of, target_of};
 ghost use Rattle.blk_kyber.specs.Choice.{serves_own, in_flight, chosen};
 ghost use Rattle.blk_kyber.specs.State.{KyberState, state_at_first, choice_for, after_pick, kept_told, Follows, numbers_of, Chooses, IsReported, kyber_policy};
+ghost use Rattle.blk_kyber.specs.Names.{kyber_told};
 ghost use Rattle.blk_kyber.specs.Shown.{meaning_of, state_of};
 ghost use Rattle.blk_kyber.specs.Inside.Parts.{IsTurnChoice, head_in};
 ghost use Rattle.blk_index.specs.Queues.{served_of};
@@ -22,6 +23,7 @@ use crate::turn::{Turn, cap, other};
 use blk_bio::{Dir, Extent, Limits, MAX_QUEUES, Side};
 use blk_index::Queues;
 use blk_sched::{MAX_OPEN, MAX_REQUEUED, OpenPicks, Queued, Scheduler};
+use edd_commands::{Fault, Told, told};
 use std::alloc::{AllocError, Allocator, Global};
 use thiserror::Error;
 
@@ -56,12 +58,23 @@ impl Targets {
 
 /// Why a scheduler is not made, in the order in which the reasons are looked for.
 #[derive(Clone, Copy, Debug, PartialEq, Eq, Error)]
-#[error("{:?}", self)]
+#[error("{}", self.name())]
 pub enum KyberFault {
     /// A target of no round.
     ZeroTarget,
     /// Memory ran out.
     Memory,
+}
+
+impl Fault for KyberFault {
+    ghost told = { kyber_told };
+
+    fn told(&self) -> Told {
+        told!(self: KyberFault {
+            ZeroTarget,
+            Memory => Memory,
+        })
+    }
 }
 
 /// Requests by turns of reads and writes at each hardware queue, while fewer are in flight than the limits.

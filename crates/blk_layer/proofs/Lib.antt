@@ -16,7 +16,7 @@ mod Dones
 mod Gathered
 mod Agreed
 mod Moved
-mod Ending
+mod Taken
 mod Tries
 mod Onces
 mod Ruled

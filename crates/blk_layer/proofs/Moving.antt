@@ -77,12 +77,9 @@ depth_stays old n new s = added_stays old (Depth n) new refl s.0
 none_stays : (serves : ℕ → Waiting → Bool) (chooses : Choice) (told : OfTick) (old : CoreState) (hw tag : ℕ) (why : NoneIssued) (new : CoreState)
     → IsNoneIssued serves chooses told old hw tag why new → Stays old new
 none_stays serves chooses told old hw tag none.Nothing new f = issue_stays serves chooses old hw tag new None f
-none_stays serves chooses told old hw tag none.TagRange new f = same_stays old new f.2
-none_stays serves chooses told old hw tag none.SlotUsed new f = same_stays old new f.2
-none_stays serves chooses told old hw tag none.Full new f = same_stays old new f.3
+none_stays serves chooses told old hw tag (none.Issue why) new f = same_stays old new f.2
+none_stays serves chooses told old hw tag (none.Tick why) new f = same_stays old new f.3
 none_stays serves chooses told old hw tag none.Ended new f = tick_stays told old new f.2
-none_stays serves chooses told old hw tag none.TraceFull new f = same_stays old new f.1
-none_stays serves chooses told old hw tag none.Memory new f = same_stays old new f.1
 
 pub tried_stays : (serves : ℕ → Waiting → Bool) (chooses : Choice) (told : OfTick) (old : CoreState) (hw tag : ℕ) (new : CoreState) (r : Result Command NoneIssued)
     → IfOk r (λ command. Issues serves chooses old hw tag (Some command) new) → IfErr r (λ why. IsNoneIssued serves chooses told old hw tag why new) → Stays old new

@@ -79,12 +79,9 @@ either_full P old new (Err e) on ok err full = same old new err full
 -- a try ends a round that is full alone
 none_tried : (policy : Policy) (old : CoreState) (hw tag : ℕ) (why : NoneIssued) (new : CoreState) → IsNoneIssued policy.serves policy.chooses policy.told_tick old hw tag why new → AllFull old → AllFull new
 none_tried policy old hw tag none.Nothing new f full = issued_full policy old hw tag new None f full
-none_tried policy old hw tag none.TagRange new f full = same old new f.2 full
-none_tried policy old hw tag none.SlotUsed new f full = same old new f.2 full
-none_tried policy old hw tag none.Full new f full = same old new f.3 full
+none_tried policy old hw tag (none.Issue why) new f full = same old new f.2 full
+none_tried policy old hw tag (none.Tick why) new f full = same old new f.3 full
 none_tried policy old hw tag none.Ended new f full = added old Tick new f.2.0 (λ is. f.1) full
-none_tried policy old hw tag none.TraceFull new f full = same old new f.1 full
-none_tried policy old hw tag none.Memory new f full = same old new f.1 full
 
 pub tried_full : (policy : Policy) (old : CoreState) (hw tag : ℕ) (new : CoreState) (r : Result Command NoneIssued)
     → IfOk r (λ command. Issues policy.serves policy.chooses old hw tag (Some command) new) → IfErr r (λ why. IsNoneIssued policy.serves policy.chooses policy.told_tick old hw tag why new) → AllFull old → AllFull new

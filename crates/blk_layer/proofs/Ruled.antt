@@ -98,12 +98,9 @@ module _ (policy : Policy) (map queues : List ℕ) where
 
       none_tried : (why : NoneIssued) → IsNoneIssued policy.serves policy.chooses policy.told_tick old hw tag why new → Goes old → Goes new
       none_tried none.Nothing f runs = issued None f runs
-      none_tried none.TagRange f runs = same old new f.2 runs
-      none_tried none.SlotUsed f runs = same old new f.2 runs
-      none_tried none.Full f runs = same old new f.3 runs
+      none_tried (none.Issue why) f runs = same old new f.2 runs
+      none_tried (none.Tick why) f runs = same old new f.3 runs
       none_tried none.Ended f runs = ended old new f.2 runs
-      none_tried none.TraceFull f runs = same old new f.1 runs
-      none_tried none.Memory f runs = same old new f.1 runs
 
       pub tried : (r : Result Command NoneIssued)
           → IfOk r (λ command. Issues policy.serves policy.chooses old hw tag (Some command) new) → IfErr r (λ why. IsNoneIssued policy.serves policy.chooses policy.told_tick old hw tag why new)

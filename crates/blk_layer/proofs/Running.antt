@@ -1,5 +1,5 @@
 -- What a worker's passes add up to.
-use Rattle.std.proofs.Common.{◌≡◌, ◌∙◌, ◌+◌, ℕ, zero, suc, List, [], ◌∷◌, ◌++◌, append_assoc, Some, None, length, refl, sym, ap, inl, inr, arith}
+use Rattle.std.proofs.Common.{◌≡◌, ◌∙◌, ◌+◌, ℕ, zero, suc, List, [], ◌∷◌, ◌++◌, append_assoc, Some, None, length, refl, sym, ap, arith}
 use Rattle.std.specs.Prelude.{Option, slice_get, slice_set}
 use Rattle.std.proofs.lemmas.List.{append-nil}
 use Rattle.edd_commands.specs.declared.Command.{Command}
@@ -7,11 +7,8 @@ use Rattle.blk_tags.specs.Tags.{without}
 use Rattle.blk_tags.proofs.Counts.{none_count}
 use Rattle.blk_layer.specs.declared.serving.WorkFault.{WorkFault}
 use Rattle.blk_layer.specs.declared.serving.WorkFault.TheVariants.{TraceFull, Memory, Repeated}
-use Rattle.blk_layer.specs.declared.serving.Ran.{Ran}
-use Rattle.blk_layer.specs.declared.serving.Ran.TheVariants.{Done, Busy}
 use Rattle.blk_layer.specs.Seats.{WorkerSeat}
-use Rattle.blk_layer.specs.Serving.{TakesInHand, let_go, RunsMore, IsWorkFault}
-use Rattle.blk_layer.specs.Inside.Serving.{IsEndedAs}
+use Rattle.blk_layer.specs.Serving.{TakesInHand, let_go, TakesAll, RunsMore, IsWorkFault}
 use Rattle.blk_layer.proofs.InHand.{pushed_without}
 
 -- nothing ran
@@ -29,14 +26,14 @@ ran_on a b c one two = record {
 -- a run and then a fault
 pub faulted_on : (a b : WorkerSeat) (why : WorkFault) (c : WorkerSeat) → RunsMore a b → IsWorkFault b why c → IsWorkFault a why c
 faulted_on a b TraceFull c one two = ran_on a b c one two
-faulted_on a b Memory c one (inl two) = inl (ran_on a b c one two)
-faulted_on a b Memory c one (inr two) = inr (two.0, ran_on a b two.0 one two.1, two.2)
+faulted_on a b Memory c one two = (two.0, ran_on a b two.0 one two.1, two.2)
 faulted_on a b (Repeated id) c one two = ran_on a b c one two
 
 -- a fault that changed nothing
 pub refused : (old : WorkerSeat) (why : WorkFault) (new : WorkerSeat) → new ≡ old → IsWorkFault old why new
+unfolding TakesAll
 refused old TraceFull new e = none_ran old new e
-refused old Memory new e = inl (none_ran old new e)
+refused old Memory new e = (old, none_ran old old refl, record { tags = []; few = omega arith; takes = e })
 refused old (Repeated id) new e = none_ran old new e
 
 -- a hand that was empty, took a command and let it go
@@ -46,25 +43,11 @@ emptied (x ∷ hs) zero command e = (let is : x ≡ None = (let s : Some x ≡ S
 emptied (x ∷ hs) (suc t) command e = ap (λ l. x ∷ l) (emptied hs t command e)
 
 -- a worker that took a command in hand and let it go is as it was
-let_go_again : (a : WorkerSeat) (t : ℕ) (command : Command) (b : WorkerSeat) → TakesInHand a t command b → let_go b t ≡ a
+pub let_go_again : (a : WorkerSeat) (t : ℕ) (command : Command) (b : WorkerSeat) → TakesInHand a t command b → let_go b t ≡ a
 let_go_again a t command b took = rw took.taken (
     let tags : without t (a.tags ++ t ∷ []) ≡ a.tags = pushed_without t a.tags (none_count a.tags t took.unheld) in
     let hands : slice_set (slice_set a.hands t (Some command)) t None ≡ a.hands = emptied a.hands t command took.free in
     rw (tags, hands) refl)
-
--- a command that was taken in hand and then done, or requeued
-pub ended_runs : (a : WorkerSeat) (t : ℕ) (command : Command) (b : WorkerSeat) (ran : Ran) (c : WorkerSeat) → TakesInHand a t command b → IsEndedAs ran b t c → RunsMore a c
-ended_runs a t command b Done c took done = record {
-  added = done.command ∷ [];
-  grown = done.gone ∙ ap (λ (s : WorkerSeat). record s { ran = b.ran ++ done.command ∷ [] }) (let_go_again a t command b took)
-      ∙ ap (λ (s : WorkerSeat). record a { ran = s.ran ++ done.command ∷ [] }) took.taken;
-}
-ended_runs a t command b Busy c took back = none_ran a c (back.1.gone ∙ let_go_again a t command b took)
-
--- a command that was taken in hand and stays there
-pub left_in_hand : (a : WorkerSeat) (t : ℕ) (command : Command) (b : WorkerSeat) (why : WorkFault) (c : WorkerSeat) → TakesInHand a t command b → why ≡ Memory → c ≡ b
-    → IsWorkFault a why c
-left_in_hand a t command b why c took memory e = rw (memory, e) (inr (a, none_ran a a refl, record { tag = t; command = command; takes = took }))
 
 -- how much longer the account is
 pub ran_count : (a b : WorkerSeat) (runs : RunsMore a b) → length b.ran ≡ length a.ran + length runs.added

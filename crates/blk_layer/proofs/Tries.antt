@@ -1,13 +1,13 @@
 -- A worker that tries tags for a command: how many steps its seat made, and what a try under a used-up tag leaves.
-use Rattle.std.proofs.Common.{◌≡◌, ◌∙◌, ◌+◌, ◌≤◌, ◌%◌, ℕ, zero, suc, List, [], ◌∷◌, Some, None, length, ap, subst, arith, length-append}
+use Rattle.std.proofs.Common.{◌≡◌, ◌∙◌, ◌+◌, ◌≤◌, ◌%◌, ℕ, zero, suc, List, [], ◌∷◌, Some, None, length, ap, refl, subst, inr, arith, length-append}
 use Rattle.blk_tags.specs.Tags.{tried_from, TriesUpTo}
 use Rattle.blk_sched.specs.Policies.{Policy}
 use Rattle.blk_core.specs.State.{CoreState}
 use Rattle.blk_core.specs.Tries.{IsNoneIssued}
 use Rattle.blk_core.specs.declared.trying.NoneIssued.{NoneIssued}
 use Rattle.blk_core.specs.declared.trying.NoneIssued.TheVariants as none
-use Rattle.blk_layer.specs.declared.seats.NoNext.TheVariants.{UsedUp, Nothing, Full, Ended, TraceFull, Memory}
-use Rattle.blk_layer.specs.Inside.Next.{no_next, TriesInVain}
+use Rattle.blk_layer.specs.declared.seats.NoNext.TheVariants.{Tried}
+use Rattle.blk_layer.specs.Inside.Next.{WantsTag, IsNoNext}
 
 tried_count : (depth first n : ℕ) → length (tried_from depth first n) ≡ n
 tried_count depth first zero = omega arith
@@ -21,26 +21,9 @@ each_tried depth first before after is = ap length is ∙ omega (arith, length-a
 pub one_tried : (depth first t : ℕ) (before after : List ℕ) → TriesUpTo depth first (Some t) before after → length before + 1 ≤ length after
 one_tried depth first t before after (n, less, tag, is) = omega (arith, ap length is, length-append before (tried_from depth first (n + 1)), tried_count depth first (n + 1))
 
--- a try whose tag is used up in a round that carries more leaves the core as it was
-pub used_up_same : (policy : Policy) (old : CoreState) (hw tag : ℕ) (why : NoneIssued) (new : CoreState)
-    → IsNoneIssued policy.serves policy.chooses policy.told_tick old hw tag why new → no_next why ≡ UsedUp → new ≡ old
-used_up_same policy old hw tag none.TagRange new f is = f.2
-used_up_same policy old hw tag none.SlotUsed new f is = f.2
-used_up_same policy old hw tag none.Nothing new f is = absurd (let e : Nothing ≡ UsedUp = is in cc)
-used_up_same policy old hw tag none.Full new f is = absurd (let e : Full ≡ UsedUp = is in cc)
-used_up_same policy old hw tag none.Ended new f is = absurd (let e : Ended ≡ UsedUp = is in cc)
-used_up_same policy old hw tag none.TraceFull new f is = absurd (let e : TraceFull ≡ UsedUp = is in cc)
-used_up_same policy old hw tag none.Memory new f is = absurd (let e : Memory ≡ UsedUp = is in cc)
-
--- and is a try in vain
-pub used_up_vain : (policy : Policy) (start old : CoreState) (hw tag : ℕ) (why : NoneIssued) (new : CoreState) → old ≡ start
-    → IsNoneIssued policy.serves policy.chooses policy.told_tick old hw tag why new → no_next why ≡ UsedUp → TriesInVain policy start hw UsedUp start
-used_up_vain policy start old hw tag why new same f is =
-    let after : new ≡ start = used_up_same policy old hw tag why new f is ∙ same in
-    record {
-      tag = tag;
-      reason = why;
-      named = is;
-      ended = subst (λ (c : CoreState). IsNoneIssued policy.serves policy.chooses policy.told_tick start hw tag why c) after
-          (subst (λ (c : CoreState). IsNoneIssued policy.serves policy.chooses policy.told_tick c hw tag why new) same f);
-    }
+-- a try whose tag is used up in a round that carries more leaves the core as it was, and is one in vain
+pub used_up : (policy : Policy) (start old : CoreState) (hw tag : ℕ) (why : NoneIssued) (new : CoreState) → old ≡ start
+    → IsNoneIssued policy.serves policy.chooses policy.told_tick old hw tag why new → WantsTag (Tried why) → (new ≡ start) × IsNoNext policy start hw (Tried why) start
+used_up policy start old hw tag (none.Issue why) new same f is =
+    (f.2 ∙ same, inr (tag, subst (λ (c : CoreState). IsNoneIssued policy.serves policy.chooses policy.told_tick c hw tag (none.Issue why) c) same (f.0, f.1, refl)))
+used_up policy start old hw tag _ new same f is = absurd is

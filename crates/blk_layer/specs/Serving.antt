@@ -6,6 +6,7 @@ use Rattle.blk_core.specs.declared.refusals.DepthFault.{DepthFault}
 use Rattle.blk_layer.specs.declared.serving.Issued.{Issued}
 use Rattle.blk_tags.specs.Tags.{without}
 use Rattle.blk_layer.specs.Seats.{WorkerSeat}
+use Rattle.blk_layer.specs.declared.batch.TheConstants.{MAX_BATCH}
 use Rattle.blk_layer.specs.declared.serving.Worked.{Worked}
 use Rattle.blk_layer.specs.declared.serving.WorkFault.{WorkFault}
 use Rattle.blk_layer.specs.declared.serving.WorkFault.TheVariants.{TraceFull, Memory, Repeated}
@@ -67,11 +68,16 @@ pub record RunsMore (old new : WorkerSeat) : Type 0 where
   pub added : List Command
   pub grown : new ≡ record old { ran = old.ran ++ added }
 
--- a worker took one more command in hand; else the seat is as it was
+-- commands come into the hands of a worker under these tags, one after the other
+unfoldable pub TakesAll : WorkerSeat → List ℕ → WorkerSeat → Type 0
+TakesAll old [] new = new ≡ old
+TakesAll old (tag ∷ tags) new = (between : WorkerSeat) × ((command : Command) × TakesInHand old tag command between) × TakesAll between tags new
+
+-- a worker took some commands in hand, no more than it may have; else the seat is as it was
 pub record IsLeftInHand (old new : WorkerSeat) : Type 0 where
-  pub tag : ℕ
-  pub command : Command
-  pub takes : TakesInHand old tag command new
+  pub tags : List ℕ
+  pub few : length tags ≤ MAX_BATCH
+  pub takes : TakesAll old tags new
 
 -- what is done after a pass, by what it found. It is over where it was to finish, moved nothing and left nothing waiting
 abbrev pub IsOver : Passed → Type 0
@@ -93,8 +99,8 @@ pub record IsWorked (passes : ℕ) (old : WorkerSeat) (worked : Worked) (new : W
   pub runs : RunsMore old new
   pub ran : worked.ran ≡ length runs.added
 
--- what work that was refused leaves: what was done before stands, and only where memory ran out may one command stay in the hands
+-- what work that was refused leaves: what was done before stands, and only where memory ran out may commands stay in the hands
 abbrev pub IsWorkFault : WorkerSeat → WorkFault → WorkerSeat → Type 0
 IsWorkFault old TraceFull new = RunsMore old new
-IsWorkFault old Memory new = RunsMore old new ⊎ ((between : WorkerSeat) × RunsMore old between × IsLeftInHand between new)
+IsWorkFault old Memory new = (between : WorkerSeat) × RunsMore old between × IsLeftInHand between new
 IsWorkFault old (Repeated id) new = RunsMore old new

@@ -1,12 +1,13 @@
 //! The layer: what its threads share, and how it is made.
 
-ghost use Rattle.std.specs.Prelude.{ℕ, Bool, List, true, false, ◌≡◌, ◌<◌, [], All, IfOk, IfErr, OnOk, IfSome, IfNone, length};
+ghost use Rattle.std.specs.Prelude.{ℕ, Bool, List, true, false, ◌≡◌, ◌<◌, ◌≤◌, [], All, IfOk, IfErr, OnOk, IfSome, IfNone, length};
 ghost use Rattle.blk_trace.specs.Setups.{Setup};
 ghost use Rattle.blk_sched.specs.Meaning.{at_start};
 ghost use Rattle.blk_core.specs.State.{CoreState, new_core};
 ghost use Rattle.blk_layer.specs.Seats.{IsNewLayer, CanMake, IsFirstOutside, IsLayerFault};
 ghost use Rattle.blk_layer.specs.Inside.Seats.{no_setup};
 
+use crate::batch::MAX_BATCH;
 use crate::locked::{LockedCore, LockedQueue, empty_queues};
 use crate::seats::{Submitter, Worker, seat_submitters, seat_workers};
 use blk_bio::MAX_SOFT_DEPTH;
@@ -211,6 +212,17 @@ impl<S: Scheduler, L: Named> Layer<S, L> {
             yield_now();
         }
         self.core.lock(rt)
+    }
+
+    /// How many commands a worker may have in its hands where others wait for the core: its part of what waits and of what the round has
+    /// room for, so that it leaves the others theirs, but at least one and at most [`MAX_BATCH`].
+    pub(crate) fn share(&self, core: &Core<S>) -> usize
+        ensures { result ≤ MAX_BATCH }
+    {
+        let trace = core.trace();
+        let room = trace.depth_now().saturating_sub(trace.unused_from());
+        let part = room.min(core.pending()) / (self.workers as u64).max(1);
+        (part as usize).clamp(1, MAX_BATCH)
     }
 }
 

@@ -8,6 +8,7 @@
 #![tactic(auto)]
 
 mod accounts;
+mod batch;
 mod checking;
 mod closing;
 mod layer;
@@ -16,6 +17,7 @@ mod seats;
 mod serving;
 mod submitting;
 
+pub use crate::batch::MAX_BATCH;
 pub use crate::closing::{CloseFault, CloseRefused, Closed};
 pub use crate::layer::{Layer, LayerFault, MAX_WORKERS, Named};
 pub use crate::seats::{Submitter, Worker};

@@ -1,6 +1,6 @@
 //! What lies under the locks: the core, and each software queue.
 
-ghost use Rattle.std.specs.Prelude.{true, false, ◌≡◌, ◌<◌, ◌≤◌, ◌+◌, [], Contains, IfOk, IfErr, OnOk, OnErr, length, vec_len};
+ghost use Rattle.std.specs.Prelude.{true, false, ◌≡◌, ◌<◌, ◌≤◌, ◌+◌, [], Contains, IfOk, IfErr, OnOk, OnErr, ◌≢◌, length, vec_len};
 ghost use Rattle.blk_bio.specs.declared.limits.TheConstants.{MAX_SOFT_DEPTH};
 ghost use Rattle.blk_core.specs.Faults.{IsTickFault};
 ghost use Rattle.blk_core.specs.Calls.{Issues, Completes, RequeuesTag, Ends, SetsDepth};
@@ -14,9 +14,8 @@ ghost use Rattle.blk_layer.specs.declared.layer.TheConstants.{MAX_WORKERS};
 
 use crate::layer::Named;
 use crate::seats::{Worker, audit};
-use crate::serving::{LayerIssueFault, of_core};
 use blk_bio::Limits;
-use blk_core::{BackFault, Core, DepthFault, NotIssued, TickFault};
+use blk_core::{BackFault, Core, DepthFault, IssueFault, NotIssued, TickFault};
 use blk_queues::SoftQueue;
 use blk_sched::Scheduler;
 use blk_trace::Trace;
@@ -66,16 +65,14 @@ impl<S: Scheduler, L: Named> LockedCore<S, L> {
     }
 
     /// Issues a command under a tag, if there is one for a hardware queue of the layer's workers.
-    pub(crate) fn issue(&mut self, hw: u8, tag: u16) -> Result<Option<Command>, LayerIssueFault>
+    pub(crate) fn issue(&mut self, hw: u8, tag: u16) -> Result<Option<Command>, IssueFault>
         requires queue { hw < L.setup.hw }
         requires one { Contains L.queues hw }
         ensures issued { IfOk result (λ found. Issues S.policy.serves S.policy.chooses self.old.core hw tag found self.new.core) }
+        ensures there { IfErr result (λ why. why ≢ IssueFault.NoQueue) }
         ensures same { OnErr result (self.new.core ≡ self.old.core) }
     {
-        match self.core.issue(hw, tag) {
-            Ok(found) => Ok(found),
-            Err(why) => Err(of_core(why)),
-        }
+        self.core.issue(hw, tag)
     }
 
     /// Reports the command under a tag as done, and counts it for a worker's part of the ledger.

@@ -1,6 +1,6 @@
 //! The seats of a layer: what a submitter and a worker have for themselves.
 
-ghost use Rattle.std.specs.Prelude.{◌≡◌, ◌⊎◌, ◌++◌, OnErr, IfSome, IfNone, ◌<◌, ◌≤◌, ◌+◌, [], ℕ, IfOk, IfErr, OnOk, All, length, map, replicate, vec_len, slice_get, Some, None, Contains};
+ghost use Rattle.std.specs.Prelude.{true, false, ◌≡◌, ◌++◌, OnErr, IfSome, IfNone, ◌<◌, ◌≤◌, ◌+◌, [], ℕ, IfOk, IfErr, OnOk, All, length, map, replicate, vec_len, slice_get, Some, None, Contains};
 ghost use Rattle.blk_trace.specs.Events.{AreOnce};
 ghost use Rattle.blk_core.specs.Calls.{Completes, RequeuesTag};
 ghost use Rattle.blk_layer.specs.Seats.{AreOwn, HoldsItsTags, new_submitter, new_worker};
@@ -9,7 +9,7 @@ ghost use Rattle.blk_layer.specs.Serving.{TakesInHand, AccountsFor, LetsGo, IsIn
 ghost use Rattle.blk_layer.specs.Closing.{all_ran};
 ghost use Rattle.blk_layer.specs.Inside.Submitting.{IsOfBios};
 ghost use Rattle.blk_layer.specs.Inside.Serving.{IssuesTo};
-ghost use Rattle.blk_layer.specs.Inside.Next.{no_next, IsNoNext, TakesTag, KeepsTags, TriesEach};
+ghost use Rattle.blk_layer.specs.Inside.Next.{IsNoNext, WantsTag, TakesTag, KeepsTags, TriesEach};
 
 use crate::accounts::Account;
 use crate::layer::Named;
@@ -17,7 +17,7 @@ use crate::locked::LockedCore;
 use crate::serving::Issued;
 use crate::submitting::{FlushReason, first_foreign};
 use blk_bio::Bio;
-use blk_core::{BackFault, NoneIssued, NotIssued};
+use blk_core::{BackFault, IssueFault, NoneIssued, NotIssued};
 use blk_sched::Scheduler;
 use blk_tags::{TagSeat, TagSet};
 use edd_commands::Command;
@@ -30,18 +30,9 @@ use std::sync::ledger::{Book, Share};
 pub(crate) enum NoNext {
     /// Each tag was tried, and is taken.
     NoTag,
-    /// As many tags as there are were taken one after the other, and are used up in the round, which carries more commands.
-    UsedUp,
-    /// There is none for its hardware queue.
-    Nothing,
-    /// The round is full, and a command is in flight in it.
-    Full,
-    /// The round was full, and has ended.
-    Ended,
-    /// The trace has no places for an Issue and its end, or for the end of the round.
-    TraceFull,
-    /// Memory ran out.
-    Memory,
+    /// Why the last try issued none. Out of memory also for the worker's account; a tag that is used up in the round only where as many
+    /// were tried as there are.
+    Tried(NoneIssued),
 }
 
 /// A submitter's seat: the software queue that is its own, and the account of its bios that were accepted.
@@ -287,7 +278,7 @@ impl<L: Named, A: Allocator + Clone> Worker<L, A> {
         ensures same { OnErr result (self.new ≡ self.old) }
     {
         if self.ran.reserve(self.hands.len()).is_err() {
-            return Err(NoNext::Memory);
+            return Err(NoNext::Tried(NoneIssued::Issue(IssueFault::Memory)));
         }
         match issue_next(&mut self.seat, core, tags, self.hw) {
             Ok(issued) => {
@@ -315,10 +306,11 @@ fn issue_next<S: Scheduler, L: Named>(
     ensures taken { IfOk result (λ issued. TakesTag seat.old issued.tag seat.new) }
     ensures core { IfOk result (λ issued. IssuesTo S.policy core.old.core hw issued core.new.core) }
     ensures none { IfErr result (λ why. IsNoNext S.policy core.old.core hw why core.new.core) }
-    ensures tried { IfErr result (λ why. (why ≡ NoNext.NoTag) ⊎ (why ≡ NoNext.UsedUp) → TriesEach seat.old seat.new) }
+    ensures tried { IfErr result (λ why. WantsTag why → TriesEach seat.old seat.new) }
     ensures kept { OnErr result (KeepsTags seat.old seat.new) }
 {
     let mut from = core.next_tag;
+    let mut last = NoNext::NoTag;
     for _ in 0..tags.depth() {
         let Some(tag) = tags.get_from(seat, from) else {
             return Err(NoNext::NoTag);
@@ -329,28 +321,27 @@ fn issue_next<S: Scheduler, L: Named>(
                 core.next_tag = from;
                 return Ok(Issued { command, tag });
             }
-            Err(why) => no_next(why),
+            Err(why) => why,
         };
         tags.give(seat, tag);
-        match why {
-            NoNext::UsedUp => {}
-            why => return Err(why),
+        last = NoNext::Tried(why);
+        if !is_used_up(why) {
+            return Err(last);
         }
     }
-    Err(NoNext::UsedUp)
+    Err(last)
 }
 
-/// Why there is no next command, where a try for one ended so.
-fn no_next(why: NoneIssued) -> NoNext
-    ensures { result ≡ no_next why }
+/// Whether a try issued none since its tag is used up in the round, which carries more.
+fn is_used_up(why: NoneIssued) -> bool
+    ensures yes { result ≡ true → WantsTag (NoNext.Tried why) }
+    ensures no { result ≡ false → ¬ WantsTag (NoNext.Tried why) }
 {
     match why {
-        NoneIssued::TagRange | NoneIssued::SlotUsed => NoNext::UsedUp,
-        NoneIssued::Nothing => NoNext::Nothing,
-        NoneIssued::Full => NoNext::Full,
-        NoneIssued::Ended => NoNext::Ended,
-        NoneIssued::TraceFull => NoNext::TraceFull,
-        NoneIssued::Memory => NoNext::Memory,
+        NoneIssued::Issue(fault) => matches!(fault, IssueFault::TagRange | IssueFault::SlotUsed),
+        NoneIssued::Nothing => false,
+        NoneIssued::Tick(_) => false,
+        NoneIssued::Ended => false,
     }
 }
 

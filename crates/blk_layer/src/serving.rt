@@ -1,17 +1,18 @@
 //! What a worker does: commands that it is issued and reports, rounds that it ends, and whole passes of these.
 
-ghost use Rattle.std.specs.Prelude.{true, ◌≡◌, ◌≢◌, OnOk, OnErr, IfOk, IfErr, None, Some};
+ghost use Rattle.std.specs.Prelude.{true, ◌≡◌, ◌≢◌, ◌≤◌, OnOk, OnErr, IfOk, IfErr, None, Some, length};
 ghost use Rattle.blk_layer.specs.Serving.{IsIssueAnswer, AccountsFor, LetsGo, IsInHand, IsTickAnswer, IsDepthAnswer, RunsMore, IsWorked, IsWorkFault, IsAfterPass};
-ghost use Rattle.blk_layer.specs.Inside.Serving.{ServesOne, IsServeFault, IsPassRefusal, work_name};
-ghost use Rattle.blk_layer.specs.Inside.Next.{found_next};
+ghost use Rattle.blk_layer.specs.Inside.Serving.{Exchanges, Serves, IsServeFault, work_name};
 
+use crate::batch::Batch;
 use crate::layer::{Layer, Named};
-use crate::seats::{NoNext, Worker};
+use crate::seats::Worker;
 use blk_bio::BioId;
 use blk_core::{BackFault, CoreFault, DepthFault, IssueFault, NotIssued, TickFault};
 use blk_sched::Scheduler;
 use blk_trace::MAX_EVENTS;
 use edd_commands::Command;
+use std::alloc::Allocator;
 use std::sync::Wait;
 use std::sync::atomic::Ordering;
 use std::thread::yield_now;
@@ -42,21 +43,16 @@ pub struct Issued {
     pub tag: u16,
 }
 
-/// Why nothing is issued to a worker, in the order in which the reasons are looked for; but `Memory` for the worker's account
-/// comes right after `NoTag`.
+/// Why nothing is issued to a worker, in the order in which the reasons are looked for; but `Issue(IssueFault::Memory)` for the
+/// worker's account comes right after `NoTag`.
 #[derive(Clone, Copy, Debug, PartialEq, Eq, Error)]
-#[error("{:?}", self)]
 pub enum LayerIssueFault {
     /// Each tag that was tried is taken.
+    #[error("NoTag")]
     NoTag,
-    /// The tag is not below the depth of this round.
-    TagRange,
-    /// The tag was issued in this round.
-    SlotUsed,
-    /// The trace has no places for an Issue and its end.
-    TraceFull,
-    /// Memory ran out.
-    Memory,
+    /// The core issues nothing, never as `NoQueue`; or memory for the worker's account ran out.
+    #[error(transparent)]
+    Issue(IssueFault),
 }
 
 /// What a worker did in a call of `Layer::work`.
@@ -90,7 +86,7 @@ pub struct Passed {
     pub finishing: bool,
     /// How many requests it moved.
     pub moved: u64,
-    /// How many commands it served.
+    /// How many batches of commands it served.
     pub served: u64,
     /// How many requests waited in the core at its end, where it is finishing.
     pub pending: u64,
@@ -131,7 +127,7 @@ impl<S: Scheduler, L: Named> Layer<S, L> {
     /// another one. The seat is one of this layer.
     ///
     /// Refused, by the first of these that applies: as `NoTag` where each tag was found taken when it was tried; as `Memory`
-    /// where the worker's account can't be given the room that a completion will need; and then as the core's issue is.
+    /// of the core's faults where the worker's account can't be given the room that a completion will need; and then as the core's issue is.
     pub fn issue<R: Wait>(
         &self,
         rt: &R,
@@ -139,6 +135,7 @@ impl<S: Scheduler, L: Named> Layer<S, L> {
     ) -> Result<Option<Issued>, LayerIssueFault>
         requires { worker.old.tag_set ≡ self.now.tag_set }
         ensures issued { IfOk result (λ found. IsIssueAnswer worker.old found worker.new) }
+        ensures there { IfErr result (λ why. why ≢ LayerIssueFault.Issue IssueFault.NoQueue) }
         ensures same { OnErr result (worker.new ≡ worker.old) }
     {
         let Some(tag) = self.tags.get(&mut worker.seat) else {
@@ -146,7 +143,7 @@ impl<S: Scheduler, L: Named> Layer<S, L> {
         };
         if worker.ran.reserve(worker.hands.len()).is_err() {
             self.tags.give(&mut worker.seat, tag);
-            return Err(LayerIssueFault::Memory);
+            return Err(LayerIssueFault::Issue(IssueFault::Memory));
         }
         let mut core = self.core.lock(rt);
         let found = core.issue(worker.hw, tag);
@@ -162,7 +159,7 @@ impl<S: Scheduler, L: Named> Layer<S, L> {
             }
             Err(why) => {
                 self.tags.give(&mut worker.seat, tag);
-                Err(why)
+                Err(LayerIssueFault::Issue(why))
             }
         }
     }
@@ -243,17 +240,19 @@ impl<S: Scheduler, L: Named> Layer<S, L> {
     }
 
     /// Works for the worker's hardware queue, in at most `passes` passes. The seat is one of this layer. A pass drains; then commands are
-    /// issued to the worker, one after the other. The device runs each, and under one hold of the core's lock it is reported done, or
-    /// requeued where the device was busy, and the next one is issued. A pass ends where an issue finds no command or no tag, and where
-    /// the round is full, which it ends unless a command is in flight (`Core::try_issue`). It has no other bound than the trace, which
-    /// has places for fewer Issues than [`MAX_EVENTS`]. After a pass that found nothing to do other threads run first.
+    /// issued to the worker, up to [`MAX_BATCH`] at a time where others wait for the core, and else one. The device runs one after the other
+    /// until it is busy. Under one hold of the core's lock those that ran are reported done, the one that found the device busy is
+    /// requeued, and the next ones are issued; those behind it are run next. A pass ends where no command is left in the worker's hands
+    /// and an issue finds none or no tag, and where the round is full, which it ends unless a command is in flight (`Core::try_issue`).
+    /// It has no other bound than the trace, which has places for fewer Issues than [`MAX_EVENTS`]. After a pass that found nothing to
+    /// do other threads run first.
     ///
     /// Finished at a pass that began after [`Layer::finish`], moved no request and left none waiting in the core ([`after_pass`]). The
     /// worker's account grows at its end by the commands that ran; else its seat is as it was.
     ///
     /// Refused as `Repeated` where a drain is, and as `TraceFull` and `Memory` where a drain, an issue or the end of a round is, or
-    /// as `Memory` where a busy device's command can't be requeued, which alone leaves one command in the worker's hands. What was
-    /// done before stands.
+    /// as `Memory` where a busy device's command can't be requeued. `Memory` alone may leave commands in the worker's hands, which no
+    /// device ran. What was done before stands.
     pub fn work<R: Wait, D: Device>(
         &self,
         rt: &R,
@@ -303,8 +302,8 @@ impl<S: Scheduler, L: Named> Layer<S, L> {
         })
     }
 
-    /// Serves the commands of a pass until there is none for the worker, and answers how many. There are fewer than [`MAX_EVENTS`], since
-    /// each is an event.
+    /// Serves the commands of a pass, a batch after the other, until there is none for the worker, and answers how many batches ran. There
+    /// are fewer than [`MAX_EVENTS`], since each has a command that is issued or requeued, which is an event.
     fn serve<R: Wait, D: Device>(
         &self,
         rt: &R,
@@ -314,103 +313,70 @@ impl<S: Scheduler, L: Named> Layer<S, L> {
         requires { worker.old.tag_set ≡ self.now.tag_set }
         ensures runs { IfOk result (λ _. RunsMore worker.old worker.new) }
         ensures fault { IfErr result (λ why. IsWorkFault worker.old why worker.new) }
+        ensures tag_set { worker.new.tag_set ≡ worker.old.tag_set }
     {
-        let Some(first) = self.begin(rt, worker)? else {
-            return Ok(0);
-        };
-        let mut issued = first;
-        for served in 1..MAX_EVENTS {
-            let ran = device.run(&issued.command);
-            match self.end_and_next(rt, worker, issued.tag, ran)? {
-                Some(next) => issued = next,
-                None => return Ok(served),
+        let mut batch = Batch::new();
+        let mut ran = 0;
+        for served in 0..MAX_EVENTS {
+            let exchanged = self.exchange(rt, worker, &mut batch, ran);
+            let held = batch.len();
+            exchanged?;
+            if held == 0 {
+                return Ok(served);
             }
+            ran = run_all(device, worker, batch.as_slice());
         }
-        // can't happen: no trace has places for that many Issues, but no clause can name what lay under the lock
+        // can't happen: no trace has places for that many events, but no clause can name what lay under the lock
         Err(WorkFault::Memory)
     }
 
-    /// The first command of a pass, if there is one for the worker.
-    fn begin<R: Wait>(
+    /// Reports how the device ran a batch, its first `ran` commands and, where there are more, busy at the next one, and issues the next commands,
+    /// all under one hold of the core's lock: one where the lock was free, and else up to the worker's share ([`Layer::share`]). Room in the
+    /// account is made before the lock is taken; without it nothing is issued.
+    fn exchange<R: Wait>(
         &self,
         rt: &R,
         worker: &mut Worker<L, S::A>,
-    ) -> Result<Option<Issued>, WorkFault>
-        requires { worker.old.tag_set ≡ self.now.tag_set }
-        ensures issued { IfOk result (λ found. IsIssueAnswer worker.old found worker.new) }
-        ensures fault { IfErr result (λ why. IsPassRefusal why × (worker.new ≡ worker.old)) }
-    {
-        if worker.make_room().is_err() {
-            return Err(WorkFault::Memory);
-        }
-        let mut core = self.lock_core(rt);
-        let next = worker.next(&mut *core, &self.tags);
-        drop(core);
-        found_next(next)
-    }
-
-    /// Reports what became of the command in the worker's hands under a tag, and answers the next one, both under one hold of the core's
-    /// lock. Room in the account is made before the lock is taken.
-    #[tactic(auto, using(crate::proofs::Ending::not_ended))]
-    fn end_and_next<R: Wait>(
-        &self,
-        rt: &R,
-        worker: &mut Worker<L, S::A>,
-        tag: u16,
-        ran: Ran,
-    ) -> Result<Option<Issued>, WorkFault>
-        requires { worker.old.tag_set ≡ self.now.tag_set }
-        ensures served { IfOk result (λ found. ServesOne worker.old tag ran found worker.new) }
-        ensures fault { IfErr result (λ why. IsServeFault worker.old tag ran why worker.new) }
+        batch: &mut Batch,
+        ran: usize,
+    ) -> Result<(), WorkFault>
+        requires set { worker.old.tag_set ≡ self.now.tag_set }
+        requires ran { ran ≤ length batch.old }
+        ensures serves { Serves batch.old worker.old batch.new worker.new }
+        ensures exchanged { OnOk result (Exchanges ran batch.old worker.old batch.new worker.new) }
+        ensures fault { IfErr result (λ why. IsServeFault why batch.new) }
     {
         let has_room = worker.make_room().is_ok();
-        let mut core = self.lock_core(rt);
-        match ran {
-            Ran::Done => {
-                let Ok(()) = worker.done(&mut *core, &self.tags, tag) else {
-                    return Err(WorkFault::Memory);
-                };
-            }
-            Ran::Busy => {
-                let Ok(_) = worker.back(&mut *core, &self.tags, tag) else {
-                    return Err(WorkFault::Memory);
-                };
-            }
-        }
-        let next = if has_room {
-            worker.next(&mut *core, &self.tags)
-        } else {
-            Err(NoNext::Memory)
+        let (mut core, is_shared) = match self.core.try_lock() {
+            Some(core) => (core, false),
+            None => (self.lock_core(rt), true),
         };
-        drop(core);
-        found_next(next)
+        if !worker.end_all(&mut *core, &self.tags, batch, ran) || !has_room {
+            return Err(WorkFault::Memory);
+        }
+        let most = if is_shared { self.share(&core.core) } else { 1 };
+        worker.take_some(&mut *core, &self.tags, batch, most)
     }
 }
 
-/// Why the core issues nothing, as the answer of `Layer::issue`. The hardware queue is there.
-pub(crate) fn of_core(why: IssueFault) -> LayerIssueFault
-    requires { why ≢ IssueFault.NoQueue }
+/// Runs the commands in a worker's hands under these tags, one after the other, until one finds the device busy, and answers how many ran.
+fn run_all<D: Device, L: Named, A: Allocator + Clone>(
+    device: &mut D,
+    worker: &Worker<L, A>,
+    tags: &[u16],
+) -> usize
+    ensures { result ≤ length tags.now }
 {
-    match why {
-        IssueFault::NoQueue => unreachable!(),
-        IssueFault::TagRange => LayerIssueFault::TagRange,
-        IssueFault::SlotUsed => LayerIssueFault::SlotUsed,
-        IssueFault::TraceFull => LayerIssueFault::TraceFull,
-        IssueFault::Memory => LayerIssueFault::Memory,
+    for (ran, tag) in tags.iter().enumerate() {
+        let done = match worker.in_hand(*tag) {
+            Some(command) => device.run(&command),
+            None => Ran::Busy,
+        };
+        if done == Ran::Busy {
+            return ran;
+        }
     }
-}
-
-/// What a pass makes of the answer: a command, none, at which it ends, or the fault at which the work does.
-fn found_next(next: Result<Issued, NoNext>) -> Result<Option<Issued>, WorkFault>
-    ensures { result ≡ found_next next }
-{
-    match next {
-        Ok(issued) => Ok(Some(issued)),
-        Err(NoNext::NoTag | NoNext::UsedUp) => Ok(None),
-        Err(NoNext::Nothing | NoNext::Full | NoNext::Ended) => Ok(None),
-        Err(NoNext::TraceFull) => Err(WorkFault::TraceFull),
-        Err(NoNext::Memory) => Err(WorkFault::Memory),
-    }
+    tags.len()
 }
 
 /// Why a drain ended, as a fault of `work`. The hardware queue is there.

@@ -3,7 +3,7 @@
 use crate::closed::other_than;
 use crate::given::bio;
 use crate::listed::{LayerCall, flushed};
-use blk_core::{CoreFault, DepthFault, TickFault};
+use blk_core::{CoreFault, DepthFault, IssueFault, TickFault};
 use blk_layer::{DrainFault, LayerIssueFault, WorkFault};
 
 // A trace of nothing but ticks is full: the bio that was flushed stays in its software queue, and is left there.
@@ -53,7 +53,7 @@ fn layer_full_at_a_release(rt: HostRuntime) {
         LayerCall::Flush(0, flushed(1)),
         LayerCall::Drain(0, Err(moved)),
         LayerCall::Drain(1, Err(none_moved)),
-        LayerCall::Issue(0, Err(LayerIssueFault::TraceFull)),
+        LayerCall::Issue(0, Err(LayerIssueFault::Issue(IssueFault::TraceFull))),
         LayerCall::Depth(1, Err(DepthFault::TraceFull)),
         LayerCall::Work(0, 1, 0, Err(WorkFault::TraceFull), 0),
     ];

@@ -4,7 +4,7 @@
 ghost use Rattle.std.specs.Prelude.{true, ◌≡◌, ◌<◌, length};
 
 use crate::given::bio;
-use blk_core::{BackFault, CoreFault, DepthFault, NotIssued, TickFault};
+use blk_core::{BackFault, CoreFault, DepthFault, IssueFault, NotIssued, TickFault};
 use blk_layer::{
     Device, DrainFault, FlushFault, FlushReason, Flushed, Layer, LayerIssueFault, Named, Ran,
     Submitter, WorkFault, Worked, Worker,
@@ -205,7 +205,7 @@ fn issued<R: Wait, S: Scheduler, L: Named>(
     ensures { worker.new.tag_set ≡ worker.old.tag_set }
 {
     let found = match layer.issue(rt, worker) {
-        Err(LayerIssueFault::Memory) => layer.issue(rt, worker),
+        Err(LayerIssueFault::Issue(IssueFault::Memory)) => layer.issue(rt, worker),
         answer => answer,
     };
     match found {

@@ -3,7 +3,7 @@
 ghost use Rattle.std.specs.Prelude.{◌≡◌};
 
 use blk_bio::{Bio, BioId, Limits, Request};
-use blk_core::{BackFault, Core, IssueFault, NotIssued};
+use blk_core::{BackFault, Core, NotIssued};
 use blk_layer::{FlushFault, FlushReason, Flushed, Issued, LayerIssueFault};
 use blk_none::NoneSched;
 use blk_queues::{Plug, SoftQueue};
@@ -52,7 +52,11 @@ impl<'a> Tags<'a> {
         if !matches!(answer, Ok(Some(_))) {
             self.give(tag);
         }
-        under(answer, tag)
+        match answer {
+            Ok(Some(command)) => Ok(Some(Issued { command, tag })),
+            Ok(None) => Ok(None),
+            Err(why) => Err(LayerIssueFault::Issue(why)),
+        }
     }
 
     /// Reports a tag done, where it is held.
@@ -73,21 +77,6 @@ impl<'a> Tags<'a> {
         let id = core.back(tag)?;
         self.give(tag);
         Ok(id)
-    }
-}
-
-/// A core's answer under a tag, by the layer's names.
-fn under(
-    answer: Result<Option<edd_commands::Command>, IssueFault>,
-    tag: u16,
-) -> Result<Option<Issued>, LayerIssueFault> {
-    match answer {
-        Ok(Some(command)) => Ok(Some(Issued { command, tag })),
-        Ok(None) => Ok(None),
-        Err(IssueFault::TagRange) => Err(LayerIssueFault::TagRange),
-        Err(IssueFault::SlotUsed) => Err(LayerIssueFault::SlotUsed),
-        Err(IssueFault::TraceFull) => Err(LayerIssueFault::TraceFull),
-        Err(IssueFault::NoQueue | IssueFault::Memory) => Err(LayerIssueFault::Memory),
     }
 }
 

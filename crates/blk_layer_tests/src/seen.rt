@@ -1,6 +1,6 @@
 //! What came of drawn calls.
 
-use blk_core::{BackFault, DepthFault, NotIssued, TickFault};
+use blk_core::{BackFault, DepthFault, IssueFault, NotIssued, TickFault};
 use blk_layer::{FlushFault, FlushReason, Flushed, Issued, LayerIssueFault};
 
 /// What came of a call.
@@ -90,9 +90,9 @@ pub fn of_issue(answer: &Result<Option<Issued>, LayerIssueFault>) -> CallOutcome
         Ok(Some(_)) => CallOutcome::Issued,
         Ok(None) => CallOutcome::NoneIssued,
         Err(LayerIssueFault::NoTag) => CallOutcome::NoTag,
-        Err(LayerIssueFault::TagRange) => CallOutcome::TagRange,
-        Err(LayerIssueFault::SlotUsed) => CallOutcome::SlotUsed,
-        Err(LayerIssueFault::TraceFull | LayerIssueFault::Memory) => CallOutcome::Other,
+        Err(LayerIssueFault::Issue(IssueFault::TagRange)) => CallOutcome::TagRange,
+        Err(LayerIssueFault::Issue(IssueFault::SlotUsed)) => CallOutcome::SlotUsed,
+        Err(LayerIssueFault::Issue(_)) => CallOutcome::Other,
     }
 }
 

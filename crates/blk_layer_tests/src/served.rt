@@ -3,7 +3,7 @@
 use crate::closed::other_than;
 use crate::given::bio;
 use crate::listed::{LayerCall, flushed};
-use blk_core::{BackFault, DepthFault, NotIssued};
+use blk_core::{BackFault, DepthFault, IssueFault, NotIssued};
 use blk_layer::LayerIssueFault;
 
 // Two workers take turns at one tag.
@@ -17,7 +17,7 @@ fn layer_two_workers_one_tag(rt: HostRuntime) {
         LayerCall::Issue(0, Ok(Some((0, 0)))),
         LayerCall::Issue(1, Err(LayerIssueFault::NoTag)),
         LayerCall::Done(0, 0, Ok(())),
-        LayerCall::Issue(1, Err(LayerIssueFault::SlotUsed)),
+        LayerCall::Issue(1, Err(LayerIssueFault::Issue(IssueFault::SlotUsed))),
         LayerCall::Tick(Ok(1)),
         LayerCall::Issue(1, Ok(Some((1, 0)))),
         LayerCall::Ran(0, 1),
@@ -66,7 +66,7 @@ fn layer_back_and_depth(rt: HostRuntime) {
         LayerCall::Tick(Ok(1)),
         LayerCall::Issue(0, Ok(Some((1, 0)))),
         LayerCall::Done(0, 0, Ok(())),
-        LayerCall::Issue(0, Err(LayerIssueFault::TagRange)),
+        LayerCall::Issue(0, Err(LayerIssueFault::Issue(IssueFault::TagRange))),
     ];
     let other = other_than(
         &rt,
@@ -92,7 +92,7 @@ fn layer_depth_of_three(rt: HostRuntime) {
         LayerCall::Issue(0, Ok(Some((0, 0)))),
         LayerCall::Issue(0, Ok(Some((1, 1)))),
         LayerCall::Issue(0, Ok(Some((2, 2)))),
-        LayerCall::Issue(0, Err(LayerIssueFault::TagRange)),
+        LayerCall::Issue(0, Err(LayerIssueFault::Issue(IssueFault::TagRange))),
     ];
     let other = other_than(
         &rt,

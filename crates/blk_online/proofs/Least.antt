@@ -1,50 +1,28 @@
--- Earliest due first is least late.
-use Rattle.std.proofs.Common.{◌≡◌, ◌<◌, ◌≤◌, ℕ, ◌-◌, zero, suc, List, get_or, ℤ, inl, inr, arith, refl, sym, subst}
-use Rattle.std.proofs.lemmas.Bool.{cases_lt, cases_eq}
+-- What is due first goes first, whatever breaks ties: then a schedule is least late.
+use Rattle.std.proofs.Common.{ℕ, List, get_or, ℤ, refl, sym}
 use Rattle.edd_commands.specs.declared.Command.{Command}
 use Rattle.edd_commands.specs.declared.steps.Step.{Step}
-use Rattle.edd_commands.specs.Capacity.{depth_at}
 use Rattle.edd_commands.specs.Schedule.{IsLegal, IsGreatestLateness, IsLeastLateness}
 use Rattle.edd_check.proofs.Least.{least_here}
-use Rattle.edd_oracle.specs.Plan.{due_at, IsWindowStart}
 use Rattle.edd_oracle.specs.Priority.{IsEarliestDueFirst}
-use Rattle.edd_oracle.proofs.Crowded.{crowded_at}
+use Rattle.edd_oracle.proofs.Crowded.{WaitsFull, full_by, waits_full, window_start, crowded_by}
+use Rattle.edd_oracle.proofs.Pairs.{nobody}
+use Rattle.blk_online.specs.DueFirst.{IsDueFirst}
 
--- some window ends before each round
-start_of : (commands : List Command) (rounds : List ℕ) (steps : List Step) (x due : ℕ) → (start : ℕ) × IsWindowStart commands rounds steps x due start
-start_of commands rounds steps zero due = (0, record { before = omega arith; full = λ y low high. absurd (omega arith); first = inl refl })
-start_of commands rounds steps (suc x) due =
-    elim (cases_lt (due_at commands rounds x due) (depth_at steps x)) [
-      | inl room ↦
-          let same : x ≡ suc x - 1 = omega arith in (
-            suc x,
-            record {
-              before = omega arith;
-              full = λ y low high. absurd (omega arith);
-              first = inr (subst (λ n. due_at commands rounds n due < depth_at steps n) same room);
-            },
-          )
-      | inr held ↦
-          let rest = start_of commands rounds steps x due in (
-            rest.0,
-            record {
-              before = omega (arith, rest.1.before);
-              full = λ y low high.
-                  elim (cases_eq y x) [
-                    | inl same ↦ subst (λ n. depth_at steps n ≤ due_at commands rounds n due) (sym same) held
-                    | inr other ↦ rest.1.full y low (omega arith)
-                  ];
-              first = rest.1.first;
-            },
-          )
-    ]
+full_least : (commands : List Command) (steps : List Step) (rounds : List ℕ) (late : ℤ) → IsLegal commands rounds steps → WaitsFull commands rounds steps → IsGreatestLateness commands rounds late → IsLeastLateness commands steps late
+full_least commands steps rounds late legal waits greatest =
+    let k : ℕ = greatest.place in
+    let x : ℕ = get_or rounds k 0 in
+    let due : ℕ = (get_or commands k nobody).due in
+    let start = window_start commands rounds steps x due in
+    least_here commands steps late rounds (record { from = start.0; due = due }) legal greatest
+    (crowded_by commands rounds steps x due start.0 k nobody late legal.one_each waits start.1 greatest.in_list refl refl (sym (greatest.reached nobody)))
+
+pub due_first_least : (commands : List Command) (steps : List Step) (rounds : List ℕ) (late : ℤ) → IsLegal commands rounds steps → IsDueFirst commands rounds steps → IsGreatestLateness commands rounds late → IsLeastLateness commands steps late
+due_first_least commands steps rounds late legal first greatest =
+    full_least commands steps rounds late legal
+    (λ x k d h released later. full_by commands rounds steps x (get_or commands k d).due d legal.one_each (first.full x k d h released later) (λ j j_in at. first.due_first x k j d h released later j_in at)) greatest
 
 pub earliest_least : (commands : List Command) (steps : List Step) (rounds : List ℕ) (late : ℤ) → IsLegal commands rounds steps → IsEarliestDueFirst commands rounds steps → IsGreatestLateness commands rounds late → IsLeastLateness commands steps late
 earliest_least commands steps rounds late legal first greatest =
-    let d : Command = record { id = 0; release = 0; due = 0 } in
-    let k : ℕ = greatest.place in
-    let x : ℕ = get_or rounds k 0 in
-    let due : ℕ = (get_or commands k d).due in
-    let start = start_of commands rounds steps x due in
-    least_here commands steps late rounds (record { from = start.0; due = due }) legal greatest
-    (crowded_at commands rounds steps x due start.0 k d late legal.one_each first start.1 greatest.in_list refl refl (sym (greatest.reached d)))
+    full_least commands steps rounds late legal (waits_full commands rounds steps legal.one_each first) greatest

@@ -1,7 +1,5 @@
 mod Least
-mod Tight
 mod Most
-mod Ties
 pub mod Splitting
 mod Staying
 mod Ticking

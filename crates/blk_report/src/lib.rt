@@ -36,12 +36,11 @@ pub fn report<A: Allocator + Clone>(trace: &Trace<A>) -> Result<Report, AllocErr
     let commands = trace.commands()?;
     let rounds = trace.rounds()?;
     let capacity = trace.capacity()?;
-    let waiting = trace.waiting()?.len() as u64;
     let alloc = commands.allocator().clone()?;
     let figures = figures_of(alloc, commands.as_slice(), rounds.as_slice(), &capacity)?;
     Ok(Report {
         commands: commands.len() as u64,
-        waiting,
+        waiting: trace.bios_waiting(),
         depth: trace.setup().depth(),
         figures,
     })

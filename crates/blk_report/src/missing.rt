@@ -1,15 +1,12 @@
 //! How many commands of a trace were late, how many of them had to be, and what waits.
 
-ghost use Rattle.std.specs.Prelude.{◌≡◌, ◌≤◌, ◌<◌, ◌↔◌, ◌++◌, IfOk, OnOk, length};
-ghost use Rattle.blk_trace.specs.Meaning.{commands_of, waiting_of};
-ghost use Rattle.blk_report.specs.Overdue.{overdue_of};
+ghost use Rattle.std.specs.Prelude.{◌≡◌, ◌≤◌, ◌<◌, ◌↔◌, ◌++◌, IfOk, OnOk};
 ghost use Rattle.blk_report.specs.Misses.{IsTallied, tally_parts, misses_parts};
 
 use crate::outstaying::overdue;
 use answer::names::{AVOIDABLE, COMMANDS, LATE, OVERDUE, SPARE, UNAVOIDABLE, WAITING};
 use answer::{Answer, Value, member};
 use blk_trace::Trace;
-use edd_commands::Command;
 use edd_figures::answers::add_crowds;
 use edd_figures::{Crowd, misses_of};
 use std::alloc::{AllocError, Allocator, Global};
@@ -43,20 +40,6 @@ pub struct Missed<A: Allocator = Global> {
     pub windows: Vec<Crowd, A>,
 }
 
-/// How many bios of a trace wait, and how many of them past the round in which their request is due.
-fn waits<A: Allocator + Clone>(
-    trace: &Trace<A>,
-    commands: &Vec<Command, A>,
-) -> Result<(u64, u64), AllocError>
-    requires { commands.now.items ≡ commands_of trace.now.setup trace.now.events }
-    ensures waiting { IfOk result (λ n. n.0 ≡ length (waiting_of trace.now.events)) }
-    ensures overdue { IfOk result (λ n. n.1 ≡ length (overdue_of trace.now.setup trace.now.events)) }
-{
-    let waiting = trace.waiting()?;
-    let overdue = overdue(trace, commands)?;
-    Ok((waiting.len() as u64, overdue.len() as u64))
-}
-
 /// How many commands of a trace were late, how many of these had to be, under the trace's own capacity, and the windows that prove
 /// it: no schedule of the same commands has fewer late, and some schedule has no more. It also counts the late commands that are
 /// spare, the bios that wait, and of these the ones that wait past their due round. Fails only when out of memory. The time
@@ -73,14 +56,14 @@ pub fn misses<A: Allocator + Clone>(trace: &Trace<A>) -> Result<Missed<A>, Alloc
     let alloc = commands.allocator().clone()?;
     let missed = misses_of(alloc, commands.as_slice(), rounds.as_slice(), &capacity)?;
     let counts = missed.counts;
-    let (waiting, overdue) = waits(trace, &commands)?;
+    let overdue = overdue(trace, &commands)?.len() as u64;
     let tally = Tally {
         commands: counts.commands,
         late: counts.late,
         unavoidable: counts.unavoidable,
         avoidable: counts.avoidable,
         spare: counts.spare,
-        waiting,
+        waiting: trace.bios_waiting(),
         overdue,
     };
     Ok(Missed {

@@ -14,7 +14,7 @@ use blk_recorders::{LineFault, LineReason};
 use blk_records::{TextFault, TextReason};
 use blk_runs::RunFault;
 use blk_sched::JoinRefusal;
-use blk_schedulers::{GridFault, ListFault, LoadFault, SchedFault, SchedKind};
+use blk_schedulers::{GridFault, ListFault, LoadFault, SchedFault, SchedKind, Unsettled};
 use blk_sim::{Overflow, SimFault, SimReason};
 use blk_trace::{PushFault, SetupFault, TraceFault};
 use edd_check::{CheckFault, OnTimeFault};
@@ -125,7 +125,6 @@ fn of_records(rt: HostRuntime) {
         assert!(rt; prints(heap, &fault, why.name()));
         assert!(rt; prints(heap, &Failure::Text(fault), why.name()));
         assert!(rt; prints(heap, &UnreadCapture::Text(fault), why.name()));
-        assert!(rt; prints(heap, &Unstreamed::Outside(*why), why.name()));
         match why {
             TextReason::Bio(fault) => assert!(rt; prints(heap, fault, fault.name())),
             TextReason::Rule(rule) => {
@@ -154,17 +153,16 @@ fn of_captures(rt: HostRuntime) {
         let fault = LineFault { at: 1, why: *why };
         assert!(rt; prints(heap, why, why.name()));
         assert!(rt; prints(heap, &fault, why.name()));
-        assert!(rt; prints(heap, &Failure::Line(fault), why.name()));
-        assert!(rt; prints(heap, &UnreadCapture::Line(fault), why.name()));
-        assert!(rt; prints(heap, &Unstreamed::Line(fault), why.name()));
+        let unread = UnreadCapture::Line(fault);
+        let unstreamed = Unstreamed {
+            fault: unread,
+            bytes: Vec::new(heap),
+        };
+        assert!(rt; prints(heap, &unread, why.name()));
+        assert!(rt; prints(heap, &unstreamed, why.name()));
+        assert!(rt; prints(heap, &Failure::Unread(unread), why.name()));
     }
-    let title = TextFault {
-        at: 1,
-        why: TextReason::Title,
-    };
-    assert!(rt; prints(heap, &Unstreamed::Text(title, Vec::new(heap)), "Title"));
-    assert!(rt; print_variants(heap, &[UnreadCapture::Memory]));
-    assert!(rt; prints(heap, &Unstreamed::Memory, "Memory"));
+    assert!(rt; print_names(heap, &[UnreadCapture::Memory]));
     assert!(rt; print_names(heap, &[ImportFault::TooMany(1), ImportFault::Memory]));
     let arrivals = [
         ArrivalsFault::Round,
@@ -205,16 +203,19 @@ fn of_runs(rt: HostRuntime) {
         let fault = SimFault { at: 1, why: *why };
         assert!(rt; prints(heap, why, name));
         assert!(rt; prints(heap, &RunFault::Step(fault), name));
-        assert!(rt; prints(heap, &Failure::Step(fault), name));
+        assert!(rt; prints(heap, &Failure::Run(RunFault::Step(fault)), name));
     }
     let made = [
-        SchedFault::ZeroBatch,
-        SchedFault::ZeroTarget,
-        SchedFault::Memory,
+        (SchedFault::Deadline(DeadlineFault::ZeroBatch), "ZeroBatch"),
+        (SchedFault::Kyber(KyberFault::ZeroTarget), "ZeroTarget"),
+        (SchedFault::Deadline(DeadlineFault::Memory), "Memory"),
+        (SchedFault::Kyber(KyberFault::Memory), "Memory"),
+        (SchedFault::Memory, "Memory"),
     ];
-    assert!(rt; print_names(heap, &made));
-    for fault in &made {
-        assert!(rt; prints(heap, &RunFault::Sched(*fault), fault.name()));
+    for (fault, name) in &made {
+        assert!(rt; prints(heap, fault, name));
+        assert!(rt; prints(heap, &RunFault::Sched(*fault), name));
+        assert!(rt; prints(heap, &Unsettled::Sched(*fault), name));
     }
     assert!(rt; print_names(heap, &[RunFault::Memory]));
 }
@@ -235,15 +236,12 @@ fn of_the_program(rt: HostRuntime) {
     assert!(rt; print_names(heap, &loads));
     let failures = [
         Failure::Sched(SchedFault::Memory),
-        Failure::Step(SimFault {
-            at: 1,
-            why: SimReason::Memory,
-        }),
+        Failure::Run(RunFault::Memory),
         Failure::Solve(OracleFault::TooMany),
         Failure::Check(CheckFault::Length),
         Failure::OnTime(OnTimeFault::Loose(1)),
         Failure::NotFixed,
-        Failure::Load(LoadFault::Stalled),
+        Failure::Load(Unsettled::Load(LoadFault::Stalled)),
         Failure::Import(ImportFault::TooMany(1)),
         Failure::Arrivals(ArrivalsFault::Round),
         Failure::Words(Refusal::By),

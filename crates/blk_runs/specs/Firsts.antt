@@ -5,8 +5,7 @@ use Rattle.blk_trace.specs.Traces.{Traced}
 use Rattle.blk_sim.specs.declared.refusal.SimFault.{SimFault}
 use Rattle.blk_schedulers.specs.declared.sched.Sched.{Sched}
 use Rattle.blk_schedulers.specs.declared.sched.SchedFault.{SchedFault}
-use Rattle.blk_schedulers.specs.declared.sched.SchedFault.TheVariants as setting
-use Rattle.blk_schedulers.specs.Made.{IsMade, HasFault}
+use Rattle.blk_schedulers.specs.Made.{IsMade, HasFault, IsOutOfMemory}
 use Rattle.blk_runs.specs.declared.fault.RunFault.{RunFault}
 use Rattle.blk_runs.specs.declared.fault.RunFault.TheVariants as run
 use Rattle.blk_runs.specs.Runs.{IsTraceOfScript, IsRefusedUnder}
@@ -22,7 +21,7 @@ pub record IsFirstUnmade (scheds : List Sched) (f : SchedFault) : Type 0 where
 
 -- not all of them are made: for the first that isn't made of its settings, or since memory ran out
 abbrev pub AreUnmade : List Sched → SchedFault → Type 0
-AreUnmade scheds f = IsFirstUnmade scheds f ⊎ (f ≡ setting.Memory)
+AreUnmade scheds f = IsFirstUnmade scheds f ⊎ IsOutOfMemory f
 
 -- a script that a scheduler runs whole
 abbrev pub RunsWhole : Scripted → Sched → Type 0

@@ -1,5 +1,5 @@
 -- How many of the bios that entered the commands have, and what comes of a load by these numbers.
-use Rattle.std.proofs.Common.{◌≡◌, ◌∙◌, ◌-◌, ℕ, sym, ap, arith, inr, List, ◌++◌, length, length-append}
+use Rattle.std.proofs.Common.{◌≡◌, ◌∙◌, ◌-◌, ℕ, sym, ap, arith, List, ◌++◌, length, length-append}
 use Rattle.std.proofs.lemmas.List.Sorted.{length_permutation}
 use Rattle.blk_trace.specs.Happened.{Happened}
 use Rattle.blk_trace.specs.Events.{entered}
@@ -37,7 +37,7 @@ settles l t accepted served in_flight waits left s setup is even n o w = record 
 
 pub differs : (l : Load) (es : List Happened) (accepted served in_flight waits left : ℕ) (f : LoadFault) → f ≡ fault.Unserved → (AreEven l accepted served in_flight waits left → ⊥)
     → served ≡ length (served_bios es) → in_flight ≡ open_count es → waits ≡ length (waiting_of es) → IsSettleFault l es accepted left f
-differs l es accepted served in_flight waits left f is uneven n o w = inr (
+differs l es accepted served in_flight waits left f is uneven n o w = (
   is,
   λ h. uneven (record {
     all = h.all;

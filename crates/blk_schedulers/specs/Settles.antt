@@ -48,6 +48,6 @@ pub record IsSettled (l : Load) (trace : Traced) (s : Settled) : Type 0 where
   pub even : AreEvenIn l trace.events s.accepted s.left
   pub served : s.served ≡ length (served_bios trace.events)
 
--- why a load isn't settled: memory ran out, or its numbers aren't those
+-- why a load isn't settled: its numbers aren't those
 abbrev pub IsSettleFault : Load → List Happened → ℕ → ℕ → LoadFault → Type 0
-IsSettleFault l events accepted left f = (f ≡ fault.Memory) ⊎ ((f ≡ fault.Unserved) × ¬ AreEvenIn l events accepted left)
+IsSettleFault l events accepted left f = (f ≡ fault.Unserved) × ¬ AreEvenIn l events accepted left

@@ -7,6 +7,7 @@ ghost use Rattle.std.specs.Prelude.{OnOk, IfOk, IfErr};
 ghost use denote.Param.Send.{IsSync};
 ghost use Rattle.blk_schedulers.specs.Numbers.{IsLoad};
 ghost use Rattle.blk_schedulers.specs.Made.{IsLoadSettingsFault};
+ghost use Rattle.blk_schedulers.specs.Names.{unsettled_told};
 ghost use Rattle.blk_schedulers.specs.Ran.{IsRunUnder};
 ghost use Rattle.blk_schedulers.specs.Settles.{IsSettled, served_bios};
 ghost use Rattle.blk_trace.specs.Events.{AreOnce};
@@ -39,9 +40,11 @@ pub use crate::rows::SchedKind;
 pub use crate::sched::{ComparedScheds, Sched, SchedFault};
 pub use crate::setting::{Setting, SettingValue, Settings};
 use blk_trace::Trace;
+use edd_commands::{Fault, Told, told};
 use std::alloc::Global;
 use std::sync::Wait;
 use std::thread::Threads;
+use thiserror::Error;
 
 /// What came of a load, in bios.
 #[derive(Clone, Copy, Debug, PartialEq, Eq)]
@@ -75,12 +78,24 @@ pub struct LoadTimes {
 }
 
 /// Why a load has no result.
-#[derive(Clone, Copy, Debug, PartialEq, Eq)]
+#[derive(Clone, Copy, Debug, PartialEq, Eq, Error)]
+#[error("{}", self.name())]
 pub enum Unsettled {
     /// The scheduler is not made of its settings.
     Sched(SchedFault),
     /// The load fails.
     Load(LoadFault),
+}
+
+impl Fault for Unsettled {
+    ghost told = { unsettled_told };
+
+    fn told(&self) -> Told {
+        told!(self: Unsettled {
+            Sched(fault) by fault,
+            Load(fault) by fault,
+        })
+    }
 }
 
 /// Whoever runs loads.

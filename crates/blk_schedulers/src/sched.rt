@@ -9,18 +9,20 @@ use crate::given::MAX_SHORT;
 use crate::positions::positions_of;
 use crate::rows::{SCHED_COUNT, SchedKind, SettingRange, SettingRow};
 use crate::setting::{MAX_SETTINGS, Setting, Settings};
+use blk_deadline::DeadlineFault;
+use blk_kyber::KyberFault;
 use edd_commands::{Fault, Told, told};
 use std::alloc::{AllocError, Global};
 use thiserror::Error;
 
-/// Why a scheduler is not made, in the order in which the reasons are looked for.
+/// Why a scheduler is not made.
 #[derive(Clone, Copy, Debug, PartialEq, Eq, Error)]
 #[error("{}", self.name())]
 pub enum SchedFault {
-    /// A batch of no request.
-    ZeroBatch,
-    /// A target of no round.
-    ZeroTarget,
+    /// The settings of `deadline`, or memory ran out as it was made.
+    Deadline(DeadlineFault),
+    /// The settings of `kyber`, or memory ran out as it was made.
+    Kyber(KyberFault),
     /// Memory ran out.
     Memory,
 }
@@ -30,8 +32,8 @@ impl Fault for SchedFault {
 
     fn told(&self) -> Told {
         told!(self: SchedFault {
-            ZeroBatch,
-            ZeroTarget,
+            Deadline(fault) by fault,
+            Kyber(fault) by fault,
             Memory => Memory,
         })
     }

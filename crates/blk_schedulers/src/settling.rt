@@ -47,8 +47,7 @@ impl Load {
     /// What came of the load, by the trace of its layer once that is closed, how many bios its submitters accepted, and how many are
     /// left.
     ///
-    /// Refused as `Unserved` where not all of its bios were accepted and served, or something is in flight, waits or is left; and as
-    /// `Memory`.
+    /// Refused as `Unserved` where not all of its bios were accepted and served, or something is in flight, waits or is left.
     pub fn settle(&self, trace: &Trace, accepted: u64, left: u64) -> Result<Settled, LoadFault>
         requires range { IsLoad self.now }
         requires setup { trace.now.setup ≡ load_setup self.now }
@@ -56,14 +55,8 @@ impl Load {
         ensures numbers { IfOk result (λ s. (s.accepted ≡ accepted) × (s.left ≡ left)) }
         ensures fault { IfErr result (IsSettleFault self.now trace.now.events accepted left) }
     {
-        let Ok(waiting) = trace.waiting() else {
-            return Err(LoadFault::Memory);
-        };
-        let Ok(entered) = trace.entered() else {
-            return Err(LoadFault::Memory);
-        };
-        let waits = waiting.len() as u64;
-        let served = (entered.len() as u64).saturating_sub(waits);
+        let waits = trace.bios_waiting();
+        let served = trace.bios_entered().saturating_sub(waits);
         match self.balanced(accepted, served, trace.unfinished(), waits, left) {
             Ok(settled) => Ok(settled),
             Err(fault) => Err(fault),

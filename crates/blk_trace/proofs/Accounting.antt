@@ -37,7 +37,7 @@ same : {X : Type 0} (xs ys : List X) → xs ≡ ys → IsPermutation xs ys
 same xs ys e = subst (IsPermutation xs) e (IsPermutation-refl xs)
 
 -- the parts of two functions that agree on the ids of a list
-parts_same : (f g : ℕ → List Bio) (xs : List ℕ) → ((x : ℕ) → has_id xs x ≡ true → f x ≡ g x) → flat_map f xs ≡ flat_map g xs
+pub parts_same : (f g : ℕ → List Bio) (xs : List ℕ) → ((x : ℕ) → has_id xs x ≡ true → f x ≡ g x) → flat_map f xs ≡ flat_map g xs
 parts_same f g [] h = refl
 parts_same f g (x ∷ xs) h =
     let one : f x ≡ g x = h x (or_left (x == x) (has_id xs x) (eq-eqb x x refl)) in
@@ -53,7 +53,7 @@ absent u x xs h =
     ]
 
 -- two functions that agree but at one id, over a list without it
-parts_without : (f g : ℕ → List Bio) (u : ℕ) (xs : List ℕ) → ((x : ℕ) → (u == x) ≡ false → f x ≡ g x) → count_by (λ y. u == y) xs ≡ 0 → flat_map f xs ≡ flat_map g xs
+pub parts_without : (f g : ℕ → List Bio) (u : ℕ) (xs : List ℕ) → ((x : ℕ) → (u == x) ≡ false → f x ≡ g x) → count_by (λ y. u == y) xs ≡ 0 → flat_map f xs ≡ flat_map g xs
 parts_without f g u [] h n = refl
 parts_without f g u (x ∷ xs) h n =
     let p = absent u x xs n in
@@ -62,7 +62,7 @@ parts_without f g u (x ∷ xs) h n =
     cc
 
 -- and over a list with it once, where the one function has more bios there
-parts_once : (f g : ℕ → List Bio) (u : ℕ) (q : List Bio) (xs : List ℕ) → ((x : ℕ) → (u == x) ≡ false → f x ≡ g x) → IsPermutation (f u) (g u ++ q) → count_by (λ y. u == y) xs ≡ 1 → IsPermutation (flat_map f xs) (flat_map g xs ++ q)
+pub parts_once : (f g : ℕ → List Bio) (u : ℕ) (q : List Bio) (xs : List ℕ) → ((x : ℕ) → (u == x) ≡ false → f x ≡ g x) → IsPermutation (f u) (g u ++ q) → count_by (λ y. u == y) xs ≡ 1 → IsPermutation (flat_map f xs) (flat_map g xs ++ q)
 parts_once f g u q [] h p n = absurd (omega arith)
 parts_once f g u q (x ∷ xs) h p n =
     let more = count-cons (λ y. u == y) x xs in
@@ -83,7 +83,7 @@ parts_once f g u q (x ∷ xs) h p n =
     ]
 
 -- a joined request has the bios of both
-joined_all : (bs n : List Bio) → IsPermutation (join_up bs n) (bs ++ n)
+pub joined_all : (bs n : List Bio) → IsPermutation (join_up bs n) (bs ++ n)
 joined_all [] n = IsPermutation-refl n
 joined_all (b ∷ bs) n = cond_both (first_of n == last_of (b ∷ bs)) ((b ∷ bs) ++ n) (n ++ (b ∷ bs)) (λ l. IsPermutation l ((b ∷ bs) ++ n)) (λ _. IsPermutation-refl ((b ∷ bs) ++ n)) (λ _. IsPermutation-append_comm n (b ∷ bs))
 
@@ -98,13 +98,13 @@ put_parts f x (y ∷ ys) =
     (λ _. IsPermutation-refl (f x ++ (f y ++ flat_map f ys)))
     (λ _. trans (f y ++ flat_map f (put_rising x ys)) (f y ++ (f x ++ flat_map f ys)) (f x ++ (f y ++ flat_map f ys)) (IsPermutation-append_right (f y) (flat_map f (put_rising x ys)) (f x ++ flat_map f ys) (put_parts f x ys)) moved)
 
-rising_parts : (f : ℕ → List Bio) (xs : List ℕ) → IsPermutation (flat_map f (rising xs)) (flat_map f xs)
+pub rising_parts : (f : ℕ → List Bio) (xs : List ℕ) → IsPermutation (flat_map f (rising xs)) (flat_map f xs)
 unfolding rising
 rising_parts f [] = IsPermutation-refl []
 rising_parts f (x ∷ xs) = trans (flat_map f (put_rising x (rising xs))) (f x ++ flat_map f (rising xs)) (f x ++ flat_map f xs) (put_parts f x (rising xs)) (IsPermutation-append_right (f x) (flat_map f (rising xs)) (flat_map f xs) (rising_parts f xs))
 
 -- filters
-keeps_id : (p : ℕ → Bool) (u : ℕ) (xs : List ℕ) → p u ≡ true → count_by (λ y. u == y) (filter p xs) ≡ count_by (λ y. u == y) xs
+pub keeps_id : (p : ℕ → Bool) (u : ℕ) (xs : List ℕ) → p u ≡ true → count_by (λ y. u == y) (filter p xs) ≡ count_by (λ y. u == y) xs
 keeps_id p u [] h = refl
 keeps_id p u (x ∷ xs) h =
     elim (cases_Bool (p x)) [
@@ -157,7 +157,7 @@ filter_once f p r u (x ∷ xs) h t n c =
     ]
 
 -- the ids that wait, in the order of their Releases
-unfoldable waiting : List Happened → List ℕ
+unfoldable pub waiting : List Happened → List ℕ
 waiting es = filter (λ id. not (has_id (issued_ids es) id)) (released_ids es)
 
 has_filter : (p : ℕ → Bool) (xs : List ℕ) (x : ℕ) → has_id (filter p xs) x ≡ true → has_id xs x ≡ true

@@ -1,11 +1,11 @@
 -- What is kept of a request that another joins.
-use Rattle.std.proofs.Common.{◌≡◌, ◌<◌, ◌≤◌, ◌+◌, ◌++◌, ◌==◌, ℕ, List, [], ◌∷◌, length, refl, sym, ◌∙◌, ap, subst, arith, length-append, cond, true, false, inl, inr, ne_eqb, eq-eqb}
+use Rattle.std.proofs.Common.{◌≡◌, ◌<◌, ◌+◌, ◌++◌, ◌==◌, ℕ, List, [], ◌∷◌, length, refl, sym, ◌∙◌, ap, subst, arith, length-append, cond, true, false, ne_eqb, eq-eqb}
 use Rattle.blk_bio.specs.declared.bio.Dir.{Dir}
 use Rattle.blk_bio.specs.declared.request.Side.{Side}
 use Rattle.blk_bio.specs.declared.request.Side.TheVariants.{Back, Front}
 use Rattle.blk_bio.specs.Bios.{Bio}
 use Rattle.blk_bio.specs.Limits.{Limits}
-use Rattle.blk_bio.specs.Requests.{IsRequest, IsWithin, dir_of, first_of, last_of, Fits}
+use Rattle.blk_bio.specs.Requests.{IsRequest, dir_of, first_of, last_of, Fits}
 use Rattle.blk_bio.specs.Extents.{Extent, extent_of, extent_joined}
 use Rattle.blk_bio.proofs.Tiles.{last-append, joins, range_of}
 use Rattle.blk_trace.specs.declared.known.Unissued.{Unissued}

@@ -31,6 +31,7 @@ pub mod Joining
 pub mod Keeping
 pub mod Gathering
 pub mod Rising
+pub mod Counted
 pub mod Bounds
 pub mod Seated
 mod Timing

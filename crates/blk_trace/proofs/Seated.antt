@@ -1,6 +1,6 @@
 -- How a tag stands, by the places in the list and by the events of the round: both say the same.
 use Rattle.std.proofs.Common.{◌≡◌, ◌↔◌, ℕ, List, ap, None, inl, inr}
-use Rattle.std.specs.Prelude.{IsSome, not}
+use Rattle.std.specs.Prelude.{IsSome}
 use Rattle.std.specs.Option.{is_some}
 use Rattle.blk_trace.specs.Happened.{Happened}
 use Rattle.blk_trace.specs.Events.{IsUsed}

@@ -97,7 +97,11 @@ fn entered(trace: &Trace<Heap<'_>>, place: usize, dir: Dir, first: u64, sectors:
         Err(_) => trace.entered().ok(),
     };
     match all {
-        Some(found) => place < found.len() && Some(found[place]) == bio(dir, first, sectors),
+        Some(found) => {
+            trace.bios_entered() == found.len() as u64
+                && place < found.len()
+                && Some(found[place]) == bio(dir, first, sectors)
+        }
         None => false,
     }
 }
@@ -113,7 +117,7 @@ fn waiting<'a>(trace: &Trace<Heap<'a>>) -> Option<Vec<Bio, Heap<'a>>> {
 /// Counts them.
 fn are_waiting(trace: &Trace<Heap<'_>>, count: usize) -> bool {
     match waiting(trace) {
-        Some(found) => found.len() == count,
+        Some(found) => found.len() == count && trace.bios_waiting() == count as u64,
         None => false,
     }
 }

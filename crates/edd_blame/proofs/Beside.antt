@@ -22,7 +22,7 @@ use Rattle.edd_blame.specs.Inside.{on_time_places, late_places}
 use Rattle.edd_blame.specs.Parts.{ArePlaces, command_here, is_late_at, number_late_at, KeepsOnTime, number_saved_at, IsMostSavedAt}
 use Rattle.edd_blame.proofs.Causing.{nobody}
 use Rattle.edd_blame.proofs.Clocks.{count_parts}
-use Rattle.edd_blame.proofs.Climbing.{HaveVerdicts, climb}
+use Rattle.edd_verdict.specs.Laws.{MostKeepsOnTime}
 use Rattle.edd_blame.proofs.Parting.{part, part_long, part_at, among, rounds_at, restricted, late_alike, spread, spread_own, spread_legal}
 
 -- a number more
@@ -239,11 +239,11 @@ module _ (commands : List Command) (rounds : List ℕ) (steps : List Step) (plac
       let same = saved_is rounds (rounds_at commands steps beside are_beside rounds) own (λ k h on_time. on_time) (λ j d h. get_or-map (λ i. get_or rounds i 0) beside j d 0 h) in
       omega (arith, same, is.most (rounds_at commands steps beside are_beside rounds) own)
 
-  pub most_saved : (most n : ℕ) → ((x : ℕ) → 0 < depth_at steps x) → All IsSolvable commands → HaveVerdicts (part commands steps beside are_beside) steps → IsMostOnTime (part commands steps beside are_beside) steps most → n + length (on_time_places commands rounds) ≡ most → IsMostSavedAt commands rounds steps places n
-  most_saved most n some solvable have is all =
+  pub most_saved : (most n : ℕ) → ((x : ℕ) → 0 < depth_at steps x) → All IsSolvable commands → ((rounds : List ℕ) → MostKeepsOnTime (part commands steps beside are_beside) rounds steps) → IsMostOnTime (part commands steps beside are_beside) steps most → n + length (on_time_places commands rounds) ≡ most → IsMostSavedAt commands rounds steps places n
+  most_saved most n some solvable kept is all =
       let base : List ℕ = rounds_at commands steps beside are_beside rounds in
       let own : IsLegal (part commands steps beside are_beside) base steps = restricted commands steps beside are_beside rounds legal in
-      let best = climb (part commands steps beside are_beside) steps have most base most own is (omega arith) in
+      let best = kept base most own is in
       let past = past_all best.0 in
       let top : ℕ = past.0 in
       let long : length best.0 ≡ length beside = best.1.one_each ∙ part_long commands steps beside are_beside in

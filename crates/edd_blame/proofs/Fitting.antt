@@ -11,8 +11,9 @@ use Rattle.edd_commands.proofs.Counting.{count_of_either}
 use Rattle.edd_check.specs.declared.Window.{Window}
 use Rattle.edd_check.specs.OnTime.{number_on_time, is_on_time, can_be_on_time, lies_in, inside_of, outside_of, carried_in, carried_by, bound_of, IsCover}
 use Rattle.edd_oracle.proofs.Counting.{count_along, count_wider}
-use Rattle.edd_oracle.proofs.Pairs.{length_pairs}
-use Rattle.edd_verdict.proofs.Holding.{is_held, held_in, held_carried, untested}
+use Rattle.edd_oracle.proofs.Pairs.{length_pairs, untested}
+use Rattle.edd_oracle.proofs.Filled.{is_held}
+use Rattle.edd_verdict.proofs.Holding.{held_in, held_carried}
 use Rattle.edd_figures.specs.Misses.{crowd_of, IsLeastLate}
 use Rattle.edd_figures.specs.declared.missing.Crowd.{Crowd}
 use Rattle.edd_figures.proofs.Tardy.{all_commands}

@@ -4,7 +4,6 @@ pub mod Adding
 pub mod Stalling
 pub mod Fitting
 pub mod Parting
-pub mod Climbing
 pub mod Alike
 pub mod Beside
 pub mod Marking

@@ -16,7 +16,8 @@ use Rattle.edd_figures.specs.Misses.{number_late}
 use Rattle.edd_figures.proofs.Tardy.{all_commands}
 use Rattle.edd_blame.specs.Parts.{ArePlaces, command_here, is_late_at, number_late_at, IsLeastLateAt, IsLeastLateBeside, marked_places, other_places}
 use Rattle.edd_blame.proofs.Causing.{nobody}
-use Rattle.edd_blame.proofs.Climbing.{HaveVerdicts, Keeps, climb}
+use Rattle.edd_verdict.specs.Verdicts.{Keeps}
+use Rattle.edd_verdict.specs.Laws.{MostKeepsOnTime}
 use Rattle.edd_blame.proofs.Parting.{count_same}
 
 -- places that pass a test stand once each
@@ -73,10 +74,10 @@ late_kept commands rounds other places are keeps =
       | inr by ↦ absurd (omega (arith, keeps k nobody k_in by, after))
     ]))
 
-pub least_beside : (commands : List Command) (steps : List Step) (marks : List Bool) (most late others : ℕ) → length marks ≡ length commands → HaveVerdicts commands steps → IsMostOnTime commands steps most → late + most ≡ length commands → IsLeastLateAt commands steps (other_places marks) others
+pub least_beside : (commands : List Command) (steps : List Step) (marks : List Bool) (most late others : ℕ) → length marks ≡ length commands → ((rounds : List ℕ) → MostKeepsOnTime commands rounds steps) → IsMostOnTime commands steps most → late + most ≡ length commands → IsLeastLateAt commands steps (other_places marks) others
     → (others ≤ late) × ((n : ℕ) → n + others ≡ late → IsLeastLateBeside commands steps (marked_places marks) (other_places marks) n)
-least_beside commands steps marks most late others same have is all fewest =
-    let best = climb commands steps have most fewest.schedule most fewest.legal is (omega arith) in
+least_beside commands steps marks most late others same keeps is all fewest =
+    let best = keeps fewest.schedule most fewest.legal is in
     let parted = late_parted commands best.0 marks best.1.one_each same in
     let total : number_late commands best.0 ≡ late = omega (arith, all_commands commands best.0 best.1.one_each, best.3, all) in
     let few = late_kept commands fewest.schedule best.0 (other_places marks) (other_are marks (length commands) same) best.2 in

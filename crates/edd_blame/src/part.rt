@@ -8,7 +8,7 @@ ghost use Rattle.edd_blame.specs.Inside.{on_time_places, late_places, release_an
 
 use edd_commands::{Capacity, Command};
 use edd_oracle::most_on_time;
-use edd_verdict::{law_of_spares, law_of_verdicts};
+use edd_verdict::law_of_spares;
 use std::alloc::{AllocError, Allocator};
 
 /// The commands at these places.
@@ -166,7 +166,6 @@ pub fn most_saved_at<A: Allocator + Clone, B: Allocator>(
     requires places { ArePlaces (length commands.now) places.now }
     ensures { IfOk result (IsMostSavedAt commands.now rounds.now capacity.now places.now) }
 {
-    law_of_verdicts();
     law_of_spares();
     // brings the prover the capacity's invariant
     let _ = capacity.at(0);
@@ -195,10 +194,7 @@ pub fn least_late_beside<A: Allocator + Clone, B: Allocator>(
     requires one_each { length marks.now ≡ length commands.now }
     ensures { IfOk result (IsLeastLateBeside commands.now capacity.now (marked_places marks.now) (other_places marks.now)) }
 {
-    law_of_verdicts();
     law_of_spares();
-    // brings the prover the capacity's invariant
-    let _ = capacity.at(0);
     let parts = parted(alloc.clone()?, marks)?;
     let others = least_late_at(alloc.clone()?, commands, capacity, parts.others.as_slice())?;
     // commands that the oracle takes are refused only when out of memory

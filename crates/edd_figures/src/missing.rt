@@ -153,8 +153,6 @@ fn spare_of<A: Allocator + Clone, B: Allocator>(
 {
     law_of_verdicts();
     law_of_spares();
-    // brings the prover the capacity's invariant
-    let _ = capacity.at(0);
     if number_on_time(commands, rounds) == most {
         return Ok(0);
     }

@@ -1,5 +1,5 @@
 -- The window's start, by one pass back over the rounds of the commands due by then.
-use Rattle.std.proofs.Common.{◌≡◌, ◌<◌, ◌≤◌, ℕ, ◌+◌, ◌-◌, ◌==◌, nat_le, cond, List, [], ◌∷◌, ◌++◌, length, get_or, take, count_by, ◌⊎◌, inl, inr, arith, refl, ap, sym, ◌∙◌, subst, ◌≢◌}
+use Rattle.std.proofs.Common.{◌≡◌, ◌<◌, ◌≤◌, ℕ, ◌+◌, ◌-◌, ◌==◌, nat_le, cond, List, [], ◌∷◌, ◌++◌, length, get_or, take, count_by, ◌⊎◌, inl, inr, arith, refl, sym, ◌∙◌, subst, ◌≢◌}
 use Rattle.std.specs.List.{All, zip}
 use Rattle.std.proofs.lemmas.List.Elements.{All-push, All-nil}
 use Rattle.std.specs.List.Sorted.{IsPermutation}
@@ -13,8 +13,7 @@ use Rattle.edd_commands.specs.Schedule.{places_at, IsLegal}
 use Rattle.edd_commands.proofs.Counting.{Rises, run_count, run_of}
 use Rattle.edd_commands.proofs.InForce.{depth_bounds}
 use Rattle.edd_oracle.specs.Plan.{due_at, IsWindowStart}
-use Rattle.edd_oracle.proofs.Counting.{count_along}
-use Rattle.edd_oracle.proofs.Pairs.{is_due_at, due_more_yes, due_more_late, due_more_other, length_pairs, pair_at}
+use Rattle.edd_oracle.proofs.Pairs.{is_due_at, due_more_yes, due_more_late, due_more_other, at_places}
 
 -- the rounds before x of the first n commands, as far as these are due by `due`
 pub record AreEarly (commands : List Command) (rounds : List ℕ) (x due n : ℕ) (early : List ℕ) : Type 0 where
@@ -144,20 +143,9 @@ back_ends commands rounds steps x due early start left depth all back some is_de
 
 -- what is due by then at a round is no more than what it carries
 due_within : (commands : List Command) (rounds : List ℕ) (steps : List Step) (y due : ℕ) → IsLegal commands rounds steps → due_at commands rounds y due ≤ depth_at steps y
-unfolding due_at places_at
+unfolding due_at
 due_within commands rounds steps y due legal =
-    omega (
-      arith,
-      legal.within_depth y,
-      count_along (is_due_at y due) (λ z. z == y) (zip commands rounds) rounds
-          (legal.one_each ∙ sym (length_pairs commands rounds legal.one_each))
-          (λ k p e in_list here.
-          let k_in : k < length commands = omega (arith, length_pairs commands rounds legal.one_each) in
-          let parts = and_parts (nat_le (get_or (zip commands rounds) k p).0.due due) ((get_or (zip commands rounds) k p).1 == y) here in
-          let is_y : (get_or (zip commands rounds) k p).1 ≡ y = eqb-true (get_or (zip commands rounds) k p).1 y parts.1 in
-          let pair : (get_or (zip commands rounds) k p).1 ≡ get_or rounds k e = ap (λ (q : Command × ℕ). q.1) (pair_at commands rounds k p p.0 e legal.one_each k_in) in
-          eq-eqb (get_or rounds k e) y (sym pair ∙ is_y)),
-    )
+    omega (arith, legal.within_depth y, at_places commands rounds (is_due_at y due) y legal.one_each (λ p here. eqb-true p.1 y (and_parts (nat_le p.0.due due) (p.1 == y) here).1))
 
 -- the rounds in order
 pub early_in_order : (commands : List Command) (rounds : List ℕ) (steps : List Step) (x due : ℕ) (early sorted : List ℕ) → All (λ y. y < x) early → ((y : ℕ) → y < x → places_at early y ≡ due_at commands rounds y due) → IsPermutation early sorted → Rises sorted → IsLegal commands rounds steps → IsCapacity steps → IsEarly commands rounds steps x due sorted

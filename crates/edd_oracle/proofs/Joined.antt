@@ -1,37 +1,26 @@
 -- What earliest due first that passes over leaves: windows that hold what is passed over and what is on time in their rounds.
-use Rattle.std.proofs.Common.{◌≡◌, ◌<◌, ◌≤◌, ℕ, ◌+◌, ◌-◌, ◌==◌, ◌&&◌, nat_le, true, List, length, get_or, reverse, inl, inr, arith, ap, sym, ◌∙◌, subst}
-use Rattle.std.specs.List.{zip, All}
-use Rattle.std.proofs.lemmas.Bool.{cases_lt, and_from, le-leb, eqb-true, eq-eqb}
-use Rattle.std.proofs.lemmas.List.{get_or_default, get_or-reverse, length-reverse}
+use Rattle.std.proofs.Common.{◌≡◌, ◌<◌, ◌≤◌, ℕ, ◌+◌, ◌-◌, List, length, get_or, reverse, inl, inr, arith, ap, sym, ◌∙◌, subst}
+use Rattle.std.specs.List.{All}
+use Rattle.std.proofs.lemmas.Bool.{cases_lt}
+use Rattle.std.proofs.lemmas.List.{get_or-reverse, length-reverse}
 use Rattle.edd_commands.specs.declared.Command.{Command}
 use Rattle.edd_check.specs.declared.Window.{Window}
 use Rattle.edd_commands.specs.declared.steps.Step.{Step}
 use Rattle.edd_commands.specs.Capacity.{depth_at}
 use Rattle.edd_commands.specs.declared.TheConstants.{MAX_ROUNDS}
 use Rattle.edd_check.specs.OnTime.{CoverInRange}
-use Rattle.edd_commands.specs.Schedule.{places_at, CommandsInRange}
+use Rattle.edd_commands.specs.Schedule.{CommandsInRange}
 use Rattle.edd_oracle.specs.declared.cover.Served.{Served}
 use Rattle.edd_oracle.specs.Plan.{due_at, IsWindowStart}
 use Rattle.edd_oracle.specs.OnTime.{IsOnTimeFirst, IsDelayed, IsPassedOver, IsPassedWindow, IsPassedCover}
 use Rattle.edd_oracle.specs.Inside.Cover.{served_at, IsPassedDue, IsServedStart, AreWindows}
-use Rattle.edd_oracle.proofs.Counting.{count_along}
-use Rattle.edd_oracle.proofs.Crowded.{due_from_first}
-use Rattle.edd_oracle.proofs.Pairs.{pair_at, length_pairs}
+use Rattle.edd_oracle.proofs.Crowded.{due_from_first, full_by}
 
 -- where a command is delayed, the round is full of commands due no later
 pub delayed_full : (commands : List Command) (rounds : List ℕ) (steps : List Step) (x k due : ℕ) (d : Command) → length rounds ≡ length commands → IsOnTimeFirst commands rounds steps → IsDelayed commands rounds x k d → (get_or commands k d).due ≤ due → depth_at steps x ≤ due_at commands rounds x due
-unfolding due_at places_at
 delayed_full commands rounds steps x k due d same first delayed by_then =
-    let filled : places_at rounds x ≡ depth_at steps x = first.full x k d delayed in
-    let held : places_at rounds x ≤ due_at commands rounds x due =
-    count_along (λ z. z == x) (λ p. nat_le p.0.due due && p.1 == x) rounds (zip commands rounds) (length_pairs commands rounds same ∙ sym same)
-    (λ j e p in_list is_x.
-    let j_in : j < length commands = omega arith in
-    let at_x : get_or rounds j 0 ≡ x = get_or_default rounds j 0 e in_list ∙ eqb-true (get_or rounds j e) x is_x in
-    let sooner : (get_or commands j d).due ≤ (get_or commands k d).due = due_from_first (get_or commands j d) (get_or commands k d) (first.due_first x k j d delayed j_in at_x).1 in
-    subst (λ (q : Command × ℕ). (nat_le q.0.due due && q.1 == x) ≡ true) (sym (pair_at commands rounds j p d 0 same j_in))
-    (and_from (nat_le (get_or commands j d).due due) (get_or rounds j 0 == x) (le-leb (get_or commands j d).due due (omega arith)) (eq-eqb (get_or rounds j 0) x at_x))) in
-    omega (arith, filled, held)
+    full_by commands rounds steps x due d same (first.full x k d delayed)
+    (λ j h at. omega (arith, by_then, due_from_first (get_or commands j d) (get_or commands k d) (first.due_first x k j d delayed h at).1))
 
 -- a command due by the window's end that could be on time in the round before the window, and runs later, is released in it
 pub released_after : (commands : List Command) (rounds : List ℕ) (steps : List Step) (past due start k : ℕ) (d : Command) → length rounds ≡ length commands → IsOnTimeFirst commands rounds steps → IsWindowStart commands rounds steps past due start → k < length commands → (get_or commands k d).due ≤ due → start ≤ (get_or commands k d).due + 1 → start ≤ get_or rounds k 0 → start ≤ (get_or commands k d).release

@@ -4,17 +4,16 @@ use Rattle.std.proofs.lemmas.Bool.{cases_lt, cases_order}
 use Rattle.edd_commands.specs.declared.Command.{Command}
 use Rattle.edd_check.specs.declared.Window.{Window}
 use Rattle.edd_commands.specs.declared.steps.Step.{Step}
-use Rattle.edd_commands.specs.Capacity.{depth_at}
 use Rattle.edd_commands.specs.Schedule.{IsLegal}
 use Rattle.edd_verdict.specs.declared.Verdict.{Verdict}
 use Rattle.edd_verdict.specs.declared.Verdict.TheVariants.{Arrival, Spare, Full}
 use Rattle.edd_verdict.specs.Filled.{IsFilled, IsAround, IsFirstFilled}
 use Rattle.edd_verdict.specs.Verdicts.{IsVerdictAt, AreVerdicts, CanBeOnTime}
 use Rattle.edd_verdict.specs.Inside.Open.{AreFilled, IsFirstOf, IsJudged, AreJudged}
-use Rattle.edd_verdict.proofs.Freeing.{nobody}
+use Rattle.edd_oracle.proofs.Pairs.{nobody}
 use Rattle.edd_verdict.proofs.Judging.{none_spare}
 
-module _ (commands : List Command) (rounds : List ℕ) (steps : List Step) (windows : List Window) (legal : IsLegal commands rounds steps) (some : (x : ℕ) → 0 < depth_at steps x) (are : AreFilled commands rounds steps windows) where
+module _ (commands : List Command) (rounds : List ℕ) (steps : List Step) (windows : List Window) (legal : IsLegal commands rounds steps) (are : AreFilled commands rounds steps windows) where
   -- a wider window is around it too
   wider : (v w : Window) (k : ℕ) → w.from ≤ v.from → v.due ≤ w.due → IsAround commands v k → IsAround commands w k
   wider v w k low high around =
@@ -58,7 +57,7 @@ module _ (commands : List Command) (rounds : List ℕ) (steps : List Step) (wind
   judged_verdict k within None is = is
   judged_verdict k within (Some Arrival) is = is
   judged_verdict k within (Some Spare) is =
-      (is.0, none_spare commands rounds steps legal k within is.0 some is.1 (λ w filled around. let found = near k w is.1 filled around in is.2 found.0 w found.1 (found.2 w).2))
+      (is.0, none_spare commands rounds steps legal k within is.0 is.1 (λ w filled around. let found = near k w is.1 filled around in is.2 found.0 w found.1 (found.2 w).2))
   judged_verdict k within (Some (Full w)) is = (is.0, (is.1, first_filled k w is.1 is.2))
 
   pub all_verdicts : (verdicts : List (Option Verdict)) → AreJudged commands rounds windows verdicts → AreVerdicts commands rounds steps verdicts

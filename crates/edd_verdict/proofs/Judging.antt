@@ -1,23 +1,23 @@
 -- Each late command has one verdict.
-use Rattle.std.proofs.Common.{◌≡◌, ◌<◌, ◌≤◌, ℕ, ◌+◌, zero, suc, Bool, true, false, nat_le, List, length, get_or, ◌⊎◌, inl, inr, arith, refl, ap, sym, ◌∙◌, subst}
+use Rattle.std.proofs.Common.{◌≡◌, ◌<◌, ◌≤◌, ℕ, ◌+◌, ◌-◌, Bool, true, false, nat_le, List, length, get_or, ◌⊎◌, inl, inr, arith, refl, ap, sym, ◌∙◌, subst}
 use Rattle.std.specs.List.{zip}
 use Rattle.std.proofs.lemmas.List.{get_or_default}
-use Rattle.std.proofs.lemmas.Bool.{cases_lt, cases_eq, and_left, leb-true, le-leb, lt-leb}
+use Rattle.std.proofs.lemmas.Bool.{cases_lt, and_left, leb-true, le-leb, lt-leb}
 use Rattle.edd_commands.specs.declared.Command.{Command}
 use Rattle.edd_check.specs.declared.Window.{Window}
 use Rattle.edd_commands.specs.declared.steps.Step.{Step}
-use Rattle.edd_commands.specs.Capacity.{depth_at}
 use Rattle.edd_commands.specs.Schedule.{IsLegal}
 use Rattle.edd_check.specs.OnTime.{is_on_time, lies_in, carried_in}
-use Rattle.edd_oracle.proofs.Pairs.{length_pairs}
+use Rattle.edd_oracle.proofs.Counting.{search_below, is_found, found_here, found_from}
+use Rattle.edd_oracle.proofs.Pairs.{nobody, length_pairs, tested, untested}
+use Rattle.edd_oracle.proofs.Filled.{is_held, held_parts, held_from}
 use Rattle.edd_verdict.specs.declared.Verdict.{Verdict}
 use Rattle.edd_verdict.specs.declared.Verdict.TheVariants.{Arrival, Spare, Full}
 use Rattle.edd_verdict.specs.Filled.{IsFilled, IsAround, IsFirstFilled}
 use Rattle.edd_verdict.specs.Verdicts.{IsLate, CanBeOnTime, IsSpare, IsVerdict}
-use Rattle.edd_verdict.proofs.Tallies.{count_along_fewer, search_below}
-use Rattle.edd_verdict.proofs.Holding.{is_held, held_in, held_parts, held_from, tested, untested, filled_holds, held_carried, holds_filled}
-use Rattle.edd_verdict.proofs.Freeing.{nobody, freed_or_filled}
-use Rattle.edd_verdict.proofs.Sparing.{past_all, spare_here}
+use Rattle.edd_verdict.proofs.Tallies.{count_along_fewer}
+use Rattle.edd_verdict.proofs.Holding.{held_in, filled_holds, held_carried, holds_filled}
+use Rattle.edd_verdict.proofs.Sparing.{spare_or_crowded}
 
 abbrev pub window_of : ℕ → ℕ → Window
 window_of f u = record { from = f; due = u }
@@ -96,54 +96,45 @@ module _ (commands : List Command) (rounds : List ℕ) (steps : List Step) (lega
             ];
       }
 
-  -- none ends in the round u
-  none_at : (u : ℕ) → own.release ≤ own.due → ((f : ℕ) → f < own.release + 1 → fills u f ≡ false) → (v : Window) → IsFilled commands rounds steps v → IsAround commands v k → v.due ≡ u → ⊥
-  none_at u can none v filled around same =
-      let begins : v.from ≤ own.release = around.begins nobody in
-      let holds : fills v.due v.from ≡ true = fills_is v filled (omega (arith, around.ends nobody)) in
-      let here : fills u v.from ≡ true = subst (λ n. fills n v.from ≡ true) same holds in
-      let clash : true ≡ false = sym here ∙ none v.from (omega arith) in
-      cc
+  -- whether one ends n rounds after the due round
+  abbrev ends_at : ℕ → Bool
+  ends_at n = is_found (search_below (fills (own.due + n)) (own.release + 1))
+
+  ends_is : (v : Window) → IsFilled commands rounds steps v → IsAround commands v k → own.release ≤ own.due → ends_at (v.due - own.due) ≡ true
+  ends_is v filled around can =
+      let low : v.from ≤ own.release = around.begins nobody in
+      let high : own.due ≤ v.due = around.ends nobody in
+      let same : v.due ≡ own.due + (v.due - own.due) = omega arith in
+      let here : fills (own.due + (v.due - own.due)) v.from ≡ true = subst (λ u. fills u v.from ≡ true) same (fills_is v filled (omega arith)) in
+      found_here (search_below (fills (own.due + (v.due - own.due))) (own.release + 1)) (λ none. let clash : true ≡ false = sym here ∙ none v.from (omega arith) in cc)
 
   -- of the filled windows around the command, of which there is one, the one that ends and begins first
-  first_from : (n u : ℕ) → own.release ≤ own.due → own.due ≤ u → ((v : Window) → IsFilled commands rounds steps v → IsAround commands v k → v.due < u → ⊥) → (w : Window) → IsFilled commands rounds steps w → IsAround commands w k → w.due ≤ u + n → (x : Window) × IsFirstFilled commands rounds steps k x
-  first_from zero u can low none w filled around ends =
-      elim (search_below (fills u) (own.release + 1)) [
-        | inl found ↦ (window_of found.0 u, first_here u found.0 can low none found.1 found.2 found.3)
-        | inr nothing ↦
-            elim (cases_eq w.due u) [
-              | inl same ↦ absurd (none_at u can nothing w filled around same)
-              | inr other ↦ absurd (none w filled around (omega arith))
-            ]
-      ]
-  first_from (suc n) u can low none w filled around ends =
-      elim (search_below (fills u) (own.release + 1)) [
-        | inl found ↦ (window_of found.0 u, first_here u found.0 can low none found.1 found.2 found.3)
-        | inr nothing ↦
-            first_from n (suc u) can (omega arith)
-            (λ v is near before. elim (cases_eq v.due u) [
-              | inl same ↦ none_at u can nothing v is near same
-              | inr other ↦ none v is near (omega arith)
-            ])
-            w filled around (omega arith)
-      ]
-
   pub first_filled : CanBeOnTime commands k → (w : Window) → IsFilled commands rounds steps w → IsAround commands w k → (x : Window) × IsFirstFilled commands rounds steps k x
   first_filled can w filled around =
-      first_from w.due own.due (can nobody) (omega arith) (λ v is near before. omega (arith, near.ends nobody)) w filled around (omega arith)
+      let high : own.due ≤ w.due = around.ends nobody in
+      elim (search_below ends_at (w.due + 1 - own.due)) [
+        | inr none ↦ absurd (let clash : true ≡ false = sym (ends_is w filled around (can nobody)) ∙ none (w.due - own.due) (omega arith) in cc)
+        | inl found ↦
+            let u : ℕ = own.due + found.0 in
+            let begin = found_from (search_below (fills u) (own.release + 1)) found.2 in (
+              window_of begin.0 u,
+              first_here u begin.0 (can nobody) (omega arith)
+                  (λ v is near before. let late_enough : own.due ≤ v.due = near.ends nobody in let clash : true ≡ false = sym (ends_is v is near (can nobody)) ∙ found.3 (v.due - own.due) (omega arith) in cc)
+                  begin.1 begin.2 begin.3,
+            )
+      ]
 
   -- in no filled window it can
-  pub spare_or_filled : ((x : ℕ) → 0 < depth_at steps x) → CanBeOnTime commands k → IsSpare commands rounds steps k ⊎ ((w : Window) × IsFilled commands rounds steps w × IsAround commands w k)
-  spare_or_filled some can =
-      let bound = past_all commands in
-      elim (freed_or_filled commands rounds steps legal bound.0 (own.release + bound.0) own.release own.due (can nobody) (omega (arith, (bound.1 k nobody within).1)) (λ j h. omega (arith, (bound.1 j nobody h).1)) (omega arith)) [
-        | inl freed ↦ inl (spare_here commands rounds steps legal some k within late freed)
+  pub spare_or_filled : CanBeOnTime commands k → IsSpare commands rounds steps k ⊎ ((w : Window) × IsFilled commands rounds steps w × IsAround commands w k)
+  spare_or_filled can =
+      elim (spare_or_crowded commands rounds steps legal k within late can) [
+        | inl spare ↦ inl spare
         | inr found ↦ inr (found.0, found.1, around_here found.0 found.2 found.3)
       ]
 
-  pub none_spare : ((x : ℕ) → 0 < depth_at steps x) → CanBeOnTime commands k → ((w : Window) → IsFilled commands rounds steps w → IsAround commands w k → ⊥) → IsSpare commands rounds steps k
-  none_spare some can none =
-      elim (spare_or_filled some can) [
+  pub none_spare : CanBeOnTime commands k → ((w : Window) → IsFilled commands rounds steps w → IsAround commands w k → ⊥) → IsSpare commands rounds steps k
+  none_spare can none =
+      elim (spare_or_filled can) [
         | inl spare ↦ spare
         | inr found ↦ absurd (none found.0 found.1 found.2)
       ]
@@ -151,13 +142,13 @@ module _ (commands : List Command) (rounds : List ℕ) (steps : List Step) (lega
   pub spare_can : IsSpare commands rounds steps k → CanBeOnTime commands k
   spare_can spare d = omega (arith, spare.legal.released k d within, spare.on_time d)
 
-  pub some_verdict : ((x : ℕ) → 0 < depth_at steps x) → (verdict : Verdict) × IsVerdict commands rounds steps k verdict
-  some_verdict some =
+  pub some_verdict : (verdict : Verdict) × IsVerdict commands rounds steps k verdict
+  some_verdict =
       elim (cases_lt own.due own.release) [
         | inl early ↦ (Arrival, λ d. subst (λ (c : Command). c.due < c.release) (sym (own_at d)) early)
         | inr timely ↦
             let can : CanBeOnTime commands k = λ d. subst (λ (c : Command). c.release ≤ c.due) (sym (own_at d)) timely in
-            elim (spare_or_filled some can) [
+            elim (spare_or_filled can) [
               | inl spare ↦ (Spare, spare)
               | inr found ↦ let first = first_filled can found.0 found.1 found.2 in (Full first.0, (can, first.1))
             ]

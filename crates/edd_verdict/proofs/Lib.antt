@@ -1,9 +1,9 @@
 pub mod Tallies
 pub mod Holding
-pub mod Freeing
 pub mod Sparing
 pub mod Judging
 pub mod Saving
+pub mod Climbing
 pub mod Sweeping
 pub mod Filling
 pub mod Opening

@@ -7,14 +7,13 @@ use Rattle.std.proofs.lemmas.List.Sorted.{All-permutation, Contains-permutation}
 use Rattle.std.proofs.lemmas.Bool.{cases_lt, cases_eq, cond-true, cond-false, le-leb, lt-leb, lt-ltb, le-ltb}
 use Rattle.edd_commands.specs.declared.Command.{Command}
 use Rattle.edd_check.specs.declared.Window.{Window}
-use Rattle.edd_oracle.proofs.Pairs.{pair_at, length_pairs}
+use Rattle.edd_oracle.proofs.Pairs.{nobody, pair_at, length_pairs}
 use Rattle.edd_verdict.specs.declared.Verdict.{Verdict}
 use Rattle.edd_verdict.specs.declared.Verdict.TheVariants.{Arrival, Spare, Full}
 use Rattle.edd_verdict.specs.declared.around.Ask.{Ask}
 use Rattle.edd_verdict.specs.Filled.{IsAround}
 use Rattle.edd_verdict.specs.Verdicts.{IsLate, CanBeOnTime}
 use Rattle.edd_verdict.specs.Inside.Open.{EndsRise, EndsFall, IsBeginPlace, AreOpen, IsEntered, IsInnermost, IsAsk, AreAsked, IsJudged, first_verdict_of}
-use Rattle.edd_verdict.proofs.Freeing.{nobody}
 use Rattle.edd_verdict.proofs.Sweeping.{pushed_old, pushed_new, pushed_long, taken_long, taken_at}
 
 -- nothing is open at the end

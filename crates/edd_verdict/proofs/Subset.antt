@@ -1,25 +1,26 @@
 -- The commands that are on time, as a list of their own.
-use Rattle.std.proofs.Common.{◌≡◌, ◌<◌, ◌≤◌, ℕ, ◌+◌, ◌-◌, zero, suc, cond, not, Bool, true, false, ◌==◌, ◌&&◌, List, [], ◌∷◌, length, get_or, map, filter, count_by, ℤ, pos, ◌-ℤ◌, ◌≤ℤ◌, inl, inr, arith, refl, ap, sym, ◌∙◌, subst}
+use Rattle.std.proofs.Common.{◌≡◌, ◌<◌, ◌≤◌, ℕ, ◌+◌, cond, not, Bool, true, false, ◌==◌, ◌&&◌, List, [], ◌∷◌, length, get_or, map, filter, count_by, ℤ, pos, ◌≤ℤ◌, inl, inr, arith, refl, ap, sym, ◌∙◌, subst}
 use Rattle.std.specs.List.{zip, All}
-use Rattle.std.proofs.lemmas.Int.{ints, by_lt_z}
-use Rattle.std.proofs.lemmas.List.{get_or_default, get_or-map, length-map}
+use Rattle.std.proofs.lemmas.Int.{ints}
+use Rattle.std.proofs.lemmas.List.{get_or-map, length-map}
 use Rattle.std.proofs.lemmas.List.Sums.{count_by-le-length}
 use Rattle.std.proofs.lemmas.List.Filters.{sum_by-filter_both}
 use Rattle.std.proofs.lemmas.List.Elements.{All-filter, filter_passes}
-use Rattle.std.proofs.lemmas.Bool.{cases_Bool, cases_eq, cond-true, cond-false, and_parts, and_from, leb-true, le-leb}
+use Rattle.std.proofs.lemmas.Bool.{cases_Bool, cond-true, cond-false, and_parts, and_from, leb-true, le-leb, eqb-true}
 use Rattle.edd_commands.specs.declared.Command.{Command}
 use Rattle.edd_check.specs.declared.Window.{Window}
 use Rattle.edd_commands.specs.declared.steps.Step.{Step}
 use Rattle.edd_commands.specs.Capacity.{depth_at}
-use Rattle.edd_commands.specs.Schedule.{IsLegal, IsGreatestLateness, IsLowerBound, places_at, lateness_at}
+use Rattle.edd_commands.specs.Schedule.{IsLegal, places_at}
 use Rattle.edd_check.specs.OnTime.{is_on_time, lies_in}
+use Rattle.edd_check.proofs.Least.{bound_from_crowded}
 use Rattle.edd_oracle.proofs.Counting.{count_yes, count_no, count_along, count_map, count_wider}
-use Rattle.edd_oracle.proofs.Pairs.{pair_at, length_pairs}
+use Rattle.edd_oracle.proofs.Pairs.{nobody, pair_at, length_pairs, tested, untested, at_places}
+use Rattle.edd_oracle.proofs.Filled.{is_held}
 use Rattle.edd_oracle.specs.Answer.{IsBest}
 use Rattle.edd_verdict.specs.Filled.{held_at, IsFilled}
 use Rattle.edd_verdict.specs.Inside.Open.{on_time_of, AreOnTime, AreFilled}
-use Rattle.edd_verdict.proofs.Holding.{is_held, held_in, tested, untested, filled_holds, holds_filled}
-use Rattle.edd_verdict.proofs.Freeing.{nobody}
+use Rattle.edd_verdict.proofs.Holding.{held_in, filled_holds, holds_filled}
 
 -- a count over those that pass a wider test
 count_filter : {X : Type 0} (p q : X → Bool) → ((x : X) → p x ≡ true → q x ≡ true) → (xs : List X) → count_by p (filter q xs) ≡ count_by p xs
@@ -88,14 +89,10 @@ module _ (commands : List Command) (rounds : List ℕ) (steps : List Step) (lega
             let at = on_time_at k d h in
             omega (arith, (fits k (nobody, 0) within).0, ap (λ (c : Command). c.release) at.0, at.1);
         within_depth = λ x.
-            let long : length (zip commands rounds) ≡ length commands = length_pairs commands rounds legal.one_each in
             let one : places_at on_time_rounds x ≡ count_by (λ (p : Command × ℕ). p.1 == x) pairs = count_map (λ (p : Command × ℕ). p.1) (λ z. z == x) pairs in
             let two : count_by (λ (p : Command × ℕ). p.1 == x) pairs ≤ count_by (λ (p : Command × ℕ). p.1 == x) (zip commands rounds) = count_filtered (λ (p : Command × ℕ). p.1 == x) (λ p. is_on_time p.0 p.1) (zip commands rounds) in
             let three : count_by (λ (p : Command × ℕ). p.1 == x) (zip commands rounds) ≤ places_at rounds x =
-            count_along (λ (p : Command × ℕ). p.1 == x) (λ z. z == x) (zip commands rounds) rounds (legal.one_each ∙ sym long)
-            (λ j q e h passes.
-            let here : (get_or rounds j 0 == x) ≡ true = untested commands rounds (λ p. p.1 == x) true j q.0 q legal.one_each (omega (arith, long)) passes in
-            subst (λ n. (n == x) ≡ true) (get_or_default rounds j 0 e (omega (arith, legal.one_each, long))) here) in
+            at_places commands rounds (λ (p : Command × ℕ). p.1 == x) x legal.one_each (λ p passes. eqb-true p.1 x passes) in
             omega (arith, one, two, three, legal.within_depth x);
       }
 
@@ -156,62 +153,15 @@ module _ (commands : List Command) (rounds : List ℕ) (steps : List Step) (lega
         rising = λ i j e lt h. absurd (omega arith);
       }
 
--- some lateness is the greatest
-greatest_of : (commands : List Command) (rounds : List ℕ) (n : ℕ) → n < length commands → (p : ℕ) × (p ≤ n) × ((k : ℕ) → k ≤ n → lateness_at commands rounds k nobody ≤ℤ lateness_at commands rounds p nobody)
-greatest_of commands rounds zero h = (0, omega arith, λ k le. let same : k ≡ 0 = omega arith in subst (λ i. lateness_at commands rounds i nobody ≤ℤ lateness_at commands rounds 0 nobody) (sym same) (omega (arith, ints)))
-greatest_of commands rounds (suc n) h =
-    let before = greatest_of commands rounds n (omega arith) in
-    by_lt_z (lateness_at commands rounds before.0 nobody) (lateness_at commands rounds (suc n) nobody)
-    (λ later. (
-      suc n,
-      omega arith,
-      λ k le.
-          elim (cases_eq k (suc n)) [
-            | inl last ↦ subst (λ i. lateness_at commands rounds i nobody ≤ℤ lateness_at commands rounds (suc n) nobody) (sym last) (omega (arith, ints))
-            | inr other ↦ let low = before.2 k (omega arith) in omega (arith, ints)
-          ],
-    ))
-    (λ not_later. (
-      before.0,
-      omega (arith, before.1),
-      λ k le.
-          elim (cases_eq k (suc n)) [
-            | inl last ↦ subst (λ i. lateness_at commands rounds i nobody ≤ℤ lateness_at commands rounds before.0 nobody) (sym last) not_later
-            | inr other ↦ before.2 k (omega arith)
-          ],
-    ))
-
-pub greatest_some : (commands : List Command) (rounds : List ℕ) → 0 < length commands → (late : ℤ) × IsGreatestLateness commands rounds late
-greatest_some commands rounds some =
-    let n : ℕ = length commands - 1 in
-    let top = greatest_of commands rounds n (omega arith) in
-    let same : (k : ℕ) (d : Command) → k < length commands → lateness_at commands rounds k d ≡ lateness_at commands rounds k nobody =
-    λ k d h. ap (λ (c : Command). pos (get_or rounds k 0) -ℤ pos c.due) (get_or_default commands k d nobody h) in (
-      lateness_at commands rounds top.0 nobody,
-      record {
-        bound = λ k d h. subst (λ z. z ≤ℤ lateness_at commands rounds top.0 nobody) (sym (same k d h)) (top.2 k (omega arith));
-        place = top.0;
-        in_list = omega (arith, top.1);
-        reached = λ d. same top.0 d (omega (arith, top.1));
-      },
-    )
-
--- where some schedule has all on time, one of the least greatest lateness has too
-pub least_on_time : (commands : List Command) (rounds best : List ℕ) (steps : List Step) (late : ℤ) → IsLegal commands rounds steps → AreOnTime commands rounds → 0 < length commands → IsLowerBound commands steps late → IsGreatestLateness commands best late → AreOnTime commands best
-least_on_time commands rounds best steps late legal on_time some least greatest k d h =
-    let own = greatest_some commands rounds some in
-    let low : late ≤ℤ own.0 = least rounds own.0 legal own.1 in
-    let reached = own.1.reached d in
-    let timely = on_time own.1.place d own.1.in_list in
-    let bound = greatest.bound k d h in
-    omega (arith, ints)
-
 -- the schedule of those on time that is least late has them on time
 pub best_on_time : (commands : List Command) (rounds : List ℕ) (steps : List Step) (list list' : List Command) (best best' : List ℕ) (late : ℤ) (w : Window) → IsLegal commands rounds steps → list ≡ on_time_of commands rounds → list' ≡ on_time_of commands rounds → best' ≡ best → IsBest list steps best late w → AreOnTime list' best'
 best_on_time commands rounds steps list list' best best' late w legal is is' same answer =
     let S : List Command = on_time_of commands rounds in
     let here : IsBest S steps best late w = subst (λ xs. IsBest xs steps best late w) is answer in
-    let timely : AreOnTime S best = least_on_time S (on_time_rounds commands rounds steps legal) best steps late (on_time_legal commands rounds steps legal) (on_time_on_time commands rounds steps legal) (omega (arith, here.greatest.in_list)) here.least.least here.greatest in
+    let own : List ℕ = on_time_rounds commands rounds steps legal in
+    let none_late : late ≤ℤ pos 0 =
+    bound_from_crowded S steps late w here.crowded own (pos 0) (on_time_legal commands rounds steps legal) (λ k d h. let by = on_time_on_time commands rounds steps legal k d h in omega (arith, ints)) in
+    let timely : AreOnTime S best = λ k d h. let bound = here.greatest.bound k d h in omega (arith, ints) in
     subst (λ xs. AreOnTime list' xs) (sym same) (subst (λ xs. AreOnTime xs best) (sym is') timely)
 
 pub best_windows : (commands : List Command) (rounds : List ℕ) (steps : List Step) (list list' : List Command) (best best' : List ℕ) (late : ℤ) (w : Window) (windows : List Window) → IsLegal commands rounds steps → list ≡ on_time_of commands rounds → list' ≡ on_time_of commands rounds → best' ≡ best → IsBest list steps best late w → AreFilled list' best' steps windows → AreFilled commands rounds steps windows

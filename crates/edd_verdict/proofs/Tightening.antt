@@ -3,8 +3,8 @@ use Rattle.std.proofs.Common.{◌≡◌, ◌<◌, ◌≤◌, ℕ, ◌-◌, ◌==
 use Rattle.std.specs.List.{zip, All}
 use Rattle.std.specs.List.Sorted.{IsPermutation}
 use Rattle.std.proofs.lemmas.List.Sorted.{sum_by-IsPermutation, All-permutation}
-use Rattle.std.proofs.lemmas.List.{get_or-map, length-map, get_or_default}
-use Rattle.std.proofs.lemmas.Bool.{cases_lt, and_parts, and_from, leb-true, le-leb, eqb-true, eq-eqb}
+use Rattle.std.proofs.lemmas.List.{get_or-map, length-map}
+use Rattle.std.proofs.lemmas.Bool.{cases_lt, and_parts, and_from, leb-true, le-leb, eqb-true}
 use Rattle.edd_commands.specs.declared.Command.{Command}
 use Rattle.edd_check.specs.declared.Window.{Window}
 use Rattle.edd_commands.specs.declared.steps.Step.{Step}
@@ -13,15 +13,14 @@ use Rattle.edd_commands.specs.Schedule.{IsLegal, RoundsInRange, places_at}
 use Rattle.edd_oracle.specs.Plan.{due_at}
 use Rattle.edd_oracle.specs.Priority.{IsEarliestDueFirst}
 use Rattle.edd_oracle.proofs.Counting.{count_map, count_along, count_wider}
-use Rattle.edd_oracle.proofs.Crowded.{due_from_first}
-use Rattle.edd_oracle.proofs.Pairs.{pair_at, length_pairs}
+use Rattle.edd_oracle.proofs.Crowded.{waits_full, due_later}
+use Rattle.edd_oracle.proofs.Pairs.{nobody, pair_at, length_pairs, tested, untested, at_places}
+use Rattle.edd_oracle.proofs.Filled.{is_held, held_from, held_parts}
 use Rattle.edd_oracle.specs.declared.cover.Served.{Served}
 use Rattle.edd_oracle.specs.Inside.Cover.{running_at, served_at}
 use Rattle.edd_verdict.specs.Inside.Tight.{served_command, IsFullBy, AreFull, IsTight, AreTight}
 use Rattle.edd_verdict.specs.Inside.Open.{AreFilled, AreOnTime}
 use Rattle.edd_verdict.specs.Filled.{held_at, IsFilled}
-use Rattle.edd_verdict.proofs.Holding.{is_held, held_from, held_parts, tested, untested}
-use Rattle.edd_verdict.proofs.Freeing.{nobody}
 
 module _ (commands : List Command) (rounds : List ℕ) (served : List Served) (moved : IsPermutation (map (λ p. served_command p) (zip commands rounds)) served) where
   pub served_due : (y b : ℕ) → served_at served y b ≡ due_at commands rounds y b
@@ -32,17 +31,13 @@ module _ (commands : List Command) (rounds : List ℕ) (served : List Served) (m
 
   module _ (steps : List Step) (legal : IsLegal commands rounds steps) where
     pub served_few : (y : ℕ) → running_at served y ≤ depth_at steps y
-    unfolding running_at places_at
+    unfolding running_at
     served_few y =
-        let long : length (zip commands rounds) ≡ length commands = length_pairs commands rounds legal.one_each in
         let same : running_at served y ≡ count_by (λ (p : Command × ℕ). p.1 == y) (zip commands rounds) =
         sum_by-IsPermutation (λ s. cond (s.round == y) 1 0) (map (λ p. served_command p) (zip commands rounds)) served moved
         ∙ count_map (λ p. served_command p) (λ s. s.round == y) (zip commands rounds) in
         let placed : count_by (λ (p : Command × ℕ). p.1 == y) (zip commands rounds) ≤ places_at rounds y =
-        count_along (λ (p : Command × ℕ). p.1 == y) (λ z. z == y) (zip commands rounds) rounds (legal.one_each ∙ sym long)
-        (λ j q e h passes.
-        let here : (get_or rounds j 0 == y) ≡ true = untested commands rounds (λ p. p.1 == y) true j q.0 q legal.one_each (omega (arith, long)) passes in
-        subst (λ n. (n == y) ≡ true) (get_or_default rounds j 0 e (omega (arith, legal.one_each, long))) here) in
+        at_places commands rounds (λ (p : Command × ℕ). p.1 == y) y legal.one_each (λ p passes. eqb-true p.1 y passes) in
         omega (arith, same, placed, legal.within_depth y)
 
     pub served_timely : AreOnTime commands rounds → RoundsInRange rounds → All (λ s. (s.round ≤ s.due) × (s.round < 2199023255552)) served
@@ -72,7 +67,6 @@ module _ (commands : List Command) (rounds : List ℕ) (served : List Served) (m
 
       -- what is due by then and runs from the beginning on was released there or later
       released_inside : (w : Window) → IsTight full w → (k : ℕ) → k < length commands → (get_or commands k nobody).due ≤ w.due → w.from ≤ get_or rounds k 0 → w.from ≤ (get_or commands k nobody).release
-      unfolding due_at places_at
       released_inside w tight k within is_due runs =
           elim tight.first [
             | inl none ↦ omega arith
@@ -81,18 +75,9 @@ module _ (commands : List Command) (rounds : List ℕ) (served : List Served) (m
                   | inr late ↦ late
                   | inl early ↦
                       let y : ℕ = w.from - 1 in
-                      let by_then : (get_or commands k nobody).release ≤ y = omega arith in
-                      let later : y < get_or rounds k 0 = omega arith in
-                      let filled : places_at rounds y ≡ depth_at steps y = first.full y k nobody within by_then later in
-                      let held : places_at rounds y ≤ due_at commands rounds y w.due =
-                      count_along (λ z. z == y) (λ p. nat_le p.0.due w.due && p.1 == y) rounds (zip commands rounds) (length_pairs commands rounds legal.one_each ∙ sym legal.one_each)
-                      (λ j e p in_list is_y.
-                      let j_in : j < length commands = omega (arith, legal.one_each) in
-                      let at_y : get_or rounds j 0 ≡ y = get_or_default rounds j 0 e in_list ∙ eqb-true (get_or rounds j e) y is_y in
-                      let sooner : (get_or commands j nobody).due ≤ (get_or commands k nobody).due = due_from_first (get_or commands j nobody) (get_or commands k nobody) (first.due_first y k j nobody within by_then later j_in at_y) in
-                      tested commands rounds (λ p. nat_le p.0.due w.due && p.1 == y) true j nobody p legal.one_each j_in
-                      (and_from (nat_le (get_or commands j nobody).due w.due) (get_or rounds j 0 == y) (le-leb (get_or commands j nobody).due w.due (omega arith)) (eq-eqb (get_or rounds j 0) y at_y))) in
-                      absurd (room (are.complete y w.due (omega (arith, filled, held, served_due y w.due))))
+                      let full : depth_at steps y ≤ due_at commands rounds y w.due =
+                      omega (arith, waits_full commands rounds steps legal.one_each first y k nobody within (omega arith) (omega arith), due_later commands rounds y (get_or commands k nobody).due w.due is_due) in
+                      absurd (room (are.complete y w.due (omega (arith, full, served_due y w.due))))
                 ]
           ]
 

@@ -8,7 +8,7 @@ use Rattle.edd_commands.specs.Schedule.{IsLegal}
 use Rattle.edd_check.specs.OnTime.{number_on_time, IsMostOnTime}
 use Rattle.edd_verdict.specs.declared.Verdict.{Verdict}
 use Rattle.edd_verdict.specs.Filled.{IsFilled, IsAround}
-use Rattle.edd_verdict.specs.Verdicts.{IsLate, CanBeOnTime, IsSpare, IsVerdict, AreVerdicts, arrivals_in, fulls_in, spares_in}
+use Rattle.edd_verdict.specs.Verdicts.{IsLate, CanBeOnTime, IsSpare, Keeps, IsVerdict, AreVerdicts, arrivals_in, fulls_in, spares_in}
 
 -- if the schedule is legal, it holds of each late command, here by its place
 abbrev pub OfEachLate : (List Command → List ℕ → List Step → ℕ → Type 0) → List Command → List ℕ → List Step → Type 0
@@ -22,6 +22,10 @@ HasOneVerdict commands rounds steps k = (verdict : Verdict) × IsVerdict command
 -- the command at place k is spare exactly where it could be on time at all and lies in no filled window
 abbrev pub SpareMeansFree : List Command → List ℕ → List Step → ℕ → Type 0
 SpareMeansFree commands rounds steps k = IsSpare commands rounds steps k ↔ (CanBeOnTime commands k × ((w : Window) → IsFilled commands rounds steps w → IsAround commands w k → ⊥))
+
+-- if the schedule is legal, its commands have verdicts
+abbrev pub HaveVerdicts : List Command → List ℕ → List Step → Type 0
+HaveVerdicts commands rounds steps = IsLegal commands rounds steps → (verdicts : List (Option Verdict)) × AreVerdicts commands rounds steps verdicts
 
 -- if the schedule is legal, it holds of the verdicts of its commands
 abbrev pub OfVerdicts : (List Command → List ℕ → List Step → List (Option Verdict) → Type 0) → List Command → List ℕ → List Step → Type 0
@@ -38,3 +42,8 @@ SparesBoundMost commands rounds steps verdicts = (most : ℕ) → IsMostOnTime c
 -- some legal schedule has more commands on time exactly where one is spare
 abbrev pub SpareMeansMore : List Command → List ℕ → List Step → List (Option Verdict) → Type 0
 SpareMeansMore commands rounds steps verdicts = (most : ℕ) → IsMostOnTime commands steps most → (number_on_time commands rounds < most) ↔ (0 < spares_in verdicts)
+
+-- if the schedule is legal, some legal schedule has the most on time, all that are on time here among them
+abbrev pub MostKeepsOnTime : List Command → List ℕ → List Step → Type 0
+MostKeepsOnTime commands rounds steps = (most : ℕ) → IsLegal commands rounds steps → IsMostOnTime commands steps most
+    → (best : List ℕ) × IsLegal commands best steps × Keeps commands rounds best × (number_on_time commands best ≡ most)

@@ -19,11 +19,15 @@ IsLateOnArrival commands k = (d : Command) → (slice_index_or commands k d).due
 abbrev pub CanBeOnTime : List Command → ℕ → Type 0
 CanBeOnTime commands k = (d : Command) → (slice_index_or commands k d).release ≤ (slice_index_or commands k d).due
 
+-- what is on time in the one schedule is on time in the other
+abbrev pub Keeps : List Command → List ℕ → List ℕ → Type 0
+Keeps commands rounds other = (j : ℕ) (d : Command) → j < length commands → slice_index rounds j ≤ (slice_index_or commands j d).due → slice_index other j ≤ (slice_index_or commands j d).due
+
 -- some legal schedule has on time all that are on time here, and the command at place k too
 pub record IsSpare (commands : List Command) (rounds : List ℕ) (steps : List Step) (k : ℕ) : Type 0 where
   pub schedule : List ℕ
   pub legal : IsLegal commands schedule steps
-  pub kept : (j : ℕ) (d : Command) → j < length commands → slice_index rounds j ≤ (slice_index_or commands j d).due → slice_index schedule j ≤ (slice_index_or commands j d).due
+  pub kept : Keeps commands rounds schedule
   pub on_time : (d : Command) → slice_index schedule k ≤ (slice_index_or commands k d).due
 
 -- what each verdict says of the late command at place k

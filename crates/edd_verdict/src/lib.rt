@@ -14,7 +14,7 @@ ghost use Rattle.edd_commands.specs.Schedule.{IsLegal};
 ghost use Rattle.edd_oracle.specs.Input.{IsTaken};
 ghost use Rattle.edd_verdict.specs.Inside.Open.{on_time_of, AreFilled};
 ghost use Rattle.edd_verdict.specs.Verdicts.{AreVerdicts};
-ghost use Rattle.edd_verdict.specs.Laws.{OfEachLate, HasOneVerdict, SpareMeansFree, OfVerdicts, KindsAddUp, SparesBoundMost, SpareMeansMore};
+ghost use Rattle.edd_verdict.specs.Laws.{OfEachLate, HasOneVerdict, SpareMeansFree, HaveVerdicts, OfVerdicts, KindsAddUp, SparesBoundMost, SpareMeansMore, MostKeepsOnTime};
 
 mod around;
 mod tight;
@@ -47,6 +47,9 @@ pub fn law_of_verdicts()
     // it is spare exactly where it could be on time at all and lies in no filled window
     ensures spare { (commands : List Command) → (rounds : List ℕ) → (steps : List Step)
         → OfEachLate SpareMeansFree commands rounds steps }
+    // so that the commands of each legal schedule have verdicts
+    ensures all { (commands : List Command) → (rounds : List ℕ) → (steps : List Step)
+        → HaveVerdicts commands rounds steps }
 {}
 
 /// What the verdicts say of how many commands a schedule has late, beside how many any schedule has on time: `most - on_time` is
@@ -63,6 +66,9 @@ pub fn law_of_spares()
     // and some could have been where one is
     ensures some { (commands : List Command) → (rounds : List ℕ) → (steps : List Step)
         → OfVerdicts SpareMeansMore commands rounds steps }
+    // and the most can be on time beside what is on time already
+    ensures kept { (commands : List Command) → (rounds : List ℕ) → (steps : List Step)
+        → MostKeepsOnTime commands rounds steps }
 {}
 
 /// A capacity carries some commands in each round.

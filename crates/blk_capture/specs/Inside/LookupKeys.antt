@@ -1,7 +1,7 @@
 -- What waits, by where it stands and how old it is.
 use Rattle.std.specs.Prelude.{ℕ, ◌≡◌, ◌<◌, ◌^◌, ◌⊎◌, Bool, true, false, cond}
-use Rattle.std.specs.BTreeSet.{contains}
-use Rattle.std.specs.Ordering.{nat_cmp, bool_cmp, is_eq, is_gt, is_lt, ordering_then}
+use Rattle.ordered.specs.Ordered.{listed}
+use Rattle.std.specs.Ordering.{nat_cmp, bool_cmp, is_eq, ordering_then}
 use Rattle.std.specs.declared.cmp.Ordering.{Ordering}
 use Rattle.blk_capture.specs.Ranges.{writes}
 use Rattle.blk_capture.specs.Rules.{IsOlderThan}
@@ -33,7 +33,7 @@ abbrev pub Seats : Type 0
 Seats = Seat → Bool
 
 abbrev pub has : {A : Type 0} → KeyIndex A → Seats
-has e q = contains seat_cmp e.seats q
+has e q = listed seat_cmp e.seats q
 
 -- whether two are one
 abbrev pub is_seat : Seat → Seat → Bool
@@ -84,10 +84,3 @@ pub record IsShortestOver (seats : Seats) (r : Range) (place : ℕ) : Type 0 whe
 
 abbrev pub IsEmptyOver : Seats → Range → Type 0
 IsEmptyOver seats r = (e a k : ℕ) → r.end < e → seats (seat (ending_at r e) a k) ≡ false
-
--- of what comes at a lower bound or after it none comes before this one; of what comes by an upper bound none after it
-abbrev pub IsLeastSeatFrom : Seats → Seat → Seat → Type 0
-IsLeastSeatFrom seats lower s = (q : Seat) → is_gt (seat_cmp lower q) ≡ false → seats q ≡ true → is_gt (seat_cmp s q) ≡ false
-
-abbrev pub IsGreatestUpTo : Seats → Seat → Seat → Type 0
-IsGreatestUpTo seats upper s = (q : Seat) → is_gt (seat_cmp q upper) ≡ false → seats q ≡ true → is_lt (seat_cmp s q) ≡ false

@@ -11,7 +11,7 @@ use Rattle.blk_recorders.specs.declared.detect.TheConstants.{FIRST_LINES}
 use Rattle.blk_recorders.specs.declared.device.Device.{Device}
 use Rattle.blk_recorders.specs.declared.fault.LineFault.{LineFault}
 use Rattle.blk_recorders.specs.declared.recorder.Recorder.{Recorder}
-use Rattle.blk_capture_text.specs.Captures.{SpellsCapture, CaptureTextFault}
+use Rattle.blk_capture_text.specs.Captures.{SpellsCapture}
 use Rattle.blk_capture_text.specs.Source.{csv_rows}
 use Rattle.blk_capture_text.specs.Streaming.{IsAtWork, HasStreamed, stream_options}
 use Rattle.blk_capture_text.specs.declared.lines.LineStream.{LineStream}
@@ -19,8 +19,6 @@ use Rattle.blk_capture_text.specs.declared.lines.StreamedCapture.{StreamedCaptur
 use Rattle.blk_capture_text.specs.declared.source.TheConstants.{FIRST_BYTES}
 use Rattle.blk_capture_text.specs.declared.source.UnreadCapture.{UnreadCapture}
 use Rattle.blk_capture_text.specs.declared.source.UnreadCapture.TheVariants as unread
-use Rattle.blk_capture_text.specs.declared.summing.Unstreamed.{Unstreamed}
-use Rattle.blk_capture_text.specs.declared.summing.Unstreamed.TheVariants as why_not
 use Rattle.blk_capture_text.specs.declared.summing.FirstPart.{FirstPart}
 use Rattle.blk_capture_text.specs.Streams.{AreLinesTold, IsFirstBad, IsSummable}
 use Rattle.blk_capture_text.specs.declared.streaming.Streamed.{Streamed}
@@ -99,21 +97,15 @@ pub record TakesRest (o : Options) (f : Recorder) (device : Option Device) (text
   pub given : IfSome left (λ known. rest ≡ known)
   pub along : IsAlong o f device (text ++ rest) s
 
-abbrev pub IsLineStreamFault : Recorder → Option Device → List ℕ → Unstreamed → Type 0
-IsLineStreamFault f device bytes (why_not.Line x) = IsFirstBad f device bytes x
-IsLineStreamFault f device bytes why_not.Memory = ⊤
-IsLineStreamFault f device bytes x = ⊥
-
 pub record IsBadBehind (f : Recorder) (device : Option Device) (text : List ℕ) (left : Option (List ℕ)) (x : LineFault) : Type 0 where
   pub rest : List ℕ
   pub given : IfSome left (λ known. rest ≡ known)
   pub fault : IsFirstBad f device (text ++ rest) x
 
-abbrev pub IsRestUntold : Recorder → Option Device → List ℕ → Option (List ℕ) → Bool → Unstreamed → Type 0
-IsRestUntold f device text left failed (why_not.Text x all) = ⊥
-IsRestUntold f device text left failed (why_not.Line x) = IsBadBehind f device text left x
-IsRestUntold f device text left failed (why_not.Outside w) = IsOutside failed w
-IsRestUntold f device text left failed why_not.Memory = ⊤
+abbrev pub IsRestUntold : Recorder → Option Device → List ℕ → Option (List ℕ) → Bool → UnreadCapture → Type 0
+IsRestUntold f device text left failed (unread.Text x) = IsOutside failed x.why
+IsRestUntold f device text left failed (unread.Line x) = IsBadBehind f device text left x
+IsRestUntold f device text left failed unread.Memory = ⊤
 
 -- lines of an input whose first part was read
 pub record AreLinesStreamed (o : Options) (f : Recorder) (device : Option Device) (input : Option (List ℕ)) (p : FirstPart) (c : StreamedCapture) : Type 0 where
@@ -126,11 +118,10 @@ pub record IsBadIn (f : Recorder) (device : Option Device) (input : Option (List
   pub on : IsInputFrom input p bytes
   pub fault : IsFirstBad f device bytes x
 
-abbrev pub AreLinesUnstreamed : Recorder → Option Device → Option (List ℕ) → FirstPart → Bool → Unstreamed → Type 0
-AreLinesUnstreamed f device input p failed (why_not.Text x all) = ⊥
-AreLinesUnstreamed f device input p failed (why_not.Line x) = IsBadIn f device input p x
-AreLinesUnstreamed f device input p failed (why_not.Outside w) = IsOutside failed w
-AreLinesUnstreamed f device input p failed why_not.Memory = ⊤
+abbrev pub AreLinesUnstreamed : Recorder → Option Device → Option (List ℕ) → FirstPart → Bool → UnreadCapture → Type 0
+AreLinesUnstreamed f device input p failed (unread.Text x) = IsOutside failed x.why
+AreLinesUnstreamed f device input p failed (unread.Line x) = IsBadIn f device input p x
+AreLinesUnstreamed f device input p failed unread.Memory = ⊤
 
 -- records of bytes that are all at hand
 pub record AreRecordsStreamed (o : Options) (bytes : List ℕ) (c : StreamedCapture) : Type 0 where
@@ -139,11 +130,6 @@ pub record AreRecordsStreamed (o : Options) (bytes : List ℕ) (c : StreamedCapt
   pub streamed : HasStreamed records c.streamed
   pub plain : c.printed ≡ None
   pub ready : IsSummable o c
-
-abbrev pub AreRecordsUnstreamed : List ℕ → Unstreamed → Type 0
-AreRecordsUnstreamed bytes (why_not.Text x all) = CaptureTextFault (csv_rows bytes) x.at x.why
-AreRecordsUnstreamed bytes why_not.Memory = ⊤
-AreRecordsUnstreamed bytes x = ⊥
 
 -- ---- of every text that may have been taken in
 abbrev pub IsAlongSome : Recorder → Option Device → LineStream → Type 0
@@ -179,31 +165,20 @@ StreamsBehind records s c = (past : List Record) → HasStreamed past s → HasS
 abbrev pub IsReadFaultIf : UnreadCapture → UnreadCapture → Type 0
 IsReadFaultIf x y = (f : Recorder) (d : Option Device) (bytes : List ℕ) → IsLineReadFault f d bytes x → IsLineReadFault f d bytes y
 
-abbrev pub IsStreamFaultIf : UnreadCapture → Unstreamed → Type 0
-IsStreamFaultIf x y = (f : Recorder) (d : Option Device) (bytes : List ℕ) → IsLineReadFault f d bytes x → IsLineStreamFault f d bytes y
-
 -- the rest of an input was taken in, or not
-abbrev pub EndsRest : Options → Recorder → Option Device → List ℕ → Option (List ℕ) → Bool → LineStream → Result (Unit {0}) Unstreamed → Type 0
+abbrev pub EndsRest : Options → Recorder → Option Device → List ℕ → Option (List ℕ) → Bool → LineStream → Result (Unit {0}) UnreadCapture → Type 0
 EndsRest o f device text left failed new (Ok u) = TakesRest o f device text left new
 EndsRest o f device text left failed new (Err x) = IsRestUntold f device text left failed x
 
-abbrev pub EndsRestOf : Recorder → Option Device → Option (List ℕ) → Bool → LineStream → LineStream → Result (Unit {0}) Unstreamed → Type 0
+abbrev pub EndsRestOf : Recorder → Option Device → Option (List ℕ) → Bool → LineStream → LineStream → Result (Unit {0}) UnreadCapture → Type 0
 EndsRestOf f device left failed old new result = (o : Options) (text : List ℕ) → IsAlong o f device text old → EndsRest o f device text left failed new result
 
--- lines that were taken in are a capture, or not
-abbrev pub EndsUnstreamed : Options → Recorder → Option Device → List ℕ → Result StreamedCapture Unstreamed → Type 0
-EndsUnstreamed o f device text (Ok c) = AreStreamed o f device text c
-EndsUnstreamed o f device text (Err x) = IsLineStreamFault f device text x
-
-abbrev pub EndsUnstreamedOf : Recorder → Option Device → LineStream → Result StreamedCapture Unstreamed → Type 0
-EndsUnstreamedOf f device s result = (o : Options) (text : List ℕ) → IsAlong o f device text s → EndsUnstreamed o f device text result
-
 -- of an input whose first part was read
-abbrev pub EndsLines : Options → Recorder → Option Device → Option (List ℕ) → FirstPart → Bool → Result StreamedCapture Unstreamed → Type 0
+abbrev pub EndsLines : Options → Recorder → Option Device → Option (List ℕ) → FirstPart → Bool → Result StreamedCapture UnreadCapture → Type 0
 EndsLines o f device input p failed (Ok c) = AreLinesStreamed o f device input p c
 EndsLines o f device input p failed (Err x) = AreLinesUnstreamed f device input p failed x
 
-abbrev pub EndsLinesOf : Options → Recorder → Option Device → FirstPart → Option (List ℕ) → Bool → Result StreamedCapture Unstreamed → Type 0
+abbrev pub EndsLinesOf : Options → Recorder → Option Device → FirstPart → Option (List ℕ) → Bool → Result StreamedCapture UnreadCapture → Type 0
 EndsLinesOf o f device p left failed result = (input : Option (List ℕ)) → IsFirstPart input left p → EndsLines o f device input p failed result
 
 abbrev pub ReadsRest : FirstPart → Option (List ℕ) → List ℕ → Type 0

@@ -1,8 +1,6 @@
 -- Requests by their places, their bios and the blocks of sectors that they fill.
-use Rattle.std.specs.Prelude.{ℕ, ◌≡◌, ◌≤◌, ◌+◌, ◌/◌, ◌⊎◌, Bool, true, false, Option, Some, None}
-use Rattle.std.specs.Ordering.{is_lt}
-use Rattle.std.specs.BTreeSet.{contains}
-use Rattle.std.specs.declared.cmp.Ordering.TheVariants.{Less}
+use Rattle.std.specs.Prelude.{ℕ, ◌≡◌, ◌≤◌, ◌+◌, ◌/◌, ◌⊎◌, Bool, true, Option, Some, None}
+use Rattle.ordered.specs.Ordered.{listed}
 use Rattle.blk_index.specs.Inside.Spots.{DirSector, IsBelow, IsNewer}
 use Rattle.blk_index.specs.Inside.Entries.{Class, Block, Key, entry_cmp}
 use Rattle.blk_index.specs.declared.shapes.Shapes.{Shapes}
@@ -28,10 +26,6 @@ pub record StandsBetween (below found : Option ℕ) (id : ℕ) : Type 0 where
   pub low : IsBelow below id
   pub past : IsNewer found id
 
--- no entry below another is greater than this one
-abbrev pub IsGreatestBelow : (Key → Bool) → Key → Key → Type 0
-IsGreatestBelow has upper e = (q : Key) → entry_cmp q upper ≡ Less → has q ≡ true → is_lt (entry_cmp e q) ≡ false
-
 -- the entry above those of a block whose ids are below a bound
 abbrev pub upper_of : Block → Option ℕ → Key
 upper_of block None = ((block.0, block.1 + 1), 0)
@@ -39,4 +33,4 @@ upper_of block (Some b) = (block, b)
 
 module _ {A : Type 0} where
   abbrev pub entries_in : Shapes A → Key → Bool
-  entries_in s = contains entry_cmp s.entries
+  entries_in s = listed entry_cmp s.entries

@@ -3,6 +3,7 @@ use Rattle.std.specs.Prelude.{ℕ, ◌==◌, List, [], ◌∷◌, None, Some, fa
 use Rattle.blk_sched.specs.Meaning.{at_start}
 use Rattle.blk_deadline.specs.Choice.{deadline_policy, batch_at_first, deadline_kept}
 use Rattle.blk_deadline.specs.declared.Tunables.{Tunables}
+use Rattle.blk_deadline.specs.declared.DeadlineFault.TheVariants as fault
 use Rattle.blk_schedulers.specs.Positions.{positions_of}
 use Rattle.blk_schedulers.specs.Row.{SchedOf, Short, Switch, Positions, short_at, is_on, value_at}
 use Rattle.blk_schedulers.specs.declared.rows.SchedKind.TheVariants as kind
@@ -36,7 +37,7 @@ deadline_sched = record {
         ∷ [];
   };
   policy = deadline_policy;
-  fault = λ v. if (deadline_tunables v).fifo_batch == 0 then Some setting.ZeroBatch else None;
+  fault = λ v. if (deadline_tunables v).fifo_batch == 0 then Some (setting.Deadline fault.ZeroBatch) else None;
   meaning = λ v. at_start (deadline_tunables v).front_merges;
   kept = λ v depth. deadline_kept batch_at_first (deadline_tunables v);
 }

@@ -3,6 +3,7 @@ use Rattle.std.specs.Prelude.{ℕ, ◌==◌, ◌||◌, List, [], ◌∷◌, None
 use Rattle.blk_sched.specs.Meaning.{at_start}
 use Rattle.blk_kyber.specs.State.{state_at_first, numbers_of, kyber_policy}
 use Rattle.blk_kyber.specs.declared.Targets.{Targets}
+use Rattle.blk_kyber.specs.declared.KyberFault.TheVariants as fault
 use Rattle.blk_schedulers.specs.Row.{UpTo, SchedOf, value_at}
 use Rattle.blk_schedulers.specs.declared.rows.kyber.TheConstants.{MAX_TARGET}
 use Rattle.blk_schedulers.specs.declared.rows.SchedKind.TheVariants as kind
@@ -34,7 +35,7 @@ kyber_sched = record {
         ∷ [];
   };
   policy = kyber_policy;
-  fault = λ v. if (targets_of v).read == 0 || (targets_of v).write == 0 then Some setting.ZeroTarget else None;
+  fault = λ v. if (targets_of v).read == 0 || (targets_of v).write == 0 then Some (setting.Kyber fault.ZeroTarget) else None;
   meaning = λ v. at_start true;
   kept = λ v depth. numbers_of (state_at_first (targets_of v) depth);
 }

@@ -81,7 +81,7 @@ pub(crate) fn fault(sched: &Sched) -> Option<SchedFault>
     ensures { result ≡ fault_of sched.now }
 {
     if tunables(sched).has_zero_batch() {
-        return Some(SchedFault::ZeroBatch);
+        return Some(SchedFault::Deadline(DeadlineFault::ZeroBatch));
     }
     None
 }
@@ -94,7 +94,6 @@ pub fn make(alloc: Global, sched: Sched, _depth: u64) -> Result<Deadline, SchedF
 {
     match Deadline::new(alloc, tunables(&sched)) {
         Ok(scheduler) => Ok(scheduler),
-        Err(DeadlineFault::ZeroBatch) => Err(SchedFault::ZeroBatch),
-        Err(DeadlineFault::Memory) => Err(SchedFault::Memory),
+        Err(fault) => Err(SchedFault::Deadline(fault)),
     }
 }

@@ -67,7 +67,7 @@ pub(crate) fn fault(sched: &Sched) -> Option<SchedFault>
     ensures { result ≡ fault_of sched.now }
 {
     if targets(sched).has_zero_target() {
-        return Some(SchedFault::ZeroTarget);
+        return Some(SchedFault::Kyber(KyberFault::ZeroTarget));
     }
     None
 }
@@ -82,7 +82,6 @@ pub fn make(alloc: Global, sched: Sched, depth: u64) -> Result<Kyber, SchedFault
 {
     match Kyber::new(alloc, targets(&sched), depth) {
         Ok(scheduler) => Ok(scheduler),
-        Err(KyberFault::ZeroTarget) => Err(SchedFault::ZeroTarget),
-        Err(KyberFault::Memory) => Err(SchedFault::Memory),
+        Err(fault) => Err(SchedFault::Kyber(fault)),
     }
 }

@@ -84,7 +84,7 @@ fn memory_refused(rt: HostRuntime) {
         heap.refuse(n);
         come_and_go(&rt, &heap);
         if heap.is_armed() {
-            assert!(rt; n > 50);
+            assert!(rt; n > 20);
             return;
         }
     }

@@ -2,7 +2,7 @@
 
 use crate::cores::given::{alone, bio, in_order, setup};
 use blk_bio::Dir;
-use blk_core::{Core, NoneIssued};
+use blk_core::{Core, IssueFault, NoneIssued, TickFault};
 use blk_none::NoneSched;
 use std::alloc::Global;
 use std::process::Abort;
@@ -40,7 +40,7 @@ fn taken(rt: &impl Abort, core: &mut Core<NoneSched>, tag: u16) -> (Result<u64, 
 fn full_at_one_tag(rt: HostRuntime) {
     let mut core = two_wait(&rt, rt.alloc(), 1);
     assert!(rt; taken(&rt, &mut core, 0) == (Ok(0), 0));
-    assert!(rt; taken(&rt, &mut core, 0) == (Err(NoneIssued::Full), 0));
+    assert!(rt; taken(&rt, &mut core, 0) == (Err(NoneIssued::Tick(TickFault::InFlight(1))), 0));
     assert!(rt; core.done(0).is_ok());
     assert!(rt; taken(&rt, &mut core, 0) == (Err(NoneIssued::Ended), 1));
     assert!(rt; taken(&rt, &mut core, 0) == (Ok(1), 1));
@@ -55,11 +55,11 @@ fn full_at_one_tag(rt: HostRuntime) {
 fn full_by_issues(rt: HostRuntime) {
     let mut core = two_wait(&rt, rt.alloc(), 2);
     assert!(rt; taken(&rt, &mut core, 1) == (Ok(0), 0));
-    assert!(rt; taken(&rt, &mut core, 1) == (Err(NoneIssued::SlotUsed), 0));
+    assert!(rt; taken(&rt, &mut core, 1) == (Err(NoneIssued::Issue(IssueFault::SlotUsed)), 0));
     assert!(rt; core.done(1).is_ok());
-    assert!(rt; taken(&rt, &mut core, 1) == (Err(NoneIssued::SlotUsed), 0));
+    assert!(rt; taken(&rt, &mut core, 1) == (Err(NoneIssued::Issue(IssueFault::SlotUsed)), 0));
     assert!(rt; taken(&rt, &mut core, 0) == (Ok(1), 0));
-    assert!(rt; taken(&rt, &mut core, 0) == (Err(NoneIssued::Full), 0));
+    assert!(rt; taken(&rt, &mut core, 0) == (Err(NoneIssued::Tick(TickFault::InFlight(1))), 0));
     assert!(rt; core.done(0).is_ok());
     assert!(rt; taken(&rt, &mut core, 1) == (Err(NoneIssued::Ended), 1));
     assert!(rt; taken(&rt, &mut core, 1) == (Err(NoneIssued::Nothing), 1));
@@ -70,9 +70,9 @@ fn full_by_issues(rt: HostRuntime) {
 fn full_at_a_smaller_depth(rt: HostRuntime) {
     let mut core = two_wait(&rt, rt.alloc(), 2);
     assert!(rt; core.set_depth(1).is_ok() && core.tick() == Ok(1));
-    assert!(rt; taken(&rt, &mut core, 1) == (Err(NoneIssued::TagRange), 1));
+    assert!(rt; taken(&rt, &mut core, 1) == (Err(NoneIssued::Issue(IssueFault::TagRange)), 1));
     assert!(rt; taken(&rt, &mut core, 0) == (Ok(0), 1));
-    assert!(rt; taken(&rt, &mut core, 1) == (Err(NoneIssued::Full), 1));
+    assert!(rt; taken(&rt, &mut core, 1) == (Err(NoneIssued::Tick(TickFault::InFlight(1))), 1));
     assert!(rt; core.done(0).is_ok());
     assert!(rt; taken(&rt, &mut core, 1) == (Err(NoneIssued::Ended), 2));
     assert!(rt; taken(&rt, &mut core, 0) == (Ok(1), 2));

@@ -128,19 +128,7 @@ fn front_merge(rt: HostRuntime) {
     assert!(rt; long.within(&narrow));
 }
 
-/// A request once more.
-fn copy<'a>(rt: &impl Abort, heap: Heap<'a>, request: &Request<Heap<'a>>) -> Request<Heap<'a>> {
-    let armed = heap.is_armed();
-    match request.copy() {
-        Ok(copied) => copied,
-        Err(_) => {
-            assert!(rt; armed && !heap.is_armed());
-            request.copy().expect(rt, "memory")
-        }
-    }
-}
-
-/// A request that grows by a bio at its front and one at its back in turn, and is copied then.
+/// A request that grows by a bio at its front and one at its back in turn.
 fn grows(rt: &impl Abort, heap: Heap<'_>) {
     let wide = limits(rt, 256, 128);
     let mut whole = request(rt, heap, bio(rt, Dir::Read, 100, 1));
@@ -150,9 +138,8 @@ fn grows(rt: &impl Abort, heap: Heap<'_>) {
         let side = joined(rt, heap, &mut whole, bio(rt, Dir::Read, 100 + k, 1), &wide);
         assert_eq!(rt; side, Side::Back);
     }
-    let copied = copy(rt, heap, &whole);
-    assert_eq!(rt; (copied.first(), copied.sectors()), (81, 39));
-    assert_eq!(rt; copied.bios().len(), 39);
+    assert_eq!(rt; (whole.first(), whole.sectors()), (81, 39));
+    assert_eq!(rt; whole.bios().len(), 39);
 }
 
 #[test]

@@ -1,5 +1,5 @@
 use Rattle.std.proofs.Common.{ℕ, ◌<◌, ◌∙◌, ◌++◌, List, [], length, take, refl, ap, sym, subst, append_assoc, append-nil, arith}
-use Rattle.blk_capture_text.specs.Inside.Along.{IsAlong, IsLineStreamFault}
+use Rattle.blk_capture_text.specs.Inside.Along.{IsAlong, IsLineReadFault}
 use Rattle.blk_capture_text.proofs.Lining.{consumed_none, consumed_on, left_of}
 use Rattle.blk_capture_text.proofs.Resting.{consumed_end, more_left, rest_untold, four_parts}
 use Rattle.blk_capture_text.proofs.summing.take_rest.Goals as goal
@@ -31,10 +31,10 @@ returns-in-Err-take g c = λ o text h.
     let more = c.loop.invariant.along o text h in
     let piece : List ℕ = take c.in-Ok.count c.read_bytes.new.buf in
     let left : List ℕ = left_of c.read_bytes.new.self.bytes in
-    rest_untold c.args.recorder c.args.device text ((more.0 ++ piece) ++ left) c.args.records.now.bytes _ c.of_lines.result
+    rest_untold c.args.recorder c.args.device text ((more.0 ++ piece) ++ left) c.args.records.now.bytes _ c.in-Err-take.fault
     (more_left c.args.records.now.bytes c.loop.records.bytes c.read_bytes.new.self.bytes more.0 piece more.2 c.in-Ok.ensures.bytes)
-    (subst (λ (t : List ℕ). IsLineStreamFault c.args.recorder c.args.device t c.of_lines.result) (four_parts text more.0 piece left)
-    (c.of_lines.ensures c.args.recorder c.args.device (((text ++ more.0) ++ piece) ++ left) (c.in-Err-take.ensures o (text ++ more.0) more.1 left)))
+    (subst (λ (t : List ℕ). IsLineReadFault c.args.recorder c.args.device t c.in-Err-take.fault) (four_parts text more.0 piece left)
+    (c.in-Err-take.ensures o (text ++ more.0) more.1 left))
 
 pub loop-preserved : goal.loop-preserved
 loop-preserved g c = record {

@@ -3,15 +3,15 @@ use Rattle.blk_text.specs.Script.{scripted}
 use Rattle.blk_report.specs.declared.figures.Report.{Report}
 use Rattle.blk_schedulers.specs.declared.sched.Sched.{Sched}
 use Rattle.blk_schedulers.specs.Scheds.{in_turn}
-use Rattle.blk_cli.specs.Comparing.{IsReportUnder, AreReports, IsCompareFailure}
-use Rattle.blk_cli.proofs.Compared.{as_many, table_is, said_of_runs}
+use Rattle.blk_runs.specs.Firsts.{AreUnrun}
+use Rattle.blk_cli.specs.Comparing.{IsReportUnder, AreReports}
+use Rattle.blk_cli.proofs.Compared.{as_many, table_is}
 use Rattle.blk_cli.proofs.comparing.table_of.Goals as goal
 
 pub returns-in-Err-clause-uncompared : goal.returns-in-Err-clause-uncompared
 returns-in-Err-clause-uncompared c =
     let turn : c.as_slice-rows.result.now ≡ in_turn c.args.lineup = c.as_slice-rows.ensures.value ∙ c.in-Ok.ensures in
-    let said : IsCompareFailure c.as_slice-rows.result.now (scripted c.args.script.now) c.of_run.result = rw c.of_run.ensures (said_of_runs c.as_slice-rows.result.now (scripted c.args.script.now) c.in-Err.fault c.in-Err.ensures.uncompared) in
-    subst (λ (ss : List Sched). IsCompareFailure ss (scripted c.args.script.now) c.of_run.result) turn said
+    subst (λ (ss : List Sched). AreUnrun ss (scripted c.args.script.now) c.in-Err.fault) turn c.in-Err.ensures.uncompared
 
 pub table_under-requires : goal.table_under-requires
 table_under-requires c =

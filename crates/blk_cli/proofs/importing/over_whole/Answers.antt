@@ -25,13 +25,24 @@ returns-in-Ok-over_read-clause-answers g c = record {
   bytes = c.in-Ok.bytes.items;
   given = c.in-Ok.ensures.bytes;
   of = record {
-    read = c.in-Ok-capture_of.read;
-    is_read = rw c.as_slice.ensures.value at c.in-Ok-capture_of.ensures.ok;
+    read = c.in-Ok-read_source.read;
+    is_read = rw c.as_slice.ensures.value at c.in-Ok-read_source.ensures.ok;
     written = c.in-Ok-over_read.ensures.answers;
   };
 }
 
 pub returns-clause-fails : goal.returns-clause-fails
 returns-clause-fails g c =
-    unwritten c.args.kept _ c.args.wanted _ _ c.in-Ok.bytes.items c.in-Ok-capture_of.read c.in-Err-over_read.failure c.in-Ok.ensures.bytes
-    (rw c.as_slice.ensures.value at c.in-Ok-capture_of.ensures.ok) c.in-Err-over_read.ensures.fails
+    unwritten c.args.kept _ c.args.wanted _ _ c.in-Ok.bytes.items c.in-Ok-read_source.read c.in-Err-over_read.failure c.in-Ok.ensures.bytes
+    (rw c.as_slice.ensures.value at c.in-Ok-read_source.ensures.ok) c.in-Err-over_read.ensures.fails
+
+pub returns-in-Err-read_source-clause-fails : goal.returns-in-Err-read_source-clause-fails
+returns-in-Err-read_source-clause-fails g c = (
+  failure.Unread c.in-Err-read_source.fault,
+  inr (record {
+    bytes = c.in-Ok.bytes.items;
+    given = c.in-Ok.ensures.bytes;
+    of = inl (rw c.as_slice.ensures.value at c.in-Err-read_source.ensures.err);
+  }),
+  c.untaken.ensures,
+)

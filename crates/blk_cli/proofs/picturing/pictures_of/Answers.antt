@@ -4,15 +4,15 @@ use Rattle.blk_text.specs.Script.{scripted}
 use Rattle.blk_schedulers.specs.declared.sched.Sched.{Sched}
 use Rattle.blk_schedulers.specs.Scheds.{name_of, in_turn}
 use Rattle.blk_runs.specs.Runs.{IsTraceOfScript}
-use Rattle.blk_cli.specs.Comparing.{AreTraces, IsCompareFailure}
-use Rattle.blk_cli.proofs.Compared.{as_many, said_of_runs}
+use Rattle.blk_runs.specs.Firsts.{AreUnrun}
+use Rattle.blk_cli.specs.Comparing.{AreTraces}
+use Rattle.blk_cli.proofs.Compared.{as_many}
 use Rattle.blk_cli.proofs.picturing.pictures_of.Goals as goal
 
 pub returns-in-Err-clause-uncompared : goal.returns-in-Err-clause-uncompared
 returns-in-Err-clause-uncompared c =
     let turn : c.as_slice-rows.result.now ≡ in_turn c.args.lineup = c.as_slice-rows.ensures.value ∙ c.in-Ok.ensures in
-    let said : IsCompareFailure c.as_slice-rows.result.now (scripted c.args.script.now) c.of_run.result = rw c.of_run.ensures (said_of_runs c.as_slice-rows.result.now (scripted c.args.script.now) c.in-Err.fault c.in-Err.ensures.uncompared) in
-    subst (λ (ss : List Sched). IsCompareFailure ss (scripted c.args.script.now) c.of_run.result) turn said
+    subst (λ (ss : List Sched). AreUnrun ss (scripted c.args.script.now) c.in-Err.fault) turn c.in-Err.ensures.uncompared
 
 pub pictures-requires : goal.pictures-requires
 pictures-requires c =

@@ -1,6 +1,4 @@
 use Rattle.blk_text.proofs.TraceLaws.{rows_spell}
-use Rattle.blk_text.specs.Script.{scripted}
-use Rattle.blk_cli.proofs.Compared.{said_of_run}
 use Rattle.blk_cli.proofs.scripts.simulated.Goals as goal
 
 pub returns-in-Ok-trace_text-clause-text : goal.returns-in-Ok-trace_text-clause-text
@@ -11,6 +9,3 @@ returns-in-Ok-trace_text-clause-text c =
       is_trace = record { ran = t.ran; setup = t.setup; bios = t.bios; ticks = t.ticks };
       is_text = record { spelled = rows_spell c.in-Ok.trace c.in-Ok-trace_text.ensures.fits; is_text = c.in-Ok-trace_text.ensures.text };
     }
-
-pub returns-in-Err-clause-unrun : goal.returns-in-Err-clause-unrun
-returns-in-Err-clause-unrun c = rw c.of_run.ensures (said_of_run c.args.sched (scripted c.args.script.now) c.in-Err.fault c.in-Err.ensures.unrun)

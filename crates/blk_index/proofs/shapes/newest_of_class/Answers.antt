@@ -1,6 +1,6 @@
 use Rattle.std.proofs.Common.{◌≡◌, ◌<◌, ◌≤◌, ◌/◌, arith, ℕ, true, Option, sym, subst}
 use Rattle.std.specs.Prelude.{IfSome}
-use Rattle.std.specs.BTreeSet.{contains}
+use Rattle.ordered.specs.Ordered.{listed}
 use Rattle.blk_index.specs.Inside.Spots.{IsBelow}
 use Rattle.blk_index.specs.Inside.Entries.{entry_cmp}
 use Rattle.blk_index.specs.Inside.Shapes.{StandsBetween}
@@ -27,7 +27,7 @@ loop-end-preserved g c =
       rest = λ k s follows there most.
           let two = follows_both c.args.below c.loop-end.best c.newest_in.result k (subst (λ (r : Option ℕ). StandsBetween c.args.below r k) c.greater-best.ensures follows) in
           not_last (s / c.loop-end.unit) c.loop-end.end (c.loop-end.invariant.rest k s two.0 there most)
-          (λ same. c.newest_in.ensures.newest k two.1 (subst (λ (n : ℕ). contains entry_cmp c.args.entries.now (((c.args.class, c.loop-end.unit), n), k) ≡ true) same (there c.loop-end.unit size)));
+          (λ same. c.newest_in.ensures.newest k two.1 (subst (λ (n : ℕ). listed entry_cmp c.args.entries.now (((c.args.class, c.loop-end.unit), n), k) ≡ true) same (there c.loop-end.unit size)));
     }
 
 pub returns-clause-newest : goal.returns-clause-newest

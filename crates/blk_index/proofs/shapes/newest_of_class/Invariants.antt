@@ -1,6 +1,6 @@
 use Rattle.std.proofs.Common.{◌<◌, ◌≤◌, ◌*◌, ◌/◌, ℕ}
 use Rattle.std.specs.Prelude.{IfSome}
-use Rattle.std.specs.BTreeSet.{contains}
+use Rattle.ordered.specs.Ordered.{listed}
 use Rattle.blk_index.specs.Inside.Spots.{IsBelow}
 use Rattle.blk_index.specs.Inside.Entries.{entry_cmp}
 use Rattle.blk_index.specs.Inside.Shapes.{IsUnit, IsInClass, StandsBetween}
@@ -12,7 +12,7 @@ invariant-loop-end g l = record {
   low : IfSome l.best (IsBelow l.below);
   size : IsUnit l.unit;
   small : l.end * l.unit < 65536;
-  rest : (k s : ℕ) → StandsBetween l.below l.best k → IsInClass (contains entry_cmp l.entries) l.class s k → s ≤ l.sectors → s / l.unit < l.end;
+  rest : (k s : ℕ) → StandsBetween l.below l.best k → IsInClass (listed entry_cmp l.entries) l.class s k → s ≤ l.sectors → s / l.unit < l.end;
 }
 
 abbrev pub decreases-loop-end : goal.decreases-loop-end

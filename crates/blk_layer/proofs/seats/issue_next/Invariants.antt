@@ -1,6 +1,5 @@
-use Rattle.std.proofs.Common.{◌≡◌, ◌+◌, ◌≤◌, ◌⊎◌, length}
-use Rattle.blk_layer.specs.declared.seats.NoNext.TheVariants.{UsedUp}
-use Rattle.blk_layer.specs.Inside.Next.{TriesInVain}
+use Rattle.std.proofs.Common.{◌≡◌, ◌+◌, ◌≤◌, length}
+use Rattle.blk_layer.specs.Inside.Next.{IsNoNext}
 use Rattle.blk_layer.proofs.seats.issue_next.Given as goal
 
 abbrev pub invariant-loop : goal.invariant-loop
@@ -9,5 +8,5 @@ invariant-loop g l = record {
   tags : l.seat.tags ≡ l.initial.seat.tags;
   core : l.core.core ≡ l.initial.core.core;
   tries : length l.initial.seat.steps + l.counter ≤ length l.seat.steps;
-  last : (l.counter ≡ 0) ⊎ TriesInVain g.S.Scheduler.policy l.initial.core.core l.hw UsedUp l.initial.core.core;
+  last : IsNoNext g.S.Scheduler.policy l.initial.core.core l.hw l.last l.initial.core.core;
 }

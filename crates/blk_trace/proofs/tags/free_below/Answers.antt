@@ -1,4 +1,4 @@
-use Rattle.blk_trace.proofs.TagUses.{freed_none, freed_next, freed_all}
+use Rattle.blk_trace.proofs.TagUses.{freed_none, freed_all}
 use Rattle.blk_trace.proofs.tags.free_below.Goals as goal
 
 pub loop-tag-init : goal.loop-tag-init

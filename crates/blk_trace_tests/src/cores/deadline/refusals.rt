@@ -60,7 +60,7 @@ fn memory_refused(rt: HostRuntime) {
         heap.refuse(n);
         come_and_go(&rt, &heap);
         if heap.is_armed() {
-            assert!(rt; n > 40);
+            assert!(rt; n > REQUESTS);
             return;
         }
     }

@@ -3,7 +3,6 @@ use Rattle.edd_commands.specs.declared.Command.{Command}
 use Rattle.edd_commands.specs.declared.steps.Step.{Step}
 use Rattle.edd_figures.proofs.Tardy.{all_commands}
 use Rattle.edd_blame.specs.Parts.{ArePlaces, IsLeastLateAt, other_places}
-use Rattle.edd_blame.proofs.Climbing.{HaveVerdicts}
 use Rattle.edd_blame.proofs.Marking.{other_are, least_beside}
 use Rattle.edd_blame.proofs.part.least_late_beside.Goals as goal
 
@@ -23,13 +22,9 @@ overflow_sub-result g c =
     let marks : List Bool = c.args.marks.now in
     let most = c.in-Ok.ensures.most in
     let late : ℕ = length cs - c.in-Ok.answer.on_time in
-    let have : HaveVerdicts cs steps = record {
-      one = λ rounds k legal h after. c.law_of_verdicts.ensures.one cs rounds steps k legal c.at.ensures.steps h after;
-      some = λ rounds verdicts legal are. c.law_of_spares.ensures.some cs rounds steps verdicts legal are;
-    } in
     let fewest : IsLeastLateAt cs steps (other_places marks) c.in_ok-others.others = subst (λ l. IsLeastLateAt cs steps l c.in_ok-others.others) (c.as_slice.ensures.value ∙ c.in_ok-parts.ensures.others) c.in_ok-others.ensures in
     let all : late + c.in-Ok.answer.on_time ≡ length cs = omega (arith, all_commands cs c.in-Ok.answer.rounds.items most.legal.one_each, most.number) in
-    let told = least_beside cs steps marks c.in-Ok.answer.on_time late c.in_ok-others.others c.requires.one_each have most.most all fewest in
+    let told = least_beside cs steps marks c.in-Ok.answer.on_time late c.in_ok-others.others c.requires.one_each (λ rounds. c.law_of_spares.ensures.kept cs rounds steps) most.most all fewest in
     told.0
 
 pub returns : goal.returns
@@ -39,12 +34,8 @@ returns g c =
     let marks : List Bool = c.args.marks.now in
     let most = c.in-Ok.ensures.most in
     let late : ℕ = length cs - c.in-Ok.answer.on_time in
-    let have : HaveVerdicts cs steps = record {
-      one = λ rounds k legal h after. c.law_of_verdicts.ensures.one cs rounds steps k legal c.at.ensures.steps h after;
-      some = λ rounds verdicts legal are. c.law_of_spares.ensures.some cs rounds steps verdicts legal are;
-    } in
     let fewest : IsLeastLateAt cs steps (other_places marks) c.in_ok-others.others = subst (λ l. IsLeastLateAt cs steps l c.in_ok-others.others) (c.as_slice.ensures.value ∙ c.in_ok-parts.ensures.others) c.in_ok-others.ensures in
     let all : late + c.in-Ok.answer.on_time ≡ length cs = omega (arith, all_commands cs c.in-Ok.answer.rounds.items most.legal.one_each, most.number) in
-    let told = least_beside cs steps marks c.in-Ok.answer.on_time late c.in_ok-others.others c.requires.one_each have most.most all fewest in
+    let told = least_beside cs steps marks c.in-Ok.answer.on_time late c.in_ok-others.others c.requires.one_each (λ rounds. c.law_of_spares.ensures.kept cs rounds steps) most.most all fewest in
     let low : c.in_ok-others.others ≤ late = told.0 in
     told.1 (late - c.in_ok-others.others) (omega (arith, low))

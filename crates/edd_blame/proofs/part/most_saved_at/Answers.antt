@@ -60,8 +60,5 @@ returns g c =
     let kept : length c.as_slice.result.now ≡ length (on_time_places cs rs) = ap length (c.as_slice.ensures.value ∙ c.in_ok-beside.ensures) in
     let few = on_time_few cs rs steps ps c.requires.legal c.requires.places c.in-Ok.answer.on_time most in
     most_saved cs rs steps ps c.requires.legal c.requires.places c.in-Ok.answer.on_time _ (λ x. (depth_bounds steps x c.at.ensures.steps).0) c.requires.taken.in_range
-    (record {
-      one = λ rounds k legal h late. c.law_of_verdicts.ensures.one own rounds steps k legal c.at.ensures.steps h late;
-      some = λ rounds verdicts legal are. c.law_of_spares.ensures.some own rounds steps verdicts legal are;
-    })
+    (λ rounds. c.law_of_spares.ensures.kept own rounds steps)
     most (omega (arith, few, kept))

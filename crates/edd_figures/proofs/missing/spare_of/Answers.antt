@@ -16,10 +16,8 @@ returns-then-number_on_time-most g c =
     let steps : List Step = c.args.capacity.now in
     let legal = c.requires.legal in
     let most : IsMostOnTime cs steps (number_on_time cs rs) = subst (λ n. IsMostOnTime cs steps n) (sym c.if-number_on_time-most.true ∙ c.number_on_time.ensures) c.requires.most in
-    none_spare cs rs steps legal
-    (λ k h l. (let one = c.law_of_verdicts.ensures.one cs rs steps k legal c.at.ensures.steps h l in (one.0, one.1)))
-    (λ vs are. c.law_of_spares.ensures.kinds cs rs steps vs legal are)
-    (λ vs are. c.law_of_spares.ensures.some cs rs steps vs legal are (number_on_time cs rs) most)
+    let told = c.law_of_verdicts.ensures.all cs rs steps legal in
+    none_spare cs rs steps legal told.0 told.1 (c.law_of_spares.ensures.kinds cs rs steps told.0 legal told.1) (c.law_of_spares.ensures.some cs rs steps told.0 legal told.1 (number_on_time cs rs) most)
 
 pub returns : goal.returns
 returns g c =

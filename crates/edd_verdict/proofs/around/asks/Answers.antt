@@ -1,7 +1,7 @@
 use Rattle.std.proofs.Common.{◌+◌, List, arith, rules, refl, ap, sym, subst, inl, inr}
 use Rattle.std.proofs.lemmas.List.Sorted.{IsNonDecreasingBy-from_sort_by_key}
 use Rattle.edd_verdict.specs.declared.around.Ask.{Ask}
-use Rattle.edd_verdict.proofs.Freeing.{nobody}
+use Rattle.edd_oracle.proofs.Pairs.{nobody}
 use Rattle.edd_verdict.proofs.Opening.{AreAsks, no_asks, ask_here, more_asks, same_asks, asks_in_order}
 use Rattle.edd_verdict.proofs.around.asks.Goals as goal
 use Rattle.edd_verdict.proofs.around.asks.Goals.{then-command-rounds+then-command+in-Ok, else-command-rounds, else-command-rounds-via-then-command-rounds+else-command, else-command-rounds-via-else-command-rounds}

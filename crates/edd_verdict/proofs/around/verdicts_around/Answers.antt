@@ -5,7 +5,7 @@ use Rattle.std.proofs.lemmas.List.{get_or_default}
 use Rattle.edd_check.specs.declared.Window.{Window}
 use Rattle.edd_verdict.specs.declared.around.Ask.{Ask}
 use Rattle.edd_verdict.specs.Inside.Open.{IsAsk, AreAsked, IsInnermost}
-use Rattle.edd_verdict.proofs.Freeing.{nobody}
+use Rattle.edd_oracle.proofs.Pairs.{nobody}
 use Rattle.edd_verdict.proofs.Opening.{pending_first, pending_none, pending_full}
 use Rattle.edd_verdict.proofs.around.verdicts_around.Goals as goal
 

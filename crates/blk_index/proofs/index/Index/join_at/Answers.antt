@@ -1,4 +1,4 @@
-use Rattle.std.proofs.Common.{subst}
+use Rattle.std.proofs.Common.{subst, sym}
 use Rattle.std.specs.FinMap as map
 use Rattle.blk_bio.specs.declared.request.Side.{Side}
 use Rattle.blk_index.specs.Inside.Edges.{IsEdge}
@@ -26,3 +26,15 @@ invariant_of-self g c =
         },
       )
     ]
+
+pub join_in-requires-clause-edge : goal.join_in-requires-clause-edge
+join_in-requires-clause-edge g c = subst (λ (t : Side). IsEdge (at_of t) (map.get c.self.inside.waiting) c.self.inside.edges.back) (sym c.in-Back.is) c.self.invariant.1.back
+
+pub join_in-requires-clause-other : goal.join_in-requires-clause-other
+join_in-requires-clause-other g c = subst (λ (t : Side). IsEdge (at_of (opposite_of t)) (map.get c.self.inside.waiting) c.self.inside.edges.front) (sym c.in-Back.is) c.self.invariant.1.front
+
+pub join_in-requires-in-Front-clause-edge : goal.join_in-requires-in-Front-clause-edge
+join_in-requires-in-Front-clause-edge g c = subst (λ (t : Side). IsEdge (at_of t) (map.get c.self.inside.waiting) c.self.inside.edges.front) (sym c.in-Front.is) c.self.invariant.1.front
+
+pub join_in-requires-in-Front-clause-other : goal.join_in-requires-in-Front-clause-other
+join_in-requires-in-Front-clause-other g c = subst (λ (t : Side). IsEdge (at_of (opposite_of t)) (map.get c.self.inside.waiting) c.self.inside.edges.back) (sym c.in-Front.is) c.self.invariant.1.back

@@ -1,25 +1,33 @@
-use Rattle.std.proofs.Common.{subst}
-use Rattle.std.specs.Prelude.{Option}
+use Rattle.std.proofs.Common.{◌≡◌, ◌≤◌, List, ℕ, length, refl, sym, ap, subst, inl, arith}
 use Rattle.std.proofs.lemmas.Result.{err_from_is_err_and}
-use Rattle.blk_layer.specs.declared.serving.Issued.{Issued}
-use Rattle.blk_layer.specs.Inside.Serving.{ServesOne}
-use Rattle.blk_layer.proofs.Ending.{next_in_hand, none_in_hand, serve_refused, still_in_hand}
+use Rattle.blk_layer.specs.declared.batch.TheConstants.{MAX_BATCH}
+use Rattle.blk_layer.specs.declared.serving.WorkFault.TheVariants.{Memory}
+use Rattle.blk_layer.specs.Inside.Serving.{IsServing}
+use Rattle.blk_layer.proofs.Taken.{serves_nothing, all_served, serve_refused}
 use Rattle.blk_layer.proofs.layer.Layer.serve.Goals as goal
 
-pub returns-in_err-next-clause-fault : goal.returns-in_err-next-clause-fault
-returns-in_err-next-clause-fault g c =
-    let p = err_from_is_err_and c.from_residual-in_err-next.result c.from_residual-in_err-next.ensures.1 in
-    rw (p.1, p.2) (serve_refused c.args.worker.now c.loop-served.issued.tag c.loop-served.issued.command c.loop-served.worker c.run-ran.result c.in_err-next.field-0.0 c.end_and_next.new.worker c.loop-served.invariant c.in_err-next.ensures.fault)
+pub loop-served-init : goal.loop-served-init
+loop-served-init g c = record {
+  serving = subst (λ (l : List ℕ). IsServing c.args.worker.now l c.args.worker.now) (sym c.new-batch.ensures) (serves_nothing c.args.worker.now);
+  ran = omega arith;
+  few = omega (arith, ap length c.new-batch.ensures);
+  same_set = refl;
+}
 
-pub returns-in-None-clause-runs : goal.returns-in-None-clause-runs
-returns-in-None-clause-runs g c =
-    none_in_hand c.args.worker.now c.loop-served.issued.tag c.loop-served.issued.command c.loop-served.worker c.run-ran.result c.end_and_next.new.worker c.loop-served.invariant
-    (subst (λ (found : Option Issued). ServesOne c.loop-served.worker c.loop-served.issued.tag c.run-ran.result found c.end_and_next.new.worker) c.in-None.is c.in_ok-next.ensures.served)
+pub returns-in_err-exchanged-clause-fault : goal.returns-in_err-exchanged-clause-fault
+returns-in_err-exchanged-clause-fault g c =
+    let p = err_from_is_err_and c.from_residual.result c.from_residual.ensures.1 in
+    let batch = c.exchange-exchanged.new.batch in
+    let now = c.exchange-exchanged.new.worker in
+    let few : length batch ≤ MAX_BATCH = omega (arith, c.len-held.ensures.value, c.len-held.ensures.fits) in
+    rw (p.1, p.2) (serve_refused c.args.worker.now batch now c.in_err-exchanged.field-0.0 (c.exchange-exchanged.ensures.serves.on c.args.worker.now c.loop-served.invariant.serving) few c.in_err-exchanged.ensures.fault)
 
-pub loop-served-preserved : goal.loop-served-preserved
-loop-served-preserved g c =
-    next_in_hand c.args.worker.now c.loop-served.issued.tag c.loop-served.issued.command c.loop-served.worker c.run-ran.result c.in-Some-2.next c.end_and_next.new.worker c.loop-served.invariant
-    (subst (λ (found : Option Issued). ServesOne c.loop-served.worker c.loop-served.issued.tag c.run-ran.result found c.end_and_next.new.worker) c.in-Some-2.is c.in_ok-next.ensures.served)
+pub returns-then-held-eq0-clause-runs : goal.returns-then-held-eq0-clause-runs
+returns-then-held-eq0-clause-runs g c =
+    let batch = c.exchange-exchanged.new.batch in
+    let none : length batch ≡ 0 = omega (arith, c.len-held.ensures.value, c.if-held-eq0.true) in
+    all_served c.args.worker.now batch c.exchange-exchanged.new.worker (c.exchange-exchanged.ensures.serves.on c.args.worker.now c.loop-served.invariant.serving) none
 
 pub returns-clause-fault : goal.returns-clause-fault
-returns-clause-fault g c = still_in_hand c.args.worker.now c.loop-served.issued.tag c.loop-served.issued.command c.loop-served.worker c.loop-served.invariant
+returns-clause-fault g c =
+    serve_refused c.args.worker.now c.loop-served.batch c.loop-served.worker Memory c.loop-served.invariant.serving c.loop-served.invariant.few (inl refl)

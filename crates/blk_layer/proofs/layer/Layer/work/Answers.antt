@@ -1,4 +1,4 @@
-use Rattle.std.proofs.Common.{◌≡◌, true, false, length, refl, ap, subst, arith}
+use Rattle.std.proofs.Common.{◌≡◌, ◌∙◌, true, false, length, refl, ap, subst, arith}
 use Rattle.std.proofs.lemmas.Result.{err_from_is_err_and}
 use Rattle.blk_layer.specs.Seats.{WorkerSeat}
 use Rattle.blk_layer.specs.Serving.{RunsMore, IsWorkFault}
@@ -35,3 +35,7 @@ returns-clause-worked g c =
       runs = c.loop-passed.invariant;
       ran = omega (arith, ap length c.ran-2.ensures.value, ap length c.ran-before.ensures.value, ran_count c.args.worker.now c.loop-passed.worker c.loop-passed.invariant);
     }
+
+pub returns-in_err-served-clause-tag_set : goal.returns-in_err-served-clause-tag_set
+returns-in_err-served-clause-tag_set g c =
+    c.serve.ensures.tag_set ∙ ap (λ (s : WorkerSeat). s.tag_set) c.drain.ensures.worker ∙ ap (λ (s : WorkerSeat). s.tag_set) c.loop-passed.invariant.grown

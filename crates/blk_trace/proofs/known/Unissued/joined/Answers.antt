@@ -1,9 +1,5 @@
-use Rattle.std.proofs.Common.{◌≡◌, List, ap, sym}
-use Rattle.blk_bio.specs.Bios.{Bio}
-use Rattle.blk_bio.specs.declared.request.Side.{Side}
-use Rattle.blk_bio.specs.Limits.{Limits}
-use Rattle.blk_bio.specs.Requests.{IsRequest, Fits}
-use Rattle.blk_bio.specs.Extents.{Extent, extent_of, FitAt}
+use Rattle.std.proofs.Common.{◌≡◌, ap}
+use Rattle.blk_bio.specs.Extents.{extent_of}
 use Rattle.blk_bio.proofs.Fitting.{from_extents, to_extents}
 use Rattle.blk_trace.specs.declared.known.Unissued.{Unissued}
 use Rattle.blk_trace.specs.Waits.{Entered}

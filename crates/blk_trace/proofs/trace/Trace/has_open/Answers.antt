@@ -1,4 +1,4 @@
-use Rattle.std.proofs.Common.{◌↔◌, IsTrue, ℕ, refl, subst}
+use Rattle.std.proofs.Common.{◌↔◌, IsTrue, ℕ, subst}
 use lib.Dec.{ltb}
 use Rattle.blk_trace.specs.Traces.{Traced}
 use Rattle.blk_trace.specs.Events.{IsOpen}

@@ -1,4 +1,4 @@
-use Rattle.std.proofs.Common.{◌≡◌, ◌∙◌, ℕ, sym, ap, take, List, Bool, true}
+use Rattle.std.proofs.Common.{◌≡◌, ◌∙◌, ℕ, sym, ap, take, List, Bool}
 use Rattle.std.proofs.lemmas.List.{take_all}
 use Rattle.std.specs.Map.{lookup}
 use Rattle.blk_ids.specs.ById as by_id
@@ -8,23 +8,12 @@ use Rattle.blk_trace.specs.Happened.{Happened}
 use Rattle.blk_trace.specs.Meaning.{issued_ids}
 use Rattle.blk_trace.specs.Waits.{has_id}
 use Rattle.blk_trace.specs.Inside.Gathered.{bios_unless, enters_to_stay}
-use Rattle.blk_trace.specs.Inside.Kept.{is_gone}
-use Rattle.blk_trace.proofs.Knowing.{is_out}
-use Rattle.blk_trace.proofs.Gathering.{nothing_gathered, gathers, passes, takes, one_more, stays_by, at_the_end}
+use Rattle.blk_trace.proofs.Gathering.{nothing_gathered, gathers, passes, one_more, stays_by, at_the_end}
 use Rattle.blk_trace.proofs.trace.waiting.gathered.Goals as goal
 use Rattle.blk_trace.proofs.trace.waiting.gathered.Goals.{then-stays+in_ok-gather, else-stays}
 
 pub loop-event-init : goal.loop-event-init
 loop-event-init g c = λ id. ap (lookup (is_at (nat_cmp id))) c.new-requests.ensures.empty ∙ sym (nothing_gathered (λ i. has_id (issued_ids c.args.events.now) i) id)
-
-pub gather-requires : goal.gather-requires
-gather-requires g c =
-    let all : List Happened = c.args.events.now in
-    let gone : ℕ → Bool = λ i. has_id (issued_ids all) i in
-    let p = one_more c.args.setup c.args.events.now c.loop-event.event-index c.event-item.result c.loop-event-test.true c.event-item.is c.requires.legal in
-    let known : (id : ℕ) → is_gone (by_id.kept_at c.args.known.now id) ≡ gone id = λ id. ap is_gone (c.requires.kept id) ∙ is_out c.args.setup all id in
-    let stays : enters_to_stay gone c.event-item.result ≡ true = sym (c.stays.ensures ∙ stays_by (by_id.kept_at c.args.known.now) gone c.event-item.result known) ∙ c.if-stays.true in
-    takes c.args.setup gone c.limits-limits.result (take c.loop-event.event-index c.args.events.now) c.event-item.result (get nat_cmp c.loop-event.requests) c.limits-limits.ensures p.1 stays c.loop-event.invariant
 
 pub loop-event-preserved : goal.loop-event-preserved
 loop-event-preserved g c = λ id.
@@ -32,8 +21,7 @@ loop-event-preserved g c = λ id.
     let gone : ℕ → Bool = λ i. has_id (issued_ids all) i in
     let es : List Happened = take c.loop-event.event-index c.args.events.now in
     let p = one_more c.args.setup c.args.events.now c.loop-event.event-index c.event-item.result c.loop-event-test.true c.event-item.is c.requires.legal in
-    let known : (id : ℕ) → is_gone (by_id.kept_at c.args.known.now id) ≡ gone id = λ id. ap is_gone (c.requires.kept id) ∙ is_out c.args.setup all id in
-    let told : enters_to_stay gone c.event-item.result ≡ c.stays.result = sym (c.stays.ensures ∙ stays_by (by_id.kept_at c.args.known.now) gone c.event-item.result known) in
+    let told : enters_to_stay gone c.event-item.result ≡ c.stays.result = sym (c.stays.ensures ∙ stays_by c.args.setup all (by_id.kept_at c.args.known.now) c.event-item.result c.requires.kept) in
     elim c.if-stays.branch [
       | then-stays+in_ok-gather w ↦
           ap (λ m. get nat_cmp m id) w.requests-is
