@@ -130,16 +130,16 @@ def wrong_table(by, script):
 
 
 def threads_of(threads, script):
-    """How many threads there are at most while the script is tried with so many."""
+    """How many threads there are at each look, while the script is tried with so many."""
     run = subprocess.Popen([PROGRAM, "tune", "--threads", str(threads)], stdin=subprocess.PIPE, stdout=subprocess.DEVNULL)
     run.stdin.write(script)
     run.stdin.close()
-    most, tasks = 0, f"/proc/{run.pid}/task"
+    looks, tasks = [], f"/proc/{run.pid}/task"
     while run.poll() is None:
         with contextlib.suppress(OSError):
-            most = max(most, len(os.listdir(tasks)))
+            looks.append(len(os.listdir(tasks)))
         time.sleep(0.001)
-    return most
+    return looks
 
 
 def wrong_threads():
@@ -148,8 +148,9 @@ def wrong_threads():
     script = f"blk-script,1,1,1,1,1\nsetup,0,9,256,128,\n{bios}".encode()
     told = ""
     for threads in (1, 2, 4):
-        # they come and go: a run's looks may miss one, or still see one that is over
-        most = sorted(threads_of(threads, script) for _ in range(5))[2]
+        looks = sorted(look for _ in range(3) for look in threads_of(threads, script))
+        # while one comes another that is over may still be seen for a moment, so the most that a tenth of the looks see
+        most = looks[len(looks) * 9 // 10]
         if most != threads:
             told += f"    with --threads {threads} there were {most}\n"
     return told
