@@ -3,17 +3,20 @@ use Rattle.std.proofs.Common.{◌≡◌, ◌≤◌, ◌-◌, ◌⊎◌, ◌/◌,
 use Rattle.std.specs.Ordering.{nat_cmp, is_eq}
 use Rattle.std.specs.Cmp.{nat_cmp_total, tied_itself}
 use Rattle.std.specs.BTreeMap.{is_at}
+use Rattle.std.specs.Prelude.{Result, Ok, Err, OnOk}
+use Rattle.ordered.specs.Ordered.{Adds, Takes}
 use Rattle.blk_bio.specs.Extents.{Extent}
 use Rattle.blk_sched.specs.Meaning.{Waiting}
 use Rattle.blk_sched.proofs.Maps.{same_number}
 use Rattle.blk_index.specs.declared.edges.Edge.{Edge}
 use Rattle.blk_index.specs.declared.edges.Edges.{Edges}
-use Rattle.blk_index.specs.Inside.Spots.{DirSector, place_cmp, Becomes}
+use Rattle.blk_index.specs.Keys.{keyed_cmp}
+use Rattle.blk_index.specs.Inside.Spots.{DirSector, Spot, place_cmp, Becomes}
 use Rattle.blk_index.specs.Inside.Entries.{Class, Key}
 use Rattle.blk_index.specs.Inside.Shapes.{entries_in, IsInClass, ShapeListed}
-use Rattle.blk_index.specs.Inside.Edges.{one_of_place, IsListedAt, IsListedAs, KeepsBut, KeepsOwn, IsEdge, IsEdges}
+use Rattle.blk_index.specs.Inside.Edges.{stands_alone, IsListedAt, IsListedAs, KeepsBut, KeepsOwn, IsEdge, IsEdges}
 use Rattle.blk_index.proofs.Indexed.{Found}
-use Rattle.blk_index.proofs.Listed.{place_true}
+use Rattle.blk_index.proofs.Shaped.{taken_but, spot_exact}
 
 -- ---- what one edge lists
 
@@ -58,35 +61,20 @@ listed_in old new class id p k more longer s b keeps other there grown longer_lo
 pub listed_as : (has : Has) (p : DirSector) (k s b : ℕ) → IsInClass has (p, b) s k → ShapeListed has p k s b
 listed_as has p k s b there = record { said = s; said_bios = b; least = omega arith; fewest = omega arith; there = there }
 
--- one more where a place has none, and one less
-pub ones_put : (old new : DirSector → Option ℕ) (p : DirSector) (id : ℕ) → ((q : DirSector) → new q ≡ cond (is_at (place_cmp p) q) (Some id) (old q)) → old p ≡ None → (q : DirSector) (k : ℕ) → old q ≡ Some k → new q ≡ Some k
-ones_put old new p id updates none q k there = updates q ∙ elim (is_at (place_cmp p) q) as (λ b. is_at (place_cmp p) q ≡ b → cond b (Some id) (old q) ≡ Some k) [
-  | true ↦ λ e. let no : None ≡ Some k = sym none ∙ ap old (place_true p q e) ∙ there in absurd (cc)
-  | false ↦ λ _. there
-] refl
+-- one put among those that stand by themselves, and one taken
+pub spot_put : {A T E : Type 0} (r : Result T E) (old new : Edge A) (spot : Spot) (x : Extent) → OnOk r (Adds (keyed_cmp place_cmp) (stands_alone old) spot (stands_alone new)) → OnOk r (IsListedAs new spot x)
+spot_put (Ok u) old new spot x adds = inl (adds spot ∙ ap (λ b. cond (is_eq b) true (stands_alone old spot)) (spot_exact.itself spot))
+spot_put (Err u) old new spot x adds = tt
 
--- one put where a place has one, and that one put back
-pub ones_back : (old mid new : DirSector → Option ℕ) (p : DirSector) (id older : ℕ) → ((q : DirSector) → mid q ≡ cond (is_at (place_cmp p) q) (Some id) (old q)) → ((q : DirSector) → new q ≡ cond (is_at (place_cmp p) q) (Some older) (mid q)) → old p ≡ Some older → (q : DirSector) → new q ≡ old q
-ones_back old mid new p id older puts sets was q = sets q ∙ elim (is_at (place_cmp p) q) as (λ b. is_at (place_cmp p) q ≡ b → cond b (Some older) (mid q) ≡ old q) [
-  | true ↦ λ e. sym was ∙ ap old (place_true p q e)
-  | false ↦ λ e. puts q ∙ ap (λ b. cond b (Some id) (old q)) e
-] refl
-
-pub ones_taken : (old new : DirSector → Option ℕ) (p : DirSector) (id : ℕ) → ((q : DirSector) → new q ≡ cond (is_at (place_cmp p) q) None (old q)) → old p ≡ Some id → (q : DirSector) (k : ℕ) → (q ≡ p → k ≡ id → ⊥) → old q ≡ Some k → new q ≡ Some k
-ones_taken old new p id updates own q k other there = updates q ∙ elim (is_at (place_cmp p) q) as (λ b. is_at (place_cmp p) q ≡ b → cond b None (old q) ≡ Some k) [
-  | true ↦ λ e.
-      let same : p ≡ q = place_true p q e in
-      let one : Some id ≡ Some k = sym own ∙ ap old same ∙ there in
-      let number : id ≡ k = cc in
-      absurd (other (sym same) (sym number))
-  | false ↦ λ _. there
-] refl
+pub spot_taken : (has now : Spot → Bool) (spot : Spot) (p : DirSector) (k : ℕ) → Takes (keyed_cmp place_cmp) has spot now → (p ≡ spot.0 → k ≡ spot.1 → ⊥) → has (p, k) ≡ true → now (p, k) ≡ true
+spot_taken has now spot p k takes other there =
+    taken_but (keyed_cmp place_cmp) has now spot spot_exact (p, k) takes (λ same. other (ap (λ (q : Spot). q.0) same) (ap (λ (q : Spot). q.1) same)) there
 
 module _ {A : Type 0} where
   -- where there are no others, what is listed stands by itself
-  pub stands_alone : (e : Edge A) (p : DirSector) (k s b : ℕ) → ((x : Key) → entries_in e.others x ≡ false) → IsListedAt e p k s b → one_of_place e p ≡ Some k
-  stands_alone e p k s b none (inl one) = one
-  stands_alone e p k s b none (inr is) = let no : true ≡ false = sym (is.there 1 (inl refl)) ∙ none ((((p, is.said_bios), 1), is.said / 1), k) in absurd (cc)
+  pub by_itself : (e : Edge A) (p : DirSector) (k s b : ℕ) → ((x : Key) → entries_in e.others x ≡ false) → IsListedAt e p k s b → stands_alone e (p, k) ≡ true
+  by_itself e p k s b none (inl one) = one
+  by_itself e p k s b none (inr is) = let no : true ≡ false = sym (is.there 1 (inl refl)) ∙ none ((((p, is.said_bios), 1), is.said / 1), k) in absurd (cc)
 
   pub lists_more : (e : Edge A) (p : DirSector) (k s b more longer : ℕ) → s ≤ more → b ≤ longer → IsListedAt e p k s b → IsListedAt e p k more longer
   lists_more e p k s b more longer grown longer_low (inl one) = inl one

@@ -47,9 +47,6 @@ module _ (m n : Pending) (id at : ℕ) (side : Side) (newcomer : Extent) (v : Wa
       (λ place same. let one : Some u ≡ Some v = sym has ∙ ap (map.get m) same ∙ sym found in let own : u ≡ v = cc in apart (ap (λ (w : Waiting). at_of side w.extent) (sym own) ∙ place ∙ there))
       (edge k u has)
 
-  pub listed_ahead : {A : Type 0} (x : Extent) (p q : DirSector) (e f : Edge A) → x ≡ extent_joined v.extent newcomer side → IsEdge (at_of side) (map.get m) e → p ≡ at_of side x → q ≡ at_of side v.extent → KeepsBut (p, id) e f → IsListedAs f (q, id) v.extent
-  listed_ahead x p q e f is edge there was keeps = subst (λ (a : DirSector). IsListedAs f (a, id) v.extent) (sym was) (edge_ahead x p e f is edge there keeps id v (sym found))
-
   pub edge_joined : {A : Type 0} (x : Extent) (p q : DirSector) (e f h : Edge A) → x ≡ extent_joined v.extent newcomer side → IsJoined at newcomer m id side n → IsEdge (at_of side) (map.get m) e → p ≡ at_of side x → q ≡ at_of side v.extent → IsListedAs f (p, id) x → KeepsBut (p, id) e f → KeepsBut (q, id) f h → IsEdge (at_of side) (map.get n) h
   edge_joined x p q e f h is join edge there was own keeps keeps_then =
       edge_moved (at_of side) (map.get m) (map.get n) id v (joined_waiting side at newcomer v) x p q e f h edge there is was

@@ -1,7 +1,7 @@
 -- The order of entries, and which requests of shared places are looked at.
 use Rattle.std.proofs.Common.{◌≡◌, ◌<◌, ◌≤◌, ◌+◌, ◌-◌, ◌*◌, ◌/◌, ◌%◌, inl, inr, ℕ, Bool, true, false, cond, sym, ap, subst, ◌∙◌, refl, arith, Some, None, Option}
 use Rattle.std.specs.Prelude.{IfSome, OnOk, OnErr, Result, Ok, Err, nat_lt}
-use Rattle.std.specs.Ordering.{nat_cmp, ordering_then, eq_by_cmp, is_eq, is_lt}
+use Rattle.std.specs.Ordering.{nat_cmp, bool_cmp, ordering_then, eq_by_cmp, is_eq, is_lt}
 use Rattle.std.specs.Cmp.{nat_cmp_total, tied_itself}
 use Rattle.std.specs.declared.cmp.Ordering.{Ordering}
 use Rattle.std.specs.declared.cmp.Ordering.TheVariants.{Less, Equal, Greater}
@@ -18,9 +18,9 @@ number_itself : (n : ℕ) → nat_cmp n n ≡ Equal
 number_itself n = tied_itself nat_cmp_total n
 
 -- an order in which only equal ones are tied, and each one with itself
-record IsExact {K : Type 0} (cmp : K → K → Ordering) : Type 0 where
-  tied : (x y : K) → cmp x y ≡ Equal → x ≡ y
-  itself : (x : K) → cmp x x ≡ Equal
+pub record IsExact {K : Type 0} (cmp : K → K → Ordering) : Type 0 where
+  pub tied : (x y : K) → cmp x y ≡ Equal → x ≡ y
+  pub itself : (x : K) → cmp x x ≡ Equal
 
 both : (o r : Ordering) → ordering_then o r ≡ Equal → (o ≡ Equal) × (r ≡ Equal)
 both Less r h = cc
@@ -35,6 +35,19 @@ same_pair {K} x y one other = ap (λ (k : K). let r : K × ℕ = (k, x.1) in r) 
 
 place_exact : IsExact place_cmp
 place_exact = record { tied = same_place; itself = place_itself }
+
+same_bool : (a b : Bool) → bool_cmp a b ≡ Equal → a ≡ b
+same_bool false false h = refl
+same_bool false true h = cc
+same_bool true false h = cc
+same_bool true true h = refl
+
+bool_itself : (a : Bool) → bool_cmp a a ≡ Equal
+bool_itself false = refl
+bool_itself true = refl
+
+pub bool_exact : IsExact bool_cmp
+bool_exact = record { tied = same_bool; itself = bool_itself }
 
 module _ {K : Type 0} (cmp : K → K → Ordering) where
   -- nothing is below a number of 0
@@ -69,7 +82,7 @@ module _ {K : Type 0} (cmp : K → K → Ordering) (exact : IsExact cmp) where
 class_exact : IsExact class_cmp
 class_exact = number_exact place_cmp place_exact
 
-sized_exact : IsExact sized_cmp
+pub sized_exact : IsExact sized_cmp
 sized_exact = number_exact class_cmp class_exact
 
 block_exact : IsExact block_cmp
@@ -111,59 +124,64 @@ module _ (has : Key → Bool) (p : DirSector) (bound : ℕ) where
       let low : class_cmp e.0.0.0 (p, bound) ≡ Less = before_class e (p, bound) found.low in
       lt_of e.0.0.0.1 bound (sym (ap (λ o. ordering_then o (nat_cmp e.0.0.0.1 bound)) (ap (λ x. place_cmp x p) same ∙ place_itself p)) ∙ low)
 
--- ---- the entries of a block
+-- ---- the ids of a key, as a block or a place
 
-same_block : (a b : Block) → eq_by_cmp block_cmp a b ≡ true → a ≡ b
-same_block a b h = block_exact.tied a b (is_equal (block_cmp a b) h)
+module _ {L : Type 0} (cmp : L → L → Ordering) (exact : IsExact cmp) where
+  same_key : (a b : L × ℕ) → eq_by_cmp (keyed_cmp cmp) a b ≡ true → a ≡ b
+  same_key a b h = (number_exact cmp exact).tied a b (is_equal (keyed_cmp cmp a b) h)
 
-other_block : (a b : Block) → eq_by_cmp block_cmp a b ≡ false → a ≡ b → ⊥
-other_block a b h same = let e : true ≡ false = sym (ap is_eq (ap (λ x. block_cmp a x) (sym same) ∙ block_exact.itself a)) ∙ h in cc
+  other_key : (a b : L × ℕ) → eq_by_cmp (keyed_cmp cmp) a b ≡ false → a ≡ b → ⊥
+  other_key a b h same = let e : true ≡ false = sym (ap is_eq (ap (λ x. keyed_cmp cmp a x) (sym same) ∙ (number_exact cmp exact).itself a)) ∙ h in cc
 
-below_upper : (block : Block) (below : Option ℕ) (k : ℕ) → IsBelow below k → entry_cmp (block, k) (upper_of block below) ≡ Less
-below_upper block None k low = sooner block_cmp (block, k) ((block.0, block.1 + 1), 0) (same_then sized_cmp sized_exact block block.0 (block.1 + 1) refl (omega arith))
-below_upper block (Some b) k low = same_then block_cmp block_exact (block, k) block b refl low
+  below_upper : (key : L × ℕ) (below : Option ℕ) (k : ℕ) → IsBelow below k → keyed_cmp (keyed_cmp cmp) (key, k) (upper_of key below) ≡ Less
+  below_upper key None k low = sooner (keyed_cmp cmp) (key, k) ((key.0, key.1 + 1), 0) (same_then cmp exact key key.0 (key.1 + 1) refl (omega arith))
+  below_upper key (Some b) k low = same_then (keyed_cmp cmp) (number_exact cmp exact) (key, k) key b refl low
 
-of_block : (e : Key) (block : Block) (below : Option ℕ) (k : ℕ) → entry_cmp e (upper_of block below) ≡ Less → (entry_cmp e (block, k) ≡ Less → ⊥) → e.0 ≡ block
-of_block e block None k low not_less =
-    let w = between sized_cmp sized_exact e.0 block.0 (block.1 + 1) block.1 (before block_cmp e (block.0, block.1 + 1) low) (λ h. not_less (sooner block_cmp e (block, k) h)) in
-    same_pair e.0 block w.0 (omega (arith, w.1, w.2))
-of_block e block (Some b) k low not_less = (between block_cmp block_exact e block b k low not_less).0
+  of_key : (e : (L × ℕ) × ℕ) (key : L × ℕ) (below : Option ℕ) (k : ℕ) → keyed_cmp (keyed_cmp cmp) e (upper_of key below) ≡ Less → (keyed_cmp (keyed_cmp cmp) e (key, k) ≡ Less → ⊥) → e.0 ≡ key
+  of_key e key None k low not_less =
+      let w = between cmp exact e.0 key.0 (key.1 + 1) key.1 (before (keyed_cmp cmp) e (key.0, key.1 + 1) low) (λ h. not_less (sooner (keyed_cmp cmp) e (key, k) h)) in
+      same_pair e.0 key w.0 (omega (arith, w.1, w.2))
+  of_key e key (Some b) k low not_less = (between (keyed_cmp cmp) (number_exact cmp exact) e key b k low not_less).0
 
-low_in : (e : Key) (block : Block) (below : Option ℕ) → e.0 ≡ block → entry_cmp e (upper_of block below) ≡ Less → IsBelow below e.1
-low_in e block None same low = tt
-low_in e block (Some b) same low = lt_of e.1 b (sym (ap (λ o. ordering_then o (nat_cmp e.1 b)) (ap (λ x. block_cmp x block) same ∙ block_exact.itself block)) ∙ low)
+  low_in : (e : (L × ℕ) × ℕ) (key : L × ℕ) (below : Option ℕ) → e.0 ≡ key → keyed_cmp (keyed_cmp cmp) e (upper_of key below) ≡ Less → IsBelow below e.1
+  low_in e key None same low = tt
+  low_in e key (Some b) same low = lt_of e.1 b (sym (ap (λ o. ordering_then o (nat_cmp e.1 b)) (ap (λ x. keyed_cmp cmp x key) same ∙ (number_exact cmp exact).itself key)) ∙ low)
 
-module _ (has : Key → Bool) (block : Block) (below : Option ℕ) where
-  pub none_below : NoneBelow entry_cmp has (upper_of block below) → (k : ℕ) → IsBelow below k → has (block, k) ≡ true → ⊥
-  none_below none k under there = let x : true ≡ false = sym there ∙ none (block, k) (below_upper block below k under) in cc
+  module _ (has : (L × ℕ) × ℕ → Bool) (key : L × ℕ) (below : Option ℕ) where
+    pub none_below : NoneBelow (keyed_cmp (keyed_cmp cmp)) has (upper_of key below) → (k : ℕ) → IsBelow below k → has (key, k) ≡ true → ⊥
+    none_below none k under there = let x : true ≡ false = sym there ∙ none (key, k) (below_upper key below k under) in cc
 
-  module _ (e : Key) (found : IsGreatestBelow entry_cmp has (upper_of block below) e) where
-    stays : (k : ℕ) → IsBelow below k → has (block, k) ≡ true → entry_cmp e (block, k) ≡ Less → ⊥
-    stays k under there h = is_not_less (entry_cmp e (block, k)) (found.greatest (block, k) (below_upper block below k under) there) h
+    module _ (e : (L × ℕ) × ℕ) (found : IsGreatestBelow (keyed_cmp (keyed_cmp cmp)) has (upper_of key below) e) where
+      stays : (k : ℕ) → IsBelow below k → has (key, k) ≡ true → keyed_cmp (keyed_cmp cmp) e (key, k) ≡ Less → ⊥
+      stays k under there h = is_not_less (keyed_cmp (keyed_cmp cmp) e (key, k)) (found.greatest (key, k) (below_upper key below k under) there) h
 
-    pub none_in : eq_by_cmp block_cmp e.0 block ≡ false → (k : ℕ) → IsBelow below k → has (block, k) ≡ true → ⊥
-    none_in other k under there = other_block e.0 block other (of_block e block below k found.low (stays k under there))
+      pub none_in : eq_by_cmp (keyed_cmp cmp) e.0 key ≡ false → (k : ℕ) → IsBelow below k → has (key, k) ≡ true → ⊥
+      none_in other k under there = other_key e.0 key other (of_key e key below k found.low (stays k under there))
 
-    pub newest_here : eq_by_cmp block_cmp e.0 block ≡ true → (k : ℕ) → StandsBetween below (Some e.1) k → has (block, k) ≡ true → ⊥
-    newest_here same k follows there = stays k follows.low there (same_then block_cmp block_exact e block k (same_block e.0 block same) follows.past)
+      pub newest_here : eq_by_cmp (keyed_cmp cmp) e.0 key ≡ true → (k : ℕ) → StandsBetween below (Some e.1) k → has (key, k) ≡ true → ⊥
+      newest_here same k follows there = stays k follows.low there (same_then (keyed_cmp cmp) (number_exact cmp exact) e key k (same_key e.0 key same) follows.past)
 
-    pub low_here : eq_by_cmp block_cmp e.0 block ≡ true → IsBelow below e.1
-    low_here same = low_in e block below (same_block e.0 block same) found.low
+      pub low_here : eq_by_cmp (keyed_cmp cmp) e.0 key ≡ true → IsBelow below e.1
+      low_here same = low_in e key below (same_key e.0 key same) found.low
 
--- ---- an entry put in, and one taken out
+-- ---- a key put in, and one taken out
 
-entry_exact : IsExact entry_cmp
+pub entry_exact : IsExact entry_cmp
 entry_exact = number_exact block_cmp block_exact
 
-pub put_keeps : {T E : Type 0} (r : Result T E) (has now : Key → Bool) (e q : Key) → OnOk r (Adds entry_cmp has e now) → OnErr r (Keeps has now) → has q ≡ true → now q ≡ true
-put_keeps (Ok x) has now e q adds same there = adds q ∙ ap (cond (eq_by_cmp entry_cmp e q) true) there ∙ elim (eq_by_cmp entry_cmp e q) as (λ b. cond b true true ≡ true) [ true ↦ refl | false ↦ refl ]
-put_keeps (Err x) has now e q adds same there = same q ∙ there
+pub spot_exact : IsExact (keyed_cmp place_cmp)
+spot_exact = number_exact place_cmp place_exact
 
-pub taken_but : (has now : Key → Bool) (e q : Key) → Takes entry_cmp has e now → (q ≡ e → ⊥) → has q ≡ true → now q ≡ true
-taken_but has now e q takes other there = takes q ∙ elim (eq_by_cmp entry_cmp e q) as (λ b. eq_by_cmp entry_cmp e q ≡ b → cond b false (has q) ≡ true) [
-  | true ↦ λ h. absurd (other (sym (entry_exact.tied e q (is_equal (entry_cmp e q) h))))
-  | false ↦ λ _. there
-] refl
+module _ {K : Type 0} (cmp : K → K → Ordering) (has now : K → Bool) (e : K) where
+  pub put_keeps : {T E : Type 0} (r : Result T E) (q : K) → OnOk r (Adds cmp has e now) → OnErr r (Keeps has now) → has q ≡ true → now q ≡ true
+  put_keeps (Ok x) q adds same there = adds q ∙ ap (cond (eq_by_cmp cmp e q) true) there ∙ elim (eq_by_cmp cmp e q) as (λ b. cond b true true ≡ true) [ true ↦ refl | false ↦ refl ]
+  put_keeps (Err x) q adds same there = same q ∙ there
+
+  pub taken_but : IsExact cmp → (q : K) → Takes cmp has e now → (q ≡ e → ⊥) → has q ≡ true → now q ≡ true
+  taken_but exact q takes other there = takes q ∙ elim (eq_by_cmp cmp e q) as (λ b. eq_by_cmp cmp e q ≡ b → cond b false (has q) ≡ true) [
+    | true ↦ λ h. absurd (other (sym (exact.tied e q (is_equal (cmp e q) h))))
+    | false ↦ λ _. there
+  ] refl
 
 -- a request that was put into its block of each size in turn
 pub all_sizes : (class : Class) (sectors id : ℕ) (a b c d : Block) (one two three four : Key → Bool) → a ≡ ((class, 1), sectors / 1) → b ≡ ((class, 16), sectors / 16) → c ≡ ((class, 256), sectors / 256) → d ≡ ((class, 4096), sectors / 4096)

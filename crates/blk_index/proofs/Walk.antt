@@ -1,5 +1,5 @@
 -- The search for a join among the requests that a newcomer touches.
-use Rattle.std.proofs.Common.{◌≡◌, ◌<◌, ◌≤◌, ◌+◌, ◌-◌, ◌/◌, ◌⊎◌, inl, inr, ℕ, Bool, true, false, sym, ap, subst, ◌∙◌, refl, arith, Some, None, Option}
+use Rattle.std.proofs.Common.{◌≡◌, ◌<◌, ◌≤◌, ◌+◌, ◌-◌, ◌⊎◌, inl, inr, ℕ, Bool, true, false, sym, ap, subst, ◌∙◌, refl, arith, Some, None, Option}
 use Rattle.std.specs.Prelude.{if◌then◌else◌, IfSome, IfNone, IsTrue, nat_lt}
 use Rattle.std.specs.Option.{OnSome}
 use Rattle.std.proofs.lemmas.Bool.{cases_eq, cases_lt}
@@ -12,13 +12,11 @@ use Rattle.blk_bio.specs.Requests.{IsTried}
 use Rattle.blk_sched.specs.Meaning.{Waiting}
 use Rattle.blk_bio.specs.Extents.{Extent, FitAt}
 use Rattle.blk_sched.specs.Fits.{FitsNowhere, IsNewestFit, FitsNone}
-use Rattle.blk_index.specs.Inside.Spots.{DirSector, is_write, at_of, opposite_of, IsBelow, IsNewer, greater_of}
-use Rattle.blk_index.specs.Inside.Entries.{Key}
-use Rattle.blk_index.specs.Inside.Shapes.{IsInClass, ShapeListed, StandsBetween, entries_in}
-use Rattle.blk_index.specs.Inside.Edges.{one_of_place, IsListedAt, IsEdge}
-use Rattle.blk_index.specs.Inside.Search.{IsPassed, FitsBy, IsNewestBy, FitsNoneBy, NoneAfter, newer_of}
+use Rattle.blk_index.specs.Inside.Spots.{DirSector, is_write, at_of, opposite_of, IsBelow, IsNewer}
+use Rattle.blk_index.specs.Inside.Shapes.{StandsBetween}
+use Rattle.blk_index.specs.Inside.Edges.{IsListedAt, IsEdge}
+use Rattle.blk_index.specs.Inside.Search.{IsPassed, FitsBy, IsNewestBy, FitsNoneBy, newer_of}
 use Rattle.blk_index.specs.declared.edges.Edge.{Edge}
-use Rattle.blk_index.proofs.Shaped.{past_both}
 use Rattle.blk_index.proofs.Indexed.{Found}
 
 -- what fits is touched
@@ -32,81 +30,40 @@ below_or_passed : (below : Option ℕ) (k : ℕ) → IsBelow below k ⊎ IsPasse
 below_or_passed None k = inl tt
 below_or_passed (Some b) k = cases_lt k b
 
-module _ (limits : Limits) (newcomer : Extent) (side : Side) (room room_bios : ℕ) (wide : limits.max_sectors ≤ room + (newcomer.end - newcomer.first)) (wide_bios : limits.max_segments ≤ room_bios + newcomer.bios) where
-  -- what fits has no more than there is room beside the newcomer
+module _ {A : Type 0} (limits : Limits) (newcomer : Extent) (side : Side) (room room_bios : ℕ) (wide : limits.max_sectors ≤ room + (newcomer.end - newcomer.first)) (wide_bios : limits.max_segments ≤ room_bios + newcomer.bios)
+    (found : Found) (edge : Edge A) (p : DirSector) (edges : IsEdge (at_of side) found edge) (is : p ≡ at_of (opposite_of side) newcomer)
+    (below : Option ℕ) (passed : (k : ℕ) (w : Waiting) → IsPassed below k → found k ≡ Some w → FitAt limits w.extent newcomer side → ⊥) where
+  -- what fits has no more than there is room beside the newcomer, and is listed where that lies
   in_room : (e : Extent) → FitAt limits e newcomer side → (e.end - e.first ≤ room) × (e.bios ≤ room_bios)
   in_room e fits = let most = fits.within.sectors in let most_bios = fits.within.bios in (omega arith, omega arith)
-
-  module _ (found : Found) (has : Key → Bool) (p : DirSector) (below : Option ℕ) (passed : (k : ℕ) (w : Waiting) → IsPassed below k → found k ≡ Some w → ShapeListed has p k (w.extent.end - w.extent.first) w.extent.bios → FitAt limits w.extent newcomer side → ⊥) where
-    -- after the newest one with no more than that nothing fits
-    pub later : (result : Option ℕ) → ((k s b : ℕ) → StandsBetween below result k → IsInClass has (p, b) s k → s ≤ room → b ≤ room_bios → ⊥) → NoneAfter limits found newcomer side result (λ k w. ShapeListed has p k (w.extent.end - w.extent.first) w.extent.bios)
-    later result newest k w past there listed fits = elim (below_or_passed below k) [
-      | inl low ↦
-          let size = in_room w.extent fits in
-          let least : listed.said ≤ w.extent.end - w.extent.first = listed.least in
-          let fewest : listed.said_bios ≤ w.extent.bios = listed.fewest in
-          newest k listed.said listed.said_bios (record { low = low; past = past }) listed.there (omega (arith, least, size.0)) (omega (arith, fewest, size.1))
-      | inr high ↦ passed k w high there listed fits
-    ]
-
-    pub passed_more : (id : ℕ) → ((k s b : ℕ) → StandsBetween below (Some id) k → IsInClass has (p, b) s k → s ≤ room → b ≤ room_bios → ⊥) → ((w : Waiting) → found id ≡ Some w → FitAt limits w.extent newcomer side → ⊥) → (k : ℕ) (w : Waiting) → id ≤ k → found k ≡ Some w → ShapeListed has p k (w.extent.end - w.extent.first) w.extent.bios → FitAt limits w.extent newcomer side → ⊥
-    passed_more id newest not_here k w from there listed fits = elim (cases_eq k id) [
-      | inl same ↦ not_here w (ap found (sym same) ∙ there) fits
-      | inr other ↦ later (Some id) newest k w (omega arith) there listed fits
-    ]
-
--- the request of an id that fits, and that of one that doesn't
-pub some_fits : (limits : Limits) (found : Found) (newcomer : Extent) (side : Side) (id : ℕ) → NoneAfter limits found newcomer side (Some id) (λ k w. let o : Option ℕ = Some id in o ≡ Some k)
-some_fits limits found newcomer side id k w past there same fits = let it : id ≡ k = cc in omega arith
-
-pub none_fits : (limits : Limits) (found : Found) (newcomer : Extent) (side : Side) (id : ℕ) → ((w : Waiting) → found id ≡ Some w → FitAt limits w.extent newcomer side → ⊥) → NoneAfter limits found newcomer side None (λ k w. let o : Option ℕ = Some id in o ≡ Some k)
-none_fits limits found newcomer side id not_here k w past there same fits = let it : id ≡ k = cc in not_here w (ap found it ∙ there) fits
-
-some_greater : (P : ℕ → Type 0) (one other : Option ℕ) → IfSome one P → IfSome other P → IfSome (greater_of one other) P
-some_greater P None other h k = k
-some_greater P (Some a) None h k = h
-some_greater P (Some a) (Some b) h k = elim (nat_lt a b) as (λ less. P (if less then b else a)) [ true ↦ k | false ↦ h ]
-
-module _ {A : Type 0} (limits : Limits) (found : Found) (newcomer : Extent) (side : Side) (edge : Edge A) (p : DirSector) (edges : IsEdge (at_of side) found edge) (is : p ≡ at_of (opposite_of side) newcomer) where
-  abbrev Alone : ℕ → Waiting → Type 0
-  Alone k w = one_of_place edge p ≡ Some k
-
-  abbrev Among : ℕ → Waiting → Type 0
-  Among k w = ShapeListed (entries_in edge.others) p k (w.extent.end - w.extent.first) w.extent.bios
 
   listed_here : (k : ℕ) (w : Waiting) → found k ≡ Some w → FitAt limits w.extent newcomer side → IsListedAt edge p k (w.extent.end - w.extent.first) w.extent.bios
   listed_here k w there fits =
       subst (λ (q : DirSector). IsListedAt edge q k (w.extent.end - w.extent.first) w.extent.bios) (touches limits w.extent newcomer side fits ∙ sym is) (edges k w there)
 
-  none_after : (result : Option ℕ) → NoneAfter limits found newcomer side result Alone → NoneAfter limits found newcomer side result Among → (k : ℕ) (w : Waiting) → IsNewer result k → found k ≡ Some w → FitAt limits w.extent newcomer side → ⊥
-  none_after result alone among k w past there fits = elim (listed_here k w there fits) [
-    | inl one ↦ alone k w past there one fits
-    | inr listed ↦ among k w past there listed fits
+  abbrev IsNewestListed : Option ℕ → Type 0
+  IsNewestListed result = (k s b : ℕ) → StandsBetween below result k → IsListedAt edge p k s b → s ≤ room → b ≤ room_bios → ⊥
+
+  -- after the newest one that is listed with no more than that nothing fits
+  later : (result : Option ℕ) → IsNewestListed result → (k : ℕ) (w : Waiting) → IsNewer result k → found k ≡ Some w → FitAt limits w.extent newcomer side → ⊥
+  later result newest k w past there fits = elim (below_or_passed below k) [
+    | inl low ↦
+        let size = in_room w.extent fits in
+        newest k (w.extent.end - w.extent.first) w.extent.bios (record { low = low; past = past }) (listed_here k w there fits) size.0 size.1
+    | inr high ↦ passed k w high there fits
   ]
 
-  pub newest_of_edge : (result : Option ℕ) → IfSome result (λ k. FitsBy limits (found k) newcomer side) → NoneAfter limits found newcomer side result Alone → NoneAfter limits found newcomer side result Among → IfSome result (IsNewestBy limits found newcomer side) × IfNone result (FitsNoneBy limits found newcomer side)
-  newest_of_edge None here alone among = (tt, λ k w there fits. none_after None alone among k w tt there fits)
-  newest_of_edge (Some id) here alone among = (
-    record {
-      waiting = here.waiting;
-      is_found = here.is_found;
-      fits = here.fits;
-      only = here.only;
-      newest = λ k w after there fits. none_after (Some id) alone among k w after there fits;
-    },
-    tt,
-  )
+  pub passed_more : (id : ℕ) → IsNewestListed (Some id) → ((w : Waiting) → found id ≡ Some w → FitAt limits w.extent newcomer side → ⊥) → (k : ℕ) (w : Waiting) → id ≤ k → found k ≡ Some w → FitAt limits w.extent newcomer side → ⊥
+  passed_more id newest not_here k w from there fits = elim (cases_eq k id) [
+    | inl same ↦ not_here w (ap found (sym same) ∙ there) fits
+    | inr other ↦ later (Some id) newest k w (omega arith) there fits
+  ]
 
-  -- where no place has several
-  pub none_among : (result : Option ℕ) → ((e : Key) → entries_in edge.others e ≡ false) → NoneAfter limits found newcomer side result Among
-  none_among result none k w past there listed fits =
-      let no : true ≡ false = sym (listed.there 1 (inl refl)) ∙ none ((((p, listed.said_bios), 1), listed.said / 1), k) in absurd (cc)
+  pub newest_fit : (id : ℕ) → IsNewestListed (Some id) → FitsBy limits (found id) newcomer side → IsNewestBy limits found newcomer side id
+  newest_fit id newest here = record { waiting = here.waiting; is_found = here.is_found; fits = here.fits; only = here.only; newest = later (Some id) newest }
 
-  -- of one by itself and of one among others the greater
-  pub newest_of_both : (one other : Option ℕ) → IfSome one (λ k. FitsBy limits (found k) newcomer side) → IfSome other (λ k. FitsBy limits (found k) newcomer side) → NoneAfter limits found newcomer side one Alone → NoneAfter limits found newcomer side other Among → IfSome (greater_of one other) (IsNewestBy limits found newcomer side) × IfNone (greater_of one other) (FitsNoneBy limits found newcomer side)
-  newest_of_both one other here here_too alone among =
-      newest_of_edge (greater_of one other) (some_greater (λ k. FitsBy limits (found k) newcomer side) one other here here_too)
-      (λ k w past. alone k w (past_both one other k past).0) (λ k w past. among k w (past_both one other k past).1)
+  pub none_fit : IsNewestListed None → FitsNoneBy limits found newcomer side
+  none_fit newest k w = later None newest k w tt
 
 -- ---- of the newest at both sides the newer
 

@@ -1,19 +1,19 @@
 //! Where requests begin and end.
 
-ghost use Rattle.std.specs.Prelude.{◌≡◌, ◌<◌, ℕ, Option, None, Some, cond, OnOk, OnErr, IfOk};
-ghost use Rattle.std.specs.Option.{IsSome};
-ghost use Rattle.std.specs.BTreeMap as map;
-ghost use Rattle.std.specs.BTreeMap.{is_at};
-ghost use Rattle.std.specs.Bool.{OnTrue};
+ghost use Rattle.std.specs.Prelude.{◌≡◌, ◌<◌, ◌≤◌, ◌^◌, ℕ, true, Option, None, OnOk, OnErr, IfOk, IfSome};
+ghost use Rattle.ordered.specs.Ordered.{listed};
 ghost use Rattle.blk_bio.specs.Extents.{IsExtent};
-ghost use Rattle.blk_index.specs.Inside.Spots.{DirSector, place_cmp, is_write, at_of, opposite_of, first_at, end_at};
-ghost use Rattle.blk_index.specs.Inside.Edges.{one_of_place, IsListedAs, KeepsBut, KeepsOwn, IsEdges, AddsEdges, DropsEdges};
+ghost use Rattle.blk_index.specs.Keys.{keyed_cmp};
+ghost use Rattle.blk_index.specs.Inside.Spots.{place_cmp, is_write, at_of, opposite_of, IsBelow};
+ghost use Rattle.blk_index.specs.Inside.Shapes.{StandsBetween, upper_of};
+ghost use Rattle.blk_index.specs.Inside.Edges.{IsListedAt, IsListedAs, KeepsBut, KeepsOwn, IsEdges, AddsEdges, DropsEdges};
 ghost use Rattle.blk_sched.specs.Meaning.{Waiting};
 
-use crate::shapes::{Place, Shapes};
+use crate::ids::greater;
+use crate::shapes::{Place, Shapes, is_place};
 use blk_bio::{Dir, Extent, Side};
+use ordered::Ordered;
 use std::alloc::{AllocError, Allocator, Global};
-use std::collections::BTreeMap;
 
 /// A direction, as whether it writes, and a sector; and the id of a request.
 pub type Spot = (Place, u64);
@@ -31,6 +31,7 @@ pub fn is_write(dir: Dir) -> bool
 /// Where a request lies at a side: its first sector at the front, its end at the back.
 pub fn place_at(side: Side, extent: &Extent) -> Place
     ensures value { result ≡ at_of side extent.now }
+    ensures in_range { result.1 < 2 ^ 63 }
     ensures is_extent { IsExtent extent.now }
 {
     let sector = match side {
@@ -55,7 +56,7 @@ pub fn opposite_of(side: Side) -> Side
 #[derive(Drop)]
 pub struct Edge<A: Allocator = Global> {
     /// One of each place.
-    pub ones: BTreeMap<Place, u64, A>,
+    pub ones: Ordered<Spot, A>,
     /// The others.
     pub others: Shapes<A>,
 }
@@ -64,34 +65,38 @@ impl<A: Allocator + Clone> Edge<A> {
     /// No requests. It takes no memory but for the allocators.
     pub fn new(alloc: A) -> Result<Edge<A>, AllocError> {
         Ok(Edge {
-            ones: BTreeMap::new(alloc.clone()?),
+            ones: Ordered::new(alloc.clone()?),
             others: Shapes::new(alloc),
         })
     }
 
-    /// The request that stands by itself at a place.
+    /// The newest request at a place that may have no more sectors and bios than these, by its id, below a bound if there is one.
     #[inline(always)]
-    pub fn one_at(&self, place: Place) -> Option<u64>
-        ensures { result ≡ one_of_place self.now place }
+    pub fn newest(&self, place: Place, sectors: u64, bios: u64, below: Option<u64>) -> Option<u64>
+        requires place { place.1 < 2 ^ 63 }
+        requires sectors { sectors < 65535 }
+        requires bios { bios < 2 ^ 63 }
+        ensures low { IfSome result (IsBelow below) }
+        ensures newest { (k s b : ℕ) → StandsBetween below result k → IsListedAt self.now place k s b → s ≤ sectors → b ≤ bios → ⊥ }
     {
-        self.ones.get(&place).copied()
+        let one = newest_one(&self.ones, place, below);
+        if self.others.is_empty() {
+            return one;
+        }
+        greater(one, self.others.newest(place, sectors, bios, below))
     }
 
     /// Lists a request. It fails only when out of memory: no other request is lost then.
     #[inline(always)]
     pub fn put(&mut self, spot: Spot, extent: &Extent) -> Result<(), AllocError>
+        requires { spot.0.1 < 2 ^ 63 }
         ensures ok { OnOk result (IsListedAs self.new spot extent.now) }
         ensures kept { KeepsBut spot self.old self.new }
     {
-        let (place, id) = spot;
-        let Ok(found) = self.ones.insert(place, id) else {
-            return Err(AllocError);
-        };
-        let Some(older) = found else {
-            return Ok(());
-        };
-        set_one(&mut self.ones, place, older);
-        self.put_among(spot, extent)
+        if newest_one(&self.ones, spot.0, None).is_some() {
+            return self.put_among(spot, extent);
+        }
+        self.ones.put(spot)
     }
 
     /// The same where the place has one.
@@ -115,22 +120,21 @@ impl<A: Allocator + Clone> Edge<A> {
     /// Takes out a request. It takes no memory.
     #[inline(always)]
     pub fn take(&mut self, spot: Spot, extent: &Extent)
-        requires { IsListedAs self.old spot extent.now }
         ensures { KeepsBut spot self.old self.new }
     {
-        let (place, id) = spot;
-        if self.others.is_empty() || self.stands_alone(spot) {
-            let _ = self.ones.remove(&place);
-            return;
+        self.ones.take(spot);
+        if !self.others.is_empty() {
+            let (place, id) = spot;
+            self.others
+                .take((place, extent.bios()), extent.sectors(), id);
         }
-        self.others
-            .take((place, extent.bios()), extent.sectors(), id);
     }
 
     /// Lists a request with more bios than before. Where memory is refused, it stays as it was listed.
     #[inline(always)]
     pub fn relist(&mut self, spot: Spot, before: &Extent, after: &Extent)
-        requires { before.now.bios < after.now.bios }
+        requires place { spot.0.1 < 2 ^ 63 }
+        requires more { before.now.bios < after.now.bios }
         ensures kept { KeepsBut spot self.old self.new }
         ensures own { KeepsOwn spot after.now self.old self.new }
     {
@@ -144,43 +148,51 @@ impl<A: Allocator + Clone> Edge<A> {
     #[cold]
     #[inline(never)]
     fn relist_among(&mut self, spot: Spot, before: &Extent, after: &Extent)
-        requires { before.now.bios < after.now.bios }
+        requires place { spot.0.1 < 2 ^ 63 }
+        requires more { before.now.bios < after.now.bios }
         ensures kept { KeepsBut spot self.old self.new }
         ensures own { KeepsOwn spot after.now self.old self.new }
     {
-        if self.stands_alone(spot) {
+        let (place, id) = spot;
+        if newest_one(&self.ones, place, None) == Some(id) {
             return;
         }
-        let (place, id) = spot;
         let Ok(()) = self.others.put((place, after.bios()), after.sectors(), id) else {
             return;
         };
         self.others
             .take((place, before.bios()), before.sectors(), id);
     }
+}
 
-    /// Whether it is the one of a place that stands by itself.
-    fn stands_alone(&self, spot: Spot) -> bool
-        ensures { OnTrue result (one_of_place self.now spot.0 ≡ Some spot.1) }
-    {
-        match self.one_at(spot.0) {
-            Some(id) => id == spot.1,
-            None => false,
-        }
+/// The newest of a place, by its id, below a bound if there is one.
+#[inline(always)]
+fn newest_one<A: Allocator + Clone>(
+    ones: &Ordered<Spot, A>,
+    place: Place,
+    below: Option<u64>,
+) -> Option<u64>
+    requires { place.1 < 2 ^ 63 }
+    ensures low { IfSome result (IsBelow below) }
+    ensures newest { (k : ℕ) → StandsBetween below result k → listed (keyed_cmp place_cmp) ones.now (place, k) ≡ true → ⊥ }
+{
+    let (found, id) = ones.below(upper_at(place, below))?;
+    if is_place(found, place) {
+        Some(id)
+    } else {
+        None
     }
 }
 
-/// Puts a request in the place of the one that a place has. It takes no memory.
-#[cold]
-#[inline(never)]
-fn set_one<A: Allocator + Clone>(ones: &mut BTreeMap<Place, u64, A>, place: Place, id: u64)
-    requires { IsSome (map.get place_cmp ones.old place) }
-    ensures { (q : DirSector) → map.get place_cmp ones.new q ≡ cond (is_at (place_cmp place) q) (Some id) (map.get place_cmp ones.old q) }
+/// What is above all of a place whose ids are below a bound, if there is one.
+fn upper_at(place: Place, below: Option<u64>) -> Spot
+    requires { place.1 < 2 ^ 63 }
+    ensures { result ≡ upper_of place below }
 {
-    let Some(one) = ones.get_mut(&place) else {
-        unreachable!()
-    };
-    *one = id;
+    match below {
+        Some(id) => (place, id),
+        None => ((place.0, place.1 + 1), 0),
+    }
 }
 
 /// The requests by both sides: where they begin, for front merges, and where they end, for back merges.
@@ -224,8 +236,6 @@ impl<A: Allocator + Clone> Edges<A> {
     /// Takes a request out at both sides. It takes no memory.
     #[inline(always)]
     pub fn del(&mut self, extent: &Extent, id: u64)
-        requires front { IsListedAs self.old.front (first_at extent.now, id) extent.now }
-        requires back { IsListedAs self.old.back (end_at extent.now, id) extent.now }
         ensures { DropsEdges extent.now id self.old self.new }
     {
         self.front.take((place_at(Side::Front, extent), id), extent);

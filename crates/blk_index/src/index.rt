@@ -9,15 +9,13 @@ ghost use Rattle.blk_sched.specs.Fits.{IsNewestFit, FitsNone, HasTouch};
 ghost use Rattle.blk_bio.specs.Extents.{FitAt};
 ghost use Rattle.std.specs.Bool.{OnTrue, OnFalse};
 ghost use Rattle.blk_index.specs.Inside.Edges.{IsEdge};
-ghost use Rattle.blk_index.specs.Inside.Shapes.{entries_in};
 ghost use Rattle.blk_index.specs.Inside.Spots.{at_of, opposite_of};
 ghost use Rattle.blk_index.specs.Index.{IsJoined, IsOldest, IsFirst, NoneOf, FindsNothing};
-ghost use Rattle.blk_index.specs.Inside.Search.{IsNewestBy, FitsNoneBy, FitsBy, NoneAfter, StandsAlone, StandsAmong, newer_of};
+ghost use Rattle.blk_index.specs.Inside.Search.{IsNewestBy, FitsNoneBy, FitsBy, newer_of};
 
 use crate::edges::{Edge, Edges, opposite_of, place_at};
-use crate::ids::{greater, lesser};
+use crate::ids::lesser;
 use crate::requests::Requests;
-use crate::shapes::{Place, Shapes};
 use blk_bio::{Dir, Extent, Limits, Side};
 use blk_sched::Queued;
 use std::alloc::{AllocError, Allocator, Global};
@@ -195,55 +193,8 @@ fn fits_by<A: Allocator + Clone>(
     }
 }
 
-/// The request of an id, where there is one and a newcomer fits it at a side.
-#[inline(always)]
-fn fit_of<A: Allocator + Clone>(
-    waiting: &Requests<A>,
-    one: Option<u64>,
-    side: Side,
-    newcomer: &Extent,
-    limits: &Limits,
-) -> Option<u64>
-    ensures some { IfSome result (λ k. FitsBy limits.now (map.get waiting.now k) newcomer.now side) }
-    ensures newest { NoneAfter limits.now (map.get waiting.now) newcomer.now side result (StandsAlone one) }
-{
-    let Some(id) = one else {
-        return None;
-    };
-    if fits_by(waiting, id, side, newcomer, limits) {
-        Some(id)
-    } else {
-        None
-    }
-}
-
-/// Of the requests that share a place the newest one that a newcomer fits at a side. More than one is looked at only where memory was refused as
-/// one of them grew.
-#[cold]
-#[inline(never)]
-fn newest_among<A: Allocator + Clone>(
-    waiting: &Requests<A>,
-    others: &Shapes<A>,
-    place: Place,
-    side: Side,
-    newcomer: &Extent,
-    limits: &Limits,
-) -> Option<u64>
-    ensures some { IfSome result (λ k. FitsBy limits.now (map.get waiting.now k) newcomer.now side) }
-    ensures newest { NoneAfter limits.now (map.get waiting.now) newcomer.now side result (StandsAmong (entries_in others.now) place) }
-{
-    let (room, room_bios) = room_beside(newcomer, limits);
-    let mut below = None;
-    while let Some(id) = others.newest(place, room, room_bios, below) {
-        if fits_by(waiting, id, side, newcomer, limits) {
-            return Some(id);
-        }
-        below = Some(id);
-    }
-    None
-}
-
-/// The newest request that a newcomer fits at a side, where `edge` lists the requests at that side.
+/// The newest request that a newcomer fits at a side, where `edge` lists the requests at that side. More than one of those by themselves, or of
+/// those that share the place, is looked at only where memory was refused as one of them grew.
 #[inline(always)]
 fn newest_of<A: Allocator + Clone>(
     waiting: &Requests<A>,
@@ -257,12 +208,15 @@ fn newest_of<A: Allocator + Clone>(
     ensures none { IfNone result (FitsNoneBy limits.now (map.get waiting.now) newcomer.now side) }
 {
     let place = place_at(opposite_of(side), newcomer);
-    let one = fit_of(waiting, edge.one_at(place), side, newcomer, limits);
-    if edge.others.is_empty() {
-        return one;
+    let (room, room_bios) = room_beside(newcomer, limits);
+    let mut below = None;
+    while let Some(id) = edge.newest(place, room, room_bios, below) {
+        if fits_by(waiting, id, side, newcomer, limits) {
+            return Some(id);
+        }
+        below = Some(id);
     }
-    let other = newest_among(waiting, &edge.others, place, side, newcomer, limits);
-    greater(one, other)
+    None
 }
 
 /// The same at the front, where that is allowed.

@@ -1,21 +1,22 @@
 -- Requests listed by where they begin and where they end.
-use Rattle.std.specs.Prelude.{ℕ, ◌≡◌, ◌≤◌, ◌-◌, ◌⊎◌, Option, None, Some}
+use Rattle.std.specs.Prelude.{ℕ, ◌≡◌, ◌≤◌, ◌-◌, ◌⊎◌, Bool, true, Option, None, Some}
+use Rattle.ordered.specs.Ordered.{listed}
 use Rattle.blk_bio.specs.Extents.{Extent}
 use Rattle.blk_sched.specs.Meaning.{Waiting}
-use Rattle.std.specs.BTreeMap as map
+use Rattle.blk_index.specs.Keys.{keyed_cmp}
 use Rattle.blk_index.specs.Inside.Spots.{DirSector, Spot, place_cmp, first_at, end_at, Becomes}
 use Rattle.blk_index.specs.Inside.Shapes.{entries_in, ShapeListed}
 use Rattle.blk_index.specs.declared.edges.Edge.{Edge}
 use Rattle.blk_index.specs.declared.edges.Edges.{Edges}
 
 module _ {A : Type 0} where
-  -- the request that stands by itself at a place
-  abbrev pub one_of_place : Edge A → DirSector → Option ℕ
-  one_of_place edge p = map.get place_cmp edge.ones p
+  -- whether a request stands by itself at a place
+  abbrev pub stands_alone : Edge A → Spot → Bool
+  stands_alone edge = listed (keyed_cmp place_cmp) edge.ones
 
   -- a request is listed at a place, with no more sectors and bios than these
   abbrev pub IsListedAt : Edge A → DirSector → ℕ → ℕ → ℕ → Type 0
-  IsListedAt edge p id sectors bios = (one_of_place edge p ≡ Some id) ⊎ ShapeListed (entries_in edge.others) p id sectors bios
+  IsListedAt edge p id sectors bios = (stands_alone edge (p, id) ≡ true) ⊎ ShapeListed (entries_in edge.others) p id sectors bios
 
   -- a request of an extent is
   abbrev pub IsListedAs : Edge A → Spot → Extent → Type 0

@@ -1,13 +1,10 @@
 -- The search for a join at one side, and ids that are compared.
-use Rattle.std.specs.Prelude.{ℕ, ◌≡◌, ◌<◌, ◌≤◌, ◌^◌, ◌-◌, Bool, Option, Some, None, if◌then◌else◌, nat_lt}
+use Rattle.std.specs.Prelude.{ℕ, ◌≡◌, ◌<◌, ◌≤◌, ◌^◌, Option, Some, None, if◌then◌else◌, nat_lt}
 use Rattle.blk_bio.specs.declared.request.Side.{Side}
 use Rattle.blk_bio.specs.declared.request.Side.TheVariants.{Back, Front}
 use Rattle.blk_bio.specs.Extents.{Extent, FitAt}
 use Rattle.blk_bio.specs.Limits.{Limits}
 use Rattle.blk_sched.specs.Meaning.{Waiting}
-use Rattle.blk_index.specs.Inside.Spots.{DirSector, IsNewer}
-use Rattle.blk_index.specs.Inside.Entries.{Key}
-use Rattle.blk_index.specs.Inside.Shapes.{ShapeListed}
 
 -- each request has its id
 abbrev pub IsNamed : (ℕ → Option Waiting) → Type 0
@@ -31,19 +28,6 @@ pub record FitsBy (limits : Limits) (found : Option Waiting) (newcomer : Extent)
   pub is_found : found ≡ Some waiting
   pub fits : FitAt limits waiting.extent newcomer side
   pub only : (other : Side) → FitAt limits waiting.extent newcomer other → other ≡ side
-
--- after the one that was found, if one was, none of some requests fits
-abbrev pub NoneAfter : Limits → (ℕ → Option Waiting) → Extent → Side → Option ℕ → (ℕ → Waiting → Type 0) → Type 0
-NoneAfter limits found newcomer side result OneOf =
-    (k : ℕ) (w : Waiting) → IsNewer result k → found k ≡ Some w → OneOf k w → FitAt limits w.extent newcomer side → ⊥
-
--- the request of an id stands by itself
-abbrev pub StandsAlone : Option ℕ → ℕ → Waiting → Type 0
-StandsAlone one k w = one ≡ Some k
-
--- a request is listed among others of a place
-abbrev pub StandsAmong : (Key → Bool) → DirSector → ℕ → Waiting → Type 0
-StandsAmong has p k w = ShapeListed has p k (w.extent.end - w.extent.first) w.extent.bios
 
 -- ids that were passed, and how many there may be below
 abbrev pub IsPassed : Option ℕ → ℕ → Type 0

@@ -2,7 +2,7 @@
 use Rattle.std.specs.Prelude.{ℕ, ◌≡◌, ◌≤◌, ◌+◌, ◌/◌, ◌⊎◌, Bool, true, Option, Some, None}
 use Rattle.ordered.specs.Ordered.{listed}
 use Rattle.blk_index.specs.Inside.Spots.{DirSector, IsBelow, IsNewer}
-use Rattle.blk_index.specs.Inside.Entries.{Class, Block, Key, entry_cmp}
+use Rattle.blk_index.specs.Inside.Entries.{Class, Key, entry_cmp}
 use Rattle.blk_index.specs.declared.shapes.Shapes.{Shapes}
 
 -- the sizes of blocks
@@ -26,10 +26,10 @@ pub record StandsBetween (below found : Option ℕ) (id : ℕ) : Type 0 where
   pub low : IsBelow below id
   pub past : IsNewer found id
 
--- the entry above those of a block whose ids are below a bound
-abbrev pub upper_of : Block → Option ℕ → Key
-upper_of block None = ((block.0, block.1 + 1), 0)
-upper_of block (Some b) = (block, b)
+-- what is above a key, as a block or a place, with each id below a bound
+abbrev pub upper_of : {L : Type 0} → L × ℕ → Option ℕ → (L × ℕ) × ℕ
+upper_of key None = ((key.0, key.1 + 1), 0)
+upper_of key (Some b) = (key, b)
 
 module _ {A : Type 0} where
   abbrev pub entries_in : Shapes A → Key → Bool

@@ -1,11 +1,11 @@
 use Rattle.std.proofs.Common.{ap, ◌∙◌}
 use Rattle.blk_bio.specs.declared.request.Side.{Side}
 use Rattle.blk_index.specs.Inside.Spots.{at_of}
-use Rattle.blk_index.proofs.Joining.{longer, edge_ahead, listed_ahead, edge_joined, edge_beside}
+use Rattle.blk_index.proofs.Joining.{longer, edge_ahead, edge_joined, edge_beside}
 use Rattle.blk_index.proofs.index.join_in.Goals as goal
 
-pub relist-requires : goal.relist-requires
-relist-requires g c = longer c.args.waiting.now c.args.waiting.now c.args.id c.args.now c.args.side c.args.newcomer.now c.in-Some.queued.now c.in-Some.ensures.value c.sectors.ensures.is_extent c.requires.touch c.joined-after.result c.joined-after.ensures
+pub relist-requires-clause-more : goal.relist-requires-clause-more
+relist-requires-clause-more g c = longer c.args.waiting.now c.args.waiting.now c.args.id c.args.now c.args.side c.args.newcomer.now c.in-Some.queued.now c.in-Some.ensures.value c.sectors.ensures.is_extent c.requires.touch c.joined-after.result c.joined-after.ensures
 
 pub returns-clause-edge : goal.returns-clause-edge
 returns-clause-edge g c =
@@ -18,12 +18,6 @@ returns-clause-other g c =
     edge_beside c.args.waiting.now c.join.new.self c.args.id c.args.now c.args.side c.args.newcomer.now c.in-Some.queued.now c.in-Some.ensures.value c.sectors.ensures.is_extent c.requires.touch
     c.joined-after.result c.place_at-3.result c.args.other.now c.relist.new.self c.joined-after.ensures c.join.ensures c.requires.other
     (c.place_at-3.ensures.value ∙ ap (λ (t : Side). at_of t c.in-Some.queued.now.extent) c.opposite_of.ensures) c.relist.ensures.kept c.relist.ensures.own
-
-pub take-requires : goal.take-requires
-take-requires g c =
-    listed_ahead c.args.waiting.now c.args.waiting.now c.args.id c.args.now c.args.side c.args.newcomer.now c.in-Some.queued.now c.in-Some.ensures.value c.sectors.ensures.is_extent c.requires.touch
-    c.joined-after.result c.place_at.result c.place_at-2.result c.args.edge.now c.put.new.self c.joined-after.ensures c.requires.edge c.place_at.ensures.value c.place_at-2.ensures.value
-    c.in_ok-put.ensures.kept
 
 pub returns-in_err-put-clause-edge : goal.returns-in_err-put-clause-edge
 returns-in_err-put-clause-edge g c =

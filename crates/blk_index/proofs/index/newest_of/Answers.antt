@@ -1,40 +1,27 @@
-use Rattle.std.proofs.Common.{ℕ, Option, ap, sym, subst, ◌∙◌}
-use Rattle.std.specs.Prelude.{IfSome, IfNone}
+use Rattle.std.proofs.Common.{ap, ◌∙◌, None}
 use Rattle.std.specs.FinMap as map
 use Rattle.blk_bio.specs.declared.request.Side.{Side}
 use Rattle.blk_index.specs.Inside.Spots.{at_of}
-use Rattle.blk_index.specs.Inside.Search.{NoneAfter, StandsAlone, IsNewestBy, FitsNoneBy}
-use Rattle.blk_index.proofs.Walk.{newest_of_edge, newest_of_both, none_among}
+use Rattle.blk_index.proofs.Walk.{newest_fit, none_fit, passed_more}
 use Rattle.blk_index.proofs.index.newest_of.Goals as goal
 
-pub returns-then-is_empty-clause-some : goal.returns-then-is_empty-clause-some
-returns-then-is_empty-clause-some g c =
-    let found = map.get c.args.waiting.now in
-    (newest_of_edge c.args.limits.now found c.args.newcomer.now c.args.side c.args.edge.now c.place_at-place.result c.requires (c.place_at-place.ensures.value ∙ ap (λ (t : Side). at_of t c.args.newcomer.now) c.opposite_of.ensures) c.fit_of-one.result c.fit_of-one.ensures.some
-    (subst (λ (o : Option ℕ). NoneAfter c.args.limits.now found c.args.newcomer.now c.args.side c.fit_of-one.result (StandsAlone o)) c.one_at.ensures c.fit_of-one.ensures.newest)
-    (none_among c.args.limits.now found c.args.newcomer.now c.args.side c.args.edge.now c.place_at-place.result c.requires (c.place_at-place.ensures.value ∙ ap (λ (t : Side). at_of t c.args.newcomer.now) c.opposite_of.ensures) c.fit_of-one.result c.if-is_empty.ensures)).0
+pub returns-then-fits_by-clause-some : goal.returns-then-fits_by-clause-some
+returns-then-fits_by-clause-some g c =
+    let room = c.room_beside-room.ensures in
+    newest_fit c.args.limits.now c.args.newcomer.now c.args.side c.room_beside-room.result.0 c.room_beside-room.result.1 room.wide room.wide_bios
+    (map.get c.args.waiting.now) c.args.edge.now c.place_at-place.result c.requires (c.place_at-place.ensures.value ∙ ap (λ (t : Side). at_of t c.args.newcomer.now) c.opposite_of.ensures)
+    c.loop-id.below c.loop-id.invariant c.in-Some.id c.in-Some.ensures.newest c.if-fits_by.ensures.yes
 
-pub returns-then-is_empty-clause-none : goal.returns-then-is_empty-clause-none
-returns-then-is_empty-clause-none g c =
-    let found = map.get c.args.waiting.now in
-    (newest_of_edge c.args.limits.now found c.args.newcomer.now c.args.side c.args.edge.now c.place_at-place.result c.requires (c.place_at-place.ensures.value ∙ ap (λ (t : Side). at_of t c.args.newcomer.now) c.opposite_of.ensures) c.fit_of-one.result c.fit_of-one.ensures.some
-    (subst (λ (o : Option ℕ). NoneAfter c.args.limits.now found c.args.newcomer.now c.args.side c.fit_of-one.result (StandsAlone o)) c.one_at.ensures c.fit_of-one.ensures.newest)
-    (none_among c.args.limits.now found c.args.newcomer.now c.args.side c.args.edge.now c.place_at-place.result c.requires (c.place_at-place.ensures.value ∙ ap (λ (t : Side). at_of t c.args.newcomer.now) c.opposite_of.ensures) c.fit_of-one.result c.if-is_empty.ensures)).1
-
-pub returns-clause-some : goal.returns-clause-some
-returns-clause-some g c =
-    let found = map.get c.args.waiting.now in
-    subst (λ (r : Option ℕ). IfSome r (IsNewestBy c.args.limits.now found c.args.newcomer.now c.args.side)) (sym c.greater.ensures)
-    (newest_of_both c.args.limits.now found c.args.newcomer.now c.args.side c.args.edge.now c.place_at-place.result c.requires (c.place_at-place.ensures.value ∙ ap (λ (t : Side). at_of t c.args.newcomer.now) c.opposite_of.ensures)
-    c.fit_of-one.result c.newest_among-other.result c.fit_of-one.ensures.some c.newest_among-other.ensures.some
-    (subst (λ (o : Option ℕ). NoneAfter c.args.limits.now found c.args.newcomer.now c.args.side c.fit_of-one.result (StandsAlone o)) c.one_at.ensures c.fit_of-one.ensures.newest)
-    c.newest_among-other.ensures.newest).0
+pub loop-id-preserved : goal.loop-id-preserved
+loop-id-preserved g c =
+    let room = c.room_beside-room.ensures in
+    passed_more c.args.limits.now c.args.newcomer.now c.args.side c.room_beside-room.result.0 c.room_beside-room.result.1 room.wide room.wide_bios
+    (map.get c.args.waiting.now) c.args.edge.now c.place_at-place.result c.requires (c.place_at-place.ensures.value ∙ ap (λ (t : Side). at_of t c.args.newcomer.now) c.opposite_of.ensures)
+    c.loop-id.below c.loop-id.invariant c.in-Some.id c.in-Some.ensures.newest c.if-fits_by.ensures.no
 
 pub returns-clause-none : goal.returns-clause-none
 returns-clause-none g c =
-    let found = map.get c.args.waiting.now in
-    subst (λ (r : Option ℕ). IfNone r (FitsNoneBy c.args.limits.now found c.args.newcomer.now c.args.side)) (sym c.greater.ensures)
-    (newest_of_both c.args.limits.now found c.args.newcomer.now c.args.side c.args.edge.now c.place_at-place.result c.requires (c.place_at-place.ensures.value ∙ ap (λ (t : Side). at_of t c.args.newcomer.now) c.opposite_of.ensures)
-    c.fit_of-one.result c.newest_among-other.result c.fit_of-one.ensures.some c.newest_among-other.ensures.some
-    (subst (λ (o : Option ℕ). NoneAfter c.args.limits.now found c.args.newcomer.now c.args.side c.fit_of-one.result (StandsAlone o)) c.one_at.ensures c.fit_of-one.ensures.newest)
-    c.newest_among-other.ensures.newest).1
+    let room = c.room_beside-room.ensures in
+    none_fit c.args.limits.now c.args.newcomer.now c.args.side c.room_beside-room.result.0 c.room_beside-room.result.1 room.wide room.wide_bios
+    (map.get c.args.waiting.now) c.args.edge.now c.place_at-place.result c.requires (c.place_at-place.ensures.value ∙ ap (λ (t : Side). at_of t c.args.newcomer.now) c.opposite_of.ensures)
+    c.loop-id.below c.loop-id.invariant c.in_default.ensures.newest

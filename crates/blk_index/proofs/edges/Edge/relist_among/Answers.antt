@@ -24,6 +24,6 @@ returns-clause-own g c = λ s b more longer there. elim there [
       let was : c.bios-2.result ≡ c.args.before.now.bios = c.bios-2.ensures.value in
       let is : c.bios.result ≡ c.args.after.now.bios = c.bios.ensures.value in
       let has : c.sectors.result ≡ c.args.after.now.end - c.args.after.now.first = c.sectors.ensures.value in
-      let less : c.args.before.now.bios < c.args.after.now.bios = c.requires in
+      let less : c.args.before.now.bios < c.args.after.now.bios = c.requires.more in
       inr (listed_in (entries_in c.put.new.self) (entries_in c.take.new.self) (c.args.spot.0, c.bios-2.result) c.args.spot.1 c.args.spot.0 c.args.spot.1 c.sectors.result c.bios.result s b c.take.ensures (λ same. omega arith) c.in-Ok.ensures.ok (omega arith) (omega arith))
 ]

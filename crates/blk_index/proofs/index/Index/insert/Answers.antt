@@ -18,18 +18,6 @@ invariant_of-self-in-Ok g c =
       c.in_ok-add.ensures.ok (map.get c.self.inside.waiting) (map.get c.insert.new.self) c.args.queued refl c.self.invariant.1 none becomes,
     )
 
-pub del-requires-clause-front : goal.del-requires-clause-front
-del-requires-clause-front g c =
-    let none : map.get c.self.inside.waiting c.args.queued.id ≡ None = ap (λ (m : Pending). map.get m c.args.queued.id) c.self.view_is ∙ c.requires in
-    let found = map.get c.self.inside.waiting in
-    (c.in_ok-add.ensures.ok found (with_one found c.args.queued.id c.args.queued) c.args.queued refl c.self.invariant.1 none (λ k. refl)).front c.args.queued.id c.args.queued (here found c.args.queued.id c.args.queued)
-
-pub del-requires-clause-back : goal.del-requires-clause-back
-del-requires-clause-back g c =
-    let none : map.get c.self.inside.waiting c.args.queued.id ≡ None = ap (λ (m : Pending). map.get m c.args.queued.id) c.self.view_is ∙ c.requires in
-    let found = map.get c.self.inside.waiting in
-    (c.in_ok-add.ensures.ok found (with_one found c.args.queued.id c.args.queued) c.args.queued refl c.self.invariant.1 none (λ k. refl)).back c.args.queued.id c.args.queued (here found c.args.queued.id c.args.queued)
-
 pub invariant_of-self-in-Err : goal.invariant_of-self-in-Err
 invariant_of-self-in-Err g c =
     let none : map.get c.self.inside.waiting c.args.queued.id ≡ None = ap (λ (m : Pending). map.get m c.args.queued.id) c.self.view_is ∙ c.requires in

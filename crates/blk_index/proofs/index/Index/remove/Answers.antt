@@ -18,9 +18,3 @@ invariant_of-self-2 g c =
       named_less (map.get c.self.inside.waiting) (map.get c.remove.new.self) c.args.id c.self.invariant.0 becomes,
       c.del.ensures (map.get c.self.inside.waiting) (map.get c.remove.new.self) c.in-Some.queued refl c.self.invariant.1 found becomes,
     )
-
-pub del-requires-clause-front : goal.del-requires-clause-front
-del-requires-clause-front g c = c.self.invariant.1.front c.args.id c.in-Some.queued (sym c.remove.ensures.value ∙ c.in-Some.is)
-
-pub del-requires-clause-back : goal.del-requires-clause-back
-del-requires-clause-back g c = c.self.invariant.1.back c.args.id c.in-Some.queued (sym c.remove.ensures.value ∙ c.in-Some.is)
