@@ -10,7 +10,7 @@ use Rattle.blk_trace.specs.Setups.{Setup}
 use Rattle.blk_trace.specs.Events.{IsIssued, request_of}
 use Rattle.blk_trace.specs.Legal.{IsLegalTrace}
 use Rattle.blk_trace.specs.Meaning.{release_of, due_of, released_ids}
-use Rattle.blk_trace.specs.Waits.{Entered, has_id, waits_at, was_issued, unissued_at}
+use Rattle.blk_trace.specs.Waits.{Entered, entered_at, has_id, waits_at, was_issued, unissued_at}
 use Rattle.blk_trace.specs.Events.{IsOpenBy}
 use Rattle.blk_trace.proofs.More.{was_issued_more}
 use Rattle.blk_trace.proofs.Pushing.{shorter_legal, obeys}
@@ -18,7 +18,7 @@ use Rattle.blk_trace.proofs.Ids.{never_was, released_first, issued_was}
 use Rattle.blk_trace.proofs.Waiting.{waits_is, waits_kept, waits-released, waits-joined, waits-issued}
 use Rattle.blk_trace.proofs.Unissued.{unissued_from, unissued_is, was_kept}
 use Rattle.blk_trace.proofs.Requeuing.{requeued_ids}
-use Rattle.blk_trace.proofs.Requeues.{entry_of, open_issued, waits_requeued}
+use Rattle.blk_trace.proofs.Requeues.{open_issued, waits_requeued}
 use Rattle.blk_core.specs.State.{requeued_at}
 
 pub requeued_is : (setup : Setup) (es : List Happened) (id : ℕ) (b : Bool) (o : Option Entered) → was_issued es id ≡ b → waits_at setup es id ≡ o → requeued_at setup es id ≡ cond b o None
@@ -50,7 +50,7 @@ no_choice false o h = refl
 
 pub flown_not_requeued : (setup : Setup) (es : List Happened) (tag id : ℕ) → IsLegalTrace setup es → IsOpenBy es tag id → requeued_at setup es id ≡ None
 flown_not_requeued setup es tag id legal o =
-    let none : waits_at setup es id ≡ None = waits_is setup es id (has_id (released_ids es) id) true (release_of es id) (due_of setup es id) (request_of es id) refl (requeued_ids setup es tag id legal o).was refl refl refl ∙ none_waits (has_id (released_ids es) id) (entry_of setup es id) in
+    let none : waits_at setup es id ≡ None = waits_is setup es id (has_id (released_ids es) id) true (release_of es id) (due_of setup es id) (request_of es id) refl (requeued_ids setup es tag id legal o).was refl refl refl ∙ none_waits (has_id (released_ids es) id) (entered_at setup es id) in
     requeued_is setup es id _ _ refl refl ∙ no_choice (was_issued es id) (waits_at setup es id) none
 
 -- an event by which nothing enters, and that issues and requeues nothing
@@ -104,8 +104,8 @@ comes : (b was : Bool) (x : Entered) (y : Option Entered) → (b ≡ true → wa
 comes true was x y h = ap (λ w. cond w (Some x) None) (h refl)
 comes false was x y h = refl
 
-pub requeued-requeued : (setup : Setup) (es : List Happened) (tag id : ℕ) → IsLegalTrace setup es → IsOpenBy es tag id → (q : ℕ) → requeued_at setup (es ++ Back tag ∷ []) q ≡ cond (id == q) (Some (entry_of setup es id)) (requeued_at setup es q)
+pub requeued-requeued : (setup : Setup) (es : List Happened) (tag id : ℕ) → IsLegalTrace setup es → IsOpenBy es tag id → (q : ℕ) → requeued_at setup (es ++ Back tag ∷ []) q ≡ cond (id == q) (Some (entered_at setup es id)) (requeued_at setup es q)
 requeued-requeued setup es tag id legal o q =
     requeued_is setup (es ++ Back tag ∷ []) q _ _ (was_kept es (Back tag) q refl) (waits_requeued setup es tag id legal o q)
-    ∙ comes (id == q) (was_issued es q) (entry_of setup es id) (waits_at setup es q) (λ b. issued_was es q (subst (IsIssued es) (eqb-true id q b) (open_issued es tag id o)))
-    ∙ ap (λ y. cond (id == q) (Some (entry_of setup es id)) y) (sym (requeued_is setup es q _ _ refl refl))
+    ∙ comes (id == q) (was_issued es q) (entered_at setup es id) (waits_at setup es q) (λ b. issued_was es q (subst (IsIssued es) (eqb-true id q b) (open_issued es tag id o)))
+    ∙ ap (λ y. cond (id == q) (Some (entered_at setup es id)) y) (sym (requeued_is setup es q _ _ refl refl))

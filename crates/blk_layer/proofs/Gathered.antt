@@ -78,15 +78,6 @@ pub none_last : (tag : ℕ) → last_under tag [] ≡ None
 unfolding last_under
 none_last tag = refl
 
--- the ids up to a place, with one more
-pub ids_up : (ids : List ℕ) (i n q : ℕ) → i < length ids → n ≡ get_or ids i n → has_id (take (i + 1) ids) q ≡ (has_id (take i ids) q || (n == q))
-ids_up ids i n q low is =
-    ap (λ l. has_id l q) (take_more ids i n low ∙ ap (λ x. take i ids ++ x ∷ []) (sym is)) ∙ list_any-append (λ x. x == q) (take i ids) (n ∷ []) ∙ ap (λ b. has_id (take i ids) q || b) (plain (n == q))
-  where
-    plain : (b : Bool) → (b || false) ≡ b
-    plain true = refl
-    plain false = refl
-
 -- an id at a place of a list is in it
 pub id_there : (ids : List ℕ) (i n : ℕ) → i < length ids → n ≡ get_or ids i n → has_id ids n ≡ true
 id_there [] i n low is = absurd (omega arith)
@@ -109,31 +100,7 @@ pub mapped_length : {X Y : Type 0} (f : X → Y) (xs : List X) → length (map f
 mapped_length f [] = refl
 mapped_length f (x ∷ xs) = let r = mapped_length f xs in omega (arith, r)
 
--- the commands of issued ids by their ids, with one more
-pub known_more : (ids : List ℕ) (f : ℕ → Command) (cs : List Command) (old new : ℕ → Option Command) (i : ℕ) (c d : Command) → cs ≡ map f ids → ((id : ℕ) → (f id).id ≡ id) → i < length cs → c ≡ get_or cs i d
-    → ((q : ℕ) → new q ≡ cond (c.id == q) (Some c) (old q)) → ((id : ℕ) → has_id (take i ids) id ≡ true → old id ≡ Some (f id)) → (id : ℕ) → has_id (take (i + 1) ids) id ≡ true → new id ≡ Some (f id)
-known_more ids f cs old new i c d list own low is put were id has =
-    let low' : i < length (map f ids) = omega (arith, low, ap length list) in
-    let short : i < length ids = omega (arith, low', mapped_length f ids) in
-    let at : c ≡ f (get_or ids i 0) = is ∙ ap (λ l. get_or l i d) list ∙ mapped_at f ids i d 0 low' in
-    let named : c.id ≡ get_or ids i 0 = ap (λ (x : Command). x.id) at ∙ own (get_or ids i 0) in
-    let same : c ≡ f c.id = at ∙ ap f (sym named) in
-    let there : c.id ≡ get_or ids i c.id = own_default ids i c.id 0 short named in
-    elim (cases_Bool (c.id == id)) [
-      | inl here ↦ put id ∙ ap (λ b. cond b (Some c) (old id)) here ∙ ap Some (same ∙ ap f (eqb-true c.id id here))
-      | inr other ↦
-          let parts : (has_id (take i ids) id || (c.id == id)) ≡ true = sym (ids_up ids i c.id id short there) ∙ has in
-          elim (or_cases (has_id (take i ids) id) (c.id == id) parts) [
-            | inl before ↦ put id ∙ ap (λ b. cond b (Some c) (old id)) other ∙ were id before
-            | inr now ↦ let clash : true ≡ false = sym now ∙ other in absurd (cc)
-          ]
-    ]
-
--- the commands of a trace, and those that are done, by their ids
-pub commands_map : (setup : Setup) (events : List Happened) → commands_of setup events ≡ map (command_of setup events) (issued_ids events)
-unfolding commands_of
-commands_map setup events = refl
-
+-- the commands that are done, by their ids
 pub done_map : (setup : Setup) (events : List Happened) → done_commands setup events ≡ map (command_of setup events) (done_ids events)
 unfolding done_commands
 done_map setup events = refl

@@ -12,7 +12,7 @@ ghost use Rattle.blk_layer.specs.Runs.{IsLayerRun};
 ghost use Rattle.blk_layer.specs.Seats.{SubmitterSeat};
 ghost use Rattle.blk_layer.specs.Closing.{AreAllThere, HasNumber, all_accepted, all_ran, issued_bios, done_by, done_ids, done_commands, done_count, AreSettled, AreCounted, IsBioOf, DiffersAsCommand, Disagrees, IsCloseRefusal};
 ghost use Rattle.blk_layer.specs.Inside.Closing.{IsAccountOf};
-ghost use Rattle.blk_layer.specs.Inside.Closing.{AllDiffer, all_left, entry_at, IsExact, IsExtra, CountsEach, HasEach, DiffersIn, DiffersInCommand, KnowsIssued, NotesLast};
+ghost use Rattle.blk_layer.specs.Inside.Closing.{AllDiffer, all_left, entry_at, IsExact, IsExtra, CountsEach, HasEach, DiffersIn, DiffersInCommand, NotesLast};
 
 use crate::checking::{Unchecked, entry_at, is_checked_off, put_at};
 use crate::layer::{Layer, MAX_WORKERS, Named};
@@ -22,7 +22,7 @@ use blk_bio::{Bio, BioId, Request};
 use blk_core::Core;
 use blk_queues::SoftQueue;
 use blk_sched::Scheduler;
-use blk_trace::{Event, Trace};
+use blk_trace::{Entry, Event, Trace};
 use edd_commands::Command;
 use std::alloc::{AllocError, Allocator, Global};
 use std::collections::HashMap;
@@ -405,30 +405,18 @@ fn done<A: Allocator + Clone>(alloc: &A, trace: &Trace<A>) -> Result<Vec<Command
     ensures { IfOk result (λ v. v.items ≡ done_commands trace.now.setup trace.now.events) }
 {
     let ids = done_ids(alloc, trace.events())?;
-    let known = by_id(alloc.clone()?, trace)?;
     let mut commands = Vec::with_capacity(alloc.clone()?, ids.len())?;
     for id in &ids {
-        let Some(command) = entry_at(known.as_slice(), *id) else {
+        let Some(Entry { release, due, .. }) = trace.request(*id) else {
             unreachable!()
         };
-        commands.push(command)?;
+        commands.push(Command {
+            id: *id,
+            release,
+            due,
+        })?;
     }
     Ok(commands)
-}
-
-/// The commands of a trace, each at the place of its id.
-fn by_id<A: Allocator + Clone>(
-    alloc: A,
-    trace: &Trace<A>,
-) -> Result<Vec<Option<Command>, A>, AllocError>
-    ensures { IfOk result (λ v. KnowsIssued trace.now.setup trace.now.events (entry_at v.items)) }
-{
-    let commands = trace.commands()?;
-    let mut known = Vec::new(alloc);
-    for command in &commands {
-        put_at(&mut known, command.id, *command)?;
-    }
-    Ok(known)
 }
 
 /// The ids of the commands that are done.

@@ -1,4 +1,4 @@
--- A walk back over the events.
+-- A walk over the events, and one back.
 use Rattle.std.proofs.Common.{◌≡◌, ◌<◌, ◌≤◌, ◌+◌, ◌-◌, ◌++◌, ◌==◌, ◌∙◌, ℕ, List, [], ◌∷◌, length, refl, sym, ap, arith, Some, None, cond, Bool, true, false, get_or, take, drop, set, replicate, append-nil, inl, inr, eqb-true}
 use Rattle.std.specs.Prelude.{Option, option_map, is_some}
 use Rattle.std.specs.Option.{option_map_or}
@@ -10,16 +10,14 @@ use Rattle.blk_trace.specs.declared.event.Event.TheVariants.{Tick, Release, Join
 use Rattle.blk_trace.specs.Kinds.{is_tick, issues, ends, requeues, is_done_of}
 use Rattle.blk_trace.specs.Setups.{Setup}
 use Rattle.blk_trace.specs.declared.trace.TheConstants.{MAX_EVENTS}
-use Rattle.blk_trace.specs.Events.{round_of, ends_requeued, request_of}
-use Rattle.blk_trace.specs.Meaning.{release_of, due_of}
+use Rattle.blk_trace.specs.Events.{At, round_of, ends_requeued}
 use Rattle.blk_trace.proofs.More.{round_more}
+use Rattle.blk_trace.proofs.Newness.{get_at}
+use Rattle.blk_trace.proofs.Words.{issue_is}
 use Rattle.blk_picture.specs.declared.boxes.IssueBox.{IssueBox}
 use Rattle.blk_trace.specs.declared.event.TheConstants.{MAX_TAGS}
-use Rattle.blk_picture.specs.declared.facts.Facts.{Facts}
-use Rattle.blk_picture.specs.Inside.Facts.{facts_with, facts_or, Knows}
 use Rattle.blk_picture.specs.Inside.Walked.{IsWalked}
-use Rattle.blk_picture.proofs.Requests.{known_is}
-use Rattle.blk_picture.specs.Boxes.{box_of, boxes_from, boxes_of}
+use Rattle.blk_picture.specs.Boxes.{boxed, box_of, boxes_from, boxes_of}
 
 -- the boxes of the events from a place on
 pub boxes_back : (setup : Setup) (events : List Happened) (round k : ℕ) (e : Happened) → k < length events → get_or events k e ≡ e → boxes_from setup events round (drop k events) ≡ boxes_from setup events (cond (is_tick e) (round + 1) round) (drop (k + 1) events) ++ cons_option (option_map (box_of setup events round (drop (k + 1) events)) (issues e)) []
@@ -148,23 +146,18 @@ walked_still setup events place round e backs boxes l here quiet none nothing w 
       backs_are = λ tag h. back_still events tag place e (get_or backs tag false) l is none (w.backs_are tag h);
     }
 
--- the box of what is known
-abbrev pub box_with : ℕ → ℕ → ℕ → Facts → Bool → IssueBox
-box_with id tag round f back = record { id = id; dir = f.dir; first = f.first; end = f.end; release = f.release; due = f.due; round = round; tag = tag; back = back }
+pub issue_at : (events : List Happened) (place : ℕ) (e : Happened) (id tag : ℕ) → place < length events → e ≡ get_or events place e → issues e ≡ Some (id, tag) → At events place (Issue id tag)
+issue_at events place e id tag l here some = get_at events place e l ∙ ap Some (sym here ∙ issue_is e (id, tag) some)
 
 -- over an Issue
-pub walked_issue : (setup : Setup) (events : List Happened) (place round id tag : ℕ) (e : Happened) (o : Option Facts) (f : Facts) (back : Bool) (backs : List Bool) (boxes new : List IssueBox) → place < length events → e ≡ get_or events place e → is_tick e ≡ false → ends e ≡ None → issues e ≡ Some (id, tag) → tag < MAX_TAGS → Knows setup events id o → f ≡ facts_or o → back ≡ get_or backs tag false → new ≡ boxes ++ box_with id tag round f back ∷ [] → IsWalked setup events (place + 1) round backs boxes → IsWalked setup events place round backs new
-walked_issue setup events place round id tag e o f back backs boxes new l here quiet none some low known fact read n w =
+pub walked_issue : (setup : Setup) (events : List Happened) (place round id tag : ℕ) (e : Happened) (back : Bool) (backs : List Bool) (boxes new : List IssueBox) → place < length events → e ≡ get_or events place e → is_tick e ≡ false → ends e ≡ None → issues e ≡ Some (id, tag) → tag < MAX_TAGS → back ≡ get_or backs tag false → new ≡ boxes ++ boxed setup events round (id, tag) back ∷ [] → IsWalked setup events (place + 1) round backs boxes → IsWalked setup events place round backs new
+walked_issue setup events place round id tag e back backs boxes new l here quiet none some low read n w =
     let is = sym here in
-    let later : List Happened = drop (place + 1) events in
-    let facts : f ≡ facts_with (request_of events id) (release_of events id) (due_of setup events id) = fact ∙ known_is setup events id o known in
-    let box : box_with id tag round f back ≡ box_of setup events round later (id, tag) =
-    ap (λ x. box_with id tag round x back) facts ∙ ap (λ b. box_with id tag round (facts_with (request_of events id) (release_of events id) (due_of setup events id)) b) (read ∙ w.backs_are tag low) in
     record {
       round_is = same_round events place round e l is quiet w.round_is;
       small = w.small;
-      few = omega (arith, w.few, ap length n, length_push boxes (box_with id tag round f back));
-      boxes_are = boxes_push setup events round place id tag e boxes new (box_with id tag round f back) l is quiet some w.boxes_are box n;
+      few = omega (arith, w.few, ap length n, length_push boxes (boxed setup events round (id, tag) back));
+      boxes_are = boxes_push setup events round place id tag e boxes new (boxed setup events round (id, tag) back) l is quiet some w.boxes_are (ap (boxed setup events round (id, tag)) (read ∙ w.backs_are tag low)) n;
       tags = w.tags;
       backs_are = λ t h. back_still events t place e (get_or backs t false) l is none (w.backs_are t h);
     }
@@ -198,3 +191,26 @@ filled_up n xs m none short =
     let gone : take n xs ≡ [] = take_all n xs (omega (arith, ap length none)) ∙ none in
     let whole : n - m ≡ n = omega arith in
     rw (gone, whole) refl
+
+-- the round after some events, and one more
+pub round_none : 0 ≡ round_of []
+unfolding round_of
+round_none = refl
+
+pub round_step : (e : Happened) (r : ℕ) → cond (is_tick e) (r + 1) r ≤ r + 1
+round_step Tick r = omega arith
+round_step (Release j q) r = omega arith
+round_step (Join j q) r = omega arith
+round_step (Issue j k) r = omega arith
+round_step (Done k) r = omega arith
+round_step (Back k) r = omega arith
+round_step (Depth k) r = omega arith
+
+-- the round after one more event
+after_one : (b : Bool) (r : ℕ) → cond b (r + 1) r ≡ r + cond b 1 0
+after_one true r = refl
+after_one false r = omega arith
+
+pub round_next : (es : List Happened) (e : Happened) (r s : ℕ) (all : List Happened) → r ≡ round_of es → s ≡ cond (is_tick e) (r + 1) r → all ≡ es ++ e ∷ [] → s ≡ round_of all
+round_next es e r s all h n is =
+    n ∙ after_one (is_tick e) r ∙ ap (λ m. m + cond (is_tick e) 1 0) h ∙ sym (round_more es e) ∙ ap round_of (sym is)

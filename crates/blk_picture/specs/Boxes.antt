@@ -1,5 +1,5 @@
 -- The boxes of a trace.
-use Rattle.std.specs.Prelude.{ℕ, ◌+◌, ◌++◌, ◌∷◌, [], List, option_map, cond}
+use Rattle.std.specs.Prelude.{ℕ, ◌+◌, ◌++◌, ◌∷◌, [], Bool, List, option_map, cond}
 use Rattle.std.specs.List.{cons_option}
 use Rattle.blk_bio.specs.Requests.{dir_of, first_of, last_of}
 use Rattle.blk_trace.specs.Happened.{Happened}
@@ -9,9 +9,9 @@ use Rattle.blk_trace.specs.Events.{ends_requeued, request_of}
 use Rattle.blk_trace.specs.Meaning.{release_of, due_of}
 use Rattle.blk_picture.specs.declared.boxes.IssueBox.{IssueBox}
 
--- an Issue of an id under a tag in a round, which these events follow: the request that the id's Release and Joins make up
-abbrev pub box_of : Setup → List Happened → ℕ → List Happened → ℕ × ℕ → IssueBox
-box_of setup events round later p = record {
+-- an Issue of an id under a tag in a round, requeued or not: the request that the id's Release and Joins make up
+abbrev pub boxed : Setup → List Happened → ℕ → ℕ × ℕ → Bool → IssueBox
+boxed setup events round p back = record {
   id = p.0;
   dir = dir_of (request_of events p.0);
   first = first_of (request_of events p.0);
@@ -20,8 +20,12 @@ box_of setup events round later p = record {
   due = due_of setup events p.0;
   round = round;
   tag = p.1;
-  back = ends_requeued p.1 later;
+  back = back;
 }
+
+-- one that these events follow
+abbrev pub box_of : Setup → List Happened → ℕ → List Happened → ℕ × ℕ → IssueBox
+box_of setup events round later p = boxed setup events round p (ends_requeued p.1 later)
 
 -- the boxes of the Issues among these events, the first of which stands in the round, the last Issue first
 unfoldable pub boxes_from : Setup → List Happened → ℕ → List Happened → List IssueBox

@@ -1,4 +1,3 @@
 -- What invariants and proofs alone need.
-pub mod Facts
 pub mod Walked
 pub mod Counted

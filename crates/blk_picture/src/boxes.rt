@@ -1,18 +1,14 @@
 //! The boxes of a trace: one for each Issue, in its round and under its tag.
 
-ghost use Rattle.std.specs.Prelude.{ℕ, ◌≡◌, ◌≤◌, ◌<◌, ◌+◌, IfOk, length};
-ghost use Rattle.std.specs.Ordering.{nat_cmp};
-ghost use Rattle.std.specs.BTreeMap.{get};
+ghost use Rattle.std.specs.Prelude.{◌≡◌, ◌≤◌, ◌<◌, ◌+◌, IfOk, length};
 ghost use Rattle.blk_trace.specs.declared.trace.TheConstants.{MAX_EVENTS};
-ghost use Rattle.blk_picture.specs.Boxes.{boxes_of};
-ghost use Rattle.blk_picture.specs.Inside.Facts.{Knows, facts_or};
+ghost use Rattle.blk_trace.specs.Events.{IsIssued};
+ghost use Rattle.blk_picture.specs.Boxes.{boxed, boxes_of};
 ghost use Rattle.blk_picture.specs.Inside.Walked.{IsWalked};
 
-use crate::facts::{Facts, gathered};
 use blk_bio::Dir;
 use blk_trace::{MAX_TAGS, Trace};
 use std::alloc::{AllocError, Global};
-use std::collections::BTreeMap;
 
 /// An Issue, with the request as it was issued.
 #[derive(Clone, Copy)]
@@ -37,32 +33,37 @@ pub struct IssueBox {
     pub back: bool,
 }
 
-/// What is known of the request of an id, or of none.
-fn known(facts: &BTreeMap<u64, Facts>, id: u64) -> Facts
-    ensures { result ≡ facts_or (get nat_cmp facts.now id) }
+/// The box of an Issue of an id under a tag.
+fn issue_box(trace: &Trace, round: u64, issue: (u64, u16), back: bool) -> IssueBox
+    requires issued { IsIssued trace.now.events issue.0 }
+    requires round { round ≤ MAX_EVENTS }
+    ensures { result ≡ boxed trace.now.setup trace.now.events round issue back }
 {
-    match facts.get(&id) {
-        Some(known) => *known,
-        None => Facts {
-            dir: Dir::Read,
-            first: 0,
-            end: 0,
-            release: 0,
-            due: 0,
-        },
+    let (id, tag) = issue;
+    let Some(entry) = trace.request(id) else {
+        unreachable!()
+    };
+    IssueBox {
+        id,
+        dir: entry.extent.dir(),
+        first: entry.extent.first(),
+        end: entry.extent.end(),
+        release: entry.release,
+        due: entry.due,
+        round: round as u32,
+        tag,
+        back,
     }
 }
 
 /// Steps back over the event at a place, in the round, and says which round it is before that.
 fn step_back(
     trace: &Trace,
-    facts: &BTreeMap<u64, Facts>,
     place: usize,
     round: u64,
     backs: &mut Vec<bool>,
     boxes: &mut Vec<IssueBox>,
 ) -> Result<u64, AllocError>
-    requires facts { (id : ℕ) → Knows trace.now.setup trace.now.events id (get nat_cmp facts.now id) }
     requires within { place < length trace.now.events }
     requires walked { IsWalked trace.now.setup trace.now.events (place + 1) round backs.old.items boxes.old.items }
     ensures { IfOk result (λ r. IsWalked trace.now.setup trace.now.events place r backs.new.items boxes.new.items) }
@@ -75,23 +76,11 @@ fn step_back(
         backs[tag as usize] = event.requeues().is_some();
         return Ok(round);
     }
-    let Some((id, tag)) = event.issues() else {
+    let Some(issue) = event.issues() else {
         return Ok(round);
     };
-    let known = known(facts, id);
-    let back = backs[tag as usize];
-    let issued = IssueBox {
-        id,
-        dir: known.dir,
-        first: known.first,
-        end: known.end,
-        release: known.release,
-        due: known.due,
-        round: round as u32,
-        tag,
-        back,
-    };
-    match boxes.push(issued) {
+    let back = backs[issue.1 as usize];
+    match boxes.push(issue_box(trace, round, issue, back)) {
         Ok(()) => Ok(round),
         Err(_) => Err(AllocError),
     }
@@ -104,8 +93,6 @@ pub(crate) fn boxes(alloc: Global, trace: &Trace) -> Result<Vec<IssueBox>, Alloc
 {
     // brings the prover the trace's invariant
     let _ = trace.len();
-    let setup = trace.setup();
-    let facts = gathered(alloc, &setup, trace.events())?;
     let mut backs = Vec::new(alloc);
     backs.resize(MAX_TAGS as usize, false)?;
     let mut boxes = Vec::new(alloc);
@@ -113,7 +100,7 @@ pub(crate) fn boxes(alloc: Global, trace: &Trace) -> Result<Vec<IssueBox>, Alloc
     let mut left = trace.events().len();
     while left > 0 {
         left -= 1;
-        round = step_back(trace, &facts, left, round, &mut backs, &mut boxes)?;
+        round = step_back(trace, left, round, &mut backs, &mut boxes)?;
     }
     Ok(boxes)
 }

@@ -5,7 +5,6 @@ mod around;
 mod boxes;
 mod columns;
 mod cut;
-mod facts;
 pub mod laws;
 mod parts;
 mod scale;

@@ -4,18 +4,19 @@ use Rattle.std.specs.Prelude.{not, filter, reverse, Option, Some, None, option_m
 use Rattle.std.specs.Option.{option_and_then}
 use Rattle.std.specs.List.{cons_option, filter_map}
 use Rattle.std.proofs.lemmas.List.{reverse-append, length-map, get_or-map}
-use Rattle.blk_bio.specs.Bios.{Bio}
 use Rattle.blk_bio.specs.Requests.{dir_of, first_of, last_of}
+use Rattle.blk_bio.proofs.Tiles.{fills}
 use Rattle.blk_trace.specs.Happened.{Happened}
 use Rattle.blk_trace.specs.Kinds.{is_tick, issues}
 use Rattle.blk_trace.specs.Setups.{Setup}
 use Rattle.blk_trace.specs.Events.{ends_requeued, request_of}
 use Rattle.blk_trace.specs.Legal.{IsLegalTrace}
 use Rattle.blk_trace.specs.Meaning.{timed, release_of, due_of, served, issued_ids, command_of, commands_of, rounds_of}
+use Rattle.blk_trace.proofs.Ids.{has_issued, released_first, released_has}
+use Rattle.blk_trace.proofs.Keeping.{requests_legal}
 use Rattle.blk_report.specs.declared.serving.Service.{Service}
 use Rattle.blk_report.specs.Services.{service_of, services_of}
-use Rattle.blk_report.specs.Inside.Ranges.{range_of_bios}
-use Rattle.blk_report.proofs.Requests.{range_there, same_range}
+use Rattle.blk_report.proofs.Requests.{id_has}
 use Rattle.blk_picture.specs.declared.boxes.IssueBox.{IssueBox}
 use Rattle.blk_picture.specs.Boxes.{box_of, boxes_from, boxes_of}
 use Rattle.blk_picture_laws.specs.Served.{boxes_in_order, boxes_kept, boxed_command, service_in, issue_in, issue_of}
@@ -123,18 +124,12 @@ with_sectors setup events s n = record {
 abbrev Fills : List Happened → Service → Type 0
 Fills events s = first_of (request_of events s.id) + s.sectors ≡ last_of (request_of events s.id)
 
-service_fills : (setup : Setup) (events : List Happened) (k : ℕ) (x : Service) → IsLegalTrace setup events → k < length (services_of setup events) → (bios : List Bio) → request_of events (get_or (services_of setup events) k x).id ≡ bios → Fills events (get_or (services_of setup events) k x)
-service_fills setup events k x legal l [] h = absurd (range_there setup events k x (get_or (services_of setup events) k x).id legal l refl (ap range_of_bios h))
-service_fills setup events k x legal l (b ∷ bs) h =
-    let got = same_range setup events k x (get_or (services_of setup events) k x).id (record { dir = b.dir; first = b.first; end = last_of (b ∷ bs) }) legal l refl (ap range_of_bios h) in
-    subst (λ (bios : List Bio). first_of bios + (get_or (services_of setup events) k x).sectors ≡ last_of bios) (sym h) got.2
-
 served_fills : (setup : Setup) (events : List Happened) (k : ℕ) (d : ℕ × ℕ) → IsLegalTrace setup events → k < length (served 0 events) → Fills events (service_of setup events (get_or (served 0 events) k d))
-unfolding services_of
+unfolding issued_ids
 served_fills setup events k d legal l =
-    let x : Service = service_of setup events d in
-    let low : k < length (map (service_of setup events) (served 0 events)) = omega (arith, length-map (served 0 events) (service_of setup events)) in
-    subst (Fills events) (get_or-map (service_of setup events) (served 0 events) k d x l) (service_fills setup events k x legal low (request_of events (get_or (map (service_of setup events) (served 0 events)) k x).id) refl)
+    let id : ℕ = (get_or (served 0 events) k d).1 in
+    let r = released_first setup events id legal (has_issued events id (id_has (served 0 events) k d l)) in
+    fills (request_of events id) (requests_legal setup events legal id (released_has events r.0 id r.1.0 r.1.1))
 
 pub services_are : (setup : Setup) (events : List Happened) → IsLegalTrace setup events → map service_in (boxes_kept setup events) ≡ services_of setup events
 unfolding services_of

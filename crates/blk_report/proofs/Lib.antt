@@ -1,10 +1,8 @@
 pub mod Within
 pub mod Leading
 pub mod Tables
-pub mod Gathering
 pub mod Requests
 pub mod Halving
 pub mod Waiting
 pub mod Ranks
 pub mod Verdicts
-pub mod Overdue

@@ -54,9 +54,14 @@ pub fn misses<A: Allocator + Clone>(trace: &Trace<A>) -> Result<Missed<A>, Alloc
     let rounds = trace.rounds()?;
     let capacity = trace.capacity()?;
     let alloc = commands.allocator().clone()?;
-    let missed = misses_of(alloc, commands.as_slice(), rounds.as_slice(), &capacity)?;
+    let missed = misses_of(
+        alloc.clone()?,
+        commands.as_slice(),
+        rounds.as_slice(),
+        &capacity,
+    )?;
     let counts = missed.counts;
-    let overdue = overdue(trace, &commands)?.len() as u64;
+    let overdue = overdue(alloc, trace)?.len() as u64;
     let tally = Tally {
         commands: counts.commands,
         late: counts.late,

@@ -125,12 +125,12 @@ passes setup gone es e h id =
     ]
 
 -- whether bios enter to stay, by what is kept
-pub stays_by : (setup : Setup) (es : List Happened) (f : ℕ → Option Known) (e : Happened) → ((id : ℕ) → f id ≡ known_of setup es id) → option_map_or (λ p. not (is_gone (f p.0))) (enters e) false ≡ enters_to_stay (λ id. has_id (issued_ids es) id) e
-stays_by setup es f e kept = by_entry (enters e)
+pub stays_by : (setup : Setup) (es : List Happened) (f : ℕ → Option Known) (e : Happened) → IsLegalTrace setup es → ((id : ℕ) → f id ≡ known_of setup es id) → option_map_or (λ p. not (is_gone (f p.0))) (enters e) false ≡ enters_to_stay (λ id. has_id (issued_ids es) id) e
+stays_by setup es f e legal kept = by_entry (enters e)
   where
     by_entry : (o : Option (ℕ × List Bio)) → option_map_or (λ p. not (is_gone (f p.0))) o false ≡ option_map_or (λ p. not (has_id (issued_ids es) p.0)) o false
     by_entry None = refl
-    by_entry (Some p) = ap not (ap is_gone (kept p.0) ∙ is_out setup es p.0)
+    by_entry (Some p) = ap not (ap is_gone (kept p.0) ∙ is_out setup es p.0 legal)
 
 -- in the end what is there waits
 with_bios : (b : Bool) (x : Entered) → cond b (Some x.bios) None ≡ option_map (λ w. w.bios) (cond b (Some x) None)

@@ -8,10 +8,9 @@ use Rattle.blk_bio.specs.Limits.{Limits}
 use Rattle.blk_bio.specs.Requests.{IsRequest, dir_of, first_of, last_of, Fits}
 use Rattle.blk_bio.specs.Extents.{Extent, extent_of, extent_joined}
 use Rattle.blk_bio.proofs.Tiles.{last-append, joins, range_of}
-use Rattle.blk_trace.specs.declared.known.Unissued.{Unissued}
+use Rattle.blk_trace.specs.declared.known.Entry.{Entry}
 use Rattle.blk_trace.specs.Events.{join_up}
-use Rattle.blk_trace.specs.Waits.{Entered}
-use Rattle.blk_trace.specs.Inside.Kept.{summary}
+use Rattle.blk_trace.specs.Waits.{Entered, summary}
 
 same_extent : (d d' : Dir) (f f' e e' b b' : ℕ) → d ≡ d' → f ≡ f' → e ≡ e' → b ≡ b'
     → (let x : Extent = record { dir = d; first = f; end = e; bios = b } in x) ≡ (let y : Extent = record { dir = d'; first = f'; end = e'; bios = b' } in y)
@@ -57,13 +56,13 @@ together_is limits a n Front ra rn f =
     same_extent _ _ _ _ _ _ _ _ (sym f.same_direction ∙ sym fs.1) (sym fs.0) (sym (last_of_second n a ra.not_empty)) count ∙ ap extent_of (sym (stands_front limits a n ra rn f))
 
 -- what is kept once another has joined
-pub joined_is : (limits : Limits) (old : Unissued) (w : Entered) (n : List Bio) (round : ℕ) (side : Side) (extent newcomer : Extent) → old ≡ summary w → IsRequest w.bios → IsRequest n → Fits limits w.bios n side
+pub joined_is : (limits : Limits) (old : Entry) (w : Entered) (n : List Bio) (round : ℕ) (side : Side) (extent newcomer : Extent) → old ≡ summary w → IsRequest w.bios → IsRequest n → Fits limits w.bios n side
     → newcomer ≡ extent_of n → extent ≡ extent_joined old.extent newcomer side
-    → (let x : Unissued = record { extent = extent; release = round; due = old.due } in x) ≡ summary record { release = round; due = w.due; bios = join_up w.bios n }
+    → (let x : Entry = record { extent = extent; release = round; due = old.due } in x) ≡ summary record { release = round; due = w.due; bios = join_up w.bios n }
 joined_is limits old w n round side extent newcomer is ra rn f hn he =
-    let e : extent ≡ extent_of (join_up w.bios n) = he ∙ ap (λ (x : Unissued). extent_joined x.extent newcomer side) is ∙ ap (λ (x : Extent). extent_joined (extent_of w.bios) x side) hn ∙ together_is limits w.bios n side ra rn f in
-    ap (λ (x : Extent). let y : Unissued = record { extent = x; release = round; due = old.due } in y) e
-    ∙ ap (λ (x : Unissued). let y : Unissued = record { extent = extent_of (join_up w.bios n); release = round; due = x.due } in y) is
+    let e : extent ≡ extent_of (join_up w.bios n) = he ∙ ap (λ (x : Entry). extent_joined x.extent newcomer side) is ∙ ap (λ (x : Extent). extent_joined (extent_of w.bios) x side) hn ∙ together_is limits w.bios n side ra rn f in
+    ap (λ (x : Extent). let y : Entry = record { extent = x; release = round; due = old.due } in y) e
+    ∙ ap (λ (x : Entry). let y : Entry = record { extent = extent_of (join_up w.bios n); release = round; due = x.due } in y) is
 
 pub fits_to : (l l' : Limits) (a b n : List Bio) → l ≡ l' → a ≡ b → (x : Side) × Fits l a n x → (x : Side) × Fits l' b n x
 fits_to l l' a b n hl ha f = (f.0, subst (λ (m : Limits). Fits m b n f.0) hl (subst (λ (c : List Bio). Fits l c n f.0) ha f.1))

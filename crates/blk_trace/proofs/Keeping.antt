@@ -9,9 +9,9 @@ use Rattle.blk_bio.specs.Bios.{Bio}
 use Rattle.blk_bio.specs.declared.bio.BioId.{BioId}
 use Rattle.blk_bio.specs.Requests.{IsRequest, Fits, dir_of}
 use Rattle.blk_bio.specs.declared.request.Side.{Side}
-use Rattle.blk_trace.specs.declared.known.Unissued.{Unissued}
+use Rattle.blk_trace.specs.declared.known.Entry.{Entry}
+use Rattle.blk_trace.specs.declared.known.Stage.TheVariants.{Waits, Gone, Requeued}
 use Rattle.blk_trace.specs.declared.known.Known.{Known}
-use Rattle.blk_trace.specs.declared.known.Known.TheVariants.{Waits, Gone, Requeued}
 use Rattle.blk_trace.specs.declared.tags.TagUse.{TagUse}
 use Rattle.blk_trace.specs.declared.tags.TagUse.TheVariants.{Free, Open, Ended}
 use Rattle.blk_trace.specs.declared.trace.Prepared.{Prepared}
@@ -20,28 +20,28 @@ use Rattle.blk_bio.specs.declared.rule.TraceRule.TheVariants.{InFlight, NotIssue
 use Rattle.blk_trace.specs.Happened.{Happened, Tick, Release, Join, Issue, Done, Back, Depth}
 use Rattle.blk_trace.specs.Kinds.{releases, joins}
 use Rattle.blk_trace.specs.Setups.{Setup, IsSetup, expire_of}
-use Rattle.blk_trace.specs.Events.{round_of, open_count, entered, bios_of, join_up, request_of, IsOpenBy}
+use Rattle.blk_trace.specs.Events.{round_of, open_count, entered, bios_of, join_up, request_of, EntersRequest, IsOpenBy}
 use Rattle.blk_trace.specs.Legal.{IsLegalTrace}
 use Rattle.blk_trace.specs.Rules.{BreaksNoRule}
-use Rattle.blk_trace.specs.Meaning.{release_of, due_of, served, commands_of, rounds_of, issued_ids, released_ids}
-use Rattle.blk_trace.specs.Waits.{Entered, has_id, waits_at}
+use Rattle.blk_trace.specs.Meaning.{served, commands_of, rounds_of, issued_ids, released_ids}
+use Rattle.blk_trace.specs.Waits.{Entered, summary, entered_at, has_id, waits_at}
 use Rattle.blk_trace.specs.Traces.{IsPreparedFor}
-use Rattle.blk_trace.specs.Inside.Kept.{IsKeptTrace, HasRoom, summary, known_of, has_bio_id, event_room, request_room, bio_room, IsTagUse}
+use Rattle.blk_trace.specs.Inside.Kept.{request_at, IsKeptTrace, HasRoom, known_of, has_bio_id, event_room, request_room, bio_room, IsTagUse}
 use Rattle.blk_trace.proofs.Pushing.{push_legal, empty_legal}
 use Rattle.blk_trace.proofs.More.{round_more}
 use Rattle.blk_trace.proofs.Room.{open_kept, open_issue, open_end}
+use Rattle.blk_trace.proofs.Places.{last}
+use Rattle.blk_trace.proofs.Ids.{by_legal, released_first}
 use Rattle.blk_trace.proofs.Newness.{ids_more}
-use Rattle.blk_trace.proofs.Requeues.{IsDropped, dropped, there_is, taken_there}
+use Rattle.blk_trace.proofs.Requeues.{open_issued, there_is}
 use Rattle.blk_trace.proofs.Scheduling.{legal-schedule}
 use Rattle.std.proofs.lemmas.Option.{slice_get_within}
 use Rattle.std.specs.Prelude.{slice_get}
-use Rattle.std.proofs.Common.{get_or}
-use Rattle.blk_trace.specs.Meaning.{command_of}
-use Rattle.blk_trace.proofs.Knowing.{known_open, known_kept, known_released, known_joined, known_issued, known_requeued_id}
+use Rattle.blk_trace.proofs.Knowing.{known_at, known_kept, known_released, known_joined, known_issued, known_requeued_id}
 use Rattle.blk_trace.proofs.TagUses.{tags_ticked, tags_kept, tags_issued, tags_ended, tags_empty, open_found}
 use Rattle.blk_trace.proofs.Joining.{join_request}
 use Rattle.blk_trace.proofs.Entering.{IsSame, same_entered, HasNothing, nothing_before, IsEntered, entered_released, entered_joined, has_released_same}
-use Rattle.blk_trace.proofs.Waiting.{IsWaiting, waiting_from}
+use Rattle.blk_trace.proofs.Waiting.{IsThere, there_from, request_there, waits_there}
 use Rattle.blk_trace.proofs.Commands.{commands_kept, commands-issued, rounds_kept, rounds-issued}
 
 or_none : (b : Bool) → (b || false) ≡ b
@@ -100,10 +100,23 @@ requests_joined setup es i bios all request old id h =
           subst IsRequest (sym same.request) (old id was)
     ]
 
--- the bios of a request that waits
-pub waiting_request : (setup : Setup) (es : List Happened) (id : ℕ) (w : Entered) → ((id : ℕ) → has_id (released_ids es) id ≡ true → IsRequest (request_of es id)) → waits_at setup es id ≡ Some w → IsRequest w.bios
-waiting_request setup es id w some h =
-    let was : IsWaiting setup es id w = waiting_from setup es id w h in
+requests_more : (setup : Setup) (es : List Happened) (e : Happened) → IsLegalTrace setup es → BreaksNoRule setup es e → EntersRequest e → AreRequests es → AreRequests (es ++ e ∷ [])
+requests_more setup es (Release i bios) legal all some old = requests_released setup es i bios legal all some old
+requests_more setup es (Join i bios) legal all some old = requests_joined setup es i bios all some old
+requests_more setup es e legal all some old = requests_kept setup es e refl refl old
+
+none_released : AreRequests []
+unfolding released_ids
+none_released id h = absurd (cc)
+
+pub requests_legal : (setup : Setup) (es : List Happened) → IsLegalTrace setup es → (id : ℕ) → has_id (released_ids es) id ≡ true → IsRequest (request_of es id)
+requests_legal setup es legal =
+    by_legal setup AreRequests none_released (λ es e new old all ih. requests_more setup es e old all (new.are_requests (length es) e (last es e)) ih) es legal
+
+-- the bios of a request that was released
+pub entered_request : (setup : Setup) (es : List Happened) (id : ℕ) (w : Entered) → ((id : ℕ) → has_id (released_ids es) id ≡ true → IsRequest (request_of es id)) → request_at setup es id ≡ Some w → IsRequest w.bios
+entered_request setup es id w some h =
+    let was : IsThere setup es id w = there_from setup es id w h in
     subst IsRequest (sym was.bios_is) (some id was.released)
 
 pub kept_tick : (setup : Setup) (es zs : List Happened) (cs : List Command) (rs : List ℕ) (round opened : ℕ) (known : ℕ → Option Known) (ids : BioId → Bool) (tags tags' : List TagUse)
@@ -165,21 +178,11 @@ kept_within setup es cs rs round opened known ids tags place c k at =
     let even : length rs ≡ length cs = ap length k.rounds_are ∙ one ∙ sym (ap length k.commands_are) in
     (low, omega arith)
 
--- the command that is taken out, and what is known under its id
-pub kept_out : (setup : Setup) (es : List Happened) (tag id place : ℕ) (c d : Command) (cs : List Command) (rs : List ℕ) (round opened : ℕ) (known : ℕ → Option Known) (ids : BioId → Bool) (tags : List TagUse)
-    → IsKeptTrace setup es cs rs round opened known ids tags → IsOpenBy es tag id → slice_get cs place ≡ Some c → c.id ≡ id → d ≡ get_or cs place d
-    → (d ≡ command_of setup es id) × (known d.id ≡ Some Gone)
-kept_out setup es tag id place c d cs rs round opened known ids tags k by at is taken =
-    let out : IsDropped setup es (es ++ Back tag ∷ []) id place cs rs = dropped setup es tag id place cs rs c k.legal by k.commands_are k.rounds_are at is in
-    let same : d ≡ command_of setup es id = taken_there cs place d (command_of setup es id) (slice_get_within cs place c at) out.there taken in
-    let named : d.id ≡ id = ap (λ (x : Command). x.id) same in
-    (same, ap known named ∙ k.known_are id ∙ known_open setup es tag id k.legal by)
-
 -- after a Back the command is no longer kept, and its request waits again
 pub kept_back : (setup : Setup) (es zs : List Happened) (tag id : ℕ) (cs ds : List Command) (rs ss : List ℕ) (round opened : ℕ) (known known' : ℕ → Option Known) (ids : BioId → Bool) (tags : List TagUse)
     → IsKeptTrace setup es cs rs round opened known ids tags → BreaksNoRule setup es (Back tag) → IsOpenBy es tag id → zs ≡ es ++ Back tag ∷ []
     → ds ≡ commands_of setup (es ++ Back tag ∷ []) → ss ≡ rounds_of (es ++ Back tag ∷ [])
-    → ((q : ℕ) → known' q ≡ cond (id == q) (Some (Requeued (release_of es id) (due_of setup es id))) (known q))
+    → ((q : ℕ) → known' q ≡ cond (id == q) (Some (known_at Requeued (entered_at setup es id))) (known q))
     → IsKeptTrace setup zs ds ss round (opened - 1) known' ids (set tags tag Ended)
 kept_back setup es zs tag id cs ds rs ss round opened known known' ids tags k all by hz hd hs hk =
     let new = push_legal setup es (Back tag) k.legal all tt in
@@ -193,7 +196,7 @@ kept_back setup es zs tag id cs ds rs ss round opened known known' ids tags k al
       rounds_are = hs;
       round_is = omega (arith, k.round_is, round_more es (Back tag));
       open_is = omega (arith, k.open_is, open_end es (Back tag) tag refl);
-      known_are = λ q. hk q ∙ ap (λ x. cond (id == q) (Some (Requeued (release_of es id) (due_of setup es id))) x) (k.known_are q) ∙ sym (known_requeued_id setup es tag id k.legal by q);
+      known_are = λ q. hk q ∙ ap (λ x. cond (id == q) (Some (known_at Requeued (entered_at setup es id))) x) (k.known_are q) ∙ sym (known_requeued_id setup es tag id k.legal by (entered_at setup es id) (request_there setup es id (released_first setup es id k.legal (open_issued es tag id by))) q);
       requests_are = requests_kept setup es (Back tag) refl refl k.requests_are;
       ids_are = λ b. k.ids_are b ∙ sym (same_ids es (Back tag) b refl);
       tags_are = tags_ended es (Back tag) tags tag refl used.0 k.tags_are;
@@ -204,7 +207,7 @@ kept_back setup es zs tag id cs ds rs ss round opened known known' ids tags k al
 pub kept_issue : (setup : Setup) (es zs : List Happened) (id tag : ℕ) (w : Entered) (cs ds : List Command) (rs ss : List ℕ) (round opened : ℕ) (known known' : ℕ → Option Known) (ids : BioId → Bool) (tags : List TagUse)
     → IsKeptTrace setup es cs rs round opened known ids tags → BreaksNoRule setup es (Issue id tag) → zs ≡ es ++ Issue id tag ∷ []
     → waits_at setup es id ≡ Some w → ds ≡ cs ++ record { id = id; release = w.release; due = w.due } ∷ [] → ss ≡ rs ++ round ∷ []
-    → ((q : ℕ) → known' q ≡ cond (id == q) (Some Gone) (known q))
+    → ((q : ℕ) → known' q ≡ cond (id == q) (Some (known_at Gone w)) (known q))
     → IsKeptTrace setup zs ds ss round (opened + 1) known' ids (set tags tag (Open id))
 kept_issue setup es zs id tag w cs ds rs ss round opened known known' ids tags k all hz waits hd hs hk =
     let new = push_legal setup es (Issue id tag) k.legal all tt in
@@ -216,7 +219,7 @@ kept_issue setup es zs id tag w cs ds rs ss round opened known known' ids tags k
       rounds_are = hs ∙ ap (λ l. l ++ round ∷ []) k.rounds_are ∙ ap (λ n. rounds_of es ++ n ∷ []) k.round_is ∙ sym (rounds-issued es id tag);
       round_is = omega (arith, k.round_is, round_more es (Issue id tag));
       open_is = omega (arith, k.open_is, open_issue setup es id tag k.legal);
-      known_are = λ q. hk q ∙ ap (λ x. cond (id == q) (Some Gone) x) (k.known_are q) ∙ sym (known_issued setup es id tag new q);
+      known_are = λ q. hk q ∙ ap (λ x. cond (id == q) (Some (known_at Gone w)) x) (k.known_are q) ∙ sym (known_issued setup es id tag new w (waits_there setup es id w waits).1 q);
       requests_are = requests_kept setup es (Issue id tag) refl refl k.requests_are;
       ids_are = λ b. k.ids_are b ∙ sym (same_ids es (Issue id tag) b refl);
       tags_are = tags_issued es tags id tag k.tags_are;
@@ -224,10 +227,10 @@ kept_issue setup es zs id tag w cs ds rs ss round opened known known' ids tags k
     } in
     subst P (sym hz) here
 
-pub kept_release : (setup : Setup) (es zs : List Happened) (id : ℕ) (bios : List Bio) (s : Unissued) (cs : List Command) (rs : List ℕ) (round opened : ℕ) (known known' : ℕ → Option Known) (ids ids' : BioId → Bool) (tags : List TagUse)
+pub kept_release : (setup : Setup) (es zs : List Happened) (id : ℕ) (bios : List Bio) (s : Entry) (cs : List Command) (rs : List ℕ) (round opened : ℕ) (known known' : ℕ → Option Known) (ids ids' : BioId → Bool) (tags : List TagUse)
     → IsKeptTrace setup es cs rs round opened known ids tags → BreaksNoRule setup es (Release id bios) → zs ≡ es ++ Release id bios ∷ [] → IsRequest bios
     → s ≡ summary record { release = round; due = round + expire_of setup (dir_of bios); bios = bios }
-    → ((q : ℕ) → known' q ≡ cond (id == q) (Some (Waits s)) (known q)) → ((b : BioId) → ids' b ≡ (ids b || has_bio_id bios b))
+    → ((q : ℕ) → known' q ≡ cond (id == q) (Some (record { stage = Waits; entry = s })) (known q)) → ((b : BioId) → ids' b ≡ (ids b || has_bio_id bios b))
     → IsKeptTrace setup zs cs rs round opened known' ids' tags
 kept_release setup es zs id bios s cs rs round opened known known' ids ids' tags k all hz request hs hk hb =
     let new = push_legal setup es (Release id bios) k.legal all request in
@@ -240,7 +243,7 @@ kept_release setup es zs id bios s cs rs round opened known known' ids ids' tags
       rounds_are = k.rounds_are ∙ sym (rounds_kept es (Release id bios) refl refl);
       round_is = omega (arith, k.round_is, round_more es (Release id bios));
       open_is = k.open_is ∙ sym (open_kept es (Release id bios) refl refl);
-      known_are = λ q. hk q ∙ ap (λ x. cond (id == q) (Some (Waits s)) x) (k.known_are q) ∙ ap (λ x. cond (id == q) (Some (Waits x)) (known_of setup es q)) now ∙ sym (known_released setup es id bios new q);
+      known_are = λ q. hk q ∙ ap (λ x. cond (id == q) (Some (record { stage = Waits; entry = s })) x) (k.known_are q) ∙ ap (λ x. cond (id == q) (Some (let y : Known = record { stage = Waits; entry = x } in y)) (known_of setup es q)) now ∙ sym (known_released setup es id bios new q);
       requests_are = requests_released setup es id bios k.legal all request k.requests_are;
       ids_are = λ b. hb b ∙ ap (λ x. x || has_bio_id bios b) (k.ids_are b) ∙ sym (ids_more es (Release id bios) b);
       tags_are = tags_kept es (Release id bios) tags refl refl refl k.tags_are;
@@ -248,12 +251,12 @@ kept_release setup es zs id bios s cs rs round opened known known' ids ids' tags
     } in
     subst P (sym hz) here
 
-pub kept_join : (setup : Setup) (es zs : List Happened) (id : ℕ) (bios : List Bio) (w : Entered) (s : Unissued) (cs : List Command) (rs : List ℕ) (round opened : ℕ) (known known' : ℕ → Option Known) (ids ids' : BioId → Bool) (tags : List TagUse)
+pub kept_join : (setup : Setup) (es zs : List Happened) (id : ℕ) (bios : List Bio) (w : Entered) (s : Entry) (cs : List Command) (rs : List ℕ) (round opened : ℕ) (known known' : ℕ → Option Known) (ids ids' : BioId → Bool) (tags : List TagUse)
     → IsKeptTrace setup es cs rs round opened known ids tags → BreaksNoRule setup es (Join id bios) → zs ≡ es ++ Join id bios ∷ [] → IsRequest bios
-    → waits_at setup es id ≡ Some w → s ≡ summary record { release = round; due = w.due; bios = join_up w.bios bios }
-    → ((q : ℕ) → known' q ≡ cond (id == q) (Some (Waits s)) (known q)) → ((b : BioId) → ids' b ≡ (ids b || has_bio_id bios b))
+    → request_at setup es id ≡ Some w → s ≡ summary record { release = round; due = w.due; bios = join_up w.bios bios }
+    → ((q : ℕ) → known' q ≡ cond (id == q) (Some (record { stage = Waits; entry = s })) (known q)) → ((b : BioId) → ids' b ≡ (ids b || has_bio_id bios b))
     → IsKeptTrace setup zs cs rs round opened known' ids' tags
-kept_join setup es zs id bios w s cs rs round opened known known' ids ids' tags k all hz request waits hs hk hb =
+kept_join setup es zs id bios w s cs rs round opened known known' ids ids' tags k all hz request there hs hk hb =
     let new = push_legal setup es (Join id bios) k.legal all request in
     let P : List Happened → Type 0 = λ l. IsKeptTrace setup l cs rs round opened known' ids' tags in
     let now : s ≡ summary record { release = round_of es; due = w.due; bios = join_up w.bios bios } = hs ∙ ap (λ n. summary record { release = n; due = w.due; bios = join_up w.bios bios }) k.round_is in
@@ -264,7 +267,7 @@ kept_join setup es zs id bios w s cs rs round opened known known' ids ids' tags 
       rounds_are = k.rounds_are ∙ sym (rounds_kept es (Join id bios) refl refl);
       round_is = omega (arith, k.round_is, round_more es (Join id bios));
       open_is = k.open_is ∙ sym (open_kept es (Join id bios) refl refl);
-      known_are = λ q. hk q ∙ ap (λ x. cond (id == q) (Some (Waits s)) x) (k.known_are q) ∙ ap (λ x. cond (id == q) (Some (Waits x)) (known_of setup es q)) now ∙ sym (known_joined setup es id bios new w waits q);
+      known_are = λ q. hk q ∙ ap (λ x. cond (id == q) (Some (record { stage = Waits; entry = s })) x) (k.known_are q) ∙ ap (λ x. cond (id == q) (Some (let y : Known = record { stage = Waits; entry = x } in y)) (known_of setup es q)) now ∙ sym (known_joined setup es id bios new w there q);
       requests_are = requests_joined setup es id bios all request k.requests_are;
       ids_are = λ b. hb b ∙ ap (λ x. x || has_bio_id bios b) (k.ids_are b) ∙ sym (ids_more es (Join id bios) b);
       tags_are = tags_kept es (Join id bios) tags refl refl refl k.tags_are;
@@ -302,7 +305,7 @@ command_is c id release due h i j =
 
 -- the trace without events
 pub kept_empty : (setup : Setup) (known : ℕ → Option Known) (ids : BioId → Bool) (n : ℕ) → ((q : ℕ) → known q ≡ None) → ((b : BioId) → ids b ≡ false) → n ≡ setup.depth → IsSetup setup → IsKeptTrace setup [] [] [] 0 0 known ids (replicate n Free)
-unfolding entered open_count round_of commands_of rounds_of issued_ids released_ids served known_of waits_at
+unfolding entered open_count round_of commands_of rounds_of issued_ids released_ids served known_of request_at
 kept_empty setup known ids n hk hb hn is = record {
   ranges = is;
   legal = empty_legal setup;

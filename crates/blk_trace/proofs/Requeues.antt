@@ -10,7 +10,7 @@ use Rattle.blk_trace.specs.Setups.{Setup}
 use Rattle.blk_trace.specs.Events.{request_of, IsReleased, IsIssued, IsOpenBy}
 use Rattle.blk_trace.specs.Legal.{IsLegalTrace}
 use Rattle.blk_trace.specs.Meaning.{release_of, due_of, issued_ids, released_ids, command_of, commands_of, rounds_of}
-use Rattle.blk_trace.specs.Waits.{Entered, has_id, waits_at, was_issued, unissued_at, waiting_count}
+use Rattle.blk_trace.specs.Waits.{Entered, entered_at, has_id, waits_at, was_issued, unissued_at, waiting_count}
 use Rattle.blk_trace.proofs.More.{released_more}
 use Rattle.blk_trace.proofs.Ids.{released_has, released_first, issued_was}
 use Rattle.blk_trace.proofs.Entering.{IsSame, same_entered, has_released_same}
@@ -21,15 +21,11 @@ use Rattle.blk_trace.proofs.Counting.{count_once, released_one, waiting_is}
 use Rattle.blk_trace.proofs.Newness.{get_at}
 use Rattle.blk_trace.proofs.Requeuing.{LosesIssue, requeued, IsOut, requeued_ids}
 
--- what is known of the request under an id
-abbrev pub entry_of : Setup → List Happened → ℕ → Entered
-entry_of setup es id = record { release = release_of es id; due = due_of setup es id; bios = request_of es id }
-
 -- an open tag's request was released and issued
 pub open_issued : (es : List Happened) (t id : ℕ) → IsOpenBy es t id → IsIssued es id
 open_issued es t id o = (o.place, (t, o.issued))
 
-pub waits_requeued : (setup : Setup) (es : List Happened) (t id : ℕ) → IsLegalTrace setup es → IsOpenBy es t id → (q : ℕ) → waits_at setup (es ++ Back t ∷ []) q ≡ cond (id == q) (Some (entry_of setup es id)) (waits_at setup es q)
+pub waits_requeued : (setup : Setup) (es : List Happened) (t id : ℕ) → IsLegalTrace setup es → IsOpenBy es t id → (q : ℕ) → waits_at setup (es ++ Back t ∷ []) q ≡ cond (id == q) (Some (entered_at setup es id)) (waits_at setup es q)
 unfolding released_ids
 waits_requeued setup es t id legal o q =
     let fs : List Happened = es ++ Back t ∷ [] in
@@ -40,11 +36,11 @@ waits_requeued setup es t id legal o q =
           let here : IsReleased es id = released_first setup es id legal (open_issued es t id o) in
           let there : has_id (released_ids fs) id ≡ true = has_released_same es (Back t) id refl ∙ released_has es here.0 id here.1.0 here.1.1 in
           let kept : IsSame setup es fs id = same_entered setup es (Back t) id refl in
-          let now : waits_at setup fs id ≡ Some (entry_of setup es id) = waits_is setup fs id true false (release_of es id) (due_of setup es id) (request_of es id) there out.gone kept.release kept.due kept.request in
-          subst (λ n. waits_at setup fs n ≡ Some (entry_of setup es id)) same now ∙ sym (ap (λ c. cond c (Some (entry_of setup es id)) (waits_at setup es q)) b)
+          let now : waits_at setup fs id ≡ Some (entered_at setup es id) = waits_is setup fs id true false (release_of es id) (due_of setup es id) (request_of es id) there out.gone kept.release kept.due kept.request in
+          subst (λ n. waits_at setup fs n ≡ Some (entered_at setup es id)) same now ∙ sym (ap (λ c. cond c (Some (entered_at setup es id)) (waits_at setup es q)) b)
       | inr b ↦
           waits_same setup es fs q (has_released_same es (Back t) q refl) (out.other q b) (same_entered setup es (Back t) q refl)
-          ∙ sym (ap (λ c. cond c (Some (entry_of setup es id)) (waits_at setup es q)) b)
+          ∙ sym (ap (λ c. cond c (Some (entered_at setup es id)) (waits_at setup es q)) b)
     ]
 
 stays_off : (b was : Bool) (x : Entered) (y : Option Entered) → (b ≡ true → was ≡ true) → cond was None (cond b (Some x) y) ≡ cond was None y
@@ -54,7 +50,7 @@ stays_off false was x y h = refl
 pub unissued_requeued : (setup : Setup) (es : List Happened) (t id : ℕ) → IsLegalTrace setup es → IsOpenBy es t id → (q : ℕ) → unissued_at setup (es ++ Back t ∷ []) q ≡ unissued_at setup es q
 unissued_requeued setup es t id legal o q =
     unissued_is setup (es ++ Back t ∷ []) q _ _ (was_kept es (Back t) q refl) (waits_requeued setup es t id legal o q)
-    ∙ stays_off (id == q) (was_issued es q) (entry_of setup es id) (waits_at setup es q) (λ b. issued_was es q (subst (IsIssued es) (eqb-true id q b) (open_issued es t id o)))
+    ∙ stays_off (id == q) (was_issued es q) (entered_at setup es id) (waits_at setup es q) (λ b. issued_was es q (subst (IsIssued es) (eqb-true id q b) (open_issued es t id o)))
     ∙ sym (unissued_is setup es q _ _ refl refl)
 
 -- the commands
@@ -139,10 +135,6 @@ dropped setup es t id k cs rs c legal o hc hr at is =
         let parts = or_parts (x == id) (has_id (xs ++ ys) id) h in
         let rest = apart xs ys parts.1 in
         (ap (λ b. b || has_id xs id) parts.0 ∙ rest.0, rest.1)
-
--- what was taken from a place is what stood there
-pub taken_there : (cs : List Command) (k : ℕ) (c d : Command) → k < length cs → slice_get cs k ≡ Some d → c ≡ get_or cs k c → c ≡ d
-taken_there cs k c d h at is = let e : Some (get_or cs k c) ≡ Some d = sym (get_at cs k c h) ∙ at in is ∙ (let x : get_or cs k c ≡ d = cc in x)
 
 -- the id of the open Issue stands in the commands
 pub there_is : (setup : Setup) (es : List Happened) (t id : ℕ) → IsLegalTrace setup es → IsOpenBy es t id → (k : ℕ) × ((c : Command) × (slice_get (commands_of setup es) k ≡ Some c) × (c.id ≡ id))

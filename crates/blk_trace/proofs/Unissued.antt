@@ -14,7 +14,7 @@ use Rattle.blk_trace.specs.Waits.{Entered, waits_at, was_issued, unissued_at}
 use Rattle.blk_trace.proofs.More.{was_issued_more}
 use Rattle.blk_trace.proofs.Pushing.{shorter_legal, obeys}
 use Rattle.blk_trace.proofs.Ids.{never_was, released_first}
-use Rattle.blk_trace.proofs.Waiting.{waits_kept, waits-released, waits-joined, waits-issued}
+use Rattle.blk_trace.proofs.Waiting.{put_off, waits_kept, waits-released, waits-joined, waits-issued}
 
 pub unissued_is : (setup : Setup) (es : List Happened) (id : ℕ) (b : Bool) (o : Option Entered) → was_issued es id ≡ b → waits_at setup es id ≡ o → unissued_at setup es id ≡ cond b None o
 unfolding unissued_at
@@ -41,10 +41,6 @@ was_kept es e id h = was_same es e id (ap (λ o. option_map_or (λ p. p.0 == id)
 pub unissued_kept : (setup : Setup) (events : List Happened) (e : Happened) → releases e ≡ None → joins e ≡ None → issues e ≡ None → requeues e ≡ None → (q : ℕ) → unissued_at setup (events ++ e ∷ []) q ≡ unissued_at setup events q
 unissued_kept setup events e r j i n q =
     unissued_is setup (events ++ e ∷ []) q _ _ (was_kept events e q i) (waits_kept setup events e r j i n q) ∙ sym (unissued_is setup events q _ _ refl refl)
-
-put_off : (b was : Bool) (x : Entered) (y : Option Entered) → (b ≡ true → was ≡ false) → cond was None (cond b (Some x) y) ≡ cond b (Some x) (cond was None y)
-put_off true was x y h = ap (λ w. cond w None (Some x)) (h refl)
-put_off false was x y h = refl
 
 pub unissued-released : (setup : Setup) (events : List Happened) (id : ℕ) (bios : List Bio) → IsLegalTrace setup (events ++ Release id bios ∷ []) → (q : ℕ) → unissued_at setup (events ++ Release id bios ∷ []) q ≡ cond (id == q) (Some (record { release = round_of events; due = round_of events + expire_of setup (dir_of bios); bios = bios })) (unissued_at setup events q)
 unissued-released setup events id bios legal q =

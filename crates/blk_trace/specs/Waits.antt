@@ -3,6 +3,8 @@ use Rattle.std.specs.Prelude.{ℕ, ◌==◌, ◌&&◌, Bool, false, not, cond, L
 use Rattle.std.specs.Option.{option_map_or}
 use Rattle.std.specs.List.{list_any}
 use Rattle.blk_bio.specs.Bios.{Bio}
+use Rattle.blk_bio.specs.Extents.{extent_of}
+use Rattle.blk_trace.specs.declared.known.Entry.{Entry}
 use Rattle.blk_trace.specs.Happened.{Happened}
 use Rattle.blk_trace.specs.Kinds.{issues}
 use Rattle.blk_trace.specs.Setups.{Setup}
@@ -15,16 +17,21 @@ pub record Entered : Type 0 where
   pub due : ℕ
   pub bios : List Bio
 
+-- what a trace has of it
+abbrev pub summary : Entered → Entry
+summary w = record { extent = extent_of w.bios; release = w.release; due = w.due }
+
+-- the request under the id, as its Release and Joins made it
+abbrev pub entered_at : Setup → List Happened → ℕ → Entered
+entered_at setup events id = record { release = release_of events id; due = due_of setup events id; bios = request_of events id }
+
 -- whether the number is in the list
 abbrev pub has_id : List ℕ → ℕ → Bool
 has_id ids id = list_any (λ i. i == id) ids
 
 -- the request that waits under the id: it was released, and was not issued or was requeued
 unfoldable pub waits_at : Setup → List Happened → ℕ → Option Entered
-waits_at setup events id =
-    cond (has_id (released_ids events) id && not (has_id (issued_ids events) id))
-    (Some (record { release = release_of events id; due = due_of setup events id; bios = request_of events id }))
-    None
+waits_at setup events id = cond (has_id (released_ids events) id && not (has_id (issued_ids events) id)) (Some (entered_at setup events id)) None
 
 -- whether the id has an Issue, requeued or not
 unfoldable pub was_issued : List Happened → ℕ → Bool

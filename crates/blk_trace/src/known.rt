@@ -2,15 +2,15 @@
 
 ghost use Rattle.std.specs.Prelude.{◌≡◌, ◌<◌, ◌+◌, ◌^◌, IfSome, IfNone};
 ghost use Rattle.blk_bio.specs.Requests.{IsRequest};
-ghost use Rattle.blk_trace.specs.Waits.{Entered};
-ghost use Rattle.blk_trace.specs.Inside.Kept.{summary, JoinsKept, FitsNoKept};
+ghost use Rattle.blk_trace.specs.Waits.{Entered, summary};
+ghost use Rattle.blk_trace.specs.Inside.Kept.{JoinsKept, FitsNoKept};
 
 use blk_bio::{Extent, Limits, Request};
 use std::alloc::Allocator;
 
-/// A request that waits, without its bios: what decides whether another may join it, and the rounds of its release and due.
+/// A request as its Release and Joins made it, without its bios.
 #[derive(Clone, Copy, Debug, PartialEq, Eq)]
-pub struct Unissued {
+pub struct Entry {
     /// Its direction and its range, and how many bios it has.
     pub extent: Extent,
     /// The last round in which bios entered under its id.
@@ -19,46 +19,50 @@ pub struct Unissued {
     pub due: u64,
 }
 
-/// What is kept under an id.
+/// How far a request has come.
 #[derive(Clone, Copy, Debug, PartialEq, Eq)]
-pub enum Known {
-    /// The request was released and never issued.
-    Waits(Unissued),
-    /// The request was issued, and was not requeued since.
+pub enum Stage {
+    /// It was never issued.
+    Waits,
+    /// It was issued, and was not requeued since.
     Gone,
-    /// The request was issued and requeued, so it waits and nothing joins it.
-    Requeued {
-        /// The round of its command's release.
-        release: u64,
-        /// The round in which its command is due.
-        due: u64,
-    },
+    /// It was issued and requeued, so it waits and nothing joins it.
+    Requeued,
 }
 
-impl Unissued {
-    /// What is kept of a request that enters in the round, and is due `expire` rounds later.
+/// What is kept under an id.
+#[derive(Clone, Copy, Debug, PartialEq, Eq)]
+pub struct Known {
+    /// How far its request has come.
+    pub stage: Stage,
+    /// Its request.
+    pub entry: Entry,
+}
+
+impl Entry {
+    /// A request that enters in the round, and is due `expire` rounds later.
     pub(crate) fn entered<A: Allocator + Clone>(
         request: &Request<A>,
         round: u64,
         expire: u64,
-    ) -> Unissued
+    ) -> Entry
         requires { round + expire < 2 ^ 64 }
         ensures { result ≡ summary record { release = round; due = round + expire; bios = request.now } }
     {
-        Unissued {
+        Entry {
             extent: request.extent(),
             release: round,
             due: round + expire,
         }
     }
 
-    /// What is kept of this request once the other has joined it in the round, where it can.
+    /// This request once the other has joined it in the round, where it can.
     pub(crate) fn joined<A: Allocator + Clone>(
         &self,
         request: &Request<A>,
         round: u64,
         limits: &Limits,
-    ) -> Option<Unissued>
+    ) -> Option<Entry>
         requires { (w : Entered) × (self.now ≡ summary w) × IsRequest w.bios }
         ensures some { IfSome result (JoinsKept limits.now round self.now request.now) }
         ensures none { IfNone result (FitsNoKept limits.now self.now request.now) }

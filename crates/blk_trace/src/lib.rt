@@ -11,6 +11,7 @@ mod trace;
 
 pub use blk_bio::TraceRule;
 pub use event::{Event, MAX_TAGS};
+pub use known::Entry;
 pub use rule::{PushFault, TraceFault};
 pub use setup::{MAX_EXPIRIES, Setup, SetupFault};
 pub use trace::{MAX_EVENTS, Prepared, Trace};

@@ -1,16 +1,18 @@
 //! A list of events that is legal, with a setup.
 
-ghost use Rattle.std.specs.Prelude.{ℕ, ◌≡◌, ◌≢◌, ◌↔◌, ◌++◌, ◌+◌, ◌≤◌, ◌<◌, ◌∷◌, [], IsTrue, IfOk, IfErr, OnOk, OnErr, length};
+ghost use Rattle.std.specs.Prelude.{ℕ, ◌≡◌, ◌≢◌, ◌↔◌, ◌++◌, ◌+◌, ◌≤◌, ◌<◌, ◌∷◌, [], IsTrue, IfSome, IfNone, IfOk, IfErr, OnOk, OnErr, option_map, length};
+ghost use Rattle.blk_bio.specs.Requests.{IsRequest};
 ghost use Rattle.std.specs.Option.{option_copied};
 ghost use Rattle.blk_trace.specs.Legal.{IsLegalTrace};
 ghost use Rattle.blk_trace.specs.Rules.{BreaksNoRule};
-ghost use Rattle.blk_trace.specs.Events.{round_of, open_count, IsUsed};
+ghost use Rattle.blk_trace.specs.Events.{round_of, open_count, request_of, IsReleased, IsIssued, IsUsed};
+ghost use Rattle.blk_trace.specs.Waits.{entered_at, summary, waits_at};
 ghost use Rattle.blk_trace.specs.Depths.{depth_now};
 ghost use Rattle.blk_trace.specs.Traces.{wanted, IsPreparedFor, IsPushAnswer, IsLegallyExtended, LacksOnlyMemory, HasBio, prepared_for};
 ghost use Rattle.blk_trace.specs.Inside.Kept.{IsReadyFor};
 
 use crate::event::Event;
-use crate::known::Known;
+use crate::known::{Entry, Known, Stage};
 use crate::rule::PushFault;
 use crate::setup::Setup;
 use crate::tags::TagUse;
@@ -223,6 +225,33 @@ impl<A: Allocator + Clone> Trace<A> {
         // brings the prover the trace's invariant
         let _ = &self.round;
         self.ids.contains(id.submitter, id.serial)
+    }
+
+    /// The request that was released under the id, as its Release and Joins made it, whether it waits or was issued.
+    pub fn request(&self, id: u64) -> Option<Entry>
+        ensures some { IfSome result (λ e. IsReleased self.now.events id × (e ≡ summary (entered_at self.now.setup self.now.events id))) }
+        ensures none { IfNone result (IsReleased self.now.events id → ⊥) }
+        ensures issued { IsIssued self.now.events id → IsReleased self.now.events id }
+        ensures is_request { IsReleased self.now.events id → IsRequest (request_of self.now.events id) }
+    {
+        let Some(known) = self.known_at(id) else {
+            return None;
+        };
+        Some(known.entry)
+    }
+
+    /// The request that waits under the id, as its Release and Joins made it: it was not issued, or was requeued.
+    pub fn waiting_at(&self, id: u64) -> Option<Entry>
+        ensures { result ≡ option_map summary (waits_at self.now.setup self.now.events id) }
+    {
+        let Some(known) = self.known_at(id) else {
+            return None;
+        };
+        match known.stage {
+            Stage::Gone => None,
+            Stage::Waits => Some(known.entry),
+            Stage::Requeued => Some(known.entry),
+        }
     }
 
     /// What the trace is made for.

@@ -7,12 +7,9 @@ use Rattle.std.specs.Option.{option_or, option_and_then}
 use Rattle.std.specs.List.{flat_map}
 use Rattle.blk_bio.specs.declared.bio.BioId.{BioId}
 use Rattle.blk_trace.specs.Happened.{Happened}
-use Rattle.blk_trace.specs.Setups.{Setup}
-use Rattle.blk_trace.specs.Meaning.{command_of, issued_ids}
 use Rattle.blk_trace.specs.Inside.Seats.{issued_by}
 use Rattle.blk_layer.specs.Seats.{SubmitterSeat, AreOwn}
 use Rattle.blk_trace.specs.Events.{AreOnce}
-use Rattle.blk_trace.specs.Waits.{has_id}
 
 -- the test holds just of one and the same
 pub record IsExact {X : Type 0} (same : X → X → Bool) : Type 0 where
@@ -54,10 +51,6 @@ DiffersIn accepted stored id = (bio : Bio) × (bio.id ≡ id) × (count_by (is_b
 -- the same of a command, of those that are done
 abbrev pub DiffersInCommand : List Command → List Command → Command → Type 0
 DiffersInCommand done ran c = Contains done c × (count_by (is_command c) ran ≢ count_by (is_command c) done)
-
--- the commands of all ids that were issued are known
-abbrev pub KnowsIssued : Setup → List Happened → (ℕ → Option Command) → Type 0
-KnowsIssued setup events known = (id : ℕ) → has_id (issued_ids events) id ≡ true → known id ≡ Some (command_of setup events id)
 
 -- the last id under each tag, after one more event
 abbrev pub NotesLast : (ℕ → Option ℕ) → Happened → (ℕ → Option ℕ) → Type 0

@@ -1,14 +1,15 @@
 -- What a trace keeps beside its events, what each part says of them, and the room that was made.
 use Rattle.std.specs.Prelude.{ℕ, ◌≡◌, ◌≤◌, ◌+◌, ◌==◌, ◌&&◌, Bool, true, false, cond, List, length, Option, Some, None, option_map, slice_get}
 use Rattle.std.specs.List.{list_any}
+use Rattle.std.specs.Option.{option_map_or}
 use Rattle.edd_commands.specs.declared.Command.{Command}
 use Rattle.blk_bio.specs.Bios.{Bio}
 use Rattle.blk_bio.specs.declared.bio.BioId.{BioId}
 use Rattle.blk_bio.specs.Requests.{IsRequest, Fits}
-use Rattle.blk_bio.specs.Extents.{extent_of}
-use Rattle.blk_trace.specs.declared.known.Unissued.{Unissued}
+use Rattle.blk_trace.specs.declared.known.Entry.{Entry}
+use Rattle.blk_trace.specs.declared.known.Stage.{Stage}
+use Rattle.blk_trace.specs.declared.known.Stage.TheVariants.{Waits, Gone, Requeued}
 use Rattle.blk_trace.specs.declared.known.Known.{Known}
-use Rattle.blk_trace.specs.declared.known.Known.TheVariants.{Waits, Gone, Requeued}
 use Rattle.blk_trace.specs.declared.tags.TagUse.{TagUse}
 use Rattle.blk_trace.specs.declared.tags.TagUse.TheVariants.{Free, Open, Ended}
 use Rattle.blk_trace.specs.declared.trace.Prepared.{Prepared}
@@ -19,45 +20,48 @@ use Rattle.blk_trace.specs.Events.{request_of, round_of, open_count, entered, Is
 use Rattle.blk_trace.specs.Depths.{depth_in, depth_now}
 use Rattle.blk_trace.specs.Legal.{IsLegalTrace}
 use Rattle.blk_trace.specs.Meaning.{commands_of, rounds_of, released_ids, issued_ids}
-use Rattle.blk_trace.specs.Waits.{Entered, has_id, waits_at, was_issued}
+use Rattle.blk_trace.specs.Waits.{Entered, summary, entered_at, has_id, was_issued}
 use Rattle.blk_trace.specs.Traces.{Traced, IsPreparedFor}
 use Rattle.blk_bio.specs.Limits.{Limits}
 use Rattle.blk_bio.specs.declared.request.Side.{Side}
 
--- what is kept of a request that waits
-abbrev pub summary : Entered → Unissued
-summary w = record { extent = extent_of w.bios; release = w.release; due = w.due }
-
 -- what is kept of it once the newcomer has joined it in the round: where it fits, and only there
-abbrev pub JoinsKept : Limits → ℕ → Unissued → List Bio → Unissued → Type 0
+abbrev pub JoinsKept : Limits → ℕ → Entry → List Bio → Entry → Type 0
 JoinsKept limits round old newcomer new = (w : Entered) → old ≡ summary w → IsRequest w.bios
     → ((s : Side) × Fits limits w.bios newcomer s) × (new ≡ summary record { release = round; due = w.due; bios = join_up w.bios newcomer })
 
-abbrev pub FitsNoKept : Limits → Unissued → List Bio → Type 0
+abbrev pub FitsNoKept : Limits → Entry → List Bio → Type 0
 FitsNoKept limits old newcomer = (w : Entered) → old ≡ summary w → IsRequest w.bios → (s : Side) → Fits limits w.bios newcomer s → ⊥
 
--- what is kept of a request that waits, by whether it was issued before
-abbrev pub known_waiting : Bool → Entered → Known
-known_waiting issued w = cond issued (Requeued w.release w.due) (Waits (summary w))
+-- the request under an id, where it was released
+unfoldable pub request_at : Setup → List Happened → ℕ → Option Entered
+request_at setup events id = cond (has_id (released_ids events) id) (Some (entered_at setup events id)) None
 
--- what is kept under an id: nothing of one that was not released, no more than that of one that was issued
+-- how far a request has come, by whether it is gone and whether it was ever issued
+abbrev pub stage_of : Bool → Bool → Stage
+stage_of gone ever = cond gone Gone (cond ever Requeued Waits)
+
+abbrev pub known_as : Bool → Bool → Entered → Known
+known_as gone ever w = record { stage = stage_of gone ever; entry = summary w }
+
+-- what is kept under an id: nothing of one that was not released
 unfoldable pub known_of : Setup → List Happened → ℕ → Option Known
-known_of setup events id = cond (has_id (issued_ids events) id) (Some Gone) (option_map (known_waiting (was_issued events id)) (waits_at setup events id))
+known_of setup events id = option_map (known_as (has_id (issued_ids events) id) (was_issued events id)) (request_at setup events id)
 
--- what is kept of the request of a command once it is requeued
-abbrev pub requeued_known : Command → Option Known
-requeued_known c = Some (Requeued c.release c.due)
+-- the same at another stage, and its command
+abbrev pub at_stage : Stage → Known → Known
+at_stage stage k = record { stage = stage; entry = k.entry }
+
+abbrev pub kept_command : ℕ → Known → Command
+kept_command id k = record { id = id; release = k.entry.release; due = k.entry.due }
 
 -- whether a request was issued, and not requeued since
-abbrev pub is_gone : Option Known → Bool
-is_gone (Some Gone) = true
-is_gone _ = false
+abbrev pub has_gone : Stage → Bool
+has_gone Gone = true
+has_gone _ = false
 
--- the rounds of the release and due of a request that may be issued
-abbrev pub rounds_known : Known → Option (ℕ × ℕ)
-rounds_known (Waits w) = Some (w.release, w.due)
-rounds_known (Requeued release due) = Some (release, due)
-rounds_known Gone = None
+abbrev pub is_gone : Option Known → Bool
+is_gone k = option_map_or (λ k. has_gone k.stage) k false
 
 -- whether two ids of bios are one
 abbrev pub is_bio : BioId → BioId → Bool

@@ -1,23 +1,22 @@
 //! Adding an event that breaks no rule, and for which there is room.
 
-ghost use Rattle.std.specs.Prelude.{ℕ, ◌≡◌, ◌≤◌, ◌<◌, ◌+◌, Some, vec_capacity, ◌++◌, ◌∷◌, [], length, slice_get, ◌||◌};
+ghost use Rattle.std.specs.Prelude.{ℕ, ◌≡◌, ◌≤◌, ◌<◌, ◌+◌, Some, IsSome, option_map, vec_capacity, ◌++◌, ◌∷◌, [], length, slice_get, ◌||◌};
 ghost use Rattle.blk_ids.specs.Given.{Gives};
 ghost use Rattle.blk_ids.specs.ById.{kept_at};
 ghost use Rattle.blk_ids.specs.ById as by_id;
 ghost use Rattle.blk_ids.specs.IdSet.{set_has};
 ghost use Rattle.blk_ids.specs.IdSet as id_set;
 ghost use Rattle.edd_commands.specs.declared.Command.{Command as Job};
-ghost use Rattle.blk_trace.specs.declared.known.Known.{Known as Kept};
 ghost use Rattle.blk_bio.specs.declared.bio.BioId.{BioId as Name};
 ghost use Rattle.blk_trace.specs.Happened.{Tick, Release, Join, Issue, Done, Back, Depth};
 ghost use Rattle.blk_trace.specs.Legal.{IsLegalTrace};
 ghost use Rattle.blk_trace.specs.Rules.{BreaksNoRule};
 ghost use Rattle.blk_trace.specs.Traces.{IsPreparedFor, extended};
-ghost use Rattle.blk_trace.specs.Events.{IsReleased, IsIssued, IsOpen, IsOpenBy};
-ghost use Rattle.blk_trace.specs.Inside.Kept.{known_of, requeued_known, has_named, has_bio_id, rounds_known};
+ghost use Rattle.blk_trace.specs.Events.{IsOpen, IsOpenBy};
+ghost use Rattle.blk_trace.specs.Inside.Kept.{at_stage, kept_command, has_named, has_bio_id};
 
 use crate::event::Event;
-use crate::known::{Known, Unissued};
+use crate::known::{Entry, Known, Stage};
 use crate::tags::{TagUse, free_below, past};
 use crate::trace::{Prepared, Trace};
 use blk_bio::{Bio, Request};
@@ -72,25 +71,12 @@ impl<A: Allocator + Clone> Trace<A> {
         ensures legal { IsLegalTrace self.old.setup (self.old.events ++ Release id request ∷ []) }
     {
         let expire = self.setup.expire(request.dir());
-        let waiting = Unissued::entered(&request, self.round, expire);
-        self.known.insert(id, Known::Waits(waiting));
+        let entry = Entry::entered(&request, self.round, expire);
+        let stage = Stage::Waits;
+        self.known.insert(id, Known { stage, entry });
         insert_ids(&mut self.ids, request.bios());
         append(&mut self.events, Event::Release { id, request });
         self.prepared = Prepared::Nothing;
-    }
-
-    /// What is kept of the request that waits under the id.
-    fn waiting_at(&self, id: u64) -> Unissued
-        requires released { IsReleased self.now.events id }
-        requires waits { IsIssued self.now.events id → ⊥ }
-        ensures { known_of self.now.setup self.now.events id ≡ Some (Known.Waits result) }
-    {
-        match self.known_at(id) {
-            Some(Known::Waits(waiting)) => waiting,
-            Some(Known::Gone) => unreachable!(),
-            Some(Known::Requeued { .. }) => unreachable!(),
-            None => unreachable!(),
-        }
     }
 
     /// Adds a Join: the request that waits under the id has these bios too.
@@ -100,11 +86,14 @@ impl<A: Allocator + Clone> Trace<A> {
         ensures added { self.new ≡ extended self.old (Join id request) }
         ensures legal { IsLegalTrace self.old.setup (self.old.events ++ Join id request ∷ []) }
     {
-        let old = self.waiting_at(id);
-        let Some(new) = old.joined(&request, self.round, &self.setup.limits()) else {
+        let Some(old) = self.request(id) else {
             unreachable!();
         };
-        self.known.set(id, Known::Waits(new));
+        let Some(entry) = old.joined(&request, self.round, &self.setup.limits()) else {
+            unreachable!();
+        };
+        let stage = Stage::Waits;
+        self.known.set(id, Known { stage, entry });
         insert_ids(&mut self.ids, request.bios());
         append(&mut self.events, Event::Join { id, request });
         self.prepared = Prepared::Nothing;
@@ -118,7 +107,7 @@ impl<A: Allocator + Clone> Trace<A> {
         ensures added { self.new ≡ extended self.old (Issue id tag) }
         ensures legal { IsLegalTrace self.old.setup (self.old.events ++ Issue id tag ∷ []) }
     {
-        let command = issued(&mut self.known, id);
+        let command = moved(&mut self.known, id, Stage::Gone);
         append(&mut self.commands, command);
         append(&mut self.rounds, self.round);
         self.tags[tag as usize] = TagUse::Open(id);
@@ -162,9 +151,9 @@ impl<A: Allocator + Clone> Trace<A> {
     {
         let id = self.open_id(tag);
         let place = place_of(self.commands.as_slice(), id);
-        let command = self.commands.remove(place);
+        self.commands.remove(place);
         self.rounds.remove(place);
-        requeue(&mut self.known, &command);
+        moved(&mut self.known, id, Stage::Requeued);
         self.tags[tag as usize] = TagUse::Ended;
         self.open -= 1;
         append(&mut self.events, Event::Back { tag });
@@ -184,36 +173,24 @@ impl<A: Allocator + Clone> Trace<A> {
     }
 }
 
-/// Marks the request that waits under an id as issued, and hands out its command.
-fn issued<A: Allocator + Clone>(known: &mut ById<Known, A>, id: u64) -> Command
-    requires { (k : Kept) × ((x : ℕ × ℕ) × (kept_at known.old id ≡ Some k) × (rounds_known k ≡ Some x)) }
-    ensures named { result.id ≡ id }
-    ensures was { (k : Kept) × (kept_at known.old id ≡ Some k) × (rounds_known k ≡ Some (result.release, result.due)) }
-    ensures gone { Gives (kept_at known.old) id (Some Known.Gone) (kept_at known.new) }
+/// Notes how far the request of an id has come, and hands out its command.
+fn moved<A: Allocator + Clone>(known: &mut ById<Known, A>, id: u64, stage: Stage) -> Command
+    requires { IsSome (kept_at known.old id) }
+    ensures command { Some result ≡ option_map (kept_command id) (kept_at known.old id) }
+    ensures stage { Gives (kept_at known.old) id (option_map (at_stage stage) (kept_at known.old id)) (kept_at known.new) }
     ensures room { by_id.spare known.new ≡ by_id.spare known.old }
 {
     let Some(kept) = known.get(id) else {
         unreachable!()
     };
-    let (release, due) = match kept {
-        Known::Waits(waiting) => (waiting.release, waiting.due),
-        Known::Requeued { release, due } => (release, due),
-        Known::Gone => unreachable!(),
+    let command = Command {
+        id,
+        release: kept.entry.release,
+        due: kept.entry.due,
     };
-    known.set(id, Known::Gone);
-    Command { id, release, due }
-}
-
-/// Marks the request of a command, which was issued, as requeued.
-fn requeue<A: Allocator + Clone>(known: &mut ById<Known, A>, command: &Command)
-    requires { kept_at known.old command.now.id ≡ Some Known.Gone }
-    ensures { Gives (kept_at known.old) command.now.id (requeued_known command.now) (kept_at known.new) }
-{
-    let back = Known::Requeued {
-        release: command.release,
-        due: command.due,
-    };
-    known.set(command.id, back);
+    let entry = kept.entry;
+    known.set(id, Known { stage, entry });
+    command
 }
 
 /// The place of the command of an id, which is there. It looks from the end on, since what is in flight was issued in

@@ -6,12 +6,11 @@ ghost use Rattle.blk_trace.specs.Happened.{Tick, Release, Join, Issue, Depth};
 ghost use Rattle.blk_trace.specs.Kinds.{ends};
 ghost use Rattle.blk_trace.specs.Legal.{IsLegalTrace};
 ghost use Rattle.blk_trace.specs.Rules.{IsFirstBroken, BreaksNoRule};
-ghost use Rattle.blk_trace.specs.Events.{entered, open_count, IsReleased, AreRequeued, IsOpen, IsUsed, AreOnce, IsFirstRepeatedBio};
-ghost use Rattle.blk_trace.specs.Waits.{Entered, waits_at};
+ghost use Rattle.blk_trace.specs.Events.{entered, open_count, request_of, IsReleased, AreRequeued, IsOpen, IsUsed, AreOnce, IsFirstRepeatedBio};
 ghost use Rattle.blk_trace.specs.Inside.Kept.{known_of, IsTagUse, has_bio_id};
 
 use crate::event::Event;
-use crate::known::Known;
+use crate::known::{Known, Stage};
 use crate::tags::TagUse;
 use crate::trace::{MAX_EVENTS, Trace};
 use blk_bio::{Bio, BioId, Request, TraceRule};
@@ -75,15 +74,21 @@ impl<A: Allocator + Clone> Trace<A> {
         ensures some { IfSome result (IsFirstBroken self.now.setup self.now.events (Join id request.now)) }
         ensures none { IfNone result (BreaksNoRule self.now.setup self.now.events (Join id request.now)) }
     {
-        let waiting = match self.known_at(id) {
-            None => return Some(TraceRule::Unknown),
-            Some(Known::Gone) => return Some(TraceRule::AlreadyIssued),
-            Some(Known::Requeued { .. }) => return Some(TraceRule::AlreadyIssued),
-            Some(Known::Waits(waiting)) => waiting,
+        let Some(known) = self.known_at(id) else {
+            return Some(TraceRule::Unknown);
         };
+        match known.stage {
+            Stage::Waits => {}
+            Stage::Gone => return Some(TraceRule::AlreadyIssued),
+            Stage::Requeued => return Some(TraceRule::AlreadyIssued),
+        }
         if !self.are_new(request) {
             Some(TraceRule::BioTwice)
-        } else if waiting.joined(request, 0, &self.setup().limits()).is_none() {
+        } else if known
+            .entry
+            .joined(request, 0, &self.setup().limits())
+            .is_none()
+        {
             Some(TraceRule::Fit)
         } else if !self.has_places(1) {
             Some(TraceRule::TooLong)
@@ -97,11 +102,13 @@ impl<A: Allocator + Clone> Trace<A> {
         ensures some { IfSome result (IsFirstBroken self.now.setup self.now.events (Issue id tag)) }
         ensures none { IfNone result (BreaksNoRule self.now.setup self.now.events (Issue id tag)) }
     {
-        match self.known_at(id) {
-            None => Some(TraceRule::Unknown),
-            Some(Known::Gone) => Some(TraceRule::AlreadyIssued),
-            Some(Known::Waits(_)) => self.broken_tag(id, tag),
-            Some(Known::Requeued { .. }) => self.broken_tag(id, tag),
+        let Some(known) = self.known_at(id) else {
+            return Some(TraceRule::Unknown);
+        };
+        match known.stage {
+            Stage::Gone => Some(TraceRule::AlreadyIssued),
+            Stage::Waits => self.broken_tag(id, tag),
+            Stage::Requeued => self.broken_tag(id, tag),
         }
     }
 
@@ -160,7 +167,7 @@ impl<A: Allocator + Clone> Trace<A> {
     pub(crate) fn known_at(&self, id: u64) -> Option<Known>
         ensures value { result ≡ known_of self.now.setup self.now.events id }
         ensures legal { IsLegalTrace self.now.setup self.now.events }
-        ensures request { (w : Entered) → waits_at self.now.setup self.now.events id ≡ Some w → IsRequest w.bios }
+        ensures request { IsReleased self.now.events id → IsRequest (request_of self.now.events id) }
     {
         // brings the prover the trace's invariant
         let _ = &self.round;

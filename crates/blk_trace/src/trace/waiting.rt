@@ -16,7 +16,7 @@ ghost use Rattle.blk_trace.specs.Meaning.{waiting_of};
 ghost use Rattle.blk_ids.specs.Given.{Gives};
 
 use crate::event::Event;
-use crate::known::Known;
+use crate::known::{Known, Stage};
 use crate::setup::Setup;
 use crate::trace::Trace;
 use blk_bio::{Bio, Request};
@@ -199,7 +199,7 @@ fn stays<A: Allocator + Clone>(known: &ById<Known, A>, event: &Event<Request<A>>
     };
     match known.get(id) {
         None => true,
-        Some(kept) => !matches!(kept, Known::Gone),
+        Some(kept) => !matches!(kept.stage, Stage::Gone),
     }
 }
 

@@ -1,9 +1,4 @@
 use Rattle.std.proofs.Common.{◌≡◌, ◌∙◌, ℕ, List, length, sym, ap, subst, arith}
-use Rattle.std.specs.Ordering.{nat_cmp}
-use Rattle.std.specs.BTreeMap.{get}
-use Rattle.blk_trace.specs.Happened.{Happened}
-use Rattle.blk_trace.specs.Setups.{Setup}
-use Rattle.blk_picture.specs.Inside.Facts.{Knows}
 use Rattle.blk_picture.specs.Inside.Walked.{IsWalked}
 use Rattle.blk_picture.proofs.Walk.{filled_up, walked_none, walked_all}
 use Rattle.blk_trace.specs.declared.event.TheConstants.{MAX_TAGS}
@@ -15,7 +10,6 @@ loop-left-init c =
     let all : length c.events-left.result.now ≡ length t.events = ap length c.events-left.ensures.events in
     record {
       within = omega (arith, all);
-      facts = λ id. subst (λ (s : Setup). Knows s t.events id (get nat_cmp c.in_ok-facts.facts id)) c.setup-setup.ensures (subst (λ (l : List Happened). Knows c.setup-setup.result l id (get nat_cmp c.in_ok-facts.facts id)) c.events.ensures.events (c.in_ok-facts.ensures id));
       walked = subst (λ (r : ℕ). IsWalked t.setup t.events (length c.events-left.result.now) r c.resize.new.self.items c.new-boxes.result.items) (sym c.round-round.ensures.value)
           (walked_none t.setup t.events (length c.events-left.result.now) c.resize.new.self.items c.new-boxes.result.items all (omega (arith, c.round-round.ensures.value, c.round-round.ensures.few)) (c.in_ok-resize.ensures.items ∙ filled_up MAX_TAGS c.new-backs.result.items _ c.new-backs.ensures.items c.new-backs.ensures.len) c.new-boxes.ensures.items);
     }
@@ -23,7 +17,6 @@ loop-left-init c =
 pub loop-left-preserved : goal.loop-left-preserved
 loop-left-preserved c = record {
   within = omega (arith, c.loop-left.invariant.within);
-  facts = c.loop-left.invariant.facts;
   walked = c.in_ok-round.ensures;
 }
 

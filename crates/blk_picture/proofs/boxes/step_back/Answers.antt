@@ -1,10 +1,8 @@
-use Rattle.std.proofs.Common.{◌≡◌, ◌<◌, ◌∙◌, List, false, get_or, refl, sym, ap, arith}
+use Rattle.std.proofs.Common.{◌≡◌, ◌<◌, ◌++◌, ◌∙◌, List, [], ◌∷◌, false, get_or, refl, sym, ap, arith}
 use Rattle.std.specs.Prelude.{is_some}
-use Rattle.std.specs.Ordering.{nat_cmp}
-use Rattle.std.specs.BTreeMap.{get}
 use Rattle.std.proofs.lemmas.List.{get_or_read}
 use Rattle.blk_trace.specs.Happened.{Happened}
-use Rattle.blk_picture.proofs.Walk.{tick_round, walked_tick, walked_end, walked_still, walked_issue}
+use Rattle.blk_picture.proofs.Walk.{tick_round, issue_at, walked_tick, walked_end, walked_still, walked_issue}
 use Rattle.blk_trace.specs.declared.event.TheConstants.{MAX_TAGS}
 use Rattle.blk_picture.proofs.boxes.step_back.Goals as goal
 
@@ -42,5 +40,8 @@ returns-in-Ok c =
     let events : List Happened = c.args.trace.now.events in
     let e : Happened = c.index-events-place.result in
     let here : e ≡ get_or events c.args.place e = c.index-events-place.is ∙ ap (λ (l : List Happened). get_or l c.args.place e) c.events.ensures.events in
-    let low : c.in-Some-issues.tag < MAX_TAGS = first_of (omega arith, search arith) in
-    walked_issue c.args.trace.now.setup events c.args.place c.args.round c.in-Some-issues.id c.in-Some-issues.tag e (get nat_cmp c.args.facts.now c.in-Some-issues.id) c.known-known.result c.index-back.result.now c.args.backs.now.items c.args.boxes.now.items c.push.new.self.items c.requires.within here (sym c.is_tick.ensures ∙ c.if-is_tick.false) (sym c.in_default.ensures) (sym c.in-Some-issues.ensures) low (c.requires.facts c.in-Some-issues.id) c.known-known.ensures (get_or_read c.args.backs.now.items c.in-Some-issues.tag c.index-back.result.now (omega (arith, low, c.requires.walked.tags)) c.index-back.ensures false) c.in-Ok.ensures.items c.requires.walked
+    let low : c.in-Some-issues.issue.1 < MAX_TAGS = first_of (omega arith, search arith) in
+    walked_issue c.args.trace.now.setup events c.args.place c.args.round c.in-Some-issues.issue.0 c.in-Some-issues.issue.1 e c.index-back.result.now c.args.backs.now.items c.args.boxes.now.items c.push.new.self.items c.requires.within here (sym c.is_tick.ensures ∙ c.if-is_tick.false) (sym c.in_default.ensures) (sym c.in-Some-issues.ensures) low (get_or_read c.args.backs.now.items c.in-Some-issues.issue.1 c.index-back.result.now (omega (arith, low, c.requires.walked.tags)) c.index-back.ensures false) (c.in-Ok.ensures.items ∙ ap (λ b. c.args.boxes.now.items ++ b ∷ []) c.issue_box.ensures) c.requires.walked
+
+pub issue_box-requires-clause-issued : goal.issue_box-requires-clause-issued
+issue_box-requires-clause-issued c = (c.args.place, (c.in-Some-issues.issue.1, issue_at c.args.trace.now.events c.args.place c.index-events-place.result c.in-Some-issues.issue.0 c.in-Some-issues.issue.1 c.requires.within (c.index-events-place.is ∙ ap (λ (l : List Happened). get_or l c.args.place c.index-events-place.result) c.events.ensures.events) (sym c.in-Some-issues.ensures)))

@@ -3,7 +3,7 @@ use Rattle.std.specs.List.{cons_option}
 use Rattle.std.proofs.lemmas.List.{take_all, take_more, length-append}
 use Rattle.blk_trace.specs.Happened.{Happened}
 use Rattle.blk_picture.specs.Columns.{entered_in}
-use Rattle.blk_picture.proofs.Requests.{round_next, round_none, round_step}
+use Rattle.blk_picture.proofs.Walk.{round_next, round_none, round_step}
 use Rattle.blk_picture.proofs.Counting.{entered_none, entered_more, some_few}
 use Rattle.blk_picture.proofs.columns.entered.Goals as goal
 

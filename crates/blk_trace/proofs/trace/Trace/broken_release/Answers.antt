@@ -11,7 +11,7 @@ use Rattle.blk_trace.proofs.trace.Trace.broken_release.Goals as goal
 pub returns-then-is_some-clause-some : goal.returns-then-is_some-clause-some
 returns-then-is_some-clause-some g c =
     let q = is_there c.known_at.result (sym c.is_some.ensures ∙ c.if-is_some.true) in
-    release_released_twice c.args.self.now.setup c.args.self.now.events c.args.id c.args.request.now (λ h. h (known_some c.args.self.now.setup c.args.self.now.events c.args.id q.0 c.known_at.ensures.legal (sym c.known_at.ensures.value ∙ q.1)))
+    release_released_twice c.args.self.now.setup c.args.self.now.events c.args.id c.args.request.now (λ h. h (known_some c.args.self.now.setup c.args.self.now.events c.args.id q.0 (sym c.known_at.ensures.value ∙ q.1)).released)
 
 pub returns-then-not-are_new-clause-some : goal.returns-then-not-are_new-clause-some
 returns-then-not-are_new-clause-some g c =

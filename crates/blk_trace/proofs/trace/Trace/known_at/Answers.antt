@@ -1,11 +1,11 @@
-use Rattle.std.proofs.Common.{◌≡◌, Some, subst}
-use Rattle.blk_trace.specs.Waits.{Entered, waits_at}
+use Rattle.std.proofs.Common.{subst}
+use Rattle.blk_trace.specs.Events.{request_of, IsReleased}
 use Rattle.blk_bio.specs.Requests.{IsRequest}
 use Rattle.blk_trace.specs.Traces.{Traced}
-use Rattle.blk_trace.proofs.Keeping.{waiting_request}
+use Rattle.blk_trace.proofs.Ids.{released_has}
 use Rattle.blk_trace.proofs.trace.Trace.known_at.Goals as goal
 
 pub returns-clause-request : goal.returns-clause-request
 returns-clause-request g c =
-    let P : Traced → Type 0 = λ v. (w : Entered) → waits_at v.setup v.events c.args.id ≡ Some w → IsRequest w.bios in
-    subst P c.self.view_is (λ w h. waiting_request c.self.inside.setup c.self.inside.events.items c.args.id w c.self.invariant.0.requests_are h)
+    let P : Traced → Type 0 = λ v. IsReleased v.events c.args.id → IsRequest (request_of v.events c.args.id) in
+    subst P c.self.view_is (λ p. c.self.invariant.0.requests_are c.args.id (released_has c.self.inside.events.items p.0 c.args.id p.1.0 p.1.1))

@@ -1,17 +1,17 @@
-use Rattle.std.proofs.Common.{◌≡◌, ◌∙◌, Some, ap, sym}
-use Rattle.blk_trace.specs.declared.known.Known.TheVariants.{Gone}
-use Rattle.blk_trace.specs.Inside.Kept.{known_of}
-use Rattle.blk_trace.proofs.Knowing.{known_none, known_gone, known_requeued}
+use Rattle.std.proofs.Common.{◌∙◌, ap, sym, cond, Some, None}
+use Rattle.blk_trace.specs.declared.known.Stage.{Stage}
+use Rattle.blk_trace.specs.Inside.Kept.{has_gone}
+use Rattle.blk_trace.proofs.Knowing.{known_waiting}
 use Rattle.blk_trace.proofs.trace.Trace.waiting_at.Goals as goal
 
-pub unreachable-requires : goal.unreachable-requires
-unreachable-requires g c =
-    let e : known_of c.args.self.now.setup c.args.self.now.events c.args.id ≡ Some Gone = sym c.known_at.ensures.value ∙ c.in-Some-Gone.is ∙ ap Some c.in-Some-Gone.field-0-is in
-    c.requires.waits (known_gone c.args.self.now.setup c.args.self.now.events c.args.id e)
+pub returns-in_default : goal.returns-in_default
+returns-in_default g c = sym (known_waiting c.args.self.now.setup c.args.self.now.events c.args.id None (sym c.known_at.ensures.value ∙ c.in_default.is))
 
-pub unreachable-requires-in-Some-Requeued : goal.unreachable-requires-in-Some-Requeued
-unreachable-requires-in-Some-Requeued g c =
-    c.requires.waits (known_requeued c.args.self.now.setup c.args.self.now.events c.args.id _ _ c.known_at.ensures.legal (sym c.known_at.ensures.value ∙ c.in-Some-Requeued.is ∙ ap Some c.in-Some-Requeued.field-0-is)).issued
+pub returns-in-Gone : goal.returns-in-Gone
+returns-in-Gone g c = sym (known_waiting c.args.self.now.setup c.args.self.now.events c.args.id (Some c.in-Some.known) (sym c.known_at.ensures.value ∙ c.in-Some.is) ∙ ap (λ (s : Stage). cond (has_gone s) None (Some c.in-Some.known.entry)) c.in-Gone.is)
 
-pub unreachable-requires-in-None : goal.unreachable-requires-in-None
-unreachable-requires-in-None g c = known_none c.args.self.now.setup c.args.self.now.events c.args.id (sym c.known_at.ensures.value ∙ c.in-None.is) c.requires.released
+pub returns-in-Waits : goal.returns-in-Waits
+returns-in-Waits g c = sym (known_waiting c.args.self.now.setup c.args.self.now.events c.args.id (Some c.in-Some.known) (sym c.known_at.ensures.value ∙ c.in-Some.is) ∙ ap (λ (s : Stage). cond (has_gone s) None (Some c.in-Some.known.entry)) c.in-Waits.is)
+
+pub returns-in-Requeued : goal.returns-in-Requeued
+returns-in-Requeued g c = sym (known_waiting c.args.self.now.setup c.args.self.now.events c.args.id (Some c.in-Some.known) (sym c.known_at.ensures.value ∙ c.in-Some.is) ∙ ap (λ (s : Stage). cond (has_gone s) None (Some c.in-Some.known.entry)) c.in-Requeued.is)

@@ -24,7 +24,7 @@ loop-event-preserved g c =
     let e = c.event-item.result in
     let limits : IsLimits c.args.setup.limits = rw (← c.limits.ensures) c.max_segments.ensures.is_limits in
     let few : length (bios_of e) ≤ MAX_SEGMENTS = few_more c.args.setup es i e limits c.requires.legal c.loop-event-test.true c.event-item.is in
-    let told : enters_to_stay (λ id. has_id (issued_ids es) id) e ≡ c.stays.result = sym (c.stays.ensures ∙ stays_by c.args.setup es (by_id.kept_at c.args.known.now) e c.requires.kept) in
+    let told : enters_to_stay (λ id. has_id (issued_ids es) id) e ≡ c.stays.result = sym (c.stays.ensures ∙ stays_by c.args.setup es (by_id.kept_at c.args.known.now) e c.requires.legal c.requires.kept) in
     let more : length (flat_map (request_of (take (i + 1) es)) (waiting es)) ≡ length (flat_map (request_of (take i es)) (waiting es)) + cond c.stays.result (length (bios_of e)) 0 =
     wait_more c.args.setup es i e c.requires.legal c.loop-event-test.true c.event-item.is ∙ ap (λ b. length (flat_map (request_of (take i es)) (waiting es)) + cond b (length (bios_of e)) 0) told in
     elim c.if-stays.branch [

@@ -21,7 +21,7 @@ loop-event-preserved g c = λ id.
     let gone : ℕ → Bool = λ i. has_id (issued_ids all) i in
     let es : List Happened = take c.loop-event.event-index c.args.events.now in
     let p = one_more c.args.setup c.args.events.now c.loop-event.event-index c.event-item.result c.loop-event-test.true c.event-item.is c.requires.legal in
-    let told : enters_to_stay gone c.event-item.result ≡ c.stays.result = sym (c.stays.ensures ∙ stays_by c.args.setup all (by_id.kept_at c.args.known.now) c.event-item.result c.requires.kept) in
+    let told : enters_to_stay gone c.event-item.result ≡ c.stays.result = sym (c.stays.ensures ∙ stays_by c.args.setup all (by_id.kept_at c.args.known.now) c.event-item.result c.requires.legal c.requires.kept) in
     elim c.if-stays.branch [
       | then-stays+in_ok-gather w ↦
           ap (λ m. get nat_cmp m id) w.requests-is

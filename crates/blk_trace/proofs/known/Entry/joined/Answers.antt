@@ -1,15 +1,14 @@
 use Rattle.std.proofs.Common.{◌≡◌, ap}
 use Rattle.blk_bio.specs.Extents.{extent_of}
 use Rattle.blk_bio.proofs.Fitting.{from_extents, to_extents}
-use Rattle.blk_trace.specs.declared.known.Unissued.{Unissued}
-use Rattle.blk_trace.specs.Waits.{Entered}
-use Rattle.blk_trace.specs.Inside.Kept.{summary}
+use Rattle.blk_trace.specs.declared.known.Entry.{Entry}
+use Rattle.blk_trace.specs.Waits.{Entered, summary}
 use Rattle.blk_trace.proofs.Joining.{joined_is}
-use Rattle.blk_trace.proofs.known.Unissued.joined.Goals as goal
+use Rattle.blk_trace.proofs.known.Entry.joined.Goals as goal
 
 -- the extent that is kept
-extent_is : (old : Unissued) (w : Entered) → old ≡ summary w → old.extent ≡ extent_of w.bios
-extent_is old w is = ap (λ (x : Unissued). x.extent) is
+extent_is : (old : Entry) (w : Entered) → old ≡ summary w → old.extent ≡ extent_of w.bios
+extent_is old w is = ap (λ (x : Entry). x.extent) is
 
 pub joined-new-requires : goal.joined-new-requires
 joined-new-requires g c = c.in-Some.ensures.some.touches
