@@ -144,15 +144,14 @@ def threads_of(threads, script):
 
 def wrong_threads():
     """What is wrong with how many threads try a script that takes a while, empty where nothing is."""
-    bios = "".join(f"bio,0,{i},{'RW'[i % 2]},{i * 997 % 5000 * 16},8\nflush,0,,,,\nrun,1,,,,\n" for i in range(300))
+    bios = "".join(f"bio,0,{i},{'RW'[i % 2]},{i * 997 % 5000 * 16},8\nflush,0,,,,\nrun,1,,,,\n" for i in range(3000))
     script = f"blk-script,1,1,1,1,1\nsetup,0,9,256,128,\n{bios}".encode()
     told = ""
     for threads in (1, 2, 4):
         looks = sorted(look for _ in range(3) for look in threads_of(threads, script))
-        # while one comes another that is over may still be seen for a moment, so the most that a tenth of the looks see
-        most = looks[len(looks) * 9 // 10]
-        if most != threads:
-            told += f"    with --threads {threads} there were {most}\n"
+        # while one comes another that is over may still be seen for a moment; beside other work some are over before the last one comes
+        if looks[-1] < threads or looks[len(looks) * 9 // 10] > threads:
+            told += f"    with --threads {threads} there were up to {looks[-1]}\n"
     return told
 
 
