@@ -1,3 +1,2 @@
 -- What invariants and proofs alone need.
-pub mod Walked
 pub mod Counted

@@ -1,13 +1,12 @@
 //! The boxes of a trace: one for each Issue, in its round and under its tag.
 
-ghost use Rattle.std.specs.Prelude.{◌≡◌, ◌≤◌, ◌<◌, ◌+◌, IfOk, length};
+ghost use Rattle.std.specs.Prelude.{◌≡◌, ◌≤◌, IfOk, length};
 ghost use Rattle.blk_trace.specs.declared.trace.TheConstants.{MAX_EVENTS};
 ghost use Rattle.blk_trace.specs.Events.{IsIssued};
-ghost use Rattle.blk_picture.specs.Boxes.{boxed, boxes_of};
-ghost use Rattle.blk_picture.specs.Inside.Walked.{IsWalked};
+ghost use Rattle.blk_picture.specs.Boxes.{box_of, boxes_of};
 
 use blk_bio::Dir;
-use blk_trace::{MAX_TAGS, Trace};
+use blk_trace::{Issued, Trace};
 use std::alloc::{AllocError, Global};
 
 /// An Issue, with the request as it was issued.
@@ -33,74 +32,39 @@ pub struct IssueBox {
     pub back: bool,
 }
 
-/// The box of an Issue of an id under a tag.
-fn issue_box(trace: &Trace, round: u64, issue: (u64, u16), back: bool) -> IssueBox
-    requires issued { IsIssued trace.now.events issue.0 }
-    requires round { round ≤ MAX_EVENTS }
-    ensures { result ≡ boxed trace.now.setup trace.now.events round issue back }
+/// The box of an Issue.
+fn issue_box(trace: &Trace, issue: &Issued) -> IssueBox
+    requires issued { IsIssued trace.now.events issue.now.id }
+    requires round { issue.now.round ≤ MAX_EVENTS }
+    ensures { result ≡ box_of trace.now.setup trace.now.events issue.now }
 {
-    let (id, tag) = issue;
-    let Some(entry) = trace.request(id) else {
+    let Some(entry) = trace.request(issue.id) else {
         unreachable!()
     };
     IssueBox {
-        id,
+        id: issue.id,
         dir: entry.extent.dir(),
         first: entry.extent.first(),
         end: entry.extent.end(),
         release: entry.release,
         due: entry.due,
-        round: round as u32,
-        tag,
-        back,
+        round: issue.round as u32,
+        tag: issue.tag,
+        back: issue.was_requeued(),
     }
 }
 
-/// Steps back over the event at a place, in the round, and says which round it is before that.
-fn step_back(
-    trace: &Trace,
-    place: usize,
-    round: u64,
-    backs: &mut Vec<bool>,
-    boxes: &mut Vec<IssueBox>,
-) -> Result<u64, AllocError>
-    requires within { place < length trace.now.events }
-    requires walked { IsWalked trace.now.setup trace.now.events (place + 1) round backs.old.items boxes.old.items }
-    ensures { IfOk result (λ r. IsWalked trace.now.setup trace.now.events place r backs.new.items boxes.new.items) }
-{
-    let event = &trace.events()[place];
-    if event.is_tick() {
-        return Ok(round - 1);
-    }
-    if let Some(tag) = event.ends() {
-        backs[tag as usize] = event.requeues().is_some();
-        return Ok(round);
-    }
-    let Some(issue) = event.issues() else {
-        return Ok(round);
-    };
-    let back = backs[issue.1 as usize];
-    match boxes.push(issue_box(trace, round, issue, back)) {
-        Ok(()) => Ok(round),
-        Err(_) => Err(AllocError),
-    }
-}
-
-/// The box of each Issue, the last one first. It walks the events back, so that each tag's end is seen before its Issue.
+/// The box of each Issue, the last one first.
 pub(crate) fn boxes(alloc: Global, trace: &Trace) -> Result<Vec<IssueBox>, AllocError>
     ensures boxes { IfOk result (λ v. v.items ≡ boxes_of trace.now.setup trace.now.events) }
     ensures few { IfOk result (λ v. length v.items ≤ MAX_EVENTS) }
 {
-    // brings the prover the trace's invariant
-    let _ = trace.len();
-    let mut backs = Vec::new(alloc);
-    backs.resize(MAX_TAGS as usize, false)?;
+    let issues = trace.issues();
     let mut boxes = Vec::new(alloc);
-    let mut round = trace.round();
-    let mut left = trace.events().len();
+    let mut left = issues.len();
     while left > 0 {
         left -= 1;
-        round = step_back(trace, left, round, &mut backs, &mut boxes)?;
+        boxes.push(issue_box(trace, &issues[left]))?;
     }
     Ok(boxes)
 }

@@ -1,32 +1,34 @@
 -- Columns added up.
-use Rattle.std.proofs.Common.{◌≡◌, ◌<◌, ◌≤◌, ◌+◌, ◌-◌, ◌*◌, ◌==◌, ◌∙◌, ◌∷◌, ℕ, zero, suc, List, [], length, refl, sym, ap, subst, arith, inl, inr, cond, Bool, true, false, get_or, eqb-true}
-use Rattle.std.specs.Prelude.{count_by, sum_by, nat_lt, min, max, ◌/◌, ◌⊎◌, All, not, ◌&&◌, Option, Some, None, option_map, map, fold, slice_get}
+use mathlib.Core.List.{reverse-cons}
+use Rattle.std.proofs.Common.{◌≡◌, ◌<◌, ◌≤◌, ◌+◌, ◌-◌, ◌*◌, ◌++◌, ◌==◌, ◌∙◌, ◌∷◌, ℕ, zero, suc, List, [], length, refl, sym, ap, subst, arith, inl, inr, cond, Bool, true, false, get_or, eqb-true}
+use Rattle.std.specs.Prelude.{count_by, sum_by, nat_lt, min, max, ◌/◌, ◌⊎◌, All, not, ◌&&◌, Some, None, map, fold, reverse, slice_get}
 use Rattle.std.specs.List.{cons_option, filter_map}
 use Rattle.std.proofs.Math.Nat.{div-lt_iff_lt-mul, suc-mul, zero-mul, mul-le-mul_right}
 use Rattle.std.proofs.lemmas.Bool.{cases_Bool, eqb-false, lt-ltb, le-ltb, ltb-true, ltb-false}
 use Rattle.std.proofs.lemmas.List.Sums.{sum_by_push, sum_by-cons}
 use Rattle.std.proofs.lemmas.List.Elements.{All-append}
-use Rattle.std.proofs.lemmas.List.{length-map}
+use Rattle.std.proofs.lemmas.List.{length-map, map-append}
 use Rattle.edd_commands.specs.declared.steps.Step.{Step}
 use Rattle.edd_commands.specs.Capacity.{carried}
 use Rattle.edd_commands.proofs.InForce.{carried_none}
 use Rattle.blk_bio.specs.declared.bio.Dir.{Dir}
 use Rattle.blk_bio.specs.declared.bio.Dir.TheVariants.{Read, Write}
+use Rattle.blk_trace.specs.declared.issued.Issued.{Issued}
+use Rattle.blk_trace.specs.Issues.{issues_of}
 use Rattle.blk_trace.specs.Traces.{Traced}
 use Rattle.blk_trace.specs.Happened.{Happened}
-use Rattle.blk_trace.specs.Kinds.{is_tick, issues}
 use Rattle.blk_trace.specs.Setups.{Setup, same_dir}
 use Rattle.blk_trace.specs.Events.{round_of}
 use Rattle.blk_trace.specs.Depths.{capacity_of}
 use Rattle.blk_trace.proofs.Counting.{one_if, count-cons}
-use Rattle.blk_trace.proofs.More.{round_cons}
+use Rattle.blk_trace.proofs.Issues.{issue_low}
 use Rattle.blk_report.proofs.Waiting.{carried_split}
 use Rattle.blk_picture.specs.declared.boxes.IssueBox.{IssueBox}
 use Rattle.blk_picture.specs.declared.scale.Scale.{Scale}
 use Rattle.blk_picture.specs.declared.columns.Column.{Column}
 use Rattle.blk_picture.specs.declared.columns.IssueKind.{IssueKind}
 use Rattle.blk_picture.specs.declared.columns.IssueKind.TheVariants.{Reads, Writes, Lates, Backs}
-use Rattle.blk_picture.specs.Boxes.{box_of, boxes_from, boxes_of}
+use Rattle.blk_picture.specs.Boxes.{box_of, boxes_of}
 use Rattle.blk_picture.specs.Columns.{counts_as, is_late, in_column, round_in, rounds_in, column_of, rooms_of}
 use Rattle.blk_picture.specs.Made.{made}
 use Rattle.blk_picture.specs.Scales.{IsScaled, columns_by}
@@ -121,26 +123,17 @@ columns_sum g f per m last rounds is some low h =
 
 -- ---- the rounds of boxes
 
-pub one_low : (setup : Setup) (events : List Happened) (round n : ℕ) (later : List Happened) (o : Option (ℕ × ℕ)) → round ≤ n → All (λ (b : IssueBox). b.round ≤ n) (cons_option (option_map (box_of setup events round later) o) [])
-one_low setup events round n later None h = none_each (λ (b : IssueBox). b.round ≤ n)
-one_low setup events round n later (Some p) h = more_each (λ (b : IssueBox). b.round ≤ n) (box_of setup events round later p) [] h (none_each (λ (b : IssueBox). b.round ≤ n))
-
--- none is later than the last of these events
-boxes_low : (setup : Setup) (events : List Happened) (round : ℕ) (es : List Happened) → All (λ (b : IssueBox). b.round ≤ round + round_of es) (boxes_from setup events round es)
-unfolding boxes_from
-boxes_low setup events round [] = none_each (λ (b : IssueBox). b.round ≤ round + round_of [])
-boxes_low setup events round (e ∷ es) =
-    let next : ℕ = cond (is_tick e) (round + 1) round in
-    let rest : All (λ (b : IssueBox). b.round ≤ round + round_of (e ∷ es)) (boxes_from setup events next es) =
-    subst (λ (n : ℕ). All (λ (b : IssueBox). b.round ≤ n) (boxes_from setup events next es)) (sym (round_cons e es round)) (boxes_low setup events next es) in
-    All-append (λ (b : IssueBox). b.round ≤ round + round_of (e ∷ es)) (boxes_from setup events next es) (cons_option (option_map (box_of setup events round es) (issues e)) []) rest
-    (one_low setup events round (round + round_of (e ∷ es)) es (issues e) (omega arith))
+boxes_low : (setup : Setup) (events : List Happened) (n : ℕ) (xs : List Issued) → ((k : ℕ) (i : Issued) → slice_get xs k ≡ Some i → i.round ≤ n) → All (λ (b : IssueBox). b.round ≤ n) (map (box_of setup events) (reverse xs))
+boxes_low setup events n [] h = none_each (λ (b : IssueBox). b.round ≤ n)
+boxes_low setup events n (x ∷ xs) h =
+    let P : IssueBox → Type 0 = λ b. b.round ≤ n in
+    let turned : map (box_of setup events) (reverse (x ∷ xs)) ≡ map (box_of setup events) (reverse xs) ++ box_of setup events x ∷ [] = ap (map (box_of setup events)) (reverse-cons x xs) ∙ map-append (box_of setup events) (reverse xs) (x ∷ []) in
+    let rest : All P (map (box_of setup events) (reverse xs)) = boxes_low setup events n xs (λ k i at. h (suc k) i at) in
+    subst (All P) (sym turned) (All-append P (map (box_of setup events) (reverse xs)) (box_of setup events x ∷ []) rest (more_each P (box_of setup events x) [] (h 0 x refl) (none_each P)))
 
 pub boxes_last : (setup : Setup) (events : List Happened) → All (λ (b : IssueBox). b.round ≤ round_of events) (boxes_of setup events)
 unfolding boxes_of
-boxes_last setup events =
-    let same : 0 + round_of events ≡ round_of events = omega arith in
-    subst (λ (n : ℕ). All (λ (b : IssueBox). b.round ≤ n) (boxes_from setup events 0 events)) same (boxes_low setup events 0 events)
+boxes_last setup events = boxes_low setup events (round_of events) (issues_of events) (λ k i at. omega (arith, issue_low 0 events k i at))
 
 -- those of a kind
 some_low : (t : Bool) (r n : ℕ) (rest : List ℕ) → r ≤ n → All (λ x. x ≤ n) rest → All (λ x. x ≤ n) (cons_option (cond t (Some r) None) rest)

@@ -1,6 +1,7 @@
 -- No column of a legal trace has more boxes than room.
+use mathlib.Core.List.{reverse-cons}
 use Rattle.std.proofs.Common.{◌≡◌, ◌<◌, ◌≤◌, ◌+◌, ◌-◌, ◌*◌, ◌++◌, ◌==◌, ◌∙◌, ◌∷◌, ℕ, suc, List, [], length, refl, ap, subst, arith, inl, inr, cond, true, false, append-nil, eqb-true, eq-eqb, ne_eqb}
-use Rattle.std.specs.Prelude.{sum_by, nat_lt, nat_le, min, ◌/◌, ◌&&◌, All, Option, Some, None, option_map}
+use Rattle.std.specs.Prelude.{sum_by, nat_lt, nat_le, min, ◌/◌, ◌&&◌, All, map, reverse, Option, Some, None, option_map}
 use Rattle.std.specs.List.{cons_option, filter_map}
 use Rattle.std.proofs.Math.Nat.{div-lt_iff_lt-mul, div-mul-le_self}
 use Rattle.std.proofs.lemmas.Bool.{cases_Bool, cases_lt, cases_eq, lt-ltb, le-leb}
@@ -13,6 +14,8 @@ use Rattle.blk_trace.specs.Happened.{Happened}
 use Rattle.blk_trace.specs.declared.event.Event.TheVariants.{Tick, Issue}
 use Rattle.blk_trace.specs.Kinds.{is_tick, issues}
 use Rattle.blk_trace.specs.Setups.{Setup}
+use Rattle.blk_trace.specs.declared.issued.Issued.{Issued}
+use Rattle.blk_trace.specs.Issues.{issue_in, issues_from, issues_of}
 use Rattle.blk_trace.specs.Events.{round_of}
 use Rattle.blk_trace.specs.Depths.{depth_in, capacity_of}
 use Rattle.blk_trace.specs.Legal.{IsLegalTrace}
@@ -28,7 +31,7 @@ use Rattle.blk_trace.proofs.Scheduling.{few_tags}
 use Rattle.blk_picture.specs.declared.boxes.IssueBox.{IssueBox}
 use Rattle.blk_picture.specs.declared.scale.Scale.{Scale}
 use Rattle.blk_picture.specs.declared.columns.Column.{Column}
-use Rattle.blk_picture.specs.Boxes.{box_of, boxes_from, boxes_of}
+use Rattle.blk_picture.specs.Boxes.{box_of, boxes_of}
 use Rattle.blk_picture.specs.Columns.{in_column, column_of}
 use Rattle.blk_picture_laws.specs.Sums.{columns_in, issued_in, idle_in, ShowsAll}
 use Rattle.blk_picture_laws.proofs.Adding.{first_low, rest_low, rounds_all, all_low, boxes_last, from_of, room_is, room_of, issued_is, issued_sum, room_sum, made_parts}
@@ -41,24 +44,32 @@ issue_round t = option_map (λ _. t.0) (issues t.1)
 issued_rounds : List Happened → List ℕ
 issued_rounds es = filter_map issue_round (timed 0 es)
 
-places_part : (setup : Setup) (events : List Happened) (round x : ℕ) (later : List Happened) (rest : List ℕ) (o : Option (ℕ × ℕ))
-    → places_at (rounds_all (cons_option (option_map (box_of setup events round later) o) [])) x + places_at rest x ≡ places_at (cons_option (option_map (λ _. round) o) rest) x
-unfolding places_at rounds_all
-places_part setup events round x later rest None = omega arith
-places_part setup events round x later rest (Some p) = omega (arith, count-cons (λ y. y == x) round [], count-cons (λ y. y == x) round rest)
-
 places_split : (xs ys : List IssueBox) (x : ℕ) → places_at (rounds_all (xs ++ ys)) x ≡ places_at (rounds_all xs) x + places_at (rounds_all ys) x
 unfolding places_at rounds_all
 places_split xs ys x =
     ap (λ l. places_at l x) (map-append (λ (b : IssueBox). b.round) xs ys) ∙ sum_by-append (λ (y : ℕ). cond (y == x) 1 0) (rounds_all xs) (rounds_all ys)
 
-same_places : (setup : Setup) (events : List Happened) (round x : ℕ) (es : List Happened) → places_at (rounds_all (boxes_from setup events round es)) x ≡ places_at (filter_map issue_round (timed round es)) x
-unfolding boxes_from timed places_at rounds_all
-same_places setup events round x [] = refl
-same_places setup events round x (e ∷ es) =
+-- those of boxes that are turned around
+turned_places : (setup : Setup) (events : List Happened) (x : ℕ) (xs : List Issued) → places_at (rounds_all (map (box_of setup events) (reverse xs))) x ≡ places_at (map (λ (i : Issued). i.round) xs) x
+unfolding places_at rounds_all
+turned_places setup events x [] = refl
+turned_places setup events x (i ∷ xs) =
+    let box : Issued → IssueBox = box_of setup events in
+    let turned : map box (reverse (i ∷ xs)) ≡ map box (reverse xs) ++ box i ∷ [] = ap (map box) (reverse-cons i xs) ∙ map-append box (reverse xs) (i ∷ []) in
+    ap (λ l. places_at (rounds_all l) x) turned
+    ∙ places_split (map box (reverse xs)) (box i ∷ []) x
+    ∙ omega (arith, turned_places setup events x xs, count-cons (λ y. y == x) i.round [], count-cons (λ y. y == x) i.round (map (λ (i : Issued). i.round) xs))
+
+rounds_part : (round : ℕ) (later : List Happened) (o : Option (ℕ × ℕ)) (rest : List Issued) → map (λ (i : Issued). i.round) (cons_option (option_map (issue_in round later) o) rest) ≡ cons_option (option_map (λ _. round) o) (map (λ (i : Issued). i.round) rest)
+rounds_part round later None rest = refl
+rounds_part round later (Some p) rest = refl
+
+same_rounds : (round : ℕ) (es : List Happened) → map (λ (i : Issued). i.round) (issues_from round es) ≡ filter_map issue_round (timed round es)
+unfolding issues_from timed
+same_rounds round [] = refl
+same_rounds round (e ∷ es) =
     let next : ℕ = cond (is_tick e) (round + 1) round in
-    places_split (boxes_from setup events next es) (cons_option (option_map (box_of setup events round es) (issues e)) []) x
-    ∙ omega (arith, same_places setup events next x es, places_part setup events round x es (filter_map issue_round (timed next es)) (issues e))
+    rounds_part round es (issues e) (issues_from next es) ∙ ap (cons_option (option_map (λ _. round) (issues e))) (same_rounds next es)
 
 issued_kept : (es : List Happened) (e : Happened) → issues e ≡ None → issued_rounds (es ++ e ∷ []) ≡ issued_rounds es
 unfolding issued_rounds
@@ -136,7 +147,7 @@ fills setup es legal = by_legal setup (FillsAll setup) (record { now = omega ari
 within_depth : (setup : Setup) (events : List Happened) → IsLegalTrace setup events → (x : ℕ) → places_at (rounds_all (boxes_of setup events)) x ≤ depth_at (capacity_of setup events) x
 unfolding boxes_of issued_rounds
 within_depth setup events legal x =
-    omega (arith, (fills setup events legal).within x, capacity_depth setup events x, same_places setup events 0 x events)
+    omega (arith, (fills setup events legal).within x, capacity_depth setup events x, turned_places setup events x (issues_of events), ap (λ l. places_at l x) (same_rounds 0 events))
 
 -- ---- nor a column
 

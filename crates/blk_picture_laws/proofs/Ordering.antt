@@ -1,15 +1,19 @@
 -- The boxes of a trace, in the order of the Issues that they stand for.
-use Rattle.std.proofs.Common.{◌≡◌, ◌<◌, ◌+◌, ◌-◌, ◌++◌, ◌∙◌, ◌∷◌, ℕ, suc, List, [], length, get_or, refl, sym, ap, subst, arith, cond, Bool, true, false, map}
+use mathlib.Core.List.{reverse-cons}
+use Rattle.std.proofs.Common.{◌≡◌, ◌<◌, ◌+◌, ◌-◌, ◌∙◌, ◌∷◌, ℕ, suc, List, [], length, get_or, refl, ap, arith, cond, Bool, true, false, map}
 use Rattle.std.specs.Prelude.{not, filter, reverse, Option, Some, None, option_map}
-use Rattle.std.specs.Option.{option_and_then}
 use Rattle.std.specs.List.{cons_option, filter_map}
-use Rattle.std.proofs.lemmas.List.{reverse-append, length-map, get_or-map}
+use Rattle.std.proofs.lemmas.List.{reverse-append, map-append}
 use Rattle.blk_bio.specs.Requests.{dir_of, first_of, last_of}
 use Rattle.blk_bio.proofs.Tiles.{fills}
 use Rattle.blk_trace.specs.Happened.{Happened}
 use Rattle.blk_trace.specs.Kinds.{is_tick, issues}
 use Rattle.blk_trace.specs.Setups.{Setup}
-use Rattle.blk_trace.specs.Events.{ends_requeued, request_of}
+use Rattle.blk_trace.specs.Events.{request_of}
+use Rattle.blk_trace.specs.declared.issued.Issued.{Issued}
+use Rattle.blk_trace.specs.Issues.{issue_in as read_issue, issues_from, issues_of, was_requeued}
+use Rattle.blk_trace.specs.Inside.Issues.{kept_of, round_and_id}
+use Rattle.blk_trace.proofs.Issues.{served_are}
 use Rattle.blk_trace.specs.Legal.{IsLegalTrace}
 use Rattle.blk_trace.specs.Meaning.{timed, release_of, due_of, served, issued_ids, command_of, commands_of, rounds_of}
 use Rattle.blk_trace.proofs.Ids.{has_issued, released_first, released_has}
@@ -18,45 +22,35 @@ use Rattle.blk_report.specs.declared.serving.Service.{Service}
 use Rattle.blk_report.specs.Services.{service_of, services_of}
 use Rattle.blk_report.proofs.Requests.{id_has}
 use Rattle.blk_picture.specs.declared.boxes.IssueBox.{IssueBox}
-use Rattle.blk_picture.specs.Boxes.{box_of, boxes_from, boxes_of}
+use Rattle.blk_picture.specs.Boxes.{box_of, boxes_of}
 use Rattle.blk_picture_laws.specs.Served.{boxes_in_order, boxes_kept, boxed_command, service_in, issue_in, issue_of}
 
--- the boxes of these events, the first Issue first
-unfoldable pub ahead : Setup → List Happened → ℕ → List Happened → List IssueBox
-ahead setup events round [] = []
-ahead setup events round (e ∷ es) = cons_option (option_map (box_of setup events round es) (issues e)) (ahead setup events (cond (is_tick e) (round + 1) round) es)
+-- turned around twice
+turned : {X Y : Type 0} (f : X → Y) (xs : List X) → reverse (map f (reverse xs)) ≡ map f xs
+turned f [] = refl
+turned f (x ∷ xs) =
+    ap (λ l. reverse (map f l)) (reverse-cons x xs)
+    ∙ ap reverse (map-append f (reverse xs) (x ∷ []))
+    ∙ reverse-append (map f (reverse xs)) (f x ∷ [])
+    ∙ ap (λ l. f x ∷ l) (turned f xs)
 
-turned : (o : Option IssueBox) (rest : List IssueBox) → reverse (cons_option o []) ++ rest ≡ cons_option o rest
-turned None rest = refl
-turned (Some b) rest = refl
-
-reversed : (setup : Setup) (events : List Happened) (round : ℕ) (es : List Happened) → reverse (boxes_from setup events round es) ≡ ahead setup events round es
-unfolding boxes_from ahead
-reversed setup events round [] = refl
-reversed setup events round (e ∷ es) =
-    let next : ℕ = cond (is_tick e) (round + 1) round in
-    let o : Option IssueBox = option_map (box_of setup events round es) (issues e) in
-    reverse-append (boxes_from setup events next es) (cons_option o [])
-    ∙ turned o (reverse (boxes_from setup events next es))
-    ∙ ap (cons_option o) (reversed setup events next es)
-
-pub in_order : (setup : Setup) (events : List Happened) → boxes_in_order setup events ≡ ahead setup events 0 events
+pub in_order : (setup : Setup) (events : List Happened) → boxes_in_order setup events ≡ map (box_of setup events) (issues_of events)
 unfolding boxes_of
-in_order setup events = reversed setup events 0 events
+in_order setup events = turned (box_of setup events) (issues_of events)
 
 -- ---- each is one Issue
 
-each_part : (setup : Setup) (events : List Happened) (round : ℕ) (later : List Happened) (o : Option (ℕ × ℕ)) (rest : List IssueBox)
-    → map issue_of (cons_option (option_map (box_of setup events round later) o) rest) ≡ cons_option (option_map (λ p. (round, p)) o) (map issue_of rest)
+each_part : (setup : Setup) (events : List Happened) (round : ℕ) (later : List Happened) (o : Option (ℕ × ℕ)) (rest : List Issued)
+    → map issue_of (map (box_of setup events) (cons_option (option_map (read_issue round later) o) rest)) ≡ cons_option (option_map (λ p. (round, p)) o) (map issue_of (map (box_of setup events) rest))
 each_part setup events round later None rest = refl
 each_part setup events round later (Some p) rest = refl
 
-each_issue : (setup : Setup) (events : List Happened) (round : ℕ) (es : List Happened) → map issue_of (ahead setup events round es) ≡ filter_map issue_in (timed round es)
-unfolding ahead timed
+each_issue : (setup : Setup) (events : List Happened) (round : ℕ) (es : List Happened) → map issue_of (map (box_of setup events) (issues_from round es)) ≡ filter_map issue_in (timed round es)
+unfolding issues_from timed
 each_issue setup events round [] = refl
 each_issue setup events round (e ∷ es) =
     let next : ℕ = cond (is_tick e) (round + 1) round in
-    each_part setup events round es (issues e) (ahead setup events next es)
+    each_part setup events round es (issues e) (issues_from next es)
     ∙ ap (cons_option (option_map (λ p. (round, p)) (issues e))) (each_issue setup events next es)
 
 pub issues_are : (setup : Setup) (events : List Happened) → map issue_of (boxes_in_order setup events) ≡ filter_map issue_in (timed 0 events)
@@ -67,25 +61,17 @@ issues_are setup events = ap (map issue_of) (in_order setup events) ∙ each_iss
 abbrev kept : IssueBox → Bool
 kept b = not b.back
 
-module _ {Y : Type 0} (setup : Setup) (events : List Happened) (f : IssueBox → Y) (k : ℕ × ℕ → Y) (is : (round : ℕ) (later : List Happened) (p : ℕ × ℕ) → f (box_of setup events round later p) ≡ k (round, p.0)) where
-  by_back : (t : Bool) (b : IssueBox) (q : ℕ × ℕ) (rest : List IssueBox) (pairs : List (ℕ × ℕ)) → f b ≡ k q → map f (filter kept rest) ≡ map k pairs → map f (cond (not t) (b ∷ filter kept rest) (filter kept rest)) ≡ map k (cons_option (cond t None (Some q)) pairs)
-  by_back true b q rest pairs e h = h
-  by_back false b q rest pairs e h = ap (λ l. f b ∷ l) h ∙ ap (λ y. y ∷ map k pairs) e
+module _ {Y : Type 0} (setup : Setup) (events : List Happened) (f : IssueBox → Y) (k : ℕ × ℕ → Y) (is : (i : Issued) → f (box_of setup events i) ≡ k (i.round, i.id)) where
+  by_back : (t : Bool) (i : Issued) (boxes : List IssueBox) (rest : List Issued) → map f boxes ≡ map k (map round_and_id rest) → map f (cond (not t) (box_of setup events i ∷ boxes) boxes) ≡ map k (map round_and_id (cond (not t) (i ∷ rest) rest))
+  by_back true i boxes rest h = h
+  by_back false i boxes rest h = ap (λ l. f (box_of setup events i) ∷ l) h ∙ ap (λ y. y ∷ map k (map round_and_id rest)) (is i)
 
-  by_issue : (round : ℕ) (later : List Happened) (o : Option (ℕ × ℕ)) (rest : List IssueBox) (pairs : List (ℕ × ℕ)) → map f (filter kept rest) ≡ map k pairs
-      → map f (filter kept (cons_option (option_map (box_of setup events round later) o) rest)) ≡ map k (cons_option (option_and_then (λ p. cond (ends_requeued p.1 later) None (Some (round, p.0))) o) pairs)
-  by_issue round later None rest pairs h = h
-  by_issue round later (Some p) rest pairs h = by_back (ends_requeued p.1 later) (box_of setup events round later p) (round, p.0) rest pairs (is round later p) h
-
-  as_served : (round : ℕ) (es : List Happened) → map f (filter kept (ahead setup events round es)) ≡ map k (served round es)
-  unfolding ahead served
-  as_served round [] = refl
-  as_served round (e ∷ es) =
-      let next : ℕ = cond (is_tick e) (round + 1) round in
-      by_issue round es (issues e) (ahead setup events next es) (served next es) (as_served next es)
+  as_kept : (xs : List Issued) → map f (filter kept (map (box_of setup events) xs)) ≡ map k (map round_and_id (kept_of xs))
+  as_kept [] = refl
+  as_kept (x ∷ xs) = by_back (was_requeued x.outcome) x (filter kept (map (box_of setup events) xs)) (kept_of xs) (as_kept xs)
 
   pub kept_are : map f (boxes_kept setup events) ≡ map k (served 0 events)
-  kept_are = ap (λ l. map f (filter kept l)) (in_order setup events) ∙ as_served 0 events
+  kept_are = ap (λ l. map f (filter kept l)) (in_order setup events) ∙ as_kept (issues_of events) ∙ ap (map k) (served_are 0 events)
 
 -- two after each other
 maps : {X Y Z : Type 0} (g : Y → Z) (h : X → Y) (xs : List X) → map (λ x. g (h x)) xs ≡ map g (map h xs)
@@ -95,12 +81,12 @@ maps g h (x ∷ xs) = ap (λ l. g (h x) ∷ l) (maps g h xs)
 pub commands_are : (setup : Setup) (events : List Happened) → map boxed_command (boxes_kept setup events) ≡ commands_of setup events
 unfolding commands_of issued_ids
 commands_are setup events =
-    kept_are setup events boxed_command (λ (s : ℕ × ℕ). command_of setup events s.1) (λ round later p. refl)
+    kept_are setup events boxed_command (λ (s : ℕ × ℕ). command_of setup events s.1) (λ i. refl)
     ∙ maps (command_of setup events) (λ (s : ℕ × ℕ). s.1) (served 0 events)
 
 pub rounds_are : (setup : Setup) (events : List Happened) → map (λ (b : IssueBox). b.round) (boxes_kept setup events) ≡ rounds_of events
 unfolding rounds_of
-rounds_are setup events = kept_are setup events (λ (b : IssueBox). b.round) (λ (s : ℕ × ℕ). s.0) (λ round later p. refl)
+rounds_are setup events = kept_are setup events (λ (b : IssueBox). b.round) (λ (s : ℕ × ℕ). s.0) (λ i. refl)
 
 -- ---- and the services of a legal trace
 
@@ -134,6 +120,6 @@ served_fills setup events k d legal l =
 pub services_are : (setup : Setup) (events : List Happened) → IsLegalTrace setup events → map service_in (boxes_kept setup events) ≡ services_of setup events
 unfolding services_of
 services_are setup events legal =
-    kept_are setup events service_in (λ (s : ℕ × ℕ). with_sectors setup events s (last_of (request_of events s.1) - first_of (request_of events s.1))) (λ round later p. refl)
+    kept_are setup events service_in (λ (s : ℕ × ℕ). with_sectors setup events s (last_of (request_of events s.1) - first_of (request_of events s.1))) (λ i. refl)
     ∙ maps_each (λ (s : ℕ × ℕ). with_sectors setup events s (last_of (request_of events s.1) - first_of (request_of events s.1))) (service_of setup events) (served 0 events)
     (λ k d l. ap (with_sectors setup events (get_or (served 0 events) k d)) (omega (arith, served_fills setup events k d legal l)))

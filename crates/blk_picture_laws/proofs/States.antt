@@ -1,23 +1,22 @@
 -- Boxes, services and what is overdue, read off the state that a legal list leaves.
-use Rattle.std.proofs.Common.{◌≡◌, ◌+◌, ◌∙◌, ◌∷◌, ℕ, suc, List, [], refl, sym, ap, cond, Bool, true, false, map, eq-eqb}
-use Rattle.std.specs.Prelude.{◌==◌, nat_lt, Option, Some, None, option_map}
+use Rattle.std.proofs.Common.{◌≡◌, ◌∙◌, ◌∷◌, ℕ, suc, List, [], refl, sym, ap, Bool, true, false, map, eq-eqb}
+use Rattle.std.specs.Prelude.{◌==◌, nat_lt, slice_get, Some}
 use Rattle.std.specs.Option.{option_map_or}
-use Rattle.std.specs.List.{cons_option}
 use Rattle.std.proofs.lemmas.Bool.{or_left, or_right}
 use Rattle.edd_commands.specs.declared.Command.{Command}
 use Rattle.blk_bio.specs.Bios.{Bio}
 use Rattle.blk_bio.specs.Requests.{dir_of, first_of, last_of, sectors_of}
-use Rattle.blk_trace.specs.declared.event.Event.TheVariants.{Issue}
 use Rattle.blk_trace.specs.Happened.{Happened}
-use Rattle.blk_trace.specs.Kinds.{is_tick, issues}
 use Rattle.blk_trace.specs.Setups.{Setup}
-use Rattle.blk_trace.specs.Events.{At, request_of}
-use Rattle.blk_trace.specs.Meaning.{command_of, served, issued_ids, released_ids}
+use Rattle.blk_trace.specs.Events.{request_of}
+use Rattle.blk_trace.specs.Meaning.{served, issued_ids, released_ids}
 use Rattle.blk_trace.specs.Waits.{Entered, has_id, waits_at}
-use Rattle.blk_trace.proofs.Words.{issue_is}
 use Rattle.blk_trace.proofs.Ids.{has_issued, released_first, released_has}
-use Rattle.blk_trace_state.specs.State.{Issued, LayerState, was_requeued, kept_now, command_now}
-use Rattle.blk_trace_state.proofs.Reading.{stage_of, issue_in, issues_from, round_and_id, back_is}
+use Rattle.blk_trace.specs.declared.issued.Issued.{Issued}
+use Rattle.blk_trace_state.specs.State.{LayerState, kept_now, command_now}
+use Rattle.blk_trace.specs.Issues.{issues_of, was_requeued}
+use Rattle.blk_trace.specs.Inside.Issues.{round_and_id}
+use Rattle.blk_trace.proofs.Issues.{was_so}
 use Rattle.blk_trace_state.proofs.Standing.{Stands, bios_of_id}
 use Rattle.blk_trace_state.proofs.Projecting.{map_after, kept_served, command_is, waits_are}
 use Rattle.blk_report.specs.declared.serving.Service.{Service}
@@ -27,7 +26,7 @@ use Rattle.blk_picture.specs.declared.boxes.IssueBox.{IssueBox}
 use Rattle.blk_picture.specs.Boxes.{box_of}
 use Rattle.blk_picture_laws.specs.Served.{boxes_in_order}
 use Rattle.blk_picture_laws.specs.States.{box_in, boxes_in, service_at, services_in, is_overdue_in}
-use Rattle.blk_picture_laws.proofs.Ordering.{ahead, in_order}
+use Rattle.blk_picture_laws.proofs.Ordering.{in_order}
 
 -- ---- boxes
 
@@ -35,30 +34,20 @@ use Rattle.blk_picture_laws.proofs.Ordering.{ahead, in_order}
 abbrev boxed : List Bio → Command → ℕ → ℕ → Bool → IssueBox
 boxed bios c round tag back = record { id = c.id; dir = dir_of bios; first = first_of bios; end = last_of bios; release = c.release; due = c.due; round = round; tag = tag; back = back }
 
-one_box : (setup : Setup) (events : List Happened) (s : LayerState) → Stands setup events s → (round : ℕ) (later : List Happened) (p : ℕ × ℕ) → has_id (released_ids events) p.0 ≡ true → box_in s (issue_in round later p) ≡ box_of setup events round later p
-one_box setup events s st round later p h =
-    ap (λ l. boxed l (command_now s p.0) round p.1 (was_requeued (stage_of p.1 later))) (bios_of_id setup events s st p.0)
-    ∙ ap (λ c. boxed (request_of events p.0) c round p.1 (was_requeued (stage_of p.1 later))) (command_is setup events s st p.0 h)
-    ∙ ap (boxed (request_of events p.0) (command_of setup events p.0) round p.1) (back_is p.1 later)
+one_box : (setup : Setup) (events : List Happened) (s : LayerState) → Stands setup events s → (i : Issued) → has_id (released_ids events) i.id ≡ true → box_in s i ≡ box_of setup events i
+one_box setup events s st i h =
+    ap (λ l. boxed l (command_now s i.id) i.round i.tag (was_requeued i.outcome)) (bios_of_id setup events s st i.id)
+    ∙ ap (λ c. boxed (request_of events i.id) c i.round i.tag (was_requeued i.outcome)) (command_is setup events s st i.id h)
 
-part_box : (setup : Setup) (events : List Happened) (s : LayerState) → Stands setup events s → (round : ℕ) (later : List Happened) (o : Option (ℕ × ℕ)) (xs : List Issued) (boxes : List IssueBox) → ((p : ℕ × ℕ) → o ≡ Some p → has_id (released_ids events) p.0 ≡ true) → map (box_in s) xs ≡ boxes
-    → map (box_in s) (cons_option (option_map (issue_in round later) o) xs) ≡ cons_option (option_map (box_of setup events round later) o) boxes
-part_box setup events s st round later None xs boxes h same = same
-part_box setup events s st round later (Some p) xs boxes h same =
-    ap (λ b. b ∷ map (box_in s) xs) (one_box setup events s st round later p (h p refl)) ∙ ap (λ l. box_of setup events round later p ∷ l) same
-
-all_boxes : (setup : Setup) (events : List Happened) (s : LayerState) → Stands setup events s → (round : ℕ) (es : List Happened) → ((k id tag : ℕ) → At es k (Issue id tag) → has_id (released_ids events) id ≡ true) → map (box_in s) (issues_from round es) ≡ ahead setup events round es
-unfolding issues_from ahead
-all_boxes setup events s st round [] h = refl
-all_boxes setup events s st round (e ∷ es) h =
-    let next : ℕ = cond (is_tick e) (round + 1) round in
-    part_box setup events s st round es (issues e) (issues_from next es) (ahead setup events next es) (λ p is. h 0 p.0 p.1 (ap Some (issue_is e p is)))
-    (all_boxes setup events s st next es (λ k id tag at. h (suc k) id tag at))
+all_boxes : (setup : Setup) (events : List Happened) (s : LayerState) → Stands setup events s → (xs : List Issued) → ((k : ℕ) (i : Issued) → slice_get xs k ≡ Some i → has_id (released_ids events) i.id ≡ true) → map (box_in s) xs ≡ map (box_of setup events) xs
+all_boxes setup events s st [] h = refl
+all_boxes setup events s st (x ∷ xs) h =
+    ap (λ b. b ∷ map (box_in s) xs) (one_box setup events s st x (h 0 x refl)) ∙ ap (λ l. box_of setup events x ∷ l) (all_boxes setup events s st xs (λ k i at. h (suc k) i at))
 
 pub boxes_are : (setup : Setup) (events : List Happened) (s : LayerState) → Stands setup events s → boxes_in s ≡ boxes_in_order setup events
 boxes_are setup events s st =
     ap (map (box_in s)) st.issued_are
-    ∙ all_boxes setup events s st 0 events (λ k id tag at. let p = released_first setup events id st.legal (k, (tag, at)) in released_has events p.0 id p.1.0 p.1.1)
+    ∙ all_boxes setup events s st (issues_of events) (λ k i at. let p = released_first setup events i.id st.legal (was_so events k i at) in released_has events p.0 i.id p.1.0 p.1.1)
     ∙ sym (in_order setup events)
 
 -- ---- services

@@ -2,7 +2,9 @@
 use Rattle.std.specs.Prelude.{ℕ, Bool, false, List, map, nat_lt}
 use Rattle.std.specs.Option.{option_map_or}
 use Rattle.blk_bio.specs.Requests.{dir_of, first_of, last_of, sectors_of}
-use Rattle.blk_trace_state.specs.State.{Issued, LayerState, was_requeued, request_now, kept_now, command_now, waits_now}
+use Rattle.blk_trace.specs.declared.issued.Issued.{Issued}
+use Rattle.blk_trace.specs.Issues.{was_requeued}
+use Rattle.blk_trace_state.specs.State.{LayerState, request_now, kept_now, command_now, waits_now}
 use Rattle.blk_report.specs.declared.serving.Service.{Service}
 use Rattle.blk_picture.specs.declared.boxes.IssueBox.{IssueBox}
 
@@ -17,7 +19,7 @@ box_in s i = record {
   due = (command_now s i.id).due;
   round = i.round;
   tag = i.tag;
-  back = was_requeued i.stage;
+  back = was_requeued i.outcome;
 }
 
 -- those of all Issues, the first one first

@@ -1,23 +1,26 @@
 -- The commands of a trace with their requests.
-use Rattle.std.proofs.Common.{◌≡◌, ◌<◌, ◌≤◌, ◌+◌, ◌++◌, ◌==◌, ℕ, zero, suc, List, [], ◌∷◌, length, get_or, map, refl, sym, ◌∙◌, ap, subst, arith, Some, None, cond, Bool, true, false, inl, inr, eqb-true, eq-eqb}
+use Rattle.std.proofs.Common.{◌≡◌, ◌<◌, ◌≤◌, ◌+◌, ◌==◌, ℕ, zero, suc, List, [], ◌∷◌, length, get_or, map, refl, sym, ◌∙◌, ap, arith, Some, None, cond, Bool, true, false, inl, inr, eq-eqb}
 use Rattle.std.specs.Prelude.{Option}
 use Rattle.std.specs.Option.{option_and_then}
-use Rattle.std.specs.List.{cons_option}
+use Rattle.std.specs.List.{cons_option, filter_map}
 use Rattle.std.proofs.lemmas.Bool.{cases_Bool, or_left, or_right}
 use Rattle.std.proofs.lemmas.List.{get_or-map, length-map}
 use Rattle.edd_commands.specs.declared.Command.{Command}
 use Rattle.edd_commands.specs.declared.steps.Step.{Step}
 use Rattle.edd_commands.specs.Schedule.{IsLegal}
+use Rattle.blk_trace.specs.declared.issued.Issued.{Issued}
 use Rattle.blk_trace.specs.Happened.{Happened}
 use Rattle.blk_trace.specs.Kinds.{is_tick, issues}
 use Rattle.blk_trace.specs.Setups.{Setup}
-use Rattle.blk_trace.specs.Events.{ends_requeued, IsIssued}
+use Rattle.blk_trace.specs.Events.{ends_requeued}
 use Rattle.blk_trace.specs.Meaning.{service, served, command_of, issued_ids, commands_of, rounds_of}
+use Rattle.blk_trace.specs.Issues.{was_requeued, issues_of}
+use Rattle.blk_trace.specs.Inside.Issues.{kept_of, round_and_id}
 use Rattle.blk_trace.specs.Waits.{has_id}
 use Rattle.blk_trace.specs.Laws.{AreBounded}
-use Rattle.blk_trace.proofs.Ids.{has_issued}
+use Rattle.blk_trace.proofs.Issues.{kept_map, served_are}
 use Rattle.blk_report.specs.declared.serving.Service.{Service}
-use Rattle.blk_report.specs.Services.{service_of, services_of, command_in, AreWithinLimits, AreInIssueOrder}
+use Rattle.blk_report.specs.Services.{service_of, services_of, served_by, command_in, AreWithinLimits, AreInIssueOrder}
 
 pub id_has : (xs : List (ℕ × ℕ)) (k : ℕ) (d : ℕ × ℕ) → k < length xs → has_id (map (λ (s : ℕ × ℕ). s.1) xs) (get_or xs k d).1 ≡ true
 id_has [] k d h = absurd (omega arith)
@@ -51,34 +54,16 @@ as_many_rounds setup es = sym (ap length (are_rounds setup es)) ∙ length-map (
 abbrev none : Command
 none = record { id = 0; release = 0; due = 0 }
 
-abbrev unissued : ℕ × ℕ
-unissued = (0, 0)
+-- what the Issues served
+pub by_issue : (setup : Setup) (es : List Happened) (i : Issued) (b : Bool) → was_requeued i.outcome ≡ b → served_by setup es i ≡ cond b None (Some (service_of setup es (i.round, i.id)))
+by_issue setup es i b h = ap (λ b. cond b None (Some (service_of setup es (i.round, i.id)))) h
 
-pub id_at : (setup : Setup) (es : List Happened) (commands : List Command) (k : ℕ) → commands ≡ commands_of setup es → k < length commands → ((get_or commands k none).id ≡ (get_or (served 0 es) k unissued).1) × (k < length (served 0 es))
-unfolding commands_of issued_ids
-id_at setup es commands k are h =
-    let ids : List ℕ = map (λ (s : ℕ × ℕ). s.1) (served 0 es) in
-    let long : length ids ≡ length (served 0 es) = length-map (served 0 es) (λ (s : ℕ × ℕ). s.1) in
-    let all : length commands ≡ length ids = ap length are ∙ length-map ids (command_of setup es) in
-    let low : k < length (served 0 es) = omega arith in
-    (ap (λ l. (get_or l k none).id) are ∙ ap (λ (c : Command). c.id) (get_or-map (command_of setup es) ids k 0 none (omega arith)) ∙ get_or-map (λ (s : ℕ × ℕ). s.1) (served 0 es) k unissued 0 low, low)
-
--- a command's request was issued
-pub issued_at : (setup : Setup) (es : List Happened) (commands : List Command) (k : ℕ) → commands ≡ commands_of setup es → k < length commands → IsIssued es (get_or commands k none).id
-unfolding issued_ids
-issued_at setup es commands k are h =
-    let p = id_at setup es commands k are h in
-    has_issued es (get_or commands k none).id (subst (λ (n : ℕ). has_id (map (λ (s : ℕ × ℕ). s.1) (served 0 es)) n ≡ true) (sym p.0) (id_has (served 0 es) k unissued p.1))
-
--- and what it served in its round is the service there
-pub served_at : (setup : Setup) (es : List Happened) (commands : List Command) (rounds : List ℕ) (k : ℕ) (d : Service) → commands ≡ commands_of setup es → rounds ≡ rounds_of es → k < length commands
-    → service_of setup es (get_or rounds k 0, (get_or commands k none).id) ≡ get_or (services_of setup es) k d
-unfolding services_of rounds_of
-served_at setup es commands rounds k d are rise h =
-    let p = id_at setup es commands k are h in
-    let round : get_or rounds k 0 ≡ (get_or (served 0 es) k unissued).0 = ap (λ l. get_or l k 0) rise ∙ get_or-map (λ (s : ℕ × ℕ). s.0) (served 0 es) k unissued 0 p.1 in
-    ap (λ (n : ℕ). service_of setup es (n, (get_or commands k none).id)) round ∙ ap (λ (n : ℕ). service_of setup es ((get_or (served 0 es) k unissued).0, n)) p.0
-    ∙ sym (get_or-map (service_of setup es) (served 0 es) k unissued d p.1)
+pub all_served : (setup : Setup) (es : List Happened) → filter_map (served_by setup es) (issues_of es) ≡ services_of setup es
+unfolding services_of
+all_served setup es =
+    kept_map (λ (i : Issued). service_of setup es (i.round, i.id)) (issues_of es)
+    ∙ sym (maps_map round_and_id (service_of setup es) (λ (i : Issued). service_of setup es (i.round, i.id)) (λ i. refl) (kept_of (issues_of es)))
+    ∙ ap (map (service_of setup es)) (served_are 0 es)
 
 pub same_issue : (setup : Setup) (es : List Happened) (rounds : List ℕ) (k : ℕ) (x : Service) → rounds ≡ rounds_of es → k < length (services_of setup es) → get_or rounds k 0 ≡ (get_or (services_of setup es) k x).issue
 same_issue setup es rounds k x are h =

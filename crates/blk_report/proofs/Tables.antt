@@ -7,7 +7,7 @@ use Rattle.std.proofs.lemmas.Slice.Zip.{get_or-zip, length-zip}
 use Rattle.std.proofs.Math.Seq.{take-suc}
 use Rattle.answer.specs.declared.value.Value.{Value}
 use Rattle.blk_report.specs.declared.figures.Report.{Report}
-use Rattle.blk_report.specs.Table.{names_of, table_row, table_rows}
+use Rattle.blk_report.specs.Table.{names_of, table_row}
 
 abbrev row_of : List ℕ × Report → List Value
 row_of p = table_row p.0 p.1

@@ -1,5 +1,5 @@
 -- The commands of a trace, each with its request and the round in which it was issued.
-use Rattle.std.specs.Prelude.{ℕ, ◌≤◌, ◌<◌, List, length, map, slice_index_or, All}
+use Rattle.std.specs.Prelude.{ℕ, ◌≤◌, ◌<◌, cond, Option, Some, None, List, length, map, slice_index_or, All}
 use Rattle.edd_commands.specs.declared.Command.{Command}
 use Rattle.edd_commands.specs.declared.TheConstants.{MAX_COMMANDS, MAX_ROUNDS}
 use Rattle.blk_bio.specs.Requests.{dir_of, first_of, sectors_of}
@@ -7,6 +7,8 @@ use Rattle.blk_trace.specs.declared.trace.TheConstants.{MAX_EVENTS}
 use Rattle.blk_trace.specs.Happened.{Happened}
 use Rattle.blk_trace.specs.Setups.{Setup}
 use Rattle.blk_trace.specs.Events.{request_of}
+use Rattle.blk_trace.specs.declared.issued.Issued.{Issued}
+use Rattle.blk_trace.specs.Issues.{was_requeued}
 use Rattle.blk_trace.specs.Meaning.{release_of, due_of, served}
 use Rattle.blk_report.specs.declared.serving.Service.{Service}
 
@@ -25,6 +27,10 @@ service_of setup events s = record {
 -- in the order of the Issues, without those that were requeued
 unfoldable pub services_of : Setup → List Happened → List Service
 services_of setup events = map (service_of setup events) (served 0 events)
+
+-- what an Issue served, unless it was requeued
+abbrev pub served_by : Setup → List Happened → Issued → Option Service
+served_by setup events i = cond (was_requeued i.outcome) None (Some (service_of setup events (i.round, i.id)))
 
 -- its command
 abbrev pub command_in : Service → Command

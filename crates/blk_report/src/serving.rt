@@ -7,7 +7,6 @@ ghost use Rattle.blk_report.specs.Services.{service_of, services_of, command_in,
 
 use blk_bio::Dir;
 use blk_trace::Trace;
-use edd_commands::Command;
 use std::alloc::{AllocError, Allocator};
 
 /// A command that was served: its request was issued and not requeued.
@@ -48,20 +47,15 @@ fn service_under<A: Allocator + Clone>(trace: &Trace<A>, id: u64, issue: u64) ->
     }
 }
 
-/// What the commands served in their rounds.
-fn served<A: Allocator + Clone>(
-    alloc: A,
-    trace: &Trace<A>,
-    commands: &[Command],
-    rounds: &[u64],
-) -> Result<Vec<Service, A>, AllocError>
-    requires commands { commands.now ≡ commands_of trace.now.setup trace.now.events }
-    requires rounds { rounds.now ≡ rounds_of trace.now.events }
+/// What the Issues served that were not requeued.
+fn served<A: Allocator + Clone>(alloc: A, trace: &Trace<A>) -> Result<Vec<Service, A>, AllocError>
     ensures { IfOk result (λ v. v.items ≡ services_of trace.now.setup trace.now.events) }
 {
     let mut services = Vec::new(alloc);
-    for place in 0..commands.len() {
-        services.push(service_under(trace, commands[place].id, rounds[place]))?;
+    for issue in trace.issues() {
+        if !issue.was_requeued() {
+            services.push(service_under(trace, issue.id, issue.round))?;
+        }
     }
     Ok(services)
 }
@@ -78,8 +72,7 @@ pub fn services<A: Allocator + Clone>(trace: &Trace<A>) -> Result<Vec<Service, A
     ensures rising { IfOk result (λ v. AreInIssueOrder v.items) }
 {
     let commands = trace.commands()?;
-    let rounds = trace.rounds()?;
     let alloc = commands.allocator().clone()?;
-    let services = served(alloc, trace, commands.as_slice(), rounds.as_slice())?;
+    let services = served(alloc, trace)?;
     Ok(services)
 }

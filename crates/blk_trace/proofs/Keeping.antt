@@ -1,14 +1,15 @@
 -- What a trace keeps stays true with one more event.
-use Rattle.std.proofs.Common.{◌≡◌, ◌<◌, ◌≤◌, ◌+◌, ◌-◌, ◌++◌, ◌==◌, ◌||◌, inl, inr, option_map, ℕ, zero, suc, List, [], ◌∷◌, length, refl, sym, ◌∙◌, ap, subst, arith, cond, Bool, true, false, Some, None, set, take, eqb-true}
-use Rattle.std.specs.Prelude.{Option, Result, Ok, Err, replicate}
+use Rattle.std.proofs.Common.{◌≡◌, ◌<◌, ◌≤◌, ◌+◌, ◌-◌, ◌++◌, ◌==◌, ◌||◌, inl, inr, option_map, ℕ, zero, suc, List, [], ◌∷◌, length, refl, sym, ◌∙◌, ap, subst, arith, cond, Bool, true, false, Some, None, set, take, map, eqb-true, eq-eqb, ◌≢◌}
+use Rattle.std.specs.Prelude.{◌&&◌, Option, Result, Ok, Err, replicate}
 use Rattle.std.specs.Result.{is_err, OnOk, OnErr}
 use Rattle.std.specs.List.{cons_option}
-use Rattle.std.proofs.lemmas.Bool.{cases_Bool}
-use Rattle.edd_commands.specs.declared.Command.{Command}
+use Rattle.std.proofs.lemmas.Bool.{cases_Bool, and_parts, and_from}
 use Rattle.blk_bio.specs.Bios.{Bio}
 use Rattle.blk_bio.specs.declared.bio.BioId.{BioId}
 use Rattle.blk_bio.specs.Requests.{IsRequest, Fits, dir_of}
 use Rattle.blk_bio.specs.declared.request.Side.{Side}
+use Rattle.blk_trace.specs.declared.issued.Outcome.TheVariants as outcome
+use Rattle.blk_trace.specs.declared.issued.Issued.{Issued}
 use Rattle.blk_trace.specs.declared.known.Entry.{Entry}
 use Rattle.blk_trace.specs.declared.known.Stage.TheVariants.{Waits, Gone, Requeued}
 use Rattle.blk_trace.specs.declared.known.Known.{Known}
@@ -16,33 +17,33 @@ use Rattle.blk_trace.specs.declared.tags.TagUse.{TagUse}
 use Rattle.blk_trace.specs.declared.tags.TagUse.TheVariants.{Free, Open, Ended}
 use Rattle.blk_trace.specs.declared.trace.Prepared.{Prepared}
 use Rattle.blk_trace.specs.declared.trace.Prepared.TheVariants.{Nothing, AnIssue, Bios}
-use Rattle.blk_bio.specs.declared.rule.TraceRule.TheVariants.{InFlight, NotIssued, Fit}
+use Rattle.blk_bio.specs.declared.rule.TraceRule.TheVariants.{InFlight, Fit, TagUsed}
 use Rattle.blk_trace.specs.Happened.{Happened, Tick, Release, Join, Issue, Done, Back, Depth}
-use Rattle.blk_trace.specs.Kinds.{releases, joins}
+use Rattle.blk_trace.specs.Kinds.{releases, joins, issues, ends}
 use Rattle.blk_trace.specs.Setups.{Setup, IsSetup, expire_of}
-use Rattle.blk_trace.specs.Events.{round_of, open_count, entered, bios_of, join_up, request_of, EntersRequest, IsOpenBy}
+use Rattle.blk_trace.specs.Events.{round_of, open_count, entered, bios_of, join_up, request_of, EntersRequest, IsOpen, IsOpenBy, IsUsed}
 use Rattle.blk_trace.specs.Legal.{IsLegalTrace}
 use Rattle.blk_trace.specs.Rules.{BreaksNoRule}
-use Rattle.blk_trace.specs.Meaning.{served, commands_of, rounds_of, issued_ids, released_ids}
+use Rattle.blk_trace.specs.Meaning.{served, issued_ids, released_ids}
+use Rattle.blk_trace.specs.Issues.{end_of, flies, issues_from, issues_of}
+use Rattle.blk_trace.specs.Inside.Issues.{ended_by}
 use Rattle.blk_trace.specs.Waits.{Entered, summary, entered_at, has_id, waits_at}
 use Rattle.blk_trace.specs.Traces.{IsPreparedFor}
-use Rattle.blk_trace.specs.Inside.Kept.{request_at, IsKeptTrace, HasRoom, known_of, has_bio_id, event_room, request_room, bio_room, IsTagUse}
+use Rattle.blk_trace.specs.Inside.Kept.{request_at, ArePlaced, IsFlyingAt, IsKeptTrace, HasRoom, known_of, has_bio_id, event_room, request_room, bio_room, IsTagUse}
 use Rattle.blk_trace.proofs.Pushing.{push_legal, empty_legal}
 use Rattle.blk_trace.proofs.More.{round_more}
 use Rattle.blk_trace.proofs.Room.{open_kept, open_issue, open_end}
-use Rattle.blk_trace.proofs.Places.{last}
+use Rattle.blk_trace.proofs.Places.{last, split}
 use Rattle.blk_trace.proofs.Ids.{by_legal, released_first}
 use Rattle.blk_trace.proofs.Newness.{ids_more}
-use Rattle.blk_trace.proofs.Requeues.{open_issued, there_is}
-use Rattle.blk_trace.proofs.Scheduling.{legal-schedule}
-use Rattle.std.proofs.lemmas.Option.{slice_get_within}
+use Rattle.blk_trace.proofs.Requeues.{open_issued}
 use Rattle.std.specs.Prelude.{slice_get}
 use Rattle.blk_trace.proofs.Knowing.{known_at, known_kept, known_released, known_joined, known_issued, known_requeued_id}
-use Rattle.blk_trace.proofs.TagUses.{tags_ticked, tags_kept, tags_issued, tags_ended, tags_empty, open_found}
+use Rattle.blk_trace.proofs.Issues.{issues_kept, issues_push, issues_ended, flying_by, flying_is, set_ended, with_outcome}
+use Rattle.blk_trace.proofs.TagUses.{tags_ticked, tags_kept, tags_issued, tags_ended, tags_empty, open_found, by_open, written}
 use Rattle.blk_trace.proofs.Joining.{join_request}
 use Rattle.blk_trace.proofs.Entering.{IsSame, same_entered, HasNothing, nothing_before, IsEntered, entered_released, entered_joined, has_released_same}
 use Rattle.blk_trace.proofs.Waiting.{IsThere, there_from, request_there, waits_there}
-use Rattle.blk_trace.proofs.Commands.{commands_kept, commands-issued, rounds_kept, rounds-issued}
 
 or_none : (b : Bool) → (b || false) ≡ b
 or_none true = refl
@@ -119,254 +120,282 @@ entered_request setup es id w some h =
     let was : IsThere setup es id w = there_from setup es id w h in
     subst IsRequest (sym was.bios_is) (some id was.released)
 
-pub kept_tick : (setup : Setup) (es zs : List Happened) (cs : List Command) (rs : List ℕ) (round opened : ℕ) (known : ℕ → Option Known) (ids : BioId → Bool) (tags tags' : List TagUse)
-    → IsKeptTrace setup es cs rs round opened known ids tags → BreaksNoRule setup es Tick → zs ≡ es ++ Tick ∷ [] → tags' ≡ replicate (length tags) Free
-    → IsKeptTrace setup zs cs rs (round + 1) opened known ids tags'
-kept_tick setup es zs cs rs round opened known ids tags tags' k all hz ht =
+-- what flies is open
+flying_open : (setup : Setup) (es : List Happened) (cs : List Issued) (round opened : ℕ) (known : ℕ → Option Known) (ids : BioId → Bool) (tags : List TagUse)
+    → IsKeptTrace setup es cs round opened known ids tags → (j : ℕ) (i : Issued) → slice_get cs j ≡ Some i → i.outcome ≡ outcome.Flying → IsOpen es i.tag
+flying_open setup es cs round opened known ids tags k j i at is = by_open es i.tag i.id (flying_by es j i (ap (λ l. slice_get l j) (sym k.issued_are) ∙ at) is)
+
+pub kept_tick : (setup : Setup) (es zs : List Happened) (cs : List Issued) (round opened : ℕ) (known : ℕ → Option Known) (ids : BioId → Bool) (tags tags' : List TagUse)
+    → IsKeptTrace setup es cs round opened known ids tags → BreaksNoRule setup es Tick → zs ≡ es ++ Tick ∷ [] → tags' ≡ replicate (length tags) Free
+    → IsKeptTrace setup zs cs (round + 1) opened known ids tags'
+kept_tick setup es zs cs round opened known ids tags tags' k all hz ht =
     let new = push_legal setup es Tick k.legal all tt in
-    let P : List Happened → List TagUse → Type 0 = λ l t. IsKeptTrace setup l cs rs (round + 1) opened known ids t in
+    let P : List Happened → List TagUse → Type 0 = λ l t. IsKeptTrace setup l cs (round + 1) opened known ids t in
     let here : P (es ++ Tick ∷ []) (replicate (length tags) Free) = record {
       ranges = k.ranges;
       legal = new;
-      commands_are = k.commands_are ∙ sym (commands_kept setup es Tick new refl refl);
-      rounds_are = k.rounds_are ∙ sym (rounds_kept es Tick refl refl);
+      issued_are = k.issued_are ∙ sym (issues_kept 0 es Tick refl refl);
       round_is = omega (arith, k.round_is, round_more es Tick);
       open_is = k.open_is ∙ sym (open_kept es Tick refl refl);
       known_are = λ q. k.known_are q ∙ sym (known_kept setup es Tick refl refl refl refl q);
       requests_are = requests_kept setup es Tick refl refl k.requests_are;
       ids_are = λ id. k.ids_are id ∙ sym (same_ids es Tick id refl);
+      placed = λ j i at is. absurd (all InFlight i.tag (flying_open setup es cs round opened known ids tags k j i at is));
       tags_are = tags_ticked es (length tags) (all InFlight);
       each_tag = replicated (length tags) Free ∙ k.each_tag;
     } in
     subst (λ t. P zs t) (sym ht) (subst (λ l. P l (replicate (length tags) Free)) (sym hz) here)
 
-pub kept_done : (setup : Setup) (es zs : List Happened) (tag : ℕ) (cs : List Command) (rs : List ℕ) (round opened : ℕ) (known : ℕ → Option Known) (ids : BioId → Bool) (tags : List TagUse)
-    → IsKeptTrace setup es cs rs round opened known ids tags → BreaksNoRule setup es (Done tag) → zs ≡ es ++ Done tag ∷ []
-    → IsKeptTrace setup zs cs rs round (opened - 1) known ids (set tags tag Ended)
-kept_done setup es zs tag cs rs round opened known ids tags k all hz =
-    let new = push_legal setup es (Done tag) k.legal all tt in
-    let P : List Happened → Type 0 = λ l. IsKeptTrace setup l cs rs round (opened - 1) known ids (set tags tag Ended) in
-    let found = open_found setup es tags k.legal k.each_tag k.tags_are tag (all NotIssued) in
+-- a tag that is set, and another
+there_now : {X : Type 0} (xs : List X) (k : ℕ) (x : X) → k < length xs → slice_get (set xs k x) k ≡ Some x
+there_now [] k x h = absurd (omega arith)
+there_now (y ∷ xs) zero x h = refl
+there_now (y ∷ xs) (suc k) x h = there_now xs k x (omega arith)
+
+other_tag : {X : Type 0} (xs : List X) (k j : ℕ) (x : X) → j ≢ k → (y : X) → slice_get xs j ≡ Some y → slice_get (set xs k x) j ≡ Some y
+other_tag [] k j x other y h = h
+other_tag (z ∷ xs) zero zero x other y h = absurd (other refl)
+other_tag (z ∷ xs) zero (suc j) x other y h = h
+other_tag (z ∷ xs) (suc k) zero x other y h = h
+other_tag (z ∷ xs) (suc k) (suc j) x other y h = other_tag xs k j x (λ e. other (ap suc e)) y h
+
+same_place : (a b : ℕ) → Some (Open a) ≡ Some (Open b) → a ≡ b
+same_place a b h = cc
+
+-- the one that flies under a tag stands where the tag says
+only_there : (tag place : ℕ) (cs : List Issued) (tags : List TagUse) → ArePlaced cs tags → slice_get tags tag ≡ Some (Open place) → (j : ℕ) (i : Issued) → slice_get cs j ≡ Some i → i.outcome ≡ outcome.Flying → i.tag ≡ tag → j ≡ place
+only_there tag place cs tags placed at j i there is same = same_place j place (sym (placed j i there is) ∙ ap (slice_get tags) same ∙ at)
+
+-- after the end of the Issue at a place
+pub record IsEndedAt (setup : Setup) (es : List Happened) (e : Happened) (tag place : ℕ) (i : Issued) (cs : List Issued) (tags : List TagUse) : Type 0 where
+  pub issued_are : set cs place (with_outcome i (end_of e)) ≡ issues_of (es ++ e ∷ [])
+  pub placed : ArePlaced (set cs place (with_outcome i (end_of e))) (set tags tag Ended)
+  pub used : IsUsed es tag
+
+pub ended_at : (setup : Setup) (es : List Happened) (e : Happened) (tag place : ℕ) (cs : List Issued) (round opened : ℕ) (known : ℕ → Option Known) (ids : BioId → Bool) (tags : List TagUse)
+    → IsKeptTrace setup es cs round opened known ids tags → IsOpen es tag → ends e ≡ Some tag → issues e ≡ None → (end_of e ≡ outcome.Flying → ⊥) → (f : IsFlyingAt cs place tag)
+    → IsEndedAt setup es e tag place f.issue cs tags
+ended_at setup es e tag place cs round opened known ids tags k o end none ended f =
+    let found = open_found setup es tags k.legal k.each_tag k.tags_are tag o in
     let used : IsTagUse es tag (Open found.0) = k.tags_are tag (Open found.0) found.1 in
+    let here : place ≡ found.0 = only_there tag found.0 cs tags k.placed found.1 place f.issue f.there f.flies f.under in
+    let at : slice_get tags tag ≡ Some (Open place) = found.1 ∙ ap (λ n. Some (Open n)) (sym here) in
+    let only : (j : ℕ) (i : Issued) → slice_get cs j ≡ Some i → (flies i.outcome && (tag == i.tag)) ≡ true → j ≡ place = λ j i there b.
+    let both = and_parts (flies i.outcome) (tag == i.tag) b in
+    only_there tag place cs tags k.placed at j i there (flying_is i.outcome both.0) (sym (eqb-true tag i.tag both.1)) in
+    let here_it : (flies f.issue.outcome && (tag == f.issue.tag)) ≡ true = and_from (flies f.issue.outcome) (tag == f.issue.tag) (ap flies f.flies) (eq-eqb tag f.issue.tag (sym f.under)) in
+    record {
+      issued_are = set_ended tag (end_of e) cs place f.issue f.there here_it only ∙ ap (map (ended_by tag (end_of e))) k.issued_are ∙ sym (issues_ended 0 tag es e end none);
+      placed = λ j i there is.
+          elim (written cs place (with_outcome f.issue (end_of e)) j i there) [
+            | inl p ↦ absurd (ended (ap (λ (x : Issued). x.outcome) p.1 ∙ is))
+            | inr p ↦ other_tag tags tag i.tag Ended (λ same. p.0 (only_there tag place cs tags k.placed at j i p.1 is same)) (Open j) (k.placed j i p.1 is)
+          ];
+      used = used.0;
+    }
+
+pub kept_done : (setup : Setup) (es zs : List Happened) (tag place : ℕ) (i : Issued) (cs : List Issued) (round opened : ℕ) (known : ℕ → Option Known) (ids : BioId → Bool) (tags : List TagUse)
+    → IsKeptTrace setup es cs round opened known ids tags → BreaksNoRule setup es (Done tag) → zs ≡ es ++ Done tag ∷ [] → IsEndedAt setup es (Done tag) tag place i cs tags
+    → IsKeptTrace setup zs (set cs place (with_outcome i outcome.Done)) round (opened - 1) known ids (set tags tag Ended)
+kept_done setup es zs tag place i cs round opened known ids tags k all hz x =
+    let new = push_legal setup es (Done tag) k.legal all tt in
+    let P : List Happened → Type 0 = λ l. IsKeptTrace setup l (set cs place (with_outcome i outcome.Done)) round (opened - 1) known ids (set tags tag Ended) in
     let here : P (es ++ Done tag ∷ []) = record {
       ranges = k.ranges;
       legal = new;
-      commands_are = k.commands_are ∙ sym (commands_kept setup es (Done tag) new refl refl);
-      rounds_are = k.rounds_are ∙ sym (rounds_kept es (Done tag) refl refl);
+      issued_are = x.issued_are;
       round_is = omega (arith, k.round_is, round_more es (Done tag));
       open_is = omega (arith, k.open_is, open_end es (Done tag) tag refl);
       known_are = λ q. k.known_are q ∙ sym (known_kept setup es (Done tag) refl refl refl refl q);
       requests_are = requests_kept setup es (Done tag) refl refl k.requests_are;
       ids_are = λ id. k.ids_are id ∙ sym (same_ids es (Done tag) id refl);
-      tags_are = tags_ended es (Done tag) tags tag refl used.0 k.tags_are;
+      placed = x.placed;
+      tags_are = tags_ended es (Done tag) tags tag refl x.used k.tags_are;
       each_tag = length_set tags tag Ended ∙ k.each_tag;
     } in
     subst P (sym hz) here
 
--- what is kept of the open Issue of a tag
-pub kept_there : (setup : Setup) (es : List Happened) (tag id : ℕ) (cs : List Command) (rs : List ℕ) (round opened : ℕ) (known : ℕ → Option Known) (ids : BioId → Bool) (tags : List TagUse)
-    → IsKeptTrace setup es cs rs round opened known ids tags → IsOpenBy es tag id → (k : ℕ) × ((c : Command) × (slice_get cs k ≡ Some c) × (c.id ≡ id))
-kept_there setup es tag id cs rs round opened known ids tags k by =
-    let p = there_is setup es tag id k.legal by in
-    (p.0, (p.1.0, ap (λ l. slice_get l p.0) k.commands_are ∙ p.1.1, p.1.2))
-
-pub kept_within : (setup : Setup) (es : List Happened) (cs : List Command) (rs : List ℕ) (round opened : ℕ) (known : ℕ → Option Known) (ids : BioId → Bool) (tags : List TagUse) (place : ℕ) (c : Command)
-    → IsKeptTrace setup es cs rs round opened known ids tags → slice_get cs place ≡ Some c → (place < length cs) × (place < length rs)
-kept_within setup es cs rs round opened known ids tags place c k at =
-    let low : place < length cs = slice_get_within cs place c at in
-    let one : length (rounds_of es) ≡ length (commands_of setup es) = (legal-schedule setup es k.legal).one_each in
-    let even : length rs ≡ length cs = ap length k.rounds_are ∙ one ∙ sym (ap length k.commands_are) in
-    (low, omega arith)
-
--- after a Back the command is no longer kept, and its request waits again
-pub kept_back : (setup : Setup) (es zs : List Happened) (tag id : ℕ) (cs ds : List Command) (rs ss : List ℕ) (round opened : ℕ) (known known' : ℕ → Option Known) (ids : BioId → Bool) (tags : List TagUse)
-    → IsKeptTrace setup es cs rs round opened known ids tags → BreaksNoRule setup es (Back tag) → IsOpenBy es tag id → zs ≡ es ++ Back tag ∷ []
-    → ds ≡ commands_of setup (es ++ Back tag ∷ []) → ss ≡ rounds_of (es ++ Back tag ∷ [])
+-- after a Back its request waits again
+pub kept_back : (setup : Setup) (es zs : List Happened) (tag place id : ℕ) (i : Issued) (cs : List Issued) (round opened : ℕ) (known known' : ℕ → Option Known) (ids : BioId → Bool) (tags : List TagUse)
+    → IsKeptTrace setup es cs round opened known ids tags → BreaksNoRule setup es (Back tag) → IsOpenBy es tag id → zs ≡ es ++ Back tag ∷ [] → IsEndedAt setup es (Back tag) tag place i cs tags
     → ((q : ℕ) → known' q ≡ cond (id == q) (Some (known_at Requeued (entered_at setup es id))) (known q))
-    → IsKeptTrace setup zs ds ss round (opened - 1) known' ids (set tags tag Ended)
-kept_back setup es zs tag id cs ds rs ss round opened known known' ids tags k all by hz hd hs hk =
+    → IsKeptTrace setup zs (set cs place (with_outcome i outcome.Back)) round (opened - 1) known' ids (set tags tag Ended)
+kept_back setup es zs tag place id i cs round opened known known' ids tags k all by hz x hk =
     let new = push_legal setup es (Back tag) k.legal all tt in
-    let P : List Happened → Type 0 = λ l. IsKeptTrace setup l ds ss round (opened - 1) known' ids (set tags tag Ended) in
-    let found = open_found setup es tags k.legal k.each_tag k.tags_are tag (all NotIssued) in
-    let used : IsTagUse es tag (Open found.0) = k.tags_are tag (Open found.0) found.1 in
+    let P : List Happened → Type 0 = λ l. IsKeptTrace setup l (set cs place (with_outcome i outcome.Back)) round (opened - 1) known' ids (set tags tag Ended) in
     let here : P (es ++ Back tag ∷ []) = record {
       ranges = k.ranges;
       legal = new;
-      commands_are = hd;
-      rounds_are = hs;
+      issued_are = x.issued_are;
       round_is = omega (arith, k.round_is, round_more es (Back tag));
       open_is = omega (arith, k.open_is, open_end es (Back tag) tag refl);
       known_are = λ q. hk q ∙ ap (λ x. cond (id == q) (Some (known_at Requeued (entered_at setup es id))) x) (k.known_are q) ∙ sym (known_requeued_id setup es tag id k.legal by (entered_at setup es id) (request_there setup es id (released_first setup es id k.legal (open_issued es tag id by))) q);
       requests_are = requests_kept setup es (Back tag) refl refl k.requests_are;
       ids_are = λ b. k.ids_are b ∙ sym (same_ids es (Back tag) b refl);
-      tags_are = tags_ended es (Back tag) tags tag refl used.0 k.tags_are;
+      placed = x.placed;
+      tags_are = tags_ended es (Back tag) tags tag refl x.used k.tags_are;
       each_tag = length_set tags tag Ended ∙ k.each_tag;
     } in
     subst P (sym hz) here
 
-pub kept_issue : (setup : Setup) (es zs : List Happened) (id tag : ℕ) (w : Entered) (cs ds : List Command) (rs ss : List ℕ) (round opened : ℕ) (known known' : ℕ → Option Known) (ids : BioId → Bool) (tags : List TagUse)
-    → IsKeptTrace setup es cs rs round opened known ids tags → BreaksNoRule setup es (Issue id tag) → zs ≡ es ++ Issue id tag ∷ []
-    → waits_at setup es id ≡ Some w → ds ≡ cs ++ record { id = id; release = w.release; due = w.due } ∷ [] → ss ≡ rs ++ round ∷ []
+pub kept_issue : (setup : Setup) (es zs : List Happened) (id tag place : ℕ) (w : Entered) (cs ds : List Issued) (round opened : ℕ) (known known' : ℕ → Option Known) (ids : BioId → Bool) (tags : List TagUse)
+    → IsKeptTrace setup es cs round opened known ids tags → BreaksNoRule setup es (Issue id tag) → zs ≡ es ++ Issue id tag ∷ [] → tag < length tags
+    → waits_at setup es id ≡ Some w → place ≡ length cs → ds ≡ cs ++ record { round = round; id = id; tag = tag; outcome = outcome.Flying } ∷ []
     → ((q : ℕ) → known' q ≡ cond (id == q) (Some (known_at Gone w)) (known q))
-    → IsKeptTrace setup zs ds ss round (opened + 1) known' ids (set tags tag (Open id))
-kept_issue setup es zs id tag w cs ds rs ss round opened known known' ids tags k all hz waits hd hs hk =
+    → IsKeptTrace setup zs ds round (opened + 1) known' ids (set tags tag (Open place))
+kept_issue setup es zs id tag place w cs ds round opened known known' ids tags k all hz low waits hp hd hk =
     let new = push_legal setup es (Issue id tag) k.legal all tt in
-    let P : List Happened → Type 0 = λ l. IsKeptTrace setup l ds ss round (opened + 1) known' ids (set tags tag (Open id)) in
-    let here : P (es ++ Issue id tag ∷ []) = record {
+    let i : Issued = record { round = round; id = id; tag = tag; outcome = outcome.Flying } in
+    let P : List Happened → List Issued → Type 0 = λ l is. IsKeptTrace setup l is round (opened + 1) known' ids (set tags tag (Open place)) in
+    let here : P (es ++ Issue id tag ∷ []) (cs ++ i ∷ []) = record {
       ranges = k.ranges;
       legal = new;
-      commands_are = hd ∙ ap (λ l. l ++ record { id = id; release = w.release; due = w.due } ∷ []) k.commands_are ∙ sym (commands-issued setup es id tag new w waits);
-      rounds_are = hs ∙ ap (λ l. l ++ round ∷ []) k.rounds_are ∙ ap (λ n. rounds_of es ++ n ∷ []) k.round_is ∙ sym (rounds-issued es id tag);
+      issued_are = ap (λ l. l ++ i ∷ []) k.issued_are ∙ sym (issues_push 0 round es id tag (omega (arith, k.round_is)));
       round_is = omega (arith, k.round_is, round_more es (Issue id tag));
       open_is = omega (arith, k.open_is, open_issue setup es id tag k.legal);
       known_are = λ q. hk q ∙ ap (λ x. cond (id == q) (Some (known_at Gone w)) x) (k.known_are q) ∙ sym (known_issued setup es id tag new w (waits_there setup es id w waits).1 q);
       requests_are = requests_kept setup es (Issue id tag) refl refl k.requests_are;
       ids_are = λ b. k.ids_are b ∙ sym (same_ids es (Issue id tag) b refl);
-      tags_are = tags_issued es tags id tag k.tags_are;
-      each_tag = length_set tags tag (Open id) ∙ k.each_tag;
+      placed = λ j x there is.
+          elim (split cs i j x there) [
+            | inl p ↦ other_tag tags tag x.tag (Open place) (λ same. absurd (all TagUsed (subst (IsUsed es) same (k.tags_are x.tag (Open j) (k.placed j x p is)).0))) (Open j) (k.placed j x p is)
+            | inr p ↦ subst (λ (y : Issued). slice_get (set tags tag (Open place)) y.tag ≡ Some (Open j)) p.1 (there_now tags tag (Open place) low ∙ ap (λ n. Some (Open n)) (hp ∙ sym p.0))
+          ];
+      tags_are = tags_issued es tags id tag place (hp ∙ ap length k.issued_are) k.tags_are;
+      each_tag = length_set tags tag (Open place) ∙ k.each_tag;
     } in
-    subst P (sym hz) here
+    subst (λ l. P l ds) (sym hz) (subst (λ is. P (es ++ Issue id tag ∷ []) is) (sym hd) here)
 
-pub kept_release : (setup : Setup) (es zs : List Happened) (id : ℕ) (bios : List Bio) (s : Entry) (cs : List Command) (rs : List ℕ) (round opened : ℕ) (known known' : ℕ → Option Known) (ids ids' : BioId → Bool) (tags : List TagUse)
-    → IsKeptTrace setup es cs rs round opened known ids tags → BreaksNoRule setup es (Release id bios) → zs ≡ es ++ Release id bios ∷ [] → IsRequest bios
+pub kept_release : (setup : Setup) (es zs : List Happened) (id : ℕ) (bios : List Bio) (s : Entry) (cs : List Issued) (round opened : ℕ) (known known' : ℕ → Option Known) (ids ids' : BioId → Bool) (tags : List TagUse)
+    → IsKeptTrace setup es cs round opened known ids tags → BreaksNoRule setup es (Release id bios) → zs ≡ es ++ Release id bios ∷ [] → IsRequest bios
     → s ≡ summary record { release = round; due = round + expire_of setup (dir_of bios); bios = bios }
     → ((q : ℕ) → known' q ≡ cond (id == q) (Some (record { stage = Waits; entry = s })) (known q)) → ((b : BioId) → ids' b ≡ (ids b || has_bio_id bios b))
-    → IsKeptTrace setup zs cs rs round opened known' ids' tags
-kept_release setup es zs id bios s cs rs round opened known known' ids ids' tags k all hz request hs hk hb =
+    → IsKeptTrace setup zs cs round opened known' ids' tags
+kept_release setup es zs id bios s cs round opened known known' ids ids' tags k all hz request hs hk hb =
     let new = push_legal setup es (Release id bios) k.legal all request in
-    let P : List Happened → Type 0 = λ l. IsKeptTrace setup l cs rs round opened known' ids' tags in
+    let P : List Happened → Type 0 = λ l. IsKeptTrace setup l cs round opened known' ids' tags in
     let now : s ≡ summary record { release = round_of es; due = round_of es + expire_of setup (dir_of bios); bios = bios } = hs ∙ ap (λ n. summary record { release = n; due = n + expire_of setup (dir_of bios); bios = bios }) k.round_is in
     let here : P (es ++ Release id bios ∷ []) = record {
       ranges = k.ranges;
       legal = new;
-      commands_are = k.commands_are ∙ sym (commands_kept setup es (Release id bios) new refl refl);
-      rounds_are = k.rounds_are ∙ sym (rounds_kept es (Release id bios) refl refl);
+      issued_are = k.issued_are ∙ sym (issues_kept 0 es (Release id bios) refl refl);
       round_is = omega (arith, k.round_is, round_more es (Release id bios));
       open_is = k.open_is ∙ sym (open_kept es (Release id bios) refl refl);
       known_are = λ q. hk q ∙ ap (λ x. cond (id == q) (Some (record { stage = Waits; entry = s })) x) (k.known_are q) ∙ ap (λ x. cond (id == q) (Some (let y : Known = record { stage = Waits; entry = x } in y)) (known_of setup es q)) now ∙ sym (known_released setup es id bios new q);
       requests_are = requests_released setup es id bios k.legal all request k.requests_are;
       ids_are = λ b. hb b ∙ ap (λ x. x || has_bio_id bios b) (k.ids_are b) ∙ sym (ids_more es (Release id bios) b);
+      placed = k.placed;
       tags_are = tags_kept es (Release id bios) tags refl refl refl k.tags_are;
       each_tag = k.each_tag;
     } in
     subst P (sym hz) here
 
-pub kept_join : (setup : Setup) (es zs : List Happened) (id : ℕ) (bios : List Bio) (w : Entered) (s : Entry) (cs : List Command) (rs : List ℕ) (round opened : ℕ) (known known' : ℕ → Option Known) (ids ids' : BioId → Bool) (tags : List TagUse)
-    → IsKeptTrace setup es cs rs round opened known ids tags → BreaksNoRule setup es (Join id bios) → zs ≡ es ++ Join id bios ∷ [] → IsRequest bios
+pub kept_join : (setup : Setup) (es zs : List Happened) (id : ℕ) (bios : List Bio) (w : Entered) (s : Entry) (cs : List Issued) (round opened : ℕ) (known known' : ℕ → Option Known) (ids ids' : BioId → Bool) (tags : List TagUse)
+    → IsKeptTrace setup es cs round opened known ids tags → BreaksNoRule setup es (Join id bios) → zs ≡ es ++ Join id bios ∷ [] → IsRequest bios
     → request_at setup es id ≡ Some w → s ≡ summary record { release = round; due = w.due; bios = join_up w.bios bios }
     → ((q : ℕ) → known' q ≡ cond (id == q) (Some (record { stage = Waits; entry = s })) (known q)) → ((b : BioId) → ids' b ≡ (ids b || has_bio_id bios b))
-    → IsKeptTrace setup zs cs rs round opened known' ids' tags
-kept_join setup es zs id bios w s cs rs round opened known known' ids ids' tags k all hz request there hs hk hb =
+    → IsKeptTrace setup zs cs round opened known' ids' tags
+kept_join setup es zs id bios w s cs round opened known known' ids ids' tags k all hz request there hs hk hb =
     let new = push_legal setup es (Join id bios) k.legal all request in
-    let P : List Happened → Type 0 = λ l. IsKeptTrace setup l cs rs round opened known' ids' tags in
+    let P : List Happened → Type 0 = λ l. IsKeptTrace setup l cs round opened known' ids' tags in
     let now : s ≡ summary record { release = round_of es; due = w.due; bios = join_up w.bios bios } = hs ∙ ap (λ n. summary record { release = n; due = w.due; bios = join_up w.bios bios }) k.round_is in
     let here : P (es ++ Join id bios ∷ []) = record {
       ranges = k.ranges;
       legal = new;
-      commands_are = k.commands_are ∙ sym (commands_kept setup es (Join id bios) new refl refl);
-      rounds_are = k.rounds_are ∙ sym (rounds_kept es (Join id bios) refl refl);
+      issued_are = k.issued_are ∙ sym (issues_kept 0 es (Join id bios) refl refl);
       round_is = omega (arith, k.round_is, round_more es (Join id bios));
       open_is = k.open_is ∙ sym (open_kept es (Join id bios) refl refl);
       known_are = λ q. hk q ∙ ap (λ x. cond (id == q) (Some (record { stage = Waits; entry = s })) x) (k.known_are q) ∙ ap (λ x. cond (id == q) (Some (let y : Known = record { stage = Waits; entry = x } in y)) (known_of setup es q)) now ∙ sym (known_joined setup es id bios new w there q);
       requests_are = requests_joined setup es id bios all request k.requests_are;
       ids_are = λ b. hb b ∙ ap (λ x. x || has_bio_id bios b) (k.ids_are b) ∙ sym (ids_more es (Join id bios) b);
+      placed = k.placed;
       tags_are = tags_kept es (Join id bios) tags refl refl refl k.tags_are;
       each_tag = k.each_tag;
     } in
     subst P (sym hz) here
 
-pub kept_depth : (setup : Setup) (es zs : List Happened) (depth : ℕ) (cs : List Command) (rs : List ℕ) (round opened : ℕ) (known : ℕ → Option Known) (ids : BioId → Bool) (tags : List TagUse)
-    → IsKeptTrace setup es cs rs round opened known ids tags → BreaksNoRule setup es (Depth depth) → zs ≡ es ++ Depth depth ∷ []
-    → IsKeptTrace setup zs cs rs round opened known ids tags
-kept_depth setup es zs depth cs rs round opened known ids tags k all hz =
+pub kept_depth : (setup : Setup) (es zs : List Happened) (depth : ℕ) (cs : List Issued) (round opened : ℕ) (known : ℕ → Option Known) (ids : BioId → Bool) (tags : List TagUse)
+    → IsKeptTrace setup es cs round opened known ids tags → BreaksNoRule setup es (Depth depth) → zs ≡ es ++ Depth depth ∷ []
+    → IsKeptTrace setup zs cs round opened known ids tags
+kept_depth setup es zs depth cs round opened known ids tags k all hz =
     let new = push_legal setup es (Depth depth) k.legal all tt in
-    let P : List Happened → Type 0 = λ l. IsKeptTrace setup l cs rs round opened known ids tags in
+    let P : List Happened → Type 0 = λ l. IsKeptTrace setup l cs round opened known ids tags in
     let here : P (es ++ Depth depth ∷ []) = record {
       ranges = k.ranges;
       legal = new;
-      commands_are = k.commands_are ∙ sym (commands_kept setup es (Depth depth) new refl refl);
-      rounds_are = k.rounds_are ∙ sym (rounds_kept es (Depth depth) refl refl);
+      issued_are = k.issued_are ∙ sym (issues_kept 0 es (Depth depth) refl refl);
       round_is = omega (arith, k.round_is, round_more es (Depth depth));
       open_is = k.open_is ∙ sym (open_kept es (Depth depth) refl refl);
       known_are = λ q. k.known_are q ∙ sym (known_kept setup es (Depth depth) refl refl refl refl q);
       requests_are = requests_kept setup es (Depth depth) refl refl k.requests_are;
       ids_are = λ id. k.ids_are id ∙ sym (same_ids es (Depth depth) id refl);
+      placed = k.placed;
       tags_are = tags_kept es (Depth depth) tags refl refl refl k.tags_are;
       each_tag = k.each_tag;
     } in
     subst P (sym hz) here
 
--- a command by its parts
-pub command_is : (c : Command) (id release due : ℕ) → c.id ≡ id → c.release ≡ release → c.due ≡ due → c ≡ record { id = id; release = release; due = due }
-command_is c id release due h i j =
-    ap (λ (n : ℕ). let y : Command = record { id = n; release = c.release; due = c.due } in y) h
-    ∙ ap (λ (n : ℕ). let y : Command = record { id = id; release = n; due = c.due } in y) i
-    ∙ ap (λ (n : ℕ). let y : Command = record { id = id; release = release; due = n } in y) j
-
 -- the trace without events
-pub kept_empty : (setup : Setup) (known : ℕ → Option Known) (ids : BioId → Bool) (n : ℕ) → ((q : ℕ) → known q ≡ None) → ((b : BioId) → ids b ≡ false) → n ≡ setup.depth → IsSetup setup → IsKeptTrace setup [] [] [] 0 0 known ids (replicate n Free)
-unfolding entered open_count round_of commands_of rounds_of issued_ids released_ids served known_of request_at
+pub kept_empty : (setup : Setup) (known : ℕ → Option Known) (ids : BioId → Bool) (n : ℕ) → ((q : ℕ) → known q ≡ None) → ((b : BioId) → ids b ≡ false) → n ≡ setup.depth → IsSetup setup → IsKeptTrace setup [] [] 0 0 known ids (replicate n Free)
+unfolding entered open_count round_of issues_from issued_ids released_ids served known_of request_at
 kept_empty setup known ids n hk hb hn is = record {
   ranges = is;
   legal = empty_legal setup;
-  commands_are = refl;
-  rounds_are = refl;
+  issued_are = refl;
   round_is = refl;
   open_is = refl;
   known_are = hk;
   requests_are = λ id h. absurd (cc);
   ids_are = hb;
+  placed = λ j i at is. absurd (cc);
   tags_are = tags_empty n;
   each_tag = replicated n Free ∙ hn;
 }
 
 -- the same where the lists are the same, and the maps by keys
-pub kept_same : (setup : Setup) (es es' : List Happened) (cs cs' : List Command) (rs rs' : List ℕ) (round opened : ℕ) (known known' : ℕ → Option Known) (ids ids' : BioId → Bool) (tags : List TagUse)
-    → IsKeptTrace setup es cs rs round opened known ids tags → es' ≡ es → cs' ≡ cs → rs' ≡ rs → ((q : ℕ) → known' q ≡ known q) → ((b : BioId) → ids' b ≡ ids b) → IsKeptTrace setup es' cs' rs' round opened known' ids' tags
-kept_same setup es es' cs cs' rs rs' round opened known known' ids ids' tags k he hc hr hk hb =
-    let P : List Happened → Type 0 = λ l. IsKeptTrace setup l cs' rs' round opened known' ids' tags in
-    subst P (sym he) record {
+pub kept_same : (setup : Setup) (es es' : List Happened) (cs cs' : List Issued) (round opened : ℕ) (known known' : ℕ → Option Known) (ids ids' : BioId → Bool) (tags : List TagUse)
+    → IsKeptTrace setup es cs round opened known ids tags → es' ≡ es → cs' ≡ cs → ((q : ℕ) → known' q ≡ known q) → ((b : BioId) → ids' b ≡ ids b) → IsKeptTrace setup es' cs' round opened known' ids' tags
+kept_same setup es es' cs cs' round opened known known' ids ids' tags k he hc hk hb =
+    let P : List Happened → List Issued → Type 0 = λ l is. IsKeptTrace setup l is round opened known' ids' tags in
+    subst (λ l. P l cs') (sym he) (subst (λ is. P es is) (sym hc) record {
       ranges = k.ranges;
       legal = k.legal;
-      commands_are = hc ∙ k.commands_are;
-      rounds_are = hr ∙ k.rounds_are;
+      issued_are = k.issued_are;
       round_is = k.round_is;
       open_is = k.open_is;
       known_are = λ q. hk q ∙ k.known_are q;
       requests_are = k.requests_are;
       ids_are = λ b. hb b ∙ k.ids_are b;
+      placed = k.placed;
       tags_are = k.tags_are;
       each_tag = k.each_tag;
-    }
+    })
 
-pub kept_tags : (setup : Setup) (es : List Happened) (cs : List Command) (rs : List ℕ) (round opened : ℕ) (known : ℕ → Option Known) (ids : BioId → Bool) (tags tags' : List TagUse)
-    → IsKeptTrace setup es cs rs round opened known ids tags → tags' ≡ tags → IsKeptTrace setup es cs rs round opened known ids tags'
-kept_tags setup es cs rs round opened known ids tags tags' k h = let P : List TagUse → Type 0 = λ t. IsKeptTrace setup es cs rs round opened known ids t in subst P (sym h) k
+pub kept_tags : (setup : Setup) (es : List Happened) (cs : List Issued) (round opened : ℕ) (known : ℕ → Option Known) (ids : BioId → Bool) (tags tags' : List TagUse)
+    → IsKeptTrace setup es cs round opened known ids tags → tags' ≡ tags → IsKeptTrace setup es cs round opened known ids tags'
+kept_tags setup es cs round opened known ids tags tags' k h = let P : List TagUse → Type 0 = λ t. IsKeptTrace setup es cs round opened known ids t in subst P (sym h) k
 
 -- the room that is left
-pub room_after_tick : (p : Prepared) (n n' o c r P P' C R K I : ℕ) → IsPreparedFor p Tick → HasRoom p n o c r P C R K I → n' ≡ n + 1 → P ≤ P' → HasRoom Nothing n' o c r P' C R K I
-room_after_tick Nothing n n' o c r P P' C R K I h room hn more = absurd h
-room_after_tick AnIssue n n' o c r P P' C R K I h room hn more = record { for_events = omega (arith, room.for_events, hn, more); for_command = omega (arith, room.for_command); for_round = omega (arith, room.for_round); for_request = omega arith; for_bios = omega arith }
-room_after_tick (Bios m) n n' o c r P P' C R K I h room hn more = absurd h
+pub room_after_tick : (p : Prepared) (n n' o c P P' C K I : ℕ) → IsPreparedFor p Tick → HasRoom p n o c P C K I → n' ≡ n + 1 → P ≤ P' → HasRoom Nothing n' o c P' C K I
+room_after_tick Nothing n n' o c P P' C K I h room hn more = absurd h
+room_after_tick AnIssue n n' o c P P' C K I h room hn more = record { for_events = omega (arith, room.for_events, hn, more); for_issue = omega (arith, room.for_issue); for_request = omega arith; for_bios = omega arith }
+room_after_tick (Bios m) n n' o c P P' C K I h room hn more = absurd h
 
-pub room_after_depth : (p : Prepared) (depth n n' o c r P P' C R K I : ℕ) → IsPreparedFor p (Depth depth) → HasRoom p n o c r P C R K I → n' ≡ n + 1 → P ≤ P' → HasRoom Nothing n' o c r P' C R K I
-room_after_depth p depth n n' o c r P P' C R K I h room hn more = room_after_tick p n n' o c r P P' C R K I h room hn more
+pub room_after_depth : (p : Prepared) (depth n n' o c P P' C K I : ℕ) → IsPreparedFor p (Depth depth) → HasRoom p n o c P C K I → n' ≡ n + 1 → P ≤ P' → HasRoom Nothing n' o c P' C K I
+room_after_depth p depth n n' o c P P' C K I h room hn more = room_after_tick p n n' o c P P' C K I h room hn more
 
-pub room_after_issue : (p : Prepared) (id tag n n' o c c' r r' P P' C C' R R' K K' I : ℕ) → IsPreparedFor p (Issue id tag) → HasRoom p n o c r P C R K I → n' ≡ n + 1 → c' ≡ c + 1 → r' ≡ r + 1 → P ≤ P' → C ≤ C' → R ≤ R' → HasRoom Nothing n' (o + 1) c' r' P' C' R' K' I
-room_after_issue Nothing id tag n n' o c c' r r' P P' C C' R R' K K' I h room hn hc hr p q s = absurd h
-room_after_issue AnIssue id tag n n' o c c' r r' P P' C C' R R' K K' I h room hn hc hr p q s = record { for_events = omega (arith, room.for_events, hn, p); for_command = omega (arith, room.for_command, hc, q); for_round = omega (arith, room.for_round, hr, s); for_request = omega arith; for_bios = omega arith }
-room_after_issue (Bios m) id tag n n' o c c' r r' P P' C C' R R' K K' I h room hn hc hr p q s = absurd h
+pub room_after_issue : (p : Prepared) (id tag n n' o c c' P P' C C' K K' I : ℕ) → IsPreparedFor p (Issue id tag) → HasRoom p n o c P C K I → n' ≡ n + 1 → c' ≡ c + 1 → P ≤ P' → C ≤ C' → HasRoom Nothing n' (o + 1) c' P' C' K' I
+room_after_issue Nothing id tag n n' o c c' P P' C C' K K' I h room hn hc p q = absurd h
+room_after_issue AnIssue id tag n n' o c c' P P' C C' K K' I h room hn hc p q = record { for_events = omega (arith, room.for_events, hn, p); for_issue = omega (arith, room.for_issue, hc, q); for_request = omega arith; for_bios = omega arith }
+room_after_issue (Bios m) id tag n n' o c c' P P' C C' K K' I h room hn hc p q = absurd h
 
-pub room_after_done : (p : Prepared) (n n' o c r P P' C R K I : ℕ) → 0 < o → HasRoom p n o c r P C R K I → n' ≡ n + 1 → P ≤ P' → HasRoom Nothing n' (o - 1) c r P' C R K I
-room_after_done p n n' o c r P P' C R K I h room hn more = record { for_events = omega (arith, room.for_events, hn, more, h); for_command = omega (arith, room.for_command); for_round = omega (arith, room.for_round); for_request = omega arith; for_bios = omega arith }
-
--- after a Back, whose command goes
-pub room_after_back : (p : Prepared) (n n' o c c' r r' P P' C C' R R' K K' I : ℕ) → 0 < o → HasRoom p n o c r P C R K I → n' ≡ n + 1 → P ≤ P' → c' + 1 ≡ c → r' + 1 ≡ r → C' ≡ C → R' ≡ R → HasRoom Nothing n' (o - 1) c' r' P' C' R' K' I
-room_after_back p n n' o c c' r r' P P' C C' R R' K K' I h room hn more hc hr kc kr = record { for_events = omega (arith, room.for_events, hn, more, h); for_command = omega (arith, room.for_command, hc, kc); for_round = omega (arith, room.for_round, hr, kr); for_request = omega arith; for_bios = omega arith }
+-- after a Done or a Back, which change their Issue in its place
+pub room_after_end : (p : Prepared) (n n' o c c' P P' C C' K K' I : ℕ) → 0 < o → HasRoom p n o c P C K I → n' ≡ n + 1 → P ≤ P' → c' ≡ c → C ≤ C' → HasRoom Nothing n' (o - 1) c' P' C' K' I
+room_after_end p n n' o c c' P P' C C' K K' I h room hn more hc kc = record { for_events = omega (arith, room.for_events, hn, more, h); for_issue = omega (arith, room.for_issue, hc, kc); for_request = omega arith; for_bios = omega arith }
 
 -- after a Release, whose event takes the place that was made
-pub room_after_entry : (p : Prepared) (n n' o c r P P' C R K K' I I' : ℕ) → 1 ≤ event_room p → HasRoom p n o c r P C R K I → n' ≡ n + 1 → P ≤ P' → HasRoom Nothing n' o c r P' C R K' I'
-room_after_entry p n n' o c r P P' C R K K' I I' h room hn more = record { for_events = omega (arith, room.for_events, hn, more, h); for_command = omega (arith, room.for_command); for_round = omega (arith, room.for_round); for_request = omega arith; for_bios = omega arith }
+pub room_after_entry : (p : Prepared) (n n' o c P P' C K K' I I' : ℕ) → 1 ≤ event_room p → HasRoom p n o c P C K I → n' ≡ n + 1 → P ≤ P' → HasRoom Nothing n' o c P' C K' I'
+room_after_entry p n n' o c P P' C K K' I I' h room hn more = record { for_events = omega (arith, room.for_events, hn, more, h); for_issue = omega (arith, room.for_issue); for_request = omega arith; for_bios = omega arith }
 
 pub entry_room : (p : Prepared) (id : ℕ) (bios : List Bio) → IsPreparedFor p (Release id bios) → (1 ≤ event_room p) × (1 ≤ request_room p) × (bio_room p ≡ length bios)
 entry_room Nothing id bios h = absurd h

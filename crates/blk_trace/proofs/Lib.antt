@@ -25,6 +25,7 @@ pub mod First
 pub mod Room
 pub mod Asked
 pub mod Knowing
+pub mod Issues
 pub mod TagUses
 pub mod Newness
 pub mod Joining

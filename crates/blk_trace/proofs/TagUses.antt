@@ -1,9 +1,9 @@
 -- How a tag stands with one more event.
-use Rattle.std.proofs.Common.{◌≡◌, ◌≢◌, ◌<◌, ◌≤◌, ◌+◌, ◌++◌, ℕ, zero, suc, List, [], ◌∷◌, length, take, refl, sym, ◌∙◌, ap, subst, arith, inl, inr, Some, None, cond, false, set}
-use Rattle.std.specs.Prelude.{slice_get, ◌⊎◌, replicate}
+use Rattle.std.proofs.Common.{◌≡◌, ◌≢◌, ◌<◌, ◌≤◌, ◌+◌, ◌++◌, ◌==◌, ℕ, zero, suc, List, [], ◌∷◌, length, take, refl, sym, ◌∙◌, ap, subst, arith, inl, inr, Some, None, cond, false, set, eqb-true}
+use Rattle.std.specs.Prelude.{slice_get, ◌⊎◌, ◌&&◌, replicate}
 use Rattle.std.proofs.lemmas.Option.{slice_get_within}
 use Rattle.std.proofs.lemmas.List.{length-set}
-use Rattle.std.proofs.lemmas.Bool.{cases_lt}
+use Rattle.std.proofs.lemmas.Bool.{cases_lt, cases_Bool, and_parts}
 use Rattle.blk_trace.specs.declared.tags.TagUse.{TagUse}
 use Rattle.blk_trace.specs.declared.tags.TagUse.TheVariants.{Free, Open, Ended}
 use Rattle.blk_trace.specs.Happened.{Happened, Tick, Issue}
@@ -11,7 +11,12 @@ use Rattle.blk_trace.specs.Kinds.{issues, ends}
 use Rattle.blk_trace.specs.Setups.{Setup}
 use Rattle.blk_trace.specs.Events.{is_tick, round_of, IsOpen, IsUsed, IsOpenBy}
 use Rattle.blk_trace.specs.Legal.{IsLegalTrace}
-use Rattle.blk_trace.specs.Inside.Kept.{IsTagUse, LeavesFree}
+use Rattle.blk_trace.specs.declared.issued.Outcome.TheVariants.{Flying}
+use Rattle.blk_trace.specs.declared.issued.Issued.{Issued}
+use Rattle.blk_trace.specs.Issues.{end_of, issues_of, flies}
+use Rattle.blk_trace.specs.Inside.Issues.{ended_by}
+use Rattle.blk_trace.specs.Inside.Kept.{IsFlyingAt, IsTagUse, LeavesFree}
+use Rattle.blk_trace.proofs.Issues.{issues_kept, issues_push, issues_ended, map_get}
 use Rattle.blk_trace.proofs.Places.{split, keep, last, before, before_last}
 use Rattle.blk_trace.proofs.Words.{OnlyEnds, only_ends, issues_not, ends_not, split_end}
 use Rattle.blk_trace.proofs.Seats.{was_open, closed}
@@ -77,17 +82,49 @@ now_by es id t = record {
 pub by_open : (es : List Happened) (t id : ℕ) → IsOpenBy es t id → IsOpen es t
 by_open es t id o = record { place = o.place; id = id; issued = o.issued; not_done = o.not_done }
 
-use_keep : (es : List Happened) (e : Happened) (tag : ℕ) (u : TagUse) → LeavesTag e tag → IsTagUse es tag u → IsTagUse (es ++ e ∷ []) tag u
-use_keep es e tag Free l h = (λ x. h.0 (used_back es e tag l.no_tick l.no_issue x), λ x. h.1 (was_open es e tag l.no_issue x))
-use_keep es e tag (Open id) l h = (used_keep es e tag l.no_tick h.0, still_by es e tag id l.no_end h.1)
-use_keep es e tag Ended l h = (used_keep es e tag l.no_tick h.0, λ x. h.1 (was_open es e tag l.no_issue x))
+-- what flies under the tag still stands at its place
+abbrev FliesOn : List Happened → Happened → ℕ → Type 0
+FliesOn es e tag = (place : ℕ) → IsFlyingAt (issues_of es) place tag → IsFlyingAt (issues_of (es ++ e ∷ [])) place tag
+
+flies_on_kept : (es : List Happened) (e : Happened) (tag : ℕ) → issues e ≡ None → ends e ≡ None → FliesOn es e tag
+flies_on_kept es e tag none h place f = subst (λ (l : List Issued). IsFlyingAt l place tag) (sym (issues_kept 0 es e none h)) f
+
+flies_on_issued : (es : List Happened) (id t tag : ℕ) → FliesOn es (Issue id t) tag
+flies_on_issued es id t tag place f =
+    subst (λ (l : List Issued). IsFlyingAt l place tag) (sym (issues_push 0 (round_of es) es id t (omega arith))) record { issue = f.issue; there = keep (issues_of es) _ place f.issue f.there; under = f.under; flies = f.flies }
+
+-- an Issue under another tag stays as it is
+stays_so : (t : ℕ) (e : Happened) (i : Issued) → t ≢ i.tag → ended_by t (end_of e) i ≡ i
+stays_so t e i other =
+    elim (cases_Bool (flies i.outcome && (t == i.tag))) [
+      | inl b ↦ absurd (other (eqb-true t i.tag (and_parts (flies i.outcome) (t == i.tag) b).1))
+      | inr b ↦ ap (λ x. cond x (record { round = i.round; id = i.id; tag = i.tag; outcome = end_of e }) i) b
+    ]
+
+flies_on_ended : (es : List Happened) (e : Happened) (t tag : ℕ) → ends e ≡ Some t → issues e ≡ None → t ≢ tag → FliesOn es e tag
+flies_on_ended es e t tag end none other place f =
+    let stays : ended_by t (end_of e) f.issue ≡ f.issue = stays_so t e f.issue (λ same. other (same ∙ f.under)) in
+    subst (λ (l : List Issued). IsFlyingAt l place tag) (sym (issues_ended 0 t es e end none)) record {
+      issue = f.issue;
+      there = map_get (ended_by t (end_of e)) (issues_of es) place f.issue f.there ∙ ap Some stays;
+      under = f.under;
+      flies = f.flies;
+    }
+
+still_open : (es : List Happened) (e : Happened) (t : ℕ) → (ends e ≡ Some t → ⊥) → IsOpen es t → IsOpen (es ++ e ∷ []) t
+still_open es e t other o = by_open (es ++ e ∷ []) t o.id (still_by es e t o.id other record { place = o.place; issued = o.issued; not_done = o.not_done })
+
+use_keep : (es : List Happened) (e : Happened) (tag : ℕ) (u : TagUse) → FliesOn es e tag → LeavesTag e tag → IsTagUse es tag u → IsTagUse (es ++ e ∷ []) tag u
+use_keep es e tag Free on l h = (λ x. h.0 (used_back es e tag l.no_tick l.no_issue x), λ x. h.1 (was_open es e tag l.no_issue x))
+use_keep es e tag (Open place) on l h = (used_keep es e tag l.no_tick h.0, still_open es e tag l.no_end h.1, on place h.2)
+use_keep es e tag Ended on l h = (used_keep es e tag l.no_tick h.0, λ x. h.1 (was_open es e tag l.no_issue x))
 
 -- what the kept tags say
 abbrev pub TagsAre : List Happened → List TagUse → Type 0
 TagsAre es tags = (tag : ℕ) (u : TagUse) → slice_get tags tag ≡ Some u → IsTagUse es tag u
 
 pub tags_kept : (es : List Happened) (e : Happened) (tags : List TagUse) → is_tick e ≡ false → issues e ≡ None → ends e ≡ None → TagsAre es tags → TagsAre (es ++ e ∷ []) tags
-tags_kept es e tags n i d h tag u x = use_keep es e tag u record { no_tick = n; no_issue = λ id y. issues_not e i id tag y; no_end = ends_not e d tag } (h tag u x)
+tags_kept es e tags n i d h tag u x = use_keep es e tag u (flies_on_kept es e tag i d) record { no_tick = n; no_issue = λ id y. issues_not e i id tag y; no_end = ends_not e d tag } (h tag u x)
 
 replicate_at : {X : Type 0} (n : ℕ) (x : X) (k : ℕ) (y : X) → slice_get (replicate n x) k ≡ Some y → x ≡ y
 replicate_at zero x k y h = absurd (cc)
@@ -99,7 +136,7 @@ tags_ticked es n none tag u h =
     subst (IsTagUse (es ++ Tick ∷ []) tag) (replicate_at n Free tag u h) (used_tick es tag, λ o. none tag (was_open es Tick tag (λ i y. absurd (cc)) o))
 
 -- what stands in a list after a write
-written : {X : Type 0} (xs : List X) (k : ℕ) (x : X) (j : ℕ) (y : X) → slice_get (set xs k x) j ≡ Some y → ((j ≡ k) × (x ≡ y)) ⊎ ((j ≢ k) × (slice_get xs j ≡ Some y))
+pub written : {X : Type 0} (xs : List X) (k : ℕ) (x : X) (j : ℕ) (y : X) → slice_get (set xs k x) j ≡ Some y → ((j ≡ k) × (x ≡ y)) ⊎ ((j ≢ k) × (slice_get xs j ≡ Some y))
 written [] k x j y h = absurd (cc)
 written (z ∷ xs) zero x zero y h = inl (refl, cc)
 written (z ∷ xs) zero x (suc j) y h = inr (λ e. absurd (omega (arith, e)), h)
@@ -109,11 +146,19 @@ written (z ∷ xs) (suc k) x (suc j) y h = elim (written xs k x j y h) [ inl p �
 issue_tag : (i id tag t : ℕ) → ◌≡◌ {A = Happened} (Issue i tag) (Issue id t) → tag ≡ t
 issue_tag i id tag t h = cc
 
-pub tags_issued : (es : List Happened) (tags : List TagUse) (id tag : ℕ) → TagsAre es tags → TagsAre (es ++ Issue id tag ∷ []) (set tags tag (Open id))
-tags_issued es tags id tag h t u x =
-    elim (written tags tag (Open id) t u x) [
-      | inl p ↦ subst (λ v. IsTagUse (es ++ Issue id tag ∷ []) t v) p.1 (subst (λ n. IsTagUse (es ++ Issue id tag ∷ []) n (Open id)) (sym p.0) (used_here es id tag, now_by es id tag))
-      | inr p ↦ use_keep es (Issue id tag) t u record { no_tick = refl; no_issue = λ i y. p.0 (sym (issue_tag id i tag t y)); no_end = λ y. absurd (cc) } (h t u p.1)
+-- the Issue is the last one, and flies
+pub flies_last : (es : List Happened) (id tag place : ℕ) → place ≡ length (issues_of es) → IsFlyingAt (issues_of (es ++ Issue id tag ∷ [])) place tag
+flies_last es id tag place h =
+    let i : Issued = record { round = round_of es; id = id; tag = tag; outcome = Flying } in
+    let at : slice_get (issues_of es ++ i ∷ []) place ≡ Some i = ap (slice_get (issues_of es ++ i ∷ [])) h ∙ last (issues_of es) i in
+    subst (λ (l : List Issued). IsFlyingAt l place tag) (sym (issues_push 0 (round_of es) es id tag (omega arith))) record { issue = i; there = at; under = refl; flies = refl }
+
+pub tags_issued : (es : List Happened) (tags : List TagUse) (id tag place : ℕ) → place ≡ length (issues_of es) → TagsAre es tags → TagsAre (es ++ Issue id tag ∷ []) (set tags tag (Open place))
+tags_issued es tags id tag place is h t u x =
+    let new : IsTagUse (es ++ Issue id tag ∷ []) tag (Open place) = (used_here es id tag, by_open (es ++ Issue id tag ∷ []) tag id (now_by es id tag), flies_last es id tag place is) in
+    elim (written tags tag (Open place) t u x) [
+      | inl p ↦ subst (λ v. IsTagUse (es ++ Issue id tag ∷ []) t v) p.1 (subst (λ n. IsTagUse (es ++ Issue id tag ∷ []) n (Open place)) (sym p.0) new)
+      | inr p ↦ use_keep es (Issue id tag) t u (flies_on_issued es id tag t) record { no_tick = refl; no_issue = λ i y. p.0 (sym (issue_tag id i tag t y)); no_end = λ y. absurd (cc) } (h t u p.1)
     ]
 
 pub tags_ended : (es : List Happened) (e : Happened) (tags : List TagUse) (tag : ℕ) → ends e ≡ Some tag → IsUsed es tag → TagsAre es tags → TagsAre (es ++ e ∷ []) (set tags tag Ended)
@@ -121,7 +166,7 @@ tags_ended es e tags tag end used h t u x =
     let only : OnlyEnds e = only_ends e tag end in
     elim (written tags tag Ended t u x) [
       | inl p ↦ subst (λ v. IsTagUse (es ++ e ∷ []) t v) p.1 (subst (λ n. IsTagUse (es ++ e ∷ []) n Ended) (sym p.0) (used_keep es e tag only.no_tick used, closed es e tag end))
-      | inr p ↦ use_keep es e t u record { no_tick = only.no_tick; no_issue = λ i y. issues_not e only.no_issue i t y; no_end = λ y. p.0 (let same : Some t ≡ Some tag = sym y ∙ end in cc) } (h t u p.1)
+      | inr p ↦ use_keep es e t u (flies_on_ended es e tag t end only.no_issue (λ same. p.0 (sym same))) record { no_tick = only.no_tick; no_issue = λ i y. issues_not e only.no_issue i t y; no_end = λ y. p.0 (let same : Some t ≡ Some tag = sym y ∙ end in cc) } (h t u p.1)
     ]
 
 at_place : {X : Type 0} (xs : List X) (k : ℕ) → k < length xs → (x : X) × (slice_get xs k ≡ Some x)
@@ -129,13 +174,13 @@ at_place [] k h = absurd (omega arith)
 at_place (x ∷ xs) zero h = (x, refl)
 at_place (x ∷ xs) (suc k) h = at_place xs k (omega arith)
 
-is_open : (es : List Happened) (tag : ℕ) (u : TagUse) → IsTagUse es tag u → IsOpen es tag → (id : ℕ) × (u ≡ Open id)
+is_open : (es : List Happened) (tag : ℕ) (u : TagUse) → IsTagUse es tag u → IsOpen es tag → (place : ℕ) × (u ≡ Open place)
 is_open es tag Free h o = absurd (h.1 o)
-is_open es tag (Open id) h o = (id, refl)
+is_open es tag (Open place) h o = (place, refl)
 is_open es tag Ended h o = absurd (h.1 o)
 
 -- an open tag is kept as open
-pub open_found : (setup : Setup) (es : List Happened) (tags : List TagUse) → IsLegalTrace setup es → length tags ≡ setup.depth → TagsAre es tags → (tag : ℕ) → IsOpen es tag → (id : ℕ) × (slice_get tags tag ≡ Some (Open id))
+pub open_found : (setup : Setup) (es : List Happened) (tags : List TagUse) → IsLegalTrace setup es → length tags ≡ setup.depth → TagsAre es tags → (tag : ℕ) → IsOpen es tag → (place : ℕ) × (slice_get tags tag ≡ Some (Open place))
 open_found setup es tags legal each h tag o =
     let below : tag < setup.depth = tag_below setup es o.place o.id tag legal o.issued in
     let p = at_place tags tag (omega (arith, below, each)) in
@@ -187,7 +232,7 @@ free_ended setup es tags bound legal each h f tag o = free_set bound bound tag E
 -- a tag that isn't free was used
 pub used_of : (es : List Happened) (tag : ℕ) (u : TagUse) → IsTagUse es tag u → (u ≡ Free → ⊥) → IsUsed es tag
 used_of es tag Free is taken = absurd (taken refl)
-used_of es tag (Open id) is taken = is.0
+used_of es tag (Open place) is taken = is.0
 used_of es tag Ended is taken = is.0
 
 -- tags that were freed up to a place

@@ -3,6 +3,7 @@ pub mod Kinds
 pub mod Names
 pub mod Setups
 pub mod Events
+pub mod Issues
 pub mod Depths
 pub mod Legal
 pub mod Rules

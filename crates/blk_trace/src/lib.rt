@@ -2,6 +2,7 @@
 #![tactic(auto)]
 
 mod event;
+mod issued;
 mod known;
 pub mod laws;
 mod rule;
@@ -11,6 +12,7 @@ mod trace;
 
 pub use blk_bio::TraceRule;
 pub use event::{Event, MAX_TAGS};
+pub use issued::{Issued, Outcome};
 pub use known::Entry;
 pub use rule::{PushFault, TraceFault};
 pub use setup::{MAX_EXPIRIES, Setup, SetupFault};

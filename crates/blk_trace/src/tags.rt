@@ -10,8 +10,8 @@ use std::alloc::Allocator;
 pub enum TagUse {
     /// No Issue had it.
     Free,
-    /// The Issue of this id had it, and its end is to come.
-    Open(u64),
+    /// The Issue at this place among all had it, and its end is to come.
+    Open(usize),
     /// An Issue had it, and its end too.
     Ended,
 }

@@ -1,6 +1,6 @@
 //! A list of events that is legal, with a setup.
 
-ghost use Rattle.std.specs.Prelude.{ℕ, ◌≡◌, ◌≢◌, ◌↔◌, ◌++◌, ◌+◌, ◌≤◌, ◌<◌, ◌∷◌, [], IsTrue, IfSome, IfNone, IfOk, IfErr, OnOk, OnErr, option_map, length};
+ghost use Rattle.std.specs.Prelude.{ℕ, ◌≡◌, ◌≢◌, ◌↔◌, ◌++◌, ◌+◌, ◌≤◌, ◌<◌, ◌∷◌, [], IsTrue, IfSome, IfNone, IfOk, IfErr, OnOk, OnErr, option_map, length, slice_get};
 ghost use Rattle.blk_bio.specs.Requests.{IsRequest};
 ghost use Rattle.std.specs.Option.{option_copied};
 ghost use Rattle.blk_trace.specs.Legal.{IsLegalTrace};
@@ -8,17 +8,19 @@ ghost use Rattle.blk_trace.specs.Rules.{BreaksNoRule};
 ghost use Rattle.blk_trace.specs.Events.{round_of, open_count, request_of, IsReleased, IsIssued, IsUsed};
 ghost use Rattle.blk_trace.specs.Waits.{entered_at, summary, waits_at};
 ghost use Rattle.blk_trace.specs.Depths.{depth_now};
+ghost use Rattle.blk_trace.specs.declared.issued.Issued.{Issued};
+ghost use Rattle.blk_trace.specs.Issues.{issues_of};
 ghost use Rattle.blk_trace.specs.Traces.{wanted, IsPreparedFor, IsPushAnswer, IsLegallyExtended, LacksOnlyMemory, HasBio, prepared_for};
 ghost use Rattle.blk_trace.specs.Inside.Kept.{IsReadyFor};
 
 use crate::event::Event;
+use crate::issued::Issued;
 use crate::known::{Entry, Known, Stage};
 use crate::rule::PushFault;
 use crate::setup::Setup;
 use crate::tags::TagUse;
 use blk_bio::{BioId, Request};
 use blk_ids::{ById, IdSet};
-use edd_commands::Command;
 use std::alloc::{AllocError, Allocator, Global};
 use std::marker::Model;
 
@@ -49,10 +51,8 @@ pub struct Trace<A: Allocator = Global> {
     setup: Setup,
     /// The events, with places for the ends of the open Issues.
     events: Vec<Event<Request<A>>, A>,
-    /// The command of each Issue that was not requeued.
-    commands: Vec<Command, A>,
-    /// The round of each of these Issues.
-    rounds: Vec<u64, A>,
+    /// The Issues.
+    issued: Vec<Issued, A>,
     /// What is kept of each request that was released.
     known: ById<Known, A>,
     /// The ids of the bios that entered.
@@ -91,8 +91,7 @@ impl<A: Allocator + Clone> Trace<A> {
         ensures { IfOk result (λ t. t ≡ record { setup = setup; events = []; prepared = Prepared.Nothing }) }
     {
         let events = Vec::new(alloc.clone()?);
-        let commands = Vec::new(alloc.clone()?);
-        let rounds = Vec::new(alloc.clone()?);
+        let issued = Vec::new(alloc.clone()?);
         let known = ById::new(alloc.clone()?)?;
         let ids = IdSet::new(alloc.clone()?)?;
         let depth = setup.depth();
@@ -101,8 +100,7 @@ impl<A: Allocator + Clone> Trace<A> {
         Ok(Trace {
             setup,
             events,
-            commands,
-            rounds,
+            issued,
             known,
             ids,
             tags,
@@ -199,8 +197,7 @@ impl<A: Allocator + Clone> Trace<A> {
         ensures err { OnErr result (self.new ≡ self.old) }
     {
         self.events.reserve(self.open as usize + 2)?;
-        self.commands.reserve(1)?;
-        self.rounds.reserve(1)?;
+        self.issued.reserve(1)?;
         self.prepared = Prepared::AnIssue;
         Ok(())
     }
@@ -267,6 +264,15 @@ impl<A: Allocator + Clone> Trace<A> {
         ensures legal { IsLegalTrace self.now.setup self.now.events }
     {
         self.events.as_slice()
+    }
+
+    /// The Issues in their order, each with what became of it.
+    pub fn issues(&self) -> &[Issued]
+        ensures issues { result.now ≡ issues_of self.now.events }
+        ensures few { length result.now ≤ MAX_EVENTS }
+        ensures each { (k : ℕ) (i : Issued) → slice_get result.now k ≡ Some i → IsIssued self.now.events i.id × (i.round ≤ MAX_EVENTS) }
+    {
+        self.issued.as_slice()
     }
 
     /// How many events there are.

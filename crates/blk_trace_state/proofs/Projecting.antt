@@ -19,11 +19,16 @@ use Rattle.blk_trace.proofs.Ids.{has_issued, released_first, released_has}
 use Rattle.blk_trace.proofs.More.{round_cons}
 use Rattle.blk_trace.proofs.Counting.{one_if}
 use Rattle.blk_trace.proofs.Commands.{map_same}
-use Rattle.blk_trace_state.specs.State.{Stage, Issued, Entry, LayerState, flies, was_requeued, entry_now, request_now, is_out, kept_now, command_now, commands_now, rounds_now, waits_now, waiting_now, waiting_bios_now}
-use Rattle.blk_trace_state.specs.State.Stage.{flying, done, back}
+use Rattle.blk_trace.specs.declared.issued.Outcome.{Outcome}
+use Rattle.blk_trace.specs.declared.issued.Outcome.TheVariants as outcome
+use Rattle.blk_trace.specs.declared.issued.Issued.{Issued}
+use Rattle.blk_trace.specs.Issues.{flies, was_requeued}
+use Rattle.blk_trace_state.specs.State.{Entry, LayerState, entry_now, request_now, is_out, kept_now, command_now, commands_now, rounds_now, waits_now, waiting_now, waiting_bios_now}
 use Rattle.blk_trace_state.specs.Replay.{replay}
-use Rattle.blk_trace_state.specs.Laws.{Leaves, IsStage, entry_of, IsStateOf}
-use Rattle.blk_trace_state.proofs.Reading.{stage_of, end_of, issue_in, issues_from, kept_of, round_and_id, served_are, back_is, still_flies}
+use Rattle.blk_trace_state.specs.Laws.{Leaves, IsOutcome, entry_of, IsStateOf}
+use Rattle.blk_trace.specs.Issues.{outcome_of, end_of, issue_in, issues_from}
+use Rattle.blk_trace.specs.Inside.Issues.{kept_of, round_and_id}
+use Rattle.blk_trace.proofs.Issues.{served_are, back_is, still_flies}
 use Rattle.blk_trace_state.proofs.Entering.{entries_of, entry_in, ids_in}
 use Rattle.blk_trace_state.proofs.Standing.{Stands, bios_of_id, ends_later, ends_from}
 use Rattle.blk_trace_state.proofs.Replaying.{IsTold, replay_told}
@@ -80,8 +85,8 @@ commands_are setup es s st =
 
 -- ---- what waits
 
-gone_part : (id : ℕ) (i : Issued) (xs : List Issued) (b : Bool) (rest : Bool) → was_requeued i.stage ≡ b → list_any (λ x. x == id) (map (λ (i : Issued). i.id) xs) ≡ rest
-    → (((i.id == id) && not (was_requeued i.stage)) || rest) ≡ list_any (λ x. x == id) (map (λ (i : Issued). i.id) (cond (not (was_requeued i.stage)) (i ∷ xs) xs))
+gone_part : (id : ℕ) (i : Issued) (xs : List Issued) (b : Bool) (rest : Bool) → was_requeued i.outcome ≡ b → list_any (λ x. x == id) (map (λ (i : Issued). i.id) xs) ≡ rest
+    → (((i.id == id) && not (was_requeued i.outcome)) || rest) ≡ list_any (λ x. x == id) (map (λ (i : Issued). i.id) (cond (not (was_requeued i.outcome)) (i ∷ xs) xs))
 gone_part id i xs true rest is ih =
     ap (λ c. ((i.id == id) && not c) || rest) is ∙ and_none (i.id == id) rest ∙ sym (ap (λ c. list_any (λ x. x == id) (map (λ (i : Issued). i.id) (cond (not c) (i ∷ xs) xs))) is ∙ ih)
   where
@@ -95,9 +100,9 @@ gone_part id i xs false rest is ih =
     and_all true y = refl
     and_all false y = refl
 
-gone_any : (id : ℕ) (xs : List Issued) → list_any (λ (i : Issued). (i.id == id) && not (was_requeued i.stage)) xs ≡ list_any (λ x. x == id) (map (λ (i : Issued). i.id) (kept_of xs))
+gone_any : (id : ℕ) (xs : List Issued) → list_any (λ (i : Issued). (i.id == id) && not (was_requeued i.outcome)) xs ≡ list_any (λ x. x == id) (map (λ (i : Issued). i.id) (kept_of xs))
 gone_any id [] = refl
-gone_any id (i ∷ xs) = gone_part id i (kept_of xs) (was_requeued i.stage) (list_any (λ (i : Issued). (i.id == id) && not (was_requeued i.stage)) xs) refl (sym (gone_any id xs))
+gone_any id (i ∷ xs) = gone_part id i (kept_of xs) (was_requeued i.outcome) (list_any (λ (i : Issued). (i.id == id) && not (was_requeued i.outcome)) xs) refl (sym (gone_any id xs))
 
 pub gone_is : (setup : Setup) (es : List Happened) (s : LayerState) → Stands setup es s → (id : ℕ) → is_out s id ≡ has_id (issued_ids es) id
 gone_is setup es s st id = gone_any id s.issued ∙ ap (list_any (λ x. x == id)) (kept_ids setup es s st)
@@ -170,21 +175,21 @@ ends_here : (tag : ℕ) (o : Option ℕ) → option_map_or (λ t. t == tag) o fa
 ends_here tag None h = absurd (cc)
 ends_here tag (Some t) h = ap Some (eqb-true t tag h)
 
-end_found : (tag : ℕ) (es : List Happened) → flies (stage_of tag es) ≡ false → (j : ℕ) × EndsAt es j tag
-unfolding stage_of
+end_found : (tag : ℕ) (es : List Happened) → flies (outcome_of tag es) ≡ false → (j : ℕ) × EndsAt es j tag
+unfolding outcome_of
 end_found tag [] h = absurd (cc)
 end_found tag (e ∷ es) h =
     elim (cases_Bool (is_done_of tag e)) [
       | inl b ↦ (0, (e, refl, ends_here tag (ends e) b))
-      | inr b ↦ let p = end_found tag es (sym (ap (λ c. flies (cond c (end_of e) (stage_of tag es))) b) ∙ h) in (suc p.0, p.1)
+      | inr b ↦ let p = end_found tag es (sym (ap (λ c. flies (cond c (end_of e) (outcome_of tag es))) b) ∙ h) in (suc p.0, p.1)
     ]
 
-stage_read : (es : List Happened) (k tag : ℕ) (stage : Stage) → stage_of tag (drop (suc k) es) ≡ stage → IsStage es k tag stage
-stage_read es k tag flying h = λ j l d. still_flies tag (drop (suc k) es) (ap flies h) (j - suc k) (ends_from es k j tag l d)
-stage_read es k tag done h =
+outcome_read : (es : List Happened) (k tag : ℕ) (o : Outcome) → outcome_of tag (drop (suc k) es) ≡ o → IsOutcome es k tag o
+outcome_read es k tag outcome.Flying h = λ j l d. still_flies tag (drop (suc k) es) (ap flies h) (j - suc k) (ends_from es k j tag l d)
+outcome_read es k tag outcome.Done h =
     let p = end_found tag (drop (suc k) es) (ap flies h) in
     ((suc k + p.0, omega arith, ends_later es k p.0 tag p.1), λ went. both_ways _ (sym (back_is tag (drop (suc k) es)) ∙ ap was_requeued h) went)
-stage_read es k tag back h = sym (back_is tag (drop (suc k) es)) ∙ ap was_requeued h
+outcome_read es k tag outcome.Back h = sym (back_is tag (drop (suc k) es)) ∙ ap was_requeued h
 
 pub state_is : (setup : Setup) (es : List Happened) (s : LayerState) → Stands setup es s → IsStateOf setup es s
 unfolding entries_of
@@ -197,7 +202,7 @@ state_is setup es s st = record {
   each_issued = λ k id tag at. (
     issue_in (0 + round_at es k) (drop (suc k) es) (id, tag),
     ap (λ l. slice_get l (count_by is_issue (take k es))) st.issued_are ∙ issue_at 0 es k id tag at,
-    record { stands = at; round_is = omega arith; stage_is = stage_read es k tag (stage_of tag (drop (suc k) es)) refl },
+    record { stands = at; round_is = omega arith; outcome_is = outcome_read es k tag (outcome_of tag (drop (suc k) es)) refl },
   );
   none_else = ap length st.issued_are ∙ issues_long 0 es;
 }

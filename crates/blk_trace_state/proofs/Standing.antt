@@ -27,11 +27,17 @@ use Rattle.blk_trace.proofs.More.{more_of}
 use Rattle.blk_trace.proofs.Counting.{one_if}
 use Rattle.blk_trace.proofs.Opening.{open_positive}
 use Rattle.blk_trace.proofs.Room.{open_kept, open_issue, open_end, longer}
-use Rattle.blk_trace_state.specs.State.{Stage, Issued, Entry, LayerState, flies, has_completed, was_requeued, ended_by, next_state, request_now, has_entry, has_issue, is_out, is_open, is_used, flying_now, done_now}
-use Rattle.blk_trace_state.specs.State.Stage.{flying, done, back}
+use Rattle.blk_trace.specs.declared.issued.Outcome.{Outcome}
+use Rattle.blk_trace.specs.declared.issued.Outcome.TheVariants as outcome
+use Rattle.blk_trace.specs.declared.issued.Issued.{Issued}
+use Rattle.blk_trace.specs.Issues.{flies, was_requeued}
+use Rattle.blk_trace.specs.Inside.Issues.{ended_by}
+use Rattle.blk_trace_state.specs.State.{Entry, LayerState, has_completed, next_state, request_now, has_entry, has_issue, is_out, is_open, is_used, flying_now, done_now}
 use Rattle.blk_trace_state.specs.Replay.{can_join, places_now, obeys}
 use Rattle.blk_trace_state.specs.Laws.{entry_of}
-use Rattle.blk_trace_state.proofs.Reading.{stage_of, issues_from, any_place, place_any, back_is, flies_on, still_flies}
+use Rattle.blk_trace.specs.Issues.{outcome_of, issues_from}
+use Rattle.blk_trace.proofs.Issues.{back_is, flies_on, still_flies}
+use Rattle.blk_trace_state.proofs.Reading.{any_place, place_any}
 use Rattle.blk_trace_state.proofs.Entering.{entries_of, released_in, entry_in, HasEntered, new_is, is_new, within_is, is_so_within, fits_is, is_so_fit}
 
 -- the state is what the legal events left
@@ -44,8 +50,8 @@ pub record Stands (setup : Setup) (es : List Happened) (s : LayerState) : Type 0
   pub issued_are : s.issued ≡ issues_from 0 es
   pub bios_are : HasEntered s (entered es)
   -- each command in flight was issued in the round that is on, and no two of them under one tag
-  pub now : list_any (λ (i : Issued). flies i.stage && not (i.round == s.round)) s.issued ≡ false
-  pub once : (tag : ℕ) → count_by (λ (i : Issued). flies i.stage && (tag == i.tag)) s.issued ≤ 1
+  pub now : list_any (λ (i : Issued). flies i.outcome && not (i.round == s.round)) s.issued ≡ false
+  pub once : (tag : ℕ) → count_by (λ (i : Issued). flies i.outcome && (tag == i.tag)) s.issued ≤ 1
   pub open_is : flying_now s ≡ open_count es
   pub done_is : done_now s ≡ count_by (λ (e : Happened). is_some (completes e)) es
 
@@ -106,21 +112,21 @@ issued_test setup es s st id =
 
 pub gone_test : (setup : Setup) (es : List Happened) (s : LayerState) → Stands setup es s → (id : ℕ) → IsTrue (not (is_out s id)) ↔ AreRequeued es id
 gone_test setup es s st id =
-    let p : Issued → Bool = λ i. (i.id == id) && not (was_requeued i.stage) in
+    let p : Issued → Bool = λ i. (i.id == id) && not (was_requeued i.outcome) in
     let same : is_out s id ≡ list_any p (issues_from 0 es) = ap (list_any p) st.issued_are in (
       λ t k tag at.
           elim (cases_Bool (ends_requeued tag (drop (suc k) es))) [
             | inl b ↦ b
             | inr b ↦
-                let stays : not (was_requeued (stage_of tag (drop (suc k) es))) ≡ true = ap not (back_is tag (drop (suc k) es) ∙ b) in
+                let stays : not (was_requeued (outcome_of tag (drop (suc k) es))) ≡ true = ap not (back_is tag (drop (suc k) es) ∙ b) in
                 let found : is_out s id ≡ true = same ∙ any_place p 0 es k id tag at (and_from (id == id) _ (eq-eqb id id refl) stays) in
                 absurd (both_ways (is_out s id) (not-true (is_out s id) t) found)
           ],
       λ all. not_from_false (is_out s id) (false_from_ne_true (is_out s id) (λ t.
           let f = place_any p 0 es (sym same ∙ t) in
-          let q = and_parts (f.id == id) (not (was_requeued (stage_of f.tag (drop (suc f.place) es)))) f.passes in
+          let q = and_parts (f.id == id) (not (was_requeued (outcome_of f.tag (drop (suc f.place) es)))) f.passes in
           let at : At es f.place (Issue id f.tag) = subst (λ x. At es f.place (Issue x f.tag)) (eqb-true f.id id q.0) f.issued in
-          let went : was_requeued (stage_of f.tag (drop (suc f.place) es)) ≡ true = back_is f.tag (drop (suc f.place) es) ∙ all f.place f.tag at in
+          let went : was_requeued (outcome_of f.tag (drop (suc f.place) es)) ≡ true = back_is f.tag (drop (suc f.place) es) ∙ all f.place f.tag at in
           both_ways _ (not-true _ q.1) went)),
     )
 
@@ -138,11 +144,11 @@ ends_from es k j tag l d = (d.0, nth_drop (suc k) es (j - suc k) ∙ ap (λ n. s
 
 pub open_test : (setup : Setup) (es : List Happened) (s : LayerState) → Stands setup es s → (tag : ℕ) → IsTrue (is_open s tag) ↔ IsOpen es tag
 open_test setup es s st tag =
-    let p : Issued → Bool = λ i. flies i.stage && (tag == i.tag) in
+    let p : Issued → Bool = λ i. flies i.outcome && (tag == i.tag) in
     let same : is_open s tag ≡ list_any p (issues_from 0 es) = ap (list_any p) st.issued_are in (
       λ t.
           let f = place_any p 0 es (sym same ∙ t) in
-          let q = and_parts (flies (stage_of f.tag (drop (suc f.place) es))) (tag == f.tag) f.passes in
+          let q = and_parts (flies (outcome_of f.tag (drop (suc f.place) es))) (tag == f.tag) f.passes in
           let is : f.tag ≡ tag = sym (eqb-true tag f.tag q.1) in
           record {
             place = f.place;
@@ -171,13 +177,13 @@ used_test setup es s st tag =
     )
 
 -- none is in flight
-pub none_flies : (s : LayerState) → (flying_now s == 0) ≡ true → list_any (λ (i : Issued). flies i.stage) s.issued ≡ false
+pub none_flies : (s : LayerState) → (flying_now s == 0) ≡ true → list_any (λ (i : Issued). flies i.outcome) s.issued ≡ false
 none_flies s h =
-    false_from_ne_true _ (λ t. absurd (omega (arith, eqb-true (flying_now s) 0 h, some_count (λ (i : Issued). flies i.stage) s.issued t)))
+    false_from_ne_true _ (λ t. absurd (omega (arith, eqb-true (flying_now s) 0 h, some_count (λ (i : Issued). flies i.outcome) s.issued t)))
 
 pub closed_test : (setup : Setup) (es : List Happened) (s : LayerState) → Stands setup es s → IsTrue (flying_now s == 0) ↔ ((tag : ℕ) → IsOpen es tag → ⊥)
 closed_test setup es s st =
-    let p : Issued → Bool = λ i. flies i.stage in (
+    let p : Issued → Bool = λ i. flies i.outcome in (
       λ t tag o. absurd (omega (arith, eqb-true (flying_now s) 0 t, open_positive setup es tag st.legal o, st.open_is)),
       λ none.
           eq-eqb (flying_now s) 0 (none_count p s.issued (false_from_ne_true _ (λ t.
@@ -211,45 +217,45 @@ fit_test setup es s st id q =
 -- ---- how many commands are in flight with one more event
 
 -- one that has ended is not in flight, and one that is did not change
-pub stays : (t : ℕ) (n : Stage) (i : Issued) → flies n ≡ false → flies (ended_by t n i).stage ≡ true → ended_by t n i ≡ i
-stays t n i none h = by (flies i.stage && (t == i.tag)) h
+pub stays : (t : ℕ) (n : Outcome) (i : Issued) → flies n ≡ false → flies (ended_by t n i).outcome ≡ true → ended_by t n i ≡ i
+stays t n i none h = by (flies i.outcome && (t == i.tag)) h
   where
-    by : (b : Bool) → flies (cond b (let x : Issued = record { round = i.round; id = i.id; tag = i.tag; stage = n } in x) i).stage ≡ true → cond b (let x : Issued = record { round = i.round; id = i.id; tag = i.tag; stage = n } in x) i ≡ i
+    by : (b : Bool) → flies (cond b (let x : Issued = record { round = i.round; id = i.id; tag = i.tag; outcome = n } in x) i).outcome ≡ true → cond b (let x : Issued = record { round = i.round; id = i.id; tag = i.tag; outcome = n } in x) i ≡ i
     by true f = absurd (both_ways _ none f)
     by false f = refl
 
-one_ended : (i : Issued) (n : Stage) (d f : Bool) → flies n ≡ false → flies i.stage ≡ f → cond (flies (cond (f && d) (let x : Issued = record { round = i.round; id = i.id; tag = i.tag; stage = n } in x) i).stage) 1 0 + cond (f && d) 1 0 ≡ cond f 1 0
+one_ended : (i : Issued) (n : Outcome) (d f : Bool) → flies n ≡ false → flies i.outcome ≡ f → cond (flies (cond (f && d) (let x : Issued = record { round = i.round; id = i.id; tag = i.tag; outcome = n } in x) i).outcome) 1 0 + cond (f && d) 1 0 ≡ cond f 1 0
 one_ended i n true true none is = omega (arith, one_none (flies n) none)
-one_ended i n false true none is = omega (arith, one_yes (flies i.stage) is)
-one_ended i n d false none is = omega (arith, one_none (flies i.stage) is)
+one_ended i n false true none is = omega (arith, one_yes (flies i.outcome) is)
+one_ended i n d false none is = omega (arith, one_none (flies i.outcome) is)
 
-pub count_ended : (t : ℕ) (n : Stage) (xs : List Issued) → flies n ≡ false → count_by (λ (i : Issued). flies i.stage) (map (ended_by t n) xs) + count_by (λ (i : Issued). flies i.stage && (t == i.tag)) xs ≡ count_by (λ (i : Issued). flies i.stage) xs
+pub count_ended : (t : ℕ) (n : Outcome) (xs : List Issued) → flies n ≡ false → count_by (λ (i : Issued). flies i.outcome) (map (ended_by t n) xs) + count_by (λ (i : Issued). flies i.outcome && (t == i.tag)) xs ≡ count_by (λ (i : Issued). flies i.outcome) xs
 count_ended t n [] none = refl
 count_ended t n (x ∷ xs) none =
     omega (
       arith,
-      count_first (λ (i : Issued). flies i.stage) (ended_by t n x) (map (ended_by t n) xs),
-      count_first (λ (i : Issued). flies i.stage && (t == i.tag)) x xs,
-      count_first (λ (i : Issued). flies i.stage) x xs,
-      one_ended x n (t == x.tag) (flies x.stage) none refl,
+      count_first (λ (i : Issued). flies i.outcome) (ended_by t n x) (map (ended_by t n) xs),
+      count_first (λ (i : Issued). flies i.outcome && (t == i.tag)) x xs,
+      count_first (λ (i : Issued). flies i.outcome) x xs,
+      one_ended x n (t == x.tag) (flies x.outcome) none refl,
       count_ended t n xs none,
     )
 
-one_open : (setup : Setup) (es : List Happened) (s : LayerState) → Stands setup es s → (t : ℕ) → IsOpen es t → count_by (λ (i : Issued). flies i.stage && (t == i.tag)) s.issued ≡ 1
-one_open setup es s st t o = omega (arith, st.once t, some_count (λ (i : Issued). flies i.stage && (t == i.tag)) s.issued ((open_test setup es s st t).1 o))
+one_open : (setup : Setup) (es : List Happened) (s : LayerState) → Stands setup es s → (t : ℕ) → IsOpen es t → count_by (λ (i : Issued). flies i.outcome && (t == i.tag)) s.issued ≡ 1
+one_open setup es s st t o = omega (arith, st.once t, some_count (λ (i : Issued). flies i.outcome && (t == i.tag)) s.issued ((open_test setup es s st t).1 o))
 
-flying_end : (setup : Setup) (es : List Happened) (s : LayerState) → Stands setup es s → (e : Happened) (t : ℕ) (n : Stage) → flies n ≡ false → ends e ≡ Some t → IsOpen es t → count_by (λ (i : Issued). flies i.stage) (map (ended_by t n) s.issued) ≡ open_count (es ++ e ∷ [])
+flying_end : (setup : Setup) (es : List Happened) (s : LayerState) → Stands setup es s → (e : Happened) (t : ℕ) (n : Outcome) → flies n ≡ false → ends e ≡ Some t → IsOpen es t → count_by (λ (i : Issued). flies i.outcome) (map (ended_by t n) s.issued) ≡ open_count (es ++ e ∷ [])
 flying_end setup es s st e t n none end o =
     omega (arith, count_ended t n s.issued none, one_open setup es s st t o, st.open_is, open_end es e t end)
 
 -- how many have completed
-then_done : (i : Issued) (n : Stage) (d f : Bool) → flies i.stage ≡ f → one_if (has_completed (cond (f && d) (let x : Issued = record { round = i.round; id = i.id; tag = i.tag; stage = n } in x) i).stage) ≡ one_if (has_completed i.stage) + cond (f && d) (one_if (has_completed n)) 0
-then_done i n true true is = omega (arith, one_none (has_completed i.stage) (not_done_yet i.stage is))
+then_done : (i : Issued) (n : Outcome) (d f : Bool) → flies i.outcome ≡ f → one_if (has_completed (cond (f && d) (let x : Issued = record { round = i.round; id = i.id; tag = i.tag; outcome = n } in x) i).outcome) ≡ one_if (has_completed i.outcome) + cond (f && d) (one_if (has_completed n)) 0
+then_done i n true true is = omega (arith, one_none (has_completed i.outcome) (not_done_yet i.outcome is))
   where
-    not_done_yet : (s : Stage) → flies s ≡ true → has_completed s ≡ false
-    not_done_yet flying h = refl
-    not_done_yet done h = absurd (cc)
-    not_done_yet back h = refl
+    not_done_yet : (s : Outcome) → flies s ≡ true → has_completed s ≡ false
+    not_done_yet outcome.Flying h = refl
+    not_done_yet outcome.Done h = absurd (cc)
+    not_done_yet outcome.Back h = refl
 then_done i n false true is = omega arith
 then_done i n d false is = omega arith
 
@@ -257,19 +263,19 @@ one_or : (b : Bool) (n : ℕ) → cond b n 0 ≡ one_if b * n
 one_or true n = omega arith
 one_or false n = omega arith
 
-pub done_ended : (t : ℕ) (n : Stage) (xs : List Issued) → count_by (λ (i : Issued). has_completed i.stage) (map (ended_by t n) xs) ≡ count_by (λ (i : Issued). has_completed i.stage) xs + count_by (λ (i : Issued). flies i.stage && (t == i.tag)) xs * one_if (has_completed n)
+pub done_ended : (t : ℕ) (n : Outcome) (xs : List Issued) → count_by (λ (i : Issued). has_completed i.outcome) (map (ended_by t n) xs) ≡ count_by (λ (i : Issued). has_completed i.outcome) xs + count_by (λ (i : Issued). flies i.outcome && (t == i.tag)) xs * one_if (has_completed n)
 done_ended t n [] = omega (arith, zero-mul (one_if (has_completed n)))
 done_ended t n (x ∷ xs) =
-    let under : ℕ = count_by (λ (i : Issued). flies i.stage && (t == i.tag)) xs in
-    let here : ℕ = one_if (flies x.stage && (t == x.tag)) in
+    let under : ℕ = count_by (λ (i : Issued). flies i.outcome && (t == i.tag)) xs in
+    let here : ℕ = one_if (flies x.outcome && (t == x.tag)) in
     let apart : (here + under) * one_if (has_completed n) ≡ here * one_if (has_completed n) + under * one_if (has_completed n) = add-mul here under (one_if (has_completed n)) in
-    let all : count_by (λ (i : Issued). flies i.stage && (t == i.tag)) (x ∷ xs) * one_if (has_completed n) ≡ (here + under) * one_if (has_completed n) = ap (λ k. k * one_if (has_completed n)) (count_first (λ (i : Issued). flies i.stage && (t == i.tag)) x xs) in
+    let all : count_by (λ (i : Issued). flies i.outcome && (t == i.tag)) (x ∷ xs) * one_if (has_completed n) ≡ (here + under) * one_if (has_completed n) = ap (λ k. k * one_if (has_completed n)) (count_first (λ (i : Issued). flies i.outcome && (t == i.tag)) x xs) in
     omega (
       arith,
-      count_first (λ (i : Issued). has_completed i.stage) (ended_by t n x) (map (ended_by t n) xs),
-      count_first (λ (i : Issued). has_completed i.stage) x xs,
-      then_done x n (t == x.tag) (flies x.stage) refl,
-      one_or (flies x.stage && (t == x.tag)) (one_if (has_completed n)),
+      count_first (λ (i : Issued). has_completed i.outcome) (ended_by t n x) (map (ended_by t n) xs),
+      count_first (λ (i : Issued). has_completed i.outcome) x xs,
+      then_done x n (t == x.tag) (flies x.outcome) refl,
+      one_or (flies x.outcome && (t == x.tag)) (one_if (has_completed n)),
       done_ended t n xs,
     )
 
@@ -279,9 +285,9 @@ flying_more setup es s st Tick o = st.open_is ∙ sym (open_kept es Tick refl re
 flying_more setup es s st (Release id q) o = st.open_is ∙ sym (open_kept es (Release id q) refl refl)
 flying_more setup es s st (Join id q) o = st.open_is ∙ sym (open_kept es (Join id q) refl refl)
 flying_more setup es s st (Issue id tag) o =
-    omega (arith, count_last (λ (i : Issued). flies i.stage) s.issued (record { round = s.round; id = id; tag = tag; stage = flying }), st.open_is, open_issue setup es id tag st.legal)
-flying_more setup es s st (Done tag) o = flying_end setup es s st (Done tag) tag done refl refl o
-flying_more setup es s st (Back tag) o = flying_end setup es s st (Back tag) tag back refl refl o
+    omega (arith, count_last (λ (i : Issued). flies i.outcome) s.issued (record { round = s.round; id = id; tag = tag; outcome = outcome.Flying }), st.open_is, open_issue setup es id tag st.legal)
+flying_more setup es s st (Done tag) o = flying_end setup es s st (Done tag) tag outcome.Done refl refl o
+flying_more setup es s st (Back tag) o = flying_end setup es s st (Back tag) tag outcome.Back refl refl o
 flying_more setup es s st (Depth depth) o = st.open_is ∙ sym (open_kept es (Depth depth) refl refl)
 
 -- and as many have completed as there are Dones
@@ -293,11 +299,11 @@ done_more setup es s st Tick o = done_kept setup es s st Tick refl
 done_more setup es s st (Release id q) o = done_kept setup es s st (Release id q) refl
 done_more setup es s st (Join id q) o = done_kept setup es s st (Join id q) refl
 done_more setup es s st (Issue id tag) o =
-    omega (arith, count_last (λ (i : Issued). has_completed i.stage) s.issued (record { round = s.round; id = id; tag = tag; stage = flying }), done_kept setup es s st (Issue id tag) refl)
+    omega (arith, count_last (λ (i : Issued). has_completed i.outcome) s.issued (record { round = s.round; id = id; tag = tag; outcome = outcome.Flying }), done_kept setup es s st (Issue id tag) refl)
 done_more setup es s st (Done tag) o =
-    omega (arith, done_ended tag done s.issued, one_open setup es s st tag o, st.done_is, more_of (λ (x : Happened). is_some (completes x)) es (Done tag))
+    omega (arith, done_ended tag outcome.Done s.issued, one_open setup es s st tag o, st.done_is, more_of (λ (x : Happened). is_some (completes x)) es (Done tag))
 done_more setup es s st (Back tag) o =
-    omega (arith, done_ended tag back s.issued, one_open setup es s st tag o, done_kept setup es s st (Back tag) refl)
+    omega (arith, done_ended tag outcome.Back s.issued, one_open setup es s st tag o, done_kept setup es s st (Back tag) refl)
 done_more setup es s st (Depth depth) o = done_kept setup es s st (Depth depth) refl
 
 long_test : (n m most : ℕ) → n ≡ m → IsTrue (nat_le n most) ↔ (m ≤ most)

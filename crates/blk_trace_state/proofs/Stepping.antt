@@ -22,10 +22,15 @@ use Rattle.blk_trace.proofs.Pushing.{empty_legal, none_entered, push_legal}
 use Rattle.blk_trace.proofs.Newness.{ids_more}
 use Rattle.blk_trace.proofs.Capacities.{depths_empty, depths_kept, depths_ticked, depths_set}
 use Rattle.blk_trace.proofs.Room.{longer}
-use Rattle.blk_trace_state.specs.State.{Stage, Issued, Entry, LayerState, flies, ended_by, joined_by, start_state, next_state, is_used}
-use Rattle.blk_trace_state.specs.State.Stage.{flying, done, back}
+use Rattle.blk_trace.specs.declared.issued.Outcome.{Outcome}
+use Rattle.blk_trace.specs.declared.issued.Outcome.TheVariants as outcome
+use Rattle.blk_trace.specs.declared.issued.Issued.{Issued}
+use Rattle.blk_trace.specs.Issues.{flies}
+use Rattle.blk_trace.specs.Inside.Issues.{ended_by}
+use Rattle.blk_trace_state.specs.State.{Entry, LayerState, joined_by, start_state, next_state, is_used}
 use Rattle.blk_trace_state.specs.Replay.{has_bio}
-use Rattle.blk_trace_state.proofs.Reading.{issues_from, issues_kept, issues_push, issues_ended}
+use Rattle.blk_trace.specs.Issues.{issues_from}
+use Rattle.blk_trace.proofs.Issues.{issues_kept, issues_push, issues_ended}
 use Rattle.blk_trace_state.proofs.Entering.{entries_of, entries_kept, entries_released, entries_joined, has_entered, bios_joined}
 use Rattle.blk_trace_state.proofs.Standing.{Stands, count_first, count_last, none_count, any_either, stays, none_flies, closed_test, used_test, released_test, flying_more, done_more}
 
@@ -64,10 +69,10 @@ no_bios setup es s st e h id =
 -- ---- the Issues
 
 abbrev flies_early : ℕ → Issued → Bool
-flies_early round i = flies i.stage && not (i.round == round)
+flies_early round i = flies i.outcome && not (i.round == round)
 
 abbrev flies_under : ℕ → Issued → Bool
-flies_under tag i = flies i.stage && (tag == i.tag)
+flies_under tag i = flies i.outcome && (tag == i.tag)
 
 any_map : (p : Issued → Bool) (f : Issued → Issued) (xs : List Issued) → list_any p (map f xs) ≡ list_any (λ x. p (f x)) xs
 any_map p f [] = refl
@@ -83,39 +88,39 @@ count_less p q f [] h = omega arith
 count_less p q f (x ∷ xs) h = omega (arith, count_first p (f x) (map f xs), count_first q x xs, less_one (p (f x)) (q x) (h x), count_less p q f xs h)
 
 -- what an end leaves in flight was in flight
-ended_sub : (r : Issued → Bool) (t : ℕ) (n : Stage) → flies n ≡ false → (x : Issued) → (flies (ended_by t n x).stage && r (ended_by t n x)) ≡ true → (flies x.stage && r x) ≡ true
+ended_sub : (r : Issued → Bool) (t : ℕ) (n : Outcome) → flies n ≡ false → (x : Issued) → (flies (ended_by t n x).outcome && r (ended_by t n x)) ≡ true → (flies x.outcome && r x) ≡ true
 ended_sub r t n none x h =
-    let p = and_parts (flies (ended_by t n x).stage) (r (ended_by t n x)) h in
-    subst (λ (y : Issued). (flies y.stage && r y) ≡ true) (stays t n x none p.0) h
+    let p = and_parts (flies (ended_by t n x).outcome) (r (ended_by t n x)) h in
+    subst (λ (y : Issued). (flies y.outcome && r y) ≡ true) (stays t n x none p.0) h
 
-ended_now : (t : ℕ) (n : Stage) (round : ℕ) (xs : List Issued) → flies n ≡ false → list_any (flies_early round) xs ≡ false → list_any (flies_early round) (map (ended_by t n) xs) ≡ false
+ended_now : (t : ℕ) (n : Outcome) (round : ℕ) (xs : List Issued) → flies n ≡ false → list_any (flies_early round) xs ≡ false → list_any (flies_early round) (map (ended_by t n) xs) ≡ false
 ended_now t n round xs none h =
     any_map (flies_early round) (ended_by t n) xs
     ∙ any_either (λ x. flies_early round (ended_by t n x)) (flies_early round) (flies_early round) xs (λ x y. inl (ended_sub (λ i. not (i.round == round)) t n none x y)) h h
 
-ended_once : (t : ℕ) (n : Stage) (u : ℕ) (xs : List Issued) → flies n ≡ false → count_by (flies_under u) xs ≤ 1 → count_by (flies_under u) (map (ended_by t n) xs) ≤ 1
+ended_once : (t : ℕ) (n : Outcome) (u : ℕ) (xs : List Issued) → flies n ≡ false → count_by (flies_under u) xs ≤ 1 → count_by (flies_under u) (map (ended_by t n) xs) ≤ 1
 ended_once t n u xs none h = omega (arith, h, count_less (flies_under u) (flies_under u) (ended_by t n) xs (ended_sub (λ i. u == i.tag) t n none))
 
 -- an Issue in the round, under a tag that was not used in it
-issued_now : (s : LayerState) (id tag : ℕ) → list_any (flies_early s.round) s.issued ≡ false → list_any (flies_early s.round) (s.issued ++ record { round = s.round; id = id; tag = tag; stage = flying } ∷ []) ≡ false
+issued_now : (s : LayerState) (id tag : ℕ) → list_any (flies_early s.round) s.issued ≡ false → list_any (flies_early s.round) (s.issued ++ record { round = s.round; id = id; tag = tag; outcome = outcome.Flying } ∷ []) ≡ false
 issued_now s id tag h =
-    let new : Issued = record { round = s.round; id = id; tag = tag; stage = flying } in
+    let new : Issued = record { round = s.round; id = id; tag = tag; outcome = outcome.Flying } in
     list_any-append (flies_early s.round) s.issued (new ∷ []) ∙ or_from (list_any (flies_early s.round) s.issued) _ h (or_from (flies_early s.round new) false (not_from_true (s.round == s.round) (eq-eqb s.round s.round refl)) refl)
 
 none_under : (s : LayerState) (tag : ℕ) → list_any (flies_early s.round) s.issued ≡ false → is_used s tag ≡ false → list_any (flies_under tag) s.issued ≡ false
 none_under s tag early unused =
     any_either (flies_under tag) (flies_early s.round) (λ i. (i.round == s.round) && (tag == i.tag)) s.issued
     (λ x h.
-    let p = and_parts (flies x.stage) (tag == x.tag) h in
+    let p = and_parts (flies x.outcome) (tag == x.tag) h in
     elim (cases_Bool (x.round == s.round)) [
       | inl t ↦ inr (and_from (x.round == s.round) (tag == x.tag) t p.1)
-      | inr t ↦ inl (and_from (flies x.stage) (not (x.round == s.round)) p.0 (ap not t))
+      | inr t ↦ inl (and_from (flies x.outcome) (not (x.round == s.round)) p.0 (ap not t))
     ])
     early unused
 
-issued_once : (s : LayerState) (id tag u : ℕ) → list_any (flies_early s.round) s.issued ≡ false → is_used s tag ≡ false → count_by (flies_under u) s.issued ≤ 1 → count_by (flies_under u) (s.issued ++ record { round = s.round; id = id; tag = tag; stage = flying } ∷ []) ≤ 1
+issued_once : (s : LayerState) (id tag u : ℕ) → list_any (flies_early s.round) s.issued ≡ false → is_used s tag ≡ false → count_by (flies_under u) s.issued ≤ 1 → count_by (flies_under u) (s.issued ++ record { round = s.round; id = id; tag = tag; outcome = outcome.Flying } ∷ []) ≤ 1
 issued_once s id tag u early unused h =
-    let new : Issued = record { round = s.round; id = id; tag = tag; stage = flying } in
+    let new : Issued = record { round = s.round; id = id; tag = tag; outcome = outcome.Flying } in
     let last = count_last (flies_under u) s.issued new in
     elim (cases_Bool (u == tag)) [
       | inl t ↦
@@ -129,7 +134,7 @@ issued_once s id tag u early unused h =
 
 next_tick : (setup : Setup) (es : List Happened) (s : LayerState) → Stands setup es s → BreaksNoRule setup es Tick → Stands setup (es ++ Tick ∷ []) (next_state setup s Tick)
 next_tick setup es s st all =
-    let quiet : list_any (λ (i : Issued). flies i.stage) s.issued ≡ false = none_flies s ((closed_test setup es s st).1 (all rule.InFlight)) in
+    let quiet : list_any (λ (i : Issued). flies i.outcome) s.issued ≡ false = none_flies s ((closed_test setup es s st).1 (all rule.InFlight)) in
     record {
       legal = push_legal setup es Tick st.legal all tt;
       events_are = omega (arith, st.events_are, longer es Tick);
@@ -138,7 +143,7 @@ next_tick setup es s st all =
       entries_are = st.entries_are ∙ sym (entries_kept setup es Tick refl (λ id. refl));
       issued_are = st.issued_are ∙ sym (issues_kept 0 es Tick refl refl);
       bios_are = no_bios setup es s st Tick refl;
-      now = any_either (flies_early (s.round + 1)) (λ (i : Issued). flies i.stage) (λ (i : Issued). flies i.stage) s.issued (λ x h. inl (and_parts (flies x.stage) (not (x.round == s.round + 1)) h).0) quiet quiet;
+      now = any_either (flies_early (s.round + 1)) (λ (i : Issued). flies i.outcome) (λ (i : Issued). flies i.outcome) s.issued (λ x h. inl (and_parts (flies x.outcome) (not (x.round == s.round + 1)) h).0) quiet quiet;
       once = st.once;
       open_is = flying_more setup es s st Tick tt;
       done_is = done_more setup es s st Tick tt;
@@ -198,7 +203,7 @@ next_issue : (setup : Setup) (es : List Happened) (s : LayerState) → Stands se
 next_issue setup es s st id tag all =
     let e : Happened = Issue id tag in
     let unused : is_used s tag ≡ false = false_from_ne_true (is_used s tag) (λ t. all rule.TagUsed ((used_test setup es s st tag).0 t)) in
-    let new : Issued = record { round = s.round; id = id; tag = tag; stage = flying } in
+    let new : Issued = record { round = s.round; id = id; tag = tag; outcome = outcome.Flying } in
     record {
       legal = push_legal setup es e st.legal all tt;
       events_are = omega (arith, st.events_are, longer es e);
@@ -222,10 +227,10 @@ next_done setup es s st tag all =
       round_is = same_round setup es s st e refl;
       depths = depths_kept setup es (es ++ e ∷ []) e s.depth s.next_depth st.depths refl refl refl;
       entries_are = st.entries_are ∙ sym (entries_kept setup es e refl (λ id. refl));
-      issued_are = ap (map (ended_by tag done)) st.issued_are ∙ sym (issues_ended 0 tag es e refl refl);
+      issued_are = ap (map (ended_by tag outcome.Done)) st.issued_are ∙ sym (issues_ended 0 tag es e refl refl);
       bios_are = no_bios setup es s st e refl;
-      now = ended_now tag done s.round s.issued refl st.now;
-      once = λ u. ended_once tag done u s.issued refl (st.once u);
+      now = ended_now tag outcome.Done s.round s.issued refl st.now;
+      once = λ u. ended_once tag outcome.Done u s.issued refl (st.once u);
       open_is = flying_more setup es s st e (all rule.NotIssued);
       done_is = done_more setup es s st e (all rule.NotIssued);
     }
@@ -239,10 +244,10 @@ next_back setup es s st tag all =
       round_is = same_round setup es s st e refl;
       depths = depths_kept setup es (es ++ e ∷ []) e s.depth s.next_depth st.depths refl refl refl;
       entries_are = st.entries_are ∙ sym (entries_kept setup es e refl (λ id. refl));
-      issued_are = ap (map (ended_by tag back)) st.issued_are ∙ sym (issues_ended 0 tag es e refl refl);
+      issued_are = ap (map (ended_by tag outcome.Back)) st.issued_are ∙ sym (issues_ended 0 tag es e refl refl);
       bios_are = no_bios setup es s st e refl;
-      now = ended_now tag back s.round s.issued refl st.now;
-      once = λ u. ended_once tag back u s.issued refl (st.once u);
+      now = ended_now tag outcome.Back s.round s.issued refl st.now;
+      once = λ u. ended_once tag outcome.Back u s.issued refl (st.once u);
       open_is = flying_more setup es s st e (all rule.NotIssued);
       done_is = done_more setup es s st e (all rule.NotIssued);
     }

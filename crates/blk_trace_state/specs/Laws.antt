@@ -10,8 +10,10 @@ use Rattle.blk_trace.specs.Depths.{depth_in, depth_now}
 use Rattle.blk_trace.specs.Meaning.{release_of, due_of, released_ids}
 use Rattle.blk_trace.specs.Legal.{IsLegalTrace}
 use Rattle.blk_trace.specs.Rules.{BreaksNoRule, IsFirstBroken}
-use Rattle.blk_trace_state.specs.State.{Stage, Issued, Entry, LayerState, next_state}
-use Rattle.blk_trace_state.specs.State.Stage.{flying, done, back}
+use Rattle.blk_trace.specs.declared.issued.Outcome.{Outcome}
+use Rattle.blk_trace.specs.declared.issued.Outcome.TheVariants as outcome
+use Rattle.blk_trace.specs.declared.issued.Issued.{Issued}
+use Rattle.blk_trace_state.specs.State.{Entry, LayerState, next_state}
 use Rattle.blk_trace_state.specs.Replay.{first_broken, replay}
 
 -- what enters by each event is a request
@@ -48,16 +50,16 @@ abbrev pub Leaves : (Setup → List Happened → LayerState → Type 0) → Type
 Leaves P = (setup : Setup) (events : List Happened) → IsLegalTrace setup events → IfOk (replay setup events) (P setup events)
 
 -- what became of the tag's Issue at the place: no later event ends it, the first that does is a Done, or it is a Back
-abbrev pub IsStage : List Happened → ℕ → ℕ → Stage → Type 0
-IsStage events k tag flying = (j : ℕ) → k < j → EndsAt events j tag → ⊥
-IsStage events k tag done = ((j : ℕ) × (k < j) × EndsAt events j tag) × (IsRequeued events k tag → ⊥)
-IsStage events k tag back = IsRequeued events k tag
+abbrev pub IsOutcome : List Happened → ℕ → ℕ → Outcome → Type 0
+IsOutcome events k tag outcome.Flying = (j : ℕ) → k < j → EndsAt events j tag → ⊥
+IsOutcome events k tag outcome.Done = ((j : ℕ) × (k < j) × EndsAt events j tag) × (IsRequeued events k tag → ⊥)
+IsOutcome events k tag outcome.Back = IsRequeued events k tag
 
 -- the Issue of the event at the place
 pub record IsIssueAt (events : List Happened) (k : ℕ) (i : Issued) : Type 0 where
   pub stands : At events k (Issue i.id i.tag)
   pub round_is : i.round ≡ round_at events k
-  pub stage_is : IsStage events k i.tag i.stage
+  pub outcome_is : IsOutcome events k i.tag i.outcome
 
 -- the request that the id's Release and Joins make up, with the rounds of its release and due
 abbrev pub entry_of : Setup → List Happened → ℕ → Entry

@@ -5,11 +5,16 @@ use Rattle.std.specs.List.{flat_map, list_any}
 use Rattle.edd_commands.specs.declared.Command.{Command}
 use Rattle.blk_bio.specs.Bios.{Bio}
 use Rattle.blk_bio.specs.Requests.{dir_of}
+use Rattle.blk_trace.specs.declared.issued.Outcome.{Outcome}
+use Rattle.blk_trace.specs.declared.issued.Outcome.TheVariants as outcome
+use Rattle.blk_trace.specs.declared.issued.Issued.{Issued}
 use Rattle.blk_trace.specs.declared.event.Event.TheVariants.{Tick, Release, Join, Issue, Done, Back, Depth}
 use Rattle.blk_trace.specs.Happened.{Happened}
 use Rattle.blk_trace.specs.Setups.{Setup, expire_of}
 use Rattle.blk_trace.specs.Events.{join_up}
 use Rattle.blk_trace.specs.Meaning.{rising}
+use Rattle.blk_trace.specs.Issues.{flies, was_requeued}
+use Rattle.blk_trace.specs.Inside.Issues.{ended_by, kept_of}
 use Rattle.blk_trace.specs.Waits.{Entered}
 
 -- a request that entered: its id, the round of its last Release or Join, when it is due, and its bios
@@ -18,17 +23,6 @@ pub record Entry : Type 0 where
   pub release : ℕ
   pub due : ℕ
   pub bios : List Bio
-
--- what became of an Issue: its command is in flight, has completed, or was requeued
-pub data Stage : Type 0 where
-  flying done back : Stage
-
--- an Issue: its round, id and tag, and what became of it
-pub record Issued : Type 0 where
-  pub round : ℕ
-  pub id : ℕ
-  pub tag : ℕ
-  pub stage : Stage
 
 -- how many events there were, the round that is on, how many commands it carries and the next one will, and the requests
 -- and the Issues in their order
@@ -44,37 +38,23 @@ pub record LayerState : Type 0 where
 abbrev pub start_state : Setup → LayerState
 start_state setup = record { events = 0; round = 0; depth = setup.depth; next_depth = setup.depth; entries = []; issued = [] }
 
-abbrev pub flies : Stage → Bool
-flies flying = true
-flies done = false
-flies back = false
-
-abbrev pub has_completed : Stage → Bool
-has_completed flying = false
-has_completed done = true
-has_completed back = false
-
-abbrev pub was_requeued : Stage → Bool
-was_requeued flying = false
-was_requeued done = false
-was_requeued back = true
+abbrev pub has_completed : Outcome → Bool
+has_completed outcome.Flying = false
+has_completed outcome.Done = true
+has_completed outcome.Back = false
 
 -- the request with these bios more, where it has the id: released in the round, due when it was
 abbrev pub joined_by : ℕ → ℕ → List Bio → Entry → Entry
 joined_by round id bios r = cond (r.id == id) (record { id = r.id; release = round; due = r.due; bios = join_up r.bios bios }) r
-
--- the Issue that is in flight under the tag comes to this end, every other stays
-abbrev pub ended_by : ℕ → Stage → Issued → Issued
-ended_by tag stage i = cond (flies i.stage && (tag == i.tag)) (record { round = i.round; id = i.id; tag = i.tag; stage = stage }) i
 
 -- what an event makes of the round, its depth, the requests and the Issues
 abbrev pub changed : Setup → LayerState → Happened → LayerState
 changed setup s Tick = record s { round = s.round + 1; depth = s.next_depth }
 changed setup s (Release id bios) = record s { entries = s.entries ++ record { id = id; release = s.round; due = s.round + expire_of setup (dir_of bios); bios = bios } ∷ [] }
 changed setup s (Join id bios) = record s { entries = map (joined_by s.round id bios) s.entries }
-changed setup s (Issue id tag) = record s { issued = s.issued ++ record { round = s.round; id = id; tag = tag; stage = flying } ∷ [] }
-changed setup s (Done tag) = record s { issued = map (ended_by tag done) s.issued }
-changed setup s (Back tag) = record s { issued = map (ended_by tag back) s.issued }
+changed setup s (Issue id tag) = record s { issued = s.issued ++ record { round = s.round; id = id; tag = tag; outcome = outcome.Flying } ∷ [] }
+changed setup s (Done tag) = record s { issued = map (ended_by tag outcome.Done) s.issued }
+changed setup s (Back tag) = record s { issued = map (ended_by tag outcome.Back) s.issued }
 changed setup s (Depth depth) = record s { next_depth = depth }
 
 -- the state with one event more
@@ -98,25 +78,25 @@ abbrev pub has_issue : LayerState → ℕ → Bool
 has_issue s id = list_any (λ i. i.id == id) s.issued
 
 abbrev pub is_out : LayerState → ℕ → Bool
-is_out s id = list_any (λ i. (i.id == id) && not (was_requeued i.stage)) s.issued
+is_out s id = list_any (λ i. (i.id == id) && not (was_requeued i.outcome)) s.issued
 
 -- whether the tag's command is in flight; whether it was issued in the round that is on
 abbrev pub is_open : LayerState → ℕ → Bool
-is_open s tag = list_any (λ i. flies i.stage && (tag == i.tag)) s.issued
+is_open s tag = list_any (λ i. flies i.outcome && (tag == i.tag)) s.issued
 
 abbrev pub is_used : LayerState → ℕ → Bool
 is_used s tag = list_any (λ i. (i.round == s.round) && (tag == i.tag)) s.issued
 
 -- how many commands are in flight, and how many have completed
 abbrev pub flying_now : LayerState → ℕ
-flying_now s = count_by (λ i. flies i.stage) s.issued
+flying_now s = count_by (λ i. flies i.outcome) s.issued
 
 abbrev pub done_now : LayerState → ℕ
-done_now s = count_by (λ i. has_completed i.stage) s.issued
+done_now s = count_by (λ i. has_completed i.outcome) s.issued
 
 -- the Issues that were not requeued
 abbrev pub kept_now : LayerState → List Issued
-kept_now s = filter (λ i. not (was_requeued i.stage)) s.issued
+kept_now s = kept_of s.issued
 
 -- the command of the id
 abbrev pub command_now : LayerState → ℕ → Command

@@ -8,6 +8,6 @@ use Rattle.blk_trace.specs.declared.trace.Trace.TheInside.{Inside}
 -- what is kept is what the events say, there is room for what was prepared, the depths are those of the rounds, and tags are free from a bound on
 abbrev pub AreKeptFields : {A : Type 0} → Inside A → Type 0
 AreKeptFields t =
-    IsKeptTrace t.setup t.events.items t.commands.items t.rounds.items t.round t.«open» (by_id.kept_at t.known) (has_named (id_set.set_has t.ids)) t.tags.items
-    × HasRoom t.prepared (length t.events.items) t.«open» (length t.commands.items) (length t.rounds.items) (vec_capacity t.events) (vec_capacity t.commands) (vec_capacity t.rounds) (by_id.spare t.known) (id_set.spare t.ids)
+    IsKeptTrace t.setup t.events.items t.issued.items t.round t.«open» (by_id.kept_at t.known) (has_named (id_set.set_has t.ids)) t.tags.items
+    × HasRoom t.prepared (length t.events.items) t.«open» (length t.issued.items) (vec_capacity t.events) (vec_capacity t.issued) (by_id.spare t.known) (id_set.spare t.ids)
     × HasDepths t.setup t.events.items t.depth t.next_depth × LeavesFree t.unused_from t.tags.items

@@ -2,7 +2,6 @@
 use Rattle.std.specs.Prelude.{ℕ, ◌≡◌, ◌≤◌, ◌+◌, ◌==◌, ◌&&◌, Bool, true, false, cond, List, length, Option, Some, None, option_map, slice_get}
 use Rattle.std.specs.List.{list_any}
 use Rattle.std.specs.Option.{option_map_or}
-use Rattle.edd_commands.specs.declared.Command.{Command}
 use Rattle.blk_bio.specs.Bios.{Bio}
 use Rattle.blk_bio.specs.declared.bio.BioId.{BioId}
 use Rattle.blk_bio.specs.Requests.{IsRequest, Fits}
@@ -16,10 +15,13 @@ use Rattle.blk_trace.specs.declared.trace.Prepared.{Prepared}
 use Rattle.blk_trace.specs.declared.trace.Prepared.TheVariants.{Nothing, AnIssue, Bios}
 use Rattle.blk_trace.specs.Happened.{Happened}
 use Rattle.blk_trace.specs.Setups.{Setup, IsSetup}
-use Rattle.blk_trace.specs.Events.{request_of, round_of, open_count, entered, IsOpen, IsOpenBy, IsUsed, join_up}
+use Rattle.blk_trace.specs.Events.{request_of, round_of, open_count, entered, IsOpen, IsUsed, join_up}
 use Rattle.blk_trace.specs.Depths.{depth_in, depth_now}
 use Rattle.blk_trace.specs.Legal.{IsLegalTrace}
-use Rattle.blk_trace.specs.Meaning.{commands_of, rounds_of, released_ids, issued_ids}
+use Rattle.blk_trace.specs.declared.issued.Outcome.TheVariants.{Flying}
+use Rattle.blk_trace.specs.declared.issued.Issued.{Issued}
+use Rattle.blk_trace.specs.Issues.{issues_of}
+use Rattle.blk_trace.specs.Meaning.{released_ids, issued_ids}
 use Rattle.blk_trace.specs.Waits.{Entered, summary, entered_at, has_id, was_issued}
 use Rattle.blk_trace.specs.Traces.{Traced, IsPreparedFor}
 use Rattle.blk_bio.specs.Limits.{Limits}
@@ -48,12 +50,9 @@ known_as gone ever w = record { stage = stage_of gone ever; entry = summary w }
 unfoldable pub known_of : Setup → List Happened → ℕ → Option Known
 known_of setup events id = option_map (known_as (has_id (issued_ids events) id) (was_issued events id)) (request_at setup events id)
 
--- the same at another stage, and its command
+-- the same at another stage
 abbrev pub at_stage : Stage → Known → Known
 at_stage stage k = record { stage = stage; entry = k.entry }
-
-abbrev pub kept_command : ℕ → Known → Command
-kept_command id k = record { id = id; release = k.entry.release; due = k.entry.due }
 
 -- whether a request was issued, and not requeued since
 abbrev pub has_gone : Stage → Bool
@@ -75,11 +74,22 @@ has_named has id = has id.submitter id.serial
 abbrev pub has_bio_id : List Bio → BioId → Bool
 has_bio_id bios id = list_any (λ b. is_bio b.id id) bios
 
+-- the Issue at the place is in flight under the tag
+pub record IsFlyingAt (issues : List Issued) (place tag : ℕ) : Type 0 where
+  pub issue : Issued
+  pub there : slice_get issues place ≡ Some issue
+  pub under : issue.tag ≡ tag
+  pub flies : issue.outcome ≡ Flying
+
 -- how a tag stands: not issued in this round, issued and open, or issued and ended
 abbrev pub IsTagUse : List Happened → ℕ → TagUse → Type 0
 IsTagUse events tag Free = (IsUsed events tag → ⊥) × (IsOpen events tag → ⊥)
-IsTagUse events tag (Open id) = IsUsed events tag × IsOpenBy events tag id
+IsTagUse events tag (Open place) = IsUsed events tag × IsOpen events tag × IsFlyingAt (issues_of events) place tag
 IsTagUse events tag Ended = IsUsed events tag × (IsOpen events tag → ⊥)
+
+-- the tag of each Issue in flight says at which place that stands
+abbrev pub ArePlaced : List Issued → List TagUse → Type 0
+ArePlaced issues tags = (k : ℕ) (i : Issued) → slice_get issues k ≡ Some i → i.outcome ≡ Flying → slice_get tags i.tag ≡ Some (Open k)
 
 -- the tags from the bound on are free, and the one below it isn't
 pub record LeavesFree (bound : ℕ) (tags : List TagUse) : Type 0 where
@@ -88,16 +98,16 @@ pub record LeavesFree (bound : ℕ) (tags : List TagUse) : Type 0 where
   pub used : (tag : ℕ) → bound ≡ tag + 1 → slice_get tags tag ≡ Some Free → ⊥
 
 -- what is kept is what the events say
-pub record IsKeptTrace (setup : Setup) (events : List Happened) (commands : List Command) (rounds : List ℕ) (round opened : ℕ) (known : ℕ → Option Known) (ids : BioId → Bool) (tags : List TagUse) : Type 0 where
+pub record IsKeptTrace (setup : Setup) (events : List Happened) (issued : List Issued) (round opened : ℕ) (known : ℕ → Option Known) (ids : BioId → Bool) (tags : List TagUse) : Type 0 where
   pub ranges : IsSetup setup
   pub legal : IsLegalTrace setup events
-  pub commands_are : commands ≡ commands_of setup events
-  pub rounds_are : rounds ≡ rounds_of events
+  pub issued_are : issued ≡ issues_of events
   pub round_is : round ≡ round_of events
   pub open_is : opened ≡ open_count events
   pub known_are : (id : ℕ) → known id ≡ known_of setup events id
   pub requests_are : (id : ℕ) → has_id (released_ids events) id ≡ true → IsRequest (request_of events id)
   pub ids_are : (id : BioId) → ids id ≡ has_bio_id (entered events) id
+  pub placed : ArePlaced issued tags
   pub tags_are : (tag : ℕ) (u : TagUse) → slice_get tags tag ≡ Some u → IsTagUse events tag u
   pub each_tag : length tags ≡ setup.depth
 
@@ -116,11 +126,11 @@ event_room Nothing = 0
 event_room AnIssue = 2
 event_room (Bios _) = 1
 
--- places for commands that were made
-abbrev pub command_room : Prepared → ℕ
-command_room Nothing = 0
-command_room AnIssue = 1
-command_room (Bios _) = 0
+-- places for Issues that were made
+abbrev pub issue_room : Prepared → ℕ
+issue_room Nothing = 0
+issue_room AnIssue = 1
+issue_room (Bios _) = 0
 
 -- places for requests that were made
 abbrev pub request_room : Prepared → ℕ
@@ -135,9 +145,8 @@ bio_room AnIssue = 0
 bio_room (Bios n) = n
 
 -- there is room for each open Issue's Done, and for what was prepared
-pub record HasRoom (prepared : Prepared) (events opened commands rounds places command_places round_places known_spare ids_spare : ℕ) : Type 0 where
+pub record HasRoom (prepared : Prepared) (events opened issued places issued_places known_spare ids_spare : ℕ) : Type 0 where
   pub for_events : events + opened + event_room prepared ≤ places
-  pub for_command : commands + command_room prepared ≤ command_places
-  pub for_round : rounds + command_room prepared ≤ round_places
+  pub for_issue : issued + issue_room prepared ≤ issued_places
   pub for_request : request_room prepared ≤ known_spare
   pub for_bios : bio_room prepared ≤ ids_spare

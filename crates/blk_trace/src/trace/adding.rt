@@ -6,22 +6,22 @@ ghost use Rattle.blk_ids.specs.ById.{kept_at};
 ghost use Rattle.blk_ids.specs.ById as by_id;
 ghost use Rattle.blk_ids.specs.IdSet.{set_has};
 ghost use Rattle.blk_ids.specs.IdSet as id_set;
-ghost use Rattle.edd_commands.specs.declared.Command.{Command as Job};
 ghost use Rattle.blk_bio.specs.declared.bio.BioId.{BioId as Name};
 ghost use Rattle.blk_trace.specs.Happened.{Tick, Release, Join, Issue, Done, Back, Depth};
 ghost use Rattle.blk_trace.specs.Legal.{IsLegalTrace};
 ghost use Rattle.blk_trace.specs.Rules.{BreaksNoRule};
 ghost use Rattle.blk_trace.specs.Traces.{IsPreparedFor, extended};
-ghost use Rattle.blk_trace.specs.Events.{IsOpen, IsOpenBy};
-ghost use Rattle.blk_trace.specs.Inside.Kept.{at_stage, kept_command, has_named, has_bio_id};
+ghost use Rattle.blk_trace.specs.Events.{IsOpen};
+ghost use Rattle.blk_trace.specs.Issues.{issues_of};
+ghost use Rattle.blk_trace.specs.Inside.Kept.{at_stage, IsFlyingAt, has_named, has_bio_id};
 
 use crate::event::Event;
+use crate::issued::{Issued, Outcome};
 use crate::known::{Entry, Known, Stage};
 use crate::tags::{TagUse, free_below, past};
 use crate::trace::{Prepared, Trace};
 use blk_bio::{Bio, Request};
 use blk_ids::{ById, IdSet};
-use edd_commands::Command;
 use std::alloc::Allocator;
 
 impl<A: Allocator + Clone> Trace<A> {
@@ -99,7 +99,7 @@ impl<A: Allocator + Clone> Trace<A> {
         self.prepared = Prepared::Nothing;
     }
 
-    /// Adds an Issue: the request waits no more, and its command, of this round, is the last one.
+    /// Adds an Issue: the request waits no more.
     #[inline(always)]
     fn add_issue(&mut self, id: u64, tag: u16)
         requires unbroken { BreaksNoRule self.old.setup self.old.events (Issue id tag) }
@@ -107,10 +107,20 @@ impl<A: Allocator + Clone> Trace<A> {
         ensures added { self.new ≡ extended self.old (Issue id tag) }
         ensures legal { IsLegalTrace self.old.setup (self.old.events ++ Issue id tag ∷ []) }
     {
-        let command = moved(&mut self.known, id, Stage::Gone);
-        append(&mut self.commands, command);
-        append(&mut self.rounds, self.round);
-        self.tags[tag as usize] = TagUse::Open(id);
+        moved(&mut self.known, id, Stage::Gone);
+        let place = self.issued.len();
+        let round = self.round;
+        let outcome = Outcome::Flying;
+        append(
+            &mut self.issued,
+            Issued {
+                round,
+                id,
+                tag,
+                outcome,
+            },
+        );
+        self.tags[tag as usize] = TagUse::Open(place);
         self.unused_from = past(self.unused_from, tag);
         self.open += 1;
         append(&mut self.events, Event::Issue { id, tag });
@@ -123,37 +133,41 @@ impl<A: Allocator + Clone> Trace<A> {
         ensures added { self.new ≡ extended self.old (Done tag) }
         ensures legal { IsLegalTrace self.old.setup (self.old.events ++ Done tag ∷ []) }
     {
+        let place = self.open_place(tag);
+        let issue = self.issued[place];
+        let outcome = Outcome::Done;
+        self.issued[place] = Issued { outcome, ..issue };
         self.tags[tag as usize] = TagUse::Ended;
         self.open -= 1;
         append(&mut self.events, Event::Done { tag });
         self.prepared = Prepared::Nothing;
     }
 
-    /// The id of the Issue of a tag that is open.
-    fn open_id(&self, tag: u16) -> u64
+    /// The place of the open Issue of a tag.
+    fn open_place(&self, tag: u16) -> usize
         requires { IsOpen self.now.events tag }
-        ensures { IsOpenBy self.now.events tag result }
+        ensures { IsFlyingAt (issues_of self.now.events) result tag }
     {
         // brings the prover the trace's invariant
         let _ = &self.round;
         match self.tag_use(tag) {
-            TagUse::Open(id) => id,
+            TagUse::Open(place) => place,
             TagUse::Free => unreachable!(),
             TagUse::Ended => unreachable!(),
         }
     }
 
-    /// Adds a Back: the tag's Issue is no longer open, its request waits again, and it is no command any more.
+    /// Adds a Back: the tag's Issue is no longer open, and its request waits again.
     fn add_back(&mut self, tag: u16)
         requires unbroken { BreaksNoRule self.old.setup self.old.events (Back tag) }
         ensures added { self.new ≡ extended self.old (Back tag) }
         ensures legal { IsLegalTrace self.old.setup (self.old.events ++ Back tag ∷ []) }
     {
-        let id = self.open_id(tag);
-        let place = place_of(self.commands.as_slice(), id);
-        self.commands.remove(place);
-        self.rounds.remove(place);
-        moved(&mut self.known, id, Stage::Requeued);
+        let place = self.open_place(tag);
+        let issue = self.issued[place];
+        let outcome = Outcome::Back;
+        self.issued[place] = Issued { outcome, ..issue };
+        moved(&mut self.known, issue.id, Stage::Requeued);
         self.tags[tag as usize] = TagUse::Ended;
         self.open -= 1;
         append(&mut self.events, Event::Back { tag });
@@ -173,40 +187,17 @@ impl<A: Allocator + Clone> Trace<A> {
     }
 }
 
-/// Notes how far the request of an id has come, and hands out its command.
-fn moved<A: Allocator + Clone>(known: &mut ById<Known, A>, id: u64, stage: Stage) -> Command
+/// Notes how far the request of an id has come.
+fn moved<A: Allocator + Clone>(known: &mut ById<Known, A>, id: u64, stage: Stage)
     requires { IsSome (kept_at known.old id) }
-    ensures command { Some result ≡ option_map (kept_command id) (kept_at known.old id) }
     ensures stage { Gives (kept_at known.old) id (option_map (at_stage stage) (kept_at known.old id)) (kept_at known.new) }
     ensures room { by_id.spare known.new ≡ by_id.spare known.old }
 {
     let Some(kept) = known.get(id) else {
         unreachable!()
     };
-    let command = Command {
-        id,
-        release: kept.entry.release,
-        due: kept.entry.due,
-    };
     let entry = kept.entry;
     known.set(id, Known { stage, entry });
-    command
-}
-
-/// The place of the command of an id, which is there. It looks from the end on, since what is in flight was issued in
-/// the current round.
-fn place_of(commands: &[Command], id: u64) -> usize
-    requires { (k : ℕ) × ((x : Job) × (slice_get commands.now k ≡ Some x) × (x.id ≡ id)) }
-    ensures { (x : Job) × (slice_get commands.now result ≡ Some x) × (x.id ≡ id) }
-{
-    let mut place = commands.len();
-    while place > 0 {
-        place -= 1;
-        if commands[place].id == id {
-            return place;
-        }
-    }
-    unreachable!()
 }
 
 /// Adds a value at the end of a list that has room for it.

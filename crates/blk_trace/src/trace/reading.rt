@@ -1,12 +1,15 @@
 //! Whole lists of events as traces, and what a trace means.
 
 ghost use Rattle.std.specs.Prelude.{◌≡◌, IfOk, IsOkUnless};
+ghost use Rattle.blk_trace.specs.Events.{IsIssued};
+ghost use Rattle.blk_trace.specs.Inside.Issues.{command_in};
 ghost use Rattle.blk_trace.specs.Legal.{IsLegalTrace};
 ghost use Rattle.blk_trace.specs.Meaning.{commands_of, rounds_of};
 ghost use Rattle.blk_trace.specs.Laws.{IsScheduled, AreBounded};
 ghost use Rattle.blk_trace.specs.Traces.{IsFromEventsAnswer};
 
 use crate::event::Event;
+use crate::issued::Issued;
 use crate::rule::{PushFault, TraceFault};
 use crate::setup::Setup;
 use crate::trace::Trace;
@@ -49,7 +52,7 @@ impl<A: Allocator + Clone> Trace<A> {
         ensures bounded { AreBounded (commands_of self.now.setup self.now.events) (rounds_of self.now.events) }
     {
         let alloc = self.events.allocator().clone()?;
-        Vec::from_slice(alloc, self.commands.as_slice())
+        all_commands(alloc, self)
     }
 
     /// The rounds of these requests' last Issues, in their order. Fails only when out of memory.
@@ -59,6 +62,53 @@ impl<A: Allocator + Clone> Trace<A> {
         ensures bounded { AreBounded (commands_of self.now.setup self.now.events) (rounds_of self.now.events) }
     {
         let alloc = self.events.allocator().clone()?;
-        Vec::from_slice(alloc, self.rounds.as_slice())
+        all_rounds(alloc, self)
     }
+}
+
+/// The command of an Issue, unless it was requeued.
+fn command_in<A: Allocator + Clone>(trace: &Trace<A>, issue: &Issued) -> Option<Command>
+    requires { IsIssued trace.now.events issue.now.id }
+    ensures { result ≡ command_in trace.now.setup trace.now.events issue.now }
+{
+    if issue.was_requeued() {
+        return None;
+    }
+    let Some(entry) = trace.request(issue.id) else {
+        unreachable!()
+    };
+    Some(Command {
+        id: issue.id,
+        release: entry.release,
+        due: entry.due,
+    })
+}
+
+/// The commands of the Issues that were not requeued.
+fn all_commands<A: Allocator + Clone>(
+    alloc: A,
+    trace: &Trace<A>,
+) -> Result<Vec<Command, A>, AllocError>
+    ensures { IfOk result (λ v. v.items ≡ commands_of trace.now.setup trace.now.events) }
+{
+    let mut commands = Vec::new(alloc);
+    for issue in trace.issues() {
+        if let Some(command) = command_in(trace, issue) {
+            commands.push(command)?;
+        }
+    }
+    Ok(commands)
+}
+
+/// Their rounds.
+fn all_rounds<A: Allocator + Clone>(alloc: A, trace: &Trace<A>) -> Result<Vec<u64, A>, AllocError>
+    ensures { IfOk result (λ v. v.items ≡ rounds_of trace.now.events) }
+{
+    let mut rounds = Vec::new(alloc);
+    for issue in trace.issues() {
+        if !issue.was_requeued() {
+            rounds.push(issue.round)?;
+        }
+    }
+    Ok(rounds)
 }

@@ -1,4 +1,4 @@
-use Rattle.std.proofs.Common.{◌≡◌, true, false, sym, subst}
+use Rattle.std.proofs.Common.{sym, subst}
 use Rattle.std.specs.Ordering.{bool_cmp}
 use Rattle.ordered.specs.Ordered.{listed, IsGreatestBelow, NoneBelow}
 use Rattle.blk_index.specs.Keys.{keyed_cmp}

@@ -1,4 +1,4 @@
-use Rattle.std.proofs.Common.{ap, ◌∙◌, None}
+use Rattle.std.proofs.Common.{ap, ◌∙◌}
 use Rattle.std.specs.FinMap as map
 use Rattle.blk_bio.specs.declared.request.Side.{Side}
 use Rattle.blk_index.specs.Inside.Spots.{at_of}

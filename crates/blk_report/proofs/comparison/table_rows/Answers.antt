@@ -1,4 +1,4 @@
-use Rattle.std.proofs.Common.{◌∙◌, ◌++◌, ◌∷◌, [], ap, map, arith}
+use Rattle.std.proofs.Common.{◌∙◌, ap, map, arith}
 use Rattle.blk_report.specs.Table.{table_row}
 use Rattle.blk_report.proofs.Tables.{one_more, all_rows}
 use Rattle.blk_report.proofs.comparison.table_rows.Goals as goal

@@ -1,34 +1,37 @@
-use Rattle.std.proofs.Common.{◌≡◌, ◌<◌, ◌++◌, ◌∙◌, ℕ, List, [], ◌∷◌, length, sym, ap, arith, take}
-use Rattle.std.proofs.lemmas.List.{take_all, take_more}
-use Rattle.blk_bio.specs.declared.bio.Dir.TheVariants.{Read}
-use Rattle.blk_report.specs.declared.serving.Service.{Service}
-use Rattle.blk_report.specs.Services.{services_of}
-use Rattle.blk_report.proofs.Requests.{as_many, as_many_rounds, issued_at, served_at}
+use Rattle.std.proofs.Common.{◌≤◌, ◌++◌, ◌∷◌, [], ◌∙◌, get_or, length, ap, sym, subst, append-nil}
+use Rattle.std.specs.List.{filter_map}
+use Rattle.std.proofs.lemmas.List.{take_all}
+use Rattle.blk_trace.specs.declared.issued.Outcome.TheVariants.{Flying}
+use Rattle.blk_trace.specs.declared.issued.Issued.{Issued}
+use Rattle.blk_trace.specs.Issues.{issues_of}
+use Rattle.blk_trace.proofs.Issues.{issued_there, next_taken}
+use Rattle.blk_report.specs.Services.{served_by}
+use Rattle.blk_report.proofs.Requests.{by_issue, all_served}
 use Rattle.blk_report.proofs.serving.served.Goals as goal
-
-abbrev unserved : Service
-unserved = record { id = 0; dir = Read; first = 0; sectors = 0; release = 0; due = 0; issue = 0 }
-
-pub bounds-rounds-place : goal.bounds-rounds-place
-bounds-rounds-place g c =
-    let t = c.args.trace.now in
-    omega (arith, as_many_rounds t.setup t.events, ap length c.requires.commands, ap length c.requires.rounds, c.loop-place-test.true)
+use Rattle.blk_report.proofs.serving.served.Goals.{then-not-was_requeued+in_ok-push, else-not-was_requeued}
 
 pub service_under-requires : goal.service_under-requires
-service_under-requires g c = let t = c.args.trace.now in issued_at t.setup t.events c.args.commands.now c.loop-place.place c.requires.commands c.loop-place-test.true
+service_under-requires g c = issued_there c.args.trace.now.events c.issues-issue-items.result.now c.loop-issue.issue-index _ c.issues-issue-items.ensures.issues c.loop-issue-test.true
 
-pub loop-place-preserved : goal.loop-place-preserved
-loop-place-preserved g c =
+pub loop-issue-preserved : goal.loop-issue-preserved
+loop-issue-preserved g c =
     let t = c.args.trace.now in
-    let k : ℕ = c.loop-place.place in
-    let all : List Service = services_of t.setup t.events in
-    let low : k < length all = omega (arith, as_many t.setup t.events, ap length c.requires.commands, c.loop-place-test.true) in
-    c.in_ok-push.ensures.items
-    ∙ ap (λ l. l ++ c.service_under.result ∷ []) c.loop-place.invariant
-    ∙ ap (λ y. take k all ++ y ∷ []) (c.service_under.ensures ∙ served_at t.setup t.events c.args.commands.now c.args.rounds.now k unserved c.requires.commands c.requires.rounds c.loop-place-test.true)
-    ∙ sym (take_more all k unserved low)
+    let f = served_by t.setup t.events in
+    let xs = c.issues-issue-items.result.now in
+    let k = c.loop-issue.issue-index in
+    let i : Issued = get_or xs k (record { round = 0; id = 0; tag = 0; outcome = Flying }) in
+    elim c.if-not-was_requeued.branch [
+      | then-not-was_requeued+in_ok-push w ↦
+          next_taken f xs (issues_of t.events) k _ _ _ _ c.issues-issue-items.ensures.issues c.loop-issue-test.true (sym (by_issue t.setup t.events i _ (sym c.was_requeued.ensures ∙ w.if-not-was_requeued.true))) c.loop-issue.invariant
+          (ap (λ v. v.items) w.services-is ∙ w.in_ok-push.ensures.items ∙ ap (λ s. c.loop-issue.services.items ++ s ∷ []) w.service_under.ensures)
+      | else-not-was_requeued w ↦
+          next_taken f xs (issues_of t.events) k _ _ _ _ c.issues-issue-items.ensures.issues c.loop-issue-test.true (sym (by_issue t.setup t.events i _ (sym c.was_requeued.ensures ∙ w.if-not-was_requeued.false))) c.loop-issue.invariant
+          (ap (λ v. v.items) w.services-is ∙ sym (append-nil c.loop-issue.services.items))
+    ]
 
 pub returns : goal.returns
 returns g c =
     let t = c.args.trace.now in
-    c.loop-place.invariant ∙ take_all c.loop-place.place (services_of t.setup t.events) (let e = c.loop-place-test.false in let b = c.loop-place.auto.place-end in omega (arith, as_many t.setup t.events, ap length c.requires.commands, e, b))
+    c.loop-issue.invariant
+    ∙ ap (filter_map (served_by t.setup t.events)) (take_all c.loop-issue.issue-index (issues_of t.events) (subst (λ l. length l ≤ c.loop-issue.issue-index) c.issues-issue-items.ensures.issues c.loop-issue-test.false))
+    ∙ all_served t.setup t.events

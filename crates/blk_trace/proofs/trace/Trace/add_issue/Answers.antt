@@ -1,7 +1,8 @@
 use Rattle.std.proofs.Common.{◌≡◌, ◌<◌, ◌+◌, ◌++◌, ◌==◌, ◌∙◌, ℕ, List, [], ◌∷◌, Some, cond, length, length-append, ap, sym, arith, subst, refl}
 use Rattle.std.specs.Prelude.{IsSome, option_map}
 use Rattle.blk_ids.specs.ById as by_id
-use Rattle.edd_commands.specs.declared.Command.{Command}
+use Rattle.blk_trace.specs.declared.issued.Issued.{Issued}
+use Rattle.blk_trace.specs.declared.issued.Outcome.TheVariants.{Flying}
 use Rattle.blk_bio.specs.declared.rule.TraceRule.TheVariants as rule
 use Rattle.blk_trace.specs.Happened.{Happened, Issue}
 use Rattle.blk_trace.specs.Events.{round_of, IsReleased}
@@ -14,7 +15,7 @@ use Rattle.blk_trace.specs.declared.tags.TagUse.TheVariants.{Free, Open}
 use Rattle.blk_trace.proofs.TagUses.{free_set}
 use Rattle.blk_trace.specs.declared.known.Stage.TheVariants.{Gone}
 use Rattle.blk_trace.specs.Waits.{Entered, entered_at, waits_at}
-use Rattle.blk_trace.specs.Inside.Kept.{at_stage, kept_command}
+use Rattle.blk_trace.specs.Inside.Kept.{at_stage}
 use Rattle.blk_trace.proofs.Ids.{all_back}
 use Rattle.blk_trace.proofs.Knowing.{known_there}
 use Rattle.blk_trace.proofs.Waiting.{waits_for}
@@ -23,8 +24,8 @@ use Rattle.blk_trace.proofs.Capacities.{depth_few, depths_kept}
 use Rattle.blk_trace.proofs.Keeping.{kept_issue, room_after_issue}
 use Rattle.blk_trace.proofs.trace.Trace.add_issue.Goals as goal
 
-pub moved-command-requires : goal.moved-command-requires
-moved-command-requires g c =
+pub moved-requires : goal.moved-requires
+moved-requires g c =
     let s = c.self.inside in
     let es : List Happened = c.self.inside.events.items in
     let all : BreaksNoRule s.setup es (Issue c.args.id c.args.tag) = subst (λ (v : Traced). BreaksNoRule v.setup v.events (Issue c.args.id c.args.tag)) (sym c.self.view_is) c.requires.unbroken in
@@ -54,15 +55,13 @@ invariant_of-self g c =
     let released : IsReleased es c.args.id = all rule.Unknown in
     let known = k.known_are c.args.id ∙ known_there s.setup es c.args.id released in
     let waits : waits_at s.setup es c.args.id ≡ Some w = waits_for s.setup es c.args.id released (all_back es c.args.id (all rule.AlreadyIssued)) in
-    let both : Some c.moved-command.result ≡ Some (let y : Command = record { id = c.args.id; release = w.release; due = w.due } in y) = c.moved-command.ensures.command ∙ ap (option_map (kept_command c.args.id)) known in
-    let same : c.moved-command.result ≡ record { id = c.args.id; release = w.release; due = w.due } = cc in
-    let hz : c.append-3.new.list.items ≡ es ++ (Issue c.args.id c.args.tag) ∷ [] = c.append-3.ensures.items in
-    let n : length c.append-3.new.list.items ≡ length s.events.items + 1 = ap length c.append-3.ensures.items ∙ length-append s.events.items (Issue c.args.id c.args.tag ∷ []) in
-    let hd : c.append.new.list.items ≡ s.commands.items ++ (let y : Command = record { id = c.args.id; release = w.release; due = w.due } in y) ∷ [] = c.append.ensures.items ∙ ap (λ (y : Command). s.commands.items ++ y ∷ []) same in
-    let gone = λ (q : ℕ). c.moved-command.ensures.stage q ∙ ap (λ o. cond (c.args.id == q) (option_map (at_stage Gone) o) (by_id.kept_at s.known q)) known in
-    let hc : length c.append.new.list.items ≡ length s.commands.items + 1 = ap length c.append.ensures.items ∙ length-append s.commands.items _ in
-    let hr : length c.append-2.new.list.items ≡ length s.rounds.items + 1 = ap length c.append-2.ensures.items ∙ length-append s.rounds.items _ in
-    (kept_issue _ es _ c.args.id c.args.tag w _ _ _ _ _ _ (by_id.kept_at s.known) _ _ s.tags.items k all hz waits hd c.append-2.ensures.items gone, room_after_issue s.prepared c.args.id c.args.tag _ _ _ _ _ _ _ _ _ _ _ _ _ _ _ _ ready room n hc hr c.append-3.ensures.room c.append.ensures.room c.append-2.ensures.room, depths_kept s.setup es _ (Issue c.args.id c.args.tag) s.depth s.next_depth c.self.invariant.2 refl refl hz, free_set s.unused_from c.past-self-inside.result c.args.tag (Open c.args.id) s.tags.items c.past-self-inside.ensures.higher c.past-self-inside.ensures.past c.past-self-inside.ensures.least (λ (e : Open c.args.id ≡ Free). cc e) (c.past-self-inside.ensures.least (length s.tags.items) c.self.invariant.3.within low) c.self.invariant.3)
+    let hz : c.append-2.new.list.items ≡ es ++ (Issue c.args.id c.args.tag) ∷ [] = c.append-2.ensures.items in
+    let n : length c.append-2.new.list.items ≡ length s.events.items + 1 = ap length c.append-2.ensures.items ∙ length-append s.events.items (Issue c.args.id c.args.tag ∷ []) in
+    let hd : c.append.new.list.items ≡ s.issued.items ++ (let i : Issued = record { round = s.round; id = c.args.id; tag = c.args.tag; outcome = Flying } in i) ∷ [] = c.append.ensures.items in
+    let gone = λ (q : ℕ). c.moved.ensures.stage q ∙ ap (λ o. cond (c.args.id == q) (option_map (at_stage Gone) o) (by_id.kept_at s.known q)) known in
+    let hc : length c.append.new.list.items ≡ length s.issued.items + 1 = ap length c.append.ensures.items ∙ length-append s.issued.items _ in
+    let place = c.len-place.result in
+    (kept_issue _ es _ c.args.id c.args.tag place w _ _ _ _ (by_id.kept_at s.known) _ _ s.tags.items k all hz low waits (omega (arith, c.len-place.ensures, s.issued.ok.0)) hd gone, room_after_issue s.prepared c.args.id c.args.tag _ _ _ _ _ _ _ _ _ _ _ _ ready room n hc c.append-2.ensures.room c.append.ensures.room, depths_kept s.setup es _ (Issue c.args.id c.args.tag) s.depth s.next_depth c.self.invariant.2 refl refl hz, free_set s.unused_from c.past-self-inside.result c.args.tag (Open place) s.tags.items c.past-self-inside.ensures.higher c.past-self-inside.ensures.past c.past-self-inside.ensures.least (λ (e : Open place ≡ Free). cc e) (c.past-self-inside.ensures.least (length s.tags.items) c.self.invariant.3.within low) c.self.invariant.3)
 
 pub returns-clause-legal : goal.returns-clause-legal
 returns-clause-legal g c = push_legal _ _ _ (subst (λ (v : Traced). IsLegalTrace v.setup v.events) c.self.view_is c.self.invariant.0.legal) c.requires.unbroken tt

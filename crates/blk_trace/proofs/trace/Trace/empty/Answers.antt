@@ -15,11 +15,10 @@ invariant_of-result g c =
     let hk = λ (q : ℕ). c.in_ok-known.ensures q in
     let hb = λ (b : BioId). c.in_ok-ids.ensures b.submitter b.serial in
     let ht : c.resize.new.self.items ≡ replicate c.depth-depth.result Free = c.in_ok-resize.ensures.items ∙ filled c.depth-depth.result _ _ Free c.new-tags.ensures.items c.new-tags.ensures.len in (
-      kept_tags c.args.setup _ _ _ _ _ (by_id.kept_at c.in_ok-known.known) (has_named (id_set.set_has c.in_ok-ids.ids)) (replicate c.depth-depth.result Free) _ (kept_same c.args.setup [] _ [] _ [] _ 0 0 _ (by_id.kept_at c.in_ok-known.known) _ (has_named (id_set.set_has c.in_ok-ids.ids)) (replicate c.depth-depth.result Free) (kept_empty c.args.setup (by_id.kept_at c.in_ok-known.known) (has_named (id_set.set_has c.in_ok-ids.ids)) c.depth-depth.result hk hb c.depth-depth.ensures.value c.depth-depth.ensures.is_setup) (c.new-events.ensures.items) c.new-commands.ensures.items c.new-rounds.ensures.items (λ q. refl) (λ b. refl)) ht,
+      kept_tags c.args.setup _ _ _ _ (by_id.kept_at c.in_ok-known.known) (has_named (id_set.set_has c.in_ok-ids.ids)) (replicate c.depth-depth.result Free) _ (kept_same c.args.setup [] _ [] _ 0 0 _ (by_id.kept_at c.in_ok-known.known) _ (has_named (id_set.set_has c.in_ok-ids.ids)) (replicate c.depth-depth.result Free) (kept_empty c.args.setup (by_id.kept_at c.in_ok-known.known) (has_named (id_set.set_has c.in_ok-ids.ids)) c.depth-depth.result hk hb c.depth-depth.ensures.value c.depth-depth.ensures.is_setup) (c.new-events.ensures.items) c.new-issued.ensures.items (λ q. refl) (λ b. refl)) ht,
       record {
         for_events = omega (arith, ap length c.new-events.ensures.items);
-        for_command = omega (arith, ap length c.new-commands.ensures.items);
-        for_round = omega (arith, ap length c.new-rounds.ensures.items);
+        for_issue = omega (arith, ap length c.new-issued.ensures.items);
         for_request = omega arith;
         for_bios = omega arith;
       },

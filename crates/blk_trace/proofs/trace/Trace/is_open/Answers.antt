@@ -2,7 +2,6 @@ use Rattle.std.proofs.Common.{refl, subst}
 use Rattle.blk_trace.specs.declared.tags.TagUse.{TagUse}
 use Rattle.blk_trace.specs.declared.tags.TagUse.TheVariants.{Free, Open, Ended}
 use Rattle.blk_trace.specs.Inside.Kept.{IsTagUse}
-use Rattle.blk_trace.proofs.TagUses.{by_open}
 use Rattle.blk_trace.proofs.trace.Trace.is_open.Goals as goal
 
 pub returns-in-Free : goal.returns-in-Free
@@ -13,7 +12,7 @@ returns-in-Free g c =
 pub returns-in-Open : goal.returns-in-Open
 returns-in-Open g c =
     let h : IsTagUse c.args.self.now.events c.args.tag (Open c.in-Open.field-0) = subst (λ (u : TagUse). IsTagUse c.args.self.now.events c.args.tag u) c.in-Open.is c.tag_use.ensures in
-    (λ _. by_open c.args.self.now.events c.args.tag c.in-Open.field-0 h.1, λ _. refl)
+    (λ _. h.1, λ _. refl)
 
 pub returns-in-Ended : goal.returns-in-Ended
 returns-in-Ended g c =

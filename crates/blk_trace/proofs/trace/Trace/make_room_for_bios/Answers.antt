@@ -9,11 +9,10 @@ use Rattle.blk_trace.proofs.trace.Trace.make_room_for_bios.Goals as goal
 pub invariant_of-self-2 : goal.invariant_of-self-2
 invariant_of-self-2 g c =
     let s = c.self.inside in (
-      kept_same _ s.events.items _ s.commands.items _ s.rounds.items _ _ _ (by_id.kept_at s.known) _ (has_named (id_set.set_has s.ids)) _ _ c.self.invariant.0 (c.in_ok-reserve.ensures.items) refl refl c.in_ok-make_room.ensures.same (λ b. c.in_ok-make_room-2.ensures.same b.submitter b.serial),
+      kept_same _ s.events.items _ s.issued.items _ _ _ (by_id.kept_at s.known) _ (has_named (id_set.set_has s.ids)) _ _ c.self.invariant.0 (c.in_ok-reserve.ensures.items) refl c.in_ok-make_room.ensures.same (λ b. c.in_ok-make_room-2.ensures.same b.submitter b.serial),
       record {
         for_events = omega (arith, c.in_ok-reserve.ensures.ok, c.reserve.new.self.ok.0);
-        for_command = omega (arith, c.self.invariant.1.for_command);
-        for_round = omega (arith, c.self.invariant.1.for_round);
+        for_issue = omega (arith, c.self.invariant.1.for_issue);
         for_request = omega (arith, c.in_ok-make_room.ensures.ok);
         for_bios = omega (arith, c.in_ok-make_room-2.ensures.ok);
       },

@@ -9,11 +9,10 @@ use Rattle.blk_trace.proofs.trace.Trace.make_room_to_issue.Goals as goal
 pub invariant_of-self-2 : goal.invariant_of-self-2
 invariant_of-self-2 g c =
     let s = c.self.inside in (
-      kept_same _ s.events.items _ s.commands.items _ s.rounds.items _ _ _ (by_id.kept_at s.known) (by_id.kept_at s.known) (has_named (id_set.set_has s.ids)) (has_named (id_set.set_has s.ids)) _ c.self.invariant.0 (c.in_ok-reserve.ensures.items) c.in_ok-reserve-2.ensures.items c.in_ok-reserve-3.ensures.items (λ _. refl) (λ _. refl),
+      kept_same _ s.events.items _ s.issued.items _ _ _ (by_id.kept_at s.known) (by_id.kept_at s.known) (has_named (id_set.set_has s.ids)) (has_named (id_set.set_has s.ids)) _ c.self.invariant.0 (c.in_ok-reserve.ensures.items) c.in_ok-reserve-2.ensures.items (λ _. refl) (λ _. refl),
       record {
         for_events = omega (arith, c.in_ok-reserve.ensures.ok, c.reserve.new.self.ok.0);
-        for_command = omega (arith, c.in_ok-reserve-2.ensures.ok, c.reserve-2.new.self.ok.0);
-        for_round = omega (arith, c.in_ok-reserve-3.ensures.ok, c.reserve-3.new.self.ok.0);
+        for_issue = omega (arith, c.in_ok-reserve-2.ensures.ok, c.reserve-2.new.self.ok.0);
         for_request = omega arith;
         for_bios = omega arith;
       },

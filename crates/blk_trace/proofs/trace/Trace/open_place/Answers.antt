@@ -3,7 +3,7 @@ use Rattle.blk_trace.specs.Happened.{Happened}
 use Rattle.blk_trace.specs.Events.{IsOpen}
 use Rattle.blk_trace.specs.Traces.{Traced}
 use Rattle.blk_trace.proofs.Capacities.{tag_below}
-use Rattle.blk_trace.proofs.trace.Trace.open_id.Goals as goal
+use Rattle.blk_trace.proofs.trace.Trace.open_place.Goals as goal
 
 pub tag_use-requires : goal.tag_use-requires
 tag_use-requires g c =
