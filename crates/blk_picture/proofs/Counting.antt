@@ -15,7 +15,7 @@ use Rattle.blk_bio.specs.declared.bio.Dir.{Dir}
 use Rattle.blk_bio.specs.declared.bio.Dir.TheVariants.{Read, Write}
 use Rattle.blk_trace.specs.Setups.{Setup}
 use Rattle.blk_trace.specs.Depths.{capacity_of}
-use Rattle.blk_picture.specs.declared.boxes.IssueBox.{IssueBox}
+use Rattle.blk_report.specs.declared.serving.Service.{Service}
 use Rattle.blk_picture.specs.declared.scale.Scale.{Scale}
 use Rattle.blk_picture.specs.declared.columns.IssueKind.{IssueKind}
 use Rattle.blk_picture.specs.declared.columns.IssueKind.TheVariants.{Reads, Writes, Lates, Backs, GoneReads, GoneWrites}
@@ -188,7 +188,7 @@ some_few None = omega arith
 some_few (Some x) = omega arith
 
 -- the numbers of a column
-pub column_is : (setup : Setup) (events : List Happened) (scale : Scale) (n : ℕ) (boxes : List IssueBox) (reads writes lates backs rooms rw ww : List ℕ)
+pub column_is : (setup : Setup) (events : List Happened) (scale : Scale) (n : ℕ) (boxes : List Service) (reads writes lates backs rooms rw ww : List ℕ)
     → boxes ≡ boxes_of setup events
     → get_or reads n 0 ≡ in_column scale.per n (rounds_in Reads boxes)
     → get_or writes n 0 ≡ in_column scale.per n (rounds_in Writes boxes)
@@ -208,14 +208,14 @@ column_is setup events scale n boxes reads writes lates backs rooms rw ww b h1 h
     ∙ ap (λ l. column_with (r n Reads) (r n Writes) (r n Lates) (r n Backs) (get_or l n 0) (get_or rw n 0) (get_or ww n 0)) h5
     ∙ ap (λ l. column_with (r n Reads) (r n Writes) (r n Lates) (r n Backs) (get_or (rooms_of (capacity_of setup events) scale.per scale.rounds 0 scale.columns) n 0) (get_or l n 0) (get_or ww n 0)) h6
     ∙ ap (λ l. column_with (r n Reads) (r n Writes) (r n Lates) (r n Backs) (get_or (rooms_of (capacity_of setup events) scale.per scale.rounds 0 scale.columns) n 0) (get_or (peaks_of scale.per scale.columns (waits_of (entered_in Read events) (rounds_in GoneReads boxes) scale.rounds)) n 0) (get_or l n 0)) h7
-    ∙ ap (λ (bs : List IssueBox). column_with (in_column scale.per n (rounds_in Reads bs)) (in_column scale.per n (rounds_in Writes bs)) (in_column scale.per n (rounds_in Lates bs)) (in_column scale.per n (rounds_in Backs bs)) (get_or (rooms_of (capacity_of setup events) scale.per scale.rounds 0 scale.columns) n 0) (get_or (peaks_of scale.per scale.columns (waits_of (entered_in Read events) (rounds_in GoneReads bs) scale.rounds)) n 0) (get_or (peaks_of scale.per scale.columns (waits_of (entered_in Write events) (rounds_in GoneWrites bs) scale.rounds)) n 0)) b
+    ∙ ap (λ (bs : List Service). column_with (in_column scale.per n (rounds_in Reads bs)) (in_column scale.per n (rounds_in Writes bs)) (in_column scale.per n (rounds_in Lates bs)) (in_column scale.per n (rounds_in Backs bs)) (get_or (rooms_of (capacity_of setup events) scale.per scale.rounds 0 scale.columns) n 0) (get_or (peaks_of scale.per scale.columns (waits_of (entered_in Read events) (rounds_in GoneReads bs) scale.rounds)) n 0) (get_or (peaks_of scale.per scale.columns (waits_of (entered_in Write events) (rounds_in GoneWrites bs) scale.rounds)) n 0)) b
 
 -- the rounds of those of a kind
-pub rounds_none : (kind : IssueKind) (boxes : List IssueBox) → rounds_in kind (take 0 boxes) ≡ []
+pub rounds_none : (kind : IssueKind) (boxes : List Service) → rounds_in kind (take 0 boxes) ≡ []
 unfolding rounds_in
 rounds_none kind boxes = refl
 
-pub rounds_push : (kind : IssueKind) (boxes : List IssueBox) (i : ℕ) (d : IssueBox) (items new : List ℕ) (o : Option ℕ) → i < length boxes → items ≡ rounds_in kind (take i boxes) → o ≡ round_in kind (get_or boxes i d) → new ≡ items ++ cons_option o [] → new ≡ rounds_in kind (take (i + 1) boxes)
+pub rounds_push : (kind : IssueKind) (boxes : List Service) (i : ℕ) (d : Service) (items new : List ℕ) (o : Option ℕ) → i < length boxes → items ≡ rounds_in kind (take i boxes) → o ≡ round_in kind (get_or boxes i d) → new ≡ items ++ cons_option o [] → new ≡ rounds_in kind (take (i + 1) boxes)
 unfolding rounds_in
 rounds_push kind boxes i d items new o l h one e =
     e

@@ -12,7 +12,7 @@ use Rattle.blk_trace.specs.Kinds.{releases}
 use Rattle.blk_trace.specs.Setups.{Setup, same_dir}
 use Rattle.blk_trace.specs.Meaning.{timed, greatest}
 use Rattle.blk_trace.specs.Depths.{capacity_of}
-use Rattle.blk_picture.specs.declared.boxes.IssueBox.{IssueBox}
+use Rattle.blk_report.specs.declared.serving.Service.{Service}
 use Rattle.blk_picture.specs.declared.scale.Scale.{Scale}
 use Rattle.blk_picture.specs.declared.columns.Column.{Column}
 use Rattle.blk_picture.specs.declared.columns.IssueKind.{IssueKind}
@@ -22,11 +22,11 @@ use Rattle.blk_picture.specs.Made.{made}
 use Rattle.blk_picture.specs.Scales.{shown_at}
 
 -- whether it was issued after it was due
-abbrev pub is_late : IssueBox → Bool
-is_late b = nat_lt b.due b.round
+abbrev pub is_late : Service → Bool
+is_late b = nat_lt b.due b.issue
 
 -- whether it is of the kind: each is a read or a write on time, late, or was requeued
-abbrev pub counts_as : IssueKind → IssueBox → Bool
+abbrev pub counts_as : IssueKind → Service → Bool
 counts_as Reads b = (not b.back && not (is_late b)) && same_dir b.dir Read
 counts_as Writes b = (not b.back && not (is_late b)) && same_dir b.dir Write
 counts_as Lates b = not b.back && is_late b
@@ -35,11 +35,11 @@ counts_as GoneReads b = not b.back && same_dir b.dir Read
 counts_as GoneWrites b = not b.back && same_dir b.dir Write
 
 -- its round, if it is of the kind
-abbrev pub round_in : IssueKind → IssueBox → Option ℕ
-round_in kind b = cond (counts_as kind b) (Some b.round) None
+abbrev pub round_in : IssueKind → Service → Option ℕ
+round_in kind b = cond (counts_as kind b) (Some b.issue) None
 
 -- the rounds of those of the kind
-unfoldable pub rounds_in : IssueKind → List IssueBox → List ℕ
+unfoldable pub rounds_in : IssueKind → List Service → List ℕ
 rounds_in kind boxes = filter_map (round_in kind) boxes
 
 -- the round, if a request of the direction enters by the event

@@ -4,4 +4,5 @@ pub mod Scales
 pub mod Columns
 pub mod Cuts
 pub mod Pictures
+pub mod Sums
 pub mod Inside

@@ -77,7 +77,7 @@ fn beyond(scale: &Scale, round: u64) -> u32
     requires { 0 < scale.now.per }
     ensures small { result ≤ MAX_WIDE }
 {
-    if scale.shows(column_of(scale, round)) {
+    if scale.shows(u64::from(column_of(scale, round))) {
         scale.wide.min(MAX_WIDE)
     } else {
         0

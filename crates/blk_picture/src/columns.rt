@@ -10,9 +10,9 @@ ghost use Rattle.blk_picture.specs.Made.{made};
 ghost use Rattle.blk_picture.specs.Columns.{is_late, round_in, rounds_in, entry_in, entered_in, in_column, waits_of, peaks_of, rooms_of, column_of};
 ghost use Rattle.blk_picture.specs.Inside.Counted.{column_from, CountsOneMore, AreCounts, most_waits, by_column};
 
-use crate::boxes::IssueBox;
 use crate::scale::Scale;
 use blk_bio::{Dir, Request};
+use blk_report::Service;
 use blk_trace::{Event, Trace};
 use edd_commands::Capacity;
 use std::alloc::{AllocError, Global};
@@ -54,14 +54,14 @@ pub struct Column {
 }
 
 /// Whether it was issued after it was due.
-pub(crate) fn is_late(issued: &IssueBox) -> bool
+pub(crate) fn is_late(issued: &Service) -> bool
     ensures { result ≡ is_late issued.now }
 {
-    issued.due < u64::from(issued.round)
+    issued.due < issued.issue
 }
 
 /// Its round, if it is of the kind.
-fn round_in(kind: IssueKind, issued: &IssueBox) -> Option<u32>
+fn round_in(kind: IssueKind, issued: &Service) -> Option<u64>
     ensures { result ≡ round_in kind issued.now }
 {
     let on_time = !issued.back && !is_late(issued);
@@ -73,11 +73,11 @@ fn round_in(kind: IssueKind, issued: &IssueBox) -> Option<u32>
         IssueKind::GoneReads => !issued.back && issued.dir == Dir::Read,
         IssueKind::GoneWrites => !issued.back && issued.dir == Dir::Write,
     };
-    if counted { Some(issued.round) } else { None }
+    if counted { Some(issued.issue) } else { None }
 }
 
 /// The rounds of those of the kind.
-fn rounds_in(alloc: Global, boxes: &[IssueBox], kind: IssueKind) -> Result<Vec<u32>, AllocError>
+fn rounds_in(alloc: Global, boxes: &[Service], kind: IssueKind) -> Result<Vec<u64>, AllocError>
     ensures rounds { IfOk result (λ v. v.items ≡ rounds_in kind boxes.now) }
     ensures few { IfOk result (λ v. length v.items ≤ length boxes.now) }
 {
@@ -89,7 +89,7 @@ fn rounds_in(alloc: Global, boxes: &[IssueBox], kind: IssueKind) -> Result<Vec<u
 }
 
 /// The round, if a request of the direction enters by the event.
-fn entry_in(event: &Event<Request>, round: u32, dir: Dir) -> Option<u32>
+fn entry_in(event: &Event<Request>, round: u64, dir: Dir) -> Option<u64>
     ensures { result ≡ entry_in dir (round, event.now) }
 {
     match event.releases() {
@@ -105,7 +105,7 @@ fn entry_in(event: &Event<Request>, round: u32, dir: Dir) -> Option<u32>
 }
 
 /// The round after an event.
-fn next_round(event: &Event<Request>, round: u32) -> u32
+fn next_round(event: &Event<Request>, round: u64) -> u64
     requires { round < 2 ^ 31 }
     ensures { result ≡ cond (is_tick event.now) (round + 1) round }
 {
@@ -113,7 +113,7 @@ fn next_round(event: &Event<Request>, round: u32) -> u32
 }
 
 /// Adds a number, if there is one.
-fn push_some(numbers: &mut Vec<u32>, number: Option<u32>) -> Result<(), AllocError>
+fn push_some(numbers: &mut Vec<u64>, number: Option<u64>) -> Result<(), AllocError>
     ensures { OnOk result (numbers.new.items ≡ numbers.old.items ++ cons_option number []) }
 {
     match number {
@@ -126,7 +126,7 @@ fn push_some(numbers: &mut Vec<u32>, number: Option<u32>) -> Result<(), AllocErr
 }
 
 /// The rounds in which requests of a direction enter.
-fn entered(alloc: Global, events: &[Event<Request>], dir: Dir) -> Result<Vec<u32>, AllocError>
+fn entered(alloc: Global, events: &[Event<Request>], dir: Dir) -> Result<Vec<u64>, AllocError>
     requires { length events.now ≤ MAX_EVENTS }
     ensures rounds { IfOk result (λ v. v.items ≡ entered_in dir events.now) }
     ensures few { IfOk result (λ v. length v.items ≤ length events.now) }
@@ -152,7 +152,7 @@ fn count_at(counts: &mut Vec<u32>, column: usize)
 }
 
 /// For each column how many of the rounds stand in it.
-fn counts(alloc: Global, rounds: &[u32], per: u32, columns: usize) -> Result<Vec<u32>, AllocError>
+fn counts(alloc: Global, rounds: &[u64], per: u32, columns: usize) -> Result<Vec<u32>, AllocError>
     requires few { length rounds.now ≤ MAX_EVENTS }
     requires some { 0 < per }
     ensures each { IfOk result (λ v. length v.items ≡ columns) }
@@ -161,7 +161,7 @@ fn counts(alloc: Global, rounds: &[u32], per: u32, columns: usize) -> Result<Vec
     let mut counts = Vec::new(alloc);
     counts.resize(columns, 0)?;
     for round in rounds {
-        count_at(&mut counts, (*round / per) as usize);
+        count_at(&mut counts, (*round / u64::from(per)) as usize);
     }
     Ok(counts)
 }
@@ -169,8 +169,8 @@ fn counts(alloc: Global, rounds: &[u32], per: u32, columns: usize) -> Result<Vec
 /// How many requests wait at the end of each round, where these entered and those went out.
 fn waits(
     alloc: Global,
-    entered: &[u32],
-    gone: &[u32],
+    entered: &[u64],
+    gone: &[u64],
     rounds: usize,
 ) -> Result<Vec<u32>, AllocError>
     requires entered { length entered.now ≤ MAX_EVENTS }
@@ -232,7 +232,7 @@ fn rooms(alloc: Global, capacity: &Capacity, scale: Scale) -> Result<Vec<u64>, A
 /// How many Issues of the kind each column has.
 fn counted(
     alloc: Global,
-    boxes: &[IssueBox],
+    boxes: &[Service],
     kind: IssueKind,
     scale: Scale,
 ) -> Result<Vec<u32>, AllocError>
@@ -249,7 +249,7 @@ fn counted(
 fn most_waited(
     alloc: Global,
     trace: &Trace,
-    boxes: &[IssueBox],
+    boxes: &[Service],
     kind: IssueKind,
     dir: Dir,
     scale: Scale,
@@ -309,7 +309,7 @@ fn joined(
 pub(crate) fn columns(
     alloc: Global,
     trace: &Trace,
-    boxes: &[IssueBox],
+    boxes: &[Service],
     scale: Scale,
 ) -> Result<Vec<Column>, AllocError>
     requires boxes { boxes.now ≡ boxes_of trace.now.setup trace.now.events }

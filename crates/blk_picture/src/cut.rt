@@ -5,11 +5,11 @@ ghost use Rattle.blk_picture.specs.declared.scale.TheConstants.{MAX_TAG_TALL};
 ghost use Rattle.blk_picture.specs.Scales.{IsScaled};
 ghost use Rattle.blk_picture.specs.Cuts.{is_cut};
 
-use crate::boxes::IssueBox;
 use crate::columns::is_late;
 use crate::scale::{MAX_COLUMNS, MAX_SHOWN, STEPS, Scale, per_of};
 use crate::template::push_template;
 use crate::words::CUT;
+use blk_report::Service;
 use std::alloc::{AllocError, Global};
 use text_output::Draft;
 
@@ -38,11 +38,11 @@ impl LateWaits {
     }
 
     /// With those of another trace, whose boxes are these.
-    pub(crate) fn add(&mut self, boxes: &[IssueBox]) {
+    pub(crate) fn add(&mut self, boxes: &[Service]) {
         for issued in boxes {
             if !issued.back && is_late(issued) {
                 count_in(&mut self.came, issued.release as usize);
-                count_in(&mut self.went, issued.round as usize);
+                count_in(&mut self.went, issued.issue as usize);
             }
         }
     }
@@ -110,14 +110,14 @@ pub(crate) fn chosen(
 }
 
 /// Whether it was late and stands in a column that isn't drawn.
-fn is_cut(scale: &Scale, issued: &IssueBox) -> bool
+fn is_cut(scale: &Scale, issued: &Service) -> bool
     ensures { result ≡ is_cut scale.now issued.now }
 {
-    !issued.back && is_late(issued) && !scale.shows(issued.round / scale.per.max(1))
+    !issued.back && is_late(issued) && !scale.shows(issued.issue / u64::from(scale.per.max(1)))
 }
 
 /// How many were.
-fn count_cut(scale: &Scale, boxes: &[IssueBox]) -> u64
+fn count_cut(scale: &Scale, boxes: &[Service]) -> u64
     ensures { result ≡ count_by (is_cut scale.now) boxes.now }
 {
     boxes.iter().filter(|issued| is_cut(scale, *issued)).count() as u64
@@ -127,7 +127,7 @@ fn count_cut(scale: &Scale, boxes: &[IssueBox]) -> u64
 pub(crate) fn push_cut(
     draft: &mut Draft,
     scale: &Scale,
-    boxes: &[IssueBox],
+    boxes: &[Service],
 ) -> Result<(), AllocError> {
     if !scale.cut {
         return Ok(());

@@ -12,7 +12,6 @@ mod shapes;
 mod template;
 mod words;
 
-pub use crate::boxes::IssueBox;
 pub use crate::columns::Column;
 pub use crate::parts::{Drawing, drawing_of, picture, pictures};
 pub use crate::scale::Scale;

@@ -9,14 +9,14 @@ ghost use Rattle.blk_picture.specs.Scales.{IsScaled};
 ghost use Rattle.blk_picture.specs.Pictures.{rounds_shown, most_rounds, most_deep, latest_end, crowded_room, IsDrawing};
 
 use crate::around::{axis, push_heading, push_windows};
-use crate::boxes::{IssueBox, boxes};
+use crate::boxes::boxes;
 use crate::columns::{Column, columns};
 use crate::cut::{LateWaits, chosen, push_cut};
 use crate::scale::{MAX_COLUMNS, Scale, place};
 use crate::shapes::{drawn_columns, push_frame, push_strip};
 use crate::template::push_template;
 use crate::words::{HEAD, STYLE};
-use blk_report::{Missed, Report, misses, report};
+use blk_report::{Missed, Report, Service, misses, report};
 use blk_trace::Trace;
 use edd_commands::{Capacity, MAX_ROUNDS};
 use edd_figures::Figures;
@@ -78,7 +78,7 @@ pub struct Drawing {
     /// How many commands the rounds of the report's window carry, if each is to be less late than the least lateness; 0 where there is none.
     pub room: u64,
     /// The box of each Issue, the last one first.
-    pub boxes: Vec<IssueBox>,
+    pub boxes: Vec<Service>,
     /// The columns that are drawn, from the left.
     pub columns: Vec<Column>,
 }

@@ -106,10 +106,10 @@ fn tall_of(deep: u32) -> u32
 }
 
 /// Whether a column is one of these.
-fn is_among(shown: &[u32], column: u32) -> bool
+fn is_among(shown: &[u32], column: u64) -> bool
     ensures { result ≡ list_any (λ k. k == column) shown.now }
 {
-    shown.iter().any(|c| *c == column)
+    shown.iter().any(|c| u64::from(*c) == column)
 }
 
 impl Scale {
@@ -186,7 +186,7 @@ impl Scale {
 
     /// Whether a column is drawn.
     #[tactic(auto, unfolding(crate::specs::Scales::shows))]
-    pub(crate) fn shows(&self, column: u32) -> bool
+    pub(crate) fn shows(&self, column: u64) -> bool
         ensures { result ≡ shows self.now column }
     {
         if self.cut {

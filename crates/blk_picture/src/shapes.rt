@@ -3,7 +3,6 @@
 ghost use Rattle.std.specs.Prelude.{◌≡◌, IfOk, slice_index_or};
 ghost use Rattle.blk_picture.specs.Columns.{no_column, drawn_columns};
 
-use crate::boxes::IssueBox;
 use crate::columns::{Column, is_late};
 use crate::scale::{LEFT, Scale, TOP, place};
 use crate::template::push_template;
@@ -11,6 +10,7 @@ use crate::words::{
     BOX_BACK, BOX_EARLY, BOX_LATE, BOX_PLACE, FRAME, NO_ROOM, STACK, WAIT_SCALE, WAITING,
 };
 use blk_bio::Dir;
+use blk_report::Service;
 use std::alloc::{AllocError, Global};
 use text_output::Draft;
 
@@ -29,7 +29,7 @@ const NO_COLUMN: Column = Column {
 const MIN_LABEL_TALL: u32 = 12;
 
 /// How a box begins, by its class.
-fn class_words(issued: &IssueBox) -> &'static [u8] {
+fn class_words(issued: &Service) -> &'static [u8] {
     match (issued.dir, issued.back, is_late(issued)) {
         (Dir::Read, true, _) => b"<rect class='hr'",
         (Dir::Write, true, _) => b"<rect class='hw'",
@@ -49,21 +49,25 @@ fn dir_words(dir: Dir) -> &'static [u8] {
 }
 
 /// How the title of a box ends.
-fn tail_words(issued: &IssueBox) -> &'static [u8] {
-    match (issued.back, u64::from(issued.round) < issued.due) {
+fn tail_words(issued: &Service) -> &'static [u8] {
+    match (issued.back, issued.issue < issued.due) {
         (true, _) => { BOX_BACK.as_bytes() }
         (false, true) => { BOX_EARLY.as_bytes() }
         (false, false) => { BOX_LATE.as_bytes() }
     }
 }
 
+/// The round of an Issue, which fits as all rounds do.
+fn round_of(issued: &Service) -> u32 {
+    issued.issue.min(u64::from(u32::MAX)) as u32
+}
+
 /// How far the round of an Issue and its due round are apart.
-fn apart(issued: &IssueBox) -> u64 {
-    let round = u64::from(issued.round);
-    if round < issued.due {
-        issued.due - round
+fn apart(issued: &Service) -> u64 {
+    if issued.issue < issued.due {
+        issued.due - issued.issue
     } else {
-        round - issued.due
+        issued.issue - issued.due
     }
 }
 
@@ -80,13 +84,13 @@ fn fits(scale: &Scale, rounds: u64) -> bool {
 }
 
 /// Adds how many rounds late it was, inside its box, where it was late and the number fits.
-fn push_label(draft: &mut Draft, scale: &Scale, issued: &IssueBox) -> Result<(), AllocError> {
+fn push_label(draft: &mut Draft, scale: &Scale, issued: &Service) -> Result<(), AllocError> {
     let rounds = apart(issued);
     if issued.back || !is_late(issued) || !fits(scale, rounds) {
         return Ok(());
     }
     let x = place(
-        scale.place_of(issued.round),
+        scale.place_of(round_of(issued)),
         scale.wide,
         LEFT + scale.wide / 2,
     );
@@ -99,8 +103,8 @@ fn push_label(draft: &mut Draft, scale: &Scale, issued: &IssueBox) -> Result<(),
 }
 
 /// Adds where a box lies and how its title begins.
-fn push_place(draft: &mut Draft, scale: &Scale, issued: &IssueBox) -> Result<(), AllocError> {
-    let x = place(scale.place_of(issued.round), scale.wide, LEFT);
+fn push_place(draft: &mut Draft, scale: &Scale, issued: &Service) -> Result<(), AllocError> {
+    let x = place(scale.place_of(round_of(issued)), scale.wide, LEFT);
     let y = place(u32::from(issued.tag), scale.tall, TOP);
     let wide = u64::from(scale.wide.saturating_sub(1));
     let tall = u64::from(scale.tall.saturating_sub(1));
@@ -108,25 +112,25 @@ fn push_place(draft: &mut Draft, scale: &Scale, issued: &IssueBox) -> Result<(),
 }
 
 /// Adds how the title of a box ends.
-fn push_tail(draft: &mut Draft, issued: &IssueBox) -> Result<(), AllocError> {
-    let round = u64::from(issued.round);
+fn push_tail(draft: &mut Draft, issued: &Service) -> Result<(), AllocError> {
+    let end = issued.first.saturating_add(issued.sectors);
     let apart = apart(issued);
     push_template(
         draft,
         tail_words(issued),
         &[
             issued.first,
-            issued.end,
+            end,
             issued.release,
             issued.due,
-            round,
+            issued.issue,
             apart,
         ],
     )
 }
 
 /// Adds a box.
-fn push_whole_box(draft: &mut Draft, scale: &Scale, issued: &IssueBox) -> Result<(), AllocError> {
+fn push_whole_box(draft: &mut Draft, scale: &Scale, issued: &Service) -> Result<(), AllocError> {
     let class = class_words(issued);
     draft.text(class)?;
     push_place(draft, scale, issued)?;
@@ -138,8 +142,8 @@ fn push_whole_box(draft: &mut Draft, scale: &Scale, issued: &IssueBox) -> Result
 }
 
 /// Adds a box, where the column of its round is drawn.
-fn push_box(draft: &mut Draft, scale: &Scale, issued: &IssueBox) -> Result<(), AllocError> {
-    if scale.shows(issued.round) {
+fn push_box(draft: &mut Draft, scale: &Scale, issued: &Service) -> Result<(), AllocError> {
+    if scale.shows(issued.issue) {
         push_whole_box(draft, scale, issued)
     } else {
         Ok(())
@@ -147,7 +151,7 @@ fn push_box(draft: &mut Draft, scale: &Scale, issued: &IssueBox) -> Result<(), A
 }
 
 /// Adds the boxes, where each column is a round.
-fn push_boxes(draft: &mut Draft, scale: &Scale, boxes: &[IssueBox]) -> Result<(), AllocError> {
+fn push_boxes(draft: &mut Draft, scale: &Scale, boxes: &[Service]) -> Result<(), AllocError> {
     if scale.per == 1 {
         push_each(draft, scale, boxes)
     } else {
@@ -156,7 +160,7 @@ fn push_boxes(draft: &mut Draft, scale: &Scale, boxes: &[IssueBox]) -> Result<()
 }
 
 /// Adds the boxes.
-fn push_each(draft: &mut Draft, scale: &Scale, boxes: &[IssueBox]) -> Result<(), AllocError> {
+fn push_each(draft: &mut Draft, scale: &Scale, boxes: &[Service]) -> Result<(), AllocError> {
     for issued in boxes {
         push_box(draft, scale, issued)?;
     }
@@ -286,7 +290,7 @@ fn push_border(draft: &mut Draft, scale: &Scale) -> Result<(), AllocError> {
 pub(crate) fn push_frame(
     draft: &mut Draft,
     scale: &Scale,
-    boxes: &[IssueBox],
+    boxes: &[Service],
     columns: &[Column],
 ) -> Result<(), AllocError> {
     push_border(draft, scale)?;

@@ -1,6 +1,6 @@
 -- The commands of a trace with their requests.
 use Rattle.std.proofs.Common.{◌≡◌, ◌<◌, ◌≤◌, ◌+◌, ◌==◌, ℕ, zero, suc, List, [], ◌∷◌, length, get_or, map, refl, sym, ◌∙◌, ap, arith, Some, None, cond, Bool, true, false, inl, inr, eq-eqb}
-use Rattle.std.specs.Prelude.{Option}
+use Rattle.std.specs.Prelude.{Option, not, filter}
 use Rattle.std.specs.Option.{option_and_then}
 use Rattle.std.specs.List.{cons_option, filter_map}
 use Rattle.std.proofs.lemmas.Bool.{cases_Bool, or_left, or_right}
@@ -13,14 +13,15 @@ use Rattle.blk_trace.specs.Happened.{Happened}
 use Rattle.blk_trace.specs.Kinds.{is_tick, issues}
 use Rattle.blk_trace.specs.Setups.{Setup}
 use Rattle.blk_trace.specs.Events.{ends_requeued}
-use Rattle.blk_trace.specs.Meaning.{service, served, command_of, issued_ids, commands_of, rounds_of}
+use Rattle.blk_trace.specs.Meaning.{service, served, command_of, commands_of, rounds_of}
 use Rattle.blk_trace.specs.Issues.{was_requeued, issues_of}
-use Rattle.blk_trace.specs.Inside.Issues.{kept_of, round_and_id}
+use Rattle.blk_trace.specs.Inside.Issues.{kept_of}
 use Rattle.blk_trace.specs.Waits.{has_id}
 use Rattle.blk_trace.specs.Laws.{AreBounded}
-use Rattle.blk_trace.proofs.Issues.{kept_map, served_are}
+use Rattle.blk_trace.proofs.Issues.{kept_map, commands_are, rounds_are}
 use Rattle.blk_report.specs.declared.serving.Service.{Service}
-use Rattle.blk_report.specs.Services.{service_of, services_of, served_by, command_in, AreWithinLimits, AreInIssueOrder}
+use Rattle.blk_report.specs.Inside.Services.{served_by}
+use Rattle.blk_report.specs.Services.{service_of, services_of, command_in, AreWithinLimits, AreInIssueOrder}
 
 pub id_has : (xs : List (ℕ × ℕ)) (k : ℕ) (d : ℕ × ℕ) → k < length xs → has_id (map (λ (s : ℕ × ℕ). s.1) xs) (get_or xs k d).1 ≡ true
 id_has [] k d h = absurd (omega arith)
@@ -35,15 +36,30 @@ maps_map f g h is (x ∷ xs) =
     let rest = maps_map f g h is xs in
     cc
 
+kept_one : {Y : Type 0} (f : Issued → Y) (i : Issued) (b : Bool) (xs : List Issued) → cond b (f i ∷ map f xs) (map f xs) ≡ map f (cond b (i ∷ xs) xs)
+kept_one f i true xs = refl
+kept_one f i false xs = refl
+
+kept_services : (setup : Setup) (es : List Happened) (xs : List Issued) → filter (λ (s : Service). not s.back) (map (service_of setup es) xs) ≡ map (service_of setup es) (kept_of xs)
+kept_services setup es [] = refl
+kept_services setup es (x ∷ xs) =
+    ap (λ l. cond (not (was_requeued x.outcome)) (service_of setup es x ∷ l) l) (kept_services setup es xs) ∙ kept_one (service_of setup es) x (not (was_requeued x.outcome)) (kept_of xs)
+
 pub are_commands : (setup : Setup) (es : List Happened) → map command_in (services_of setup es) ≡ commands_of setup es
-unfolding services_of commands_of issued_ids
+unfolding services_of
 are_commands setup es =
-    maps_map (service_of setup es) command_in (λ s. command_of setup es s.1) (λ s. refl) (served 0 es)
-    ∙ sym (maps_map (λ (s : ℕ × ℕ). s.1) (command_of setup es) (λ s. command_of setup es s.1) (λ s. refl) (served 0 es))
+    ap (map command_in) (kept_services setup es (issues_of es))
+    ∙ maps_map (service_of setup es) command_in (λ (i : Issued). command_of setup es i.id) (λ i. refl) (kept_of (issues_of es))
+    ∙ sym (kept_map (λ (i : Issued). command_of setup es i.id) (issues_of es))
+    ∙ commands_are setup es
 
 pub are_rounds : (setup : Setup) (es : List Happened) → map (λ s. s.issue) (services_of setup es) ≡ rounds_of es
-unfolding services_of rounds_of
-are_rounds setup es = maps_map (service_of setup es) (λ (s : Service). s.issue) (λ (s : ℕ × ℕ). s.0) (λ s. refl) (served 0 es)
+unfolding services_of
+are_rounds setup es =
+    ap (map (λ (s : Service). s.issue)) (kept_services setup es (issues_of es))
+    ∙ maps_map (service_of setup es) (λ (s : Service). s.issue) (λ (i : Issued). i.round) (λ i. refl) (kept_of (issues_of es))
+    ∙ sym (kept_map (λ (i : Issued). i.round) (issues_of es))
+    ∙ rounds_are es
 
 pub as_many : (setup : Setup) (es : List Happened) → length (services_of setup es) ≡ length (commands_of setup es)
 as_many setup es = sym (length-map (services_of setup es) command_in) ∙ ap length (are_commands setup es)
@@ -55,15 +71,12 @@ abbrev none : Command
 none = record { id = 0; release = 0; due = 0 }
 
 -- what the Issues served
-pub by_issue : (setup : Setup) (es : List Happened) (i : Issued) (b : Bool) → was_requeued i.outcome ≡ b → served_by setup es i ≡ cond b None (Some (service_of setup es (i.round, i.id)))
-by_issue setup es i b h = ap (λ b. cond b None (Some (service_of setup es (i.round, i.id)))) h
+pub by_issue : (setup : Setup) (es : List Happened) (i : Issued) (b : Bool) → was_requeued i.outcome ≡ b → served_by setup es i ≡ cond b None (Some (service_of setup es i))
+by_issue setup es i b h = ap (λ b. cond b None (Some (service_of setup es i))) h
 
 pub all_served : (setup : Setup) (es : List Happened) → filter_map (served_by setup es) (issues_of es) ≡ services_of setup es
 unfolding services_of
-all_served setup es =
-    kept_map (λ (i : Issued). service_of setup es (i.round, i.id)) (issues_of es)
-    ∙ sym (maps_map round_and_id (service_of setup es) (λ (i : Issued). service_of setup es (i.round, i.id)) (λ i. refl) (kept_of (issues_of es)))
-    ∙ ap (map (service_of setup es)) (served_are 0 es)
+all_served setup es = kept_map (service_of setup es) (issues_of es) ∙ sym (kept_services setup es (issues_of es))
 
 pub same_issue : (setup : Setup) (es : List Happened) (rounds : List ℕ) (k : ℕ) (x : Service) → rounds ≡ rounds_of es → k < length (services_of setup es) → get_or rounds k 0 ≡ (get_or (services_of setup es) k x).issue
 same_issue setup es rounds k x are h =
@@ -110,17 +123,18 @@ served_up r (x ∷ es) j k d l h =
     (λ i e low. omega (arith, tick_up (is_tick x) r, served_from (cond (is_tick x) (r + 1) r) es i e low))
     (λ i m e a b. served_up (cond (is_tick x) (r + 1) r) es i m e a b) j k d l h
 
+round_at : (es : List Happened) (k : ℕ) → k < length (rounds_of es) → get_or (rounds_of es) k 0 ≡ (get_or (served 0 es) k (0, 0)).0
+unfolding rounds_of
+round_at es k h = get_or-map (λ (s : ℕ × ℕ). s.0) (served 0 es) k (0, 0) 0 (omega (arith, length-map (served 0 es) (λ (s : ℕ × ℕ). s.0)))
+
+as_served : (es : List Happened) → length (rounds_of es) ≡ length (served 0 es)
+unfolding rounds_of
+as_served es = length-map (served 0 es) (λ (s : ℕ × ℕ). s.0)
+
 pub rise : (setup : Setup) (es : List Happened) → AreInIssueOrder (services_of setup es)
-unfolding services_of
 rise setup es j k d l h =
-    let s0 : ℕ × ℕ = (0, 0) in
-    let f : ℕ × ℕ → Service = service_of setup es in
-    let xs : List (ℕ × ℕ) = served 0 es in
-    let long : length (map f xs) ≡ length xs = length-map xs f in
-    let low : k < length xs = omega arith in
-    let one : (get_or (map f xs) j d).issue ≡ (get_or xs j s0).0 = ap (λ (s : Service). s.issue) (get_or-map f xs j s0 d (omega arith)) in
-    let other : (get_or (map f xs) k d).issue ≡ (get_or xs k s0).0 = ap (λ (s : Service). s.issue) (get_or-map f xs k s0 d low) in
-    omega (arith, one, other, served_up 0 es j k s0 l low)
+    let low : k < length (rounds_of es) = omega (arith, as_many setup es, as_many_rounds setup es) in
+    omega (arith, same_issue setup es (rounds_of es) j d refl (omega arith), same_issue setup es (rounds_of es) k d refl h, round_at es j (omega arith), round_at es k low, served_up 0 es j k (0, 0) l (omega (arith, low, as_served es)))
 
 -- and they lie within the limits
 pub timed : (setup : Setup) (es : List Happened) (steps : List Step) → AreBounded (commands_of setup es) (rounds_of es) → IsLegal (commands_of setup es) (rounds_of es) steps → AreWithinLimits (services_of setup es)

@@ -25,7 +25,7 @@ use Rattle.blk_report.specs.Inside.Waited.{IsFrom, IsAskOfWait, FitsIn, AreCarri
 use Rattle.blk_report.proofs.Halving.{one_if, count_cons}
 
 abbrev pub unserved : Service
-unserved = record { id = 0; dir = Read; first = 0; sectors = 0; release = 0; due = 0; issue = 0 }
+unserved = record { id = 0; dir = Read; first = 0; sectors = 0; release = 0; due = 0; issue = 0; tag = 0; back = false }
 
 -- an earlier round has no later place
 pub from_up : (xs : List Service) (r e lo hi : ℕ) → r ≤ e → IsFrom xs r lo → IsFrom xs e hi → lo ≤ hi

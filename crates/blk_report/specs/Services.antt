@@ -1,5 +1,5 @@
--- The commands of a trace, each with its request and the round in which it was issued.
-use Rattle.std.specs.Prelude.{ℕ, ◌≤◌, ◌<◌, cond, Option, Some, None, List, length, map, slice_index_or, All}
+-- The Issues of a trace, each with its request, and what they served.
+use Rattle.std.specs.Prelude.{ℕ, ◌≤◌, ◌<◌, not, List, length, map, filter, slice_index_or, All}
 use Rattle.edd_commands.specs.declared.Command.{Command}
 use Rattle.edd_commands.specs.declared.TheConstants.{MAX_COMMANDS, MAX_ROUNDS}
 use Rattle.blk_bio.specs.Requests.{dir_of, first_of, sectors_of}
@@ -8,29 +8,27 @@ use Rattle.blk_trace.specs.Happened.{Happened}
 use Rattle.blk_trace.specs.Setups.{Setup}
 use Rattle.blk_trace.specs.Events.{request_of}
 use Rattle.blk_trace.specs.declared.issued.Issued.{Issued}
-use Rattle.blk_trace.specs.Issues.{was_requeued}
-use Rattle.blk_trace.specs.Meaning.{release_of, due_of, served}
+use Rattle.blk_trace.specs.Issues.{was_requeued, issues_of}
+use Rattle.blk_trace.specs.Meaning.{release_of, due_of}
 use Rattle.blk_report.specs.declared.serving.Service.{Service}
 
--- what an Issue of a round and an id served: the request that the id's Release and Joins make up
-abbrev pub service_of : Setup → List Happened → ℕ × ℕ → Service
-service_of setup events s = record {
-  id = s.1;
-  dir = dir_of (request_of events s.1);
-  first = first_of (request_of events s.1);
-  sectors = sectors_of (request_of events s.1);
-  release = release_of events s.1;
-  due = due_of setup events s.1;
-  issue = s.0;
+-- an Issue with the request that its id's Release and Joins make up
+abbrev pub service_of : Setup → List Happened → Issued → Service
+service_of setup events i = record {
+  id = i.id;
+  dir = dir_of (request_of events i.id);
+  first = first_of (request_of events i.id);
+  sectors = sectors_of (request_of events i.id);
+  release = release_of events i.id;
+  due = due_of setup events i.id;
+  issue = i.round;
+  tag = i.tag;
+  back = was_requeued i.outcome;
 }
 
--- in the order of the Issues, without those that were requeued
+-- those that were not requeued, in their order
 unfoldable pub services_of : Setup → List Happened → List Service
-services_of setup events = map (service_of setup events) (served 0 events)
-
--- what an Issue served, unless it was requeued
-abbrev pub served_by : Setup → List Happened → Issued → Option Service
-served_by setup events i = cond (was_requeued i.outcome) None (Some (service_of setup events (i.round, i.id)))
+services_of setup events = filter (λ s. not s.back) (map (service_of setup events) (issues_of events))
 
 -- its command
 abbrev pub command_in : Service → Command

@@ -22,7 +22,7 @@ pub use crate::comparison::{compare, table_answer};
 pub use crate::delays::{LateCommand, late, late_answer};
 pub use crate::figures::{Report, report_answer, report_lines};
 pub use crate::missing::{Missed, Tally, misses, misses_answer};
-pub use crate::serving::{Service, services};
+pub use crate::serving::{Service, service_of, services};
 pub use crate::spreading::{ByDir, Quantiles, Spreads, spread, spread_answer};
 use blk_trace::Trace;
 use edd_figures::figures_of;

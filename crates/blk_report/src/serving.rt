@@ -1,4 +1,4 @@
-//! The commands of a trace, each with its request and the round in which it was issued.
+//! The Issues of a trace, each with its request, and what they served.
 
 ghost use Rattle.std.specs.Prelude.{◌≡◌, IfOk, map};
 ghost use Rattle.blk_trace.specs.Events.{IsIssued};
@@ -6,10 +6,10 @@ ghost use Rattle.blk_trace.specs.Meaning.{commands_of, rounds_of};
 ghost use Rattle.blk_report.specs.Services.{service_of, services_of, command_in, AreWithinLimits, AreInIssueOrder};
 
 use blk_bio::Dir;
-use blk_trace::Trace;
+use blk_trace::{Issued, Trace};
 use std::alloc::{AllocError, Allocator};
 
-/// A command that was served: its request was issued and not requeued.
+/// An Issue with its request as it was issued: its command was served, unless it was requeued.
 #[derive(Clone, Copy, Debug, PartialEq, Eq)]
 pub struct Service {
     /// The id under which its request was released.
@@ -24,26 +24,32 @@ pub struct Service {
     pub release: u64,
     /// The first round in which one of its bios is due.
     pub due: u64,
-    /// The round of the Issue that served it.
+    /// The round of the Issue.
     pub issue: u64,
+    /// The tag of the Issue.
+    pub tag: u16,
+    /// Whether the request was requeued.
+    pub back: bool,
 }
 
-/// What an Issue in this round served.
-fn service_under<A: Allocator + Clone>(trace: &Trace<A>, id: u64, issue: u64) -> Service
-    requires { IsIssued trace.now.events id }
-    ensures { result ≡ service_of trace.now.setup trace.now.events (issue, id) }
+/// An Issue of a trace with its request.
+pub fn service_of<A: Allocator + Clone>(trace: &Trace<A>, issue: &Issued) -> Service
+    requires { IsIssued trace.now.events issue.now.id }
+    ensures { result ≡ service_of trace.now.setup trace.now.events issue.now }
 {
-    let Some(entry) = trace.request(id) else {
+    let Some(entry) = trace.request(issue.id) else {
         unreachable!()
     };
     Service {
-        id,
+        id: issue.id,
         dir: entry.extent.dir(),
         first: entry.extent.first(),
         sectors: entry.extent.sectors(),
         release: entry.release,
         due: entry.due,
-        issue,
+        issue: issue.round,
+        tag: issue.tag,
+        back: issue.was_requeued(),
     }
 }
 
@@ -54,7 +60,7 @@ fn served<A: Allocator + Clone>(alloc: A, trace: &Trace<A>) -> Result<Vec<Servic
     let mut services = Vec::new(alloc);
     for issue in trace.issues() {
         if !issue.was_requeued() {
-            services.push(service_under(trace, issue.id, issue.round))?;
+            services.push(service_of(trace, issue))?;
         }
     }
     Ok(services)

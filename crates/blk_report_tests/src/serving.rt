@@ -38,6 +38,8 @@ fn write_before_read(rt: HostRuntime) {
         release: 0,
         due: 9,
         issue: 0,
+        tag: 0,
+        back: false,
     };
     let read = Service {
         id: 1,
@@ -47,6 +49,8 @@ fn write_before_read(rt: HostRuntime) {
         release: 0,
         due: 0,
         issue: 1,
+        tag: 0,
+        back: false,
     };
     assert!(rt; are_served(&rt, rt.alloc(), 9, &steps[..2], &[]));
     assert!(rt; are_served(&rt, rt.alloc(), 9, &steps, &[write, read]));
@@ -72,6 +76,8 @@ fn joined_and_handed_back(rt: HostRuntime) {
         release: 1,
         due: 3,
         issue: 2,
+        tag: 0,
+        back: false,
     };
     assert!(rt; are_served(&rt, rt.alloc(), 3, &steps[..5], &[]));
     assert!(rt; are_served(&rt, rt.alloc(), 3, &steps, &[whole]));

@@ -4,3 +4,4 @@ pub mod Standing
 pub mod Stepping
 pub mod Replaying
 pub mod Projecting
+pub mod Reports

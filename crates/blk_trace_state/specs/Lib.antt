@@ -1,4 +1,5 @@
 pub mod State
 pub mod Replay
+pub mod Reports
 pub mod Rows
 pub mod Laws

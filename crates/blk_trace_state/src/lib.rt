@@ -1,13 +1,17 @@
 //! The state that a list of events leaves, by a fold, and its laws, each the contract of a function that does nothing.
 #![tactic(auto)]
 
-ghost use Rattle.std.specs.Prelude.{ℕ, ◌≡◌, ◌↔◌, List, IsTrue, IfOk, count_by, is_some};
+ghost use Rattle.std.specs.Prelude.{ℕ, ◌≡◌, ◌↔◌, List, IsTrue, IfOk, count_by, is_some, map};
 ghost use Rattle.blk_trace.specs.Happened.{Happened};
 ghost use Rattle.blk_trace.specs.Kinds.{completes};
 ghost use Rattle.blk_trace.specs.Setups.{Setup};
 ghost use Rattle.blk_trace.specs.Events.{request_of, open_count, IsReleased, IsIssued, AreRequeued, IsOpen, IsUsed};
+ghost use Rattle.blk_trace.specs.Issues.{issues_of};
 ghost use Rattle.blk_trace.specs.Meaning.{commands_of, rounds_of, waiting_ids, waiting_of};
 ghost use Rattle.blk_trace.specs.Waits.{waits_at};
+ghost use Rattle.blk_report.specs.Services.{service_of, services_of};
+ghost use Rattle.blk_report.specs.Overdue.{is_overdue};
+ghost use Rattle.blk_trace_state.specs.Reports.{service_now, services_now, overdue_now};
 ghost use Rattle.blk_trace_state.specs.State.{has_entry, has_issue, is_out, is_open, is_used, flying_now, done_now, request_now, commands_now, rounds_now, waits_now, waiting_now, waiting_bios_now};
 ghost use Rattle.blk_trace_state.specs.Replay.{replay};
 ghost use Rattle.blk_trace_state.specs.Laws.{AnswersWhereLegal, AnswersFirstIllegal, TellsFirstBroken, TellsUnbroken, GivesNext, Leaves, IsStateOf};
@@ -44,6 +48,9 @@ pub fn law_of_states()
 pub fn law_of_projections()
     ensures commands { Leaves (λ setup events s. commands_now s ≡ commands_of setup events) }
     ensures rounds { Leaves (λ setup events s. rounds_now s ≡ rounds_of events) }
+    ensures issues { Leaves (λ setup events s. map (service_now s) s.issued ≡ map (service_of setup events) (issues_of events)) }
+    ensures services { Leaves (λ setup events s. services_now s ≡ services_of setup events) }
+    ensures overdue { Leaves (λ setup events s. (id : ℕ) → overdue_now s id ≡ is_overdue setup events id) }
     ensures waits { Leaves (λ setup events s. (id : ℕ) → waits_now s id ≡ waits_at setup events id) }
     ensures waiting { Leaves (λ setup events s. waiting_now s ≡ waiting_ids events) }
     ensures bios { Leaves (λ setup events s. waiting_bios_now s ≡ waiting_of events) }

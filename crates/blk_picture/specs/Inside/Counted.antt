@@ -2,7 +2,7 @@
 use Rattle.std.specs.Prelude.{ℕ, ◌≡◌, ◌<◌, ◌+◌, ◌==◌, cond, List, length, slice_index_or}
 use Rattle.blk_bio.specs.declared.bio.Dir.{Dir}
 use Rattle.blk_trace.specs.Happened.{Happened}
-use Rattle.blk_picture.specs.declared.boxes.IssueBox.{IssueBox}
+use Rattle.blk_report.specs.declared.serving.Service.{Service}
 use Rattle.blk_picture.specs.declared.scale.Scale.{Scale}
 use Rattle.blk_picture.specs.declared.columns.Column.{Column}
 use Rattle.blk_picture.specs.declared.columns.IssueKind.{IssueKind}
@@ -19,7 +19,7 @@ abbrev pub AreCounts : ℕ → ℕ → List ℕ → List ℕ → Type 0
 AreCounts per columns rounds counts = (c : ℕ) → c < columns → slice_index_or counts c 0 ≡ in_column per c rounds
 
 -- the most that waited at the end of a round of each column: those of the direction that entered, without those of the kind
-abbrev pub most_waits : Scale → Dir → IssueKind → List Happened → List IssueBox → List ℕ
+abbrev pub most_waits : Scale → Dir → IssueKind → List Happened → List Service → List ℕ
 most_waits scale dir kind events boxes =
     peaks_of scale.per scale.columns (waits_of (entered_in dir events) (rounds_in kind boxes) scale.rounds)
 

@@ -25,6 +25,7 @@ loop-round-preserved c =
       each = c.count_at.ensures.each ∙ old.each;
       so_far = λ k h.
           c.count_at.ensures.counts k (omega (arith, h, old.each))
+          ∙ ap (λ (per : ℕ). cond ((get_or c.args.rounds.now i 0 / per) == k) (get_or c.loop-round.counts.items k 0 + 1) (get_or c.loop-round.counts.items k 0)) c.from.ensures
           ∙ ap (λ (x : ℕ). cond ((get_or c.args.rounds.now i 0 / c.args.per) == k) (x + 1) x) (old.so_far k h)
           ∙ sym (in_more c.args.per k i c.args.rounds.now c.loop-round-test.true);
     }

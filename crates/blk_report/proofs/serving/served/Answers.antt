@@ -5,13 +5,13 @@ use Rattle.blk_trace.specs.declared.issued.Outcome.TheVariants.{Flying}
 use Rattle.blk_trace.specs.declared.issued.Issued.{Issued}
 use Rattle.blk_trace.specs.Issues.{issues_of}
 use Rattle.blk_trace.proofs.Issues.{issued_there, next_taken}
-use Rattle.blk_report.specs.Services.{served_by}
+use Rattle.blk_report.specs.Inside.Services.{served_by}
 use Rattle.blk_report.proofs.Requests.{by_issue, all_served}
 use Rattle.blk_report.proofs.serving.served.Goals as goal
 use Rattle.blk_report.proofs.serving.served.Goals.{then-not-was_requeued+in_ok-push, else-not-was_requeued}
 
-pub service_under-requires : goal.service_under-requires
-service_under-requires g c = issued_there c.args.trace.now.events c.issues-issue-items.result.now c.loop-issue.issue-index _ c.issues-issue-items.ensures.issues c.loop-issue-test.true
+pub service_of-requires : goal.service_of-requires
+service_of-requires g c = issued_there c.args.trace.now.events c.issues-issue-items.result.now c.loop-issue.issue-index _ c.issues-issue-items.ensures.issues c.loop-issue-test.true
 
 pub loop-issue-preserved : goal.loop-issue-preserved
 loop-issue-preserved g c =
@@ -23,7 +23,7 @@ loop-issue-preserved g c =
     elim c.if-not-was_requeued.branch [
       | then-not-was_requeued+in_ok-push w ↦
           next_taken f xs (issues_of t.events) k _ _ _ _ c.issues-issue-items.ensures.issues c.loop-issue-test.true (sym (by_issue t.setup t.events i _ (sym c.was_requeued.ensures ∙ w.if-not-was_requeued.true))) c.loop-issue.invariant
-          (ap (λ v. v.items) w.services-is ∙ w.in_ok-push.ensures.items ∙ ap (λ s. c.loop-issue.services.items ++ s ∷ []) w.service_under.ensures)
+          (ap (λ v. v.items) w.services-is ∙ w.in_ok-push.ensures.items ∙ ap (λ s. c.loop-issue.services.items ++ s ∷ []) w.service_of.ensures)
       | else-not-was_requeued w ↦
           next_taken f xs (issues_of t.events) k _ _ _ _ c.issues-issue-items.ensures.issues c.loop-issue-test.true (sym (by_issue t.setup t.events i _ (sym c.was_requeued.ensures ∙ w.if-not-was_requeued.false))) c.loop-issue.invariant
           (ap (λ v. v.items) w.services-is ∙ sym (append-nil c.loop-issue.services.items))

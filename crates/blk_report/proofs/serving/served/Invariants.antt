@@ -1,7 +1,7 @@
 use Rattle.std.proofs.Common.{◌≡◌, take}
 use Rattle.std.specs.List.{filter_map}
 use Rattle.blk_trace.specs.Issues.{issues_of}
-use Rattle.blk_report.specs.Services.{served_by}
+use Rattle.blk_report.specs.Inside.Services.{served_by}
 use Rattle.blk_report.proofs.serving.served.Given as goal
 
 abbrev pub invariant-loop-issue : goal.invariant-loop-issue

@@ -28,13 +28,14 @@ use Rattle.blk_trace.proofs.Ids.{by_legal}
 use Rattle.blk_trace.proofs.More.{round_more, timed_part}
 use Rattle.blk_trace.proofs.Opening.{tags, tags_tick, tags_more, tags_kept}
 use Rattle.blk_trace.proofs.Scheduling.{few_tags}
-use Rattle.blk_picture.specs.declared.boxes.IssueBox.{IssueBox}
+use Rattle.blk_report.specs.declared.serving.Service.{Service}
+use Rattle.blk_report.specs.Services.{service_of}
 use Rattle.blk_picture.specs.declared.scale.Scale.{Scale}
 use Rattle.blk_picture.specs.declared.columns.Column.{Column}
-use Rattle.blk_picture.specs.Boxes.{box_of, boxes_of}
+use Rattle.blk_picture.specs.Boxes.{boxes_of}
 use Rattle.blk_picture.specs.Columns.{in_column, column_of}
-use Rattle.blk_picture_laws.specs.Sums.{columns_in, issued_in, idle_in, ShowsAll}
-use Rattle.blk_picture_laws.proofs.Adding.{first_low, rest_low, rounds_all, all_low, boxes_last, from_of, room_is, room_of, issued_is, issued_sum, room_sum, made_parts}
+use Rattle.blk_picture.specs.Sums.{columns_in, issued_in, idle_in, ShowsAll}
+use Rattle.blk_picture.proofs.Adding.{first_low, rest_low, rounds_all, all_low, boxes_last, from_of, room_is, room_of, issued_is, issued_sum, room_sum, made_parts}
 
 -- ---- the rounds of all Issues
 
@@ -44,17 +45,17 @@ issue_round t = option_map (λ _. t.0) (issues t.1)
 issued_rounds : List Happened → List ℕ
 issued_rounds es = filter_map issue_round (timed 0 es)
 
-places_split : (xs ys : List IssueBox) (x : ℕ) → places_at (rounds_all (xs ++ ys)) x ≡ places_at (rounds_all xs) x + places_at (rounds_all ys) x
+places_split : (xs ys : List Service) (x : ℕ) → places_at (rounds_all (xs ++ ys)) x ≡ places_at (rounds_all xs) x + places_at (rounds_all ys) x
 unfolding places_at rounds_all
 places_split xs ys x =
-    ap (λ l. places_at l x) (map-append (λ (b : IssueBox). b.round) xs ys) ∙ sum_by-append (λ (y : ℕ). cond (y == x) 1 0) (rounds_all xs) (rounds_all ys)
+    ap (λ l. places_at l x) (map-append (λ (b : Service). b.issue) xs ys) ∙ sum_by-append (λ (y : ℕ). cond (y == x) 1 0) (rounds_all xs) (rounds_all ys)
 
 -- those of boxes that are turned around
-turned_places : (setup : Setup) (events : List Happened) (x : ℕ) (xs : List Issued) → places_at (rounds_all (map (box_of setup events) (reverse xs))) x ≡ places_at (map (λ (i : Issued). i.round) xs) x
+turned_places : (setup : Setup) (events : List Happened) (x : ℕ) (xs : List Issued) → places_at (rounds_all (map (service_of setup events) (reverse xs))) x ≡ places_at (map (λ (i : Issued). i.round) xs) x
 unfolding places_at rounds_all
 turned_places setup events x [] = refl
 turned_places setup events x (i ∷ xs) =
-    let box : Issued → IssueBox = box_of setup events in
+    let box : Issued → Service = service_of setup events in
     let turned : map box (reverse (i ∷ xs)) ≡ map box (reverse xs) ++ box i ∷ [] = ap (map box) (reverse-cons i xs) ∙ map-append box (reverse xs) (i ∷ []) in
     ap (λ l. places_at (rounds_all l) x) turned
     ∙ places_split (map box (reverse xs)) (box i ∷ []) x

@@ -1,5 +1,5 @@
-use Rattle.blk_picture_laws.proofs.Adding.{scales_show, own_shows, several_show}
-use Rattle.blk_picture_laws.proofs.law_of_scales.Goals as goal
+use Rattle.blk_picture.proofs.Adding.{scales_show, own_shows, several_show}
+use Rattle.blk_picture.proofs.laws.law_of_scales.Goals as goal
 
 pub returns : goal.returns
 returns c = record {

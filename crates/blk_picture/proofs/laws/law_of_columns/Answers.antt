@@ -1,6 +1,6 @@
-use Rattle.blk_picture_laws.proofs.Adding.{reads_sum, writes_sum, lates_sum, backs_sum, issued_sum, room_sum}
-use Rattle.blk_picture_laws.proofs.Fitting.{column_fits, idle_sum}
-use Rattle.blk_picture_laws.proofs.law_of_columns.Goals as goal
+use Rattle.blk_picture.proofs.Adding.{reads_sum, writes_sum, lates_sum, backs_sum, issued_sum, room_sum}
+use Rattle.blk_picture.proofs.Fitting.{column_fits, idle_sum}
+use Rattle.blk_picture.proofs.laws.law_of_columns.Goals as goal
 
 pub returns : goal.returns
 returns c =

@@ -23,17 +23,18 @@ use Rattle.blk_trace.specs.Depths.{capacity_of}
 use Rattle.blk_trace.proofs.Counting.{one_if, count-cons}
 use Rattle.blk_trace.proofs.Issues.{issue_low}
 use Rattle.blk_report.proofs.Waiting.{carried_split}
-use Rattle.blk_picture.specs.declared.boxes.IssueBox.{IssueBox}
+use Rattle.blk_report.specs.declared.serving.Service.{Service}
+use Rattle.blk_report.specs.Services.{service_of}
 use Rattle.blk_picture.specs.declared.scale.Scale.{Scale}
 use Rattle.blk_picture.specs.declared.columns.Column.{Column}
 use Rattle.blk_picture.specs.declared.columns.IssueKind.{IssueKind}
 use Rattle.blk_picture.specs.declared.columns.IssueKind.TheVariants.{Reads, Writes, Lates, Backs}
-use Rattle.blk_picture.specs.Boxes.{box_of, boxes_of}
+use Rattle.blk_picture.specs.Boxes.{boxes_of}
 use Rattle.blk_picture.specs.Columns.{counts_as, is_late, in_column, round_in, rounds_in, column_of, rooms_of}
 use Rattle.blk_picture.specs.Made.{made}
 use Rattle.blk_picture.specs.Scales.{IsScaled, columns_by}
 use Rattle.blk_picture.specs.Pictures.{rounds_shown, most_rounds}
-use Rattle.blk_picture_laws.specs.Sums.{columns_in, issued_in, ShowsAll}
+use Rattle.blk_picture.specs.Sums.{columns_in, issued_in, ShowsAll}
 
 -- ---- sums over what is made
 
@@ -123,15 +124,15 @@ columns_sum g f per m last rounds is some low h =
 
 -- ---- the rounds of boxes
 
-boxes_low : (setup : Setup) (events : List Happened) (n : ℕ) (xs : List Issued) → ((k : ℕ) (i : Issued) → slice_get xs k ≡ Some i → i.round ≤ n) → All (λ (b : IssueBox). b.round ≤ n) (map (box_of setup events) (reverse xs))
-boxes_low setup events n [] h = none_each (λ (b : IssueBox). b.round ≤ n)
+boxes_low : (setup : Setup) (events : List Happened) (n : ℕ) (xs : List Issued) → ((k : ℕ) (i : Issued) → slice_get xs k ≡ Some i → i.round ≤ n) → All (λ (b : Service). b.issue ≤ n) (map (service_of setup events) (reverse xs))
+boxes_low setup events n [] h = none_each (λ (b : Service). b.issue ≤ n)
 boxes_low setup events n (x ∷ xs) h =
-    let P : IssueBox → Type 0 = λ b. b.round ≤ n in
-    let turned : map (box_of setup events) (reverse (x ∷ xs)) ≡ map (box_of setup events) (reverse xs) ++ box_of setup events x ∷ [] = ap (map (box_of setup events)) (reverse-cons x xs) ∙ map-append (box_of setup events) (reverse xs) (x ∷ []) in
-    let rest : All P (map (box_of setup events) (reverse xs)) = boxes_low setup events n xs (λ k i at. h (suc k) i at) in
-    subst (All P) (sym turned) (All-append P (map (box_of setup events) (reverse xs)) (box_of setup events x ∷ []) rest (more_each P (box_of setup events x) [] (h 0 x refl) (none_each P)))
+    let P : Service → Type 0 = λ b. b.issue ≤ n in
+    let turned : map (service_of setup events) (reverse (x ∷ xs)) ≡ map (service_of setup events) (reverse xs) ++ service_of setup events x ∷ [] = ap (map (service_of setup events)) (reverse-cons x xs) ∙ map-append (service_of setup events) (reverse xs) (x ∷ []) in
+    let rest : All P (map (service_of setup events) (reverse xs)) = boxes_low setup events n xs (λ k i at. h (suc k) i at) in
+    subst (All P) (sym turned) (All-append P (map (service_of setup events) (reverse xs)) (service_of setup events x ∷ []) rest (more_each P (service_of setup events x) [] (h 0 x refl) (none_each P)))
 
-pub boxes_last : (setup : Setup) (events : List Happened) → All (λ (b : IssueBox). b.round ≤ round_of events) (boxes_of setup events)
+pub boxes_last : (setup : Setup) (events : List Happened) → All (λ (b : Service). b.issue ≤ round_of events) (boxes_of setup events)
 unfolding boxes_of
 boxes_last setup events = boxes_low setup events (round_of events) (issues_of events) (λ k i at. omega (arith, issue_low 0 events k i at))
 
@@ -140,33 +141,33 @@ some_low : (t : Bool) (r n : ℕ) (rest : List ℕ) → r ≤ n → All (λ x. x
 some_low true r n rest l h = more_each (λ x. x ≤ n) r rest l h
 some_low false r n rest l h = h
 
-pub rounds_low : (kind : IssueKind) (n : ℕ) (boxes : List IssueBox) → All (λ (b : IssueBox). b.round ≤ n) boxes → All (λ x. x ≤ n) (rounds_in kind boxes)
+pub rounds_low : (kind : IssueKind) (n : ℕ) (boxes : List Service) → All (λ (b : Service). b.issue ≤ n) boxes → All (λ x. x ≤ n) (rounds_in kind boxes)
 unfolding rounds_in
 rounds_low kind n [] h = none_each (λ x. x ≤ n)
-rounds_low kind n (b ∷ boxes) h = some_low (counts_as kind b) b.round n (filter_map (round_in kind) boxes) (first_each (λ (b : IssueBox). b.round ≤ n) b boxes h) (rounds_low kind n boxes (rest_each (λ (b : IssueBox). b.round ≤ n) b boxes h))
+rounds_low kind n (b ∷ boxes) h = some_low (counts_as kind b) b.issue n (filter_map (round_in kind) boxes) (first_each (λ (b : Service). b.issue ≤ n) b boxes h) (rounds_low kind n boxes (rest_each (λ (b : Service). b.issue ≤ n) b boxes h))
 
 some_long : (t : Bool) (r : ℕ) (rest : List ℕ) → length (cons_option (cond t (Some r) None) rest) ≡ cond t 1 0 + length rest
 some_long true r rest = omega arith
 some_long false r rest = omega arith
 
-pub rounds_long : (kind : IssueKind) (boxes : List IssueBox) → length (rounds_in kind boxes) ≡ count_by (counts_as kind) boxes
+pub rounds_long : (kind : IssueKind) (boxes : List Service) → length (rounds_in kind boxes) ≡ count_by (counts_as kind) boxes
 unfolding rounds_in
 rounds_long kind [] = refl
 rounds_long kind (b ∷ boxes) =
-    omega (arith, some_long (counts_as kind b) b.round (filter_map (round_in kind) boxes), sum_by-cons (λ (x : IssueBox). cond (counts_as kind x) 1 0) b boxes, rounds_long kind boxes)
+    omega (arith, some_long (counts_as kind b) b.issue (filter_map (round_in kind) boxes), sum_by-cons (λ (x : Service). cond (counts_as kind x) 1 0) b boxes, rounds_long kind boxes)
 
 -- the rounds of all of them
-unfoldable pub rounds_all : List IssueBox → List ℕ
-rounds_all boxes = map (λ (b : IssueBox). b.round) boxes
+unfoldable pub rounds_all : List Service → List ℕ
+rounds_all boxes = map (λ (b : Service). b.issue) boxes
 
-pub all_low : (n : ℕ) (boxes : List IssueBox) → All (λ (b : IssueBox). b.round ≤ n) boxes → All (λ x. x ≤ n) (rounds_all boxes)
+pub all_low : (n : ℕ) (boxes : List Service) → All (λ (b : Service). b.issue ≤ n) boxes → All (λ x. x ≤ n) (rounds_all boxes)
 unfolding rounds_all
 all_low n [] h = none_each (λ x. x ≤ n)
-all_low n (b ∷ boxes) h = more_each (λ x. x ≤ n) b.round (rounds_all boxes) (first_each (λ (b : IssueBox). b.round ≤ n) b boxes h) (all_low n boxes (rest_each (λ (b : IssueBox). b.round ≤ n) b boxes h))
+all_low n (b ∷ boxes) h = more_each (λ x. x ≤ n) b.issue (rounds_all boxes) (first_each (λ (b : Service). b.issue ≤ n) b boxes h) (all_low n boxes (rest_each (λ (b : Service). b.issue ≤ n) b boxes h))
 
-pub all_long : (boxes : List IssueBox) → length (rounds_all boxes) ≡ length boxes
+pub all_long : (boxes : List Service) → length (rounds_all boxes) ≡ length boxes
 unfolding rounds_all
-all_long boxes = length-map boxes (λ (b : IssueBox). b.round)
+all_long boxes = length-map boxes (λ (b : Service). b.issue)
 
 -- each is of one kind of four
 four : (back late : Bool) (dir : Dir) (x : ℕ) → cond ((not back && not late) && same_dir dir Read) x 0 + cond ((not back && not late) && same_dir dir Write) x 0 + cond (not back && late) x 0 + cond back x 0 ≡ x
@@ -184,13 +185,13 @@ unfolding in_column
 in_part per n true r rest = count-cons (λ x. (x / per) == n) r rest
 in_part per n false r rest = omega arith
 
-kind_part : (per n : ℕ) (kind : IssueKind) (b : IssueBox) (boxes : List IssueBox) → in_column per n (rounds_in kind (b ∷ boxes)) ≡ cond (counts_as kind b) (one_if ((b.round / per) == n)) 0 + in_column per n (rounds_in kind boxes)
+kind_part : (per n : ℕ) (kind : IssueKind) (b : Service) (boxes : List Service) → in_column per n (rounds_in kind (b ∷ boxes)) ≡ cond (counts_as kind b) (one_if ((b.issue / per) == n)) 0 + in_column per n (rounds_in kind boxes)
 unfolding rounds_in
-kind_part per n kind b boxes = in_part per n (counts_as kind b) b.round (filter_map (round_in kind) boxes)
+kind_part per n kind b boxes = in_part per n (counts_as kind b) b.issue (filter_map (round_in kind) boxes)
 
-all_part : (per n : ℕ) (b : IssueBox) (boxes : List IssueBox) → in_column per n (rounds_all (b ∷ boxes)) ≡ one_if ((b.round / per) == n) + in_column per n (rounds_all boxes)
+all_part : (per n : ℕ) (b : Service) (boxes : List Service) → in_column per n (rounds_all (b ∷ boxes)) ≡ one_if ((b.issue / per) == n) + in_column per n (rounds_all boxes)
 unfolding rounds_all in_column
-all_part per n b boxes = count-cons (λ x. (x / per) == n) b.round (map (λ (b : IssueBox). b.round) boxes)
+all_part per n b boxes = count-cons (λ x. (x / per) == n) b.issue (map (λ (b : Service). b.issue) boxes)
 
 in_none : (per n : ℕ) (kind : IssueKind) → in_column per n (rounds_in kind []) ≡ 0
 unfolding rounds_in in_column
@@ -200,10 +201,10 @@ all_none : (per n : ℕ) → in_column per n (rounds_all []) ≡ 0
 unfolding rounds_all in_column
 all_none per n = refl
 
-pub in_kinds : (per n : ℕ) (boxes : List IssueBox) → in_column per n (rounds_all boxes) ≡ in_column per n (rounds_in Reads boxes) + in_column per n (rounds_in Writes boxes) + in_column per n (rounds_in Lates boxes) + in_column per n (rounds_in Backs boxes)
+pub in_kinds : (per n : ℕ) (boxes : List Service) → in_column per n (rounds_all boxes) ≡ in_column per n (rounds_in Reads boxes) + in_column per n (rounds_in Writes boxes) + in_column per n (rounds_in Lates boxes) + in_column per n (rounds_in Backs boxes)
 in_kinds per n [] = omega (arith, all_none per n, in_none per n Reads, in_none per n Writes, in_none per n Lates, in_none per n Backs)
 in_kinds per n (b ∷ boxes) =
-    omega (arith, all_part per n b boxes, kind_part per n Reads b boxes, kind_part per n Writes b boxes, kind_part per n Lates b boxes, kind_part per n Backs b boxes, in_kinds per n boxes, four b.back (is_late b) b.dir (one_if ((b.round / per) == n)))
+    omega (arith, all_part per n b boxes, kind_part per n Reads b boxes, kind_part per n Writes b boxes, kind_part per n Lates b boxes, kind_part per n Backs b boxes, in_kinds per n boxes, four b.back (is_late b) b.dir (one_if ((b.issue / per) == n)))
 
 -- ---- what the rounds of columns carry
 
@@ -295,7 +296,7 @@ several_show traces k deep scale t h is = scales_show t.events (most_rounds trac
 -- ---- the columns of a trace
 
 module _ (setup : Setup) (events : List Happened) (scale : Scale) (shows : ShowsAll events scale) where
-  abbrev boxes : List IssueBox
+  abbrev boxes : List Service
   boxes = boxes_of setup events
 
   low : round_of events < scale.columns * scale.per

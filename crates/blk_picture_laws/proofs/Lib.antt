@@ -1,4 +1,0 @@
-pub mod Adding
-pub mod Fitting
-pub mod Ordering
-pub mod States
