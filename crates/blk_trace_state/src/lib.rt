@@ -1,7 +1,7 @@
 //! The state that a list of events leaves, by a fold, and its laws, each the contract of a function that does nothing.
 #![tactic(auto)]
 
-ghost use Rattle.std.specs.Prelude.{ℕ, ◌≡◌, ◌↔◌, List, IsTrue, IfOk, count_by, is_some, map};
+ghost use Rattle.std.specs.Prelude.{ℕ, ◌≡◌, ◌↔◌, List, IsTrue, IfOk, count_by, is_some, not, map, filter, reverse};
 ghost use Rattle.blk_trace.specs.Happened.{Happened};
 ghost use Rattle.blk_trace.specs.Kinds.{completes};
 ghost use Rattle.blk_trace.specs.Setups.{Setup};
@@ -9,6 +9,7 @@ ghost use Rattle.blk_trace.specs.Events.{request_of, open_count, IsReleased, IsI
 ghost use Rattle.blk_trace.specs.Issues.{issues_of};
 ghost use Rattle.blk_trace.specs.Meaning.{commands_of, rounds_of, waiting_ids, waiting_of};
 ghost use Rattle.blk_trace.specs.Waits.{waits_at};
+ghost use Rattle.blk_picture.specs.Boxes.{boxes_of};
 ghost use Rattle.blk_report.specs.Services.{service_of, services_of};
 ghost use Rattle.blk_report.specs.Overdue.{is_overdue};
 ghost use Rattle.blk_trace_state.specs.Reports.{service_now, services_now, overdue_now};
@@ -48,7 +49,8 @@ pub fn law_of_states()
 pub fn law_of_projections()
     ensures commands { Leaves (λ setup events s. commands_now s ≡ commands_of setup events) }
     ensures rounds { Leaves (λ setup events s. rounds_now s ≡ rounds_of events) }
-    ensures issues { Leaves (λ setup events s. map (service_now s) s.issued ≡ map (service_of setup events) (issues_of events)) }
+    ensures issues { Leaves (λ setup events s. s.issued ≡ issues_of events) }
+    ensures requests { Leaves (λ setup events s. map (service_now s) s.issued ≡ map (service_of setup events) (issues_of events)) }
     ensures services { Leaves (λ setup events s. services_now s ≡ services_of setup events) }
     ensures overdue { Leaves (λ setup events s. (id : ℕ) → overdue_now s id ≡ is_overdue setup events id) }
     ensures waits { Leaves (λ setup events s. (id : ℕ) → waits_now s id ≡ waits_at setup events id) }
@@ -62,6 +64,14 @@ pub fn law_of_projections()
     ensures gone { Leaves (λ setup events s. (id : ℕ) → IsTrue (is_out s id) ↔ (AreRequeued events id → ⊥)) }
     ensures opened { Leaves (λ setup events s. (tag : ℕ) → IsTrue (is_open s tag) ↔ IsOpen events tag) }
     ensures used { Leaves (λ setup events s. (tag : ℕ) → IsTrue (is_used s tag) ↔ IsUsed events tag) }
+{}
+
+/// The boxes of a picture are the Issues with their requests, the last one first; those that were not requeued are what a report serves.
+///
+/// A theorem: it does nothing at run time, and a caller has its clauses.
+pub fn law_of_boxes()
+    ensures issues { (setup : Setup) → (events : List Happened) → reverse (boxes_of setup events) ≡ map (service_of setup events) (issues_of events) }
+    ensures services { (setup : Setup) → (events : List Happened) → filter (λ b. not b.back) (reverse (boxes_of setup events)) ≡ services_of setup events }
 {}
 
 /// Worked rows, which the checker computes: legal lists, lists that break each rule in each way, and what a long one

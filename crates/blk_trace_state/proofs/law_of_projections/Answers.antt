@@ -1,6 +1,6 @@
 use Rattle.blk_trace_state.proofs.Standing.{released_test, issued_test, gone_test, open_test, used_test, bios_of_id, iff_not}
 use Rattle.blk_trace_state.proofs.Projecting.{leaves, commands_are, rounds_are, waits_are, waiting_are, bios_are}
-use Rattle.blk_trace_state.proofs.Reports.{issues_are, services_are, overdue_are}
+use Rattle.blk_trace_state.proofs.Reports.{requests_are, services_are, overdue_are}
 use Rattle.blk_trace_state.specs.State.{is_out}
 use Rattle.blk_trace_state.proofs.law_of_projections.Goals as goal
 
@@ -8,7 +8,8 @@ pub returns : goal.returns
 returns c = record {
   commands = leaves _ (λ setup events s is st. commands_are setup events s st);
   rounds = leaves _ (λ setup events s is st. rounds_are setup events s st);
-  issues = leaves _ (λ setup events s is st. issues_are setup events s st);
+  issues = leaves _ (λ setup events s is st. st.issued_are);
+  requests = leaves _ (λ setup events s is st. requests_are setup events s st);
   services = leaves _ (λ setup events s is st. services_are setup events s st);
   overdue = leaves _ (λ setup events s is st id. overdue_are setup events s st id);
   waits = leaves _ (λ setup events s is st id. waits_are setup events s st id);
