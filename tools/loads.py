@@ -32,11 +32,14 @@ from collections import Counter, defaultdict
 from pathlib import Path
 
 sys.dont_write_bytecode = True
+
+from traces import Trace
+
 TOP = Path(__file__).resolve().parent.parent
 PROGRAM = TOP / "crates" / "blk" / "out" / "blk"
 SECONDS = 120
 READ, WRITE = "R", "W"
-EXPIRY = {READ: 5, WRITE: 50}
+SETUP = ["setup", "5", "50", "256", "128", ""]
 # How many commands a worker has in its hands at most.
 IN_HAND = 8
 SCHEDULERS = ("none", "deadline", "kyber", "earliest")
@@ -129,9 +132,9 @@ class Asked:
     def number(self, name, default):
         return int(self.given.get(name, default))
 
-    def queue_of(self, bio):
-        """The hardware queue at which a bio enters."""
-        return bio[0] % self.queues
+    def queue_of(self, submitter):
+        """The hardware queue at which the bios of a submitter enter."""
+        return submitter % self.queues
 
     def workers_of(self, queue):
         return sum(worker % self.queues == queue for worker in range(self.workers))
@@ -141,16 +144,9 @@ class Asked:
         return (WRITE if serial % 2 else READ, 16 * (serial * self.submitters + submitter), 8)
 
 
-class Request:
-    """A request that waits: its id, its hardware queue, its direction, first sector, and the rounds of its release and when it is due."""
-
-    def __init__(self, number, queue, direction, first, release):
-        self.number, self.queue, self.direction, self.first = number, queue, direction, first
-        self.release, self.due = release, release + EXPIRY[direction]
-
-
 class Entry:
-    """none: of what entered at the queue the first."""
+    """none: of what waits the first. What waits is handed to a model as the requests of the hardware queue, if it serves its own alone, and
+    else as all."""
 
     serves_own = True
 
@@ -158,7 +154,7 @@ class Entry:
         pass
 
     def pick(self, waiting, queue, now):
-        return min((it for it in waiting if it.queue == queue), key=lambda it: it.number, default=None)
+        return min(waiting, key=lambda it: it.id, default=None)
 
     def picked(self, request):
         pass
@@ -185,19 +181,19 @@ class Deadline(Entry):
 
     def behind(self, waiting, direction):
         if self.each:
-            later = [it for it in waiting if it.direction == direction and it.first >= self.position[direction]]
-            return min(later, key=lambda it: (it.first, it.number), default=None)
-        if self.last is None or self.last.direction != direction:
+            later = [it for it in waiting if it.dir == direction and it.first >= self.position[direction]]
+            return min(later, key=lambda it: (it.first, it.id), default=None)
+        if self.last is None or self.last.dir != direction:
             return None
-        later = [it for it in waiting if it.direction == direction and (it.first, it.number) > (self.last.first, self.last.number)]
-        return min(later, key=lambda it: (it.first, it.number), default=None)
+        later = [it for it in waiting if it.dir == direction and (it.first, it.id) > (self.last.first, self.last.id)]
+        return min(later, key=lambda it: (it.first, it.id), default=None)
 
     def pick(self, waiting, queue, now):
-        going_on = self.behind(waiting, self.last.direction if self.last else READ) if self.batching < self.batch else None
+        going_on = self.behind(waiting, self.last.dir if self.last else READ) if self.batching < self.batch else None
         if going_on:
             self.next = (self.batching + 1, self.starved)
             return going_on
-        oldest = {way: min((it for it in waiting if it.direction == way), key=lambda it: it.number, default=None) for way in EXPIRY}
+        oldest = {way: min((it for it in waiting if it.dir == way), key=lambda it: it.id, default=None) for way in (READ, WRITE)}
         if not oldest[READ] and not oldest[WRITE]:
             return None
         if oldest[READ] and (not oldest[WRITE] or self.starved < self.starving):
@@ -209,7 +205,7 @@ class Deadline(Entry):
 
     def picked(self, request):
         self.last = request
-        self.position[request.direction] = request.first
+        self.position[request.dir] = request.first
         self.batching, self.starved = self.next
 
 
@@ -228,11 +224,11 @@ class Kyber(Entry):
 
     def pick(self, waiting, queue, now):
         own = {
-            way: min((it for it in waiting if it.queue == queue and it.direction == way), key=lambda it: it.number, default=None)
-            for way in EXPIRY
+            way: min((it for it in waiting if it.dir == way), key=lambda it: it.id, default=None)
+            for way in (READ, WRITE)
             if self.flying[way] < self.limit[way]
         }
-        way, taken = self.turns[queue]
+        self.queue, (way, taken) = queue, self.turns[queue]
         if own.get(way) and taken < self.turn[way]:
             self.next = (way, taken + 1)
         elif own.get(self.other[way]):
@@ -244,18 +240,18 @@ class Kyber(Entry):
         return own[self.next[0]]
 
     def picked(self, request):
-        self.turns[request.queue] = self.next
-        self.flying[request.direction] += 1
+        self.turns[self.queue] = self.next
+        self.flying[request.dir] += 1
 
     def done(self, request, now):
-        self.flying[request.direction] -= 1
-        if now - request.release > self.target[request.direction]:
-            self.missed.add(request.direction)
+        self.flying[request.dir] -= 1
+        if now - request.release > self.target[request.dir]:
+            self.missed.add(request.dir)
 
     def tick(self, now):
         if now % 8:
             return
-        for way in EXPIRY:
+        for way in (READ, WRITE):
             if self.other[way] in self.missed:
                 self.limit[way] = max(1, self.limit[way] // 2)
             elif way not in self.missed:
@@ -273,7 +269,7 @@ class Earliest(Entry):
 
     def pick(self, waiting, queue, now):
         on_time = [it for it in waiting if it.due >= now] if self.late_last else []
-        return min(on_time or waiting, key=lambda it: (it.due, it.number), default=None)
+        return min(on_time or waiting, key=lambda it: (it.due, it.id), default=None)
 
 
 MODELS = {"none": Entry, "deadline": Deadline, "kyber": Kyber, "earliest": Earliest}
@@ -284,93 +280,96 @@ def wants(holds, *what):
         raise Fault(" ".join(map(str, what)))
 
 
-def read_events(asked, text):
-    """The events of a trace, as lists of their fields, each Release with its one bio."""
-    records = [line.split(",") for line in text.decode().splitlines()]
-    wants(len(records) > 2, "no trace was written")
-    wants(records[0][:4] == ["blk-trace", "2", str(asked.depth), str(asked.queues)], "title", records[0])
-    wants(records[1] == ["setup", "5", "50", "256", "128", ""], "setup", records[1])
-    events = []
-    for record in records[2:]:
-        if record[0] == "bio":
-            wants(events and events[-1][0] == "release" and len(events[-1]) == 6, "a bio that isn't the only one of a release:", record)
-            events[-1].append(record[1:])
-        else:
-            wants(record[0] in ("tick", "release", "issue", "done", "back"), "a load has no such event:", record)
-            events.append(record)
-    wants(records[0][4] == str(len(events)), "the title counts other events")
-    return events
+class Replay(Trace):
+    """The trace of a load, each event looked at before it happens, beside the model of the load's scheduler."""
 
-
-class Replay:
-    """What a trace leads to, event by event, beside the model of its scheduler."""
-
-    def __init__(self, asked):
+    def __init__(self, asked, text):
         self.asked, self.model = asked, MODELS[asked.sched](asked)
-        self.round, self.used = 0, set()
-        self.requests, self.waiting, self.flying = {}, {}, {}
-        self.held, self.serials, self.done_ids = defaultdict(list), Counter(), set()
-        self.runs = defaultdict(list)
+        self.used, self.pending, self.held = set(), defaultdict(dict), defaultdict(list)
+        self.serials, self.done_ids, self.runs = Counter(), set(), defaultdict(list)
+        super().__init__(text)
+        wants(self.title[4] == str(len(self.events)), "the title counts other events")
 
-    def release(self, record):
-        asked, number, bio = self.asked, int(record[1]), record[6]
-        wants(number == len(self.requests) and record[2] == "1", "release", record)
+    def read(self, text):
+        """The records of its text, whose fields have no quotes."""
+        found = [line.split(",") for line in text.decode().splitlines()]
+        wants(len(found) > 2, "no trace was written")
+        wants(found[0][:4] == ["blk-trace", "2", str(self.asked.depth), str(self.asked.queues)], "title", found[0])
+        wants(found[1] == SETUP, "setup", found[1])
+        wants(all(len(it) == len(SETUP) for it in found), "a record has other fields")
+        return found
+
+    def take(self, event):
+        takes = {"release": self.take_release, "issue": self.take_issue, "done": self.take_end, "back": self.take_end, "tick": self.take_tick}
+        wants(event.word in takes, "a load has no such event:", event)
+        wants(len(event.bios) == (event.word == "release"), "a bio that isn't the only one of a release:", event)
+        takes[event.word](event)
+
+    def take_release(self, event):
+        asked, number, (bio,) = self.asked, int(event.fields[0]), event.bios
+        wants(number == len(self.requests) and event.fields[1] == "1", "release", event)
         submitter, serial, direction, first, sectors = int(bio[0]), int(bio[1]), bio[2], int(bio[3]), int(bio[4])
         wants(submitter < asked.submitters and serial < asked.bios, "a bio of no submitter:", bio)
         wants(serial == self.serials[submitter], "bio", bio, "where", self.serials[submitter], "comes next")
         wants((direction, first, sectors) == asked.nth_bio(submitter, serial), "bio", bio, "is", asked.nth_bio(submitter, serial))
         self.serials[submitter] += 1
-        self.requests[number] = self.waiting[number] = Request(number, submitter % asked.queues, direction, first, self.round)
-
-    def issue(self, record):
-        number, tag = int(record[1]), int(record[2])
-        wants(tag < self.asked.depth and tag not in self.used and len(self.used) < self.asked.depth, "above the depth:", record)
-        self.used.add(tag)
+        super().take(event)
         request = self.requests[number]
+        self.pending[self.queue_of(request)][number] = request
+
+    def take_issue(self, event):
+        request, tag = self.requests[int(event.fields[0])], int(event.fields[1])
+        wants(tag < self.depth and tag not in self.used and len(self.used) < self.depth, "above the depth:", event)
+        self.used.add(tag)
         self.choose(request)
-        self.flying[tag] = request
-        wants(len(self.flying) <= IN_HAND * self.asked.workers, "more in flight than workers have in hand:", record)
+        super().take(event)
+        wants(len(self.flying) <= IN_HAND * self.asked.workers, "more in flight than workers have in hand:", event)
         if self.model.serves_own:
-            own = sum(it.queue == request.queue for it in self.flying.values())
-            wants(own <= IN_HAND * self.asked.workers_of(request.queue), "more in flight than the queue's workers have in hand:", record)
+            queue = self.queue_of(request)
+            own = sum(self.queue_of(it.request) == queue for it in self.flying.values())
+            wants(own <= IN_HAND * self.asked.workers_of(queue), "more in flight than the queue's workers have in hand:", event)
+
+    def queue_of(self, request):
+        """The hardware queue for which a request is issued: one for all where the scheduler serves any."""
+        return self.asked.queue_of(request.submitter) if self.model.serves_own else 0
 
     def choose(self, request):
-        """What was issued is what went back first, or else what the model picks."""
-        queue = request.queue if self.model.serves_own else 0
-        held = self.held[queue]
+        """What is issued is what went back first, or else what the model picks."""
+        queue = self.queue_of(request)
+        held, pending = self.held[queue], self.pending[queue]
         if self.model.serves_own or self.asked.queues == 1:
             back = held[0] if held else None
         else:
             back = request if request in held else None
         if back:
-            wants(request is back, "request", request.number, "went out, where", back.number, "had come back")
+            wants(request is back, "request", request.id, "went out, where", back.id, "had come back")
             held.remove(request)
             return
-        wants(request.number in self.waiting, "request", request.number, "doesn't wait")
-        picked = self.model.pick(list(self.waiting.values()), request.queue, self.round)
-        wants(picked is request, "round", self.round, "request", request.number, "went out, and not", picked and picked.number)
+        wants(request.id in pending, "request", request.id, "doesn't wait")
+        picked = self.model.pick(list(pending.values()), queue, self.round)
+        wants(picked is request, "round", self.round, "request", request.id, "went out, and not", picked and picked.id)
         self.model.picked(request)
-        del self.waiting[request.number]
+        del pending[request.id]
 
-    def end(self, record):
-        request = self.flying.pop(int(record[1]), None)
-        wants(request, "no command is in flight:", record)
-        self.runs[request.queue if self.model.serves_own else 0].append(record[0])
-        if record[0] == "back":
-            self.held[request.queue if self.model.serves_own else 0].append(request)
+    def take_end(self, event):
+        issue = self.flying.get(int(event.fields[0]))
+        wants(issue, "no command is in flight:", event)
+        request, queue = issue.request, self.queue_of(issue.request)
+        self.runs[queue].append(event.word)
+        super().take(event)
+        if event.word == "back":
+            self.held[queue].append(request)
         else:
-            wants(request.number not in self.done_ids, "done twice:", record)
-            self.done_ids.add(request.number)
+            wants(request.id not in self.done_ids, "done twice:", event)
+            self.done_ids.add(request.id)
             self.model.done(request, self.round)
 
-    def tick(self, record):
+    def take_tick(self, event):
         wants(not self.flying, "a round ends with commands in flight")
-        wants(len(self.used) == self.asked.depth, "round", self.round, "ends with", len(self.used), "commands")
-        self.round, self.used = self.round + 1, set()
+        wants(len(self.used) == self.depth, "round", self.round, "ends with", len(self.used), "commands")
+        super().take(event)
+        self.used = set()
         self.model.tick(self.round)
-
-    def take(self, record):
-        {"release": self.release, "issue": self.issue, "done": self.end, "back": self.end, "tick": self.tick}[record[0]](record)
 
 
 def look_at_backs(asked, replay):
@@ -390,29 +389,26 @@ def look_at_backs(asked, replay):
 
 def look_at_plugs(asked, events):
     """Requests of one submitter that follow on one another are those of whole plugs, up to its last bio."""
-    for came, row in itertools.groupby(events, lambda it: it[6][0] if it[0] == "release" else None):
-        serials = [int(it[6][1]) for it in row if came is not None]
+    for came, row in itertools.groupby(events, lambda it: it.bios[0][0] if it.bios else None):
+        serials = [int(it.bios[0][1]) for it in row if came is not None]
         whole = len(serials) % PLUG == 0 or serials[-1] == asked.bios - 1
         wants(whole, "submitter", came, "came in by", len(serials), "requests, up to its bio", serials[-1:])
 
 
 def look_at_threads(name, asked, events):
     """What a load has to show of its threads: how its submitters came in."""
-    came = [int(record[6][0]) for record in events if record[0] == "release"]
+    came = [int(it.bios[0][0]) for it in events if it.bios]
     turns = 1 + sum(one != other for one, other in zip(came, came[1:]))
     wants(name not in BY_TURNS or turns > 2 * asked.submitters, "the submitters came in one after the other:", turns, "turns")
 
 
 def look_at(asked, text, name=""):
     """Looks at a trace, of a load of this name if it has one; a Fault says what is wrong with it."""
-    replay = Replay(asked)
-    events = read_events(asked, text)
-    for record in events:
-        replay.take(record)
-    look_at_plugs(asked, events)
-    look_at_threads(name, asked, events)
+    replay = Replay(asked, text)
+    look_at_plugs(asked, replay.events)
+    look_at_threads(name, asked, replay.events)
     wants(all(replay.serials[it] == asked.bios for it in range(asked.submitters)), "bios that came in:", dict(replay.serials))
-    wants(not replay.waiting and not replay.flying and not any(replay.held.values()), "something isn't served")
+    wants(not replay.waiting and not replay.flying, "something isn't served")
     wants(len(replay.done_ids) == asked.submitters * asked.bios, "done are", len(replay.done_ids))
     look_at_backs(asked, replay)
     return replay

@@ -131,8 +131,8 @@ class Waiting:
     """A request that waits, as the models of schedulers see it."""
 
     def __init__(self, number, place, request, release, due):
-        self.number, self.place, self.queue = number, place, 0
-        self.direction, self.first = request.span[0], request.span[1]
+        self.id, self.place = number, place
+        self.dir, self.first = request.span[0], request.span[1]
         self.release, self.due = release, due
 
 

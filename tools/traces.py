@@ -1,9 +1,12 @@
 """A good trace, read by the rules of docs/FORMATS.md and docs/MODEL.md without the program: what entered, what was issued in which round
-under which tag, and how many commands each round carries."""
+under which tag, what is in flight, and how many commands each round carries."""
 import csv
 import io
 from collections import namedtuple
 from dataclasses import dataclass
+
+# An event: its word, its fields, and the bios that come in with it, each as its fields.
+Event = namedtuple("Event", "word fields bios")
 
 # A command: a request that was issued and not requeued since, with the round of that Issue.
 Served = namedtuple("Served", "id dir first sectors release due issue")
@@ -12,7 +15,7 @@ Served = namedtuple("Served", "id dir first sectors release due issue")
 @dataclass
 class Request:
     """A request: the round in which it was released or last joined, and that in which it entered; when it is due; the first sector and
-    the one after its last; and how many bios it has."""
+    the one after its last; how many bios it has; and who submitted the first that came."""
 
     id: int
     entered: int
@@ -22,6 +25,7 @@ class Request:
     first: int
     end: int
     bios: int
+    submitter: int
 
 
 @dataclass
@@ -49,37 +53,59 @@ def records(text):
     return [it for it in csv.reader(io.StringIO(text, newline="")) if it]
 
 
+def events_of(records):
+    """The events that records tell, each with the bios behind it; a bio before all of them counts as one."""
+    found = []
+    for word, *fields in records:
+        if word == "bio" and found:
+            found[-1].bios.append(fields)
+        else:
+            found.append(Event(word, fields, []))
+    return found
+
+
 class Trace:
-    """A trace, event by event: its requests by id, its Issues in their order, and the depth of each round so far; a round after the last
-    carries what was set by then."""
+    """A trace, event by event: its requests by id, its Issues in their order, those in flight by tag, and the depth of each round so far; a
+    round after the last carries what was set by then."""
 
     def __init__(self, text):
-        title, setup, *rest = records(text)
-        self.depth, self.round = int(title[2]), 0
-        self.expire = {"R": int(setup[1]), "W": int(setup[2])}
-        self.requests, self.issues, self.depths, self.beyond = {}, [], [self.depth], self.depth
-        under, rest = {}, iter(rest)
-        for word, *fields in rest:
-            if word in ("release", "join"):
-                self.enter(int(fields[0]), [next(rest) for _ in range(int(fields[1]))])
-            elif word == "issue":
-                issue = under[fields[1]] = Issue(self.requests[int(fields[0])], int(fields[1]), self.round)
-                self.issues.append(issue)
-            elif word == "back":
-                under[fields[0]].back = True
-            elif word == "depth":
-                self.beyond = int(fields[0])
-            elif word == "tick":
-                self.round += 1
-                self.depths.append(self.beyond)
+        self.title, self.setup, *rest = self.read(text)
+        self.depth, self.round = int(self.title[2]), 0
+        self.expire = {"R": int(self.setup[1]), "W": int(self.setup[2])}
+        self.requests, self.issues, self.flying, self.depths, self.beyond = {}, [], {}, [self.depth], self.depth
+        self.events = events_of(rest)
+        for event in self.events:
+            self.take(event)
+
+    def read(self, text):
+        """The records of its text."""
+        return records(text)
+
+    def take(self, event):
+        """The next event happens."""
+        word, fields, bios = event
+        if word in ("release", "join"):
+            self.enter(int(fields[0]), bios)
+        elif word == "issue":
+            issue = self.flying[int(fields[1])] = Issue(self.requests[int(fields[0])], int(fields[1]), self.round)
+            self.issues.append(issue)
+        elif word == "done":
+            del self.flying[int(fields[0])]
+        elif word == "back":
+            self.flying.pop(int(fields[0])).back = True
+        elif word == "depth":
+            self.beyond = int(fields[0])
+        elif word == "tick":
+            self.round += 1
+            self.depths.append(self.beyond)
 
     def enter(self, id, bios):
         """A request comes in, or joins the one of that id at the end where it fits."""
-        _, _, _, direction, first, _ = bios[0]
-        first, end, due = int(first), int(bios[-1][4]) + int(bios[-1][5]), self.round + self.expire[direction]
+        submitter, _, direction, first, _ = bios[0]
+        first, end, due = int(first), int(bios[-1][3]) + int(bios[-1][4]), self.round + self.expire[direction]
         it = self.requests.get(id)
         if it is None:
-            self.requests[id] = Request(id, self.round, self.round, due, direction, first, end, len(bios))
+            self.requests[id] = Request(id, self.round, self.round, due, direction, first, end, len(bios), int(submitter))
             return
         it.first, it.end = (it.first, end) if first == it.end else (first, it.end)
         it.release, it.due, it.bios = self.round, min(due, it.due), it.bios + len(bios)
