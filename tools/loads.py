@@ -145,8 +145,7 @@ class Asked:
 
 
 class Entry:
-    """none: of what waits the first. What waits is handed to a model as the requests of the hardware queue, if it serves its own alone, and
-    else as all."""
+    """none: what entered first of what waits. A model that serves a hardware queue's own requests alone is asked with those, any other with all."""
 
     serves_own = True
 
