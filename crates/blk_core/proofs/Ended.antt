@@ -72,8 +72,8 @@ tied_end setup setup' es es' e m m' fl requeue_lists requeue_lists' rel tag hw w
     let rn = open_ended setup es e tag p.legal end w.extent.dir here Read in
     let sn = open_ended setup es e tag p.legal end w.extent.dir here Write in
     let tr = t.reads in let tw = t.writes in let hr = t.holds.reads in let hs = t.holds.writes in
-    let br = open_by_dir setup es Read t.legal in let bs = open_by_dir setup es Write t.legal in
-    let ar = open_by_dir setup fs Read p.legal in let aw = open_by_dir setup fs Write p.legal in
+    let br = open_by_dir es Read in let bs = open_by_dir es Write in
+    let ar = open_by_dir fs Read in let aw = open_by_dir fs Write in
     let l : length (set fl tag g) ≡ length fl = length-set fl tag g in
     let longer = one_longer es e in
     let next = t.next in

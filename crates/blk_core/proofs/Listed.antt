@@ -1,15 +1,11 @@
 -- The listed Issues are the open ones.
-use Rattle.std.proofs.Common.{◌≡◌, ◌<◌, ◌==◌, ℕ, zero, suc, List, [], ◌∷◌, refl, sym, ap, subst, arith, inl, inr, Option, Some, None, ◌∙◌, Bool, true, false, eq-eqb, eqb-true, cond}
-use Rattle.std.specs.Prelude.{slice_get}
-use Rattle.std.specs.List.{list_any}
-use Rattle.std.specs.Option.{option_map_or}
-use Rattle.std.proofs.lemmas.Bool.{false_from_ne_true, or_cases, both_ways}
-use Rattle.std.proofs.lemmas.Map.Keys.{any_passes_from_place}
+use Rattle.std.proofs.Common.{◌≡◌, ◌+◌, ℕ, zero, suc, List, [], ◌∷◌, drop, refl, sym, ap, subst, arith, Some, ◌∙◌, Bool, true, false, cond}
+use Rattle.std.specs.Prelude.{slice_get, filter}
+use Rattle.blk_trace.specs.declared.issued.Issued.{Issued}
 use Rattle.blk_trace.specs.Happened.{Happened}
-use Rattle.blk_trace.specs.declared.event.Event.TheVariants.{Issue}
-use Rattle.blk_trace.specs.Kinds.{ends}
-use Rattle.blk_trace.specs.Events.{At, EndsAt, IsOpen}
-use Rattle.blk_trace.specs.Kinds.{is_done_of}
+use Rattle.blk_trace.specs.Events.{IsOpen}
+use Rattle.blk_trace.specs.Issues.{issues_of, flies, flying, outcome_of}
+use Rattle.blk_trace.proofs.Issues.{issue_at, flies_on, flying_by, flying_is, ends_later, get_map, map_get}
 use Rattle.blk_core.specs.Opens.{open_issues}
 
 -- the tag has an open Issue of the id
@@ -20,84 +16,44 @@ HasOpen es id tag = (o : IsOpen es tag) × (o.id ≡ id)
 abbrev IsListed : List (ℕ × ℕ) → ℕ → ℕ → Type 0
 IsListed xs id tag = (k : ℕ) × (slice_get xs k ≡ Some (id, tag))
 
-end_of : (t : ℕ) (o : Option ℕ) → option_map_or (λ u. u == t) o false ≡ true → o ≡ Some t
-end_of t None h = absurd (cc)
-end_of t (Some u) h = ap Some (eqb-true u t h)
+-- the places of a list's elements that pass
+abbrev IsPassed : (Issued → Bool) → List Issued → Issued → Type 0
+IsPassed p xs x = (j : ℕ) × (slice_get xs j ≡ Some x) × (p x ≡ true)
 
-done_found : (t : ℕ) (es : List Happened) → list_any (is_done_of t) es ≡ true → (j : ℕ) × EndsAt es j t
-done_found t [] h = absurd (cc)
-done_found t (e ∷ es) h = elim (or_cases (is_done_of t e) (list_any (is_done_of t) es) h) [
-  | inl b ↦ (0, (e, refl, end_of t (ends e) b))
-  | inr b ↦ let p = done_found t es b in (suc p.0, p.1)
-]
+passed_first : (p : Issued → Bool) (y : Issued) (ys : List Issued) (b : Bool) (k : ℕ) (x : Issued) → p y ≡ b → ((i : ℕ) → slice_get (filter p ys) i ≡ Some x → IsPassed p ys x) → slice_get (cond b (y ∷ filter p ys) (filter p ys)) k ≡ Some x → IsPassed p (y ∷ ys) x
+passed_first p y ys true zero x is later h = let same : y ≡ x = cc in (0, h, ap p (sym same) ∙ is)
+passed_first p y ys true (suc k) x is later h = let q = later k h in (suc q.0, q.1, q.2)
+passed_first p y ys false k x is later h = let q = later k h in (suc q.0, q.1, q.2)
 
-found_done : (t : ℕ) (es : List Happened) (j : ℕ) → EndsAt es j t → list_any (is_done_of t) es ≡ true
-found_done t es j d = any_passes_from_place (is_done_of t) es j d.0 d.1 (ap (λ o. option_map_or (λ u. u == t) o false) d.2 ∙ eq-eqb t t refl)
+passed : (p : Issued → Bool) (xs : List Issued) (k : ℕ) (x : Issued) → slice_get (filter p xs) k ≡ Some x → IsPassed p xs x
+passed p [] k x h = absurd (cc)
+passed p (y ∷ ys) k x h = passed_first p y ys (p y) k x refl (λ i there. passed p ys i x there) h
 
--- one event before the others
-later : (e : Happened) (es : List Happened) (id tag : ℕ) → HasOpen es id tag → HasOpen (e ∷ es) id tag
-later e es id tag p = (
-  record {
-    place = suc p.0.place;
-    id = p.0.id;
-    issued = p.0.issued;
-    not_done = not_before e es tag p.0;
-  },
-  p.1,
-)
-  where
-    not_before : (e : Happened) (es : List Happened) (tag : ℕ) (o : IsOpen es tag) (j : ℕ) → suc o.place < j → EndsAt (e ∷ es) j tag → ⊥
-    not_before e es tag o zero h at = absurd (omega arith)
-    not_before e es tag o (suc j) h at = o.not_done j (omega arith) at
+one_more : (b : Bool) (y : Issued) (zs : List Issued) (k : ℕ) (x : Issued) → slice_get zs k ≡ Some x → (j : ℕ) × (slice_get (cond b (y ∷ zs) zs) j ≡ Some x)
+one_more true y zs k x h = (suc k, h)
+one_more false y zs k x h = (k, h)
 
-first_open : (i t : ℕ) (es : List Happened) → list_any (is_done_of t) es ≡ false → HasOpen (Issue i t ∷ es) i t
-first_open i t es none = (record { place = 0; id = i; issued = refl; not_done = never i t es none }, refl)
-  where
-    never : (i t : ℕ) (es : List Happened) → list_any (is_done_of t) es ≡ false → (j : ℕ) → 0 < j → EndsAt (Issue i t ∷ es) j t → ⊥
-    never i t es none zero h at = absurd (omega arith)
-    never i t es none (suc j) h at = both_ways _ none (found_done t es j at)
-
-same_pair : (x y : ℕ × ℕ) → Some x ≡ Some y → x ≡ y
-same_pair x y h = cc
-
-by_case : (i t id tag : ℕ) (es : List Happened) (b : Bool) → list_any (is_done_of t) es ≡ b → ((k : ℕ) → slice_get (open_issues es) k ≡ Some (id, tag) → HasOpen es id tag) → (k : ℕ) → slice_get (cond b (open_issues es) ((i, t) ∷ open_issues es)) k ≡ Some (id, tag) → HasOpen (Issue i t ∷ es) id tag
-by_case i t id tag es true is ih k h = later (Issue i t) es id tag (ih k h)
-by_case i t id tag es false is ih zero h =
-    let pair : (i, t) ≡ (id, tag) = same_pair (i, t) (id, tag) h in
-    let a : i ≡ id = ap (λ x. x.0) pair in
-    let b : t ≡ tag = ap (λ x. x.1) pair in
-    subst (λ x. HasOpen (Issue i t ∷ es) x tag) a (subst (λ x. HasOpen (Issue i t ∷ es) i x) b (first_open i t es is))
-by_case i t id tag es false is ih (suc k) h = later (Issue i t) es id tag (ih k h)
+passes : (p : Issued → Bool) (xs : List Issued) (j : ℕ) (x : Issued) → slice_get xs j ≡ Some x → p x ≡ true → (k : ℕ) × (slice_get (filter p xs) k ≡ Some x)
+passes p [] j x h is = absurd (cc)
+passes p (y ∷ ys) zero x h is = let same : y ≡ x = cc in (0, ap (λ b. slice_get (cond b (y ∷ filter p ys) (filter p ys)) 0) (ap p same ∙ is) ∙ h)
+passes p (y ∷ ys) (suc j) x h is = let q = passes p ys j x h is in one_more (p y) y (filter p ys) q.0 x q.1
 
 -- a listed Issue is open
 pub listed_open : (es : List Happened) (id tag k : ℕ) → slice_get (open_issues es) k ≡ Some (id, tag) → HasOpen es id tag
 unfolding open_issues
-listed_open [] id tag k h = absurd (cc)
-listed_open (Issue i t ∷ es) id tag k h = by_case i t id tag es (list_any (is_done_of t) es) refl (λ k h. listed_open es id tag k h) k h
-listed_open (e ∷ es) id tag k h = later e es id tag (listed_open es id tag k h)
+listed_open es id tag k h =
+    let p = get_map (λ (i : Issued). (i.id, i.tag)) (flying (issues_of es)) k (id, tag) h in
+    let q = passed (λ i. flies i.outcome) (issues_of es) k p.0 p.1 in
+    let o = flying_by es q.0 p.0 q.1 (flying_is p.0.outcome q.2) in
+    subst (λ (x : ℕ × ℕ). HasOpen es x.0 x.1) p.2 (record { place = o.place; id = p.0.id; issued = o.issued; not_done = o.not_done }, refl)
 
 -- an open Issue is listed
-one_more : (x : ℕ × ℕ) (xs : List (ℕ × ℕ)) (id tag : ℕ) (b : Bool) → IsListed xs id tag → IsListed (cond b xs (x ∷ xs)) id tag
-one_more x xs id tag true p = p
-one_more x xs id tag false p = (suc p.0, p.1)
-
-at_head : (xs : List (ℕ × ℕ)) (id tag : ℕ) (b : Bool) → b ≡ false → IsListed (cond b xs ((id, tag) ∷ xs)) id tag
-at_head xs id tag true h = absurd (cc)
-at_head xs id tag false h = (0, refl)
-
-listed_at : (es : List Happened) (place id tag : ℕ) → At es place (Issue id tag) → ((j : ℕ) → place < j → EndsAt es j tag → ⊥) → IsListed (open_issues es) id tag
-unfolding open_issues
-listed_at [] place id tag at never = absurd (cc)
-listed_at (Issue i t ∷ es) zero id tag at never =
-    let a : i ≡ id = cc in
-    let b : t ≡ tag = cc in
-    let none : list_any (is_done_of tag) es ≡ false = false_from_ne_true _ (λ some. let p = done_found tag es some in never (suc p.0) (omega arith) p.1) in
-    subst (λ x. IsListed (open_issues (Issue x t ∷ es)) id tag) (sym a) (subst (λ x. IsListed (open_issues (Issue id x ∷ es)) id tag) (sym b)
-    (at_head (open_issues es) id tag (list_any (is_done_of tag) es) none))
-listed_at (Issue i t ∷ es) (suc place) id tag at never =
-    one_more (i, t) (open_issues es) id tag (list_any (is_done_of t) es) (listed_at es place id tag at (λ j h d. never (suc j) (omega arith) d))
-listed_at (e ∷ es) zero id tag at never = absurd (cc)
-listed_at (e ∷ es) (suc place) id tag at never = listed_at es place id tag at (λ j h d. never (suc j) (omega arith) d)
-
 pub open_listed : (es : List Happened) (id tag : ℕ) → HasOpen es id tag → IsListed (open_issues es) id tag
-open_listed es id tag p = subst (λ x. IsListed (open_issues es) x tag) p.1 (listed_at es p.0.place p.0.id tag p.0.issued p.0.not_done)
+unfolding open_issues
+open_listed es id tag p =
+    let o : IsOpen es tag = p.0 in
+    let later : List Happened = drop (suc o.place) es in
+    let at = issue_at 0 es o.place o.id tag o.issued in
+    let i : Issued = record { round = at.1.0; id = o.id; tag = tag; outcome = outcome_of tag later } in
+    let q = passes (λ i. flies i.outcome) (issues_of es) at.0 i at.1.1 (flies_on tag later (λ j d. o.not_done (suc o.place + j) (omega arith) (ends_later es o.place j tag d))) in
+    (q.0, map_get (λ (i : Issued). (i.id, i.tag)) (flying (issues_of es)) q.0 i q.1 ∙ ap (λ n. Some (n, tag)) p.1)

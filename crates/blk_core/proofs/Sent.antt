@@ -67,8 +67,8 @@ tied_sent setup setup' es es' m m' fl requeue_lists requeue_lists' rel hw tag w 
     let rn = step.open-issued setup es w.id tag p.legal entry waits Read in
     let sn = step.open-issued setup es w.id tag p.legal entry waits Write in
     let tr = t.reads in let tw = t.writes in let hr = t.holds.reads in let hs = t.holds.writes in
-    let br = open_by_dir setup es Read t.legal in let bs = open_by_dir setup es Write t.legal in
-    let ar = open_by_dir setup fs Read p.legal in let aw = open_by_dir setup fs Write p.legal in
+    let br = open_by_dir es Read in let bs = open_by_dir es Write in
+    let ar = open_by_dir fs Read in let aw = open_by_dir fs Write in
     let l : length (set fl tag f) ≡ length fl = length-set fl tag f in
     let longer = one_longer es (Issue w.id tag) in
     let count = step.count-issued setup es w.id tag p.legal in

@@ -21,9 +21,9 @@ use Rattle.blk_trace.specs.Setups.{Setup, IsSetup, expire_of}
 use Rattle.blk_trace.specs.Happened.{Happened}
 use Rattle.blk_trace.specs.declared.event.Event.TheVariants.{Release, Join, Tick, Depth}
 use Rattle.blk_trace.specs.Depths.{depth_now}
-use Rattle.blk_trace.specs.Legal.{IsLegalTrace}
 use Rattle.blk_trace.proofs.Depths.{depth_now_is}
 use Rattle.blk_trace.specs.Events.{IsReleased, round_of, entered, AreOnce, open_count, IsOpen, IsUsed}
+use Rattle.blk_trace.specs.Issues.{issues_from}
 use Rattle.blk_trace.specs.Meaning.{released_ids, issued_ids, served, waiting_ids, rising}
 use Rattle.blk_trace.specs.Inside.Seats.{RoundSeat, seat_at, flying_of, this_round}
 use Rattle.blk_trace.specs.Inside.Allowed.{IsAllowed}
@@ -72,8 +72,8 @@ pub one_longer : (es : List Happened) (e : Happened) → length (es ++ e ∷ [])
 one_longer es e = length-append es (e ∷ [])
 
 -- as many Issues of a direction are open as before, where as many commands of it are in flight
-opens_same : (setup : Setup) (es fs : List Happened) (d : Dir) (n : ℕ) → IsLegalTrace setup es → IsLegalTrace setup fs → flying_of fs d ≡ flying_of es d → n ≡ open_issues_of es d → n ≡ open_issues_of fs d
-opens_same setup es fs d n old new same is = is ∙ sym (open_by_dir setup es d old) ∙ sym same ∙ open_by_dir setup fs d new
+opens_same : (es fs : List Happened) (d : Dir) (n : ℕ) → flying_of fs d ≡ flying_of es d → n ≡ open_issues_of es d → n ≡ open_issues_of fs d
+opens_same es fs d n same is = is ∙ sym (open_by_dir es d) ∙ sym same ∙ open_by_dir fs d
 
 -- a tie at the values that the code's are equal to
 pub tied_at : (setup setup' : Setup) (es es' : List Happened) (e : Happened) (m : Meaning) (fl : List TagState) (requeue_lists : List (List Waiting)) (rel : ℕ) → IsPushed setup es e setup' es' → IsTied setup (es ++ e ∷ []) m fl requeue_lists rel → IsTied setup' es' m fl requeue_lists rel
@@ -113,8 +113,8 @@ tied_release setup setup' es es' m m' fl requeue_lists rel bios w p t is request
         requeued = as_same (seen_requeued setup es) (seen_requeued setup fs) requeue_lists (λ q. ap seen (same q)) t.holds.requeued;
         requeued_once = once_same (requeued_at setup es) (requeued_at setup fs) requeue_lists same t.holds.requeued_once;
         count = omega arith;
-        reads = opens_same setup es fs Read m.open_picks.reads t.legal p.legal (step.open-released setup es rel bios p.legal Read) t.holds.reads;
-        writes = opens_same setup es fs Write m.open_picks.writes t.legal p.legal (step.open-released setup es rel bios p.legal Write) t.holds.writes;
+        reads = opens_same es fs Read m.open_picks.reads (step.open-released setup es rel bios p.legal Read) t.holds.reads;
+        writes = opens_same es fs Write m.open_picks.writes (step.open-released setup es rel bios p.legal Write) t.holds.writes;
         requeued_picks = t.holds.requeued_picks;
       };
       next = omega arith;
@@ -163,8 +163,8 @@ tied_join setup setup' es es' m m' fl requeue_lists rel serves hw now bios id si
         requeued = as_same (seen_requeued setup es) (seen_requeued setup fs) requeue_lists (λ q. ap seen (same q)) t.holds.requeued;
         requeued_once = once_same (requeued_at setup es) (requeued_at setup fs) requeue_lists same t.holds.requeued_once;
         count = omega arith;
-        reads = opens_same setup es fs Read m.open_picks.reads t.legal p.legal (step.open-joined setup es id bios p.legal Read) t.holds.reads;
-        writes = opens_same setup es fs Write m.open_picks.writes t.legal p.legal (step.open-joined setup es id bios p.legal Write) t.holds.writes;
+        reads = opens_same es fs Read m.open_picks.reads (step.open-joined setup es id bios p.legal Read) t.holds.reads;
+        writes = opens_same es fs Write m.open_picks.writes (step.open-joined setup es id bios p.legal Write) t.holds.writes;
         requeued_picks = t.holds.requeued_picks;
       };
       next = omega arith;
@@ -226,8 +226,8 @@ tied_tick setup setup' es es' m m' fl fl' requeue_lists rel p t m_is fl_is =
     let rb = step.open-before_tick setup es p.legal Read in
     let sb = step.open-before_tick setup es p.legal Write in
     let hr = t.holds.reads in let hs = t.holds.writes in
-    let br = open_by_dir setup es Read t.legal in let bs = open_by_dir setup es Write t.legal in
-    let ar = open_by_dir setup fs Read p.legal in let aw = open_by_dir setup fs Write p.legal in
+    let br = open_by_dir es Read in let bs = open_by_dir es Write in
+    let ar = open_by_dir fs Read in let aw = open_by_dir fs Write in
     let longer = one_longer es Tick in
     let count = step.count-ticked setup es p.legal in
     let more = released-ticked es in
@@ -283,8 +283,8 @@ tied_set setup setup' es es' m fl requeue_lists rel depth p t =
         requeued = as_same (seen_requeued setup es) (seen_requeued setup fs) requeue_lists (λ q. ap seen (same q)) t.holds.requeued;
         requeued_once = once_same (requeued_at setup es) (requeued_at setup fs) requeue_lists same t.holds.requeued_once;
         count = t.holds.count ∙ sym count;
-        reads = opens_same setup es fs Read m.open_picks.reads t.legal p.legal (open_kept setup es e p.legal refl refl refl Read) t.holds.reads;
-        writes = opens_same setup es fs Write m.open_picks.writes t.legal p.legal (open_kept setup es e p.legal refl refl refl Write) t.holds.writes;
+        reads = opens_same es fs Read m.open_picks.reads (open_kept setup es e p.legal refl refl Read) t.holds.reads;
+        writes = opens_same es fs Write m.open_picks.writes (open_kept setup es e p.legal refl refl Write) t.holds.writes;
         requeued_picks = t.holds.requeued_picks;
       };
       next = omega arith;
@@ -311,7 +311,7 @@ unfolding requeued_at was_issued
 none_requeued setup q = refl
 
 no_count : waiting_count [] ≡ 0
-unfolding waiting_ids released_ids issued_ids served rising
+unfolding waiting_ids released_ids issued_ids served issues_from rising
 no_count = refl
 
 no_seat : (t : ℕ) → seat_at [] t ≡ None
@@ -319,7 +319,7 @@ unfolding seat_at this_round
 no_seat t = refl
 
 none_open : (d : Dir) → open_issues_of [] d ≡ 0
-unfolding open_issues
+unfolding open_issues issues_from
 none_open d = refl
 
 none_released : released_count [] ≡ 0
@@ -429,7 +429,7 @@ pending_is setup es m fl requeue_lists rel pending reads writes t p r w =
 pub open_issue : (setup : Setup) (es : List Happened) (m : Meaning) (fl : List TagState) (requeue_lists : List (List Waiting)) (rel : ℕ) (P : Type 0) → IsTied setup es m fl requeue_lists rel → (0 < unfinished m.open_picks) ⊎ P → (0 < open_count es) ⊎ (0 < requeued_total requeue_lists) ⊎ P
 open_issue setup es m fl requeue_lists rel P t h =
     let both = step.open-both setup es t.legal in let r = t.holds.reads in let w = t.holds.writes in let all = all_requeued setup es m fl requeue_lists rel t in
-    let br = open_by_dir setup es Read t.legal in let bw = open_by_dir setup es Write t.legal in
+    let br = open_by_dir es Read in let bw = open_by_dir es Write in
     elim h [
       | inl o ↦ elim (cases_lt 0 (open_count es)) [ inl a ↦ inl a | inr b ↦ inr (inl (omega arith)) ]
       | inr p ↦ inr (inr p)
@@ -439,7 +439,7 @@ open_issue setup es m fl requeue_lists rel P t h =
 pub none_in_flight : (setup : Setup) (es : List Happened) (m : Meaning) (fl : List TagState) (requeue_lists : List (List Waiting)) (rel : ℕ) → IsTied setup es m fl requeue_lists rel → open_count es ≡ 0 → list_map flight_of fl ≡ replicate (length fl) None
 none_in_flight setup es m fl requeue_lists rel t none =
     let both = step.open-both setup es t.legal in let r = t.holds.reads in let w = t.holds.writes in let fr = t.reads in let fw = t.writes in
-    let br = open_by_dir setup es Read t.legal in let bw = open_by_dir setup es Write t.legal in
+    let br = open_by_dir es Read in let bw = open_by_dir es Write in
     none_flies fl (omega arith)
 
 -- a tag that the code reads as free was not issued in the round, and another was

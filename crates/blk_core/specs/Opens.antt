@@ -1,20 +1,16 @@
 -- The Issues that are open.
-use Rattle.std.specs.Prelude.{ℕ, ◌≡◌, cond, List, [], ◌∷◌, Some, count_by, slice_get}
-use Rattle.std.specs.List.{list_any}
+use Rattle.std.specs.Prelude.{ℕ, ◌≡◌, List, Some, map, count_by, slice_get}
 use Rattle.blk_bio.specs.declared.bio.Dir.{Dir}
 use Rattle.blk_bio.specs.Requests.{dir_of}
 use Rattle.blk_trace.specs.Happened.{Happened}
-use Rattle.blk_trace.specs.declared.event.Event.TheVariants.{Issue}
+use Rattle.blk_trace.specs.Issues.{issues_of, flying}
 use Rattle.blk_trace.specs.Events.{request_of}
-use Rattle.blk_trace.specs.Kinds.{is_done_of}
 use Rattle.blk_trace.specs.Setups.{Setup, same_dir}
 use Rattle.blk_trace.specs.Legal.{IsLegalTrace}
 
--- the id and the tag of each Issue whose tag no event after it ends, in their order
+-- the id and the tag of each Issue whose command is in flight, in their order
 unfoldable pub open_issues : List Happened → List (ℕ × ℕ)
-open_issues [] = []
-open_issues (Issue id tag ∷ es) = cond (list_any (is_done_of tag) es) (open_issues es) ((id, tag) ∷ open_issues es)
-open_issues (_ ∷ es) = open_issues es
+open_issues events = map (λ i. (i.id, i.tag)) (flying (issues_of events))
 
 -- how many of them are of requests of the direction
 abbrev pub open_issues_of : List Happened → Dir → ℕ

@@ -1,11 +1,11 @@
 -- A legal trace in which each command came first of what waited as it went out, and one is later than it has to be.
-use Rattle.std.proofs.Common.{◌≡◌, ◌<◌, ◌≤◌, ◌+◌, ◌++◌, ◌==◌, ℕ, zero, suc, ℤ, List, [], ◌∷◌, length, get_or, take, refl, sym, ◌∙◌, ap, subst, arith, inl, inr, Some, None, Bool, true, false, cond, eqb-true}
-use Rattle.std.specs.Prelude.{◌||◌, ◌⊎◌, slice_get, pos, ◌≤ℤ◌, ◌-ℤ◌}
+use Rattle.std.proofs.Common.{◌≡◌, ◌<◌, ◌≤◌, ◌+◌, ◌++◌, ◌==◌, ℕ, zero, suc, ℤ, List, [], ◌∷◌, length, get_or, take, refl, sym, ◌∙◌, ap, subst, arith, inl, inr, Some, true, false, cond, eqb-true}
+use Rattle.std.specs.Prelude.{pos, ◌≤ℤ◌, ◌-ℤ◌}
 use Rattle.std.proofs.lemmas.Int.{ints}
 use Rattle.std.proofs.lemmas.Bool.{or_cases, or_left, both_ways, ne_eqb}
 use Rattle.blk_bio.specs.Bios.{Bio, IsBio}
 use Rattle.blk_bio.specs.Requests.{IsRequest}
-use Rattle.blk_bio.specs.declared.bio.Dir.TheVariants.{Read, Write}
+use Rattle.blk_bio.specs.declared.bio.Dir.TheVariants.{Write}
 use Rattle.edd_commands.specs.declared.Command.{Command}
 use Rattle.edd_commands.specs.declared.steps.Step.{Step}
 use Rattle.edd_commands.specs.Capacity.{depth_at}
@@ -16,9 +16,10 @@ use Rattle.blk_trace.specs.declared.trace.TheConstants.{MAX_EVENTS}
 use Rattle.blk_trace.specs.Happened.{Happened}
 use Rattle.blk_trace.specs.declared.event.Event.TheVariants.{Tick, Release, Issue, Done}
 use Rattle.blk_trace.specs.Setups.{IsSetup}
-use Rattle.blk_trace.specs.Events.{At, EntersRequest, IsReleased, round_of, entered, request_of, open_count, ends_requeued}
+use Rattle.blk_trace.specs.Events.{At, EntersRequest, IsReleased, round_of, entered, request_of, open_count}
 use Rattle.blk_trace.specs.Depths.{changes_of, depth_in, depth_now, capacity_of}
 use Rattle.blk_trace.specs.Legal.{IsLegalTrace}
+use Rattle.blk_trace.specs.Issues.{outcome_of, issues_from}
 use Rattle.blk_trace.specs.Meaning.{timed, served, release_of, due_of, command_of, released_ids, issued_ids, commands_of, rounds_of}
 use Rattle.blk_trace.specs.Waits.{Entered, has_id, waits_at}
 use Rattle.blk_trace.specs.Inside.Allowed.{IsAllowed, places_of}
@@ -75,7 +76,7 @@ unfolding entered open_count released_ids
 write_enters = next [] (Release 0 (write ∷ [])) (empty_legal one_tag) (fresh [] 0 refl, inl refl, once_push [] write (λ j k b c h l s. absurd (cc)) refl) (is_one write (record { not_empty = omega arith; in_range = omega arith })) (omega arith)
 
 write_goes : IsLegalTrace one_tag es2
-unfolding open_count released_ids issued_ids served waits_at depth_now depth_in depth_at changes_of timed round_of seat_at this_round
+unfolding open_count released_ids issued_ids served issues_from waits_at depth_now depth_in depth_at changes_of timed round_of seat_at this_round
 write_goes = next es1 (Issue 0 0) write_enters (_, refl, omega arith, refl) tt (omega arith)
 
 read_enters : IsLegalTrace one_tag es3
@@ -87,11 +88,11 @@ unfolding open_count seat_at this_round request_of
 write_done = next es3 (Done 0) read_enters (Write, refl) tt (omega arith)
 
 round_over : IsLegalTrace one_tag es5
-unfolding open_count flying_of seat_at this_round request_of
+unfolding open_count flying_of issues_from outcome_of seat_at this_round request_of
 round_over = next es4 Tick write_done (refl, refl) tt (omega arith)
 
 pub legal : IsLegalTrace one_tag read_too_late
-unfolding open_count released_ids issued_ids served ends_requeued waits_at depth_now depth_in depth_at changes_of timed round_of seat_at this_round
+unfolding open_count released_ids issued_ids served issues_from outcome_of waits_at depth_now depth_in depth_at changes_of timed round_of seat_at this_round
 legal = next es5 (Issue 1 0) round_over (_, refl, omega arith, refl) tt (omega arith)
 
 -- ---- each came first of what waited
@@ -107,7 +108,7 @@ ticked (suc (suc (suc (suc (suc zero))))) h = absurd (cc)
 ticked (suc (suc (suc (suc (suc (suc k)))))) h = absurd (cc)
 
 full_here : IsRoundFull one_tag (take 4 read_too_late)
-unfolding places_at rounds_of served ends_requeued round_of depth_now depth_in depth_at changes_of timed
+unfolding places_at rounds_of served issues_from outcome_of round_of depth_now depth_in depth_at changes_of timed
 full_here = refl
 
 full_at : (k : ℕ) → At read_too_late k Tick → IsRoundFull one_tag (take k read_too_late)
@@ -125,7 +126,7 @@ of_two id h gone = elim (or_cases (0 == id) (has_id (1 ∷ []) id) h) [
 
 -- what waits as a command goes out is that command alone
 alone : (k i tag id : ℕ) (w : Entered) → At read_too_late k (Issue i tag) → waits_at one_tag (take k read_too_late) id ≡ Some w → id ≡ i
-unfolding released_ids issued_ids served ends_requeued
+unfolding released_ids issued_ids served issues_from outcome_of
 alone zero i tag id w h waits = absurd (cc)
 alone (suc zero) i tag id w h waits =
     let first : 0 ≡ i = cc in
@@ -167,11 +168,11 @@ abbrev one_place : List Step
 one_place = record { «from» = 0; depth = 1 } ∷ []
 
 commands_are : commands_of one_tag read_too_late ≡ two
-unfolding commands_of issued_ids served ends_requeued release_of due_of timed
+unfolding commands_of issued_ids served issues_from outcome_of release_of due_of timed
 commands_are = refl
 
 rounds_are : rounds_of read_too_late ≡ 0 ∷ 1 ∷ []
-unfolding rounds_of served ends_requeued
+unfolding rounds_of served issues_from outcome_of
 rounds_are = refl
 
 capacity_is : capacity_of one_tag read_too_late ≡ one_place

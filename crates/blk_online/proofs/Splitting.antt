@@ -1,19 +1,24 @@
 -- What went out before a Tick, and what after it.
-use Rattle.std.proofs.Common.{◌≡◌, ◌<◌, ◌≤◌, ◌+◌, ◌++◌, ◌==◌, ℕ, zero, suc, List, [], ◌∷◌, length, take, drop, refl, sym, ◌∙◌, ap, subst, arith, cond, Bool, true, false, inl, inr, Some, None, eq-eqb, eqb-true}
-use Rattle.std.specs.Prelude.{Option, slice_get, is_some, ◌⊎◌}
-use Rattle.std.specs.Option.{option_map_or, option_and_then}
+use Rattle.std.proofs.Common.{◌≡◌, ◌<◌, ◌≤◌, ◌+◌, ◌++◌, ◌==◌, ℕ, zero, suc, List, [], ◌∷◌, length, get_or, take, drop, refl, sym, ◌∙◌, ap, subst, arith, cond, true, false, inl, inr, Some, None, eq-eqb, eqb-true}
+use Rattle.std.specs.Prelude.{Option, slice_get, option_map, ◌⊎◌}
+use Rattle.std.specs.Option.{option_map_or}
 use Rattle.std.specs.List.{cons_option}
 use Rattle.std.proofs.lemmas.List.{take-append-le, take_all}
 use Rattle.std.proofs.lemmas.Bool.{cases_Bool}
+use Rattle.std.proofs.lemmas.Option.{slice_get_within, slice_get-get_or}
 use Rattle.blk_trace.specs.Happened.{Happened}
 use Rattle.blk_trace.specs.declared.event.Event.TheVariants.{Tick, Issue}
-use Rattle.blk_trace.specs.Kinds.{issues, ends, requeues, is_done_of}
+use Rattle.blk_trace.specs.Kinds.{issues, ends, is_done_of}
 use Rattle.blk_trace.specs.Setups.{Setup}
-use Rattle.blk_trace.specs.Events.{At, EndsAt, IsOpen, is_tick, round_of, ends_requeued}
+use Rattle.blk_trace.specs.Events.{At, EndsAt, IsOpen, is_tick, round_of}
 use Rattle.blk_trace.specs.Legal.{IsLegalTrace}
-use Rattle.blk_trace.specs.Meaning.{service, served}
+use Rattle.blk_trace.specs.declared.issued.Outcome.{Outcome}
+use Rattle.blk_trace.specs.declared.issued.Issued.{Issued}
+use Rattle.blk_trace.specs.Issues.{end_of, outcome_of, issue_in, issues_from}
+use Rattle.blk_trace.specs.Meaning.{served}
 use Rattle.blk_trace.proofs.More.{round_cons}
 use Rattle.blk_trace.proofs.Words.{done_by}
+use Rattle.blk_trace.proofs.Served.{kept_pairs, kept_append, served_between}
 
 -- ---- a Tick and what stands about it
 
@@ -91,71 +96,47 @@ ended_before setup before after legal k id tag at =
 
 -- ---- the services before it are those of the events before it
 
-goes_back_kept : (tag : ℕ) (es fs : List Happened) (j : ℕ) → EndsAt es j tag → ends_requeued tag (es ++ fs) ≡ ends_requeued tag es
-unfolding ends_requeued
-goes_back_kept tag [] fs j d = absurd (let e : None ≡ Some d.0 = d.1 in cc)
-goes_back_kept tag (e ∷ es) fs j d =
-    elim (is_done_of tag e) as (λ b. is_done_of tag e ≡ b → cond b (is_some (requeues e)) (ends_requeued tag (es ++ fs)) ≡ cond b (is_some (requeues e)) (ends_requeued tag es)) [
+outcome_kept : (tag : ℕ) (es fs : List Happened) (j : ℕ) → EndsAt es j tag → outcome_of tag (es ++ fs) ≡ outcome_of tag es
+unfolding outcome_of
+outcome_kept tag [] fs j d = absurd (let e : None ≡ Some d.0 = d.1 in cc)
+outcome_kept tag (e ∷ es) fs j d =
+    elim (is_done_of tag e) as (λ b. is_done_of tag e ≡ b → cond b (end_of e) (outcome_of tag (es ++ fs)) ≡ cond b (end_of e) (outcome_of tag es)) [
       | true ↦ λ _. refl
-      | false ↦ λ no. (elim j as (λ (i : ℕ). EndsAt (e ∷ es) i tag → ends_requeued tag (es ++ fs) ≡ ends_requeued tag es) [
+      | false ↦ λ no. (elim j as (λ (i : ℕ). EndsAt (e ∷ es) i tag → outcome_of tag (es ++ fs) ≡ outcome_of tag es) [
         | zero ↦ λ c.
             let same : e ≡ c.0 = let s : Some e ≡ Some c.0 = c.1 in cc in
             let yes_is : is_done_of tag e ≡ true = done_by tag e tag (ap ends same ∙ c.2) ∙ eq-eqb tag tag refl in
             absurd (let clash : true ≡ false = sym yes_is ∙ no in cc)
-        | suc i ↦ λ c. goes_back_kept tag es fs i (c.0, c.1, c.2)
+        | suc i ↦ λ c. outcome_kept tag es fs i (c.0, c.1, c.2)
       ]) d
     ] refl
 
-service_kept : (r : ℕ) (e : Happened) (es fs : List Happened) → ((id tag : ℕ) → e ≡ Issue id tag → (j : ℕ) × EndsAt es j tag) → service r e (es ++ fs) ≡ service r e es
-service_kept r (Issue id tag) es fs ended =
+issue_kept : (r : ℕ) (e : Happened) (es fs : List Happened) → ((id tag : ℕ) → e ≡ Issue id tag → (j : ℕ) × EndsAt es j tag) → option_map (issue_in r (es ++ fs)) (issues e) ≡ option_map (issue_in r es) (issues e)
+issue_kept r (Issue id tag) es fs ended =
     let p = ended id tag refl in
-    ap (λ b. cond b None (Some (r, id))) (goes_back_kept tag es fs p.0 p.1)
-service_kept r e es fs ended = refl
+    ap (λ (o : Outcome). let i : Issued = record { round = r; id = id; tag = tag; outcome = o } in Some i) (outcome_kept tag es fs p.0 p.1)
+issue_kept r e es fs ended = refl
 
 prepend : {X : Type 0} (o : Option X) (xs ys : List X) → cons_option o (xs ++ ys) ≡ cons_option o xs ++ ys
 prepend None xs ys = refl
 prepend (Some x) xs ys = refl
 
-pub served_split : (r : ℕ) (es fs : List Happened) → AreEnded es → served r (es ++ fs) ≡ served r es ++ served (r + round_of es) fs
-unfolding served round_of
-served_split r [] fs ended = ap (λ n. served n fs) (omega arith)
-served_split r (e ∷ es) fs ended =
+issues_split : (r : ℕ) (es fs : List Happened) → AreEnded es → issues_from r (es ++ fs) ≡ issues_from r es ++ issues_from (r + round_of es) fs
+unfolding issues_from round_of
+issues_split r [] fs ended = ap (λ n. issues_from n fs) (omega arith)
+issues_split r (e ∷ es) fs ended =
     let next : ℕ = cond (is_tick e) (r + 1) r in
-    ap (λ o. cons_option o (served next (es ++ fs))) (service_kept r e es fs (λ id tag is. ended 0 id tag (ap (λ x. Some x) is)))
-    ∙ ap (cons_option (service r e es)) (served_split next es fs (λ k id tag at. ended (suc k) id tag at) ∙ ap (λ n. served next es ++ served n fs) (sym (round_cons e es r)))
-    ∙ prepend (service r e es) (served next es) (served (r + round_of (e ∷ es)) fs)
+    ap (λ o. cons_option o (issues_from next (es ++ fs))) (issue_kept r e es fs (λ id tag is. ended 0 id tag (ap (λ x. Some x) is)))
+    ∙ ap (cons_option (option_map (issue_in r es) (issues e))) (issues_split next es fs (λ k id tag at. ended (suc k) id tag at) ∙ ap (λ n. issues_from next es ++ issues_from n fs) (sym (round_cons e es r)))
+    ∙ prepend (option_map (issue_in r es) (issues e)) (issues_from next es) (issues_from (r + round_of (e ∷ es)) fs)
 
--- ---- the rounds of services
-
-service_round : (r : ℕ) (o : Option (ℕ × ℕ)) (later : List Happened) (y : ℕ × ℕ) → option_and_then {U = ℕ × ℕ} (λ p. cond (ends_requeued p.1 later) None (Some (r, p.0))) o ≡ Some y → y.0 ≡ r
-service_round r None later y h = absurd (cc)
-service_round r (Some p) later y h =
-    elim (ends_requeued p.1 later) as (λ b. cond b None (Some (r, p.0)) ≡ Some y → y.0 ≡ r) [
-      | true ↦ λ g. absurd (cc)
-      | false ↦ λ g. let same : ◌≡◌ {A = ℕ × ℕ} (r, p.0) y = cc in ap (λ (s : ℕ × ℕ). s.0) (sym same)
-    ] h
-
-no_sooner : (b : Bool) (r : ℕ) → r ≤ cond b (r + 1) r
-no_sooner true r = omega arith
-no_sooner false r = omega arith
+pub served_split : (r : ℕ) (es fs : List Happened) → AreEnded es → served r (es ++ fs) ≡ served r es ++ served (r + round_of es) fs
+unfolding served
+served_split r es fs ended = ap kept_pairs (issues_split r es fs ended) ∙ kept_append (issues_from r es) (issues_from (r + round_of es) fs)
 
 -- they lie in the rounds of the events
 pub rounds_between : (r : ℕ) (es : List Happened) (k : ℕ) (s : ℕ × ℕ) → slice_get (served r es) k ≡ Some s → (r ≤ s.0) × (s.0 ≤ r + round_of es)
-unfolding served
-rounds_between r [] k s h = absurd (cc)
-rounds_between r (e ∷ es) k s h =
-    let next : ℕ = cond (is_tick e) (r + 1) r in
-    let low : r ≤ next = no_sooner (is_tick e) r in
-    let end : r + round_of (e ∷ es) ≡ next + round_of es = round_cons e es r in
-    elim (service r e es) as (λ o. service r e es ≡ o → slice_get (cons_option o (served next es)) k ≡ Some s → (r ≤ s.0) × (s.0 ≤ r + round_of (e ∷ es))) [
-      | None ↦ λ _ g. let rest = rounds_between next es k s g in (omega (arith, rest.0), omega (arith, rest.1))
-      | Some y ↦ λ is.
-          let own : y.0 ≡ r = service_round r (issues e) es y is in
-          (elim k as (λ (i : ℕ). slice_get (y ∷ served next es) i ≡ Some s → (r ≤ s.0) × (s.0 ≤ r + round_of (e ∷ es))) [
-            | zero ↦ λ g.
-                let same : y ≡ s = cc in
-                let at : s.0 ≡ r = ap (λ (p : ℕ × ℕ). p.0) (sym same) ∙ own in
-                (omega arith, omega arith)
-            | suc i ↦ λ g. let rest = rounds_between next es i s g in (omega (arith, rest.0), omega (arith, rest.1))
-          ])
-    ] refl h
+rounds_between r es k s h =
+    let low : k < length (served r es) = slice_get_within (served r es) k s h in
+    let here : get_or (served r es) k s ≡ s = let e : Some (get_or (served r es) k s) ≡ Some s = sym (slice_get-get_or (served r es) k s low) ∙ h in cc in
+    subst (λ (t : ℕ × ℕ). (r ≤ t.0) × (t.0 ≤ r + round_of es)) here (served_between r es k s low)

@@ -13,6 +13,7 @@ use Rattle.blk_trace.specs.Setups.{Setup}
 use Rattle.blk_trace.specs.Events.{At, round_of, request_of, IsReleased}
 use Rattle.blk_trace.specs.Depths.{depth_now, capacity_of}
 use Rattle.blk_trace.specs.Legal.{IsLegalTrace}
+use Rattle.blk_trace.specs.Issues.{issues_from}
 use Rattle.blk_trace.specs.Meaning.{served, issued_ids, rounds_of, released_ids, release_of, due_of, command_of}
 use Rattle.blk_trace.specs.Waits.{has_id, waits_at}
 use Rattle.blk_trace.proofs.Newness.{in_either, get_at}
@@ -77,7 +78,7 @@ module _ (setup : Setup) (before after : List Happened) (legal : IsLegalTrace se
 
   -- the services before the Tick, and those after it
   split : served 0 whole ≡ served 0 before ++ served (now + 1) after
-  unfolding served
+  unfolding served issues_from
   split = served_split 0 before (Tick ∷ after) (ended_before setup before after legal) ∙ ap (λ n. served 0 before ++ served (n + 1) after) (let e : 0 + now ≡ now = omega arith in e)
 
   places_same : places_at (rounds_of whole) now ≡ places_at (rounds_of before) now

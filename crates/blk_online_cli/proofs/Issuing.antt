@@ -19,7 +19,8 @@ use Rattle.blk_trace.specs.Depths.{depth_now, depth_in}
 use Rattle.blk_trace.specs.Legal.{IsLegalTrace}
 use Rattle.blk_trace.specs.Meaning.{served, rounds_of, due_of}
 use Rattle.blk_trace.proofs.Newness.{in_either}
-use Rattle.blk_trace.proofs.More.{round_more, served_push}
+use Rattle.blk_trace.proofs.More.{round_more}
+use Rattle.blk_trace.proofs.Served.{served_push}
 use Rattle.blk_trace.proofs.Commands.{rounds-issued}
 use Rattle.blk_trace.proofs.Depths.{depth_kept, depth_now_is}
 use Rattle.blk_trace.proofs.Entering.{same_entered}

@@ -8,10 +8,12 @@ use Rattle.blk_trace.specs.Happened.{Happened}
 use Rattle.blk_trace.specs.declared.event.Event.TheVariants.{Tick, Issue}
 use Rattle.blk_trace.specs.Kinds.{issues, requeues}
 use Rattle.blk_trace.specs.Events.{At, is_tick, round_of, round_at, IsUsed}
+use Rattle.blk_trace.specs.Issues.{issues_from}
 use Rattle.blk_trace.specs.Meaning.{served, rounds_of}
 use Rattle.blk_trace.proofs.Places.{split, before, before_last}
 use Rattle.blk_trace.proofs.Words.{issues_not}
-use Rattle.blk_trace.proofs.More.{round_more, round_within, served_push}
+use Rattle.blk_trace.proofs.More.{round_more, round_within}
+use Rattle.blk_trace.proofs.Served.{served_push}
 use Rattle.blk_trace.proofs.Newness.{get_at}
 use Rattle.blk_trace.proofs.Commands.{rounds_kept}
 use Rattle.blk_online.specs.Ticks.{AtTicks, WentOut}
@@ -73,7 +75,7 @@ pub record IsFresh (es : List Happened) : Type 0 where
   pub empty : places_at (rounds_of es) (round_of es) ≡ 0
 
 pub fresh_start : (es : List Happened) → es ≡ [] → IsFresh es
-unfolding served rounds_of places_at
+unfolding served issues_from rounds_of places_at
 fresh_start es none = subst IsFresh (sym none) (record {
   unused = λ tag used. let e : None ≡ Some (Issue used.id tag) = used.issued in cc;
   none_out = λ id out. let e : None ≡ Some (round_of [], id) = out.1 in cc;

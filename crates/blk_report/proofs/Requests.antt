@@ -1,24 +1,26 @@
 -- The commands of a trace with their requests.
-use Rattle.std.proofs.Common.{◌≡◌, ◌<◌, ◌≤◌, ◌+◌, ◌==◌, ℕ, zero, suc, List, [], ◌∷◌, length, get_or, map, refl, sym, ◌∙◌, ap, arith, Some, None, cond, Bool, true, false, inl, inr, eq-eqb}
-use Rattle.std.specs.Prelude.{Option, not, filter}
-use Rattle.std.specs.Option.{option_and_then}
+use Rattle.std.proofs.Common.{◌≡◌, ◌<◌, ◌≤◌, ◌+◌, ◌==◌, ℕ, zero, suc, List, [], ◌∷◌, length, get_or, map, refl, sym, ◌∙◌, ap, arith, Some, None, cond, Bool, true, false, eq-eqb}
+use Rattle.std.specs.Prelude.{Option, option_map, not, filter}
+use Rattle.std.specs.List.Sorted.{IsNonDecreasingBy}
 use Rattle.std.specs.List.{cons_option, filter_map}
-use Rattle.std.proofs.lemmas.Bool.{cases_Bool, or_left, or_right}
+use Rattle.std.proofs.lemmas.Bool.{or_left, or_right}
 use Rattle.std.proofs.lemmas.List.{get_or-map, length-map}
+use Rattle.std.proofs.lemmas.List.Kept.{IsNonDecreasingBy-filter}
+use Rattle.std.proofs.lemmas.Option.{slice_get-get_or}
 use Rattle.edd_commands.specs.declared.Command.{Command}
 use Rattle.edd_commands.specs.declared.steps.Step.{Step}
 use Rattle.edd_commands.specs.Schedule.{IsLegal}
+use Rattle.blk_trace.specs.declared.issued.Outcome.TheVariants.{Flying}
 use Rattle.blk_trace.specs.declared.issued.Issued.{Issued}
 use Rattle.blk_trace.specs.Happened.{Happened}
 use Rattle.blk_trace.specs.Kinds.{is_tick, issues}
 use Rattle.blk_trace.specs.Setups.{Setup}
-use Rattle.blk_trace.specs.Events.{ends_requeued}
-use Rattle.blk_trace.specs.Meaning.{service, served, command_of, commands_of, rounds_of}
-use Rattle.blk_trace.specs.Issues.{was_requeued, issues_of}
-use Rattle.blk_trace.specs.Inside.Issues.{kept_of}
+use Rattle.blk_trace.specs.Meaning.{command_of, commands_of, rounds_of}
+use Rattle.blk_trace.specs.Issues.{was_requeued, issue_in, issues_from, issues_of, kept_of}
 use Rattle.blk_trace.specs.Waits.{has_id}
 use Rattle.blk_trace.specs.Laws.{AreBounded}
-use Rattle.blk_trace.proofs.Issues.{kept_map, commands_are, rounds_are}
+use Rattle.blk_trace.proofs.Issues.{issue_between}
+use Rattle.blk_trace.proofs.Served.{kept_map, commands_are, rounds_are}
 use Rattle.blk_report.specs.declared.serving.Service.{Service}
 use Rattle.blk_report.specs.Inside.Services.{served_by}
 use Rattle.blk_report.specs.Services.{service_of, services_of, command_in, AreWithinLimits, AreInIssueOrder}
@@ -83,58 +85,38 @@ same_issue setup es rounds k x are h =
     ap (λ l. get_or l k 0) (are ∙ sym (are_rounds setup es)) ∙ get_or-map (λ (s : Service). s.issue) (services_of setup es) k x 0 h
 
 -- the rounds rise
-round_told : (r : ℕ) (o : Option (ℕ × ℕ)) (b : ℕ → Bool) (s : ℕ × ℕ) → option_and_then (λ p. cond (b p.1) None (Some (r, p.0))) o ≡ Some s → s.0 ≡ r
-round_told r None b s h = absurd (cc)
-round_told r (Some p) b s h =
-    elim (cases_Bool (b p.1)) [
-      | inl t ↦ absurd (let g = rw t at h in cc)
-      | inr f ↦ (let g : Some (let z : ℕ × ℕ = (r, p.0) in z) ≡ Some s = rw f at h in let i : (let z : ℕ × ℕ = (r, p.0) in z) ≡ s = cc in ap (λ (z : ℕ × ℕ). z.0) (sym i))
-    ]
-
-from_first : (r : ℕ) (o : Option (ℕ × ℕ)) (xs : List (ℕ × ℕ)) → ((s : ℕ × ℕ) → o ≡ Some s → s.0 ≡ r) → ((k : ℕ) (d : ℕ × ℕ) → k < length xs → r ≤ (get_or xs k d).0) → (k : ℕ) (d : ℕ × ℕ) → k < length (cons_option o xs) → r ≤ (get_or (cons_option o xs) k d).0
-from_first r None xs now rest k d h = rest k d h
-from_first r (Some s) xs now rest zero d h = let is = now s refl in omega (arith, is)
-from_first r (Some s) xs now rest (suc k) d h = rest k d (omega arith)
+rise_part : (r : ℕ) (es : List Happened) (o : Option (ℕ × ℕ)) (xs : List Issued) → ((k : ℕ) (d : Issued) → k < length xs → r ≤ (get_or xs k d).round) → IsNonDecreasingBy (λ (i : Issued). i.round) xs → IsNonDecreasingBy (λ (i : Issued). i.round) (cons_option (option_map (issue_in r es) o) xs)
+rise_part r es None xs low up j k d l h = up j k d l h
+rise_part r es (Some p) xs low up zero zero d l h = omega arith
+rise_part r es (Some p) xs low up zero (suc k) d l h = low k d (omega arith)
+rise_part r es (Some p) xs low up (suc j) zero d l h = absurd (omega arith)
+rise_part r es (Some p) xs low up (suc j) (suc k) d l h = up j k d (omega arith) (omega arith)
 
 tick_up : (b : Bool) (r : ℕ) → r ≤ cond b (r + 1) r
 tick_up true r = omega arith
 tick_up false r = omega arith
 
-served_from : (r : ℕ) (es : List Happened) (k : ℕ) (d : ℕ × ℕ) → k < length (served r es) → r ≤ (get_or (served r es) k d).0
-unfolding served
-served_from r [] k d h = absurd (omega arith)
-served_from r (x ∷ es) k d h =
-    from_first r (service r x es) (served (cond (is_tick x) (r + 1) r) es) (λ s e. round_told r (issues x) (λ t. ends_requeued t es) s e)
-    (λ j e low. omega (arith, tick_up (is_tick x) r, served_from (cond (is_tick x) (r + 1) r) es j e low)) k d h
+issues_rise : (r : ℕ) (es : List Happened) → IsNonDecreasingBy (λ (i : Issued). i.round) (issues_from r es)
+unfolding issues_from
+issues_rise r [] j k d l h = absurd (omega arith)
+issues_rise r (x ∷ es) j k d l h =
+    let next : ℕ = cond (is_tick x) (r + 1) r in
+    let xs : List Issued = issues_from next es in
+    rise_part r es (issues x) xs (λ i e low. let b = issue_between next es i (get_or xs i e) (slice_get-get_or xs i e low) in omega (arith, tick_up (is_tick x) r, b.0)) (issues_rise next es) j k d l h
 
-up_first : (r : ℕ) (o : Option (ℕ × ℕ)) (xs : List (ℕ × ℕ)) → ((s : ℕ × ℕ) → o ≡ Some s → s.0 ≡ r) → ((k : ℕ) (d : ℕ × ℕ) → k < length xs → r ≤ (get_or xs k d).0)
-    → ((j k : ℕ) (d : ℕ × ℕ) → j ≤ k → k < length xs → (get_or xs j d).0 ≤ (get_or xs k d).0) → (j k : ℕ) (d : ℕ × ℕ) → j ≤ k → k < length (cons_option o xs) → (get_or (cons_option o xs) j d).0 ≤ (get_or (cons_option o xs) k d).0
-up_first r None xs now rest up j k d l h = up j k d l h
-up_first r (Some s) xs now rest up zero zero d l h = omega arith
-up_first r (Some s) xs now rest up zero (suc k) d l h = let is = now s refl in let low = rest k d (omega arith) in omega (arith, is, low)
-up_first r (Some s) xs now rest up (suc j) zero d l h = absurd (omega arith)
-up_first r (Some s) xs now rest up (suc j) (suc k) d l h = up j k d (omega arith) (omega arith)
-
-served_up : (r : ℕ) (es : List Happened) (j k : ℕ) (d : ℕ × ℕ) → j ≤ k → k < length (served r es) → (get_or (served r es) j d).0 ≤ (get_or (served r es) k d).0
-unfolding served
-served_up r [] j k d l h = absurd (omega arith)
-served_up r (x ∷ es) j k d l h =
-    up_first r (service r x es) (served (cond (is_tick x) (r + 1) r) es) (λ s e. round_told r (issues x) (λ t. ends_requeued t es) s e)
-    (λ i e low. omega (arith, tick_up (is_tick x) r, served_from (cond (is_tick x) (r + 1) r) es i e low))
-    (λ i m e a b. served_up (cond (is_tick x) (r + 1) r) es i m e a b) j k d l h
-
-round_at : (es : List Happened) (k : ℕ) → k < length (rounds_of es) → get_or (rounds_of es) k 0 ≡ (get_or (served 0 es) k (0, 0)).0
-unfolding rounds_of
-round_at es k h = get_or-map (λ (s : ℕ × ℕ). s.0) (served 0 es) k (0, 0) 0 (omega (arith, length-map (served 0 es) (λ (s : ℕ × ℕ). s.0)))
-
-as_served : (es : List Happened) → length (rounds_of es) ≡ length (served 0 es)
-unfolding rounds_of
-as_served es = length-map (served 0 es) (λ (s : ℕ × ℕ). s.0)
+abbrev no_issue : Issued
+no_issue = record { round = 0; id = 0; tag = 0; outcome = Flying }
 
 pub rise : (setup : Setup) (es : List Happened) → AreInIssueOrder (services_of setup es)
-rise setup es j k d l h =
-    let low : k < length (rounds_of es) = omega (arith, as_many setup es, as_many_rounds setup es) in
-    omega (arith, same_issue setup es (rounds_of es) j d refl (omega arith), same_issue setup es (rounds_of es) k d refl h, round_at es j (omega arith), round_at es k low, served_up 0 es j k (0, 0) l (omega (arith, low, as_served es)))
+unfolding services_of
+rise setup es = IsNonDecreasingBy-filter (λ (s : Service). s.issue) (λ (s : Service). not s.back) (map (service_of setup es) (issues_of es)) (λ j k d l h.
+    let f : Issued → Service = service_of setup es in
+    let xs : List Issued = issues_of es in
+    let n : length (map f xs) ≡ length xs = length-map xs f in
+    let up = issues_rise 0 es j k no_issue l (omega arith) in
+    let first : (get_or (map f xs) j d).issue ≡ (get_or xs j no_issue).round = ap (λ (s : Service). s.issue) (get_or-map f xs j no_issue d (omega arith)) in
+    let second : (get_or (map f xs) k d).issue ≡ (get_or xs k no_issue).round = ap (λ (s : Service). s.issue) (get_or-map f xs k no_issue d (omega arith)) in
+    omega (arith, up, first, second))
 
 -- and they lie within the limits
 pub timed : (setup : Setup) (es : List Happened) (steps : List Step) → AreBounded (commands_of setup es) (rounds_of es) → IsLegal (commands_of setup es) (rounds_of es) steps → AreWithinLimits (services_of setup es)

@@ -17,7 +17,8 @@ use Rattle.blk_trace.specs.Happened.{Happened}
 use Rattle.blk_trace.specs.declared.event.Event.TheVariants.{Release, Issue}
 use Rattle.blk_trace.specs.Kinds.{releases, joins, issues, ends, is_tick, sets_depth, enters}
 use Rattle.blk_trace.specs.Setups.{Setup}
-use Rattle.blk_trace.specs.Events.{entered, request_of, ends_requeued, round_at, round_of, EndsAt, IsReleased, IsIssued, IsRequeued, AreRequeued, IsOpen, IsUsed, open_count, AreOnce}
+use Rattle.blk_trace.specs.Issues.{outcome_of, was_requeued}
+use Rattle.blk_trace.specs.Events.{entered, request_of, round_at, round_of, EndsAt, IsReleased, IsIssued, IsRequeued, AreRequeued, IsOpen, IsUsed, open_count, AreOnce}
 use Rattle.blk_trace.specs.Depths.{depth_now}
 use Rattle.blk_trace.specs.Rules.{asks_for, Obeys, rank, IsFirstBroken, BreaksNoRule}
 use Rattle.blk_bio.specs.declared.rule.TraceRule.{TraceRule}
@@ -147,7 +148,7 @@ IsBackAt events id k e = (tag : ℕ) → e ≡ Issue id tag → IsRequeued event
 
 is_back : (events : List Happened) (id k : ℕ) (e : Happened) → Dec (IsBackAt events id k e)
 is_back events id k (Issue i t) = same_as (λ f tag is. (let same : i ≡ id = cc is in let tags : t ≡ tag = cc is in subst (IsRequeued events k) tags (f same))) (λ f s. f t (ap (λ n. Issue n t) s))
-    (implied (same_number i id) (is_true (ends_requeued t (drop (suc k) events))))
+    (implied (same_number i id) (is_true (was_requeued (outcome_of t (drop (suc k) events)))))
 is_back events id k e = inl (λ tag is. absurd (cc is))
 
 are_requeued : (events : List Happened) (id : ℕ) → Dec (AreRequeued events id)

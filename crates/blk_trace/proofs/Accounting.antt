@@ -15,11 +15,13 @@ use Rattle.blk_trace.specs.Setups.{Setup}
 use Rattle.blk_trace.specs.Events.{join_up, request_of, entered, bios_of, IsReleased, IsOpen, IsOpenBy}
 use Rattle.blk_trace.specs.Legal.{IsLegalTrace}
 use Rattle.blk_trace.specs.Rules.{BreaksNoRule}
+use Rattle.blk_trace.specs.Issues.{issues_from}
 use Rattle.blk_trace.specs.Meaning.{served, issued_ids, released_ids, put_rising, rising, waiting_ids, waiting_of}
 use Rattle.blk_trace.specs.Waits.{has_id}
 use Rattle.blk_trace.specs.Laws.{IsAccounted}
 use Rattle.blk_trace.proofs.Pushing.{entered_more}
-use Rattle.blk_trace.proofs.More.{issued_more, released_more}
+use Rattle.blk_trace.proofs.More.{released_more}
+use Rattle.blk_trace.proofs.Served.{issued_more}
 use Rattle.blk_trace.proofs.Requeuing.{LosesIssue, requeued, IsOut, requeued_ids, open_by}
 use Rattle.blk_trace.proofs.Requeues.{open_issued}
 use Rattle.blk_trace.proofs.Ids.{by_legal, all_back, released_has, has_issued, not_released, not_issued, has_issued_more, released_first}
@@ -329,7 +331,7 @@ account_step setup es (Back t) old all ih = on_requeued setup es t old all ih
 account_step setup es e old all ih = quiet setup es e refl refl refl refl (λ x. (same_entered setup es e x refl).request) ih
 
 accounts : (setup : Setup) (es : List Happened) → IsLegalTrace setup es → IsPermutation (all_of es) (entered es)
-unfolding waiting released_ids issued_ids served entered
+unfolding waiting released_ids issued_ids served issues_from entered
 accounts setup es legal = by_legal setup (λ l. IsPermutation (all_of l) (entered l)) (IsPermutation-refl []) (λ l e new old all ih. account_step setup l e old all ih) es legal
 
 pub accounted : (setup : Setup) (events : List Happened) → IsLegalTrace setup events → IsAccounted events

@@ -1,9 +1,8 @@
 -- What bounds a trace's commands and their rounds.
-use Rattle.std.proofs.Common.{◌≡◌, ◌≢◌, ◌<◌, ◌≤◌, ◌+◌, ◌==◌, ℕ, zero, suc, List, [], ◌∷◌, length, map, get_or, refl, sym, ◌∙◌, ap, subst, arith, Some, None, cond, Bool, true, false, eq-eqb}
-use Rattle.std.specs.Prelude.{Option, count_by, All}
-use Rattle.std.specs.List.{cons_option}
-use Rattle.std.specs.Option.{option_and_then}
-use Rattle.std.proofs.lemmas.List.Elements.{All-cons, All-nil, All-map}
+use Rattle.std.proofs.Common.{◌≡◌, ◌≢◌, ◌<◌, ◌≤◌, ◌==◌, ℕ, zero, suc, List, [], ◌∷◌, length, map, get_or, refl, sym, ◌∙◌, ap, subst, arith, Bool, true, eq-eqb}
+use Rattle.std.specs.Prelude.{not, count_by, filter, All}
+use Rattle.std.proofs.lemmas.List.Sums.{length-filter, count_by-le-length}
+use Rattle.std.proofs.lemmas.List.Elements.{All-map}
 use Rattle.std.proofs.lemmas.Bool.{or_left, or_right}
 use Rattle.edd_commands.specs.declared.Command.{Command}
 use Rattle.edd_commands.specs.declared.TheConstants.{MAX_ROUNDS}
@@ -13,65 +12,47 @@ use Rattle.blk_bio.specs.Requests.{dir_of}
 use Rattle.blk_trace.specs.declared.trace.TheConstants.{MAX_EVENTS}
 use Rattle.blk_trace.specs.declared.setup.TheConstants.{MAX_EXPIRIES}
 use Rattle.blk_trace.specs.Happened.{Happened}
-use Rattle.blk_trace.specs.Kinds.{is_tick, issues}
+use Rattle.blk_trace.specs.declared.issued.Issued.{Issued}
+use Rattle.blk_trace.specs.Issues.{issues_of, was_requeued, kept_of}
 use Rattle.blk_trace.specs.Setups.{Setup, IsSetup, expire_of}
-use Rattle.blk_trace.specs.Events.{round_of, ends_requeued, request_of, IsReleased}
+use Rattle.blk_trace.specs.Events.{round_of, request_of, IsReleased}
 use Rattle.blk_trace.specs.Legal.{IsLegalTrace}
-use Rattle.blk_trace.specs.Meaning.{service, served, issued_ids, command_of, commands_of, rounds_of}
+use Rattle.blk_trace.specs.Meaning.{round_and_id, served, issued_ids, command_of, commands_of, rounds_of}
 use Rattle.blk_trace.specs.Waits.{has_id}
 use Rattle.blk_trace.specs.Laws.{AreBounded}
-use Rattle.blk_trace.proofs.More.{round_cons, rounds_within}
+use Rattle.blk_trace.proofs.More.{rounds_within}
+use Rattle.blk_trace.proofs.Issues.{issues_few}
+use Rattle.blk_trace.proofs.Served.{served_between}
 use Rattle.blk_trace.proofs.Ids.{has_issued, released_first, released_has}
 use Rattle.blk_trace.proofs.Entering.{release_within, IsDueSoon, soon}
 use Rattle.blk_trace.proofs.Counting.{one_if, count-cons}
 use Rattle.blk_trace.proofs.Requeuing.{distinct}
 
 -- there are no more commands than events
-cons_few : (o : Option (ℕ × ℕ)) (xs : List (ℕ × ℕ)) → length (cons_option o xs) ≤ length xs + 1
-cons_few None xs = omega arith
-cons_few (Some x) xs = omega arith
-
-served_few : (r : ℕ) (es : List Happened) → length (served r es) ≤ length es
-unfolding served
-served_few r [] = omega arith
-served_few r (x ∷ es) = omega (arith, cons_few (service r x es) (served (cond (is_tick x) (r + 1) r) es), served_few (cond (is_tick x) (r + 1) r) es)
+filter_few : {X : Type 0} (p : X → Bool) (xs : List X) → length (filter p xs) ≤ length xs
+filter_few p xs = omega (arith, length-filter p xs, count_by-le-length p xs)
 
 map_length : {X Y : Type 0} (f : X → Y) (xs : List X) → length (map f xs) ≡ length xs
 map_length f [] = refl
 map_length f (x ∷ xs) = ap suc (map_length f xs)
 
 commands_few : (setup : Setup) (es : List Happened) → length (commands_of setup es) ≤ length es
-unfolding commands_of issued_ids
-commands_few setup es = omega (arith, map_length (command_of setup es) (map (λ (s : ℕ × ℕ). s.1) (served 0 es)), map_length (λ (s : ℕ × ℕ). s.1) (served 0 es), served_few 0 es)
+unfolding commands_of issued_ids served
+commands_few setup es =
+    let kept : List Issued = kept_of (issues_of es) in
+    omega (
+      arith,
+      map_length (command_of setup es) (map (λ (s : ℕ × ℕ). s.1) (map round_and_id kept)),
+      map_length (λ (s : ℕ × ℕ). s.1) (map round_and_id kept),
+      map_length round_and_id kept,
+      filter_few (λ i. not (was_requeued i.outcome)) (issues_of es),
+      issues_few 0 es,
+    )
 
 -- no round is later than the last
-now_or_not : (b : Bool) (p s : ℕ × ℕ) → cond b None (Some p) ≡ Some s → s.0 ≡ p.0
-now_or_not true p s h = absurd (cc)
-now_or_not false p s h = let same : p ≡ s = cc in ap (λ (x : ℕ × ℕ). x.0) (sym same)
-
-served_now : (r : ℕ) (x : Happened) (es : List Happened) (s : ℕ × ℕ) → service r x es ≡ Some s → s.0 ≡ r
-served_now r x es s h = by_issue (issues x) h
-  where
-    by_issue : (o : Option (ℕ × ℕ)) → option_and_then {U = ℕ × ℕ} (λ p. cond (ends_requeued p.1 es) None (Some (r, p.0))) o ≡ Some s → s.0 ≡ r
-    by_issue None h = absurd (cc)
-    by_issue (Some p) h = now_or_not (ends_requeued p.1 es) (r, p.0) s h
-
-service_early : (r B : ℕ) (x : Happened) (es : List Happened) (xs : List (ℕ × ℕ)) → r ≤ B → All (λ (s : ℕ × ℕ). s.0 ≤ B) xs → All (λ (s : ℕ × ℕ). s.0 ≤ B) (cons_option (service r x es) xs)
-service_early r B x es xs h rest = by_some (service r x es) (λ s e. served_now r x es s e)
-  where
-    by_some : (o : Option (ℕ × ℕ)) → ((s : ℕ × ℕ) → o ≡ Some s → s.0 ≡ r) → All (λ (s : ℕ × ℕ). s.0 ≤ B) (cons_option o xs)
-    by_some None now = rest
-    by_some (Some s) now = All-cons (λ (s : ℕ × ℕ). s.0 ≤ B) s xs (let e : s.0 ≡ r = now s refl in omega arith) rest
-
-served_early : (r B : ℕ) (es : List Happened) → r + round_of es ≤ B → All (λ (s : ℕ × ℕ). s.0 ≤ B) (served r es)
-unfolding served
-served_early r B [] h = All-nil (λ (s : ℕ × ℕ). s.0 ≤ B)
-served_early r B (x ∷ es) h =
-    service_early r B x es (served (cond (is_tick x) (r + 1) r) es) (omega arith) (served_early (cond (is_tick x) (r + 1) r) B es (omega (arith, round_cons x es r)))
-
 rounds_early : (es : List Happened) → All (λ r. r ≤ round_of es) (rounds_of es)
 unfolding rounds_of
-rounds_early es = All-map (λ (r : ℕ). r ≤ round_of es) (λ (s : ℕ × ℕ). s.0) (served 0 es) (served_early 0 (round_of es) es (omega arith))
+rounds_early es = All-map (λ (r : ℕ). r ≤ round_of es) (λ (s : ℕ × ℕ). s.0) (served 0 es) (λ k d h. omega (arith, (served_between 0 es k d h).1))
 
 -- what stands at a place is in the list
 place_has : (xs : List ℕ) (k d : ℕ) → k < length xs → has_id xs (get_or xs k d) ≡ true

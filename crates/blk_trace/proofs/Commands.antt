@@ -10,7 +10,7 @@ use Rattle.blk_trace.specs.Legal.{IsLegalTrace}
 use Rattle.blk_trace.specs.Events.{round_of}
 use Rattle.blk_trace.specs.Meaning.{release_of, due_of, issued_ids, command_of, commands_of, rounds_of}
 use Rattle.blk_trace.specs.Waits.{Entered, has_id, waits_at}
-use Rattle.blk_trace.proofs.More.{new_ids, issued_more, rounds_more}
+use Rattle.blk_trace.proofs.Served.{new_ids, issued_more, rounds_more}
 use Rattle.blk_trace.proofs.Pushing.{shorter_legal, obeys}
 use Rattle.blk_trace.proofs.Ids.{has_issued}
 use Rattle.blk_trace.proofs.Entering.{IsSame, same_entered, stays_out}

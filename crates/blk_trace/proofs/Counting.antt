@@ -15,7 +15,8 @@ use Rattle.blk_trace.specs.Rules.{BreaksNoRule}
 use Rattle.blk_trace.specs.Meaning.{issued_ids, released_ids, put_rising, rising, waiting_ids}
 use Rattle.blk_trace.specs.Waits.{has_id, waiting_count}
 use Rattle.blk_trace.proofs.Pushing.{shorter_legal, obeys}
-use Rattle.blk_trace.proofs.More.{issued_more, released_more}
+use Rattle.blk_trace.proofs.More.{released_more}
+use Rattle.blk_trace.proofs.Served.{issued_more}
 use Rattle.blk_trace.proofs.Ids.{by_legal, released_has, not_released, not_issued, all_back, has_released_more, has_issued_more, released_first}
 use Rattle.blk_trace.proofs.Entering.{has_released_same, has_issued_same}
 

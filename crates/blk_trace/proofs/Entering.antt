@@ -16,7 +16,8 @@ use Rattle.blk_trace.specs.Legal.{IsLegalTrace}
 use Rattle.blk_trace.specs.Rules.{BreaksNoRule}
 use Rattle.blk_trace.specs.Meaning.{timed, release_of, due_of, issued_ids, released_ids, least}
 use Rattle.blk_trace.specs.Waits.{has_id}
-use Rattle.blk_trace.proofs.More.{new_ids, request_more, release_more, dues, dues_more, due_is, round_more}
+use Rattle.blk_trace.proofs.More.{request_more, release_more, dues, dues_more, due_is, round_more}
+use Rattle.blk_trace.proofs.Served.{new_ids}
 use Rattle.blk_trace.proofs.Ids.{by_events, by_legal, released_has, not_released, has_released_more, released_first, has_issued_more}
 
 -- whether a request enters under the id by the event

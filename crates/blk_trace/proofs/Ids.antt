@@ -1,23 +1,26 @@
 -- Ids by place and in the lists of ids; induction over legal lists.
-use Rattle.std.proofs.Common.{◌≡◌, ◌++◌, ◌==◌, ◌+◌, ℕ, zero, suc, cond, map, drop, List, [], ◌∷◌, length, refl, sym, ◌∙◌, ap, subst, arith, inl, inr, true, false, eq-eqb, eqb-true}
+use Rattle.std.proofs.Common.{◌≡◌, ◌++◌, ◌==◌, ℕ, zero, suc, drop, List, [], ◌∷◌, length, refl, sym, ◌∙◌, ap, subst, arith, inl, inr, true, false, eq-eqb, eqb-true}
 use Rattle.std.specs.Prelude.{◌||◌, Option, Some, None, option_map}
-use Rattle.std.specs.Option.{option_map_or, option_and_then}
+use Rattle.std.specs.Option.{option_map_or}
 use Rattle.std.specs.List.{filter_map, cons_option, list_any}
 use Rattle.std.proofs.lemmas.List.Folds.{list_any-append}
 use Rattle.std.proofs.lemmas.Bool.{cases_Bool, false_from_ne_true, or_cases, or_left, or_right}
 use Rattle.blk_bio.specs.Bios.{Bio}
 use Rattle.blk_trace.specs.Happened.{Happened, Release, Issue}
-use Rattle.blk_trace.specs.Kinds.{releases, issues, requeues, is_tick}
+use Rattle.blk_trace.specs.Kinds.{releases, issues, requeues}
 use Rattle.blk_trace.specs.Setups.{Setup}
-use Rattle.blk_trace.specs.Events.{At, ends_requeued, IsReleased, IsIssued, AreRequeued}
+use Rattle.blk_trace.specs.Events.{At, IsReleased, IsIssued, AreRequeued}
 use Rattle.blk_trace.specs.Legal.{IsLegalTrace}
 use Rattle.blk_trace.specs.Rules.{BreaksNoRule}
-use Rattle.blk_trace.specs.Meaning.{service, served, issued_ids, released_ids}
+use Rattle.blk_trace.specs.Issues.{outcome_of, was_requeued}
+use Rattle.blk_trace.specs.Meaning.{issued_ids, released_ids}
 use Rattle.blk_trace.specs.Waits.{has_id, was_issued}
 use Rattle.blk_trace.proofs.Places.{of_take}
 use Rattle.blk_trace.proofs.Words.{release_of_id, issue_is}
 use Rattle.blk_trace.proofs.Pushing.{shorter_legal, obeys}
-use Rattle.blk_trace.proofs.More.{new_ids, issued_more, released_more}
+use Rattle.blk_trace.proofs.More.{released_more}
+pub use Rattle.blk_trace.proofs.Served.{has_served, served_has}
+use Rattle.blk_trace.proofs.Served.{new_ids, issued_more}
 
 -- a list with an element has a last one
 pub unsnoc : {X : Type 0} (xs : List X) (n : ℕ) → length xs ≡ suc n → (ys : List X) × ((y : X) × (xs ≡ ys ++ y ∷ []) × (length ys ≡ n))
@@ -89,73 +92,16 @@ has_released es id h =
     let r = release_of_id p.event id p.gives in
     (p.place, (r.0, p.stands ∙ ap Some r.1))
 
--- the Issues that were not requeued, by place
-pub record IsServed (es : List Happened) (id : ℕ) : Type 0 where
-  pub place : ℕ
-  pub tag : ℕ
-  pub issued : At es place (Issue id tag)
-  pub stays : ends_requeued tag (drop (suc place) es) ≡ false
-
-served_later : (x : Happened) (es : List Happened) (id : ℕ) → IsServed es id → IsServed (x ∷ es) id
-served_later x es id p = record { place = suc p.place; tag = p.tag; issued = p.issued; stays = p.stays }
-
-abbrev ids_from : ℕ → List Happened → List ℕ
-ids_from r es = map (λ (s : ℕ × ℕ). s.1) (served r es)
-
-more_ids : (o : Option (ℕ × ℕ)) (xs : List (ℕ × ℕ)) (id : ℕ) → has_id (map (λ (s : ℕ × ℕ). s.1) xs) id ≡ true → has_id (map (λ (s : ℕ × ℕ). s.1) (cons_option o xs)) id ≡ true
-more_ids None xs id h = h
-more_ids (Some s) xs id h = or_right (s.1 == id) _ h
-
-serves : (r : ℕ) (es : List Happened) (k id tag : ℕ) → At es k (Issue id tag) → ends_requeued tag (drop (suc k) es) ≡ false → has_id (ids_from r es) id ≡ true
-unfolding served
-serves r [] k id tag h g = absurd (cc)
-serves r (x ∷ es) zero id tag h g =
-    let is : Issue id tag ≡ x = cc in
-    let here : service r (Issue id tag) es ≡ Some (r, id) = ap (λ b. cond b None (Some (r, id))) g in
-    let P : Happened → Type 0 = λ e. has_id (map (λ (s : ℕ × ℕ). s.1) (cons_option (service r e es) (served (cond (is_tick e) (r + 1) r) es))) id ≡ true in
-    let there : P (Issue id tag) = ap (λ o. has_id (map (λ (s : ℕ × ℕ). s.1) (cons_option o (served r es))) id) here ∙ or_left (id == id) _ (eq-eqb id id refl) in
-    subst P is there
-serves r (x ∷ es) (suc k) id tag h g = more_ids (service r x es) (served (cond (is_tick x) (r + 1) r) es) id (serves (cond (is_tick x) (r + 1) r) es k id tag h g)
-
-serving : (r : ℕ) (x : Happened) (es : List Happened) (id : ℕ) (xs : List (ℕ × ℕ)) (o : Option (ℕ × ℕ)) → issues x ≡ o → (has_id (map (λ (s : ℕ × ℕ). s.1) xs) id ≡ true → IsServed es id)
-    → has_id (map (λ (s : ℕ × ℕ). s.1) (cons_option (option_and_then (λ p. cond (ends_requeued p.1 es) None (Some (r, p.0))) o) xs)) id ≡ true → IsServed (x ∷ es) id
-serving r x es id xs None none ih h = served_later x es id (ih h)
-serving r x es id xs (Some p) is ih h =
-    elim (cases_Bool (ends_requeued p.1 es)) [
-      | inl b ↦ served_later x es id (ih (rw b at h))
-      | inr b ↦
-          let found : ((p.0 == id) || has_id (map (λ (s : ℕ × ℕ). s.1) xs) id) ≡ true = rw b at h in
-          elim (or_cases (p.0 == id) (has_id (map (λ (s : ℕ × ℕ). s.1) xs) id) found) [
-            | inl t ↦
-                let same : p.0 ≡ id = eqb-true p.0 id t in
-                record { place = 0; tag = p.1; issued = ap Some (issue_is x p is ∙ ap (λ (n : ℕ). Issue n p.1) same); stays = b }
-            | inr t ↦ served_later x es id (ih t)
-          ]
-    ]
-
-has_serving : (r : ℕ) (es : List Happened) (id : ℕ) → has_id (ids_from r es) id ≡ true → IsServed es id
-unfolding served
-has_serving r [] id h = absurd (cc)
-has_serving r (x ∷ es) id h = serving r x es id (served (cond (is_tick x) (r + 1) r) es) (issues x) refl (has_serving (cond (is_tick x) (r + 1) r) es id) h
-
-pub has_served : (es : List Happened) (id : ℕ) → has_id (issued_ids es) id ≡ true → IsServed es id
-unfolding issued_ids
-has_served es id h = has_serving 0 es id h
-
-pub served_has : (es : List Happened) (k id tag : ℕ) → At es k (Issue id tag) → ends_requeued tag (drop (suc k) es) ≡ false → has_id (issued_ids es) id ≡ true
-unfolding issued_ids
-served_has es k id tag h g = serves 0 es k id tag h g
-
 pub has_issued : (es : List Happened) (id : ℕ) → has_id (issued_ids es) id ≡ true → IsIssued es id
 has_issued es id h = let p = has_served es id h in (p.place, (p.tag, p.issued))
 
 -- an id whose Issues were all requeued
 pub all_back : (es : List Happened) (id : ℕ) → AreRequeued es id → has_id (issued_ids es) id ≡ false
-all_back es id back = false_from_ne_true _ (λ t. let p = has_served es id t in let b : ends_requeued p.tag (drop (suc p.place) es) ≡ true = back p.place p.tag p.issued in let n = p.stays in absurd (cc))
+all_back es id back = false_from_ne_true _ (λ t. let p = has_served es id t in let b : was_requeued (outcome_of p.tag (drop (suc p.place) es)) ≡ true = back p.place p.tag p.issued in let n = p.stays in absurd (cc))
 
 pub back_all : (es : List Happened) (id : ℕ) → has_id (issued_ids es) id ≡ false → AreRequeued es id
 back_all es id h k tag at =
-    elim (cases_Bool (ends_requeued tag (drop (suc k) es))) [
+    elim (cases_Bool (was_requeued (outcome_of tag (drop (suc k) es)))) [
       | inl b ↦ b
       | inr b ↦ absurd (let t : has_id (issued_ids es) id ≡ true = served_has es k id tag at b in cc)
     ]

@@ -1,7 +1,7 @@
 -- The Issues of a list of events, with one more event, and what each says of the events.
 use Rattle.std.proofs.Common.{◌≡◌, ◌≤◌, ◌<◌, ◌+◌, ◌-◌, ◌++◌, ◌==◌, ◌∙◌, ◌∷◌, ℕ, zero, suc, List, [], length, refl, sym, ap, subst, arith, inl, inr, cond, Bool, true, false, map, take, drop, get_or, set, eqb-true, eq-eqb}
-use Rattle.std.specs.Prelude.{◌&&◌, not, is_some, slice_get, Option, Some, None, option_map}
-use Rattle.std.specs.Option.{option_and_then, option_map_or}
+use Rattle.std.specs.Prelude.{◌&&◌, is_some, slice_get, Option, Some, None, option_map}
+use Rattle.std.specs.Option.{option_map_or}
 use Rattle.std.specs.List.{cons_option, filter_map}
 use Rattle.std.proofs.lemmas.List.{take_more}
 use Rattle.std.proofs.lemmas.Option.{slice_get-get_or}
@@ -13,11 +13,9 @@ use Rattle.blk_trace.specs.declared.issued.Issued.{Issued}
 use Rattle.blk_trace.specs.declared.event.Event.TheVariants.{Issue}
 use Rattle.blk_trace.specs.Happened.{Happened}
 use Rattle.blk_trace.specs.Kinds.{is_tick, issues, ends, requeues, is_done_of}
-use Rattle.blk_trace.specs.Events.{At, EndsAt, round_of, ends_requeued, IsIssued, IsOpenBy}
-use Rattle.blk_trace.specs.Setups.{Setup}
-use Rattle.blk_trace.specs.Meaning.{service, served, issued_ids, command_of, commands_of, rounds_of}
-use Rattle.blk_trace.specs.Issues.{end_of, outcome_of, issue_in, issues_from, issues_of, flies, was_requeued}
-use Rattle.blk_trace.specs.Inside.Issues.{ended_by, kept_of, round_and_id, command_in, round_in}
+use Rattle.blk_trace.specs.Events.{At, EndsAt, round_of, IsIssued, IsOpenBy}
+use Rattle.blk_trace.specs.Issues.{end_of, outcome_of, issue_in, issues_from, issues_of, flies}
+use Rattle.blk_trace.specs.Inside.Issues.{ended_by}
 use Rattle.blk_trace.proofs.Words.{done_by, done_by_none, issue_is}
 use Rattle.blk_trace.proofs.More.{round_cons}
 
@@ -91,33 +89,6 @@ issues_ended r t (x ∷ es) e h none =
     ∙ ap (cons_option (option_map (ended_by t (end_of e)) (option_map (issue_in r es) (issues x)))) (issues_ended next t es e h none)
     ∙ sym (map_part (ended_by t (end_of e)) (option_map (issue_in r es) (issues x)) (issues_from next es))
 
--- ---- those that were not requeued
-
-back_step : (b c : Bool) (s : Outcome) (t : Bool) → was_requeued s ≡ t → was_requeued (cond b (cond c Back Done) s) ≡ cond b c t
-back_step true true s t h = refl
-back_step true false s t h = refl
-back_step false c s t h = h
-
-pub back_is : (tag : ℕ) (es : List Happened) → was_requeued (outcome_of tag es) ≡ ends_requeued tag es
-unfolding outcome_of ends_requeued
-back_is tag [] = refl
-back_is tag (e ∷ es) = back_step (is_done_of tag e) (is_some (requeues e)) (outcome_of tag es) (ends_requeued tag es) (back_is tag es)
-
-kept_one : (i : Issued) (b : Bool) (xs : List Issued) → was_requeued i.outcome ≡ b → map round_and_id (cond (not (was_requeued i.outcome)) (i ∷ xs) xs) ≡ cons_option (cond b None (Some (i.round, i.id))) (map round_and_id xs)
-kept_one i true xs h = ap (λ b. map round_and_id (cond (not b) (i ∷ xs) xs)) h
-kept_one i false xs h = ap (λ b. map round_and_id (cond (not b) (i ∷ xs) xs)) h
-
-kept_part : (r : ℕ) (es : List Happened) (o : Option (ℕ × ℕ)) (xs : List Issued) → map round_and_id (kept_of (cons_option (option_map (issue_in r es) o) xs)) ≡ cons_option (option_and_then {U = ℕ × ℕ} (λ p. cond (ends_requeued p.1 es) None (Some (r, p.0))) o) (map round_and_id (kept_of xs))
-kept_part r es None xs = refl
-kept_part r es (Some p) xs = kept_one (issue_in r es p) (ends_requeued p.1 es) (kept_of xs) (back_is p.1 es)
-
-pub served_are : (r : ℕ) (es : List Happened) → map round_and_id (kept_of (issues_from r es)) ≡ served r es
-unfolding issues_from served
-served_are r [] = refl
-served_are r (e ∷ es) =
-    let next : ℕ = cond (is_tick e) (r + 1) r in
-    kept_part r es (issues e) (issues_from next es) ∙ ap (cons_option (service r e es)) (served_are next es)
-
 -- ---- what is in flight has not ended
 
 ended_step : (b c : Bool) (s : Outcome) → b ≡ false → flies (cond b (cond c Back Done) s) ≡ flies s
@@ -188,6 +159,22 @@ unfolding issues_from
 issue_from r [] k i h = absurd (cc)
 issue_from r (x ∷ es) k i h = from_part r x es (issues x) (issues_from (cond (is_tick x) (r + 1) r) es) k i refl (λ j t. issue_from (cond (is_tick x) (r + 1) r) es j i t) h
 
+-- the place of an Issue's event
+place_after : {X : Type 0} (o : Option X) (xs : List X) (k : ℕ) (x : X) → slice_get xs k ≡ Some x → (j : ℕ) × (slice_get (cons_option o xs) j ≡ Some x)
+place_after None xs k x h = (k, h)
+place_after (Some y) xs k x h = (suc k, h)
+
+pub issue_at : (r : ℕ) (es : List Happened) (k id tag : ℕ) → At es k (Issue id tag) → (j : ℕ) × ((n : ℕ) × (slice_get (issues_from r es) j ≡ Some (record { round = n; id = id; tag = tag; outcome = outcome_of tag (drop (suc k) es) })))
+unfolding issues_from
+issue_at r [] k id tag h = absurd (cc)
+issue_at r (x ∷ es) zero id tag h =
+    let is : x ≡ Issue id tag = cc in
+    (0, (r, ap (λ o. slice_get (cons_option (option_map (issue_in r es) o) (issues_from (cond (is_tick x) (r + 1) r) es)) 0) (ap issues is)))
+issue_at r (x ∷ es) (suc k) id tag h =
+    let p = issue_at (cond (is_tick x) (r + 1) r) es k id tag h in
+    let q = place_after (option_map (issue_in r es) (issues x)) (issues_from (cond (is_tick x) (r + 1) r) es) p.0 _ p.1.1 in
+    (q.0, (p.1.0, q.1))
+
 pub was_so : (es : List Happened) (k : ℕ) (i : Issued) → slice_get (issues_of es) k ≡ Some i → IsIssued es i.id
 was_so es k i h = let f = issue_from 0 es k i h in (f.place, (i.tag, f.issued))
 
@@ -244,38 +231,6 @@ set_ended t n (x ∷ xs) (suc place) i at is only =
     ap (λ l. x ∷ l) (set_ended t n xs place i at is (λ k j there b. omega (arith, only (suc k) j there b)))
     ∙ sym (ap (λ b. cond b (with_outcome x n) x ∷ map (ended_by t n) xs) other)
 
--- ---- the commands, and their rounds
-
-one_command : {Y : Type 0} (h : Issued → Y) (i : Issued) (b : Bool) (xs : List Issued) → cons_option (cond b None (Some (h i))) (map h xs) ≡ map h (cond (not b) (i ∷ xs) xs)
-one_command h i true xs = refl
-one_command h i false xs = refl
-
-pub kept_map : {Y : Type 0} (h : Issued → Y) (xs : List Issued) → filter_map (λ (i : Issued). cond (was_requeued i.outcome) None (Some (h i))) xs ≡ map h (kept_of xs)
-kept_map h [] = refl
-kept_map h (x ∷ xs) = ap (cons_option (cond (was_requeued x.outcome) None (Some (h x)))) (kept_map h xs) ∙ one_command h x (was_requeued x.outcome) (kept_of xs)
-
-map_map : {X Y Z : Type 0} (f : X → Y) (g : Y → Z) (xs : List X) → map g (map f xs) ≡ map (λ x. g (f x)) xs
-map_map f g [] = refl
-map_map f g (x ∷ xs) = ap (λ l. g (f x) ∷ l) (map_map f g xs)
-
-pub commands_are : (setup : Setup) (es : List Happened) → filter_map (command_in setup es) (issues_of es) ≡ commands_of setup es
-unfolding commands_of issued_ids
-commands_are setup es =
-    kept_map (λ (i : Issued). command_of setup es i.id) (issues_of es)
-    ∙ sym (map_map round_and_id (λ (s : ℕ × ℕ). command_of setup es s.1) (kept_of (issues_of es)))
-    ∙ ap (map (λ (s : ℕ × ℕ). command_of setup es s.1)) (served_are 0 es)
-    ∙ sym (map_map (λ (s : ℕ × ℕ). s.1) (command_of setup es) (served 0 es))
-
-pub rounds_are : (es : List Happened) → filter_map round_in (issues_of es) ≡ rounds_of es
-unfolding rounds_of
-rounds_are es = kept_map (λ (i : Issued). i.round) (issues_of es) ∙ sym (map_map round_and_id (λ (s : ℕ × ℕ). s.0) (kept_of (issues_of es))) ∙ ap (map (λ (s : ℕ × ℕ). s.0)) (served_are 0 es)
-
-pub in_command : (setup : Setup) (es : List Happened) (i : Issued) (b : Bool) → was_requeued i.outcome ≡ b → command_in setup es i ≡ cond b None (Some (command_of setup es i.id))
-in_command setup es i b h = ap (λ b. cond b None (Some (command_of setup es i.id))) h
-
-pub in_round : (i : Issued) (b : Bool) → was_requeued i.outcome ≡ b → round_in i ≡ cond b None (Some i.round)
-in_round i b h = ap (λ b. cond b None (Some i.round)) h
-
 -- one that stands in them was issued
 pub issued_there : (es : List Happened) (xs : List Issued) (k : ℕ) (d : Issued) → xs ≡ issues_of es → k < length xs → IsIssued es (get_or xs k d).id
 issued_there es xs k d same low = was_so es k (get_or xs k d) (ap (λ l. slice_get l k) (sym same) ∙ slice_get-get_or xs k d low)
@@ -302,14 +257,22 @@ unfolding issues_from
 issues_few r [] = omega arith
 issues_few r (e ∷ es) = let next : ℕ = cond (is_tick e) (r + 1) r in omega (arith, few_part r es (issues e) (issues_from next es), issues_few next es)
 
-low_part : (r n : ℕ) (es : List Happened) (o : Option (ℕ × ℕ)) (xs : List Issued) (k : ℕ) (i : Issued) → r ≤ n → ((j : ℕ) → slice_get xs j ≡ Some i → i.round ≤ n) → slice_get (cons_option (option_map (issue_in r es) o) xs) k ≡ Some i → i.round ≤ n
-low_part r n es None xs k i low later h = later k h
-low_part r n es (Some p) xs zero i low later h = let same : issue_in r es p ≡ i = cc in subst (λ (x : Issued). x.round ≤ n) same low
-low_part r n es (Some p) xs (suc k) i low later h = later k h
+between_part : (r n : ℕ) (es : List Happened) (o : Option (ℕ × ℕ)) (xs : List Issued) (k : ℕ) (i : Issued) → r ≤ n → ((j : ℕ) → slice_get xs j ≡ Some i → (r ≤ i.round) × (i.round ≤ n)) → slice_get (cons_option (option_map (issue_in r es) o) xs) k ≡ Some i → (r ≤ i.round) × (i.round ≤ n)
+between_part r n es None xs k i low later h = later k h
+between_part r n es (Some p) xs zero i low later h = let same : issue_in r es p ≡ i = cc in subst (λ (x : Issued). (r ≤ x.round) × (x.round ≤ n)) same (omega arith, low)
+between_part r n es (Some p) xs (suc k) i low later h = later k h
+
+tick_up : (b : Bool) (r : ℕ) → r ≤ cond b (r + 1) r
+tick_up true r = omega arith
+tick_up false r = omega arith
+
+pub issue_between : (r : ℕ) (es : List Happened) (k : ℕ) (i : Issued) → slice_get (issues_from r es) k ≡ Some i → (r ≤ i.round) × (i.round ≤ r + round_of es)
+unfolding issues_from
+issue_between r [] k i h = absurd (cc)
+issue_between r (e ∷ es) k i h =
+    let next : ℕ = cond (is_tick e) (r + 1) r in
+    between_part r (r + round_of (e ∷ es)) es (issues e) (issues_from next es) k i (omega arith)
+    (λ j there. let b = issue_between next es j i there in (omega (arith, tick_up (is_tick e) r, b.0), omega (arith, b.1, round_cons e es r))) h
 
 pub issue_low : (r : ℕ) (es : List Happened) (k : ℕ) (i : Issued) → slice_get (issues_from r es) k ≡ Some i → i.round ≤ r + round_of es
-unfolding issues_from
-issue_low r [] k i h = absurd (cc)
-issue_low r (e ∷ es) k i h =
-    let next : ℕ = cond (is_tick e) (r + 1) r in
-    low_part r (r + round_of (e ∷ es)) es (issues e) (issues_from next es) k i (omega arith) (λ j there. omega (arith, issue_low next es j i there, round_cons e es r)) h
+issue_low r es k i h = (issue_between r es k i h).1

@@ -3,6 +3,8 @@ pub mod Words
 pub mod Pushing
 pub mod More
 pub mod Depths
+pub mod Issues
+pub mod Served
 pub mod Ids
 pub mod Capacities
 pub mod Changes
@@ -25,7 +27,6 @@ pub mod First
 pub mod Room
 pub mod Asked
 pub mod Knowing
-pub mod Issues
 pub mod TagUses
 pub mod Newness
 pub mod Joining

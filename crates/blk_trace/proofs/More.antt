@@ -1,17 +1,16 @@
 -- Each word of a list of events with one more event.
-use Rattle.std.proofs.Common.{◌≡◌, ◌≤◌, ◌+◌, ◌++◌, ◌==◌, ◌||◌, ℕ, zero, suc, List, [], ◌∷◌, length, take, map, refl, sym, ◌∙◌, ap, arith, cond, Bool, true, false, option_map, Some, None, is_some}
+use Rattle.std.proofs.Common.{◌≡◌, ◌≤◌, ◌+◌, ◌++◌, ◌==◌, ◌||◌, ℕ, zero, suc, List, [], ◌∷◌, length, take, refl, sym, ◌∙◌, ap, arith, cond, Bool, true, false, option_map}
 use Rattle.std.specs.Prelude.{Option, count_by, fold, max}
-use Rattle.std.specs.Option.{option_map_or, option_and_then}
+use Rattle.std.specs.Option.{option_map_or}
 use Rattle.std.specs.List.{filter_map, cons_option, list_any}
-use Rattle.std.proofs.lemmas.List.{map-append}
 use Rattle.std.proofs.lemmas.List.Folds.{list_any-append}
 use Rattle.std.proofs.lemmas.List.Elements.{filter_map-append}
 use Rattle.std.proofs.lemmas.List.Sums.{sum_by-cons, sum_by-append, fold-append, count_by-le-length}
 use Rattle.blk_trace.specs.Happened.{Happened}
-use Rattle.blk_trace.specs.Kinds.{releases, issues, requeues, is_done_of, enters_under}
+use Rattle.blk_trace.specs.Kinds.{releases, issues, enters_under}
 use Rattle.blk_trace.specs.Setups.{Setup}
-use Rattle.blk_trace.specs.Events.{is_tick, round_of, ends_requeued, join_up, request_of}
-use Rattle.blk_trace.specs.Meaning.{timed, entry_round, entry_due, release_of, due_of, service, served, issued_ids, released_ids, rounds_of, greatest, least}
+use Rattle.blk_trace.specs.Events.{is_tick, round_of, join_up, request_of}
+use Rattle.blk_trace.specs.Meaning.{timed, entry_round, entry_due, release_of, due_of, released_ids, greatest, least}
 use Rattle.blk_trace.specs.Waits.{was_issued}
 use Rattle.blk_trace.specs.Inside.Seats.{after_last_tick, this_round}
 
@@ -65,74 +64,6 @@ timed_push es e = timed_more 0 es e ∙ ap (λ n. timed 0 es ++ (n, e) ∷ []) (
 -- what a part of each timed event gives
 pub timed_part : {X : Type 0} (f : ℕ × Happened → Option X) (es : List Happened) (e : Happened) → filter_map f (timed 0 (es ++ e ∷ [])) ≡ filter_map f (timed 0 es) ++ cons_option (f (round_of es, e)) []
 timed_part f es e = ap (filter_map f) (timed_push es e) ∙ filter_map-append f (timed 0 es) ((round_of es, e) ∷ [])
-
--- what hands a request back, with one more event that does not
-no_back : (b : Bool) (o : Option ℕ) → o ≡ None → cond b (is_some o) false ≡ false
-no_back true o h = ap is_some h
-no_back false o h = refl
-
-pub goes_back_more : (t : ℕ) (es : List Happened) (e : Happened) → requeues e ≡ None → ends_requeued t (es ++ e ∷ []) ≡ ends_requeued t es
-unfolding ends_requeued
-goes_back_more t [] e h = no_back (is_done_of t e) (requeues e) h
-goes_back_more t (x ∷ es) e h = ap (λ b. cond (is_done_of t x) (is_some (requeues x)) b) (goes_back_more t es e h)
-
--- the Issues that were not requeued
-prepend : {X : Type 0} (o : Option X) (xs ys : List X) → cons_option o (xs ++ ys) ≡ cons_option o xs ++ ys
-prepend None xs ys = refl
-prepend (Some x) xs ys = refl
-
-service_same : (r : ℕ) (x : Happened) (es fs : List Happened) → ((t : ℕ) → ends_requeued t es ≡ ends_requeued t fs) → service r x es ≡ service r x fs
-service_same r x es fs h = by_issue (issues x)
-  where
-    by_issue : (o : Option (ℕ × ℕ)) → option_and_then {U = ℕ × ℕ} (λ p. cond (ends_requeued p.1 es) None (Some (r, p.0))) o ≡ option_and_then {U = ℕ × ℕ} (λ p. cond (ends_requeued p.1 fs) None (Some (r, p.0))) o
-    by_issue None = refl
-    by_issue (Some p) = ap (λ b. cond b None (Some (r, p.0))) (h p.1)
-
-last_issue : (r : ℕ) (o : Option (ℕ × ℕ)) → option_and_then {U = ℕ × ℕ} (λ p. cond (ends_requeued p.1 []) None (Some (r, p.0))) o ≡ option_map (λ p. (r, p.0)) o
-unfolding ends_requeued
-last_issue r None = refl
-last_issue r (Some p) = refl
-
-service_last : (r : ℕ) (e : Happened) → service r e [] ≡ option_map (λ p. (r, p.0)) (issues e)
-service_last r e = last_issue r (issues e)
-
-pub served_more : (r : ℕ) (es : List Happened) (e : Happened) → requeues e ≡ None → served r (es ++ e ∷ []) ≡ served r es ++ cons_option (option_map (λ p. (r + round_of es, p.0)) (issues e)) []
-unfolding served round_of
-served_more r [] e h = ap (λ o. cons_option o []) (service_last r e ∙ ap (λ (n : ℕ). option_map (λ p. (n, p.0)) (issues e)) (omega arith))
-served_more r (x ∷ es) e h =
-    let next : ℕ = cond (is_tick x) (r + 1) r in
-    ap (λ o. cons_option o (served next (es ++ e ∷ []))) (service_same r x (es ++ e ∷ []) es (λ t. goes_back_more t es e h))
-    ∙ ap (cons_option (service r x es)) (served_more next es e h ∙ ap (λ (n : ℕ). served next es ++ cons_option (option_map (λ p. (n, p.0)) (issues e)) []) (sym (round_cons x es r)))
-    ∙ prepend (service r x es) (served next es) (cons_option (option_map (λ p. (r + round_of (x ∷ es), p.0)) (issues e)) [])
-
-pub served_push : (es : List Happened) (e : Happened) → requeues e ≡ None → served 0 (es ++ e ∷ []) ≡ served 0 es ++ cons_option (option_map (λ p. (round_of es, p.0)) (issues e)) []
-served_push es e h = served_more 0 es e h ∙ ap (λ (n : ℕ). served 0 es ++ cons_option (option_map (λ p. (n, p.0)) (issues e)) []) (let z : 0 + round_of es ≡ round_of es = omega arith in z)
-
--- the id that an event issues
-abbrev pub new_ids : Happened → List ℕ
-new_ids e = cons_option (option_map (λ p. p.0) (issues e)) []
-
-new_id : (r : ℕ) (o : Option (ℕ × ℕ)) → map (λ (s : ℕ × ℕ). s.1) (cons_option (option_map (λ p. (r, p.0)) o) []) ≡ cons_option (option_map (λ p. p.0) o) []
-new_id r None = refl
-new_id r (Some p) = refl
-
-new_round : (r : ℕ) (o : Option (ℕ × ℕ)) → map (λ (s : ℕ × ℕ). s.0) (cons_option (option_map (λ p. (r, p.0)) o) []) ≡ cons_option (option_map (λ _. r) o) []
-new_round r None = refl
-new_round r (Some p) = refl
-
-pub issued_more : (es : List Happened) (e : Happened) → requeues e ≡ None → issued_ids (es ++ e ∷ []) ≡ issued_ids es ++ new_ids e
-unfolding issued_ids
-issued_more es e h =
-    ap (map (λ (s : ℕ × ℕ). s.1)) (served_push es e h)
-    ∙ map-append (λ (s : ℕ × ℕ). s.1) (served 0 es) (cons_option (option_map (λ p. (round_of es, p.0)) (issues e)) [])
-    ∙ ap (λ l. map (λ (s : ℕ × ℕ). s.1) (served 0 es) ++ l) (new_id (round_of es) (issues e))
-
-pub rounds_more : (es : List Happened) (e : Happened) → requeues e ≡ None → rounds_of (es ++ e ∷ []) ≡ rounds_of es ++ cons_option (option_map (λ _. round_of es) (issues e)) []
-unfolding rounds_of
-rounds_more es e h =
-    ap (map (λ (s : ℕ × ℕ). s.0)) (served_push es e h)
-    ∙ map-append (λ (s : ℕ × ℕ). s.0) (served 0 es) (cons_option (option_map (λ p. (round_of es, p.0)) (issues e)) [])
-    ∙ ap (λ l. map (λ (s : ℕ × ℕ). s.0) (served 0 es) ++ l) (new_round (round_of es) (issues e))
 
 -- whether an id was ever issued
 or_last : (x y : Bool) → (x || (y || false)) ≡ (x || y)

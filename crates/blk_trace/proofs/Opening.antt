@@ -1,33 +1,40 @@
 -- How many commands of each direction are in flight after one more event.
-use Rattle.std.proofs.Common.{◌≡◌, ◌<◌, ◌≤◌, ◌+◌, ◌++◌, ◌==◌, ℕ, List, [], ◌∷◌, refl, sym, ◌∙◌, ap, subst, arith, inl, inr, Some, None, append-nil, cond, Bool, true, false, ne_eqb, eq-eqb, eqb-true}
-use Rattle.std.specs.Prelude.{Option, is_some, ◌&&◌, not, count_by, ◌↔◌, IsTrue}
+use Rattle.std.proofs.Common.{◌≡◌, ◌<◌, ◌≤◌, ◌+◌, ◌++◌, ◌==◌, ℕ, suc, List, [], ◌∷◌, length, get_or, refl, sym, ◌∙◌, ap, subst, arith, inl, inr, Some, None, append-nil, cond, Bool, true, false, ne_eqb, eq-eqb, eqb-true, length-append}
+use Rattle.std.specs.Prelude.{Option, is_some, count_by, filter, slice_get, All, ◌↔◌, IsTrue}
 use lib.Dec.{ltb}
 use Rattle.std.specs.List.{filter_map, cons_option}
-use Rattle.std.proofs.lemmas.List.Elements.{filter_map-append}
-use Rattle.std.proofs.lemmas.Bool.{cases_Bool, cases_lt, ltb-true, lt-ltb}
-use Rattle.std.proofs.lemmas.List.Sums.{sum_by-cons}
+use Rattle.std.proofs.lemmas.List.Elements.{filter-append, filter_map-append, All-filter}
+use Rattle.std.proofs.lemmas.Option.{slice_get-get_or}
+use Rattle.std.proofs.lemmas.Bool.{cases_Bool, ltb-true, lt-ltb, false_from_ne_true}
+use Rattle.std.proofs.lemmas.List.Sums.{sum_by-cons, sum_by-append}
 use Rattle.blk_bio.specs.Bios.{Bio}
 use Rattle.blk_bio.specs.declared.bio.Dir.{Dir}
 use Rattle.blk_bio.specs.declared.bio.Dir.TheVariants.{Read, Write}
 use Rattle.blk_bio.specs.Requests.{dir_of}
-use Rattle.blk_bio.specs.declared.rule.TraceRule.TheVariants.{TagUsed, InFlight, Unknown, AlreadyIssued}
-use Rattle.blk_trace.specs.Happened.{Happened, Tick, Release, Join, Issue}
-use Rattle.blk_trace.specs.Kinds.{issues, ends, is_issue, is_end}
+use Rattle.blk_bio.specs.declared.rule.TraceRule.TheVariants.{TagUsed, NotIssued, InFlight}
+use Rattle.blk_trace.specs.declared.issued.Outcome.TheVariants as outcome
+use Rattle.blk_trace.specs.declared.issued.Issued.{Issued}
+use Rattle.blk_trace.specs.Happened.{Happened, Tick, Release, Join, Issue, Done, Back}
+use Rattle.blk_trace.specs.Kinds.{issues, ends, requeues, is_issue, is_end}
 use Rattle.blk_trace.specs.Setups.{Setup, same_dir}
-use Rattle.blk_trace.specs.Events.{is_tick, open_count, request_of, IsOpen}
-use Rattle.blk_trace.specs.Meaning.{release_of, due_of}
+use Rattle.blk_trace.specs.Events.{is_tick, round_of, open_count, request_of, IsOpen, IsOpenBy}
+use Rattle.blk_trace.specs.Issues.{end_of, issues_from, issues_of, flies, flying}
 use Rattle.blk_trace.specs.Legal.{IsLegalTrace}
 use Rattle.blk_trace.specs.Rules.{BreaksNoRule}
 use Rattle.blk_trace.specs.Waits.{Entered, waits_at}
-use Rattle.blk_trace.specs.Inside.Seats.{RoundSeat, seat_at, this_round, issued_by, issue_tag, is_flying, flying_of}
-use Rattle.blk_trace.proofs.Words.{OnlyEnds, only_ends, no_tag}
+use Rattle.blk_trace.specs.Inside.Seats.{seat_at, this_round, issued_by, issue_tag, flying_of}
+use Rattle.blk_trace.proofs.Words.{OnlyEnds, only_ends}
 use Rattle.blk_trace.proofs.Pushing.{shorter_legal, obeys}
 use Rattle.blk_trace.proofs.More.{more_of}
-use Rattle.blk_trace.proofs.Ids.{by_legal, all_back}
-use Rattle.blk_trace.proofs.Waiting.{waits_for}
+use Rattle.blk_trace.proofs.Ids.{by_legal}
+use Rattle.blk_trace.proofs.Issues.{issues_kept, issues_push, flying_by, flying_is, was_so, with_outcome}
+use Rattle.blk_trace.proofs.Entering.{same_entered, stays_out}
+use Rattle.blk_trace.proofs.Waiting.{waiting_from}
 use Rattle.blk_trace.proofs.Seats.{taken, ended, now_tick, now_push, taken_tick, taken_kept, taken_new, not_taken}
-use Rattle.blk_trace.proofs.Steady.{IsSeat, seat_parts, no_seat, steady, seat_quiet, seat-issued, seat_ended, ended_open, open_seat}
-use Rattle.blk_trace.proofs.Counting.{one_if, count_none, count_same, count_push, count_without, count_once}
+use Rattle.blk_trace.proofs.TagUses.{by_open}
+use Rattle.blk_trace.proofs.Steady.{IsSeat, seat_parts, steady, not_flying}
+use Rattle.blk_trace.proofs.Requeuing.{EndsOne, ends_one, open_by}
+use Rattle.blk_trace.proofs.Counting.{one_if, count_push}
 
 -- the tags of the round, in the order of their Issues
 unfoldable pub tags : List Happened → List ℕ
@@ -75,197 +82,174 @@ pub tag_count : (setup : Setup) (es : List Happened) (u : ℕ) → IsLegalTrace 
 unfolding tags taken this_round
 tag_count setup es u legal = by_legal setup (λ l. count_by (λ t. u == t) (tags l) ≡ number (taken l u)) refl (λ l e new old all ih. once_step setup u l e all ih) es legal
 
--- commands in flight, over the tags
-abbrev flies : List Happened → Dir → ℕ → Bool
-flies es d t = is_flying d (seat_at es t)
+-- the commands in flight of a direction, by their Issues
+abbrev is_of : List Happened → Dir → Issued → Bool
+is_of es d i = same_dir d (dir_of (request_of es i.id))
 
-open_is : (es : List Happened) (d : Dir) → flying_of es d ≡ count_by (flies es d) (tags es)
-unfolding flying_of tags
-open_is es d = refl
+in_flight : (es : List Happened) (d : Dir) → flying_of es d ≡ count_by (is_of es d) (flying (issues_of es))
+unfolding flying_of
+in_flight es d = refl
 
-pub open-ticked : (setup : Setup) (events : List Happened) → IsLegalTrace setup (events ++ Tick ∷ []) → (d : Dir) → flying_of (events ++ Tick ∷ []) d ≡ 0
-open-ticked setup events legal d = open_is (events ++ Tick ∷ []) d ∙ ap (count_by (flies (events ++ Tick ∷ []) d)) (tags_tick events)
+count_first : (p : Issued → Bool) (i : Issued) (xs : List Issued) → count_by p (i ∷ xs) ≡ one_if (p i) + count_by p xs
+count_first p i xs = sum_by-cons (λ (x : Issued). cond (p x) 1 0) i xs
 
-and_no : (x y : Bool) → y ≡ false → (x && y) ≡ false
-and_no true y h = h
-and_no false y h = refl
+count_both : (p : Issued → Bool) (xs ys : List Issued) → count_by p (xs ++ ys) ≡ count_by p xs + count_by p ys
+count_both p xs ys = sum_by-append (λ (x : Issued). cond (p x) 1 0) xs ys
 
-and_yes : (x y : Bool) → y ≡ true → (x && y) ≡ x
-and_yes true y h = h
-and_yes false y h = refl
+agree : (p q : Issued → Bool) (xs : List Issued) → All (λ i. p i ≡ q i) xs → count_by p xs ≡ count_by q xs
+agree p q [] h = refl
+agree p q (x ∷ xs) h =
+    let here : one_if (p x) ≡ one_if (q x) = ap one_if (h 0 x (omega arith)) in
+    omega (arith, count_first p x xs, count_first q x xs, agree p q xs (λ k d l. h (suc k) d (omega arith)))
 
-grounded : (d : Dir) (o : Option RoundSeat) → ((seat : RoundSeat) → o ≡ Some seat → seat.in_flight ≡ false) → is_flying d o ≡ false
-grounded d None h = refl
-grounded d (Some seat) h = and_no (same_dir d seat.dir) seat.in_flight (h seat refl)
-
-pub open-before_tick : (setup : Setup) (events : List Happened) → IsLegalTrace setup (events ++ Tick ∷ []) → (d : Dir) → flying_of events d ≡ 0
-open-before_tick setup events legal d =
-    let old = shorter_legal setup events _ legal in
-    let all = obeys setup events _ legal in
-    open_is events d ∙ count_none (flies events d) (tags events) (λ t. grounded d (seat_at events t) (λ seat h.
-    let was : IsSeat events t seat = seat_parts events t seat h in
-    elim (cases_Bool (ended events t)) [
-      | inl b ↦ was.flying_is ∙ ap not b
-      | inr b ↦ absurd (all InFlight t ((steady setup events old).opens t was.id was.taken_is b))
-    ]))
+-- the requests that were issued stay as they are
+still_of : (setup : Setup) (es : List Happened) (e : Happened) (d : Dir) → IsLegalTrace setup (es ++ e ∷ []) → count_by (is_of (es ++ e ∷ []) d) (flying (issues_of es)) ≡ count_by (is_of es d) (flying (issues_of es))
+still_of setup es e d legal =
+    let P : Issued → Type 0 = λ i. is_of (es ++ e ∷ []) d i ≡ is_of es d i in
+    agree (is_of (es ++ e ∷ []) d) (is_of es d) (flying (issues_of es))
+    (All-filter (λ (i : Issued). flies i.outcome) P (issues_of es) (λ k x h.
+    let i : Issued = get_or (issues_of es) k x in
+    ap (λ r. same_dir d (dir_of r)) (same_entered setup es e i.id (stays_out setup es e i.id (shorter_legal setup es e legal) (obeys setup es e legal) (was_so es k i (slice_get-get_or (issues_of es) k x h)))).request))
 
 -- an event that issues and ends nothing leaves what is in flight
-pub open_kept : (setup : Setup) (events : List Happened) (e : Happened) → IsLegalTrace setup (events ++ e ∷ []) → is_tick e ≡ false → issues e ≡ None → ends e ≡ None → (d : Dir) → flying_of (events ++ e ∷ []) d ≡ flying_of events d
-open_kept setup events e legal h i n d =
-    open_is (events ++ e ∷ []) d ∙ ap (count_by (flies (events ++ e ∷ []) d)) (tags_kept events e h (no_tag e i)) ∙ count_same _ (flies events d) (tags events) (λ t. ap (is_flying d) (seat_quiet setup events e legal h i n t)) ∙ sym (open_is events d)
+pub open_kept : (setup : Setup) (events : List Happened) (e : Happened) → IsLegalTrace setup (events ++ e ∷ []) → issues e ≡ None → ends e ≡ None → (d : Dir) → flying_of (events ++ e ∷ []) d ≡ flying_of events d
+open_kept setup events e legal i n d =
+    in_flight (events ++ e ∷ []) d ∙ ap (λ l. count_by (is_of (events ++ e ∷ []) d) (flying l)) (issues_kept 0 events e i n) ∙ still_of setup events e d legal ∙ sym (in_flight events d)
 
 pub open-released : (setup : Setup) (events : List Happened) (id : ℕ) (bios : List Bio) → IsLegalTrace setup (events ++ Release id bios ∷ []) → (d : Dir) → flying_of (events ++ Release id bios ∷ []) d ≡ flying_of events d
-open-released setup events id bios legal d = open_kept setup events (Release id bios) legal refl refl refl d
+open-released setup events id bios legal d = open_kept setup events (Release id bios) legal refl refl d
 
 pub open-joined : (setup : Setup) (events : List Happened) (id : ℕ) (bios : List Bio) → IsLegalTrace setup (events ++ Join id bios ∷ []) → (d : Dir) → flying_of (events ++ Join id bios ∷ []) d ≡ flying_of events d
-open-joined setup events id bios legal d = open_kept setup events (Join id bios) legal refl refl refl d
+open-joined setup events id bios legal d = open_kept setup events (Join id bios) legal refl refl d
+
+-- none is at a Tick
+none_pass : (p : Issued → Bool) (xs : List Issued) → All (λ i. p i ≡ false) xs → filter p xs ≡ []
+none_pass p [] h = refl
+none_pass p (x ∷ xs) h = ap (λ b. cond b (x ∷ filter p xs) (filter p xs)) (h 0 x (omega arith)) ∙ none_pass p xs (λ k d l. h (suc k) d (omega arith))
+
+none_flies : (setup : Setup) (es : List Happened) → IsLegalTrace setup (es ++ Tick ∷ []) → flying (issues_of es) ≡ []
+none_flies setup es legal = none_pass (λ i. flies i.outcome) (issues_of es) (λ k x h.
+    let i : Issued = get_or (issues_of es) k x in
+    false_from_ne_true (flies i.outcome) (λ b. absurd (obeys setup es Tick legal InFlight i.tag (by_open es i.tag i.id (flying_by es k i (slice_get-get_or (issues_of es) k x h) (flying_is i.outcome b))))))
+
+pub open-before_tick : (setup : Setup) (events : List Happened) → IsLegalTrace setup (events ++ Tick ∷ []) → (d : Dir) → flying_of events d ≡ 0
+open-before_tick setup events legal d = in_flight events d ∙ ap (count_by (is_of events d)) (none_flies setup events legal)
+
+pub open-ticked : (setup : Setup) (events : List Happened) → IsLegalTrace setup (events ++ Tick ∷ []) → (d : Dir) → flying_of (events ++ Tick ∷ []) d ≡ 0
+open-ticked setup events legal d = open_kept setup events Tick legal refl refl d ∙ open-before_tick setup events legal d
+
+-- an Issue is in flight after the others
+flying_push : (es : List Happened) (id tag : ℕ) → (new : Issued) × (new.id ≡ id) × (flying (issues_of (es ++ Issue id tag ∷ [])) ≡ flying (issues_of es) ++ new ∷ [])
+flying_push es id tag =
+    let new : Issued = record { round = round_of es; id = id; tag = tag; outcome = outcome.Flying } in
+    (new, refl, ap flying (issues_push 0 (round_of es) es id tag (omega arith)) ∙ filter-append (λ i. flies i.outcome) (issues_of es) (new ∷ []))
 
 pub open-issued : (setup : Setup) (events : List Happened) (id tag : ℕ) → IsLegalTrace setup (events ++ Issue id tag ∷ []) → (w : Entered) → waits_at setup events id ≡ Some w → (d : Dir) → flying_of (events ++ Issue id tag ∷ []) d ≡ flying_of events d + cond (same_dir d (dir_of w.bios)) 1 0
 open-issued setup events id tag legal w waits d =
-    let es : List Happened = events ++ Issue id tag ∷ [] in
-    let old = shorter_legal setup events _ legal in
-    let all = obeys setup events _ legal in
-    let none : taken events tag ≡ None = not_taken events tag (all TagUsed) in
-    let seat : (t : ℕ) → seat_at es t ≡ cond (tag == t) (Some (record { dir = dir_of w.bios; in_flight = true })) (seat_at events t) = λ t. seat-issued setup events id tag legal w waits t in
-    let other : (t : ℕ) → (tag == t) ≡ false → flies events d t ≡ flies es d t = λ t b. sym (ap (is_flying d) (seat t ∙ rw b refl)) in
-    let was : flies events d tag ≡ false = ap (is_flying d) (no_seat events tag none) in
-    let here : seat_at es tag ≡ Some (record { dir = dir_of w.bios; in_flight = true }) = seat tag ∙ rw (eq-eqb tag tag refl) refl in
-    let is : flies es d tag ≡ same_dir d (dir_of w.bios) = ap (is_flying d) here ∙ and_yes (same_dir d (dir_of w.bios)) true refl in
-    let zero_before : count_by (λ t. tag == t) (tags events) ≡ 0 = tag_count setup events tag old ∙ ap number none in
-    let one_more : one_if (flies es d tag) ≡ one_if (same_dir d (dir_of w.bios)) = ap one_if is in
-    let none_before : one_if (flies events d tag) ≡ 0 = ap one_if was in
-    let kept : count_by (flies events d) (tags events) ≡ count_by (flies es d) (tags events) = count_without (flies events d) (flies es d) tag (one_if (same_dir d (dir_of w.bios))) (tags events) other (omega arith) zero_before in
-    let push : count_by (flies es d) (tags events ++ tag ∷ []) ≡ count_by (flies es d) (tags events) + one_if (flies es d tag) = count_push (flies es d) (tags events) tag in
-    let now : flying_of es d ≡ count_by (flies es d) (tags events ++ tag ∷ []) = open_is es d ∙ ap (count_by (flies es d)) (tags_more events (Issue id tag) refl) in
-    omega (arith, open_is events d)
+    let fs : List Happened = events ++ Issue id tag ∷ [] in
+    let push = flying_push events id tag in
+    let was = waiting_from setup events id w waits in
+    let same = same_entered setup events (Issue id tag) id refl in
+    let more : count_by (is_of fs d) (flying (issues_of events) ++ push.0 ∷ []) ≡ count_by (is_of fs d) (flying (issues_of events)) + count_by (is_of fs d) (push.0 ∷ []) = count_both (is_of fs d) (flying (issues_of events)) (push.0 ∷ []) in
+    let here : one_if (is_of fs d push.0) ≡ one_if (same_dir d (dir_of w.bios)) = ap (λ n. one_if (same_dir d (dir_of (request_of fs n)))) push.1 ∙ ap (λ r. one_if (same_dir d (dir_of r))) (same.request ∙ sym was.bios_is) in
+    omega (arith, in_flight fs d, ap (count_by (is_of fs d)) push.2, count_first (is_of fs d) push.0 [], still_of setup events (Issue id tag) d legal, in_flight events d)
 
--- one that ends an Issue leaves one command less in flight
+-- the Issue that an event ends is no longer in flight
+record LosesFlight (xs ys : List Issued) (id : ℕ) : Type 0 where
+  before : List Issued
+  after : List Issued
+  issue : Issued
+  named : issue.id ≡ id
+  were : flying xs ≡ before ++ issue ∷ after
+  are : flying ys ≡ before ++ after
+
+lands : (b : Bool) → flies (cond b outcome.Back outcome.Done) ≡ false
+lands true = refl
+lands false = refl
+
+loses_flight : (setup : Setup) (es : List Happened) (e : Happened) (t id : ℕ) → IsLegalTrace setup es → IsOpenBy es t id → ends e ≡ Some t → LosesFlight (issues_of es) (issues_of (es ++ e ∷ [])) id
+loses_flight setup es e t id legal o end =
+    let p : EndsOne (issues_of es) (issues_of (es ++ e ∷ [])) id (end_of e) = ends_one setup es e t id legal o end in
+    let i : Issued = p.issue in
+    record {
+      before = flying p.before;
+      after = flying p.after;
+      issue = i;
+      named = p.named;
+      were = ap flying p.whole ∙ filter-append (λ i. flies i.outcome) p.before (i ∷ p.after) ∙ ap (λ o. flying p.before ++ cond (flies o) (i ∷ flying p.after) (flying p.after)) p.flying;
+      are = ap flying p.now ∙ filter-append (λ i. flies i.outcome) p.before (with_outcome i (end_of e) ∷ p.after)
+          ∙ ap (λ b. flying p.before ++ cond b (with_outcome i (end_of e) ∷ flying p.after) (flying p.after)) (lands (is_some (requeues e)));
+    }
+
 pub open_ended : (setup : Setup) (events : List Happened) (e : Happened) (tag : ℕ) → IsLegalTrace setup (events ++ e ∷ []) → ends e ≡ Some tag → (dir : Dir) → seat_at events tag ≡ Some (record { dir = dir; in_flight = true }) → (d : Dir) → flying_of (events ++ e ∷ []) d + cond (same_dir d dir) 1 0 ≡ flying_of events d
 open_ended setup events e tag legal end dir taken_is d =
-    let only : OnlyEnds e = only_ends e tag end in
-    let es : List Happened = events ++ e ∷ [] in
+    let fs : List Happened = events ++ e ∷ [] in
     let old = shorter_legal setup events _ legal in
+    let only : OnlyEnds e = only_ends e tag end in
     let was : IsSeat events tag (record { dir = dir; in_flight = true }) = seat_parts events tag _ taken_is in
-    let seat : (t : ℕ) → seat_at es t ≡ cond (tag == t) (Some (record { dir = dir; in_flight = false })) (seat_at events t) = λ t. seat_ended setup events e tag legal end _ taken_is t in
-    let other : (t : ℕ) → (tag == t) ≡ false → flies es d t ≡ flies events d t = λ t b. ap (is_flying d) (seat t ∙ rw b refl) in
-    let here : seat_at es tag ≡ Some (record { dir = dir; in_flight = false }) = seat tag ∙ rw (eq-eqb tag tag refl) refl in
-    let is : flies es d tag ≡ false = ap (is_flying d) here ∙ and_no (same_dir d dir) false refl in
-    let before : flies events d tag ≡ same_dir d dir = ap (is_flying d) taken_is ∙ and_yes (same_dir d dir) true refl in
-    let none_now : one_if (flies es d tag) ≡ 0 = ap one_if is in
-    let one_before : one_if (flies events d tag) ≡ one_if (same_dir d dir) = ap one_if before in
-    let one : count_by (λ t. tag == t) (tags events) ≡ 1 = tag_count setup events tag old ∙ ap number was.taken_is in
-    let fewer : count_by (flies es d) (tags events) + one_if (same_dir d dir) ≡ count_by (flies events d) (tags events) = count_once (flies es d) (flies events d) tag (one_if (same_dir d dir)) (tags events) other (omega arith) one in
-    let now : flying_of es d ≡ count_by (flies es d) (tags events) = open_is es d ∙ ap (count_by (flies es d)) (tags_kept events e only.no_tick (no_tag e only.no_issue)) in
-    omega (arith, open_is events d)
+    let p = loses_flight setup events e tag was.id old ((steady setup events old).opens tag was.id was.taken_is (not_flying (ended events tag) was.flying_is)) end in
+    let f : Issued → Bool = is_of fs d in
+    let here : one_if (f p.issue) ≡ one_if (same_dir d dir) = ap (λ n. one_if (same_dir d (dir_of (request_of fs n)))) p.named
+    ∙ ap (λ r. one_if (same_dir d (dir_of r))) (same_entered setup events e was.id (rw (only.no_release, only.no_join) refl)).request
+    ∙ ap (λ x. one_if (same_dir d x)) (sym was.dir_is) in
+    let were : count_by f (flying (issues_of events)) ≡ count_by f p.before + (one_if (f p.issue) + count_by f p.after) = ap (count_by f) p.were ∙ count_both f p.before (p.issue ∷ p.after) ∙ ap (λ n. count_by f p.before + n) (count_first f p.issue p.after) in
+    let are : flying_of fs d ≡ count_by f p.before + count_by f p.after = in_flight fs d ∙ ap (count_by f) p.are ∙ count_both f p.before p.after in
+    omega (arith, still_of setup events e d legal, in_flight events d)
 
--- both directions, and all commands
-one_dir : (d : Dir) → cond (same_dir Read d) 1 0 + cond (same_dir Write d) 1 0 ≡ 1
+-- all that are in flight are the Issues less those that have ended
+all_ended : (setup : Setup) (es : List Happened) (e : Happened) (t : ℕ) → ends e ≡ Some t → is_end e ≡ true → is_issue e ≡ false → IsLegalTrace setup es → IsOpen es t → length (flying (issues_of es)) + count_by is_end es ≡ count_by is_issue es → length (flying (issues_of (es ++ e ∷ []))) + count_by is_end (es ++ e ∷ []) ≡ count_by is_issue (es ++ e ∷ [])
+all_ended setup es e t end over no_issue old o ih =
+    let p = loses_flight setup es e t o.id old (open_by es t o) end in
+    let one : one_if (is_end e) ≡ 1 = ap one_if over in
+    let none : one_if (is_issue e) ≡ 0 = ap one_if no_issue in
+    omega (arith, ap length p.were, ap length p.are, length-append p.before (p.issue ∷ p.after), length-append p.before p.after, more_of is_end es e, more_of is_issue es e)
+
+all_step : (setup : Setup) (es : List Happened) (e : Happened) → IsLegalTrace setup es → BreaksNoRule setup es e → length (flying (issues_of es)) + count_by is_end es ≡ count_by is_issue es → length (flying (issues_of (es ++ e ∷ []))) + count_by is_end (es ++ e ∷ []) ≡ count_by is_issue (es ++ e ∷ [])
+all_step setup es (Issue i t) old all ih =
+    let push = flying_push es i t in
+    omega (arith, ap length push.2, length-append (flying (issues_of es)) (push.0 ∷ []), more_of is_end es (Issue i t), more_of is_issue es (Issue i t))
+all_step setup es (Done t) old all ih = all_ended setup es (Done t) t refl refl refl old (all NotIssued) ih
+all_step setup es (Back t) old all ih = all_ended setup es (Back t) t refl refl refl old (all NotIssued) ih
+all_step setup es e old all ih = omega (arith, ap (λ l. length (flying l)) (issues_kept 0 es e refl refl), more_of is_end es e, more_of is_issue es e)
+
+pub open_all : (setup : Setup) (events : List Happened) → IsLegalTrace setup events → length (flying (issues_of events)) + count_by is_end events ≡ count_by is_issue events
+unfolding issues_from
+open_all setup events legal = by_legal setup (λ l. length (flying (issues_of l)) + count_by is_end l ≡ count_by is_issue l) refl (λ l e new old all ih. all_step setup l e old all ih) events legal
+
+one_dir : (d : Dir) → one_if (same_dir Read d) + one_if (same_dir Write d) ≡ 1
 one_dir Read = refl
 one_dir Write = refl
 
--- how many Issues there are, and how many have ended
-abbrev AreBoth : List Happened → Type 0
-AreBoth es = flying_of es Read + flying_of es Write + count_by is_end es ≡ count_by is_issue es
-
-both_kept : (setup : Setup) (es : List Happened) (e : Happened) → IsLegalTrace setup (es ++ e ∷ []) → is_tick e ≡ false → issues e ≡ None → ends e ≡ None → AreBoth es → AreBoth (es ++ e ∷ [])
-both_kept setup es e legal h i n ih =
-    let no_end : one_if (is_end e) ≡ 0 = ap (λ o. one_if (is_some o)) n in
-    let no_issue : one_if (is_issue e) ≡ 0 = ap (λ o. one_if (is_some o)) i in
-    omega (arith, ih, no_end, no_issue, more_of is_end es e, more_of is_issue es e, open_kept setup es e legal h i n Read, open_kept setup es e legal h i n Write)
-
-both_ended : (setup : Setup) (es : List Happened) (e : Happened) (t : ℕ) → IsLegalTrace setup (es ++ e ∷ []) → ends e ≡ Some t → AreBoth es → AreBoth (es ++ e ∷ [])
-both_ended setup es e t legal end ih =
-    let p = open_seat setup es t (shorter_legal setup es _ legal) (ended_open setup es e t legal end) in
-    let one_end : one_if (is_end e) ≡ 1 = ap (λ o. one_if (is_some o)) end in
-    let no_issue : one_if (is_issue e) ≡ 0 = ap (λ o. one_if (is_some o)) (only_ends e t end).no_issue in
-    let reads = open_ended setup es e t legal end p.0 p.1 Read in
-    let writes = open_ended setup es e t legal end p.0 p.1 Write in
-    omega (arith, ih, one_end, no_issue, more_of is_end es e, more_of is_issue es e, reads, writes, one_dir p.0)
-
-both_rest : (setup : Setup) (es : List Happened) (e : Happened) (o : Option ℕ) → ends e ≡ o → IsLegalTrace setup (es ++ e ∷ []) → is_tick e ≡ false → issues e ≡ None → AreBoth es → AreBoth (es ++ e ∷ [])
-both_rest setup es e None none legal h i ih = both_kept setup es e legal h i none ih
-both_rest setup es e (Some t) end legal h i ih = both_ended setup es e t legal end ih
-
-both_step : (setup : Setup) (es : List Happened) (e : Happened) → IsLegalTrace setup (es ++ e ∷ []) → AreBoth es → AreBoth (es ++ e ∷ [])
-both_step setup es Tick legal ih = omega (arith, ih, more_of is_end es Tick, more_of is_issue es Tick, open-ticked setup es legal Read, open-ticked setup es legal Write, open-before_tick setup es legal Read, open-before_tick setup es legal Write)
-both_step setup es (Issue i t) legal ih =
-    let all = obeys setup es _ legal in
-    let w : Entered = record { release = release_of es i; due = due_of setup es i; bios = request_of es i } in
-    let waits : waits_at setup es i ≡ Some w = waits_for setup es i (all Unknown) (all_back es i (all AlreadyIssued)) in
-    let reads = open-issued setup es i t legal w waits Read in
-    let writes = open-issued setup es i t legal w waits Write in
-    omega (arith, ih, more_of is_end es (Issue i t), more_of is_issue es (Issue i t), reads, writes, one_dir (dir_of (request_of es i)))
-both_step setup es e legal ih = both_rest setup es e (ends e) refl legal refl refl ih
-
-pub open_all : (setup : Setup) (events : List Happened) → IsLegalTrace setup events → flying_of events Read + flying_of events Write + count_by is_end events ≡ count_by is_issue events
-unfolding flying_of this_round
-open_all setup events legal = by_legal setup (λ l. flying_of l Read + flying_of l Write + count_by is_end l ≡ count_by is_issue l) refl (λ l e new old all ih. both_step setup l e new ih) events legal
+each_once : (es : List Happened) (xs : List Issued) → count_by (is_of es Read) xs + count_by (is_of es Write) xs ≡ length xs
+each_once es [] = refl
+each_once es (x ∷ xs) = omega (arith, count_first (is_of es Read) x xs, count_first (is_of es Write) x xs, one_dir (dir_of (request_of es x.id)), each_once es xs)
 
 pub open-both : (setup : Setup) (events : List Happened) → IsLegalTrace setup events → flying_of events Read + flying_of events Write ≡ open_count events
 unfolding open_count
-open-both setup events legal = omega (arith, open_all setup events legal)
+open-both setup events legal = omega (arith, in_flight events Read, in_flight events Write, each_once events (flying (issues_of events)), open_all setup events legal)
 
 -- where a tag is open, a command is in flight
-count_positive : (p : ℕ → Bool) (u : ℕ) (xs : List ℕ) → p u ≡ true → count_by (λ x. u == x) xs ≡ 1 → 0 < count_by p xs
-count_positive p u xs h one =
-    let at : one_if (false) + 1 ≡ one_if (p u) = rw h refl in
-    let less = count_once (λ x. cond (u == x) false (p x)) p u 1 xs (λ x b. rw b refl) (rw (eq-eqb u u refl, h) refl) one in
-    omega (arith, less)
-
-same_self : (d : Dir) → (same_dir d d && true) ≡ true
-same_self Read = refl
-same_self Write = refl
-
-either_dir : (events : List Happened) (d : Dir) → 0 < flying_of events d → 0 < flying_of events Read + flying_of events Write
-either_dir events Read h = omega arith
-either_dir events Write h = omega arith
-
 pub open_positive : (setup : Setup) (events : List Happened) (tag : ℕ) → IsLegalTrace setup events → IsOpen events tag → 0 < open_count events
+unfolding open_count
 open_positive setup events tag legal o =
-    let p = open_seat setup events tag legal o in
-    let was : IsSeat events tag (record { dir = p.0; in_flight = true }) = seat_parts events tag _ p.1 in
-    let one : count_by (λ t. tag == t) (tags events) ≡ 1 = tag_count setup events tag legal ∙ ap number was.taken_is in
-    let flying : flies events p.0 tag ≡ true = ap (is_flying p.0) p.1 ∙ same_self p.0 in
-    let some : 0 < flying_of events p.0 = rw (open_is events p.0) (count_positive (flies events p.0) tag (tags events) flying one) in
-    omega (arith, either_dir events p.0 some, open-both setup events legal)
+    let p = loses_flight setup events (Done tag) tag o.id legal (open_by events tag o) refl in
+    omega (arith, ap length p.were, length-append p.before (p.issue ∷ p.after), open_all setup events legal)
 
 -- and where a command is in flight, a tag is open
-counted : (p : ℕ → Bool) (xs : List ℕ) → 0 < count_by p xs → (t : ℕ) × (p t ≡ true)
-counted p [] some = absurd (omega arith)
-counted p (x ∷ xs) some =
+passing : (p : Issued → Bool) (xs : List Issued) → 0 < length (filter p xs) → (k : ℕ) × (i : Issued) × (slice_get xs k ≡ Some i) × (p i ≡ true)
+passing p [] some = absurd (omega arith)
+passing p (x ∷ xs) some =
     elim (cases_Bool (p x)) [
-      | inl b ↦ (x, b)
-      | inr b ↦
-          let all : count_by p (x ∷ xs) ≡ one_if (p x) + count_by p xs = sum_by-cons (λ y. cond (p y) 1 0) x xs in
-          let none : one_if (p x) ≡ 0 = ap one_if b in
-          counted p xs (omega (arith, all, none, some))
+      | inl b ↦ (0, x, refl, b)
+      | inr b ↦ let q = passing p xs (subst (λ c. 0 < length (cond c (x ∷ filter p xs) (filter p xs))) b some) in (suc q.0, q.1, q.2, q.3)
     ]
-
-flown : (d : Dir) (o : Option RoundSeat) → is_flying d o ≡ true → (seat : RoundSeat) × (o ≡ Some seat) × (seat.in_flight ≡ true)
-flown d None h = absurd (cc)
-flown d (Some seat) h =
-    elim (cases_Bool seat.in_flight) [
-      | inl b ↦ (seat, refl, b)
-      | inr b ↦ absurd (let n : is_flying d (Some seat) ≡ false = and_no (same_dir d seat.dir) seat.in_flight b in cc)
-    ]
-
-not_ended : (b : Bool) → true ≡ not b → b ≡ false
-not_ended true h = absurd (cc)
-not_ended false h = refl
-
-open_in : (setup : Setup) (events : List Happened) (d : Dir) → IsLegalTrace setup events → 0 < flying_of events d → (tag : ℕ) × IsOpen events tag
-open_in setup events d legal some =
-    let found = counted (flies events d) (tags events) (subst (λ (n : ℕ). 0 < n) (open_is events d) some) in
-    let flying = flown d (seat_at events found.0) found.1 in
-    let was : IsSeat events found.0 flying.0 = seat_parts events found.0 flying.0 flying.1 in
-    (found.0, (steady setup events legal).opens found.0 was.id was.taken_is (not_ended (ended events found.0) (sym flying.2 ∙ was.flying_is)))
 
 open_one : (setup : Setup) (events : List Happened) → IsLegalTrace setup events → 0 < open_count events → (tag : ℕ) × IsOpen events tag
+unfolding open_count
 open_one setup events legal some =
-    elim (cases_lt 0 (flying_of events Read)) [
-      | inl reads ↦ open_in setup events Read legal reads
-      | inr none ↦ open_in setup events Write legal (omega (arith, open-both setup events legal, none, some))
-    ]
+    let q = passing (λ i. flies i.outcome) (issues_of events) (omega (arith, open_all setup events legal)) in
+    let i : Issued = q.1 in
+    (i.tag, by_open events i.tag i.id (flying_by events q.0 i q.2 (flying_is i.outcome q.3)))
 
 pub open_by_count : (setup : Setup) (events : List Happened) (n : ℕ) → IsLegalTrace setup events → n ≡ open_count events → IsTrue (ltb 0 n) ↔ ((tag : ℕ) × IsOpen events tag)
 open_by_count setup events n legal is = (

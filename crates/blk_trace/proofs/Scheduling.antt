@@ -12,6 +12,7 @@ use Rattle.blk_trace.specs.Depths.{depth_in, depth_now}
 use Rattle.blk_trace.specs.Legal.{IsLegalTrace}
 use Rattle.blk_trace.specs.Rules.{BreaksNoRule}
 use Rattle.blk_trace.specs.Events.{is_tick, round_of, round_at, request_of, IsOpen}
+use Rattle.blk_trace.specs.Issues.{issues_from}
 use Rattle.blk_trace.specs.Meaning.{served, issued_ids, release_of, due_of, command_of, commands_of, rounds_of}
 use Rattle.blk_trace.specs.Waits.{Entered, waits_at}
 use Rattle.blk_trace.specs.Inside.Seats.{this_round}
@@ -86,7 +87,7 @@ starts_step setup es (Back t) new all ih =
 starts_step setup es e new all ih = rw (commands_kept setup es e new refl refl, rounds_kept es e refl refl) ih
 
 starts : (setup : Setup) (es : List Happened) → IsLegalTrace setup es → StartsWell (commands_of setup es) (rounds_of es)
-unfolding commands_of rounds_of issued_ids served
+unfolding commands_of rounds_of issued_ids served issues_from
 starts setup es legal = by_legal setup (λ l. StartsWell (commands_of setup l) (rounds_of l)) (record { one_each = refl; released = λ k d l. absurd (omega arith) }) (λ l e new old all ih. starts_step setup l e new all ih) es legal
 
 -- numbers below a bound, each at most once, are no more than the bound
@@ -244,7 +245,7 @@ fills_step setup es (Back t) new old = fills_requeued setup es t new old
 fills_step setup es e new old = fills_kept setup es e (rounds_kept es e refl refl) (round_kept es e refl) (tags_kept es e refl refl) old
 
 fills : (setup : Setup) (es : List Happened) → IsLegalTrace setup es → FillsWell setup es
-unfolding rounds_of served places_at round_of tags this_round
+unfolding rounds_of served issues_from places_at round_of tags this_round
 fills setup es legal = by_legal setup (FillsWell setup) (record { now = omega arith; later = λ x l. refl; within = λ x. omega arith }) (λ l e new old all ih. fills_step setup l e new ih) es legal
 
 pub legal-schedule : (setup : Setup) (events : List Happened) → IsLegalTrace setup events → IsScheduled setup events

@@ -13,7 +13,7 @@ use Rattle.blk_trace.specs.Events.{At, is_tick, round_of, round_at, IsOpen, IsUs
 use Rattle.blk_trace.specs.Kinds.{is_done_of}
 use Rattle.blk_trace.specs.Inside.Seats.{this_round, issued_by, first_id}
 use Rattle.blk_trace.proofs.Places.{split, keep, last, before, before_last}
-use Rattle.blk_trace.proofs.Words.{keep_end, split_end}
+use Rattle.blk_trace.proofs.Words.{keep_end}
 use Rattle.blk_trace.proofs.More.{now_more, round_more}
 use Rattle.blk_trace.proofs.Ids.{by_events}
 
@@ -197,19 +197,3 @@ closed es e t end o =
       | inl p ↦ o.not_done (length es) (slice_get_within es o.place _ p) (e, last es e, end)
       | inr p ↦ absurd (let none : ends e ≡ None = ap ends p.1 in cc)
     ]
-
-pub still_open : (es : List Happened) (e : Happened) (t : ℕ) → (ends e ≡ Some t → ⊥) → IsOpen es t → IsOpen (es ++ e ∷ []) t
-still_open es e t other o = record {
-  place = o.place;
-  id = o.id;
-  issued = keep es (e ∷ []) o.place _ o.issued;
-  not_done = λ j h d. elim (split_end es e j t d) [ inl p ↦ o.not_done j h p | inr p ↦ other p.1 ];
-}
-
-pub now_open : (es : List Happened) (i u t : ℕ) → u ≡ t → IsOpen (es ++ Issue i u ∷ []) t
-now_open es i u t same = record {
-  place = length es;
-  id = i;
-  issued = last es (Issue i u) ∙ ap (λ x. Some (Issue i x)) same;
-  not_done = λ j h d. elim (split_end es (Issue i u) j t d) [ inl p ↦ omega (arith, slice_get_within es j _ p.1) | inr p ↦ absurd (let q = p.1 in cc) ];
-}

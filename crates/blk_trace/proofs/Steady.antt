@@ -9,7 +9,7 @@ use Rattle.blk_bio.specs.declared.rule.TraceRule.TheVariants.{TagUsed, NotIssued
 use Rattle.blk_trace.specs.Happened.{Happened, Tick, Release, Join, Issue}
 use Rattle.blk_trace.specs.Kinds.{issues, ends}
 use Rattle.blk_trace.specs.Setups.{Setup}
-use Rattle.blk_trace.specs.Events.{is_tick, request_of, IsOpen, IsUsed}
+use Rattle.blk_trace.specs.Events.{is_tick, request_of, IsOpen, IsOpenBy, IsUsed}
 use Rattle.blk_trace.specs.Legal.{IsLegalTrace}
 use Rattle.blk_trace.specs.Rules.{BreaksNoRule}
 use Rattle.blk_trace.specs.Kinds.{is_done_of}
@@ -21,12 +21,13 @@ use Rattle.blk_trace.proofs.Ids.{by_legal}
 use Rattle.blk_trace.proofs.Capacities.{tag_below}
 use Rattle.blk_trace.proofs.Entering.{IsSame, same_entered, stays_out}
 use Rattle.blk_trace.proofs.Waiting.{IsWaiting, waiting_from}
-use Rattle.blk_trace.proofs.Seats.{taken, ended, cases_option, taken_tick, ended_tick, taken_kept, ended_kept, ended_more, taken_before, taken_new, IsTaken, taken_at, used_taken, not_taken, was_open, closed, still_open, now_open}
+use Rattle.blk_trace.proofs.Seats.{taken, ended, cases_option, taken_tick, ended_tick, taken_kept, ended_kept, ended_more, taken_before, taken_new, IsTaken, taken_at, used_taken, not_taken, was_open, closed}
+use Rattle.blk_trace.proofs.TagUses.{still_by, now_by, by_open}
 
 pub record IsSteady (es : List Happened) : Type 0 where
   pub runs : (t : ℕ) → IsOpen es t → ended es t ≡ false
   pub takes : (t : ℕ) → IsOpen es t → (id : ℕ) × (taken es t ≡ Some id)
-  pub opens : (t id : ℕ) → taken es t ≡ Some id → ended es t ≡ false → IsOpen es t
+  pub opens : (t id : ℕ) → taken es t ≡ Some id → ended es t ≡ false → IsOpenBy es t id
   pub fresh : (t : ℕ) → taken es t ≡ None → ended es t ≡ false
 
 -- an event that issues and ends nothing
@@ -39,7 +40,7 @@ quiet es e h issues_none ends_none old =
     record {
       runs = λ t o. ended_kept es e t h (d t) ∙ old.runs t (was_open es e t (no_issue t) o);
       takes = λ t o. let p = old.takes t (was_open es e t (no_issue t) o) in (p.0, taken_kept es e t h (n t) ∙ p.1);
-      opens = λ t id s r. still_open es e t (no_end t) (old.opens t id (sym (taken_kept es e t h (n t)) ∙ s) (sym (ended_kept es e t h (d t)) ∙ r));
+      opens = λ t id s r. still_by es e t id (no_end t) (old.opens t id (sym (taken_kept es e t h (n t)) ∙ s) (sym (ended_kept es e t h (d t)) ∙ r));
       fresh = λ t s. ended_kept es e t h (d t) ∙ old.fresh t (sym (taken_kept es e t h (n t)) ∙ s);
     }
 
@@ -57,8 +58,11 @@ steady_issued setup es i u all old =
         | inr b ↦ let p = old.takes t (was_open es (Issue i u) t (other t b) o) in (p.0, taken_kept es (Issue i u) t refl (rw b refl) ∙ p.1)
       ];
       opens = λ t id s r. elim (cases_Bool (u == t)) [
-        | inl b ↦ now_open es i u t (eqb-true u t b)
-        | inr b ↦ still_open es (Issue i u) t (λ e. absurd (cc)) (old.opens t id (sym (taken_kept es (Issue i u) t refl (rw b refl)) ∙ s) (sym (ended_kept es (Issue i u) t refl refl) ∙ r))
+        | inl b ↦
+            let new : taken (es ++ Issue i u ∷ []) t ≡ Some i = taken_new es i u t b (none t (eqb-true u t b)) in
+            let event : Issue i u ≡ Issue id t = let same : i ≡ id = cc in let tag : u ≡ t = eqb-true u t b in cc in
+            subst (λ x. IsOpenBy (es ++ x ∷ []) t id) (sym event) (now_by es id t)
+        | inr b ↦ still_by es (Issue i u) t id (λ e. absurd (cc)) (old.opens t id (sym (taken_kept es (Issue i u) t refl (rw b refl)) ∙ s) (sym (ended_kept es (Issue i u) t refl refl) ∙ r))
       ];
       fresh = λ t s. ended_kept es (Issue i u) t refl refl ∙ old.fresh t (taken_before es (Issue i u) t refl s);
     }
@@ -77,7 +81,7 @@ steady_ended setup es e u end all old =
       opens = λ t id s r.
           let more : ended (es ++ e ∷ []) t ≡ (ended es t || (u == t)) = ended_more es e t only.no_tick ∙ ap (λ b. ended es t || b) (done_by t e u end) in
           let parts = or_parts (ended es t) (u == t) (sym more ∙ r) in
-          still_open es e t (λ x. eqb-false u t parts.1 (let y : Some u ≡ Some t = sym end ∙ x in cc)) (old.opens t id (sym (taken_kept es e t only.no_tick (n t)) ∙ s) parts.0);
+          still_by es e t id (λ x. eqb-false u t parts.1 (let y : Some u ≡ Some t = sym end ∙ x in cc)) (old.opens t id (sym (taken_kept es e t only.no_tick (n t)) ∙ s) parts.0);
       fresh = λ t s.
           let none : taken es t ≡ None = taken_before es e t only.no_tick s in
           let p = old.takes u here in
@@ -221,14 +225,14 @@ open_seat setup events t legal o =
     let p = s.takes t o in
     (dir_of (request_of events p.0), seat_from events t p.0 false _ p.1 (s.runs t o) refl)
 
-not_flying : (b : Bool) → true ≡ not b → b ≡ false
+pub not_flying : (b : Bool) → true ≡ not b → b ≡ false
 not_flying true h = absurd (cc)
 not_flying false h = refl
 
 pub seat_open : (setup : Setup) (events : List Happened) (t : ℕ) (dir : Dir) → IsLegalTrace setup events → seat_at events t ≡ Some (record { dir = dir; in_flight = true }) → IsOpen events t
 seat_open setup events t dir legal h =
     let was : IsSeat events t (record { dir = dir; in_flight = true }) = seat_parts events t _ h in
-    (steady setup events legal).opens t was.id was.taken_is (not_flying (ended events t) was.flying_is)
+    by_open events t was.id ((steady setup events legal).opens t was.id was.taken_is (not_flying (ended events t) was.flying_is))
 
 pub seat_unused : (events : List Happened) (t : ℕ) → seat_at events t ≡ None → IsUsed events t → ⊥
 seat_unused events t h u =

@@ -1,7 +1,8 @@
 -- Laws of the few words that read an event's kind.
-use Rattle.std.proofs.Common.{◌≡◌, ◌++◌, ◌==◌, ℕ, List, [], ◌∷◌, length, refl, ◌∙◌, ap, subst, Option, Some, None, option_map, cond, false, inl, inr, true}
+use Rattle.std.proofs.Common.{◌≡◌, ◌++◌, ◌==◌, ℕ, List, [], ◌∷◌, length, refl, sym, ◌∙◌, ap, subst, eqb-true, Option, Some, None, option_map, cond, false, inl, inr, true}
 use Rattle.std.specs.Prelude.{◌⊎◌, IfSome}
 use Rattle.std.specs.Option.{option_map_or, option_and_then}
+use Rattle.std.proofs.lemmas.Bool.{cases_Bool}
 use Rattle.blk_bio.specs.Bios.{Bio}
 use Rattle.blk_trace.specs.Happened.{Happened, Tick, Release, Issue, Done, Back, Depth}
 use Rattle.blk_trace.specs.Kinds.{releases, joins, issues, ends, sets_depth, is_tick}
@@ -42,6 +43,21 @@ depth_is e depth h = absurd (cc)
 -- what an event that issues or ends nothing does to a tag
 pub issued_by_none : (t : ℕ) (e : Happened) → issues e ≡ None → issued_by t e ≡ None
 issued_by_none t e h = ap (option_and_then (λ p. cond (p.1 == t) (Some p.0) None)) h
+
+issued_from : (t : ℕ) (x : Happened) (id : ℕ) (o : Option (ℕ × ℕ)) → issues x ≡ o → option_and_then (λ p. cond (p.1 == t) (Some p.0) None) o ≡ Some id → x ≡ Issue id t
+issued_from t x id None is h = absurd (cc)
+issued_from t x id (Some p) is h =
+    elim (cases_Bool (p.1 == t)) [
+      | inl b ↦
+          let e : Some p.0 ≡ Some id = ap (λ c. cond c (Some p.0) None) (sym b) ∙ h in
+          let same : p.0 ≡ id = cc in
+          let tag : p.1 ≡ t = eqb-true p.1 t b in
+          issue_is x p is ∙ ap (λ (n : ℕ). Issue n p.1) same ∙ ap (λ (n : ℕ). Issue id n) tag
+      | inr b ↦ absurd (let e : ◌≡◌ {A = Option ℕ} None (Some id) = ap (λ c. cond c (Some p.0) None) (sym b) ∙ h in cc)
+    ]
+
+pub issued_by_is : (t : ℕ) (x : Happened) (id : ℕ) → issued_by t x ≡ Some id → x ≡ Issue id t
+issued_by_is t x id h = issued_from t x id (issues x) refl h
 
 pub done_by_none : (t : ℕ) (e : Happened) → ends e ≡ None → is_done_of t e ≡ false
 done_by_none t e h = ap (λ x. option_map_or (λ u. u == t) x false) h

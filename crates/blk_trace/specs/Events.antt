@@ -1,11 +1,12 @@
 -- Lists of events.
-use Rattle.std.specs.Prelude.{ℕ, suc, ◌≡◌, ◌<◌, ◌-◌, ◌==◌, ◌++◌, cond, Bool, false, IsTrue, List, [], ◌∷◌, Some, is_some, take, drop, slice_get, count_by, fold, IfSome}
+use Rattle.std.specs.Prelude.{ℕ, suc, ◌≡◌, ◌<◌, ◌-◌, ◌==◌, ◌++◌, cond, IsTrue, List, [], ◌∷◌, Some, take, drop, slice_get, count_by, fold, IfSome}
 use Rattle.std.specs.List.{flat_map, filter_map}
 use Rattle.blk_bio.specs.declared.bio.BioId.{BioId}
 use Rattle.blk_bio.specs.Bios.{Bio}
 use Rattle.blk_bio.specs.Requests.{IsRequest, first_of, last_of}
 use Rattle.blk_trace.specs.Happened.{Happened, Release, Issue}
-use Rattle.blk_trace.specs.Kinds.{ends, requeues, is_done_of, is_issue, is_end, enters, enters_under}
+use Rattle.blk_trace.specs.Kinds.{ends, is_issue, is_end, enters, enters_under}
+use Rattle.blk_trace.specs.Issues.{outcome_of, was_requeued}
 pub use Rattle.blk_trace.specs.Kinds.{is_tick, bios_of}
 
 -- the event stands at the place
@@ -50,14 +51,9 @@ IsIssued events id = (k : ℕ) × ((tag : ℕ) × At events k (Issue id tag))
 abbrev pub EndsAt : List Happened → ℕ → ℕ → Type 0
 EndsAt events k tag = (e : Happened) × At events k e × (ends e ≡ Some tag)
 
--- whether the first of these events that ends the tag's Issue requeues its request
-unfoldable pub ends_requeued : ℕ → List Happened → Bool
-ends_requeued tag [] = false
-ends_requeued tag (e ∷ es) = cond (is_done_of tag e) (is_some (requeues e)) (ends_requeued tag es)
-
 -- the request of the tag's Issue at the place was requeued
 abbrev pub IsRequeued : List Happened → ℕ → ℕ → Type 0
-IsRequeued events k tag = IsTrue (ends_requeued tag (drop (suc k) events))
+IsRequeued events k tag = IsTrue (was_requeued (outcome_of tag (drop (suc k) events)))
 
 -- whenever the id was issued, it was requeued
 abbrev pub AreRequeued : List Happened → ℕ → Type 0

@@ -1,5 +1,5 @@
 -- What became of each Issue.
-use Rattle.std.specs.Prelude.{ℕ, ◌+◌, Bool, true, false, cond, List, [], ◌∷◌, is_some, option_map}
+use Rattle.std.specs.Prelude.{ℕ, ◌+◌, Bool, true, false, not, cond, List, [], ◌∷◌, filter, is_some, option_map}
 use Rattle.std.specs.List.{cons_option}
 use Rattle.blk_trace.specs.declared.issued.Outcome.{Outcome}
 use Rattle.blk_trace.specs.declared.issued.Outcome.TheVariants as outcome
@@ -38,3 +38,10 @@ abbrev pub was_requeued : Outcome → Bool
 was_requeued outcome.Flying = false
 was_requeued outcome.Done = false
 was_requeued outcome.Back = true
+
+-- the Issues whose commands are in flight; those that were not requeued
+abbrev pub flying : List Issued → List Issued
+flying xs = filter (λ i. flies i.outcome) xs
+
+abbrev pub kept_of : List Issued → List Issued
+kept_of xs = filter (λ i. not (was_requeued i.outcome)) xs

@@ -1,14 +1,15 @@
 -- What a trace means: its commands, the rounds in which they ran, and the bios that wait.
-use Rattle.std.specs.Prelude.{ℕ, ◌≡◌, ◌+◌, ◌==◌, not, cond, List, [], ◌∷◌, Option, Some, None, option_map, min, max, map, fold, filter, nat_le, slice_get}
-use Rattle.std.specs.Option.{option_and_then}
-use Rattle.std.specs.List.{flat_map, filter_map, cons_option, list_any}
+use Rattle.std.specs.Prelude.{ℕ, ◌≡◌, ◌+◌, ◌==◌, not, cond, List, [], ◌∷◌, Option, Some, option_map, min, max, map, fold, filter, nat_le, slice_get}
+use Rattle.std.specs.List.{flat_map, filter_map, list_any}
 use Rattle.blk_bio.specs.Bios.{Bio}
 use Rattle.blk_bio.specs.Requests.{dir_of}
 use Rattle.edd_commands.specs.declared.Command.{Command}
 use Rattle.blk_trace.specs.Happened.{Happened}
-use Rattle.blk_trace.specs.Kinds.{releases, issues, is_tick, enters_under}
+use Rattle.blk_trace.specs.Kinds.{releases, is_tick, enters_under}
 use Rattle.blk_trace.specs.Setups.{Setup, expire_of}
-use Rattle.blk_trace.specs.Events.{At, round_at, ends_requeued, request_of}
+use Rattle.blk_trace.specs.Events.{At, round_at, request_of}
+use Rattle.blk_trace.specs.declared.issued.Issued.{Issued}
+use Rattle.blk_trace.specs.Issues.{issues_from, kept_of}
 
 -- each event with its round, where the first one's round is given
 unfoldable pub timed : ℕ → List Happened → List (ℕ × Happened)
@@ -52,14 +53,12 @@ due_of setup events id = least (filter_map (entry_due setup id) (timed 0 events)
 abbrev pub command_of : Setup → List Happened → ℕ → Command
 command_of setup events id = record { id = id; release = release_of events id; due = due_of setup events id }
 
--- the round and id of an Issue in this round, unless these later events requeue its request
-abbrev pub service : ℕ → Happened → List Happened → Option (ℕ × ℕ)
-service round e later = option_and_then (λ p. cond (ends_requeued p.1 later) None (Some (round, p.0))) (issues e)
+abbrev pub round_and_id : Issued → ℕ × ℕ
+round_and_id i = (i.round, i.id)
 
 -- the rounds and ids of the Issues that were not requeued, in their order, where the first event's round is given
 unfoldable pub served : ℕ → List Happened → List (ℕ × ℕ)
-served round [] = []
-served round (e ∷ es) = cons_option (service round e es) (served (cond (is_tick e) (round + 1) round) es)
+served round events = map round_and_id (kept_of (issues_from round events))
 
 -- the ids in the order of these Issues
 unfoldable pub issued_ids : List Happened → List ℕ

@@ -13,7 +13,7 @@ use Rattle.blk_trace.specs.Happened.{Happened}
 use Rattle.blk_trace.specs.Kinds.{is_tick, issues, is_issue, ends, is_done_of}
 use Rattle.blk_trace.specs.Setups.{Setup}
 use Rattle.blk_trace.specs.Events.{At, EndsAt, round_of, round_at, request_of}
-use Rattle.blk_trace.specs.Meaning.{command_of, served, issued_ids, commands_of, rounds_of, released_ids, rising, waiting_ids, waiting_of}
+use Rattle.blk_trace.specs.Meaning.{command_of, round_and_id, served, issued_ids, commands_of, rounds_of, released_ids, rising, waiting_ids, waiting_of}
 use Rattle.blk_trace.specs.Waits.{Entered, has_id, waits_at}
 use Rattle.blk_trace.proofs.Ids.{has_issued, released_first, released_has}
 use Rattle.blk_trace.proofs.More.{round_cons}
@@ -26,9 +26,8 @@ use Rattle.blk_trace.specs.Issues.{flies, was_requeued}
 use Rattle.blk_trace_state.specs.State.{Entry, LayerState, entry_now, request_now, is_out, kept_now, command_now, commands_now, rounds_now, waits_now, waiting_now, waiting_bios_now}
 use Rattle.blk_trace_state.specs.Replay.{replay}
 use Rattle.blk_trace_state.specs.Laws.{Leaves, IsOutcome, entry_of, IsStateOf}
-use Rattle.blk_trace.specs.Issues.{outcome_of, end_of, issue_in, issues_from}
-use Rattle.blk_trace.specs.Inside.Issues.{kept_of, round_and_id}
-use Rattle.blk_trace.proofs.Issues.{served_are, back_is, still_flies}
+use Rattle.blk_trace.specs.Issues.{outcome_of, end_of, issue_in, issues_from, kept_of}
+use Rattle.blk_trace.proofs.Issues.{still_flies}
 use Rattle.blk_trace_state.proofs.Entering.{entries_of, entry_in, ids_in}
 use Rattle.blk_trace_state.proofs.Standing.{Stands, bios_of_id, ends_later, ends_from}
 use Rattle.blk_trace_state.proofs.Replaying.{IsTold, replay_told}
@@ -58,7 +57,8 @@ flat_same f g (x ∷ xs) h = ap (λ l. l ++ flat_map f xs) (h x) ∙ ap (λ l. g
 -- ---- commands
 
 pub kept_served : (setup : Setup) (es : List Happened) (s : LayerState) → Stands setup es s → map round_and_id (kept_now s) ≡ served 0 es
-kept_served setup es s st = ap (λ l. map round_and_id (kept_of l)) st.issued_are ∙ served_are 0 es
+unfolding served
+kept_served setup es s st = ap (λ l. map round_and_id (kept_of l)) st.issued_are
 
 kept_ids : (setup : Setup) (es : List Happened) (s : LayerState) → Stands setup es s → map (λ (i : Issued). i.id) (kept_now s) ≡ issued_ids es
 unfolding issued_ids
@@ -188,8 +188,8 @@ outcome_read : (es : List Happened) (k tag : ℕ) (o : Outcome) → outcome_of t
 outcome_read es k tag outcome.Flying h = λ j l d. still_flies tag (drop (suc k) es) (ap flies h) (j - suc k) (ends_from es k j tag l d)
 outcome_read es k tag outcome.Done h =
     let p = end_found tag (drop (suc k) es) (ap flies h) in
-    ((suc k + p.0, omega arith, ends_later es k p.0 tag p.1), λ went. both_ways _ (sym (back_is tag (drop (suc k) es)) ∙ ap was_requeued h) went)
-outcome_read es k tag outcome.Back h = sym (back_is tag (drop (suc k) es)) ∙ ap was_requeued h
+    ((suc k + p.0, omega arith, ends_later es k p.0 tag p.1), λ went. both_ways _ (ap was_requeued h) went)
+outcome_read es k tag outcome.Back h = ap was_requeued h
 
 pub state_is : (setup : Setup) (es : List Happened) (s : LayerState) → Stands setup es s → IsStateOf setup es s
 unfolding entries_of

@@ -15,7 +15,7 @@ use Rattle.blk_trace.specs.declared.event.Event.TheVariants.{Tick, Release, Join
 use Rattle.blk_trace.specs.Happened.{Happened}
 use Rattle.blk_trace.specs.Kinds.{ends, completes}
 use Rattle.blk_trace.specs.Setups.{Setup}
-use Rattle.blk_trace.specs.Events.{At, EndsAt, round_of, round_at, entered, request_of, ends_requeued, IsReleased, IsIssued, AreRequeued, IsOpen, IsUsed, open_count}
+use Rattle.blk_trace.specs.Events.{At, EndsAt, round_of, round_at, entered, request_of, IsReleased, IsIssued, AreRequeued, IsOpen, IsUsed, open_count}
 use Rattle.blk_trace.specs.Meaning.{released_ids}
 use Rattle.blk_trace.specs.Waits.{has_id}
 use Rattle.blk_trace.specs.Legal.{IsLegalTrace}
@@ -36,7 +36,7 @@ use Rattle.blk_trace_state.specs.State.{Entry, LayerState, has_completed, next_s
 use Rattle.blk_trace_state.specs.Replay.{can_join, places_now, obeys}
 use Rattle.blk_trace_state.specs.Laws.{entry_of}
 use Rattle.blk_trace.specs.Issues.{outcome_of, issues_from}
-use Rattle.blk_trace.proofs.Issues.{back_is, flies_on, still_flies}
+use Rattle.blk_trace.proofs.Issues.{flies_on, still_flies}
 use Rattle.blk_trace_state.proofs.Reading.{any_place, place_any}
 use Rattle.blk_trace_state.proofs.Entering.{entries_of, released_in, entry_in, HasEntered, new_is, is_new, within_is, is_so_within, fits_is, is_so_fit}
 
@@ -115,10 +115,10 @@ gone_test setup es s st id =
     let p : Issued → Bool = λ i. (i.id == id) && not (was_requeued i.outcome) in
     let same : is_out s id ≡ list_any p (issues_from 0 es) = ap (list_any p) st.issued_are in (
       λ t k tag at.
-          elim (cases_Bool (ends_requeued tag (drop (suc k) es))) [
+          elim (cases_Bool (was_requeued (outcome_of tag (drop (suc k) es)))) [
             | inl b ↦ b
             | inr b ↦
-                let stays : not (was_requeued (outcome_of tag (drop (suc k) es))) ≡ true = ap not (back_is tag (drop (suc k) es) ∙ b) in
+                let stays : not (was_requeued (outcome_of tag (drop (suc k) es))) ≡ true = ap not b in
                 let found : is_out s id ≡ true = same ∙ any_place p 0 es k id tag at (and_from (id == id) _ (eq-eqb id id refl) stays) in
                 absurd (both_ways (is_out s id) (not-true (is_out s id) t) found)
           ],
@@ -126,8 +126,7 @@ gone_test setup es s st id =
           let f = place_any p 0 es (sym same ∙ t) in
           let q = and_parts (f.id == id) (not (was_requeued (outcome_of f.tag (drop (suc f.place) es)))) f.passes in
           let at : At es f.place (Issue id f.tag) = subst (λ x. At es f.place (Issue x f.tag)) (eqb-true f.id id q.0) f.issued in
-          let went : was_requeued (outcome_of f.tag (drop (suc f.place) es)) ≡ true = back_is f.tag (drop (suc f.place) es) ∙ all f.place f.tag at in
-          both_ways _ (not-true _ q.1) went)),
+          both_ways _ (not-true _ q.1) (all f.place f.tag at))),
     )
 
 -- ends after a place

@@ -13,8 +13,8 @@ use Rattle.blk_trace.specs.Happened.{Happened}
 use Rattle.blk_trace.specs.Setups.{Setup, expire_of}
 use Rattle.blk_trace.specs.Events.{join_up}
 use Rattle.blk_trace.specs.Meaning.{rising}
-use Rattle.blk_trace.specs.Issues.{flies, was_requeued}
-use Rattle.blk_trace.specs.Inside.Issues.{ended_by, kept_of}
+use Rattle.blk_trace.specs.Issues.{flies, was_requeued, kept_of}
+use Rattle.blk_trace.specs.Inside.Issues.{ended_by}
 use Rattle.blk_trace.specs.Waits.{Entered}
 
 -- a request that entered: its id, the round of its last Release or Join, when it is due, and its bios

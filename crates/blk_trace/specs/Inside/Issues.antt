@@ -1,5 +1,5 @@
 -- Issues, one event after the other.
-use Rattle.std.specs.Prelude.{ℕ, ◌==◌, ◌&&◌, not, cond, List, filter, Option, Some, None}
+use Rattle.std.specs.Prelude.{ℕ, ◌==◌, ◌&&◌, cond, List, Option, Some, None}
 use Rattle.edd_commands.specs.declared.Command.{Command}
 use Rattle.blk_trace.specs.declared.issued.Outcome.{Outcome}
 use Rattle.blk_trace.specs.declared.issued.Issued.{Issued}
@@ -11,13 +11,6 @@ use Rattle.blk_trace.specs.Issues.{flies, was_requeued}
 -- the Issue that is in flight under the tag comes to this end, every other stays
 abbrev pub ended_by : ℕ → Outcome → Issued → Issued
 ended_by tag outcome i = cond (flies i.outcome && (tag == i.tag)) (record { round = i.round; id = i.id; tag = i.tag; outcome = outcome }) i
-
--- the Issues that were not requeued
-abbrev pub kept_of : List Issued → List Issued
-kept_of xs = filter (λ i. not (was_requeued i.outcome)) xs
-
-abbrev pub round_and_id : Issued → ℕ × ℕ
-round_and_id i = (i.round, i.id)
 
 -- the command of an Issue, unless it was requeued
 abbrev pub command_in : Setup → List Happened → Issued → Option Command

@@ -1,5 +1,5 @@
 -- How the tags of the round that is on stand, by the events since the last Tick.
-use Rattle.std.specs.Prelude.{ℕ, ◌==◌, ◌++◌, ◌&&◌, Bool, false, not, cond, List, [], ◌∷◌, Option, Some, None, count_by, option_map}
+use Rattle.std.specs.Prelude.{ℕ, ◌==◌, ◌++◌, Bool, not, cond, List, [], ◌∷◌, Option, Some, None, count_by, option_map}
 use Rattle.std.specs.Option.{option_and_then}
 use Rattle.std.specs.List.{filter_map, list_any}
 use Rattle.blk_bio.specs.declared.bio.Dir.{Dir}
@@ -8,6 +8,7 @@ use Rattle.blk_trace.specs.Happened.{Happened}
 use Rattle.blk_trace.specs.Kinds.{issues, is_tick, is_done_of}
 use Rattle.blk_trace.specs.Events.{request_of}
 use Rattle.blk_trace.specs.Setups.{same_dir}
+use Rattle.blk_trace.specs.Issues.{issues_of, flying}
 
 -- the events after the last Tick, where those given stand before the others
 abbrev pub after_last_tick : List Happened → List Happened → List Happened
@@ -37,15 +38,10 @@ seat_at events tag =
     option_map (λ id. record { dir = dir_of (request_of events id); in_flight = not (list_any (is_done_of tag) (this_round events)) })
     (first_id (filter_map (issued_by tag) (this_round events)))
 
--- whether a seat's command is of the direction and in flight
-abbrev pub is_flying : Dir → Option RoundSeat → Bool
-is_flying dir None = false
-is_flying dir (Some seat) = same_dir dir seat.dir && seat.in_flight
-
 -- the tag of an event that issues
 abbrev pub issue_tag : Happened → Option ℕ
 issue_tag e = option_map (λ p. p.1) (issues e)
 
 -- how many commands of the direction are in flight
 unfoldable pub flying_of : List Happened → Dir → ℕ
-flying_of events dir = count_by (λ tag. is_flying dir (seat_at events tag)) (filter_map issue_tag (this_round events))
+flying_of events dir = count_by (λ i. same_dir dir (dir_of (request_of events i.id))) (flying (issues_of events))

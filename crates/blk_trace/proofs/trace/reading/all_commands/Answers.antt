@@ -3,7 +3,8 @@ use Rattle.std.specs.List.{filter_map}
 use Rattle.std.proofs.lemmas.List.{take_all}
 use Rattle.blk_trace.specs.Issues.{issues_of}
 use Rattle.blk_trace.specs.Inside.Issues.{command_in}
-use Rattle.blk_trace.proofs.Issues.{issued_there, next_taken, commands_are}
+use Rattle.blk_trace.proofs.Issues.{issued_there, next_taken}
+use Rattle.blk_trace.proofs.Served.{commands_are}
 use Rattle.blk_trace.proofs.trace.reading.all_commands.Goals as goal
 use Rattle.blk_trace.proofs.trace.reading.all_commands.Goals.{in-Some+in_ok-push, in_default}
 

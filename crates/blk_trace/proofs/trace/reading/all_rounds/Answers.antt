@@ -5,7 +5,8 @@ use Rattle.blk_trace.specs.declared.issued.Outcome.TheVariants.{Flying}
 use Rattle.blk_trace.specs.declared.issued.Issued.{Issued}
 use Rattle.blk_trace.specs.Issues.{issues_of}
 use Rattle.blk_trace.specs.Inside.Issues.{round_in}
-use Rattle.blk_trace.proofs.Issues.{in_round, next_taken, rounds_are}
+use Rattle.blk_trace.proofs.Issues.{next_taken}
+use Rattle.blk_trace.proofs.Served.{rounds_are, in_round}
 use Rattle.blk_trace.proofs.trace.reading.all_rounds.Goals as goal
 use Rattle.blk_trace.proofs.trace.reading.all_rounds.Goals.{then-not-was_requeued+in_ok-push, else-not-was_requeued}
 

@@ -1,5 +1,5 @@
 use Rattle.std.proofs.Common.{◌∙◌, sym}
-use Rattle.blk_trace.proofs.Issues.{in_command}
+use Rattle.blk_trace.proofs.Served.{in_command}
 use Rattle.blk_trace.proofs.trace.reading.command_in.Goals as goal
 
 pub returns-then-was_requeued : goal.returns-then-was_requeued
