@@ -1,5 +1,5 @@
 -- What counts say of the bios and the commands that are counted.
-use Rattle.std.proofs.Common.{◌==◌, ◌&&◌, ◌≡◌, ◌∙◌, ◌<◌, ◌≢◌, Bool, true, false, ℕ, sym, ap, refl, subst, arith, inl, List, ◌++◌, Option, Some, None, length, take, drop, get_or, count_by, map, IsPermutation, append_assoc, Contains}
+use Rattle.std.proofs.Common.{◌==◌, ◌&&◌, ◌≡◌, ◌∙◌, ◌<◌, ◌≢◌, Bool, true, false, ℕ, sym, ap, refl, subst, arith, inl, List, ◌++◌, Option, Some, None, length, take, drop, get_or, count_by, IsPermutation, append_assoc, Contains}
 use Rattle.std.specs.Prelude.{IfNone, IfSome, OnOk, Result, Ok, Err}
 use Rattle.std.proofs.lemmas.Bool.{eqb-true, eq-eqb}
 use Rattle.std.proofs.lemmas.List.{take-append-le, take_all}
@@ -14,14 +14,13 @@ use Rattle.blk_trace.specs.Happened.{Happened}
 use Rattle.blk_trace.specs.Setups.{Setup}
 use Rattle.blk_trace.specs.Events.{entered}
 use Rattle.blk_trace.specs.Laws.{IsAccounted}
-use Rattle.blk_trace.specs.Meaning.{command_of, waiting_of}
-use Rattle.blk_trace.specs.Waits.{has_id}
-use Rattle.blk_layer.specs.Closing.{way_number, is_bio_of, is_command, issued_bios, done_ids, done_commands, all_accepted, all_ran, AreAllThere, AreSettled, AreCounted, IsBioOf, DiffersAsCommand, Disagrees}
+use Rattle.blk_trace.specs.Meaning.{waiting_of}
+use Rattle.blk_layer.specs.Closing.{way_number, is_bio_of, is_command, issued_bios, done_commands, all_accepted, all_ran, AreAllThere, AreSettled, AreCounted, IsBioOf, DiffersAsCommand, Disagrees}
 use Rattle.blk_layer.specs.Inside.Closing.{IsExact, times, IsExtra, HasEach}
 use Rattle.blk_bio.specs.declared.bio.BioId.{BioId}
 use Rattle.blk_layer.specs.Seats.{SubmitterSeat, WorkerSeat}
 use Rattle.blk_layer.proofs.Same.{no_rest, each_as_many, count_moved}
-use Rattle.blk_layer.proofs.Gathered.{done_map, mapped_at, mapped_length, id_there, own_default}
+use Rattle.blk_layer.proofs.Completed.{done_is}
 
 way_is : (x y : Dir) → way_number x ≡ way_number y → x ≡ y
 way_is Read Read e = refl
@@ -124,26 +123,6 @@ settled_bios es queued accepted accounted same = IsPermutation-trans accepted (e
 
 pub differing_bios : (es : List Happened) (queued accepted : List Bio) (b : Bio) → IsAccounted es → count_by (is_bio_of b) accepted ≢ count_by (is_bio_of b) (entered es ++ queued) → count_by (is_bio_of b) accepted ≢ count_by (is_bio_of b) (issued_bios es ++ (queued ++ waiting_of es))
 differing_bios es queued accepted b accounted other same = other (same ∙ count_moved (is_bio_of b) (entered es ++ queued) (issued_bios es ++ (queued ++ waiting_of es)) (stored_is es queued accounted))
-
--- a command that is done: the id where it stands
-done_at : (setup : Setup) (es : List Happened) (c : Command) (at : Contains (done_commands setup es) c) → (at.0 < length (done_ids es)) × (c ≡ command_of setup es (get_or (done_ids es) at.0 0))
-done_at setup es c at =
-    let list : done_commands setup es ≡ map (command_of setup es) (done_ids es) = done_map setup es in
-    let low : at.0 < length (map (command_of setup es) (done_ids es)) = omega (arith, at.1, ap length list) in
-    (omega (arith, low, mapped_length (command_of setup es) (done_ids es)), sym at.2 ∙ ap (λ l. get_or l at.0 c) list ∙ mapped_at (command_of setup es) (done_ids es) at.0 c 0 low)
-
--- its id
-pub done_has : (setup : Setup) (es : List Happened) (c : Command) → Contains (done_commands setup es) c → has_id (done_ids es) c.id ≡ true
-done_has setup es c at =
-    let is = done_at setup es c at in
-    let named : c.id ≡ get_or (done_ids es) at.0 0 = ap (λ (x : Command). x.id) is.1 in
-    id_there (done_ids es) at.0 c.id is.0 (own_default (done_ids es) at.0 c.id 0 is.0 named)
-
--- and that it is the command of its id
-pub done_is : (setup : Setup) (es : List Happened) (c : Command) → Contains (done_commands setup es) c → c ≡ command_of setup es c.id
-done_is setup es c at =
-    let is = (done_at setup es c at).1 in
-    is ∙ ap (command_of setup es) (sym (ap (λ (x : Command). x.id) is))
 
 -- a command that is done and stands another number of times in the accounts
 pub differs_as : (setup : Setup) (es : List Happened) (workers : List WorkerSeat) (c : Command) (done ran : List Command) (id : BioId) → done ≡ done_commands setup es → ran ≡ all_ran workers

@@ -12,7 +12,7 @@ mod Answered
 mod Running
 mod Times
 mod Same
-mod Dones
+mod Completed
 mod Gathered
 mod Agreed
 mod Moved

@@ -1,18 +1,20 @@
 -- What closing a layer says.
-use Rattle.std.specs.Prelude.{ℕ, Bool, List, count_by, is_some, ◌≡◌, ◌≢◌, ◌<◌, ◌⊎◌, ◌++◌, ◌==◌, ◌&&◌, [], ◌∷◌, Option, None, Some, fold, map, length, slice_get, IsPermutation}
+use Rattle.std.specs.Prelude.{ℕ, Bool, true, false, cond, List, count_by, is_some, ◌≡◌, ◌≢◌, ◌<◌, ◌⊎◌, ◌++◌, ◌==◌, ◌&&◌, [], ◌∷◌, Option, None, Some, length, slice_get, IsPermutation}
 use Rattle.blk_bio.specs.declared.bio.Dir.{Dir}
 use Rattle.blk_bio.specs.declared.bio.Dir.TheVariants.{Read, Write}
 use Rattle.blk_trace.specs.Happened.{Happened}
 use Rattle.blk_trace.specs.Kinds.{completes, releases}
-use Rattle.std.specs.Option.{option_or, option_and_then}
-use Rattle.std.specs.List.{flat_map, cons_option}
+use Rattle.std.specs.List.{flat_map, filter_map}
 use Rattle.edd_commands.specs.declared.Command.{Command}
 use Rattle.blk_bio.specs.Bios.{Bio}
 use Rattle.blk_bio.specs.declared.bio.BioId.{BioId}
 use Rattle.blk_trace.specs.Setups.{Setup}
 use Rattle.blk_trace.specs.Events.{At, HasId, request_of}
+use Rattle.blk_trace.specs.Issues.{issues_of}
 use Rattle.blk_trace.specs.Meaning.{command_of, issued_ids, waiting_of}
-use Rattle.blk_trace.specs.Inside.Seats.{issued_by}
+use Rattle.blk_trace.specs.declared.issued.Issued.{Issued}
+use Rattle.blk_trace.specs.declared.issued.Outcome.{Outcome}
+use Rattle.blk_trace.specs.declared.issued.Outcome.TheVariants as outcome
 use Rattle.edd_commands.specs.Order.{BreaksFirst, AreKept}
 use Rattle.blk_layer.specs.Seats.{LayerShape, SubmitterSeat, WorkerSeat}
 use Rattle.blk_layer.specs.declared.closing.CloseRefused.{CloseRefused}
@@ -55,26 +57,19 @@ all_ran workers = flat_map (λ w. w.ran) workers
 unfoldable pub issued_bios : List Happened → List Bio
 issued_bios events = flat_map (request_of events) (issued_ids events)
 
--- the id that was last issued under the tag, if one was
-unfoldable pub last_under : ℕ → List Happened → Option ℕ
-last_under tag events = fold (λ found e. option_or (issued_by tag e) found) None events
+-- whether a command has completed
+abbrev pub has_completed : Outcome → Bool
+has_completed outcome.Flying = false
+has_completed outcome.Done = true
+has_completed outcome.Back = false
 
--- the id whose command an event says is done, by the id that was last issued under each tag before it
-abbrev pub done_by : (ℕ → Option ℕ) → Happened → Option ℕ
-done_by last e = option_and_then last (completes e)
+-- the command of an Issue, if it has completed
+abbrev pub command_done : Setup → List Happened → Issued → Option Command
+command_done setup events i = cond (has_completed i.outcome) (Some (command_of setup events i.id)) None
 
--- the ids of the commands that events say are done, where those given stand before them
-unfoldable pub done_after : List Happened → List Happened → List ℕ
-done_after before [] = []
-done_after before (e ∷ es) = cons_option (done_by (λ tag. last_under tag before) e) (done_after (before ++ e ∷ []) es)
-
--- the ids of the commands that are done, in the order of the Dones
-unfoldable pub done_ids : List Happened → List ℕ
-done_ids events = done_after [] events
-
--- the commands of the Dones, in their order
+-- the commands that are done, in the order of their Issues
 unfoldable pub done_commands : Setup → List Happened → List Command
-done_commands setup events = map (command_of setup events) (done_ids events)
+done_commands setup events = filter_map (command_done setup events) (issues_of events)
 
 -- the accounts agree with a trace and the bios that are left: the bios that were accepted are those that were issued and those
 -- left, and the commands that the workers ran are those that are done, each as many times

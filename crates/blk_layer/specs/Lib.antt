@@ -1,3 +1,4 @@
+pub mod Names
 pub mod Seats
 pub mod Submitting
 pub mod Serving

@@ -1,9 +1,9 @@
-//! Lists that are checked off against accounts, and lists by number.
+//! Lists that are checked off against accounts.
 
-ghost use Rattle.std.specs.Prelude.{ℕ, ◌≡◌, ◌∷◌, ◌==◌, [], false, cond, Some, IsTrue, OnOk, IfSome, IsPermutation};
-ghost use Rattle.blk_layer.specs.Inside.Closing.{IsExact, all_left, entry_at};
+ghost use Rattle.std.specs.Prelude.{◌≡◌, ◌∷◌, [], false, IsTrue, IfSome, IsPermutation};
+ghost use Rattle.blk_layer.specs.Inside.Closing.{IsExact, all_left};
 
-use std::alloc::{AllocError, Allocator};
+use std::alloc::Allocator;
 use std::marker::Model;
 
 /// What is left of an account while it is checked off.
@@ -103,30 +103,4 @@ fn are_over<T: Copy + Eq + Drop, A: Allocator>(accounts: &[Unchecked<T, A>]) -> 
         }
     }
     true
-}
-
-/// What stands at a place of a list by number, if something does.
-pub(crate) fn entry_at<T: Copy>(entries: &[Option<T>], place: u64) -> Option<T>
-    ensures { result ≡ entry_at entries.now place }
-{
-    match entries.get(place as usize) {
-        Some(entry) => *entry,
-        None => None,
-    }
-}
-
-/// Puts an entry at its place in a list by number. Fails only when memory runs out.
-pub(crate) fn put_at<T: Copy, A: Allocator>(
-    entries: &mut Vec<Option<T>, A>,
-    place: u64,
-    entry: T,
-) -> Result<(), AllocError>
-    ensures { OnOk result ((k : ℕ) → entry_at entries.new.items k ≡ cond (place == k) (Some entry) (entry_at entries.old.items k)) }
-{
-    let place = place as usize;
-    while entries.len() <= place {
-        entries.push(None)?;
-    }
-    entries[place] = Some(entry);
-    Ok(())
 }

@@ -1,20 +1,20 @@
 //! How a layer is closed: its accounts are settled, once and for all.
 
 ghost use Rattle.std.specs.Prelude.{ℕ, false, ◌≡◌, ◌<◌, ◌++◌, ◌↔◌, [], List, IsTrue, IfOk, IfErr, OnOk, IfSome, IfNone, Some, IsPermutation, length, slice_get, unwrap_or};
-ghost use Rattle.std.specs.List.{cons_option};
 ghost use Rattle.std.specs.HashMap as hash;
 ghost use Rattle.blk_bio.specs.Bios.{Bio as Transfer};
-ghost use Rattle.blk_trace.specs.Events.{AreOnce, HasId, IsReleased};
+ghost use Rattle.blk_trace.specs.Events.{AreOnce, HasId, IsIssued, IsReleased};
 ghost use Rattle.blk_trace.specs.Kinds.{releases};
 ghost use Rattle.blk_core.specs.Runs.{IsRunFrom};
 ghost use Rattle.blk_layer.specs.Rounds.{EndsFullRounds};
 ghost use Rattle.blk_layer.specs.Runs.{IsLayerRun};
+ghost use Rattle.blk_layer.specs.Names.{close_told};
 ghost use Rattle.blk_layer.specs.Seats.{SubmitterSeat};
-ghost use Rattle.blk_layer.specs.Closing.{AreAllThere, HasNumber, all_accepted, all_ran, issued_bios, done_by, done_ids, done_commands, done_count, AreSettled, AreCounted, IsBioOf, DiffersAsCommand, Disagrees, IsCloseRefusal};
+ghost use Rattle.blk_layer.specs.Closing.{AreAllThere, HasNumber, all_accepted, all_ran, issued_bios, command_done, done_commands, done_count, AreSettled, AreCounted, IsBioOf, DiffersAsCommand, Disagrees, IsCloseRefusal};
 ghost use Rattle.blk_layer.specs.Inside.Closing.{IsAccountOf};
-ghost use Rattle.blk_layer.specs.Inside.Closing.{AllDiffer, all_left, entry_at, IsExact, IsExtra, CountsEach, HasEach, DiffersIn, DiffersInCommand, NotesLast};
+ghost use Rattle.blk_layer.specs.Inside.Closing.{AllDiffer, all_left, IsExact, IsExtra, CountsEach, HasEach, DiffersIn, DiffersInCommand};
 
-use crate::checking::{Unchecked, entry_at, is_checked_off, put_at};
+use crate::checking::{Unchecked, is_checked_off};
 use crate::layer::{Layer, MAX_WORKERS, Named};
 use crate::locked::LockedQueue;
 use crate::seats::{Submitter, Worker};
@@ -22,8 +22,8 @@ use blk_bio::{Bio, BioId, Request};
 use blk_core::Core;
 use blk_queues::SoftQueue;
 use blk_sched::Scheduler;
-use blk_trace::{Entry, Event, Trace};
-use edd_commands::Command;
+use blk_trace::{Entry, Event, Issued, Outcome, Trace};
+use edd_commands::{Command, Fault, Told, told};
 use std::alloc::{AllocError, Allocator, Global};
 use std::collections::HashMap;
 use std::hash::{BuildHasherDefault, FoldHasher, Hash};
@@ -36,12 +36,20 @@ type LayerHashing = BuildHasherDefault<FoldHasher>;
 
 /// Why a layer is not closed, in the order in which the reasons are looked for.
 #[derive(Clone, Copy, Debug, PartialEq, Eq, Error)]
-#[error("{:?}", self)]
+#[error("{}", self.name())]
 pub enum CloseFault {
     /// A submitter or a worker of the layer isn't there.
     SeatMissing,
     /// Memory ran out.
     Memory,
+}
+
+impl Fault for CloseFault {
+    ghost told = { close_told };
+
+    fn told(&self) -> Told {
+        told!(self: CloseFault { SeatMissing, Memory => Memory })
+    }
 }
 
 /// What a closed layer leaves.
@@ -400,59 +408,36 @@ fn add_queued<A: Allocator + Clone>(
     Ok(())
 }
 
-/// The commands of a trace that are done, in the order of their Dones.
+/// The command of an Issue, if it has completed.
+fn command_done<A: Allocator + Clone>(trace: &Trace<A>, issue: &Issued) -> Option<Command>
+    requires { IsIssued trace.now.events issue.now.id }
+    ensures { result ≡ command_done trace.now.setup trace.now.events issue.now }
+{
+    match issue.outcome {
+        Outcome::Done => {}
+        Outcome::Flying | Outcome::Back => return None,
+    }
+    let Some(Entry { release, due, .. }) = trace.request(issue.id) else {
+        unreachable!()
+    };
+    Some(Command {
+        id: issue.id,
+        release,
+        due,
+    })
+}
+
+/// The commands of a trace that are done, in the order of their Issues.
 fn done<A: Allocator + Clone>(alloc: &A, trace: &Trace<A>) -> Result<Vec<Command, A>, AllocError>
     ensures { IfOk result (λ v. v.items ≡ done_commands trace.now.setup trace.now.events) }
 {
-    let ids = done_ids(alloc, trace.events())?;
-    let mut commands = Vec::with_capacity(alloc.clone()?, ids.len())?;
-    for id in &ids {
-        let Some(Entry { release, due, .. }) = trace.request(*id) else {
-            unreachable!()
-        };
-        commands.push(Command {
-            id: *id,
-            release,
-            due,
-        })?;
-    }
-    Ok(commands)
-}
-
-/// The ids of the commands that are done.
-#[tactic(auto, using(crate::proofs::Gathered::done_noted, crate::proofs::Gathered::last_noted, crate::proofs::Gathered::none_done, crate::proofs::Gathered::none_last))]
-fn done_ids<A: Allocator + Clone>(
-    alloc: &A,
-    events: &[Event<Request<A>>],
-) -> Result<Vec<u64, A>, AllocError>
-    ensures { IfOk result (λ v. v.items ≡ done_ids events.now) }
-{
-    let mut ids = Vec::new(alloc.clone()?);
-    let mut last = Vec::new(alloc.clone()?);
-    for event in events {
-        note(&mut ids, &mut last, event)?;
-    }
-    Ok(ids)
-}
-
-/// Notes one more event: the last id under each tag, at its place, and the ids that are done.
-fn note<A: Allocator + Clone>(
-    ids: &mut Vec<u64, A>,
-    last: &mut Vec<Option<u64>, A>,
-    event: &Event<Request<A>>,
-) -> Result<(), AllocError>
-    ensures ids { OnOk result (ids.new.items ≡ ids.old.items ++ cons_option (done_by (entry_at last.old.items) event.now) []) }
-    ensures last { OnOk result (NotesLast (entry_at last.old.items) event.now (entry_at last.new.items)) }
-{
-    if let Some(tag) = event.completes() {
-        if let Some(id) = entry_at(last.as_slice(), u64::from(tag)) {
-            ids.push(id)?;
+    let mut commands = Vec::new(alloc.clone()?);
+    for issue in trace.issues() {
+        if let Some(command) = command_done(trace, issue) {
+            commands.push(command)?;
         }
     }
-    match event.issues() {
-        Some((id, tag)) => put_at(last, u64::from(tag), id),
-        None => Ok(()),
-    }
+    Ok(commands)
 }
 
 /// A bio of the request that was released under an id.

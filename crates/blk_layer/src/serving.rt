@@ -1,6 +1,7 @@
 //! What a worker does: commands that it is issued and reports, rounds that it ends, and whole passes of these.
 
 ghost use Rattle.std.specs.Prelude.{true, ◌≡◌, ◌≢◌, ◌≤◌, OnOk, OnErr, IfOk, IfErr, None, Some, length};
+ghost use Rattle.blk_layer.specs.Names.{work_told};
 ghost use Rattle.blk_layer.specs.Serving.{IsIssueAnswer, AccountsFor, LetsGo, IsInHand, IsTickAnswer, IsDepthAnswer, RunsMore, IsWorked, IsWorkFault, IsAfterPass};
 ghost use Rattle.blk_layer.specs.Inside.Serving.{Exchanges, Serves, IsServeFault, work_name};
 
@@ -11,7 +12,7 @@ use blk_bio::BioId;
 use blk_core::{BackFault, CoreFault, DepthFault, IssueFault, NotIssued, TickFault};
 use blk_sched::Scheduler;
 use blk_trace::MAX_EVENTS;
-use edd_commands::Command;
+use edd_commands::{Command, Fault, Told, told};
 use std::alloc::Allocator;
 use std::sync::Wait;
 use std::sync::atomic::Ordering;
@@ -68,15 +69,22 @@ pub struct Worked {
 
 /// Why a worker's work ended early: the core's first refusal.
 #[derive(Clone, Copy, Debug, PartialEq, Eq, Error)]
-#[error("{:?}", self)]
+#[error("{}", self.name())]
 pub enum WorkFault {
     /// The trace has no places for an event.
     TraceFull,
     /// Memory ran out.
     Memory,
     /// A request in a software queue has a bio whose id stands in the trace, or twice in it: the first such, by sector.
-    #[error("Repeated")]
     Repeated(BioId),
+}
+
+impl Fault for WorkFault {
+    ghost told = { work_told };
+
+    fn told(&self) -> Told {
+        told!(self: WorkFault { TraceFull, Memory => Memory, Repeated(_) })
+    }
 }
 
 /// What a pass found.

@@ -3,11 +3,8 @@ use Rattle.std.specs.Prelude.{ℕ, ◌≡◌, ◌<◌, ◌≤◌, ◌+◌, Bool,
 use Rattle.edd_commands.specs.declared.Command.{Command}
 use Rattle.blk_bio.specs.Bios.{Bio}
 use Rattle.blk_layer.specs.Closing.{is_bio_of, is_command}
-use Rattle.std.specs.Option.{option_or, option_and_then}
 use Rattle.std.specs.List.{flat_map}
 use Rattle.blk_bio.specs.declared.bio.BioId.{BioId}
-use Rattle.blk_trace.specs.Happened.{Happened}
-use Rattle.blk_trace.specs.Inside.Seats.{issued_by}
 use Rattle.blk_layer.specs.Seats.{SubmitterSeat, AreOwn}
 use Rattle.blk_trace.specs.Events.{AreOnce}
 
@@ -52,14 +49,6 @@ DiffersIn accepted stored id = (bio : Bio) × (bio.id ≡ id) × (count_by (is_b
 abbrev pub DiffersInCommand : List Command → List Command → Command → Type 0
 DiffersInCommand done ran c = Contains done c × (count_by (is_command c) ran ≢ count_by (is_command c) done)
 
--- the last id under each tag, after one more event
-abbrev pub NotesLast : (ℕ → Option ℕ) → Happened → (ℕ → Option ℕ) → Type 0
-NotesLast last event new = (tag : ℕ) → new tag ≡ option_or (issued_by tag event) (last tag)
-
 -- all that is left of some lists
 abbrev pub all_left : {X : Type 0} → List (List X) → List X
 all_left lists = flat_map (λ l. l) lists
-
--- what stands at a place of a list by number, if something does
-abbrev pub entry_at : {X : Type 0} → List (Option X) → ℕ → Option X
-entry_at entries place = option_and_then (λ e. e) (slice_get entries place)

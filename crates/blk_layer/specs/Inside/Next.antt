@@ -1,5 +1,5 @@
 -- Why a worker is issued no next command, and what a pass makes of it.
-use Rattle.std.specs.Prelude.{ℕ, ◌≡◌, ◌+◌, ◌<◌, ◌≤◌, ⊤, ◌⊎◌, ◌++◌, ◌∷◌, [], Option, None, Some, Result, Ok, Err, Contains, length}
+use Rattle.std.specs.Prelude.{ℕ, ◌≡◌, ◌+◌, ◌<◌, ◌≤◌, ⊤, ◌⊎◌, ◌++◌, ◌∷◌, [], Result, Ok, Err, Contains, length}
 use Rattle.blk_tags.specs.Tags.{Seat}
 use Rattle.blk_sched.specs.Policies.{Policy}
 use Rattle.blk_core.specs.State.{CoreState}
@@ -9,7 +9,6 @@ use Rattle.blk_core.specs.declared.refusals.TickFault.TheVariants as tick
 use Rattle.blk_core.specs.declared.trying.NoneIssued.TheVariants as none
 use Rattle.blk_layer.specs.declared.seats.NoNext.{NoNext}
 use Rattle.blk_layer.specs.declared.seats.NoNext.TheVariants.{NoTag, Tried}
-use Rattle.blk_layer.specs.declared.serving.Issued.{Issued}
 use Rattle.blk_layer.specs.declared.serving.WorkFault.{WorkFault}
 use Rattle.blk_layer.specs.declared.serving.WorkFault.TheVariants as work
 

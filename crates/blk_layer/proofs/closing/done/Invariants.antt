@@ -1,6 +1,8 @@
-use Rattle.std.proofs.Common.{◌≡◌, take, map}
-use Rattle.blk_trace.specs.Meaning.{command_of}
+use Rattle.std.proofs.Common.{◌≡◌, take}
+use Rattle.std.specs.List.{filter_map}
+use Rattle.blk_trace.specs.Issues.{issues_of}
+use Rattle.blk_layer.specs.Closing.{command_done}
 use Rattle.blk_layer.proofs.closing.done.Given as goal
 
-abbrev pub invariant-loop-id : goal.invariant-loop-id
-invariant-loop-id g l = l.commands.items ≡ map (command_of l.fn.trace.setup l.fn.trace.events) (take l.id-index l.id-items)
+abbrev pub invariant-loop-issue : goal.invariant-loop-issue
+invariant-loop-issue g l = l.commands.items ≡ filter_map (command_done l.fn.trace.setup l.fn.trace.events) (take l.issue-index (issues_of l.fn.trace.events))

@@ -1,0 +1,17 @@
+-- The names of faults, and what is told beside them.
+use Rattle.std.specs.Prelude.{ℕ, List, codes}
+use Rattle.edd_commands.specs.declared.faults.Beside.{Beside}
+use Rattle.edd_commands.specs.declared.faults.Beside.TheVariants as beside
+use Rattle.blk_layer.specs.declared.closing.CloseFault.{CloseFault}
+use Rattle.blk_layer.specs.declared.closing.CloseFault.TheVariants as close
+use Rattle.blk_layer.specs.declared.serving.WorkFault.{WorkFault}
+use Rattle.blk_layer.specs.declared.serving.WorkFault.TheVariants as work
+
+abbrev pub work_told : WorkFault → List ℕ × Beside
+work_told work.TraceFull = (codes "TraceFull", beside.Nothing)
+work_told work.Memory = (codes "Memory", beside.Memory)
+work_told (work.Repeated id) = (codes "Repeated", beside.Nothing)
+
+abbrev pub close_told : CloseFault → List ℕ × Beside
+close_told close.SeatMissing = (codes "SeatMissing", beside.Nothing)
+close_told close.Memory = (codes "Memory", beside.Memory)
