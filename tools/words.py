@@ -199,8 +199,6 @@ UNSEEN = {"Memory", "Read", "Write", "Words", "NoQueue", "Queues"}
 NAME = re.compile(r"fn (?:name\(self\)|told\(&self\)) .*?\n    }\n", re.S)
 LIST = re.compile(r"(variant_name|told)!\(self: (\w+) \{(.*?),?\s*\}\)", re.S)
 VARIANT = re.compile(r'\s*(\w+)(?:\(\w+\))?(?: as "(\w+)")?(?: by (\w+))?(?: => (.+))?')
-# A failure of the program itself, with its name.
-TOLD = re.compile(r'(Failure::\w+)(?:\(_\))? => Told \{\s*name: "(\w+)"')
 
 
 def printed_names():
@@ -215,7 +213,6 @@ def printed_names():
             for variant, name, holds, more in (one.groups() for one in found):
                 if not holds and (listed[1] == "told" or not more):
                     yield f"{listed[2]}::{variant}", name or variant
-        yield from TOLD.findall(text)
 
 
 def names_of_faults():

@@ -12,7 +12,7 @@ use crate::words::MatchedOptions;
 use blk_schedulers::grid::grid_given;
 use blk_schedulers::options::{position_names, scheduler_names, tried_names};
 use blk_schedulers::plans::plans_tried;
-use blk_schedulers::{GridFault, Plan, Sched};
+use blk_schedulers::{Given, GridFault, Plan, Sched};
 use clap::ArgMatches;
 use clap::error::ErrorKind;
 use std::alloc::Global;
@@ -26,16 +26,24 @@ pub enum NoGrid {
     Nothing,
 }
 
+/// The grid that options ask for.
+fn grid_by<G: Given>(alloc: Global, options: &G) -> Result<Vec<Sched>, NoGrid>
+    ensures grid { IfOk result (λ g. grid_given (G.given options.now) ≡ Some g.items) }
+    ensures none { IfErr result (λ n. n ≡ NoGrid.Nothing → grid_given (G.given options.now) ≡ None) }
+{
+    match grid_given(alloc, options) {
+        Ok(grid) => Ok(grid),
+        Err(GridFault::List(_)) => Err(NoGrid::Nothing),
+        Err(GridFault::Memory) => Err(NoGrid::Memory),
+    }
+}
+
 /// The grid that the options of `tune` ask for.
 fn grid_of(alloc: Global, options: &ArgMatches<'_>) -> Result<Vec<Sched>, NoGrid>
     ensures grid { IfOk result (λ g. grid_given (given_options (given options.now)) ≡ Some g.items) }
     ensures none { IfErr result (λ n. n ≡ NoGrid.Nothing → grid_given (given_options (given options.now)) ≡ None) }
 {
-    match grid_given(alloc, &MatchedOptions { matches: options }) {
-        Ok(grid) => Ok(grid),
-        Err(GridFault::List(_)) => Err(NoGrid::Nothing),
-        Err(GridFault::Memory) => Err(NoGrid::Memory),
-    }
+    grid_by(alloc, &MatchedOptions { matches: options })
 }
 
 /// The grid that the arguments of a trial ask for, which are read once more.
@@ -88,13 +96,10 @@ fn plans_of(alloc: Global, options: &ArgMatches<'_>) -> Result<Vec<Plan>, NoGrid
         matches: options,
         is_grid: true,
     };
-    match grid_given(alloc, &asked) {
-        Ok(grid) => match plans_tried(alloc, grid.as_slice(), reads.as_slice(), writes.as_slice()) {
-            Ok(plans) => Ok(plans),
-            Err(_) => Err(NoGrid::Memory),
-        },
-        Err(GridFault::List(_)) => Err(NoGrid::Nothing),
-        Err(GridFault::Memory) => Err(NoGrid::Memory),
+    let grid = grid_by(alloc, &asked)?;
+    match plans_tried(alloc, grid.as_slice(), reads.as_slice(), writes.as_slice()) {
+        Ok(plans) => Ok(plans),
+        Err(_) => Err(NoGrid::Memory),
     }
 }
 

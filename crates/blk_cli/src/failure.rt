@@ -15,7 +15,7 @@ use blk_runs::RunFault;
 use blk_schedulers::given::MAX_LISTED;
 use blk_schedulers::{Complaint, SchedFault, Unsettled};
 use edd_check::{CheckFault, OnTimeFault};
-use edd_commands::{Beside, Fault, Told};
+use edd_commands::{Beside, Fault, Told, told};
 use edd_oracle::OracleFault;
 use std::io::Write;
 use text_output::pieces::{MAX_DIGITS, put_number};
@@ -100,34 +100,22 @@ impl Fault for Failure {
     ghost told = { told_of };
 
     fn told(&self) -> Told {
-        match self {
-            Failure::Text(fault) => fault.told(),
-            Failure::Unread(fault) => fault.told(),
-            Failure::Sched(fault) => fault.told(),
-            Failure::Run(fault) => fault.told(),
-            Failure::Solve(fault) => fault.told(),
-            Failure::Check(fault) => fault.told(),
-            Failure::OnTime(fault) => fault.told(),
-            Failure::Load(fault) => fault.told(),
-            Failure::Import(fault) => fault.told(),
-            Failure::Arrivals(fault) => fault.told(),
-            Failure::NotFixed => Told {
-                name: "NotFixed",
-                beside: Beside::Nothing,
-            },
-            Failure::Words(_) => Told {
-                name: "Words",
-                beside: Beside::Words,
-            },
-            Failure::Write => Told {
-                name: "Write",
-                beside: Beside::Write,
-            },
-            Failure::Memory => Told {
-                name: "Memory",
-                beside: Beside::Memory,
-            },
-        }
+        told!(self: Failure {
+            Text(fault) by fault,
+            Unread(fault) by fault,
+            Sched(fault) by fault,
+            Run(fault) by fault,
+            Solve(fault) by fault,
+            Check(fault) by fault,
+            OnTime(fault) by fault,
+            NotFixed,
+            Load(fault) by fault,
+            Import(fault) by fault,
+            Arrivals(fault) by fault,
+            Words(_) => Words,
+            Write => Write,
+            Memory => Memory,
+        })
     }
 }
 

@@ -24,12 +24,7 @@ pub(crate) fn find_fault<A: Allocator, B: Allocator>(
 {
     let window = Window { from: 0, due: 0 };
     match check(alloc, commands, capacity, 0, rounds, window) {
-        Ok(_) => Ok(()),
-        Err(CheckFault::WrongLateness(_)) => Ok(()),
-        Err(CheckFault::NotCrowded(_)) => Ok(()),
-        Err(CheckFault::BeforeRelease(id)) => Err(CheckFault::BeforeRelease(id)),
-        Err(CheckFault::Memory) => Err(CheckFault::Memory),
-        Err(CheckFault::OverDepth(round)) => Err(CheckFault::OverDepth(round)),
-        Err(CheckFault::Length) => unreachable!(),
+        Ok(_) | Err(CheckFault::WrongLateness(_) | CheckFault::NotCrowded(_)) => Ok(()),
+        Err(fault) => Err(fault),
     }
 }

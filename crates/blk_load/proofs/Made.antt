@@ -1,7 +1,7 @@
 -- The queues of a load: a map that serves each hardware queue, and a layer that can be made.
 use Rattle.std.proofs.Common.{ℕ, ◌≡◌, ◌∙◌, ◌<◌, ◌≤◌, ◌%◌, ◌≢◌, sym, ap, refl, subst, arith, inl, inr, List, Option, Some, length, min, slice_index_or}
 use native.Mathlib.Nat as nat
-use Rattle.std.specs.Prelude.{All, Result, Ok, Err, IfErr}
+use Rattle.std.specs.Prelude.{All, slice_get}
 use Rattle.std.proofs.Math.Nat.{min-le_left}
 use Rattle.std.proofs.lemmas.Nat.{mod_below}
 use Rattle.std.proofs.lemmas.Option.{slice_get_within, get_or_from_slice_get}
@@ -11,13 +11,16 @@ use Rattle.blk_queues.specs.declared.hardware.MapFault.TheVariants.{Empty, TooMa
 use Rattle.blk_layer.specs.Seats.{CanMake, IsLayerFault}
 use Rattle.blk_layer.specs.declared.layer.LayerFault.{LayerFault}
 use Rattle.blk_layer.specs.declared.layer.LayerFault.TheVariants as layer
-use Rattle.blk_schedulers.specs.Faults.{IsLoadFault}
-use Rattle.blk_load.specs.Inside.Outcomes.{IsOutcome}
 use Rattle.blk_schedulers.specs.Numbers.{IsLoad}
-use Rattle.blk_schedulers.specs.declared.fault.LoadFault.{LoadFault}
-use Rattle.blk_schedulers.specs.declared.fault.LoadFault.TheVariants as fault
 use Rattle.blk_schedulers.specs.declared.numbers.Load.{Load}
 use Rattle.blk_load.specs.Inside.Loads.{AreInTurn}
+use Rattle.blk_load.specs.Inside.Faults.{load_told}
+use Rattle.blk_load.specs.declared.fault.LoadFault.{LoadFault}
+use Rattle.blk_load.specs.declared.fault.LoadFault.TheVariants as fault
+use Rattle.blk_layer.specs.declared.closing.CloseFault.TheVariants as close
+use Rattle.blk_layer.specs.declared.serving.WorkFault.TheVariants as work
+use Rattle.edd_commands.specs.declared.faults.Told.{Told}
+use Rattle.blk_schedulers.specs.Faults.{IsLoadFault, load_faults}
 
 -- the queues in turn name just the numbers below
 pub counts : (count below : ℕ) (all : List ℕ) → AreInTurn count below all → 1 ≤ below → below ≤ count → IsHwCount all below
@@ -81,19 +84,18 @@ no_layer_fault hw map depth queues (layer.WorkerQueue w) can b =
     absurd (omega (arith, within, at, o.outside))
 no_layer_fault hw map depth queues layer.Memory can b = refl
 
--- what threads and their layer meet is no number that is out of its range
-pub no_range : (l : Load) (f : LoadFault) → IsLoad l → f ≢ fault.Range → IsLoadFault l f
-no_range l fault.Range is ne = absurd (ne refl)
-no_range l fault.Memory is ne = is
-no_range l fault.TraceFull is ne = is
-no_range l fault.Repeated is ne = is
-no_range l fault.Stalled is ne = is
-no_range l fault.SeatMissing is ne = is
-no_range l fault.Differs is ne = is
-no_range l fault.Unserved is ne = is
+-- what is told of a load is one of what may be
+listed : (f : LoadFault) → (place : ℕ) × (slice_get load_faults place ≡ Some (load_told f))
+listed fault.Memory = (0, refl)
+listed (fault.Work work.TraceFull) = (1, refl)
+listed (fault.Work work.Memory) = (0, refl)
+listed (fault.Work (work.Repeated id)) = (2, refl)
+listed fault.Repeated = (2, refl)
+listed fault.Stalled = (3, refl)
+listed (fault.Close close.SeatMissing) = (4, refl)
+listed (fault.Close close.Memory) = (0, refl)
+listed fault.Differs = (5, refl)
+listed fault.Unserved = (6, refl)
 
--- nor is what comes of them
-pub outcome_in_range : {V : Type 0} (f : Option LoadFault) (s r : Result V LoadFault) → IsOutcome f s r → f ≢ Some fault.Range → IfErr s (λ e. e ≢ fault.Range) → IfErr r (λ e. e ≢ fault.Range)
-outcome_in_range f s (Ok v) t n h = tt
-outcome_in_range f (Ok v) (Err e) t n h = λ is. n (t ∙ ap Some is)
-outcome_in_range f (Err w) (Err e) t n h = λ is. elim t.among [ inl x ↦ n (sym x ∙ ap Some is) | inr x ↦ let same : e ≡ w = cc x in h (sym same ∙ is) ]
+pub is_told : (f : LoadFault) (t : Told) → t.name.now ≡ (load_told f).0 → t.beside ≡ (load_told f).1 → IsLoadFault t
+is_told f t name beside = let one = listed f in (one.0, one.1 ∙ ap Some (rw (name, beside) refl))

@@ -6,6 +6,7 @@
 
 mod counts;
 mod device;
+mod fault;
 pub mod laws;
 mod running;
 mod serving;
@@ -13,5 +14,5 @@ mod site;
 mod submitting;
 mod under;
 
-pub use crate::running::load;
+pub use crate::fault::LoadFault;
 pub use crate::under::OnThreads;

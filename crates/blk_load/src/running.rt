@@ -1,12 +1,11 @@
 //! A load, from its threads' start to its account.
 
-ghost use Rattle.std.specs.Prelude.{false, ◌≡◌, ◌≢◌, ◌<◌, ◌≤◌, [], All, IsPermutation, IfOk, OnOk, IfErr, Some, length, min};
+ghost use Rattle.std.specs.Prelude.{false, ◌≡◌, ◌<◌, ◌≤◌, [], All, IsPermutation, IfOk, Some, length, min};
 ghost use Rattle.blk_queues.specs.Maps.{IsHwCount};
 ghost use Rattle.blk_layer.specs.Closing.{all_accepted};
 ghost use Rattle.blk_layer.specs.Rounds.{EndsFullRounds};
 ghost use Rattle.blk_layer.specs.Seats.{CanMake};
 ghost use Rattle.blk_sched.specs.Meaning.{at_start};
-ghost use Rattle.blk_schedulers.specs.Faults.{IsLoadFault};
 ghost use Rattle.blk_load.specs.Inside.Outcomes.{IsOutcome};
 ghost use Rattle.blk_schedulers.specs.Numbers.{IsLoad};
 ghost use Rattle.blk_schedulers.specs.Settles.{IsSettled, served_bios, load_setup};
@@ -15,18 +14,16 @@ ghost use Rattle.blk_load.specs.Inside.Loads.{AreInTurn};
 ghost use Rattle.blk_core.specs.Runs.{IsRunBy, IsRunFrom};
 
 use crate::counts::accepted;
+use crate::fault::{LoadFault, first_of};
 use crate::serving::serve_all;
 use crate::site::Site;
 use crate::submitting::submit_all;
 use blk_core::Core;
-use blk_layer::{
-    CloseFault, CloseRefused, Closed, Layer, LayerFault, MAX_WORKERS, Named, Submitter, Worker,
-};
+use blk_layer::{CloseRefused, Closed, Layer, LayerFault, MAX_WORKERS, Named, Submitter, Worker};
 use blk_queues::Map;
 use blk_sched::Scheduler;
-use blk_schedulers::fault::first_of;
 use blk_schedulers::numbers::MAX_LOAD_WORKERS;
-use blk_schedulers::{Load, LoadFault, LoadTimes, Loaded};
+use blk_schedulers::{Load, LoadTimes, Loaded};
 use std::alloc::{AllocError, Global};
 use std::marker::Brand;
 use std::sync::Wait;
@@ -41,29 +38,24 @@ const LOAD_SOFT_DEPTH: u64 = 64;
 /// submitter or each worker, whichever are fewer; software queue s and worker w are mapped to the hardware queues of numbers s and w modulo
 /// that count.
 ///
-/// Refused, by the first of these that applies: as `Range` where a number of the load is out of its range; as `Memory`; as
-/// `TraceFull` where a worker is refused so; as `Repeated` where a submitter or a worker is; as `Stalled` where one used up its
-/// flushes or its passes; as `SeatMissing` or `Differs` where the layer's accounts can't be settled; and as `Unserved` where not all
-/// bios were accepted and served.
-#[tactic(auto, using(crate::proofs::Made::can_make, crate::proofs::Made::no_range))]
-pub fn load<R: Threads + Wait + Sync, S: Scheduler<A = Global> + Send>(
+/// Refused, by the first of these that applies: as `Memory`; as `Work` where a worker is refused so; as `Repeated` where a submitter is;
+/// as `Stalled` where one used up its flushes or its passes; as `Close` or `Differs` where the layer's accounts can't be settled; and as
+/// `Unserved` where not all bios were accepted and served.
+#[tactic(auto, using(crate::proofs::Made::can_make))]
+pub(crate) fn load<R: Threads + Wait + Sync, S: Scheduler<A = Global> + Send>(
     rt: &R,
     clock: HostRuntime,
     alloc: Global,
     load: Load,
     scheduler: S,
 ) -> Result<Loaded, LoadFault>
+    requires range { IsLoad load }
     requires start { S.meaning scheduler ≡ at_start (S.meaning scheduler).front }
-    ensures range { OnOk result (IsLoad load) }
     ensures settled { IfOk result (λ l. IsSettled load l.trace l.settled) }
     ensures full { IfOk result (λ l. EndsFullRounds l.trace.setup l.trace.events) }
     ensures ran { IfOk result (λ l. IsRunBy S.policy (S.meaning scheduler) (S.kept scheduler) l.trace) }
     ensures once { IfOk result (λ l. AreOnce (served_bios l.trace.events)) }
-    ensures fault { IfErr result (IsLoadFault load) }
 {
-    if !load.is_in_range() {
-        return Err(LoadFault::Range);
-    }
     let Ok(map) = map_of(alloc, &load) else {
         return Err(LoadFault::Memory);
     };
@@ -110,7 +102,7 @@ fn map_of(alloc: Global, load: &Load) -> Result<Map, AllocError>
 }
 
 /// Makes a layer, runs the load over it, and settles the accounts.
-#[tactic(auto, using(crate::proofs::Made::no_layer_fault, crate::proofs::Made::outcome_in_range))]
+#[tactic(auto, using(crate::proofs::Made::no_layer_fault))]
 fn on_layer<R: Threads + Wait + Sync, S: Scheduler<A = Global> + Send, L: Named + Send + Sync>(
     rt: &R,
     clock: HostRuntime,
@@ -136,7 +128,6 @@ fn on_layer<R: Threads + Wait + Sync, S: Scheduler<A = Global> + Send, L: Named 
     ensures full { IfOk result (λ l. EndsFullRounds l.trace.setup l.trace.events) }
     ensures ran { IfOk result (λ l. IsRunFrom S.policy L.start l.trace.events) }
     ensures once { IfOk result (λ l. AreOnce (served_bios l.trace.events)) }
-    ensures fault { IfErr result (λ f. f ≢ LoadFault.Range) }
 {
     let limits = core.trace().setup().limits();
     let made = Layer::<S, L>::new(alloc, blank, core, map, LOAD_SOFT_DEPTH, queues);
@@ -276,7 +267,6 @@ fn settle<S: Scheduler<A = Global>, L: Named>(
     ensures accepted { IfOk result (λ l. l.settled.accepted ≡ length (all_accepted submitters.items)) }
     ensures agree { IfOk result (λ l. IsPermutation (all_accepted submitters.items) (served_bios l.trace.events)) }
     ensures once { IfOk result (λ l. AreOnce (served_bios l.trace.events)) }
-    ensures fault { IfErr result (λ f. f ≢ LoadFault.Range) }
 {
     let Some(accepted) = accepted(submitters.as_slice()) else {
         return Err(LoadFault::Differs);
@@ -284,18 +274,15 @@ fn settle<S: Scheduler<A = Global>, L: Named>(
     match layer.close(alloc, submitters, workers) {
         Ok(Closed { trace, left }) => {
             match load.settle(&trace, accepted, left.len() as u64) {
-                Ok(settled) => Ok(Loaded {
+                Some(settled) => Ok(Loaded {
                     trace,
                     settled,
                     times: watch.times(),
                 }),
-                Err(fault) => Err(fault),
+                None => Err(LoadFault::Unserved),
             }
         }
-        Err(CloseRefused::Whole { fault, .. }) => match fault {
-            CloseFault::SeatMissing => Err(LoadFault::SeatMissing),
-            CloseFault::Memory => Err(LoadFault::Memory),
-        },
+        Err(CloseRefused::Whole { fault, .. }) => Err(LoadFault::Close(fault)),
         Err(CloseRefused::Differs { .. }) => Err(LoadFault::Differs),
     }
 }

@@ -1,12 +1,12 @@
 //! What workers do.
 
-ghost use Rattle.std.specs.Prelude.{◌≡◌, ◌≢◌, All, IfErr};
+ghost use Rattle.std.specs.Prelude.{◌≡◌, All};
 
 use crate::device::Disk;
+use crate::fault::LoadFault;
 use crate::site::Site;
-use blk_layer::{Named, WorkFault, Worker};
+use blk_layer::{Named, Worker};
 use blk_sched::Scheduler;
-use blk_schedulers::LoadFault;
 use std::alloc::Global;
 use std::sync::Wait;
 use std::thread::{Scope, Threads};
@@ -26,7 +26,6 @@ fn serve<R: Wait, S: Scheduler<A = Global>, L: Named>(
 ) -> Result<(), LoadFault>
     requires seat { seat.old.tag_set ≡ site.now.layer.tag_set }
     ensures seat { seat.new.tag_set ≡ seat.old.tag_set }
-    ensures fault { IfErr result (λ f. f ≢ LoadFault.Range) }
 {
     let mut disk = Disk::new(site.clock, site.load.service, site.load.busy);
     for _ in 0..MAX_WORKS {
@@ -39,9 +38,7 @@ fn serve<R: Wait, S: Scheduler<A = Global>, L: Named>(
                     return Ok(());
                 }
             }
-            Err(WorkFault::TraceFull) => return Err(LoadFault::TraceFull),
-            Err(WorkFault::Memory) => return Err(LoadFault::Memory),
-            Err(WorkFault::Repeated(_)) => return Err(LoadFault::Repeated),
+            Err(fault) => return Err(LoadFault::Work(fault)),
         }
     }
     Err(LoadFault::Stalled)

@@ -1,30 +1,27 @@
 //! What the threads of a load share.
 
-ghost use Rattle.std.specs.Prelude.{◌≡◌, ◌≢◌, ◌≤◌, Some};
-ghost use Rattle.blk_schedulers.specs.declared.fault.LoadFault.TheVariants.{Range};
+ghost use Rattle.std.specs.Prelude.{◌≡◌, ◌≤◌, Some};
+ghost use Rattle.blk_load.specs.Inside.Faults.{IsFirstOfTwo};
 ghost use Rattle.blk_schedulers.specs.declared.numbers.TheConstants.{MAX_LOAD_BIOS, MAX_LOAD_SUBMITTERS};
-ghost use Rattle.blk_schedulers.specs.Faults.{IsFirstOfTwo};
 
+use crate::fault::{LoadFault, first_of};
 use blk_bio::Limits;
 use blk_layer::{Layer, Named};
 use blk_sched::Scheduler;
-use blk_schedulers::fault::first_of;
-use blk_schedulers::{Load, LoadFault};
+use blk_schedulers::Load;
 use std::alloc::Global;
 use std::sync::atomic::{AtomicBool, Ordering};
 use std::sync::{Mutex, Wait};
 
-/// The first of some faults, by their order, where there are some. No thread meets a number that is out of its range.
+/// The first of some faults, by their order, where there are some.
 #[derive(Drop)]
 struct FirstFault {
     fault: Option<LoadFault>,
-    ghost met: { fault ≢ Some Range },
 }
 
 impl FirstFault {
     /// Keeps a fault that a thread met, unless one is kept that comes before it.
     fn keep(&mut self, fault: LoadFault)
-        requires { fault ≢ LoadFault.Range }
         ensures { IsFirstOfTwo self.old.fault (Some fault) self.new.fault }
     {
         *self = FirstFault {
@@ -57,17 +54,13 @@ impl SharedFault {
     }
 
     /// Notes the fault at which a thread ended.
-    pub(crate) fn note<R: Wait>(&self, rt: &R, fault: LoadFault)
-        requires { fault ≢ LoadFault.Range }
-    {
+    pub(crate) fn note<R: Wait>(&self, rt: &R, fault: LoadFault) {
         self.first.lock(rt).keep(fault);
         self.any.store(true, Ordering::SeqCst);
     }
 
     /// The first of the faults.
-    pub(crate) fn into_first(self) -> Option<LoadFault>
-        ensures { result ≢ Some LoadFault.Range }
-    {
+    pub(crate) fn into_first(self) -> Option<LoadFault> {
         let SharedFault { any: _, first } = self;
         first.into_inner().fault
     }

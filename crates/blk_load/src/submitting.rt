@@ -1,15 +1,16 @@
 //! What submitters do.
 
-ghost use Rattle.std.specs.Prelude.{◌≡◌, ◌≢◌, ◌<◌, ◌≤◌, All, IfErr, length};
+ghost use Rattle.std.specs.Prelude.{◌≡◌, ◌<◌, ◌≤◌, All, length};
 ghost use Rattle.blk_schedulers.specs.declared.numbers.TheConstants.{MAX_LOAD_BIOS, MAX_LOAD_SUBMITTERS};
 ghost use Rattle.blk_load.specs.Inside.Loads.{nth_bio};
 
+use crate::fault::LoadFault;
 use crate::site::Site;
 use blk_bio::{Bio, BioId, Dir};
 use blk_layer::{FlushReason, Named, Submitter};
 use blk_queues::{MAX_STAGED, Plug, PlugFault};
 use blk_sched::Scheduler;
-use blk_schedulers::{Load, LoadFault};
+use blk_schedulers::Load;
 use std::alloc::Global;
 use std::sync::Wait;
 use std::thread::{Scope, Threads, scope, scope_env, yield_now};
@@ -51,7 +52,6 @@ fn fill(plug: &mut Plug, load: &Load, submitter: u8, from: u64) -> Result<u64, L
     requires submitters { load.now.submitters ≤ MAX_LOAD_SUBMITTERS }
     requires bios { load.now.bios ≤ MAX_LOAD_BIOS }
     ensures limits { plug.new.limits ≡ plug.old.limits }
-    ensures fault { IfErr result (λ f. f ≢ LoadFault.Range) }
 {
     for serial in from..load.bios {
         match plug.add(nth_bio(load.submitters, submitter, serial)) {
@@ -72,7 +72,6 @@ fn submit<R: Wait, S: Scheduler<A = Global>, L: Named>(
 ) -> Result<(), LoadFault>
     requires seat { seat.old.number < length site.now.layer.map }
     ensures number { seat.new.number ≡ seat.old.number }
-    ensures fault { IfErr result (λ f. f ≢ LoadFault.Range) }
 {
     let Ok(mut plug) = Plug::new(site.alloc, site.limits) else {
         return Err(LoadFault::Memory);
@@ -112,7 +111,6 @@ fn flush<R: Wait, S: Scheduler<A = Global>, L: Named>(
     requires limits { plug.old.limits ≡ site.now.limits }
     ensures number { seat.new.number ≡ seat.old.number }
     ensures limits { plug.new.limits ≡ plug.old.limits }
-    ensures fault { IfErr result (λ f. f ≢ LoadFault.Range) }
 {
     match site.layer.flush(rt, seat, plug) {
         Ok(_) => Ok(()),

@@ -9,7 +9,8 @@ ghost use Rattle.blk_load.specs.Inside.Ran.{RanBy, RanUnder};
 
 use crate::running::load;
 use blk_sched::Scheduler;
-use blk_schedulers::{Load, LoadFault, Loaded, Loads, Sched, SchedFault, Unsettled, with_made};
+use blk_schedulers::{Load, Loaded, Loads, Sched, SchedFault, Unsettled, with_made};
+use edd_commands::Fault;
 use std::alloc::Global;
 use std::sync::Wait;
 use std::thread::Threads;
@@ -23,6 +24,7 @@ fn load_by<R: Threads + Wait + Sync, S: Scheduler<A = Global> + Send>(
     made: Result<S, SchedFault>,
     amounts: Load,
 ) -> Result<Loaded, Unsettled>
+    requires range { IsLoad amounts }
     requires start { IfOk made (λ s. IsStart sched amounts.depth (S.meaning s) (S.kept s)) }
     requires unmade { IfErr made (IsSchedFault sched) }
     ensures settled { IfOk result (λ l. IsSettled amounts l.trace l.settled) }
@@ -36,11 +38,12 @@ fn load_by<R: Threads + Wait + Sync, S: Scheduler<A = Global> + Send>(
     };
     match load(rt, clock, alloc, amounts, scheduler) {
         Ok(loaded) => Ok(loaded),
-        Err(fault) => Err(Unsettled::Load(fault)),
+        Err(fault) => Err(Unsettled::Load(fault.told())),
     }
 }
 
-/// Runs a load under a scheduler by its settings. Refused as [`load`] is, after `Range` as the scheduler is where it isn't made.
+/// Runs a load under a scheduler by its settings. Refused as `Range` where a number of it is out of its range, then as the scheduler is
+/// where it isn't made, and as [`load`] tells that is refused.
 fn load_under<R: Threads + Wait + Sync>(
     rt: &R,
     clock: HostRuntime,
@@ -55,7 +58,7 @@ fn load_under<R: Threads + Wait + Sync>(
     ensures failed { IfErr result (IsLoadSettingsFault sched amounts) }
 {
     if !amounts.is_in_range() {
-        return Err(Unsettled::Load(LoadFault::Range));
+        return Err(Unsettled::Range);
     }
     let depth = amounts.depth;
     with_made!(sched, alloc, depth, (sched, made) => load_by(rt, clock, alloc, sched, made, amounts))

@@ -9,12 +9,14 @@ use blk_cli::Failure;
 use blk_core::{BackFault, CoreFault, DepthFault, IssueFault, TickFault};
 use blk_deadline::DeadlineFault;
 use blk_kyber::KyberFault;
+use blk_layer::{CloseFault, WorkFault};
+use blk_load::LoadFault;
 use blk_queues::{MapFault, PlugFault};
 use blk_recorders::{LineFault, LineReason};
 use blk_records::{TextFault, TextReason};
 use blk_runs::RunFault;
 use blk_sched::JoinRefusal;
-use blk_schedulers::{GridFault, ListFault, LoadFault, SchedFault, SchedKind, Unsettled};
+use blk_schedulers::{GridFault, ListFault, SchedFault, SchedKind, Unsettled};
 use blk_sim::{Overflow, SimFault, SimReason};
 use blk_trace::{PushFault, SetupFault, TraceFault};
 use edd_check::{CheckFault, OnTimeFault};
@@ -224,12 +226,11 @@ fn of_runs(rt: HostRuntime) {
 fn of_the_program(rt: HostRuntime) {
     let heap = rt.alloc();
     let loads = [
-        LoadFault::Range,
         LoadFault::Memory,
-        LoadFault::TraceFull,
+        LoadFault::Work(WorkFault::TraceFull),
         LoadFault::Repeated,
         LoadFault::Stalled,
-        LoadFault::SeatMissing,
+        LoadFault::Close(CloseFault::SeatMissing),
         LoadFault::Differs,
         LoadFault::Unserved,
     ];
@@ -241,7 +242,8 @@ fn of_the_program(rt: HostRuntime) {
         Failure::Check(CheckFault::Length),
         Failure::OnTime(OnTimeFault::Loose(1)),
         Failure::NotFixed,
-        Failure::Load(Unsettled::Load(LoadFault::Stalled)),
+        Failure::Load(Unsettled::Range),
+        Failure::Load(Unsettled::Load(LoadFault::Stalled.told())),
         Failure::Import(ImportFault::TooMany(1)),
         Failure::Arrivals(ArrivalsFault::Round),
         Failure::Words(Refusal::By),

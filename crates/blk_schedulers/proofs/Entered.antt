@@ -1,16 +1,15 @@
 -- How many of the bios that entered the commands have, and what comes of a load by these numbers.
 use Rattle.std.proofs.Common.{◌≡◌, ◌∙◌, ◌-◌, ℕ, sym, ap, arith, List, ◌++◌, length, length-append}
 use Rattle.std.proofs.lemmas.List.Sorted.{length_permutation}
+use Rattle.std.specs.Prelude.{Option, Some, None, IfSome, IfNone}
 use Rattle.blk_trace.specs.Happened.{Happened}
 use Rattle.blk_trace.specs.Events.{entered}
 use Rattle.blk_trace.specs.Laws.{IsAccounted}
 use Rattle.blk_trace.specs.Meaning.{waiting_of}
 use Rattle.blk_trace.specs.Events.{open_count}
 use Rattle.blk_trace.specs.Traces.{Traced}
-use Rattle.blk_schedulers.specs.Settles.{served_bios, load_setup, AreEven, IsSettled, IsSettleFault}
+use Rattle.blk_schedulers.specs.Settles.{served_bios, load_setup, AreEven, AreEvenIn, IsSettled}
 use Rattle.blk_schedulers.specs.declared.Settled.{Settled}
-use Rattle.blk_schedulers.specs.declared.fault.LoadFault.{LoadFault}
-use Rattle.blk_schedulers.specs.declared.fault.LoadFault.TheVariants as fault
 use Rattle.blk_schedulers.specs.declared.numbers.Load.{Load}
 
 -- the bios in commands are those that entered and don't wait
@@ -35,15 +34,23 @@ settles l t accepted served in_flight waits left s setup is even n o w = record 
   served = ap (λ (x : Settled). x.served) is ∙ n;
 }
 
-pub differs : (l : Load) (es : List Happened) (accepted served in_flight waits left : ℕ) (f : LoadFault) → f ≡ fault.Unserved → (AreEven l accepted served in_flight waits left → ⊥)
-    → served ≡ length (served_bios es) → in_flight ≡ open_count es → waits ≡ length (waiting_of es) → IsSettleFault l es accepted left f
-differs l es accepted served in_flight waits left f is uneven n o w = (
-  is,
-  λ h. uneven (record {
-    all = h.all;
-    each_served = n ∙ h.each_served;
-    none_in_flight = o ∙ h.none_in_flight;
-    none_waits = w ∙ h.none_waits;
-    none_left = h.none_left;
-  }),
-)
+pub differs : (l : Load) (es : List Happened) (accepted served in_flight waits left : ℕ) → (AreEven l accepted served in_flight waits left → ⊥)
+    → served ≡ length (served_bios es) → in_flight ≡ open_count es → waits ≡ length (waiting_of es) → AreEvenIn l es accepted left → ⊥
+differs l es accepted served in_flight waits left uneven n o w h = uneven (record {
+  all = h.all;
+  each_served = n ∙ h.each_served;
+  none_in_flight = o ∙ h.none_in_flight;
+  none_waits = w ∙ h.none_waits;
+  none_left = h.none_left;
+})
+
+-- the same of an account that may not be there
+pub settled_if : (l : Load) (t : Traced) (accepted served in_flight waits left : ℕ) (o : Option Settled) → t.setup ≡ load_setup l → IfSome o (λ s. s ≡ record { accepted = accepted; served = served; left = left })
+    → IfSome o (λ s. AreEven l accepted served in_flight waits left) → served ≡ length (served_bios t.events) → in_flight ≡ open_count t.events → waits ≡ length (waiting_of t.events) → IfSome o (IsSettled l t)
+settled_if l t accepted served in_flight waits left None setup is even n o w = tt
+settled_if l t accepted served in_flight waits left (Some s) setup is even n o w = settles l t accepted served in_flight waits left s setup is even n o w
+
+pub differs_if : (l : Load) (es : List Happened) (accepted served in_flight waits left : ℕ) (o : Option Settled) → IfNone o (AreEven l accepted served in_flight waits left → ⊥)
+    → served ≡ length (served_bios es) → in_flight ≡ open_count es → waits ≡ length (waiting_of es) → IfNone o (AreEvenIn l es accepted left → ⊥)
+differs_if l es accepted served in_flight waits left None uneven n o w = differs l es accepted served in_flight waits left uneven n o w
+differs_if l es accepted served in_flight waits left (Some s) uneven n o w = tt

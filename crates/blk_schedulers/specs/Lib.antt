@@ -13,7 +13,6 @@ pub mod Positions
 pub mod Given
 pub mod Grids
 pub mod Wanted
-pub mod Complaints
 pub mod Lists
 pub mod Plans
 pub mod Told

@@ -1,13 +1,12 @@
 -- The lists that the options of a trial give.
-use Rattle.std.specs.Prelude.{ℕ, ◌+◌, ◌==◌, ◌∷◌, Bool, true, false, List, [], Option, Some, None, codes, get_or, map, set, option_and_then, if◌then◌else◌}
+use Rattle.std.specs.Prelude.{ℕ, ◌+◌, ◌==◌, ◌∷◌, Bool, true, false, List, [], Option, Some, None, get_or, map, set, option_and_then, if◌then◌else◌}
 use Rattle.std.specs.List.{slice_split, slice_get}
 use Rattle.std.specs.Option.{option_or, option_map_or}
-use Rattle.blk_schedulers.specs.Complaints.{numbers_complaint}
 use Rattle.blk_schedulers.specs.Given.{GivenOptions, row_named}
 use Rattle.blk_schedulers.specs.Options.{scheds_list}
 use Rattle.blk_schedulers.specs.Positions.{positions_listed}
 use Rattle.blk_schedulers.specs.Row.{RangeOf, Short, UpTo, Switch, Positions, SettingOf, RowOf}
-use Rattle.blk_schedulers.specs.Rows.{sched_table, row_for, sched_place}
+use Rattle.blk_schedulers.specs.Rows.{sched_table, sched_place}
 use Rattle.blk_schedulers.specs.declared.given.TheConstants.{MAX_SHORT}
 use Rattle.blk_schedulers.specs.declared.lists.ListFault.{ListFault}
 use Rattle.blk_schedulers.specs.declared.lists.ListFault.TheVariants as list
@@ -68,17 +67,3 @@ unlisted_among o (r ∷ rows) = option_or (unlisted_in o r) (unlisted_among o ro
 -- the first option that is given no list: that of the schedulers, and then those of their settings
 abbrev pub list_fault : GivenOptions → Option ListFault
 list_fault o = option_map_or (λ t. unlisted_among o sched_table) (tried_given o) (Some list.Scheds)
-
--- what an option takes that is given no list
-abbrev pub fault_in : RangeOf → List ℕ → List ℕ
-fault_in (Short default tried) option = numbers_complaint option MAX_SHORT
-fault_in (UpTo most default tried) option = numbers_complaint option most
-fault_in (Switch turned) option = []
-fault_in (Positions default tried) option = codes "--positions takes one, each or both with a comma between"
-
-abbrev pub numbers_fault_text : SettingOf → List ℕ
-numbers_fault_text s = fault_in s.range s.option
-
-abbrev pub list_fault_text : ListFault → List ℕ
-list_fault_text list.Scheds = codes "--sched takes names of schedulers with commas between, each once"
-list_fault_text (list.Numbers k place) = option_map_or numbers_fault_text (slice_get (row_for k).settings place) []

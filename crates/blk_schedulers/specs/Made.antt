@@ -4,6 +4,7 @@ use Rattle.blk_sched.specs.Meaning.{Meaning}
 use Rattle.edd_commands.specs.declared.faults.Beside.TheVariants as beside
 use Rattle.blk_schedulers.specs.Faults.{IsLoadFault}
 use Rattle.blk_schedulers.specs.Names.{sched_told}
+use Rattle.blk_schedulers.specs.Numbers.{IsLoad}
 use Rattle.blk_schedulers.specs.Rows.{sched_for}
 use Rattle.blk_schedulers.specs.Scheds.{first_meaning, numbers_at_first}
 use Rattle.blk_schedulers.specs.declared.Unsettled.{Unsettled}
@@ -34,7 +35,8 @@ IsSchedFault s f = IsOutOfMemory f ⊎ HasFault s f
 abbrev pub IsStart : Sched → ℕ → Meaning → List ℕ → Type 0
 IsStart s depth meaning kept = IsMade s × (meaning ≡ first_meaning s) × (kept ≡ numbers_at_first s depth)
 
--- why a load under a scheduler came to nothing: it isn't made, or the load failed
+-- why a load under a scheduler came to nothing: a number is out of its range; or none is, and the scheduler isn't made, or the load fails
 abbrev pub IsLoadSettingsFault : Sched → Load → Unsettled → Type 0
-IsLoadSettingsFault s l (un.Sched f) = IsSchedFault s f
-IsLoadSettingsFault s l (un.Load f) = IsLoadFault l f
+IsLoadSettingsFault s l un.Range = ¬ IsLoad l
+IsLoadSettingsFault s l (un.Sched f) = IsLoad l × IsSchedFault s f
+IsLoadSettingsFault s l (un.Load t) = IsLoad l × IsLoadFault t

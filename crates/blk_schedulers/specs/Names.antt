@@ -6,20 +6,8 @@ use Rattle.blk_deadline.specs.Names.{deadline_told}
 use Rattle.blk_kyber.specs.Names.{kyber_told}
 use Rattle.blk_schedulers.specs.declared.sched.SchedFault.{SchedFault}
 use Rattle.blk_schedulers.specs.declared.sched.SchedFault.TheVariants as setting
-use Rattle.blk_schedulers.specs.declared.fault.LoadFault.{LoadFault}
-use Rattle.blk_schedulers.specs.declared.fault.LoadFault.TheVariants as load
 use Rattle.blk_schedulers.specs.declared.Unsettled.{Unsettled}
 use Rattle.blk_schedulers.specs.declared.Unsettled.TheVariants as unsettled
-
-abbrev pub load_told : LoadFault → List ℕ × Beside
-load_told load.Range = (codes "Range", beside.Nothing)
-load_told load.Memory = (codes "Memory", beside.Memory)
-load_told load.TraceFull = (codes "TraceFull", beside.Nothing)
-load_told load.Repeated = (codes "Repeated", beside.Nothing)
-load_told load.Stalled = (codes "stalled", beside.Nothing)
-load_told load.SeatMissing = (codes "SeatMissing", beside.Nothing)
-load_told load.Differs = (codes "Differs", beside.Nothing)
-load_told load.Unserved = (codes "Unserved", beside.Nothing)
 
 abbrev pub sched_told : SchedFault → List ℕ × Beside
 sched_told (setting.Deadline f) = deadline_told f
@@ -27,5 +15,6 @@ sched_told (setting.Kyber f) = kyber_told f
 sched_told setting.Memory = (codes "Memory", beside.Memory)
 
 abbrev pub unsettled_told : Unsettled → List ℕ × Beside
+unsettled_told unsettled.Range = (codes "Range", beside.Nothing)
 unsettled_told (unsettled.Sched f) = sched_told f
-unsettled_told (unsettled.Load f) = load_told f
+unsettled_told (unsettled.Load t) = (t.name.now, t.beside)

@@ -9,8 +9,6 @@ use Rattle.blk_trace.specs.Events.{request_of, open_count}
 use Rattle.blk_trace.specs.Meaning.{issued_ids, waiting_of}
 use Rattle.blk_trace.specs.Traces.{Traced}
 use Rattle.blk_schedulers.specs.declared.Settled.{Settled}
-use Rattle.blk_schedulers.specs.declared.fault.LoadFault.{LoadFault}
-use Rattle.blk_schedulers.specs.declared.fault.LoadFault.TheVariants as fault
 use Rattle.blk_schedulers.specs.declared.numbers.Load.{Load}
 use Rattle.blk_schedulers.specs.declared.settling.TheConstants.{LOAD_READ_EXPIRE, LOAD_WRITE_EXPIRE, LOAD_MAX_SECTORS}
 
@@ -47,7 +45,3 @@ pub record IsSettled (l : Load) (trace : Traced) (s : Settled) : Type 0 where
   pub setup : trace.setup ≡ load_setup l
   pub even : AreEvenIn l trace.events s.accepted s.left
   pub served : s.served ≡ length (served_bios trace.events)
-
--- why a load isn't settled: its numbers aren't those
-abbrev pub IsSettleFault : Load → List Happened → ℕ → ℕ → LoadFault → Type 0
-IsSettleFault l events accepted left f = (f ≡ fault.Unserved) × ¬ AreEvenIn l events accepted left

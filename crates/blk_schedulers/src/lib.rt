@@ -12,7 +12,6 @@ ghost use Rattle.blk_schedulers.specs.Ran.{IsRunUnder};
 ghost use Rattle.blk_schedulers.specs.Settles.{IsSettled, served_bios};
 ghost use Rattle.blk_trace.specs.Events.{AreOnce};
 
-pub mod fault;
 pub mod form;
 pub mod given;
 pub mod grid;
@@ -28,7 +27,6 @@ pub mod setting;
 mod settling;
 pub mod told;
 
-pub use crate::fault::LoadFault;
 pub use crate::form::Form;
 pub use crate::given::Given;
 pub use crate::grid::{GridFault, RankBy, TrialAsked};
@@ -77,14 +75,16 @@ pub struct LoadTimes {
     pub settling: u64,
 }
 
-/// Why a load has no result.
+/// Why a load has no result, in the order in which the reasons are looked for.
 #[derive(Clone, Copy, Debug, PartialEq, Eq, Error)]
 #[error("{}", self.name())]
 pub enum Unsettled {
+    /// A number of the load is out of its range.
+    Range,
     /// The scheduler is not made of its settings.
     Sched(SchedFault),
-    /// The load fails.
-    Load(LoadFault),
+    /// The load was run and fails, as this tells.
+    Load(Told),
 }
 
 impl Fault for Unsettled {
@@ -92,8 +92,9 @@ impl Fault for Unsettled {
 
     fn told(&self) -> Told {
         told!(self: Unsettled {
+            Range,
             Sched(fault) by fault,
-            Load(fault) by fault,
+            Load(told) by told,
         })
     }
 }
@@ -112,9 +113,9 @@ pub trait Loads {
     /// Runs a load over a layer of this scheduler, and settles its account.
     ///
     /// Refused, by the first of these that applies: as `Range` where a number of the load is out of its range; as the scheduler is
-    /// where it isn't made of its settings; as `Memory`; as `TraceFull` where a worker is refused so; as `Repeated` where a submitter
-    /// or a worker is; as `Stalled` where one used up its flushes or its passes; as `SeatMissing` or `Differs` where the layer's
-    /// accounts can't be settled; and as `Unserved` where not all bios were accepted and served.
+    /// where it isn't made of its settings; and else as the load tells that fails: `Memory`; `TraceFull` where a worker is refused so;
+    /// `Repeated` where a submitter or a worker is; `stalled` where one used up its flushes or its passes; `SeatMissing` or
+    /// `Differs` where the layer's accounts can't be settled; and `Unserved` where not all bios were accepted and served.
     fn run<R: Threads + Wait + Sync>(
         &self,
         rt: &R,

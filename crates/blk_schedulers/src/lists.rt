@@ -1,9 +1,8 @@
 //! The lists of a trial: which schedulers are tried, and under which settings.
 
 ghost use Rattle.std.specs.Prelude.{◌≡◌, map, option_map};
-ghost use Rattle.blk_schedulers.specs.Complaints.{complaint_text};
 ghost use Rattle.blk_schedulers.specs.Row.{setting_row_of, sched_row_of};
-ghost use Rattle.blk_schedulers.specs.Lists.{with_name, tried_of, tried_given, numbers_tried, numbers_at, unlisted_in, list_fault, numbers_fault_text, list_fault_text};
+ghost use Rattle.blk_schedulers.specs.Lists.{with_name, tried_of, tried_given, numbers_tried, numbers_at, unlisted_in, list_fault};
 
 use crate::given::{Given, MAX_SHORT, Numbers, row_named};
 use crate::options::SCHED_NAME;
@@ -34,9 +33,7 @@ pub enum Complaint {
 
 impl SettingRow {
     /// What the program says of a text that is no list of its values.
-    fn list_fault(&self) -> Complaint
-        ensures { complaint_text result ≡ numbers_fault_text (setting_row_of self.now) }
-    {
+    fn list_fault(&self) -> Complaint {
         match self.range {
             SettingRange::Short(_, _) => Complaint::Numbers(self.option, MAX_SHORT),
             SettingRange::UpTo(most, _, _) => Complaint::Numbers(self.option, most),
@@ -67,9 +64,7 @@ impl SettingRow {
 
 impl ListFault {
     /// What the option takes, as the program says it.
-    pub fn text(self) -> Complaint
-        ensures { complaint_text result ≡ list_fault_text self }
-    {
+    pub fn text(self) -> Complaint {
         match self {
             ListFault::Scheds => Complaint::Text(
                 "--sched takes names of schedulers with commas between, each once",

@@ -1,11 +1,11 @@
 //! What a load is set up for, and what it comes to by the trace of its layer.
 
-ghost use Rattle.std.specs.Prelude.{◌≡◌, ◌≤◌, IfOk, IfErr, min};
+ghost use Rattle.std.specs.Prelude.{◌≡◌, ◌≤◌, IfSome, IfNone, min};
 ghost use Rattle.blk_schedulers.specs.Numbers.{IsLoad};
-ghost use Rattle.blk_schedulers.specs.Settles.{AreEven, IsSettled, IsSettleFault, load_setup};
+ghost use Rattle.blk_schedulers.specs.Settles.{AreEven, AreEvenIn, IsSettled, load_setup};
 
 use crate::numbers::MAX_LOAD_WORKERS;
-use crate::{Load, LoadFault, Settled};
+use crate::{Load, Settled};
 use blk_bio::{Limits, MAX_SEGMENTS};
 use blk_trace::{Setup, Trace};
 
@@ -45,22 +45,17 @@ impl Load {
     }
 
     /// What came of the load, by the trace of its layer once that is closed, how many bios its submitters accepted, and how many are
-    /// left.
-    ///
-    /// Refused as `Unserved` where not all of its bios were accepted and served, or something is in flight, waits or is left.
-    pub fn settle(&self, trace: &Trace, accepted: u64, left: u64) -> Result<Settled, LoadFault>
+    /// left. None where not all of its bios were accepted and served, or something is in flight, waits or is left.
+    pub fn settle(&self, trace: &Trace, accepted: u64, left: u64) -> Option<Settled>
         requires range { IsLoad self.now }
         requires setup { trace.now.setup ≡ load_setup self.now }
-        ensures settled { IfOk result (IsSettled self.now trace.now) }
-        ensures numbers { IfOk result (λ s. (s.accepted ≡ accepted) × (s.left ≡ left)) }
-        ensures fault { IfErr result (IsSettleFault self.now trace.now.events accepted left) }
+        ensures settled { IfSome result (IsSettled self.now trace.now) }
+        ensures numbers { IfSome result (λ s. (s.accepted ≡ accepted) × (s.left ≡ left)) }
+        ensures none { IfNone result (¬ AreEvenIn self.now trace.now.events accepted left) }
     {
         let waits = trace.bios_waiting();
         let served = trace.bios_entered().saturating_sub(waits);
-        match self.balanced(accepted, served, trace.unfinished(), waits, left) {
-            Ok(settled) => Ok(settled),
-            Err(fault) => Err(fault),
-        }
+        self.balanced(accepted, served, trace.unfinished(), waits, left)
     }
 
     /// The account of these numbers, where they agree.
@@ -71,11 +66,11 @@ impl Load {
         in_flight: u64,
         waiting: u64,
         left: u64,
-    ) -> Result<Settled, LoadFault>
+    ) -> Option<Settled>
         requires { IsLoad self.now }
-        ensures ok { IfOk result (λ s. s ≡ record { accepted = accepted; served = served; left = left }) }
-        ensures even { IfOk result (λ s. AreEven self.now accepted served in_flight waiting left) }
-        ensures fault { IfErr result (λ f. (f ≡ LoadFault.Unserved) × ¬ AreEven self.now accepted served in_flight waiting left) }
+        ensures account { IfSome result (λ s. s ≡ record { accepted = accepted; served = served; left = left }) }
+        ensures even { IfSome result (λ s. AreEven self.now accepted served in_flight waiting left) }
+        ensures none { IfNone result (¬ AreEven self.now accepted served in_flight waiting left) }
     {
         if accepted == self.submitters * self.bios
             && served == accepted
@@ -83,12 +78,12 @@ impl Load {
             && waiting == 0
             && left == 0
         {
-            return Ok(Settled {
+            return Some(Settled {
                 accepted,
                 served,
                 left,
             });
         }
-        Err(LoadFault::Unserved)
+        None
     }
 }

@@ -4,7 +4,7 @@ ghost use Rattle.std.specs.Prelude.{◌≡◌, ◌≤◌};
 ghost use Rattle.edd_commands.specs.Faults.{status_beside};
 
 /// What is told of a fault beside its name.
-#[derive(Clone, Copy)]
+#[derive(Clone, Copy, Debug, PartialEq, Eq)]
 pub enum Beside {
     /// Nothing.
     Nothing,
@@ -41,7 +41,7 @@ impl Beside {
 }
 
 /// What is told of a fault.
-#[derive(Clone, Copy)]
+#[derive(Clone, Copy, Debug, PartialEq, Eq)]
 pub struct Told {
     /// Its name.
     pub name: &'static str,
@@ -67,6 +67,14 @@ pub trait Fault {
         ensures { result.now ≡ (told self.now).0 }
     {
         self.told().name
+    }
+}
+
+impl Fault for Told {
+    ghost told = { λ t. (t.name.now, t.beside) };
+
+    fn told(&self) -> Told {
+        *self
     }
 }
 

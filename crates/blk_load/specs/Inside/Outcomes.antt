@@ -1,7 +1,7 @@
 -- What is reported of a load.
 use Rattle.std.specs.Prelude.{◌≡◌, Option, None, Some, Result, Ok, Err}
-use Rattle.blk_schedulers.specs.declared.fault.LoadFault.{LoadFault}
-use Rattle.blk_schedulers.specs.Faults.{IsFirstOfTwo}
+use Rattle.blk_load.specs.Inside.Faults.{IsFirstOfTwo}
+use Rattle.blk_load.specs.declared.fault.LoadFault.{LoadFault}
 
 -- what is reported of a load: what it came to where its threads met no fault and it could be settled, and else the first of the faults
 abbrev pub IsOutcome : {V : Type 0} → Option LoadFault → Result V LoadFault → Result V LoadFault → Type 0

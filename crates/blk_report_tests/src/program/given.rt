@@ -2,7 +2,8 @@
 
 use blk_cli::run;
 use blk_records::Records;
-use blk_schedulers::{Load, LoadFault, Loaded, Loads, Sched, Unsettled};
+use blk_schedulers::{Load, Loaded, Loads, Sched, Unsettled};
+use edd_commands::{Beside, Told};
 use std::alloc::Global;
 use std::io;
 use std::io::{ErrorKind, Read, Write};
@@ -95,9 +96,12 @@ impl Loads for NoMemory {
         let _ = rt;
         let _ = (alloc, sched);
         if !load.is_in_range() {
-            return Err(Unsettled::Load(LoadFault::Range));
+            return Err(Unsettled::Range);
         }
-        Err(Unsettled::Load(LoadFault::Memory))
+        Err(Unsettled::Load(Told {
+            name: "Memory",
+            beside: Beside::Memory,
+        }))
     }
 }
 

@@ -1,28 +1,27 @@
 //! Why a load fails.
 
 ghost use Rattle.std.specs.Prelude.{◌≡◌};
-ghost use Rattle.blk_schedulers.specs.Names.{load_told};
-ghost use Rattle.blk_schedulers.specs.Faults.{fault_rank, IsFirstOfTwo};
+ghost use Rattle.blk_load.specs.Inside.Faults.{load_told, fault_rank, IsFirstOfTwo};
 
+use blk_layer::{CloseFault, WorkFault};
 use edd_commands::{Fault, Told, told};
 use thiserror::Error;
 
-/// Why a load fails. Of several reasons the first is reported.
+/// Why a load fails. Of several reasons the first is reported: that memory ran out, wherever it did; that the trace is full; that the
+/// id of a bio was used before; and then in the order of the others here.
 #[derive(Clone, Copy, Debug, PartialEq, Eq, Error)]
 #[error("{}", self.name())]
 pub enum LoadFault {
-    /// A number is out of its range.
-    Range,
     /// Memory ran out.
     Memory,
-    /// The trace is full.
-    TraceFull,
-    /// The id of a bio was used before.
+    /// A worker's work ended early.
+    Work(WorkFault),
+    /// The id of a bio was used before, or is another submitter's, where it was flushed.
     Repeated,
     /// A submitter used up its flushes, or a worker its passes.
     Stalled,
-    /// A seat wasn't there when the layer was closed.
-    SeatMissing,
+    /// The layer is not closed.
+    Close(CloseFault),
     /// The accounts differ from the trace.
     Differs,
     /// Not all bios were accepted and served.
@@ -34,12 +33,11 @@ impl Fault for LoadFault {
 
     fn told(&self) -> Told {
         told!(self: LoadFault {
-            Range,
             Memory => Memory,
-            TraceFull,
+            Work(fault) by fault,
             Repeated,
             Stalled as "stalled",
-            SeatMissing,
+            Close(fault) by fault,
             Differs,
             Unserved,
         })
@@ -52,20 +50,21 @@ impl LoadFault {
         ensures { result ≡ fault_rank self.now }
     {
         match self {
-            LoadFault::Range => 0,
-            LoadFault::Memory => 1,
-            LoadFault::TraceFull => 2,
-            LoadFault::Repeated => 3,
-            LoadFault::Stalled => 4,
-            LoadFault::SeatMissing => 5,
-            LoadFault::Differs => 6,
-            LoadFault::Unserved => 7,
+            LoadFault::Memory
+            | LoadFault::Work(WorkFault::Memory)
+            | LoadFault::Close(CloseFault::Memory) => 0,
+            LoadFault::Work(WorkFault::TraceFull) => 1,
+            LoadFault::Work(WorkFault::Repeated(_)) | LoadFault::Repeated => 2,
+            LoadFault::Stalled => 3,
+            LoadFault::Close(CloseFault::SeatMissing) => 4,
+            LoadFault::Differs => 5,
+            LoadFault::Unserved => 6,
         }
     }
 }
 
 /// Which of two faults is reported, where there are any.
-pub fn first_of(one: Option<LoadFault>, other: Option<LoadFault>) -> Option<LoadFault>
+pub(crate) fn first_of(one: Option<LoadFault>, other: Option<LoadFault>) -> Option<LoadFault>
     ensures { IsFirstOfTwo one other result }
 {
     match (one, other) {
