@@ -11,7 +11,10 @@ Pages and comments say 'out of memory': 'want of memory' is the program's own li
 
 `Type::name` of a type of the sources is a variant, a method or another word of a file that declares it or adds to it.
 
-A key of a JSON example in docs/FORMATS.md is a name of crates/answer, or a setting's.
+What docs/FORMATS.md names stands in crates/answer/src/names.rt, or is a setting's name: the keys of its JSON examples; the columns
+of its head lines, which are three different words or more with commas between, inside backticks or in an indented example; and the
+word that a row begins with, where capitals and empty fields follow it inside backticks. So do the members of a summary, in the first
+column of the table under 'In numbers' of docs/CAPTURES.md.
 
 Prints what is wrong, and as the last line 'N passed, M failed'. Ends with 0, or with 1 where something failed.
 """
@@ -29,6 +32,10 @@ LINUX = """bio_merge blk_add_rq_to_plug blk_flush_plug blk_mq_map_queue blk_mq_r
 OTHERS = "Display document serde_json smallvec unsupported static holes blk_mine Mine MineScheduler mine_policy Depths burst"
 KNOWN = {*LINUX.split(), *OTHERS.split()}
 WORD = re.compile(r"[A-Za-z_]\w*")
+# Where names of members and columns stand, and the pages that have them; columns of a head line; a row of a word and of what varies.
+NAMES, FORMATS, CAPTURES = "crates/answer/src/names.rt", "docs/FORMATS.md", "docs/CAPTURES.md"
+COLUMNS = re.compile(r"(?<!\S)[A-Za-z][\w-]*(?:,[A-Za-z][\w-]*){2,}(?!\S)")
+ROW = re.compile(r"^([a-z]\w*)(?:,[A-Z]*){2,}$")
 # A word of fewer letters is a variable.
 SHORT = 3
 # The words of the program's line where they stand elsewhere, on one line or on two.
@@ -147,18 +154,45 @@ def other_memory(paths):
             yield from (f"{path}:{line_of(text, it.start())}: only the program's own line says 'want of memory'" for it in WANT.finditer(text))
 
 
-def unlisted_names(paths):
-    """Keys of the JSON examples of docs/FORMATS.md that are neither a name of the answers nor a setting's."""
-    text = (TOP / "docs/FORMATS.md").read_text()
-    names = set()
+def listed_names(paths):
+    """The names of members and columns and the words of answers; and the names of settings."""
+    names = set(re.findall(r'(?m)^pub const \w+: &str = "([^"]+)"', (TOP / NAMES).read_text()))
     for path in paths:
-        if re.fullmatch(r"crates/\w+/src/names.rt", path):
-            names.update(re.findall(r'(?m)^pub const \w+: &str = "([^"]+)"', (TOP / path).read_text()))
         if path.startswith("crates/blk_schedulers/src/"):
             names.update(re.findall(r'name: "(\w+)"', (TOP / path).read_text()))
-    for it in re.finditer(r"(?m)^    {.*}$", text):
-        for key in sorted(set(re.findall(r'"([\w-]+)":', it[0])) - names):
-            yield f"docs/FORMATS.md:{line_of(text, it.start())}: {key} is no name of a names.rt"
+    return names
+
+
+def named_in(line):
+    """The names of members and columns and the words of rows on a line of docs/FORMATS.md."""
+    if re.fullmatch(r"    {.*}", line):
+        yield from re.findall(r'"([\w-]+)":', line)
+    for text in [line] if line.startswith("    ") else re.findall(r"`([^`]+)`", line):
+        for it in re.findall(COLUMNS, text):
+            words = it.split(",")
+            if len(set(words)) == len(words) and not any(map(str.isupper, words)):
+                yield from words
+        if not line.startswith("    "):
+            yield from re.findall(ROW, text)
+
+
+def named_by_the_pages():
+    """What the pages name: those of docs/FORMATS.md, and of a summary in the table of docs/CAPTURES.md; each with its page and line."""
+    for number, line in enumerate((TOP / FORMATS).read_text().splitlines(), 1):
+        yield from ((FORMATS, number, name) for name in sorted(set(named_in(line))))
+    is_summary = False
+    for number, line in enumerate((TOP / CAPTURES).read_text().splitlines(), 1):
+        is_summary = line == "## In numbers" or is_summary and not line.startswith("## ")
+        if is_summary and line.startswith("| `"):
+            yield from ((CAPTURES, number, name) for name in re.findall(r"`([^`]+)`", line.split("|")[1]))
+
+
+def unlisted_names(paths):
+    """Names of members and columns, and words of rows, that the pages have and the sources' list has not."""
+    names = listed_names(paths)
+    for page, number, name in named_by_the_pages():
+        if name not in names:
+            yield f"{page}:{number}: {name} is no name of {NAMES}"
 
 
 def main():

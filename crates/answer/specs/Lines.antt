@@ -59,13 +59,15 @@ at_left places bytes = bytes ++ replicate (places - length bytes) 32
 abbrev pub at_right : ℕ → List ℕ → List ℕ
 at_right places bytes = replicate (places - length bytes) 32 ++ bytes
 
--- what stands before a cell, beside its name, and the cell itself in its places
+-- what stands before a cell, and the cell itself in its places
 abbrev pub lead_text : Layout → List ℕ → List ℕ
 lead_text layout.Plain name = []
 lead_text layout.Comma name = codes ","
 lead_text layout.Space name = codes " "
 lead_text layout.Name name = name ++ 32 ∷ []
 lead_text layout.NextName name = (codes " " ++ name) ++ 32 ∷ []
+lead_text (layout.OtherName other) name = other ++ 32 ∷ []
+lead_text (layout.WordsName words) name = (words ++ name) ++ 32 ∷ []
 lead_text (layout.Words words) name = words
 lead_text (layout.Left places) name = []
 lead_text (layout.Right places) name = []
@@ -76,6 +78,8 @@ in_places layout.Comma bytes = bytes
 in_places layout.Space bytes = bytes
 in_places layout.Name bytes = bytes
 in_places layout.NextName bytes = bytes
+in_places (layout.OtherName other) bytes = bytes
+in_places (layout.WordsName words) bytes = bytes
 in_places (layout.Words words) bytes = bytes
 in_places (layout.Left places) bytes = at_left places bytes
 in_places (layout.Right places) bytes = at_right places bytes

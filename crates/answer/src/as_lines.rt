@@ -146,6 +146,15 @@ fn push_lead(draft: &mut Draft, layout: &Layout, name: &[u8]) -> Result<(), Allo
             draft.text(name)?;
             draft.text(b" ")
         }
+        Layout::OtherName(other) => {
+            draft.text(other.text().as_bytes())?;
+            draft.text(b" ")
+        }
+        Layout::WordsName(words) => {
+            draft.text(words.text().as_bytes())?;
+            draft.text(name)?;
+            draft.text(b" ")
+        }
         Layout::Words(words) => draft.text(words.text().as_bytes()),
     }
 }

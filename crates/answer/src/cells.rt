@@ -20,6 +20,10 @@ pub enum Layout {
     Name,
     /// After a space, its name and a space.
     NextName,
+    /// After this name, which is not its own, and a space.
+    OtherName(Word),
+    /// After these words, its name and a space.
+    WordsName(Word),
     /// After these words.
     Words(Word),
     /// At the left of so many places; more bytes than that are not cut.

@@ -1,4 +1,4 @@
-//! The names of members and columns, and the words of answers. Code and meaning read them here.
+//! The names of members and columns, and the words of answers: each once, and here alone. Code and meaning of all crates read them here.
 
 ghost use Rattle.answer.specs.Names.{AreDocumentedNames};
 
@@ -20,7 +20,7 @@ pub const OVERDUE: &str = "overdue";
 pub const DEPTH: &str = "depth";
 /// The greatest lateness, in rounds.
 pub const GREATEST: &str = "greatest";
-/// The least greatest lateness that a schedule has, in rounds.
+/// The least greatest lateness that a schedule has, in rounds; or the fewest late requests of a process, or of a processor, in any order.
 pub const LEAST: &str = "least";
 /// By how much the one exceeds the other, in rounds.
 pub const SHORTFALL: &str = "shortfall";
@@ -122,6 +122,142 @@ pub const MAX: &str = "max";
 pub const NONE: &str = "none";
 /// None has commands.
 pub const NONE_SERVED: &str = "none-served";
+/// How many requests there are.
+pub const REQUESTS: &str = "requests";
+/// How long it is from the first entry to the last dispatch.
+pub const SPAN: &str = "span";
+/// In which share of the time at least one request waited.
+pub const WAITED: &str = "waited";
+/// How many reads were late.
+pub const LATE_READS: &str = "late_reads";
+/// How many writes were.
+pub const LATE_WRITES: &str = "late_writes";
+/// How many requests stalled.
+pub const STALLED: &str = "stalled";
+/// How many requests the crowded windows have more than they carry.
+pub const CROWDED: &str = "crowded";
+/// How many requests came in after their deadlines.
+pub const ARRIVALS: &str = "arrivals";
+/// By how much late requests were late.
+pub const OVERRUN: &str = "overrun";
+/// When the device took nothing.
+pub const STALLS: &str = "stalls";
+/// How long something is.
+pub const LENGTH: &str = "length";
+/// How many requests were at the device.
+pub const IN_FLIGHT: &str = "in_flight";
+/// The number of the first dispatch of a window.
+pub const FROM_ID: &str = "from_id";
+/// The number of the last.
+pub const UNTIL_ID: &str = "until_id";
+/// Why a request was late.
+pub const CAUSE: &str = "cause";
+/// It came in by its deadline, and the device took nothing from then to the deadline.
+pub const STALL: &str = "stall";
+/// It was due in the round before its release.
+pub const GAP: &str = "gap";
+/// Processes.
+pub const PROCESSES: &str = "processes";
+/// Processors.
+pub const PROCESSORS: &str = "processors";
+/// The process that opened a request.
+pub const PID: &str = "pid";
+/// The processor on which a request was opened.
+pub const CPU: &str = "cpu";
+/// The most of the late requests of a process, or of a processor, that can be on time beside all that were.
+pub const SAVABLE: &str = "savable";
+/// The median wait.
+pub const WAIT_P50: &str = "wait_p50";
+/// The wait that 99 of 100 don't exceed.
+pub const WAIT_P99: &str = "wait_p99";
+/// How many requests may be late.
+pub const ALLOWED: &str = "allowed";
+/// After how long requests are due where as few of the others are late as can be.
+pub const BESIDE: &str = "beside";
+/// After how long they are whatever becomes of the others.
+pub const ALONE: &str = "alone";
+/// Stages.
+pub const STAGES: &str = "stages";
+/// A stage.
+pub const STAGE: &str = "stage";
+/// How many thousandths of the whole way it is.
+pub const SHARE: &str = "share";
+/// From the queueing of the first bio until it was opened.
+pub const Q2G: &str = "Q2G";
+/// Until it was inserted.
+pub const G2I: &str = "G2I";
+/// Until its last dispatch.
+pub const I2D: &str = "I2D";
+/// Until it was completed.
+pub const D2C: &str = "D2C";
+/// All of it.
+pub const Q2C: &str = "Q2C";
+/// What stands for a scheduler where the machine chose: the order of the capture.
+pub const CAPTURED: &str = "captured";
+/// After how long a read is due in a FIFO list.
+pub const FIFO_READ_EXPIRE: &str = "fifo_read_expire";
+/// After how long a write is.
+pub const FIFO_WRITE_EXPIRE: &str = "fifo_write_expire";
+/// The median wait of reads, in nanoseconds.
+pub const READ_P50: &str = "read_p50";
+/// The wait that 99 of 100 reads don't exceed.
+pub const READ_P99: &str = "read_p99";
+/// The longest wait of a read.
+pub const READ_MAX: &str = "read_max";
+/// The median wait of writes.
+pub const WRITE_P50: &str = "write_p50";
+/// The wait that 99 of 100 writes don't exceed.
+pub const WRITE_P99: &str = "write_p99";
+/// The longest wait of a write.
+pub const WRITE_MAX: &str = "write_max";
+/// How many bios there are, of a request or of a capture.
+pub const BIOS: &str = "bios";
+/// When the first bio of a request was queued.
+pub const QUEUED: &str = "queued";
+/// When the request was inserted.
+pub const INSERTED: &str = "inserted";
+/// When it was dispatched for the last time.
+pub const DISPATCHED: &str = "dispatched";
+/// When it was completed.
+pub const COMPLETED: &str = "completed";
+/// How many records a capture has.
+pub const RECORDS: &str = "records";
+/// How many of them are of a merge.
+pub const MERGES: &str = "merges";
+/// How many reads went out late, as a summary of a capture spells it.
+pub const SUMMARY_LATE_READS: &str = "late-reads";
+/// How many writes did.
+pub const SUMMARY_LATE_WRITES: &str = "late-writes";
+/// The times from queueing to opening.
+pub const Q_TO_G: &str = "q-to-g";
+/// From insertion to dispatch.
+pub const I_TO_D: &str = "i-to-d";
+/// From dispatch to completion.
+pub const D_TO_C: &str = "d-to-c";
+/// The most requests that were in flight, as a summary spells it.
+pub const SUMMARY_IN_FLIGHT: &str = "in-flight";
+/// How many requests are left out.
+pub const LEFT_OUT: &str = "left-out";
+/// How many records match nothing known.
+pub const UNMATCHED: &str = "unmatched";
+/// How many are of a plug's beginning.
+pub const PLUGS: &str = "plugs";
+/// Of a plug that was flushed.
+pub const UNPLUGS: &str = "unplugs";
+/// Of an action that says nothing of a request.
+pub const ACTIONS: &str = "actions";
+/// Of a discard.
+pub const DISCARDS: &str = "discards";
+/// Of an erase.
+pub const ERASES: &str = "erases";
+/// Of a flush without data.
+pub const FLUSHES: &str = "flushes";
+/// Of something else that moves no data.
+pub const OTHERS: &str = "others";
+/// Without sectors.
+pub const EMPTY: &str = "empty";
+/// With sectors past the last one.
+pub const PAST_END: &str = "past-end";
 
 /// The names are those of the pages.
 ///

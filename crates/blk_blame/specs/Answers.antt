@@ -5,7 +5,7 @@ use Rattle.answer.specs.declared.value.Value.{Value}
 use Rattle.answer.specs.declared.value.Value.TheVariants.{Count, Nothing, Share}
 use Rattle.answer.specs.declared.cells.Cell.{Cell}
 use Rattle.answer.specs.declared.cells.Column.{Column}
-use Rattle.answer.specs.declared.cells.Layout.TheVariants.{Words, Right}
+use Rattle.answer.specs.declared.cells.Layout.TheVariants.{Name, WordsName, Words, Right}
 use Rattle.answer.specs.declared.answer.Part.{Part}
 use Rattle.answer.specs.declared.answer.Part.TheVariants.{Line, Object, Rows}
 use Rattle.answer.specs.Parts.{cell, column, clocked}
@@ -17,11 +17,13 @@ use Rattle.edd_blame.specs.declared.sum.StallTime.{StallTime}
 use Rattle.edd_figures.specs.declared.missing.Counts.{Counts}
 use Rattle.edd_figures.specs.declared.missing.Crowd.{Crowd}
 use Rattle.blk_blame.specs.Flying.{in_flight_from}
-use Rattle.blk_blame.specs.declared.names.TheConstants as own
 use Rattle.blk_blame.specs.declared.totals.Totals.{Totals}
 
 abbrev pub behind : List ℕ → List ℕ → Value → Cell
 behind words name value = cell (Words words) name value
+
+abbrev pub named : List ℕ → List ℕ → Value → Cell
+named words name value = cell (WordsName words) name value
 
 -- a share, or none
 abbrev pub shared : Option ℕ → Value
@@ -32,18 +34,18 @@ shared (Some share) = Share share
 -- and by how much late ones were
 abbrev pub requests_part : Totals → Part
 requests_part t = Line (record {
-  cells = behind [] own.REQUESTS.now (Count t.requests) ∷ behind (codes " requests in ") own.SPAN.now (clocked (Some t.span)) ∷ behind (codes " ms, at least one waiting in ") own.WAITED.now (shared t.waited) ∷ [];
+  cells = behind [] names.REQUESTS.now (Count t.requests) ∷ behind (codes " requests in ") names.SPAN.now (clocked (Some t.span)) ∷ behind (codes " ms, at least one waiting in ") names.WAITED.now (shared t.waited) ∷ [];
   end = codes " % of it" ++ 10 ∷ [];
 })
 
 abbrev pub late_part : Totals → Counts → Part
-late_part t c = Line (record { cells = behind (codes "late ") names.LATE.now (Count c.late) ∷ behind (codes ": reads ") own.LATE_READS.now (Count t.late_reads) ∷ behind (codes ", writes ") own.LATE_WRITES.now (Count t.late_writes) ∷ []; end = 10 ∷ [] })
+late_part t c = Line (record { cells = cell Name names.LATE.now (Count c.late) ∷ behind (codes ": reads ") names.LATE_READS.now (Count t.late_reads) ∷ behind (codes ", writes ") names.LATE_WRITES.now (Count t.late_writes) ∷ []; end = 10 ∷ [] })
 
 abbrev pub unavoidable_part : Counts → Reasons → Part
 unavoidable_part c r = Line (record {
   cells =
-      behind (codes "had to be ") names.UNAVOIDABLE.now (Count c.unavoidable) ∷ behind (codes ": by stall ") own.STALLED.now (Count r.stalled)
-      ∷ behind (codes ", by crowding ") own.CROWDED.now (Count r.crowded) ∷ behind (codes ", by arrival ") own.ARRIVALS.now (Count r.arrivals) ∷ [];
+      behind (codes "had to be ") names.UNAVOIDABLE.now (Count c.unavoidable) ∷ behind (codes ": by stall ") names.STALLED.now (Count r.stalled)
+      ∷ behind (codes ", by crowding ") names.CROWDED.now (Count r.crowded) ∷ behind (codes ", by arrival ") names.ARRIVALS.now (Count r.arrivals) ∷ [];
   end = 10 ∷ [];
 })
 
@@ -51,8 +53,8 @@ abbrev pub avoidable_part : Counts → Part
 avoidable_part c = Line (record { cells = behind (codes "the scheduler's ") names.AVOIDABLE.now (Count c.avoidable) ∷ []; end = 10 ∷ [] })
 
 abbrev pub overrun_part : Percentiles → Part
-overrun_part p = Object own.OVERRUN.now (record {
-  cells = behind (codes "overrun in ms: p50 ") names.P50.now (clocked p.p50) ∷ behind (codes ", p99 ") names.P99.now (clocked p.p99) ∷ behind (codes ", max ") names.MAX.now (clocked p.max) ∷ [];
+overrun_part p = Object names.OVERRUN.now (record {
+  cells = named (codes "overrun in ms: ") names.P50.now (clocked p.p50) ∷ named (codes ", ") names.P99.now (clocked p.p99) ∷ named (codes ", ") names.MAX.now (clocked p.max) ∷ [];
   end = 10 ∷ [];
 })
 
@@ -75,7 +77,7 @@ title words = Line (record { cells = []; end = words })
 
 -- stalls: from the dispatch before to the next one, how many requests were due in it, and how many were at the device when it began
 abbrev pub stall_columns : List Column
-stall_columns = column (Right 12) names.FROM.now ∷ column (Right 12) names.UNTIL.now ∷ column (Right 10) own.LENGTH.now ∷ column (Right 10) own.REQUESTS.now ∷ column (Right 11) own.IN_FLIGHT.now ∷ []
+stall_columns = column (Right 12) names.FROM.now ∷ column (Right 12) names.UNTIL.now ∷ column (Right 10) names.LENGTH.now ∷ column (Right 10) names.REQUESTS.now ∷ column (Right 11) names.IN_FLIGHT.now ∷ []
 
 abbrev pub stall_row : ℕ → List CapturedRequest → StallTime → List Value
 stall_row begin requests s =
@@ -86,11 +88,11 @@ stall_row begin requests s =
 abbrev pub with_stalls : ℕ → List CapturedRequest → List StallTime → List Part → List Part
 with_stalls begin requests stalls parts =
     (parts ++ title (10 ∷ codes "stalls, in which the device took nothing, the greatest first, in ms:" ++ 10 ∷ []) ∷ [])
-    ++ Rows (record { name = own.STALLS.now; columns = stall_columns; head = true; rows = map (stall_row begin requests) stalls }) ∷ []
+    ++ Rows (record { name = names.STALLS.now; columns = stall_columns; head = true; rows = map (stall_row begin requests) stalls }) ∷ []
 
 -- windows: from the first dispatch to the last, how many requests lie in it, and how many dispatches
 abbrev pub window_columns : List Column
-window_columns = column (Right 12) names.FROM.now ∷ column (Right 12) names.UNTIL.now ∷ column (Right 10) own.LENGTH.now ∷ column (Right 10) own.REQUESTS.now ∷ column (Right 10) names.CARRIES.now ∷ []
+window_columns = column (Right 12) names.FROM.now ∷ column (Right 12) names.UNTIL.now ∷ column (Right 10) names.LENGTH.now ∷ column (Right 10) names.REQUESTS.now ∷ column (Right 10) names.CARRIES.now ∷ []
 
 abbrev pub window_row : ℕ → List CapturedRequest → Crowd → List Value
 window_row begin requests w =

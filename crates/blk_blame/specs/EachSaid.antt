@@ -13,7 +13,6 @@ use Rattle.blk_capture.specs.Tables.{since}
 use Rattle.blk_capture.specs.declared.requests.CapturedRequest.{CapturedRequest}
 use Rattle.edd_blame.specs.declared.late.Cause.{Cause}
 use Rattle.edd_blame.specs.declared.late.Cause.TheVariants.{Arrival, Stall, Spare, Full}
-use Rattle.blk_blame.specs.declared.names.TheConstants as own
 use Rattle.blk_blame.specs.declared.each.LateRequest.{LateRequest}
 use Rattle.blk_blame.specs.Answers.{time_after, time_of_dispatch, time_between}
 use Rattle.blk_blame.specs.Flying.{in_flight_from}
@@ -24,7 +23,7 @@ dir_value Write = Text names.WRITES.now
 
 abbrev pub cause_value : Cause → Value
 cause_value Arrival = Text names.ARRIVAL.now
-cause_value Stall = Text own.STALL.now
+cause_value Stall = Text names.STALL.now
 cause_value Spare = Text names.SPARE.now
 cause_value (Full w) = Text names.FULL.now
 
@@ -89,7 +88,7 @@ number_spoken None = Nothing []
 number_spoken (Some n) = Count n
 
 abbrev pub each_columns : List Column
-each_columns = record_columns (names.ID.now ∷ own.PID.now ∷ names.DIR.now ∷ names.FIRST.now ∷ names.SECTORS.now ∷ names.WAIT.now ∷ own.OVERRUN.now ∷ own.CAUSE.now ∷ names.FROM.now ∷ names.UNTIL.now ∷ own.LENGTH.now ∷ own.FROM_ID.now ∷ own.UNTIL_ID.now ∷ own.IN_FLIGHT.now ∷ [])
+each_columns = record_columns (names.ID.now ∷ names.PID.now ∷ names.DIR.now ∷ names.FIRST.now ∷ names.SECTORS.now ∷ names.WAIT.now ∷ names.OVERRUN.now ∷ names.CAUSE.now ∷ names.FROM.now ∷ names.UNTIL.now ∷ names.LENGTH.now ∷ names.FROM_ID.now ∷ names.UNTIL_ID.now ∷ names.IN_FLIGHT.now ∷ [])
 
 abbrev pub each_row : ℕ → List CapturedRequest → LateRequest → List Value
 each_row begin requests l =

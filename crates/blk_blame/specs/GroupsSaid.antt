@@ -9,18 +9,17 @@ use Rattle.answer.specs.declared.answer.Part.{Part}
 use Rattle.answer.specs.declared.answer.Part.TheVariants.{Rows}
 use Rattle.answer.specs.Parts.{column, clocked}
 use Rattle.blk_blame.specs.Answers.{title}
-use Rattle.blk_blame.specs.declared.names.TheConstants as own
 use Rattle.blk_blame.specs.declared.grouped.GroupedBy.{GroupedBy}
 use Rattle.blk_blame.specs.declared.grouped.GroupedBy.TheVariants.{Process, Processor}
 use Rattle.blk_blame.specs.declared.groups.Group.{Group}
 
 abbrev pub key_name : GroupedBy → List ℕ
-key_name Process = own.PID.now
-key_name Processor = own.CPU.now
+key_name Process = names.PID.now
+key_name Processor = names.CPU.now
 
 abbrev pub groups_name : GroupedBy → List ℕ
-groups_name Process = own.PROCESSES.now
-groups_name Processor = own.PROCESSORS.now
+groups_name Process = names.PROCESSES.now
+groups_name Processor = names.PROCESSORS.now
 
 abbrev pub groups_title : GroupedBy → List ℕ
 groups_title Process = 10 ∷ codes "processes, the most late ones first, waits and the greatest overrun in ms:" ++ 10 ∷ []
@@ -28,8 +27,8 @@ groups_title Processor = 10 ∷ codes "processors, the most late ones first, wai
 
 abbrev pub group_columns : GroupedBy → List Column
 group_columns by =
-    column (Right 10) (key_name by) ∷ column (Right 10) own.REQUESTS.now ∷ column (Right 8) names.LATE.now ∷ column (Right 9) own.STALLED.now ∷ column (Right 10) own.ARRIVALS.now
-    ∷ column (Right 8) own.LEAST.now ∷ column (Right 9) own.SAVABLE.now ∷ column (Right 11) own.WAIT_P50.now ∷ column (Right 11) own.WAIT_P99.now ∷ column (Right 11) own.OVERRUN.now ∷ []
+    column (Right 10) (key_name by) ∷ column (Right 10) names.REQUESTS.now ∷ column (Right 8) names.LATE.now ∷ column (Right 9) names.STALLED.now ∷ column (Right 10) names.ARRIVALS.now
+    ∷ column (Right 8) names.LEAST.now ∷ column (Right 9) names.SAVABLE.now ∷ column (Right 11) names.WAIT_P50.now ∷ column (Right 11) names.WAIT_P99.now ∷ column (Right 11) names.OVERRUN.now ∷ []
 
 abbrev pub group_row : Group → List Value
 group_row p =

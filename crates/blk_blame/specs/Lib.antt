@@ -1,4 +1,3 @@
-pub mod Names
 pub mod Clock
 pub mod Account
 pub mod Waited

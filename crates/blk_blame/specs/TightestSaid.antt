@@ -10,7 +10,6 @@ use Rattle.blk_capture.specs.declared.requests.CapturedRequest.{CapturedRequest}
 use Rattle.blk_blame.specs.Answers.{behind}
 use Rattle.blk_blame.specs.EachSaid.{dir_value}
 use Rattle.blk_blame.specs.Tightest.{allowed_of, IsTightestOrNone}
-use Rattle.blk_blame.specs.declared.names.TheConstants as own
 use Rattle.blk_blame.specs.declared.tightest.OnTimeTarget.{OnTimeTarget}
 use Rattle.blk_blame.specs.declared.tightest.OtherDirection.TheVariants.{Best, Any}
 
@@ -18,8 +17,8 @@ use Rattle.blk_blame.specs.declared.tightest.OtherDirection.TheVariants.{Best, A
 abbrev pub aim_part : List CapturedRequest → OnTimeTarget → Part
 aim_part requests aim = Line (record {
   cells =
-      behind [] names.DIR.now (dir_value aim.dir) ∷ behind (codes " ") own.REQUESTS.now (Count (count_by (λ q. goes q.dir aim.dir) requests))
-      ∷ behind (codes " requests, of which ") own.ALLOWED.now (Count (allowed_of requests aim)) ∷ [];
+      behind [] names.DIR.now (dir_value aim.dir) ∷ behind (codes " ") names.REQUESTS.now (Count (count_by (λ q. goes q.dir aim.dir) requests))
+      ∷ behind (codes " requests, of which ") names.ALLOWED.now (Count (allowed_of requests aim)) ∷ [];
   end = codes " may be late" ++ 10 ∷ [];
 })
 
@@ -29,8 +28,8 @@ due_part name time where_so = Line (record { cells = behind (codes "due after ")
 
 abbrev pub tightest_parts : List CapturedRequest → OnTimeTarget → Option ℕ → Option ℕ → List Part
 tightest_parts requests aim beside alone =
-    aim_part requests aim ∷ due_part own.BESIDE.now beside (codes " ns, with no more of the others late than have to be" ++ 10 ∷ [])
-    ∷ due_part own.ALONE.now alone (codes " ns, whatever becomes of the others" ++ 10 ∷ []) ∷ []
+    aim_part requests aim ∷ due_part names.BESIDE.now beside (codes " ns, with no more of the others late than have to be" ++ 10 ∷ [])
+    ∷ due_part names.ALONE.now alone (codes " ns, whatever becomes of the others" ++ 10 ∷ []) ∷ []
 
 -- the least time where as few of the others are late as can be, and the least whatever becomes of these
 pub record IsTightestAnswer (requests : List CapturedRequest) (aim : OnTimeTarget) (parts : List Part) : Type 0 where

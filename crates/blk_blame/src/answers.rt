@@ -8,13 +8,11 @@ ghost use Rattle.blk_capture.specs.Summaries.{back_by};
 ghost use Rattle.blk_blame.specs.Answers.{shared, time_after, time_of_dispatch, time_between, requests_part, late_part, unavoidable_part, avoidable_part, overrun_part, with_totals, stall_columns, stall_row, with_stalls, window_columns, window_row, with_windows};
 
 use crate::flying::in_flight_from;
-use crate::names::{
-    ARRIVALS, CROWDED, IN_FLIGHT, LATE_READS, LATE_WRITES, LENGTH, OVERRUN, REQUESTS, SPAN,
-    STALLED, STALLS, WAITED,
-};
 use crate::totals::Totals;
 use answer::names::{
-    AVOIDABLE, CARRIES, FROM, LATE, MAX, NONE, P50, P99, UNAVOIDABLE, UNTIL, WINDOWS,
+    ARRIVALS, AVOIDABLE, CARRIES, CROWDED, FROM, IN_FLIGHT, LATE, LATE_READS, LATE_WRITES, LENGTH,
+    MAX, NONE, OVERRUN, P50, P99, REQUESTS, SPAN, STALLED, STALLS, UNAVOIDABLE, UNTIL, WAITED,
+    WINDOWS,
 };
 use answer::{Answer, Cell, Column, Layout, Line, Part, Row, Rows, Value, Word, time_or_none};
 use blk_capture::{CapturedRequest, Percentiles};
@@ -44,6 +42,17 @@ fn time_behind(words: &'static str, name: &'static str, time: Option<u64>) -> Ce
     ensures { result ≡ cell (Layout.Words words.now) name.now (clocked time) }
 {
     cell(Layout::Words(Word::new(words)), name, time_or_none(time))
+}
+
+/// A cell of a time behind words and its name.
+fn time_named(words: &'static str, name: &'static str, time: Option<u64>) -> Cell
+    ensures { result ≡ cell (Layout.WordsName words.now) name.now (clocked time) }
+{
+    cell(
+        Layout::WordsName(Word::new(words)),
+        name,
+        time_or_none(time),
+    )
 }
 
 /// A share, or `none` where there is none.
@@ -85,7 +94,7 @@ fn late_part(alloc: Global, totals: &Totals, counts: Counts) -> Result<Part, All
     let cells = Vec::from_array(
         alloc,
         [
-            count_behind("late ", LATE, counts.late),
+            cell(Layout::Name, LATE, Value::Count(counts.late)),
             count_behind(": reads ", LATE_READS, totals.late_reads),
             count_behind(", writes ", LATE_WRITES, totals.late_writes),
         ],
@@ -127,9 +136,9 @@ fn overrun_part(alloc: Global, overrun: Percentiles) -> Result<Part, AllocError>
     let cells = Vec::from_array(
         alloc,
         [
-            time_behind("overrun in ms: p50 ", P50, overrun.p50),
-            time_behind(", p99 ", P99, overrun.p99),
-            time_behind(", max ", MAX, overrun.max),
+            time_named("overrun in ms: ", P50, overrun.p50),
+            time_named(", ", P99, overrun.p99),
+            time_named(", ", MAX, overrun.max),
         ],
     )?;
     Ok(Part::Object(Word::new(OVERRUN), Line::new(cells, "\n")))

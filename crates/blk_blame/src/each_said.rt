@@ -9,9 +9,9 @@ ghost use Rattle.blk_blame.specs.EachSaid.{dir_value, cause_value, gap_from, gap
 use crate::answers::{time_after, time_between, time_of_dispatch};
 use crate::each::LateRequest;
 use crate::flying::in_flight_from;
-use crate::names::{CAUSE, FROM_ID, IN_FLIGHT, LENGTH, OVERRUN, PID, STALL, UNTIL_ID};
 use answer::names::{
-    ARRIVAL, DIR, FIRST, FROM, FULL, ID, LATE, READS, SECTORS, SPARE, UNTIL, WAIT, WRITES,
+    ARRIVAL, CAUSE, DIR, FIRST, FROM, FROM_ID, FULL, ID, IN_FLIGHT, LATE, LENGTH, OVERRUN, PID,
+    READS, SECTORS, SPARE, STALL, UNTIL, UNTIL_ID, WAIT, WRITES,
 };
 use answer::{Answer, Column, Part, Row, Rows, Value, Word, record_columns};
 use blk_bio::Dir;

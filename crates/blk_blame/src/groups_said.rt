@@ -5,11 +5,10 @@ ghost use Rattle.blk_blame.specs.GroupsSaid.{key_name, groups_name, groups_title
 
 use crate::grouped::GroupedBy;
 use crate::groups::Group;
-use crate::names::{
-    ARRIVALS, CPU, LEAST, OVERRUN, PID, PROCESSES, PROCESSORS, REQUESTS, SAVABLE, STALLED,
+use answer::names::{
+    ARRIVALS, CPU, LATE, LEAST, OVERRUN, PID, PROCESSES, PROCESSORS, REQUESTS, SAVABLE, STALLED,
     WAIT_P50, WAIT_P99,
 };
-use answer::names::LATE;
 use answer::{Answer, Column, Layout, Line, Part, Row, Rows, Value, time_or_none};
 use std::alloc::{AllocError, Global};
 

@@ -14,7 +14,6 @@ mod grouped;
 mod groups;
 mod groups_said;
 mod late_groups;
-pub mod names;
 mod percentiles;
 mod stages;
 mod stages_said;

@@ -5,9 +5,8 @@ ghost use Rattle.blk_blame.specs.StagesSaid.{stage_name, stage_columns, stage_ce
 
 use crate::answers::share_or_none;
 use crate::each_said::dir_value;
-use crate::names::{D2C, G2I, I2D, Q2C, Q2G, SHARE, STAGE, STAGES};
 use crate::stages::{Stage, StageRow};
-use answer::names::{COUNT, DIR, MAX, P50, P99};
+use answer::names::{COUNT, D2C, DIR, G2I, I2D, MAX, P50, P99, Q2C, Q2G, SHARE, STAGE, STAGES};
 use answer::{Answer, Column, Layout, Line, Part, Row, Rows, Value, Word, time_or_none};
 use std::alloc::{AllocError, Global};
 

@@ -7,9 +7,8 @@ ghost use Rattle.blk_blame.specs.TightestSaid.{aim_part, due_part, tightest_part
 
 use crate::answers::{cell, count_behind};
 use crate::each_said::dir_value;
-use crate::names::{ALLOWED, ALONE, BESIDE, REQUESTS};
 use crate::tightest::{OnTimeTarget, OtherDirection, allowed_of, count_of, tightest_of};
-use answer::names::DIR;
+use answer::names::{ALLOWED, ALONE, BESIDE, DIR, REQUESTS};
 use answer::{Answer, Layout, Line, Part, Word, count_or_none};
 use blk_capture::CapturedRequest;
 use std::alloc::{AllocError, Global};

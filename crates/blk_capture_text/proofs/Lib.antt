@@ -1,4 +1,5 @@
 pub mod RowLaws
+pub mod Tables
 pub mod CaptureLaws
 pub mod Imported
 pub mod Doubting

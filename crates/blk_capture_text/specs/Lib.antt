@@ -2,7 +2,6 @@ pub mod Recorded
 pub mod Captures
 pub mod Names
 pub mod TableText
-pub mod SummaryNames
 pub mod SummaryText
 pub mod Imports
 pub mod Doubts

@@ -1,10 +1,9 @@
 -- A capture in numbers.
 use Rattle.std.specs.Prelude.{ℕ, ◌+◌, ◌-◌, ◌^◌, min, Bool, true, false, ◌++◌, ◌∷◌, [], List, count_by, decimal, codes}
 use Rattle.answer.specs.declared.names.TheConstants as names
-use Rattle.blk_capture_text.specs.declared.names.TheConstants as members
 use Rattle.answer.specs.declared.answer.Part.{Part}
 use Rattle.answer.specs.declared.answer.Part.TheVariants.{Member, Object}
-use Rattle.answer.specs.declared.cells.Layout.TheVariants.{Words, Space}
+use Rattle.answer.specs.declared.cells.Layout.TheVariants.{OtherName, Space}
 use Rattle.answer.specs.declared.value.Value.TheVariants.{Count}
 use Rattle.answer.specs.Parts.{cell, counted}
 use Rattle.blk_capture.specs.Fates.{is_of_kind, is_passed, is_unmatched}
@@ -51,22 +50,22 @@ counts_with c f = record {
 }
 
 -- a phase: the median, the 99th of a hundred and the greatest
-abbrev pub phase_part : List ℕ → List ℕ → Percentiles → Part
-phase_part name lead p = Object name (record {
-  cells = cell (Words lead) names.P50.now (counted p.p50) ∷ cell Space names.P99.now (counted p.p99) ∷ cell Space names.MAX.now (counted p.max) ∷ [];
+abbrev pub phase_part : List ℕ → Percentiles → Part
+phase_part name p = Object name (record {
+  cells = cell (OtherName name) names.P50.now (counted p.p50) ∷ cell Space names.P99.now (counted p.p99) ∷ cell Space names.MAX.now (counted p.max) ∷ [];
   end = 10 ∷ [];
 })
 
 -- how much there is, how long the phases took, and what isn't counted there
 abbrev pub summary_parts : Summary → ℕ → UnusedCounts → List Part
 summary_parts s left_out c =
-    Member members.RECORDS.now (Count s.records) ∷ Member members.BIOS.now (Count s.bios) ∷ Member members.REQUESTS.now (Count s.requests)
-    ∷ Member members.MERGES.now (Count s.merges) ∷ Member members.LATE_READS.now (Count s.late_reads) ∷ Member members.LATE_WRITES.now (Count s.late_writes)
-    ∷ phase_part members.Q_TO_G.now members.Q_TO_G_LEAD.now s.tag ∷ phase_part members.I_TO_D.now members.I_TO_D_LEAD.now s.scheduler ∷ phase_part members.D_TO_C.now members.D_TO_C_LEAD.now s.device
-    ∷ Member members.IN_FLIGHT.now (Count s.in_flight) ∷ Member members.LEFT_OUT.now (Count left_out) ∷ Member members.UNMATCHED.now (Count c.unmatched)
-    ∷ Member members.PLUGS.now (Count c.plugs) ∷ Member members.UNPLUGS.now (Count c.unplugs) ∷ Member members.ACTIONS.now (Count c.actions)
-    ∷ Member members.DISCARDS.now (Count c.discards) ∷ Member members.ERASES.now (Count c.erases) ∷ Member members.FLUSHES.now (Count c.flushes)
-    ∷ Member members.OTHERS.now (Count c.others) ∷ Member members.EMPTY.now (Count c.empty) ∷ Member members.PAST_END.now (Count c.past_end) ∷ []
+    Member names.RECORDS.now (Count s.records) ∷ Member names.BIOS.now (Count s.bios) ∷ Member names.REQUESTS.now (Count s.requests)
+    ∷ Member names.MERGES.now (Count s.merges) ∷ Member names.SUMMARY_LATE_READS.now (Count s.late_reads) ∷ Member names.SUMMARY_LATE_WRITES.now (Count s.late_writes)
+    ∷ phase_part names.Q_TO_G.now s.tag ∷ phase_part names.I_TO_D.now s.scheduler ∷ phase_part names.D_TO_C.now s.device
+    ∷ Member names.SUMMARY_IN_FLIGHT.now (Count s.in_flight) ∷ Member names.LEFT_OUT.now (Count left_out) ∷ Member names.UNMATCHED.now (Count c.unmatched)
+    ∷ Member names.PLUGS.now (Count c.plugs) ∷ Member names.UNPLUGS.now (Count c.unplugs) ∷ Member names.ACTIONS.now (Count c.actions)
+    ∷ Member names.DISCARDS.now (Count c.discards) ∷ Member names.ERASES.now (Count c.erases) ∷ Member names.FLUSHES.now (Count c.flushes)
+    ∷ Member names.OTHERS.now (Count c.others) ∷ Member names.EMPTY.now (Count c.empty) ∷ Member names.PAST_END.now (Count c.past_end) ∷ []
 
 -- the line of what was passed over or not matched
 abbrev pub notice_line : UnusedCounts → List ℕ

@@ -6,7 +6,6 @@ mod doubts;
 mod importing;
 pub mod laws;
 mod lines;
-pub mod names;
 mod numbers;
 mod reading;
 mod record;

@@ -4,12 +4,11 @@ ghost use Rattle.std.specs.Prelude.{◌≡◌, [], IfOk, count_by};
 ghost use Rattle.blk_capture.specs.Fates.{is_unmatched, is_passed, is_of_kind};
 ghost use Rattle.blk_capture_text.specs.SummaryText.{counts_of, one_counted, counts_with, phase_part, summary_parts, notice_line};
 
-use crate::names::{
-    ACTIONS, BIOS, D_TO_C, D_TO_C_LEAD, DISCARDS, EMPTY, ERASES, FLUSHES, I_TO_D, I_TO_D_LEAD,
-    IN_FLIGHT, LATE_READS, LATE_WRITES, LEFT_OUT, MERGES, OTHERS, PAST_END, PLUGS, Q_TO_G,
-    Q_TO_G_LEAD, RECORDS, REQUESTS, UNMATCHED, UNPLUGS,
+use answer::names::{
+    ACTIONS, BIOS, D_TO_C, DISCARDS, EMPTY, ERASES, FLUSHES, I_TO_D, LEFT_OUT, MAX, MERGES, OTHERS,
+    P50, P99, PAST_END, PLUGS, Q_TO_G, RECORDS, REQUESTS, SUMMARY_IN_FLIGHT, SUMMARY_LATE_READS,
+    SUMMARY_LATE_WRITES, UNMATCHED, UNPLUGS,
 };
-use answer::names::{MAX, P50, P99};
 use answer::{Answer, Cell, Layout, Line, Part, Value, Word, count_or_none, member};
 use blk_capture::{Fate, PassReason, Percentiles, Summary, count_passed};
 use std::alloc::{AllocError, Global};
@@ -182,16 +181,15 @@ pub fn count_fates(fates: &[Fate]) -> UnusedCounts
 fn phase_part(
     alloc: Global,
     name: &'static str,
-    lead: &'static str,
     percentiles: &Percentiles,
 ) -> Result<Part, AllocError>
-    ensures { IfOk result (λ part. part ≡ phase_part name.now lead.now percentiles.now) }
+    ensures { IfOk result (λ part. part ≡ phase_part name.now percentiles.now) }
 {
     let cells = Vec::from_array(
         alloc,
         [
             Cell::new(
-                Layout::Words(Word::new(lead)),
+                Layout::OtherName(Word::new(name)),
                 P50,
                 count_or_none(percentiles.p50),
             ),
@@ -217,12 +215,12 @@ pub fn summary_answer(
     answer.add(member(BIOS, Value::Count(summary.bios)))?;
     answer.add(member(REQUESTS, Value::Count(summary.requests)))?;
     answer.add(member(MERGES, Value::Count(summary.merges)))?;
-    answer.add(member(LATE_READS, Value::Count(summary.late_reads)))?;
-    answer.add(member(LATE_WRITES, Value::Count(summary.late_writes)))?;
-    answer.add(phase_part(alloc, Q_TO_G, Q_TO_G_LEAD, &summary.tag)?)?;
-    answer.add(phase_part(alloc, I_TO_D, I_TO_D_LEAD, &summary.scheduler)?)?;
-    answer.add(phase_part(alloc, D_TO_C, D_TO_C_LEAD, &summary.device)?)?;
-    answer.add(member(IN_FLIGHT, Value::Count(summary.in_flight)))?;
+    answer.add(member(SUMMARY_LATE_READS, Value::Count(summary.late_reads)))?;
+    answer.add(member(SUMMARY_LATE_WRITES, Value::Count(summary.late_writes)))?;
+    answer.add(phase_part(alloc, Q_TO_G, &summary.tag)?)?;
+    answer.add(phase_part(alloc, I_TO_D, &summary.scheduler)?)?;
+    answer.add(phase_part(alloc, D_TO_C, &summary.device)?)?;
+    answer.add(member(SUMMARY_IN_FLIGHT, Value::Count(summary.in_flight)))?;
     answer.add(member(LEFT_OUT, Value::Count(left_out)))?;
     answer.add(member(UNMATCHED, Value::Count(counts.unmatched)))?;
     answer.add(member(PLUGS, Value::Count(counts.plugs)))?;

@@ -3,7 +3,7 @@ use Rattle.std.specs.Prelude.{◌≡◌, ◌↔◌, ◌*◌, ◌++◌, ◌∷◌
 use Rattle.answer.specs.declared.names.TheConstants as names
 use Rattle.answer.specs.declared.value.Value.TheVariants.{Count, Signed, Nothing}
 use Rattle.answer.specs.declared.cells.Cell.{Cell}
-use Rattle.answer.specs.declared.cells.Layout.TheVariants.{Plain, NextName, Words}
+use Rattle.answer.specs.declared.cells.Layout.TheVariants.{Plain, NextName, WordsName, Words}
 use Rattle.answer.specs.declared.answer.Part.{Part}
 use Rattle.answer.specs.declared.answer.Part.TheVariants.{Line}
 use Rattle.answer.specs.Parts.{cell}
@@ -87,7 +87,7 @@ sentence_parts cells end = Line (record { cells = cells; end = end }) ∷ []
 -- what is said of a certificate: how late it is, and what its window holds and carries; nothing of one without commands
 abbrev pub bound_parts : ℤ → ℕ → ℕ → List Part
 bound_parts late load carries =
-    sentence_parts (cell (Words (codes "ok lateness ")) names.LATENESS.now (Signed late) ∷ cell NextName names.LOAD.now (Count load) ∷ cell NextName names.CARRIES.now (Count carries) ∷ []) (10 ∷ [])
+    sentence_parts (cell (WordsName (codes "ok ")) names.LATENESS.now (Signed late) ∷ cell NextName names.LOAD.now (Count load) ∷ cell NextName names.CARRIES.now (Count carries) ∷ []) (10 ∷ [])
 
 abbrev pub no_commands_parts : List Part
 no_commands_parts =
@@ -106,7 +106,7 @@ IsRefusedBound claim f b = (late : ℤ) × (window : Window) × (b ≡ Some (lat
 -- commands that can be on time lie in none
 abbrev pub on_time_verdict_parts : OnTimeClaim → List Part
 on_time_verdict_parts claim =
-    sentence_parts (cell (Words (codes "ok met ")) names.MET.now (Count claim.on_time) ∷ cell NextName names.OF.now (Count (length claim.commands))
+    sentence_parts (cell (WordsName (codes "ok ")) names.MET.now (Count claim.on_time) ∷ cell NextName names.OF.now (Count (length claim.commands))
     ∷ cell NextName names.WINDOWS.now (Count (length claim.cover)) ∷ cell NextName names.CARRY.now (Count (carried_by (fixed claim.depth) claim.cover))
     ∷ cell (Words (codes " and ")) names.OUTSIDE.now (Count (outside_of claim.commands claim.cover)) ∷ []) (codes " outside" ++ 10 ∷ [])
 

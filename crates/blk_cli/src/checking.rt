@@ -84,7 +84,7 @@ fn bound_answer(
         alloc,
         [
             Cell::new(
-                Layout::Words(Word::new("ok lateness ")),
+                Layout::WordsName(Word::new("ok ")),
                 LATENESS,
                 Value::Signed(lateness),
             ),
@@ -178,7 +178,7 @@ fn on_time_verdict(
         alloc,
         [
             Cell::new(
-                Layout::Words(Word::new("ok met ")),
+                Layout::WordsName(Word::new("ok ")),
                 MET,
                 Value::Count(certificate.on_time),
             ),

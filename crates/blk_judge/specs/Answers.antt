@@ -1,5 +1,5 @@
 -- What is said of a schedule, as answers.
-use Rattle.std.specs.Prelude.{◌-◌, ◌==◌, ◌++◌, ◌∷◌, [], List, Option, true, map, codes, if◌then◌else◌}
+use Rattle.std.specs.Prelude.{◌-◌, ◌==◌, ◌++◌, ◌∷◌, [], List, Option, true, map, if◌then◌else◌}
 use Rattle.answer.specs.declared.names.TheConstants as names
 use Rattle.answer.specs.declared.value.Value.{Value}
 use Rattle.answer.specs.declared.value.Value.TheVariants.{Count, Text}
@@ -25,7 +25,7 @@ judged_parts c f windows = (counts_parts c ++ figures_parts f) ++ crowds_part wi
 -- why a command was late, as far as rounds tell: of one due in the round before its release they don't tell whether a deadline passed before it
 -- came in, or after
 abbrev pub miss_cause : Miss → Value
-miss_cause m = if m.command.release - m.command.due == 1 then Text (codes "gap") else verdict_value m.verdict
+miss_cause m = if m.command.release - m.command.due == 1 then Text names.GAP.now else verdict_value m.verdict
 
 -- late commands, and why each is late
 abbrev pub miss_row : Miss → List Value

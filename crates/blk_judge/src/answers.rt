@@ -5,8 +5,8 @@ ghost use Rattle.blk_judge.specs.Answers.{counts_parts, judged_parts, miss_cause
 
 use crate::{Judged, Miss};
 use answer::names::{
-    AVOIDABLE, COMMANDS, DUE, FROM, ID, LATE, LATENESS, RELEASE, ROUND, SPARE, UNAVOIDABLE, UNTIL,
-    VERDICT,
+    AVOIDABLE, COMMANDS, DUE, FROM, GAP, ID, LATE, LATENESS, RELEASE, ROUND, SPARE, UNAVOIDABLE,
+    UNTIL, VERDICT,
 };
 use answer::{Answer, Part, Row, Rows, Value, Word, member, record_columns};
 use edd_figures::Counts;
@@ -42,7 +42,7 @@ fn miss_cause(miss: &Miss) -> Value
     ensures { result ≡ miss_cause miss.now }
 {
     if miss.command.release.saturating_sub(miss.command.due) == 1 {
-        Value::Text(Word::new("gap"))
+        Value::Text(Word::new(GAP))
     } else {
         verdict_value(miss.verdict)
     }

@@ -1,5 +1,6 @@
 -- What is said of a request and of a time that is drawn.
 use Rattle.std.specs.Prelude.{ℕ, ◌-◌, ◌∷◌, [], Bool, cond, nat_lt, List, codes}
+use Rattle.answer.specs.declared.names.TheConstants as names
 use Rattle.answer.specs.declared.value.Value.{Value}
 use Rattle.answer.specs.declared.value.Value.TheVariants.{Count, Text, Time}
 use Rattle.answer.specs.declared.cells.Cell.{Cell}
@@ -31,11 +32,11 @@ way_words way.Unknown = codes "command "
 
 abbrev pub mark_words : Mark → List ℕ
 mark_words mark.OnTime = codes "on time"
-mark_words mark.Spare = codes "spare"
-mark_words mark.Full = codes "full"
-mark_words mark.Stall = codes "stall"
-mark_words mark.Arrival = codes "arrival"
-mark_words mark.Gap = codes "gap"
+mark_words mark.Spare = names.SPARE.now
+mark_words mark.Full = names.FULL.now
+mark_words mark.Stall = names.STALL.now
+mark_words mark.Arrival = names.ARRIVAL.now
+mark_words mark.Gap = names.GAP.now
 
 -- how far apart the deadline and the dispatch of a request are, and which comes first
 abbrev pub bar_apart : Bar → ℕ

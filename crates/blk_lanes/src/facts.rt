@@ -5,6 +5,7 @@ ghost use Rattle.answer.specs.Lines.{answer_lines};
 ghost use Rattle.blk_lanes.specs.Facts.{cell_behind, time_value, way_words, mark_words, bar_apart, apart_words, span_words, bar_part, span_part, bar_fact, span_fact};
 
 use crate::bars::{Bar, Mark, Span, Unit, Way};
+use answer::names::{ARRIVAL, FULL, GAP, SPARE, STALL};
 use answer::{Answer, Cell, Layout, Line, Part, Value, Word, lines};
 use std::alloc::{AllocError, Global};
 
@@ -35,11 +36,11 @@ fn mark_words(mark: Mark) -> &'static str
 {
     match mark {
         Mark::OnTime => "on time",
-        Mark::Spare => "spare",
-        Mark::Full => "full",
-        Mark::Stall => "stall",
-        Mark::Arrival => "arrival",
-        Mark::Gap => "gap",
+        Mark::Spare => SPARE,
+        Mark::Full => FULL,
+        Mark::Stall => STALL,
+        Mark::Arrival => ARRIVAL,
+        Mark::Gap => GAP,
     }
 }
 

@@ -28,14 +28,14 @@ expiry name time = record { name = name; set = Number time }
 
 abbrev pub expiries_of : Plan → List Setting
 expiries_of p =
-    if has_fifo_lists p.sched.kind then expiry (codes "fifo_read_expire") p.fifo.read ∷ expiry (codes "fifo_write_expire") p.fifo.write ∷ [] else []
+    if has_fifo_lists p.sched.kind then expiry names.FIFO_READ_EXPIRE.now p.fifo.read ∷ expiry names.FIFO_WRITE_EXPIRE.now p.fifo.write ∷ [] else []
 
 abbrev pub plan_settings : Bool → Plan → List Setting
 plan_settings expiries p = map (λ s. told_setting s) (settings_of p.sched) ++ (if expiries then expiries_of p else [])
 
 -- who chose an order, and by which settings
 abbrev pub chooser_name : Chooser → List ℕ
-chooser_name Machine = codes "captured"
+chooser_name Machine = names.CAPTURED.now
 chooser_name (Replay p) = name_of p.sched
 
 abbrev pub chooser_settings : Bool → Chooser → List Setting
@@ -54,8 +54,8 @@ replay_row expiries r =
 
 abbrev pub replay_columns : List Column
 replay_columns =
-    record_columns (names.SCHED.now ∷ names.SETTINGS.now ∷ names.LATE.now ∷ codes "late_reads" ∷ codes "late_writes" ∷ names.UNAVOIDABLE.now ∷ names.AVOIDABLE.now
-    ∷ names.GREATEST.now ∷ codes "read_p50" ∷ codes "read_p99" ∷ codes "read_max" ∷ codes "write_p50" ∷ codes "write_p99" ∷ codes "write_max" ∷ [])
+    record_columns (names.SCHED.now ∷ names.SETTINGS.now ∷ names.LATE.now ∷ names.LATE_READS.now ∷ names.LATE_WRITES.now ∷ names.UNAVOIDABLE.now ∷ names.AVOIDABLE.now
+    ∷ names.GREATEST.now ∷ names.READ_P50.now ∷ names.READ_P99.now ∷ names.READ_MAX.now ∷ names.WRITE_P50.now ∷ names.WRITE_P99.now ∷ names.WRITE_MAX.now ∷ [])
 
 abbrev pub best_replays : Option ℕ → List ReplayRow → List ReplayRow
 best_replays None rows = rows
@@ -81,7 +81,7 @@ told_line told end = Line (record { cells = told_cell layout.Plain names.PROVED.
 
 abbrev pub best_told : Bool → ReplayRow → Part
 best_told expiries r =
-    Object names.BEST.now (record { cells = told_cell (layout.Words (codes "best ")) names.SCHED.now (Text (chooser_name r.chooser)) ∷ told_cell layout.Space names.SETTINGS.now (Settings (chooser_settings expiries r.chooser)) ∷ []; end = [] })
+    Object names.BEST.now (record { cells = told_cell (layout.OtherName names.BEST.now) names.SCHED.now (Text (chooser_name r.chooser)) ∷ told_cell layout.Space names.SETTINGS.now (Settings (chooser_settings expiries r.chooser)) ∷ []; end = [] })
 
 abbrev pub best_of_row : Bool → ReplayRow → List Part
 best_of_row expiries r = best_told expiries r ∷ told_line (proof_told r) (10 ∷ []) ∷ []

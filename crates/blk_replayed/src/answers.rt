@@ -6,7 +6,9 @@ ghost use Rattle.blk_replayed.specs.Answers.{expiry, expiries_of, plan_settings,
 use crate::replays::Replays;
 use crate::row::{Chooser, ReplayRow};
 use answer::names::{
-    AVOIDABLE, BEST, GREATEST, LATE, NONE, PROVED, ROWS, SCHED, SETTINGS, UNAVOIDABLE,
+    AVOIDABLE, BEST, CAPTURED, FIFO_READ_EXPIRE, FIFO_WRITE_EXPIRE, GREATEST, LATE, LATE_READS,
+    LATE_WRITES, NONE, PROVED, READ_MAX, READ_P50, READ_P99, ROWS, SCHED, SETTINGS, UNAVOIDABLE,
+    WRITE_MAX, WRITE_P50, WRITE_P99,
 };
 use answer::{
     Answer, Cell, Column, Layout, Line, Part, Row, Rows, Set, Setting, Settings, Value, Word,
@@ -31,8 +33,8 @@ fn push_expiries(all: &mut Vec<Setting>, plan: &Plan) -> Result<(), AllocError>
     ensures { OnOk result (all.new.items ≡ all.old.items ++ expiries_of plan.now) }
 {
     if plan.sched.kind.has_fifo_lists() {
-        all.push(expiry("fifo_read_expire", plan.fifo.read))?;
-        all.push(expiry("fifo_write_expire", plan.fifo.write))?;
+        all.push(expiry(FIFO_READ_EXPIRE, plan.fifo.read))?;
+        all.push(expiry(FIFO_WRITE_EXPIRE, plan.fifo.write))?;
     }
     Ok(())
 }
@@ -54,7 +56,7 @@ fn chooser_word(chooser: &Chooser) -> Word
     ensures { result ≡ chooser_name chooser.now }
 {
     match chooser {
-        Chooser::Machine => Word::new("captured"),
+        Chooser::Machine => Word::new(CAPTURED),
         Chooser::Replay(plan) => Word::new(plan.sched.name()),
     }
 }
@@ -139,17 +141,17 @@ fn replay_columns(alloc: Global) -> Result<Vec<Column>, AllocError>
         SCHED,
         SETTINGS,
         LATE,
-        "late_reads",
-        "late_writes",
+        LATE_READS,
+        LATE_WRITES,
         UNAVOIDABLE,
         AVOIDABLE,
         GREATEST,
-        "read_p50",
-        "read_p99",
-        "read_max",
-        "write_p50",
-        "write_p99",
-        "write_max",
+        READ_P50,
+        READ_P99,
+        READ_MAX,
+        WRITE_P50,
+        WRITE_P99,
+        WRITE_MAX,
     ];
     record_columns(alloc, &names)
 }
@@ -209,7 +211,7 @@ fn best_told(alloc: Global, expiries: bool, row: &ReplayRow) -> Result<Part, All
     ensures { IfOk result (λ part. part ≡ best_told expiries row.now) }
 {
     let sched = Cell {
-        column: Column::new(Layout::Words(Word::new("best ")), SCHED),
+        column: Column::new(Layout::OtherName(Word::new(BEST)), SCHED),
         value: Value::Text(chooser_word(&row.chooser)),
     };
     let settings = Cell {

@@ -56,7 +56,7 @@ proved_line value end = record { cells = cell layout.Plain names.PROVED.now valu
 
 -- the first row of those that stand best first, and what is proved of it; nothing without rows
 abbrev pub best_cells : TrialRow → List Cell
-best_cells r = cell (layout.Words (codes "best ")) names.SCHED.now (Text (name_of r.sched)) ∷ cell layout.Space names.SETTINGS.now (settings_value r.sched) ∷ []
+best_cells r = cell (layout.OtherName names.BEST.now) names.SCHED.now (Text (name_of r.sched)) ∷ cell layout.Space names.SETTINGS.now (settings_value r.sched) ∷ []
 
 abbrev pub best_parts : RankBy → List TrialRow → List Part
 best_parts b [] = Member names.BEST.now (Nothing names.NONE_SERVED.now) ∷ Line (proved_line (Nothing []) []) ∷ []

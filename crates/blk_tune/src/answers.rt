@@ -106,7 +106,7 @@ fn best_cells(alloc: Global, row: &TrialRow) -> Result<Vec<Cell>, AllocError>
     let cells = Vec::from_array(
         alloc,
         [
-            Cell::new(Layout::Words(Word::new("best ")), SCHED, name),
+            Cell::new(Layout::OtherName(Word::new(BEST)), SCHED, name),
             Cell::new(Layout::Space, SETTINGS, settings),
         ],
     )?;

@@ -1,5 +1,5 @@
 -- What figures, windows and verdicts say in an answer.
-use Rattle.std.specs.Prelude.{ℕ, ℤ, List, [], ◌∷◌, Option, None, Some, false, map, codes}
+use Rattle.std.specs.Prelude.{ℕ, ℤ, List, [], ◌∷◌, Option, None, Some, false, map}
 use Rattle.answer.specs.declared.names.TheConstants as names
 use Rattle.answer.specs.declared.value.Value.{Value}
 use Rattle.answer.specs.declared.value.Value.TheVariants.{Count, Text, Nothing}
@@ -26,7 +26,7 @@ figures_parts (Some f) = values_parts (Some f.greatest) (Some f.least) (Some f.s
 -- windows: the first and the last round of each, how many commands lie in it, and how many its rounds carry
 abbrev pub crowd_columns : List Column
 crowd_columns =
-    column (layout.Words (codes "window ")) names.FROM.now ∷ column layout.Space names.UNTIL.now ∷ column layout.NextName names.COMMANDS.now ∷ column layout.NextName names.CARRIES.now ∷ []
+    column (layout.OtherName names.WINDOW.now) names.FROM.now ∷ column layout.Space names.UNTIL.now ∷ column layout.NextName names.COMMANDS.now ∷ column layout.NextName names.CARRIES.now ∷ []
 
 abbrev pub crowd_row : Crowd → List Value
 crowd_row c = Count c.window.from ∷ Count c.window.due ∷ Count c.commands ∷ Count c.carries ∷ []

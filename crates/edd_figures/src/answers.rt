@@ -57,7 +57,7 @@ fn crowd_columns(alloc: Global) -> Result<Vec<Column>, AllocError>
     let columns = Vec::from_array(
         alloc,
         [
-            Column::new(Layout::Words(Word::new("window ")), FROM),
+            Column::new(Layout::OtherName(Word::new(WINDOW)), FROM),
             Column::new(Layout::Space, UNTIL),
             Column::new(Layout::NextName, COMMANDS),
             Column::new(Layout::NextName, CARRIES),
