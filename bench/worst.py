@@ -6,8 +6,9 @@ rounds it has. Scripts: joins and fronts (each bio joins a request that waits, a
 half of those that its plug holds, and fits none), no_room (the same in the core, where all wait), other_way (half of what waits
 touches the newcomer and is too long for it, and a short request of the other direction lies there too), two_measures (all that waits
 ends at one sector, half of it with too many bios for a newcomer and half with too many sectors), many_sizes (all that waits ends at one
-sector, each with another number of sectors, and a newcomer fits each), bio_ids (made for the hash tables), sectors (made for hash tables
-of sectors, which an index had once), one_slot (sectors that share a slot of an index), handed (each command is handed back once), idle (rounds in which nothing waits for any of 16 queues).
+sector, each with another number of sectors, and a newcomer fits each), many_classes (the same with 1 to 127 bios each, and no room for a
+newcomer), bio_ids (made for the hash tables), sectors (made for hash tables of sectors, which an index had once), one_slot (sectors that
+share a slot of an index), handed (each command is handed back once), idle (rounds in which nothing waits for any of 16 queues).
 Traces: trace_bio_ids and trace_requests (ids made for hash tables that traces had once), trace_falling (both count down),
 trace_steps (another depth in each round, all late),
 trace_joins (requests that grow to 128 bios), trace_groups (groups of 128 bios). Command lists: scattered (rounds up to the
@@ -174,6 +175,17 @@ def many_sizes(count, out):
     end, half = 1 << 20, count // 2
     waiting = [[f"{end - n % 60000 - 1},{n % 60000 + 1}"] for n in range(half)]
     lines = [*entering(waiting, 32), *(it.replace("bio,0,", "bio,1,").replace("flush,0", "flush,1") for it in entering([[f"{end},1"]] * half, 1))]
+    script(lines, out)
+
+
+def many_classes(count, out):
+    end, waiting, used, bios = 1 << 20, [], 0, 1
+    while used + bios <= count // 2:
+        first = end - 65535
+        waiting.append([f"{first + n},1" for n in range(bios - 1)] + [f"{first + bios - 1},{65536 - bios}"])
+        used, bios = used + bios, bios % 127 + 1
+    newcomers = [[f"{end},1"]] * (count - used)
+    lines = [*entering(waiting, 8), *(it.replace("bio,0,", "bio,1,").replace("flush,0", "flush,1") for it in entering(newcomers, 1))]
     script(lines, out)
 
 
@@ -350,7 +362,7 @@ def capture_absorbed(count, out):
         out(f"{last // 1_000_000_000},{last % 1_000_000_000:09},0,{action},1,R,0,{8 * count}")
 
 
-KINDS = [joins, fronts, plugs, no_room, other_way, two_measures, many_sizes, bio_ids, sectors, one_slot, handed, idle, trace_bio_ids, trace_requests]
+KINDS = [joins, fronts, plugs, no_room, other_way, two_measures, many_sizes, many_classes, bio_ids, sectors, one_slot, handed, idle, trace_bio_ids, trace_requests]
 KINDS += [trace_falling, trace_steps, trace_joins, trace_groups, scattered, falling, nested, alone, repeated, cert_scattered, met_windows]
 KINDS += [ran_scattered]
 KINDS += [capture_queued, capture_one_range, capture_absorbed]
