@@ -17,7 +17,7 @@ use thiserror::Error;
 pub const MAX_END: u64 = 1 << 48;
 
 /// Which way a bio's data goes, as `REQ_OP_READ` and `REQ_OP_WRITE` of Linux say.
-#[derive(Clone, Copy, Debug, PartialEq, Eq, Hash)]
+#[derive(Clone, Copy, Debug, PartialEq, Eq, PartialOrd, Ord)]
 pub enum Dir {
     /// From the device.
     Read,
@@ -53,7 +53,7 @@ impl Dir {
 
 /// A bio's name: who submitted it, and its number among that submitter's. Any two numbers make a name; that no name
 /// is used twice is checked where bios are accepted.
-#[derive(Clone, Copy, Debug, PartialEq, Eq, PartialOrd, Ord, Hash)]
+#[derive(Clone, Copy, Debug, PartialEq, Eq, PartialOrd, Ord)]
 pub struct BioId {
     /// Who submitted it, 0 to 255; a block layer has submitters from 0 on.
     pub submitter: u8,
@@ -81,7 +81,7 @@ impl BioFault {
 }
 
 /// A transfer of `sectors` sectors from sector `first` on, at least one, that ends at most at [`MAX_END`].
-#[derive(Clone, Copy, Debug, PartialEq, Eq, Hash)]
+#[derive(Clone, Copy, Debug, PartialEq, Eq, PartialOrd, Ord)]
 pub struct Bio {
     id: BioId,
     dir: Dir,

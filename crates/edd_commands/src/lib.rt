@@ -26,7 +26,7 @@ pub const MAX_COMMANDS: u64 = 1_000_000;
 
 /// A unit of work: it takes one round, from `release` on, and ought to run by `due`. Pinedo's job with release date
 /// r, due date d and processing time 1.
-#[derive(Clone, Copy, Debug, PartialEq, Eq, Hash)]
+#[derive(Clone, Copy, Debug, PartialEq, Eq, PartialOrd, Ord)]
 pub struct Command {
     /// Its name in faults.
     pub id: u64,
