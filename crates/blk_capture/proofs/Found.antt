@@ -7,7 +7,7 @@ use Rattle.blk_bio.specs.declared.request.Side.TheVariants.{Back, Front}
 use Rattle.blk_capture.specs.Ranges.{IsBeside}
 use Rattle.blk_capture.specs.Rules.{IsOldestAmong, IsNewestAmong, IsShortestAmong, HoldsForNone, BeginsWith, IsOwnBeside, IsInsertedBeside, is_opened, is_inserted}
 use Rattle.blk_capture.specs.Inside.LookupKeys.{Seats, whole_key, edge_key, IsOldestUnder, IsNewestUnder, IsEmptyAt, IsUnusedAt}
-use Rattle.blk_capture.specs.Inside.Indexes.{IsIndexOf, AreIndexed, facing, abutting_key, OpenedFirst, OpenedEnd, InsertedFirst, InsertedEnd}
+use Rattle.blk_capture.specs.Inside.Indexes.{AreSeated, AreIndexed, facing, abutting_key, OpenedFirst, OpenedEnd, InsertedFirst, InsertedEnd}
 use Rattle.blk_capture.specs.declared.index.RequestIndex.{RequestIndex}
 use Rattle.blk_capture.specs.declared.lookup.LookupKey.{LookupKey}
 use Rattle.blk_capture.specs.declared.opened.Opened.{Opened}
@@ -43,10 +43,10 @@ module _ {X : Type 0} (stands : X → Bool) (range : X → Range) (age : X → �
     under = λ x fits. ap whole_key fits.1 ∙ sym e;
   }
 
-  pub whole_found : (xs : List X) (seats : Seats) (s : Range) (key : LookupKey) (p : ℕ) → IsIndexOf stands (λ x. whole_key (range x)) age xs seats → key ≡ whole_key s → IsOldestUnder seats key p → (x : X) × IsOldestAmong age (Of s) xs p x
+  pub whole_found : (xs : List X) (seats : Seats) (s : Range) (key : LookupKey) (p : ℕ) → AreSeated stands (λ x. whole_key (range x)) age xs seats → key ≡ whole_key s → IsOldestUnder seats key p → (x : X) × IsOldestAmong age (Of s) xs p x
   whole_found xs seats s key p is e o = oldest_in stands (λ x. whole_key (range x)) age xs seats key (Of s) p is (means_range s key e) o
 
-  pub whole_none : (xs : List X) (seats : Seats) (s : Range) (key : LookupKey) → IsIndexOf stands (λ x. whole_key (range x)) age xs seats → key ≡ whole_key s → IsEmptyAt seats key → HoldsForNone (Of s) xs
+  pub whole_none : (xs : List X) (seats : Seats) (s : Range) (key : LookupKey) → AreSeated stands (λ x. whole_key (range x)) age xs seats → key ≡ whole_key s → IsEmptyAt seats key → HoldsForNone (Of s) xs
   whole_none xs seats s key is e none = none_in stands (λ x. whole_key (range x)) age xs seats key (Of s) is (means_range s key e) none
 
 -- ---- by where they begin
@@ -63,10 +63,10 @@ means_from s key e = record {
   under = λ x fits. same_edge x.left s x.left.first s.first 0 0 fits.1.way fits.1.begins refl ∙ sym e;
 }
 
-pub from_found : (qs : List Opened) (seats : Seats) (s : Range) (key : LookupKey) (p : ℕ) → IsIndexOf (λ q. is_opened q.stage) (λ q. edge_key q.left q.left.first 0) (λ q. q.age) qs seats → key ≡ edge_key s s.first 0 → IsOldestUnder seats key p → (x : Opened) × IsOldestAmong (λ q. q.age) (From s) qs p x
+pub from_found : (qs : List Opened) (seats : Seats) (s : Range) (key : LookupKey) (p : ℕ) → AreSeated (λ q. is_opened q.stage) (λ q. edge_key q.left q.left.first 0) (λ q. q.age) qs seats → key ≡ edge_key s s.first 0 → IsOldestUnder seats key p → (x : Opened) × IsOldestAmong (λ q. q.age) (From s) qs p x
 from_found qs seats s key p is e o = oldest_in (λ q. is_opened q.stage) (λ q. edge_key q.left q.left.first 0) (λ q. q.age) qs seats key (From s) p is (means_from s key e) o
 
-pub from_none : (qs : List Opened) (seats : Seats) (s : Range) (key : LookupKey) → IsIndexOf (λ q. is_opened q.stage) (λ q. edge_key q.left q.left.first 0) (λ q. q.age) qs seats → key ≡ edge_key s s.first 0 → IsEmptyAt seats key → HoldsForNone (From s) qs
+pub from_none : (qs : List Opened) (seats : Seats) (s : Range) (key : LookupKey) → AreSeated (λ q. is_opened q.stage) (λ q. edge_key q.left q.left.first 0) (λ q. q.age) qs seats → key ≡ edge_key s s.first 0 → IsEmptyAt seats key → HoldsForNone (From s) qs
 from_none qs seats s key is e none = none_in (λ q. is_opened q.stage) (λ q. edge_key q.left q.left.first 0) (λ q. q.age) qs seats key (From s) is (means_from s key e) none
 
 -- ---- by where they meet a newcomer

@@ -1,6 +1,10 @@
 -- Indexes and the lists of which they are.
-use Rattle.std.proofs.Common.{◌≡◌, ◌≢◌, ◌<◌, ◌≤◌, ◌^◌, ◌∙◌, ◌&&◌, ◌++◌, ◌⊎◌, ℕ, suc, Bool, true, false, cond, List, [], ◌∷◌, length, get_or, set, zero, Option, Some, None, inl, inr, sym, ap, subst, refl, arith}
-use Rattle.std.specs.Option.{option_map_or}
+use Rattle.std.proofs.Common.{◌≡◌, ◌≢◌, ◌<◌, ◌^◌, ◌∙◌, ◌++◌, ◌⊎◌, ℕ, suc, Bool, true, false, cond, List, [], ◌∷◌, length, get_or, set, zero, Option, Some, None, inl, inr, sym, ap, subst, refl, arith}
+use Rattle.std.specs.Prelude.{if◌then◌else◌}
+use Rattle.std.specs.Option.{option_and_then}
+use Rattle.std.specs.Ordering.{eq_by_cmp}
+use Rattle.ordered.specs.Ordered.{is_key}
+use Rattle.ordered.proofs.Indexes.{IsOf, Gets, replaced, kept}
 use Rattle.std.specs.List.{slice_get}
 use Rattle.std.proofs.lemmas.Bool.{cases_lt}
 use Rattle.std.proofs.lemmas.Bool.Decides.{eqb_tells}
@@ -11,12 +15,12 @@ use Rattle.blk_bio.specs.declared.bio.Dir.{Dir}
 use Rattle.blk_bio.specs.declared.bio.Dir.TheVariants as dir
 use Rattle.blk_capture.specs.Ranges.{writes, IsLonger}
 use Rattle.blk_capture.specs.Rules.{IsOlderThan, IsOldestAmong, IsNewestAmong, IsShortestAmong, HoldsForNone}
-use Rattle.blk_capture.specs.Inside.LookupKeys.{Seats, seat, is_seat, whole_key, edge_key, ending_at, PutsIf, TakesIf, IsOldestUnder, IsNewestUnder, IsEmptyAt, IsUnusedAt, IsShortestOver, IsEmptyOver}
-use Rattle.blk_capture.specs.Inside.Indexes.{sits, seated, IsIndexOf}
+use Rattle.blk_capture.specs.Inside.LookupKeys.{Seats, seat, seat_cmp, is_seat, whole_key, edge_key, ending_at, PutsIf, TakesIf, IsOldestUnder, IsNewestUnder, IsEmptyAt, IsUnusedAt, IsShortestOver, IsEmptyOver}
+use Rattle.blk_capture.specs.Inside.Indexes.{seat_of, seat_at, AreSeated}
 use Rattle.blk_capture.specs.declared.lookup.LookupKey.{LookupKey}
 use Rattle.blk_capture.specs.declared.lookup.Seat.{Seat}
 use Rattle.blk_capture.specs.declared.record.Range.{Range}
-use Rattle.blk_capture.proofs.LookupKeys.{one_seat, seat_itself, seats_apart}
+use Rattle.blk_capture.proofs.LookupKeys.{seats_total, one_seat, seat_itself}
 
 -- ---- lists after a write and with one more
 pub get_same : {X : Type 0} (xs : List X) (k : ℕ) (x y : X) → slice_get xs k ≡ Some x → slice_get (set xs k y) k ≡ Some y
@@ -49,72 +53,60 @@ get_but_last (x ∷ xs) y zero other = refl
 get_but_last (x ∷ xs) y (suc k) other = get_but_last xs y k (λ e. other (let q : suc k ≡ length (x ∷ xs) = omega arith in q))
 
 -- ---- what changes of an index
-same_here : (sx ix sy iy o m n : Bool) → o ≡ (sx && ix) → m ≡ cond sx (cond ix false o) o → n ≡ cond sy (cond iy true m) m → n ≡ (sy && iy)
-same_here true true true true o m n p q r = r
-same_here true true true false o m n p q r = r ∙ q
-same_here true true false iy o m n p q r = r ∙ q
-same_here true false true true o m n p q r = r
-same_here true false true false o m n p q r = r ∙ q ∙ p
-same_here true false false iy o m n p q r = r ∙ q ∙ p
-same_here false ix true true o m n p q r = r
-same_here false ix true false o m n p q r = r ∙ q ∙ p
-same_here false ix false iy o m n p q r = r ∙ q ∙ p
+at_place : (a b : Seat) → eq_by_cmp seat_cmp a b ≡ true → a.place ≡ b.place
+at_place a b h = ap (λ (s : Seat). s.place) (one_seat a b h)
 
-same_there : (sx ix sy iy o m n : Bool) → ix ≡ false → iy ≡ false → m ≡ cond sx (cond ix false o) o → n ≡ cond sy (cond iy true m) m → n ≡ o
-same_there true ix true iy o m n e f q r = r ∙ ap (λ b. cond b true m) f ∙ q ∙ ap (λ b. cond b false o) e
-same_there true ix false iy o m n e f q r = r ∙ q ∙ ap (λ b. cond b false o) e
-same_there false ix true iy o m n e f q r = r ∙ ap (λ b. cond b true m) f ∙ q
-same_there false ix false iy o m n e f q r = r ∙ q
+-- a seat is put in or taken out where it is there
+putting : (b : Bool) (s : Seat) (old new : Seats) → PutsIf b s old new → (q : Seat) → new q ≡ cond (is_key seat_cmp (if b then Some s else None) q) true (old q)
+putting true s old new puts q = puts q
+putting false s old new puts q = puts q
+
+taking : (b : Bool) (s : Seat) (old new : Seats) → TakesIf b s old new → (q : Seat) → new q ≡ cond (is_key seat_cmp (if b then Some s else None) q) false (old q)
+taking true s old new takes q = takes q
+taking false s old new takes q = takes q
+
+placed : (b : Bool) (s : Seat) → IsOf (λ (q : Seat). q.place) s.place (if b then Some s else None)
+placed true s = refl
+placed false s = tt
 
 module _ {X : Type 0} (stands : X → Bool) (key : X → LookupKey) (age : X → ℕ) where
-  at_get : (xs : List X) (s : Seat) (x : X) → slice_get xs s.place ≡ Some x → seated stands key age xs s ≡ sits stands key age s x
-  at_get xs s x at = ap (λ o. option_map_or (sits stands key age s) o false) at
+  abbrev Here : List X → ℕ → Option Seat
+  Here = seat_at stands key age
+
+  -- what a list has at one place, and elsewhere as before
+  set_there : (xs : List X) (k : ℕ) (x y : X) → slice_get xs k ≡ Some x → Gets (Here xs) k (seat_of stands key age k y) (Here (set xs k y))
+  set_there xs k x y at = (ap (option_and_then (seat_of stands key age k)) (get_same xs k x y at), λ p other. ap (option_and_then (seat_of stands key age p)) (get_other xs k p y other))
+
+  pushed_there : (xs : List X) (y : X) → Gets (Here xs) (length xs) (seat_of stands key age (length xs) y) (Here (xs ++ y ∷ []))
+  pushed_there xs y = (ap (option_and_then (seat_of stands key age (length xs))) (get_pushed xs y), λ p other. ap (option_and_then (seat_of stands key age p)) (get_but_last xs y p other))
 
   -- one is taken out, and put in as another
-  pub changed : (xs : List X) (k : ℕ) (x y : X) (old middle new : Seats) → IsIndexOf stands key age xs old → slice_get xs k ≡ Some x
+  pub changed : (xs : List X) (k : ℕ) (x y : X) (old middle new : Seats) → AreSeated stands key age xs old → slice_get xs k ≡ Some x
       → TakesIf (stands x) (seat (key x) (age x) k) old middle → PutsIf (stands y) (seat (key y) (age y) k) middle new
-      → IsIndexOf stands key age (set xs k y) new
-  changed xs k x y old middle new is at takes puts s = elim (eqb_tells s.place k) [
-    | inl a ↦
-        let e : s.place ≡ k = a.1 in
-        let was : slice_get xs s.place ≡ Some x = ap (λ n. slice_get xs n) e ∙ at in
-        let now : slice_get (set xs k y) s.place ≡ Some y = ap (λ n. slice_get (set xs k y) n) e ∙ get_same xs k x y at in
-        let taken : middle s ≡ cond (stands x) (cond (is_seat (seat (key x) (age x) s.place) s) false (old s)) (old s) = takes s ∙ ap (λ n. cond (stands x) (cond (is_seat (seat (key x) (age x) n) s) false (old s)) (old s)) (sym e) in
-        let put : new s ≡ cond (stands y) (cond (is_seat (seat (key y) (age y) s.place) s) true (middle s)) (middle s) = puts s ∙ ap (λ n. cond (stands y) (cond (is_seat (seat (key y) (age y) n) s) true (middle s)) (middle s)) (sym e) in
-        same_here (stands x) (is_seat (seat (key x) (age x) s.place) s) (stands y) (is_seat (seat (key y) (age y) s.place) s) (old s) (middle s) (new s) (is s ∙ at_get xs s x was) taken put
-        ∙ sym (at_get (set xs k y) s y now)
-    | inr a ↦
-        let other : k ≢ s.place = λ e. a.1 (sym e) in
-        same_there (stands x) (is_seat (seat (key x) (age x) k) s) (stands y) (is_seat (seat (key y) (age y) k) s) (old s) (middle s) (new s)
-        (seats_apart (seat (key x) (age x) k) s other) (seats_apart (seat (key y) (age y) k) s other) (takes s) (puts s)
-        ∙ is s
-        ∙ ap (λ o. option_map_or (sits stands key age s) o false) (sym (get_other xs k s.place y a.1))
-  ]
+      → AreSeated stands key age (set xs k y) new
+  changed xs k x y old middle new are at takes puts =
+      replaced seat_cmp seats_total (λ q. q.place) at_place (Here xs) (Here (set xs k y)) k (seat_of stands key age k x) (seat_of stands key age k y) old middle new are
+      (ap (option_and_then (seat_of stands key age k)) at) (placed (stands x) (seat (key x) (age x) k)) (placed (stands y) (seat (key y) (age y) k)) (set_there xs k x y at)
+      (taking (stands x) (seat (key x) (age x) k) old middle takes) (putting (stands y) (seat (key y) (age y) k) middle new puts)
 
   -- one is put in at the end
-  pub pushed : (xs : List X) (y : X) (old new : Seats) → IsIndexOf stands key age xs old → PutsIf (stands y) (seat (key y) (age y) (length xs)) old new → IsIndexOf stands key age (xs ++ y ∷ []) new
-  pushed xs y old new is puts s = elim (eqb_tells s.place (length xs)) [
-    | inl a ↦
-        let e : s.place ≡ length xs = a.1 in
-        let past : length xs ≤ s.place = omega arith in
-        let was : old s ≡ false = is s ∙ ap (λ o. option_map_or (sits stands key age s) o false) (slice_get_past xs s.place past) in
-        let now : slice_get (xs ++ y ∷ []) s.place ≡ Some y = ap (λ n. slice_get (xs ++ y ∷ []) n) e ∙ get_pushed xs y in
-        let put : new s ≡ cond (stands y) (cond (is_seat (seat (key y) (age y) s.place) s) true (old s)) (old s) = puts s ∙ ap (λ n. cond (stands y) (cond (is_seat (seat (key y) (age y) n) s) true (old s)) (old s)) (sym e) in
-        same_here false false (stands y) (is_seat (seat (key y) (age y) s.place) s) (old s) (old s) (new s) was refl put
-        ∙ sym (at_get (xs ++ y ∷ []) s y now)
-    | inr a ↦
-        let other : length xs ≢ s.place = λ e. a.1 (sym e) in
-        same_there false false (stands y) (is_seat (seat (key y) (age y) (length xs)) s) (old s) (old s) (new s) refl (seats_apart (seat (key y) (age y) (length xs)) s other) refl (puts s)
-        ∙ is s
-        ∙ ap (λ o. option_map_or (sits stands key age s) o false) (sym (get_but_last xs y s.place a.1))
-  ]
+  pub pushed : (xs : List X) (y : X) (old new : Seats) → AreSeated stands key age xs old → PutsIf (stands y) (seat (key y) (age y) (length xs)) old new → AreSeated stands key age (xs ++ y ∷ []) new
+  pushed xs y old new are puts =
+      replaced seat_cmp seats_total (λ q. q.place) at_place (Here xs) (Here (xs ++ y ∷ [])) (length xs) None (seat_of stands key age (length xs) y) old old new are
+      (ap (option_and_then (seat_of stands key age (length xs))) (slice_get_past xs (length xs) (omega arith))) tt (placed (stands y) (seat (key y) (age y) (length xs))) (pushed_there xs y)
+      (λ q. refl) (putting (stands y) (seat (key y) (age y) (length xs)) old new puts)
+
+  -- one stands where another did, so that nothing changes
+  pub unmoved : (xs : List X) (k : ℕ) (x y : X) (old : Seats) → AreSeated stands key age xs old → slice_get xs k ≡ Some x → seat_of stands key age k y ≡ seat_of stands key age k x → AreSeated stands key age (set xs k y) old
+  unmoved xs k x y old are at same =
+      kept seat_cmp seats_total (λ q. q.place) at_place (Here xs) (Here (set xs k y)) old old are
+      (λ p. elim (eqb_tells p k) [
+        | inl a ↦ ap (Here (set xs k y)) a.1 ∙ (set_there xs k x y at).0 ∙ same ∙ sym (ap (Here xs) a.1 ∙ ap (option_and_then (seat_of stands key age k)) at)
+        | inr a ↦ (set_there xs k x y at).1 p a.1
+      ])
+      (λ q. refl)
 
   -- ---- what is found
-  split_and : (a b : Bool) → (a && b) ≡ true → (a ≡ true) × (b ≡ true)
-  split_and true true h = (refl, refl)
-  split_and true false h = absurd (cc)
-  split_and false b h = absurd (cc)
-
   -- what stands at a seat
   record Sitting (xs : List X) (k : LookupKey) (a p : ℕ) : Type 0 where
     one : X
@@ -123,21 +115,23 @@ module _ {X : Type 0} (stands : X → Bool) (key : X → LookupKey) (age : X →
     under : key one ≡ k
     aged : age one ≡ a
 
-  found_in : (xs : List X) (k : LookupKey) (a p : ℕ) (o : Option X) → slice_get xs p ≡ o → option_map_or (sits stands key age (seat k a p)) o false ≡ true → Sitting xs k a p
+  found_in : (xs : List X) (k : LookupKey) (a p : ℕ) (o : Option X) → slice_get xs p ≡ o → is_key seat_cmp (option_and_then (seat_of stands key age p) o) (seat k a p) ≡ true → Sitting xs k a p
   found_in xs k a p None at h = absurd (cc)
-  found_in xs k a p (Some x) at h =
-      let both = split_and (stands x) (is_seat (seat (key x) (age x) p) (seat k a p)) h in
-      let same : seat (key x) (age x) p ≡ seat k a p = one_seat (seat (key x) (age x) p) (seat k a p) both.1 in
-      record { one = x; there = at; stands_so = both.0; under = ap (λ (q : Seat). q.key) same; aged = ap (λ (q : Seat). q.age) same }
+  found_in xs k a p (Some x) at h = elim (stands x) as (λ b. stands x ≡ b → is_key seat_cmp (if b then Some (seat (key x) (age x) p) else None) (seat k a p) ≡ true → Sitting xs k a p) [
+    | true ↦ λ so is.
+        let same : seat (key x) (age x) p ≡ seat k a p = one_seat (seat (key x) (age x) p) (seat k a p) is in
+        record { one = x; there = at; stands_so = so; under = ap (λ (q : Seat). q.key) same; aged = ap (λ (q : Seat). q.age) same }
+    | false ↦ λ _ is. absurd (cc)
+  ] refl h
 
-  found_at : (xs : List X) (seats : Seats) (k : LookupKey) (a p : ℕ) → IsIndexOf stands key age xs seats → seats (seat k a p) ≡ true → Sitting xs k a p
-  found_at xs seats k a p is h = found_in xs k a p (slice_get xs p) refl (sym (is (seat k a p)) ∙ h)
+  found_at : (xs : List X) (seats : Seats) (k : LookupKey) (a p : ℕ) → AreSeated stands key age xs seats → seats (seat k a p) ≡ true → Sitting xs k a p
+  found_at xs seats k a p are h = found_in xs k a p (slice_get xs p) refl (sym (are (seat k a p)) ∙ h)
 
-  sits_at : (xs : List X) (seats : Seats) (k : LookupKey) (p : ℕ) (x : X) → IsIndexOf stands key age xs seats → slice_get xs p ≡ Some x → stands x ≡ true → key x ≡ k → seats (seat k (age x) p) ≡ true
-  sits_at xs seats k p x is at so under =
-      is (seat k (age x) p)
-      ∙ at_get xs (seat k (age x) p) x at
-      ∙ ap (λ b. b && is_seat (seat (key x) (age x) p) (seat k (age x) p)) so
+  sits_at : (xs : List X) (seats : Seats) (k : LookupKey) (p : ℕ) (x : X) → AreSeated stands key age xs seats → slice_get xs p ≡ Some x → stands x ≡ true → key x ≡ k → seats (seat k (age x) p) ≡ true
+  sits_at xs seats k p x are at so under =
+      are (seat k (age x) p)
+      ∙ ap (λ o. is_key seat_cmp (option_and_then (seat_of stands key age p) o) (seat k (age x) p)) at
+      ∙ ap (λ b. is_key seat_cmp (if b then Some (seat (key x) (age x) p) else None) (seat k (age x) p)) so
       ∙ ap (λ (u : LookupKey). is_seat (seat (key x) (age x) p) (seat u (age x) p)) (sym under)
       ∙ seat_itself (seat (key x) (age x) p)
 
@@ -147,7 +141,7 @@ module _ {X : Type 0} (stands : X → Bool) (key : X → LookupKey) (age : X →
     pub stands_so : (x : X) → P x → stands x ≡ true
     pub under : (x : X) → P x → key x ≡ k
 
-  pub oldest_in : (xs : List X) (seats : Seats) (k : LookupKey) (P : X → Type 0) (p : ℕ) → IsIndexOf stands key age xs seats → Means k P → IsOldestUnder seats k p → (x : X) × IsOldestAmong age P xs p x
+  pub oldest_in : (xs : List X) (seats : Seats) (k : LookupKey) (P : X → Type 0) (p : ℕ) → AreSeated stands key age xs seats → Means k P → IsOldestUnder seats k p → (x : X) × IsOldestAmong age P xs p x
   oldest_in xs seats k P p is means o =
       let f = found_at xs seats k o.age p is o.there in (
         f.one,
@@ -160,7 +154,7 @@ module _ {X : Type 0} (stands : X → Bool) (key : X → LookupKey) (age : X →
         },
       )
 
-  pub newest_in : (xs : List X) (seats : Seats) (k : LookupKey) (P : X → Type 0) (p : ℕ) → IsIndexOf stands key age xs seats → ((j : ℕ) (y : X) → slice_get xs j ≡ Some y → age y < 2 ^ 63) → Means k P → IsNewestUnder seats k p → (x : X) × IsNewestAmong age P xs p x
+  pub newest_in : (xs : List X) (seats : Seats) (k : LookupKey) (P : X → Type 0) (p : ℕ) → AreSeated stands key age xs seats → ((j : ℕ) (y : X) → slice_get xs j ≡ Some y → age y < 2 ^ 63) → Means k P → IsNewestUnder seats k p → (x : X) × IsNewestAmong age P xs p x
   newest_in xs seats k P p is aged means o =
       let f = found_at xs seats k o.age p is o.there in (
         f.one,
@@ -173,13 +167,13 @@ module _ {X : Type 0} (stands : X → Bool) (key : X → LookupKey) (age : X →
         },
       )
 
-  pub none_in : (xs : List X) (seats : Seats) (k : LookupKey) (P : X → Type 0) → IsIndexOf stands key age xs seats → Means k P → IsEmptyAt seats k → HoldsForNone P xs
+  pub none_in : (xs : List X) (seats : Seats) (k : LookupKey) (P : X → Type 0) → AreSeated stands key age xs seats → Means k P → IsEmptyAt seats k → HoldsForNone P xs
   none_in xs seats k P is means none j y at fits =
       let some : seats (seat k (age y) j) ≡ true = sits_at xs seats k j y is at (means.stands_so y fits) (means.under y fits) in
       let bad : true ≡ false = sym some ∙ none (age y) j in
       cc
 
-  pub unused_in : (xs : List X) (seats : Seats) (k : LookupKey) (P : X → Type 0) → IsIndexOf stands key age xs seats → ((j : ℕ) (y : X) → slice_get xs j ≡ Some y → age y < 2 ^ 63) → Means k P → IsUnusedAt seats k → HoldsForNone P xs
+  pub unused_in : (xs : List X) (seats : Seats) (k : LookupKey) (P : X → Type 0) → AreSeated stands key age xs seats → ((j : ℕ) (y : X) → slice_get xs j ≡ Some y → age y < 2 ^ 63) → Means k P → IsUnusedAt seats k → HoldsForNone P xs
   unused_in xs seats k P is aged means none j y at fits =
       let some : seats (seat k (age y) j) ≡ true = sits_at xs seats k j y is at (means.stands_so y fits) (means.under y fits) in
       let bad : true ≡ false = sym some ∙ none (age y) j (aged j y at) in
@@ -220,7 +214,7 @@ module _ {X : Type 0} (stands : X → Bool) (range : X → Range) (age : X → �
   abbrev Beyond : Range → X → Type 0
   Beyond s x = (stands x ≡ true) × IsLonger s (range x)
 
-  pub shortest_in : (xs : List X) (seats : Seats) (s : Range) (p : ℕ) → IsIndexOf stands (λ x. whole_key (range x)) age xs seats → IsShortestOver seats s p → (x : X) × IsShortestAmong (λ x. (range x).end) age (Beyond s) xs p x
+  pub shortest_in : (xs : List X) (seats : Seats) (s : Range) (p : ℕ) → AreSeated stands (λ x. whole_key (range x)) age xs seats → IsShortestOver seats s p → (x : X) × IsShortestAmong (λ x. (range x).end) age (Beyond s) xs p x
   shortest_in xs seats s p is o =
       let f = found_at stands (λ x. whole_key (range x)) age xs seats (ending_at s o.end) o.age p is o.there in
       let ends : (range f.one).end ≡ o.end = ap (λ (k : LookupKey). k.end) f.under in (
@@ -236,7 +230,7 @@ module _ {X : Type 0} (stands : X → Bool) (range : X → Range) (age : X → �
         },
       )
 
-  pub none_longer_in : (xs : List X) (seats : Seats) (s : Range) → IsIndexOf stands (λ x. whole_key (range x)) age xs seats → IsEmptyOver seats s → HoldsForNone (Beyond s) xs
+  pub none_longer_in : (xs : List X) (seats : Seats) (s : Range) → AreSeated stands (λ x. whole_key (range x)) age xs seats → IsEmptyOver seats s → HoldsForNone (Beyond s) xs
   none_longer_in xs seats s is none j y at fits =
       let some : seats (seat (ending_at s (range y).end) (age y) j) ≡ true = sits_at stands (λ x. whole_key (range x)) age xs seats (ending_at s (range y).end) j y is at fits.0 (longer_key s (range y) fits.1) in
       let bad : true ≡ false = sym some ∙ none (range y).end (age y) j fits.1.longer in

@@ -1,6 +1,5 @@
 -- The order of keys.
-use Rattle.std.proofs.Common.{◌≡◌, ◌≢◌, ◌<◌, ◌≤◌, ◌+◌, ◌-◌, ◌^◌, ◌∙◌, ℕ, Bool, true, false, inl, inr, sym, ap, subst, refl, arith}
-use Rattle.std.proofs.lemmas.Bool.{cases_Bool}
+use Rattle.std.proofs.Common.{◌≡◌, ◌<◌, ◌≤◌, ◌+◌, ◌-◌, ◌^◌, ◌∙◌, ℕ, Bool, true, false, inl, inr, sym, ap, subst, refl, arith}
 use Rattle.std.specs.Ordering.{nat_cmp, bool_cmp, ordering_then, ordering_reverse, is_eq, is_gt, is_lt}
 use Rattle.std.specs.Cmp.{IsTotalOrder, nat_cmp_total, bool_cmp_total, tied_itself, ranked}
 use Rattle.std.specs.declared.cmp.Ordering.{Ordering}
@@ -68,7 +67,7 @@ turned s t h = elim (lookup_cmp t s) as (λ o. lookup_cmp t s ≡ o → is_lt o 
 ] refl h
 
 -- seats that compare alike are one
-seats_total : IsTotalOrder seat_cmp
+pub seats_total : IsTotalOrder seat_cmp
 seats_total = then_total (on_total (λ s. s.key) keys_total) (then_total (on_total (λ s. s.age) nat_cmp_total) (on_total (λ s. s.place) nat_cmp_total))
 
 same_parts : (s t : Seat) → s.key ≡ t.key → s.age ≡ t.age → s.place ≡ t.place → s ≡ t
@@ -92,13 +91,6 @@ one_seat s t h = elim (seat_cmp s t) as (λ o. seat_cmp s t ≡ o → is_eq o �
 
 pub seat_itself : (s : Seat) → is_seat s s ≡ true
 seat_itself s = ap is_eq (tied_itself seats_total s)
-
--- of two places they are two
-pub seats_apart : (s t : Seat) → s.place ≢ t.place → is_seat s t ≡ false
-seats_apart s t other = elim (cases_Bool (is_seat s t)) [
-  | inl same ↦ absurd (other (ap (λ (q : Seat). q.place) (one_seat s t same)))
-  | inr two ↦ two
-]
 
 -- a lexicographic order, and its parts
 first_part : (o p : Ordering) → is_gt (ordering_then o p) ≡ false → is_gt o ≡ false

@@ -1,42 +1,27 @@
 -- Indexes where a request ends elsewhere.
 use Rattle.std.proofs.Common.{◌≡◌, ◌==◌, ◌∙◌, ◌&&◌, ℕ, Bool, true, false, cond, List, set, Some, Ok, Err, Result, inl, inr, sym, ap, subst, refl}
 use Rattle.std.specs.List.{slice_get}
-use Rattle.std.specs.Option.{option_map_or}
+use Rattle.std.specs.Prelude.{if◌then◌else◌, None}
 use Rattle.std.specs.Ordering.{is_eq}
 use Rattle.std.specs.Result.{OnOk}
 use Rattle.std.proofs.lemmas.Bool.{ne_eqb}
 use Rattle.std.proofs.lemmas.Bool.Decides.{eqb_tells}
 use Rattle.blk_capture.specs.Rules.{is_opened, is_inserted, is_in_flight}
 use Rattle.blk_capture.specs.Inside.LookupKeys.{Seats, has, seat, is_seat, lookup_cmp, whole_key, edge_key, MovesTo}
-use Rattle.blk_capture.specs.Inside.Indexes.{sits, IsIndexOf, AreIndexed, OpenedWhole, OpenedFirst, OpenedEnd, OpenedStart, InsertedWhole, InsertedFirst, InsertedEnd, AtDevice, stands_in, part_key, first_key, keep_first}
+use Rattle.blk_capture.specs.Inside.Indexes.{seat_of, AreSeated, AreIndexed, OpenedWhole, OpenedFirst, OpenedEnd, OpenedStart, InsertedWhole, InsertedFirst, InsertedEnd, AtDevice, stands_in, part_key, first_key, keep_first}
 use Rattle.blk_capture.specs.declared.index.MergeIndex.{MergeIndex}
 use Rattle.blk_capture.specs.declared.index.RequestIndex.{RequestIndex}
 use Rattle.blk_capture.specs.declared.lookup.KeyIndex.{KeyIndex}
 use Rattle.blk_capture.specs.declared.lookup.LookupKey.{LookupKey}
-use Rattle.blk_capture.specs.declared.lookup.Seat.{Seat}
 use Rattle.blk_capture.specs.declared.opened.Opened.{Opened}
 use Rattle.blk_capture.specs.declared.opened.Stage.{Stage}
 use Rattle.blk_capture.specs.declared.opened.Stage.TheVariants as stage
-use Rattle.blk_capture.proofs.Indexed.{changed, get_same, get_other}
+use Rattle.blk_capture.proofs.Indexed.{changed, unmoved}
 use Rattle.blk_capture.proofs.LookupKeys.{one_key}
 
--- what sits where the other did, so that nothing of an index changes
-kept : {X : Type 0} (stands : X → Bool) (key : X → LookupKey) (age : X → ℕ) (xs : List X) (k : ℕ) (x y : X) (old : Seats) → IsIndexOf stands key age xs old → slice_get xs k ≡ Some x
-    → ((s : Seat) → sits stands key age s x ≡ sits stands key age s y) → IsIndexOf stands key age (set xs k y) old
-kept stands key age xs k x y old is at same s = elim (eqb_tells s.place k) [
-  | inl a ↦
-      let was : slice_get xs s.place ≡ Some x = ap (λ n. slice_get xs n) a.1 ∙ at in
-      let now : slice_get (set xs k y) s.place ≡ Some y = ap (λ n. slice_get (set xs k y) n) a.1 ∙ get_same xs k x y at in
-      is s
-      ∙ ap (λ o. option_map_or (sits stands key age s) o false) was
-      ∙ same s
-      ∙ sym (ap (λ o. option_map_or (sits stands key age s) o false) now)
-  | inr a ↦ is s ∙ ap (λ o. option_map_or (sits stands key age s) o false) (sym (get_other xs k s.place y a.1))
-]
-
 -- one that stood there, and stands under another key
-moved : {X : Type 0} (stands : X → Bool) (key : X → LookupKey) (age : X → ℕ) (xs : List X) (k : ℕ) (x y : X) (old new : Seats) → IsIndexOf stands key age xs old → slice_get xs k ≡ Some x
-    → stands x ≡ true → stands y ≡ true → age x ≡ age y → MovesTo (seat (key x) (age x) k) (seat (key y) (age x) k) old new → IsIndexOf stands key age (set xs k y) new
+moved : {X : Type 0} (stands : X → Bool) (key : X → LookupKey) (age : X → ℕ) (xs : List X) (k : ℕ) (x y : X) (old new : Seats) → AreSeated stands key age xs old → slice_get xs k ≡ Some x
+    → stands x ≡ true → stands y ≡ true → age x ≡ age y → MovesTo (seat (key x) (age x) k) (seat (key y) (age x) k) old new → AreSeated stands key age (set xs k y) new
 moved stands key age xs k x y old new is at so_x so_y aged moves =
     changed stands key age xs k x y old (λ q. cond (is_seat (seat (key x) (age x) k) q) false (old q)) new is at
     (λ q. ap (λ b. cond b (cond (is_seat (seat (key x) (age x) k) q) false (old q)) (old q)) (sym so_x))
@@ -46,15 +31,15 @@ moved stands key age xs k x y old new is at so_x so_y aged moves =
     ∙ ap (λ b. cond b (cond (is_seat (seat (key y) (age y) k) q) true (cond (is_seat (seat (key x) (age x) k) q) false (old q))) (cond (is_seat (seat (key x) (age x) k) q) false (old q))) (sym so_y))
 
 -- two that stand nowhere, and two that stand under one key
-sit_nowhere : {X : Type 0} (stands : X → Bool) (key : X → LookupKey) (age : X → ℕ) (x y : X) → stands x ≡ false → stands y ≡ false → (s : Seat) → sits stands key age s x ≡ sits stands key age s y
-sit_nowhere stands key age x y so_x so_y s =
-    ap (λ b. b && is_seat (seat (key x) (age x) s.place) s) so_x ∙ sym (ap (λ b. b && is_seat (seat (key y) (age y) s.place) s) so_y)
+nowhere : {X : Type 0} (stands : X → Bool) (key : X → LookupKey) (age : X → ℕ) (place : ℕ) (x y : X) → stands x ≡ false → stands y ≡ false → seat_of stands key age place y ≡ seat_of stands key age place x
+nowhere stands key age place x y so_x so_y =
+    ap (λ b. if b then Some (seat (key y) (age y) place) else None) so_y ∙ sym (ap (λ b. if b then Some (seat (key x) (age x) place) else None) so_x)
 
-sit_alike : {X : Type 0} (stands : X → Bool) (key : X → LookupKey) (age : X → ℕ) (x y : X) → stands x ≡ stands y → key x ≡ key y → age x ≡ age y → (s : Seat) → sits stands key age s x ≡ sits stands key age s y
-sit_alike stands key age x y so under aged s =
-    ap (λ b. b && is_seat (seat (key x) (age x) s.place) s) so
-    ∙ ap (λ u. stands y && is_seat (seat u (age x) s.place) s) under
-    ∙ ap (λ a. stands y && is_seat (seat (key y) a s.place) s) aged
+alike : {X : Type 0} (stands : X → Bool) (key : X → LookupKey) (age : X → ℕ) (place : ℕ) (x y : X) → stands x ≡ stands y → key x ≡ key y → age x ≡ age y → seat_of stands key age place y ≡ seat_of stands key age place x
+alike stands key age place x y so under aged = sym (
+    ap (λ b. if b then Some (seat (key x) (age x) place) else None) so
+    ∙ ap (λ u. if stands y then Some (seat u (age x) place) else None) under
+    ∙ ap (λ a. if stands y then Some (seat (key y) a place) else None) aged)
 
 not_inserted : (w : Stage) → is_opened w ≡ true → is_inserted w ≡ false
 not_inserted stage.Opened e = refl
@@ -93,23 +78,23 @@ moved_end qs k p q old new so_p so_q aged key w f n is at OpenedWhole = moved (s
 moved_end {A} qs k p q old new so_p so_q aged key w f n is at OpenedFirst =
     λ s.
     ap (λ (e : KeyIndex A). has e s) f
-    ∙ kept (stands_in OpenedFirst) (part_key OpenedFirst) (λ x. x.age) qs k p q (has old.opened.firsts) (is OpenedFirst) at (sit_alike (stands_in OpenedFirst) (part_key OpenedFirst) (λ x. x.age) p q (so_p ∙ sym so_q) key aged) s
+    ∙ unmoved (stands_in OpenedFirst) (part_key OpenedFirst) (λ x. x.age) qs k p q (has old.opened.firsts) (is OpenedFirst) at (alike (stands_in OpenedFirst) (part_key OpenedFirst) (λ x. x.age) k p q (so_p ∙ sym so_q) key aged) s
 moved_end qs k p q old new so_p so_q aged key w f n is at OpenedEnd = moved (stands_in OpenedEnd) (part_key OpenedEnd) (λ x. x.age) qs k p q (has old.opened.ends) (has new.ends) (is OpenedEnd) at so_p so_q aged n
 moved_end qs k p q old new so_p so_q aged key w f n is at OpenedStart =
-    kept (stands_in OpenedStart) (part_key OpenedStart) (λ x. x.age) qs k p q (has old.starts) (is OpenedStart) at
-    (sit_alike (stands_in OpenedStart) (part_key OpenedStart) (λ x. x.age) p q (so_p ∙ sym so_q) (start_alike p q key) aged)
+    unmoved (stands_in OpenedStart) (part_key OpenedStart) (λ x. x.age) qs k p q (has old.starts) (is OpenedStart) at
+    (alike (stands_in OpenedStart) (part_key OpenedStart) (λ x. x.age) k p q (so_p ∙ sym so_q) (start_alike p q key) aged)
 moved_end qs k p q old new so_p so_q aged key w f n is at InsertedWhole =
-    kept (stands_in InsertedWhole) (part_key InsertedWhole) (λ x. x.age) qs k p q (has old.inserted.wholes) (is InsertedWhole) at
-    (sit_nowhere (stands_in InsertedWhole) (part_key InsertedWhole) (λ x. x.age) p q (not_inserted p.stage so_p) (not_inserted q.stage so_q))
+    unmoved (stands_in InsertedWhole) (part_key InsertedWhole) (λ x. x.age) qs k p q (has old.inserted.wholes) (is InsertedWhole) at
+    (nowhere (stands_in InsertedWhole) (part_key InsertedWhole) (λ x. x.age) k p q (not_inserted p.stage so_p) (not_inserted q.stage so_q))
 moved_end qs k p q old new so_p so_q aged key w f n is at InsertedFirst =
-    kept (stands_in InsertedFirst) (part_key InsertedFirst) (λ x. x.age) qs k p q (has old.inserted.firsts) (is InsertedFirst) at
-    (sit_nowhere (stands_in InsertedFirst) (part_key InsertedFirst) (λ x. x.age) p q (not_inserted p.stage so_p) (not_inserted q.stage so_q))
+    unmoved (stands_in InsertedFirst) (part_key InsertedFirst) (λ x. x.age) qs k p q (has old.inserted.firsts) (is InsertedFirst) at
+    (nowhere (stands_in InsertedFirst) (part_key InsertedFirst) (λ x. x.age) k p q (not_inserted p.stage so_p) (not_inserted q.stage so_q))
 moved_end qs k p q old new so_p so_q aged key w f n is at InsertedEnd =
-    kept (stands_in InsertedEnd) (part_key InsertedEnd) (λ x. x.age) qs k p q (has old.inserted.ends) (is InsertedEnd) at
-    (sit_nowhere (stands_in InsertedEnd) (part_key InsertedEnd) (λ x. x.age) p q (not_inserted p.stage so_p) (not_inserted q.stage so_q))
+    unmoved (stands_in InsertedEnd) (part_key InsertedEnd) (λ x. x.age) qs k p q (has old.inserted.ends) (is InsertedEnd) at
+    (nowhere (stands_in InsertedEnd) (part_key InsertedEnd) (λ x. x.age) k p q (not_inserted p.stage so_p) (not_inserted q.stage so_q))
 moved_end qs k p q old new so_p so_q aged key w f n is at AtDevice =
-    kept (stands_in AtDevice) (part_key AtDevice) (λ x. x.age) qs k p q (has old.in_flight) (is AtDevice) at
-    (sit_nowhere (stands_in AtDevice) (part_key AtDevice) (λ x. x.age) p q (not_in_flight p.stage so_p) (not_in_flight q.stage so_q))
+    unmoved (stands_in AtDevice) (part_key AtDevice) (λ x. x.age) qs k p q (has old.in_flight) (is AtDevice) at
+    (nowhere (stands_in AtDevice) (part_key AtDevice) (λ x. x.age) k p q (not_in_flight p.stage so_p) (not_in_flight q.stage so_q))
 
 pub ends_elsewhere : {A : Type 0} (qs : List Opened) (k : ℕ) (p q : Opened) (old : RequestIndex A) (new : MergeIndex A) → keep_first p q ≡ true
     → MovesTo (seat (whole_key p.left) p.age k) (seat (whole_key q.left) p.age k) (has old.opened.wholes) (has new.wholes)

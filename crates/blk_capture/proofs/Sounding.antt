@@ -4,7 +4,7 @@ use Rattle.std.specs.List.{slice_get}
 use Rattle.std.proofs.lemmas.Bool.Decides.{eqb_tells}
 use Rattle.blk_capture.specs.Rules.{is_waiting}
 use Rattle.blk_capture.specs.Inside.LookupKeys.{Seats, seat, is_seat, whole_key, PutsIf, TakesIf}
-use Rattle.blk_capture.specs.Inside.Indexes.{IsIndexOf, AreIndexed, Lists, Unlists, part_of, stands_in, part_key}
+use Rattle.blk_capture.specs.Inside.Indexes.{AreSeated, AreIndexed, Lists, Unlists, part_of, stands_in, part_key}
 use Rattle.blk_capture.specs.declared.index.RequestIndex.{RequestIndex}
 use Rattle.blk_capture.specs.declared.lookup.LookupKey.{LookupKey}
 use Rattle.blk_capture.specs.declared.members.QueuedBio.{QueuedBio}
@@ -38,7 +38,7 @@ aged_more qs new aged low j y there = elim (eqb_tells j (length qs)) [
 
 -- ---- bios
 abbrev pub AreWaiting : List QueuedBio → Seats → Type 0
-AreWaiting bs seats = IsIndexOf (λ b. is_waiting b.stage) (λ b. whole_key b.range) (λ b. b.age) bs seats
+AreWaiting bs seats = AreSeated (λ b. is_waiting b.stage) (λ b. whole_key b.range) (λ b. b.age) bs seats
 
 takes_if : (b : Bool) (s : LookupKey) (key : LookupKey) (a k : ℕ) (old new : Seats) → b ≡ true → key ≡ s → TakesIf true (seat key a k) old new → TakesIf b (seat s a k) old new
 takes_if b s key a k old new e f h q = h q ∙ ap (λ c. cond c (cond (is_seat (seat key a k) q) false (old q)) (old q)) (sym e) ∙ ap (λ (u : LookupKey). cond b (cond (is_seat (seat u a k) q) false (old q)) (old q)) f

@@ -7,9 +7,10 @@ use Rattle.std.specs.declared.cmp.Ordering.TheVariants.{Less, Equal, Greater}
 use Rattle.ordered.specs.Ordered.{IsLeast, IsLeastFrom, NoneFrom as NoneListed}
 use Rattle.blk_sched.specs.Meaning.{Waiting}
 use Rattle.blk_index.specs.Index.{IsBefore, IsFirstFrom, NoneFrom}
-use Rattle.blk_index.specs.Keys.{keyed_cmp, has_key, IsIndexOf}
+use Rattle.blk_index.specs.Keys.{keyed_cmp, AreKeyed}
 use Rattle.blk_index.specs.Inside.Spots.{due_of}
 use Rattle.blk_index.proofs.Indexed.{Found}
+use Rattle.blk_index.proofs.Keyed.{has_key, keyed}
 use Rattle.blk_index.proofs.Listed.{eq_of, is_equal}
 
 abbrev Has : Type 0
@@ -67,13 +68,13 @@ due_then : (due : ℕ) (o : Option Waiting) → has_key nat_cmp due_of due o ≡
 due_then due None h = absurd (cc)
 due_then due (Some w) h = (w, refl, eq_of w.due due (is_equal (nat_cmp w.due due) h))
 
-module _ (found : Found) (has : Has) (start : ℕ) (are : IsIndexOf nat_cmp due_of found has) where
+module _ (found : Found) (has : Has) (start : ℕ) (are : AreKeyed nat_cmp due_of found has) where
   stands : (k : ℕ) (v : Waiting) → found k ≡ Some v → has (v.due, k) ≡ true
-  stands k v there = are v.due k ∙ ap (has_key nat_cmp due_of v.due) there ∙ ap is_eq (tied_itself nat_cmp_total v.due)
+  stands k v there = keyed nat_cmp due_of found has are v.due k ∙ ap (has_key nat_cmp due_of v.due) there ∙ ap is_eq (tied_itself nat_cmp_total v.due)
 
   pub first_due : (p : ℕ × ℕ) → IsLeastFrom (keyed_cmp nat_cmp) has (start, 0) p → IsFirstFrom start found p.1
   first_due (due, id) p =
-      let at = due_then due (found id) (sym (are due id) ∙ p.there) in
+      let at = due_then due (found id) (sym (keyed nat_cmp due_of found has are due id) ∙ p.there) in
       let w : Waiting = at.0 in
       let low : start ≤ due = is_from start due id p.high in
       record {

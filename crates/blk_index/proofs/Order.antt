@@ -10,10 +10,11 @@ use Rattle.blk_bio.specs.declared.bio.Dir.TheVariants.{Read, Write}
 use Rattle.ordered.specs.Ordered.{IsLeastAbove, NoneAbove}
 use Rattle.blk_sched.specs.Meaning.{Waiting}
 use Rattle.blk_index.specs.Inside.Spots.{DirSector, Spot, place_cmp, is_write, begin_of}
-use Rattle.blk_index.specs.Keys.{keyed_cmp, has_key, IsIndexOf}
+use Rattle.blk_index.specs.Keys.{keyed_cmp, AreKeyed}
 use Rattle.blk_index.specs.Index.{IsNext, NoNext, IsBefore}
 use Rattle.blk_index.proofs.Listed.{same_place, is_equal, place_itself, nat_less, lt_of}
 use Rattle.blk_index.proofs.Indexed.{Found}
+use Rattle.blk_index.proofs.Keyed.{has_key, keyed}
 
 same_dir : (d e : Dir) → is_write d ≡ is_write e → d ≡ e
 same_dir Read Read h = refl
@@ -28,14 +29,14 @@ abbrev spot_cmp : Spot → Spot → Ordering
 spot_cmp = keyed_cmp place_cmp
 
 abbrev Starts : Found → Has → Type 0
-Starts = IsIndexOf place_cmp begin_of
+Starts = AreKeyed place_cmp begin_of
 
 placed : (p : DirSector) (o : Option Waiting) → has_key place_cmp begin_of p o ≡ true → (w : Waiting) × (o ≡ Some w) × (begin_of w ≡ p)
 placed p None h = absurd (cc)
 placed p (Some w) h = (w, refl, same_place (begin_of w) p (is_equal (place_cmp (begin_of w) p) h))
 
 standing : (found : Found) (has : Has) (k : ℕ) (v : Waiting) → Starts found has → found k ≡ Some v → has (begin_of v, k) ≡ true
-standing found has k v starts is = starts (begin_of v) k ∙ ap (has_key place_cmp begin_of (begin_of v)) is ∙ ap is_eq (place_itself (begin_of v))
+standing found has k v starts is = keyed place_cmp begin_of found has starts (begin_of v) k ∙ ap (has_key place_cmp begin_of (begin_of v)) is ∙ ap is_eq (place_itself (begin_of v))
 
 pub greater : (a b : ℕ) → b < a → nat_cmp a b ≡ Greater
 greater a b lt = elim (nat_cmp a b) as (λ o. nat_cmp a b ≡ o → o ≡ Greater) [
@@ -97,7 +98,7 @@ module _ (found : Found) (has : Has) (dir : Dir) (first last : ℕ) (write : Boo
   pub the_next : (p : Spot) → IsLeastAbove spot_cmp has ((write, first), last) p → beq p.0.0 write ≡ true → IsNext dir first last found p.1
   the_next ((other, sector), id) p is_way =
       let same_way : other ≡ write = one_way other write is_way in
-      let at = placed (other, sector) (found id) (sym (starts (other, sector) id) ∙ p.there) in
+      let at = placed (other, sector) (found id) (sym (keyed place_cmp begin_of found has starts (other, sector) id) ∙ p.there) in
       let way : is_write at.0.extent.dir ≡ other = ap (λ (q : DirSector). q.0) at.2 in
       let start : at.0.extent.first ≡ sector = ap (λ (q : DirSector). q.1) at.2 in
       record {

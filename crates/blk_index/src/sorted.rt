@@ -8,7 +8,7 @@ ghost use Rattle.ordered.specs.Ordered.{listed, IsLeastFrom, NoneFrom as NoneLis
 ghost use Rattle.blk_sched.specs.Meaning.{Waiting};
 ghost use Rattle.blk_sched.specs.Fits.{IsNewestFit, FitsNone, HasTouch};
 ghost use Rattle.blk_index.specs.Index.{IsJoined, IsOldest, IsNext, NoneOf, NoNext, IsFirstFrom, NoneFrom};
-ghost use Rattle.blk_index.specs.Keys.{keyed_cmp, IsIndexOf};
+ghost use Rattle.blk_index.specs.Keys.{keyed_cmp, AreKeyed};
 ghost use Rattle.blk_index.specs.Inside.Spots.{begin_of, due_of};
 
 use crate::edges::{is_write, place_at};
@@ -64,7 +64,7 @@ impl<K: Key, A: Allocator> Model for Sorted<K, A> {
     ghost use Rattle.std.specs.FinMap.{get, code};
     ghost use Rattle.ordered.specs.Ordered.{listed};
     ghost use Rattle.blk_sched.specs.Meaning.{Pending, waiting_code};
-    ghost use Rattle.blk_index.specs.Keys.{keyed_cmp, IsIndexOf};
+    ghost use Rattle.blk_index.specs.Keys.{keyed_cmp, AreKeyed};
 
     ghost Value = { Pending };
 
@@ -72,7 +72,7 @@ impl<K: Key, A: Allocator> Model for Sorted<K, A> {
 
     ghost view = { λ s. s.index };
 
-    ghost invariant = { λ s. IsIndexOf K.cmp K.key_of (get s.index) (listed (keyed_cmp K.cmp) s.order) };
+    ghost invariant = { λ s. AreKeyed K.cmp K.key_of (get s.index) (listed (keyed_cmp K.cmp) s.order) };
 }
 
 impl<K: Key, A: Allocator + Clone> Sorted<K, A> {
@@ -104,7 +104,7 @@ impl<K: Key, A: Allocator + Clone> Sorted<K, A> {
     /// The keys of the requests with their ids.
     #[inline(always)]
     pub fn order(&self) -> &Ordered<(K, u64), A>
-        ensures { IsIndexOf K.cmp K.key_of (map.get self.now) (listed (keyed_cmp K.cmp) result.now) }
+        ensures { AreKeyed K.cmp K.key_of (map.get self.now) (listed (keyed_cmp K.cmp) result.now) }
     {
         &self.order
     }

@@ -1,5 +1,5 @@
 -- Keys in order.
-use Rattle.std.specs.Prelude.{◌≡◌, Bool, true, false, cond}
+use Rattle.std.specs.Prelude.{ℕ, ◌≡◌, Bool, true, false, cond, Option, None, Some}
 use Rattle.std.specs.BTreeSet.{contains}
 use Rattle.std.specs.Ordering.{eq_by_cmp, is_gt, is_lt}
 use Rattle.std.specs.declared.cmp.Ordering.{Ordering}
@@ -60,3 +60,12 @@ module _ {K : Type 0} (cmp : K → K → Ordering) where
 
   abbrev pub NoneUpTo : (K → Bool) → K → Type 0
   NoneUpTo has upper = (q : K) → is_gt (cmp q upper) ≡ false → has q ≡ false
+
+  -- whether a key, if there is one, is this one
+  abbrev pub is_key : Option K → K → Bool
+  is_key None q = false
+  is_key (Some e) q = eq_by_cmp cmp e q
+
+  -- each thing that has a key stands under it, and nothing else does
+  abbrev pub IsIndexOf : (K → ℕ) → (ℕ → Option K) → (K → Bool) → Type 0
+  IsIndexOf id_of key_at has = (q : K) → has q ≡ is_key (key_at (id_of q)) q

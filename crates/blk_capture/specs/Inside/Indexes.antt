@@ -1,11 +1,12 @@
 -- Indexes hold just what stands in the lists.
-use Rattle.std.specs.Prelude.{ℕ, ◌≡◌, ◌==◌, ◌&&◌, Bool, false, List, slice_get}
+use Rattle.std.specs.Prelude.{ℕ, ◌==◌, ◌&&◌, Bool, List, Option, Some, None, if◌then◌else◌, slice_get}
 use Rattle.std.specs.Ordering.{is_eq}
-use Rattle.std.specs.Option.{option_map_or}
+use Rattle.std.specs.Option.{option_and_then}
+use Rattle.ordered.specs.Ordered.{IsIndexOf}
 use Rattle.blk_bio.specs.declared.request.Side.{Side}
 use Rattle.blk_bio.specs.declared.request.Side.TheVariants.{Back, Front}
 use Rattle.blk_capture.specs.Rules.{is_opened, is_inserted, is_in_flight}
-use Rattle.blk_capture.specs.Inside.LookupKeys.{Seats, has, seat, is_seat, lookup_cmp, whole_key, edge_key, PutsIf, TakesIf}
+use Rattle.blk_capture.specs.Inside.LookupKeys.{Seats, has, seat, seat_cmp, lookup_cmp, whole_key, edge_key, PutsIf, TakesIf}
 use Rattle.blk_capture.specs.declared.index.MergeIndex.{MergeIndex}
 use Rattle.blk_capture.specs.declared.index.RequestIndex.{RequestIndex}
 use Rattle.blk_capture.specs.declared.lookup.LookupKey.{LookupKey}
@@ -79,16 +80,17 @@ first_key q = edge_key q.left q.left.first q.pid
 abbrev pub keep_first : Opened → Opened → Bool
 keep_first p q = ((is_opened p.stage && is_opened q.stage) && (p.age == q.age)) && is_eq (lookup_cmp (first_key p) (first_key q))
 
--- what an index has of a list: of each of those that stand in it the key, the age and the place
-abbrev pub sits : {X : Type 0} → (X → Bool) → (X → LookupKey) → (X → ℕ) → Seat → X → Bool
-sits stands key age s x = stands x && is_seat (seat (key x) (age x) s.place) s
+-- the seat at a place of a list of what stands there, if it does
+abbrev pub seat_of : {X : Type 0} → (X → Bool) → (X → LookupKey) → (X → ℕ) → ℕ → X → Option Seat
+seat_of stands key age place x = if stands x then Some (seat (key x) (age x) place) else None
 
-abbrev pub seated : {X : Type 0} → (X → Bool) → (X → LookupKey) → (X → ℕ) → List X → Seats
-seated stands key age xs s = option_map_or (sits stands key age s) (slice_get xs s.place) false
+abbrev pub seat_at : {X : Type 0} → (X → Bool) → (X → LookupKey) → (X → ℕ) → List X → ℕ → Option Seat
+seat_at stands key age xs place = option_and_then (seat_of stands key age place) (slice_get xs place)
 
-abbrev pub IsIndexOf : {X : Type 0} → (X → Bool) → (X → LookupKey) → (X → ℕ) → List X → Seats → Type 0
-IsIndexOf stands key age xs seats = (s : Seat) → seats s ≡ seated stands key age xs s
+-- an index has the seats of a list, and no others
+abbrev pub AreSeated : {X : Type 0} → (X → Bool) → (X → LookupKey) → (X → ℕ) → List X → Seats → Type 0
+AreSeated stands key age xs = IsIndexOf seat_cmp (λ s. s.place) (seat_at stands key age xs)
 
 -- each part of the index of requests has just those that stand there
 abbrev pub AreIndexed : {A : Type 0} → List Opened → RequestIndex A → Type 0
-AreIndexed requests e = (part : IndexPart) → IsIndexOf (stands_in part) (part_key part) (λ q. q.age) requests (part_of part e)
+AreIndexed requests e = (part : IndexPart) → AreSeated (stands_in part) (part_key part) (λ q. q.age) requests (part_of part e)

@@ -1,7 +1,7 @@
 -- What a record adds to what is matched.
 use Rattle.std.specs.Prelude.{ℕ, ◌≡◌, ◌<◌, ◌^◌, Bool, length, slice_get, Some}
 use Rattle.blk_capture.specs.Rules.{Known, Outcome, Found, IsBy, IsMerged, IsAbsorbed, FindsWaitingBio, FindsLongerBio, FindsOldestOf, FindsWaiting, FindsEntering, FindsEnding, is_waiting, is_in_flight, cut, got, comes, inserted_at, issued, completed, requeued, merged, absorbed}
-use Rattle.blk_capture.specs.Inside.Indexes.{IsIndexOf, AreIndexed}
+use Rattle.blk_capture.specs.Inside.Indexes.{AreSeated, AreIndexed}
 use Rattle.blk_capture.specs.Inside.LookupKeys.{has, whole_key}
 use Rattle.blk_capture.specs.Inside.Roles.{GrowsIf}
 use Rattle.blk_capture.specs.declared.matching.Matching.{Matching}
@@ -27,7 +27,7 @@ told_of m r = (all_known m, r)
 -- the indexes hold just what stands in the lists; each request has its opener, and an age that is the number of a record
 pub record IsSound {A : Type 0} (m : Matching A) : Type 0 where
   pub indexed : AreIndexed m.requests.items m.index
-  pub waiting : IsIndexOf (λ b. is_waiting b.stage) (λ b. whole_key b.range) (λ b. b.age) m.members.bios.items (has m.waiting)
+  pub waiting : AreSeated (λ b. is_waiting b.stage) (λ b. whole_key b.range) (λ b. b.age) m.members.bios.items (has m.waiting)
   pub paired : length m.members.openers.items ≡ length m.requests.items
   pub aged : (k : ℕ) (q : Opened) → slice_get m.requests.items k ≡ Some q → q.age < 2 ^ 63
 

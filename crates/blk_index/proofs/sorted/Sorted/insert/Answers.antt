@@ -2,8 +2,8 @@ use Rattle.std.proofs.Common.{◌≡◌, ap, ◌∙◌, None, refl}
 use Rattle.std.specs.FinMap as map
 use Rattle.ordered.specs.Ordered.{listed}
 use Rattle.blk_sched.specs.Meaning.{Pending}
-use Rattle.blk_index.specs.Keys.{keyed_cmp, has_key}
-use Rattle.blk_index.proofs.Keyed.{entered_key, undone_key, kept_key}
+use Rattle.blk_index.specs.Keys.{keyed_cmp}
+use Rattle.blk_index.proofs.Keyed.{has_key, entered_key, undone_key, kept_key}
 use Rattle.blk_index.proofs.sorted.Sorted.insert.Goals as goal
 
 pub invariant_of-self-in-Ok : goal.invariant_of-self-in-Ok
